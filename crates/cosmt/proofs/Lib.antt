@@ -1,0 +1,11 @@
+pub mod PlaceLemmas
+pub mod Lists
+pub mod LiteralLemmas
+pub mod Counts
+pub mod SessionLemmas
+pub mod TurnLemmas
+pub mod InputLemmas
+pub mod FaultLemmas
+pub mod ScriptLemmas
+pub mod ReportLemmas
+pub mod RunLemmas

@@ -1,0 +1,119 @@
+-- A text has one script, and one text of answers.
+use Rattle.std.proofs.Common.{◌≡◌, ℕ, Bool, true, false, List, [], ◌∷◌, ◌++◌, Option, Some, refl, ap, sym, ◌∙◌, subst, arith, append_assoc}
+use Rattle.ct_sexpr.specs.Layout.{behind_layout, line_feeds, line_of_rest}
+use Rattle.ct_sexpr.specs.Expression.{Expression}
+use Rattle.ct_sexpr.specs.Reading.{BeginsCommand}
+use Rattle.ct_sexpr.specs.Unread.{Unread}
+use Rattle.cosmt.specs.declared.verdict.FirstVerdict.{FirstVerdict}
+use Rattle.cosmt.specs.declared.verdict.FirstVerdict.TheVariants.{Sat, Unsat}
+use Rattle.cosmt.specs.Command.{Command, declare, assert, check, State, start, after, written, Takes}
+use Rattle.cosmt.specs.Script.{HasCommands, IsStopped, error_at, errors_of, form_not_built}
+use Rattle.cosmt.specs.Verdict.{Satisfies, Contradicts, Meets, AreVerdicts}
+use Rattle.cosmt.specs.Output.{line_of, lines_of, error_lines, text_of}
+use Rattle.cosmt.specs.Turns.{Took, LeavesOver}
+use Rattle.cosmt.specs.Refusal.{error_on}
+use Rattle.cosmt.specs.Run.{Answers}
+use Rattle.cosmt.proofs.TurnLemmas.{append_nil, line_feeds-append}
+
+-- two formulas that are written alike are one
+formula_written : (n m : List ℕ) (p q : Bool) → written (assert (record { name = n; positive = p })) ≡ written (assert (record { name = m; positive = q })) → assert (record { name = n; positive = p }) ≡ assert (record { name = m; positive = q })
+formula_written n m true true e = let same : n ≡ m = cc in ap (λ (k : List ℕ). assert (record { name = k; positive = true })) same
+formula_written n m false false e = let same : n ≡ m = cc in ap (λ (k : List ℕ). assert (record { name = k; positive = false })) same
+formula_written n m true false e = cc
+formula_written n m false true e = cc
+
+-- two commands that are written alike are one
+pub written-injective : (c d : Command) → written c ≡ written d → c ≡ d
+written-injective (declare n) (declare m) e = let same : n ≡ m = cc in ap (λ (k : List ℕ). declare k) same
+written-injective (declare n) (assert g) e = cc
+written-injective (declare n) check e = cc
+written-injective (assert f) (declare m) e = cc
+written-injective (assert f) (assert g) e = formula_written f.name g.name f.positive g.positive e
+written-injective (assert f) check e = cc
+written-injective check (declare m) e = cc
+written-injective check (assert g) e = cc
+written-injective check check e = refl
+
+-- a state cannot be both satisfied and contradicted
+pub no_both : (s : State) (values : List Bool) (i j : ℕ) → Satisfies s values → Contradicts s i j → ⊥
+no_both s values i j sat contradicts =
+    let bare = sat.holds i _ contradicts.bare in
+    let negated = sat.holds j _ contradicts.negated in
+    let place = bare.known.0 in
+    let both : ◌≡◌ {A = Option Bool} (Some true) (Some false) = sym (bare.value place bare.known.1) ∙ negated.value place bare.known.1 in
+    cc
+
+-- two verdicts that are true of one state have one line
+pub one_line : (s : State) (v w : FirstVerdict) → Meets s v → Meets s w → line_of v ≡ line_of w
+one_line s (Sat values) (Sat others) p q = refl
+one_line s (Unsat i j) (Unsat k l) p q = refl
+one_line s (Sat values) (Unsat k l) p q = absurd (no_both s values.items k l p q)
+one_line s (Unsat i j) (Sat others) p q = absurd (no_both s others.items i j q p)
+
+-- the lines of the first commands' verdicts begin those of all
+pub lines_front : (s : State) (cs ds : List Command) (vs ws : List FirstVerdict) → AreVerdicts s cs vs → AreVerdicts s (cs ++ ds) ws → (more : List ℕ) × (lines_of ws ≡ lines_of vs ++ more) × (ds ≡ [] → more ≡ [])
+lines_front s [] [] [] [] p q = ([], refl, (λ e. refl))
+lines_front s [] [] [] (w ∷ ws) p q = absurd q
+lines_front s [] (d ∷ ds) [] ws p q = (lines_of ws, refl, (λ e. cc))
+lines_front s [] ds (v ∷ vs) ws p q = absurd p
+lines_front s (check ∷ cs) ds [] ws p q = absurd p
+lines_front s (check ∷ cs) ds (v ∷ vs) [] p q = absurd q
+lines_front s (check ∷ cs) ds (v ∷ vs) (w ∷ ws) p q =
+    let rest = lines_front s cs ds vs ws p.1 q.1 in
+    (rest.0, ap (λ (xs : List ℕ). xs ++ lines_of ws) (one_line s w v q.0 p.0) ∙ ap (λ (xs : List ℕ). line_of v ++ xs) rest.1 ∙ sym (append_assoc (line_of v) (lines_of vs) rest.0), rest.2)
+lines_front s (declare n ∷ cs) ds vs ws p q = lines_front (after s (declare n)) cs ds vs ws p q
+lines_front s (assert f ∷ cs) ds vs ws p q = lines_front (after s (assert f)) cs ds vs ws p q
+
+-- bytes begin with one command
+abbrev pub OneCommand : Type 0
+OneCommand = (bytes : List ℕ) (e f : Expression) (r s : List ℕ) → BeginsCommand bytes e r → BeginsCommand bytes f s → (f ≡ e) × (s ≡ r)
+
+-- the commands of a script go on where its first commands end
+pub script_goes_on : OneCommand → (s mid last : State) (bytes rest end : List ℕ) (cs ds : List Command) → HasCommands s bytes cs mid rest → HasCommands s bytes ds last end → IsStopped last end → (es : List Command) × (ds ≡ cs ++ es) × HasCommands mid rest es last end
+script_goes_on one s mid last bytes rest end [] ds first all stopped =
+    (ds, refl, subst (λ (t : State). HasCommands t rest ds last end) first.0 (subst (λ (b : List ℕ). HasCommands s b ds last end) first.1 all))
+script_goes_on one s mid last bytes rest end (c ∷ cs) [] first all stopped =
+    absurd (subst (λ (b : List ℕ). IsStopped last b) (sym all.1) stopped c first.0 (subst (λ (t : State). Takes t bytes c first.0) all.0 first.1))
+script_goes_on one s mid last bytes rest end (c ∷ cs) (d ∷ ds) first all stopped =
+    let same = one bytes (written c) (written d) first.0 all.0 first.1.begins all.1.begins in
+    let command : d ≡ c = written-injective d c same.0 in
+    let further : HasCommands (after s c) first.0 ds last end = subst (λ (k : Command). HasCommands (after s k) first.0 ds last end) command (subst (λ (b : List ℕ). HasCommands (after s d) b ds last end) same.1 all.2) in
+    let rest_of = script_goes_on one (after s c) mid last first.0 rest end cs ds first.2 further stopped in
+    (rest_of.0, ap (λ (k : Command). k ∷ ds) command ∙ ap (λ (ks : List Command). c ∷ ks) rest_of.1, rest_of.2)
+
+-- a script that stops where its first commands end is those commands
+pub stops_there : (mid last : State) (rest end : List ℕ) (es : List Command) → IsStopped mid rest → HasCommands mid rest es last end → (es ≡ []) × (rest ≡ end)
+stops_there mid last rest end [] stopped has = (refl, has.1)
+stops_there mid last rest end (e ∷ es) stopped has = absurd (stopped e has.0 has.1)
+
+module _ (one : OneCommand) (bytes : List ℕ) (cs : List Command) (mid : State) (rest : List ℕ) (vs : List FirstVerdict) (begins : HasCommands start bytes cs mid rest) (are : AreVerdicts start cs vs) where
+  -- the lines of the first commands' verdicts begin the text of every whole answer
+  pub text_front : (ws : List FirstVerdict) (errors : List (ℕ × ℕ)) → Answers bytes ws errors → (more : List ℕ) × (text_of ws errors ≡ lines_of vs ++ more)
+  text_front ws errors answers =
+      let goes = script_goes_on one start mid answers.last bytes rest answers.rest cs answers.commands begins answers.script.begins answers.script.stopped in
+      let lines = lines_front start cs goes.0 vs ws are (subst (λ (ds : List Command). AreVerdicts start ds ws) goes.1 answers.verdicts_are) in
+      (lines.0 ++ error_lines errors, ap (λ (xs : List ℕ). xs ++ error_lines errors) lines.1 ∙ append_assoc (lines_of vs) lines.0 (error_lines errors))
+
+  -- and where no further command follows they are all its lines
+  pub text_whole : IsStopped mid rest → (ws : List FirstVerdict) (errors : List (ℕ × ℕ)) → Answers bytes ws errors → text_of ws errors ≡ lines_of vs ++ error_lines (errors_of bytes rest)
+  text_whole stopped ws errors answers =
+      let goes = script_goes_on one start mid answers.last bytes rest answers.rest cs answers.commands begins answers.script.begins answers.script.stopped in
+      let stop = stops_there mid answers.last rest answers.rest goes.0 stopped goes.2 in
+      let lines = lines_front start cs goes.0 vs ws are (subst (λ (ds : List Command). AreVerdicts start ds ws) goes.1 answers.verdicts_are) in
+      let same : lines_of ws ≡ lines_of vs = lines.1 ∙ ap (λ (xs : List ℕ). lines_of vs ++ xs) (lines.2 stop.0) ∙ append_nil (lines_of vs) in
+      ap (λ (xs : List ℕ). xs ++ error_lines errors) same ∙ ap (λ (es : List (ℕ × ℕ)). lines_of vs ++ error_lines es) (answers.errors_are ∙ ap (errors_of bytes) (sym stop.1))
+
+-- where anything but blanks and comments is left over, its line is the one that was told
+errors_by : (bytes left : List ℕ) (line : ℕ) → (left ≡ [] → ⊥) → line ≡ line_of_rest 1 bytes left → error_at bytes left ≡ error_on line
+errors_by bytes [] line some is = absurd (some refl)
+errors_by bytes (b ∷ bs) line some is = ap (λ (n : ℕ). (n, form_not_built) ∷ []) (sym is)
+
+abbrev pub LayoutIsFront : Type 0
+LayoutIsFront = (bytes : List ℕ) → (front : List ℕ) × (bytes ≡ front ++ behind_layout bytes)
+
+pub errors_told : LayoutIsFront → (u last : Unread) (state : State) (line : ℕ) → u.line ≡ 1 → Took u last → LeavesOver state last line → errors_of u.bytes last.bytes ≡ error_on line
+errors_told layout u last state line first took over =
+    let front = layout last.bytes in
+    let is : line ≡ line_of_rest 1 u.bytes (behind_layout last.bytes) =
+    omega (arith, over.line_is, took.line, first, ap line_feeds took.taken, line_feeds-append took.front last.bytes, ap line_feeds front.1, line_feeds-append front.0 (behind_layout last.bytes)) in
+    errors_by u.bytes (behind_layout last.bytes) line over.left is

@@ -1,0 +1,229 @@
+-- Turns: what one command does to what a run has kept, and how turns join.
+use Rattle.std.proofs.Common.{◌≡◌, ℕ, ◌+◌, ◌<◌, ◌⊎◌, inl, inr, true, List, [], ◌∷◌, ◌++◌, length, take, Result, Ok, Err, OnErr, Option, Some, None, refl, ap, sym, ◌∙◌, subst, arith, append_assoc, length-append}
+use Rattle.std.proofs.Math.Seq.{take-append-add}
+use Rattle.std.proofs.lemmas.Grind.{flat_map-append, common_steps}
+use Rattle.ct_io.specs.Bytes.{appended, GrewByFront}
+use Rattle.ct_sexpr.specs.Layout.{behind_layout, line_feeds}
+use Rattle.ct_sexpr.specs.Token.{Token, token_at}
+use Rattle.ct_sexpr.specs.Expression.{Expression}
+use Rattle.ct_sexpr.specs.Reading.{BeginsPart, BeginsCommand, IsLayout, IsWrong, open_behind}
+use Rattle.ct_sexpr.specs.Unread.{Unread}
+use Rattle.ct_sexpr.specs.Answer.{Gives, Ends, Refuses, IsStuck}
+use Rattle.cosmt.specs.declared.verdict.FirstVerdict.{FirstVerdict}
+use Rattle.cosmt.specs.Command.{Command, declare, assert, check, State, after, written}
+use Rattle.cosmt.specs.Script.{HasCommands}
+use Rattle.cosmt.specs.Verdict.{AreVerdicts}
+use Rattle.cosmt.specs.Output.{line_of, lines_of}
+use Rattle.cosmt.specs.Progress.{Kept, Answered, Broke, AnsweredOne, DeclinedOne, BrokeBefore, BrokeAfter}
+use Rattle.cosmt.specs.Turns.{Took, LeavesOver, LeavesNothing}
+
+pub append_nil : {X : Type 0} (xs : List X) → xs ++ [] ≡ xs
+append_nil [] = refl
+append_nil (x ∷ xs) = ap (λ ys. x ∷ ys) (append_nil xs)
+
+-- nothing was appended
+pub appended-nothing : (o : Option (List ℕ)) → appended [] o ≡ o
+appended-nothing None = refl
+appended-nothing (Some bytes) = ap (λ (b : List ℕ). Some b) (append_nil bytes)
+
+-- two pieces one after the other are one piece
+pub appended-twice : (xs ys : List ℕ) (o : Option (List ℕ)) → appended ys (appended xs o) ≡ appended (xs ++ ys) o
+appended-twice xs ys None = refl
+appended-twice xs ys (Some bytes) = ap (λ (b : List ℕ). Some b) (append_assoc bytes xs ys)
+
+-- the tokens of a part of a command that has opened something begin behind the layout
+part_begins : (bytes : List ℕ) (tokens : List Token) (depth : ℕ) (rest : List ℕ) → BeginsPart bytes tokens depth rest → IsLayout bytes → (tokens ≡ []) × (bytes ≡ rest)
+part_begins bytes [] depth rest part layout = (refl, part.spelled)
+part_begins bytes (t ∷ ts) depth rest part layout =
+    let bad : ◌≡◌ {A = Option (Token × List ℕ)} None (Some (t, part.spelled.0)) = ap token_at (sym layout) ∙ part.spelled.1 in cc
+
+-- bytes that begin with a command are not blanks and comments alone
+pub command_no_layout : (bytes : List ℕ) (e : Expression) (rest : List ℕ) → BeginsCommand bytes e rest → IsLayout bytes → ⊥
+command_no_layout bytes e rest begins layout =
+    let none = part_begins bytes begins.before 1 begins.behind begins.part layout in
+    let bad : ◌≡◌ {A = Option ℕ} (Some 0) (Some 1) = ap (λ (ts : List Token). open_behind ts 0) (sym none.0) ∙ begins.part.nested in
+    cc
+
+-- nor are bytes at which the reader is stuck
+pub stuck_no_layout : (u : Unread) → IsStuck u → IsLayout u.bytes → ⊥
+stuck_no_layout u (inl faulty) layout =
+    let none = part_begins u.bytes faulty.tokens faulty.depth faulty.rest faulty.part layout in
+    let empty : behind_layout faulty.rest ≡ [] = ap behind_layout (sym none.1) ∙ layout in
+    subst (IsWrong faulty.depth) empty faulty.wrong
+stuck_no_layout u (inr unfinished) layout = unfinished.2 layout
+
+-- something broke in a turn
+pub Broke-turn : (old new : Kept) (u v : Unread) (e : Expression) (line : ℕ) → Gives u v e line → (BrokeBefore old new ⊎ BrokeAfter old e new) → Broke old u.bytes new
+Broke-turn old new u v e line gives (inl before) = record {
+  commands = [];
+  last = old.state;
+  rest = u.bytes;
+  begins = (refl, refl);
+  added = [];
+  are = tt;
+  verdicts = before.verdicts ∙ sym (append_nil old.verdicts);
+  front = record { count = 0; within = omega arith; grown = before.written ∙ sym (appended-nothing old.written) };
+}
+Broke-turn old new u v e line gives (inr broke) = record {
+  commands = broke.command ∷ [];
+  last = after old.state broke.command;
+  rest = v.bytes;
+  begins = (v.bytes, record { fits = broke.fits; begins = subst (λ (x : Expression). BeginsCommand u.bytes x v.bytes) broke.is gives.begins }, (refl, refl));
+  added = broke.added;
+  are = broke.are;
+  verdicts = broke.verdicts;
+  front = broke.front;
+}
+
+-- nothing was done when memory ran out
+pub Broke-nothing : (old : Kept) (bytes : List ℕ) → Broke old bytes old
+Broke-nothing old bytes = record {
+  commands = [];
+  last = old.state;
+  rest = bytes;
+  begins = (refl, refl);
+  added = [];
+  are = tt;
+  verdicts = sym (append_nil old.verdicts);
+  front = record { count = 0; within = omega arith; grown = sym (appended-nothing old.written) };
+}
+
+-- a command was answered
+pub Answered-turn : (old new : Kept) (u v : Unread) (e : Expression) (line : ℕ) → u.ended ≡ true → Gives u v e line → AnsweredOne old e new → Answered old u.bytes new v.bytes × Took u v × (length v.bytes < length u.bytes)
+Answered-turn old new u v e line ended gives one = (
+  record {
+    commands = one.command ∷ [];
+    begins = (v.bytes, record { fits = one.fits; begins = subst (λ (x : Expression). BeginsCommand u.bytes x v.bytes) one.is gives.begins }, (sym one.state, refl));
+    added = one.added;
+    are = one.are;
+    verdicts = one.verdicts;
+    written = one.output;
+  },
+  record {
+    front = gives.front;
+    taken = gives.taken;
+    line = gives.line_after;
+    ended = gives.ended ∙ ended;
+  },
+  omega (arith, gives.some, ap length gives.taken, length-append gives.front v.bytes),
+)
+
+-- a command was declined
+pub LeavesOver-declined : (old new : Kept) (u v : Unread) (e : Expression) (line : ℕ) → Gives u v e line → DeclinedOne old e new → LeavesOver old.state u line
+LeavesOver-declined old new u v e line gives declined = record {
+  stopped = λ c behind takes. declined.none c (sym (gives.only (written c) behind takes.begins).0) takes.fits;
+  left = command_no_layout u.bytes e v.bytes gives.begins;
+  line_is = gives.line_is;
+}
+
+-- the reader is stuck
+pub LeavesOver-stuck : (state : State) (u v : Unread) (code line : ℕ) → Refuses u v code line → LeavesOver state u line
+LeavesOver-stuck state u v code line refuses = record {
+  stopped = λ c behind takes. refuses.none (written c) behind takes.begins;
+  left = stuck_no_layout u refuses.stuck;
+  line_is = refuses.line_is;
+}
+
+-- the input has ended
+pub LeavesNothing-end : (state : State) (u v : Unread) → Ends u v → LeavesNothing state u
+LeavesNothing-end state u v ends = record {
+  stopped = λ c behind takes. ends.none (written c) behind takes.begins;
+  layout = ends.layout;
+}
+
+-- a fact that holds is one that holds at an error
+pub at_err : {T E : Type 0} {P : Type 0} (r : Result T E) → P → OnErr r P
+at_err (Ok x) p = tt
+at_err (Err e) p = p
+
+-- no command was answered yet
+pub Answered-start : (old : Kept) (bytes : List ℕ) → Answered old bytes old bytes
+Answered-start old bytes = record {
+  commands = [];
+  begins = (refl, refl);
+  added = [];
+  are = tt;
+  verdicts = sym (append_nil old.verdicts);
+  written = sym (appended-nothing old.written);
+}
+
+-- commands that follow commands
+pub HasCommands-append : (s mid last : State) (bytes rest end : List ℕ) (cs ds : List Command) → HasCommands s bytes cs mid rest → HasCommands mid rest ds last end → HasCommands s bytes (cs ++ ds) last end
+HasCommands-append s mid last bytes rest end [] ds first second =
+    subst (λ (t : State). HasCommands t bytes ds last end) (sym first.0) (subst (λ (b : List ℕ). HasCommands mid b ds last end) (sym first.1) second)
+HasCommands-append s mid last bytes rest end (c ∷ cs) ds first second =
+    (first.0, first.1, HasCommands-append (after s c) mid last first.0 rest end cs ds first.2 second)
+
+-- verdicts of commands that follow commands
+pub AreVerdicts-append : (s mid : State) (bytes rest : List ℕ) (cs ds : List Command) (vs ws : List FirstVerdict) → HasCommands s bytes cs mid rest → AreVerdicts s cs vs → AreVerdicts mid ds ws → AreVerdicts s (cs ++ ds) (vs ++ ws)
+AreVerdicts-append s mid bytes rest [] ds [] ws has first second = subst (λ (t : State). AreVerdicts t ds ws) (sym has.0) second
+AreVerdicts-append s mid bytes rest [] ds (v ∷ vs) ws has first second = absurd first
+AreVerdicts-append s mid bytes rest (check ∷ cs) ds [] ws has first second = absurd first
+AreVerdicts-append s mid bytes rest (check ∷ cs) ds (v ∷ vs) ws has first second =
+    (first.0, AreVerdicts-append (after s check) mid has.0 rest cs ds vs ws has.2 first.1 second)
+AreVerdicts-append s mid bytes rest (declare name ∷ cs) ds vs ws has first second =
+    AreVerdicts-append (after s (declare name)) mid has.0 rest cs ds vs ws has.2 first second
+AreVerdicts-append s mid bytes rest (assert formula ∷ cs) ds vs ws has first second =
+    AreVerdicts-append (after s (assert formula)) mid has.0 rest cs ds vs ws has.2 first second
+
+-- the lines of verdicts that follow verdicts
+lines-append : (vs ws : List FirstVerdict) → lines_of (vs ++ ws) ≡ lines_of vs ++ lines_of ws
+lines-append vs ws = flat_map-append line_of vs ws
+
+-- commands were answered, and then more commands
+pub Answered-more : (old mid new : Kept) (bytes rest end : List ℕ) → Answered old bytes mid rest → Answered mid rest new end → Answered old bytes new end
+Answered-more old mid new bytes rest end first second = record {
+  commands = first.commands ++ second.commands;
+  begins = HasCommands-append old.state mid.state new.state bytes rest end first.commands second.commands first.begins second.begins;
+  added = first.added ++ second.added;
+  are = AreVerdicts-append old.state mid.state bytes rest first.commands second.commands first.added second.added first.begins first.are second.are;
+  verdicts = second.verdicts ∙ ap (λ (vs : List FirstVerdict). vs ++ second.added) first.verdicts ∙ append_assoc old.verdicts first.added second.added;
+  written = second.written ∙ ap (appended (lines_of second.added)) first.written ∙ appended-twice (lines_of first.added) (lines_of second.added) old.written ∙ ap (λ (text : List ℕ). appended text old.written) (sym (lines-append first.added second.added));
+}
+
+-- a front of the second of two pieces is a front of both
+pub front-more : (first second : List ℕ) (old mid new : Option (List ℕ)) → mid ≡ appended first old → GrewByFront second mid new → GrewByFront (first ++ second) old new
+front-more first second old mid new begun front = record {
+  count = length first + front.count;
+  within = omega (arith, front.within, length-append first second);
+  grown = front.grown ∙ ap (appended (take front.count second)) begun ∙ appended-twice first (take front.count second) old
+      ∙ ap (λ (text : List ℕ). appended text old) (sym (take-append-add first second front.count));
+}
+
+-- commands were answered, and then something broke
+pub Broke-later : (old mid new : Kept) (bytes rest : List ℕ) → Answered old bytes mid rest → Broke mid rest new → Broke old bytes new
+Broke-later old mid new bytes rest first broke = record {
+  commands = first.commands ++ broke.commands;
+  last = broke.last;
+  rest = broke.rest;
+  begins = HasCommands-append old.state mid.state broke.last bytes rest broke.rest first.commands broke.commands first.begins broke.begins;
+  added = first.added ++ broke.added;
+  are = AreVerdicts-append old.state mid.state bytes rest first.commands broke.commands first.added broke.added first.begins first.are broke.are;
+  verdicts = broke.verdicts ∙ ap (λ (vs : List FirstVerdict). vs ++ broke.added) first.verdicts ∙ append_assoc old.verdicts first.added broke.added;
+  front = subst (λ (text : List ℕ). GrewByFront text old.written new.written) (sym (lines-append first.added broke.added)) (front-more (lines_of first.added) (lines_of broke.added) old.written mid.written new.written first.written broke.front);
+}
+
+-- line feeds of two texts
+pub line_feeds-append : (xs ys : List ℕ) → line_feeds (xs ++ ys) ≡ line_feeds xs + line_feeds ys
+line_feeds-append [] ys = omega arith
+line_feeds-append (x ∷ xs) ys = grind (arith, common_steps, line_feeds-append xs ys)
+
+-- nothing was taken yet
+pub Took-start : (u : Unread) → u.ended ≡ true → Took u u
+Took-start u ended = record {
+  front = [];
+  taken = refl;
+  line = omega arith;
+  ended = ended;
+}
+
+-- a front was taken, and then another
+pub Took-more : (u v w : Unread) → Took u v → Took v w → Took u w
+Took-more u v w first second =
+    let whole : u.bytes ≡ (first.front ++ second.front) ++ w.bytes = first.taken ∙ ap (λ (b : List ℕ). first.front ++ b) second.taken ∙ sym (append_assoc first.front second.front w.bytes) in
+    record {
+      front = first.front ++ second.front;
+      taken = whole;
+      line = omega (arith, first.line, second.line, ap line_feeds first.taken, ap line_feeds second.taken, line_feeds-append first.front v.bytes, line_feeds-append second.front w.bytes);
+      ended = second.ended;
+    }

@@ -1,0 +1,25 @@
+use Rattle.cosmt.proofs.FaultLemmas.{Rose-since}
+use Rattle.cosmt.proofs.ReportLemmas.{Solves-broke, Solves-done, Solves-refused}
+use Rattle.cosmt.proofs.solve.answer_script.Goals as goal
+
+pub returns-in-Ok-None-clause-solved : goal.returns-in-Ok-None-clause-solved
+returns-in-Ok-None-clause-solved g c =
+    Solves-done c.one_reading.ensures.one_command c.args.reader.now c.requires.short _ _ _ _ _ _ c.in-Ok.ensures c.new-verdicts.ensures.items
+    c.one_reading.ensures.layout_is_a_front c.requires.line _ c.new-in-Ok-None.ensures.items
+    (rw c.in-Ok-None.field-0-is at c.in-Ok-None.ensures.ran)
+
+pub returns-in-Ok-Some-clause-solved : goal.returns-in-Ok-Some-clause-solved
+returns-in-Ok-Some-clause-solved g c =
+    rw c.refuse.ensures.verdicts
+    (Solves-refused c.one_reading.ensures.one_command c.args.reader.now c.requires.short _ _ _ _ _ _ c.in-Ok.ensures c.new-verdicts.ensures.items
+    c.one_reading.ensures.layout_is_a_front c.requires.line c.in-Ok-Some.line _ _ _
+    (rw c.in-Ok-Some.field-0-is at c.in-Ok-Some.ensures.ran)
+    c.refuse.ensures.refused)
+
+pub returns-in-Ok-Some-clause-output : goal.returns-in-Ok-Some-clause-output
+returns-in-Ok-Some-clause-output g c = λ is. Rose-since _ _ _ c.in-Ok-Some.ensures.cause.later c.refuse.ensures.count (c.refuse.ensures.output is)
+
+pub returns-clause-solved : goal.returns-clause-solved
+returns-clause-solved g c =
+    rw (c.status_of.ensures, c.new-in-Err.ensures.items)
+    (Solves-broke c.one_reading.ensures.one_command c.args.reader.now c.requires.short _ _ _ _ _ _ c.in-Ok.ensures c.new-verdicts.ensures.items c.in-Err.error c.in-Err.ensures.broke)

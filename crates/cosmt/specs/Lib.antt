@@ -1,0 +1,14 @@
+pub mod Command
+pub mod Script
+pub mod Verdict
+pub mod Output
+pub mod Run
+pub mod Places
+pub mod Literals
+pub mod Form
+pub mod Progress
+pub mod Session
+pub mod Constants
+pub mod Turns
+pub mod Fresh
+pub mod Refusal

@@ -1,0 +1,46 @@
+-- What becomes of the bytes of a script, command by command.
+use Rattle.std.specs.Prelude.{◌≡◌, ℕ, ◌<◌, true, List, ◌++◌, length, Option, Some, None}
+use Rattle.ct_sexpr.specs.Layout.{line_of_rest}
+use Rattle.ct_sexpr.specs.Reading.{IsLayout}
+use Rattle.ct_sexpr.specs.Unread.{Unread}
+use Rattle.ct_sexpr.specs.Answer.{line_of_start}
+use Rattle.cosmt.specs.Command.{State}
+use Rattle.cosmt.specs.Script.{IsStopped}
+use Rattle.cosmt.specs.Progress.{Kept, Answered}
+use Rattle.cosmt.specs.declared.turn.Turn.{Turn}
+use Rattle.cosmt.specs.declared.turn.Turn.TheVariants as turns
+
+-- a front of the bytes was taken, and the lines were counted
+pub record Took (old new : Unread) : Type 0 where
+  pub front : List ℕ
+  pub taken : old.bytes ≡ front ++ new.bytes
+  pub line : new.line ≡ line_of_rest old.line old.bytes new.bytes
+  pub ended : new.ended ≡ true
+
+-- nothing more of the form is there, and something is left over that begins on this line
+pub record LeavesOver (state : State) (u : Unread) (line : ℕ) : Type 0 where
+  pub stopped : IsStopped state u.bytes
+  pub left : IsLayout u.bytes → ⊥
+  pub line_is : line ≡ line_of_start u
+
+-- nothing but blanks and comments is there
+pub record LeavesNothing (state : State) (u : Unread) : Type 0 where
+  pub stopped : IsStopped state u.bytes
+  pub layout : IsLayout u.bytes
+
+-- what one turn does
+abbrev pub Turned : Turn → Unread → Unread → Kept → Kept → Type 0
+Turned turns.Answered u v old new = Answered old u.bytes new v.bytes × Took u v × (length v.bytes < length u.bytes)
+Turned turns.Ended u v old new = LeavesNothing old.state u × (new ≡ old)
+Turned (turns.Stopped line) u v old new = LeavesOver old.state u line × (new ≡ old)
+
+-- the turns ran to the end of the script, where something is left over or nothing is
+abbrev pub Leaves : State → Unread → Option ℕ → Type 0
+Leaves state u None = LeavesNothing state u
+Leaves state u (Some line) = LeavesOver state u line
+
+pub record RanTo (u : Unread) (stopped : Option ℕ) (old new : Kept) : Type 0 where
+  pub last : Unread
+  pub answered : Answered old u.bytes new last.bytes
+  pub took : Took u last
+  pub leaves : Leaves new.state last stopped

@@ -1,0 +1,304 @@
+//! Whole scripts, over a desk and a sink in memory.
+use crate::run::run;
+use ct_io::{DeskInMemory, SinkInMemory, Text};
+use std::alloc::{AllocError, Global};
+use std::process::Abort;
+use std::test::Fail;
+
+/// A constant and its negation.
+const CONTRADICTION: &str = "(declare-const p Bool)\n(assert p)\n(assert (not p))\n(check-sat)\n";
+
+/// More than one read or write takes, in all tests but those of pieces.
+const WHOLE: usize = 1 << 30;
+
+/// A run of the program: the numbers of the calls that fail, and how many bytes a call takes at most.
+#[derive(Clone, Copy, Debug)]
+struct Setting {
+    desk_fails: Option<u64>,
+    sink_fails: Option<u64>,
+    piece: usize,
+}
+
+/// Nothing fails, and every call takes all.
+const STEADY: Setting = Setting {
+    desk_fails: None,
+    sink_fails: None,
+    piece: WHOLE,
+};
+
+/// What a run told.
+#[derive(Drop)]
+struct Told {
+    /// The status, the number of verdicts, the last verdict and the errors.
+    report: String,
+    /// What was written.
+    output: Vec<u8>,
+    /// How often the desk was called.
+    reads: u64,
+}
+
+fn numbers(alloc: Global, number: Option<u64>) -> Result<Vec<u64>, AllocError> {
+    let mut all = Vec::new(alloc);
+    if let Some(number) = number {
+        all.push(number)?;
+    }
+    Ok(all)
+}
+
+fn texts(alloc: Global, words: &[&str]) -> Result<Vec<Text>, AllocError> {
+    let mut texts = Vec::new(alloc);
+    for word in words {
+        texts.push(Text::new(String::from_str(alloc, word)?))?;
+    }
+    Ok(texts)
+}
+
+/// A desk with the script under the name `s`.
+fn desk_of(alloc: Global, script: Vec<u8>, setting: Setting) -> Result<DeskInMemory, AllocError> {
+    let mut files = Vec::new(alloc);
+    files.push((Text::new(String::from_str(alloc, "s")?), script))?;
+    let fails = numbers(alloc, setting.desk_fails)?;
+    Ok(DeskInMemory::new(files, fails, setting.piece.max(1)))
+}
+
+fn run_words(
+    alloc: Global,
+    words: &[&str],
+    script: Vec<u8>,
+    setting: Setting,
+) -> Result<Told, AllocError> {
+    let words = texts(alloc, words)?;
+    let mut desk = desk_of(alloc, script, setting)?;
+    let fails = numbers(alloc, setting.sink_fails)?;
+    let mut sink = SinkInMemory::new(alloc, fails, setting.piece.max(1));
+    let report = run(alloc, words.as_slice(), &mut desk, &mut sink);
+    let (count, last) = (report.verdicts.len(), report.verdicts.last());
+    Ok(Told {
+        report: format!(in alloc; "{:?} {count} {last:?} {:?}", report.status, report.errors)?,
+        output: sink.bytes().to_vec(alloc)?,
+        reads: desk.calls(),
+    })
+}
+
+fn run_script(alloc: Global, script: &[u8], setting: Setting) -> Result<Told, AllocError> {
+    run_words(alloc, &["s"], script.to_vec(alloc)?, setting)
+}
+
+fn expect(rt: &(impl Abort + Print), told: &Told, report: &str, output: &str, case: &str) {
+    assert_eq!(rt; told.report.as_str(), report, "the report of {case:?}");
+    assert_eq!(rt;
+        told.output.as_slice(),
+        output.as_bytes(),
+        "the output of {case:?}"
+    );
+}
+
+#[test]
+fn answers_each_check(rt: HostRuntime) -> Result<(), Fail> {
+    let cases = [
+        ("", "Done 0 None []", ""),
+        (" ; nothing\r\n\t", "Done 0 None []", ""),
+        ("(check-sat)", "Done 1 Some(Sat([])) []", "sat\n"),
+        (CONTRADICTION, "Done 1 Some(Unsat(0, 1)) []", "unsat\n"),
+        (
+            "(declare-const p Bool)(assert (not p))\r\n( assert p ) ; here\r(check-sat)(check-sat)",
+            "Done 2 Some(Unsat(1, 0)) []",
+            "unsat\nunsat\n",
+        ),
+        (
+            "(declare-const p Bool)\n(declare-const q Bool)\n(assert q)\n(assert (not p))\n(check-sat)\n",
+            "Done 1 Some(Sat([false, true])) []",
+            "sat\n",
+        ),
+        (
+            "(declare-const Bool Bool)(assert (not Bool))(declare-const check-sat Bool)(assert check-sat)(check-sat)",
+            "Done 1 Some(Sat([false, true])) []",
+            "sat\n",
+        ),
+    ];
+    for (script, report, output) in cases {
+        let told = run_script(rt.alloc(), script.as_bytes(), STEADY)?;
+        expect(&rt, &told, report, output, script);
+    }
+    Ok(())
+}
+
+#[test]
+fn answers_what_stands_before_the_first_other_command(rt: HostRuntime) -> Result<(), Fail> {
+    let told = run_script(
+        rt.alloc(),
+        b"(declare-const p Bool)\n(check-sat)\n(assert (not p))\n(check-sat)\n(push 1)\n",
+        STEADY,
+    )?;
+    expect(
+        &rt,
+        &told,
+        "Refused 2 Some(Sat([false])) [(5, 59)]",
+        "sat\nsat\n(error \"line 5: [E59] form not built yet\")\n",
+        "a push",
+    );
+    Ok(())
+}
+
+#[test]
+fn tells_the_line_of_what_is_no_command_of_the_form(rt: HostRuntime) -> Result<(), Fail> {
+    let cases: [(&[u8], u64); 22] = [
+        (b"(assert p)", 1),
+        (b"\n; (\n\r\n (declare-const p Int)\n(check-sat)", 4),
+        (b"(declare-const p Bool)\n(declare-const p Bool)", 2),
+        (b"(declare-const let Bool)", 1),
+        (b"(declare-const and Bool)", 1),
+        (b"(declare-const true Bool)", 1),
+        (b"(declare-const @p Bool)", 1),
+        (b"(declare-const .p Bool)", 1),
+        (b"(declare-const 1p Bool)", 1),
+        (b"(declare-const |p| Bool)", 1),
+        (b"(declare-const a\\b Bool)", 1),
+        (b"\n:key", 2),
+        (b"(assert #b1)", 1),
+        (b"(declare-const p Bool)\n\n(assert\n(not (not p)))", 3),
+        (b"(declare-const p Bool)\n(assert true)", 2),
+        (b"(declare-const p Bool) (assert (not\np", 1),
+        (b"(check-sat 5)", 1),
+        (b"\n)", 2),
+        (b"\ncheck-sat", 2),
+        (b"\0", 1),
+        (b"(declare-const \xc3\xa4 Bool)", 1),
+        (b"\xff\n", 1),
+    ];
+    for (script, line) in cases {
+        let told = run_script(rt.alloc(), script, STEADY)?;
+        let report = format!(in rt.alloc(); "Refused 0 None [({line}, 59)]")?;
+        let output = format!(in rt.alloc(); "(error \"line {line}: [E59] form not built yet\")\n")?;
+        expect(
+            &rt,
+            &told,
+            report.as_str(),
+            output.as_str(),
+            report.as_str(),
+        );
+    }
+    Ok(())
+}
+
+#[test]
+fn reads_and_writes_in_any_pieces(rt: HostRuntime) -> Result<(), Fail> {
+    for piece in [1, 2, 7, 64, 65] {
+        let setting = Setting { piece, ..STEADY };
+        let told = run_script(rt.alloc(), CONTRADICTION.as_bytes(), setting)?;
+        expect(
+            &rt,
+            &told,
+            "Done 1 Some(Unsat(0, 1)) []",
+            "unsat\n",
+            "pieces",
+        );
+    }
+    Ok(())
+}
+
+#[test]
+fn ends_at_the_first_read_that_fails(rt: HostRuntime) -> Result<(), Fail> {
+    for number in 0..6 {
+        let setting = Setting {
+            desk_fails: Some(number),
+            piece: 16,
+            ..STEADY
+        };
+        let told = run_script(rt.alloc(), CONTRADICTION.as_bytes(), setting)?;
+        expect(&rt, &told, "InputFault 0 None []", "", "a read that fails");
+        assert_eq!(rt; told.reads, number + 1);
+    }
+    Ok(())
+}
+
+#[test]
+fn keeps_what_was_answered_before_a_write_failed(rt: HostRuntime) -> Result<(), Fail> {
+    let cases = [
+        (0, "OutputFault 1 Some(Unsat(0, 1)) []", ""),
+        (1, "OutputFault 2 Some(Unsat(0, 1)) []", "unsat\n"),
+        (
+            2,
+            "OutputFault 2 Some(Unsat(0, 1)) [(6, 59)]",
+            "unsat\nunsat\n",
+        ),
+    ];
+    let script = format!(in rt.alloc(); "{CONTRADICTION}(check-sat)\n(exit)")?;
+    for (number, report, output) in cases {
+        let setting = Setting {
+            sink_fails: Some(number),
+            ..STEADY
+        };
+        let told = run_script(rt.alloc(), script.as_bytes(), setting)?;
+        expect(&rt, &told, report, output, "a write that fails");
+    }
+    Ok(())
+}
+
+#[test]
+fn writes_nothing_where_the_first_write_fails(rt: HostRuntime) -> Result<(), Fail> {
+    let setting = Setting {
+        sink_fails: Some(0),
+        ..STEADY
+    };
+    let told = run_script(rt.alloc(), CONTRADICTION.as_bytes(), setting)?;
+    let report = "OutputFault 1 Some(Unsat(0, 1)) []";
+    expect(&rt, &told, report, "", "the first write");
+    Ok(())
+}
+
+#[test]
+fn takes_the_words_that_have_a_form(rt: HostRuntime) -> Result<(), Fail> {
+    let usage = "usage: cosmt [FILE | --audit PROOF FILE | --gen N]\n";
+    let cases: [(&[&str], &str, &str); 8] = [
+        (&["s"], "Done 0 None []", ""),
+        (&["t"], "InputFault 0 None []", ""),
+        (&[], "InputFault 0 None []", ""),
+        (&["--bogus"], "Usage 0 None []", usage),
+        (&["-"], "Usage 0 None []", usage),
+        (&["s", "s"], "Usage 0 None []", usage),
+        (&["s", ""], "Usage 0 None []", usage),
+        (&["--gen", "1"], "Usage 0 None []", usage),
+    ];
+    for (words, report, output) in cases {
+        let told = run_words(rt.alloc(), words, Vec::new(rt.alloc()), STEADY)?;
+        expect(&rt, &told, report, output, report);
+    }
+    Ok(())
+}
+
+#[test]
+fn tells_usage_as_far_as_the_sink_takes_it(rt: HostRuntime) -> Result<(), Fail> {
+    let setting = Setting {
+        sink_fails: Some(1),
+        piece: 6,
+        ..STEADY
+    };
+    let told = run_words(rt.alloc(), &["--bogus"], Vec::new(rt.alloc()), setting)?;
+    expect(
+        &rt,
+        &told,
+        "OutputFault 0 None []",
+        "usage:",
+        "a write that fails",
+    );
+    Ok(())
+}
+
+#[test]
+fn takes_67_108_864_bytes_and_no_more(rt: HostRuntime) -> Result<(), Fail> {
+    let blanks = vec![in rt.alloc(); b' '; 67_108_864]?;
+    let told = run_words(rt.alloc(), &["s"], blanks, STEADY)?;
+    expect(
+        &rt,
+        &told,
+        "Done 0 None []",
+        "",
+        "as many blanks as a slot may hold",
+    );
+    let mut blanks = vec![in rt.alloc(); b' '; 67_108_852]?;
+    blanks.extend_from_slice(b"\n(check-sat)(")?;
+    let told = run_words(rt.alloc(), &["s"], blanks, STEADY)?;
+    expect(&rt, &told, "TooLong 0 None []", "", "one byte more");
+    Ok(())
+}

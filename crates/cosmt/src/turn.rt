@@ -1,0 +1,77 @@
+//! One command after another.
+
+ghost use Rattle.std.specs.Prelude.{◌≡◌, true, IfOk, OnErr};
+ghost use Rattle.ct_io.specs.Fault.{HasCause};
+ghost use Rattle.cosmt.specs.Progress.{kept, Broke};
+ghost use Rattle.cosmt.specs.Turns.{Turned, RanTo};
+
+use crate::answer::answer;
+use crate::session::Session;
+use crate::verdict::FirstVerdict;
+use ct_io::{Sink, SinkError};
+use ct_sexpr::{Next, ReadError, Reader};
+use std::alloc::Global;
+
+/// What became of a turn.
+pub enum Turn {
+    /// A command was answered.
+    Answered,
+    /// Nothing but blanks and comments was left.
+    Ended,
+    /// Something else was left, which begins on this line.
+    Stopped(u64),
+}
+
+/// Answers commands up to the end of the script. The line of what is left over, where anything but blanks and
+/// comments is.
+pub fn answer_all<K: Sink>(
+    alloc: Global,
+    reader: &mut Reader,
+    session: &mut Session,
+    verdicts: &mut Vec<FirstVerdict>,
+    out: &mut K,
+) -> Result<Option<u64>, SinkError>
+    requires { reader.old.ended ≡ true }
+    ensures ran { IfOk result (λ stopped. RanTo reader.old stopped
+        (kept session.old verdicts.old.items (K.written out.old)) (kept session.new verdicts.new.items (K.written out.new))) }
+    ensures broke { OnErr result (Broke (kept session.old verdicts.old.items (K.written out.old)) reader.old.bytes
+        (kept session.new verdicts.new.items (K.written out.new))) }
+    ensures cause { HasCause SinkError.Fault (K.faults out.old) (K.faults out.new) result }
+{
+    loop {
+        match take_turn(alloc, reader, session, verdicts, out)? {
+            Turn::Answered => {}
+            Turn::Ended => return Ok(None),
+            Turn::Stopped(line) => return Ok(Some(line)),
+        }
+    }
+}
+
+/// Answers the next command.
+fn take_turn<K: Sink>(
+    alloc: Global,
+    reader: &mut Reader,
+    session: &mut Session,
+    verdicts: &mut Vec<FirstVerdict>,
+    out: &mut K,
+) -> Result<Turn, SinkError>
+    requires { reader.old.ended ≡ true }
+    ensures turned { IfOk result (λ turn. Turned turn reader.old reader.new
+        (kept session.old verdicts.old.items (K.written out.old)) (kept session.new verdicts.new.items (K.written out.new))) }
+    ensures broke { OnErr result (Broke (kept session.old verdicts.old.items (K.written out.old)) reader.old.bytes
+        (kept session.new verdicts.new.items (K.written out.new))) }
+    ensures cause { HasCause SinkError.Fault (K.faults out.old) (K.faults out.new) result }
+{
+    match reader.next() {
+        Ok(Next::Command { expr, line }) => {
+            if answer(alloc, session, verdicts, &expr, out)? {
+                return Ok(Turn::Answered);
+            }
+            Ok(Turn::Stopped(line))
+        }
+        Ok(Next::Need) => unreachable!(),
+        Ok(Next::End) => Ok(Turn::Ended),
+        Err(ReadError::Lexical { code: _, line }) => Ok(Turn::Stopped(line)),
+        Err(ReadError::NoMemory) => Err(SinkError::NoMemory),
+    }
+}

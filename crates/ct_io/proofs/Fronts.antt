@@ -1,0 +1,29 @@
+-- A piece that is written front by front.
+use Rattle.std.proofs.Common.{◌≡◌, ℕ, List, ◌++◌, length, take, drop, Option, Some, None, refl, sym, ◌∙◌, ap, arith, append_assoc, length-append}
+use Rattle.std.proofs.lemmas.List.{take_at, take-append-drop}
+use Rattle.ct_io.specs.Bytes.{appended, GrewByFront}
+
+-- the front of the piece was written, and the rest is still to come
+pub record IsWrittenUpTo (piece front rest : List ℕ) (old now : Option (List ℕ)) : Type 0 where
+  pub split : front ++ rest ≡ piece
+  pub grown : now ≡ appended front old
+
+-- two pieces one after the other are written as one
+pub appended-appended : (xs ys : List ℕ) (old : Option (List ℕ)) → appended ys (appended xs old) ≡ appended (xs ++ ys) old
+appended-appended xs ys None = refl
+appended-appended xs ys (Some before) = ap (λ (bytes : List ℕ). Some bytes) (append_assoc before xs ys)
+
+-- what was written is a front of the piece
+pub written_front : {piece front rest : List ℕ} {old now : Option (List ℕ)} → IsWrittenUpTo piece front rest old now → GrewByFront piece old now
+written_front {piece} {front} {rest} {old} {now} h = record {
+  count = length front;
+  within = rw (← h.split) (rw length-append (omega arith));
+  grown = h.grown ∙ ap (λ (bytes : List ℕ). appended bytes old) (sym (take_at front rest (length front) refl) ∙ ap (λ (bytes : List ℕ). take (length front) bytes) h.split);
+}
+
+-- one more front of the rest was written
+pub written_more : {piece front rest : List ℕ} {old now : Option (List ℕ)} (n : ℕ) (next : Option (List ℕ)) → IsWrittenUpTo piece front rest old now → next ≡ appended (take n rest) now → IsWrittenUpTo piece (front ++ take n rest) (drop n rest) old next
+written_more {piece} {front} {rest} {old} {now} n next h e = record {
+  split = append_assoc front (take n rest) (drop n rest) ∙ ap (λ (bytes : List ℕ). front ++ bytes) (take-append-drop n rest) ∙ h.split;
+  grown = e ∙ ap (λ (bytes : Option (List ℕ)). appended (take n rest) bytes) h.grown ∙ appended-appended front (take n rest) old;
+}

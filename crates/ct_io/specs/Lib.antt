@@ -1,0 +1,9 @@
+pub mod Fault
+pub mod Bytes
+pub mod Status
+pub mod Calls
+pub mod Shelf
+pub mod Place
+pub mod MemoryDesk
+pub mod SteadyDesk
+pub mod MemorySink

@@ -1,0 +1,13 @@
+//! Desks and sinks in memory, two that fail where they are told and two that never fail.
+
+mod calls;
+mod desk;
+mod shelf;
+mod sink;
+mod steady_desk;
+mod steady_sink;
+
+pub use desk::DeskInMemory;
+pub use sink::SinkInMemory;
+pub use steady_desk::SteadyDesk;
+pub use steady_sink::SteadySink;

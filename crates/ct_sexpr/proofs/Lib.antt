@@ -1,0 +1,15 @@
+pub mod Rows
+pub mod Nesting
+pub mod Trees
+pub mod Texts
+pub mod Opened
+pub mod Layouts
+pub mod Places
+pub mod Counted
+pub mod Stepped
+pub mod Buffers
+pub mod Given
+pub mod Further
+pub mod Completable
+pub mod Decided
+pub mod Fronts

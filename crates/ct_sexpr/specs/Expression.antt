@@ -1,0 +1,27 @@
+-- Expressions (SMT-LIB 2.7, section 3.2): symbols, and lists of expressions.
+use Rattle.std.specs.Prelude.{ℕ, List, [], ◌∷◌, ◌++◌}
+use Rattle.ct_sexpr.specs.Token.{Token, opening, closing, symbol}
+
+mutual
+  pub data Expression : Type 0 where
+    word : List ℕ → Expression
+    list : Expressions → Expression
+
+  pub data Expressions : Type 0 where
+    none : Expressions
+    more : Expression → Expressions → Expressions
+
+-- the tokens that an expression is written with
+abbrev mutual
+  pub tokens_of : Expression → List Token
+  tokens_of (word w) = symbol w ∷ []
+  tokens_of (list es) = opening ∷ (tokens_of_each es ++ closing ∷ [])
+
+  pub tokens_of_each : Expressions → List Token
+  tokens_of_each none = []
+  tokens_of_each (more e es) = tokens_of e ++ tokens_of_each es
+
+-- one more expression at the end
+abbrev pub with_last : Expressions → Expression → Expressions
+with_last none last = more last none
+with_last (more e es) last = more e (with_last es last)

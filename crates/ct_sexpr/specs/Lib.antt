@@ -1,0 +1,11 @@
+pub mod Layout
+pub mod Token
+pub mod Expression
+pub mod Reading
+pub mod View
+pub mod Unread
+pub mod Answer
+pub mod Open
+pub mod OpenTokens
+pub mod Scanning
+pub mod Buffered

@@ -1,0 +1,92 @@
+-- How far a scanner has read a text that it may not know to its end.
+use Rattle.std.specs.Prelude.{◌≡◌, ℕ, ◌+◌, ◌<◌, ◌≤◌, ◌==◌, List, [], ◌∷◌, ◌++◌, length, IsTrue, if◌then◌else◌, Result, Ok, Err}
+use Rattle.ct_sexpr.specs.Layout.{behind_layout, behind_comment, line_feeds}
+use Rattle.ct_sexpr.specs.Token.{begins_symbol, behind_word}
+use Rattle.ct_sexpr.specs.Expression.{Expression}
+use Rattle.ct_sexpr.specs.Reading.{BeginsPart, BeginsCommand, IsFaulty}
+use Rattle.ct_sexpr.specs.View.{expression_of}
+use Rattle.ct_sexpr.specs.Open.{Open, none_open}
+use Rattle.ct_sexpr.specs.declared.scanner.Mode.{Mode}
+use Rattle.ct_sexpr.specs.declared.scanner.Mode.TheVariants.{Between, Comment, Word}
+use Rattle.ct_sexpr.specs.declared.scanner.Step.{Step}
+use Rattle.ct_sexpr.specs.declared.scanner.Step.TheVariants.{Going, Command, Wrong}
+use Rattle.ct_sexpr.specs.declared.scanner.Scanner.{Scanner}
+use Rattle.ct_sexpr.specs.declared.error.ReadError.{ReadError}
+use Rattle.ct_sexpr.specs.declared.error.ReadError.TheVariants.{NoMemory}
+
+-- the front of a symbol
+abbrev pub BeginsSymbol : List ℕ → Type 0
+BeginsSymbol [] = ⊥
+BeginsSymbol (b ∷ bs) = IsTrue (begins_symbol b) × (behind_word (b ∷ bs) ≡ [])
+
+-- the bytes behind the last token go on as those that are left, behind what the scanner is inside
+abbrev pub GoesOn : Mode → List ℕ → ℕ → List ℕ → List ℕ → Type 0
+GoesOn Between word depth behind left = (word ≡ []) × (behind_layout behind ≡ behind_layout left)
+GoesOn Comment word depth behind left = (word ≡ []) × (behind_layout behind ≡ behind_comment left)
+GoesOn Word word depth behind left = BeginsSymbol word × (0 < depth) × (behind_layout behind ≡ word ++ left)
+
+-- where a scanner is that has read a text as far as what is left
+pub record IsAt (lists : Open) (mode : Mode) (word whole left : List ℕ) : Type 0 where
+  pub behind : List ℕ
+  pub part : BeginsPart whole lists.tokens lists.depth behind
+  pub goes_on : GoesOn mode word lists.depth behind left
+
+-- so many lines end before the first byte of the text that is neither a blank nor part of a comment
+pub record BeginsBehind (lines : ℕ) (whole : List ℕ) : Type 0 where
+  pub count : lines + line_feeds (behind_layout whole) ≡ line_feeds whole
+  pub few : lines < length whole
+
+-- so many lines end in what was read of a text, and so many before the command that is open
+pub record Counts (depth lines before : ℕ) (whole left : List ℕ) : Type 0 where
+  pub count : lines + line_feeds left ≡ line_feeds whole
+  pub few : lines + length left ≤ length whole
+  pub begun : 0 < depth → BeginsBehind before whole
+
+-- a scanner has read a text as far as what is left
+pub record Reached (scanner : Scanner) (whole left : List ℕ) : Type 0 where
+  pub place : IsAt scanner.lists scanner.mode scanner.word.items whole left
+  pub lines : Counts scanner.lists.depth scanner.line_feeds scanner.before whole left
+
+-- a scanner that has read no byte of a text's command
+pub record IsFresh (scanner : Scanner) : Type 0 where
+  pub lists : scanner.lists ≡ none_open
+  pub mode : scanner.mode ≡ Between
+  pub word : scanner.word.items ≡ []
+
+-- what is left of a text follows its first command
+pub record Completes (scanner : Scanner) (command : Expression) (whole left : List ℕ) : Type 0 where
+  pub begins : BeginsCommand whole command left
+  pub fresh : IsFresh scanner
+  pub lines : Counts 0 scanner.line_feeds scanner.before whole left
+  pub begun : BeginsBehind scanner.before whole
+
+-- how many lines end before the command that is open, or where none is, before the byte that comes next
+abbrev pub lines_before : Scanner → ℕ
+lines_before scanner = if scanner.lists.depth == 0 then scanner.line_feeds else scanner.before
+
+-- what is left of a text goes on no command
+pub record Refutes (scanner : Scanner) (whole left : List ℕ) : Type 0 where
+  pub reached : Reached scanner whole left
+  pub faulty : IsFaulty whole
+  pub begun : BeginsBehind (lines_before scanner) whole
+
+-- a byte of the text was read, and a byte that comes next was not
+abbrev pub Passes : Scanner → Scanner → ℕ → Type 0
+Passes old new b = (whole left : List ℕ) → Reached old whole (b ∷ left) → Reached new whole left
+
+abbrev pub Stays : Scanner → Scanner → ℕ → Type 0
+Stays old new b = (whole left : List ℕ) → Reached old whole (b ∷ left) → Reached new whole (b ∷ left)
+
+-- what reading one byte does
+abbrev pub Steps : Scanner → Scanner → ℕ → Result Step ReadError → Type 0
+Steps old new b (Ok Going) = Passes old new b
+Steps old new b (Ok (Command e)) = (whole left : List ℕ) → Reached old whole (b ∷ left) → Completes new (expression_of e) whole left
+Steps old new b (Ok Wrong) = (whole left : List ℕ) → Reached old whole (b ∷ left) → Refutes new whole (b ∷ left)
+Steps old new b (Err e) = (e ≡ NoMemory) × Stays old new b
+
+-- what reading bytes does, as far as what is left of them
+abbrev pub Scans : Scanner → Scanner → List ℕ → List ℕ → Result Step ReadError → Type 0
+Scans old new bytes left (Ok Going) = (left ≡ []) × ((whole more : List ℕ) → Reached old whole (bytes ++ more) → Reached new whole more)
+Scans old new bytes left (Ok (Command e)) = (whole more : List ℕ) → Reached old whole (bytes ++ more) → Completes new (expression_of e) whole (left ++ more)
+Scans old new bytes left (Ok Wrong) = (whole more : List ℕ) → Reached old whole (bytes ++ more) → Refutes new whole (left ++ more)
+Scans old new bytes left (Err e) = (e ≡ NoMemory) × ((whole more : List ℕ) → Reached old whole (bytes ++ more) → Reached new whole (left ++ more))

@@ -1,0 +1,141 @@
+ghost use Rattle.std.specs.Prelude.{◌≡◌, ◌+◌, ◌^◌, ◌<◌, [], ◌++◌, true, false, length, OnOk, OnErr, IfOk, IfErr};
+ghost use Rattle.ct_sexpr.specs.Answer.{Answers};
+
+use crate::error::ReadError;
+use crate::scan::{Scanned, scan_bytes};
+use crate::scanner::{Scanner, Step};
+use crate::sexpr::Sexpr;
+use std::alloc::Global;
+use std::marker::Model;
+
+/// What a reader has to give.
+#[derive(Debug, Drop)]
+pub enum Next {
+    /// The next whole command, and the line of its opening parenthesis, counted from 1.
+    Command {
+        /// The command, a list.
+        expr: Sexpr,
+        /// The line, counted from 1.
+        line: u64,
+    },
+    /// No whole command has been fed, and the input has not ended.
+    Need,
+    /// The input has ended, and nothing but blanks and comments is left.
+    End,
+}
+
+/// The number of the lexical error for bytes that begin no command.
+const NO_COMMAND: u16 = 59;
+
+/// Reads commands from bytes that are fed in any pieces.
+///
+/// Each byte is read once, whatever the pieces are, and the bytes of commands that were given are
+/// dropped where they are more than those that are left, so that the moves take linear time in all.
+#[derive(Drop)]
+pub struct Reader {
+    buffer: Vec<u8>,
+    /// Where the bytes begin that belong to no command given so far.
+    start: usize,
+    /// How many bytes of the buffer the scanner has read.
+    scanned: usize,
+    scanner: Scanner,
+    /// How many lines ended before `start`.
+    lines: u64,
+    fed: u64,
+    ended: bool,
+}
+
+impl Model for Reader {
+    ghost use Rattle.std.specs.Prelude.{◌+◌, drop};
+    ghost use Rattle.ct_sexpr.specs.Unread.{Unread};
+
+    ghost Value = { Unread };
+
+    ghost use Rattle.ct_sexpr.specs.Buffered.{IsBuffered};
+
+    ghost view = { λ r. record { bytes = drop r.start r.buffer.items; line = r.lines + 1; fed = r.fed; ended = r.ended } };
+
+    ghost invariant = { λ r. IsBuffered r.buffer.items r.start r.scanned r.scanner r.lines r.fed };
+}
+
+impl Reader {
+    /// A reader that was fed nothing. Its only error is `NoMemory`.
+    pub fn new(alloc: Global) -> Result<Reader, ReadError>
+        ensures ok { IfOk result (λ r. r ≡ record { bytes = []; line = 1; fed = 0; ended = false }) }
+        ensures err { IfErr result (λ e. e ≡ ReadError.NoMemory) }
+    {
+        Ok(Reader {
+            buffer: Vec::new(alloc),
+            start: 0,
+            scanned: 0,
+            scanner: Scanner::new(alloc),
+            lines: 0,
+            fed: 0,
+            ended: false,
+        })
+    }
+
+    /// Takes the next piece of the input. Its only error is `NoMemory`, which changes nothing.
+    pub fn feed(&mut self, piece: &[u8]) -> Result<(), ReadError>
+        requires open_ended { self.old.ended ≡ false }
+        requires few { self.old.fed + length piece.now < 2 ^ 64 }
+        ensures ok { OnOk result (self.new ≡ record self.old { bytes = self.old.bytes ++ piece.now; fed = self.old.fed + length piece.now }) }
+        ensures refused { OnErr result (self.new ≡ self.old) }
+        ensures err { IfErr result (λ e. e ≡ ReadError.NoMemory) }
+    {
+        self.drop_given();
+        self.buffer.extend_from_slice(piece)?;
+        self.fed += piece.len() as u64;
+        Ok(())
+    }
+
+    /// Drops the bytes of commands that were given, where they are more than those that are left.
+    fn drop_given(&mut self)
+        ensures { self.new ≡ self.old }
+    {
+        if self.start > self.buffer.len() - self.start {
+            self.buffer.drain(..self.start);
+            self.scanned -= self.start;
+            self.start = 0;
+        }
+    }
+
+    /// Says that the input has ended.
+    pub fn end(&mut self)
+        ensures { self.new ≡ record self.old { ended = true } }
+    {
+        self.ended = true;
+    }
+
+    /// Gives the next whole command. After an error that is not `NoMemory` each later call gives the same.
+    pub fn next(&mut self) -> Result<Next, ReadError>
+        ensures { Answers self.old self.new result }
+    {
+        let unread = &self.buffer[self.scanned..];
+        let Scanned { count, outcome } = scan_bytes(&mut self.scanner, unread);
+        self.scanned += count;
+        match outcome? {
+            Step::Going if !self.ended => Ok(Next::Need),
+            Step::Going if !self.scanner.is_open() => Ok(Next::End),
+            Step::Going => Err(no_command(self.lines + self.scanner.begun())),
+            Step::Wrong => Err(no_command(self.lines + self.scanner.lines_before())),
+            Step::Command(expr) => {
+                let line = self.lines + self.scanner.begun() + 1;
+                self.lines += self.scanner.take_line_feeds();
+                self.start = self.scanned;
+                Ok(Next::Command { expr, line })
+            }
+        }
+    }
+}
+
+/// The error for bytes that begin no command, where so many lines end before the first of them.
+fn no_command(lines: u64) -> ReadError
+    requires { lines + 1 < 2 ^ 64 }
+    ensures { result ≡ ReadError.Lexical 59 (lines + 1) }
+{
+    ReadError::Lexical {
+        code: NO_COMMAND,
+        line: lines + 1,
+    }
+}

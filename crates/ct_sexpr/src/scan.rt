@@ -1,0 +1,49 @@
+ghost use Rattle.std.specs.Prelude.{◌≡◌, ◌+◌, ◌<◌, ◌≤◌, ◌^◌, length, drop};
+ghost use Rattle.ct_sexpr.specs.Scanning.{Scans};
+
+use crate::error::ReadError;
+use crate::scanner::{Scanner, Step};
+
+/// What reading many bytes gave.
+#[derive(Drop)]
+pub(crate) struct Scanned {
+    /// How many of the bytes were read.
+    pub(crate) count: usize,
+    /// What stopped the scan; it is `Going` where all bytes were read.
+    pub(crate) outcome: Result<Step, ReadError>,
+}
+
+/// Reads bytes until a command is complete, a byte goes on none, memory runs out or none is left.
+pub(crate) fn scan_bytes(scanner: &mut Scanner, bytes: &[u8]) -> Scanned
+    requires { scanner.old.line_feeds + length bytes.now < 2 ^ 64 }
+    ensures within { result.count ≤ length bytes.now }
+    ensures scans { Scans scanner.old scanner.new bytes.now (drop result.count bytes.now) result.outcome }
+{
+    for (index, byte) in bytes.iter().enumerate() {
+        match scanner.step(*byte) {
+            Ok(Step::Going) => {}
+            Ok(Step::Command(command)) => {
+                return Scanned {
+                    count: index + 1,
+                    outcome: Ok(Step::Command(command)),
+                };
+            }
+            Ok(Step::Wrong) => {
+                return Scanned {
+                    count: index,
+                    outcome: Ok(Step::Wrong),
+                };
+            }
+            Err(error) => {
+                return Scanned {
+                    count: index,
+                    outcome: Err(error),
+                };
+            }
+        }
+    }
+    Scanned {
+        count: bytes.len(),
+        outcome: Ok(Step::Going),
+    }
+}

@@ -1,0 +1,3 @@
+pub mod ConsistentLemmas
+pub mod KeptLemmas
+pub mod NameLemmas

@@ -1,0 +1,32 @@
+/// The number of a sort. Bool is 0.
+#[derive(Clone, Copy, Debug, PartialEq, Eq, Hash)]
+pub struct SortId(pub u32);
+
+/// The number of a constructor. `true` is 0 and `false` is 1.
+#[derive(Clone, Copy, Debug, PartialEq, Eq, Hash)]
+pub struct CtorId(pub u32);
+
+/// The number of a selector.
+#[derive(Clone, Copy, Debug, PartialEq, Eq, Hash)]
+pub struct SelId(pub u32);
+
+/// The number of a function, in the order of declarations. A constant is a function without arguments.
+#[derive(Clone, Copy, Debug, PartialEq, Eq, Hash)]
+pub struct FunId(pub u32);
+
+/// The number of a definition, in the order of definitions.
+#[derive(Clone, Copy, Debug, PartialEq, Eq, Hash)]
+pub struct DefId(pub u32);
+
+/// What a name stands for. Constructors, selectors, functions and definitions share one space of names.
+#[derive(Clone, Copy, Debug, PartialEq, Eq, Hash)]
+pub enum Symbol {
+    /// A constructor.
+    Ctor(CtorId),
+    /// A selector.
+    Sel(SelId),
+    /// A function.
+    Fun(FunId),
+    /// A definition.
+    Def(DefId),
+}

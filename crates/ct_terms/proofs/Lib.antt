@@ -1,0 +1,4 @@
+pub mod CoreLemmas
+pub mod ListLemmas
+pub mod TableLemmas
+pub mod LiteralLemmas

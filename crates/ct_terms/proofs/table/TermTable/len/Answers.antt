@@ -1,0 +1,11 @@
+use Rattle.ct_terms.proofs.TableLemmas.{AreSorted-declared}
+use Rattle.ct_terms.proofs.table.TermTable.len.Goals as goal
+
+pub returns-clause-single : goal.returns-clause-single
+returns-clause-single c = rw (← c.self.view_is) c.self.invariant.single
+
+pub returns-clause-negates : goal.returns-clause-negates
+returns-clause-negates c = rw (← c.self.view_is) c.self.invariant.negates
+
+pub returns-clause-lasting : goal.returns-clause-lasting
+returns-clause-lasting c = λ d f all. AreSorted-declared d f c.args.self.now all

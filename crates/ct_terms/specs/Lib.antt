@@ -1,0 +1,3 @@
+pub mod Args
+pub mod Table
+pub mod Literal

@@ -1,0 +1,75 @@
+ghost use Rattle.std.specs.Prelude.{◌≡◌, [], ◌∷◌, ◌++◌, OnOk, OnErr};
+ghost use Rattle.std.specs.Cmp.{partial_equiv_from_equiv};
+ghost use Rattle.ct_terms.specs.Args.{same_ids, same_ids_equiv, hashed_ids, hashed_ids_alike};
+
+use crate::ids::TermId;
+use smallvec::SmallVec;
+use std::alloc::{AllocError, Global};
+use std::hash::{Hash, Hasher};
+use std::marker::Model;
+
+/// The arguments of a term, in order. Up to two take no memory of their own. Clauses see a list.
+#[derive(Debug, Drop)]
+pub struct Args {
+    terms: SmallVec<TermId, 2>,
+}
+
+impl Model for Args {
+    ghost use Rattle.std.specs.Prelude.{List};
+    ghost use Rattle.ct_terms.specs.declared.ids.TermId.{TermId};
+
+    ghost Value = { List TermId };
+
+    ghost view = { λ args. args.terms.items };
+}
+
+impl Args {
+    /// No arguments. Takes no memory.
+    pub fn new(alloc: Global) -> Args
+        ensures empty { result ≡ [] }
+    {
+        Args {
+            terms: SmallVec::new(alloc),
+        }
+    }
+
+    /// One more argument at the end. An error changes nothing.
+    pub fn push(&mut self, term: TermId) -> Result<(), AllocError>
+        ensures ok { OnOk result (self.new ≡ self.old ++ term ∷ []) }
+        ensures err { OnErr result (self.new ≡ self.old) }
+    {
+        self.terms.push(term)?;
+        Ok(())
+    }
+
+    /// The arguments.
+    pub fn as_slice(&self) -> &[TermId]
+        ensures value { result.now ≡ self.now }
+    {
+        self.terms.as_slice()
+    }
+}
+
+impl PartialEq for Args {
+    ghost eq = { same_ids };
+
+    ghost laws = { partial_equiv_from_equiv same_ids_equiv };
+
+    fn eq(&self, other: &Args) -> bool {
+        self.as_slice() == other.as_slice()
+    }
+}
+
+impl Eq for Args {
+    ghost laws = { same_ids_equiv };
+}
+
+impl Hash for Args {
+    ghost hash_input = { hashed_ids };
+
+    ghost respects_eq = { hashed_ids_alike };
+
+    fn hash<H: Hasher>(&self, state: &mut H) {
+        self.as_slice().hash(state);
+    }
+}

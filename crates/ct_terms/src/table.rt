@@ -1,0 +1,157 @@
+ghost use Rattle.std.specs.Prelude.{◌≡◌, ℕ, ◌<◌, ◌≤◌, ◌↔◌, length, slice_get, OnErr, IsOk, IfOk, IfErr, IfSome, IfNone, IsErrOf};
+ghost use Rattle.ct_sorts.specs.declared.ids.SortId.{SortId};
+ghost use Rattle.ct_sorts.specs.Declarations.{Declarations, Function, bool_sort, with_function};
+ghost use Rattle.ct_terms.specs.declared.ids.TermId.{TermId};
+ghost use Rattle.ct_terms.specs.Table.{Table, IsOfSort, HasSort, IsWellSorted, AreSorted, StandsSorted, Has, IsAbsent, Makes, HasChildrenBelow, AreOrdered, AreSingle, NegatesBooleans, BeginsWithTruths, most_terms, truths};
+ghost use Rattle.ct_terms.specs.Literal.{literal_of, IsLiteral, IsStripped};
+
+use crate::args::Args;
+use crate::error::TermError;
+use crate::ids::{Lit, TermId};
+use crate::term::Core;
+use ct_sorts::{CtorId, Signature, SortId};
+use indexmap::IndexMap;
+use std::alloc::Global;
+use std::marker::Model;
+
+/// The most terms that a table holds.
+const MOST_TERMS: usize = 400_000;
+
+/// The sort of Boolean terms.
+const BOOL: SortId = SortId(0);
+
+/// Terms with one number each, in the order in which they were made.
+#[derive(Drop)]
+pub struct TermTable {
+    terms: IndexMap<Core, SortId>,
+}
+
+impl Model for TermTable {
+    ghost use Rattle.ct_terms.specs.Table.{Table, IsTable};
+
+    ghost Value = { Table };
+
+    ghost view = { λ t. t.terms.entries };
+
+    ghost invariant = { λ t. IsTable t.terms.entries };
+}
+
+impl TermTable {
+    /// The table of `true` and `false`. Its only error is `NoMemory`.
+    pub fn new(alloc: Global) -> Result<TermTable, TermError>
+        ensures ok { IfOk result (λ table. table ≡ truths) }
+        ensures sorted { IfOk result (λ table. (d : Declarations) → AreSorted d table) }
+        ensures err { IfErr result (λ e. e ≡ TermError.NoMemory) }
+    {
+        let mut terms = IndexMap::new(alloc);
+        terms.insert(Core::Con(CtorId(0), Args::new(alloc)), BOOL)?;
+        terms.insert(Core::Con(CtorId(1), Args::new(alloc)), BOOL)?;
+        Ok(TermTable { terms })
+    }
+
+    /// The number of the term: of the equal one that is there, or of a new one at the end. `Full` comes
+    /// exactly where the table holds 400,000 terms and this one is not among them. An error changes nothing.
+    pub fn make(&mut self, sig: &Signature, core: Core) -> Result<TermId, TermError>
+        requires { IsWellSorted sig.now self.old core }
+        ensures made { IfOk result (λ t. Makes sig.now self.old self.new core t.0) }
+        ensures full { IsErrOf result TermError.Full ↔ (IsAbsent self.old core × (most_terms ≤ length self.old)) }
+        ensures refused { OnErr result (self.new ≡ self.old) }
+
+        // A term that is there takes no memory, and the terms that were there stay.
+        ensures there { (t : ℕ) → Has self.old core t → IsOk result }
+        ensures keeps { (t : TermId) (s : SortId) → IsOfSort self.old t s → IsOfSort self.new t s }
+
+        // Where the whole table is well sorted it stays so, and the term has its sort.
+        ensures sorted { AreSorted sig.now self.old → AreSorted sig.now self.new }
+        ensures stands { AreSorted sig.now self.old → IfOk result (λ t. StandsSorted sig.now self.new core t.0) }
+        ensures sort { AreSorted sig.now self.old
+            → IfOk result (λ t. (s : SortId) → HasSort sig.now self.old core s → IsOfSort self.new t s) }
+    {
+        if let Some(term) = self.find(&core) {
+            return Ok(term);
+        }
+        let number = self.terms.len();
+        if number >= MOST_TERMS {
+            return Err(TermError::Full);
+        }
+        let sort = sort_of(sig, &core);
+        self.terms.insert(core, sort)?;
+        Ok(TermId(number as u32))
+    }
+
+    /// The number of terms, at most 400,000.
+    pub fn len(&self) -> u32
+        ensures count { result ≡ length self.now }
+        ensures few { result ≤ most_terms }
+        ensures begins { BeginsWithTruths self.now }
+        ensures ordered { AreOrdered self.now }
+        ensures single { AreSingle self.now }
+        ensures negates { NegatesBooleans self.now }
+
+        // A table that is well sorted stays so with one more declaration.
+        ensures lasting { (d : Declarations) (f : Function)
+            → AreSorted d self.now → AreSorted (with_function d f) self.now }
+    {
+        self.terms.len() as u32
+    }
+
+    /// The term with this number. The terms right under it have smaller numbers.
+    pub fn core(&self, t: TermId) -> &Core
+        requires { t.0 < length self.now }
+        ensures value { Has self.now result.now t.0 }
+        ensures below { HasChildrenBelow t.0 result.now }
+    {
+        match self.terms.get_index(t.0 as usize) {
+            Some((core, _)) => core,
+            None => unreachable!(),
+        }
+    }
+
+    /// The sort of the term with this number.
+    pub fn sort(&self, t: TermId) -> SortId
+        requires { t.0 < length self.now }
+        ensures value { IsOfSort self.now t result }
+    {
+        self.terms[t.0 as usize]
+    }
+
+    /// The term without the negations around it, and the sign that they leave.
+    pub fn lit(&self, t: TermId) -> Lit
+        requires { IsOfSort self.now t bool_sort }
+        ensures value { result ≡ literal_of self.now t }
+        ensures stripped { IsStripped self.now result.term }
+        ensures means { (u : TermId) → IsLiteral self.now u (slice_get self.now u.0) }
+    {
+        prove!(t.0 < self.len());
+        let mut term = t;
+        let mut positive = true;
+        while let Core::Not(inner) = self.core(term) {
+            term = *inner;
+            positive = !positive;
+        }
+        Lit { term, positive }
+    }
+
+    // The number of the term, where it is in the table.
+    fn find(&self, core: &Core) -> Option<TermId>
+        ensures found { IfSome result (λ t. Has self.now core.now t.0) }
+        ensures absent { IfNone result (IsAbsent self.now core.now) }
+    {
+        match self.terms.get_index_of(core) {
+            Some(place) => Some(TermId(place as u32)),
+            None => None,
+        }
+    }
+}
+
+// The sort of a term that is well sorted over some table.
+fn sort_of(sig: &Signature, core: &Core) -> SortId
+    requires { (table : Table) × IsWellSorted sig.now table core.now }
+    ensures { (table : Table) (sort : SortId) → HasSort sig.now table core.now sort → result ≡ sort }
+{
+    match core {
+        Core::Con(_, _) => BOOL,
+        Core::Apply(f, _) => sig.fun_result(*f),
+        Core::Not(_) => BOOL,
+    }
+}

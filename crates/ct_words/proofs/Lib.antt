@@ -1,0 +1,4 @@
+pub mod NameLemmas
+pub mod KeptLemmas
+pub mod ChainLemmas
+pub mod DistinctLemmas

@@ -1,0 +1,194 @@
+//! The four tables of the program.
+ghost use Rattle.std.specs.Prelude.{◌≡◌};
+ghost use Rattle.ct_words.specs.Words.{command_names, option_names, derivation_names, error_names};
+
+use crate::name_table::NameTable;
+
+/// The number of different commands.
+pub const COMMANDS: usize = 34;
+
+/// The number of different options.
+pub const OPTIONS: usize = 10;
+
+/// The number of different words of derivations.
+pub const DERIVATION_WORDS: usize = 51;
+
+/// The number of different texts of errors.
+pub const ERROR_TEXTS: usize = 43;
+
+// The text of these names, each ended by a byte 10.
+macro_rules! names {
+    ($($name:literal),+) => {
+        concat!($($name, "\n"),+).as_bytes()
+    };
+}
+
+/// The names of the commands, in the order of the reference of commands; those answered `unsupported` stand last.
+pub fn commands() -> NameTable<COMMANDS>
+    ensures names { result ≡ command_names }
+{
+    NameTable::new(names!(
+        "set-logic",
+        "set-option",
+        "get-option",
+        "set-info",
+        "get-info",
+        "declare-sort",
+        "declare-datatype",
+        "declare-codatatype",
+        "declare-datatypes",
+        "declare-codatatypes",
+        "declare-const",
+        "declare-fun",
+        "define-fun",
+        "define-const",
+        "assert",
+        "check-sat",
+        "push",
+        "pop",
+        "reset-assertions",
+        "reset",
+        "get-model",
+        "get-value",
+        "get-proof",
+        "echo",
+        "exit",
+        "define-fun-rec",
+        "define-funs-rec",
+        "declare-sort-parameter",
+        "get-assertions",
+        "get-assignment",
+        "define-sort",
+        "check-sat-assuming",
+        "get-unsat-core",
+        "get-unsat-assumptions"
+    ))
+}
+
+/// The names of the options, each with its colon.
+pub fn options() -> NameTable<OPTIONS>
+    ensures names { result ≡ option_names }
+{
+    NameTable::new(names!(
+        ":print-success",
+        ":global-declarations",
+        ":reproducible-resource-limit",
+        ":produce-models",
+        ":produce-proofs",
+        ":produce-assertions",
+        ":produce-assignments",
+        ":produce-unsat-cores",
+        ":produce-unsat-assumptions",
+        ":verbosity"
+    ))
+}
+
+/// The words of derivations: those of rules, of equality steps and of items, each where it comes first.
+pub fn derivation_words() -> NameTable<DERIVATION_WORDS>
+    ensures names { result ≡ derivation_names }
+{
+    NameTable::new(names!(
+        "input",
+        "gate",
+        "true",
+        "false",
+        "and-pos",
+        "and-neg",
+        "or-pos",
+        "or-neg",
+        "iff-1",
+        "iff-2",
+        "iff-3",
+        "iff-4",
+        "ite-1",
+        "ite-2",
+        "ite-3",
+        "ite-4",
+        "then",
+        "else",
+        "exhaust",
+        "theory",
+        "learn",
+        "hyp",
+        "refl",
+        "sym",
+        "trans",
+        "cong",
+        "inject",
+        "sel",
+        "test",
+        "expand",
+        "equal-in",
+        "equal-out",
+        "neg",
+        "single",
+        "unique",
+        "pair",
+        "clash",
+        "cycle",
+        "cosmt-derivation",
+        "t",
+        "con",
+        "app",
+        "is",
+        "=",
+        "not",
+        "and",
+        "or",
+        "iff",
+        "ite",
+        "s",
+        "end"
+    ))
+}
+
+/// The texts of the errors, in the order of their numbers, which have gaps.
+pub fn error_texts() -> NameTable<ERROR_TEXTS>
+    ensures names { result ≡ error_names }
+{
+    NameTable::new(names!(
+        "byte begins no token",
+        "closing parenthesis without opening",
+        "input ends inside an expression",
+        "nesting above 1000",
+        "atom outside a command",
+        "numeral above 128 bits",
+        "name taken",
+        "unknown sort",
+        "no constructor",
+        "datatype is not well founded",
+        "counts differ",
+        "too many declarations",
+        "mixed recursion",
+        "non-uniform recursion",
+        "sort of constructor not determined",
+        "too many terms",
+        "unknown symbol",
+        "wrong number of arguments",
+        "wrong sort",
+        "assertion is not Bool",
+        "pattern of another sort",
+        "match not exhaustive",
+        "variable repeated",
+        "form out of scope",
+        "name taken by another symbol",
+        "closure too large",
+        "quantifier over too many values",
+        "derivation form",
+        "number not yet defined",
+        "term line does not fit the script",
+        "no such check-sat",
+        "model form",
+        "model does not fit the script",
+        "datatype value is cyclic",
+        "pop above the levels",
+        "no model",
+        "no derivation",
+        "option not allowed now",
+        "unknown logic",
+        "unknown command",
+        "wrong form",
+        "too many levels",
+        "form not built yet"
+    ))
+}
