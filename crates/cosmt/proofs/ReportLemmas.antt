@@ -1,5 +1,5 @@
 -- What a run reports is true of its script.
-use Rattle.std.proofs.Common.{◌≡◌, ℕ, ◌≤◌, ◌⊎◌, inl, inr, List, [], ◌++◌, length, Option, Some, None, refl, ap, sym, ◌∙◌, subst, arith}
+use Rattle.std.proofs.Common.{◌≡◌, ℕ, ◌≤◌, ◌⊎◌, inl, inr, List, [], ◌∷◌, ◌++◌, length, Option, Some, None, refl, ap, sym, ◌∙◌, subst, arith}
 use Rattle.std.proofs.Math.Seq.{take-length}
 use Rattle.ct_io.specs.Bytes.{appended, GrewByFront}
 use Rattle.ct_io.specs.declared.status.Status.{Status}
@@ -9,20 +9,20 @@ use Rattle.ct_io.specs.declared.sink.SinkError.TheVariants as sink
 use Rattle.ct_sexpr.specs.Unread.{Unread}
 use Rattle.cosmt.specs.declared.verdict.FirstVerdict.{FirstVerdict}
 use Rattle.cosmt.specs.Command.{Command, State, start}
-use Rattle.cosmt.specs.Script.{HasCommands, IsStopped, error_at, errors_of}
+use Rattle.cosmt.specs.Script.{HasCommands, IsStopped, AreErrors}
 use Rattle.cosmt.specs.Verdict.{AreVerdicts}
 use Rattle.cosmt.specs.Output.{lines_of, error_line, error_lines, text_of}
 use Rattle.cosmt.specs.Progress.{Kept, kept, Answered, Broke}
 use Rattle.cosmt.specs.Turns.{RanTo}
-use Rattle.cosmt.specs.Refusal.{status_of_error, error_on, Refused}
+use Rattle.cosmt.specs.Refusal.{status_of_error, Refused}
 use Rattle.cosmt.specs.Run.{most_bytes, Answers, AnswersSoFar, BreaksOff, Solves}
 use Rattle.cosmt.proofs.TurnLemmas.{append_nil, appended-twice, front-more}
-use Rattle.cosmt.proofs.ScriptLemmas.{OneCommand, LayoutIsFront, text_front, text_whole, errors_told}
+use Rattle.cosmt.proofs.ScriptLemmas.{Laws, text_front, text_whole, errors_told}
 
 -- the sink failed while the line of the error was written
-pub Refused-broke : (line : ℕ) (e : SinkError) (errors : List (ℕ × ℕ)) (old new : Option (List ℕ)) → errors ≡ error_on line → GrewByFront (error_line line) old new → Refused line (status_of_error e) errors old new
-Refused-broke line sink.Fault errors old new told grew = (told, grew)
-Refused-broke line sink.NoMemory errors old new told grew = inl (told, grew)
+pub Refused-broke : (error : ℕ × ℕ) (e : SinkError) (errors : List (ℕ × ℕ)) (old new : Option (List ℕ)) → errors ≡ error ∷ [] → GrewByFront (error_line error) old new → Refused error (status_of_error e) errors old new
+Refused-broke error sink.Fault errors old new told grew = (told, grew)
+Refused-broke error sink.NoMemory errors old new told grew = inl (told, grew)
 
 -- a whole piece is a front
 all_written : (text : List ℕ) (old new : Option (List ℕ)) → new ≡ appended text old → GrewByFront text old new
@@ -37,12 +37,12 @@ text_of_lines : (verdicts : List FirstVerdict) → lines_of verdicts ≡ text_of
 text_of_lines verdicts = sym (append_nil (lines_of verdicts))
 
 -- the lines of a whole answer begin with those of the first commands, and so does its text
-lines_begin : (one : OneCommand) (bytes : List ℕ) (cs : List Command) (mid : State) (rest : List ℕ) (verdicts : List FirstVerdict) → HasCommands start bytes cs mid rest → AreVerdicts start cs verdicts → (vs : List FirstVerdict) (es : List (ℕ × ℕ)) → Answers bytes vs es → (more : List ℕ) × (text_of vs es ≡ text_of verdicts [] ++ more)
-lines_begin one bytes cs mid rest verdicts begins are vs es answers =
-    let front = text_front one bytes cs mid rest verdicts begins are vs es answers in
+lines_begin : (laws : Laws) (bytes : List ℕ) (cs : List Command) (mid : State) (rest : List ℕ) (verdicts : List FirstVerdict) → HasCommands start bytes cs mid rest → AreVerdicts start cs verdicts → (vs : List FirstVerdict) (es : List (ℕ × ℕ)) → Answers bytes vs es → (more : List ℕ) × (text_of vs es ≡ text_of verdicts [] ++ more)
+lines_begin laws bytes cs mid rest verdicts begins are vs es answers =
+    let front = text_front laws bytes cs mid rest verdicts begins are vs es answers in
     (front.0, front.1 ∙ ap (λ (xs : List ℕ). xs ++ front.0) (text_of_lines verdicts))
 
-module _ (one : OneCommand) (bytes : List ℕ) (short : length bytes ≤ most_bytes) where
+module _ (laws : Laws) (bytes : List ℕ) (short : length bytes ≤ most_bytes) where
   -- the run broke in the midst of the commands
   breaks_off : (verdicts : List FirstVerdict) (state : State) (old new : Option (List ℕ)) → Broke (kept start [] old) bytes (kept state verdicts new) → BreaksOff bytes verdicts [] old new
   breaks_off verdicts state old new broke =
@@ -59,7 +59,7 @@ module _ (one : OneCommand) (bytes : List ℕ) (short : length bytes ≤ most_by
         };
         writes = record {
           written = subst (λ (text : List ℕ). GrewByFront text old new) (ap lines_of (sym broke.verdicts) ∙ text_of_lines verdicts) broke.front;
-          begins = lines_begin one bytes broke.commands broke.last broke.rest verdicts broke.begins are;
+          begins = lines_begin laws bytes broke.commands broke.last broke.rest verdicts broke.begins are;
         };
       }
 
@@ -68,12 +68,12 @@ module _ (one : OneCommand) (bytes : List ℕ) (short : length bytes ≤ most_by
   broke_from sink.NoMemory verdicts state old new broke = inl (breaks_off verdicts state old new broke)
 
 -- every command was answered
-module _ (one : OneCommand) (layout : LayoutIsFront) (u : Unread) (first : u.line ≡ 1) (short : length u.bytes ≤ most_bytes) (old mid : Option (List ℕ)) (verdicts : List FirstVerdict) (state : State) where
+module _ (laws : Laws) (u : Unread) (first : u.line ≡ 1) (short : length u.bytes ≤ most_bytes) (old mid : Option (List ℕ)) (verdicts : List FirstVerdict) (state : State) where
   module _ (last : Unread) (answered : Answered (kept start [] old) u.bytes (kept state verdicts mid) last.bytes) (stopped : IsStopped state last.bytes) where
     are : AreVerdicts start answered.commands verdicts
     are = subst (AreVerdicts start answered.commands) (sym answered.verdicts) answered.are
 
-    answers : (errors : List (ℕ × ℕ)) → errors ≡ errors_of u.bytes last.bytes → Answers u.bytes verdicts errors
+    answers : (errors : List (ℕ × ℕ)) → AreErrors u.bytes last.bytes errors → Answers u.bytes verdicts errors
     answers errors told = record {
       short = short;
       commands = answered.commands;
@@ -87,7 +87,7 @@ module _ (one : OneCommand) (layout : LayoutIsFront) (u : Unread) (first : u.lin
     lines : mid ≡ appended (lines_of verdicts) old
     lines = answered.written ∙ ap (λ (vs : List FirstVerdict). appended (lines_of vs) old) (sym answered.verdicts)
 
-    answers_so_far : (errors : List (ℕ × ℕ)) → (errors ≡ []) ⊎ (IsStopped state last.bytes × (errors ≡ errors_of u.bytes last.bytes)) → AnswersSoFar u.bytes verdicts errors
+    answers_so_far : (errors : List (ℕ × ℕ)) → (errors ≡ []) ⊎ (IsStopped state last.bytes × (AreErrors u.bytes last.bytes errors)) → AnswersSoFar u.bytes verdicts errors
     answers_so_far errors told = record {
       commands = answered.commands;
       last = state;
@@ -104,51 +104,49 @@ module _ (one : OneCommand) (layout : LayoutIsFront) (u : Unread) (first : u.lin
       answers = answers_so_far [] (inl refl);
       writes = record {
         written = all_written (text_of verdicts []) old mid (lines ∙ ap (λ (text : List ℕ). appended text old) (text_of_lines verdicts));
-        begins = lines_begin one u.bytes answered.commands state last.bytes verdicts answered.begins are;
+        begins = lines_begin laws u.bytes answered.commands state last.bytes verdicts answered.begins are;
       };
     }
 
     -- the lines of the verdicts were written, and a front of the error's
-    with_error : (line : ℕ) (errors : List (ℕ × ℕ)) (new : Option (List ℕ)) → errors ≡ errors_of u.bytes last.bytes → errors ≡ error_on line → GrewByFront (error_line line) mid new → BreaksOff u.bytes verdicts errors old new
-    with_error line errors new told is grew =
-        let line_text : error_line line ≡ error_lines errors = sym (append_nil (error_line line)) ∙ ap error_lines (sym is) in
+    with_error : (error : ℕ × ℕ) (errors : List (ℕ × ℕ)) (new : Option (List ℕ)) → AreErrors u.bytes last.bytes errors → errors ≡ error ∷ [] → GrewByFront (error_line error) mid new → BreaksOff u.bytes verdicts errors old new
+    with_error error errors new told is grew =
+        let line_text : error_line error ≡ error_lines errors = sym (append_nil (error_line error)) ∙ ap error_lines (sym is) in
         record {
           short = short;
           answers = answers_so_far errors (inr (stopped, told));
           writes = record {
-            written = subst (λ (text : List ℕ). GrewByFront (lines_of verdicts ++ text) old new) line_text (front-more (lines_of verdicts) (error_line line) old mid new lines grew);
+            written = subst (λ (text : List ℕ). GrewByFront (lines_of verdicts ++ text) old new) line_text (front-more (lines_of verdicts) (error_line error) old mid new lines grew);
             begins = λ vs es whole. (
               [],
-              text_whole one u.bytes answered.commands state last.bytes verdicts answered.begins are stopped vs es whole
-                  ∙ ap (λ (es : List (ℕ × ℕ)). text_of verdicts es) (sym told)
-                  ∙ sym (append_nil (text_of verdicts errors)),
+              text_whole laws u.bytes answered.commands state last.bytes verdicts answered.begins are stopped errors told vs es whole ∙ sym (append_nil (text_of verdicts errors)),
             );
           };
         }
 
-    Solves-stopped : (line : ℕ) (s : Status) (errors : List (ℕ × ℕ)) (new : Option (List ℕ)) → errors_of u.bytes last.bytes ≡ error_on line → Refused line s errors mid new → Solves u.bytes s verdicts errors old new
-    Solves-stopped line status.Refused errors new told refused = (
-      answers errors (refused.0 ∙ sym told),
+    Solves-stopped : (error : ℕ × ℕ) (s : Status) (errors : List (ℕ × ℕ)) (new : Option (List ℕ)) → AreErrors u.bytes last.bytes (error ∷ []) → Refused error s errors mid new → Solves u.bytes s verdicts errors old new
+    Solves-stopped error status.Refused errors new told refused = (
+      answers errors (subst (AreErrors u.bytes last.bytes) (sym refused.0) told),
       (λ empty. cc),
-      refused.1 ∙ ap (appended (error_line line)) lines ∙ appended-twice (lines_of verdicts) (error_line line) old
-          ∙ ap (λ (text : List ℕ). appended (lines_of verdicts ++ text) old) (sym (append_nil (error_line line)))
+      refused.1 ∙ ap (appended (error_line error)) lines ∙ appended-twice (lines_of verdicts) (error_line error) old
+          ∙ ap (λ (text : List ℕ). appended (lines_of verdicts ++ text) old) (sym (append_nil (error_line error)))
           ∙ ap (λ (es : List (ℕ × ℕ)). appended (text_of verdicts es) old) (sym refused.0),
     )
-    Solves-stopped line status.OutputFault errors new told refused = with_error line errors new (refused.0 ∙ sym told) refused.0 refused.1
-    Solves-stopped line status.NoMemory errors new told (inl refused) = inl (with_error line errors new (refused.0 ∙ sym told) refused.0 refused.1)
-    Solves-stopped line status.NoMemory errors new told (inr refused) =
+    Solves-stopped error status.OutputFault errors new told refused = with_error error errors new (subst (AreErrors u.bytes last.bytes) (sym refused.0) told) refused.0 refused.1
+    Solves-stopped error status.NoMemory errors new told (inl refused) = inl (with_error error errors new (subst (AreErrors u.bytes last.bytes) (sym refused.0) told) refused.0 refused.1)
+    Solves-stopped error status.NoMemory errors new told (inr refused) =
         inl (subst (λ (es : List (ℕ × ℕ)). BreaksOff u.bytes verdicts es old new) (sym refused.0)
         (subst (λ (any : Option (List ℕ)). BreaksOff u.bytes verdicts [] old any) (sym refused.1) without_error))
-    Solves-stopped line status.Done errors new told refused = absurd refused
-    Solves-stopped line status.Usage errors new told refused = absurd refused
-    Solves-stopped line status.InputFault errors new told refused = absurd refused
-    Solves-stopped line status.Rejected errors new told refused = absurd refused
-    Solves-stopped line status.TooLong errors new told refused = absurd refused
+    Solves-stopped error status.Done errors new told refused = absurd refused
+    Solves-stopped error status.Usage errors new told refused = absurd refused
+    Solves-stopped error status.InputFault errors new told refused = absurd refused
+    Solves-stopped error status.Rejected errors new told refused = absurd refused
+    Solves-stopped error status.TooLong errors new told refused = absurd refused
 
   -- nothing is left over
   done_from : (errors : List (ℕ × ℕ)) → errors ≡ [] → RanTo u None (kept start [] old) (kept state verdicts mid) → Solves u.bytes status.Done verdicts errors old mid
   done_from errors empty ran =
-      let told : errors ≡ errors_of u.bytes ran.last.bytes = empty ∙ sym (ap (error_at u.bytes) ran.leaves.layout) in (
+      let told : AreErrors u.bytes ran.last.bytes errors = subst (AreErrors u.bytes ran.last.bytes) (sym empty) ran.leaves.layout in (
         answers ran.last ran.answered ran.leaves.stopped errors told,
         empty,
         lines ran.last ran.answered ran.leaves.stopped
@@ -157,23 +155,23 @@ module _ (one : OneCommand) (layout : LayoutIsFront) (u : Unread) (first : u.lin
       )
 
   -- something is left over
-  refused_from : (line : ℕ) (s : Status) (errors : List (ℕ × ℕ)) (new : Option (List ℕ)) → RanTo u (Some line) (kept start [] old) (kept state verdicts mid) → Refused line s errors mid new → Solves u.bytes s verdicts errors old new
-  refused_from line s errors new ran refused =
-      Solves-stopped ran.last ran.answered ran.leaves.stopped line s errors new
-      (errors_told layout u ran.last state line first ran.took ran.leaves) refused
+  refused_from : (error : ℕ × ℕ) (s : Status) (errors : List (ℕ × ℕ)) (new : Option (List ℕ)) → RanTo u (Some error) (kept start [] old) (kept state verdicts mid) → Refused error s errors mid new → Solves u.bytes s verdicts errors old new
+  refused_from error s errors new ran refused =
+      Solves-stopped ran.last ran.answered ran.leaves.stopped error s errors new
+      (errors_told laws u ran.last state error first ran.took ran.leaves) refused
 
 -- a run begins with nothing declared, asserted or answered
-module _ (one : OneCommand) (u : Unread) (short : length u.bytes ≤ most_bytes) (state state' : State) (verdicts verdicts' : List FirstVerdict) (old new : Option (List ℕ)) (fresh : state ≡ start) (none_yet : verdicts ≡ []) where
+module _ (laws : Laws) (u : Unread) (short : length u.bytes ≤ most_bytes) (state state' : State) (verdicts verdicts' : List FirstVerdict) (old new : Option (List ℕ)) (fresh : state ≡ start) (none_yet : verdicts ≡ []) where
   from_start : (P : Kept → Type 0) → P (kept state verdicts old) → P (kept start [] old)
   from_start P h = subst (λ (s : State). P (kept s [] old)) fresh (subst (λ (vs : List FirstVerdict). P (kept state vs old)) none_yet h)
 
   pub Solves-broke : (e : SinkError) → Broke (kept state verdicts old) u.bytes (kept state' verdicts' new) → Solves u.bytes (status_of_error e) verdicts' [] old new
-  Solves-broke e broke = broke_from one u.bytes short e verdicts' state' old new (from_start (λ (first : Kept). Broke first u.bytes (kept state' verdicts' new)) broke)
+  Solves-broke e broke = broke_from laws u.bytes short e verdicts' state' old new (from_start (λ (first : Kept). Broke first u.bytes (kept state' verdicts' new)) broke)
 
-  module _ (layout : LayoutIsFront) (first : u.line ≡ 1) where
+  module _ (first : u.line ≡ 1) where
     pub Solves-done : (errors : List (ℕ × ℕ)) → errors ≡ [] → RanTo u None (kept state verdicts old) (kept state' verdicts' new) → Solves u.bytes status.Done verdicts' errors old new
-    Solves-done errors empty ran = done_from one layout u first short old new verdicts' state' errors empty (from_start (λ (first : Kept). RanTo u None first (kept state' verdicts' new)) ran)
+    Solves-done errors empty ran = done_from laws u first short old new verdicts' state' errors empty (from_start (λ (first : Kept). RanTo u None first (kept state' verdicts' new)) ran)
 
-    pub Solves-refused : (line : ℕ) (s : Status) (errors : List (ℕ × ℕ)) (end : Option (List ℕ)) → RanTo u (Some line) (kept state verdicts old) (kept state' verdicts' new) → Refused line s errors new end → Solves u.bytes s verdicts' errors old end
-    Solves-refused line s errors end ran refused =
-        refused_from one layout u first short old new verdicts' state' line s errors end (from_start (λ (first : Kept). RanTo u (Some line) first (kept state' verdicts' new)) ran) refused
+    pub Solves-refused : (error : ℕ × ℕ) (s : Status) (errors : List (ℕ × ℕ)) (end : Option (List ℕ)) → RanTo u (Some error) (kept state verdicts old) (kept state' verdicts' new) → Refused error s errors new end → Solves u.bytes s verdicts' errors old end
+    Solves-refused error s errors end ran refused =
+        refused_from laws u first short old new verdicts' state' error s errors end (from_start (λ (first : Kept). RanTo u (Some error) first (kept state' verdicts' new)) ran) refused

@@ -1,17 +1,16 @@
 -- A text has one script, and one text of answers.
-use Rattle.std.proofs.Common.{◌≡◌, ℕ, Bool, true, false, List, [], ◌∷◌, ◌++◌, Option, Some, refl, ap, sym, ◌∙◌, subst, arith, append_assoc}
+use Rattle.std.proofs.Common.{◌≡◌, ℕ, Bool, true, false, List, [], ◌∷◌, ◌++◌, inl, inr, Option, Some, refl, ap, sym, ◌∙◌, subst, arith, append_assoc}
 use Rattle.ct_sexpr.specs.Layout.{behind_layout, line_feeds, line_of_rest}
 use Rattle.ct_sexpr.specs.Expression.{Expression}
-use Rattle.ct_sexpr.specs.Reading.{BeginsCommand}
+use Rattle.ct_sexpr.specs.Reading.{BeginsCommand, HasError, IsLayout, HasNoCommand}
 use Rattle.ct_sexpr.specs.Unread.{Unread}
 use Rattle.cosmt.specs.declared.verdict.FirstVerdict.{FirstVerdict}
 use Rattle.cosmt.specs.declared.verdict.FirstVerdict.TheVariants.{Sat, Unsat}
 use Rattle.cosmt.specs.Command.{Command, declare, assert, check, State, start, after, written, Takes}
-use Rattle.cosmt.specs.Script.{HasCommands, IsStopped, error_at, errors_of, form_not_built}
+use Rattle.cosmt.specs.Script.{HasCommands, IsStopped, IsErrorOf, AreErrors}
 use Rattle.cosmt.specs.Verdict.{Satisfies, Contradicts, Meets, AreVerdicts}
 use Rattle.cosmt.specs.Output.{line_of, lines_of, error_lines, text_of}
 use Rattle.cosmt.specs.Turns.{Took, LeavesOver}
-use Rattle.cosmt.specs.Refusal.{error_on}
 use Rattle.cosmt.specs.Run.{Answers}
 use Rattle.cosmt.proofs.TurnLemmas.{append_nil, line_feeds-append}
 
@@ -68,6 +67,43 @@ lines_front s (assert f ∷ cs) ds vs ws p q = lines_front (after s (assert f)) 
 abbrev pub OneCommand : Type 0
 OneCommand = (bytes : List ℕ) (e f : Expression) (r s : List ℕ) → BeginsCommand bytes e r → BeginsCommand bytes f s → (f ≡ e) × (s ≡ r)
 
+-- the laws of reading that a whole answer rests on
+pub record Laws : Type 0 where
+  pub one_command : OneCommand
+  pub one_error : (bytes : List ℕ) (c d : ℕ) (p q : List ℕ) → HasError bytes c p → HasError bytes d q → (d ≡ c) × (q ≡ p)
+  pub error_has_no_command : (bytes : List ℕ) (code : ℕ) (place : List ℕ) → HasError bytes code place → HasNoCommand bytes
+  pub error_is_no_layout : (bytes : List ℕ) (code : ℕ) (place : List ℕ) → HasError bytes code place → IsLayout bytes → ⊥
+  pub layout_has_no_command : (bytes : List ℕ) → IsLayout bytes → HasNoCommand bytes
+  pub error_is_an_end : (bytes : List ℕ) (code : ℕ) (place : List ℕ) → HasError bytes code place → (front : List ℕ) × (bytes ≡ front ++ place)
+  pub layout_is_a_front : (bytes : List ℕ) → (front : List ℕ) × (bytes ≡ front ++ behind_layout bytes)
+
+pair_of : {a b c d : ℕ} → c ≡ a → d ≡ b → ◌≡◌ {A = ℕ × ℕ} (c, d) (a, b)
+pair_of p q = cc
+
+-- two errors of what is left over are one
+one_error_of : Laws → (line : ℕ) (bytes rest : List ℕ) (e f : ℕ × ℕ) → IsErrorOf line bytes rest e → IsErrorOf line bytes rest f → f ≡ e
+one_error_of laws line bytes rest e f (inl p) (inl q) = pair_of (q.1 ∙ sym p.1) (q.2 ∙ sym p.2)
+one_error_of laws line bytes rest e f (inl p) (inr q) = absurd (laws.error_has_no_command rest f.1 q.0 q.1 p.0.0 p.0.1 p.0.2)
+one_error_of laws line bytes rest e f (inr p) (inl q) = absurd (laws.error_has_no_command rest e.1 p.0 p.1 q.0.0 q.0.1 q.0.2)
+one_error_of laws line bytes rest e f (inr p) (inr q) =
+    let same = laws.one_error rest e.1 f.1 p.0 q.0 p.1 q.1 in
+    pair_of (q.2 ∙ ap (line_of_rest line bytes) same.1 ∙ sym p.2) same.0
+
+-- blanks and comments have no error
+no_error_of : Laws → (line : ℕ) (bytes rest : List ℕ) (e : ℕ × ℕ) → IsErrorOf line bytes rest e → IsLayout rest → ⊥
+no_error_of laws line bytes rest e (inl p) h = laws.layout_has_no_command rest h p.0.0 p.0.1 p.0.2
+no_error_of laws line bytes rest e (inr p) h = laws.error_is_no_layout rest e.1 p.0 p.1 h
+
+-- what is left over has one list of errors
+pub one_list : Laws → (bytes rest : List ℕ) (es fs : List (ℕ × ℕ)) → AreErrors bytes rest es → AreErrors bytes rest fs → fs ≡ es
+one_list laws bytes rest [] [] p q = refl
+one_list laws bytes rest [] (f ∷ []) p q = absurd (no_error_of laws 1 bytes rest f q p)
+one_list laws bytes rest [] (f ∷ (g ∷ fs)) p q = absurd q
+one_list laws bytes rest (e ∷ []) [] p q = absurd (no_error_of laws 1 bytes rest e p q)
+one_list laws bytes rest (e ∷ []) (f ∷ []) p q = ap (λ (x : ℕ × ℕ). x ∷ []) (one_error_of laws 1 bytes rest e f p q)
+one_list laws bytes rest (e ∷ []) (f ∷ (g ∷ fs)) p q = absurd q
+one_list laws bytes rest (e ∷ (g ∷ es)) fs p q = absurd p
+
 -- the commands of a script go on where its first commands end
 pub script_goes_on : OneCommand → (s mid last : State) (bytes rest end : List ℕ) (cs ds : List Command) → HasCommands s bytes cs mid rest → HasCommands s bytes ds last end → IsStopped last end → (es : List Command) × (ds ≡ cs ++ es) × HasCommands mid rest es last end
 script_goes_on one s mid last bytes rest end [] ds first all stopped =
@@ -86,34 +122,37 @@ pub stops_there : (mid last : State) (rest end : List ℕ) (es : List Command) �
 stops_there mid last rest end [] stopped has = (refl, has.1)
 stops_there mid last rest end (e ∷ es) stopped has = absurd (stopped e has.0 has.1)
 
-module _ (one : OneCommand) (bytes : List ℕ) (cs : List Command) (mid : State) (rest : List ℕ) (vs : List FirstVerdict) (begins : HasCommands start bytes cs mid rest) (are : AreVerdicts start cs vs) where
+module _ (laws : Laws) (bytes : List ℕ) (cs : List Command) (mid : State) (rest : List ℕ) (vs : List FirstVerdict) (begins : HasCommands start bytes cs mid rest) (are : AreVerdicts start cs vs) where
   -- the lines of the first commands' verdicts begin the text of every whole answer
   pub text_front : (ws : List FirstVerdict) (errors : List (ℕ × ℕ)) → Answers bytes ws errors → (more : List ℕ) × (text_of ws errors ≡ lines_of vs ++ more)
   text_front ws errors answers =
-      let goes = script_goes_on one start mid answers.last bytes rest answers.rest cs answers.commands begins answers.script.begins answers.script.stopped in
+      let goes = script_goes_on laws.one_command start mid answers.last bytes rest answers.rest cs answers.commands begins answers.script.begins answers.script.stopped in
       let lines = lines_front start cs goes.0 vs ws are (subst (λ (ds : List Command). AreVerdicts start ds ws) goes.1 answers.verdicts_are) in
       (lines.0 ++ error_lines errors, ap (λ (xs : List ℕ). xs ++ error_lines errors) lines.1 ∙ append_assoc (lines_of vs) lines.0 (error_lines errors))
 
-  -- and where no further command follows they are all its lines
-  pub text_whole : IsStopped mid rest → (ws : List FirstVerdict) (errors : List (ℕ × ℕ)) → Answers bytes ws errors → text_of ws errors ≡ lines_of vs ++ error_lines (errors_of bytes rest)
-  text_whole stopped ws errors answers =
-      let goes = script_goes_on one start mid answers.last bytes rest answers.rest cs answers.commands begins answers.script.begins answers.script.stopped in
+  -- and where no further command follows they and the errors of what is left over are all its lines
+  pub text_whole : IsStopped mid rest → (es : List (ℕ × ℕ)) → AreErrors bytes rest es → (ws : List FirstVerdict) (errors : List (ℕ × ℕ)) → Answers bytes ws errors → text_of ws errors ≡ lines_of vs ++ error_lines es
+  text_whole stopped es told ws errors answers =
+      let goes = script_goes_on laws.one_command start mid answers.last bytes rest answers.rest cs answers.commands begins answers.script.begins answers.script.stopped in
       let stop = stops_there mid answers.last rest answers.rest goes.0 stopped goes.2 in
       let lines = lines_front start cs goes.0 vs ws are (subst (λ (ds : List Command). AreVerdicts start ds ws) goes.1 answers.verdicts_are) in
       let same : lines_of ws ≡ lines_of vs = lines.1 ∙ ap (λ (xs : List ℕ). lines_of vs ++ xs) (lines.2 stop.0) ∙ append_nil (lines_of vs) in
-      ap (λ (xs : List ℕ). xs ++ error_lines errors) same ∙ ap (λ (es : List (ℕ × ℕ)). lines_of vs ++ error_lines es) (answers.errors_are ∙ ap (errors_of bytes) (sym stop.1))
+      let errors_same : errors ≡ es = one_list laws bytes rest es errors told (subst (λ (r : List ℕ). AreErrors bytes r errors) (sym stop.1) answers.errors_are) in
+      ap (λ (xs : List ℕ). xs ++ error_lines errors) same ∙ ap (λ (xs : List (ℕ × ℕ)). lines_of vs ++ error_lines xs) errors_same
 
--- where anything but blanks and comments is left over, its line is the one that was told
-errors_by : (bytes left : List ℕ) (line : ℕ) → (left ≡ [] → ⊥) → line ≡ line_of_rest 1 bytes left → error_at bytes left ≡ error_on line
-errors_by bytes [] line some is = absurd (some refl)
-errors_by bytes (b ∷ bs) line some is = ap (λ (n : ℕ). (n, form_not_built) ∷ []) (sym is)
+-- the line of a place is counted from the beginning of the text
+line_from_start : (u last : Unread) (place front : List ℕ) (line : ℕ) → u.line ≡ 1 → Took u last → last.bytes ≡ front ++ place → line ≡ line_of_rest last.line last.bytes place → line ≡ line_of_rest 1 u.bytes place
+line_from_start u last place front line first took is told =
+    omega (arith, told, took.line, first, ap line_feeds took.taken, line_feeds-append took.front last.bytes, ap line_feeds is, line_feeds-append front place)
 
-abbrev pub LayoutIsFront : Type 0
-LayoutIsFront = (bytes : List ℕ) → (front : List ℕ) × (bytes ≡ front ++ behind_layout bytes)
-
-pub errors_told : LayoutIsFront → (u last : Unread) (state : State) (line : ℕ) → u.line ≡ 1 → Took u last → LeavesOver state last line → errors_of u.bytes last.bytes ≡ error_on line
-errors_told layout u last state line first took over =
-    let front = layout last.bytes in
-    let is : line ≡ line_of_rest 1 u.bytes (behind_layout last.bytes) =
-    omega (arith, over.line_is, took.line, first, ap line_feeds took.taken, line_feeds-append took.front last.bytes, ap line_feeds front.1, line_feeds-append front.0 (behind_layout last.bytes)) in
-    errors_by u.bytes (behind_layout last.bytes) line over.left is
+-- the error of what the turns leave over is the error of the text
+pub errors_told : Laws → (u last : Unread) (state : State) (error : ℕ × ℕ) → u.line ≡ 1 → Took u last → LeavesOver state last error → AreErrors u.bytes last.bytes (error ∷ [])
+errors_told laws u last state error first took over = by over.error_is
+  where
+    by : IsErrorOf last.line last.bytes last.bytes error → IsErrorOf 1 u.bytes last.bytes error
+    by (inl p) =
+        let front = laws.layout_is_a_front last.bytes in
+        inl (p.0, line_from_start u last (behind_layout last.bytes) front.0 error.0 first took front.1 p.1, p.2)
+    by (inr p) =
+        let front = laws.error_is_an_end last.bytes error.1 p.0 p.1 in
+        inr (p.0, p.1, line_from_start u last p.0 front.0 error.0 first took front.1 p.2)

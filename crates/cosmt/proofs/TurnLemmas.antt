@@ -3,15 +3,14 @@ use Rattle.std.proofs.Common.{◌≡◌, ℕ, ◌+◌, ◌<◌, ◌⊎◌, inl, 
 use Rattle.std.proofs.Math.Seq.{take-append-add}
 use Rattle.std.proofs.lemmas.Grind.{flat_map-append, common_steps}
 use Rattle.ct_io.specs.Bytes.{appended, GrewByFront}
-use Rattle.ct_sexpr.specs.Layout.{behind_layout, line_feeds}
-use Rattle.ct_sexpr.specs.Token.{Token, token_at}
+use Rattle.ct_sexpr.specs.Layout.{line_feeds}
 use Rattle.ct_sexpr.specs.Expression.{Expression}
-use Rattle.ct_sexpr.specs.Reading.{BeginsPart, BeginsCommand, IsLayout, IsWrong, open_behind}
+use Rattle.ct_sexpr.specs.Reading.{BeginsCommand, HasError}
 use Rattle.ct_sexpr.specs.Unread.{Unread}
-use Rattle.ct_sexpr.specs.Answer.{Gives, Ends, Refuses, IsStuck}
+use Rattle.ct_sexpr.specs.Answer.{Gives, Ends, HasFault, Refuses}
 use Rattle.cosmt.specs.declared.verdict.FirstVerdict.{FirstVerdict}
 use Rattle.cosmt.specs.Command.{Command, declare, assert, check, State, after, written}
-use Rattle.cosmt.specs.Script.{HasCommands}
+use Rattle.cosmt.specs.Script.{HasCommands, form_not_built}
 use Rattle.cosmt.specs.Verdict.{AreVerdicts}
 use Rattle.cosmt.specs.Output.{line_of, lines_of}
 use Rattle.cosmt.specs.Progress.{Kept, Answered, Broke, AnsweredOne, DeclinedOne, BrokeBefore, BrokeAfter}
@@ -30,27 +29,6 @@ appended-nothing (Some bytes) = ap (λ (b : List ℕ). Some b) (append_nil bytes
 pub appended-twice : (xs ys : List ℕ) (o : Option (List ℕ)) → appended ys (appended xs o) ≡ appended (xs ++ ys) o
 appended-twice xs ys None = refl
 appended-twice xs ys (Some bytes) = ap (λ (b : List ℕ). Some b) (append_assoc bytes xs ys)
-
--- the tokens of a part of a command that has opened something begin behind the layout
-part_begins : (bytes : List ℕ) (tokens : List Token) (depth : ℕ) (rest : List ℕ) → BeginsPart bytes tokens depth rest → IsLayout bytes → (tokens ≡ []) × (bytes ≡ rest)
-part_begins bytes [] depth rest part layout = (refl, part.spelled)
-part_begins bytes (t ∷ ts) depth rest part layout =
-    let bad : ◌≡◌ {A = Option (Token × List ℕ)} None (Some (t, part.spelled.0)) = ap token_at (sym layout) ∙ part.spelled.1 in cc
-
--- bytes that begin with a command are not blanks and comments alone
-pub command_no_layout : (bytes : List ℕ) (e : Expression) (rest : List ℕ) → BeginsCommand bytes e rest → IsLayout bytes → ⊥
-command_no_layout bytes e rest begins layout =
-    let none = part_begins bytes begins.before 1 begins.behind begins.part layout in
-    let bad : ◌≡◌ {A = Option ℕ} (Some 0) (Some 1) = ap (λ (ts : List Token). open_behind ts 0) (sym none.0) ∙ begins.part.nested in
-    cc
-
--- nor are bytes at which the reader is stuck
-pub stuck_no_layout : (u : Unread) → IsStuck u → IsLayout u.bytes → ⊥
-stuck_no_layout u (inl faulty) layout =
-    let none = part_begins u.bytes faulty.tokens faulty.depth faulty.rest faulty.part layout in
-    let empty : behind_layout faulty.rest ≡ [] = ap behind_layout (sym none.1) ∙ layout in
-    subst (IsWrong faulty.depth) empty faulty.wrong
-stuck_no_layout u (inr unfinished) layout = unfinished.2 layout
 
 -- something broke in a turn
 pub Broke-turn : (old new : Kept) (u v : Unread) (e : Expression) (line : ℕ) → Gives u v e line → (BrokeBefore old new ⊎ BrokeAfter old e new) → Broke old u.bytes new
@@ -109,19 +87,22 @@ Answered-turn old new u v e line ended gives one = (
 )
 
 -- a command was declined
-pub LeavesOver-declined : (old new : Kept) (u v : Unread) (e : Expression) (line : ℕ) → Gives u v e line → DeclinedOne old e new → LeavesOver old.state u line
+pub LeavesOver-declined : (old new : Kept) (u v : Unread) (e : Expression) (line : ℕ) → Gives u v e line → DeclinedOne old e new → LeavesOver old.state u (line, form_not_built)
 LeavesOver-declined old new u v e line gives declined = record {
   stopped = λ c behind takes. declined.none c (sym (gives.only (written c) behind takes.begins).0) takes.fits;
-  left = command_no_layout u.bytes e v.bytes gives.begins;
-  line_is = gives.line_is;
+  error_is = inl ((e, v.bytes, gives.begins), gives.line_is, refl);
 }
 
--- the reader is stuck
-pub LeavesOver-stuck : (state : State) (u v : Unread) (code line : ℕ) → Refuses u v code line → LeavesOver state u line
-LeavesOver-stuck state u v code line refuses = record {
+-- the text has an error at which the input ends
+error_in : (u : Unread) (code : ℕ) (place : List ℕ) → HasFault u code place → HasError u.bytes code place
+error_in u code place (inl e) = record { tokens = e.tokens; depth = e.depth; rest = e.rest; part = e.part; error = e.error }
+error_in u code place (inr e) = e.1
+
+-- the reader found an error
+pub LeavesOver-refused : (state : State) (u v : Unread) (code line : ℕ) → Refuses u v code line → LeavesOver state u (line, code)
+LeavesOver-refused state u v code line refuses = record {
   stopped = λ c behind takes. refuses.none (written c) behind takes.begins;
-  left = stuck_no_layout u refuses.stuck;
-  line_is = refuses.line_is;
+  error_is = inr (refuses.place, error_in u code refuses.place refuses.fault, refuses.line_is);
 }
 
 -- the input has ended

@@ -1,7 +1,8 @@
 -- The three commands of the first form: a Boolean constant, an assertion of one or of its negation, and a check.
-use Rattle.std.specs.Prelude.{ℕ, ◌<◌, Bool, true, false, List, [], ◌∷◌, ◌++◌, length, codes}
+use Rattle.std.specs.Prelude.{◌≡◌, ℕ, ◌<◌, Bool, true, false, List, [], ◌∷◌, ◌++◌, length, codes}
 use Rattle.ct_sexpr.specs.Expression.{Expression, word, list, Expressions, none, more}
 use Rattle.ct_sexpr.specs.Reading.{BeginsCommand}
+use Rattle.ct_sexpr.specs.Written.{is_reserved}
 use Rattle.ct_sorts.specs.Names.{IsListed, IsUnavailable}
 
 -- an assertion: a constant, or its negation
@@ -38,18 +39,13 @@ pub record State : Type 0 where
 abbrev pub start : State
 start = record { declared = []; asserted = [] }
 
--- the words that the language reserves (SMT-LIB 2.7, section 3.1), without the names of commands, which may be declared here
-abbrev pub reserved_words : List (List ℕ)
-reserved_words =
-    codes "!" ∷ (codes "_" ∷ (codes "as" ∷ (codes "BINARY" ∷ (codes "DECIMAL" ∷ (codes "exists" ∷ (codes "forall" ∷ (codes "HEXADECIMAL" ∷ (codes "lambda" ∷ (codes "let" ∷ (codes "match" ∷ (codes "NUMERAL" ∷ (codes "par" ∷ (codes "STRING" ∷ [])))))))))))))
-
 -- the greatest number of constants
 abbrev pub most_constants : ℕ
 most_constants = 65536
 
 -- a name may be declared where it is neither reserved nor taken nor unfit, and is not one too many
 pub record MayDeclare (declared : List (List ℕ)) (name : List ℕ) : Type 0 where
-  pub free : IsListed reserved_words name → ⊥
+  pub free : is_reserved name ≡ false
   pub available : IsUnavailable declared name → ⊥
   pub few : length declared < most_constants
 

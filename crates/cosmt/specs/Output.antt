@@ -2,6 +2,7 @@
 use Rattle.std.specs.Prelude.{ℕ, List, ◌++◌, codes}
 use Rattle.std.specs.List.{flat_map}
 use Rattle.std.specs.Fmt.{decimal}
+use Rattle.ct_words.specs.Errors.{error_text}
 use Rattle.cosmt.specs.declared.verdict.FirstVerdict.{FirstVerdict}
 use Rattle.cosmt.specs.declared.verdict.FirstVerdict.TheVariants.{Sat, Unsat}
 
@@ -14,13 +15,17 @@ line_of (Unsat i j) = codes "unsat\n"
 abbrev pub lines_of : List FirstVerdict → List ℕ
 lines_of verdicts = flat_map line_of verdicts
 
--- the line of the error that the form is not built, by the line of the script
-abbrev pub error_line : ℕ → List ℕ
-error_line line = codes "(error \"line " ++ decimal line ++ codes ": [E59] form not built yet\")\n"
+-- what stands before the text of an error, which is a pair of a line of the script and a number
+abbrev pub error_head : ℕ × ℕ → List ℕ
+error_head e = codes "(error \"line " ++ (decimal e.0 ++ (codes ": [E" ++ (decimal e.1 ++ codes "] ")))
 
--- the lines of the errors, each a pair of a line of the script and a number
+-- the line of an error
+abbrev pub error_line : ℕ × ℕ → List ℕ
+error_line e = error_head e ++ (error_text e.1 ++ codes "\")\n")
+
+-- the lines of the errors
 abbrev pub error_lines : List (ℕ × ℕ) → List ℕ
-error_lines errors = flat_map (λ e. error_line e.0) errors
+error_lines errors = flat_map error_line errors
 
 -- what a run writes: the verdicts, and then the error where there is one
 abbrev pub text_of : List FirstVerdict → List (ℕ × ℕ) → List ℕ

@@ -4,7 +4,7 @@ use Rattle.ct_io.specs.Bytes.{appended, GrewByFront}
 use Rattle.ct_io.specs.declared.status.Status.{Status}
 use Rattle.ct_io.specs.declared.status.Status.TheVariants.{Done, Refused, Usage, InputFault, OutputFault, NoMemory, Rejected, TooLong}
 use Rattle.cosmt.specs.Command.{Command, State, start}
-use Rattle.cosmt.specs.Script.{HasCommands, IsScript, IsStopped, errors_of}
+use Rattle.cosmt.specs.Script.{HasCommands, IsScript, IsStopped, AreErrors}
 use Rattle.cosmt.specs.Verdict.{AreVerdicts}
 use Rattle.cosmt.specs.Output.{text_of, usage_line}
 use Rattle.cosmt.specs.declared.verdict.FirstVerdict.{FirstVerdict}
@@ -31,7 +31,7 @@ pub record Answers (bytes : List ℕ) (verdicts : List FirstVerdict) (errors : L
   pub rest : List ℕ
   pub script : IsScript bytes commands last rest
   pub verdicts_are : AreVerdicts start commands verdicts
-  pub errors_are : errors ≡ errors_of bytes rest
+  pub errors_are : AreErrors bytes rest errors
 
 -- the first commands of the script are answered, and the error only where it is met
 pub record AnswersSoFar (bytes : List ℕ) (verdicts : List FirstVerdict) (errors : List (ℕ × ℕ)) : Type 0 where
@@ -40,7 +40,7 @@ pub record AnswersSoFar (bytes : List ℕ) (verdicts : List FirstVerdict) (error
   pub rest : List ℕ
   pub begins : HasCommands start bytes commands last rest
   pub verdicts_are : AreVerdicts start commands verdicts
-  pub errors_are : (errors ≡ []) ⊎ (IsStopped last rest × (errors ≡ errors_of bytes rest))
+  pub errors_are : (errors ≡ []) ⊎ (IsStopped last rest × AreErrors bytes rest errors)
 
 -- what is reported begins every whole answer to the bytes, and a front of its text was written in the call
 pub record WritesFront (bytes : List ℕ) (verdicts : List FirstVerdict) (errors : List (ℕ × ℕ)) (old new : Option (List ℕ)) : Type 0 where

@@ -3,9 +3,8 @@ use Rattle.std.specs.Prelude.{◌≡◌, ℕ, ◌<◌, true, List, ◌++◌, len
 use Rattle.ct_sexpr.specs.Layout.{line_of_rest}
 use Rattle.ct_sexpr.specs.Reading.{IsLayout}
 use Rattle.ct_sexpr.specs.Unread.{Unread}
-use Rattle.ct_sexpr.specs.Answer.{line_of_start}
 use Rattle.cosmt.specs.Command.{State}
-use Rattle.cosmt.specs.Script.{IsStopped}
+use Rattle.cosmt.specs.Script.{IsStopped, IsErrorOf}
 use Rattle.cosmt.specs.Progress.{Kept, Answered}
 use Rattle.cosmt.specs.declared.turn.Turn.{Turn}
 use Rattle.cosmt.specs.declared.turn.Turn.TheVariants as turns
@@ -17,11 +16,10 @@ pub record Took (old new : Unread) : Type 0 where
   pub line : new.line ≡ line_of_rest old.line old.bytes new.bytes
   pub ended : new.ended ≡ true
 
--- nothing more of the form is there, and something is left over that begins on this line
-pub record LeavesOver (state : State) (u : Unread) (line : ℕ) : Type 0 where
+-- nothing more of the form is there, and something is left over that has this error
+pub record LeavesOver (state : State) (u : Unread) (error : ℕ × ℕ) : Type 0 where
   pub stopped : IsStopped state u.bytes
-  pub left : IsLayout u.bytes → ⊥
-  pub line_is : line ≡ line_of_start u
+  pub error_is : IsErrorOf u.line u.bytes u.bytes error
 
 -- nothing but blanks and comments is there
 pub record LeavesNothing (state : State) (u : Unread) : Type 0 where
@@ -32,14 +30,14 @@ pub record LeavesNothing (state : State) (u : Unread) : Type 0 where
 abbrev pub Turned : Turn → Unread → Unread → Kept → Kept → Type 0
 Turned turns.Answered u v old new = Answered old u.bytes new v.bytes × Took u v × (length v.bytes < length u.bytes)
 Turned turns.Ended u v old new = LeavesNothing old.state u × (new ≡ old)
-Turned (turns.Stopped line) u v old new = LeavesOver old.state u line × (new ≡ old)
+Turned (turns.Stopped error) u v old new = LeavesOver old.state u error × (new ≡ old)
 
 -- the turns ran to the end of the script, where something is left over or nothing is
-abbrev pub Leaves : State → Unread → Option ℕ → Type 0
+abbrev pub Leaves : State → Unread → Option (ℕ × ℕ) → Type 0
 Leaves state u None = LeavesNothing state u
-Leaves state u (Some line) = LeavesOver state u line
+Leaves state u (Some error) = LeavesOver state u error
 
-pub record RanTo (u : Unread) (stopped : Option ℕ) (old new : Kept) : Type 0 where
+pub record RanTo (u : Unread) (stopped : Option (ℕ × ℕ)) (old new : Kept) : Type 0 where
   pub last : Unread
   pub answered : Answered old u.bytes new last.bytes
   pub took : Took u last

@@ -3,11 +3,11 @@
 
 mod answer;
 mod command;
+mod error_line;
 mod input;
 mod literals;
 mod places;
 mod report;
-mod reserved;
 mod run;
 mod session;
 mod solve;

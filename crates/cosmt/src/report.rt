@@ -7,6 +7,9 @@ use crate::verdict::FirstVerdict;
 use ct_io::{SinkError, Status};
 use std::alloc::Global;
 
+/// An error in a script, by its line, counted from 1, and its number.
+pub type ScriptError = (u64, u16);
+
 /// How a run ended, with the verdicts and the errors of the commands that were answered.
 #[derive(Debug, Drop)]
 pub struct Report {
@@ -14,8 +17,8 @@ pub struct Report {
     pub status: Status,
     /// A verdict for each check, in order.
     pub verdicts: Vec<FirstVerdict>,
-    /// The errors in order, each by its line, counted from 1, and its number.
-    pub errors: Vec<(u64, u16)>,
+    /// The errors in order.
+    pub errors: Vec<ScriptError>,
 }
 
 /// The report of a run that answered nothing. Takes no memory.

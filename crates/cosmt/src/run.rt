@@ -25,7 +25,8 @@ pub fn run<D: Desk, K: Sink>(alloc: Global, words: &[Text], desk: &mut D, out: &
     ensures usage { AreFaulty words.now
         → TellsUsage result.status result.verdicts.items result.errors.items (K.written out.old) (K.written out.new) }
 
-    // Where the desk tells nothing, as that of the host, they are still the answers to some script.
+    // Where the desk tells nothing, as that of the host, a run that is Done or Refused still has the report of some
+    // script, and wrote its text where the sink tells what was written.
     ensures some_script { IsWhole result.status → (bytes : List ℕ)
         × Solves bytes result.status result.verdicts.items result.errors.items (K.written out.old) (K.written out.new) }
 

@@ -12,8 +12,8 @@ ghost use Rattle.cosmt.specs.Verdict.{Meets};
 
 use crate::command::FirstCommand;
 use crate::literals::Literals;
-use crate::reserved::is_reserved;
 use crate::verdict::FirstVerdict;
+use ct_sexpr::is_reserved;
 use ct_sorts::{FunId, Name, SigError, Signature, SortId, Symbol};
 use ct_terms::{Args, Core, Lit, TermError, TermId, TermTable};
 use std::alloc::{AllocError, Global};

@@ -1,24 +1,20 @@
 //! A script is answered from its first command to its end.
 
-ghost use Rattle.std.specs.Prelude.{◌≡◌, ◌≢◌, ℕ, List, [], true, length, Some, string_bytes, IfOk, OnOk, OnErr, ◌≤◌};
-ghost use Rattle.ct_io.specs.Bytes.{appended, GrewByFront};
-ghost use Rattle.ct_io.specs.Fault.{Rose, HasCause};
+ghost use Rattle.std.specs.Prelude.{◌≡◌, ◌≢◌, ℕ, List, [], ◌∷◌, true, length, Some, IfOk, ◌≤◌};
+ghost use Rattle.ct_io.specs.Fault.{Rose};
 ghost use Rattle.ct_io.specs.declared.status.Status.TheVariants as status;
-ghost use Rattle.cosmt.specs.Output.{error_line};
 ghost use Rattle.cosmt.specs.Run.{most_bytes, IsWhole, Solves};
-ghost use Rattle.cosmt.specs.Refusal.{Refused, error_on};
+ghost use Rattle.cosmt.specs.Refusal.{Refused};
 
+use crate::error_line::write_error;
 use crate::input::{InputError, read_script};
-use crate::report::{Report, status_of, unanswered};
+use crate::report::{Report, ScriptError, status_of, unanswered};
 use crate::session::Session;
 use crate::turn::answer_all;
 use crate::verdict::FirstVerdict;
-use ct_io::{Desk, Sink, SinkError, Status, write_all};
+use ct_io::{Desk, Sink, Status};
 use ct_sexpr::Reader;
 use std::alloc::{AllocError, Global};
-
-/// The number of the error for what has no form yet.
-const FORM_NOT_BUILT: u16 = 59;
 
 /// Reads the script under the name and answers it.
 pub fn solve<D: Desk, K: Sink>(alloc: Global, name: &str, desk: &mut D, out: &mut K) -> Report
@@ -63,7 +59,7 @@ fn answer_script<K: Sink>(alloc: Global, reader: &mut Reader, out: &mut K) -> Re
             verdicts,
             errors: Vec::new(alloc),
         },
-        Ok(Some(line)) => refuse(alloc, verdicts, line, out),
+        Ok(Some(error)) => refuse(alloc, verdicts, error, out),
         Err(error) => Report {
             status: status_of(error),
             verdicts,
@@ -72,17 +68,22 @@ fn answer_script<K: Sink>(alloc: Global, reader: &mut Reader, out: &mut K) -> Re
     }
 }
 
-/// Keeps and writes the error for what is left over from this line on.
-fn refuse<K: Sink>(alloc: Global, verdicts: Vec<FirstVerdict>, line: u64, out: &mut K) -> Report
+/// Keeps and writes the error of what is left over.
+fn refuse<K: Sink>(
+    alloc: Global,
+    verdicts: Vec<FirstVerdict>,
+    error: ScriptError,
+    out: &mut K,
+) -> Report
     ensures verdicts { result.verdicts.items ≡ verdicts.items }
-    ensures refused { Refused line result.status result.errors.items (K.written out.old) (K.written out.new) }
+    ensures refused { Refused error result.status result.errors.items (K.written out.old) (K.written out.new) }
     ensures output { result.status ≡ status.OutputFault → Rose (K.faults out.old) (K.faults out.new) }
     ensures count { K.faults out.old ≤ K.faults out.new }
 {
-    let Ok(errors) = errors_on(alloc, line) else {
+    let Ok(errors) = only(alloc, error) else {
         return unfinished(alloc, verdicts);
     };
-    let status = match write_error(alloc, line, out) {
+    let status = match write_error(alloc, error, out) {
         Ok(()) => Status::Refused,
         Err(error) => status_of(error),
     };
@@ -106,30 +107,11 @@ fn unfinished(alloc: Global, verdicts: Vec<FirstVerdict>) -> Report
     }
 }
 
-/// The error that a form is not built, on this line.
-fn errors_on(alloc: Global, line: u64) -> Result<Vec<(u64, u16)>, AllocError>
-    ensures { IfOk result (λ errors. errors.items ≡ error_on line) }
+/// The list of one error.
+fn only(alloc: Global, error: ScriptError) -> Result<Vec<ScriptError>, AllocError>
+    ensures only { IfOk result (λ errors. errors.items ≡ error ∷ []) }
 {
     let mut errors = Vec::new(alloc);
-    errors.push((line, FORM_NOT_BUILT))?;
+    errors.push(error)?;
     Ok(errors)
-}
-
-/// Writes the line of the error.
-fn write_error<K: Sink>(alloc: Global, line: u64, out: &mut K) -> Result<(), SinkError>
-    ensures ok { OnOk result (K.written out.new ≡ appended (error_line line) (K.written out.old)) }
-    ensures refused { OnErr result (GrewByFront (error_line line) (K.written out.old) (K.written out.new)) }
-    ensures cause { HasCause SinkError.Fault (K.faults out.old) (K.faults out.new) result }
-{
-    let Ok(text) = text_of_error(alloc, line) else {
-        return Err(SinkError::NoMemory);
-    };
-    write_all(out, text.as_bytes())
-}
-
-/// The line that says that a form is not built.
-fn text_of_error(alloc: Global, line: u64) -> Result<String, AllocError>
-    ensures { IfOk result (λ text. string_bytes text ≡ error_line line) }
-{
-    format!(in alloc; "(error \"line {line}: [E59] form not built yet\")\n")
 }

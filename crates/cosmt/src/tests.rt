@@ -137,12 +137,47 @@ fn answers_what_stands_before_the_first_other_command(rt: HostRuntime) -> Result
         "sat\nsat\n(error \"line 5: [E59] form not built yet\")\n",
         "a push",
     );
+    let told = run_script(
+        rt.alloc(),
+        b"(declare-const p Bool)\n(check-sat)\n(assert (and p",
+        STEADY,
+    )?;
+    expect(
+        &rt,
+        &told,
+        "Refused 1 Some(Sat([false])) [(3, 3)]",
+        "sat\n(error \"line 3: [E3] input ends inside an expression\")\n",
+        "an unfinished command",
+    );
+    let told = run_script(rt.alloc(), b"(check-sat)\n)\n", STEADY)?;
+    expect(
+        &rt,
+        &told,
+        "Refused 1 Some(Sat([])) [(2, 2)]",
+        "sat\n(error \"line 2: [E2] closing parenthesis without opening\")\n",
+        "a closing parenthesis",
+    );
+    Ok(())
+}
+
+/// Runs the script and expects no verdict and this one error.
+fn expect_error(
+    rt: &(impl Abort + Print),
+    alloc: Global,
+    script: &[u8],
+    error: (u64, u16, &str),
+) -> Result<(), AllocError> {
+    let (line, code, text) = error;
+    let told = run_script(alloc, script, STEADY)?;
+    let report = format!(in alloc; "Refused 0 None [({line}, {code})]")?;
+    let output = format!(in alloc; "(error \"line {line}: [E{code}] {text}\")\n")?;
+    expect(rt, &told, report.as_str(), output.as_str(), report.as_str());
     Ok(())
 }
 
 #[test]
 fn tells_the_line_of_what_is_no_command_of_the_form(rt: HostRuntime) -> Result<(), Fail> {
-    let cases: [(&[u8], u64); 22] = [
+    let cases: [(&[u8], u64); 17] = [
         (b"(assert p)", 1),
         (b"\n; (\n\r\n (declare-const p Int)\n(check-sat)", 4),
         (b"(declare-const p Bool)\n(declare-const p Bool)", 2),
@@ -151,33 +186,80 @@ fn tells_the_line_of_what_is_no_command_of_the_form(rt: HostRuntime) -> Result<(
         (b"(declare-const true Bool)", 1),
         (b"(declare-const @p Bool)", 1),
         (b"(declare-const .p Bool)", 1),
-        (b"(declare-const 1p Bool)", 1),
         (b"(declare-const |p| Bool)", 1),
-        (b"(declare-const a\\b Bool)", 1),
-        (b"\n:key", 2),
+        (b"(declare-const p Bool)\n(assert |p|)", 2),
         (b"(assert #b1)", 1),
         (b"(declare-const p Bool)\n\n(assert\n(not (not p)))", 3),
         (b"(declare-const p Bool)\n(assert true)", 2),
-        (b"(declare-const p Bool) (assert (not\np", 1),
         (b"(check-sat 5)", 1),
-        (b"\n)", 2),
-        (b"\ncheck-sat", 2),
-        (b"\0", 1),
-        (b"(declare-const \xc3\xa4 Bool)", 1),
-        (b"\xff\n", 1),
+        (b"(echo \"a\nb\")\n(check-sat)", 1),
+        (b"(echo \"(\")", 1),
+        (b"()", 1),
     ];
     for (script, line) in cases {
-        let told = run_script(rt.alloc(), script, STEADY)?;
-        let report = format!(in rt.alloc(); "Refused 0 None [({line}, 59)]")?;
-        let output = format!(in rt.alloc(); "(error \"line {line}: [E59] form not built yet\")\n")?;
-        expect(
-            &rt,
-            &told,
-            report.as_str(),
-            output.as_str(),
-            report.as_str(),
-        );
+        expect_error(&rt, rt.alloc(), script, (line, 59, "form not built yet"))?;
     }
+    Ok(())
+}
+
+#[test]
+fn tells_the_line_and_the_text_of_lexical_errors(rt: HostRuntime) -> Result<(), Fail> {
+    let no_token = "byte begins no token";
+    let outside = "atom outside a command";
+    let inside = "input ends inside an expression";
+    let cases: [(&[u8], u64, u16, &str); 17] = [
+        (b"p", 1, 5, outside),
+        (b"(assert [)", 1, 1, no_token),
+        (b"\n:key", 2, 5, outside),
+        (b"\ncheck-sat", 2, 5, outside),
+        (b"\n)", 2, 2, "closing parenthesis without opening"),
+        (b"(declare-const 1p Bool)", 1, 1, no_token),
+        (b"(declare-const a\\b Bool)", 1, 1, no_token),
+        (b"(declare-const p\n|q\n\\| Bool)", 3, 1, no_token),
+        (b"\0", 1, 1, no_token),
+        (b"(declare-const \xc3\xa4 Bool)", 1, 1, no_token),
+        (b"\xff\n", 1, 1, no_token),
+        (b"(declare-const p Bool) (assert (not\np", 2, 3, inside),
+        (b"\n(assert and p\n", 3, 3, inside),
+        (b"(echo \"", 1, 3, inside),
+        (b"(assert p) )", 1, 59, "form not built yet"),
+        (
+            b"(a\n340282366920938463463374607431768211456)",
+            2,
+            6,
+            "numeral above 128 bits",
+        ),
+        (
+            b"(a\n340282366920938463463374607431768211455)",
+            1,
+            59,
+            "form not built yet",
+        ),
+    ];
+    for (script, line, code, text) in cases {
+        expect_error(&rt, rt.alloc(), script, (line, code, text))?;
+    }
+    Ok(())
+}
+
+#[test]
+fn nests_1_000_parentheses_and_no_more(rt: HostRuntime) -> Result<(), Fail> {
+    let mut script = vec![in rt.alloc(); b'('; 1_000]?;
+    let closing = vec![in rt.alloc(); b')'; 1_000]?;
+    script.extend_from_slice(closing.as_slice())?;
+    expect_error(
+        &rt,
+        rt.alloc(),
+        script.as_slice(),
+        (1, 59, "form not built yet"),
+    )?;
+    let deeper = vec![in rt.alloc(); b'('; 1_001]?;
+    expect_error(
+        &rt,
+        rt.alloc(),
+        deeper.as_slice(),
+        (1, 4, "nesting above 1000"),
+    )?;
     Ok(())
 }
 

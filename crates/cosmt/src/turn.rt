@@ -6,11 +6,15 @@ ghost use Rattle.cosmt.specs.Progress.{kept, Broke};
 ghost use Rattle.cosmt.specs.Turns.{Turned, RanTo};
 
 use crate::answer::answer;
+use crate::report::ScriptError;
 use crate::session::Session;
 use crate::verdict::FirstVerdict;
 use ct_io::{Sink, SinkError};
 use ct_sexpr::{Next, ReadError, Reader};
 use std::alloc::Global;
+
+/// The number of the error for a command whose form is not built.
+const FORM_NOT_BUILT: u16 = 59;
 
 /// What became of a turn.
 pub enum Turn {
@@ -18,11 +22,11 @@ pub enum Turn {
     Answered,
     /// Nothing but blanks and comments was left.
     Ended,
-    /// Something else was left, which begins on this line.
-    Stopped(u64),
+    /// Something else was left, with this error.
+    Stopped(ScriptError),
 }
 
-/// Answers commands up to the end of the script. The line of what is left over, where anything but blanks and
+/// Answers commands up to the end of the script. The error of what is left over, where anything but blanks and
 /// comments is.
 pub fn answer_all<K: Sink>(
     alloc: Global,
@@ -30,7 +34,7 @@ pub fn answer_all<K: Sink>(
     session: &mut Session,
     verdicts: &mut Vec<FirstVerdict>,
     out: &mut K,
-) -> Result<Option<u64>, SinkError>
+) -> Result<Option<ScriptError>, SinkError>
     requires { reader.old.ended ≡ true }
     ensures ran { IfOk result (λ stopped. RanTo reader.old stopped
         (kept session.old verdicts.old.items (K.written out.old)) (kept session.new verdicts.new.items (K.written out.new))) }
@@ -42,7 +46,7 @@ pub fn answer_all<K: Sink>(
         match take_turn(alloc, reader, session, verdicts, out)? {
             Turn::Answered => {}
             Turn::Ended => return Ok(None),
-            Turn::Stopped(line) => return Ok(Some(line)),
+            Turn::Stopped(error) => return Ok(Some(error)),
         }
     }
 }
@@ -67,11 +71,11 @@ fn take_turn<K: Sink>(
             if answer(alloc, session, verdicts, &expr, out)? {
                 return Ok(Turn::Answered);
             }
-            Ok(Turn::Stopped(line))
+            Ok(Turn::Stopped((line, FORM_NOT_BUILT)))
         }
         Ok(Next::Need) => unreachable!(),
         Ok(Next::End) => Ok(Turn::Ended),
-        Err(ReadError::Lexical { code: _, line }) => Ok(Turn::Stopped(line)),
+        Err(ReadError::Lexical { code, line }) => Ok(Turn::Stopped((line, code))),
         Err(ReadError::NoMemory) => Err(SinkError::NoMemory),
     }
 }

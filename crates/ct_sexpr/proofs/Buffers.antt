@@ -13,7 +13,7 @@ use Rattle.ct_sexpr.specs.declared.error.ReadError.TheVariants.{NoMemory}
 use Rattle.ct_sexpr.specs.declared.scanner.Scanner.{Scanner}
 
 -- a scanner that has read nothing is at the beginning of each text
-pub fresh_reached : (s : Scanner) (text : List ℕ) → IsFresh s → s.line_feeds ≡ 0 → Reached s text text
+fresh_reached : (s : Scanner) (text : List ℕ) → IsFresh s → s.line_feeds ≡ 0 → Reached s text text
 fresh_reached s text f none = record {
   place =
       rw (f.lists, f.mode, f.word)
@@ -31,7 +31,7 @@ buffered-new s f none = record {
 }
 
 -- a scan of the bytes that were not yet read
-pub buffered-scan : (buffer : List ℕ) (start scanned count : ℕ) (old new : Scanner) (lines fed : ℕ) (bytes : List ℕ) → IsBuffered buffer start scanned old lines fed →
+buffered-scan : (buffer : List ℕ) (start scanned count : ℕ) (old new : Scanner) (lines fed : ℕ) (bytes : List ℕ) → IsBuffered buffer start scanned old lines fed →
     bytes ≡ drop scanned buffer → count ≤ length bytes → ((whole more : List ℕ) → Reached old whole (bytes ++ more) → Reached new whole (drop count bytes ++ more)) →
     IsBuffered buffer start (scanned + count) new lines fed
 buffered-scan buffer start scanned count old new lines fed bytes b is le scans =
@@ -65,7 +65,7 @@ buffered-give buffer start scanned count old new fresh e lines fed bytes b is le
     }
 
 -- a command that the bytes complete
-pub completes_now : (buffer : List ℕ) (start scanned count : ℕ) (old new : Scanner) (e : Expression) (lines fed : ℕ) (bytes : List ℕ) → IsBuffered buffer start scanned old lines fed →
+completes_now : (buffer : List ℕ) (start scanned count : ℕ) (old new : Scanner) (e : Expression) (lines fed : ℕ) (bytes : List ℕ) → IsBuffered buffer start scanned old lines fed →
     bytes ≡ drop scanned buffer → ((whole more : List ℕ) → Reached old whole (bytes ++ more) → Completes new e whole (drop count bytes ++ more)) →
     Completes new e (drop start buffer) (drop (scanned + count) buffer)
 completes_now buffer start scanned count old new e lines fed bytes b is scans =
@@ -73,10 +73,10 @@ completes_now buffer start scanned count old new e lines fed bytes b is scans =
     (scans (drop start buffer) [] (subst (Reached old (drop start buffer)) (sym (append-nil bytes ∙ is)) (reached_now buffer start scanned old lines fed b)))
 
 -- bytes that begin no command
-pub refutes_now : (buffer : List ℕ) (start scanned count : ℕ) (old new : Scanner) (lines fed : ℕ) (bytes : List ℕ) → IsBuffered buffer start scanned old lines fed →
-    bytes ≡ drop scanned buffer → ((whole more : List ℕ) → Reached old whole (bytes ++ more) → Refutes new whole (drop count bytes ++ more)) →
-    Refutes new (drop start buffer) (drop count bytes ++ [])
-refutes_now buffer start scanned count old new lines fed bytes b is scans =
+refutes_now : (buffer : List ℕ) (start scanned count code : ℕ) (old new : Scanner) (lines fed : ℕ) (bytes : List ℕ) → IsBuffered buffer start scanned old lines fed →
+    bytes ≡ drop scanned buffer → ((whole more : List ℕ) → Reached old whole (bytes ++ more) → Refutes new code whole (drop count bytes ++ more)) →
+    Refutes new code (drop start buffer) (drop count bytes ++ [])
+refutes_now buffer start scanned count code old new lines fed bytes b is scans =
     scans (drop start buffer) [] (subst (Reached old (drop start buffer)) (sym (append-nil bytes ∙ is)) (reached_now buffer start scanned old lines fed b))
 
 -- what a scan of all bytes that were not yet read leaves
@@ -97,11 +97,11 @@ module _ (buffer : List ℕ) (start scanned count : ℕ) (old new : Scanner) (li
         s.1 (drop start buffer) [] (subst (Reached old (drop start buffer)) (sym (append-nil bytes ∙ is)) (reached_now buffer start scanned old lines fed b)),
       )
 
-  pub scanned_wrong : outcome ≡ Ok Wrong → IsBuffered buffer start (scanned + count) new lines fed × Refutes new (drop start buffer) (drop count bytes ++ [])
-  scanned_wrong o =
+  pub scanned_wrong : (code : ℕ) → outcome ≡ Ok (Wrong code) → IsBuffered buffer start (scanned + count) new lines fed × Refutes new code (drop start buffer) (drop count bytes ++ [])
+  scanned_wrong code o =
       let s = subst (Scans old new bytes (drop count bytes)) o scans in (
         buffered-scan buffer start scanned count old new lines fed bytes b is within (λ whole more r. (s whole more r).reached),
-        refutes_now buffer start scanned count old new lines fed bytes b is s,
+        refutes_now buffer start scanned count code old new lines fed bytes b is s,
       )
 
   pub scanned_command : (e : Sexpr) → outcome ≡ Ok (Command e) → Completes new (expression_of e) (drop start buffer) (drop (scanned + count) buffer)

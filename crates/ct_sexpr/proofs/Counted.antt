@@ -1,19 +1,56 @@
 -- The lines of a text, byte by byte.
-use Rattle.std.proofs.Common.{◌≡◌, ℕ, ◌+◌, ◌-◌, ◌<◌, true, false, eqb, nat_lt, cond, List, [], ◌∷◌, inl, inr, Some, if◌then◌else◌, refl, ap, ◌∙◌, subst, arith}
-use Rattle.std.proofs.lemmas.Bool.Decides.{nat_tests, eqb_tells}
+use Rattle.std.proofs.Common.{◌≡◌, ℕ, ◌+◌, ◌<◌, ◌≤◌, Bool, true, false, not, eqb, cond, List, [], ◌∷◌, ◌++◌, length, inl, inr, Some, if◌then◌else◌, refl, sym, ap, ◌∙◌, subst, arith}
+use Rattle.std.proofs.lemmas.Bool.Decides.{eqb_tells}
 use Rattle.std.proofs.lemmas.List.Sums.{sum_by-append}
-use Rattle.ct_sexpr.specs.Layout.{behind_layout, line_feeds}
-use Rattle.ct_sexpr.specs.Token.{Token, opening, closing, symbol, AreTokens}
-use Rattle.ct_sexpr.specs.Reading.{open_behind, BeginsPart}
+use Rattle.ct_sexpr.specs.Layout.{is_blank, ends_comment, behind_layout, behind_comment, line_feeds}
+use Rattle.ct_sexpr.specs.Run.{behind_run}
+use Rattle.ct_sexpr.specs.Atom.{is_word_byte, begins_word}
+use Rattle.ct_sexpr.specs.Token.{Token, token, lexeme_at, AreTokens}
+use Rattle.ct_sexpr.specs.Reading.{open_behind, BeginsPart, error_at, HasError}
 use Rattle.ct_sexpr.specs.Open.{Open}
-use Rattle.ct_sexpr.specs.Scanning.{IsAt, BeginsBehind, Counts}
+use Rattle.ct_sexpr.specs.Scanning.{BeginsWord, IsAt, BeginsBehind, Counts}
 use Rattle.ct_sexpr.specs.declared.scanner.Mode.TheVariants.{Between}
-use Rattle.ct_sexpr.specs.Reading.{nesting_limit}
-use Rattle.ct_sexpr.proofs.Nesting.{passed}
+use Rattle.ct_sexpr.proofs.Layouts.{told_apart, run_goes_on}
+use Rattle.ct_sexpr.proofs.Nesting.{one_is_open}
 
 -- the lines that end in one byte and in what follows
-pub line_feeds-cons : (b : ℕ) (bs : List ℕ) → line_feeds (b ∷ bs) ≡ line_feeds (b ∷ []) + line_feeds bs
+line_feeds-cons : (b : ℕ) (bs : List ℕ) → line_feeds (b ∷ bs) ≡ line_feeds (b ∷ []) + line_feeds bs
 line_feeds-cons b bs = sum_by-append (λ c. cond (eqb c 10) 1 0) (b ∷ []) bs
+
+-- a byte that is no line feed ends no line
+pub ends_no_line : (b : ℕ) → eqb b 10 ≡ false → line_feeds (b ∷ []) ≡ 0
+ends_no_line b h = rw h refl
+
+-- a run without line feeds ends no line
+run_on_line : (test : ℕ → Bool) (w left : List ℕ) → test 10 ≡ false → behind_run test w ≡ [] → line_feeds (w ++ left) ≡ line_feeds left
+run_on_line test [] left feed e = refl
+run_on_line test (b ∷ w) left feed e =
+    let p = run_goes_on (test b) (behind_run test w) w b e in
+    let one : line_feeds (b ∷ []) ≡ 0 = ends_no_line b (told_apart test b 10 p.0 feed) in
+    omega (arith, line_feeds-cons b (w ++ left), run_on_line test w left feed p.1)
+
+pub word_on_line : (w left : List ℕ) → BeginsWord w → line_feeds (w ++ left) ≡ line_feeds left
+word_on_line [] left s = absurd s
+word_on_line (b ∷ w) left s =
+    let one : line_feeds (b ∷ []) ≡ 0 = ends_no_line b (told_apart begins_word b 10 s.0 refl) in
+    omega (arith, line_feeds-cons b (w ++ left), run_on_line is_word_byte w left refl s.1)
+
+-- one byte ends one line at most
+one_line : (b : ℕ) → line_feeds (b ∷ []) ≤ 1
+one_line b = of (eqb b 10)
+  where
+    of : (p : Bool) → 0 + cond p 1 0 ≤ 1
+    of true = omega arith
+    of false = omega arith
+
+-- a byte that is counted
+pub count_byte : (depth lines before b : ℕ) (whole left : List ℕ) → Counts depth lines before whole (b ∷ left) →
+    Counts depth (lines + line_feeds (b ∷ [])) before whole left
+count_byte depth lines before b whole left c = record {
+  count = omega (arith, line_feeds-cons b left, c.count);
+  few = omega (arith, one_line b, c.few);
+  begun = c.begun;
+}
 
 -- a byte that ends no line
 pub count_other : (depth lines before b : ℕ) (whole left : List ℕ) → eqb b 10 ≡ false → Counts depth lines before whole (b ∷ left) →
@@ -34,27 +71,67 @@ count_depth depth next lines before whole left h c = record { count = c.count; f
 pub count_begin : (depth next lines before begun : ℕ) (whole left : List ℕ) → BeginsBehind begun whole → Counts depth lines before whole left → Counts next lines begun whole left
 count_begin depth next lines before begun whole left h c = record { count = c.count; few = c.few; begun = λ _. h }
 
-stays_open : (ts : List Token) (depth m : ℕ) → 0 < depth → open_behind ts depth ≡ Some m → 0 < m
-stays_open [] depth m h e = let same : depth ≡ m = cc in omega arith
-stays_open (opening ∷ ts) depth m h e = stays_open ts (depth + 1) m (omega arith) (passed (nat_lt depth nesting_limit) (open_behind ts (depth + 1)) m e).1
-stays_open (closing ∷ ts) depth m h e =
-    let p = passed (nat_lt 1 depth) (open_behind ts (depth - 1)) m e in
-    stays_open ts (depth - 1) m (above depth p.0) p.1
-  where
-    above : (depth : ℕ) → nat_lt 1 depth ≡ true → 0 < depth - 1
-    above depth h = grind (arith, nat_tests)
-stays_open (symbol w ∷ ts) depth m h e = stays_open ts depth m h (passed (nat_lt 0 depth) (open_behind ts depth) m e).1
-
 -- where nothing is open there is no token yet
-pub no_tokens : (ts : List Token) → open_behind ts 0 ≡ Some 0 → ts ≡ []
+no_tokens : (ts : List Token) → open_behind ts 0 ≡ Some 0 → ts ≡ []
 no_tokens [] e = refl
-no_tokens (opening ∷ ts) e = absurd (omega (arith, stays_open ts 1 0 (omega arith) e))
-no_tokens (closing ∷ ts) e = cc
-no_tokens (symbol w ∷ ts) e = cc
+no_tokens (t ∷ ts) e = absurd (omega (arith, one_is_open t ts 0 0 e))
 
 -- where nothing is open, the text goes on as the bytes behind the last token
 pub nothing_read : (whole : List ℕ) (ts : List Token) (behind : List ℕ) → BeginsPart whole ts 0 behind → whole ≡ behind
 nothing_read whole ts behind p = subst (λ us. AreTokens us whole behind) (no_tokens ts p.nested) p.spelled
+
+-- no more lines end than there are bytes
+line_feeds-le : (l : List ℕ) → line_feeds l ≤ length l
+line_feeds-le [] = omega arith
+line_feeds-le (b ∷ bs) = omega (arith, line_feeds-cons b bs, one_line b, line_feeds-le bs)
+
+-- bytes behind which something is left have more bytes than lines
+abbrev HasMore : List ℕ → List ℕ → Type 0
+HasMore l behind = (b : ℕ) (bs : List ℕ) → behind ≡ b ∷ bs → line_feeds l < length l
+
+one_more : (c : ℕ) (cs : List ℕ) → line_feeds cs < length cs → line_feeds (c ∷ cs) < length (c ∷ cs)
+one_more c cs h = omega (arith, line_feeds-cons c cs, one_line c)
+
+layout_by : (p q : Bool) (c : ℕ) (cs : List ℕ) → is_blank c ≡ q → HasMore cs (behind_comment cs) → HasMore cs (behind_layout cs) →
+    HasMore (c ∷ cs) (cond p (behind_comment cs) (cond q (behind_layout cs) (c ∷ cs)))
+layout_by true q c cs is comment layout b bs e = one_more c cs (comment b bs e)
+layout_by false true c cs is comment layout b bs e = one_more c cs (layout b bs e)
+layout_by false false c cs is comment layout b bs e =
+    let one : line_feeds (c ∷ []) ≡ 0 = ends_no_line c (told_apart (λ m. not (is_blank m)) c 10 (ap not is) refl) in
+    omega (arith, line_feeds-cons c cs, line_feeds-le cs)
+
+comment_by : (p : Bool) (c : ℕ) (cs : List ℕ) → HasMore cs (behind_layout cs) → HasMore cs (behind_comment cs) →
+    HasMore (c ∷ cs) (cond p (behind_layout cs) (behind_comment cs))
+comment_by true c cs layout comment b bs e = one_more c cs (layout b bs e)
+comment_by false c cs layout comment b bs e = one_more c cs (comment b bs e)
+
+mutual
+  more_than_layout : (l : List ℕ) → HasMore l (behind_layout l)
+  more_than_layout [] b bs e = cc
+  more_than_layout (c ∷ cs) b bs e = layout_by (eqb c 59) (is_blank c) c cs refl (more_than_comment cs) (more_than_layout cs) b bs e
+
+  more_than_comment : (l : List ℕ) → HasMore l (behind_comment l)
+  more_than_comment [] b bs e = cc
+  more_than_comment (c ∷ cs) b bs e = comment_by (ends_comment c) c cs (more_than_layout cs) (more_than_comment cs) b bs e
+
+-- bytes with an error have more bytes than lines
+pub more_than_lines : (whole : List ℕ) (code : ℕ) (place : List ℕ) → HasError whole code place → line_feeds whole < length whole
+more_than_lines whole code place h = of h.tokens h.depth h.rest h.part.spelled h.part.nested h.error
+  where
+    at_front : (l : List ℕ) → behind_layout whole ≡ l → error_at 0 l ≡ Some (code, place) → line_feeds whole < length whole
+    at_front [] is e = cc
+    at_front (b ∷ bs) is e = more_than_layout whole b bs is
+
+    at_token : (l : List ℕ) (t : Token) (behind : List ℕ) → behind_layout whole ≡ l → lexeme_at l ≡ token t behind → line_feeds whole < length whole
+    at_token [] t behind is e = cc
+    at_token (b ∷ bs) t behind is e = more_than_layout whole b bs is
+
+    of : (ts : List Token) (depth : ℕ) (rest : List ℕ) → AreTokens ts whole rest → open_behind ts 0 ≡ Some depth → error_at depth (behind_layout rest) ≡ Some (code, place) → line_feeds whole < length whole
+    of [] depth rest a n e =
+        let outside : 0 ≡ depth = cc in
+        at_front (behind_layout whole) refl
+        (subst (λ d. error_at d (behind_layout whole) ≡ Some (code, place)) (sym outside) (subst (λ l. error_at depth (behind_layout l) ≡ Some (code, place)) (sym a) e))
+    of (t ∷ ts) depth rest a n e = at_token (behind_layout whole) t a.0 refl a.1
 
 -- the command that is open, or that the next byte would begin, begins behind so many lines
 pub begins_behind : (lists : Open) (word whole left : List ℕ) (b lines before : ℕ) → IsAt lists Between word whole (b ∷ left) →

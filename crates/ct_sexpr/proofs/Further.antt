@@ -1,15 +1,22 @@
 -- What bytes begin with, they begin with whatever comes behind them.
-use Rattle.std.proofs.Common.{◌≡◌, ℕ, Bool, true, false, eqb, cond, List, [], ◌∷◌, ◌++◌, Option, Some, refl, sym, ap, ◌∙◌, subst}
+use Rattle.std.proofs.Common.{◌≡◌, ℕ, Bool, true, false, eqb, nat_lt, cond, List, [], ◌∷◌, ◌++◌, Option, Some, None, Result, Ok, Err, ◌⊎◌, inl, inr, refl, sym, ap, ◌∙◌, subst, true≢false}
 use Rattle.ct_sexpr.specs.Layout.{is_blank, ends_comment, behind_layout, behind_comment}
-use Rattle.ct_sexpr.specs.Token.{Token, opening, closing, symbol, token_at, AreTokens, begins_symbol, is_word_byte, word_of, behind_word}
+use Rattle.ct_sexpr.specs.Run.{run_of, behind_run}
+use Rattle.ct_sexpr.specs.Atom.{Atom, quoted, begins_no_token, word_of, behind_word, atom_of, is_word_byte}
+use Rattle.ct_sexpr.specs.Token.{Token, opening, closing, atom, bar, is_between_bars, text_of, text_behind_mark, behind_text, behind_mark, Lexeme, token, wrong, cut, word_lexeme, lexeme_at, is_empty, text_may_go_on, may_go_on, AreTokens}
 use Rattle.ct_sexpr.specs.Expression.{Expression}
-use Rattle.ct_sexpr.specs.Reading.{BeginsCommand, IsWrong, IsFaulty}
-use Rattle.ct_sexpr.proofs.Texts.{same_token, no_token_read, token_by}
+use Rattle.ct_sexpr.specs.Reading.{nesting_limit, closes_nothing, nests_too_deep, error_of, error_at, BeginsCommand, HasStandingError}
+use Rattle.ct_sexpr.proofs.FirstBytes.{First, an_opening, a_closing, a_quoted, a_text, a_word, no_token, lexeme_from, goes_on_from, error_inside, error_from, first_of, true_or_false, same_error, no_error, token_goes_on, cut_goes_on}
 
 -- the test that a byte passes says what is left of longer bytes, too
-either : (p : Bool) (x x' y y' w w' : List ℕ) → (x ≡ w → x' ≡ w') → (y ≡ w → y' ≡ w') → cond p x y ≡ w → cond p x' y' ≡ w'
-either true x x' y y' w w' f g e = f e
-either false x x' y y' w w' f g e = g e
+pub either : {A B : Type 0} (p : Bool) (x y w : A) (x' y' w' : B) → (x ≡ w → x' ≡ w') → (y ≡ w → y' ≡ w') → cond p x y ≡ w → cond p x' y' ≡ w'
+either true x y w x' y' w' f g e = f e
+either false x y w x' y' w' f g e = g e
+
+-- and what was taken of them
+alike : {A B : Type 0} (p : Bool) (x y w : A) (x' x'' y' y'' : B) → (x ≡ w → x' ≡ x'') → (y ≡ w → y' ≡ y'') → cond p x y ≡ w → cond p x' y' ≡ cond p x'' y''
+alike true x y w x' x'' y' y'' f g e = f e
+alike false x y w x' x'' y' y'' f g e = g e
 
 longer : (b c : ℕ) (bs cs more : List ℕ) → c ∷ cs ≡ b ∷ bs → ◌≡◌ {A = List ℕ} (c ∷ (cs ++ more)) (b ∷ (bs ++ more))
 longer b c bs cs more e = ap (λ l. l ++ more) e
@@ -19,85 +26,193 @@ mutual
   pub behind_layout-append : (l more : List ℕ) (b : ℕ) (bs : List ℕ) → behind_layout l ≡ b ∷ bs → behind_layout (l ++ more) ≡ b ∷ (bs ++ more)
   behind_layout-append [] more b bs e = cc
   behind_layout-append (c ∷ cs) more b bs e =
-      either (eqb c 59) (behind_comment cs) (behind_comment (cs ++ more)) _ _ (b ∷ bs) (b ∷ (bs ++ more)) (behind_comment-append cs more b bs)
-      (either (is_blank c) (behind_layout cs) (behind_layout (cs ++ more)) (c ∷ cs) (c ∷ (cs ++ more)) (b ∷ bs) (b ∷ (bs ++ more)) (behind_layout-append cs more b bs) (longer b c bs cs more))
+      either (eqb c 59) (behind_comment cs) _ (b ∷ bs) (behind_comment (cs ++ more)) _ (b ∷ (bs ++ more)) (behind_comment-append cs more b bs)
+      (either (is_blank c) (behind_layout cs) (c ∷ cs) (b ∷ bs) (behind_layout (cs ++ more)) (c ∷ (cs ++ more)) (b ∷ (bs ++ more)) (behind_layout-append cs more b bs) (longer b c bs cs more))
       e
 
-  pub behind_comment-append : (l more : List ℕ) (b : ℕ) (bs : List ℕ) → behind_comment l ≡ b ∷ bs → behind_comment (l ++ more) ≡ b ∷ (bs ++ more)
+  behind_comment-append : (l more : List ℕ) (b : ℕ) (bs : List ℕ) → behind_comment l ≡ b ∷ bs → behind_comment (l ++ more) ≡ b ∷ (bs ++ more)
   behind_comment-append [] more b bs e = cc
   behind_comment-append (c ∷ cs) more b bs e =
-      either (ends_comment c) (behind_layout cs) (behind_layout (cs ++ more)) (behind_comment cs) (behind_comment (cs ++ more)) (b ∷ bs) (b ∷ (bs ++ more)) (behind_layout-append cs more b bs) (behind_comment-append cs more b bs) e
+      either (ends_comment c) (behind_layout cs) (behind_comment cs) (b ∷ bs) (behind_layout (cs ++ more)) (behind_comment (cs ++ more)) (b ∷ (bs ++ more)) (behind_layout-append cs more b bs) (behind_comment-append cs more b bs) e
 
-behind_word-append : (l more : List ℕ) (b : ℕ) (bs : List ℕ) → behind_word l ≡ b ∷ bs → behind_word (l ++ more) ≡ b ∷ (bs ++ more)
-behind_word-append [] more b bs e = cc
-behind_word-append (c ∷ cs) more b bs e =
-    either (is_word_byte c) (behind_word cs) (behind_word (cs ++ more)) (c ∷ cs) (c ∷ (cs ++ more)) (b ∷ bs) (b ∷ (bs ++ more)) (behind_word-append cs more b bs) (longer b c bs cs more) e
+-- a run stops before bytes that follow: in what was left, or since the next byte does not pass
+abbrev pub Stops : (ℕ → Bool) → List ℕ → List ℕ → Type 0
+Stops test (b ∷ bs) more = Unit {0}
+Stops test [] [] = Unit {0}
+Stops test [] (c ∷ cs) = test c ≡ false
 
-same_word : (p : Bool) (c : ℕ) (x y rest all w : List ℕ) → (rest ≡ w → x ≡ y) → cond p rest all ≡ w → cond p (c ∷ x) [] ≡ cond p (c ∷ y) []
-same_word true c x y rest all w f e = ap (λ l. c ∷ l) (f e)
-same_word false c x y rest all w f e = refl
+-- such a run is the same run in longer bytes
+pub behind_run-longer : (test : ℕ → Bool) (l left more : List ℕ) → Stops test left more → behind_run test l ≡ left → behind_run test (l ++ more) ≡ left ++ more
+behind_run-longer test [] left more n e = subst (λ x. behind_run test more ≡ x ++ more) e (at_end more (subst (λ x. Stops test x more) (sym e) n))
+  where
+    at_end : (more : List ℕ) → Stops test [] more → behind_run test more ≡ more
+    at_end [] n = refl
+    at_end (c ∷ cs) n = rw n refl
+behind_run-longer test (c ∷ cs) left more n e =
+    either (test c) (behind_run test cs) (c ∷ cs) left (behind_run test (cs ++ more)) (c ∷ (cs ++ more)) (left ++ more)
+    (behind_run-longer test cs left more n) (λ k. ap (λ l. l ++ more) k) e
 
--- a word that ends before a byte is the same word in longer bytes
-word_of-append : (l more : List ℕ) (b : ℕ) (bs : List ℕ) → behind_word l ≡ b ∷ bs → word_of (l ++ more) ≡ word_of l
-word_of-append [] more b bs e = cc
-word_of-append (c ∷ cs) more b bs e =
-    same_word (is_word_byte c) c (word_of (cs ++ more)) (word_of cs) (behind_word cs) (c ∷ cs) (b ∷ bs) (word_of-append cs more b bs) e
+pub run_of-longer : (test : ℕ → Bool) (l left more : List ℕ) → Stops test left more → behind_run test l ≡ left → run_of test (l ++ more) ≡ run_of test l
+run_of-longer test [] left more n e = at_end more (subst (λ x. Stops test x more) (sym e) n)
+  where
+    at_end : (more : List ℕ) → Stops test [] more → run_of test more ≡ []
+    at_end [] n = refl
+    at_end (c ∷ cs) n = rw n refl
+run_of-longer test (c ∷ cs) left more n e =
+    alike (test c) (behind_run test cs) (c ∷ cs) left (c ∷ run_of test (cs ++ more)) (c ∷ run_of test cs) [] []
+    (λ k. ap (λ l. c ∷ l) (run_of-longer test cs left more n k)) (λ k. refl) e
 
--- the bytes behind a token show that it has ended
+-- a string goes on behind a mark with another
+abbrev pub is_mark : ℕ → Bool
+is_mark b = eqb b 34
+
+-- bytes that begin with no mark leave the string ended
+mark_stops : (more : List ℕ) → Stops is_mark [] more → behind_mark more ≡ Some more
+mark_stops [] n = refl
+mark_stops (c ∷ cs) n = rw n refl
+
+mark_says_nothing : (more : List ℕ) → Stops is_mark [] more → text_behind_mark more ≡ []
+mark_says_nothing [] n = refl
+mark_says_nothing (c ∷ cs) n = rw n refl
+
+with_left : (l left more : List ℕ) → Some l ≡ Some left → ◌≡◌ {A = Option (List ℕ)} (Some (l ++ more)) (Some (left ++ more))
+with_left l left more e = let same : l ≡ left = cc in ap (λ l. Some (l ++ more)) same
+
+-- a string that has ended is the same in longer bytes
+mutual
+  pub behind_text-longer : (l left more : List ℕ) → Stops is_mark left more → behind_text l ≡ Some left → behind_text (l ++ more) ≡ Some (left ++ more)
+  behind_text-longer [] left more n e = cc
+  behind_text-longer (c ∷ cs) left more n e =
+      either (eqb c 34) (behind_mark cs) (behind_text cs) (Some left) (behind_mark (cs ++ more)) (behind_text (cs ++ more)) (Some (left ++ more))
+      (behind_mark-longer cs left more n) (behind_text-longer cs left more n) e
+
+  behind_mark-longer : (l left more : List ℕ) → Stops is_mark left more → behind_mark l ≡ Some left → behind_mark (l ++ more) ≡ Some (left ++ more)
+  behind_mark-longer [] left more n e =
+      let none : [] ≡ left = cc in
+      subst (λ x. behind_mark more ≡ Some (x ++ more)) none (mark_stops more (subst (λ x. Stops is_mark x more) (sym none) n))
+  behind_mark-longer (c ∷ cs) left more n e =
+      either (eqb c 34) (behind_text cs) (Some (c ∷ cs)) (Some left) (behind_text (cs ++ more)) (Some (c ∷ (cs ++ more))) (Some (left ++ more))
+      (behind_text-longer cs left more n) (with_left (c ∷ cs) left more) e
+
+mutual
+  pub text_of-longer : (l left more : List ℕ) → Stops is_mark left more → behind_text l ≡ Some left → text_of (l ++ more) ≡ text_of l
+  text_of-longer [] left more n e = cc
+  text_of-longer (c ∷ cs) left more n e =
+      alike (eqb c 34) (behind_mark cs) (behind_text cs) (Some left) (text_behind_mark (cs ++ more)) (text_behind_mark cs) (c ∷ text_of (cs ++ more)) (c ∷ text_of cs)
+      (text_behind_mark-longer cs left more n) (λ k. ap (λ l. c ∷ l) (text_of-longer cs left more n k)) e
+
+  text_behind_mark-longer : (l left more : List ℕ) → Stops is_mark left more → behind_mark l ≡ Some left → text_behind_mark (l ++ more) ≡ text_behind_mark l
+  text_behind_mark-longer [] left more n e =
+      let none : [] ≡ left = cc in
+      mark_says_nothing more (subst (λ x. Stops is_mark x more) (sym none) n)
+  text_behind_mark-longer (c ∷ cs) left more n e =
+      alike (eqb c 34) (behind_text cs) (Some (c ∷ cs)) (Some left) (c ∷ text_of (cs ++ more)) (c ∷ text_of cs) [] []
+      (λ k. ap (λ l. c ∷ l) (text_of-longer cs left more n k)) (λ k. refl) e
+
+-- a lexeme of longer bytes
+abbrev pub with_more : List ℕ → Lexeme → Lexeme
+with_more more (token t behind) = token t (behind ++ more)
+with_more more (wrong code place) = wrong code (place ++ more)
+with_more more cut = cut
+
+-- the same lexeme, that still may not go on
+abbrev Stays : First → ℕ → List ℕ → List ℕ → Type 0
+Stays f b bs more = (lexeme_from f b (bs ++ more) ≡ with_more more (lexeme_from f b bs)) × (goes_on_from f (bs ++ more) ≡ false)
+
+quoted_stays : (b : ℕ) (bs more : List ℕ) → goes_on_from a_quoted bs ≡ false → Stays a_quoted b bs more
+quoted_stays b bs more g = by (behind_run is_between_bars bs) refl g
+  where
+    at_bar : (p : Bool) (content : List ℕ) (c : ℕ) (cs : List ℕ) →
+        cond p (token (atom (quoted content)) (cs ++ more)) (wrong begins_no_token (c ∷ (cs ++ more))) ≡ with_more more (cond p (token (atom (quoted content)) cs) (wrong begins_no_token (c ∷ cs)))
+    at_bar true content c cs = refl
+    at_bar false content c cs = refl
+
+    by : (left : List ℕ) → behind_run is_between_bars bs ≡ left → is_empty left ≡ false → Stays a_quoted b bs more
+    by [] is h = absurd (true≢false h)
+    by (c ∷ cs) is h =
+        let rest = behind_run-longer is_between_bars bs (c ∷ cs) more tt is in
+        let content = run_of-longer is_between_bars bs (c ∷ cs) more tt is in
+        (rw (rest, content, is) (at_bar (eqb c bar) (run_of is_between_bars bs) c cs), rw rest refl)
+
+text_stays : (b : ℕ) (bs more : List ℕ) → goes_on_from a_text bs ≡ false → Stays a_text b bs more
+text_stays b bs more g = by (behind_text bs) refl g
+  where
+    by : (left : Option (List ℕ)) → behind_text bs ≡ left → text_may_go_on left ≡ false → Stays a_text b bs more
+    by None is h = absurd (true≢false h)
+    by (Some []) is h = absurd (true≢false h)
+    by (Some (c ∷ cs)) is h =
+        let rest = behind_text-longer bs (c ∷ cs) more tt is in
+        let content = text_of-longer bs (c ∷ cs) more tt is in
+        (rw (rest, content, is) refl, rw rest refl)
+
+word_stays : (b : ℕ) (bs more : List ℕ) → goes_on_from a_word bs ≡ false → Stays a_word b bs more
+word_stays b bs more g = by (behind_word bs) refl g
+  where
+    read : (r : Result Atom ℕ) (left : List ℕ) → word_lexeme r (b ∷ (bs ++ more)) (left ++ more) ≡ with_more more (word_lexeme r (b ∷ bs) left)
+    read (Ok a) left = refl
+    read (Err code) left = refl
+
+    by : (left : List ℕ) → behind_word bs ≡ left → is_empty left ≡ false → Stays a_word b bs more
+    by [] is h = absurd (true≢false h)
+    by (c ∷ cs) is h =
+        let rest = behind_run-longer is_word_byte bs (c ∷ cs) more tt is in
+        let content = run_of-longer is_word_byte bs (c ∷ cs) more tt is in
+        (rw (rest, content, is) (read (atom_of (b ∷ word_of bs)) (c ∷ cs)), rw rest refl)
+
+stays : (f : First) (b : ℕ) (bs more : List ℕ) → goes_on_from f bs ≡ false → Stays f b bs more
+stays an_opening b bs more g = (refl, refl)
+stays a_closing b bs more g = (refl, refl)
+stays a_quoted b bs more g = quoted_stays b bs more g
+stays a_text b bs more g = text_stays b bs more g
+stays a_word b bs more g = word_stays b bs more g
+stays no_token b bs more g = (refl, refl)
+
+-- what may not go on stays what it is when more bytes come, and still may not
+pub lexeme_stays : (l more : List ℕ) → may_go_on l ≡ false → (lexeme_at (l ++ more) ≡ with_more more (lexeme_at l)) × (may_go_on (l ++ more) ≡ false)
+lexeme_stays [] more g = absurd (true≢false g)
+lexeme_stays (b ∷ bs) more g =
+    let f = first_of b in
+    let s = stays f.0 b bs more (sym (f.1.goes_on bs) ∙ g) in
+    (f.1.lexeme (bs ++ more) ∙ s.0 ∙ ap (with_more more) (sym (f.1.lexeme bs)), f.1.goes_on (bs ++ more) ∙ s.1)
+
+-- a token that has ended is the token of longer bytes
+pub token_stays : (l more : List ℕ) (t : Token) (behind : List ℕ) → may_go_on l ≡ false → lexeme_at l ≡ token t behind → lexeme_at (l ++ more) ≡ token t (behind ++ more)
+token_stays l more t behind g e = (lexeme_stays l more g).0 ∙ ap (with_more more) e
+
+abbrev pub NonEmpty : List ℕ → Type 0
+NonEmpty [] = ⊥
+NonEmpty (b ∷ bs) = Unit {0}
+
+-- a token has ended that is a parenthesis, or that a byte follows
 abbrev Settled : Token → List ℕ → Type 0
 Settled opening rest = Unit {0}
 Settled closing rest = Unit {0}
-Settled (symbol w) [] = ⊥
-Settled (symbol w) (b ∷ bs) = Unit {0}
+Settled (atom a) rest = NonEmpty rest
 
-token_by-append : (is_opening is_closing is_symbol : Bool) (x y y' w w' more : List ℕ) (t : Token) (behind : List ℕ) →
-    ((b : ℕ) (bs : List ℕ) → y ≡ b ∷ bs → (y' ≡ b ∷ (bs ++ more)) × (w' ≡ w)) → Settled t behind →
-    token_by is_opening is_closing is_symbol x y w ≡ Some (t, behind) → token_by is_opening is_closing is_symbol (x ++ more) y' w' ≡ Some (t, behind ++ more)
-token_by-append true is_closing is_symbol x y y' w w' more t behind f settled e =
-    let p = same_token opening t x behind e in
-    ap (λ u. Some (u, x ++ more)) p.0 ∙ ap (λ l. Some (t, l ++ more)) p.1
-token_by-append false true is_symbol x y y' w w' more t behind f settled e =
-    let p = same_token closing t x behind e in
-    ap (λ u. Some (u, x ++ more)) p.0 ∙ ap (λ l. Some (t, l ++ more)) p.1
-token_by-append false false true x y y' w w' more t behind f settled e =
-    let p = same_token (symbol w) t y behind e in
-    read y f (subst (Settled (symbol w)) (sym p.1) (subst (λ u. Settled u behind) (sym p.0) settled)) ∙ ap (λ u. Some (u, y ++ more)) p.0 ∙ ap (λ l. Some (t, l ++ more)) p.1
-  where
-    read : (y : List ℕ) → ((b : ℕ) (bs : List ℕ) → y ≡ b ∷ bs → (y' ≡ b ∷ (bs ++ more)) × (w' ≡ w)) → Settled (symbol w) y →
-        ◌≡◌ {A = Option (Token × List ℕ)} (Some (symbol w', y')) (Some (symbol w, y ++ more))
-    read [] f settled = absurd settled
-    read (b ∷ bs) f settled =
-        let q = f b bs refl in
-        ap (λ l. Some (symbol l, y')) q.1 ∙ ap (λ l. Some (symbol w, l)) q.0
-token_by-append false false false x y y' w w' more t behind f settled e = absurd (no_token_read t behind e)
+settled_ends : (l : List ℕ) (t : Token) (behind : List ℕ) → lexeme_at l ≡ token t behind → Settled t behind → may_go_on l ≡ false
+settled_ends l t behind e s =
+    elim (true_or_false (may_go_on l)) [
+      | inl g ↦
+          let p = token_goes_on l t behind g e in
+          absurd (subst (λ x. NonEmpty x) p.2 (subst (λ u. Settled u behind) p.1 s))
+      | inr g ↦ g
+    ]
 
--- a token that has ended is the token of longer bytes
-pub token_at-append : (l more : List ℕ) (t : Token) (behind : List ℕ) → token_at l ≡ Some (t, behind) → Settled t behind → token_at (l ++ more) ≡ Some (t, behind ++ more)
-token_at-append [] more t behind e settled = absurd (no_token_read t behind e)
-token_at-append (c ∷ cs) more t behind e settled =
-    token_by-append (eqb c 40) (eqb c 41) (begins_symbol c) cs (behind_word (c ∷ cs)) (behind_word (c ∷ (cs ++ more))) (word_of (c ∷ cs)) (word_of (c ∷ (cs ++ more))) more t behind
-    (λ b bs h. (behind_word-append (c ∷ cs) more b bs h, word_of-append (c ∷ cs) more b bs h)) settled e
-
-token_longer : (bytes more : List ℕ) (t : Token) (behind : List ℕ) → token_at (behind_layout bytes) ≡ Some (t, behind) → Settled t behind →
-    token_at (behind_layout (bytes ++ more)) ≡ Some (t, behind ++ more)
+token_longer : (bytes more : List ℕ) (t : Token) (behind : List ℕ) → lexeme_at (behind_layout bytes) ≡ token t behind → Settled t behind →
+    lexeme_at (behind_layout (bytes ++ more)) ≡ token t (behind ++ more)
 token_longer bytes more t behind e settled = at (behind_layout bytes) refl e
   where
-    at : (l : List ℕ) → behind_layout bytes ≡ l → token_at l ≡ Some (t, behind) → token_at (behind_layout (bytes ++ more)) ≡ Some (t, behind ++ more)
-    at [] is f = absurd (no_token_read t behind f)
-    at (b ∷ bs) is f = ap token_at (behind_layout-append bytes more b bs is) ∙ token_at-append (b ∷ bs) more t behind f settled
-
-abbrev NonEmpty : List ℕ → Type 0
-NonEmpty [] = ⊥
-NonEmpty (b ∷ bs) = Unit {0}
+    at : (l : List ℕ) → behind_layout bytes ≡ l → lexeme_at l ≡ token t behind → lexeme_at (behind_layout (bytes ++ more)) ≡ token t (behind ++ more)
+    at [] is f = cc
+    at (b ∷ bs) is f = ap lexeme_at (behind_layout-append bytes more b bs is) ∙ token_stays (b ∷ bs) more t behind (settled_ends (b ∷ bs) t behind f settled) f
 
 token_settled : (t : Token) (behind : List ℕ) → NonEmpty behind → Settled t behind
 token_settled opening behind n = tt
 token_settled closing behind n = tt
-token_settled (symbol w) [] n = n
-token_settled (symbol w) (b ∷ bs) n = tt
+token_settled (atom a) behind n = n
 
 some_bytes : (t : Token) (ts : List Token) (bytes rest : List ℕ) → AreTokens (t ∷ ts) bytes rest → NonEmpty bytes
-some_bytes t ts [] rest a = no_token_read t a.0 a.1
+some_bytes t ts [] rest a = let none : cut ≡ token t a.0 = a.1 in cc
 some_bytes t ts (b ∷ bs) rest a = tt
 
 bytes_before : (ts : List Token) (bytes rest : List ℕ) → AreTokens ts bytes rest → NonEmpty rest → NonEmpty bytes
@@ -120,20 +235,77 @@ command_stays bytes e rest more c = record {
   closed = (c.closed.0 ++ more, token_longer c.behind more closing c.closed.0 c.closed.1 tt, ap (λ l. l ++ more) c.closed.2);
 }
 
--- a fault stays a fault when more bytes come
-pub fault_stays : (bytes more : List ℕ) → IsFaulty bytes → IsFaulty (bytes ++ more)
-fault_stays bytes more f = at (behind_layout f.rest) refl f.wrong
-  where
-    some : (rest : List ℕ) (b : ℕ) (bs : List ℕ) → behind_layout rest ≡ b ∷ bs → NonEmpty rest
-    some [] b bs e = cc
-    some (c ∷ cs) b bs e = tt
+-- an error of a lexeme that has ended stays
+error_of-more : (l : Lexeme) (more : List ℕ) (code : ℕ) (place : List ℕ) → (l ≡ cut → ⊥) → error_of l ≡ Some (code, place) → error_of (with_more more l) ≡ Some (code, place ++ more)
+error_of-more (token t behind) more code place n e = absurd (no_error code place e)
+error_of-more (wrong c p) more code place n e = let same = same_error c code p place e in cc (same.0, same.1)
+error_of-more cut more code place n e = absurd (n refl)
 
-    at : (l : List ℕ) → behind_layout f.rest ≡ l → IsWrong f.depth l → IsFaulty (bytes ++ more)
-    at [] is w = absurd w
-    at (b ∷ bs) is w = record {
-      tokens = f.tokens;
-      depth = f.depth;
-      rest = f.rest ++ more;
-      part = record { spelled = AreTokens-longer f.tokens bytes f.rest more f.part.spelled (some f.rest b bs is); nested = f.part.nested };
-      wrong = subst (IsWrong f.depth) (sym (behind_layout-append f.rest more b bs is)) w;
-    }
+-- an error that stands
+error_longer : (b : ℕ) (bs more : List ℕ) (depth code : ℕ) (place : List ℕ) → error_at depth (b ∷ bs) ≡ Some (code, place) → (depth ≡ 0) ⊎ (may_go_on (b ∷ bs) ≡ false) →
+    error_at depth (b ∷ (bs ++ more)) ≡ Some (code, place ++ more)
+error_longer b bs more depth code place e s =
+    let f = first_of b in
+    f.1.error depth (bs ++ more) ∙ by f.0 (sym (f.1.error depth bs) ∙ e) (sym (f.1.lexeme bs)) (f.1.goes_on bs)
+  where
+    here : (n : ℕ) → ◌≡◌ {A = Option (ℕ × List ℕ)} (Some (n, b ∷ bs)) (Some (code, place)) → ◌≡◌ {A = Option (ℕ × List ℕ)} (Some (n, b ∷ (bs ++ more))) (Some (code, place ++ more))
+    here n k = let same = same_error n code (b ∷ bs) place k in ap (λ c. Some (c, b ∷ (bs ++ more))) same.0 ∙ ap (λ p. Some (code, p ++ more)) same.1
+
+    guarded : (p : Bool) (n : ℕ) → cond {A = Option (ℕ × List ℕ)} p None (Some (n, b ∷ bs)) ≡ Some (code, place) →
+        cond {A = Option (ℕ × List ℕ)} p None (Some (n, b ∷ (bs ++ more))) ≡ Some (code, place ++ more)
+    guarded true n k = absurd (no_error code place k)
+    guarded false n k = here n k
+
+    ended : (l l' : Lexeme) → l' ≡ with_more more l → (l ≡ cut → ⊥) → error_inside l depth b bs ≡ Some (code, place) → error_inside l' depth b (bs ++ more) ≡ Some (code, place ++ more)
+    ended l l' is n k = deep (nat_lt 0 depth) _ k
+      where
+        deep : (p : Bool) (n : ℕ) → cond p (error_of l) (Some (n, b ∷ bs)) ≡ Some (code, place) → cond p (error_of l') (Some (n, b ∷ (bs ++ more))) ≡ Some (code, place ++ more)
+        deep true m h = ap error_of is ∙ error_of-more l more code place n h
+        deep false m h = here m h
+
+    outside : (l l' : Lexeme) → depth ≡ 0 → error_inside l depth b bs ≡ Some (code, place) → error_inside l' depth b (bs ++ more) ≡ Some (code, place ++ more)
+    outside l l' closed k =
+        let there : error_inside l 0 b bs ≡ Some (code, place) = subst (λ d. error_inside l d b bs ≡ Some (code, place)) closed k in
+        subst (λ d. error_inside l' d b (bs ++ more) ≡ Some (code, place ++ more)) (sym closed) (here _ there)
+
+    inside : (f : First) → (goes_on_from f bs ≡ false → Stays f b bs more) → lexeme_from f b bs ≡ lexeme_at (b ∷ bs) → may_go_on (b ∷ bs) ≡ goes_on_from f bs →
+        error_inside (lexeme_from f b bs) depth b bs ≡ Some (code, place) → error_inside (lexeme_from f b (bs ++ more)) depth b (bs ++ more) ≡ Some (code, place ++ more)
+    inside f stay is g k =
+        elim s [
+          | inl closed ↦ outside (lexeme_from f b bs) (lexeme_from f b (bs ++ more)) closed k
+          | inr ends ↦ ended (lexeme_from f b bs) (lexeme_from f b (bs ++ more)) (stay (sym g ∙ ends)).0 (λ c. true≢false (sym (cut_goes_on (b ∷ bs) (sym is ∙ c)) ∙ ends)) k
+        ]
+
+    by : (f : First) → error_from f depth b bs ≡ Some (code, place) → lexeme_from f b bs ≡ lexeme_at (b ∷ bs) → may_go_on (b ∷ bs) ≡ goes_on_from f bs →
+        error_from f depth b (bs ++ more) ≡ Some (code, place ++ more)
+    by an_opening k is g = guarded (nat_lt depth nesting_limit) nests_too_deep k
+    by a_closing k is g = guarded (nat_lt 0 depth) closes_nothing k
+    by a_quoted k is g = inside a_quoted (stays a_quoted b bs more) is g k
+    by a_text k is g = inside a_text (stays a_text b bs more) is g k
+    by a_word k is g = inside a_word (stays a_word b bs more) is g k
+    by no_token k is g = inside no_token (stays no_token b bs more) is g k
+
+-- bytes that are no blanks and comments are some
+pub some_left : (rest : List ℕ) (b : ℕ) (bs : List ℕ) → behind_layout rest ≡ b ∷ bs → NonEmpty rest
+some_left [] b bs e = cc
+some_left (c ∷ cs) b bs e = tt
+
+-- an error that stands stays when more bytes come
+pub error_stays : (bytes : List ℕ) (code : ℕ) (place more : List ℕ) → HasStandingError bytes code place → HasStandingError (bytes ++ more) code (place ++ more)
+error_stays bytes code place more f = at (behind_layout f.rest) refl f.error f.stands
+  where
+    at_end : (depth : ℕ) → depth ≡ 0 → error_at depth [] ≡ Some (code, place) → ⊥
+    at_end depth closed e = no_error code place (subst (λ d. error_at d [] ≡ Some (code, place)) closed e)
+
+    at : (l : List ℕ) → behind_layout f.rest ≡ l → error_at f.depth l ≡ Some (code, place) → (f.depth ≡ 0) ⊎ (may_go_on l ≡ false) → HasStandingError (bytes ++ more) code (place ++ more)
+    at [] is e s = elim s [ inl closed ↦ absurd (at_end f.depth closed e) | inr ends ↦ absurd (true≢false ends) ]
+    at (b ∷ bs) is e s =
+        let there = behind_layout-append f.rest more b bs is in
+        record {
+          tokens = f.tokens;
+          depth = f.depth;
+          rest = f.rest ++ more;
+          part = record { spelled = AreTokens-longer f.tokens bytes f.rest more f.part.spelled (some_left f.rest b bs is); nested = f.part.nested };
+          error = ap (error_at f.depth) there ∙ error_longer b bs more f.depth code place e s;
+          stands = elim s [ inl closed ↦ inl closed | inr ends ↦ inr (ap may_go_on there ∙ (lexeme_stays (b ∷ bs) more ends).1) ];
+        }

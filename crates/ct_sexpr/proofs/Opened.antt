@@ -10,21 +10,21 @@ use Rattle.ct_sexpr.specs.OpenTokens.{tokens_of_lists}
 use Rattle.ct_sexpr.proofs.Rows.{expression_of_list}
 
 -- the tokens of one more item
-pub tokens_of_each-push : (items : List Sexpr) (e : Sexpr) →
+tokens_of_each-push : (items : List Sexpr) (e : Sexpr) →
     tokens_of_each (expressions_of (items ++ e ∷ [])) ≡ tokens_of_each (expressions_of items) ++ tokens_of (expression_of e)
 tokens_of_each-push [] e = append-nil (tokens_of (expression_of e))
 tokens_of_each-push (i ∷ items) e =
     ap (λ ts. tokens_of (expression_of i) ++ ts) (tokens_of_each-push items e) ∙ sym (append_assoc (tokens_of (expression_of i)) (tokens_of_each (expressions_of items)) (tokens_of (expression_of e)))
 
 -- the tokens of lists, one of them further inside
-pub tokens_of_lists-push : (lists : List (Vec Sexpr Global)) (inner : Vec Sexpr Global) →
+tokens_of_lists-push : (lists : List (Vec Sexpr Global)) (inner : Vec Sexpr Global) →
     tokens_of_lists (lists ++ inner ∷ []) ≡ tokens_of_lists lists ++ opening ∷ tokens_of_each (expressions_of inner.items)
 tokens_of_lists-push [] inner = ap (λ ts. opening ∷ ts) (append-nil (tokens_of_each (expressions_of inner.items)))
 tokens_of_lists-push (l ∷ lists) inner =
     ap (λ ts. opening ∷ (tokens_of_each (expressions_of l.items) ++ ts)) (tokens_of_lists-push lists inner) ∙ ap (λ ts. opening ∷ ts) (sym (append_assoc (tokens_of_each (expressions_of l.items)) (tokens_of_lists lists) (opening ∷ tokens_of_each (expressions_of inner.items))))
 
 -- a list that keeps its items leaves the tokens
-pub tokens_of_lists-refill : (lists : List (Vec Sexpr Global)) (i : ℕ) (before after : Vec Sexpr Global) →
+tokens_of_lists-refill : (lists : List (Vec Sexpr Global)) (i : ℕ) (before after : Vec Sexpr Global) →
     i < length lists → before ≡ get_or lists i before → after.items ≡ before.items → tokens_of_lists (set lists i after) ≡ tokens_of_lists lists
 tokens_of_lists-refill [] i before after lt at same = refl
 tokens_of_lists-refill (l ∷ lists) zero before after lt at same =
@@ -33,7 +33,7 @@ tokens_of_lists-refill (l ∷ lists) (suc i) before after lt at same =
     ap (λ ts. opening ∷ (tokens_of_each (expressions_of l.items) ++ ts)) (tokens_of_lists-refill lists i before after (omega arith) at same)
 
 -- one more item of the innermost list adds its tokens
-pub tokens_of_lists-fill : (lists : List (Vec Sexpr Global)) (i : ℕ) (before after : Vec Sexpr Global) (e : Sexpr) →
+tokens_of_lists-fill : (lists : List (Vec Sexpr Global)) (i : ℕ) (before after : Vec Sexpr Global) (e : Sexpr) →
     i + 1 ≡ length lists → before ≡ get_or lists i before → after.items ≡ before.items ++ e ∷ [] →
     tokens_of_lists (set lists i after) ≡ tokens_of_lists lists ++ tokens_of (expression_of e)
 tokens_of_lists-fill [] i before after e last at same = absurd (omega arith)

@@ -1,84 +1,166 @@
 -- Where a scanner is, byte by byte.
-use Rattle.std.proofs.Common.{◌≡◌, ℕ, ◌+◌, ◌-◌, ◌<◌, Bool, true, false, ◌&&◌, eqb, nat_lt, List, [], ◌∷◌, ◌++◌, Some, refl, sym, ap, ◌∙◌, subst}
+use Rattle.std.proofs.Common.{◌≡◌, ℕ, ◌+◌, ◌-◌, ◌<◌, Bool, true, false, not, ◌||◌, eqb, nat_lt, List, [], ◌∷◌, ◌++◌, Some, Ok, Err, ◌⊎◌, inr, refl, sym, ap, ◌∙◌, subst}
 use Rattle.std.proofs.lemmas.List.{append_assoc}
-use Rattle.ct_sexpr.specs.Layout.{is_blank, ends_comment, behind_layout}
-use Rattle.ct_sexpr.specs.Token.{Token, opening, closing, symbol, token_at, begins_symbol, is_word_byte, behind_word}
+use Rattle.ct_sexpr.specs.Layout.{is_blank, behind_layout}
+use Rattle.ct_sexpr.specs.Atom.{Atom, quoted, text, is_word_byte, begins_word, atom_of}
+use Rattle.ct_sexpr.specs.Token.{opening, closing, atom, is_between_bars, word_lexeme, lexeme_at, begins_atom, may_go_on}
 use Rattle.ct_sexpr.specs.Expression.{Expression, tokens_of}
-use Rattle.ct_sexpr.specs.Reading.{open_behind, BeginsPart, BeginsCommand, IsFaulty, IsWrong, may_follow}
+use Rattle.ct_sexpr.specs.Reading.{nesting_limit, error_of, error_at, BeginsPart, BeginsCommand, HasStandingError}
+use Rattle.ct_sexpr.specs.Written.{doubled}
 use Rattle.ct_sexpr.specs.Open.{Open}
-use Rattle.ct_sexpr.specs.Scanning.{BeginsSymbol, GoesOn, IsAt}
-use Rattle.ct_sexpr.specs.declared.scanner.Mode.TheVariants.{Between, Comment, Word}
-use Rattle.ct_sexpr.specs.Reading.{nesting_limit}
-use Rattle.ct_sexpr.proofs.Nesting.{some_open, open_behind-append}
-use Rattle.ct_sexpr.proofs.Texts.{AreTokens-append, symbol_at}
-use Rattle.ct_sexpr.proofs.Layouts.{behind_layout-blank, behind_layout-other, behind_layout-symbol, behind_comment-other, behind_comment-end, behind_word-push, word_of-append}
+use Rattle.ct_sexpr.specs.Scanning.{BeginsWord, GoesOn, IsAt}
+use Rattle.ct_sexpr.specs.declared.scanner.Mode.TheVariants.{Between, Word, Quoted, Text, Mark}
+use Rattle.ct_sexpr.proofs.Nesting.{some_open}
+use Rattle.ct_sexpr.proofs.Texts.{part_push}
+use Rattle.ct_sexpr.proofs.Layouts.{told_apart, behind_layout-other, behind_run-push}
+use Rattle.ct_sexpr.proofs.Lexemes.{lexeme-word, lexeme-word-stands, lexeme-quoted, lexeme-quoted-backslash, lexeme-quoted-backslash-stands, lexeme-text, doubled-append}
 
--- one more token of the bytes
-pub part_push : (bytes behind rest : List ℕ) (ts : List Token) (t : Token) (depth m : ℕ) → BeginsPart bytes ts depth behind →
-    token_at (behind_layout behind) ≡ Some (t, rest) → open_behind (t ∷ []) depth ≡ Some m → BeginsPart bytes (ts ++ t ∷ []) m rest
-part_push bytes behind rest ts t depth m p e n = record {
-  spelled = AreTokens-append ts (t ∷ []) bytes behind rest p.spelled (rest, e, refl);
-  nested = open_behind-append ts (t ∷ []) 0 depth p.nested ∙ n;
-}
+BeginsWord-push : (w : List ℕ) (b : ℕ) → BeginsWord w → is_word_byte b ≡ true → BeginsWord (w ++ b ∷ [])
+BeginsWord-push [] b s h = absurd s
+BeginsWord-push (c ∷ w) b s h = (s.0, behind_run-push is_word_byte w b s.1 h)
 
--- a symbol's first byte is a word's
-pub word_from_symbol : (b : ℕ) → begins_symbol b ≡ true → is_word_byte b ≡ true
-word_from_symbol b h = first (is_word_byte b) _ h
+-- one more byte of what a string says
+doubled-push : (w : List ℕ) (b : ℕ) (left : List ℕ) → eqb b 34 ≡ false → doubled (w ++ b ∷ []) ++ left ≡ doubled w ++ b ∷ left
+doubled-push w b left h =
+    let one : doubled (b ∷ []) ≡ b ∷ [] = rw h refl in
+    ap (λ v. v ++ left) (doubled-append w (b ∷ []) ∙ ap (λ v. doubled w ++ v) one) ∙ append_assoc (doubled w) (b ∷ []) left
+
+doubled-push_mark : (w left : List ℕ) → doubled (w ++ 34 ∷ []) ++ left ≡ doubled w ++ 34 ∷ (34 ∷ left)
+doubled-push_mark w left = ap (λ v. v ++ left) (doubled-append w (34 ∷ [])) ∙ append_assoc (doubled w) (34 ∷ (34 ∷ [])) left
+
+-- the error of what stands inside parentheses and is none
+pub error_at-inside : (depth b : ℕ) (bs : List ℕ) → 0 < depth → eqb b 40 ≡ false → eqb b 41 ≡ false → error_at depth (b ∷ bs) ≡ error_of (lexeme_at (b ∷ bs))
+error_at-inside depth b bs deep h k =
+    let test : nat_lt 0 depth ≡ true = some_open depth deep in
+    rw (h, k, test) refl
+
+-- the error of a word is that of its atom
+pub error_at-word : (depth : ℕ) (w left : List ℕ) → BeginsWord w → 0 < depth → error_at depth (w ++ left) ≡ error_of (lexeme_at (w ++ left))
+error_at-word depth [] left s deep = absurd s
+error_at-word depth (c ∷ w) left s deep = error_at-inside depth c (w ++ left) deep (told_apart begins_word c 40 s.0 refl) (told_apart begins_word c 41 s.0 refl)
+
+-- a parenthesis opens one list too many
+pub error_at-deep : (depth : ℕ) (bs : List ℕ) → nat_lt depth nesting_limit ≡ false → error_at depth (40 ∷ bs) ≡ Some (4, 40 ∷ bs)
+error_at-deep depth bs h = rw h refl
+
+-- a parenthesis closes nothing
+pub error_at-closing : (depth : ℕ) (bs : List ℕ) → depth ≡ 0 → error_at depth (41 ∷ bs) ≡ Some (2, 41 ∷ bs)
+error_at-closing depth bs h = ap (λ d. error_at d (41 ∷ bs)) h
+
+-- an atom stands outside all parentheses
+pub error_at-outside : (depth b : ℕ) (bs : List ℕ) → begins_atom b ≡ true → depth ≡ 0 → error_at depth (b ∷ bs) ≡ Some (5, b ∷ bs)
+error_at-outside depth b bs h none =
+    ap (λ d. error_at d (b ∷ bs)) none ∙ rw (told_apart begins_atom b 40 h refl, told_apart begins_atom b 41 h refl, h) refl
+
+-- what a byte that begins no atom is not
+not_atom : (b n : ℕ) → begins_atom b ≡ false → begins_atom n ≡ true → eqb b n ≡ false
+not_atom b n h k = told_apart (λ m. not (begins_atom m)) b n (ap not h) (ap not k)
+
+not_word : (p q : Bool) → (p || q) ≡ false → p ≡ false
+not_word true q e = e
+not_word false q e = refl
+
+-- a byte that begins no token
+pub error_at-no_token : (depth b : ℕ) (bs : List ℕ) → begins_atom b ≡ false → eqb b 40 ≡ false → eqb b 41 ≡ false →
+    (error_at depth (b ∷ bs) ≡ Some (1, b ∷ bs)) × (may_go_on (b ∷ bs) ≡ false)
+error_at-no_token depth b bs h k l =
+    let bar : eqb b 124 ≡ false = not_atom b 124 h refl in
+    let mark : eqb b 34 ≡ false = not_atom b 34 h refl in
+    let word : begins_word b ≡ false = not_word (begins_word b) _ h in
+    (by (nat_lt 0 depth) bar mark word refl, rw (bar, mark, word) refl)
   where
-    first : (p q : Bool) → (p && q) ≡ true → p ≡ true
-    first true q e = refl
-    first false q e = e
-
-BeginsSymbol-push : (w : List ℕ) (b : ℕ) → BeginsSymbol w → is_word_byte b ≡ true → BeginsSymbol (w ++ b ∷ [])
-BeginsSymbol-push [] b s h = absurd s
-BeginsSymbol-push (c ∷ w) b s h = (s.0, behind_word-push (c ∷ w) b s.1 h)
-
--- the token of a word that ends
-pub token_at-word : (w : List ℕ) (b : ℕ) (bs : List ℕ) → BeginsSymbol w → is_word_byte b ≡ false → token_at (w ++ b ∷ bs) ≡ Some (symbol w, b ∷ bs)
-token_at-word [] b bs s h = absurd s
-token_at-word (c ∷ w) b bs s h =
-    let p = word_of-append (c ∷ w) b bs s.1 h in
-    symbol_at c (w ++ b ∷ bs) s.0 ∙ ap (λ v. Some (symbol v, behind_word (c ∷ (w ++ b ∷ bs)))) p.0 ∙ ap (λ v. Some (symbol (c ∷ w), v)) p.1
+    by : (p : Bool) → eqb b 124 ≡ false → eqb b 34 ≡ false → begins_word b ≡ false → nat_lt 0 depth ≡ p → error_at depth (b ∷ bs) ≡ Some (1, b ∷ bs)
+    by true bar mark word e = rw (k, l, e, bar, mark, word) refl
+    by false bar mark word e = rw (k, l, e, h) refl
 
 module _ (lists : Open) (word whole left : List ℕ) (b : ℕ) where
-  pub pass_blank : is_blank b ≡ true → IsAt lists Between word whole (b ∷ left) → IsAt lists Between word whole left
-  pass_blank h at = record { behind = at.behind; part = at.part; goes_on = (at.goes_on.0, at.goes_on.1 ∙ behind_layout-blank b left h) }
-
-  pub pass_semicolon : b ≡ 59 → IsAt lists Between word whole (b ∷ left) → IsAt lists Comment word whole left
-  pass_semicolon h at = record {
-    behind = at.behind;
-    part = at.part;
-    goes_on = (at.goes_on.0, at.goes_on.1 ∙ ap (λ c. behind_layout (c ∷ left)) h);
-  }
-
-  pub pass_comment : ends_comment b ≡ false → IsAt lists Comment word whole (b ∷ left) → IsAt lists Comment word whole left
-  pass_comment h at = record { behind = at.behind; part = at.part; goes_on = (at.goes_on.0, at.goes_on.1 ∙ behind_comment-other b left h) }
-
-  pub end_comment : ends_comment b ≡ true → IsAt lists Comment word whole (b ∷ left) → IsAt lists Between word whole left
-  end_comment h at = record { behind = at.behind; part = at.part; goes_on = (at.goes_on.0, at.goes_on.1 ∙ behind_comment-end b left h) }
-
-  pub begin_word : begins_symbol b ≡ true → 0 < lists.depth → IsAt lists Between word whole (b ∷ left) → IsAt lists Word (word ++ b ∷ []) whole left
-  begin_word h deep at = record {
-    behind = at.behind;
-    part = at.part;
-    goes_on =
-        subst (λ w. GoesOn Word (w ++ b ∷ []) lists.depth at.behind left) (sym at.goes_on.0)
-        ((h, rw (word_from_symbol b h) refl), deep, at.goes_on.1 ∙ behind_layout-symbol b left h);
-  }
-
   pub grow_word : is_word_byte b ≡ true → IsAt lists Word word whole (b ∷ left) → IsAt lists Word (word ++ b ∷ []) whole left
   grow_word h at = record {
     behind = at.behind;
     part = at.part;
-    goes_on = (BeginsSymbol-push word b at.goes_on.0 h, at.goes_on.1, at.goes_on.2 ∙ sym (append_assoc word (b ∷ []) left));
+    goes_on = (BeginsWord-push word b at.goes_on.0 h, at.goes_on.1, at.goes_on.2 ∙ sym (append_assoc word (b ∷ []) left));
   }
 
-  pub end_word : is_word_byte b ≡ false → IsAt lists Word word whole (b ∷ left) →
-      IsAt (record { tokens = lists.tokens ++ symbol word ∷ []; depth = lists.depth }) Between [] whole (b ∷ left)
-  end_word h at = record {
+  pub end_word : (a : Atom) → is_word_byte b ≡ false → atom_of word ≡ Ok a → IsAt lists Word word whole (b ∷ left) →
+      IsAt (record { tokens = lists.tokens ++ atom a ∷ []; depth = lists.depth }) Between [] whole (b ∷ left)
+  end_word a h is at = record {
     behind = b ∷ left;
-    part = part_push whole at.behind (b ∷ left) lists.tokens (symbol word) lists.depth lists.depth at.part
-        (ap token_at at.goes_on.2 ∙ token_at-word word b left at.goes_on.0 h) (rw (some_open lists.depth at.goes_on.1) refl);
+    part = part_push whole at.behind (b ∷ left) lists.tokens (atom a) lists.depth lists.depth at.part
+        (ap lexeme_at at.goes_on.2 ∙ lexeme-word word b left at.goes_on.0 h ∙ ap (λ r. word_lexeme r (word ++ b ∷ left) (b ∷ left)) is)
+        (rw (some_open lists.depth at.goes_on.1) refl);
+    goes_on = (refl, refl);
+  }
+
+  pub wrong_word : (code : ℕ) → is_word_byte b ≡ false → atom_of word ≡ Err code → IsAt lists Word word whole (b ∷ left) → HasStandingError whole code (word ++ b ∷ left)
+  wrong_word code h is at = record {
+    tokens = lists.tokens;
+    depth = lists.depth;
+    rest = at.behind;
+    part = at.part;
+    error = ap (error_at lists.depth) at.goes_on.2
+        ∙ error_at-word lists.depth word (b ∷ left) at.goes_on.0 at.goes_on.1
+        ∙ ap error_of (lexeme-word word b left at.goes_on.0 h ∙ ap (λ r. word_lexeme r (word ++ b ∷ left) (b ∷ left)) is);
+    stands = inr (ap may_go_on at.goes_on.2 ∙ lexeme-word-stands word b left at.goes_on.0 h);
+  }
+
+  pub grow_quoted : is_between_bars b ≡ true → IsAt lists Quoted word whole (b ∷ left) → IsAt lists Quoted (word ++ b ∷ []) whole left
+  grow_quoted h at = record {
+    behind = at.behind;
+    part = at.part;
+    goes_on = (
+      behind_run-push is_between_bars word b at.goes_on.0 h,
+      at.goes_on.1,
+      at.goes_on.2 ∙ ap (λ l. 124 ∷ l) (sym (append_assoc word (b ∷ []) left)),
+    );
+  }
+
+  pub end_quoted : b ≡ 124 → IsAt lists Quoted word whole (b ∷ left) →
+      IsAt (record { tokens = lists.tokens ++ atom (quoted word) ∷ []; depth = lists.depth }) Between [] whole left
+  end_quoted h at = record {
+    behind = left;
+    part = part_push whole at.behind left lists.tokens (atom (quoted word)) lists.depth lists.depth at.part
+        (ap lexeme_at (at.goes_on.2 ∙ ap (λ c. 124 ∷ (word ++ c ∷ left)) h) ∙ lexeme-quoted word left at.goes_on.0)
+        (rw (some_open lists.depth at.goes_on.1) refl);
+    goes_on = (refl, refl);
+  }
+
+  pub wrong_quoted : b ≡ 92 → IsAt lists Quoted word whole (b ∷ left) → HasStandingError whole 1 (b ∷ left)
+  wrong_quoted h at =
+      let reads : behind_layout at.behind ≡ 124 ∷ (word ++ 92 ∷ left) = at.goes_on.2 ∙ ap (λ c. 124 ∷ (word ++ c ∷ left)) h in
+      record {
+        tokens = lists.tokens;
+        depth = lists.depth;
+        rest = at.behind;
+        part = at.part;
+        error = ap (error_at lists.depth) reads
+            ∙ error_at-inside lists.depth 124 (word ++ 92 ∷ left) at.goes_on.1 refl refl
+            ∙ ap error_of (lexeme-quoted-backslash word left at.goes_on.0)
+            ∙ ap (λ c. Some (1, c ∷ left)) (sym h);
+        stands = inr (ap may_go_on reads ∙ lexeme-quoted-backslash-stands word left at.goes_on.0);
+      }
+
+  pub grow_text : eqb b 34 ≡ false → IsAt lists Text word whole (b ∷ left) → IsAt lists Text (word ++ b ∷ []) whole left
+  grow_text h at = record {
+    behind = at.behind;
+    part = at.part;
+    goes_on = (at.goes_on.0, at.goes_on.1 ∙ ap (λ l. 34 ∷ l) (sym (doubled-push word b left h)));
+  }
+
+  pub double_mark : b ≡ 34 → IsAt lists Mark word whole (b ∷ left) → IsAt lists Text (word ++ b ∷ []) whole left
+  double_mark h at = record {
+    behind = at.behind;
+    part = at.part;
+    goes_on =
+        subst (λ c. GoesOn Text (word ++ c ∷ []) lists.depth at.behind left) (sym h)
+        (at.goes_on.0, at.goes_on.1 ∙ ap (λ c. 34 ∷ (doubled word ++ 34 ∷ (c ∷ left))) h ∙ ap (λ l. 34 ∷ l) (sym (doubled-push_mark word left)));
+  }
+
+  pub end_text : eqb b 34 ≡ false → IsAt lists Mark word whole (b ∷ left) →
+      IsAt (record { tokens = lists.tokens ++ atom (text word) ∷ []; depth = lists.depth }) Between [] whole (b ∷ left)
+  end_text h at = record {
+    behind = b ∷ left;
+    part = part_push whole at.behind (b ∷ left) lists.tokens (atom (text word)) lists.depth lists.depth at.part
+        (ap lexeme_at at.goes_on.1 ∙ lexeme-text word b left h) (rw (some_open lists.depth at.goes_on.0) refl);
     goes_on = (refl, refl);
   }
 
@@ -87,7 +169,7 @@ module _ (lists : Open) (word whole left : List ℕ) (b : ℕ) where
   open_list h room at = record {
     behind = left;
     part = part_push whole at.behind left lists.tokens opening lists.depth (lists.depth + 1) at.part
-        (ap token_at (at.goes_on.1 ∙ ap (λ c. behind_layout (c ∷ left)) h)) (rw room refl);
+        (ap lexeme_at (at.goes_on.1 ∙ ap (λ c. behind_layout (c ∷ left)) h)) (rw room refl);
     goes_on = (at.goes_on.0, refl);
   }
 
@@ -96,7 +178,7 @@ module _ (lists : Open) (word whole left : List ℕ) (b : ℕ) where
   close_list h inner at = record {
     behind = left;
     part = part_push whole at.behind left lists.tokens closing lists.depth (lists.depth - 1) at.part
-        (ap token_at (at.goes_on.1 ∙ ap (λ c. behind_layout (c ∷ left)) h)) (rw inner refl);
+        (ap lexeme_at (at.goes_on.1 ∙ ap (λ c. behind_layout (c ∷ left)) h)) (rw inner refl);
     goes_on = (at.goes_on.0, refl);
   }
 
@@ -107,14 +189,19 @@ module _ (lists : Open) (word whole left : List ℕ) (b : ℕ) where
     behind = at.behind;
     tokens = tokens;
     part = subst (λ d. BeginsPart whole lists.tokens d at.behind) one at.part;
-    closed = (left, ap token_at (at.goes_on.1 ∙ ap (λ c. behind_layout (c ∷ left)) h), refl);
+    closed = (left, ap lexeme_at (at.goes_on.1 ∙ ap (λ c. behind_layout (c ∷ left)) h), refl);
   }
 
-  pub find_fault : is_blank b ≡ false → eqb b 59 ≡ false → may_follow lists.depth b ≡ false → IsAt lists Between word whole (b ∷ left) → IsFaulty whole
-  find_fault h k w at = record {
-    tokens = lists.tokens;
-    depth = lists.depth;
-    rest = at.behind;
-    part = at.part;
-    wrong = subst (IsWrong lists.depth) (sym (at.goes_on.1 ∙ behind_layout-other b left h k)) w;
-  }
+  -- an error at the byte that comes next, between tokens
+  pub find_error : (code : ℕ) → is_blank b ≡ false → eqb b 59 ≡ false → error_at lists.depth (b ∷ left) ≡ Some (code, b ∷ left) →
+      (lists.depth ≡ 0) ⊎ (may_go_on (b ∷ left) ≡ false) → IsAt lists Between word whole (b ∷ left) → HasStandingError whole code (b ∷ left)
+  find_error code h k error stands at =
+      let reads : behind_layout at.behind ≡ b ∷ left = at.goes_on.1 ∙ behind_layout-other b left h k in
+      record {
+        tokens = lists.tokens;
+        depth = lists.depth;
+        rest = at.behind;
+        part = at.part;
+        error = ap (error_at lists.depth) reads ∙ error;
+        stands = subst (λ l. (lists.depth ≡ 0) ⊎ (may_go_on l ≡ false)) (sym reads) stands;
+      }

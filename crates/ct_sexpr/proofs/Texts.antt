@@ -1,33 +1,26 @@
--- Bytes begin with one list of tokens, and with one command at most.
-use Rattle.std.proofs.Common.{◌≡◌, ℕ, ◌+◌, ◌-◌, Bool, true, false, ◌&&◌, eqb, nat_lt, cond, List, [], ◌∷◌, ◌++◌, Option, Some, None, IsTrue, ◌⊎◌, inl, inr, refl, sym, ap, ◌∙◌, subst, arith, true≢false}
+-- Bytes begin with one list of tokens, with one command at most, and have one error at most.
+use Rattle.std.proofs.Common.{◌≡◌, ℕ, ◌+◌, ◌-◌, false, nat_lt, List, [], ◌∷◌, ◌++◌, Some, ◌⊎◌, inl, inr, refl, sym, ap, ◌∙◌, subst, arith, true≢false}
 use Rattle.std.proofs.lemmas.List.{append-nil}
-use Rattle.std.proofs.lemmas.Bool.Decides.{eqb_tells}
 use Rattle.ct_sexpr.specs.Layout.{behind_layout}
-use Rattle.ct_sexpr.specs.Token.{Token, opening, closing, symbol, token_at, AreTokens, begins_symbol, word_of, behind_word}
-use Rattle.ct_sexpr.specs.Expression.{Expression, tokens_of}
-use Rattle.ct_sexpr.specs.Reading.{open_behind, BeginsPart, BeginsCommand, IsOpenEnd, IsWrong, IsUnfinished, IsFaulty, HasNoCommand}
-use Rattle.ct_sexpr.specs.Reading.{nesting_limit}
+use Rattle.ct_sexpr.specs.Token.{Token, opening, closing, atom, token, cut, lexeme_at, may_go_on, AreTokens}
+use Rattle.ct_sexpr.specs.Expression.{Expression, Expressions, leaf, list, tokens_of}
+use Rattle.ct_sexpr.specs.Reading.{nesting_limit, open_behind, BeginsPart, BeginsCommand, error_at, HasError, HasStandingError, Waits, IsUnfinished, IsLayout, HasNoCommand}
 use Rattle.ct_sexpr.proofs.Nesting.{passed, some_open, inner_open, open_behind-append, Closes, Closes-last, Closes-rest, Closes-once, Closes-ends}
 use Rattle.ct_sexpr.proofs.Trees.{tokens_of-injective}
+use Rattle.ct_sexpr.proofs.FirstBytes.{token_goes_on, same_error, no_error, MayStand, token_is_no_error}
 
 -- the tokens of one list and then those of another
 pub AreTokens-append : (ts us : List Token) (bytes middle rest : List ℕ) → AreTokens ts bytes middle → AreTokens us middle rest → AreTokens (ts ++ us) bytes rest
 AreTokens-append [] us bytes middle rest p q = subst (λ x. AreTokens us x rest) (sym p) q
 AreTokens-append (t ∷ ts) us bytes middle rest p q = (p.0, p.1, AreTokens-append ts us p.0 middle rest p.2 q)
 
-abbrev read_token : Token × List ℕ → Option (Token × List ℕ) → Token × List ℕ
-read_token other None = other
-read_token other (Some x) = x
-
 -- a token that was read is one token
-pub same_token : (t u : Token) (x y : List ℕ) → ◌≡◌ {A = Option (Token × List ℕ)} (Some (t, x)) (Some (u, y)) → (t ≡ u) × (x ≡ y)
-same_token t u x y e =
-    let p : ◌≡◌ {A = Token × List ℕ} (t, x) (u, y) = ap (read_token (t, x)) e in
-    (ap (λ q. q.0) p, ap (λ q. q.1) p)
+pub same_token : (t u : Token) (x y : List ℕ) → token t x ≡ token u y → (t ≡ u) × (x ≡ y)
+same_token t u x y e = (cc, cc)
 
--- no token is not a token
-pub no_token_read : (t : Token) (x : List ℕ) → ◌≡◌ {A = Option (Token × List ℕ)} None (Some (t, x)) → ⊥
-no_token_read t x e = cc
+-- nothing that has ended is no token
+pub cut_is_no_token : (t : Token) (x : List ℕ) → cut ≡ token t x → ⊥
+cut_is_no_token t x e = cc
 
 -- the longer list of tokens goes on where the shorter ends
 abbrev pub GoesOn : List Token → List Token → List ℕ → List ℕ → Type 0
@@ -55,6 +48,11 @@ command_tokens bytes e rest c =
 pub command_closes : (bytes : List ℕ) (e : Expression) (rest : List ℕ) → BeginsCommand bytes e rest → Closes (tokens_of e) 0
 command_closes bytes e rest c = subst (λ ts. Closes ts 0) (sym c.tokens) (Closes-last c.before 0 c.part.nested)
 
+-- a command is a list
+pub command_is_a_list : (bytes : List ℕ) (e : Expression) (rest : List ℕ) → BeginsCommand bytes e rest → (es : Expressions) × (e ≡ list es)
+command_is_a_list bytes (leaf a) rest c = absurd (command_closes bytes (leaf a) rest c).1
+command_is_a_list bytes (list es) rest c = (es, refl)
+
 -- bytes begin with one command at most
 pub one_command : (bytes : List ℕ) (e f : Expression) (r s : List ℕ) → BeginsCommand bytes e r → BeginsCommand bytes f s → (f ≡ e) × (s ≡ r)
 one_command bytes e f r s c d =
@@ -81,33 +79,21 @@ command_goes_on bytes ts depth rest e after p c =
     ]
 
 no_token : (t : Token) (ts : List Token) (r : List ℕ) → AreTokens (t ∷ ts) [] r → ⊥
-no_token t ts r a = no_token_read t a.0 a.1
+no_token t ts r a = cut_is_no_token t a.0 a.1
 
--- a byte that begins a symbol is no parenthesis
-pub begins_no_list : (b : ℕ) → IsTrue (begins_symbol b) → (eqb b 40 ≡ false) × (eqb b 41 ≡ false)
-begins_no_list b h = (differs 40 refl, differs 41 refl)
-  where
-    differs : (n : ℕ) → begins_symbol n ≡ false → eqb b n ≡ false
-    differs n e =
-        elim (eqb_tells b n) [
-          | inl x ↦ absurd (true≢false (sym (subst (λ m. begins_symbol m ≡ true) x.1 h) ∙ e))
-          | inr x ↦ x.0
-        ]
+-- behind nothing no tokens follow
+pub tokens_of_nothing : (ts : List Token) (bytes rest : List ℕ) → bytes ≡ [] → AreTokens ts bytes rest → (ts ≡ []) × (rest ≡ [])
+tokens_of_nothing [] bytes rest e a = (refl, sym a ∙ e)
+tokens_of_nothing (t ∷ ts) bytes rest e a = absurd (no_token t ts rest (subst (λ l. AreTokens (t ∷ ts) l rest) e a))
 
--- the token of a symbol
-pub symbol_at : (b : ℕ) (bs : List ℕ) → IsTrue (begins_symbol b) → token_at (b ∷ bs) ≡ Some (symbol (word_of (b ∷ bs)), behind_word (b ∷ bs))
-symbol_at b bs h = let p = begins_no_list b h in rw (p.0, p.1, h) refl
-
-open_end_stops : (l : List ℕ) (us : List Token) (depth : ℕ) (behind after : List ℕ) (t : Token) →
-    IsOpenEnd depth l → token_at l ≡ Some (t, behind) → Closes (t ∷ us) depth → AreTokens us behind after → ⊥
-open_end_stops [] us depth behind after t w e c a = no_token_read t behind e
-open_end_stops (b ∷ bs) us depth behind after t w e c a =
-    let same = same_token t (symbol (word_of (b ∷ bs))) behind (behind_word (b ∷ bs)) (sym e ∙ symbol_at b bs w.0) in
-    closes us (word_of (b ∷ bs)) depth after (subst (λ x. Closes (x ∷ us) depth) same.0 c) (subst (λ x. AreTokens us x after) (same.1 ∙ w.2) a)
-  where
-    closes : (us : List Token) (w : List ℕ) (depth : ℕ) (after : List ℕ) → Closes (symbol w ∷ us) depth → AreTokens us [] after → ⊥
-    closes [] w depth after c a = c.1
-    closes (u ∷ us) w depth after c a = no_token u us after a
+waiting_stops : (l : List ℕ) (us : List Token) (depth : ℕ) (behind after : List ℕ) (t : Token) →
+    Waits depth l → lexeme_at l ≡ token t behind → Closes (t ∷ us) depth → AreTokens us behind after → ⊥
+waiting_stops [] us depth behind after t w e c a = cut_is_no_token t behind e
+waiting_stops (b ∷ bs) us depth behind after t w e c a =
+    let g = token_goes_on (b ∷ bs) t behind w.1 e in
+    let none = tokens_of_nothing us behind after g.2 a in
+    let closes : Closes (atom g.0 ∷ []) depth = subst (λ us. Closes (atom g.0 ∷ us) depth) none.0 (subst (λ x. Closes (x ∷ us) depth) g.1 c) in
+    closes.1
 
 -- unfinished bytes begin with no whole command
 pub unfinished_has_none : (bytes : List ℕ) → IsUnfinished bytes → HasNoCommand bytes
@@ -115,96 +101,127 @@ unfinished_has_none bytes u e after c =
     let g = command_goes_on bytes u.tokens u.depth u.rest e after u.part c in
     stops g.0 u.depth u.rest after g.1 u.waits g.2
   where
-    stops : (us : List Token) (depth : ℕ) (rest after : List ℕ) → Closes us depth → IsOpenEnd depth (behind_layout rest) → AreTokens us rest after → ⊥
+    stops : (us : List Token) (depth : ℕ) (rest after : List ℕ) → Closes us depth → Waits depth (behind_layout rest) → AreTokens us rest after → ⊥
     stops [] depth rest after c w a = c
-    stops (t ∷ us) depth rest after c w a = open_end_stops (behind_layout rest) us depth a.0 after t w a.1 c a.2
+    stops (t ∷ us) depth rest after c w a = waiting_stops (behind_layout rest) us depth a.0 after t w a.1 c a.2
 
--- whether a token may stand where so many lists are open
-abbrev MayStand : Token → ℕ → Type 0
-MayStand opening depth = nat_lt depth nesting_limit ≡ true
-MayStand closing depth = nat_lt 0 depth ≡ true
-MayStand (symbol w) depth = nat_lt 0 depth ≡ true
+-- blanks and comments alone begin with no command
+pub layout_has_none : (bytes : List ℕ) → IsLayout bytes → HasNoCommand bytes
+layout_has_none bytes l =
+    unfinished_has_none bytes
+    (record { tokens = []; depth = 0; rest = bytes; part = record { spelled = refl; nested = refl }; waits = subst (Waits 0) (sym l) tt })
 
 MayStand-from_closes : (t : Token) (us : List Token) (depth : ℕ) → Closes (t ∷ us) depth → MayStand t depth
 MayStand-from_closes opening us depth c = c.0
 MayStand-from_closes closing us depth c = elim c [ inl x ↦ inner_open depth x.0 | inr x ↦ some_open depth (omega (arith, x.0)) ]
-MayStand-from_closes (symbol w) us depth c = c.0
+MayStand-from_closes (atom a) us depth c = c.0
 
 MayStand-from_open : (t : Token) (us : List Token) (depth m : ℕ) → open_behind (t ∷ us) depth ≡ Some m → MayStand t depth
 MayStand-from_open opening us depth m e = (passed (nat_lt depth nesting_limit) (open_behind us (depth + 1)) m e).0
 MayStand-from_open closing us depth m e = inner_open depth (passed (nat_lt 1 depth) (open_behind us (depth - 1)) m e).0
-MayStand-from_open (symbol w) us depth m e = (passed (nat_lt 0 depth) (open_behind us depth) m e).0
+MayStand-from_open (atom a) us depth m e = (passed (nat_lt 0 depth) (open_behind us depth) m e).0
 
--- the token at the front of bytes, by the tests of the first byte
-abbrev pub token_by : Bool → Bool → Bool → List ℕ → List ℕ → List ℕ → Option (Token × List ℕ)
-token_by is_opening is_closing is_symbol x y w =
-    cond is_opening (Some (opening, x)) (cond is_closing (Some (closing, x)) (cond is_symbol (Some (symbol w, y)) None))
+-- where an error is no token follows that may stand there
+error_stops : (l : List ℕ) (depth code : ℕ) (place : List ℕ) (t : Token) (behind : List ℕ) → error_at depth l ≡ Some (code, place) → lexeme_at l ≡ token t behind → MayStand t depth → ⊥
+error_stops l depth code place t behind e k m = no_error code place (sym (token_is_no_error l t behind depth k m) ∙ e)
 
-refused : (is_opening is_closing is_symbol : Bool) (depth : ℕ) (x y w behind : List ℕ) (t : Token) →
-    token_by is_opening is_closing is_symbol x y w ≡ Some (t, behind) →
-    cond is_opening (nat_lt depth nesting_limit) (cond is_closing (nat_lt 0 depth) (is_symbol && nat_lt 0 depth)) ≡ false → MayStand t depth → ⊥
-refused true is_closing is_symbol depth x y w behind t e f c =
-    let d : MayStand opening depth = subst (λ v. MayStand v depth) (sym (same_token opening t x behind e).0) c in
-    true≢false (sym d ∙ f)
-refused false true is_symbol depth x y w behind t e f c =
-    let d : MayStand closing depth = subst (λ v. MayStand v depth) (sym (same_token closing t x behind e).0) c in
-    true≢false (sym d ∙ f)
-refused false false true depth x y w behind t e f c =
-    let d : MayStand (symbol w) depth = subst (λ v. MayStand v depth) (sym (same_token (symbol w) t y behind e).0) c in
-    true≢false (sym d ∙ f)
-refused false false false depth x y w behind t e f c = no_token_read t behind e
-
--- what may not follow does not begin a token that may stand there
-wrong_stops : (l : List ℕ) (depth : ℕ) (t : Token) (behind : List ℕ) → IsWrong depth l → token_at l ≡ Some (t, behind) → MayStand t depth → ⊥
-wrong_stops [] depth t behind w e c = w
-wrong_stops (b ∷ bs) depth t behind w e c =
-    refused (eqb b 40) (eqb b 41) (begins_symbol b) depth bs (behind_word (b ∷ bs)) (word_of (b ∷ bs)) behind t e w c
-
--- bytes that go on no command begin with none
-pub faulty_has_none : (bytes : List ℕ) → IsFaulty bytes → HasNoCommand bytes
-faulty_has_none bytes u e after c =
-    let g = command_goes_on bytes u.tokens u.depth u.rest e after u.part c in
-    stops g.0 u.depth u.rest after g.1 u.wrong g.2
+-- bytes with an error begin with no whole command
+pub error_has_none : (bytes : List ℕ) (code : ℕ) (place : List ℕ) → HasError bytes code place → HasNoCommand bytes
+error_has_none bytes code place h e after c =
+    let g = command_goes_on bytes h.tokens h.depth h.rest e after h.part c in
+    stops g.0 h.depth h.rest after g.1 h.error g.2
   where
-    stops : (us : List Token) (depth : ℕ) (rest after : List ℕ) → Closes us depth → IsWrong depth (behind_layout rest) → AreTokens us rest after → ⊥
+    stops : (us : List Token) (depth : ℕ) (rest after : List ℕ) → Closes us depth → error_at depth (behind_layout rest) ≡ Some (code, place) → AreTokens us rest after → ⊥
     stops [] depth rest after c w a = c
-    stops (t ∷ us) depth rest after c w a = wrong_stops (behind_layout rest) depth t a.0 w a.1 (MayStand-from_closes t us depth c)
+    stops (t ∷ us) depth rest after c w a = error_stops (behind_layout rest) depth code place t a.0 w a.1 (MayStand-from_closes t us depth c)
 
-open_and_wrong : (l : List ℕ) (depth : ℕ) → IsOpenEnd depth l → IsWrong depth l → ⊥
-open_and_wrong [] depth o w = w
-open_and_wrong (b ∷ bs) depth o w =
-    let p = begins_no_list b o.0 in
-    let deep = some_open depth o.1 in
-    true≢false (sym (simp (p.0, p.1, o.0, deep)) ∙ w)
+-- what is open behind the further tokens
+further_open : (ts us vs : List Token) (depth m : ℕ) → us ≡ ts ++ vs → open_behind ts 0 ≡ Some depth → open_behind us 0 ≡ Some m → open_behind vs depth ≡ Some m
+further_open ts us vs depth m g p q = sym (open_behind-append ts vs 0 depth p) ∙ ap (λ ts. open_behind ts 0) (sym g) ∙ q
 
--- behind the bytes of a symbol that may go on there is no fault
-no_more : (l : List ℕ) (us : List Token) (depth next : ℕ) (behind rest : List ℕ) (t : Token) →
-    IsOpenEnd depth l → token_at l ≡ Some (t, behind) → AreTokens us behind rest → IsWrong next (behind_layout rest) → ⊥
-no_more [] us depth next behind rest t o e a w = no_token_read t behind e
-no_more (b ∷ bs) us depth next behind rest t o e a w =
-    let same = same_token t (symbol (word_of (b ∷ bs))) behind (behind_word (b ∷ bs)) (sym e ∙ symbol_at b bs o.0) in
-    at_end us (subst (λ x. AreTokens us x rest) (same.1 ∙ o.2) a)
-  where
-    at_end : (us : List Token) → AreTokens us [] rest → ⊥
-    at_end [] a = subst (λ r. IsWrong next (behind_layout r)) (sym a) w
-    at_end (u ∷ us) a = no_token u us rest a
+-- no tokens lead from an error to another place
+no_further : (vs : List Token) (depth m code : ℕ) (rest left place : List ℕ) →
+    error_at depth (behind_layout rest) ≡ Some (code, place) → open_behind vs depth ≡ Some m → AreTokens vs rest left → (depth ≡ m) × (rest ≡ left)
+no_further [] depth m code rest left place e o a = let same : depth ≡ m = cc in (same, a)
+no_further (v ∷ vs) depth m code rest left place e o a =
+    absurd (error_stops (behind_layout rest) depth code place v a.0 e a.1 (MayStand-from_open v vs depth m o))
 
--- no bytes are both unfinished and faulty
-pub unfinished_is_not_faulty : (bytes : List ℕ) → IsUnfinished bytes → IsFaulty bytes → ⊥
-unfinished_is_not_faulty bytes u f =
-    elim (AreTokens-compare u.tokens f.tokens bytes u.rest f.rest u.part.spelled f.part.spelled) [
-      | inl g ↦ further g.0 (sym (open_behind-append u.tokens g.0 0 u.depth u.part.nested) ∙ ap (λ ts. open_behind ts 0) (sym g.1) ∙ f.part.nested) g.2
-      | inr g ↦ nearer g.0 (sym (open_behind-append f.tokens g.0 0 f.depth f.part.nested) ∙ ap (λ ts. open_behind ts 0) (sym g.1) ∙ u.part.nested) g.2
+-- bytes have one error at most
+pub one_error : (bytes : List ℕ) (c d : ℕ) (p q : List ℕ) → HasError bytes c p → HasError bytes d q → (d ≡ c) × (q ≡ p)
+one_error bytes c d p q h k =
+    elim (AreTokens-compare h.tokens k.tokens bytes h.rest k.rest h.part.spelled k.part.spelled) [
+      | inl g ↦
+          let same = no_further g.0 h.depth k.depth c h.rest k.rest p h.error (further_open h.tokens k.tokens g.0 h.depth k.depth g.1 h.part.nested k.part.nested) g.2 in
+          at_one_place h.depth k.depth h.rest k.rest c d p q same.0 same.1 h.error k.error
+      | inr g ↦
+          let same = no_further g.0 k.depth h.depth d k.rest h.rest q k.error (further_open k.tokens h.tokens g.0 k.depth h.depth g.1 k.part.nested h.part.nested) g.2 in
+          at_one_place h.depth k.depth h.rest k.rest c d p q (sym same.0) (sym same.1) h.error k.error
     ]
   where
-    further : (vs : List Token) → open_behind vs u.depth ≡ Some f.depth → AreTokens vs u.rest f.rest → ⊥
-    further [] e a =
-        let same : u.depth ≡ f.depth = cc in
-        open_and_wrong (behind_layout u.rest) u.depth u.waits (subst (λ d. IsWrong d (behind_layout u.rest)) (sym same) (subst (λ r. IsWrong f.depth (behind_layout r)) (sym a) f.wrong))
-    further (v ∷ vs) e a = no_more (behind_layout u.rest) vs u.depth f.depth a.0 f.rest v u.waits a.1 a.2 f.wrong
+    at_one_place : (n m : ℕ) (r s : List ℕ) (c d : ℕ) (p q : List ℕ) → n ≡ m → r ≡ s →
+        error_at n (behind_layout r) ≡ Some (c, p) → error_at m (behind_layout s) ≡ Some (d, q) → (d ≡ c) × (q ≡ p)
+    at_one_place n m r s c d p q depths rests e f =
+        let there : error_at m (behind_layout s) ≡ Some (c, p) = subst (λ x. error_at m (behind_layout x) ≡ Some (c, p)) rests (subst (λ x. error_at x (behind_layout r) ≡ Some (c, p)) depths e) in
+        same_error d c q p (sym f ∙ there)
 
-    nearer : (vs : List Token) → open_behind vs f.depth ≡ Some u.depth → AreTokens vs f.rest u.rest → ⊥
-    nearer [] e a =
-        let same : f.depth ≡ u.depth = cc in
-        open_and_wrong (behind_layout u.rest) u.depth u.waits (subst (λ d. IsWrong d (behind_layout u.rest)) same (subst (λ r. IsWrong f.depth (behind_layout r)) a f.wrong))
-    nearer (v ∷ vs) e a = wrong_stops (behind_layout f.rest) f.depth v a.0 f.wrong a.1 (MayStand-from_open v vs f.depth u.depth e)
+-- blanks and comments alone have no error
+pub error_is_no_layout : (bytes : List ℕ) (code : ℕ) (place : List ℕ) → HasError bytes code place → IsLayout bytes → ⊥
+error_is_no_layout bytes code place h layout = by h.tokens h.depth h.rest h.part.spelled h.part.nested h.error
+  where
+    by : (ts : List Token) (depth : ℕ) (rest : List ℕ) → AreTokens ts bytes rest → open_behind ts 0 ≡ Some depth → error_at depth (behind_layout rest) ≡ Some (code, place) → ⊥
+    by [] depth rest a o e =
+        let outside : 0 ≡ depth = cc in
+        let there : error_at 0 (behind_layout bytes) ≡ Some (code, place) = subst (λ x. error_at 0 (behind_layout x) ≡ Some (code, place)) (sym a) (subst (λ x. error_at x (behind_layout rest) ≡ Some (code, place)) (sym outside) e) in
+        no_error code place (subst (λ l. error_at 0 l ≡ Some (code, place)) layout there)
+    by (t ∷ ts) depth rest a o e = cut_is_no_token t a.0 (subst (λ l. lexeme_at l ≡ token t a.0) layout a.1)
+
+-- an error stands where bytes that follow can't change it
+abbrev pub Stands : ℕ → List ℕ → Type 0
+Stands depth l = (depth ≡ 0) ⊎ (may_go_on l ≡ false)
+
+waits_or_stands : (l : List ℕ) (depth code : ℕ) (place : List ℕ) → Waits depth l → error_at depth l ≡ Some (code, place) → Stands depth l → ⊥
+waits_or_stands [] depth code place w e s =
+    elim s [
+      | inl outside ↦ no_error code place (subst (λ d. error_at d [] ≡ Some (code, place)) outside e)
+      | inr stays ↦ true≢false stays
+    ]
+waits_or_stands (b ∷ bs) depth code place w e s =
+    elim s [
+      | inl outside ↦ absurd (omega (arith, outside, w.0))
+      | inr stays ↦ true≢false (sym w.1 ∙ stays)
+    ]
+
+-- no bytes are both unfinished and wrong for good
+pub unfinished_is_not_wrong : (bytes : List ℕ) (code : ℕ) (place : List ℕ) → IsUnfinished bytes → HasStandingError bytes code place → ⊥
+unfinished_is_not_wrong bytes code place u f =
+    elim (AreTokens-compare u.tokens f.tokens bytes u.rest f.rest u.part.spelled f.part.spelled) [
+      | inl g ↦ further g.0 (further_open u.tokens f.tokens g.0 u.depth f.depth g.1 u.part.nested f.part.nested) g.2
+      | inr g ↦
+          let same = no_further g.0 f.depth u.depth code f.rest u.rest place f.error (further_open f.tokens u.tokens g.0 f.depth u.depth g.1 f.part.nested u.part.nested) g.2 in
+          at_one_place u.depth u.rest (sym same.0) (sym same.1) u.waits
+    ]
+  where
+    at_one_place : (depth : ℕ) (rest : List ℕ) → depth ≡ f.depth → rest ≡ f.rest → Waits depth (behind_layout rest) → ⊥
+    at_one_place depth rest d r w =
+        waits_or_stands (behind_layout f.rest) f.depth code place
+        (subst (λ x. Waits f.depth (behind_layout x)) r (subst (λ x. Waits x (behind_layout rest)) d w)) f.error f.stands
+
+    last : (l : List ℕ) (v : Token) (vs : List Token) (behind : List ℕ) → Waits u.depth l → lexeme_at l ≡ token v behind → AreTokens vs behind f.rest → ⊥
+    last [] v vs behind w e a = cut_is_no_token v behind e
+    last (b ∷ bs) v vs behind w e a =
+        let nothing = tokens_of_nothing vs behind f.rest (token_goes_on (b ∷ bs) v behind w.1 e).2 a in
+        waits_or_stands [] f.depth code place tt
+        (subst (λ x. error_at f.depth (behind_layout x) ≡ Some (code, place)) nothing.1 f.error)
+        (subst (λ x. Stands f.depth (behind_layout x)) nothing.1 f.stands)
+
+    further : (vs : List Token) → open_behind vs u.depth ≡ Some f.depth → AreTokens vs u.rest f.rest → ⊥
+    further [] o a = let same : u.depth ≡ f.depth = cc in at_one_place u.depth u.rest same a u.waits
+    further (v ∷ vs) o a = last (behind_layout u.rest) v vs a.0 u.waits a.1 a.2
+
+-- one more token of the bytes
+pub part_push : (bytes behind rest : List ℕ) (ts : List Token) (t : Token) (depth m : ℕ) → BeginsPart bytes ts depth behind →
+    lexeme_at (behind_layout behind) ≡ token t rest → open_behind (t ∷ []) depth ≡ Some m → BeginsPart bytes (ts ++ t ∷ []) m rest
+part_push bytes behind rest ts t depth m p e n = record {
+  spelled = AreTokens-append ts (t ∷ []) bytes behind rest p.spelled (rest, e, refl);
+  nested = open_behind-append ts (t ∷ []) 0 depth p.nested ∙ n;
+}

@@ -1,14 +1,14 @@
 -- Tokens are those of one expression at most.
 use Rattle.std.proofs.Common.{◌≡◌, List, [], ◌∷◌, ◌++◌, refl, ap, append_assoc}
 use Rattle.ct_sexpr.specs.Token.{Token, closing}
-use Rattle.ct_sexpr.specs.Expression.{Expression, Expressions, word, list, none, more, tokens_of, tokens_of_each}
+use Rattle.ct_sexpr.specs.Expression.{Expression, Expressions, leaf, list, none, more, tokens_of, tokens_of_each}
 
 mutual
   -- no expression's tokens begin another's
   pub tokens_of-front : (e f : Expression) (r s : List Token) → tokens_of e ++ r ≡ tokens_of f ++ s → (e ≡ f) × (r ≡ s)
-  tokens_of-front (word w) (word v) r s h = (cc, cc)
-  tokens_of-front (word w) (list fs) r s h = cc
-  tokens_of-front (list es) (word v) r s h = cc
+  tokens_of-front (leaf a) (leaf b) r s h = (cc, cc)
+  tokens_of-front (leaf a) (list fs) r s h = cc
+  tokens_of-front (list es) (leaf b) r s h = cc
   tokens_of-front (list es) (list fs) r s h =
       let inside : (tokens_of_each es ++ closing ∷ []) ++ r ≡ (tokens_of_each fs ++ closing ∷ []) ++ s = cc in
       let p = tokens_of_each-front es fs r s (simp append_assoc at inside) in
@@ -17,9 +17,9 @@ mutual
   pub tokens_of_each-front : (es fs : Expressions) (r s : List Token) →
       tokens_of_each es ++ closing ∷ r ≡ tokens_of_each fs ++ closing ∷ s → (es ≡ fs) × (r ≡ s)
   tokens_of_each-front none none r s h = (refl, cc)
-  tokens_of_each-front none (more (word v) fs) r s h = cc
+  tokens_of_each-front none (more (leaf b) fs) r s h = cc
   tokens_of_each-front none (more (list f) fs) r s h = cc
-  tokens_of_each-front (more (word w) es) none r s h = cc
+  tokens_of_each-front (more (leaf a) es) none r s h = cc
   tokens_of_each-front (more (list e) es) none r s h = cc
   tokens_of_each-front (more e es) (more f fs) r s h =
       let p = tokens_of-front e f (tokens_of_each es ++ closing ∷ r) (tokens_of_each fs ++ closing ∷ s) (simp append_assoc at h) in

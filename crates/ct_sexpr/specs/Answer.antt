@@ -2,7 +2,7 @@
 use Rattle.std.specs.Prelude.{◌≡◌, ℕ, ◌<◌, ◌⊎◌, true, false, List, ◌++◌, length, Result, Ok, Err}
 use Rattle.ct_sexpr.specs.Layout.{behind_layout, line_of_rest}
 use Rattle.ct_sexpr.specs.Expression.{Expression}
-use Rattle.ct_sexpr.specs.Reading.{BeginsCommand, IsUnfinished, IsFaulty, IsLayout, HasNoCommand}
+use Rattle.ct_sexpr.specs.Reading.{BeginsCommand, HasError, HasStandingError, IsUnfinished, IsLayout, HasNoCommand}
 use Rattle.ct_sexpr.specs.View.{expression_of}
 use Rattle.ct_sexpr.specs.Unread.{Unread}
 use Rattle.ct_sexpr.specs.declared.reader.Next.{Next}
@@ -26,7 +26,7 @@ pub record Gives (old new : Unread) (command : Expression) (line : ℕ) : Type 0
   pub fed : new.fed ≡ old.fed
   pub ended : new.ended ≡ old.ended
 
--- more bytes are needed: the input has not ended, and so far it goes on as a command may
+-- more bytes are needed: the input has not ended, and no error stands in what is there of a command
 pub record Needs (old new : Unread) : Type 0 where
   pub ended : old.ended ≡ false
   pub unfinished : IsUnfinished old.bytes
@@ -40,17 +40,19 @@ pub record Ends (old new : Unread) : Type 0 where
   pub none : HasNoCommand old.bytes
   pub same : new ≡ old
 
--- bytes that begin no command, however they go on, or an input that ends inside a command
-abbrev pub IsStuck : Unread → Type 0
-IsStuck u = IsFaulty u.bytes ⊎ ((u.ended ≡ true) × IsUnfinished u.bytes × (IsLayout u.bytes → ⊥))
+-- an error that stands in the bytes, or, where the input has ended, one that they have
+abbrev pub HasFault : Unread → ℕ → List ℕ → Type 0
+HasFault u code place = HasStandingError u.bytes code place ⊎ ((u.ended ≡ true) × HasError u.bytes code place)
 
+-- the bytes have an error, which the answer names by its number and its line, and nothing is taken away
 pub record Refuses (old new : Unread) (code line : ℕ) : Type 0 where
-  pub stuck : IsStuck old
+  pub place : List ℕ
+  pub fault : HasFault old code place
   pub none : HasNoCommand old.bytes
-  pub code_is : code ≡ 59
-  pub line_is : line ≡ line_of_start old
+  pub line_is : line ≡ line_of_rest old.line old.bytes place
   pub same : new ≡ old
 
+-- what each answer says of the reader before and after it
 abbrev pub Answers : Unread → Unread → Result Next ReadError → Type 0
 Answers old new (Ok (Command e line)) = Gives old new (expression_of e) line
 Answers old new (Ok Need) = Needs old new

@@ -1,10 +1,11 @@
--- Expressions (SMT-LIB 2.7, section 3.2): symbols, and lists of expressions.
+-- Expressions (SMT-LIB 2.7, section 3.2): atoms, and lists of expressions.
 use Rattle.std.specs.Prelude.{ℕ, List, [], ◌∷◌, ◌++◌}
-use Rattle.ct_sexpr.specs.Token.{Token, opening, closing, symbol}
+use Rattle.ct_sexpr.specs.Atom.{Atom, symbol}
+use Rattle.ct_sexpr.specs.Token.{Token, opening, closing, atom}
 
 mutual
   pub data Expression : Type 0 where
-    word : List ℕ → Expression
+    leaf : Atom → Expression
     list : Expressions → Expression
 
   pub data Expressions : Type 0 where
@@ -14,7 +15,7 @@ mutual
 -- the tokens that an expression is written with
 abbrev mutual
   pub tokens_of : Expression → List Token
-  tokens_of (word w) = symbol w ∷ []
+  tokens_of (leaf a) = atom a ∷ []
   tokens_of (list es) = opening ∷ (tokens_of_each es ++ closing ∷ [])
 
   pub tokens_of_each : Expressions → List Token
@@ -25,3 +26,7 @@ abbrev mutual
 abbrev pub with_last : Expressions → Expression → Expressions
 with_last none last = more last none
 with_last (more e es) last = more e (with_last es last)
+
+-- the symbol with these bytes, written plain
+abbrev pub word : List ℕ → Expression
+word bytes = leaf (symbol bytes)

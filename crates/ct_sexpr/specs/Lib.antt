@@ -1,8 +1,13 @@
 pub mod Layout
+pub mod Run
+pub mod Atom
 pub mod Token
+pub mod Kind
 pub mod Expression
 pub mod Reading
+pub mod Text
 pub mod View
+pub mod Written
 pub mod Unread
 pub mod Answer
 pub mod Open

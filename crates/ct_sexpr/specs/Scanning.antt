@@ -1,29 +1,35 @@
 -- How far a scanner has read a text that it may not know to its end.
-use Rattle.std.specs.Prelude.{◌≡◌, ℕ, ◌+◌, ◌<◌, ◌≤◌, ◌==◌, List, [], ◌∷◌, ◌++◌, length, IsTrue, if◌then◌else◌, Result, Ok, Err}
+use Rattle.std.specs.Prelude.{◌≡◌, ℕ, ◌+◌, ◌<◌, ◌≤◌, ◌==◌, List, [], ◌∷◌, ◌++◌, length, true, Option, Some, None, if◌then◌else◌, Result, Ok, Err}
 use Rattle.ct_sexpr.specs.Layout.{behind_layout, behind_comment, line_feeds}
-use Rattle.ct_sexpr.specs.Token.{begins_symbol, behind_word}
+use Rattle.ct_sexpr.specs.Run.{behind_run}
+use Rattle.ct_sexpr.specs.Atom.{begins_word, behind_word}
+use Rattle.ct_sexpr.specs.Token.{bar, quotation_mark, is_between_bars}
 use Rattle.ct_sexpr.specs.Expression.{Expression}
-use Rattle.ct_sexpr.specs.Reading.{BeginsPart, BeginsCommand, IsFaulty}
+use Rattle.ct_sexpr.specs.Reading.{BeginsPart, BeginsCommand, HasError, HasStandingError, IsLayout}
+use Rattle.ct_sexpr.specs.Written.{doubled}
 use Rattle.ct_sexpr.specs.View.{expression_of}
 use Rattle.ct_sexpr.specs.Open.{Open, none_open}
 use Rattle.ct_sexpr.specs.declared.scanner.Mode.{Mode}
-use Rattle.ct_sexpr.specs.declared.scanner.Mode.TheVariants.{Between, Comment, Word}
+use Rattle.ct_sexpr.specs.declared.scanner.Mode.TheVariants.{Between, Comment, Word, Quoted, Text, Mark}
 use Rattle.ct_sexpr.specs.declared.scanner.Step.{Step}
 use Rattle.ct_sexpr.specs.declared.scanner.Step.TheVariants.{Going, Command, Wrong}
 use Rattle.ct_sexpr.specs.declared.scanner.Scanner.{Scanner}
 use Rattle.ct_sexpr.specs.declared.error.ReadError.{ReadError}
 use Rattle.ct_sexpr.specs.declared.error.ReadError.TheVariants.{NoMemory}
 
--- the front of a symbol
-abbrev pub BeginsSymbol : List ℕ → Type 0
-BeginsSymbol [] = ⊥
-BeginsSymbol (b ∷ bs) = IsTrue (begins_symbol b) × (behind_word (b ∷ bs) ≡ [])
+-- the front of a word, a keyword or a literal
+abbrev pub BeginsWord : List ℕ → Type 0
+BeginsWord [] = ⊥
+BeginsWord (b ∷ bs) = (begins_word b ≡ true) × (behind_word bs ≡ [])
 
 -- the bytes behind the last token go on as those that are left, behind what the scanner is inside
 abbrev pub GoesOn : Mode → List ℕ → ℕ → List ℕ → List ℕ → Type 0
 GoesOn Between word depth behind left = (word ≡ []) × (behind_layout behind ≡ behind_layout left)
 GoesOn Comment word depth behind left = (word ≡ []) × (behind_layout behind ≡ behind_comment left)
-GoesOn Word word depth behind left = BeginsSymbol word × (0 < depth) × (behind_layout behind ≡ word ++ left)
+GoesOn Word word depth behind left = BeginsWord word × (0 < depth) × (behind_layout behind ≡ word ++ left)
+GoesOn Quoted word depth behind left = (behind_run is_between_bars word ≡ []) × (0 < depth) × (behind_layout behind ≡ bar ∷ (word ++ left))
+GoesOn Text word depth behind left = (0 < depth) × (behind_layout behind ≡ quotation_mark ∷ (doubled word ++ left))
+GoesOn Mark word depth behind left = (0 < depth) × (behind_layout behind ≡ quotation_mark ∷ (doubled word ++ quotation_mark ∷ left))
 
 -- where a scanner is that has read a text as far as what is left
 pub record IsAt (lists : Open) (mode : Mode) (word whole left : List ℕ) : Type 0 where
@@ -64,11 +70,27 @@ pub record Completes (scanner : Scanner) (command : Expression) (whole left : Li
 abbrev pub lines_before : Scanner → ℕ
 lines_before scanner = if scanner.lists.depth == 0 then scanner.line_feeds else scanner.before
 
--- what is left of a text goes on no command
-pub record Refutes (scanner : Scanner) (whole left : List ℕ) : Type 0 where
+-- the error has as many lines before it as the scanner has read
+abbrev pub IsOnLine : Scanner → List ℕ → List ℕ → Type 0
+IsOnLine scanner whole place = scanner.line_feeds + line_feeds place ≡ line_feeds whole
+
+-- an error stands in the text, which was read as far as what is left
+pub record Refutes (scanner : Scanner) (code : ℕ) (whole left : List ℕ) : Type 0 where
   pub reached : Reached scanner whole left
-  pub faulty : IsFaulty whole
-  pub begun : BeginsBehind (lines_before scanner) whole
+  pub place : List ℕ
+  pub error : HasStandingError whole code place
+  pub line : IsOnLine scanner whole place
+
+-- the input ends behind the text, and there the text has an error
+pub record EndsWrong (scanner : Scanner) (code : ℕ) (whole : List ℕ) : Type 0 where
+  pub place : List ℕ
+  pub error : HasError whole code place
+  pub line : IsOnLine scanner whole place
+
+-- the end of a text that was read whole: the number of the error, or None where it is blanks and comments alone
+abbrev pub EndsAt : Scanner → Option ℕ → Type 0
+EndsAt scanner None = (whole : List ℕ) → Reached scanner whole [] → IsLayout whole
+EndsAt scanner (Some code) = (whole : List ℕ) → Reached scanner whole [] → EndsWrong scanner code whole
 
 -- a byte of the text was read, and a byte that comes next was not
 abbrev pub Passes : Scanner → Scanner → ℕ → Type 0
@@ -81,12 +103,12 @@ Stays old new b = (whole left : List ℕ) → Reached old whole (b ∷ left) →
 abbrev pub Steps : Scanner → Scanner → ℕ → Result Step ReadError → Type 0
 Steps old new b (Ok Going) = Passes old new b
 Steps old new b (Ok (Command e)) = (whole left : List ℕ) → Reached old whole (b ∷ left) → Completes new (expression_of e) whole left
-Steps old new b (Ok Wrong) = (whole left : List ℕ) → Reached old whole (b ∷ left) → Refutes new whole (b ∷ left)
+Steps old new b (Ok (Wrong code)) = (whole left : List ℕ) → Reached old whole (b ∷ left) → Refutes new code whole (b ∷ left)
 Steps old new b (Err e) = (e ≡ NoMemory) × Stays old new b
 
 -- what reading bytes does, as far as what is left of them
 abbrev pub Scans : Scanner → Scanner → List ℕ → List ℕ → Result Step ReadError → Type 0
 Scans old new bytes left (Ok Going) = (left ≡ []) × ((whole more : List ℕ) → Reached old whole (bytes ++ more) → Reached new whole more)
 Scans old new bytes left (Ok (Command e)) = (whole more : List ℕ) → Reached old whole (bytes ++ more) → Completes new (expression_of e) whole (left ++ more)
-Scans old new bytes left (Ok Wrong) = (whole more : List ℕ) → Reached old whole (bytes ++ more) → Refutes new whole (left ++ more)
+Scans old new bytes left (Ok (Wrong code)) = (whole more : List ℕ) → Reached old whole (bytes ++ more) → Refutes new code whole (left ++ more)
 Scans old new bytes left (Err e) = (e ≡ NoMemory) × ((whole more : List ℕ) → Reached old whole (bytes ++ more) → Reached new whole (left ++ more))

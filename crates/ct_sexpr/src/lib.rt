@@ -1,23 +1,30 @@
-//! Tokens and S-expressions, read from bytes that come in any pieces.
+//! Tokens and S-expressions, read from bytes that come in any pieces, and written.
 #![tactic(auto)]
 
+mod atom;
 mod byte_class;
 mod bytes;
 mod error;
 mod laws;
 mod open_lists;
 mod reader;
+mod reserved;
 mod scan;
 mod scanner;
 mod sexpr;
 #[cfg(test)]
 mod tests;
+#[cfg(test)]
+mod text_tests;
+mod write;
 
 pub use bytes::Bytes;
 pub use error::ReadError;
-pub use laws::one_reading;
+pub use laws::{error_places, one_reading, one_text};
 pub use reader::{Next, Reader};
+pub use reserved::{is_plain, is_reserved};
 pub use sexpr::Sexpr;
+pub use write::sexpr_text;
 
 /// The greatest nesting of parentheses in a command.
-pub(crate) const NESTING_LIMIT: usize = 2;
+pub(crate) const NESTING_LIMIT: usize = 1_000;

@@ -1,10 +1,9 @@
 ghost use Rattle.std.specs.Prelude.{◌≡◌, ◌+◌, ◌-◌, ◌<◌, [], ◌∷◌, ◌++◌, OnOk, OnErr, IfErr};
-ghost use Rattle.ct_sexpr.specs.Token.{opening, closing, symbol};
+ghost use Rattle.ct_sexpr.specs.Token.{opening, closing};
 ghost use Rattle.ct_sexpr.specs.Expression.{tokens_of};
 ghost use Rattle.ct_sexpr.specs.View.{expression_of};
 ghost use Rattle.ct_sexpr.specs.Open.{none_open};
 
-use crate::bytes::Bytes;
 use crate::error::ReadError;
 use crate::sexpr::Sexpr;
 use std::alloc::Global;
@@ -30,7 +29,7 @@ impl Model for OpenLists {
 impl OpenLists {
     /// No list is open.
     pub(crate) fn new(alloc: Global) -> OpenLists
-        ensures { result ≡ none_open }
+        ensures bare { result ≡ none_open }
     {
         OpenLists {
             lists: Vec::new(alloc),
@@ -39,7 +38,7 @@ impl OpenLists {
 
     /// How many lists are open.
     pub(crate) fn depth(&self) -> usize
-        ensures { result ≡ self.now.depth }
+        ensures depth { result ≡ self.now.depth }
     {
         self.lists.len()
     }
@@ -54,9 +53,9 @@ impl OpenLists {
         Ok(())
     }
 
-    /// Puts a symbol into the innermost list. Where none is open, nothing is done.
-    pub(crate) fn add_symbol(&mut self, alloc: Global, word: &[u8]) -> Result<(), ReadError>
-        ensures ok { 0 < self.old.depth → OnOk result (self.new ≡ record { tokens = self.old.tokens ++ symbol word.now ∷ []; depth = self.old.depth }) }
+    /// Puts an item into the innermost list. Where none is open, nothing is done.
+    pub(crate) fn add(&mut self, item: Sexpr) -> Result<(), ReadError>
+        ensures ok { 0 < self.old.depth → OnOk result (self.new ≡ record { tokens = self.old.tokens ++ tokens_of (expression_of item); depth = self.old.depth }) }
         ensures refused { OnErr result (self.new ≡ self.old) }
         ensures err { IfErr result (λ e. e ≡ ReadError.NoMemory) }
     {
@@ -64,14 +63,13 @@ impl OpenLists {
         if depth == 0 {
             return Ok(());
         }
-        let bytes = Bytes::new(Vec::from_slice(alloc, word)?);
-        self.lists[depth - 1].push(Sexpr::Symbol(bytes))?;
+        self.lists[depth - 1].push(item)?;
         Ok(())
     }
 
     /// Closes the innermost list, which becomes an item of the one around it.
     pub(crate) fn close(&mut self) -> Result<(), ReadError>
-        requires { 1 < self.old.depth }
+        requires inner { 1 < self.old.depth }
         ensures ok { OnOk result (self.new ≡ record { tokens = self.old.tokens ++ closing ∷ []; depth = self.old.depth - 1 }) }
         ensures refused { OnErr result (self.new ≡ self.old) }
         ensures err { IfErr result (λ e. e ≡ ReadError.NoMemory) }
@@ -87,7 +85,7 @@ impl OpenLists {
 
     /// Closes the one list that is open, which is the command.
     pub(crate) fn finish(&mut self) -> Sexpr
-        requires { self.old.depth ≡ 1 }
+        requires one { self.old.depth ≡ 1 }
         ensures command { tokens_of (expression_of result) ≡ self.old.tokens ++ closing ∷ [] }
         ensures after { self.new ≡ none_open }
     {

@@ -1,4 +1,5 @@
-ghost use Rattle.std.specs.Prelude.{◌≡◌, ◌+◌, ◌^◌, ◌<◌, [], ◌++◌, true, false, length, OnOk, OnErr, IfOk, IfErr};
+ghost use Rattle.std.specs.Prelude.{◌≡◌, ℕ, ◌+◌, ◌^◌, ◌<◌, List, [], ◌++◌, true, false, length, OnOk, OnErr, IfOk, IfErr};
+ghost use Rattle.ct_sexpr.specs.Scanning.{Reached};
 ghost use Rattle.ct_sexpr.specs.Answer.{Answers};
 
 use crate::error::ReadError;
@@ -18,14 +19,11 @@ pub enum Next {
         /// The line, counted from 1.
         line: u64,
     },
-    /// No whole command has been fed, and the input has not ended.
+    /// No further whole command has been fed, no error stands, and the input has not ended.
     Need,
     /// The input has ended, and nothing but blanks and comments is left.
     End,
 }
-
-/// The number of the lexical error for bytes that begin no command.
-const NO_COMMAND: u16 = 59;
 
 /// Reads commands from bytes that are fed in any pieces.
 ///
@@ -91,7 +89,7 @@ impl Reader {
 
     /// Drops the bytes of commands that were given, where they are more than those that are left.
     fn drop_given(&mut self)
-        ensures { self.new ≡ self.old }
+        ensures same { self.new ≡ self.old }
     {
         if self.start > self.buffer.len() - self.start {
             self.buffer.drain(..self.start);
@@ -102,23 +100,25 @@ impl Reader {
 
     /// Says that the input has ended.
     pub fn end(&mut self)
-        ensures { self.new ≡ record self.old { ended = true } }
+        ensures over { self.new ≡ record self.old { ended = true } }
     {
         self.ended = true;
     }
 
-    /// Gives the next whole command. After an error that is not `NoMemory` each later call gives the same.
+    /// Gives the next whole command. `Need` comes where the input has not ended, no lexical error stands and no
+    /// further whole command was fed; `End` where the input has ended and nothing but blanks and comments is left. A
+    /// lexical error has its number, 1 to 6, and its line, as `ReadError` says; an error of a word, a keyword or a
+    /// literal stands once a byte is there behind its word bytes, that the input ends inside a command once it has
+    /// ended, and every other error at once. After one each later call gives the same, or `NoMemory`, which changes nothing.
     pub fn next(&mut self) -> Result<Next, ReadError>
-        ensures { Answers self.old self.new result }
+        ensures answers { Answers self.old self.new result }
     {
         let unread = &self.buffer[self.scanned..];
         let Scanned { count, outcome } = scan_bytes(&mut self.scanner, unread);
         self.scanned += count;
         match outcome? {
-            Step::Going if !self.ended => Ok(Next::Need),
-            Step::Going if !self.scanner.is_open() => Ok(Next::End),
-            Step::Going => Err(no_command(self.lines + self.scanner.begun())),
-            Step::Wrong => Err(no_command(self.lines + self.scanner.lines_before())),
+            Step::Going => next_at_end(&self.scanner, self.lines, self.ended),
+            Step::Wrong(code) => Err(lexical(code, self.lines + self.scanner.lines_read())),
             Step::Command(expr) => {
                 let line = self.lines + self.scanner.begun() + 1;
                 self.lines += self.scanner.take_line_feeds();
@@ -129,13 +129,29 @@ impl Reader {
     }
 }
 
-/// The error for bytes that begin no command, where so many lines end before the first of them.
-fn no_command(lines: u64) -> ReadError
-    requires { lines + 1 < 2 ^ 64 }
-    ensures { result ≡ ReadError.Lexical 59 (lines + 1) }
+/// What there is behind bytes that a scanner has read whole, and that complete no command. They begin behind so many
+/// lines.
+fn next_at_end(scanner: &Scanner, lines: u64, ended: bool) -> Result<Next, ReadError>
+    requires read { (whole : List ℕ) × Reached scanner.now whole [] × (lines + length whole < 2 ^ 64) }
+    ensures answers { (whole : List ℕ) (fed : ℕ) → Reached scanner.now whole [] →
+        Answers (record { bytes = whole; line = lines + 1; fed = fed; ended = ended }) (record { bytes = whole; line = lines + 1; fed = fed; ended = ended }) result }
+{
+    if !ended {
+        return Ok(Next::Need);
+    }
+    match scanner.error_at_end() {
+        Some(code) => Err(lexical(code, lines + scanner.lines_read())),
+        None => Ok(Next::End),
+    }
+}
+
+/// The error with this number, where so many lines end before it.
+fn lexical(code: u16, lines: u64) -> ReadError
+    requires few { lines + 1 < 2 ^ 64 }
+    ensures error { result ≡ ReadError.Lexical code (lines + 1) }
 {
     ReadError::Lexical {
-        code: NO_COMMAND,
+        code,
         line: lines + 1,
     }
 }

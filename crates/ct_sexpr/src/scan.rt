@@ -13,9 +13,9 @@ pub(crate) struct Scanned {
     pub(crate) outcome: Result<Step, ReadError>,
 }
 
-/// Reads bytes until a command is complete, a byte goes on none, memory runs out or none is left.
+/// Reads bytes until a command is complete, an error stands, memory runs out or none is left.
 pub(crate) fn scan_bytes(scanner: &mut Scanner, bytes: &[u8]) -> Scanned
-    requires { scanner.old.line_feeds + length bytes.now < 2 ^ 64 }
+    requires few { scanner.old.line_feeds + length bytes.now < 2 ^ 64 }
     ensures within { result.count ≤ length bytes.now }
     ensures scans { Scans scanner.old scanner.new bytes.now (drop result.count bytes.now) result.outcome }
 {
@@ -28,10 +28,10 @@ pub(crate) fn scan_bytes(scanner: &mut Scanner, bytes: &[u8]) -> Scanned
                     outcome: Ok(Step::Command(command)),
                 };
             }
-            Ok(Step::Wrong) => {
+            Ok(Step::Wrong(code)) => {
                 return Scanned {
                     count: index,
-                    outcome: Ok(Step::Wrong),
+                    outcome: Ok(Step::Wrong(code)),
                 };
             }
             Err(error) => {

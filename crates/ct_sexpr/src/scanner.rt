@@ -1,15 +1,32 @@
-ghost use Rattle.std.specs.Prelude.{◌≡◌, ℕ, ◌+◌, ◌<◌, ◌≤◌, ◌^◌, nat_lt, true, false, [], ◌∷◌, Ok, OnOk, OnErr, IfErr};
-ghost use Rattle.ct_sexpr.specs.Layout.{line_feeds};
-ghost use Rattle.ct_sexpr.specs.Token.{is_word_byte, begins_symbol};
-ghost use Rattle.ct_sexpr.specs.Scanning.{IsFresh, Steps, Passes, Stays, lines_before};
+ghost use Rattle.std.specs.Prelude.{◌≡◌, ℕ, ◌+◌, ◌<◌, ◌≤◌, ◌^◌, ◌==◌, true, false, [], ◌∷◌, ◌++◌, Ok, Err, OnOk, OnErr, IfErr, IfSome, IfNone};
+ghost use Rattle.ct_sexpr.specs.Layout.{is_blank, line_feeds};
+ghost use Rattle.ct_sexpr.specs.Atom.{Atom, begins_word, atom_of};
+ghost use Rattle.ct_sexpr.specs.Token.{is_between_bars};
+ghost use Rattle.ct_sexpr.specs.Expression.{tokens_of};
+ghost use Rattle.ct_sexpr.specs.View.{expression_of};
+ghost use Rattle.ct_sexpr.specs.Scanning.{IsFresh, Steps, EndsAt, lines_before};
 
 use crate::NESTING_LIMIT;
-use crate::byte_class::{ends_comment, is_blank, is_word_byte, may_follow};
+use crate::atom::{BEGINS_NO_TOKEN, atom, kind_of};
+use crate::byte_class::{begins_atom, ends_comment, is_blank, is_word_byte};
+use crate::bytes::Bytes;
 use crate::error::ReadError;
 use crate::open_lists::OpenLists;
 use crate::sexpr::Sexpr;
 use std::alloc::Global;
 use std::mem;
+
+/// The number of the error for a closing parenthesis that closes nothing.
+const CLOSES_NOTHING: u16 = 2;
+
+/// The number of the error for an input that ends inside a command.
+const ENDS_INSIDE: u16 = 3;
+
+/// The number of the error for a parenthesis that opens one list too many.
+const NESTS_TOO_DEEP: u16 = 4;
+
+/// The number of the error for an atom outside all parentheses.
+const STANDS_OUTSIDE: u16 = 5;
 
 /// What a scanner is inside.
 #[derive(Clone, Copy, Debug, PartialEq, Eq)]
@@ -18,8 +35,14 @@ pub(crate) enum Mode {
     Between,
     /// In a comment.
     Comment,
-    /// In a word, which its next byte may end.
+    /// In a word, a keyword or a literal, which its next byte may end.
     Word,
+    /// Between the bars of a quoted symbol.
+    Quoted,
+    /// In a string.
+    Text,
+    /// Behind a quotation mark in a string, which ends it unless another follows.
+    Mark,
 }
 
 /// What reading one byte gave.
@@ -29,8 +52,9 @@ pub(crate) enum Step {
     Going,
     /// The byte was read, and closes this command.
     Command(Sexpr),
-    /// The byte goes on no command. It was not read, so that it is found again.
-    Wrong,
+    /// The error with this number stands, at the byte or before it. The byte was not read, so that the error is
+    /// found again.
+    Wrong(u16),
 }
 
 /// Reads the bytes of commands one at a time.
@@ -38,6 +62,7 @@ pub(crate) enum Step {
 pub(crate) struct Scanner {
     lists: OpenLists,
     mode: Mode,
+    /// The bytes so far of the atom that the scanner is inside, without bars and outer quotation marks.
     word: Vec<u8>,
     /// How many lines ended in the bytes read since the last command.
     line_feeds: u64,
@@ -63,8 +88,8 @@ impl Scanner {
     }
 
     /// How many lines ended before the command that is open, or where none is, before the next byte.
-    pub(crate) fn lines_before(&self) -> u64
-        ensures { result ≡ lines_before self.now }
+    fn lines_before(&self) -> u64
+        ensures lines { result ≡ lines_before self.now }
     {
         if self.lists.depth() == 0 {
             self.line_feeds
@@ -75,16 +100,16 @@ impl Scanner {
 
     /// How many lines ended before the command that was begun last.
     pub(crate) fn begun(&self) -> u64
-        ensures { result ≡ self.now.before }
+        ensures lines { result ≡ self.now.before }
     {
         self.before
     }
 
-    /// Whether a list is open.
-    pub(crate) fn is_open(&self) -> bool
-        ensures { result ≡ nat_lt 0 self.now.lists.depth }
+    /// How many lines ended in the bytes read since the last command.
+    pub(crate) fn lines_read(&self) -> u64
+        ensures lines { result ≡ self.now.line_feeds }
     {
-        0 < self.lists.depth()
+        self.line_feeds
     }
 
     /// How many lines ended since the last command; from here they are counted anew.
@@ -95,24 +120,48 @@ impl Scanner {
         mem::replace(&mut self.line_feeds, 0)
     }
 
+    /// The number of the error where the input ends here. `None` where nothing but blanks and comments was read.
+    pub(crate) fn error_at_end(&self) -> Option<u16>
+        ensures ends { EndsAt self.now result }
+    {
+        match self.error_of_word() {
+            Some(code) => Some(code),
+            None if self.lists.depth() == 0 => None,
+            None => Some(ENDS_INSIDE),
+        }
+    }
+
+    /// The number of the error of the word that the scanner is inside, if it ends here.
+    fn error_of_word(&self) -> Option<u16>
+        ensures found { IfSome result (λ code. (self.now.mode ≡ Mode.Word) × (atom_of self.now.word.items ≡ Err code)) }
+        ensures none { IfNone result (self.now.mode ≡ Mode.Word → (a : Atom) × (atom_of self.now.word.items ≡ Ok a)) }
+    {
+        match self.mode {
+            Mode::Word => kind_of(&self.word).err(),
+            Mode::Between | Mode::Comment | Mode::Quoted | Mode::Text | Mode::Mark => None,
+        }
+    }
+
     /// Reads one byte. On an error the byte was not read.
     pub(crate) fn step(&mut self, byte: u8) -> Result<Step, ReadError>
-        requires { self.old.line_feeds + 1 < 2 ^ 64 }
+        requires few { self.old.line_feeds + 1 < 2 ^ 64 }
         ensures steps { Steps self.old self.new byte result }
         ensures lines { self.new.line_feeds ≤ self.old.line_feeds + 1 }
     {
         match self.mode {
-            Mode::Comment => Ok(self.step_in_comment(byte)),
-            Mode::Word if is_word_byte(byte) => self.add_to_word(byte),
-            Mode::Word => self.step_behind_word(byte),
             Mode::Between => self.step_between(byte),
+            Mode::Comment => Ok(self.step_in_comment(byte)),
+            Mode::Word => self.step_in_word(byte),
+            Mode::Quoted => self.step_between_bars(byte),
+            Mode::Text => self.step_in_text(byte),
+            Mode::Mark => self.step_behind_mark(byte),
         }
     }
 
     /// Counts the byte.
     fn count(&mut self, byte: u8)
-        requires { self.old.line_feeds + 1 < 2 ^ 64 }
-        ensures { self.new ≡ record self.old { line_feeds = self.old.line_feeds + line_feeds (byte ∷ []) } }
+        requires few { self.old.line_feeds + 1 < 2 ^ 64 }
+        ensures counted { self.new ≡ record self.old { line_feeds = self.old.line_feeds + line_feeds (byte ∷ []) } }
     {
         if byte == b'\n' {
             self.line_feeds += 1;
@@ -132,30 +181,98 @@ impl Scanner {
         Step::Going
     }
 
-    fn step_behind_word(&mut self, byte: u8) -> Result<Step, ReadError>
+    fn step_in_word(&mut self, byte: u8) -> Result<Step, ReadError>
         requires mode { self.old.mode ≡ Mode.Word }
-        requires ends { is_word_byte byte ≡ false }
         requires few { self.old.line_feeds + 1 < 2 ^ 64 }
         ensures steps { Steps self.old self.new byte result }
         ensures lines { self.new.line_feeds ≤ self.old.line_feeds + 1 }
     {
-        self.end_word()?;
+        if is_word_byte(byte) {
+            self.word.push(byte)?;
+            return Ok(Step::Going);
+        }
+        match kind_of(&self.word) {
+            Ok(kind) => {
+                let item = atom(self.alloc, kind, &self.word)?;
+                self.end_atom(item)?;
+                self.step_between(byte)
+            }
+            Err(code) => Ok(Step::Wrong(code)),
+        }
+    }
+
+    fn step_between_bars(&mut self, byte: u8) -> Result<Step, ReadError>
+        requires mode { self.old.mode ≡ Mode.Quoted }
+        requires few { self.old.line_feeds + 1 < 2 ^ 64 }
+        ensures steps { Steps self.old self.new byte result }
+        ensures lines { self.new.line_feeds ≤ self.old.line_feeds + 1 }
+    {
+        match byte {
+            b'\\' => Ok(Step::Wrong(BEGINS_NO_TOKEN)),
+            b'|' => {
+                let name = Bytes::new(Vec::from_slice(self.alloc, &self.word)?);
+                self.end_atom(Sexpr::Quoted(name))?;
+                Ok(Step::Going)
+            }
+            _ => self.add_to_word(byte),
+        }
+    }
+
+    fn step_in_text(&mut self, byte: u8) -> Result<Step, ReadError>
+        requires mode { self.old.mode ≡ Mode.Text }
+        requires few { self.old.line_feeds + 1 < 2 ^ 64 }
+        ensures steps { Steps self.old self.new byte result }
+        ensures lines { self.new.line_feeds ≤ self.old.line_feeds + 1 }
+    {
+        if byte == b'"' {
+            self.mode = Mode::Mark;
+            return Ok(Step::Going);
+        }
+        self.add_to_word(byte)
+    }
+
+    fn step_behind_mark(&mut self, byte: u8) -> Result<Step, ReadError>
+        requires mode { self.old.mode ≡ Mode.Mark }
+        requires few { self.old.line_feeds + 1 < 2 ^ 64 }
+        ensures steps { Steps self.old self.new byte result }
+        ensures lines { self.new.line_feeds ≤ self.old.line_feeds + 1 }
+    {
+        if byte == b'"' {
+            self.word.push(byte)?;
+            self.mode = Mode::Text;
+            return Ok(Step::Going);
+        }
+        let content = Bytes::new(Vec::from_slice(self.alloc, &self.word)?);
+        self.end_atom(Sexpr::Text(content))?;
         self.step_between(byte)
     }
 
-    /// Puts the word that ends here into the innermost list.
-    fn end_word(&mut self) -> Result<(), ReadError>
-        requires { self.old.mode ≡ Mode.Word }
-        ensures ok { OnOk result ((b : ℕ) → is_word_byte b ≡ false → Stays self.old self.new b) }
-        ensures between { OnOk result (self.new.mode ≡ Mode.Between) }
+    /// Puts the atom that ends here into the innermost list.
+    fn end_atom(&mut self, item: Sexpr) -> Result<(), ReadError>
+        ensures lists { 0 < self.old.lists.depth → OnOk result (self.new.lists ≡ record { tokens = self.old.lists.tokens ++ tokens_of (expression_of item); depth = self.old.lists.depth }) }
+        ensures mode { OnOk result (self.new.mode ≡ Mode.Between) }
+        ensures word { OnOk result (self.new.word.items ≡ []) }
         ensures lines { self.new.line_feeds ≡ self.old.line_feeds }
-        ensures refused { OnErr result ((b : ℕ) → Stays self.old self.new b) }
+        ensures before { self.new.before ≡ self.old.before }
+        ensures refused { OnErr result (self.new ≡ self.old) }
         ensures err { IfErr result (λ e. e ≡ ReadError.NoMemory) }
     {
-        self.lists.add_symbol(self.alloc, &self.word)?;
+        self.lists.add(item)?;
         self.word.clear();
         self.mode = Mode::Between;
         Ok(())
+    }
+
+    /// Reads a byte of a quoted symbol or a string, which may end a line.
+    fn add_to_word(&mut self, byte: u8) -> Result<Step, ReadError>
+        requires few { self.old.line_feeds + 1 < 2 ^ 64 }
+        ensures quoted { self.old.mode ≡ Mode.Quoted → is_between_bars byte ≡ true → Steps self.old self.new byte result }
+        ensures text { self.old.mode ≡ Mode.Text → (byte == 34) ≡ false → Steps self.old self.new byte result }
+        ensures lines { self.new.line_feeds ≤ self.old.line_feeds + 1 }
+    {
+        self.word.push(byte)?;
+        self.count(byte);
+        Ok(Step::Going)
     }
 
     fn step_between(&mut self, byte: u8) -> Result<Step, ReadError>
@@ -164,31 +281,30 @@ impl Scanner {
         ensures steps { Steps self.old self.new byte result }
         ensures lines { self.new.line_feeds ≤ self.old.line_feeds + 1 }
     {
-        if byte == b';' {
-            self.mode = Mode::Comment;
-            return Ok(Step::Going);
-        }
         if is_blank(byte) {
             self.count(byte);
             return Ok(Step::Going);
         }
-        if !may_follow(self.lists.depth(), byte) {
-            return Ok(Step::Wrong);
-        }
         match byte {
+            b';' => {
+                self.mode = Mode::Comment;
+                Ok(Step::Going)
+            }
             b'(' => self.open_list(),
             b')' => self.close_list(),
-            _ => self.add_to_word(byte),
+            _ => self.begin_atom(byte),
         }
     }
 
     /// Reads an opening parenthesis.
     fn open_list(&mut self) -> Result<Step, ReadError>
         requires mode { self.old.mode ≡ Mode.Between }
-        requires room { self.old.lists.depth < NESTING_LIMIT }
         ensures steps { Steps self.old self.new 40 result }
         ensures lines { self.new.line_feeds ≡ self.old.line_feeds }
     {
+        if self.lists.depth() >= NESTING_LIMIT {
+            return Ok(Step::Wrong(NESTS_TOO_DEEP));
+        }
         let before = self.lines_before();
         self.lists.open(self.alloc)?;
         self.before = before;
@@ -198,21 +314,54 @@ impl Scanner {
     /// Reads a closing parenthesis.
     fn close_list(&mut self) -> Result<Step, ReadError>
         requires mode { self.old.mode ≡ Mode.Between }
-        requires within { 0 < self.old.lists.depth }
         ensures steps { Steps self.old self.new 41 result }
         ensures lines { self.new.line_feeds ≡ self.old.line_feeds }
     {
-        if self.lists.depth() == 1 {
-            return Ok(Step::Command(self.lists.finish()));
+        match self.lists.depth() {
+            0 => Ok(Step::Wrong(CLOSES_NOTHING)),
+            1 => Ok(Step::Command(self.lists.finish())),
+            _ => {
+                self.lists.close()?;
+                Ok(Step::Going)
+            }
         }
-        self.lists.close()?;
-        Ok(Step::Going)
     }
 
-    /// Reads a byte of a word, its first or a later one.
-    fn add_to_word(&mut self, byte: u8) -> Result<Step, ReadError>
-        ensures begun { self.old.mode ≡ Mode.Between → begins_symbol byte ≡ true → 0 < self.old.lists.depth → Steps self.old self.new byte result }
-        ensures grown { self.old.mode ≡ Mode.Word → is_word_byte byte ≡ true → Steps self.old self.new byte result }
+    /// Reads a byte that is no blank and no parenthesis and begins no comment. It begins an atom, or no token.
+    fn begin_atom(&mut self, byte: u8) -> Result<Step, ReadError>
+        requires mode { self.old.mode ≡ Mode.Between }
+        requires no_blank { is_blank byte ≡ false }
+        requires no_comment { (byte == 59) ≡ false }
+        requires no_opening { (byte == 40) ≡ false }
+        requires no_closing { (byte == 41) ≡ false }
+        ensures steps { Steps self.old self.new byte result }
+        ensures lines { self.new.line_feeds ≡ self.old.line_feeds }
+    {
+        if !begins_atom(byte) {
+            return Ok(Step::Wrong(BEGINS_NO_TOKEN));
+        }
+        if self.lists.depth() == 0 {
+            return Ok(Step::Wrong(STANDS_OUTSIDE));
+        }
+        match byte {
+            b'|' => {
+                self.mode = Mode::Quoted;
+                Ok(Step::Going)
+            }
+            b'"' => {
+                self.mode = Mode::Text;
+                Ok(Step::Going)
+            }
+            _ => self.begin_word(byte),
+        }
+    }
+
+    /// Reads the first byte of a word, a keyword or a literal.
+    fn begin_word(&mut self, byte: u8) -> Result<Step, ReadError>
+        requires mode { self.old.mode ≡ Mode.Between }
+        requires first { begins_word byte ≡ true }
+        requires within { 0 < self.old.lists.depth }
+        ensures steps { Steps self.old self.new byte result }
         ensures lines { self.new.line_feeds ≡ self.old.line_feeds }
     {
         self.word.push(byte)?;

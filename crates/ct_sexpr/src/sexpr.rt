@@ -1,27 +1,48 @@
-ghost use Rattle.std.specs.Prelude.{◌≡◌, ◌≢◌, ℕ, List, IfSome, IfNone, ◌⊎◌};
-ghost use Rattle.ct_sexpr.specs.Expression.{Expression, Expressions, word, list};
+ghost use Rattle.std.specs.Prelude.{◌≡◌, ◌≢◌, ℕ, List, IfSome, IfNone};
+ghost use Rattle.ct_sexpr.specs.Expression.{Expressions, word, list};
 ghost use Rattle.ct_sexpr.specs.View.{expression_of, expressions_of};
 
 use crate::bytes::Bytes;
 
-/// An expression as it was read.
+/// An expression as it was read (SMT-LIB 2.7, sections 3.1 and 3.2).
 #[derive(Debug, Drop)]
 pub enum Sexpr {
     /// A symbol that is written plain.
     Symbol(Bytes),
+    /// A symbol that is written between bars, without them.
+    Quoted(Bytes),
+    /// A keyword, with its colon.
+    Keyword(Bytes),
+    /// What a string says: without its marks, and with each mark inside it once.
+    Text(Bytes),
+    /// The value of a numeral.
+    Numeral(u128),
+    /// A decimal, as it was written.
+    Decimal(Bytes),
+    /// A binary literal, as it was written, from `#b` on.
+    Binary(Bytes),
+    /// A hexadecimal literal, as it was written, from `#x` on.
+    Hex(Bytes),
     /// A list in parentheses.
     List(Vec<Sexpr>),
 }
 
 impl Sexpr {
-    /// The bytes of a symbol.
+    /// The bytes of a symbol that is written plain.
     pub fn as_symbol(&self) -> Option<&[u8]>
         ensures found { IfSome result (λ bytes. expression_of self.now ≡ word bytes.now) }
         ensures none { IfNone result ((bytes : List ℕ) → expression_of self.now ≢ word bytes) }
     {
         match self {
             Sexpr::Symbol(bytes) => Some(bytes.as_slice()),
-            Sexpr::List(_) => None,
+            Sexpr::Quoted(_)
+            | Sexpr::Keyword(_)
+            | Sexpr::Text(_)
+            | Sexpr::Numeral(_)
+            | Sexpr::Decimal(_)
+            | Sexpr::Binary(_)
+            | Sexpr::Hex(_)
+            | Sexpr::List(_) => None,
         }
     }
 
@@ -32,8 +53,15 @@ impl Sexpr {
         ensures none { IfNone result ((items : Expressions) → expression_of self.now ≢ list items) }
     {
         match self {
-            Sexpr::Symbol(_) => None,
             Sexpr::List(items) => Some(items.as_slice()),
+            Sexpr::Symbol(_)
+            | Sexpr::Quoted(_)
+            | Sexpr::Keyword(_)
+            | Sexpr::Text(_)
+            | Sexpr::Numeral(_)
+            | Sexpr::Decimal(_)
+            | Sexpr::Binary(_)
+            | Sexpr::Hex(_) => None,
         }
     }
 }

@@ -253,3 +253,28 @@ fn keeps_names_that_share_a_bucket(rt: HostRuntime) -> Result<(), Fail> {
     assert_eq!(rt; table.name(0), b"".as_slice());
     Ok(())
 }
+
+#[test]
+fn errors_have_their_texts(rt: HostRuntime) -> Result<(), Fail> {
+    let table = error_texts();
+    let cases: [(u16, &[u8]); 14] = [
+        (0, b""),
+        (1, b"byte begins no token"),
+        (6, b"numeral above 128 bits"),
+        (7, b""),
+        (11, b"name taken"),
+        (19, b"sort of constructor not determined"),
+        (31, b"quantifier over too many values"),
+        (32, b""),
+        (41, b"derivation form"),
+        (47, b"datatype value is cyclic"),
+        (51, b"pop above the levels"),
+        (57, b"wrong form"),
+        (59, b"form not built yet"),
+        (60, b""),
+    ];
+    for (number, text) in cases {
+        assert_eq!(rt; error_text(&table, number), text, "{number}");
+    }
+    Ok(())
+}

@@ -1,12 +1,12 @@
 use Rattle.std.proofs.Common.{◌≡◌, ℕ, ◌<◌, List, [], length, Result, Err, inl, inr, ap, sym, subst, ◌∙◌, arith}
 use Rattle.std.proofs.lemmas.List.{length-map}
 use Rattle.ct_sorts.specs.Declarations.{Function, names, bool_sort, with_function, most_functions}
-use Rattle.ct_sorts.specs.Names.{IsListed}
 use Rattle.ct_sorts.specs.declared.ids.SortId.{SortId}
 use Rattle.ct_sorts.specs.declared.ids.FunId.{FunId}
 use Rattle.ct_sorts.specs.declared.error.SigError.{SigError}
 use Rattle.ct_sorts.specs.declared.error.SigError.TheVariants.{Refused}
-use Rattle.cosmt.specs.Command.{MayDeclare, reserved_words}
+use Rattle.ct_sexpr.specs.Written.{is_reserved}
+use Rattle.cosmt.specs.Command.{MayDeclare}
 use Rattle.cosmt.proofs.SessionLemmas.{below_not_past}
 use Rattle.cosmt.proofs.session.add_constant.Goals as goal
 
@@ -15,7 +15,7 @@ returns-in-Ok-clause-added c =
     let d = c.args.signature.now in
     let named = c.in_ok-name.ensures in
     let may : MayDeclare (names d) c.in_ok-name.name = record {
-      free = λ h. let told = c.is_reserved.ensures.1 (subst (λ (n : List ℕ). IsListed reserved_words n) named h) in cc;
+      free = ap is_reserved named ∙ sym c.is_reserved.ensures.reserved ∙ c.if-is_reserved.false;
       available = λ h. let e = c.in-Ok.ensures.taken.1 h in cc;
       few = let room : length d.functions < most_functions = below_not_past _ _ (λ past. let e = c.in-Ok.ensures.full.1 ((λ h. let e = c.in-Ok.ensures.taken.1 h in cc), past) in cc) in omega (arith, room, length-map d.functions (λ (f : Function). f.name));
     } in (

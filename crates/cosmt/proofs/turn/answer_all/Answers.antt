@@ -3,8 +3,8 @@ use Rattle.cosmt.specs.Progress.{Kept, kept}
 use Rattle.cosmt.proofs.TurnLemmas.{at_err, Answered-start, Answered-more, Broke-later, Took-start, Took-more}
 use Rattle.cosmt.proofs.turn.answer_all.Goals as goal
 
-pub loop-line-init : goal.loop-line-init
-loop-line-init g c = record {
+pub loop-error-init : goal.loop-error-init
+loop-error-init g c = record {
   answered = Answered-start _ _;
   took = Took-start _ c.requires;
   later = omega arith;
@@ -13,18 +13,18 @@ loop-line-init g c = record {
 pub returns-in_err-take_turn-clause-broke : goal.returns-in_err-take_turn-clause-broke
 returns-in_err-take_turn-clause-broke g c =
     let old : Kept = kept c.args.session.now c.args.verdicts.now.items (g.K.Sink.written c.args.out.now) in
-    let mid : Kept = kept c.loop-line.session c.loop-line.verdicts.items (g.K.Sink.written c.loop-line.out) in
+    let mid : Kept = kept c.loop-error.session c.loop-error.verdicts.items (g.K.Sink.written c.loop-error.out) in
     let new : Kept = kept c.take_turn.new.session c.take_turn.new.verdicts.items (g.K.Sink.written c.take_turn.new.out) in
-    at_err c.from_residual.result (Broke-later old mid new c.args.reader.now.bytes c.loop-line.reader.bytes c.loop-line.invariant.answered c.in_err-take_turn.ensures.broke)
+    at_err c.from_residual.result (Broke-later old mid new c.args.reader.now.bytes c.loop-error.reader.bytes c.loop-error.invariant.answered c.in_err-take_turn.ensures.broke)
 
-pub loop-line-preserved : goal.loop-line-preserved
-loop-line-preserved g c =
+pub loop-error-preserved : goal.loop-error-preserved
+loop-error-preserved g c =
     let old : Kept = kept c.args.session.now c.args.verdicts.now.items (g.K.Sink.written c.args.out.now) in
-    let mid : Kept = kept c.loop-line.session c.loop-line.verdicts.items (g.K.Sink.written c.loop-line.out) in
+    let mid : Kept = kept c.loop-error.session c.loop-error.verdicts.items (g.K.Sink.written c.loop-error.out) in
     let new : Kept = kept c.take_turn.new.session c.take_turn.new.verdicts.items (g.K.Sink.written c.take_turn.new.out) in
     let turned = rw c.in-Answered.is at c.in_ok-take_turn.ensures.turned in
     record {
-      answered = Answered-more old mid new c.args.reader.now.bytes c.loop-line.reader.bytes c.take_turn.new.reader.bytes c.loop-line.invariant.answered turned.0;
-      took = Took-more c.args.reader.now c.loop-line.reader c.take_turn.new.reader c.loop-line.invariant.took turned.1;
-      later = omega (arith, c.loop-line.invariant.later, c.in_ok-take_turn.ensures.cause.later);
+      answered = Answered-more old mid new c.args.reader.now.bytes c.loop-error.reader.bytes c.take_turn.new.reader.bytes c.loop-error.invariant.answered turned.0;
+      took = Took-more c.args.reader.now c.loop-error.reader c.take_turn.new.reader c.loop-error.invariant.took turned.1;
+      later = omega (arith, c.loop-error.invariant.later, c.in_ok-take_turn.ensures.cause.later);
     }

@@ -3,12 +3,12 @@ use Rattle.cosmt.specs.Progress.{kept, Answered}
 use Rattle.cosmt.specs.Turns.{Took}
 use Rattle.cosmt.proofs.turn.answer_all.Given as goal
 
-abbrev pub invariant-loop-line : goal.invariant-loop-line
-invariant-loop-line g l = record {
+abbrev pub invariant-loop-error : goal.invariant-loop-error
+invariant-loop-error g l = record {
   answered : Answered (kept l.initial.session l.initial.verdicts.items (g.K.Sink.written l.initial.out)) l.initial.reader.bytes (kept l.session l.verdicts.items (g.K.Sink.written l.out)) l.reader.bytes;
   took : Took l.initial.reader l.reader;
   later : g.K.Sink.faults l.initial.out ≤ g.K.Sink.faults l.out;
 }
 
-abbrev pub decreases-loop-line : goal.decreases-loop-line
-decreases-loop-line g l = length l.reader.bytes
+abbrev pub decreases-loop-error : goal.decreases-loop-error
+decreases-loop-error g l = length l.reader.bytes

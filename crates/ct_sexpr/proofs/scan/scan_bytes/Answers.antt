@@ -27,7 +27,7 @@ returns-in-Ok-Wrong-clause-scans c =
     let i = c.loop-index.index in
     let d = drop_more xs i 0 c.loop-index-test.true in
     let step = rw c.in-Ok-Wrong.field-0-is at c.in-Ok-Wrong.ensures.steps in
-    λ whole more r. subst (λ l. Refutes c.step.new.self whole (l ++ more)) (sym d)
+    λ whole more r. subst (λ l. Refutes c.step.new.self c.in-Ok-Wrong.code whole (l ++ more)) (sym d)
     (step whole (drop (i + 1) xs ++ more) (subst (λ l. Reached c.loop-index.scanner whole (l ++ more)) d (c.loop-index.invariant.1 whole more r)))
 
 pub returns-in-Err-clause-scans : goal.returns-in-Err-clause-scans

@@ -1,15 +1,15 @@
-use Rattle.std.proofs.Common.{◌≡◌, ◌+◌, ◌-◌, ◌<◌, ◌^◌, [], ◌++◌, true, false, ℕ, length, drop, take, Ok, Err, sym, ap, ◌∙◌, arith, length-drop, nat_lt}
+use Rattle.std.proofs.Common.{◌≡◌, ◌+◌, ◌-◌, ◌<◌, ◌^◌, [], ◌++◌, ℕ, length, drop, take, Ok, Err, ap, ◌∙◌, arith, length-drop}
 use Rattle.std.proofs.lemmas.List.{take_rest}
-use Rattle.std.proofs.lemmas.Bool.Decides.{nat_tests}
 use Rattle.ct_sexpr.specs.View.{expression_of}
 use Rattle.ct_sexpr.specs.Buffered.{IsBuffered}
-use Rattle.ct_sexpr.specs.Scanning.{Reached, Refutes, Completes, BeginsBehind, lines_before}
+use Rattle.ct_sexpr.specs.Scanning.{Reached, Refutes, Completes, BeginsBehind}
 use Rattle.ct_sexpr.specs.declared.sexpr.Sexpr.{Sexpr}
 use Rattle.ct_sexpr.specs.declared.scanner.Step.TheVariants.{Going, Command, Wrong}
 use Rattle.ct_sexpr.specs.declared.error.ReadError.{ReadError}
 use Rattle.ct_sexpr.specs.declared.error.ReadError.TheVariants.{NoMemory}
 use Rattle.ct_sexpr.proofs.Buffers.{buffered-give, fresh_again, reached_now, scanned_failed, scanned_all, scanned_wrong, scanned_command}
-use Rattle.ct_sexpr.proofs.Given.{gives, needs, ends_here, ends_inside, refuses}
+use Rattle.ct_sexpr.proofs.Decided.{standing_is_error}
+use Rattle.ct_sexpr.proofs.Given.{line_fits, gives, refuses}
 use Rattle.ct_sexpr.proofs.reader.Reader.next.Goals as goal
 use Rattle.ct_sexpr.proofs.reader.Reader.next.Goals.{After-scan_bytes-count}
 
@@ -19,7 +19,7 @@ scan_bytes-count-requires c =
     let xs = c.deref.result.now in
     let few = (reached_now i.buffer.items i.start i.scanned i.scanner i.lines i.fed c.self.invariant).lines.few in
     let size : length (take (length xs - i.scanned) (drop i.scanned xs)) ≡ length (drop i.scanned i.buffer.items) = ap length (take_rest xs i.scanned ∙ ap (drop i.scanned) c.deref.ensures.value) in
-    omega (arith, length-drop i.start i.buffer.items, ap length c.deref.ensures.value)
+    record { few = omega (arith, length-drop i.start i.buffer.items, ap length c.deref.ensures.value) }
 
 is_unread : (c : After-scan_bytes-count) →
     take (length c.deref.result.now - c.self.inside.scanned) (drop c.self.inside.scanned c.deref.result.now) ≡ drop c.self.inside.scanned c.self.inside.buffer.items
@@ -34,9 +34,9 @@ all : (c : After-scan_bytes-count) → c.scan_bytes-count.result.outcome ≡ Ok 
     × Reached c.scan_bytes-count.new.scanner (drop c.self.inside.start c.self.inside.buffer.items) []
 all c = scanned_all _ _ _ _ _ _ _ _ _ _ c.self.invariant (is_unread c) c.scan_bytes-count.ensures.within c.scan_bytes-count.ensures.scans
 
-wrong : (c : After-scan_bytes-count) → c.scan_bytes-count.result.outcome ≡ Ok Wrong →
+wrong : (c : After-scan_bytes-count) (code : ℕ) → c.scan_bytes-count.result.outcome ≡ Ok (Wrong code) →
     IsBuffered c.self.inside.buffer.items c.self.inside.start (c.self.inside.scanned + c.scan_bytes-count.result.count) c.scan_bytes-count.new.scanner c.self.inside.lines c.self.inside.fed
-    × Refutes c.scan_bytes-count.new.scanner (drop c.self.inside.start c.self.inside.buffer.items)
+    × Refutes c.scan_bytes-count.new.scanner code (drop c.self.inside.start c.self.inside.buffer.items)
     (drop c.scan_bytes-count.result.count (take (length c.deref.result.now - c.self.inside.scanned) (drop c.self.inside.scanned c.deref.result.now)) ++ [])
 wrong c = scanned_wrong _ _ _ _ _ _ _ _ _ _ c.self.invariant (is_unread c) c.scan_bytes-count.ensures.within c.scan_bytes-count.ensures.scans
 
@@ -49,50 +49,35 @@ command c = scanned_command _ _ _ _ _ _ _ _ _ _ c.self.invariant (is_unread c) c
 fits : (c : After-scan_bytes-count) (n : ℕ) → BeginsBehind n (drop c.self.inside.start c.self.inside.buffer.items) → c.self.inside.lines + n + 1 < 2 ^ 64
 fits c n b = omega (arith, b.few, c.self.invariant.few)
 
-is_deep : (depth : ℕ) → nat_lt 0 depth ≡ true → 0 < depth
-is_deep depth e = grind (arith, nat_tests)
-
-is_bare : (depth : ℕ) → nat_lt 0 depth ≡ false → depth ≡ 0
-is_bare depth e = grind (arith, nat_tests)
-
 pub invariant_of-self : goal.invariant_of-self
 invariant_of-self c = (failed (goal.at.invariant_of-self c).After-scan_bytes-count c.in_err-outcome.field-0.0 c.in_err-outcome.was).1
 
-pub invariant_of-self-then-not-self : goal.invariant_of-self-then-not-self
-invariant_of-self-then-not-self c = (all (goal.at.invariant_of-self-then-not-self c).After-scan_bytes-count (c.in_ok-outcome.was ∙ ap Ok c.in-Going.is)).0
+pub next_at_end-requires : goal.next_at_end-requires
+next_at_end-requires c =
+    let after = (goal.at.next_at_end-requires c).After-scan_bytes-count in
+    let r = (all after (c.in_ok-outcome.was ∙ ap Ok c.in-Going.is)).1 in
+    record { read = (drop c.self.inside.start c.self.inside.buffer.items, r, omega (arith, c.self.invariant.few)) }
 
-pub invariant_of-self-then-not-is_open : goal.invariant_of-self-then-not-is_open
-invariant_of-self-then-not-is_open c = (all (goal.at.invariant_of-self-then-not-is_open c).After-scan_bytes-count (c.in_ok-outcome.was ∙ ap Ok c.in-Going.is)).0
+pub invariant_of-self-in-Going : goal.invariant_of-self-in-Going
+invariant_of-self-in-Going c = (all (goal.at.invariant_of-self-in-Going c).After-scan_bytes-count (c.in_ok-outcome.was ∙ ap Ok c.in-Going.is)).0
+
+-- the line of an error that stands fits
+wrong_fits : (c : After-scan_bytes-count) (code : ℕ) → c.scan_bytes-count.result.outcome ≡ Ok (Wrong code) → c.self.inside.lines + c.scan_bytes-count.new.scanner.line_feeds + 1 < 2 ^ 64
+wrong_fits c code o =
+    let r = (wrong c code o).1 in
+    omega (arith, c.self.invariant.few, line_fits c.scan_bytes-count.new.scanner _ code r.place (standing_is_error _ code r.place r.error) r.line)
 
 pub overflow_add-self-inside : goal.overflow_add-self-inside
 overflow_add-self-inside c =
-    let after = (goal.at.overflow_add-self-inside c).After-scan_bytes-count in
-    let begun = (all after (c.in_ok-outcome.was ∙ ap Ok c.in-Going.is)).1.lines.begun (is_deep _ (sym c.if-not-is_open.ensures)) in
-    omega (arith, fits after c.scan_bytes-count.new.scanner.before begun)
+    omega (arith, wrong_fits (goal.at.overflow_add-self-inside c).After-scan_bytes-count c.in-Wrong.code (c.in_ok-outcome.was ∙ ap Ok c.in-Wrong.is), c.lines_read.ensures.lines)
 
-pub no_command-requires : goal.no_command-requires
-no_command-requires c =
-    let after = (goal.at.no_command-requires c).After-scan_bytes-count in
-    let begun = (all after (c.in_ok-outcome.was ∙ ap Ok c.in-Going.is)).1.lines.begun (is_deep _ (sym c.if-not-is_open.ensures)) in
-    omega (arith, fits after c.scan_bytes-count.new.scanner.before begun)
-
-pub invariant_of-self-in-Going-1 : goal.invariant_of-self-in-Going-1
-invariant_of-self-in-Going-1 c = (all (goal.at.invariant_of-self-in-Going-1 c).After-scan_bytes-count (c.in_ok-outcome.was ∙ ap Ok c.in-Going.is)).0
-
-pub overflow_add-self-inside-in-Wrong : goal.overflow_add-self-inside-in-Wrong
-overflow_add-self-inside-in-Wrong c =
-    let after = (goal.at.overflow_add-self-inside-in-Wrong c).After-scan_bytes-count in
-    let begun = (wrong after (c.in_ok-outcome.was ∙ ap Ok c.in-Wrong.is)).1.begun in
-    omega (arith, fits after (lines_before c.scan_bytes-count.new.scanner) begun)
-
-pub no_command-requires-in-Wrong : goal.no_command-requires-in-Wrong
-no_command-requires-in-Wrong c =
-    let after = (goal.at.no_command-requires-in-Wrong c).After-scan_bytes-count in
-    let begun = (wrong after (c.in_ok-outcome.was ∙ ap Ok c.in-Wrong.is)).1.begun in
-    omega (arith, fits after (lines_before c.scan_bytes-count.new.scanner) begun)
+pub lexical-requires : goal.lexical-requires
+lexical-requires c = record {
+  few = omega (arith, wrong_fits (goal.at.lexical-requires c).After-scan_bytes-count c.in-Wrong.code (c.in_ok-outcome.was ∙ ap Ok c.in-Wrong.is), c.lines_read.ensures.lines);
+}
 
 pub invariant_of-self-in-Wrong : goal.invariant_of-self-in-Wrong
-invariant_of-self-in-Wrong c = (wrong (goal.at.invariant_of-self-in-Wrong c).After-scan_bytes-count (c.in_ok-outcome.was ∙ ap Ok c.in-Wrong.is)).0
+invariant_of-self-in-Wrong c = (wrong (goal.at.invariant_of-self-in-Wrong c).After-scan_bytes-count c.in-Wrong.code (c.in_ok-outcome.was ∙ ap Ok c.in-Wrong.is)).0
 
 pub overflow_add-line : goal.overflow_add-line
 overflow_add-line c =
@@ -126,28 +111,24 @@ pub returns-in-Going : goal.returns-in-Going
 returns-in-Going c =
     let i = c.self.inside in
     let r = (all (goal.at.returns-in-Going c).After-scan_bytes-count (c.in_ok-outcome.was ∙ ap Ok c.in-Going.is)).1 in
-    rw (← c.self.view_is) (needs c.scan_bytes-count.new.scanner (drop i.start i.buffer.items) i.lines i.fed i.ended r c.if-not-self.true)
-
-pub returns-in-Going-2 : goal.returns-in-Going-2
-returns-in-Going-2 c =
-    let i = c.self.inside in
-    let r = (all (goal.at.returns-in-Going-2 c).After-scan_bytes-count (c.in_ok-outcome.was ∙ ap Ok c.in-Going.is)).1 in
-    rw (← c.self.view_is) (ends_here c.scan_bytes-count.new.scanner (drop i.start i.buffer.items) i.lines i.fed i.ended r c.if-not-self.false (is_bare _ (sym c.if-not-is_open.ensures)))
-
-pub returns-in-Going-3 : goal.returns-in-Going-3
-returns-in-Going-3 c =
-    let i = c.self.inside in
-    let r = (all (goal.at.returns-in-Going-3 c).After-scan_bytes-count (c.in_ok-outcome.was ∙ ap Ok c.in-Going.is)).1 in
-    rw (c.no_command.ensures, c.begun.ensures, ← c.self.view_is) (ends_inside c.scan_bytes-count.new.scanner (drop i.start i.buffer.items) i.lines i.fed i.ended r c.if-not-self.false (is_deep _ (sym c.if-not-is_open.ensures)))
+    record { answers = rw (← c.self.view_is) (c.next_at_end.ensures.answers (drop i.start i.buffer.items) i.fed r) }
 
 pub returns-in-Wrong : goal.returns-in-Wrong
 returns-in-Wrong c =
     let i = c.self.inside in
-    let r = (wrong (goal.at.returns-in-Wrong c).After-scan_bytes-count (c.in_ok-outcome.was ∙ ap Ok c.in-Wrong.is)).1 in
-    rw (c.no_command-in-Wrong.ensures, c.lines_before.ensures, ← c.self.view_is) (refuses c.scan_bytes-count.new.scanner (drop i.start i.buffer.items) _ i.lines i.fed i.ended r)
+    let r = (wrong (goal.at.returns-in-Wrong c).After-scan_bytes-count c.in-Wrong.code (c.in_ok-outcome.was ∙ ap Ok c.in-Wrong.is)).1 in
+    record {
+      answers =
+          rw (c.lexical.ensures.error, c.lines_read.ensures.lines, ← c.self.view_is)
+          (refuses c.scan_bytes-count.new.scanner c.in-Wrong.code (drop i.start i.buffer.items) _ i.lines i.fed i.ended r);
+    }
 
 pub returns-in-Command : goal.returns-in-Command
 returns-in-Command c =
     let i = c.self.inside in
     let done = command (goal.at.returns-in-Command c).After-scan_bytes-count c.in-Command.expr (c.in_ok-outcome.was ∙ ap Ok c.in-Command.is) in
-    rw (← c.self.view_is, c.begun-in-Command.ensures, c.take_line_feeds.ensures.count) (gives c.scan_bytes-count.new.scanner (expression_of c.in-Command.expr) (drop i.start i.buffer.items) (drop (i.scanned + c.scan_bytes-count.result.count) i.buffer.items) i.lines i.fed i.ended done)
+    record {
+      answers =
+          rw (← c.self.view_is, c.begun.ensures.lines, c.take_line_feeds.ensures.count)
+          (gives c.scan_bytes-count.new.scanner (expression_of c.in-Command.expr) (drop i.start i.buffer.items) (drop (i.scanned + c.scan_bytes-count.result.count) i.buffer.items) i.lines i.fed i.ended done);
+    }

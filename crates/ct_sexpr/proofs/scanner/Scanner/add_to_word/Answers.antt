@@ -1,9 +1,15 @@
-use Rattle.std.proofs.Common.{refl}
-use Rattle.ct_sexpr.proofs.Stepped.{begins, grows}
+use Rattle.std.proofs.Common.{ap, ◌∙◌}
+use Rattle.ct_sexpr.proofs.Stepped.{grows_quoted, grows_text}
 use Rattle.ct_sexpr.proofs.scanner.Scanner.add_to_word.Goals as goal
 
-pub returns-clause-begun : goal.returns-clause-begun
-returns-clause-begun c = λ mode first deep. begins c.args.self.now _ c.args.byte mode first deep refl refl c.in_ok-push.ensures.items refl refl
+pub returns-clause-quoted : goal.returns-clause-quoted
+returns-clause-quoted c = λ mode between.
+    let counted = c.count.ensures.counted in
+    grows_quoted c.args.self.now c.count.new.self c.args.byte (ap (λ s. s.lists) counted) (ap (λ s. s.before) counted) mode between
+    (ap (λ s. s.mode) counted) (ap (λ s. s.word.items) counted ∙ c.in_ok-push.ensures.items) (ap (λ s. s.line_feeds) counted)
 
-pub returns-clause-grown : goal.returns-clause-grown
-returns-clause-grown c = λ mode more. grows c.args.self.now _ c.args.byte mode more refl refl c.in_ok-push.ensures.items refl refl
+pub returns-clause-text : goal.returns-clause-text
+returns-clause-text c = λ mode no_mark.
+    let counted = c.count.ensures.counted in
+    grows_text c.args.self.now c.count.new.self c.args.byte (ap (λ s. s.lists) counted) (ap (λ s. s.before) counted) mode no_mark
+    (ap (λ s. s.mode) counted) (ap (λ s. s.word.items) counted ∙ c.in_ok-push.ensures.items) (ap (λ s. s.line_feeds) counted)

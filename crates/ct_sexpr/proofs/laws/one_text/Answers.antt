@@ -1,0 +1,17 @@
+use Rattle.ct_sexpr.proofs.Readings.{one_text, one_so_far}
+use Rattle.ct_sexpr.proofs.Pieces.{some_text, some_so_far, first_command, first_so_far, standing_error, error_so_far, refused_so_far, waiting_so_far}
+use Rattle.ct_sexpr.proofs.laws.one_text.Goals as goal
+
+pub returns : goal.returns
+returns c = record {
+  one_text = one_text;
+  some_text = some_text;
+  one_so_far = one_so_far;
+  some_so_far = some_so_far;
+  first_command = first_command;
+  first_so_far = first_so_far;
+  standing_error = standing_error;
+  error_so_far = error_so_far;
+  refused_so_far = refused_so_far;
+  waiting_so_far = waiting_so_far;
+}

@@ -1,0 +1,91 @@
+-- How an expression is written (SMT-LIB 2.7, sections 3.1 and 3.2). That a name has bars only where it needs them, and
+-- that one blank stands between two items, is this project's choice.
+use Rattle.std.specs.Prelude.{ℕ, Bool, false, not, ◌&&◌, ◌==◌, List, [], ◌∷◌, ◌++◌, if◌then◌else◌, codes}
+use Rattle.std.specs.List.{list_all, list_any}
+use Rattle.std.specs.Char.{is_ascii_digit}
+use Rattle.std.specs.Str.{bytes_eq}
+use Rattle.std.specs.Fmt.{decimal as decimal_digits}
+use Rattle.ct_sexpr.specs.Atom.{Atom, symbol, quoted, keyword, text, numeral, decimal, binary, hexadecimal, is_word_byte}
+use Rattle.ct_sexpr.specs.Token.{left_parenthesis, right_parenthesis, bar, quotation_mark}
+use Rattle.ct_sexpr.specs.Expression.{Expression, leaf, list, Expressions, none, more}
+
+-- the words that the language reserves (SMT-LIB 2.7, section 3.1), without the names of commands
+abbrev pub reserved_words : List (List ℕ)
+reserved_words =
+    codes "!" ∷ (codes "_" ∷ (codes "as" ∷ (codes "BINARY" ∷ (codes "DECIMAL" ∷ (codes "exists" ∷ (codes "forall" ∷ (codes "HEXADECIMAL" ∷ (codes "lambda" ∷ (codes "let" ∷ (codes "match" ∷ (codes "NUMERAL" ∷ (codes "par" ∷ (codes "STRING" ∷ [])))))))))))))
+
+-- the name is one of these words
+abbrev pub is_reserved : List ℕ → Bool
+is_reserved name = list_any (λ reserved. bytes_eq reserved name) reserved_words
+
+-- the bytes form a symbol: word bytes, of which the first is no digit
+abbrev pub forms_symbol : List ℕ → Bool
+forms_symbol [] = false
+forms_symbol (b ∷ bs) = not (is_ascii_digit b) && list_all is_word_byte (b ∷ bs)
+
+-- a name that needs no bars
+abbrev pub is_plain : List ℕ → Bool
+is_plain name = forms_symbol name && not (is_reserved name)
+
+-- each quotation mark twice
+abbrev pub doubled : List ℕ → List ℕ
+doubled [] = []
+doubled (b ∷ bs) = if b == quotation_mark then b ∷ (b ∷ doubled bs) else b ∷ doubled bs
+
+-- a name, between bars where it needs them
+abbrev pub written_name : List ℕ → List ℕ
+written_name name = if is_plain name then name else bar ∷ (name ++ bar ∷ [])
+
+-- a string, by what it says, between marks
+abbrev pub written_text : List ℕ → List ℕ
+written_text content = quotation_mark ∷ (doubled content ++ quotation_mark ∷ [])
+
+-- an atom, a numeral without leading zeros
+abbrev pub written_atom : Atom → List ℕ
+written_atom (symbol w) = w
+written_atom (quoted w) = written_name w
+written_atom (keyword w) = w
+written_atom (text w) = written_text w
+written_atom (numeral n) = decimal_digits n
+written_atom (decimal w) = w
+written_atom (binary w) = w
+written_atom (hexadecimal w) = w
+
+-- the items of a list, with one blank between two
+abbrev mutual
+  pub written : Expression → List ℕ
+  written (leaf a) = written_atom a
+  written (list es) = left_parenthesis ∷ (written_items es ++ right_parenthesis ∷ [])
+
+  pub written_items : Expressions → List ℕ
+  written_items none = []
+  written_items (more e es) = written e ++ written_behind es
+
+  pub written_behind : Expressions → List ℕ
+  written_behind none = []
+  written_behind (more e es) = 32 ∷ (written e ++ written_behind es)
+
+-- a list, by its items
+abbrev pub written_list : Expressions → List ℕ
+written_list es = left_parenthesis ∷ (written_items es ++ right_parenthesis ∷ [])
+
+-- the atom with bars where they are needed alone
+abbrev pub plain_atom : Atom → Atom
+plain_atom (symbol w) = symbol w
+plain_atom (quoted w) = if is_plain w then symbol w else quoted w
+plain_atom (keyword w) = keyword w
+plain_atom (text w) = text w
+plain_atom (numeral n) = numeral n
+plain_atom (decimal w) = decimal w
+plain_atom (binary w) = binary w
+plain_atom (hexadecimal w) = hexadecimal w
+
+-- the same expression, with bars where they are needed alone
+abbrev mutual
+  pub plain : Expression → Expression
+  plain (leaf a) = leaf (plain_atom a)
+  plain (list es) = list (plain_each es)
+
+  pub plain_each : Expressions → Expressions
+  plain_each none = none
+  plain_each (more e es) = more (plain e) (plain_each es)

@@ -1,0 +1,197 @@
+-- Settled nodes: one step keeps what is known of them, and in the end equal finite trees have one class.
+use Rattle.std.proofs.Common.{◌≡◌, ℕ, zero, suc, ◌+◌, ◌<◌, ◌⊎◌, Bool, MatchBool, List, [], ◌∷◌, length, map, set, Some, option_map, slice_get, All, refl, sym, ap, ap₂, subst, ◌∙◌, inl, inr, arith, length-set, eq-zero-or-pos}
+use Rattle.std.specs.List.{AllZip, AllByRecursion}
+use Rattle.std.proofs.lemmas.List.Elements.{recursion_from_All}
+use Rattle.std.proofs.lemmas.Option.{same_Some, slice_get_within}
+use Rattle.indexmap.specs.IndexMap.{IndexMap, get}
+use Rattle.ct_values.specs.declared.node.NodeId.{NodeId}
+use Rattle.ct_values.specs.declared.node.Node.{Node}
+use Rattle.ct_values.specs.declared.key.Key.{Key}
+use Rattle.ct_values.specs.Graph.{Nodes, IsClosed, node_head, node_children}
+use Rattle.ct_values.specs.Agreement.{node_point, AgreeAlways}
+use Rattle.ct_values.specs.KeyTest.{same_key}
+use Rattle.ct_values.specs.Partition.{class_at, node_key, key_of, Alike, KeepsTogether}
+use Rattle.ct_values.specs.Settled.{IsTree, AreSettled, unsettled, IsSettling, AreTried}
+use Rattle.ct_values.proofs.AgreeLemmas.{agree-sym}
+use Rattle.ct_values.proofs.GraphLemmas.{closed_children}
+use Rattle.ct_values.proofs.NodeLemmas.{node_points, AgreeAlways-nodes}
+use Rattle.ct_values.proofs.RenumberLemmas.{stands_within}
+
+-- the number as a number of a node
+abbrev id : ℕ → NodeId
+id i = record { 0 = i }
+
+-- ---- finite trees
+
+all_higher : (g : Nodes) (h d : ℕ) → ((i : ℕ) → IsTree g h i → IsTree g (h + d) i) → (ns : List NodeId) → AllByRecursion (λ n. IsTree g h n.0) ns → AllByRecursion (λ n. IsTree g (h + d) n.0) ns
+all_higher g h d one [] each = tt
+all_higher g h d one (n ∷ ns) each = (one n.0 each.0, all_higher g h d one ns each.1)
+
+-- a tree is less high than each greater bound
+higher : (g : Nodes) (h d i : ℕ) → IsTree g h i → IsTree g (h + d) i
+higher g zero d i tree = absurd tree
+higher g (suc h) d i tree =
+    let raised : IsTree g (suc (h + d)) i = (tree.0, tree.1, all_higher g h d (λ j. higher g h d j) (node_children tree.0) tree.2) in
+    let bound : suc (h + d) ≡ suc h + d = omega arith in
+    subst (λ n. IsTree g n i) bound raised
+
+-- trees are all less high than some one bound
+one_bound : (g : Nodes) (ns : List NodeId) → AllByRecursion (λ n. (h : ℕ) × IsTree g h n.0) ns → (h : ℕ) × AllByRecursion (λ n. IsTree g h n.0) ns
+one_bound g [] each = (0, tt)
+one_bound g (n ∷ ns) each =
+    let rest = one_bound g ns each.1 in
+    let h = each.0.0 in
+    let first : IsTree g (h + rest.0) n.0 = higher g h rest.0 n.0 each.0.1 in
+    let turned : rest.0 + h ≡ h + rest.0 = omega arith in
+    let others : AllByRecursion (λ m. IsTree g (h + rest.0) m.0) ns = subst (λ (k : ℕ). AllByRecursion (λ m. IsTree g k m.0) ns) turned (all_higher g rest.0 h (λ i. higher g rest.0 h i) ns rest.1) in
+    (h + rest.0, (first, others))
+
+-- ---- one class changes
+
+class_at-set_same : (classes : List ℕ) (i c : ℕ) → i < length classes → class_at (set classes i c) i ≡ c
+class_at-set_same [] i c h = absurd (omega arith)
+class_at-set_same (x ∷ xs) zero c h = refl
+class_at-set_same (x ∷ xs) (suc i) c h = class_at-set_same xs i c (omega arith)
+
+class_at-set_other : (classes : List ℕ) (i j c : ℕ) → (j ≡ i → ⊥) → class_at (set classes i c) j ≡ class_at classes j
+class_at-set_other [] i j c other = refl
+class_at-set_other (x ∷ xs) zero zero c other = absurd (other refl)
+class_at-set_other (x ∷ xs) zero (suc j) c other = refl
+class_at-set_other (x ∷ xs) (suc i) zero c other = refl
+class_at-set_other (x ∷ xs) (suc i) (suc j) c other = class_at-set_other xs i j c (λ e. other (ap suc e))
+
+-- settling a node leaves one less that is not
+pub unsettled-set : (classes : List ℕ) (i c : ℕ) → i < length classes → class_at classes i ≡ 0 → unsettled (set classes i (suc c)) < unsettled classes
+unsettled-set [] i c h e = absurd (omega arith)
+unsettled-set (zero ∷ xs) zero c h e = omega arith
+unsettled-set (suc x ∷ xs) zero c h e = absurd (omega arith)
+unsettled-set (zero ∷ xs) (suc i) c h e = let rest = unsettled-set xs i c (omega arith) e in omega arith
+unsettled-set (suc x ∷ xs) (suc i) c h e = unsettled-set xs i c (omega arith) e
+
+-- settled nodes keep their classes where one that is not settled gets one
+kept_classes : (classes : List ℕ) (i c : ℕ) (ns : List NodeId) → class_at classes i ≡ 0 → AreSettled classes ns → (map (λ n. class_at (set classes i c) n.0) ns ≡ map (λ n. class_at classes n.0) ns) × AreSettled (set classes i c) ns
+kept_classes classes i c [] zero_at settled = (refl, tt)
+kept_classes classes i c (n ∷ ns) zero_at settled =
+    let other : n.0 ≡ i → ⊥ = λ e. let same : class_at classes n.0 ≡ class_at classes i = ap (class_at classes) e in omega (arith, settled.0) in
+    let here = class_at-set_other classes i n.0 c other in
+    let rest = kept_classes classes i c ns zero_at settled.1 in
+    (ap₂ (λ (x : ℕ) (xs : List ℕ). x ∷ xs) here rest.0, (subst (λ x. 0 < x) (sym here) settled.0, rest.1))
+
+kept_key : (classes : List ℕ) (i c : ℕ) (node : Node) → class_at classes i ≡ 0 → AreSettled classes (node_children node) → node_key (set classes i c) 0 node ≡ node_key classes 0 node
+kept_key classes i c node zero_at settled =
+    ap (λ (cs : List ℕ). let key : Key = record { head = node_head node; class = 0; children = cs } in key) (kept_classes classes i c (node_children node) zero_at settled).0
+
+-- settled children are trees
+child_trees : {S : Type 0} (g : Nodes) (classes : List ℕ) (firsts : IndexMap Key ℕ S) (ns : List NodeId) → IsSettling g classes firsts → AllByRecursion (λ n. n.0 < length g) ns → AreSettled classes ns → AllByRecursion (λ n. (h : ℕ) × IsTree g h n.0) ns
+child_trees g classes firsts [] settling inside settled = tt
+child_trees g classes firsts (n ∷ ns) settling inside settled =
+    (settling.trees n.0 inside.0 settled.0, child_trees g classes firsts ns settling inside.1 settled.1)
+
+-- a step settles a node whose children are settled
+pub IsSettling-set : {S : Type 0} (g : Nodes) (classes : List ℕ) (firsts more : IndexMap Key ℕ S) (i c : ℕ) (x : Node) → AllByRecursion (λ n. n.0 < length g) (node_children x) → IsSettling g classes firsts → slice_get g i ≡ Some x → class_at classes i ≡ 0 → AreSettled classes (node_children x) → get same_key more (node_key classes 0 x) ≡ Some c → ((k : Key) (m : ℕ) → get same_key firsts k ≡ Some m → get same_key more k ≡ Some m) → ((k : Key) (m : ℕ) → get same_key more k ≡ Some m → (get same_key firsts k ≡ Some m) ⊎ ((k ≡ node_key classes 0 x) × (m ≡ i))) → IsSettling g (set classes i (suc c)) more
+IsSettling-set g classes firsts more i c x inside_x old at zero_at settled found stay only =
+    let within : i < length classes = omega (arith, slice_get_within g i x at, old.long) in
+    record {
+      long = length-set classes i (suc c) ∙ old.long;
+      known = λ j d node at_j class. known_at j d node at_j class within (same_or_other j i);
+      parts = λ j node at_j positive. parts_at j node at_j positive (same_or_other j i);
+      trees = λ j inside positive. trees_at j inside positive (same_or_other j i);
+      low = λ k m h. elim (only k m h) [ inl had ↦ old.low k m had | inr new ↦ subst (λ n. n < length g) (sym new.1) (slice_get_within g i x at) ];
+    }
+  where
+    same_or_other : (j k : ℕ) → (j ≡ k) ⊎ (j ≡ k → ⊥)
+    same_or_other zero zero = inl refl
+    same_or_other zero (suc k) = inr (λ e. absurd (omega arith))
+    same_or_other (suc j) zero = inr (λ e. absurd (omega arith))
+    same_or_other (suc j) (suc k) = elim (same_or_other j k) [ inl e ↦ inl (ap suc e) | inr n ↦ inr (λ e. n (omega arith)) ]
+
+    known_at : (j d : ℕ) (node : Node) → slice_get g j ≡ Some node → class_at (set classes i (suc c)) j ≡ suc d → i < length classes → (j ≡ i) ⊎ (j ≡ i → ⊥) → get same_key more (node_key (set classes i (suc c)) 0 node) ≡ Some d
+    known_at j d node at_j class within (inl e) =
+        let same : x ≡ node = same_Some x node (sym at ∙ ap (slice_get g) (sym e) ∙ at_j) in
+        let d_is : suc c ≡ suc d = sym (class_at-set_same classes i (suc c) within) ∙ ap (class_at (set classes i (suc c))) (sym e) ∙ class in
+        let c_is : c ≡ d = omega arith in
+        ap (get same_key more) (ap (node_key (set classes i (suc c)) 0) (sym same) ∙ kept_key classes i (suc c) x zero_at settled) ∙ found ∙ ap Some c_is
+    known_at j d node at_j class within (inr other) =
+        let before : class_at classes j ≡ suc d = sym (class_at-set_other classes i j (suc c) other) ∙ class in
+        let its_parts = old.parts j node at_j (subst (λ n. 0 < n) (sym before) (omega arith)) in
+        ap (get same_key more) (kept_key classes i (suc c) node zero_at its_parts) ∙ stay (node_key classes 0 node) d (old.known j d node at_j before)
+
+    parts_at : (j : ℕ) (node : Node) → slice_get g j ≡ Some node → 0 < class_at (set classes i (suc c)) j → (j ≡ i) ⊎ (j ≡ i → ⊥) → AreSettled (set classes i (suc c)) (node_children node)
+    parts_at j node at_j positive (inl e) =
+        let same : x ≡ node = same_Some x node (sym at ∙ ap (slice_get g) (sym e) ∙ at_j) in
+        subst (λ (n : Node). AreSettled (set classes i (suc c)) (node_children n)) same (kept_classes classes i (suc c) (node_children x) zero_at settled).1
+    parts_at j node at_j positive (inr other) =
+        (kept_classes classes i (suc c) (node_children node) zero_at (old.parts j node at_j (subst (λ n. 0 < n) (class_at-set_other classes i j (suc c) other) positive))).1
+
+    trees_at : (j : ℕ) → j < length g → 0 < class_at (set classes i (suc c)) j → (j ≡ i) ⊎ (j ≡ i → ⊥) → (h : ℕ) × IsTree g h j
+    trees_at j inside positive (inl e) =
+        let all = one_bound g (node_children x) (child_trees g classes firsts (node_children x) old inside_x settled) in
+        (suc all.0, (x, ap (slice_get g) e ∙ at, all.1))
+    trees_at j inside positive (inr other) =
+        old.trees j inside (subst (λ n. 0 < n) (class_at-set_other classes i j (suc c) other) positive)
+
+-- the same, as a program knows it
+pub IsSettling-step : {S : Type 0} (g : Nodes) (classes : List ℕ) (firsts more : IndexMap Key ℕ S) (i c : ℕ) (key : Key) (kids : List NodeId) → IsSettling g classes firsts → i < length g → class_at classes i ≡ 0 → option_map node_children (slice_get g i) ≡ Some kids → All (λ n. n.0 < length g) kids → All (λ n. 0 < class_at classes n.0) kids → key_of g classes i ≡ Some key → get same_key more key ≡ Some c → ((k : Key) (m : ℕ) → get same_key firsts k ≡ Some m → get same_key more k ≡ Some m) → ((k : Key) (m : ℕ) → get same_key more k ≡ Some m → (get same_key firsts k ≡ Some m) ⊎ ((k ≡ key) × (m ≡ i))) → IsSettling g (set classes i (suc c)) more
+IsSettling-step g classes firsts more i c key kids old inside zero_at kids_at kids_in settled key_at found stay only =
+    let x = stands_within g i inside in
+    let its_kids : kids ≡ node_children x.0 = same_Some kids (node_children x.0) (sym kids_at ∙ ap (option_map node_children) x.1) in
+    let its_key : node_key classes 0 x.0 ≡ key = same_Some (node_key classes 0 x.0) key (ap (λ c. Some (node_key classes c x.0)) (sym zero_at) ∙ sym (ap (option_map (node_key classes (class_at classes i))) x.1) ∙ key_at) in
+    let below : AllByRecursion (λ n. n.0 < length g) (node_children x.0) = subst (AllByRecursion (λ n. n.0 < length g)) its_kids (recursion_from_All (λ n. n.0 < length g) kids kids_in) in
+    let ready : AreSettled classes (node_children x.0) = subst (AreSettled classes) its_kids (recursion_from_All (λ n. 0 < class_at classes n.0) kids settled) in
+    IsSettling-set g classes firsts more i c x.0 below old x.1 zero_at ready
+    (ap (get same_key more) its_key ∙ found)
+    stay
+    (λ k m h. elim (only k m h) [ inl had ↦ inl had | inr new ↦ inr (new.0 ∙ sym its_key, new.1) ])
+
+-- ---- at the end
+
+-- children that agree at every depth, where those on one side are settled trees, are settled with the same classes
+same_children : (g : Nodes) (classes : List ℕ) (h : ℕ) (ms ns : List NodeId) → ((m n : NodeId) → m.0 < length g → n.0 < length g → IsTree g h m.0 → 0 < class_at classes m.0 → AgreeAlways (node_point g m) (node_point g n) → class_at classes m.0 ≡ class_at classes n.0) → AllByRecursion (λ m. m.0 < length g) ms → AllByRecursion (λ n. n.0 < length g) ns → AllByRecursion (λ m. IsTree g h m.0) ms → AreSettled classes ms → AllZip AgreeAlways (node_points g ms) (node_points g ns) → (map (λ m. class_at classes m.0) ms ≡ map (λ n. class_at classes n.0) ns) × AreSettled classes ns
+same_children g classes h [] [] each ms_in ns_in trees settled pairs = (refl, tt)
+same_children g classes h [] (n ∷ ns) each ms_in ns_in trees settled pairs = absurd pairs
+same_children g classes h (m ∷ ms) [] each ms_in ns_in trees settled pairs = absurd pairs
+same_children g classes h (m ∷ ms) (n ∷ ns) each ms_in ns_in trees settled pairs =
+    let here = each m n ms_in.0 ns_in.0 trees.0 settled.0 pairs.0 in
+    let rest = same_children g classes h ms ns each ms_in.1 ns_in.1 trees.1 settled.1 pairs.1 in
+    (ap₂ (λ (x : ℕ) (xs : List ℕ). x ∷ xs) here rest.0, (subst (λ x. 0 < x) here settled.0, rest.1))
+
+-- a settled number is one more than some number
+positive : (n : ℕ) → 0 < n → (m : ℕ) × (n ≡ suc m)
+positive zero h = absurd (omega arith)
+positive (suc m) h = (m, refl)
+
+-- where every node was tried, what agrees with a settled tree at every depth is settled with the same class
+tree_class : {S : Type 0} (g : Nodes) (classes : List ℕ) (firsts : IndexMap Key ℕ S) → IsClosed g → IsSettling g classes firsts → AreTried g classes 0 → (h : ℕ) (m n : NodeId) → m.0 < length g → n.0 < length g → IsTree g h m.0 → 0 < class_at classes m.0 → AgreeAlways (node_point g m) (node_point g n) → class_at classes m.0 ≡ class_at classes n.0
+tree_class g classes firsts closed settling tried zero m n m_in n_in tree settled alike = absurd tree
+tree_class g classes firsts closed settling tried (suc h) m n m_in n_in tree settled alike =
+    let x = tree.0 in
+    let y = stands_within g n.0 n_in in
+    let parts = AgreeAlways-nodes g g m n x y.0 tree.1 y.1 alike in
+    let below = same_children g classes h (node_children x) (node_children y.0) (tree_class g classes firsts closed settling tried h) (closed_children g m.0 x closed tree.1) (closed_children g n.0 y.0 closed y.1) tree.2 (settling.parts m.0 x tree.1 settled) parts.1 in
+    let c = positive (class_at classes m.0) settled in
+    let d = positive (class_at classes n.0) (tried n.0 (omega arith) y.0 y.1 below.1) in
+    let keys : node_key classes 0 x ≡ node_key classes 0 y.0 = λ t. record { head = parts.0 t; class = 0; children = below.0 t } in
+    let same : c.0 ≡ d.0 = same_Some c.0 d.0 (sym (settling.known m.0 c.0 x tree.1 c.1) ∙ ap (get same_key firsts) keys ∙ settling.known n.0 d.0 y.0 y.1 d.1) in
+    c.1 ∙ ap suc same ∙ sym d.1
+
+-- where every node was tried, nodes that agree at every depth have one class
+pub KeepsTogether-settled : {S : Type 0} (g : Nodes) (classes : List ℕ) (firsts : IndexMap Key ℕ S) → IsClosed g → IsSettling g classes firsts → AreTried g classes 0 → KeepsTogether g classes
+KeepsTogether-settled g classes firsts closed settling tried = record {
+  long = settling.long;
+  together = λ i j i_in j_in alike. at i j i_in j_in alike (eq-zero-or-pos (class_at classes i)) (eq-zero-or-pos (class_at classes j));
+}
+  where
+    at : (i j : ℕ) → i < length g → j < length g → Alike g i j → (class_at classes i ≡ 0) ⊎ (0 < class_at classes i) → (class_at classes j ≡ 0) ⊎ (0 < class_at classes j) → class_at classes i ≡ class_at classes j
+    at i j i_in j_in alike (inl no_i) (inl no_j) = no_i ∙ sym no_j
+    at i j i_in j_in alike (inr yes_i) other =
+        let tree = settling.trees i i_in yes_i in
+        tree_class g classes firsts closed settling tried tree.0 (id i) (id j) i_in j_in tree.1 yes_i alike
+    at i j i_in j_in alike (inl no_i) (inr yes_j) =
+        let tree = settling.trees j j_in yes_j in
+        sym (tree_class g classes firsts closed settling tried tree.0 (id j) (id i) j_in i_in tree.1 yes_j (λ k. agree-sym k (node_point g (id i)) (node_point g (id j)) (alike k)))
+
+-- ---- a pass
+
+-- as far as a pass has come: it has settled something, or nothing can be settled from this number on
+abbrev pub HasPassed : Nodes → List ℕ → List ℕ → ℕ → Bool → Type 0
+HasPassed g before now from more = MatchBool more (unsettled now < unsettled before) ((now ≡ before) × AreTried g now from)

@@ -1,0 +1,9 @@
+pub mod AgreeLemmas
+pub mod GraphLemmas
+pub mod SettleLemmas
+pub mod DepthLemmas
+pub mod NodeLemmas
+pub mod RenumberLemmas
+pub mod RefineLemmas
+pub mod RoundLemmas
+pub mod FiniteLemmas

@@ -1,0 +1,25 @@
+use Rattle.ct_values.proofs.AgreeLemmas.{agree_equiv, agree-falls, agree-zero, agree-suc}
+use Rattle.ct_values.proofs.GraphLemmas.{agree-grown}
+use Rattle.ct_values.proofs.DepthLemmas.{every_depth, same-parts}
+use Rattle.ct_values.proofs.laws.agreement.Goals as goal
+
+pub returns-clause-start : goal.returns-clause-start
+returns-clause-start c = agree-zero
+
+pub returns-clause-step : goal.returns-clause-step
+returns-clause-step c = agree-suc
+
+pub returns-clause-equivalence : goal.returns-clause-equivalence
+returns-clause-equivalence c = agree_equiv
+
+pub returns-clause-falling : goal.returns-clause-falling
+returns-clause-falling c = agree-falls
+
+pub returns-clause-every_depth : goal.returns-clause-every_depth
+returns-clause-every_depth c = every_depth
+
+pub returns-clause-parts : goal.returns-clause-parts
+returns-clause-parts c = same-parts
+
+pub returns-clause-grown : goal.returns-clause-grown
+returns-clause-grown c = agree-grown

@@ -1,0 +1,60 @@
+-- Values: trees of constructors over a graph, whose leaves are nodes of the graph and elements.
+use Rattle.std.specs.Prelude.{ℕ, ◌<◌, List, [], ◌∷◌, ◌++◌, length}
+use Rattle.ct_sorts.specs.declared.ids.CtorId.{CtorId}
+use Rattle.ct_sorts.specs.declared.ids.SortId.{SortId}
+use Rattle.ct_values.specs.declared.node.NodeId.{NodeId}
+use Rattle.ct_values.specs.declared.value.Value as rust
+use Rattle.ct_values.specs.Graph.{Nodes}
+
+mutual
+  -- a reference to a node, an element of a sort, or a constructor over values
+  pub data Value : Type 0 where
+    reference : NodeId → Value
+    element : SortId → ℕ → Value
+    construct : CtorId → Values → Value
+
+  -- the values under a constructor, in order
+  pub data Values : Type 0 where
+    no_values : Values
+    with_value : Value → Values → Values
+
+-- the values as a list
+abbrev pub list_of : Values → List Value
+list_of no_values = []
+list_of (with_value v vs) = v ∷ list_of vs
+
+abbrev mutual
+  -- the subterms of a value, itself among them; what stands at a node is none
+  pub subterms : Value → List Value
+  subterms (reference n) = reference n ∷ []
+  subterms (element s n) = element s n ∷ []
+  subterms (construct c vs) = construct c vs ∷ subterms_of_all vs
+
+  -- the subterms of several values
+  pub subterms_of_all : Values → List Value
+  subterms_of_all no_values = []
+  subterms_of_all (with_value v vs) = subterms v ++ subterms_of_all vs
+
+abbrev mutual
+  -- every reference in the value is to a node of the graph
+  pub IsOver : Nodes → Value → Type 0
+  IsOver g (reference n) = n.0 < length g
+  IsOver g (element s n) = Unit {0}
+  IsOver g (construct c vs) = AreOver g vs
+
+  -- the same of several values
+  pub AreOver : Nodes → Values → Type 0
+  AreOver g no_values = Unit {0}
+  AreOver g (with_value v vs) = IsOver g v × AreOver g vs
+
+abbrev mutual
+  -- the value that a `Value` of the program means
+  pub meaning : rust.Value → Value
+  meaning (rust.Ref n) = reference n
+  meaning (rust.Elem s n) = element s n
+  meaning (rust.Con' c shape all) = construct c (meanings all)
+
+  -- the same of a vector of them
+  pub meanings : {m : _} → rust.Row_of-Value m → Values
+  meanings rust.end_of-Value = no_values
+  meanings (rust.more_of-Value v rest) = with_value (meaning v) (meanings rest)

@@ -1,0 +1,119 @@
+ghost use Rattle.std.specs.Prelude.{◌≡◌, ◌+◌, ◌<◌, [], ◌∷◌, ◌++◌, length, slice_get, option_map, Some, All, OnOk, OnErr, IfOk};
+ghost use Rattle.ct_values.specs.Graph.{IsClosed, HasChildrenBelow, node_head, node_children};
+
+use crate::error::ValueError;
+use crate::node::{Head, Node, NodeId};
+use crate::node_ids::NodeIds;
+use std::alloc::Global;
+use std::marker::Model;
+
+/// A list of nodes, whose children are nodes of the list. Nodes are numbered from 0 and never change.
+#[derive(Debug, Drop)]
+pub struct Graph {
+    nodes: Vec<Node>,
+}
+
+impl Model for Graph {
+    ghost use Rattle.ct_values.specs.Graph.{Nodes, IsClosed};
+
+    ghost Value = { Nodes };
+
+    ghost view = { λ kept. kept.nodes.items };
+
+    ghost invariant = { λ kept. IsClosed kept.nodes.items };
+}
+
+impl Graph {
+    /// The graph of these nodes, numbered in their order. Takes no memory.
+    pub fn from_nodes(nodes: Vec<Node>) -> Graph
+        requires closed { IsClosed nodes.items }
+        ensures value { result ≡ nodes.items }
+    {
+        Graph { nodes }
+    }
+
+    /// One more node at the end, whose children are there already, and its number. An error changes nothing.
+    pub fn push(&mut self, node: Node) -> Result<NodeId, ValueError>
+        requires below { HasChildrenBelow (length self.old) node }
+        ensures ok { IfOk result (λ n. (n.0 ≡ length self.old) × (self.new ≡ self.old ++ node ∷ [])) }
+        ensures err { OnErr result (self.new ≡ self.old) }
+    {
+        let number = self.nodes.len();
+        self.nodes.push(node)?;
+        Ok(NodeId(number as u64))
+    }
+
+    /// These nodes at the end, in their order; their children may be among them. An error changes nothing.
+    pub fn append(&mut self, mut nodes: Vec<Node>) -> Result<(), ValueError>
+        requires below { All (HasChildrenBelow (length self.old + length nodes.items)) nodes.items }
+        ensures ok { OnOk result (self.new ≡ self.old ++ nodes.items) }
+        ensures err { OnErr result (self.new ≡ self.old) }
+    {
+        self.nodes.append(&mut nodes)?;
+        Ok(())
+    }
+
+    /// The number of nodes.
+    pub fn len(&self) -> u64
+        ensures count { result ≡ length self.now }
+        ensures closed { IsClosed self.now }
+    {
+        self.nodes.len() as u64
+    }
+
+    /// A copy of the graph.
+    pub fn copy(&self) -> Result<Graph, ValueError>
+        ensures value { IfOk result (λ graph. graph ≡ self.now) }
+    {
+        Ok(Graph {
+            nodes: copy_nodes(*self.nodes.allocator(), self.nodes.as_slice())?,
+        })
+    }
+
+    /// What stands at the top of this node.
+    pub fn head(&self, n: NodeId) -> Head
+        requires within { n.0 < length self.now }
+        ensures value { option_map node_head (slice_get self.now n.0) ≡ Some result }
+    {
+        match &self.nodes[n.0 as usize] {
+            Node::Con(c, _) => Head::Con(*c),
+            Node::Elem(s, number) => Head::Elem(*s, *number),
+        }
+    }
+
+    /// The children of this node, in order; an element has none. They are nodes of the graph.
+    pub fn children(&self, n: NodeId) -> &[NodeId]
+        requires within { n.0 < length self.now }
+        ensures value { option_map node_children (slice_get self.now n.0) ≡ Some result.now }
+        ensures below { All (λ child. child.0 < length self.now) result.now }
+    {
+        match &self.nodes[n.0 as usize] {
+            Node::Con(_, children) => children.as_slice(),
+            Node::Elem(_, _) => &[],
+        }
+    }
+}
+
+// A copy of the nodes.
+fn copy_nodes(alloc: Global, nodes: &[Node]) -> Result<Vec<Node>, ValueError>
+    ensures value { IfOk result (λ copy. copy.items ≡ nodes.now) }
+{
+    let mut copies = Vec::with_capacity(alloc, nodes.len())?;
+    for node in nodes {
+        copies.push(copy_node(alloc, node)?)?;
+    }
+    Ok(copies)
+}
+
+// A copy of a node.
+fn copy_node(alloc: Global, node: &Node) -> Result<Node, ValueError>
+    ensures value { IfOk result (λ copy. copy ≡ node.now) }
+{
+    match node {
+        Node::Con(c, children) => Ok(Node::Con(
+            *c,
+            NodeIds::from_slice(alloc, children.as_slice())?,
+        )),
+        Node::Elem(s, number) => Ok(Node::Elem(*s, *number)),
+    }
+}

@@ -1,0 +1,26 @@
+//! Graphs of nodes, the values that their nodes stand for, and when two values are the same.
+#![tactic(auto)]
+
+mod equality;
+mod error;
+mod finite;
+mod graph;
+mod key;
+mod laws;
+mod node;
+mod node_ids;
+mod places;
+mod reach;
+mod refine;
+mod value;
+
+pub use equality::same;
+pub use error::ValueError;
+pub use graph::Graph;
+pub use laws::agreement;
+pub use node::{Head, Node, NodeId};
+pub use node_ids::NodeIds;
+pub use value::Value;
+
+#[cfg(test)]
+mod tests;

@@ -1,0 +1,113 @@
+//! The part of a graph that two nodes reach, as a graph of its own.
+//!
+//! Only the nodes that are reached are looked at: each is numbered when it is first met, as a root or as a
+//! child, and copied with the numbers of its children when its turn comes. The time is near-linear in
+//! these nodes and their children.
+ghost use Rattle.std.specs.Prelude.{◌≡◌, ◌<◌, length, Some, slice_get, IfOk, All};
+ghost use Rattle.ct_values.specs.Agreement.{node_point, AgreeAlways};
+ghost use Rattle.ct_values.specs.Renumbering.{IsNumbering, Stay, StandFor, IsRenumbered, AreRenumbered};
+
+use crate::error::ValueError;
+use crate::graph::Graph;
+use crate::node::{Head, Node, NodeId};
+use crate::node_ids::NodeIds;
+use indexmap::IndexSet;
+use std::alloc::Global;
+
+/// The part of a graph that two nodes reach, with the numbers of the two in it.
+#[derive(Drop)]
+pub(crate) struct Part {
+    pub(crate) graph: Graph,
+    pub(crate) first: NodeId,
+    pub(crate) second: NodeId,
+}
+
+/// The part of the graph that these two nodes reach.
+pub(crate) fn reached(alloc: Global, g: &Graph, a: NodeId, b: NodeId) -> Result<Part, ValueError>
+    requires a_within { a.0 < length g.now }
+    requires b_within { b.0 < length g.now }
+    ensures first_within { IfOk result (λ part. part.first.0 < length part.graph) }
+    ensures second_within { IfOk result (λ part. part.second.0 < length part.graph) }
+    ensures first { IfOk result (λ part. AgreeAlways (node_point part.graph part.first) (node_point g.now a)) }
+    ensures second { IfOk result (λ part. AgreeAlways (node_point part.graph part.second) (node_point g.now b)) }
+{
+    let mut ids = IndexSet::new(alloc);
+    let first = number(g, &mut ids, a)?;
+    let second = number(g, &mut ids, b)?;
+    let nodes = renumber_all(alloc, g, &mut ids)?;
+    Ok(Part {
+        graph: Graph::from_nodes(nodes),
+        first,
+        second,
+    })
+}
+
+// The numbered nodes and those that they reach, with the new numbers of their children.
+fn renumber_all(alloc: Global, g: &Graph, ids: &mut IndexSet<u64>) -> Result<Vec<Node>, ValueError>
+    requires numbering { IsNumbering (length g.now) ids.old }
+    ensures stay { IfOk result (λ nodes. Stay ids.old.keys ids.new.keys) }
+    ensures numbering { IfOk result (λ nodes. IsNumbering (length g.now) ids.new) }
+    ensures renumbered { IfOk result (λ nodes. AreRenumbered g.now ids.new.keys nodes.items) }
+    ensures all { IfOk result (λ nodes. length nodes.items ≡ length ids.new.keys) }
+{
+    let mut nodes = Vec::new(alloc);
+    while let Some(id) = ids.get_index(nodes.len()).copied() {
+        let node = renumber(alloc, g, ids, NodeId(id))?;
+        nodes.push(node)?;
+    }
+    Ok(nodes)
+}
+
+// A node with the new numbers of its children. Children that have none yet get one.
+fn renumber(
+    alloc: Global,
+    g: &Graph,
+    ids: &mut IndexSet<u64>,
+    n: NodeId,
+) -> Result<Node, ValueError>
+    requires within { n.0 < length g.now }
+    requires numbering { IsNumbering (length g.now) ids.old }
+    ensures stay { IfOk result (λ node. Stay ids.old.keys ids.new.keys) }
+    ensures numbering { IfOk result (λ node. IsNumbering (length g.now) ids.new) }
+    ensures renumbered { IfOk result (λ node. IsRenumbered g.now ids.new.keys n.0 node) }
+{
+    match g.head(n) {
+        Head::Con(c) => {
+            let children = number_all(alloc, g, ids, g.children(n))?;
+            Ok(Node::Con(c, NodeIds::new(children)))
+        }
+        Head::Elem(s, number) => Ok(Node::Elem(s, number)),
+    }
+}
+
+// The new numbers of these nodes. Those that have none yet get one.
+fn number_all(
+    alloc: Global,
+    g: &Graph,
+    ids: &mut IndexSet<u64>,
+    nodes: &[NodeId],
+) -> Result<Vec<NodeId>, ValueError>
+    requires within { All (λ n. n.0 < length g.now) nodes.now }
+    requires numbering { IsNumbering (length g.now) ids.old }
+    ensures stay { IfOk result (λ places. Stay ids.old.keys ids.new.keys) }
+    ensures numbering { IfOk result (λ places. IsNumbering (length g.now) ids.new) }
+    ensures stand { IfOk result (λ places. StandFor ids.new.keys places.items nodes.now) }
+{
+    let mut places = Vec::with_capacity(alloc, nodes.len())?;
+    for n in nodes {
+        places.push(number(g, ids, *n)?)?;
+    }
+    Ok(places)
+}
+
+// The new number of a node, which it gets here where it has none yet.
+fn number(g: &Graph, ids: &mut IndexSet<u64>, n: NodeId) -> Result<NodeId, ValueError>
+    requires within { n.0 < length g.now }
+    requires numbering { IsNumbering (length g.now) ids.old }
+    ensures stay { IfOk result (λ place. Stay ids.old.keys ids.new.keys) }
+    ensures numbering { IfOk result (λ place. IsNumbering (length g.now) ids.new) }
+    ensures at { IfOk result (λ place. slice_get ids.new.keys place.0 ≡ Some n.0) }
+{
+    let (place, _) = ids.insert_full(n.0)?;
+    Ok(NodeId(place as u64))
+}

@@ -1,0 +1,56 @@
+//! One round of the refinement of a partition of the nodes of a graph.
+//!
+//! A partition gives each node the number of the first node of its class. A round splits each class by the
+//! heads of its nodes and the classes of their children, through one map from keys to first nodes. The time
+//! is near-linear in the nodes and their children.
+ghost use Rattle.std.specs.Prelude.{◌≡◌, ℕ, ◌≤◌, ◌<◌, ◌⊎◌, length, Some, IfOk};
+ghost use Rattle.indexmap.specs.IndexMap.{get};
+ghost use Rattle.ct_values.specs.declared.key.Key.{Key};
+ghost use Rattle.ct_values.specs.KeyTest.{same_key};
+ghost use Rattle.ct_values.specs.Partition.{IsRefined};
+
+use crate::error::ValueError;
+use crate::graph::Graph;
+use crate::key::{Key, node_key};
+use crate::node::NodeId;
+use indexmap::IndexMap;
+use std::alloc::Global;
+
+/// The partition after one more round.
+pub(crate) fn refine(
+    alloc: Global,
+    graph: &Graph,
+    classes: &[usize],
+) -> Result<Vec<usize>, ValueError>
+    requires long { length classes.now ≡ length graph.now }
+    ensures refined { IfOk result (λ next. IsRefined graph.now classes.now next.items) }
+{
+    let mut firsts = IndexMap::new(alloc);
+    let mut next = Vec::with_capacity(alloc, classes.len())?;
+    for place in 0..classes.len() {
+        let key = node_key(alloc, graph, classes, NodeId(place as u64))?;
+        next.push(first_with(&mut firsts, key, place)?)?;
+    }
+    Ok(next)
+}
+
+/// The first place that has the key: the one that is kept for it, or this one, which is then kept.
+pub(crate) fn first_with(
+    firsts: &mut IndexMap<Key, usize>,
+    key: Key,
+    place: usize,
+) -> Result<usize, ValueError>
+    ensures found { IfOk result (λ first. get same_key firsts.new key ≡ Some first) }
+    ensures stay { IfOk result (λ first. (k : Key) (n : ℕ)
+        → get same_key firsts.old k ≡ Some n
+        → get same_key firsts.new k ≡ Some n) }
+    ensures only { IfOk result (λ first. (k : Key) (n : ℕ)
+        → get same_key firsts.new k ≡ Some n
+        → (get same_key firsts.old k ≡ Some n) ⊎ ((k ≡ key) × (n ≡ place))) }
+{
+    if let Some(first) = firsts.get(&key) {
+        return Ok(*first);
+    }
+    firsts.insert(key, place)?;
+    Ok(place)
+}

@@ -1,0 +1,295 @@
+//! What graphs hold, and which of their nodes are the same.
+ghost use Rattle.std.specs.Prelude.{◌<◌, IsTrue, All};
+ghost use Rattle.ct_values.specs.Graph.{IsClosed, HasChildrenBelow};
+
+use crate::{Graph, Head, Node, NodeId, NodeIds, ValueError, agreement, same};
+use ct_sorts::{CtorId, SortId};
+use std::alloc::Global;
+use std::process::Abort;
+use std::test::Fail;
+
+// The elements and the constructor of the streams of the worked example, and the constructors of lists.
+const A: CtorId = CtorId(2);
+
+const B: CtorId = CtorId(3);
+
+const SCONS: CtorId = CtorId(4);
+
+const CONS: CtorId = CtorId(5);
+
+const NIL: CtorId = CtorId(6);
+
+// A node that a test makes: a constructor over nodes, or an element of a sort, by its number.
+#[derive(Clone, Copy, Debug)]
+enum Step {
+    Zero(CtorId),
+    One(CtorId, u64),
+    Two(CtorId, u64, u64),
+    Element(u32, u64),
+}
+
+fn ids(alloc: Global, numbers: &[u64]) -> Result<NodeIds, ValueError> {
+    let mut ids = Vec::new(alloc);
+    for number in numbers {
+        ids.push(NodeId(*number))?;
+    }
+    Ok(NodeIds::new(ids))
+}
+
+fn node(alloc: Global, step: Step) -> Result<Node, ValueError> {
+    match step {
+        Step::Zero(c) => Ok(Node::Con(c, ids(alloc, &[])?)),
+        Step::One(c, a) => Ok(Node::Con(c, ids(alloc, &[a])?)),
+        Step::Two(c, a, b) => Ok(Node::Con(c, ids(alloc, &[a, b])?)),
+        Step::Element(s, n) => Ok(Node::Elem(SortId(s), n)),
+    }
+}
+
+fn nodes(alloc: Global, steps: &[Step]) -> Result<Vec<Node>, ValueError> {
+    let mut nodes = Vec::new(alloc);
+    for step in steps {
+        nodes.push(node(alloc, *step)?)?;
+    }
+    Ok(nodes)
+}
+
+// Whether the children of the node have numbers below the bound.
+fn has_children_below(node: &Node, bound: u64) -> bool
+    ensures value { IsTrue result → HasChildrenBelow bound node.now }
+{
+    match node {
+        Node::Con(_, children) => are_below(children.as_slice(), bound),
+        Node::Elem(_, _) => true,
+    }
+}
+
+fn are_below(children: &[NodeId], bound: u64) -> bool
+    ensures value { IsTrue result → All (λ child. child.0 < bound) children.now }
+{
+    for child in children {
+        if child.0 >= bound {
+            return false;
+        }
+    }
+    true
+}
+
+// Whether the children of all the nodes have numbers below the bound.
+fn have_children_below(nodes: &[Node], bound: u64) -> bool
+    ensures value { IsTrue result → All (HasChildrenBelow bound) nodes.now }
+{
+    for node in nodes {
+        if !has_children_below(node, bound) {
+            return false;
+        }
+    }
+    true
+}
+
+fn graph(rt: &impl Abort, alloc: Global, steps: &[Step]) -> Result<Graph, ValueError> {
+    let nodes = nodes(alloc, steps)?;
+    assert!(rt; have_children_below(&nodes, nodes.len() as u64));
+    Ok(Graph::from_nodes(nodes))
+}
+
+fn are_same(rt: &impl Abort, alloc: Global, g: &Graph, a: u64, b: u64) -> Result<bool, ValueError> {
+    assert!(rt; a < g.len());
+    assert!(rt; b < g.len());
+    same(alloc, g, NodeId(a), NodeId(b))
+}
+
+fn head(rt: &impl Abort, g: &Graph, n: u64) -> Head {
+    assert!(rt; n < g.len());
+    g.head(NodeId(n))
+}
+
+fn children<'a>(rt: &impl Abort, g: &'a Graph, n: u64) -> &'a [NodeId] {
+    assert!(rt; n < g.len());
+    g.children(NodeId(n))
+}
+
+fn push(rt: &impl Abort, g: &mut Graph, node: Node) -> Result<NodeId, ValueError> {
+    assert!(rt; has_children_below(&node, g.len()));
+    g.push(node)
+}
+
+fn append(rt: &impl Abort, g: &mut Graph, nodes: Vec<Node>) -> Result<(), ValueError> {
+    let count = nodes.len() as u64;
+    assert!(rt; count < 100);
+    assert!(rt; g.len() < 100);
+    assert!(rt; have_children_below(&nodes, g.len() + count));
+    g.append(nodes)
+}
+
+#[test]
+fn finds_streams_that_are_the_same(rt: HostRuntime) -> Result<(), Fail> {
+    let alloc = rt.alloc();
+    let steps = [
+        Step::Two(SCONS, 1, 0),
+        Step::Zero(A),
+        Step::Two(SCONS, 1, 3),
+        Step::Two(SCONS, 1, 2),
+        Step::Zero(B),
+        Step::Two(SCONS, 4, 0),
+    ];
+    let g = graph(&rt, alloc, &steps)?;
+    for (a, b, want) in [
+        (0, 2, true),
+        (2, 3, true),
+        (0, 5, false),
+        (5, 0, false),
+        (5, 5, true),
+        (1, 4, false),
+        (0, 1, false),
+    ] {
+        assert_eq!(rt; are_same(&rt, alloc, &g, a, b)?, want, "of {a} and {b}");
+    }
+    Ok(())
+}
+
+#[test]
+fn tells_elements_and_numbers_of_children_apart(rt: HostRuntime) -> Result<(), Fail> {
+    let alloc = rt.alloc();
+    let steps = [
+        Step::Element(7, 3),
+        Step::Element(7, 4),
+        Step::Element(8, 3),
+        Step::Element(7, 3),
+        Step::Zero(CONS),
+        Step::One(CONS, 0),
+        Step::Two(CONS, 0, 0),
+        Step::Two(CONS, 0, 3),
+        Step::Two(CONS, 0, 1),
+        Step::Two(CONS, 2, 0),
+    ];
+    let g = graph(&rt, alloc, &steps)?;
+    for (a, b, want) in [
+        (0, 1, false),
+        (0, 2, false),
+        (0, 3, true),
+        (4, 5, false),
+        (5, 6, false),
+        (6, 7, true),
+        (6, 8, false),
+        (6, 9, false),
+    ] {
+        assert_eq!(rt; are_same(&rt, alloc, &g, a, b)?, want, "of {a} and {b}");
+    }
+    Ok(())
+}
+
+// Streams of `a` and `b` that repeat after one, two or three elements, some behind a prefix.
+#[test]
+fn finds_periods(rt: HostRuntime) -> Result<(), Fail> {
+    let alloc = rt.alloc();
+    let steps = [
+        Step::Zero(A),
+        Step::Zero(B),
+        // a, b, a, b, .. in two nodes, and in four.
+        Step::Two(SCONS, 0, 3),
+        Step::Two(SCONS, 1, 2),
+        Step::Two(SCONS, 0, 5),
+        Step::Two(SCONS, 1, 6),
+        Step::Two(SCONS, 0, 7),
+        Step::Two(SCONS, 1, 4),
+        // a, a, b, a, a, b, .. in three nodes, and in six that begin at the second element.
+        Step::Two(SCONS, 0, 9),
+        Step::Two(SCONS, 0, 10),
+        Step::Two(SCONS, 1, 8),
+        Step::Two(SCONS, 0, 12),
+        Step::Two(SCONS, 1, 13),
+        Step::Two(SCONS, 0, 14),
+        Step::Two(SCONS, 0, 15),
+        Step::Two(SCONS, 1, 16),
+        Step::Two(SCONS, 0, 11),
+        // b, a, b, a, b, .. by way of a prefix of three.
+        Step::Two(SCONS, 1, 18),
+        Step::Two(SCONS, 0, 19),
+        Step::Two(SCONS, 1, 2),
+    ];
+    let g = graph(&rt, alloc, &steps)?;
+    for (a, b, want) in [
+        (2, 4, true),
+        (2, 6, true),
+        (2, 3, false),
+        (8, 16, true),
+        (9, 11, true),
+        (10, 15, true),
+        (8, 2, false),
+        (8, 9, false),
+        (17, 3, true),
+        (18, 4, true),
+        (17, 2, false),
+    ] {
+        assert_eq!(rt; are_same(&rt, alloc, &g, a, b)?, want, "of {a} and {b}");
+    }
+    Ok(())
+}
+
+// Lists of five hundred elements: two that are equal, and one that differs at its end.
+#[test]
+fn looks_to_the_end_of_long_lists(rt: HostRuntime) -> Result<(), Fail> {
+    let alloc = rt.alloc();
+    let mut steps = Vec::new(alloc);
+    for end in [NIL, NIL, A] {
+        steps.push(Step::Zero(end))?;
+        for _ in 0..500 {
+            let below = steps.len() as u64;
+            assert!(rt; below > 0);
+            steps.push(Step::One(CONS, below - 1))?;
+        }
+    }
+    let g = graph(&rt, alloc, &steps)?;
+    for (a, b, want) in [
+        (500, 1001, true),
+        (1001, 1502, false),
+        (500, 1502, false),
+        (499, 1000, true),
+        (500, 1000, false),
+    ] {
+        assert_eq!(rt; are_same(&rt, alloc, &g, a, b)?, want, "of {a} and {b}");
+    }
+    Ok(())
+}
+
+#[test]
+fn keeps_nodes_in_order(rt: HostRuntime) -> Result<(), Fail> {
+    let alloc = rt.alloc();
+    let mut g = graph(&rt, alloc, &[Step::Zero(NIL)])?;
+    assert_eq!(rt;
+        push(&rt, &mut g, node(alloc, Step::Element(7, 3))?)?,
+        NodeId(1)
+    );
+    assert_eq!(rt;
+        push(&rt, &mut g, node(alloc, Step::Two(CONS, 1, 0))?)?,
+        NodeId(2)
+    );
+    let more = nodes(alloc, &[Step::Two(SCONS, 1, 4), Step::Two(SCONS, 1, 3)])?;
+    append(&rt, &mut g, more)?;
+    assert_eq!(rt; g.len(), 5);
+    let copy = g.copy()?;
+    assert_eq!(rt; copy.len(), 5);
+    for g in [&g, &copy] {
+        assert_eq!(rt; head(&rt, g, 0), Head::Con(NIL));
+        assert_eq!(rt; head(&rt, g, 1), Head::Elem(SortId(7), 3));
+        assert_eq!(rt; head(&rt, g, 4), Head::Con(SCONS));
+        assert!(rt; children(&rt, g, 1).is_empty());
+        assert_eq!(rt; children(&rt, g, 2), [NodeId(1), NodeId(0)].as_slice());
+        assert_eq!(rt; children(&rt, g, 3), [NodeId(1), NodeId(4)].as_slice());
+        assert!(rt; are_same(&rt, alloc, g, 3, 4)?);
+    }
+    agreement();
+    Ok(())
+}
+
+#[test]
+fn gives_numbers_back(rt: HostRuntime) -> Result<(), Fail> {
+    let alloc = rt.alloc();
+    let copied = NodeIds::from_slice(alloc, &[NodeId(4), NodeId(2)])?;
+    assert_eq!(rt; copied.as_slice(), [NodeId(4), NodeId(2)].as_slice());
+    assert_eq!(rt;
+        copied.into_vec().as_slice(),
+        [NodeId(4), NodeId(2)].as_slice()
+    );
+    Ok(())
+}
