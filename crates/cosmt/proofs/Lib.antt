@@ -2,6 +2,7 @@ pub mod PlaceLemmas
 pub mod Lists
 pub mod LiteralLemmas
 pub mod Counts
+pub mod SignatureLemmas
 pub mod SessionLemmas
 pub mod TurnLemmas
 pub mod InputLemmas

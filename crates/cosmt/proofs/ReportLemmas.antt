@@ -19,6 +19,15 @@ use Rattle.cosmt.specs.Run.{most_bytes, Answers, AnswersSoFar, BreaksOff, Solves
 use Rattle.cosmt.proofs.TurnLemmas.{append_nil, appended-twice, front-more}
 use Rattle.cosmt.proofs.ScriptLemmas.{Laws, text_front, text_whole, errors_told}
 
+-- a sink's error ends a run with OutputFault where it is a fault, and never with InputFault
+pub output_fault : (e : SinkError) → status_of_error e ≡ status.OutputFault → e ≡ sink.Fault
+output_fault sink.Fault h = refl
+output_fault sink.NoMemory h = cc
+
+pub no_input_fault : (e : SinkError) → status_of_error e ≡ status.InputFault → ⊥
+no_input_fault sink.Fault h = cc
+no_input_fault sink.NoMemory h = cc
+
 -- the sink failed while the line of the error was written
 pub Refused-broke : (error : ℕ × ℕ) (e : SinkError) (errors : List (ℕ × ℕ)) (old new : Option (List ℕ)) → errors ≡ error ∷ [] → GrewByFront (error_line error) old new → Refused error (status_of_error e) errors old new
 Refused-broke error sink.Fault errors old new told grew = (told, grew)

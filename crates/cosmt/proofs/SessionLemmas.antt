@@ -7,13 +7,14 @@ use Rattle.ct_sorts.specs.Lookup.{AreDistinct}
 use Rattle.ct_terms.specs.declared.ids.TermId.{TermId}
 use Rattle.ct_terms.specs.declared.ids.Lit.{Lit}
 use Rattle.ct_terms.specs.declared.term.Core.{Core}
-use Rattle.ct_terms.specs.declared.term.Core.TheVariants.{Con, Apply, Not}
-use Rattle.ct_terms.specs.Table.{Table, HasSort, AreSorted, StandsSorted}
+use Rattle.ct_terms.specs.declared.term.Core.TheVariants.{Apply, Not}
+use Rattle.ct_terms.specs.Table.{Table, AreSorted, StandsSorted}
 use Rattle.cosmt.specs.declared.session.Constant.{Constant}
 use Rattle.cosmt.specs.Command.{Formula}
 use Rattle.cosmt.specs.Verdict.{IsTrueUnder, Satisfies, Contradicts}
 use Rattle.cosmt.specs.Literals.{literal, Opposes, HasNoOpposites, IsConflict}
 use Rattle.cosmt.specs.Constants.{IsConstant, AreTermsOf, GrowsBy, IsAsserted, AreValues}
+use Rattle.cosmt.proofs.SignatureLemmas.{HasOnlyFunctions-declared}
 use Rattle.cosmt.specs.Session.{constant_of, formula_of, state_of, IsOverConstant, IsKept}
 use Rattle.cosmt.proofs.Lists.{slice_get-append, slice_get-last, slice_get-push, slice_get-map_back, slice_get-map_at, slice_get-below, slice_get-inside, map-same}
 
@@ -94,20 +95,6 @@ module _ (d : Declarations) (table : Table) (constants : List Constant) (literal
         subst (IsTrueUnder (names d) values) there.2 (true_under place there.0 there.1);
   }
 
--- a term that is well sorted over a signature is so over one with one function more
-HasSort-declared : (d : Declarations) (f : Function) (table : Table) (core : Core) (sort : SortId) → HasSort d table core sort → HasSort (with_function d f) table core sort
-HasSort-declared d f table (Con c args) sort h = h
-HasSort-declared d f table (Apply g args) sort h = record {
-  function = h.function;
-  declared = slice_get-append d.functions (f ∷ []) g.0 h.function h.declared;
-  sorted = h.sorted;
-  result = h.result;
-}
-HasSort-declared d f table (Not t) sort h = h
-
-pub AreSorted-declared : (d : Declarations) (f : Function) (table : Table) → AreSorted d table → AreSorted (with_function d f) table
-AreSorted-declared d f table over t core sort at = HasSort-declared d f table core sort (over t core sort at)
-
 -- the terms of a constant stay in a table that grows
 AreTermsOf-grown : (table more : Table) (f : ℕ) (constant : Constant) → AreTermsOf table f constant → AreTermsOf (table ++ more) f constant
 AreTermsOf-grown table more f constant are = record {
@@ -128,6 +115,7 @@ module _ (d : Declarations) (table table' : Table) (constants : List Constant) (
 
   pub IsKept-declared : IsKept (with_function d f) table' constants literals
   IsKept-declared = record {
+    only = HasOnlyFunctions-declared d f kept.only;
     few = omega (arith, kept.few, declared_length);
     small = table_length;
     sorted = sorted;
@@ -137,6 +125,7 @@ module _ (d : Declarations) (table table' : Table) (constants : List Constant) (
 
   pub IsKept-added : (constant : Constant) → length constants ≡ length d.functions → AreTermsOf table' (length d.functions) constant → IsKept (with_function d f) table' (constants ++ constant ∷ []) literals
   IsKept-added constant whole are = record {
+    only = HasOnlyFunctions-declared d f kept.only;
     few = omega (arith, whole, length-append constants (constant ∷ []), declared_length);
     small = table_length;
     sorted = sorted;
@@ -171,6 +160,7 @@ module _ (d : Declarations) (table table' : Table) (constants : List Constant) (
 -- a literal over a constant was added
 pub IsKept-asserted : (d : Declarations) (table : Table) (constants : List Constant) (literals : List Lit) (l : Lit) → IsKept d table constants literals → IsOverConstant constants l → IsKept d table constants (literals ++ l ∷ [])
 IsKept-asserted d table constants literals l kept over = record {
+  only = kept.only;
   few = kept.few;
   small = kept.small;
   sorted = kept.sorted;

@@ -1,21 +1,19 @@
 -- What a session keeps.
-use Rattle.std.specs.Prelude.{◌≡◌, ℕ, ◌+◌, ◌*◌, ◌≤◌, List, [], Option, Some, None, length, map, slice_get, unwrap_or}
+use Rattle.std.specs.Prelude.{◌≡◌, ℕ, ◌+◌, ◌*◌, ◌≤◌, List, [], ◌∷◌, codes, Option, Some, length, map, slice_get, unwrap_or}
 use Rattle.ct_sorts.specs.declared.ids.SortId.{SortId}
 use Rattle.ct_terms.specs.declared.ids.Lit.{Lit}
 use Rattle.ct_terms.specs.declared.term.Core.{Core}
-use Rattle.ct_terms.specs.declared.term.Core.TheVariants.{Con, Apply, Not}
+use Rattle.ct_terms.specs.declared.term.Core.TheVariants.{Apply}
 use Rattle.ct_terms.specs.Table.{Table, AreSorted}
-use Rattle.ct_sorts.specs.Declarations.{Declarations}
+use Rattle.ct_sorts.specs.Declarations.{Declarations, start, ctor_names, sel_names, definition_names}
 use Rattle.cosmt.specs.Command.{Formula, State}
 use Rattle.cosmt.specs.Constants.{AreTermsOf}
 use Rattle.cosmt.specs.declared.session.Constant.{Constant}
 
 -- the number of the constant that a term is
 abbrev pub constant_of : Option (Core × SortId) → ℕ
-constant_of None = 0
-constant_of (Some (Con c args, s)) = 0
 constant_of (Some (Apply f args, s)) = f.0
-constant_of (Some (Not t, s)) = 0
+constant_of _ = 0
 
 -- the formula that a literal over the table stands for
 abbrev pub formula_of : List (List ℕ) → Table → Lit → Formula
@@ -32,8 +30,16 @@ pub record IsOverConstant (constants : List Constant) (l : Lit) : Type 0 where
 abbrev pub state_of : List (List ℕ) → Table → List Lit → State
 state_of names table literals = record { declared = names; asserted = map (formula_of names table) literals }
 
--- each constant has its two terms, which are well sorted over the signature, and each literal is over a constant
+-- beside Bool with its constructors, nothing but functions is declared
+pub record HasOnlyFunctions (d : Declarations) : Type 0 where
+  pub sorts : d.sorts ≡ start.sorts
+  pub ctors : ctor_names d ≡ codes "true" ∷ (codes "false" ∷ [])
+  pub sels : sel_names d ≡ []
+  pub definitions : definition_names d ≡ []
+
+-- nothing but functions is declared, each constant has its two terms, which are well sorted over the signature, and each literal is over a constant
 pub record IsKept (d : Declarations) (table : Table) (constants : List Constant) (literals : List Lit) : Type 0 where
+  pub only : HasOnlyFunctions d
   pub few : length constants ≤ length d.functions
   pub small : length table ≤ 2 + 2 * length d.functions
   pub sorted : AreSorted d table

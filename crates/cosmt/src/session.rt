@@ -8,6 +8,7 @@ ghost use Rattle.ct_terms.specs.Table.{IsWellSorted, AreSorted, StandsSorted, mo
 ghost use Rattle.cosmt.specs.Command.{declare, assert, start, MayDeclare, Fits, after};
 ghost use Rattle.cosmt.specs.Constants.{IsConstant, GrowsBy, AreTermsOf, AreTermsOfSome, AreValues};
 ghost use Rattle.cosmt.specs.Form.{command_of};
+ghost use Rattle.cosmt.specs.Session.{HasOnlyFunctions};
 ghost use Rattle.cosmt.specs.Verdict.{Meets};
 
 use crate::command::FirstCommand;
@@ -15,7 +16,7 @@ use crate::literals::Literals;
 use crate::verdict::FirstVerdict;
 use ct_sexpr::is_reserved;
 use ct_sorts::{FunId, Name, SigError, Signature, SortId, Symbol};
-use ct_terms::{Args, Core, Lit, TermError, TermId, TermTable};
+use ct_terms::{Args, Core, Lit, TermError, TermId, TermTable, one_lasting_sort};
 use std::alloc::{AllocError, Global};
 use std::marker::Model;
 
@@ -114,6 +115,7 @@ impl Session {
         let Some(f) = add_constant(alloc, &mut self.signature, name)? else {
             return Ok(false);
         };
+        one_lasting_sort();
         let constant = terms_of(alloc, &self.signature, &mut self.terms, f)?;
         self.constants.push(constant)?;
         Ok(true)
@@ -125,7 +127,7 @@ impl Session {
             (IsListed self.old.declared name.now × (self.new ≡ after self.old (assert (record { name = name.now; positive = positive }))))
             ((IsListed self.old.declared name.now → ⊥) × (self.new ≡ self.old))) }
     {
-        let Some(Symbol::Fun(f)) = self.signature.lookup(name) else {
+        let Some(f) = constant_named(&self.signature, name) else {
             return Ok(false);
         };
         let Some(constant) = constant_at(self.constants.as_slice(), f) else {
@@ -143,6 +145,7 @@ fn add_constant(
     signature: &mut Signature,
     name: &[u8],
 ) -> Result<Option<FunId>, AllocError>
+    requires only { HasOnlyFunctions signature.old }
     ensures added { IfOk result (λ found. MatchOption found
         ((MayDeclare (names signature.old) name.now → ⊥) × (signature.new ≡ signature.old))
         (λ f. MayDeclare (names signature.old) name.now × (f.0 ≡ length signature.old.functions)
@@ -157,6 +160,23 @@ fn add_constant(
         Ok(f) => Ok(Some(f)),
         Err(SigError::Refused(_)) => Ok(None),
         Err(SigError::NoMemory) => Err(AllocError),
+    }
+}
+
+/// The number of the constant with this name.
+fn constant_named(signature: &Signature, name: &[u8]) -> Option<FunId>
+    requires only { HasOnlyFunctions signature.now }
+    ensures named { MatchOption result (IsListed (names signature.now) name.now → ⊥) (λ f. slice_get (names signature.now) f.0 ≡ Some name.now) }
+{
+    if signature.funs() == 0 {
+        return None;
+    }
+    match signature.lookup(name) {
+        Some(Symbol::Fun(f)) => Some(f),
+        Some(Symbol::Ctor(_)) => None,
+        Some(Symbol::Sel(_)) => None,
+        Some(Symbol::Def(_)) => None,
+        None => None,
     }
 }
 

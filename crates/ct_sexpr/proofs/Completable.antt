@@ -4,10 +4,11 @@ use Rattle.std.proofs.lemmas.List.{append-nil}
 use Rattle.std.proofs.lemmas.Bool.Decides.{nat_tests}
 use Rattle.ct_sexpr.specs.Layout.{is_blank, ends_comment, behind_layout, behind_comment}
 use Rattle.ct_sexpr.specs.Run.{run_of, behind_run}
+use Rattle.ct_sexpr.specs.ErrorNumber.{ends_inside}
 use Rattle.ct_sexpr.specs.Atom.{Atom, quoted, text, word_of, behind_word, atom_of, is_word_byte}
 use Rattle.ct_sexpr.specs.Token.{Token, opening, closing, atom, is_between_bars, text_of, behind_text, behind_mark, Lexeme, token, wrong, cut, quoted_lexeme, text_lexeme, word_lexeme, lexeme_at, is_empty, text_may_go_on, may_go_on, AreTokens}
 use Rattle.ct_sexpr.specs.Expression.{Expression, Expressions, leaf, list, none, more, tokens_of, tokens_of_each, with_last}
-use Rattle.ct_sexpr.specs.Reading.{nesting_limit, open_behind, ends_inside, error_of, error_at, BeginsPart, BeginsCommand, HasError, IsLayout}
+use Rattle.ct_sexpr.specs.Reading.{nesting_limit, open_behind, error_of, error_at, BeginsPart, BeginsCommand, HasError, IsLayout}
 use Rattle.ct_sexpr.proofs.Nesting.{passed}
 use Rattle.ct_sexpr.proofs.FirstBytes.{First, an_opening, a_closing, a_quoted, a_text, a_word, no_token, lexeme_from, goes_on_from, first_of, true_or_false, same_error, no_error, error_cases, quoted_goes_on, quoted_is_not_cut, word_is_not_cut}
 use Rattle.ct_sexpr.proofs.Texts.{part_push}

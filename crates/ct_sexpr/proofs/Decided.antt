@@ -4,7 +4,8 @@ use Rattle.std.proofs.lemmas.Bool.Decides.{nat_tests}
 use Rattle.ct_sexpr.specs.Layout.{behind_layout}
 use Rattle.ct_sexpr.specs.Token.{Token, opening, closing, atom, token, lexeme_at, may_go_on, AreTokens}
 use Rattle.ct_sexpr.specs.Expression.{Expression}
-use Rattle.ct_sexpr.specs.Reading.{ends_inside, open_behind, error_at, BeginsPart, BeginsCommand, HasError, HasStandingError, Waits, IsUnfinished, IsLayout}
+use Rattle.ct_sexpr.specs.ErrorNumber.{ends_inside}
+use Rattle.ct_sexpr.specs.Reading.{open_behind, error_at, BeginsPart, BeginsCommand, HasError, HasStandingError, Waits, IsUnfinished, IsLayout}
 use Rattle.ct_sexpr.proofs.Nesting.{some_open, is_open, one_is_open}
 use Rattle.ct_sexpr.proofs.FirstBytes.{true_or_false, token_goes_on, MayStand, token_or_error}
 use Rattle.ct_sexpr.proofs.Texts.{part_push}

@@ -1,24 +1,17 @@
 -- The number of an error is 1 to 6, and most numbers say where the error stands.
-use Rattle.std.proofs.Common.{◌≡◌, ℕ, ◌≤◌, ◌<◌, Bool, true, false, eqb, nat_lt, ◌&&◌, cond, List, [], ◌∷◌, Option, Some, None, Result, Ok, Err, ◌⊎◌, inl, inr, refl, sym, ap, ◌∙◌, subst, arith, true≢false}
+use Rattle.std.proofs.Common.{◌≡◌, ℕ, ◌≤◌, ◌<◌, true, false, eqb, nat_lt, ◌&&◌, List, [], ◌∷◌, Option, Some, None, Result, Ok, Err, ◌⊎◌, inl, inr, refl, sym, ap, ◌∙◌, subst, arith, true≢false}
 use Rattle.std.specs.List.{list_all}
 use Rattle.std.specs.Char.{is_ascii_digit, is_ascii_hexdigit}
 use Rattle.std.proofs.lemmas.Bool.Decides.{nat_tests}
 use Rattle.ct_sexpr.specs.Layout.{behind_layout}
 use Rattle.ct_sexpr.specs.Run.{run_of, behind_run}
-use Rattle.ct_sexpr.specs.Atom.{Atom, word_of, behind_word, are_digits, is_point_and_digits, is_binary_digit, value_of, numeral_bound, begins_no_token, numeral_too_great, number, keyword_of, literal, atom_of}
+use Rattle.ct_sexpr.specs.ErrorNumber.{begins_no_token, closes_nothing, ends_inside, nests_too_deep, stands_outside, numeral_too_great}
+use Rattle.ct_sexpr.specs.Atom.{Atom, word_of, behind_word, are_digits, is_point_and_digits, is_binary_digit, value_of, numeral_bound, number, keyword_of, literal, atom_of}
 use Rattle.ct_sexpr.specs.Token.{Token, left_parenthesis, right_parenthesis, is_between_bars, text_of, behind_text, Lexeme, token, wrong, cut, bar, quoted_lexeme, text_lexeme, word_lexeme, lexeme_at, begins_atom, AreTokens}
-use Rattle.ct_sexpr.specs.Reading.{nesting_limit, open_behind, closes_nothing, ends_inside, nests_too_deep, stands_outside, error_of, error_at, HasError}
+use Rattle.ct_sexpr.specs.Reading.{nesting_limit, open_behind, error_of, error_at, HasError}
+use Rattle.ct_sexpr.proofs.Branches.{by_test, either_has}
 use Rattle.ct_sexpr.proofs.Nesting.{some_open, one_is_open}
 use Rattle.ct_sexpr.proofs.FirstBytes.{First, an_opening, a_closing, a_quoted, a_text, a_word, no_token, lexeme_from, first_of}
-
--- a test has what holds of each outcome, where it comes
-by_test : {A : Type 0} (P : A → Type 0) (p : Bool) (x y : A) → (p ≡ true → P x) → (p ≡ false → P y) → P (cond p x y)
-by_test P true x y f g = f refl
-by_test P false x y f g = g refl
-
--- and what holds of both
-either_has : {A : Type 0} (P : A → Type 0) (p : Bool) (x y : A) → P x → P y → P (cond p x y)
-either_has P p x y f g = by_test P p x y (λ e. f) (λ e. g)
 
 -- the number of the error of a word, or of what stands at the front
 abbrev IsOfLexeme : ℕ → Type 0

@@ -2,9 +2,10 @@
 use Rattle.std.proofs.Common.{◌≡◌, ℕ, Bool, true, false, eqb, nat_lt, cond, List, [], ◌∷◌, Option, Some, None, Result, Ok, Err, ◌⊎◌, inl, inr, refl, sym, ap, ◌∙◌, subst}
 use Rattle.std.proofs.lemmas.Bool.Decides.{eqb_tells}
 use Rattle.ct_sexpr.specs.Run.{run_of, behind_run}
-use Rattle.ct_sexpr.specs.Atom.{Atom, quoted, text, begins_word, word_of, behind_word, begins_no_token, atom_of}
+use Rattle.ct_sexpr.specs.ErrorNumber.{begins_no_token, closes_nothing, nests_too_deep, stands_outside}
+use Rattle.ct_sexpr.specs.Atom.{Atom, quoted, text, begins_word, word_of, behind_word, atom_of}
 use Rattle.ct_sexpr.specs.Token.{Token, opening, closing, atom, bar, is_between_bars, text_of, behind_text, Lexeme, token, wrong, cut, quoted_lexeme, text_lexeme, word_lexeme, lexeme_at, begins_atom, is_empty, text_may_go_on, may_go_on}
-use Rattle.ct_sexpr.specs.Reading.{nesting_limit, closes_nothing, nests_too_deep, stands_outside, error_of, error_at}
+use Rattle.ct_sexpr.specs.Reading.{nesting_limit, error_of, error_at}
 
 -- what a byte may begin
 pub data First : Type 0 where

@@ -3,10 +3,12 @@ use Rattle.std.proofs.Common.{◌≡◌, ℕ, ◌<◌, Bool, true, false, eqb, n
 use Rattle.std.proofs.lemmas.List.{append-nil}
 use Rattle.ct_sexpr.specs.Layout.{is_blank, ends_comment, behind_layout, behind_comment}
 use Rattle.ct_sexpr.specs.Run.{run_of, behind_run}
-use Rattle.ct_sexpr.specs.Atom.{Atom, quoted, begins_no_token, word_of, behind_word, atom_of, is_word_byte}
+use Rattle.ct_sexpr.specs.ErrorNumber.{begins_no_token, ends_inside}
+use Rattle.ct_sexpr.specs.Atom.{Atom, quoted, word_of, behind_word, atom_of, is_word_byte}
 use Rattle.ct_sexpr.specs.Token.{Token, closing, atom, bar, is_between_bars, text_of, behind_text, behind_mark, Lexeme, token, wrong, cut, quoted_lexeme, text_lexeme, word_lexeme, lexeme_at, AreTokens}
 use Rattle.ct_sexpr.specs.Expression.{Expression}
-use Rattle.ct_sexpr.specs.Reading.{BeginsCommand, ends_inside, error_of, error_at, HasError}
+use Rattle.ct_sexpr.specs.Reading.{BeginsCommand, error_of, error_at, HasError}
+use Rattle.ct_sexpr.proofs.Branches.{by_test, either_has}
 use Rattle.ct_sexpr.proofs.FirstBytes.{First, an_opening, a_closing, a_quoted, a_text, a_word, no_token, lexeme_from, first_of, same_error, no_error, error_cases}
 
 -- the text ends with the rest
@@ -19,10 +21,6 @@ IsBehind rest bytes = (front : List ℕ) × (0 < length front) × (bytes ≡ fro
 
 one_more : (b : ℕ) (bytes rest : List ℕ) → EndsWith bytes rest → EndsWith (b ∷ bytes) rest
 one_more b bytes rest h = (b ∷ h.0, ap (λ bs. b ∷ bs) h.1)
-
-choose : (c : Bool) (bytes x y : List ℕ) → EndsWith bytes x → EndsWith bytes y → EndsWith bytes (cond c x y)
-choose true bytes x y p q = p
-choose false bytes x y p q = q
 
 joined : (bytes middle rest : List ℕ) → EndsWith bytes middle → EndsWith middle rest → EndsWith bytes rest
 joined bytes middle rest p q = (p.0 ++ q.0, p.1 ∙ ap (λ xs. p.0 ++ xs) q.1 ∙ sym (append_assoc p.0 q.0 rest))
@@ -40,23 +38,21 @@ mutual
   pub layout_front : (bytes : List ℕ) → EndsWith bytes (behind_layout bytes)
   layout_front [] = ([], refl)
   layout_front (b ∷ bs) =
-      choose (eqb b 59) (b ∷ bs) _ _ (one_more b bs _ (comment_front bs))
-      (choose (is_blank b) (b ∷ bs) _ _ (one_more b bs _ (layout_front bs)) ([], refl))
+      either_has (EndsWith (b ∷ bs)) (eqb b 59) _ _ (one_more b bs _ (comment_front bs))
+      (either_has (EndsWith (b ∷ bs)) (is_blank b) _ _ (one_more b bs _ (layout_front bs)) ([], refl))
 
   comment_front : (bytes : List ℕ) → EndsWith bytes (behind_comment bytes)
   comment_front [] = ([], refl)
-  comment_front (b ∷ bs) = choose (ends_comment b) (b ∷ bs) _ _ (one_more b bs _ (layout_front bs)) (one_more b bs _ (comment_front bs))
+  comment_front (b ∷ bs) = either_has (EndsWith (b ∷ bs)) (ends_comment b) _ _ (one_more b bs _ (layout_front bs)) (one_more b bs _ (comment_front bs))
 
 -- the bytes that pass a test are a front
 run_front : (test : ℕ → Bool) (bytes : List ℕ) → EndsWith bytes (behind_run test bytes)
 run_front test [] = ([], refl)
-run_front test (b ∷ bs) = choose (test b) (b ∷ bs) _ _ (one_more b bs _ (run_front test bs)) ([], refl)
+run_front test (b ∷ bs) = either_has (EndsWith (b ∷ bs)) (test b) _ _ (one_more b bs _ (run_front test bs)) ([], refl)
 
--- each outcome of a test leaves an end
-by_test : (p : Bool) (x y : Option (List ℕ)) (bytes rest : List ℕ) → (x ≡ Some rest → EndsWith bytes rest) → (y ≡ Some rest → EndsWith bytes rest) →
-    cond p x y ≡ Some rest → EndsWith bytes rest
-by_test true x y bytes rest f g e = f e
-by_test false x y bytes rest f g e = g e
+-- what is left, where something is, is an end
+abbrev Leaves : List ℕ → List ℕ → Option (List ℕ) → Type 0
+Leaves bytes rest left = left ≡ Some rest → EndsWith bytes rest
 
 all_left : (left rest : List ℕ) → Some left ≡ Some rest → EndsWith left rest
 all_left left rest e = let same : left ≡ rest = cc in ([], same)
@@ -66,14 +62,14 @@ mutual
   text_front : (bytes rest : List ℕ) → behind_text bytes ≡ Some rest → EndsWith bytes rest
   text_front [] rest e = cc
   text_front (b ∷ bs) rest e =
-      by_test (eqb b 34) (behind_mark bs) (behind_text bs) (b ∷ bs) rest
-      (λ k. one_more b bs rest (mark_front bs rest k)) (λ k. one_more b bs rest (text_front bs rest k)) e
+      by_test (Leaves (b ∷ bs) rest) (eqb b 34) (behind_mark bs) (behind_text bs)
+      (λ _ k. one_more b bs rest (mark_front bs rest k)) (λ _ k. one_more b bs rest (text_front bs rest k)) e
 
   mark_front : (bytes rest : List ℕ) → behind_mark bytes ≡ Some rest → EndsWith bytes rest
   mark_front [] rest e = all_left [] rest e
   mark_front (b ∷ bs) rest e =
-      by_test (eqb b 34) (behind_text bs) (Some (b ∷ bs)) (b ∷ bs) rest
-      (λ k. one_more b bs rest (text_front bs rest k)) (all_left (b ∷ bs) rest) e
+      by_test (Leaves (b ∷ bs) rest) (eqb b 34) (behind_text bs) (Some (b ∷ bs))
+      (λ _ k. one_more b bs rest (text_front bs rest k)) (λ _ k. all_left (b ∷ bs) rest k) e
 
 first_byte : (b : ℕ) (bs rest : List ℕ) → EndsWith bs rest → IsBehind rest (b ∷ bs)
 first_byte b bs rest h = (b ∷ h.0, omega arith, ap (λ xs. b ∷ xs) h.1)

@@ -2,10 +2,11 @@
 use Rattle.std.proofs.Common.{◌≡◌, ℕ, Bool, true, false, eqb, nat_lt, cond, List, [], ◌∷◌, ◌++◌, Option, Some, None, Result, Ok, Err, ◌⊎◌, inl, inr, refl, sym, ap, ◌∙◌, subst, true≢false}
 use Rattle.ct_sexpr.specs.Layout.{is_blank, ends_comment, behind_layout, behind_comment}
 use Rattle.ct_sexpr.specs.Run.{run_of, behind_run}
-use Rattle.ct_sexpr.specs.Atom.{Atom, quoted, begins_no_token, word_of, behind_word, atom_of, is_word_byte}
+use Rattle.ct_sexpr.specs.ErrorNumber.{begins_no_token, closes_nothing, nests_too_deep}
+use Rattle.ct_sexpr.specs.Atom.{Atom, quoted, word_of, behind_word, atom_of, is_word_byte}
 use Rattle.ct_sexpr.specs.Token.{Token, opening, closing, atom, bar, is_between_bars, text_of, text_behind_mark, behind_text, behind_mark, Lexeme, token, wrong, cut, word_lexeme, lexeme_at, is_empty, text_may_go_on, may_go_on, AreTokens}
 use Rattle.ct_sexpr.specs.Expression.{Expression}
-use Rattle.ct_sexpr.specs.Reading.{nesting_limit, closes_nothing, nests_too_deep, error_of, error_at, BeginsCommand, HasStandingError}
+use Rattle.ct_sexpr.specs.Reading.{nesting_limit, error_of, error_at, BeginsCommand, HasStandingError}
 use Rattle.ct_sexpr.proofs.FirstBytes.{First, an_opening, a_closing, a_quoted, a_text, a_word, no_token, lexeme_from, goes_on_from, error_inside, error_from, first_of, true_or_false, same_error, no_error, token_goes_on, cut_goes_on}
 
 -- the test that a byte passes says what is left of longer bytes, too

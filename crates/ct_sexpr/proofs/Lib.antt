@@ -1,4 +1,5 @@
 pub mod Rows
+pub mod Branches
 pub mod Nesting
 pub mod Trees
 pub mod FirstBytes
@@ -22,4 +23,6 @@ pub mod ErrorPlaces
 pub mod Numbers
 pub mod Spelled
 pub mod Writing
+pub mod Depths
 pub mod ReadBack
+pub mod Names

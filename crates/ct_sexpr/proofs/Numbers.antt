@@ -1,5 +1,5 @@
 -- Digits, and the numbers that they write.
-use Rattle.std.proofs.Common.{◌≡◌, ℕ, suc, ◌+◌, ◌-◌, ◌*◌, ◌/◌, ◌%◌, ◌<◌, ◌≤◌, Bool, true, false, List, [], ◌∷◌, ◌++◌, length, length-append, get_or, drop, drop-cons, ◌&&◌, refl, ◌∙◌, arith}
+use Rattle.std.proofs.Common.{◌≡◌, ℕ, suc, ◌+◌, ◌-◌, ◌*◌, ◌/◌, ◌%◌, ◌<◌, ◌≤◌, Bool, true, List, [], ◌∷◌, ◌++◌, length, length-append, get_or, drop, drop-cons, refl, ◌∙◌, arith}
 use Rattle.std.specs.List.{list_all}
 use Rattle.std.specs.Char.{is_ascii_digit}
 use Rattle.std.specs.Fmt.{decimal}
@@ -29,11 +29,6 @@ pub value_behind-reaches : (ds : List ℕ) (i n bound : ℕ) → i < length ds �
 value_behind-reaches ds i n bound within h =
     let grows = value_behind-grows (drop (suc i) ds) (n * 10 + (get_or ds i 0 - 48)) in
     rw (drop-cons ds i 0 within) (omega arith)
-
--- two tests that both hold
-pub both : (a b : Bool) → a && b ≡ true → (a ≡ true) × (b ≡ true)
-both true b h = (refl, h)
-both false b h = cc
 
 -- digits, at least one, that write the number
 abbrev pub AreDigitsOf : ℕ → List ℕ → Type 0

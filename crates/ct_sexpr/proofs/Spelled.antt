@@ -1,92 +1,89 @@
--- Atoms that a text can spell: those of each command that was read.
-use Rattle.std.proofs.Common.{◌≡◌, ℕ, ◌<◌, Bool, true, false, ◌&&◌, eqb, ltb, cond, List, [], ◌∷◌, ◌++◌, Result, Ok, Err, Option, Some, None, IfOk, refl, sym, ap, ◌∙◌, subst, arith}
+-- Atoms that a text says have the form of their kind, and words of that form are read as their atoms.
+use Rattle.std.proofs.Common.{◌≡◌, ℕ, ◌<◌, Bool, true, false, not, ◌&&◌, ◌||◌, eqb, nat_lt, ltb, List, [], ◌∷◌, ◌++◌, Result, Ok, Err, Option, Some, None, IfOk, inl, inr, refl, sym, ap, ◌∙◌, subst, arith, true≢false}
 use Rattle.std.specs.List.{list_all}
 use Rattle.std.specs.Char.{is_ascii_digit, is_ascii_hexdigit}
 use Rattle.std.specs.Fmt.{decimal}
+use Rattle.std.specs.Cmp.Derive.{both_true}
 use Rattle.std.proofs.lemmas.Bool.{eqb-true}
-use Rattle.std.proofs.lemmas.Bool.Decides.{nat_tests}
+use Rattle.std.proofs.lemmas.Bool.Decides.{eqb_tells, nat_tests}
 use Rattle.ct_sexpr.specs.Layout.{behind_layout}
 use Rattle.ct_sexpr.specs.Run.{run_of, behind_run}
-use Rattle.ct_sexpr.specs.Atom.{Atom, symbol, quoted, keyword, text, numeral, decimal as decimal_atom, binary, hexadecimal, is_word_byte, begins_word, word_of, behind_word, are_digits, is_binary_digit, is_point_and_digits, value_of, numeral_bound, number, keyword_of, literal, atom_of}
+use Rattle.ct_sexpr.specs.Atom.{Atom, symbol, quoted, keyword, numeral, decimal as decimal_atom, binary, hexadecimal, is_word_byte, begins_word, word_of, behind_word, are_digits, is_binary_digit, is_point_and_digits, value_of, numeral_bound, number, keyword_of, literal, atom_of}
 use Rattle.ct_sexpr.specs.Token.{Token, opening, closing, atom, is_between_bars, text_of, behind_text, Lexeme, token, wrong, cut, quoted_lexeme, text_lexeme, word_lexeme, lexeme_at, AreTokens}
-use Rattle.ct_sexpr.specs.Written.{written_atom}
+use Rattle.ct_sexpr.specs.Expression.{Expression, leaf, list, Expressions, none, more, tokens_of, tokens_of_each}
+use Rattle.ct_sexpr.specs.Written.{forms_symbol, written_atom}
+use Rattle.ct_sexpr.specs.Readable.{is_keyword, is_decimal, is_literal, HasForm, IsReadable, AreReadable}
 use Rattle.ct_sexpr.specs.Scanning.{BeginsWord}
-use Rattle.ct_sexpr.proofs.Layouts.{told_apart}
-use Rattle.ct_sexpr.proofs.Numbers.{both, AreDigitsOf, decimal-AreDigitsOf}
+use Rattle.ct_sexpr.proofs.Branches.{by_test, negated, both}
+use Rattle.ct_sexpr.proofs.Layouts.{told_apart, run_goes_on}
+use Rattle.ct_sexpr.proofs.Numbers.{AreDigitsOf, decimal-AreDigitsOf}
 
 -- what is written of the atom is a word that is the atom
 abbrev pub IsWord : Atom → Type 0
 IsWord a = BeginsWord (written_atom a) × (atom_of (written_atom a) ≡ Ok a)
 
--- a text can spell the atom
-abbrev pub IsSpelled : Atom → Type 0
-IsSpelled (symbol w) = IsWord (symbol w)
-IsSpelled (quoted w) = behind_run is_between_bars w ≡ []
-IsSpelled (keyword w) = IsWord (keyword w)
-IsSpelled (text w) = Unit {0}
-IsSpelled (numeral n) = IsWord (numeral n)
-IsSpelled (decimal_atom w) = IsWord (decimal_atom w)
-IsSpelled (binary w) = IsWord (binary w)
-IsSpelled (hexadecimal w) = IsWord (hexadecimal w)
+-- a run leaves nothing behind it exactly if all bytes pass
+pub all_run : (test : ℕ → Bool) (bs : List ℕ) → list_all test bs ≡ true → behind_run test bs ≡ []
+all_run test [] h = refl
+all_run test (b ∷ bs) h =
+    let p = both (test b) (list_all test bs) h in
+    rw p.0 (all_run test bs p.1)
 
-abbrev pub IsSpelledToken : Token → Type 0
-IsSpelledToken opening = Unit {0}
-IsSpelledToken closing = Unit {0}
-IsSpelledToken (atom a) = IsSpelled a
+run_all : (test : ℕ → Bool) (bs : List ℕ) → behind_run test bs ≡ [] → list_all test bs ≡ true
+run_all test [] h = refl
+run_all test (b ∷ bs) h =
+    let p = run_goes_on (test b) (behind_run test bs) bs b h in
+    both_true p.0 (run_all test bs p.1)
 
-abbrev pub AreSpelled : List Token → Type 0
-AreSpelled [] = Unit {0}
-AreSpelled (t ∷ ts) = IsSpelledToken t × AreSpelled ts
+-- bytes of a kind that words have are a run of a word
+within_word : (test : ℕ → Bool) → ((b : ℕ) → test b ≡ true → is_word_byte b ≡ true) → (bs : List ℕ) → list_all test bs ≡ true → behind_word bs ≡ []
+within_word test f [] h = refl
+within_word test f (b ∷ bs) h =
+    let p = both (test b) (list_all test bs) h in
+    rw (f b p.0) (within_word test f bs p.1)
 
--- what holds in both branches holds behind a test
-branches : {A : Type 0} (P : A → Type 0) (t : Bool) (x y : A) → (t ≡ true → P x) → (t ≡ false → P y) → P (cond t x y)
-branches P true x y p q = p refl
-branches P false x y p q = q refl
+digit_in_word : (b : ℕ) → is_ascii_digit b ≡ true → is_word_byte b ≡ true
+digit_in_word b h = rw h refl
 
--- the word writes the atom, or is a numeral below the bound
-abbrev IsWrittenAs : List ℕ → Atom → Type 0
-IsWrittenAs w (numeral n) = n < numeral_bound
-IsWrittenAs w (quoted v) = ⊥
-IsWrittenAs w (text v) = ⊥
-IsWrittenAs w (symbol v) = v ≡ w
-IsWrittenAs w (keyword v) = v ≡ w
-IsWrittenAs w (decimal_atom v) = v ≡ w
-IsWrittenAs w (binary v) = v ≡ w
-IsWrittenAs w (hexadecimal v) = v ≡ w
+binary_digit_in_word : (b : ℕ) → is_binary_digit b ≡ true → is_word_byte b ≡ true
+binary_digit_in_word b h =
+    elim (eqb_tells b 48) [
+      | inl x ↦ subst (λ c. is_word_byte c ≡ true) (sym x.1) refl
+      | inr x ↦
+          elim (eqb_tells b 49) [
+            | inl y ↦ subst (λ c. is_word_byte c ≡ true) (sym y.1) refl
+            | inr y ↦ let none : is_binary_digit b ≡ false = rw (x.0, y.0) refl in absurd (true≢false (sym h ∙ none))
+          ]
+    ]
 
-abbrev Writes : List ℕ → Result Atom ℕ → Type 0
-Writes w r = IfOk r (IsWrittenAs w)
+hexadecimal_digit_in_word : (b : ℕ) → is_ascii_hexdigit b ≡ true → is_word_byte b ≡ true
+hexadecimal_digit_in_word b h = grind (arith, nat_tests)
 
-number_writes : (w : List ℕ) → Writes w (number w)
-number_writes w =
-    branches (Writes w) (list_all is_ascii_digit w) _ _
-    (λ _. branches (Writes w) (ltb (value_of w) numeral_bound) (Ok (numeral (value_of w))) (Err 6) (λ h. grind (arith, nat_tests)) (λ _. tt))
-    (λ _. branches (Writes w) (is_point_and_digits (behind_run is_ascii_digit w)) (Ok (decimal_atom w)) (Err 1) (λ _. refl) (λ _. tt))
+some_digits : (test : ℕ → Bool) (ds : List ℕ) → are_digits test ds ≡ true → list_all test ds ≡ true
+some_digits test [] h = cc
+some_digits test (d ∷ ds) h = h
 
-keyword_writes : (bs : List ℕ) → Writes (58 ∷ bs) (keyword_of bs)
-keyword_writes [] = tt
-keyword_writes (b ∷ bs) = branches (Writes (58 ∷ (b ∷ bs))) (is_ascii_digit b) (Err 1) (Ok (keyword (58 ∷ (b ∷ bs)))) (λ _. tt) (λ _. refl)
+-- a word that forms a symbol is that symbol
+pub symbol_IsWord : (w : List ℕ) → forms_symbol w ≡ true → IsWord (symbol w)
+symbol_IsWord [] h = cc
+symbol_IsWord (b ∷ bs) h =
+    let p = both (not (is_ascii_digit b)) (list_all is_word_byte (b ∷ bs)) h in
+    let q = both (is_word_byte b) (list_all is_word_byte bs) p.1 in
+    let no_digit : is_ascii_digit b ≡ false = negated (is_ascii_digit b) p.0 in
+    ((rw q.0 refl, all_run is_word_byte bs q.1), rw (told_apart is_word_byte b 58 q.0 refl, told_apart is_word_byte b 35 q.0 refl, no_digit) refl)
 
-literal_writes : (bs : List ℕ) → Writes (35 ∷ bs) (literal bs)
-literal_writes [] = tt
-literal_writes (b ∷ bs) =
-    let w = 35 ∷ (b ∷ bs) in
-    branches (Writes w) (eqb b 98 && are_digits is_binary_digit bs) (Ok (binary w)) _ (λ _. refl)
-    (λ _. branches (Writes w) (eqb b 120 && are_digits is_ascii_hexdigit bs) (Ok (hexadecimal w)) (Err 1) (λ _. refl) (λ _. tt))
+-- so it is behind a colon
+behind_colon : (bs : List ℕ) → forms_symbol bs ≡ true → IsWord (keyword (58 ∷ bs))
+behind_colon [] h = cc
+behind_colon (c ∷ cs) h =
+    let p = both (not (is_ascii_digit c)) (list_all is_word_byte (c ∷ cs)) h in
+    ((refl, all_run is_word_byte (c ∷ cs) p.1), rw (negated (is_ascii_digit c) p.0) refl)
 
-atom_writes : (w : List ℕ) → Writes w (atom_of w)
-atom_writes [] = tt
-atom_writes (b ∷ bs) =
-    let w = b ∷ bs in
-    branches (Writes w) (eqb b 58) (keyword_of bs) _ (λ h. subst (λ c. Writes (c ∷ bs) (keyword_of bs)) (sym (eqb-true b 58 h)) (keyword_writes bs))
-    (λ _. branches (Writes w) (eqb b 35) (literal bs) _ (λ h. subst (λ c. Writes (c ∷ bs) (literal bs)) (sym (eqb-true b 35 h)) (literal_writes bs))
-    (λ _. branches (Writes w) (is_ascii_digit b) (number w) (Ok (symbol w)) (λ _. number_writes w) (λ _. refl)))
-
-digits_behind_word : (ds : List ℕ) → list_all is_ascii_digit ds ≡ true → behind_word ds ≡ []
-digits_behind_word [] h = refl
-digits_behind_word (d ∷ ds) h =
-    let p = both (is_ascii_digit d) (list_all is_ascii_digit ds) h in
-    rw p.0 (digits_behind_word ds p.1)
+pub keyword_IsWord : (w : List ℕ) → is_keyword w ≡ true → IsWord (keyword w)
+keyword_IsWord [] h = cc
+keyword_IsWord (b ∷ bs) h =
+    let p = both (eqb b 58) (forms_symbol bs) h in
+    subst (λ c. IsWord (keyword (c ∷ bs))) (sym (eqb-true b 58 p.0)) (behind_colon bs p.1)
 
 number_is : (n : ℕ) (w : List ℕ) → n < numeral_bound → AreDigitsOf n w → number w ≡ Ok (numeral n)
 number_is n w small d =
@@ -101,72 +98,156 @@ numeral_is : (n : ℕ) (w : List ℕ) → n < numeral_bound → AreDigitsOf n w 
 numeral_is n [] small d = absurd (omega arith)
 numeral_is n (b ∷ bs) small d =
     let p = both (is_ascii_digit b) (list_all is_ascii_digit bs) d.0 in
-    ((rw p.0 refl, digits_behind_word bs p.1), atom_of-digit b bs p.0 ∙ number_is n (b ∷ bs) small d)
+    ((rw p.0 refl, within_word is_ascii_digit digit_in_word bs p.1), atom_of-digit b bs p.0 ∙ number_is n (b ∷ bs) small d)
 
 pub numeral_IsWord : (n : ℕ) → n < numeral_bound → IsWord (numeral n)
 numeral_IsWord n small = numeral_is n (decimal n) small (decimal-AreDigitsOf n small)
 
-word_is : (w : List ℕ) (a : Atom) → BeginsWord w → atom_of w ≡ Ok a → written_atom a ≡ w → IsWord a
-word_is w a s e h = (subst BeginsWord (sym h) s, ap atom_of h ∙ e)
+-- a point and digits behind digits go on with the word, and are no digits
+digits_and_more : (ds : List ℕ) → behind_word (behind_run is_ascii_digit ds) ≡ [] → behind_word ds ≡ []
+digits_and_more [] h = refl
+digits_and_more (d ∷ ds) h =
+    by_test (λ left. behind_word left ≡ [] → behind_word (d ∷ ds) ≡ []) (is_ascii_digit d) (behind_run is_ascii_digit ds) (d ∷ ds)
+    (λ e k. rw e (digits_and_more ds k)) (λ e k. k) h
 
--- the atom of a word is one that a text can spell
-pub word_IsSpelled : (w : List ℕ) (a : Atom) → BeginsWord w → atom_of w ≡ Ok a → IsSpelled a
-word_IsSpelled w a s e = by a e (subst (Writes w) e (atom_writes w))
-  where
-    by : (a : Atom) → atom_of w ≡ Ok a → IsWrittenAs w a → IsSpelled a
-    by (symbol v) e h = word_is w (symbol v) s e h
-    by (quoted v) e h = absurd h
-    by (keyword v) e h = word_is w (keyword v) s e h
-    by (text v) e h = tt
-    by (numeral n) e h = numeral_IsWord n h
-    by (decimal_atom v) e h = word_is w (decimal_atom v) s e h
-    by (binary v) e h = word_is w (binary v) s e h
-    by (hexadecimal v) e h = word_is w (hexadecimal v) s e h
+point_in_word : (bs : List ℕ) → is_point_and_digits bs ≡ true → behind_word bs ≡ []
+point_in_word [] h = refl
+point_in_word (b ∷ bs) h =
+    let p = both (eqb b 46) (are_digits is_ascii_digit bs) h in
+    subst (λ c. behind_word (c ∷ bs) ≡ []) (sym (eqb-true b 46 p.0)) (within_word is_ascii_digit digit_in_word bs (some_digits is_ascii_digit bs p.1))
 
--- a token that stands at the front of bytes is one that a text can spell
-abbrev Spells : Lexeme → Type 0
-Spells (token t behind) = IsSpelledToken t
-Spells (wrong code place) = Unit {0}
-Spells cut = Unit {0}
+not_all_digits : (ds : List ℕ) (all : Bool) → list_all is_ascii_digit ds ≡ all → is_point_and_digits (behind_run is_ascii_digit ds) ≡ true → all ≡ false
+not_all_digits ds true e h =
+    let nothing : is_point_and_digits (behind_run is_ascii_digit ds) ≡ false = ap is_point_and_digits (all_run is_ascii_digit ds e) in
+    absurd (true≢false (sym h ∙ nothing))
+not_all_digits ds false e h = refl
+
+pub decimal_IsWord : (w : List ℕ) → is_decimal w ≡ true → IsWord (decimal_atom w)
+decimal_IsWord [] h = cc
+decimal_IsWord (d ∷ ds) h =
+    let p = both (is_ascii_digit d) (is_point_and_digits (behind_run is_ascii_digit ds)) h in
+    let not_all : list_all is_ascii_digit ds ≡ false = not_all_digits ds (list_all is_ascii_digit ds) refl p.1 in
+    ((rw p.0 refl, digits_and_more ds (point_in_word (behind_run is_ascii_digit ds) p.1)), atom_of-digit d ds p.0 ∙ rw (p.0, not_all, p.1) refl)
+
+-- behind a number sign and its letter digits are a literal
+pub binary_IsWord : (w : List ℕ) → is_literal 98 is_binary_digit w ≡ true → IsWord (binary w)
+binary_IsWord [] h = cc
+binary_IsWord (b ∷ []) h = cc
+binary_IsWord (b ∷ (c ∷ ds)) h =
+    let p = both (eqb b 35) (eqb c 98 && are_digits is_binary_digit ds) h in
+    let q = both (eqb c 98) (are_digits is_binary_digit ds) p.1 in
+    let whole : IsWord (binary (35 ∷ (98 ∷ ds))) = ((refl, within_word is_binary_digit binary_digit_in_word ds (some_digits is_binary_digit ds q.1)), rw q.1 refl) in
+    subst (λ x. IsWord (binary (x ∷ (c ∷ ds)))) (sym (eqb-true b 35 p.0)) (subst (λ x. IsWord (binary (35 ∷ (x ∷ ds)))) (sym (eqb-true c 98 q.0)) whole)
+
+pub hexadecimal_IsWord : (w : List ℕ) → is_literal 120 is_ascii_hexdigit w ≡ true → IsWord (hexadecimal w)
+hexadecimal_IsWord [] h = cc
+hexadecimal_IsWord (b ∷ []) h = cc
+hexadecimal_IsWord (b ∷ (c ∷ ds)) h =
+    let p = both (eqb b 35) (eqb c 120 && are_digits is_ascii_hexdigit ds) h in
+    let q = both (eqb c 120) (are_digits is_ascii_hexdigit ds) p.1 in
+    let whole : IsWord (hexadecimal (35 ∷ (120 ∷ ds))) = ((refl, within_word is_ascii_hexdigit hexadecimal_digit_in_word ds (some_digits is_ascii_hexdigit ds q.1)), rw q.1 refl) in
+    subst (λ x. IsWord (hexadecimal (x ∷ (c ∷ ds)))) (sym (eqb-true b 35 p.0)) (subst (λ x. IsWord (hexadecimal (35 ∷ (x ∷ ds)))) (sym (eqb-true c 120 q.0)) whole)
+
+-- the atom of a word, where it is one, has the form of its kind
+abbrev Forms : Result Atom ℕ → Type 0
+Forms r = IfOk r HasForm
+
+number_forms : (d : ℕ) (ds : List ℕ) → is_ascii_digit d ≡ true → Forms (number (d ∷ ds))
+number_forms d ds h =
+    let w = d ∷ ds in
+    by_test Forms (list_all is_ascii_digit w) _ _
+    (λ _. by_test Forms (nat_lt (value_of w) numeral_bound) (Ok (numeral (value_of w))) (Err 6) (λ small. grind (arith, nat_tests)) (λ _. tt))
+    (λ _. by_test Forms (is_point_and_digits (behind_run is_ascii_digit w)) (Ok (decimal_atom w)) (Err 1) (λ e. both_true h (rw h at e)) (λ _. tt))
+
+keyword_forms : (bs : List ℕ) → behind_word bs ≡ [] → Forms (keyword_of bs)
+keyword_forms [] h = tt
+keyword_forms (b ∷ bs) h =
+    by_test Forms (is_ascii_digit b) (Err 1) (Ok (keyword (58 ∷ (b ∷ bs)))) (λ _. tt) (λ e. both_true (ap not e) (run_all is_word_byte (b ∷ bs) h))
+
+literal_forms : (bs : List ℕ) → Forms (literal bs)
+literal_forms [] = tt
+literal_forms (b ∷ bs) =
+    by_test Forms (eqb b 98 && are_digits is_binary_digit bs) (Ok (binary (35 ∷ (b ∷ bs)))) _ (λ e. e)
+    (λ _. by_test Forms (eqb b 120 && are_digits is_ascii_hexdigit bs) (Ok (hexadecimal (35 ∷ (b ∷ bs)))) (Err 1) (λ e. e) (λ _. tt))
+
+first_of_three : (p q r : Bool) → p || (q || r) ≡ true → q ≡ false → r ≡ false → p ≡ true
+first_of_three true q r h e f = refl
+first_of_three false true r h e f = cc
+first_of_three false false true h e f = cc
+first_of_three false false false h e f = cc
+
+pub atom_forms : (w : List ℕ) → BeginsWord w → Forms (atom_of w)
+atom_forms [] s = absurd s
+atom_forms (b ∷ bs) s =
+    by_test Forms (eqb b 58) (keyword_of bs) _ (λ _. keyword_forms bs s.1)
+    (λ no_colon. by_test Forms (eqb b 35) (literal bs) _ (λ _. literal_forms bs)
+    (λ no_sign. by_test Forms (is_ascii_digit b) (number (b ∷ bs)) (Ok (symbol (b ∷ bs))) (λ e. number_forms b bs e)
+    (λ e. both_true (ap not e) (both_true (first_of_three (is_word_byte b) (eqb b 58) (eqb b 35) s.0 no_colon no_sign) (run_all is_word_byte bs s.1)))))
+
+-- the atom of a token has the form of its kind
+abbrev HasFormToken : Token → Type 0
+HasFormToken opening = Unit {0}
+HasFormToken closing = Unit {0}
+HasFormToken (atom a) = HasForm a
+
+abbrev HaveForms : List Token → Type 0
+HaveForms [] = Unit {0}
+HaveForms (t ∷ ts) = HasFormToken t × HaveForms ts
+
+abbrev Says : Lexeme → Type 0
+Says (token t behind) = HasFormToken t
+Says (wrong code place) = Unit {0}
+Says cut = Unit {0}
 
 behind_run-run_of : (test : ℕ → Bool) (bs : List ℕ) → behind_run test (run_of test bs) ≡ []
 behind_run-run_of test [] = refl
-behind_run-run_of test (b ∷ bs) = branches (λ r. behind_run test r ≡ []) (test b) (b ∷ run_of test bs) [] (λ h. rw h (behind_run-run_of test bs)) (λ _. refl)
+behind_run-run_of test (b ∷ bs) = by_test (λ r. behind_run test r ≡ []) (test b) (b ∷ run_of test bs) [] (λ h. rw h (behind_run-run_of test bs)) (λ _. refl)
 
-quoted_spells : (w rest : List ℕ) → behind_run is_between_bars w ≡ [] → Spells (quoted_lexeme w rest)
-quoted_spells w [] h = tt
-quoted_spells w (c ∷ cs) h = branches Spells (eqb c 124) (token (atom (quoted w)) cs) (wrong 1 (c ∷ cs)) (λ _. h) (λ _. tt)
+quoted_says : (w rest : List ℕ) → list_all is_between_bars w ≡ true → Says (quoted_lexeme w rest)
+quoted_says w [] h = tt
+quoted_says w (c ∷ cs) h = by_test Says (eqb c 124) (token (atom (quoted w)) cs) (wrong 1 (c ∷ cs)) (λ _. h) (λ _. tt)
 
-text_spells : (w : List ℕ) (behind : Option (List ℕ)) → Spells (text_lexeme w behind)
-text_spells w None = tt
-text_spells w (Some bs) = tt
+text_says : (w : List ℕ) (behind : Option (List ℕ)) → Says (text_lexeme w behind)
+text_says w None = tt
+text_says w (Some bs) = tt
 
-word_spells : (r : Result Atom ℕ) (bytes behind : List ℕ) → IfOk r IsSpelled → Spells (word_lexeme r bytes behind)
-word_spells (Ok a) bytes behind h = h
-word_spells (Err code) bytes behind h = tt
+word_says : (r : Result Atom ℕ) (bytes behind : List ℕ) → Forms r → Says (word_lexeme r bytes behind)
+word_says (Ok a) bytes behind h = h
+word_says (Err code) bytes behind h = tt
 
-word_IfSpelled : (w : List ℕ) (r : Result Atom ℕ) → BeginsWord w → atom_of w ≡ r → IfOk r IsSpelled
-word_IfSpelled w (Ok a) s e = word_IsSpelled w a s e
-word_IfSpelled w (Err code) s e = tt
-
-lexeme_spells : (bytes : List ℕ) → Spells (lexeme_at bytes)
-lexeme_spells [] = tt
-lexeme_spells (b ∷ bs) =
-    branches Spells (eqb b 40) (token opening bs) _ (λ _. tt)
-    (λ _. branches Spells (eqb b 41) (token closing bs) _ (λ _. tt)
-    (λ _. branches Spells (eqb b 124) (quoted_lexeme (run_of is_between_bars bs) (behind_run is_between_bars bs)) _ (λ _. quoted_spells (run_of is_between_bars bs) (behind_run is_between_bars bs) (behind_run-run_of is_between_bars bs))
-    (λ _. branches Spells (eqb b 34) (text_lexeme (text_of bs) (behind_text bs)) _ (λ _. text_spells (text_of bs) (behind_text bs))
-    (λ _. branches Spells (begins_word b) (word_lexeme (atom_of (b ∷ word_of bs)) (b ∷ bs) (behind_word bs)) (wrong 1 (b ∷ bs))
-    (λ h. word_spells (atom_of (b ∷ word_of bs)) (b ∷ bs) (behind_word bs) (word_IfSpelled (b ∷ word_of bs) (atom_of (b ∷ word_of bs)) (h, behind_run-run_of is_word_byte bs) refl))
+lexeme_says : (bytes : List ℕ) → Says (lexeme_at bytes)
+lexeme_says [] = tt
+lexeme_says (b ∷ bs) =
+    by_test Says (eqb b 40) (token opening bs) _ (λ _. tt)
+    (λ _. by_test Says (eqb b 41) (token closing bs) _ (λ _. tt)
+    (λ _. by_test Says (eqb b 124) (quoted_lexeme (run_of is_between_bars bs) (behind_run is_between_bars bs)) _
+    (λ _. quoted_says (run_of is_between_bars bs) (behind_run is_between_bars bs) (run_all is_between_bars (run_of is_between_bars bs) (behind_run-run_of is_between_bars bs)))
+    (λ _. by_test Says (eqb b 34) (text_lexeme (text_of bs) (behind_text bs)) _ (λ _. text_says (text_of bs) (behind_text bs))
+    (λ _. by_test Says (begins_word b) (word_lexeme (atom_of (b ∷ word_of bs)) (b ∷ bs) (behind_word bs)) (wrong 1 (b ∷ bs))
+    (λ h. word_says (atom_of (b ∷ word_of bs)) (b ∷ bs) (behind_word bs) (atom_forms (b ∷ word_of bs) (h, behind_run-run_of is_word_byte bs)))
     (λ _. tt)))))
 
--- tokens that bytes begin with are tokens that a text can spell
-pub tokens_AreSpelled : (ts : List Token) (bytes rest : List ℕ) → AreTokens ts bytes rest → AreSpelled ts
-tokens_AreSpelled [] bytes rest h = tt
-tokens_AreSpelled (t ∷ ts) bytes rest h = (subst Spells h.1 (lexeme_spells (behind_layout bytes)), tokens_AreSpelled ts h.0 rest h.2)
+tokens_HaveForms : (ts : List Token) (bytes rest : List ℕ) → AreTokens ts bytes rest → HaveForms ts
+tokens_HaveForms [] bytes rest h = tt
+tokens_HaveForms (t ∷ ts) bytes rest h = (subst Says h.1 (lexeme_says (behind_layout bytes)), tokens_HaveForms ts h.0 rest h.2)
 
-pub AreSpelled-parts : (ts us : List Token) → AreSpelled (ts ++ us) → AreSpelled ts × AreSpelled us
-AreSpelled-parts [] us h = (tt, h)
-AreSpelled-parts (t ∷ ts) us h =
-    let p = AreSpelled-parts ts us h.1 in
+HaveForms-parts : (ts us : List Token) → HaveForms (ts ++ us) → HaveForms ts × HaveForms us
+HaveForms-parts [] us h = (tt, h)
+HaveForms-parts (t ∷ ts) us h =
+    let p = HaveForms-parts ts us h.1 in
     ((h.0, p.0), p.1)
+
+mutual
+  forms_readable : (e : Expression) → HaveForms (tokens_of e) → IsReadable e
+  forms_readable (leaf a) h = h.0
+  forms_readable (list es) h = forms_readable_each es (HaveForms-parts (tokens_of_each es) (closing ∷ []) h.1).0
+
+  forms_readable_each : (es : Expressions) → HaveForms (tokens_of_each es) → AreReadable es
+  forms_readable_each none h = tt
+  forms_readable_each (more e es) h =
+      let p = HaveForms-parts (tokens_of e) (tokens_of_each es) h in
+      (forms_readable e p.0, forms_readable_each es p.1)
+
+-- an expression of which bytes begin with the tokens is readable
+pub tokens_IsReadable : (e : Expression) (bytes rest : List ℕ) → AreTokens (tokens_of e) bytes rest → IsReadable e
+tokens_IsReadable e bytes rest h = forms_readable e (tokens_HaveForms (tokens_of e) bytes rest h)

@@ -1,9 +1,10 @@
 -- Atoms (SMT-LIB 2.7, section 3.1): symbols, keywords, strings and numbers. The project's own choice, and wider than the
 -- standard, are zeros in front of a number (`007`, `00.5`), control bytes in quoted symbols and strings, and a reserved
--- word behind a colon (`:let`); its own are, too, the bound of numerals and the numbers of the errors.
+-- word behind a colon (`:let`); its own is, too, the bound of numerals.
 use Rattle.std.specs.Prelude.{ℕ, ◌+◌, ◌-◌, ◌*◌, ◌^◌, Bool, false, ◌||◌, ◌&&◌, ◌==◌, nat_lt, List, [], ◌∷◌, Result, Ok, Err, if◌then◌else◌, codes}
 use Rattle.std.specs.List.{list_any, list_all}
 use Rattle.std.specs.Char.{is_ascii_alphanumeric, is_ascii_digit, is_ascii_hexdigit}
+use Rattle.ct_sexpr.specs.ErrorNumber.{begins_no_token, numeral_too_great}
 use Rattle.ct_sexpr.specs.Run.{run_of, behind_run}
 
 -- A quoted symbol is told without its bars, a string without its marks and with each mark inside it once, and a
@@ -73,14 +74,6 @@ value_of digits = value_behind 0 digits
 -- numerals end below this number
 abbrev pub numeral_bound : ℕ
 numeral_bound = 2 ^ 128
-
--- the number of the error for bytes that begin no token, as a word that is no atom
-abbrev pub begins_no_token : ℕ
-begins_no_token = 1
-
--- the number of the error for a numeral that is too great
-abbrev pub numeral_too_great : ℕ
-numeral_too_great = 6
 
 -- a word that begins with a digit: a numeral, or a decimal, which is digits, a point and digits
 abbrev pub number : List ℕ → Result Atom ℕ

@@ -1,5 +1,5 @@
 -- Expressions (SMT-LIB 2.7, section 3.2): atoms, and lists of expressions.
-use Rattle.std.specs.Prelude.{ℕ, List, [], ◌∷◌, ◌++◌}
+use Rattle.std.specs.Prelude.{ℕ, ◌+◌, max, List, [], ◌∷◌, ◌++◌}
 use Rattle.ct_sexpr.specs.Atom.{Atom, symbol}
 use Rattle.ct_sexpr.specs.Token.{Token, opening, closing, atom}
 
@@ -21,6 +21,16 @@ abbrev mutual
   pub tokens_of_each : Expressions → List Token
   tokens_of_each none = []
   tokens_of_each (more e es) = tokens_of e ++ tokens_of_each es
+
+-- how deep the parentheses of an expression nest
+abbrev mutual
+  pub nesting : Expression → ℕ
+  nesting (leaf a) = 0
+  nesting (list es) = nesting_of_each es + 1
+
+  pub nesting_of_each : Expressions → ℕ
+  nesting_of_each none = 0
+  nesting_of_each (more e es) = max (nesting e) (nesting_of_each es)
 
 -- one more expression at the end
 abbrev pub with_last : Expressions → Expression → Expressions

@@ -1,5 +1,6 @@
 pub mod Layout
 pub mod Run
+pub mod ErrorNumber
 pub mod Atom
 pub mod Token
 pub mod Kind
@@ -8,6 +9,7 @@ pub mod Reading
 pub mod Text
 pub mod View
 pub mod Written
+pub mod Readable
 pub mod Unread
 pub mod Answer
 pub mod Open

@@ -1,8 +1,8 @@
 -- What bytes begin with: a whole command, which is a list (SMT-LIB 2.7, section 3.9), a part of one, or an error. The
--- errors, their numbers, when they stand and the limit of nesting are the project's own choice.
+-- errors, when they stand and the limit of nesting are the project's own choice.
 use Rattle.std.specs.Prelude.{◌≡◌, ℕ, ◌+◌, ◌-◌, ◌<◌, true, false, ◌==◌, nat_lt, List, [], ◌∷◌, ◌++◌, ◌⊎◌, Option, Some, None, if◌then◌else◌}
+use Rattle.ct_sexpr.specs.ErrorNumber.{begins_no_token, closes_nothing, ends_inside, nests_too_deep, stands_outside}
 use Rattle.ct_sexpr.specs.Layout.{behind_layout}
-use Rattle.ct_sexpr.specs.Atom.{begins_no_token}
 use Rattle.ct_sexpr.specs.Token.{Token, opening, closing, atom, left_parenthesis, right_parenthesis, Lexeme, token, wrong, cut, lexeme_at, begins_atom, may_go_on, AreTokens}
 use Rattle.ct_sexpr.specs.Expression.{Expression, tokens_of}
 
@@ -30,22 +30,6 @@ pub record BeginsCommand (bytes : List ℕ) (command : Expression) (rest : List 
   pub tokens : tokens_of command ≡ before ++ closing ∷ []
   pub part : BeginsPart bytes before 1 behind
   pub closed : AreTokens (closing ∷ []) behind rest
-
--- the number of the error for a closing parenthesis outside all parentheses
-abbrev pub closes_nothing : ℕ
-closes_nothing = 2
-
--- the number of the error for an input that ends inside parentheses
-abbrev pub ends_inside : ℕ
-ends_inside = 3
-
--- the number of the error for a parenthesis that is opened beyond the limit
-abbrev pub nests_too_deep : ℕ
-nests_too_deep = 4
-
--- the number of the error for an atom outside all parentheses
-abbrev pub stands_outside : ℕ
-stands_outside = 5
 
 -- the error of what stands at the front inside parentheses, where the input ends behind the bytes
 abbrev pub error_of : Lexeme → Option (ℕ × List ℕ)

@@ -92,10 +92,11 @@ abbrev pub EndsAt : Scanner → Option ℕ → Type 0
 EndsAt scanner None = (whole : List ℕ) → Reached scanner whole [] → IsLayout whole
 EndsAt scanner (Some code) = (whole : List ℕ) → Reached scanner whole [] → EndsWrong scanner code whole
 
--- a byte of the text was read, and a byte that comes next was not
+-- one byte of the text is read
 abbrev pub Passes : Scanner → Scanner → ℕ → Type 0
 Passes old new b = (whole left : List ℕ) → Reached old whole (b ∷ left) → Reached new whole left
 
+-- the byte that comes next is not read, and the scanner is where it was
 abbrev pub Stays : Scanner → Scanner → ℕ → Type 0
 Stays old new b = (whole left : List ℕ) → Reached old whole (b ∷ left) → Reached new whole (b ∷ left)
 

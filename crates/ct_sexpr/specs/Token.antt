@@ -1,9 +1,10 @@
 -- Tokens (SMT-LIB 2.7, section 3.1): parentheses and atoms, one behind another. That control bytes may stand in quoted
--- symbols and strings is the project's own choice, and so are the numbers of the errors.
+-- symbols and strings is the project's own choice.
 use Rattle.std.specs.Prelude.{◌≡◌, ℕ, Bool, true, false, ◌||◌, not, ◌==◌, List, [], ◌∷◌, Option, Some, None, Result, Ok, Err, if◌then◌else◌}
 use Rattle.ct_sexpr.specs.Layout.{behind_layout}
 use Rattle.ct_sexpr.specs.Run.{run_of, behind_run}
-use Rattle.ct_sexpr.specs.Atom.{Atom, quoted, text, begins_word, word_of, behind_word, begins_no_token, atom_of}
+use Rattle.ct_sexpr.specs.ErrorNumber.{begins_no_token}
+use Rattle.ct_sexpr.specs.Atom.{Atom, quoted, text, begins_word, word_of, behind_word, atom_of}
 
 -- what a script is made of, between blanks and comments
 pub data Token : Type 0 where

@@ -65,10 +65,6 @@ abbrev mutual
   written_behind none = []
   written_behind (more e es) = 32 ∷ (written e ++ written_behind es)
 
--- a list, by its items
-abbrev pub written_list : Expressions → List ℕ
-written_list es = left_parenthesis ∷ (written_items es ++ right_parenthesis ∷ [])
-
 -- the atom with bars where they are needed alone
 abbrev pub plain_atom : Atom → Atom
 plain_atom (symbol w) = symbol w

@@ -9,15 +9,9 @@ ghost use Rattle.ct_sexpr.specs.View.{expression_of};
 ghost use Rattle.ct_sexpr.specs.Kind.{atom_as};
 
 use crate::bytes::Bytes;
-use crate::error::ReadError;
+use crate::error::{BEGINS_NO_TOKEN, NUMERAL_TOO_GREAT, ReadError};
 use crate::sexpr::Sexpr;
 use std::alloc::Global;
-
-/// The number of the error for bytes that begin no token.
-pub(crate) const BEGINS_NO_TOKEN: u16 = 1;
-
-/// The number of the error for a numeral of 2^128 or more.
-const NUMERAL_TOO_GREAT: u16 = 6;
 
 /// What a word is, beside its bytes.
 #[derive(Clone, Copy, Debug, PartialEq, Eq)]
@@ -55,18 +49,22 @@ pub(crate) fn atom(alloc: Global, kind: Kind, word: &[u8]) -> Result<Sexpr, Read
     ensures ok { IfOk result (λ e. expression_of e ≡ leaf (atom_as kind word.now)) }
     ensures err { IfErr result (λ e. e ≡ ReadError.NoMemory) }
 {
-    if let Kind::Numeral(value) = kind {
-        return Ok(Sexpr::Numeral(value));
+    match kind {
+        Kind::Numeral(value) => Ok(Sexpr::Numeral(value)),
+        Kind::Symbol => Ok(Sexpr::Symbol(copied(alloc, word)?)),
+        Kind::Keyword => Ok(Sexpr::Keyword(copied(alloc, word)?)),
+        Kind::Decimal => Ok(Sexpr::Decimal(copied(alloc, word)?)),
+        Kind::Binary => Ok(Sexpr::Binary(copied(alloc, word)?)),
+        Kind::Hex => Ok(Sexpr::Hex(copied(alloc, word)?)),
     }
-    let bytes = Bytes::new(Vec::from_slice(alloc, word)?);
-    Ok(match kind {
-        Kind::Symbol => Sexpr::Symbol(bytes),
-        Kind::Keyword => Sexpr::Keyword(bytes),
-        Kind::Decimal => Sexpr::Decimal(bytes),
-        Kind::Binary => Sexpr::Binary(bytes),
-        Kind::Hex => Sexpr::Hex(bytes),
-        Kind::Numeral(value) => Sexpr::Numeral(value),
-    })
+}
+
+/// The bytes in a vector of their own.
+pub(crate) fn copied(alloc: Global, bytes: &[u8]) -> Result<Bytes, ReadError>
+    ensures ok { IfOk result (λ b. b ≡ bytes.now) }
+    ensures err { IfErr result (λ e. e ≡ ReadError.NoMemory) }
+{
+    Ok(Bytes::new(Vec::from_slice(alloc, bytes)?))
 }
 
 /// A keyword, by what stands behind its colon.

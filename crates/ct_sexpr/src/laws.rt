@@ -1,8 +1,12 @@
-ghost use Rattle.std.specs.Prelude.{◌≡◌, ℕ, true, ◌<◌, ◌≤◌, ◌⊎◌, List, [], ◌∷◌, ◌++◌, length};
+ghost use Rattle.std.specs.Prelude.{◌≡◌, ◌↔◌, ℕ, true, ◌<◌, ◌≤◌, ◌⊎◌, List, [], ◌∷◌, ◌++◌, length, Some};
 ghost use Rattle.ct_sexpr.specs.Layout.{behind_layout, line_of_rest};
-ghost use Rattle.ct_sexpr.specs.Expression.{Expression, Expressions, list};
+ghost use Rattle.ct_sexpr.specs.Expression.{Expression, Expressions, list, nesting};
 ghost use Rattle.ct_sexpr.specs.Token.{left_parenthesis, right_parenthesis, begins_atom};
-ghost use Rattle.ct_sexpr.specs.Reading.{BeginsCommand, closes_nothing, ends_inside, nests_too_deep, stands_outside, HasError, HasStandingError, IsUnfinished, IsLayout, HasNoCommand};
+ghost use Rattle.ct_sexpr.specs.ErrorNumber.{closes_nothing, ends_inside, nests_too_deep, stands_outside};
+ghost use Rattle.ct_sexpr.specs.Reading.{nesting_limit, BeginsCommand, HasError, HasStandingError, IsUnfinished, IsLayout, HasNoCommand};
+ghost use Rattle.ct_sexpr.specs.Atom.{Atom};
+ghost use Rattle.ct_sexpr.specs.Written.{written_name, written_atom, written, plain_atom, plain};
+ghost use Rattle.ct_sexpr.specs.Readable.{HasForm, IsReadable, name_of_atom};
 ghost use Rattle.ct_sexpr.specs.Text.{Located, Ending, lexical, Reads, Standing, waiting, refused, ReadsSoFar};
 
 /// The laws of reading the first command of bytes, for whoever proves something about scripts. The function does
@@ -78,4 +82,20 @@ pub fn one_text()
         → ReadsSoFar line bytes cs (refused code at) → Reads line (bytes ++ tail) cs (lexical code at) }
     ensures waiting_so_far { (line : ℕ) (bytes tail : List ℕ) (cs ds : List Located) (x : Ending)
         → ReadsSoFar line bytes cs waiting → Reads line (bytes ++ tail) ds x → (es : List Located) × (ds ≡ cs ++ es) }
+{}
+
+/// The laws of what is written, for whoever proves something about texts that are printed and read back. The function does
+/// nothing.
+///
+/// An expression is readable where each atom in it has the form of its kind. The command that bytes begin with is readable
+/// and nests within the limit, and what is written of a readable list that nests within the limit is that command and
+/// nothing else, with bars only where they are needed. Two readable expressions have one text exactly where they are the
+/// same but for bars that are not needed; here nesting does not matter, and atoms are meant, too. Bars that are not needed
+/// change no name, as `a` and `|a|` are one, and a name has one text, however it was written.
+pub fn written_texts()
+    ensures command_is_readable { (bytes : List ℕ) (e : Expression) (rest : List ℕ) → BeginsCommand bytes e rest → IsReadable e × (nesting e ≤ nesting_limit) }
+    ensures list_is_read { (es : Expressions) → IsReadable (list es) → nesting (list es) ≤ nesting_limit → BeginsCommand (written (list es)) (plain (list es)) [] }
+    ensures same_text { (e f : Expression) → IsReadable e → IsReadable f → (written e ≡ written f) ↔ (plain e ≡ plain f) }
+    ensures one_name { (a : Atom) → name_of_atom (plain_atom a) ≡ name_of_atom a }
+    ensures name_text { (a : Atom) (name : List ℕ) → HasForm a → name_of_atom a ≡ Some name → written_atom a ≡ written_name name }
 {}

@@ -20,11 +20,8 @@ mod write;
 
 pub use bytes::Bytes;
 pub use error::ReadError;
-pub use laws::{error_places, one_reading, one_text};
+pub use laws::{error_places, one_reading, one_text, written_texts};
 pub use reader::{Next, Reader};
 pub use reserved::{is_plain, is_reserved};
 pub use sexpr::Sexpr;
 pub use write::sexpr_text;
-
-/// The greatest nesting of parentheses in a command.
-pub(crate) const NESTING_LIMIT: usize = 1_000;

@@ -9,6 +9,9 @@ use crate::sexpr::Sexpr;
 use std::alloc::Global;
 use std::marker::Model;
 
+/// The greatest nesting of parentheses in a command.
+pub(crate) const NESTING_LIMIT: usize = 1_000;
+
 /// The lists of a command that are not yet closed, the outermost first, each with its items so far.
 #[derive(Drop)]
 pub(crate) struct OpenLists {
@@ -55,6 +58,7 @@ impl OpenLists {
 
     /// Puts an item into the innermost list. Where none is open, nothing is done.
     pub(crate) fn add(&mut self, item: Sexpr) -> Result<(), ReadError>
+        ensures outside { self.old.depth ≡ 0 → self.new ≡ self.old }
         ensures ok { 0 < self.old.depth → OnOk result (self.new ≡ record { tokens = self.old.tokens ++ tokens_of (expression_of item); depth = self.old.depth }) }
         ensures refused { OnErr result (self.new ≡ self.old) }
         ensures err { IfErr result (λ e. e ≡ ReadError.NoMemory) }

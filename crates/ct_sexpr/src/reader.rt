@@ -39,6 +39,7 @@ pub struct Reader {
     scanner: Scanner,
     /// How many lines ended before `start`.
     lines: u64,
+    /// How many bytes were fed in all; only the contracts read it.
     fed: u64,
     ended: bool,
 }
@@ -108,8 +109,8 @@ impl Reader {
     /// Gives the next whole command. `Need` comes where the input has not ended, no lexical error stands and no
     /// further whole command was fed; `End` where the input has ended and nothing but blanks and comments is left. A
     /// lexical error has its number, 1 to 6, and its line, as `ReadError` says; an error of a word, a keyword or a
-    /// literal stands once a byte is there behind its word bytes, that the input ends inside a command once it has
-    /// ended, and every other error at once. After one each later call gives the same, or `NoMemory`, which changes nothing.
+    /// literal stands once a byte is there behind its word bytes or the input has ended, that the input ends inside a
+    /// command once it has ended, and every other error at once. After one each later call gives the same, or `NoMemory`, which changes nothing.
     pub fn next(&mut self) -> Result<Next, ReadError>
         ensures answers { Answers self.old self.new result }
     {

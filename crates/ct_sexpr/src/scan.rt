@@ -9,7 +9,7 @@ use crate::scanner::{Scanner, Step};
 pub(crate) struct Scanned {
     /// How many of the bytes were read.
     pub(crate) count: usize,
-    /// What stopped the scan; it is `Going` where all bytes were read.
+    /// What stopped the scan; it is `Going` where nothing did, so that all bytes were read.
     pub(crate) outcome: Result<Step, ReadError>,
 }
 

@@ -1,32 +1,20 @@
 ghost use Rattle.std.specs.Prelude.{◌≡◌, ℕ, ◌+◌, ◌<◌, ◌≤◌, ◌^◌, ◌==◌, true, false, [], ◌∷◌, ◌++◌, Ok, Err, OnOk, OnErr, IfErr, IfSome, IfNone};
-ghost use Rattle.ct_sexpr.specs.Layout.{is_blank, line_feeds};
+ghost use Rattle.ct_sexpr.specs.Layout.{is_blank, line_feeds, semicolon};
 ghost use Rattle.ct_sexpr.specs.Atom.{Atom, begins_word, atom_of};
-ghost use Rattle.ct_sexpr.specs.Token.{is_between_bars};
+ghost use Rattle.ct_sexpr.specs.Token.{left_parenthesis, right_parenthesis, quotation_mark, is_between_bars};
 ghost use Rattle.ct_sexpr.specs.Expression.{tokens_of};
 ghost use Rattle.ct_sexpr.specs.View.{expression_of};
 ghost use Rattle.ct_sexpr.specs.Scanning.{IsFresh, Steps, EndsAt, lines_before};
 
-use crate::NESTING_LIMIT;
-use crate::atom::{BEGINS_NO_TOKEN, atom, kind_of};
+use crate::atom::{atom, copied, kind_of};
 use crate::byte_class::{begins_atom, ends_comment, is_blank, is_word_byte};
-use crate::bytes::Bytes;
-use crate::error::ReadError;
-use crate::open_lists::OpenLists;
+use crate::error::{
+    BEGINS_NO_TOKEN, CLOSES_NOTHING, ENDS_INSIDE, NESTS_TOO_DEEP, ReadError, STANDS_OUTSIDE,
+};
+use crate::open_lists::{NESTING_LIMIT, OpenLists};
 use crate::sexpr::Sexpr;
 use std::alloc::Global;
 use std::mem;
-
-/// The number of the error for a closing parenthesis that closes nothing.
-const CLOSES_NOTHING: u16 = 2;
-
-/// The number of the error for an input that ends inside a command.
-const ENDS_INSIDE: u16 = 3;
-
-/// The number of the error for a parenthesis that opens one list too many.
-const NESTS_TOO_DEEP: u16 = 4;
-
-/// The number of the error for an atom outside all parentheses.
-const STANDS_OUTSIDE: u16 = 5;
 
 /// What a scanner is inside.
 #[derive(Clone, Copy, Debug, PartialEq, Eq)]
@@ -66,7 +54,7 @@ pub(crate) struct Scanner {
     word: Vec<u8>,
     /// How many lines ended in the bytes read since the last command.
     line_feeds: u64,
-    /// How many of them ended before the first parenthesis of the command that is open.
+    /// How many of them ended before the first parenthesis of the command that was begun last.
     before: u64,
     alloc: Global,
 }
@@ -210,7 +198,7 @@ impl Scanner {
         match byte {
             b'\\' => Ok(Step::Wrong(BEGINS_NO_TOKEN)),
             b'|' => {
-                let name = Bytes::new(Vec::from_slice(self.alloc, &self.word)?);
+                let name = copied(self.alloc, &self.word)?;
                 self.end_atom(Sexpr::Quoted(name))?;
                 Ok(Step::Going)
             }
@@ -242,7 +230,7 @@ impl Scanner {
             self.mode = Mode::Text;
             return Ok(Step::Going);
         }
-        let content = Bytes::new(Vec::from_slice(self.alloc, &self.word)?);
+        let content = copied(self.alloc, &self.word)?;
         self.end_atom(Sexpr::Text(content))?;
         self.step_between(byte)
     }
@@ -267,7 +255,7 @@ impl Scanner {
     fn add_to_word(&mut self, byte: u8) -> Result<Step, ReadError>
         requires few { self.old.line_feeds + 1 < 2 ^ 64 }
         ensures quoted { self.old.mode ≡ Mode.Quoted → is_between_bars byte ≡ true → Steps self.old self.new byte result }
-        ensures text { self.old.mode ≡ Mode.Text → (byte == 34) ≡ false → Steps self.old self.new byte result }
+        ensures text { self.old.mode ≡ Mode.Text → (byte == quotation_mark) ≡ false → Steps self.old self.new byte result }
         ensures lines { self.new.line_feeds ≤ self.old.line_feeds + 1 }
     {
         self.word.push(byte)?;
@@ -299,7 +287,7 @@ impl Scanner {
     /// Reads an opening parenthesis.
     fn open_list(&mut self) -> Result<Step, ReadError>
         requires mode { self.old.mode ≡ Mode.Between }
-        ensures steps { Steps self.old self.new 40 result }
+        ensures steps { Steps self.old self.new left_parenthesis result }
         ensures lines { self.new.line_feeds ≡ self.old.line_feeds }
     {
         if self.lists.depth() >= NESTING_LIMIT {
@@ -314,7 +302,7 @@ impl Scanner {
     /// Reads a closing parenthesis.
     fn close_list(&mut self) -> Result<Step, ReadError>
         requires mode { self.old.mode ≡ Mode.Between }
-        ensures steps { Steps self.old self.new 41 result }
+        ensures steps { Steps self.old self.new right_parenthesis result }
         ensures lines { self.new.line_feeds ≡ self.old.line_feeds }
     {
         match self.lists.depth() {
@@ -331,9 +319,9 @@ impl Scanner {
     fn begin_atom(&mut self, byte: u8) -> Result<Step, ReadError>
         requires mode { self.old.mode ≡ Mode.Between }
         requires no_blank { is_blank byte ≡ false }
-        requires no_comment { (byte == 59) ≡ false }
-        requires no_opening { (byte == 40) ≡ false }
-        requires no_closing { (byte == 41) ≡ false }
+        requires no_comment { (byte == semicolon) ≡ false }
+        requires no_opening { (byte == left_parenthesis) ≡ false }
+        requires no_closing { (byte == right_parenthesis) ≡ false }
         ensures steps { Steps self.old self.new byte result }
         ensures lines { self.new.line_feeds ≡ self.old.line_feeds }
     {

@@ -247,7 +247,7 @@ fn strings_and_literals_are_read(rt: HostRuntime) -> Result<(), Fail> {
 
 #[test]
 fn bytes_that_begin_no_token_are_errors(rt: HostRuntime) -> Result<(), Fail> {
-    let cases: [(&[u8], &str); 36] = [
+    let cases: [(&[u8], &str); 35] = [
         // tokens that touch
         (
             b"(a\"x\"|b|:k#b0(c)#xf(1)2.0\"y\"d)",
@@ -264,10 +264,6 @@ fn bytes_that_begin_no_token_are_errors(rt: HostRuntime) -> Result<(), Fail> {
         (
             b"(#b0#b1#xa:k|q|\"t\"#b1;c\na;\r1;\n2.5;\n)",
             "1(<binary #b0> <binary #b1> <hex #xa> <keyword :k> <quoted q> <text t> <binary #b1> a <numeral 1> <decimal 2.5>)..",
-        ),
-        (
-            b"(a |b c| :k \"x\"\"y\" 007 #b01)",
-            "1(a <quoted b c> <keyword :k> <text x\"y> <numeral 7> <binary #b01>)..",
         ),
         // an error: a byte that begins no token
         (b"[", "!1@1!1@1"),

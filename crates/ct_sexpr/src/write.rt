@@ -1,8 +1,9 @@
 //! Expressions as they are written.
 ghost use Rattle.std.specs.Prelude.{◌≡◌, ℕ, List, [], ◌∷◌, ◌++◌, IfOk, IfErr, OnOk};
+ghost use Rattle.ct_sexpr.specs.Expression.{list};
 ghost use Rattle.ct_sexpr.specs.Reading.{BeginsCommand};
 ghost use Rattle.ct_sexpr.specs.View.{expression_of, expressions_of};
-ghost use Rattle.ct_sexpr.specs.Written.{written, written_name, written_text, written_list, written_items, doubled, plain};
+ghost use Rattle.ct_sexpr.specs.Written.{written, written_name, written_text, written_items, doubled, plain};
 
 use crate::bytes::Bytes;
 use crate::error::ReadError;
@@ -10,10 +11,10 @@ use crate::reserved::is_plain;
 use crate::sexpr::Sexpr;
 use std::alloc::Global;
 
-/// The expression as it is written (SMT-LIB 2.7, section 3.2): single blanks between the items of a list, names with
+/// The expression as it is written (SMT-LIB 2.7, sections 3.1 and 3.2): single blanks between the items of a list, names with
 /// bars where they need them, numerals in decimal without leading zeros, and strings with each quotation mark twice.
 /// What is written of a command that was read is read as the same expression, with a quoted name that needs no bars as
-/// a plain one. The only error is `NoMemory`.
+/// a plain one; `written_texts` says more of what is written. The only error is `NoMemory`.
 pub fn sexpr_text(alloc: Global, expr: &Sexpr) -> Result<Bytes, ReadError>
     ensures text { IfOk result (λ text. text ≡ written (expression_of expr.now)) }
     ensures err { IfErr result (λ e. e ≡ ReadError.NoMemory) }
@@ -87,7 +88,7 @@ fn write_in_text(byte: u8, out: &mut Vec<u8>) -> Result<(), ReadError>
 /// Writes the items between parentheses, with one blank between two.
 #[cycle(write)]
 fn write_list(alloc: Global, items: &[Sexpr], out: &mut Vec<u8>) -> Result<(), ReadError>
-    ensures ok { OnOk result (out.new.items ≡ out.old.items ++ written_list (expressions_of items.now)) }
+    ensures ok { OnOk result (out.new.items ≡ out.old.items ++ written (list (expressions_of items.now))) }
     ensures err { IfErr result (λ e. e ≡ ReadError.NoMemory) }
 {
     out.push(b'(')?;

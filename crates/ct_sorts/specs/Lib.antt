@@ -1,6 +1,14 @@
 pub mod Names
 pub mod Declarations
 pub mod Lookup
+pub mod Founded
 pub mod Consistent
-pub mod Kept
+pub mod Structure
+pub mod Lengths
+pub mod Marks
 pub mod Refusals
+pub mod Block
+pub mod Marked
+pub mod Grown
+pub mod Kept
+pub mod Inside

@@ -1,5 +1,5 @@
 -- Which names may be declared.
-use Rattle.std.specs.Prelude.{◌≡◌, ℕ, ◌⊎◌, List, [], ◌∷◌, Some, slice_get, codes}
+use Rattle.std.specs.Prelude.{◌≡◌, ℕ, ◌⊎◌, List, [], ◌∷◌, ◌++◌, Some, slice_get, codes}
 
 -- the text is one of these
 abbrev pub IsListed : List (List ℕ) → List ℕ → Type 0
@@ -18,6 +18,23 @@ HasByte text byte = (place : ℕ) × (slice_get text place ≡ Some byte)
 abbrev pub IsUnfit : List ℕ → Type 0
 IsUnfit name = (slice_get name 0 ≡ Some 64) ⊎ ((slice_get name 0 ≡ Some 46) ⊎ (HasByte name 124 ⊎ HasByte name 92))
 
--- the name cannot be declared where these are declared already
+-- the name cannot be declared as a symbol where these symbols are declared already
 abbrev pub IsUnavailable : List (List ℕ) → List ℕ → Type 0
 IsUnavailable declared name = IsListed declared name ⊎ (IsListed core_words name ⊎ IsUnfit name)
+
+-- the name cannot be declared as a sort where these sorts are declared already
+abbrev pub IsUnavailableSort : List (List ℕ) → List ℕ → Type 0
+IsUnavailableSort declared name = IsListed declared name ⊎ IsUnfit name
+
+-- one of these names, in turn, is refused after those that are declared and those before it
+abbrev pub HasRefused : (List (List ℕ) → List ℕ → Type 0) → List (List ℕ) → List (List ℕ) → Type 0
+HasRefused IsRefused declared [] = ⊥
+HasRefused IsRefused declared (name ∷ names) = IsRefused declared name ⊎ HasRefused IsRefused (declared ++ name ∷ []) names
+
+-- one of these symbols cannot be declared after those that are declared and those before it
+abbrev pub HasUnavailable : List (List ℕ) → List (List ℕ) → Type 0
+HasUnavailable declared names = HasRefused IsUnavailable declared names
+
+-- the same of sorts
+abbrev pub HasUnavailableSort : List (List ℕ) → List (List ℕ) → Type 0
+HasUnavailableSort declared names = HasRefused IsUnavailableSort declared names

@@ -20,14 +20,14 @@ impl Model for Name {
 impl Name {
     /// The name with these bytes. Takes no memory.
     pub fn new(bytes: Vec<u8>) -> Name
-        ensures { result ≡ bytes.items }
+        ensures value { result ≡ bytes.items }
     {
         Name { bytes }
     }
 
     /// A copy of the bytes as a name.
     pub fn from_slice(alloc: Global, bytes: &[u8]) -> Result<Name, AllocError>
-        ensures { IfOk result (λ name. name ≡ bytes.now) }
+        ensures ok { IfOk result (λ name. name ≡ bytes.now) }
     {
         Ok(Name {
             bytes: Vec::from_slice(alloc, bytes)?,
@@ -36,14 +36,14 @@ impl Name {
 
     /// The bytes.
     pub fn as_slice(&self) -> &[u8]
-        ensures { result.now ≡ self.now }
+        ensures value { result.now ≡ self.now }
     {
         self.bytes.as_slice()
     }
 
     /// The vector that the name was made from. Takes no memory.
     pub fn into_vec(self) -> Vec<u8>
-        ensures { result.items ≡ self }
+        ensures value { result.items ≡ self }
     {
         self.bytes
     }

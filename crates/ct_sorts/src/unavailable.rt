@@ -23,7 +23,7 @@ const CORE_WORDS: [&[u8]; 10] = [
 ];
 
 /// Whether the name is one of the words.
-pub fn is_listed(words: &[&[u8]], name: &[u8]) -> bool
+pub(crate) fn is_listed(words: &[&[u8]], name: &[u8]) -> bool
     ensures listed { IsTrue result ↔ IsListed (map (λ word. word.now) words.now) name.now }
 {
     words.contains(&name)

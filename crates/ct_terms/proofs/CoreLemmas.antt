@@ -1,10 +1,10 @@
 -- The derived test of two terms tells whether they are the same term.
-use Rattle.std.proofs.Common.{◌≡◌, ℕ, Bool, nat_eq, List, Decides, sym, ap, true≢false}
+use Rattle.std.proofs.Common.{◌≡◌, ℕ, Bool, ◌&&◌, nat_eq, List, Decides, sym, ap, true≢false}
 use Rattle.std.proofs.lemmas.Bool.Decides.{Decides-and, Decides-eqb}
 use Rattle.ct_terms.specs.Args.{same_id, same_ids}
 use Rattle.ct_terms.specs.declared.ids.TermId.{TermId}
 use Rattle.ct_terms.specs.declared.term.Core.{Core}
-use Rattle.ct_terms.specs.declared.term.Core.TheVariants.{Con, Apply, Not}
+use Rattle.ct_terms.specs.declared.term.Core.TheVariants.{Con, Sel, Test, Apply, Eq, Not, And, Or, Iff, Ite}
 use Rattle.ct_terms.specs.contracts.term.CorePartialEq.TheImpl as derived
 use lib.Pointwise.{pointwise_decides}
 
@@ -28,15 +28,31 @@ pub Decides-same_core : (a b : Core) → Decides (same_core a b) (a ≡ b)
 Decides-same_core (Con c xs) (Con d ys) =
     let both = Decides-and (nat_eq c.0 d.0) (same_ids xs ys) (Decides-eqb c.0 d.0) (Decides-same_ids xs ys) in
     (λ h i. Con (record { 0 = (both.0 h).0 i }) ((both.0 h).1 i), λ e. both.1 (cc, cc))
-Decides-same_core (Con c xs) (Apply f ys) = (λ h. absurd (true≢false (sym h)), λ e. cc)
-Decides-same_core (Con c xs) (Not t) = (λ h. absurd (true≢false (sym h)), λ e. cc)
-Decides-same_core (Apply f xs) (Con d ys) = (λ h. absurd (true≢false (sym h)), λ e. cc)
+Decides-same_core (Sel c s) (Sel d t) =
+    let both = Decides-and (nat_eq c.0 d.0) (same_id s t) (Decides-eqb c.0 d.0) (Decides-same_id s t) in
+    (λ h i. Sel (record { 0 = (both.0 h).0 i }) ((both.0 h).1 i), λ e. both.1 (cc, cc))
+Decides-same_core (Test c s) (Test d t) =
+    let both = Decides-and (nat_eq c.0 d.0) (same_id s t) (Decides-eqb c.0 d.0) (Decides-same_id s t) in
+    (λ h i. Test (record { 0 = (both.0 h).0 i }) ((both.0 h).1 i), λ e. both.1 (cc, cc))
 Decides-same_core (Apply f xs) (Apply g ys) =
     let both = Decides-and (nat_eq f.0 g.0) (same_ids xs ys) (Decides-eqb f.0 g.0) (Decides-same_ids xs ys) in
     (λ h i. Apply (record { 0 = (both.0 h).0 i }) ((both.0 h).1 i), λ e. both.1 (cc, cc))
-Decides-same_core (Apply f xs) (Not t) = (λ h. absurd (true≢false (sym h)), λ e. cc)
-Decides-same_core (Not s) (Con d ys) = (λ h. absurd (true≢false (sym h)), λ e. cc)
-Decides-same_core (Not s) (Apply g ys) = (λ h. absurd (true≢false (sym h)), λ e. cc)
+Decides-same_core (Eq a b) (Eq x y) =
+    let both = Decides-and (same_id a x) (same_id b y) (Decides-same_id a x) (Decides-same_id b y) in
+    (λ h i. Eq ((both.0 h).0 i) ((both.0 h).1 i), λ e. both.1 (cc, cc))
 Decides-same_core (Not s) (Not t) =
     let d = Decides-same_id s t in
     (λ h. ap Not (d.0 h), λ e. d.1 (cc))
+Decides-same_core (And xs) (And ys) =
+    let d = Decides-same_ids xs ys in
+    (λ h. ap And (d.0 h), λ e. d.1 (cc))
+Decides-same_core (Or xs) (Or ys) =
+    let d = Decides-same_ids xs ys in
+    (λ h. ap Or (d.0 h), λ e. d.1 (cc))
+Decides-same_core (Iff a b) (Iff x y) =
+    let both = Decides-and (same_id a x) (same_id b y) (Decides-same_id a x) (Decides-same_id b y) in
+    (λ h i. Iff ((both.0 h).0 i) ((both.0 h).1 i), λ e. both.1 (cc, cc))
+Decides-same_core (Ite c a b) (Ite z x y) =
+    let both = Decides-and (same_id c z) (same_id a x && same_id b y) (Decides-same_id c z) (Decides-and (same_id a x) (same_id b y) (Decides-same_id a x) (Decides-same_id b y)) in
+    (λ h i. Ite ((both.0 h).0 i) ((both.0 h).1.0 i) ((both.0 h).1.1 i), λ e. both.1 (cc, (cc, cc)))
+Decides-same_core a b = (λ h. absurd (true≢false (sym h)), λ e. cc)

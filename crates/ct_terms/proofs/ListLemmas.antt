@@ -1,6 +1,7 @@
 -- Lists by their places: one more element at the end, and a search by a test.
-use Rattle.std.proofs.Common.{◌≡◌, ℕ, zero, suc, ◌≤◌, ◌⊎◌, Bool, true, false, List, [], ◌∷◌, ◌++◌, length, slice_get, position, All, Some, None, refl, ap, inl, inr, arith}
-use Rattle.std.specs.List.{position_or_len}
+use Rattle.std.proofs.Common.{◌≡◌, ℕ, zero, suc, ◌+◌, ◌<◌, ◌≤◌, ◌⊎◌, Bool, true, false, List, [], ◌∷◌, ◌++◌, length, take, slice_get, get_or, position, All, Some, None, refl, sym, ap, subst, ◌∙◌, inl, inr, arith, add-one}
+use Rattle.std.specs.List.{position_or_len, AllZip}
+use Rattle.std.proofs.lemmas.List.{get_or_default}
 use Rattle.std.proofs.lemmas.Option.{none-some, same_Some}
 use Rattle.std.proofs.lemmas.Bool.Decides.{nat_tests}
 
@@ -37,3 +38,76 @@ module _ {X : Type 0} where
   pub All-cons : (P : X → Type 0) (x : X) (xs : List X) → P x → All P xs → All P (x ∷ xs)
   All-cons P x xs first rest zero d within = first
   All-cons P x xs first rest (suc k) d within = rest k d (omega arith)
+
+  -- what stands in the first part stands in the whole
+  pub slice_get-take : (n : ℕ) (xs : List X) (i : ℕ) (x : X) → slice_get (take n xs) i ≡ Some x → slice_get xs i ≡ Some x
+  slice_get-take zero xs i x e = absurd (none-some _ e)
+  slice_get-take (suc n) [] i x e = e
+  slice_get-take (suc n) (y ∷ xs) zero x e = e
+  slice_get-take (suc n) (y ∷ xs) (suc i) x e = slice_get-take n xs i x e
+
+  -- its place is among the first
+  pub slice_get-take_below : (n : ℕ) (xs : List X) (i : ℕ) (x : X) → slice_get (take n xs) i ≡ Some x → i < n
+  slice_get-take_below zero xs i x e = absurd (none-some _ e)
+  slice_get-take_below (suc n) [] i x e = absurd (none-some _ e)
+  slice_get-take_below (suc n) (y ∷ xs) zero x e = omega arith
+  slice_get-take_below (suc n) (y ∷ xs) (suc i) x e = let h = slice_get-take_below n xs i x e in omega arith
+
+  -- what stands in the whole at a place of the first part stands in that
+  pub take-slice_get : (n : ℕ) (xs : List X) (i : ℕ) (x : X) → i < n → slice_get xs i ≡ Some x → slice_get (take n xs) i ≡ Some x
+  take-slice_get zero xs i x h e = absurd (omega arith)
+  take-slice_get (suc n) [] i x h e = e
+  take-slice_get (suc n) (y ∷ xs) zero x h e = e
+  take-slice_get (suc n) (y ∷ xs) (suc i) x h e = take-slice_get n xs i x (omega arith) e
+
+  -- the first part with the next element is the first part that is one longer
+  pub take-slice_get_next : (xs : List X) (i : ℕ) (x : X) → slice_get xs i ≡ Some x → take (i + 1) xs ≡ take i xs ++ x ∷ []
+  take-slice_get_next xs i x at = rw add-one (by xs i at)
+    where
+      by : (ys : List X) (j : ℕ) → slice_get ys j ≡ Some x → take (suc j) ys ≡ take j ys ++ x ∷ []
+      by [] j e = absurd (none-some x e)
+      by (y ∷ ys) zero e = ap (λ (z : X). z ∷ []) (same_Some y x e)
+      by (y ∷ ys) (suc j) e = ap (λ (zs : List X). y ∷ zs) (by ys j e)
+
+-- a number that is not past the last is before it, or is it
+last_or_before : (k i : ℕ) → k < i + 1 → (k < i) ⊎ (k ≡ i)
+last_or_before zero zero h = inr refl
+last_or_before zero (suc i) h = inl (omega arith)
+last_or_before (suc k) zero h = absurd (omega arith)
+last_or_before (suc k) (suc i) h =
+    elim (last_or_before k i (omega arith)) [ inl before ↦ inl (omega arith) | inr last ↦ inr (ap suc last) ]
+
+-- two lists, place by place
+module _ {X Y : Type 0} (R : X → Y → Type 0) where
+  -- what holds place by place of lists of one length
+  pub AllZip-from_places : (xs : List X) (ys : List Y) → length xs ≡ length ys → ((k : ℕ) (d : X) (e : Y) → k < length xs → R (get_or xs k d) (get_or ys k e)) → AllZip R xs ys
+  AllZip-from_places [] [] long each = tt
+  AllZip-from_places [] (y ∷ ys) long each = absurd (omega arith)
+  AllZip-from_places (x ∷ xs) [] long each = absurd (omega arith)
+  AllZip-from_places (x ∷ xs) (y ∷ ys) long each =
+      (each 0 x y (omega arith), AllZip-from_places xs ys (omega arith) (λ k d e within. each (suc k) d e (omega arith)))
+
+  -- and back
+  pub AllZip-at_place : (xs : List X) (ys : List Y) → AllZip R xs ys → (k : ℕ) (d : X) (e : Y) → k < length xs → R (get_or xs k d) (get_or ys k e)
+  AllZip-at_place [] ys all k d e within = absurd (omega arith)
+  AllZip-at_place (x ∷ xs) [] all k d e within = absurd all
+  AllZip-at_place (x ∷ xs) (y ∷ ys) all zero d e within = all.0
+  AllZip-at_place (x ∷ xs) (y ∷ ys) all (suc k) d e within = AllZip-at_place xs ys all.1 k d e (omega arith)
+
+  -- such lists have one length
+  pub AllZip-one_length : (xs : List X) (ys : List Y) → AllZip R xs ys → length xs ≡ length ys
+  AllZip-one_length [] [] all = refl
+  AllZip-one_length [] (y ∷ ys) all = absurd all
+  AllZip-one_length (x ∷ xs) [] all = absurd all
+  AllZip-one_length (x ∷ xs) (y ∷ ys) all = ap suc (AllZip-one_length xs ys all.1)
+
+  -- what holds place by place before a number and at it holds up to it
+  pub places-more : (xs : List X) (ys : List Y) (i : ℕ) (x : X) (y : Y) → i < length xs → i < length ys → ((k : ℕ) (d : X) (e : Y) → k < i → R (get_or xs k d) (get_or ys k e)) → R (get_or xs i x) (get_or ys i y) → (k : ℕ) (d : X) (e : Y) → k < i + 1 → R (get_or xs k d) (get_or ys k e)
+  places-more xs ys i x y in_xs in_ys before last k d e up_to =
+      elim (last_or_before k i up_to) [
+        | inl h ↦ before k d e h
+        | inr h ↦
+            let at_x : get_or xs i x ≡ get_or xs k d = get_or_default xs i x d in_xs ∙ ap (λ (n : ℕ). get_or xs n d) (sym h) in
+            let at_y : get_or ys i y ≡ get_or ys k e = get_or_default ys i y e in_ys ∙ ap (λ (n : ℕ). get_or ys n e) (sym h) in
+            subst (R (get_or xs k d)) at_y (subst (λ (z : X). R z (get_or ys i y)) at_x last)
+      ]

@@ -6,16 +6,15 @@ use Rattle.ct_sorts.specs.Declarations.{bool_sort}
 use Rattle.ct_terms.specs.declared.ids.TermId.{TermId}
 use Rattle.ct_terms.specs.declared.ids.Lit.{Lit}
 use Rattle.ct_terms.specs.declared.term.Core.{Core}
-use Rattle.ct_terms.specs.declared.term.Core.TheVariants.{Con, Apply, Not}
+use Rattle.ct_terms.specs.declared.term.Core.TheVariants.{Not}
 use Rattle.ct_terms.specs.Table.{Table, IsOfSort, Has, AreOrdered, NegatesBooleans}
 use Rattle.ct_terms.specs.Literal.{opposite, literal_step, literal_below, literal_of, IsLiteral, IsStripped}
 
 -- one step gives one literal where the two readings agree on the term under a negation
 literal_step-agrees : (f g : TermId → Lit) (t : TermId) (r : Option (Core × SortId)) → ((a : TermId) (s : SortId) → r ≡ Some (Not a, s) → f a ≡ g a) → literal_step f t r ≡ literal_step g t r
 literal_step-agrees f g t None h = refl
-literal_step-agrees f g t (Some (Con c args, s)) h = refl
-literal_step-agrees f g t (Some (Apply c args, s)) h = refl
 literal_step-agrees f g t (Some (Not a, s)) h = ap opposite (h a s refl)
+literal_step-agrees f g t (Some (_, s)) h = refl
 
 -- any two bounds above the number give one literal
 pub literal_below-enough : (table : Table) → AreOrdered table → (n m : ℕ) (t : TermId) → t.0 < n → t.0 < m → literal_below n table t ≡ literal_below m table t
@@ -31,9 +30,8 @@ literal_below-enough table ordered (suc n) (suc m) t h k =
 -- what a step gives is what the literal means, given the literal of the term under a negation
 IsLiteral-step : (table : Table) (f : TermId → Lit) (t : TermId) (r : Option (Core × SortId)) → literal_of table t ≡ literal_step f t r → ((a : TermId) (s : SortId) → r ≡ Some (Not a, s) → f a ≡ literal_of table a) → IsLiteral table t r
 IsLiteral-step table f t None e h = tt
-IsLiteral-step table f t (Some (Con c args, s)) e h = e
-IsLiteral-step table f t (Some (Apply c args, s)) e h = e
 IsLiteral-step table f t (Some (Not a, s)) e h = e ∙ ap opposite (h a s refl)
+IsLiteral-step table f t (Some (_, s)) e h = e
 
 -- the literal of a term is itself, or the opposite of that of the term under the negation
 pub IsLiteral-ordered : (table : Table) → AreOrdered table → (t : TermId) → IsLiteral table t (slice_get table t.0)
@@ -83,9 +81,8 @@ IsStripping-step table first term a positive ordered negates has so_far =
 -- a term that is no negation is its own literal
 literal_of-stripped : (table : Table) (term : TermId) (r : Option (Core × SortId)) → slice_get table term.0 ≡ r → IsStripped table term → IsLiteral table term r → literal_of table term ≡ record { term = term; positive = true }
 literal_of-stripped table term None e stripped literal = absurd (none-some (stripped.0.0, bool_sort) (sym e ∙ stripped.0.1))
-literal_of-stripped table term (Some (Con c args, s)) e stripped literal = literal
-literal_of-stripped table term (Some (Apply f args, s)) e stripped literal = literal
 literal_of-stripped table term (Some (Not a, s)) e stripped literal = absurd (stripped.1 a (s, e))
+literal_of-stripped table term (Some (_, s)) e stripped literal = literal
 
 -- where no negation is left, the term and the sign are the literal
 pub IsStripping-end : (table : Table) (first term : TermId) (positive : Bool) → AreOrdered table → IsStripped table term → IsStripping table first term positive → record { term = term; positive = positive } ≡ literal_of table first

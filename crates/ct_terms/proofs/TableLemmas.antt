@@ -1,6 +1,6 @@
 -- The table: what a look-up by the derived test tells, and what one more term keeps.
-use Rattle.std.proofs.Common.{◌≡◌, ℕ, zero, suc, ◌<◌, ◌≤◌, false, List, [], ◌∷◌, ◌++◌, length, slice_get, get_or, position, All, Some, None, option_map, if◌then◌else◌, refl, sym, ap, subst, ◌∙◌, inl, inr, arith, length-append, length-take, true≢false}
-use Rattle.std.proofs.lemmas.List.{take-append-le}
+use Rattle.std.proofs.Common.{◌≡◌, ℕ, zero, suc, ◌+◌, ◌<◌, ◌≤◌, false, [], ◌∷◌, ◌++◌, length, codes, take, slice_get, get_or, position, Some, None, option_map, if◌then◌else◌, refl, sym, ap, subst, ◌∙◌, inl, inr, arith, length-append, length-take, true≢false}
+use Rattle.std.proofs.lemmas.List.{take-append-le, take-take}
 use Rattle.std.proofs.lemmas.List.Quantifiers.{position-Some}
 use Rattle.std.proofs.lemmas.List.Sums.{fails_before_first}
 use Rattle.std.proofs.lemmas.Option.{none-some, same_Some, slice_get_within, slice_get-map, slice_get-get_or, get_or_from_slice_get}
@@ -8,13 +8,15 @@ use Rattle.std.specs.List.{position_or_len}
 use Rattle.std.specs.Map.{keys_of, values_of}
 use Rattle.indexmap.specs.IndexMap.{insert_entry}
 use Rattle.ct_sorts.specs.declared.ids.SortId.{SortId}
-use Rattle.ct_sorts.specs.Declarations.{Declarations, Function, bool_sort, with_function}
+use Rattle.ct_sorts.specs.Declarations.{Declarations, start, bool_sort}
 use Rattle.ct_terms.specs.declared.ids.TermId.{TermId}
 use Rattle.ct_terms.specs.declared.term.Core.{Core}
-use Rattle.ct_terms.specs.declared.term.Core.TheVariants.{Con, Apply, Not}
-use Rattle.ct_terms.specs.Table.{Table, IsTable, IsOfSort, AreOfSorts, HasSort, IsWellSorted, AreSorted, Has, IsAbsent, Makes, StandsSorted, HasChildrenBelow, AreOrdered, AreSingle, NegatesBooleans, most_terms}
+use Rattle.ct_terms.specs.declared.term.Core.TheVariants.{Con, Not}
+use Rattle.ct_terms.specs.Table.{Table, IsTable, IsOfSort, HasSort, AreSorted, Has, IsAbsent, Makes, StandsSorted, HasChildrenBelow, AreOrdered, AreSingle, NegatesBooleans, most_terms, truths}
+use Rattle.ct_sorts.specs.Grown.{Extends}
 use Rattle.ct_terms.proofs.CoreLemmas.{same_core, Decides-same_core}
-use Rattle.ct_terms.proofs.ListLemmas.{slice_get-append_left, slice_get-last, slice_get-push_cases, position-None, All-cons, not_true}
+use Rattle.ct_terms.proofs.ListLemmas.{slice_get-last, slice_get-push_cases, slice_get-take, slice_get-take_below, take-slice_get, take-slice_get_next, position-None, not_true}
+use Rattle.ct_terms.proofs.SortLemmas.{HasSort-same, HasSort-below, IsOfSort-append, HasSort-append, AreSorted-extends}
 
 -- one number has one term
 pub Has-same : (table : Table) (a b : Core) (t : ℕ) → Has table a t → Has table b t → a ≡ b
@@ -56,36 +58,11 @@ insert_entry-absent (e ∷ es) core sort absent =
     let rest = insert_entry-absent es core sort (λ t has. absent (suc t) has) in
     ap (λ b. if b then (e.0, sort) ∷ es else e ∷ insert_entry same_core es core sort) other ∙ ap (λ r. e ∷ r) rest
 
--- a sort that is the sort of the term over every table where the term has one is that over a table where it is well sorted
-pub HasSort-only : (d : Declarations) (table : Table) (core : Core) (sort : SortId) → IsWellSorted d table core → ((any : Table) (s : SortId) → HasSort d any core s → sort ≡ s) → HasSort d table core sort
-HasSort-only d table core sort well only = subst (HasSort d table core) (sym (only table well.0 well.1)) well.1
-
 -- the sort that stands at a number is that of a term there
 pub IsOfSort-values_of : (table : Table) (t : ℕ) (sort : SortId) → slice_get (values_of table) t ≡ Some sort → (core : Core) × (slice_get table t ≡ Some (core, sort))
 IsOfSort-values_of [] t sort e = absurd (none-some sort e)
 IsOfSort-values_of (e ∷ es) zero sort h = (e.0, ap (λ s. Some (e.0, s)) (same_Some e.1 sort h))
 IsOfSort-values_of (e ∷ es) (suc t) sort h = IsOfSort-values_of es t sort h
-
--- a term of the table stays with its number and its sort
-pub IsOfSort-push : (table : Table) (e : Core × SortId) (t : TermId) (sort : SortId) → IsOfSort table t sort → IsOfSort (table ++ e ∷ []) t sort
-IsOfSort-push table e t sort h = (h.0, slice_get-append_left table (e ∷ []) t.0 (h.0, sort) h.1)
-
--- a term with a sort has its number below the length
-pub IsOfSort-below : (table : Table) (t : TermId) (sort : SortId) → IsOfSort table t sort → t.0 < length table
-IsOfSort-below table t sort h = slice_get_within table t.0 (h.0, sort) h.1
-
--- terms with sorts have their numbers below the length
-AreOfSorts-below : (table : Table) (ts : List TermId) (sorts : List SortId) → AreOfSorts table ts sorts → All (λ t. t.0 < length table) ts
-AreOfSorts-below table [] sorts h = λ k d l. absurd (omega arith)
-AreOfSorts-below table (t ∷ ts) [] h = absurd h
-AreOfSorts-below table (t ∷ ts) (s ∷ ss) h =
-    All-cons (λ t. t.0 < length table) t ts (IsOfSort-below table t s h.0) (AreOfSorts-below table ts ss h.1)
-
--- the terms under a well-sorted term have their numbers below the length
-pub HasSort-below : (d : Declarations) (table : Table) (core : Core) (sort : SortId) → HasSort d table core sort → HasChildrenBelow (length table) core
-HasSort-below d table (Con c args) sort h = λ k x l. absurd (omega (arith, ap length h.1))
-HasSort-below d table (Apply f args) sort h = AreOfSorts-below table args h.function.args h.sorted
-HasSort-below d table (Not t) sort h = IsOfSort-below table t bool_sort h.0
 
 -- a term after the terms under it keeps the order
 AreOrdered-push : (table : Table) (core : Core) (sort : SortId) → AreOrdered table → HasChildrenBelow (length table) core → AreOrdered (table ++ (core, sort) ∷ [])
@@ -117,7 +94,7 @@ NegatesBooleans-push d table core sort negates sorted t a has =
       | inl h ↦ negates t a (has.0, h)
       | inr h ↦ (subst (λ c. HasSort d table c sort) (ap (λ e. e.0) h.1) sorted).0
     ] in
-    IsOfSort-push table (core, sort) a bool_sort boolean
+    IsOfSort-append table ((core, sort) ∷ []) a bool_sort boolean
 
 -- one more term, well sorted over the table and not yet in it, keeps what every table keeps
 pub IsTable-push : (d : Declarations) (table : Table) (core : Core) (sort : SortId) → IsTable table → length table < most_terms → IsAbsent table core → HasSort d table core sort → IsTable (table ++ (core, sort) ∷ [])
@@ -131,54 +108,14 @@ IsTable-push d table core sort old room absent sorted =
       negates = NegatesBooleans-push d table core sort old.negates sorted;
     }
 
--- terms of the table stay of their sorts
-AreOfSorts-push : (table : Table) (e : Core × SortId) (ts : List TermId) (sorts : List SortId) → AreOfSorts table ts sorts → AreOfSorts (table ++ e ∷ []) ts sorts
-AreOfSorts-push table e [] [] h = h
-AreOfSorts-push table e [] (s ∷ ss) h = absurd h
-AreOfSorts-push table e (t ∷ ts) [] h = absurd h
-AreOfSorts-push table e (t ∷ ts) (s ∷ ss) h = (IsOfSort-push table e t s h.0, AreOfSorts-push table e ts ss h.1)
-
--- a term keeps its sort when the table grows
-HasSort-push : (d : Declarations) (table : Table) (e : Core × SortId) (core : Core) (sort : SortId) → HasSort d table core sort → HasSort d (table ++ e ∷ []) core sort
-HasSort-push d table e (Con c args) sort h = h
-HasSort-push d table e (Apply f args) sort h = record {
-  function = h.function;
-  declared = h.declared;
-  sorted = AreOfSorts-push table e args h.function.args h.sorted;
-  result = h.result;
-}
-HasSort-push d table e (Not t) sort h = (IsOfSort-push table e t bool_sort h.0, h.1)
-
 -- one more well-sorted term leaves every term well sorted
 pub AreSorted-push : (d : Declarations) (table : Table) (core : Core) (sort : SortId) → HasSort d table core sort → AreSorted d table → AreSorted d (table ++ (core, sort) ∷ [])
 AreSorted-push d table core sort sorted all t c s at =
-    HasSort-push d table (core, sort) c s
+    HasSort-append d table ((core, sort) ∷ []) c s
     (elim (slice_get-push_cases table (core, sort) (c, s) t at) [
       | inl h ↦ all t c s h
       | inr h ↦ subst (λ e. HasSort d table e.0 e.1) h.1 sorted
     ])
-
--- one more declaration leaves a term its sort
-HasSort-declared : (d : Declarations) (f : Function) (table : Table) (core : Core) (sort : SortId) → HasSort d table core sort → HasSort (with_function d f) table core sort
-HasSort-declared d f table (Con c args) sort h = h
-HasSort-declared d f table (Apply g args) sort h = record {
-  function = h.function;
-  declared = slice_get-append_left d.functions (f ∷ []) g.0 h.function h.declared;
-  sorted = h.sorted;
-  result = h.result;
-}
-HasSort-declared d f table (Not t) sort h = h
-
--- and so every term of a table
-pub AreSorted-declared : (d : Declarations) (f : Function) (table : Table) → AreSorted d table → AreSorted (with_function d f) table
-AreSorted-declared d f table all t core sort at = HasSort-declared d f table core sort (all t core sort at)
-
--- a term has one sort
-HasSort-same : (d : Declarations) (table : Table) (core : Core) (r s : SortId) → HasSort d table core r → HasSort d table core s → r ≡ s
-HasSort-same d table (Con c args) r s h k = h.2 ∙ sym k.2
-HasSort-same d table (Apply f args) r s h k =
-    h.result ∙ ap (λ g. g.result) (same_Some h.function k.function (sym h.declared ∙ k.declared)) ∙ sym k.result
-HasSort-same d table (Not t) r s h k = h.1 ∙ sym k.1
 
 -- in a well-sorted table a term stands with its sort
 pub IsOfSort-sorted : (d : Declarations) (table : Table) (core : Core) (t : TermId) (sort : SortId) → AreSorted d table → Has table core t.0 → HasSort d table core sort → IsOfSort table t sort
@@ -195,5 +132,51 @@ StandsSorted-made d old new core t (inr grown) all =
     let sort = grown.2.0 in
     let table = old ++ (core, sort) ∷ [] in
     let stands : slice_get table t ≡ Some (core, sort) = ap (slice_get table) grown.1 ∙ slice_get-last old (core, sort) in
-    let has : StandsSorted d table core t = (sort, HasSort-push d old (core, sort) core sort grown.2.1, stands) in
+    let has : StandsSorted d table core t = (sort, HasSort-append d old ((core, sort) ∷ []) core sort grown.2.1, stands) in
     subst (λ (any : Table). StandsSorted d any core t) (sym grown.2.2) has
+
+-- the first terms of a table, `true` and `false` among them, keep what every table keeps
+pub IsTable-take : (table : Table) (n : ℕ) → 2 ≤ n → IsTable table → IsTable (take n table)
+IsTable-take table n two old =
+    let has : (core : Core) (t : ℕ) → Has (take n table) core t → Has table core t =
+    λ core t h. (h.0, slice_get-take n table t (core, h.0) h.1) in
+    record {
+      few = omega (arith, old.few, length-take n table);
+      begins = take-take 2 n table two ∙ old.begins;
+      ordered = λ t core h. old.ordered t core (has core t h);
+      single = λ i j core at_i at_j. old.single i j core (has core i at_i) (has core j at_j);
+      negates = λ t a h.
+          let within : t < n = slice_get-take_below n table t (Not a, h.0) h.1 in
+          let below : a.0 < t = old.ordered t (Not a) (has (Not a) t h) in
+          let boolean = old.negates t a (has (Not a) t h) in
+          (boolean.0, take-slice_get n table a.0 (boolean.0, bool_sort) (omega arith) boolean.1);
+    }
+
+-- a term is not among those before it
+pub IsAbsent-before : (table : Table) (core : Core) (t : ℕ) → AreSingle table → Has table core t → IsAbsent (take t table) core
+IsAbsent-before table core t single has u before =
+    let within : u < t = slice_get-take_below t table u (core, before.0) before.1 in
+    let same : u ≡ t = single u t core (before.0, slice_get-take t table u (core, before.0) before.1) has in
+    absurd (omega arith)
+
+-- `true` and `false` are well sorted over Bool and whatever else is declared
+pub AreSorted-truths : (d : Declarations) → Extends d start → AreSorted d truths
+AreSorted-truths d extends = AreSorted-extends d start truths extends over_start
+  where
+    over_start : AreSorted start truths
+    over_start zero core sort at =
+        subst (λ (e : Core × SortId). HasSort start truths e.0 e.1) (same_Some (Con (record { 0 = 0 }) [], bool_sort) (core, sort) at)
+        (record { ctor = record { name = codes "true"; sort = bool_sort; sels = [] }; declared = refl; fields = tt; result = refl })
+    over_start (suc zero) core sort at =
+        subst (λ (e : Core × SortId). HasSort start truths e.0 e.1) (same_Some (Con (record { 0 = 1 }) [], bool_sort) (core, sort) at)
+        (record { ctor = record { name = codes "false"; sort = bool_sort; sels = [] }; declared = refl; fields = tt; result = refl })
+    over_start (suc (suc t)) core sort at = absurd (none-some (core, sort) at)
+
+-- with the next term put behind the first ones there is one more of the first
+pub insert_entry-next : (table copied : Table) (core copy : Core) (t : TermId) (sort : SortId) → AreSingle table → Has table core t.0 → copy ≡ core → IsOfSort table t sort → copied ≡ take t.0 table → insert_entry same_core copied copy sort ≡ take (t.0 + 1) table
+insert_entry-next table copied core copy t sort single has same of_sort so_far =
+    let there : core ≡ of_sort.0 = Has-same table core of_sort.0 t.0 has (sort, of_sort.1) in
+    let at : slice_get table t.0 ≡ Some (copy, sort) = of_sort.1 ∙ ap (λ (c : Core). Some (c, sort)) (sym there ∙ sym same) in
+    ap (λ (es : Table). insert_entry same_core es copy sort) so_far
+    ∙ insert_entry-absent (take t.0 table) copy sort (IsAbsent-before table copy t.0 single (sort, at))
+    ∙ sym (take-slice_get_next table t.0 (copy, sort) at)

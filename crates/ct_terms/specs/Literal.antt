@@ -4,7 +4,7 @@ use Rattle.ct_sorts.specs.declared.ids.SortId.{SortId}
 use Rattle.ct_terms.specs.declared.ids.TermId.{TermId}
 use Rattle.ct_terms.specs.declared.ids.Lit.{Lit}
 use Rattle.ct_terms.specs.declared.term.Core.{Core}
-use Rattle.ct_terms.specs.declared.term.Core.TheVariants.{Con, Apply, Not}
+use Rattle.ct_terms.specs.declared.term.Core.TheVariants.{Not}
 use Rattle.ct_sorts.specs.Declarations.{bool_sort}
 use Rattle.ct_terms.specs.Table.{Table, IsOfSort, Has}
 
@@ -15,9 +15,8 @@ opposite l = record { term = l.term; positive = not l.positive }
 -- one negation taken off, where the term is one
 abbrev pub literal_step : (TermId → Lit) → TermId → Option (Core × SortId) → Lit
 literal_step below t None = record { term = t; positive = true }
-literal_step below t (Some (Con c args, s)) = record { term = t; positive = true }
-literal_step below t (Some (Apply f args, s)) = record { term = t; positive = true }
 literal_step below t (Some (Not a, s)) = opposite (below a)
+literal_step below t (Some (_, s)) = record { term = t; positive = true }
 
 -- the literal of a term whose number is below the bound; the term under a negation has a smaller number
 unfoldable pub literal_below : ℕ → Table → TermId → Lit
@@ -32,9 +31,8 @@ literal_of table t = literal_below (suc t.0) table t
 -- opposite of the literal of the term under it
 abbrev pub IsLiteral : Table → TermId → Option (Core × SortId) → Type 0
 IsLiteral table t None = Unit {0}
-IsLiteral table t (Some (Con c args, s)) = literal_of table t ≡ record { term = t; positive = true }
-IsLiteral table t (Some (Apply f args, s)) = literal_of table t ≡ record { term = t; positive = true }
 IsLiteral table t (Some (Not a, s)) = literal_of table t ≡ opposite (literal_of table a)
+IsLiteral table t (Some (_, s)) = literal_of table t ≡ record { term = t; positive = true }
 
 -- a Boolean term of the table that is no negation
 abbrev pub IsStripped : Table → TermId → Type 0

@@ -1,10 +1,12 @@
--- The table of terms: what stands at each number.
+-- The table of terms: what stands at each number, and which sort a term has (SMT-LIB 2.7, sections 3.6 and 5.3).
 use Rattle.std.specs.Prelude.{◌≡◌, ℕ, ◌<◌, ◌≤◌, ◌⊎◌, List, [], ◌∷◌, ◌++◌, length, take, All, Some, slice_get}
+use Rattle.std.specs.List.{AllZip}
 use Rattle.ct_sorts.specs.declared.ids.SortId.{SortId}
-use Rattle.ct_sorts.specs.Declarations.{Declarations, Function, bool_sort}
+use Rattle.ct_sorts.specs.declared.ids.SelId.{SelId}
+use Rattle.ct_sorts.specs.Declarations.{Declarations, Constructor, Selector, Function, bool_sort}
 use Rattle.ct_terms.specs.declared.ids.TermId.{TermId}
 use Rattle.ct_terms.specs.declared.term.Core.{Core}
-use Rattle.ct_terms.specs.declared.term.Core.TheVariants.{Con, Apply, Not}
+use Rattle.ct_terms.specs.declared.term.Core.TheVariants.{Con, Sel, Test, Apply, Eq, Not, And, Or, Iff, Ite}
 
 -- the terms and their sorts, in the order of their numbers
 abbrev pub Table : Type 0
@@ -18,12 +20,41 @@ most_terms = 400000
 abbrev pub IsOfSort : Table → TermId → SortId → Type 0
 IsOfSort table t s = (core : Core) × (slice_get table t.0 ≡ Some (core, s))
 
+abbrev pub IsBoolean : Table → TermId → Type 0
+IsBoolean table t = IsOfSort table t bool_sort
+
 -- the terms have these sorts, one for one
 abbrev pub AreOfSorts : Table → List TermId → List SortId → Type 0
-AreOfSorts table [] [] = Unit {0}
-AreOfSorts table (t ∷ ts) (s ∷ ss) = IsOfSort table t s × AreOfSorts table ts ss
-AreOfSorts table [] (s ∷ ss) = ⊥
-AreOfSorts table (t ∷ ts) [] = ⊥
+AreOfSorts table terms sorts = AllZip (IsOfSort table) terms sorts
+
+-- the term has the sort of the selector's field
+pub record IsOfField (d : Declarations) (table : Table) (t : TermId) (s : SelId) : Type 0 where
+  pub selector : Selector
+  pub declared : slice_get d.sels s.0 ≡ Some selector
+  pub sorted : IsOfSort table t selector.sort
+
+-- a constructor with as many terms as it has selectors, each of the sort of its field: a term of the constructor's sort
+pub record Constructs (d : Declarations) (table : Table) (c : ℕ) (args : List TermId) (sort : SortId) : Type 0 where
+  pub ctor : Constructor
+  pub declared : slice_get d.ctors c ≡ Some ctor
+  pub fields : AllZip (IsOfField d table) args ctor.sels
+  pub result : sort ≡ ctor.sort
+
+-- the field of a term of the selector's datatype or codatatype, which is the sort of the selector's constructor
+pub record Selects (d : Declarations) (table : Table) (s : ℕ) (t : TermId) (sort : SortId) : Type 0 where
+  pub selector : Selector
+  pub ctor : Constructor
+  pub declared : slice_get d.sels s ≡ Some selector
+  pub constructor : slice_get d.ctors selector.ctor.0 ≡ Some ctor
+  pub sorted : IsOfSort table t ctor.sort
+  pub result : sort ≡ selector.sort
+
+-- whether a term of the constructor's sort is built by the constructor
+pub record Tests (d : Declarations) (table : Table) (c : ℕ) (t : TermId) (sort : SortId) : Type 0 where
+  pub ctor : Constructor
+  pub declared : slice_get d.ctors c ≡ Some ctor
+  pub sorted : IsOfSort table t ctor.sort
+  pub result : sort ≡ bool_sort
 
 -- the application of a function to as many terms as it has arguments, of their sorts
 pub record Applies (d : Declarations) (table : Table) (f : ℕ) (args : List TermId) (sort : SortId) : Type 0 where
@@ -32,11 +63,32 @@ pub record Applies (d : Declarations) (table : Table) (f : ℕ) (args : List Ter
   pub sorted : AreOfSorts table args function.args
   pub result : sort ≡ function.result
 
+-- the equality of two terms of one sort, which is not Bool
+pub record Equates (table : Table) (a b : TermId) (sort : SortId) : Type 0 where
+  pub side : SortId
+  pub left : IsOfSort table a side
+  pub right : IsOfSort table b side
+  pub other : side ≡ bool_sort → ⊥
+  pub result : sort ≡ bool_sort
+
+-- the conjunction or disjunction of one or more Boolean terms
+pub record Joins (table : Table) (args : List TermId) (sort : SortId) : Type 0 where
+  pub some : 0 < length args
+  pub booleans : All (IsBoolean table) args
+  pub result : sort ≡ bool_sort
+
 -- over these terms the term is well sorted, and has this sort
 abbrev pub HasSort : Declarations → Table → Core → SortId → Type 0
-HasSort d table (Con c args) sort = (c.0 < 2) × (args ≡ []) × (sort ≡ bool_sort)
+HasSort d table (Con c args) sort = Constructs d table c.0 args sort
+HasSort d table (Sel s t) sort = Selects d table s.0 t sort
+HasSort d table (Test c t) sort = Tests d table c.0 t sort
 HasSort d table (Apply f args) sort = Applies d table f.0 args sort
+HasSort d table (Eq a b) sort = Equates table a b sort
 HasSort d table (Not t) sort = IsOfSort table t bool_sort × (sort ≡ bool_sort)
+HasSort d table (And args) sort = Joins table args sort
+HasSort d table (Or args) sort = Joins table args sort
+HasSort d table (Iff a b) sort = IsBoolean table a × IsBoolean table b × (sort ≡ bool_sort)
+HasSort d table (Ite c a b) sort = IsBoolean table c × IsOfSort table a sort × IsOfSort table b sort
 
 abbrev pub IsWellSorted : Declarations → Table → Core → Type 0
 IsWellSorted d table core = (sort : SortId) × HasSort d table core sort
@@ -67,8 +119,15 @@ BeginsWithTruths table = take 2 table ≡ truths
 -- the terms right under this one have numbers below the bound
 abbrev pub HasChildrenBelow : ℕ → Core → Type 0
 HasChildrenBelow n (Con c args) = All (λ t. t.0 < n) args
+HasChildrenBelow n (Sel s t) = t.0 < n
+HasChildrenBelow n (Test c t) = t.0 < n
 HasChildrenBelow n (Apply f args) = All (λ t. t.0 < n) args
+HasChildrenBelow n (Eq a b) = (a.0 < n) × (b.0 < n)
 HasChildrenBelow n (Not t) = t.0 < n
+HasChildrenBelow n (And args) = All (λ t. t.0 < n) args
+HasChildrenBelow n (Or args) = All (λ t. t.0 < n) args
+HasChildrenBelow n (Iff a b) = (a.0 < n) × (b.0 < n)
+HasChildrenBelow n (Ite c a b) = (c.0 < n) × (a.0 < n) × (b.0 < n)
 
 -- every term comes after the terms under it
 abbrev pub AreOrdered : Table → Type 0

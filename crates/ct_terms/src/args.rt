@@ -1,4 +1,4 @@
-ghost use Rattle.std.specs.Prelude.{◌≡◌, [], ◌∷◌, ◌++◌, OnOk, OnErr};
+ghost use Rattle.std.specs.Prelude.{◌≡◌, [], ◌∷◌, ◌++◌, OnOk, OnErr, IfOk};
 ghost use Rattle.std.specs.Cmp.{partial_equiv_from_equiv};
 ghost use Rattle.ct_terms.specs.Args.{same_ids, same_ids_equiv, hashed_ids, hashed_ids_alike};
 
@@ -40,6 +40,15 @@ impl Args {
     {
         self.terms.push(term)?;
         Ok(())
+    }
+
+    /// Equal arguments. Its only error is want of memory.
+    pub fn copy(&self) -> Result<Args, AllocError>
+        ensures ok { IfOk result (λ args. args ≡ self.now) }
+    {
+        Ok(Args {
+            terms: SmallVec::from_slice(*self.terms.allocator(), self.terms.as_slice())?,
+        })
     }
 
     /// The arguments.

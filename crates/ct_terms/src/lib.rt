@@ -4,6 +4,8 @@
 mod args;
 mod error;
 mod ids;
+mod laws;
+mod sorting;
 mod table;
 mod term;
 #[cfg(test)]
@@ -12,5 +14,7 @@ mod tests;
 pub use args::Args;
 pub use error::TermError;
 pub use ids::{Lit, TermId};
+pub use laws::{one_lasting_sort, propagation_is_sound};
+pub use sorting::is_well_sorted;
 pub use table::TermTable;
 pub use term::Core;

@@ -1,8 +1,9 @@
-ghost use Rattle.std.specs.Prelude.{◌≡◌, ℕ, ◌<◌, ◌≤◌, ◌↔◌, length, slice_get, OnErr, IsOk, IfOk, IfErr, IfSome, IfNone, IsErrOf};
+ghost use Rattle.std.specs.Prelude.{◌≡◌, ℕ, ◌<◌, ◌≤◌, ◌↔◌, length, take, slice_get, OnErr, IsOk, IfOk, IfErr, IfSome, IfNone, IsErrOf};
 ghost use Rattle.ct_sorts.specs.declared.ids.SortId.{SortId};
-ghost use Rattle.ct_sorts.specs.Declarations.{Declarations, Function, bool_sort, with_function};
+ghost use Rattle.ct_sorts.specs.Declarations.{Declarations, start, bool_sort};
 ghost use Rattle.ct_terms.specs.declared.ids.TermId.{TermId};
 ghost use Rattle.ct_terms.specs.Table.{Table, IsOfSort, HasSort, IsWellSorted, AreSorted, StandsSorted, Has, IsAbsent, Makes, HasChildrenBelow, AreOrdered, AreSingle, NegatesBooleans, BeginsWithTruths, most_terms, truths};
+ghost use Rattle.ct_sorts.specs.Grown.{Extends};
 ghost use Rattle.ct_terms.specs.Literal.{literal_of, IsLiteral, IsStripped};
 
 use crate::args::Args;
@@ -23,6 +24,8 @@ const BOOL: SortId = SortId(0);
 /// Terms with one number each, in the order in which they were made.
 #[derive(Drop)]
 pub struct TermTable {
+    alloc: Global,
+    // A place in the map is a number.
     terms: IndexMap<Core, SortId>,
 }
 
@@ -40,13 +43,42 @@ impl TermTable {
     /// The table of `true` and `false`. Its only error is `NoMemory`.
     pub fn new(alloc: Global) -> Result<TermTable, TermError>
         ensures ok { IfOk result (λ table. table ≡ truths) }
-        ensures sorted { IfOk result (λ table. (d : Declarations) → AreSorted d table) }
+        ensures at_start { IfOk result (λ table. AreSorted start table) }
+        ensures sorted { IfOk result (λ table. (d : Declarations) → Extends d start → AreSorted d table) }
         ensures err { IfErr result (λ e. e ≡ TermError.NoMemory) }
     {
         let mut terms = IndexMap::new(alloc);
         terms.insert(Core::Con(CtorId(0), Args::new(alloc)), BOOL)?;
         terms.insert(Core::Con(CtorId(1), Args::new(alloc)), BOOL)?;
-        Ok(TermTable { terms })
+        Ok(TermTable { alloc, terms })
+    }
+
+    /// An equal table. Its only error is `NoMemory`.
+    pub fn copy(&self) -> Result<TermTable, TermError>
+        ensures ok { IfOk result (λ table. table ≡ self.now) }
+        ensures err { IfErr result (λ e. e ≡ TermError.NoMemory) }
+    {
+        let mut copied = IndexMap::new(self.alloc);
+        for place in 0..self.terms.len() {
+            let term = TermId(place as u32);
+            copied.insert(self.core(term).copy()?, self.sort(term))?;
+        }
+        Ok(TermTable {
+            alloc: self.alloc,
+            terms: copied,
+        })
+    }
+
+    /// Keeps the first terms, so many as `len` says, at least `true` and `false`. Takes no memory.
+    pub fn cut_to(&mut self, len: u32)
+        requires truths { 2 ≤ len }
+        requires within { len ≤ length self.old }
+        ensures first { self.new ≡ take len self.old }
+
+        // Where the whole table is well sorted the rest is.
+        ensures sorted { (d : Declarations) → AreSorted d self.old → AreSorted d self.new }
+    {
+        self.terms.truncate(len as usize);
     }
 
     /// The number of the term: of the equal one that is there, or of a new one at the end. `Full` comes
@@ -74,7 +106,7 @@ impl TermTable {
         if number >= MOST_TERMS {
             return Err(TermError::Full);
         }
-        let sort = sort_of(sig, &core);
+        let sort = self.sort_of(sig, &core);
         self.terms.insert(core, sort)?;
         Ok(TermId(number as u32))
     }
@@ -88,9 +120,9 @@ impl TermTable {
         ensures single { AreSingle self.now }
         ensures negates { NegatesBooleans self.now }
 
-        // A table that is well sorted stays so with one more declaration.
-        ensures lasting { (d : Declarations) (f : Function)
-            → AreSorted d self.now → AreSorted (with_function d f) self.now }
+        // A table that is well sorted stays so with more declarations.
+        ensures lasting { (later earlier : Declarations) → Extends later earlier
+            → AreSorted earlier self.now → AreSorted later self.now }
     {
         self.terms.len() as u32
     }
@@ -100,6 +132,7 @@ impl TermTable {
         requires { t.0 < length self.now }
         ensures value { Has self.now result.now t.0 }
         ensures below { HasChildrenBelow t.0 result.now }
+        ensures inside { HasChildrenBelow (length self.now) result.now }
     {
         match self.terms.get_index(t.0 as usize) {
             Some((core, _)) => core,
@@ -142,16 +175,23 @@ impl TermTable {
             None => None,
         }
     }
-}
 
-// The sort of a term that is well sorted over some table.
-fn sort_of(sig: &Signature, core: &Core) -> SortId
-    requires { (table : Table) × IsWellSorted sig.now table core.now }
-    ensures { (table : Table) (sort : SortId) → HasSort sig.now table core.now sort → result ≡ sort }
-{
-    match core {
-        Core::Con(_, _) => BOOL,
-        Core::Apply(f, _) => sig.fun_result(*f),
-        Core::Not(_) => BOOL,
+    // The sort of a term that is well sorted over this table.
+    fn sort_of(&self, sig: &Signature, core: &Core) -> SortId
+        requires { IsWellSorted sig.now self.now core.now }
+        ensures { HasSort sig.now self.now core.now result }
+    {
+        match core {
+            Core::Con(c, _) => sig.ctor_sort(*c),
+            Core::Sel(s, _) => sig.sel_sort(*s),
+            Core::Apply(f, _) => sig.fun_result(*f),
+            Core::Ite(_, a, _) => self.sort(*a),
+            Core::Test(_, _) => BOOL,
+            Core::Eq(_, _) => BOOL,
+            Core::Not(_) => BOOL,
+            Core::And(_) => BOOL,
+            Core::Or(_) => BOOL,
+            Core::Iff(_, _) => BOOL,
+        }
     }
 }

@@ -7,3 +7,7 @@ pub mod RenumberLemmas
 pub mod RefineLemmas
 pub mod RoundLemmas
 pub mod FiniteLemmas
+pub mod CountLemmas
+pub mod NumberedLemmas
+pub mod SmallestLemmas
+pub mod MergeLemmas

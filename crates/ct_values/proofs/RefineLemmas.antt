@@ -1,6 +1,7 @@
 -- Refinement: what agrees stays together, and where a round changes nothing, what is together agrees.
-use Rattle.std.proofs.Common.{◌≡◌, ℕ, zero, suc, ◌+◌, ◌*◌, ◌<◌, ◌≤◌, ◌⊎◌, IsTrue, List, [], ◌∷◌, length, map, Some, option_map, slice_get, slice_index, sum, All, refl, sym, ap, ap₂, subst, ◌∙◌, inl, inr, arith, eq-or-lt_of_le}
+use Rattle.std.proofs.Common.{◌≡◌, ℕ, zero, suc, ◌+◌, ◌*◌, ◌<◌, ◌≤◌, ◌⊎◌, IsTrue, List, [], ◌∷◌, length, map, Some, option_map, slice_get, slice_index, get_or, sum, All, refl, sym, ap, ap₂, subst, ◌∙◌, inl, inr, arith, eq-or-lt_of_le}
 use Rattle.std.specs.List.{AllZip, AllByRecursion}
+use Rattle.std.proofs.lemmas.Grind.{get_or_default_zero}
 use Rattle.std.proofs.lemmas.Option.{same_Some}
 use Rattle.std.proofs.lemmas.List.Elements.{All-from_get_or}
 use Rattle.std.proofs.lemmas.List.Sums.{sum_by-cons, sum_by-le}
@@ -17,6 +18,10 @@ use Rattle.ct_values.proofs.RenumberLemmas.{stands_within}
 -- the number as a number of a node
 abbrev id : ℕ → NodeId
 id i = record { 0 = i }
+
+-- what is read at a place is the class there
+pub class_read : (classes : List ℕ) (i x : ℕ) → i < length classes → x ≡ get_or classes i x → class_at classes i ≡ x
+class_read classes i x within read = sym (read ∙ get_or_default_zero classes i x within)
 
 -- ---- what agrees at every depth has one key
 
@@ -52,7 +57,7 @@ IsPartition-refined g old new closed partition refined = record {
 -- ---- where a round changes nothing
 
 -- two equal keys of nodes, apart
-same_keys : (g : Nodes) (classes : List ℕ) (i j : ℕ) (x y : Node) → slice_get g i ≡ Some x → slice_get g j ≡ Some y → key_of g classes i ≡ key_of g classes j → node_key classes (class_at classes i) x ≡ node_key classes (class_at classes j) y
+pub same_keys : (g : Nodes) (classes : List ℕ) (i j : ℕ) (x y : Node) → slice_get g i ≡ Some x → slice_get g j ≡ Some y → key_of g classes i ≡ key_of g classes j → node_key classes (class_at classes i) x ≡ node_key classes (class_at classes j) y
 same_keys g classes i j x y at_i at_j e =
     same_Some
     (node_key classes (class_at classes i) x)

@@ -1,8 +1,10 @@
 -- Nodes with new numbers agree with the nodes that they stand for.
-use Rattle.std.proofs.Common.{◌≡◌, ℕ, zero, suc, ◌<◌, ◌⊎◌, true, IsTrue, List, [], ◌∷◌, ◌++◌, length, Some, slice_get, get_or, eqb, All, refl, sym, ap, subst, ◌∙◌, inl, inr, arith, true≢false}
-use Rattle.std.specs.List.{AllZip, AllByRecursion, list_any}
-use Rattle.std.proofs.lemmas.Option.{none-some, same_Some, slice_get_within, slice_get-get_or}
+use Rattle.std.proofs.Common.{◌≡◌, ℕ, zero, suc, ◌<◌, ◌⊎◌, true, IsTrue, List, [], ◌∷◌, ◌++◌, length, Some, slice_get, get_or, eqb, All, refl, sym, ap, subst, ◌∙◌, inl, inr, arith, true≢false, eq-or-lt_of_le, nat_eq}
+use Rattle.std.specs.List.{AllZip, AllByRecursion, IsDistinct, list_any}
+use Rattle.std.proofs.lemmas.Option.{none-some, same_Some, slice_get_within, slice_get-get_or, get_or_from_slice_get}
 use Rattle.std.proofs.lemmas.List.Elements.{All-nil, All-cons, recursion_from_All}
+use Rattle.std.proofs.lemmas.Bool.{cases_lt}
+use Rattle.std.proofs.lemmas.Map.Keys.{apart_from_distinct}
 use Rattle.std.proofs.lemmas.Bool.Decides.{Decides-or, Decides-eqb}
 use Rattle.ct_values.specs.declared.node.NodeId.{NodeId}
 use Rattle.ct_values.specs.declared.node.Node.{Node}
@@ -26,6 +28,18 @@ module _ {X : Type 0} where
   slice_get-push_cases (z ∷ zs) x y zero e = inl e
   slice_get-push_cases (z ∷ zs) x y (suc i) e =
       elim (slice_get-push_cases zs x y i e) [ inl h ↦ inl h | inr h ↦ inr (ap suc h.0, h.1) ]
+
+-- different numbers stand at different places
+pub unique_places : (ids : List ℕ) → IsDistinct nat_eq ids → (i j n : ℕ) → slice_get ids i ≡ Some n → slice_get ids j ≡ Some n → i ≡ j
+unique_places ids unique i j n at_i at_j = elim (cases_lt i j) [
+  | inl less ↦ absurd (apart i j less at_i at_j)
+  | inr le ↦ elim (eq-or-lt_of_le le) [ inl e ↦ sym e | inr less ↦ absurd (apart j i less at_j at_i) ]
+]
+  where
+    apart : (a b : ℕ) → a < b → slice_get ids a ≡ Some n → slice_get ids b ≡ Some n → ⊥
+    apart a b less at_a at_b =
+        let test = apart_from_distinct nat_eq ids a b 0 unique less (slice_get_within ids b n at_b) in
+        true≢false (sym ((Decides-eqb (get_or ids a 0) (get_or ids b 0)).1 (get_or_from_slice_get ids a n 0 at_a ∙ sym (get_or_from_slice_get ids b n 0 at_b))) ∙ test)
 
 pub Stay-trans : (a b c : List ℕ) → Stay a b → Stay b c → Stay a c
 Stay-trans a b c first second i n e = second i n (first i n e)

@@ -1,8 +1,11 @@
 pub mod Graph
 pub mod Value
 pub mod Agreement
+pub mod Smallest
+pub mod Numbered
 pub mod Places
 pub mod Partition
 pub mod KeyTest
 pub mod Renumbering
+pub mod Merged
 pub mod Settled

@@ -41,3 +41,7 @@ pub record IsRefined (g : Nodes) (old new : List ℕ) : Type 0 where
   pub early : (i : ℕ) → class_at new i ≤ i
   pub alike : (i : ℕ) → i < length old → key_of g old (class_at new i) ≡ key_of g old i
   pub together : (i j : ℕ) → i < length old → j < length old → key_of g old i ≡ key_of g old j → class_at new i ≡ class_at new j
+
+-- a round changes nothing
+abbrev pub IsStable : Nodes → List ℕ → Type 0
+IsStable g classes = IsRefined g classes classes

@@ -1,5 +1,5 @@
 -- New numbers for nodes of a graph: a node's new number is its place in a list of old numbers.
-use Rattle.std.specs.Prelude.{◌≡◌, ℕ, ◌<◌, List, All, Some, slice_get, nat_eq}
+use Rattle.std.specs.Prelude.{◌≡◌, ℕ, ◌<◌, List, length, All, Some, slice_get, nat_eq}
 use Rattle.std.specs.List.{AllZip}
 use Rattle.indexmap.specs.IndexSet.{IndexSet, IsUnique}
 use Rattle.ct_values.specs.declared.node.NodeId.{NodeId}
@@ -29,3 +29,11 @@ pub record IsRenumbered (g : Nodes) (ids : List ℕ) (n : ℕ) (node : Node) : T
 -- the nodes are those whose old numbers stand at their places
 abbrev pub AreRenumbered : Nodes → List ℕ → List Node → Type 0
 AreRenumbered g ids nodes = (i n : ℕ) (node : Node) → slice_get nodes i ≡ Some node → slice_get ids i ≡ Some n → IsRenumbered g ids n node
+
+-- the nodes are those that stand for a root and for what it reaches, each for another one
+pub record IsPart (g : Nodes) (root : ℕ) (nodes : Nodes) : Type 0 where
+  pub ids : List ℕ
+  pub unique : (i j n : ℕ) → slice_get ids i ≡ Some n → slice_get ids j ≡ Some n → i ≡ j
+  pub first : slice_get ids 0 ≡ Some root
+  pub all : length nodes ≡ length ids
+  pub renumbered : AreRenumbered g ids nodes

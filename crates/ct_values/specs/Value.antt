@@ -3,7 +3,6 @@ use Rattle.std.specs.Prelude.{ℕ, ◌<◌, List, [], ◌∷◌, ◌++◌, lengt
 use Rattle.ct_sorts.specs.declared.ids.CtorId.{CtorId}
 use Rattle.ct_sorts.specs.declared.ids.SortId.{SortId}
 use Rattle.ct_values.specs.declared.node.NodeId.{NodeId}
-use Rattle.ct_values.specs.declared.value.Value as rust
 use Rattle.ct_values.specs.Graph.{Nodes}
 
 mutual
@@ -46,15 +45,3 @@ abbrev mutual
   pub AreOver : Nodes → Values → Type 0
   AreOver g no_values = Unit {0}
   AreOver g (with_value v vs) = IsOver g v × AreOver g vs
-
-abbrev mutual
-  -- the value that a `Value` of the program means
-  pub meaning : rust.Value → Value
-  meaning (rust.Ref n) = reference n
-  meaning (rust.Elem s n) = element s n
-  meaning (rust.Con' c shape all) = construct c (meanings all)
-
-  -- the same of a vector of them
-  pub meanings : {m : _} → rust.Row_of-Value m → Values
-  meanings rust.end_of-Value = no_values
-  meanings (rust.more_of-Value v rest) = with_value (meaning v) (meanings rest)

@@ -2,9 +2,8 @@
 //!
 //! The part of the graph that the two nodes reach is copied. Its finite trees get their classes from the
 //! leaves upward, and the partition that this gives is refined by rounds, until two rounds agree or the two
-//! nodes fall apart. With n nodes that have e children in all, a round takes time near n + e. Where no cycle
-//! is reached two rounds are enough, and else there are at most as many as there are nodes that reach one,
-//! and two. Nothing outside the part is looked at, and nothing recurses.
+//! nodes fall apart. Where no cycle is reached two rounds are enough, and else there are at most as many as
+//! there are nodes that reach one, and two. Nothing outside the part is looked at, and nothing recurses.
 //!
 //! The rounds may begin with any partition that keeps nodes together which agree at every depth.
 ghost use Rattle.std.specs.Prelude.{◌≡◌, ◌↔◌, ◌<◌, length, IfOk, IsTrue};
@@ -17,7 +16,7 @@ use crate::finite::finite_classes;
 use crate::graph::Graph;
 use crate::node::NodeId;
 use crate::reach::reached;
-use crate::refine::refine;
+use crate::rounds::refined;
 use std::alloc::Global;
 
 /// Whether the two nodes are the same value.
@@ -45,22 +44,6 @@ fn decide(
     requires together { KeepsTogether graph.now start.items }
     ensures value { IfOk result (λ r. IsTrue r ↔ AgreeAlways (node_point graph.now a) (node_point graph.now b)) }
 {
-    let mut classes = refine(alloc, graph, &start)?;
-    loop {
-        let next = refine(alloc, graph, &classes)?;
-        if next[a.0 as usize] != next[b.0 as usize] {
-            return Ok(false);
-        }
-        if are_equal(&next, &classes) {
-            return Ok(true);
-        }
-        classes = next;
-    }
-}
-
-// Whether the two partitions are equal.
-fn are_equal(classes: &[usize], others: &[usize]) -> bool
-    ensures value { IsTrue result ↔ (classes.now ≡ others.now) }
-{
-    classes == others
+    let classes = refined(alloc, graph, start, a, b)?;
+    Ok(classes[a.0 as usize] == classes[b.0 as usize])
 }

@@ -1,9 +1,11 @@
-ghost use Rattle.std.specs.Prelude.{◌≡◌, ℕ, suc, ◌++◌, ◌↔◌, IsTrue};
+ghost use Rattle.std.specs.Prelude.{◌≡◌, ℕ, suc, ◌<◌, ◌≤◌, length, ◌++◌, ◌↔◌, IsTrue};
 ghost use Rattle.std.specs.Cmp.{IsEquivalence};
 ghost use Rattle.std.specs.List.{AllZip};
+ghost use Rattle.ct_values.specs.declared.node.NodeId.{NodeId};
 ghost use Rattle.ct_values.specs.Graph.{Nodes, IsClosed};
 ghost use Rattle.ct_values.specs.Value.{Value, IsOver};
-ghost use Rattle.ct_values.specs.Agreement.{Point, point, head, children, agree, same, AgreeAlways};
+ghost use Rattle.ct_values.specs.Agreement.{Point, point, node_point, head, children, agree, same, AgreeAlways};
+ghost use Rattle.ct_values.specs.Smallest.{IsSmallest};
 
 /// The laws of agreement. It does nothing: a proof that needs them calls it.
 pub fn agreement()
@@ -34,4 +36,21 @@ pub fn agreement()
         → IsClosed g
         → IsOver g v
         → agree k (point (g ++ more) v) q ≡ agree k (point g v) q }
+{}
+
+/// The laws of the smallest graph of a tree. It does nothing: a proof that needs them calls it.
+pub fn smallest_graph()
+    // Two trees, each in its own graph, have one smallest graph exactly where they are the same.
+    ensures one { (g h : Nodes) (a b : NodeId) (s t : Nodes)
+        → IsSmallest g a s
+        → IsSmallest h b t
+        → (s ≡ t) ↔ AgreeAlways (node_point g a) (node_point h b) }
+
+    // No graph in which a node is the same has fewer nodes.
+    ensures fewest { (g h : Nodes) (a b : NodeId) (s : Nodes)
+        → IsSmallest g a s
+        → IsClosed h
+        → b.0 < length h
+        → AgreeAlways (node_point h b) (node_point g a)
+        → length s ≤ length h }
 {}

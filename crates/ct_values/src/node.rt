@@ -1,8 +1,8 @@
 use crate::node_ids::NodeIds;
 use ct_sorts::{CtorId, SortId};
 
-/// The number of a node in its graph, from 0 on. The default is the first node.
-#[derive(Clone, Copy, Debug, Default, PartialEq, Eq, Hash)]
+/// The number of a node in its graph, from 0 on.
+#[derive(Clone, Copy, Debug, PartialEq, Eq, Hash)]
 pub struct NodeId(pub u64);
 
 /// A node of a graph.

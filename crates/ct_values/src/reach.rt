@@ -1,11 +1,13 @@
-//! The part of a graph that two nodes reach, as a graph of its own.
+//! The part of a graph that one or two nodes reach, as a graph of its own.
 //!
 //! Only the nodes that are reached are looked at: each is numbered when it is first met, as a root or as a
-//! child, and copied with the numbers of its children when its turn comes. The time is near-linear in
-//! these nodes and their children.
-ghost use Rattle.std.specs.Prelude.{◌≡◌, ◌<◌, length, Some, slice_get, IfOk, All};
+//! child, and copied with the numbers of its children when its turn comes. So from one root they are numbered
+//! breadth first. The time is near-linear in these nodes and their children.
+ghost use Rattle.std.specs.Prelude.{◌≡◌, ◌<◌, [], ◌∷◌, length, map, Some, slice_get, IfOk, All};
 ghost use Rattle.ct_values.specs.Agreement.{node_point, AgreeAlways};
-ghost use Rattle.ct_values.specs.Renumbering.{IsNumbering, Stay, StandFor, IsRenumbered, AreRenumbered};
+ghost use Rattle.ct_values.specs.Smallest.{child_numbers, IsBreadthFirst};
+ghost use Rattle.ct_values.specs.Numbered.{CountsUp, IsInOrder};
+ghost use Rattle.ct_values.specs.Renumbering.{IsNumbering, Stay, StandFor, IsRenumbered, AreRenumbered, IsPart};
 
 use crate::error::ValueError;
 use crate::graph::Graph;
@@ -20,6 +22,18 @@ pub(crate) struct Part {
     pub(crate) graph: Graph,
     pub(crate) first: NodeId,
     pub(crate) second: NodeId,
+}
+
+/// The part of the graph that this node reaches. Its number there is 0.
+pub(crate) fn reached_from(alloc: Global, g: &Graph, root: NodeId) -> Result<Graph, ValueError>
+    requires within { root.0 < length g.now }
+    ensures part { IfOk result (λ part. IsPart g.now root.0 part) }
+    ensures breadth_first { IfOk result (λ part. IsBreadthFirst part) }
+{
+    let mut ids = IndexSet::new(alloc);
+    let _ = number(g, &mut ids, root)?;
+    let nodes = renumber_all(alloc, g, &mut ids)?;
+    Ok(Graph::from_nodes(nodes))
 }
 
 /// The part of the graph that these two nodes reach.
@@ -49,6 +63,7 @@ fn renumber_all(alloc: Global, g: &Graph, ids: &mut IndexSet<u64>) -> Result<Vec
     ensures numbering { IfOk result (λ nodes. IsNumbering (length g.now) ids.new) }
     ensures renumbered { IfOk result (λ nodes. AreRenumbered g.now ids.new.keys nodes.items) }
     ensures all { IfOk result (λ nodes. length nodes.items ≡ length ids.new.keys) }
+    ensures in_order { IfOk result (λ nodes. IsInOrder (length ids.old.keys) 0 nodes.items (length ids.new.keys)) }
 {
     let mut nodes = Vec::new(alloc);
     while let Some(id) = ids.get_index(nodes.len()).copied() {
@@ -70,6 +85,7 @@ fn renumber(
     ensures stay { IfOk result (λ node. Stay ids.old.keys ids.new.keys) }
     ensures numbering { IfOk result (λ node. IsNumbering (length g.now) ids.new) }
     ensures renumbered { IfOk result (λ node. IsRenumbered g.now ids.new.keys n.0 node) }
+    ensures counts { IfOk result (λ node. CountsUp (length ids.old.keys) (child_numbers node) (length ids.new.keys)) }
 {
     match g.head(n) {
         Head::Con(c) => {
@@ -92,6 +108,8 @@ fn number_all(
     ensures stay { IfOk result (λ places. Stay ids.old.keys ids.new.keys) }
     ensures numbering { IfOk result (λ places. IsNumbering (length g.now) ids.new) }
     ensures stand { IfOk result (λ places. StandFor ids.new.keys places.items nodes.now) }
+    ensures counts { IfOk result (λ places.
+        CountsUp (length ids.old.keys) (map (λ place. place.0) places.items) (length ids.new.keys)) }
 {
     let mut places = Vec::with_capacity(alloc, nodes.len())?;
     for n in nodes {
@@ -107,6 +125,7 @@ fn number(g: &Graph, ids: &mut IndexSet<u64>, n: NodeId) -> Result<NodeId, Value
     ensures stay { IfOk result (λ place. Stay ids.old.keys ids.new.keys) }
     ensures numbering { IfOk result (λ place. IsNumbering (length g.now) ids.new) }
     ensures at { IfOk result (λ place. slice_get ids.new.keys place.0 ≡ Some n.0) }
+    ensures counts { IfOk result (λ place. CountsUp (length ids.old.keys) (place.0 ∷ []) (length ids.new.keys)) }
 {
     let (place, _) = ids.insert_full(n.0)?;
     Ok(NodeId(place as u64))

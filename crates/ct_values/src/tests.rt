@@ -1,8 +1,10 @@
-//! What graphs hold, and which of their nodes are the same.
+//! What graphs hold, which of their nodes are the same, and what their smallest graphs are.
 ghost use Rattle.std.specs.Prelude.{◌<◌, IsTrue, All};
 ghost use Rattle.ct_values.specs.Graph.{IsClosed, HasChildrenBelow};
 
-use crate::{Graph, Head, Node, NodeId, NodeIds, ValueError, agreement, same};
+use crate::{
+    Graph, Head, Node, NodeId, NodeIds, ValueError, agreement, minimise, same, smallest_graph,
+};
 use ct_sorts::{CtorId, SortId};
 use std::alloc::Global;
 use std::process::Abort;
@@ -18,6 +20,43 @@ const SCONS: CtorId = CtorId(4);
 const CONS: CtorId = CtorId(5);
 
 const NIL: CtorId = CtorId(6);
+
+// The streams of the worked example: `a, a, ..` in one node and in two, and `b, a, a, ..`.
+const STREAMS: [Step; 6] = [
+    Step::Two(SCONS, 1, 0),
+    Step::Zero(A),
+    Step::Two(SCONS, 1, 3),
+    Step::Two(SCONS, 1, 2),
+    Step::Zero(B),
+    Step::Two(SCONS, 4, 0),
+];
+
+// Streams of `a` and `b` that repeat after one, two or three elements, some behind a prefix.
+const PERIODS: [Step; 20] = [
+    Step::Zero(A),
+    Step::Zero(B),
+    // a, b, a, b, .. in two nodes, and in four.
+    Step::Two(SCONS, 0, 3),
+    Step::Two(SCONS, 1, 2),
+    Step::Two(SCONS, 0, 5),
+    Step::Two(SCONS, 1, 6),
+    Step::Two(SCONS, 0, 7),
+    Step::Two(SCONS, 1, 4),
+    // a, a, b, a, a, b, .. in three nodes, and in six that begin at the second element.
+    Step::Two(SCONS, 0, 9),
+    Step::Two(SCONS, 0, 10),
+    Step::Two(SCONS, 1, 8),
+    Step::Two(SCONS, 0, 12),
+    Step::Two(SCONS, 1, 13),
+    Step::Two(SCONS, 0, 14),
+    Step::Two(SCONS, 0, 15),
+    Step::Two(SCONS, 1, 16),
+    Step::Two(SCONS, 0, 11),
+    // b, a, b, a, b, .. by way of a prefix of three.
+    Step::Two(SCONS, 1, 18),
+    Step::Two(SCONS, 0, 19),
+    Step::Two(SCONS, 1, 2),
+];
 
 // A node that a test makes: a constructor over nodes, or an element of a sort, by its number.
 #[derive(Clone, Copy, Debug)]
@@ -98,6 +137,36 @@ fn are_same(rt: &impl Abort, alloc: Global, g: &Graph, a: u64, b: u64) -> Result
     same(alloc, g, NodeId(a), NodeId(b))
 }
 
+// Whether the smallest graph of the tree at this node has these nodes.
+fn is_smallest(
+    rt: &impl Abort,
+    alloc: Global,
+    g: &Graph,
+    root: u64,
+    steps: &[Step],
+) -> Result<bool, ValueError> {
+    assert!(rt; root < g.len());
+    let (smallest, first) = minimise(alloc, g, NodeId(root))?;
+    assert_eq!(rt; first, NodeId(0));
+    let want = graph(rt, alloc, steps)?;
+    Ok(have_equal_nodes(&smallest, &want))
+}
+
+fn have_equal_nodes(g: &Graph, h: &Graph) -> bool {
+    if g.len() != h.len() {
+        return false;
+    }
+    for n in 0..g.len() {
+        if g.head(NodeId(n)) != h.head(NodeId(n)) {
+            return false;
+        }
+        if g.children(NodeId(n)) != h.children(NodeId(n)) {
+            return false;
+        }
+    }
+    true
+}
+
 fn head(rt: &impl Abort, g: &Graph, n: u64) -> Head {
     assert!(rt; n < g.len());
     g.head(NodeId(n))
@@ -124,15 +193,7 @@ fn append(rt: &impl Abort, g: &mut Graph, nodes: Vec<Node>) -> Result<(), ValueE
 #[test]
 fn finds_streams_that_are_the_same(rt: HostRuntime) -> Result<(), Fail> {
     let alloc = rt.alloc();
-    let steps = [
-        Step::Two(SCONS, 1, 0),
-        Step::Zero(A),
-        Step::Two(SCONS, 1, 3),
-        Step::Two(SCONS, 1, 2),
-        Step::Zero(B),
-        Step::Two(SCONS, 4, 0),
-    ];
-    let g = graph(&rt, alloc, &steps)?;
+    let g = graph(&rt, alloc, &STREAMS)?;
     for (a, b, want) in [
         (0, 2, true),
         (2, 3, true),
@@ -178,36 +239,10 @@ fn tells_elements_and_numbers_of_children_apart(rt: HostRuntime) -> Result<(), F
     Ok(())
 }
 
-// Streams of `a` and `b` that repeat after one, two or three elements, some behind a prefix.
 #[test]
 fn finds_periods(rt: HostRuntime) -> Result<(), Fail> {
     let alloc = rt.alloc();
-    let steps = [
-        Step::Zero(A),
-        Step::Zero(B),
-        // a, b, a, b, .. in two nodes, and in four.
-        Step::Two(SCONS, 0, 3),
-        Step::Two(SCONS, 1, 2),
-        Step::Two(SCONS, 0, 5),
-        Step::Two(SCONS, 1, 6),
-        Step::Two(SCONS, 0, 7),
-        Step::Two(SCONS, 1, 4),
-        // a, a, b, a, a, b, .. in three nodes, and in six that begin at the second element.
-        Step::Two(SCONS, 0, 9),
-        Step::Two(SCONS, 0, 10),
-        Step::Two(SCONS, 1, 8),
-        Step::Two(SCONS, 0, 12),
-        Step::Two(SCONS, 1, 13),
-        Step::Two(SCONS, 0, 14),
-        Step::Two(SCONS, 0, 15),
-        Step::Two(SCONS, 1, 16),
-        Step::Two(SCONS, 0, 11),
-        // b, a, b, a, b, .. by way of a prefix of three.
-        Step::Two(SCONS, 1, 18),
-        Step::Two(SCONS, 0, 19),
-        Step::Two(SCONS, 1, 2),
-    ];
-    let g = graph(&rt, alloc, &steps)?;
+    let g = graph(&rt, alloc, &PERIODS)?;
     for (a, b, want) in [
         (2, 4, true),
         (2, 6, true),
@@ -223,6 +258,79 @@ fn finds_periods(rt: HostRuntime) -> Result<(), Fail> {
     ] {
         assert_eq!(rt; are_same(&rt, alloc, &g, a, b)?, want, "of {a} and {b}");
     }
+    Ok(())
+}
+
+#[test]
+fn makes_streams_smallest(rt: HostRuntime) -> Result<(), Fail> {
+    let alloc = rt.alloc();
+    let g = graph(&rt, alloc, &STREAMS)?;
+    let a_only = [Step::Two(SCONS, 1, 0), Step::Zero(A)];
+    for root in [0, 2, 3] {
+        assert!(rt; is_smallest(&rt, alloc, &g, root, &a_only)?, "of {root}");
+    }
+    let b_first = [
+        Step::Two(SCONS, 1, 2),
+        Step::Zero(B),
+        Step::Two(SCONS, 3, 2),
+        Step::Zero(A),
+    ];
+    assert!(rt; is_smallest(&rt, alloc, &g, 5, &b_first)?);
+    assert!(rt; is_smallest(&rt, alloc, &g, 4, &[Step::Zero(B)])?);
+    Ok(())
+}
+
+// A stream of period three in three nodes and in six, and the one that begins at its second element.
+#[test]
+fn makes_periods_smallest(rt: HostRuntime) -> Result<(), Fail> {
+    let alloc = rt.alloc();
+    let g = graph(&rt, alloc, &PERIODS)?;
+    let at_first = [
+        Step::Two(SCONS, 1, 2),
+        Step::Zero(A),
+        Step::Two(SCONS, 1, 3),
+        Step::Two(SCONS, 4, 0),
+        Step::Zero(B),
+    ];
+    let at_second = [
+        Step::Two(SCONS, 1, 2),
+        Step::Zero(A),
+        Step::Two(SCONS, 3, 4),
+        Step::Zero(B),
+        Step::Two(SCONS, 1, 0),
+    ];
+    for root in [8, 13, 16] {
+        assert!(rt; is_smallest(&rt, alloc, &g, root, &at_first)?, "of {root}");
+    }
+    for root in [9, 11, 14] {
+        assert!(rt; is_smallest(&rt, alloc, &g, root, &at_second)?, "of {root}");
+    }
+    Ok(())
+}
+
+// A finite tree with equal parts. Depth first its last two nodes would have each other's number.
+#[test]
+fn numbers_trees_breadth_first(rt: HostRuntime) -> Result<(), Fail> {
+    let alloc = rt.alloc();
+    let steps = [
+        Step::Element(7, 3),
+        Step::Element(7, 3),
+        Step::One(CONS, 0),
+        Step::One(CONS, 1),
+        Step::Zero(NIL),
+        Step::Two(CONS, 2, 4),
+        Step::Two(CONS, 5, 3),
+    ];
+    let g = graph(&rt, alloc, &steps)?;
+    let smallest = [
+        Step::Two(CONS, 1, 2),
+        Step::Two(CONS, 2, 3),
+        Step::One(CONS, 4),
+        Step::Zero(NIL),
+        Step::Element(7, 3),
+    ];
+    assert!(rt; is_smallest(&rt, alloc, &g, 6, &smallest)?);
+    smallest_graph();
     Ok(())
 }
 

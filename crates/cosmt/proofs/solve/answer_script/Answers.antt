@@ -1,5 +1,7 @@
+use Rattle.std.proofs.Common.{Err, ap, sym, ◌∙◌}
+use Rattle.ct_io.specs.declared.sink.SinkError.{SinkError}
 use Rattle.cosmt.proofs.FaultLemmas.{Rose-since}
-use Rattle.cosmt.proofs.ReportLemmas.{Solves-broke, Solves-done, Solves-refused}
+use Rattle.cosmt.proofs.ReportLemmas.{output_fault, no_input_fault, Solves-broke, Solves-done, Solves-refused}
 use Rattle.cosmt.proofs.ScriptLemmas.{Laws}
 use Rattle.cosmt.proofs.solve.answer_script.Goals.{After-one_reading}
 use Rattle.cosmt.proofs.solve.answer_script.Goals as goal
@@ -39,3 +41,9 @@ pub returns-clause-solved : goal.returns-clause-solved
 returns-clause-solved g c =
     rw (c.status_of.ensures, c.new-in-Err.ensures.items)
     (Solves-broke (laws g (goal.at.returns-clause-solved g c).After-one_reading) c.args.reader.now c.requires.short _ _ _ _ _ _ c.in-Ok.ensures c.new-verdicts.ensures.items c.in-Err.error c.in-Err.ensures.broke)
+
+pub returns-clause-output : goal.returns-clause-output
+returns-clause-output g c = λ is. c.in-Err.ensures.cause.caused (ap (λ (e : SinkError). Err e) (output_fault c.in-Err.error (sym c.status_of.ensures ∙ is)))
+
+pub returns-clause-input : goal.returns-clause-input
+returns-clause-input g c = λ is. no_input_fault c.in-Err.error (sym c.status_of.ensures ∙ is)

@@ -1,60 +1,22 @@
-use Rattle.std.proofs.Common.{◌≡◌, ℕ, ◌<◌, ◌≤◌, ◌-◌, ◌*◌, List, length, get_or, refl, sym, subst, ◌∙◌, arith, sum, true≢false}
-use Rattle.std.proofs.lemmas.Grind.{get_or_default_zero}
-use Rattle.ct_values.specs.Partition.{class_at, IsRefined}
-use Rattle.ct_values.proofs.RefineLemmas.{IsPartition-refined, AgreeAlways-stable, sum-refined, sum-partition}
+use Rattle.std.proofs.Common.{◌≡◌, length, sym, ◌∙◌, arith}
+use Rattle.std.proofs.lemmas.Bool.Decides.{Decides-eqb}
+use Rattle.ct_values.proofs.RefineLemmas.{class_read, AgreeAlways-stable}
 use Rattle.ct_values.proofs.equality.decide.Goals as goal
 
--- what is read at a place is the class there
-class_read : (classes : List ℕ) (i x : ℕ) → i < length classes → x ≡ get_or classes i x → class_at classes i ≡ x
-class_read classes i x within read = sym (read ∙ get_or_default_zero classes i x within)
-
--- a number that rises below a bound comes nearer to it
-nearer : (top m n : ℕ) → m < n → n ≤ top → top - n < top - m
-nearer top m n less within = omega arith
-
-pub returns-then-index : goal.returns-then-index
-returns-then-index c =
+pub returns : goal.returns
+returns c =
     let g = c.args.graph.now in
-    let next = c.in_ok-next.next.items in
-    let refined : IsRefined g c.loop-classes.classes.items next = rw c.deref-in-loop-classes.ensures.value at c.in_ok-next.ensures.refined in
-    let p = IsPartition-refined g c.loop-classes.classes.items next c.requires.closed c.loop-classes.invariant.keeps refined in
-    let a = class_read next c.args.a.0 c.index.result.now (omega (arith, p.keeps.long, c.requires.a_within)) c.index.ensures in
-    let b = class_read next c.args.b.0 c.index-in-loop-classes.result.now (omega (arith, p.keeps.long, c.requires.b_within)) c.index-in-loop-classes.ensures in
+    let done = c.in_ok-classes.ensures in
+    let classes = c.in_ok-classes.classes.items in
+    let long : length classes ≡ length g = done.together.long in
+    let a = class_read classes c.args.a.0 c.index.result.now (omega (arith, long, c.requires.a_within)) c.index.ensures in
+    let b = class_read classes c.args.b.0 c.index-2.result.now (omega (arith, long, c.requires.b_within)) c.index-2.ensures in
+    let test = Decides-eqb c.index.result.now c.index-2.result.now in
     record {
-      value = (λ h. cc, λ always. absurd (c.if-index.true (sym a ∙ p.keeps.together c.args.a.0 c.args.b.0 c.requires.a_within c.requires.b_within always ∙ b)));
+      value = (
+        λ h.
+            let one = a ∙ test.0 h ∙ sym b in
+            AgreeAlways-stable g classes c.requires.closed long (done.stable one) c.args.a c.args.b c.requires.a_within c.requires.b_within one,
+        λ always. test.1 (sym a ∙ done.together.together c.args.a.0 c.args.b.0 c.requires.a_within c.requires.b_within always ∙ b),
+      );
     }
-
-pub returns-then-are_equal : goal.returns-then-are_equal
-returns-then-are_equal c =
-    let g = c.args.graph.now in
-    let old = c.loop-classes.classes.items in
-    let next = c.in_ok-next.next.items in
-    let refined : IsRefined g old next = rw c.deref-in-loop-classes.ensures.value at c.in_ok-next.ensures.refined in
-    let p = IsPartition-refined g old next c.requires.closed c.loop-classes.invariant.keeps refined in
-    let same : next ≡ old = sym c.deref-in-loop-classes-2.ensures.value ∙ c.are_equal.ensures.value.0 c.if-are_equal.true ∙ c.deref-in-loop-classes-3.ensures.value in
-    let stable : IsRefined g next next = subst (λ (classes : List ℕ). IsRefined g classes next) (sym same) refined in
-    let a = class_read next c.args.a.0 c.index.result.now (omega (arith, p.keeps.long, c.requires.a_within)) c.index.ensures in
-    let b = class_read next c.args.b.0 c.index-in-loop-classes.result.now (omega (arith, p.keeps.long, c.requires.b_within)) c.index-in-loop-classes.ensures in
-    record {
-      value = (λ h. AgreeAlways-stable g next c.requires.closed p.keeps.long stable c.args.a c.args.b c.requires.a_within c.requires.b_within (a ∙ c.if-index.false ∙ sym b), λ always. refl);
-    }
-
-pub loop-classes-smaller : goal.loop-classes-smaller
-loop-classes-smaller c =
-    let g = c.args.graph.now in
-    let old = c.loop-classes.classes.items in
-    let next = c.in_ok-next.next.items in
-    let refined : IsRefined g old next = rw c.deref-in-loop-classes.ensures.value at c.in_ok-next.ensures.refined in
-    let other : next ≡ old → ⊥ = λ same.
-    true≢false (sym (c.are_equal.ensures.value.1 (c.deref-in-loop-classes-2.ensures.value ∙ same ∙ sym c.deref-in-loop-classes-3.ensures.value)) ∙ c.if-are_equal.false) in
-    let less = sum-refined g old next c.loop-classes.invariant refined other in
-    let p = IsPartition-refined g old next c.requires.closed c.loop-classes.invariant.keeps refined in
-    nearer (length g * length g) (sum old) (sum next) less (sum-partition g next p)
-
-pub loop-classes-preserved : goal.loop-classes-preserved
-loop-classes-preserved c =
-    IsPartition-refined c.args.graph.now c.loop-classes.classes.items c.in_ok-next.next.items c.requires.closed c.loop-classes.invariant.keeps (rw c.deref-in-loop-classes.ensures.value at c.in_ok-next.ensures.refined)
-
-pub loop-classes-init : goal.loop-classes-init
-loop-classes-init c =
-    IsPartition-refined c.args.graph.now c.args.start.items c.in_ok-classes.classes.items c.requires.closed c.requires.together (rw c.deref.ensures.value at c.in_ok-classes.ensures.refined)

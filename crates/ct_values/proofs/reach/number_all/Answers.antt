@@ -1,8 +1,9 @@
-use Rattle.std.proofs.Common.{◌≡◌, Some, slice_get, get_or, take}
+use Rattle.std.proofs.Common.{◌≡◌, length, Some, slice_get, get_or, take}
 use Rattle.std.proofs.lemmas.List.{take_more}
 use Rattle.std.proofs.lemmas.List.Elements.{AllZip-push}
 use Rattle.ct_values.specs.declared.node.NodeId.{NodeId}
 use Rattle.ct_values.specs.Renumbering.{StandFor}
+use Rattle.ct_values.proofs.NumberedLemmas.{CountsUp-push}
 use Rattle.ct_values.proofs.RenumberLemmas.{Stay-trans, StandFor-stay}
 use Rattle.ct_values.proofs.reach.number_all.Goals as goal
 
@@ -20,4 +21,5 @@ loop-n-preserved c =
       Stay-trans c.args.ids.now.keys old new c.loop-n.invariant.1 done.stay,
       rw (c.in_ok-push.ensures.items, take_more nodes c.loop-n.n-index none c.loop-n-test.true)
           (AllZip-push (λ p n. slice_get new p.0 ≡ Some n.0) c.loop-n.places.items before c.in_ok-number.field-0 node kept done.at),
+      rw c.in_ok-push.ensures.items (CountsUp-push (length c.args.ids.now.keys) (length old) (length new) c.loop-n.places.items c.in_ok-number.field-0 c.loop-n.invariant.3 done.counts),
     )

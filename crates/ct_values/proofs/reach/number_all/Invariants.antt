@@ -1,7 +1,11 @@
-use Rattle.std.proofs.Common.{length, take}
+use Rattle.std.proofs.Common.{length, map, take}
+use Rattle.ct_values.specs.Numbered.{CountsUp}
 use Rattle.ct_values.specs.Renumbering.{IsNumbering, Stay, StandFor}
 use Rattle.ct_values.proofs.reach.number_all.Given as goal
 
 abbrev pub invariant-loop-n : goal.invariant-loop-n
 invariant-loop-n l =
-    IsNumbering (length l.g) l.ids × Stay l.initial.ids.keys l.ids.keys × StandFor l.ids.keys l.places.items (take l.n-index l.nodes)
+    IsNumbering (length l.g) l.ids
+    × Stay l.initial.ids.keys l.ids.keys
+    × StandFor l.ids.keys l.places.items (take l.n-index l.nodes)
+    × CountsUp (length l.initial.ids.keys) (map (λ place. place.0) l.places.items) (length l.ids.keys)

@@ -2,7 +2,9 @@ use Rattle.std.proofs.Common.{◌≡◌, ℕ, ◌<◌, ◌-◌, List, [], ◌∷
 use Rattle.std.proofs.lemmas.Option.{slice_get_within}
 use Rattle.std.proofs.lemmas.Map.Steps.{length-le_from_distinct_below}
 use Rattle.ct_values.specs.declared.node.Node.{Node}
+use Rattle.ct_values.specs.Numbered.{IsInOrder}
 use Rattle.ct_values.specs.Renumbering.{AreRenumbered}
+use Rattle.ct_values.proofs.NumberedLemmas.{IsInOrder-push}
 use Rattle.ct_values.proofs.RenumberLemmas.{Stay-trans, AreRenumbered-push, member_below}
 use Rattle.ct_values.proofs.reach.renumber_all.Goals as goal
 
@@ -35,4 +37,5 @@ loop-id-preserved c =
       Stay-trans c.args.ids.now.keys old new c.loop-id.invariant.1 done.stay,
       subst (λ (more : List Node). AreRenumbered c.args.g.now new more) (sym c.in_ok-push.ensures.items) all,
       omega (arith, room, ap length c.in_ok-push.ensures.items, length-append nodes (node ∷ [])),
+      subst (λ (more : List Node). IsInOrder (length c.args.ids.now.keys) 0 more (length new)) (sym c.in_ok-push.ensures.items) (IsInOrder-push (length c.args.ids.now.keys) 0 (length old) (length new) nodes node c.loop-id.invariant.4 (omega (arith, slice_get_within old (length nodes) c.in-Some.id turn)) done.counts),
     )

@@ -6,19 +6,19 @@ use Rattle.cosmt.specs.Command.{State}
 use Rattle.cosmt.specs.Session.{IsOverConstant, IsKept, state_of}
 use Rattle.cosmt.proofs.SessionLemmas.{IsKept-asserted, state-asserted}
 use Rattle.cosmt.proofs.session.Session.assert.Goals as goal
-use Rattle.cosmt.proofs.session.Session.assert.Goals.{In-Some, In_ok-add}
+use Rattle.cosmt.proofs.session.Session.assert.Goals.{In-Some-constant_at, In_ok-add}
 
-there : (c : In-Some) → slice_get c.self.inside.constants.items c.in-Some-Fun.f.0 ≡ Some c.in-Some.constant
-there c = ap (λ (xs : List Constant). slice_get xs c.in-Some-Fun.f.0) (sym c.as_slice.ensures.value) ∙ sym c.constant_at.ensures ∙ c.in-Some.is
+there : (c : In-Some-constant_at) → slice_get c.self.inside.constants.items c.in-Some.f.0 ≡ Some c.in-Some-constant_at.constant
+there c = ap (λ (xs : List Constant). slice_get xs c.in-Some.f.0) (sym c.as_slice.ensures.value) ∙ sym c.constant_at.ensures ∙ c.in-Some-constant_at.is
 
 pub literal_of-literal-requires : goal.literal_of-literal-requires
-literal_of-literal-requires c = (c.in-Some-Fun.f.0, c.self.invariant.terms c.in-Some-Fun.f.0 c.in-Some.constant (there (goal.at.literal_of-literal-requires c).In-Some))
+literal_of-literal-requires c = (c.in-Some.f.0, c.self.invariant.terms c.in-Some.f.0 c.in-Some-constant_at.constant (there (goal.at.literal_of-literal-requires c).In-Some-constant_at))
 
 over : (c : In_ok-add) → IsOverConstant c.self.inside.constants.items c.literal_of-literal.result
 over c = record {
-  number = c.in-Some-Fun.f.0;
-  constant = c.in-Some.constant;
-  there = ap (λ (xs : List Constant). slice_get xs c.in-Some-Fun.f.0) (sym c.as_slice.ensures.value) ∙ sym c.constant_at.ensures ∙ c.in-Some.is;
+  number = c.in-Some.f.0;
+  constant = c.in-Some-constant_at.constant;
+  there = ap (λ (xs : List Constant). slice_get xs c.in-Some.f.0) (sym c.as_slice.ensures.value) ∙ sym c.constant_at.ensures ∙ c.in-Some-constant_at.is;
   is = sym (ap (λ (l : Lit). l.term) c.literal_of-literal.ensures);
 }
 
@@ -32,9 +32,9 @@ pub returns : goal.returns
 unfolding over
 returns c =
     let s = c.self.inside in
-    let named : slice_get (names s.signature) c.in-Some-Fun.f.0 ≡ Some c.args.name.now = rw c.in-Some-Fun.field-0-is at c.in-Some-Fun.ensures.value in
+    let named : slice_get (names s.signature) c.in-Some.f.0 ≡ Some c.args.name.now = c.in-Some.ensures.named in
     let positive : c.literal_of-literal.result.positive ≡ c.args.positive = ap (λ (l : Lit). l.positive) c.literal_of-literal.ensures in (
-      (c.in-Some-Fun.f.0, ap (λ (state : State). slice_get state.declared c.in-Some-Fun.f.0) (sym c.self.view_is) ∙ named),
+      (c.in-Some.f.0, ap (λ (state : State). slice_get state.declared c.in-Some.f.0) (sym c.self.view_is) ∙ named),
       ap (state_of (names s.signature) s.terms) c.in_ok-add.ensures.ok
           ∙ state-asserted s.signature s.terms s.constants.items s.literals c.literal_of-literal.result c.args.name.now c.self.invariant (over c) named
           ∙ ap (λ (state : State). record { declared = state.declared; asserted = state.asserted ++ record { name = c.args.name.now; positive = c.literal_of-literal.result.positive } ∷ [] }) c.self.view_is

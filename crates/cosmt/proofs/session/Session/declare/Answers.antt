@@ -5,7 +5,7 @@ use Rattle.ct_terms.specs.Table.{AreSorted}
 use Rattle.cosmt.specs.Command.{State, MayDeclare}
 use Rattle.cosmt.specs.Constants.{AreTermsOf}
 use Rattle.cosmt.specs.Session.{IsKept, state_of}
-use Rattle.cosmt.proofs.SessionLemmas.{AreSorted-declared, IsKept-declared, IsKept-added, state-declared}
+use Rattle.cosmt.proofs.SessionLemmas.{IsKept-declared, IsKept-added, state-declared}
 use Rattle.cosmt.proofs.session.Session.declare.Goals as goal
 use Rattle.cosmt.proofs.session.Session.declare.Goals.{In-Some}
 
@@ -27,7 +27,7 @@ added c =
 pub terms_of-requires-clause-sorted : goal.terms_of-requires-clause-sorted
 terms_of-requires-clause-sorted c =
     let is = added (goal.at.terms_of-requires-clause-sorted c).In-Some in
-    subst (λ (d : Declarations). AreSorted d c.self.inside.terms) (sym is.grown) (AreSorted-declared c.self.inside.signature _ c.self.inside.terms c.self.invariant.sorted)
+    subst (λ (d : Declarations). AreSorted d c.self.inside.terms) (sym is.grown) (c.one_lasting_sort.ensures.declared c.self.inside.signature _ c.self.inside.terms c.self.invariant.sorted)
 
 pub invariant_of-self-in_err-constant : goal.invariant_of-self-in_err-constant
 invariant_of-self-in_err-constant c =

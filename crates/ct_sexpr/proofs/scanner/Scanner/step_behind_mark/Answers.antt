@@ -13,7 +13,7 @@ pub returns-clause-steps : goal.returns-clause-steps
 returns-clause-steps c =
     let said = c.in_ok-end_atom.ensures in
     let no_mark : eqb c.args.byte 34 ≡ false = grind (arith, nat_tests) in
-    let content = ap (λ w. leaf (text w)) (c.new-content.ensures.value ∙ c.in_ok-from_slice.ensures.items ∙ c.deref.ensures.value) in
+    let content = ap (λ w. leaf (text w)) (c.in_ok-content.ensures.ok ∙ c.deref.ensures.value) in
     Steps-behind c.args.self.now c.end_atom.new.self c.step_between.new.self c.args.byte c.step_between.result
     (ends_text c.args.self.now c.end_atom.new.self _ said.lists said.mode said.word said.lines said.before c.args.byte c.requires.mode no_mark content)
     c.step_between.ensures.steps

@@ -12,6 +12,6 @@ returns-in-92-clause-steps c =
 pub returns-in_ok-end_atom-in-124-clause-steps : goal.returns-in_ok-end_atom-in-124-clause-steps
 returns-in_ok-end_atom-in-124-clause-steps c =
     let said = c.in_ok-end_atom-in-124.ensures in
-    let name = ap (λ w. leaf (quoted w)) (c.new-name.ensures.value ∙ c.in_ok-from_slice-in-124.ensures.items ∙ c.deref.ensures.value) in
+    let name = ap (λ w. leaf (quoted w)) (c.in_ok-name-in-124.ensures.ok ∙ c.deref.ensures.value) in
     subst (Passes c.args.self.now c.end_atom.new.self) (sym c.in-124.is)
     (ends_quoted c.args.self.now c.end_atom.new.self _ said.lists said.mode said.word said.lines said.before c.requires.mode name)

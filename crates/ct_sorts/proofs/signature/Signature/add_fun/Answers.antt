@@ -1,36 +1,49 @@
-use Rattle.std.proofs.Common.{◌≡◌, length, sym, subst, inl, arith}
+use Rattle.std.proofs.Common.{◌≡◌, ℕ, ◌<◌, List, [], ◌∷◌, ◌++◌, length, map, refl, sym, ◌∙◌, ap, subst, inl, arith}
 use Rattle.std.proofs.lemmas.Bool.{true≢false}
-use Rattle.std.proofs.lemmas.List.{length-map}
-use Rattle.ct_sorts.specs.Names.{IsUnavailable}
-use Rattle.ct_sorts.specs.Declarations.{names, with_function}
+use Rattle.std.proofs.lemmas.List.{length-map, map-append}
+use Rattle.ct_sorts.specs.declared.ids.SortId.{SortId}
+use Rattle.ct_sorts.specs.Names.{IsListed, IsUnavailable}
+use Rattle.ct_sorts.specs.Declarations.{Declarations, Function, ctor_names, sel_names, names, definition_names, symbol_names, with_function}
 use Rattle.ct_sorts.specs.Consistent.{IsConsistent}
-use Rattle.ct_sorts.specs.Kept.{declarations, function_of}
-use Rattle.ct_sorts.specs.declared.signature.Declared.{Declared}
+use Rattle.ct_sorts.specs.Kept.{declared, sort_of, ctor_of, sel_of, function_of}
+use Rattle.ct_sorts.proofs.KeptLemmas.{names_at}
+use Rattle.ct_sorts.proofs.LookupLemmas.{IsListed-left, IsListed-right}
 use Rattle.ct_sorts.proofs.ConsistentLemmas.{IsConsistent-with_function}
-use Rattle.ct_sorts.proofs.KeptLemmas.{declarations-insert}
 use Rattle.ct_sorts.proofs.signature.Signature.add_fun.Goals as goal
 
--- what is put beside the name
-abbrev declared : goal.Joined-branch-2 → Declared
-declared c = record { args = c.args.args; result = c.args.sort }
+-- a name among these is a symbol
+symbol : (d : Declarations) (name : List ℕ) → IsListed (names d) name → IsListed (symbol_names d) name
+symbol d name h = IsListed-right (ctor_names d) _ name (IsListed-right (sel_names d) _ name (IsListed-left (names d) _ name h))
+
+pub push-requires : goal.push-requires
+push-requires c =
+    let fresh : IsListed (names c.args.self.now) c.args.name → ⊥ = λ h. true≢false (sym (c.if-is_unavailable.ensures.unavailable.1 (inl (symbol c.args.self.now c.args.name h)))) in
+    record { fresh = subst (λ xs. IsListed xs c.args.name → ⊥) (names_at function_of (λ (f : Function). f.name) c.self.inside.functions (λ _. refl)) (subst (λ d. IsListed (names d) c.args.name → ⊥) (sym c.self.view_is) fresh) }
 
 -- the name may be declared
-available : (c : goal.Joined-branch-2) → IsUnavailable (names (declarations c.self.inside)) c.into_vec.result.items → ⊥
-available c =
-    let here : IsUnavailable (names c.args.self.now) c.args.name → ⊥ = λ h. true≢false (sym (c.if-is_unavailable.ensures.unavailable.1 h)) in
-    subst (λ d. IsUnavailable (names d) c.into_vec.result.items → ⊥) (sym c.self.view_is) (rw c.into_vec.ensures here)
+available : (c : goal.In_ok-push) → IsUnavailable (symbol_names c.args.self.now) c.args.name → ⊥
+available c h = true≢false (sym (c.if-is_unavailable.ensures.unavailable.1 h))
 
--- the map has one more function at its end
-one_more : (c : goal.Joined-branch-2) → declarations (record { functions = c.insert.new.self }) ≡ with_function (declarations c.self.inside) (function_of (c.into_vec.result, declared c))
-one_more c = declarations-insert c.self.inside (record { functions = c.insert.new.self }) c.into_vec.result (declared c) (λ h. available c (inl h)) c.in_ok-insert.ensures.entries
+-- what is declared
+abbrev function : goal.In_ok-push → Function
+function c = record { name = c.args.name; args = c.args.args.items; result = c.args.sort }
 
--- the number of functions is the number of entries
-counted : (c : goal.Joined-branch-2) → c.len-count.result ≡ length (declarations c.self.inside).functions
-counted c = simp length-map c.len-count.ensures.len
+-- the number of these is the number of entries
+counted : (c : goal.In_ok-push) → c.len-count.result ≡ length c.args.self.now.functions
+counted c = c.len-count.ensures.len ∙ sym (length-map c.self.inside.functions function_of) ∙ ap (λ (d : Declarations). length d.functions) c.self.view_is
+
+-- the map has one more at its end
+one_more : (c : goal.In_ok-push) → declared c.self.inside.sorts c.self.inside.ctors c.self.inside.sels c.push.new.self c.self.inside.definitions ≡ with_function c.args.self.now (function c)
+one_more c =
+    let old = c.self.inside in
+    let put : map function_of c.push.new.self ≡ map function_of old.functions ++ function c ∷ [] =
+    ap (map function_of) c.in_ok-push.ensures.ok ∙ map-append function_of old.functions _ ∙ ap (λ (args : List SortId). map function_of old.functions ++ record { name = c.args.name; args = args; result = c.args.sort } ∷ []) c.new-args.ensures.value in
+    (λ j. record { sorts = map sort_of old.sorts; ctors = map ctor_of old.ctors; sels = map sel_of old.sels; functions = put j; definitions = map function_of old.definitions }) ∙ ap (λ d. with_function d (function c)) c.self.view_is
 
 pub invariant_of-self-2 : goal.invariant_of-self-2
 invariant_of-self-2 c =
-    subst IsConsistent (sym (one_more c)) (IsConsistent-with_function (declarations c.self.inside) (function_of (c.into_vec.result, declared c)) c.self.invariant (available c) (omega (arith, counted c)) (c.requires.args, c.requires.sort))
+    let consistent : IsConsistent c.args.self.now = subst IsConsistent c.self.view_is c.self.invariant in
+    subst IsConsistent (sym (one_more c)) (IsConsistent-with_function c.args.self.now (function c) consistent (available c) (omega (arith, counted c)) (c.requires.args, c.requires.sort))
 
 pub returns-clause-ok : goal.returns-clause-ok
-returns-clause-ok c = rw (← c.self.view_is, ← c.into_vec.ensures) (counted c, one_more c)
+returns-clause-ok c = (counted c, one_more c)

@@ -1,6 +1,9 @@
-use Rattle.std.proofs.Common.{Some, sym, ap}
-use Rattle.ct_sorts.proofs.KeptLemmas.{slice_get-names}
+use Rattle.std.proofs.Common.{◌≡◌, Some, slice_get, refl, subst}
+use Rattle.ct_sorts.specs.Declarations.{Function, names}
+use Rattle.ct_sorts.specs.Kept.{function_of}
+use Rattle.ct_sorts.proofs.KeptLemmas.{name_at}
 use Rattle.ct_sorts.proofs.signature.Signature.fun_name.Goals as goal
 
 pub returns : goal.returns
-returns c = rw (← c.self.view_is, slice_get-names, ← c.get_index.ensures.entry, c.unwrap.ensures) (ap Some (sym c.as_slice.ensures.value))
+returns c =
+    record { value = subst (λ d. slice_get (names d) c.args.f.0 ≡ Some c.name.result.now) c.self.view_is (name_at function_of (λ (t : Function). t.name) c.self.inside.functions c.args.f.0 c.name.result.now (λ _. refl) c.name.ensures.name) }

@@ -1,12 +1,25 @@
-use Rattle.std.proofs.Common.{sym}
+use Rattle.std.proofs.Common.{length, sym, arith}
+use Rattle.ct_terms.specs.Table.{Has, HasChildrenBelow}
+use Rattle.ct_terms.proofs.SortLemmas.{HasChildrenBelow-more}
 use Rattle.ct_terms.proofs.table.TermTable.core.Goals as goal
+use Rattle.ct_terms.proofs.table.TermTable.core.Goals.{In-Some}
+
+-- the term stands in the map
+there : (c : In-Some) → Has c.self.inside.terms.entries c.in-Some.core.now c.args.t.0
+there c =
+    let at = rw c.in-Some.is at c.get_index.ensures.entry in
+    (c.in-Some.field-0-1.now, sym at)
+
+-- so the terms under it have smaller numbers
+below : (c : In-Some) → HasChildrenBelow c.args.t.0 c.in-Some.core.now
+below c = c.self.invariant.ordered c.args.t.0 c.in-Some.core.now (there c)
 
 pub returns-clause-value : goal.returns-clause-value
-returns-clause-value c =
-    let at = rw c.in-Some.is at c.get_index.ensures.entry in
-    rw (← c.self.view_is) (c.in-Some.field-0-1.now, sym at)
+returns-clause-value c = rw (← c.self.view_is) (there (goal.at.returns-clause-value c).In-Some)
 
 pub returns-clause-below : goal.returns-clause-below
-returns-clause-below c =
-    let at = rw c.in-Some.is at c.get_index.ensures.entry in
-    c.self.invariant.ordered c.args.t.0 c.in-Some.core.now (c.in-Some.field-0-1.now, sym at)
+returns-clause-below c = below (goal.at.returns-clause-below c).In-Some
+
+pub returns-clause-inside : goal.returns-clause-inside
+returns-clause-inside c =
+    HasChildrenBelow-more c.args.t.0 (length c.args.self.now) c.in-Some.core.now (omega (arith, c.requires)) (below (goal.at.returns-clause-inside c).In-Some)

@@ -1,4 +1,4 @@
-use Rattle.ct_terms.proofs.TableLemmas.{AreSorted-declared}
+use Rattle.ct_terms.proofs.SortLemmas.{AreSorted-extends}
 use Rattle.ct_terms.proofs.table.TermTable.len.Goals as goal
 
 pub returns-clause-single : goal.returns-clause-single
@@ -8,4 +8,4 @@ pub returns-clause-negates : goal.returns-clause-negates
 returns-clause-negates c = rw (← c.self.view_is) c.self.invariant.negates
 
 pub returns-clause-lasting : goal.returns-clause-lasting
-returns-clause-lasting c = λ d f all. AreSorted-declared d f c.args.self.now all
+returns-clause-lasting c = λ later earlier extends all. AreSorted-extends later earlier c.args.self.now extends all

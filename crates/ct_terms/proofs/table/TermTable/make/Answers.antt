@@ -1,12 +1,13 @@
 use Rattle.std.proofs.Common.{[], ◌∷◌, ◌++◌, ◌≡◌, ◌<◌, ◌∙◌, Some, length, ap, inl, inr, refl, arith}
 use Rattle.ct_terms.specs.Table.{HasSort, most_terms}
 use Rattle.ct_terms.proofs.ListLemmas.{slice_get-last}
-use Rattle.ct_terms.proofs.TableLemmas.{IsTable-push, HasSort-only, IsOfSort-push, IsOfSort-sorted, AreSorted-push, StandsSorted-made, insert_entry-absent}
+use Rattle.ct_terms.proofs.SortLemmas.{HasSort-same, IsOfSort-append}
+use Rattle.ct_terms.proofs.TableLemmas.{IsTable-push, IsOfSort-sorted, AreSorted-push, StandsSorted-made, insert_entry-absent}
 use Rattle.ct_terms.proofs.table.TermTable.make.Goals as goal
 
 -- the sort that is stored is the term's
 stored : (c : goal.In_ok-insert) → HasSort c.args.sig.now c.args.self.now c.args.core c.sort_of-sort.result
-stored c = HasSort-only c.args.sig.now c.args.self.now c.args.core c.sort_of-sort.result c.requires c.sort_of-sort.ensures
+stored c = c.sort_of-sort.ensures
 
 -- the table has grown by the term
 grown : (c : goal.In_ok-insert) → c.insert.new.self.entries ≡ c.args.self.now ++ (c.args.core, c.sort_of-sort.result) ∷ []
@@ -42,7 +43,7 @@ returns-clause-made c = inr (c.in_default.ensures.absent, number c, (c.sort_of-s
 
 pub returns-clause-keeps : goal.returns-clause-keeps
 returns-clause-keeps c =
-    λ t s of_sort. rw (grown c) (IsOfSort-push c.args.self.now (c.args.core, c.sort_of-sort.result) t s of_sort)
+    λ t s of_sort. rw (grown c) (IsOfSort-append c.args.self.now ((c.args.core, c.sort_of-sort.result) ∷ []) t s of_sort)
 
 pub returns-clause-sorted : goal.returns-clause-sorted
 returns-clause-sorted c =
@@ -51,7 +52,7 @@ returns-clause-sorted c =
 pub returns-clause-sort : goal.returns-clause-sort
 returns-clause-sort c =
     λ all s sorted.
-    let same = c.sort_of-sort.ensures c.args.self.now s sorted in (
+    let same = HasSort-same c.args.sig.now c.args.self.now c.args.core c.sort_of-sort.result s (stored c) sorted in (
       c.args.core,
       rw (grown c, number c) (slice_get-last c.args.self.now (c.args.core, c.sort_of-sort.result) ∙ ap (λ r. Some (c.args.core, r)) same),
     )

@@ -1,0 +1,75 @@
+-- Declarations that grew: what was there can be cut back to.
+use Rattle.std.proofs.Common.{◌≡◌, ◌≤◌, List, [], ◌∷◌, ◌++◌, length, take, refl, sym, ◌∙◌, ap, subst, arith, length-append}
+use Rattle.std.proofs.lemmas.List.{append-nil, append_assoc}
+use Rattle.std.proofs.Math.Seq.{take-append_seam}
+use Rattle.std.specs.List.{flat_map}
+use Rattle.ct_sorts.specs.declared.ids.Kind.{Kind}
+use Rattle.ct_sorts.specs.declared.block.SortDecl.{SortDecl}
+use Rattle.ct_sorts.specs.Declarations.{Declarations, Sort, Function, with_sort, with_function, with_definition}
+use Rattle.ct_sorts.specs.Block.{with_block}
+use Rattle.ct_sorts.specs.Consistent.{IsConsistent, AreFieldsOverSorts, AreOverSorts}
+use Rattle.ct_sorts.specs.Grown.{Begins, Extends}
+use Rattle.ct_sorts.specs.Marks.{CanCut, cut, lengths}
+
+itself : {X : Type 0} (xs : List X) → Begins xs xs
+itself xs = ([], sym (append-nil xs))
+
+further : {X : Type 0} (xs ys zs : List X) → Begins xs ys → Begins ys zs → Begins xs zs
+further xs ys zs h k = (h.0 ++ k.0, k.1 ∙ ap (λ l. l ++ k.0) h.1 ∙ append_assoc xs h.0 k.0)
+
+-- the first list is what stands in front
+front : {X : Type 0} (xs ys : List X) → Begins xs ys → take (length xs) ys ≡ xs
+front xs ys h = subst (λ l. take (length xs) l ≡ xs) (sym h.1) (take-append_seam xs h.0)
+
+within : {X : Type 0} (xs ys : List X) → Begins xs ys → length xs ≤ length ys
+within xs ys h = omega (arith, ap length h.1, length-append xs h.0)
+
+pub extends_itself : (d : Declarations) → Extends d d
+extends_itself d = record { sorts = itself d.sorts; ctors = itself d.ctors; sels = itself d.sels; functions = itself d.functions; definitions = itself d.definitions }
+
+pub extends_further : (last later earlier : Declarations) → Extends last later → Extends later earlier → Extends last earlier
+extends_further last later earlier h k =
+    record {
+      sorts = further earlier.sorts later.sorts last.sorts k.sorts h.sorts;
+      ctors = further earlier.ctors later.ctors last.ctors k.ctors h.ctors;
+      sels = further earlier.sels later.sels last.sels k.sels h.sels;
+      functions = further earlier.functions later.functions last.functions k.functions h.functions;
+      definitions = further earlier.definitions later.definitions last.definitions k.definitions h.definitions;
+    }
+
+pub extends_sort : (d : Declarations) (s : Sort) → Extends (with_sort d s) d
+extends_sort d s = record { sorts = (s ∷ [], refl); ctors = itself d.ctors; sels = itself d.sels; functions = itself d.functions; definitions = itself d.definitions }
+
+pub extends_block : (d : Declarations) (kind : Kind) (decls : List SortDecl) → Extends (with_block d kind decls) d
+extends_block d kind decls = record { sorts = (_, refl); ctors = (_, refl); sels = (_, refl); functions = itself d.functions; definitions = itself d.definitions }
+
+pub extends_function : (d : Declarations) (f : Function) → Extends (with_function d f) d
+extends_function d f = record { sorts = itself d.sorts; ctors = itself d.ctors; sels = itself d.sels; functions = (f ∷ [], refl); definitions = itself d.definitions }
+
+pub extends_definition : (d : Declarations) (f : Function) → Extends (with_definition d f) d
+extends_definition d f = record { sorts = itself d.sorts; ctors = itself d.ctors; sels = itself d.sels; functions = itself d.functions; definitions = (f ∷ [], refl) }
+
+pub cut_to_earlier : (later earlier : Declarations) → Extends later earlier → cut later (lengths earlier) ≡ earlier
+cut_to_earlier later earlier h =
+    λ j. record {
+      sorts = front earlier.sorts later.sorts h.sorts j;
+      ctors = front earlier.ctors later.ctors h.ctors j;
+      sels = front earlier.sels later.sels h.sels j;
+      functions = front earlier.functions later.functions h.functions j;
+      definitions = front earlier.definitions later.definitions h.definitions j;
+    }
+
+pub can_cut_to_earlier : (later earlier : Declarations) → IsConsistent earlier → Extends later earlier → CanCut later (lengths earlier)
+can_cut_to_earlier later earlier c h =
+    record {
+      sorts_within = within earlier.sorts later.sorts h.sorts;
+      ctors_within = within earlier.ctors later.ctors h.ctors;
+      sels_within = within earlier.sels later.sels h.sels;
+      functions_within = within earlier.functions later.functions h.functions;
+      definitions_within = within earlier.definitions later.definitions h.definitions;
+      whole_sorts = ap (flat_map (λ s. s.ctors)) (front earlier.sorts later.sorts h.sorts) ∙ c.all_ctors;
+      whole_ctors = ap (flat_map (λ c. c.sels)) (front earlier.ctors later.ctors h.ctors) ∙ c.all_sels;
+      fields = subst AreFieldsOverSorts (sym (cut_to_earlier later earlier h)) c.fields;
+      over_sorts = subst (λ x. AreOverSorts x x.functions) (sym (cut_to_earlier later earlier h)) c.over_sorts;
+      definitions_over_sorts = subst (λ x. AreOverSorts x x.definitions) (sym (cut_to_earlier later earlier h)) c.definitions_over_sorts;
+    }

@@ -1,0 +1,108 @@
+-- Elements of lists by their places.
+use Rattle.std.proofs.Common.{◌≡◌, ℕ, zero, suc, ◌+◌, ◌<◌, ◌≤◌, ◌⊎◌, List, [], ◌∷◌, ◌++◌, length, map, take, drop, replicate, slice_get, Option, Some, None, refl, sym, ◌∙◌, ap, subst, inl, inr, ⊎_elim, arith, add-one, length-append}
+use Rattle.std.proofs.lemmas.Option.{none-some, same_Some, slice_get_within}
+use Rattle.std.proofs.lemmas.List.{append_assoc, length-replicate, take-append-drop, take_at}
+use Rattle.std.proofs.lemmas.List.Concat.{flat_map-append}
+use Rattle.std.proofs.lemmas.List.FromFn.{length-range_with_len}
+use Rattle.std.specs.List.{flat_map, range_with_len}
+use Rattle.ct_sorts.specs.Consistent.{owners, places}
+
+-- what stands in the first list stands at the same place in both
+pub slice_get_left : {X : Type 0} (xs ys : List X) (i : ℕ) (x : X) → slice_get xs i ≡ Some x → slice_get (xs ++ ys) i ≡ Some x
+slice_get_left [] ys i x e = absurd (none-some _ e)
+slice_get_left (z ∷ xs) ys zero x e = e
+slice_get_left (z ∷ xs) ys (suc i) x e = slice_get_left xs ys i x e
+
+-- what stands in the second list stands behind the first
+pub slice_get_right : {X : Type 0} (xs ys : List X) (k : ℕ) → slice_get (xs ++ ys) (length xs + k) ≡ slice_get ys k
+slice_get_right [] ys k = let e : 0 + k ≡ k = omega arith in rw e refl
+slice_get_right (z ∷ xs) ys k = let e : suc (length xs) + k ≡ suc (length xs + k) = omega arith in rw e (slice_get_right xs ys k)
+
+-- what stands in two lists stands in one of them
+pub slice_get_either : {X : Type 0} (xs ys : List X) (i : ℕ) (x : X) → slice_get (xs ++ ys) i ≡ Some x → (slice_get xs i ≡ Some x) ⊎ ((k : ℕ) × (i ≡ length xs + k) × (slice_get ys k ≡ Some x))
+slice_get_either [] ys i x e = inr (i, omega arith, e)
+slice_get_either (z ∷ xs) ys zero x e = inl e
+slice_get_either (z ∷ xs) ys (suc i) x e = ⊎_elim (λ h. inl h) (λ h. inr (h.0, by h.0 h.1, h.2)) (slice_get_either xs ys i x e)
+  where
+    by : (k : ℕ) → i ≡ length xs + k → suc i ≡ suc (length xs) + k
+    by k h = omega arith
+
+-- a place inside has an element
+pub slice_get_there : {X : Type 0} (xs : List X) (i : ℕ) → i < length xs → (x : X) × (slice_get xs i ≡ Some x)
+slice_get_there [] i h = absurd (omega arith)
+slice_get_there (x ∷ xs) zero h = (x, refl)
+slice_get_there (x ∷ xs) (suc i) h = slice_get_there xs i (omega arith)
+
+-- what stands in a piece stands in the pieces put together
+pub in_flat_map : {X Y : Type 0} (f : X → List Y) (xs : List X) (i j : ℕ) (x : X) (y : Y) → slice_get xs i ≡ Some x → slice_get (f x) j ≡ Some y → (k : ℕ) × (slice_get (flat_map f xs) k ≡ Some y)
+in_flat_map f [] i j x y at_i at_j = absurd (none-some _ at_i)
+in_flat_map f (z ∷ xs) zero j x y at_i at_j = (j, slice_get_left (f z) (flat_map f xs) j y (subst (λ w. slice_get (f w) j ≡ Some y) (sym (same_Some _ _ at_i)) at_j))
+in_flat_map f (z ∷ xs) (suc i) j x y at_i at_j =
+    let found = in_flat_map f xs i j x y at_i at_j in
+    (length (f z) + found.0, slice_get_right (f z) (flat_map f xs) found.0 ∙ found.1)
+
+-- an element of a row of numbers
+pub slice_get-range : {X : Type 0} (f : ℕ → X) (first count i : ℕ) (x : X) → slice_get (map f (range_with_len first count)) i ≡ Some x → (i < count) × (x ≡ f (first + i))
+slice_get-range f first zero i x e = absurd (none-some _ e)
+slice_get-range f first (suc count) zero x e = let h : first + 0 ≡ first = omega arith in (omega arith, rw h (sym (same_Some _ _ e)))
+slice_get-range f first (suc count) (suc i) x e =
+    let rest = slice_get-range f (first + 1) count i x e in
+    let h : first + suc i ≡ first + 1 + i = omega arith in
+    (omega (arith, rest.0), rw h rest.1)
+
+pub range-slice_get : {X : Type 0} (f : ℕ → X) (first count i : ℕ) → i < count → slice_get (map f (range_with_len first count)) i ≡ Some (f (first + i))
+range-slice_get f first zero i h = absurd (omega arith)
+range-slice_get f first (suc count) zero h = let e : first + 0 ≡ first = omega arith in rw e refl
+range-slice_get f first (suc count) (suc i) h =
+    let e : first + suc i ≡ first + 1 + i = omega arith in
+    rw e (range-slice_get f (first + 1) count i (omega arith))
+
+-- two rows, one behind the other
+pub range-append : {X : Type 0} (f : ℕ → X) (first n m : ℕ) → map f (range_with_len first n) ++ map f (range_with_len (first + n) m) ≡ map f (range_with_len first (n + m))
+range-append f first zero m = let e : first + 0 ≡ first = omega arith in let z : 0 + m ≡ m = omega arith in rw (e, z) refl
+range-append {X} f first (suc n) m =
+    let e : first + suc n ≡ first + 1 + n = omega arith in
+    let s : suc n + m ≡ suc (n + m) = omega arith in
+    rw (e, s) (ap (λ (xs : List X). f first ∷ xs) (range-append f (first + 1) n m))
+
+pub range-append0 : {X : Type 0} (f : ℕ → X) (n m : ℕ) → map f (range_with_len 0 n) ++ map f (range_with_len n m) ≡ map f (range_with_len 0 (n + m))
+range-append0 {X} f n m = let e : 0 + n ≡ n = omega arith in subst (λ k. map f (range_with_len 0 n) ++ map f (range_with_len k m) ≡ map f (range_with_len 0 (n + m))) e (range-append f 0 n m)
+
+-- what is left of a list behind its first n
+pub slice_get-drop : {X : Type 0} (n : ℕ) (xs : List X) (i : ℕ) → slice_get (drop n xs) i ≡ slice_get xs (n + i)
+slice_get-drop zero xs i = let e : 0 + i ≡ i = omega arith in rw e refl
+slice_get-drop (suc n) [] i = refl
+slice_get-drop (suc n) (x ∷ xs) i = let e : suc n + i ≡ suc (n + i) = omega arith in rw e (slice_get-drop n xs i)
+
+-- the owners of two rows of groups
+pub owners-append : {X : Type 0} (n : ℕ) (gs hs : List (List X)) → owners n (gs ++ hs) ≡ owners n gs ++ owners (n + length gs) hs
+owners-append n [] hs = let e : n + 0 ≡ n = omega arith in rw e refl
+owners-append n (g ∷ gs) hs =
+    let e : n + suc (length gs) ≡ n + 1 + length gs = omega arith in
+    rw (e, owners-append (n + 1) gs hs) (sym (append_assoc (replicate (length g) n) (owners (n + 1) gs) (owners (n + 1 + length gs) hs)))
+
+pub length-owners : {X : Type 0} (n : ℕ) (gs : List (List X)) → length (owners n gs) ≡ length (flat_map (λ g. g) gs)
+length-owners n [] = refl
+length-owners n (g ∷ gs) = omega (arith, length-append (replicate (length g) n) (owners (n + 1) gs), length-replicate (length g) n, length-append g (flat_map (λ g. g) gs), length-owners (n + 1) gs)
+
+pub length-places : {X : Type 0} (gs : List (List X)) → length (places gs) ≡ length (flat_map (λ g. g) gs)
+length-places [] = refl
+length-places (g ∷ gs) = omega (arith, length-append (range_with_len 0 (length g)) (places gs), length-range_with_len 0 (length g), length-append g (flat_map (λ g. g) gs), length-places gs)
+
+-- the owners of the first groups are the first owners
+pub owners-take : {X : Type 0} (n k count : ℕ) (gs : List (List X)) → length (flat_map (λ g. g) (take k gs)) ≡ count → take count (owners n gs) ≡ owners n (take k gs)
+owners-take n k count gs e =
+    let whole : owners n gs ≡ owners n (take k gs) ++ owners (n + length (take k gs)) (drop k gs) = ap (owners n) (sym (take-append-drop k gs)) ∙ owners-append n (take k gs) (drop k gs) in
+    ap (take count) whole ∙ take_at (owners n (take k gs)) _ count (length-owners n (take k gs) ∙ e)
+
+pub places-take : {X : Type 0} (k count : ℕ) (gs : List (List X)) → length (flat_map (λ g. g) (take k gs)) ≡ count → take count (places gs) ≡ places (take k gs)
+places-take {X} k count gs e =
+    let whole : places gs ≡ places (take k gs) ++ places (drop k gs) = ap places (sym (take-append-drop k gs)) ∙ flat_map-append (λ (g : List X). range_with_len 0 (length g)) (take k gs) (drop k gs) in
+    ap (take count) whole ∙ take_at (places (take k gs)) _ count (length-places (take k gs) ∙ e)
+
+-- what stands at a place of the first part in the whole stands there in the part
+pub take-slice_get : {X : Type 0} (n : ℕ) (xs : List X) (i : ℕ) (x : X) → i < length (take n xs) → slice_get xs i ≡ Some x → slice_get (take n xs) i ≡ Some x
+take-slice_get zero xs i x h e = absurd (omega arith)
+take-slice_get (suc n) [] i x h e = e
+take-slice_get (suc n) (y ∷ xs) zero x h e = e
+take-slice_get (suc n) (y ∷ xs) (suc i) x h e = take-slice_get n xs i x (omega arith) e

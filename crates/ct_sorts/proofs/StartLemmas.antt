@@ -1,0 +1,82 @@
+-- What every signature begins with fits together.
+use Rattle.std.proofs.Common.{◌≡◌, ℕ, zero, suc, ◌+◌, ◌<◌, List, [], ◌∷◌, length, slice_get, Some, codes, refl, sym, ap, subst, inl, inr, lit≤, arith}
+use Rattle.std.proofs.lemmas.Option.{none-some, same_Some}
+use Rattle.ct_sorts.specs.Names.{IsUnfit, HasByte}
+use Rattle.ct_sorts.specs.Lookup.{AreDistinct}
+use Rattle.ct_sorts.specs.declared.ids.Kind.TheVariants.{Data}
+use Rattle.ct_sorts.specs.Declarations.{Sort, start, bool}
+use Rattle.ct_sorts.specs.Consistent.{AreFit, FitsKind, IsConsistent}
+use Rattle.ct_sorts.specs.Founded.{IsFounded}
+
+-- a list of one name
+one_distinct : (text : List ℕ) → AreDistinct (text ∷ [])
+one_distinct text zero zero name at_i at_j = refl
+one_distinct text zero (suc j) name at_i at_j = absurd (none-some _ at_j)
+one_distinct text (suc i) j name at_i at_j = absurd (none-some _ at_i)
+
+-- two names that differ
+two_distinct : (first second : List ℕ) → (first ≡ second → ⊥) → AreDistinct (first ∷ (second ∷ []))
+two_distinct first second differ zero zero name at_i at_j = refl
+two_distinct first second differ zero (suc zero) name at_i at_j = absurd (differ (sym_trans (same_Some _ _ at_i) (same_Some _ _ at_j)))
+  where
+    sym_trans : first ≡ name → second ≡ name → first ≡ second
+    sym_trans p q = cc
+two_distinct first second differ (suc zero) zero name at_i at_j = absurd (differ (sym_trans (same_Some _ _ at_j) (same_Some _ _ at_i)))
+  where
+    sym_trans : first ≡ name → second ≡ name → first ≡ second
+    sym_trans p q = cc
+two_distinct first second differ (suc zero) (suc zero) name at_i at_j = refl
+two_distinct first second differ i (suc (suc j)) name at_i at_j = absurd (none-some _ at_j)
+two_distinct first second differ (suc (suc i)) j name at_i at_j = absurd (none-some _ at_i)
+
+-- a byte of the name Bool is one of its four
+bool_byte : (place byte : ℕ) → slice_get (codes "Bool") place ≡ Some byte → (byte ≡ 124 → ⊥) × (byte ≡ 92 → ⊥)
+bool_byte zero byte at = let e : 66 ≡ byte = same_Some _ _ at in (λ h. omega arith, λ h. omega arith)
+bool_byte (suc zero) byte at = let e : 111 ≡ byte = same_Some _ _ at in (λ h. omega arith, λ h. omega arith)
+bool_byte (suc (suc zero)) byte at = let e : 111 ≡ byte = same_Some _ _ at in (λ h. omega arith, λ h. omega arith)
+bool_byte (suc (suc (suc zero))) byte at = let e : 108 ≡ byte = same_Some _ _ at in (λ h. omega arith, λ h. omega arith)
+bool_byte (suc (suc (suc (suc place)))) byte at = absurd (none-some _ at)
+
+-- Bool may be declared
+bool_fit : IsUnfit (codes "Bool") → ⊥
+bool_fit (inl e) = let h : ◌≡◌ {A = ℕ} 66 64 = same_Some _ _ e in omega arith
+bool_fit (inr (inl e)) = let h : ◌≡◌ {A = ℕ} 66 46 = same_Some _ _ e in omega arith
+bool_fit (inr (inr (inl h))) = (bool_byte h.0 124 h.1).0 refl
+bool_fit (inr (inr (inr h))) = (bool_byte h.0 92 h.1).1 refl
+
+fit : AreFit (codes "Bool" ∷ [])
+fit zero name at h = bool_fit (subst IsUnfit (sym (same_Some _ _ at)) h)
+fit (suc s) name at h = none-some _ at
+
+kinds : (s : ℕ) (sort : Sort) → slice_get start.sorts s ≡ Some sort → FitsKind s sort.kind (length sort.ctors)
+kinds zero sort at = subst (λ (t : Sort). FitsKind 0 t.kind (length t.ctors)) (same_Some _ _ at) refl
+kinds (suc s) sort at = absurd (none-some _ at)
+
+founded : (s : ℕ) → s < 1 → IsFounded start s
+founded zero within set closed = closed.others 0 bool refl (λ e. cc)
+founded (suc s) within set closed = absurd (omega arith)
+
+pub IsConsistent-start : IsConsistent start
+IsConsistent-start =
+    record {
+      few = record { sorts = omega arith; ctors = omega arith; sels = omega arith; functions = omega arith; definitions = omega arith };
+      sorts_distinct = one_distinct (codes "Bool");
+      distinct = two_distinct (codes "true") (codes "false") (λ e. cc);
+      fit = fit;
+      ctors_available = λ place name at h. none-some _ at;
+      sels_available = λ place name at h. none-some _ at;
+      available = λ place name at h. none-some _ at;
+      definitions_available = λ place name at h. none-some _ at;
+      first_sort = refl;
+      first_ctors = refl;
+      all_ctors = refl;
+      ctor_sorts = refl;
+      kinds = kinds;
+      all_sels = refl;
+      sel_ctors = refl;
+      sel_places = refl;
+      fields = λ s sel at. absurd (none-some _ at);
+      over_sorts = λ f declared at. absurd (none-some _ at);
+      definitions_over_sorts = λ f declared at. absurd (none-some _ at);
+      founded = founded;
+    }

@@ -1,0 +1,13 @@
+use Rattle.std.proofs.Common.{List, [], ◌∷◌, map}
+use Rattle.ct_sorts.specs.Names.{IsUnavailable, IsUnavailableSort}
+use Rattle.ct_sorts.specs.Declarations.{sort_names, symbol_names}
+use Rattle.ct_sorts.specs.Lookup.{names_of}
+use Rattle.ct_sorts.specs.Block.{ctor_symbols}
+use Rattle.ct_sorts.specs.declared.block.Field.{Field}
+use Rattle.ct_sorts.specs.declared.block.CtorDecl.{CtorDecl}
+use Rattle.ct_sorts.specs.declared.block.SortDecl.{SortDecl}
+use Rattle.ct_sorts.proofs.AdmitLemmas.{IsAdmitted}
+use Rattle.ct_sorts.proofs.admit.admit_sorts.Given as goal
+
+abbrev pub invariant-loop-decl : goal.invariant-loop-decl
+invariant-loop-decl l = IsAdmitted IsUnavailableSort (λ (s : SortDecl). s.name ∷ []) (sort_names l.sig) (names_of l.initial.own) (names_of l.own) l.block l.decl-index

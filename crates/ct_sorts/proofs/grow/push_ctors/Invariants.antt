@@ -1,0 +1,14 @@
+use Rattle.std.proofs.Common.{◌≡◌, ◌+◌, ◌++◌, length, map, take, drop}
+use Rattle.ct_sorts.specs.Lookup.{names_of}
+use Rattle.ct_sorts.specs.Grown.{Begins}
+use Rattle.ct_sorts.specs.Kept.{sort_of, ctor_of, sel_of}
+use Rattle.ct_sorts.specs.Block.{block_ctors, all_fields, new_sorts, new_ctors, new_sels, ctors_of_sort, sels_of_ctor, sort_of_field}
+use Rattle.ct_sorts.proofs.grow.push_ctors.Given as goal
+
+abbrev pub invariant-loop-decl : goal.invariant-loop-decl
+invariant-loop-decl l =
+    record {
+      counted : l.next ≡ l.first + length (all_fields (take l.decl-index l.decls));
+      all : map ctor_of l.ctors ++ ctors_of_sort l.sort l.next (drop l.decl-index l.decls) ≡ map ctor_of l.initial.ctors ++ ctors_of_sort l.sort l.first l.decls;
+      kept : Begins l.initial.ctors l.ctors;
+    }

@@ -1,0 +1,38 @@
+use Rattle.std.proofs.Common.{◌≡◌, ℕ, ◌+◌, ◌<◌, ◌≤◌, List, [], ◌∷◌, ◌++◌, length, map, take, drop, get_or, refl, sym, ◌∙◌, ap, subst, arith}
+use Rattle.std.proofs.lemmas.List.{map-append}
+use Rattle.std.proofs.lemmas.List.Folds.{length-flat_map-take}
+use Rattle.std.specs.List.{flat_map}
+use Rattle.ct_sorts.specs.declared.ids.SortId.{SortId}
+use Rattle.ct_sorts.specs.declared.ids.SelId.{SelId}
+use Rattle.ct_sorts.specs.declared.ids.CtorId.{CtorId}
+use Rattle.ct_sorts.specs.declared.block.Field.{Field}
+use Rattle.ct_sorts.specs.declared.block.CtorDecl.{CtorDecl}
+use Rattle.ct_sorts.specs.declared.block.SortDecl.{SortDecl}
+use Rattle.ct_sorts.specs.Names.{IsListed}
+use Rattle.ct_sorts.specs.Declarations.{Sort, Constructor, Selector, sel_ids, ctor_ids}
+use Rattle.ct_sorts.specs.Lookup.{AreDistinct, names_of}
+use Rattle.ct_sorts.specs.Grown.{Begins}
+use Rattle.ct_sorts.specs.Kept.{sort_of, ctor_of, sel_of}
+use Rattle.ct_sorts.specs.Block.{block_ctors, all_fields, new_sorts, new_ctors, new_sels, ctors_of_sort, sels_of_ctor, sort_of_field}
+use Rattle.ct_sorts.proofs.AdmitLemmas.{flat_map-flat_map}
+use Rattle.ct_sorts.proofs.GrowLemmas.{Begins-self, Begins-more, Begins-trans, piece_next, piece_more, piece_distinct, pieces_all, piece_fresh}
+use Rattle.ct_sorts.proofs.grow.push_sels.Goals as goal
+
+pub push_fields-requires : goal.push_fields-requires
+push_fields-requires c =
+    let fields = c.as_slice.ensures.value in
+    record {
+      sorts_few = c.requires.sorts_few;
+      few = omega (arith, c.requires.sels_few, ap (λ (fs : List Field). length fs) fields, ap (λ (t : CtorDecl). length t.fields) c.decl-item.is, length-flat_map-take (λ (t : CtorDecl). t.fields) c.args.decls.now c.loop-decl.decl-index c.decl-item.result c.loop-decl-test.true);
+      fresh = subst (λ fs. AreDistinct (map (λ (t : Selector). t.name) (map sel_of c.loop-decl.sels ++ sels_of_ctor (sort_of_field (names_of c.args.sorts.now) (names_of c.args.own.now)) c.loop-decl.ctor 0 fs))) (sym fields) (piece_distinct (λ (k : ℕ) (ts : List CtorDecl). new_sels (sort_of_field (names_of c.args.sorts.now) (names_of c.args.own.now)) k ts) (λ (k : ℕ) (t : CtorDecl). sels_of_ctor (sort_of_field (names_of c.args.sorts.now) (names_of c.args.own.now)) k 0 t.fields) (λ (k : ℕ) (t : CtorDecl). k + 1) (λ _ _ _. refl) c.args.decls.now c.loop-decl.decl-index c.decl-item.result c.loop-decl-test.true c.decl-item.is c.loop-decl.ctor (map sel_of c.loop-decl.sels) _ c.loop-decl.invariant.all (λ (t : Selector). t.name) c.requires.fresh);
+    }
+
+pub loop-decl-preserved : goal.loop-decl-preserved
+loop-decl-preserved c =
+    let put : map sel_of c.push_fields.new.sels ≡ map sel_of c.loop-decl.sels ++ sels_of_ctor (sort_of_field (names_of c.args.sorts.now) (names_of c.args.own.now)) c.loop-decl.ctor 0 c.decl-item.result.fields =
+    c.in_ok-push_fields.ensures.ok ∙ ap (λ fs. map sel_of c.loop-decl.sels ++ sels_of_ctor (sort_of_field (names_of c.args.sorts.now) (names_of c.args.own.now)) c.loop-decl.ctor 0 fs) c.as_slice.ensures.value in
+    record {
+      counted = omega (arith, c.loop-decl.invariant.counted);
+      all = piece_more (λ (k : ℕ) (ts : List CtorDecl). new_sels (sort_of_field (names_of c.args.sorts.now) (names_of c.args.own.now)) k ts) (λ (k : ℕ) (t : CtorDecl). sels_of_ctor (sort_of_field (names_of c.args.sorts.now) (names_of c.args.own.now)) k 0 t.fields) (λ (k : ℕ) (t : CtorDecl). k + 1) (λ _ _ _. refl) c.args.decls.now c.loop-decl.decl-index c.decl-item.result c.loop-decl-test.true c.decl-item.is c.loop-decl.ctor (map sel_of c.loop-decl.sels) _ c.loop-decl.invariant.all (map sel_of c.push_fields.new.sels) put;
+      kept = Begins-trans c.args.sels.now c.loop-decl.sels c.push_fields.new.sels c.loop-decl.invariant.kept c.in_ok-push_fields.ensures.kept;
+    }

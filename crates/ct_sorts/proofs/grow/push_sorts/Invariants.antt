@@ -1,0 +1,14 @@
+use Rattle.std.proofs.Common.{◌≡◌, ◌+◌, ◌++◌, length, map, take, drop}
+use Rattle.ct_sorts.specs.Lookup.{names_of}
+use Rattle.ct_sorts.specs.Grown.{Begins}
+use Rattle.ct_sorts.specs.Kept.{sort_of, ctor_of, sel_of}
+use Rattle.ct_sorts.specs.Block.{block_ctors, all_fields, new_sorts, new_ctors, new_sels, ctors_of_sort, sels_of_ctor, sort_of_field}
+use Rattle.ct_sorts.proofs.grow.push_sorts.Given as goal
+
+abbrev pub invariant-loop-decl : goal.invariant-loop-decl
+invariant-loop-decl l =
+    record {
+      counted : l.next ≡ l.first + length (block_ctors (take l.decl-index l.block));
+      all : map sort_of l.sorts ++ new_sorts l.kind l.next (drop l.decl-index l.block) ≡ map sort_of l.initial.sorts ++ new_sorts l.kind l.first l.block;
+      kept : Begins l.initial.sorts l.sorts;
+    }

@@ -1,0 +1,32 @@
+-- The lengths of the lists of declarations, and what is left after a cut.
+use Rattle.std.specs.Prelude.{◌≡◌, ℕ, ◌≤◌, List, length, take, Some, slice_get}
+use Rattle.std.specs.List.{flat_map}
+use Rattle.ct_sorts.specs.Declarations.{Declarations, Selector, Function, IsSort, ctor_ids, sel_ids}
+use Rattle.ct_sorts.specs.Lengths.{Lengths}
+use Rattle.ct_sorts.specs.Consistent.{AreOverSorts, AreFieldsOverSorts}
+
+-- the lengths of the lists
+abbrev pub lengths : Declarations → Lengths
+lengths d = record { sorts = length d.sorts; ctors = length d.ctors; sels = length d.sels; functions = length d.functions; definitions = length d.definitions }
+
+-- the first of each list, as many as the mark says
+abbrev pub cut : Declarations → Lengths → Declarations
+cut d m = record { sorts = take m.sorts d.sorts; ctors = take m.ctors d.ctors; sels = take m.sels d.sels; functions = take m.functions d.functions; definitions = take m.definitions d.definitions }
+
+-- the declarations can be cut to the mark
+pub record CanCut (d : Declarations) (m : Lengths) : Type 0 where
+  -- the lengths are at most the present ones
+  pub sorts_within : m.sorts ≤ length d.sorts
+  pub ctors_within : m.ctors ≤ length d.ctors
+  pub sels_within : m.sels ≤ length d.sels
+  pub functions_within : m.functions ≤ length d.functions
+  pub definitions_within : m.definitions ≤ length d.definitions
+  -- the constructors of the sorts that are left are those that are left,
+  pub whole_sorts : flat_map (λ s. s.ctors) (take m.sorts d.sorts) ≡ ctor_ids 0 m.ctors
+  -- their selectors are those that are left,
+  pub whole_ctors : flat_map (λ c. c.sels) (take m.ctors d.ctors) ≡ sel_ids 0 m.sels
+  -- and these have sorts that are left
+  pub fields : AreFieldsOverSorts (cut d m)
+  -- no function or definition that is left has a sort that goes
+  pub over_sorts : AreOverSorts (cut d m) (cut d m).functions
+  pub definitions_over_sorts : AreOverSorts (cut d m) (cut d m).definitions

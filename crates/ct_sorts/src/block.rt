@@ -1,0 +1,30 @@
+use crate::items::Items;
+use crate::name::Name;
+
+/// A field of a constructor: the name of its selector, and the name of its sort
+/// (SMT-LIB 2.7, section 3.9, `selector_dec`).
+#[derive(Debug, Drop)]
+pub struct Field {
+    /// The name of the selector.
+    pub name: Name,
+    /// The name of the sort, of the same block or an earlier one.
+    pub sort: Name,
+}
+
+/// A constructor with its fields in order (SMT-LIB 2.7, section 3.9, `constructor_dec`).
+#[derive(Debug, Drop)]
+pub struct CtorDecl {
+    /// The name of the constructor.
+    pub name: Name,
+    /// Its fields.
+    pub fields: Items<Field>,
+}
+
+/// A sort of a block with its constructors in order (SMT-LIB 2.7, section 3.9, `datatype_dec`).
+#[derive(Debug, Drop)]
+pub struct SortDecl {
+    /// The name of the sort.
+    pub name: Name,
+    /// Its constructors.
+    pub ctors: Items<CtorDecl>,
+}

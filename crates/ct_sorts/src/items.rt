@@ -1,0 +1,47 @@
+ghost use Rattle.std.specs.Prelude.{◌≡◌, length};
+
+use std::marker::Model;
+
+/// A vector that clauses see as the list of its items.
+#[derive(Debug, Drop)]
+pub struct Items<T> {
+    items: Vec<T>,
+}
+
+impl<T> Model for Items<T> {
+    ghost use Rattle.std.specs.Prelude.{List};
+
+    ghost Value = { List T };
+
+    ghost view = { λ kept. kept.items.items };
+}
+
+impl<T> Items<T> {
+    /// The items of this vector. Takes no memory.
+    pub fn new(items: Vec<T>) -> Items<T>
+        ensures value { result ≡ items.items }
+    {
+        Items { items }
+    }
+
+    /// The items.
+    pub fn as_slice(&self) -> &[T]
+        ensures value { result.now ≡ self.now }
+    {
+        self.items.as_slice()
+    }
+
+    /// How many items there are.
+    pub fn len(&self) -> usize
+        ensures len { result ≡ length self.now }
+    {
+        self.items.len()
+    }
+
+    /// The vector that the items were made from. Takes no memory.
+    pub fn into_vec(self) -> Vec<T>
+        ensures value { result.items ≡ self }
+    {
+        self.items
+    }
+}

@@ -1,0 +1,16 @@
+use Rattle.std.proofs.Common.{◌≡◌, ◌∙◌, take, ap, sym, subst}
+use Rattle.ct_terms.specs.Table.{IsTable, AreSorted}
+use Rattle.ct_terms.proofs.SortLemmas.{AreSorted-take}
+use Rattle.ct_terms.proofs.TableLemmas.{IsTable-take}
+use Rattle.ct_terms.proofs.table.TermTable.cut_to.Goals as goal
+
+pub invariant_of-self : goal.invariant_of-self
+invariant_of-self c =
+    subst IsTable (sym c.truncate.ensures.entries) (IsTable-take c.self.inside.terms.entries c.args.len c.requires.truths c.self.invariant)
+
+pub returns-clause-sorted : goal.returns-clause-sorted
+returns-clause-sorted c =
+    λ d all.
+    let first : c.truncate.new.self.entries ≡ take c.args.len c.args.self.now = c.truncate.ensures.entries ∙ ap (take c.args.len) c.self.view_is in
+    let ordered = rw c.self.view_is at c.self.invariant.ordered in
+    subst (AreSorted d) (sym first) (AreSorted-take d c.args.self.now c.args.len ordered all)
