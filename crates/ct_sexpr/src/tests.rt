@@ -137,13 +137,33 @@ fn answers_so_far(rt: &HostRuntime, text: &[u8]) -> Result<String, Fail> {
     Ok(out)
 }
 
+/// Writes the next command as it is written, if there is one.
+fn write_next(rt: &HostRuntime, reader: &mut Reader, out: &mut String) -> Result<(), Fail>
+    ensures ended { reader.new.ended ≡ reader.old.ended }
+    ensures fed { reader.new.fed ≡ reader.old.fed }
+{
+    if let Ok(Next::Command { expr, .. }) = reader.next() {
+        push_bytes(sexpr_text(rt.alloc(), &expr)?.as_slice(), out)?;
+    }
+    Ok(())
+}
+
 /// What is written of the first command of a text. Empty where there is none.
 fn write_first(rt: &HostRuntime, text: &[u8]) -> Result<String, Fail> {
     let mut out = String::new(rt.alloc());
     let mut reader = Reader::new(rt.alloc())?;
     reader.feed(text)?;
-    if let Ok(Next::Command { expr, .. }) = reader.next() {
-        push_bytes(sexpr_text(rt.alloc(), &expr)?.as_slice(), &mut out)?;
+    write_next(rt, &mut reader, &mut out)?;
+    Ok(out)
+}
+
+/// What is written of the commands of a text that is fed in pieces of one byte.
+fn write_bytewise(rt: &HostRuntime, text: &[u8]) -> Result<String, Fail> {
+    let mut out = String::new(rt.alloc());
+    let mut reader = Reader::new(rt.alloc())?;
+    for byte in text {
+        reader.feed(&[*byte])?;
+        write_next(rt, &mut reader, &mut out)?;
     }
     Ok(out)
 }
@@ -297,8 +317,20 @@ fn parentheses_nest_a_thousand_deep(rt: HostRuntime) -> Result<(), Fail> {
     let deepest = nested(&rt, 1_000)?;
     let written = write_first(&rt, &deepest)?;
     assert_eq!(rt; written.as_bytes(), deepest.as_slice());
+    let written = write_bytewise(&rt, &deepest)?;
+    assert_eq!(rt; written.as_bytes(), deepest.as_slice());
     let too_deep = nested(&rt, 1_001)?;
     assert_eq!(rt; answers(&rt, &too_deep)?.as_str(), "!4@1!4@1");
+    Ok(())
+}
+
+#[test]
+fn the_parenthesis_that_nests_too_deep_tells_the_line(rt: HostRuntime) -> Result<(), Fail> {
+    let mut text = Vec::new(rt.alloc());
+    push_times(b'(', 1_000, &mut text)?;
+    push_times(b'\n', 1, &mut text)?;
+    push_times(b'(', 1, &mut text)?;
+    assert_eq!(rt; answers(&rt, &text)?.as_str(), "!4@2!4@2");
     Ok(())
 }
 

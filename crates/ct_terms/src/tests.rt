@@ -301,6 +301,32 @@ fn keeps_arguments_in_order(rt: HostRuntime) -> Result<(), Fail> {
     Ok(())
 }
 
+// The copy of the term is equal to it.
+fn expect_copied(rt: &impl Abort, core: Core) {
+    let copied = core.copy();
+    assert_eq!(rt; copied, Ok(core));
+}
+
+#[test]
+fn copies_terms(rt: HostRuntime) -> Result<(), Fail> {
+    let alloc = rt.alloc();
+    expect_copied(&rt, con_core(alloc, &[5, 3])?);
+    expect_copied(&rt, Core::Apply(X, args(alloc, &[2])?));
+    expect_copied(&rt, and_core(alloc, &[5, 6, 7])?);
+    expect_copied(&rt, or_core(alloc, &[7, 6])?);
+    for core in [
+        Core::Sel(HEAD, TermId(4)),
+        Core::Test(NIL, TermId(4)),
+        Core::Eq(TermId(4), TermId(3)),
+        Core::Not(TermId(5)),
+        Core::Iff(TermId(5), TermId(6)),
+        Core::Ite(TermId(5), TermId(3), TermId(4)),
+    ] {
+        expect_copied(&rt, core);
+    }
+    Ok(())
+}
+
 fn check_forms(rt: &impl Abort, alloc: Global, table: &mut TermTable, sig: &Signature) {
     make_values(rt, alloc, table, sig);
     make_atoms(rt, alloc, table, sig);
