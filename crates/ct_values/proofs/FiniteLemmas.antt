@@ -1,5 +1,5 @@
 -- Settled nodes: one step keeps what is known of them, and in the end equal finite trees have one class.
-use Rattle.std.proofs.Common.{◌≡◌, ℕ, zero, suc, ◌+◌, ◌<◌, ◌⊎◌, Bool, MatchBool, List, [], ◌∷◌, length, map, set, Some, option_map, slice_get, All, refl, sym, ap, ap₂, subst, ◌∙◌, inl, inr, arith, length-set, eq-zero-or-pos}
+use Rattle.std.proofs.Common.{◌≡◌, ℕ, zero, suc, ◌+◌, ◌<◌, ◌⊎◌, Bool, true, false, ◌||◌, MatchBool, List, [], ◌∷◌, length, map, set, Some, option_map, slice_get, All, refl, sym, ap, ap₂, subst, ◌∙◌, inl, inr, arith, length-set, eq-zero-or-pos}
 use Rattle.std.specs.List.{AllZip, AllByRecursion}
 use Rattle.std.proofs.lemmas.List.Elements.{recursion_from_All}
 use Rattle.std.proofs.lemmas.Option.{same_Some, slice_get_within}
@@ -195,3 +195,14 @@ KeepsTogether-settled g classes firsts closed settling tried = record {
 -- as far as a pass has come: it has settled something, or nothing can be settled from this number on
 abbrev pub HasPassed : Nodes → List ℕ → List ℕ → ℕ → Bool → Type 0
 HasPassed g before now from more = MatchBool more (unsettled now < unsettled before) ((now ≡ before) × AreTried g now from)
+
+-- the same of a pass that has not looked at all nodes
+abbrev pub HasBegun : List ℕ → List ℕ → Bool → Type 0
+HasBegun before now more = MatchBool more (unsettled now < unsettled before) (now ≡ before)
+
+-- of two passes one has settled something, or nothing can be settled
+pub twice_passed : (g : Nodes) (before mid now : List ℕ) (up down : Bool) → HasBegun before mid up → HasPassed g mid now 0 down → MatchBool (up || down) (unsettled now < unsettled before) (AreTried g now 0)
+twice_passed g before mid now false false u d = d.1
+twice_passed g before mid now false true u d = subst (λ (c : List ℕ). unsettled now < unsettled c) u d
+twice_passed g before mid now true false u d = subst (λ (c : List ℕ). unsettled c < unsettled before) (sym d.0) u
+twice_passed g before mid now true true u d = omega (arith, u, d)

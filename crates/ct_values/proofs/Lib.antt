@@ -11,3 +11,15 @@ pub mod CountLemmas
 pub mod NumberedLemmas
 pub mod SmallestLemmas
 pub mod MergeLemmas
+pub mod FirstLemmas
+pub mod SharedLemmas
+pub mod FitTestLemmas
+pub mod NumeralLemmas
+pub mod FittingLemmas
+pub mod FitNameLemmas
+pub mod PlainLemmas
+pub mod StandLemmas
+pub mod TextLemmas
+pub mod WritingLemmas
+pub mod ValueTextLemmas
+pub mod WalkLemmas

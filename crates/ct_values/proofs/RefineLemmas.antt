@@ -26,7 +26,7 @@ class_read classes i x within read = sym (read ∙ get_or_default_zero classes i
 -- ---- what agrees at every depth has one key
 
 -- nodes that agree at every depth have one class each
-classes_together : (g : Nodes) (classes : List ℕ) (ms ns : List NodeId) → KeepsTogether g classes → AllByRecursion (λ m. m.0 < length g) ms → AllByRecursion (λ n. n.0 < length g) ns → AllZip AgreeAlways (node_points g ms) (node_points g ns) → map (λ m. class_at classes m.0) ms ≡ map (λ n. class_at classes n.0) ns
+pub classes_together : (g : Nodes) (classes : List ℕ) (ms ns : List NodeId) → KeepsTogether g classes → AllByRecursion (λ m. m.0 < length g) ms → AllByRecursion (λ n. n.0 < length g) ns → AllZip AgreeAlways (node_points g ms) (node_points g ns) → map (λ m. class_at classes m.0) ms ≡ map (λ n. class_at classes n.0) ns
 classes_together g classes [] [] partition ms_in ns_in h = refl
 classes_together g classes [] (n ∷ ns) partition ms_in ns_in h = absurd h
 classes_together g classes (m ∷ ms) [] partition ms_in ns_in h = absurd h
@@ -65,7 +65,7 @@ same_keys g classes i j x y at_i at_j e =
     (sym (ap (option_map (node_key classes (class_at classes i))) at_i) ∙ e ∙ ap (option_map (node_key classes (class_at classes j))) at_j)
 
 -- nodes with one class each agree where those of one class do
-together_agree : (R : Point → Point → Type 0) (g : Nodes) (classes : List ℕ) (ms ns : List NodeId) → ((m n : NodeId) → m.0 < length g → n.0 < length g → class_at classes m.0 ≡ class_at classes n.0 → R (node_point g m) (node_point g n)) → AllByRecursion (λ m. m.0 < length g) ms → AllByRecursion (λ n. n.0 < length g) ns → map (λ m. class_at classes m.0) ms ≡ map (λ n. class_at classes n.0) ns → AllZip R (node_points g ms) (node_points g ns)
+pub together_agree : (R : Point → Point → Type 0) (g : Nodes) (classes : List ℕ) (ms ns : List NodeId) → ((m n : NodeId) → m.0 < length g → n.0 < length g → class_at classes m.0 ≡ class_at classes n.0 → R (node_point g m) (node_point g n)) → AllByRecursion (λ m. m.0 < length g) ms → AllByRecursion (λ n. n.0 < length g) ns → map (λ m. class_at classes m.0) ms ≡ map (λ n. class_at classes n.0) ns → AllZip R (node_points g ms) (node_points g ns)
 together_agree R g classes [] [] each ms_in ns_in e = tt
 together_agree R g classes [] (n ∷ ns) each ms_in ns_in e = cc
 together_agree R g classes (m ∷ ms) [] each ms_in ns_in e = cc

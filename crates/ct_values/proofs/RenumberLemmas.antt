@@ -22,7 +22,7 @@ module _ {X : Type 0} where
   stands_within (x ∷ xs) (suc i) h = stands_within xs i (omega arith)
 
   -- with a new last element, what stands at a place stood there before, or is the new one at the end
-  slice_get-push_cases : (xs : List X) (x y : X) (i : ℕ) → slice_get (xs ++ x ∷ []) i ≡ Some y → (slice_get xs i ≡ Some y) ⊎ ((i ≡ length xs) × (x ≡ y))
+  pub slice_get-push_cases : (xs : List X) (x y : X) (i : ℕ) → slice_get (xs ++ x ∷ []) i ≡ Some y → (slice_get xs i ≡ Some y) ⊎ ((i ≡ length xs) × (x ≡ y))
   slice_get-push_cases [] x y zero e = inr (refl, same_Some x y e)
   slice_get-push_cases [] x y (suc i) e = absurd (none-some y e)
   slice_get-push_cases (z ∷ zs) x y zero e = inl e

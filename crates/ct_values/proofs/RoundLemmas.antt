@@ -16,12 +16,12 @@ pub record IsRound {S : Type 0} (g : Nodes) (old : List ℕ) (firsts : IndexMap 
   pub first : (key : Key) (n : ℕ) → get same_key firsts key ≡ Some n → (n < place) × (key_of g old n ≡ Some key)
 
 -- a class among those so far, and the one that is added
-class_at-before : (xs : List ℕ) (x i : ℕ) → i < length xs → class_at (xs ++ x ∷ []) i ≡ class_at xs i
+pub class_at-before : (xs : List ℕ) (x i : ℕ) → i < length xs → class_at (xs ++ x ∷ []) i ≡ class_at xs i
 class_at-before [] x i h = absurd (omega arith)
 class_at-before (y ∷ ys) x zero h = refl
 class_at-before (y ∷ ys) x (suc i) h = class_at-before ys x i (omega arith)
 
-class_at-last : (xs : List ℕ) (x : ℕ) → class_at (xs ++ x ∷ []) (length xs) ≡ x
+pub class_at-last : (xs : List ℕ) (x : ℕ) → class_at (xs ++ x ∷ []) (length xs) ≡ x
 class_at-last [] x = refl
 class_at-last (y ∷ ys) x = class_at-last ys x
 

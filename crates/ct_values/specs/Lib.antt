@@ -4,8 +4,15 @@ pub mod Agreement
 pub mod Smallest
 pub mod Numbered
 pub mod Places
+pub mod NodeIdTest
 pub mod Partition
 pub mod KeyTest
 pub mod Renumbering
 pub mod Merged
 pub mod Settled
+pub mod Fitting
+pub mod Numeral
+pub mod ValueText
+pub mod Sharing
+pub mod Rows
+pub mod Walk

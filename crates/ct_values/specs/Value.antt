@@ -1,8 +1,10 @@
 -- Values: trees of constructors over a graph, whose leaves are nodes of the graph and elements.
-use Rattle.std.specs.Prelude.{ℕ, ◌<◌, List, [], ◌∷◌, ◌++◌, length}
+use Rattle.std.specs.Prelude.{ℕ, ◌<◌, List, [], ◌∷◌, ◌++◌, length, map}
 use Rattle.ct_sorts.specs.declared.ids.CtorId.{CtorId}
 use Rattle.ct_sorts.specs.declared.ids.SortId.{SortId}
 use Rattle.ct_values.specs.declared.node.NodeId.{NodeId}
+use Rattle.ct_values.specs.declared.node.Node.{Node}
+use Rattle.ct_values.specs.declared.node.Node.TheVariants.{Con, Elem}
 use Rattle.ct_values.specs.Graph.{Nodes}
 
 mutual
@@ -21,6 +23,16 @@ mutual
 abbrev pub list_of : Values → List Value
 list_of no_values = []
 list_of (with_value v vs) = v ∷ list_of vs
+
+-- a list of values as those under a constructor
+abbrev pub values_of : List Value → Values
+values_of [] = no_values
+values_of (v ∷ vs) = with_value v (values_of vs)
+
+-- what stands at a node, over references to its children
+abbrev pub node_value : Node → Value
+node_value (Con c children) = construct c (values_of (map reference children))
+node_value (Elem s n) = element s n
 
 abbrev mutual
   -- the subterms of a value, itself among them; what stands at a node is none

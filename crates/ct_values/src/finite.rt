@@ -2,9 +2,10 @@
 //!
 //! A node is settled once all of its children are: its head and the classes of its children then name its
 //! class, through one map for the whole graph. What is never settled reaches a cycle, and stays in the class
-//! 0. A pass goes from the last node to the first, since children are mostly numbered behind their parents,
-//! and takes time near-linear in the nodes and their children. Passes are made until one settles nothing:
-//! two more than a way down a tree goes back to smaller numbers.
+//! 0. A pass goes up from the first node to the last, since children may be numbered before their parents, and
+//! one back down, since they may be numbered behind them; each takes time near-linear in the nodes and their
+//! children. Passes are made until two settle nothing: of one order two pairs are enough, and else there is a
+//! pair at most for each time that a way down a tree turns from smaller numbers to greater ones, and two.
 ghost use Rattle.std.specs.Prelude.{◌≡◌, ◌<◌, ◌||◌, length, replicate, IfOk, All, MatchBool};
 ghost use Rattle.ct_values.specs.Partition.{class_at, KeepsTogether};
 ghost use Rattle.ct_values.specs.Settled.{IsSettling, IsTried, AreTried, unsettled};
@@ -27,7 +28,7 @@ pub(crate) fn finite_classes(alloc: Global, graph: &Graph) -> Result<Vec<usize>,
     Ok(classes)
 }
 
-// One pass over all nodes: whether it has settled one.
+// A pass from the first node to the last and one back: whether they have settled a node.
 fn settle_all(
     alloc: Global,
     graph: &Graph,
@@ -39,6 +40,45 @@ fn settle_all(
     ensures more { IfOk result (λ more. MatchBool more
         (unsettled classes.new.items < unsettled classes.old.items)
         (AreTried graph.now classes.new.items 0)) }
+{
+    let up = settle_up(alloc, graph, classes, firsts)?;
+    let down = settle_down(alloc, graph, classes, firsts)?;
+    Ok(either(up, down))
+}
+
+// One pass from the first node to the last: whether it has settled one.
+fn settle_up(
+    alloc: Global,
+    graph: &Graph,
+    classes: &mut Vec<usize>,
+    firsts: &mut IndexMap<Key, usize>,
+) -> Result<bool, ValueError>
+    requires settling { IsSettling graph.now classes.old.items firsts.old }
+    ensures settling { IfOk result (λ more. IsSettling graph.now classes.new.items firsts.new) }
+    ensures more { IfOk result (λ more. MatchBool more
+        (unsettled classes.new.items < unsettled classes.old.items)
+        (classes.new.items ≡ classes.old.items)) }
+{
+    let mut more = false;
+    for n in 0..graph.len() {
+        let done = settle(alloc, graph, classes, firsts, NodeId(n))?;
+        more = either(more, done);
+    }
+    Ok(more)
+}
+
+// One pass from the last node to the first: whether it has settled one. Where it has not, no node can be settled.
+fn settle_down(
+    alloc: Global,
+    graph: &Graph,
+    classes: &mut Vec<usize>,
+    firsts: &mut IndexMap<Key, usize>,
+) -> Result<bool, ValueError>
+    requires settling { IsSettling graph.now classes.old.items firsts.old }
+    ensures settling { IfOk result (λ more. IsSettling graph.now classes.new.items firsts.new) }
+    ensures more { IfOk result (λ more. MatchBool more
+        (unsettled classes.new.items < unsettled classes.old.items)
+        ((classes.new.items ≡ classes.old.items) × AreTried graph.now classes.new.items 0)) }
 {
     let count = graph.len();
     let mut more = false;

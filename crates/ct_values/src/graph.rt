@@ -1,9 +1,14 @@
-ghost use Rattle.std.specs.Prelude.{◌≡◌, ◌+◌, ◌<◌, [], ◌∷◌, ◌++◌, length, slice_get, option_map, Some, All, OnOk, OnErr, IfOk};
+ghost use Rattle.std.specs.Prelude.{◌≡◌, ℕ, ◌+◌, ◌<◌, ◌⊎◌, [], ◌∷◌, ◌++◌, length, slice_get, option_map, Some, None, All, OnOk, OnErr, IfOk};
+ghost use Rattle.indexmap.specs.IndexMap.{get};
+ghost use Rattle.ct_values.specs.declared.key.Key.{Key};
 ghost use Rattle.ct_values.specs.Graph.{IsClosed, HasChildrenBelow, node_head, node_children};
+ghost use Rattle.ct_values.specs.KeyTest.{same_key};
 
 use crate::error::ValueError;
+use crate::key::Key;
 use crate::node::{Head, Node, NodeId};
 use crate::node_ids::NodeIds;
+use indexmap::IndexMap;
 use std::alloc::Global;
 use std::marker::Model;
 
@@ -51,6 +56,33 @@ impl Graph {
     {
         self.nodes.append(&mut nodes)?;
         Ok(())
+    }
+
+    /// One more node at the end, with its number under its key, which the map does not have. An error changes nothing.
+    pub(crate) fn push_keyed(
+        &mut self,
+        node: Node,
+        firsts: &mut IndexMap<Key, usize>,
+        key: Key,
+    ) -> Result<NodeId, ValueError>
+        requires below { HasChildrenBelow (length self.old) node }
+        requires absent { get same_key firsts.old key ≡ None }
+        ensures ok { IfOk result (λ n. (n.0 ≡ length self.old) × (self.new ≡ self.old ++ node ∷ [])) }
+        ensures found { OnOk result (get same_key firsts.new key ≡ Some (length self.old)) }
+        ensures stay { OnOk result ((k : Key) (n : ℕ)
+            → get same_key firsts.old k ≡ Some n
+            → get same_key firsts.new k ≡ Some n) }
+        ensures only { OnOk result ((k : Key) (n : ℕ)
+            → get same_key firsts.new k ≡ Some n
+            → (get same_key firsts.old k ≡ Some n) ⊎ ((k ≡ key) × (n ≡ length self.old))) }
+        ensures err { OnErr result (self.new ≡ self.old) }
+        ensures kept { OnErr result ((k : Key) → get same_key firsts.new k ≡ get same_key firsts.old k) }
+    {
+        let place = self.nodes.len();
+        self.nodes.reserve(1)?;
+        firsts.insert(key, place)?;
+        self.nodes.push(node).unwrap();
+        Ok(NodeId(place as u64))
     }
 
     /// The number of nodes.

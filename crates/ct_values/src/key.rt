@@ -33,8 +33,12 @@ pub(crate) fn node_key(
     })
 }
 
-// The classes of these nodes.
-fn classes_of(alloc: Global, classes: &[usize], nodes: &[NodeId]) -> Result<Vec<usize>, ValueError>
+/// The classes of these nodes.
+pub(crate) fn classes_of(
+    alloc: Global,
+    classes: &[usize],
+    nodes: &[NodeId],
+) -> Result<Vec<usize>, ValueError>
     requires within { All (λ n. n.0 < length classes.now) nodes.now }
     ensures value { IfOk result (λ list. list.items ≡ map (λ n. class_at classes.now n.0) nodes.now) }
 {

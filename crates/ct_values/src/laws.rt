@@ -1,4 +1,4 @@
-ghost use Rattle.std.specs.Prelude.{◌≡◌, ℕ, suc, ◌<◌, ◌≤◌, length, ◌++◌, ◌↔◌, IsTrue};
+ghost use Rattle.std.specs.Prelude.{◌≡◌, ℕ, suc, ◌<◌, ◌≤◌, List, length, ◌++◌, ◌↔◌, IsTrue};
 ghost use Rattle.std.specs.Cmp.{IsEquivalence};
 ghost use Rattle.std.specs.List.{AllZip};
 ghost use Rattle.ct_values.specs.declared.node.NodeId.{NodeId};
@@ -6,6 +6,13 @@ ghost use Rattle.ct_values.specs.Graph.{Nodes, IsClosed};
 ghost use Rattle.ct_values.specs.Value.{Value, IsOver};
 ghost use Rattle.ct_values.specs.Agreement.{Point, point, node_point, head, children, agree, same, AgreeAlways};
 ghost use Rattle.ct_values.specs.Smallest.{IsSmallest};
+ghost use Rattle.ct_values.specs.Sharing.{IsFirst};
+ghost use Rattle.ct_sorts.specs.Declarations.{Declarations};
+ghost use Rattle.ct_sorts.specs.Consistent.{IsConsistent};
+ghost use Rattle.ct_values.specs.Fitting.{FitsGraph};
+ghost use Rattle.ct_values.specs.ValueText.{IsValueText};
+
+use ct_sexpr::written_texts;
 
 /// The laws of agreement. It does nothing: a proof that needs them calls it.
 pub fn agreement()
@@ -36,6 +43,17 @@ pub fn agreement()
         → IsClosed g
         → IsOver g v
         → agree k (point (g ++ more) v) q ≡ agree k (point g v) q }
+
+    // To agree at every depth is an equivalence, that of heads and of children, and it does not see nodes behind.
+    ensures itself { (p : Point) → AgreeAlways p p }
+    ensures turned { (p q : Point) → AgreeAlways p q → AgreeAlways q p }
+    ensures chained { (p q r : Point) → AgreeAlways p q → AgreeAlways q r → AgreeAlways p r }
+    ensures always { (p q : Point) → AgreeAlways p q
+        ↔ ((head p ≡ head q) × AllZip AgreeAlways (children p) (children q)) }
+    ensures always_grown { (g more : Nodes) (v : Value)
+        → IsClosed g
+        → IsOver g v
+        → AgreeAlways (point (g ++ more) v) (point g v) }
 {}
 
 /// The laws of the smallest graph of a tree. It does nothing: a proof that needs them calls it.
@@ -54,3 +72,41 @@ pub fn smallest_graph()
         → AgreeAlways (node_point h b) (node_point g a)
         → length s ≤ length h }
 {}
+
+/// The laws of first nodes. It does nothing: a proof that needs them calls it.
+pub fn first_nodes()
+    // One node is the first for two values exactly where they are the same.
+    ensures one { (g : Nodes) (p q : Point) (m n : NodeId)
+        → IsFirst g p m
+        → IsFirst g q n
+        → (m ≡ n) ↔ AgreeAlways p q }
+
+    // A first node stays the first where the graph grows.
+    ensures lasting { (g more : Nodes) (p : Point) (n : NodeId)
+        → IsClosed g
+        → IsFirst g p n
+        → IsFirst (g ++ more) p n }
+
+    // The first node for a value is the first for whatever is the same value.
+    ensures same { (g : Nodes) (p q : Point) (n : NodeId) → AgreeAlways p q → IsFirst g p n → IsFirst g q n }
+{}
+
+/// The laws of texts of values. It does nothing: a proof that needs them calls it.
+pub fn value_texts()
+    // The smallest graph of a tree fits the declarations where the tree's graph does.
+    ensures smallest_fits { (d : Declarations) (g : Nodes) (root : NodeId) (h : Nodes)
+        → FitsGraph d g
+        → IsSmallest g root h
+        → FitsGraph d h }
+
+    // Two nodes, each in its own graph, have one text exactly where they are the same value.
+    ensures one { (d : Declarations) (g h : Nodes) (a b : NodeId) (x y : List ℕ)
+        → IsConsistent d
+        → FitsGraph d g
+        → FitsGraph d h
+        → IsValueText d g a x
+        → IsValueText d h b y
+        → (x ≡ y) ↔ AgreeAlways (node_point g a) (node_point h b) }
+{
+    written_texts();
+}

@@ -1,10 +1,12 @@
-//! Graphs of nodes, the values that their nodes stand for, and when two values are the same.
+//! Graphs of nodes, the values that their nodes stand for, when two values are the same, and how a value is written.
 #![tactic(auto)]
 
 mod equality;
 mod error;
 mod finite;
+mod fitting;
 mod graph;
+mod graph_text;
 mod key;
 mod laws;
 mod merge;
@@ -14,17 +16,32 @@ mod places;
 mod reach;
 mod refine;
 mod rounds;
+mod shared;
 mod smallest;
+mod text;
+mod tree_text;
 mod value;
+mod writing;
 
 pub use equality::same;
 pub use error::ValueError;
+pub use fitting::{fits, has_sort, sort_of};
 pub use graph::Graph;
-pub use laws::{agreement, smallest_graph};
+pub use laws::{agreement, first_nodes, smallest_graph, value_texts};
 pub use node::{Head, Node, NodeId};
 pub use node_ids::NodeIds;
+pub use shared::SharedGraph;
 pub use smallest::minimise;
 pub use value::Value;
+pub use writing::value_text;
 
 #[cfg(test)]
+mod fitting_tests;
+#[cfg(test)]
+mod test_graphs;
+#[cfg(test)]
+mod test_sorts;
+#[cfg(test)]
 mod tests;
+#[cfg(test)]
+mod text_tests;

@@ -1,7 +1,10 @@
 ghost use Rattle.std.specs.Prelude.{◌≡◌, IfOk};
+ghost use Rattle.std.specs.Cmp.{partial_equiv_from_equiv};
+ghost use Rattle.ct_values.specs.NodeIdTest.{same_nodes, same_nodes_equiv, hashed_nodes, hashed_nodes_alike};
 
 use crate::node::NodeId;
 use std::alloc::{AllocError, Global};
+use std::hash::{Hash, Hasher};
 use std::marker::Model;
 
 /// Numbers of nodes, in order. Clauses see a list.
@@ -48,5 +51,29 @@ impl NodeIds {
         ensures value { result.items ≡ self }
     {
         self.ids
+    }
+}
+
+impl PartialEq for NodeIds {
+    ghost eq = { same_nodes };
+
+    ghost laws = { partial_equiv_from_equiv same_nodes_equiv };
+
+    fn eq(&self, other: &NodeIds) -> bool {
+        self.as_slice() == other.as_slice()
+    }
+}
+
+impl Eq for NodeIds {
+    ghost laws = { same_nodes_equiv };
+}
+
+impl Hash for NodeIds {
+    ghost hash_input = { hashed_nodes };
+
+    ghost respects_eq = { hashed_nodes_alike };
+
+    fn hash<H: Hasher>(&self, state: &mut H) {
+        self.as_slice().hash(state);
     }
 }

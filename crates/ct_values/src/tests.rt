@@ -1,9 +1,10 @@
 //! What graphs hold, which of their nodes are the same, and what their smallest graphs are.
-ghost use Rattle.std.specs.Prelude.{◌<◌, IsTrue, All};
-ghost use Rattle.ct_values.specs.Graph.{IsClosed, HasChildrenBelow};
-
+use crate::test_graphs::{
+    Step, are_below, graph, has_children_below, have_children_below, ids, node, nodes,
+};
 use crate::{
-    Graph, Head, Node, NodeId, NodeIds, ValueError, agreement, minimise, same, smallest_graph,
+    Graph, Head, Node, NodeId, NodeIds, SharedGraph, ValueError, agreement, first_nodes, minimise,
+    same, smallest_graph,
 };
 use ct_sorts::{CtorId, SortId};
 use std::alloc::Global;
@@ -57,79 +58,6 @@ const PERIODS: [Step; 20] = [
     Step::Two(SCONS, 0, 19),
     Step::Two(SCONS, 1, 2),
 ];
-
-// A node that a test makes: a constructor over nodes, or an element of a sort, by its number.
-#[derive(Clone, Copy, Debug)]
-enum Step {
-    Zero(CtorId),
-    One(CtorId, u64),
-    Two(CtorId, u64, u64),
-    Element(u32, u64),
-}
-
-fn ids(alloc: Global, numbers: &[u64]) -> Result<NodeIds, ValueError> {
-    let mut ids = Vec::new(alloc);
-    for number in numbers {
-        ids.push(NodeId(*number))?;
-    }
-    Ok(NodeIds::new(ids))
-}
-
-fn node(alloc: Global, step: Step) -> Result<Node, ValueError> {
-    match step {
-        Step::Zero(c) => Ok(Node::Con(c, ids(alloc, &[])?)),
-        Step::One(c, a) => Ok(Node::Con(c, ids(alloc, &[a])?)),
-        Step::Two(c, a, b) => Ok(Node::Con(c, ids(alloc, &[a, b])?)),
-        Step::Element(s, n) => Ok(Node::Elem(SortId(s), n)),
-    }
-}
-
-fn nodes(alloc: Global, steps: &[Step]) -> Result<Vec<Node>, ValueError> {
-    let mut nodes = Vec::new(alloc);
-    for step in steps {
-        nodes.push(node(alloc, *step)?)?;
-    }
-    Ok(nodes)
-}
-
-// Whether the children of the node have numbers below the bound.
-fn has_children_below(node: &Node, bound: u64) -> bool
-    ensures value { IsTrue result → HasChildrenBelow bound node.now }
-{
-    match node {
-        Node::Con(_, children) => are_below(children.as_slice(), bound),
-        Node::Elem(_, _) => true,
-    }
-}
-
-fn are_below(children: &[NodeId], bound: u64) -> bool
-    ensures value { IsTrue result → All (λ child. child.0 < bound) children.now }
-{
-    for child in children {
-        if child.0 >= bound {
-            return false;
-        }
-    }
-    true
-}
-
-// Whether the children of all the nodes have numbers below the bound.
-fn have_children_below(nodes: &[Node], bound: u64) -> bool
-    ensures value { IsTrue result → All (HasChildrenBelow bound) nodes.now }
-{
-    for node in nodes {
-        if !has_children_below(node, bound) {
-            return false;
-        }
-    }
-    true
-}
-
-fn graph(rt: &impl Abort, alloc: Global, steps: &[Step]) -> Result<Graph, ValueError> {
-    let nodes = nodes(alloc, steps)?;
-    assert!(rt; have_children_below(&nodes, nodes.len() as u64));
-    Ok(Graph::from_nodes(nodes))
-}
 
 fn are_same(rt: &impl Abort, alloc: Global, g: &Graph, a: u64, b: u64) -> Result<bool, ValueError> {
     assert!(rt; a < g.len());
@@ -387,6 +315,40 @@ fn keeps_nodes_in_order(rt: HostRuntime) -> Result<(), Fail> {
         assert!(rt; are_same(&rt, alloc, g, 3, 4)?);
     }
     agreement();
+    Ok(())
+}
+
+fn first(rt: &impl Abort, shared: &SharedGraph, n: u64) -> NodeId {
+    assert!(rt; n < shared.graph().len());
+    shared.first(NodeId(n))
+}
+
+fn construct(
+    rt: &impl Abort,
+    alloc: Global,
+    shared: &mut SharedGraph,
+    children: &[u64],
+) -> Result<NodeId, ValueError> {
+    let children = ids(alloc, children)?;
+    assert!(rt; are_below(children.as_slice(), shared.graph().len()));
+    shared.construct(SCONS, children)
+}
+
+// The first nodes of the streams of the worked example. The last two children are of a stream that is not there.
+#[test]
+fn shares_nodes_that_are_the_same(rt: HostRuntime) -> Result<(), Fail> {
+    let alloc = rt.alloc();
+    let mut shared = SharedGraph::new(alloc, graph(&rt, alloc, &STREAMS)?)?;
+    for (n, want) in [(0, 0), (1, 1), (2, 0), (3, 0), (4, 4), (5, 5)] {
+        assert_eq!(rt; first(&rt, &shared, n), NodeId(want), "of {n}");
+    }
+    for (children, want) in [([1, 2], 0), ([4, 3], 5), ([4, 5], 6), ([4, 5], 6)] {
+        let node = construct(&rt, alloc, &mut shared, &children)?;
+        assert_eq!(rt; node, NodeId(want), "of {children:?}");
+    }
+    assert_eq!(rt; shared.graph().len(), 7);
+    assert_eq!(rt; shared.into_graph().len(), 7);
+    first_nodes();
     Ok(())
 }
 

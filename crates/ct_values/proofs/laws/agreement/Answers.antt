@@ -1,6 +1,8 @@
-use Rattle.ct_values.proofs.AgreeLemmas.{agree_equiv, agree-falls, agree-zero, agree-suc}
+use Rattle.ct_values.proofs.AgreeLemmas.{agree_equiv, agree-falls, agree-zero, agree-suc, AgreeAlways-parts}
 use Rattle.ct_values.proofs.GraphLemmas.{agree-grown}
 use Rattle.ct_values.proofs.DepthLemmas.{every_depth, same-parts}
+use Rattle.ct_values.proofs.FirstLemmas.{AgreeAlways-refl, AgreeAlways-grown}
+use Rattle.ct_values.proofs.SmallestLemmas.{AgreeAlways-sym, AgreeAlways-trans}
 use Rattle.ct_values.proofs.laws.agreement.Goals as goal
 
 pub returns-clause-start : goal.returns-clause-start
@@ -23,3 +25,18 @@ returns-clause-parts c = same-parts
 
 pub returns-clause-grown : goal.returns-clause-grown
 returns-clause-grown c = agree-grown
+
+pub returns-clause-itself : goal.returns-clause-itself
+returns-clause-itself c = AgreeAlways-refl
+
+pub returns-clause-turned : goal.returns-clause-turned
+returns-clause-turned c = AgreeAlways-sym
+
+pub returns-clause-chained : goal.returns-clause-chained
+returns-clause-chained c = AgreeAlways-trans
+
+pub returns-clause-always : goal.returns-clause-always
+returns-clause-always c = AgreeAlways-parts
+
+pub returns-clause-always_grown : goal.returns-clause-always_grown
+returns-clause-always_grown c = AgreeAlways-grown

@@ -1,0 +1,51 @@
+"""Builds the small programs that the benches run: shared by those that measure a crate below the program."""
+
+import os
+import resource
+import shutil
+import subprocess
+
+
+class Unexpected(Exception):
+    """A step did not end as it must."""
+
+
+def lines(crates):
+    """The lines of crates.txt for these crates."""
+    with open("crates.txt", encoding="ascii") as file:
+        return [line for line in file if line.split(":")[0] in crates]
+
+
+def built(folder, name, crates, sources, words):
+    """The program `name`, built in the folder over copies of these crates.
+
+    Its files lie in bench/`name` under other names, since the gate takes sources in crates alone: `sources` says
+    which is which. It is run once with these words, and must end with status 0.
+    """
+    below = os.path.join(folder, "crates")
+    for crate in crates:
+        shutil.copytree(os.path.join("crates", crate), os.path.join(below, crate), ignore=shutil.ignore_patterns("out"))
+    place = os.path.join(below, name)
+    for source, path in sources:
+        target = os.path.join(place, path)
+        os.makedirs(os.path.dirname(target), exist_ok=True)
+        shutil.copy(os.path.join("bench", name, source), target)
+    shutil.copy("HANDLES", folder)
+    with open(os.path.join(folder, "crates.txt"), "w", encoding="ascii") as file:
+        file.writelines(lines(crates))
+        file.write(f"{name}: {' '.join(crates)}\n")
+    run = subprocess.run(["rt", "run", "--", *words], cwd=place, stdout=subprocess.PIPE, check=False)
+    program = os.path.join(place, "out", name)
+    if run.returncode != 0 or not os.path.exists(program):
+        raise Unexpected("the program was not built")
+    return program
+
+
+def seconds(words, want):
+    """The processor's time in one run of these words, whose output is looked at."""
+    before = resource.getrusage(resource.RUSAGE_CHILDREN)
+    run = subprocess.run(words, stdout=subprocess.PIPE, check=False)
+    after = resource.getrusage(resource.RUSAGE_CHILDREN)
+    if run.returncode != 0 or run.stdout != want:
+        raise Unexpected(f"status {run.returncode}, wrote {run.stdout[:60]!r} where {want!r} is due")
+    return after.ru_utime + after.ru_stime - before.ru_utime - before.ru_stime

@@ -1,0 +1,16 @@
+pub mod ListLemmas
+pub mod StepLists
+pub mod StepNodes
+pub mod StepSorts
+pub mod StepTerms
+pub mod StepTruth
+pub mod StepConstruct
+pub mod StepTables
+pub mod StepSelect
+pub mod StepReady
+pub mod StepResults
+pub mod IndexLemmas
+pub mod EvaluationLemmas
+pub mod TruthLemmas
+pub mod ValuationLemmas
+pub mod FittingLemmas

@@ -1,0 +1,79 @@
+-- What a term means in an interpretation (SMT-LIB 2.7, section 5.3), by recursion on the term.
+use Rattle.std.specs.Prelude.{ℕ, zero, suc, Bool, true, false, not, ◌==◌, List, [], ◌∷◌, map, Option, Some, None, slice_get, unwrap_or, if◌then◌else◌}
+use Rattle.std.specs.List.{list_all, list_any}
+use Rattle.ct_sorts.specs.declared.ids.CtorId.{CtorId}
+use Rattle.ct_sorts.specs.declared.ids.SelId.{SelId}
+use Rattle.ct_sorts.specs.declared.ids.SortId.{SortId}
+use Rattle.ct_sorts.specs.Declarations.{Declarations, Selector}
+use Rattle.ct_values.specs.declared.node.Head.{Head}
+use Rattle.ct_values.specs.declared.node.Head.TheVariants as heads
+use Rattle.ct_values.specs.Graph.{Nodes}
+use Rattle.ct_values.specs.Value.{Value, reference, construct, no_values, values_of}
+use Rattle.ct_values.specs.Agreement.{point, same, head_of, children_of}
+use Rattle.ct_terms.specs.declared.ids.TermId.{TermId}
+use Rattle.ct_terms.specs.declared.term.Core.{Core}
+use Rattle.ct_terms.specs.declared.term.Core.TheVariants.{Con, Sel, Test, Apply, Eq, Not, And, Or, Iff, Ite}
+use Rattle.ct_terms.specs.Table.{Table as Terms}
+use Rattle.ct_eval.specs.declared.interp.Interp.{Interp}
+use Rattle.ct_eval.specs.declared.interp.Table.{Table}
+use Rattle.ct_eval.specs.LookUp.{look_up}
+
+-- `true` is constructor 0 and `false` is constructor 1, without arguments
+abbrev pub truth : Bool → Value
+truth true = construct (record { 0 = 0 }) no_values
+truth false = construct (record { 0 = 1 }) no_values
+
+-- the head is this constructor
+abbrev pub is_head : CtorId → Option Head → Bool
+is_head c None = false
+is_head c (Some (heads.Con k)) = k.0 == c.0
+is_head c (Some (heads.Elem s n)) = false
+
+-- the value is built by this constructor
+abbrev pub is_built : Nodes → CtorId → Value → Bool
+is_built g c v = is_head c (head_of g v)
+
+-- the value is `true`
+abbrev pub is_true : Nodes → Value → Bool
+is_true g v = is_built g (record { 0 = 0 }) v
+
+-- the values are the same
+abbrev pub is_same : Nodes → Value → Value → Bool
+is_same g v w = same (point g v) (point g w)
+
+-- what a table gives for arguments, as a value; every function and every selector has a table
+abbrev pub given : Interp → Option Table → List Value → Value
+given i None values = truth false
+given i (Some table) values = reference (look_up i.graph table values)
+
+-- the value of a selector: the child at its place where the value is built by its constructor, and else what its table gives
+abbrev pub select : Interp → SelId → Option Selector → Value → Value
+select i s None v = v
+select i s (Some selector) v = if is_built i.graph selector.ctor v then unwrap_or (slice_get (children_of i.graph v) selector.place) v else given i (slice_get i.offs s.0) (v ∷ [])
+
+-- one layer of a term, over the values of the terms under it
+abbrev pub core_value : Declarations → Interp → (TermId → Value) → Core → Value
+core_value d i value (Con c args) = construct c (values_of (map value args))
+core_value d i value (Sel s t) = select i s (slice_get d.sels s.0) (value t)
+core_value d i value (Test c t) = truth (is_built i.graph c (value t))
+core_value d i value (Apply f args) = given i (slice_get i.funs f.0) (map value args)
+core_value d i value (Eq a b) = truth (is_same i.graph (value a) (value b))
+core_value d i value (Not t) = truth (not (is_true i.graph (value t)))
+core_value d i value (And args) = truth (list_all (λ t. is_true i.graph (value t)) args)
+core_value d i value (Or args) = truth (list_any (λ t. is_true i.graph (value t)) args)
+core_value d i value (Iff a b) = truth (if is_true i.graph (value a) then is_true i.graph (value b) else not (is_true i.graph (value b)))
+core_value d i value (Ite c a b) = if is_true i.graph (value c) then value a else value b
+
+-- one layer of what stands at a number, where something does
+abbrev pub layer : Declarations → Interp → (TermId → Value) → Option (Core × SortId) → Value
+layer d i value None = truth false
+layer d i value (Some (core, s)) = core_value d i value core
+
+-- the value of a term whose number is below the bound; the terms under it have smaller numbers
+unfoldable pub value_below : ℕ → Declarations → Interp → Terms → TermId → Value
+value_below zero d i terms t = truth false
+value_below (suc n) d i terms t = layer d i (value_below n d i terms) (slice_get terms t.0)
+
+-- the value of a term
+abbrev pub value_of : Declarations → Interp → Terms → TermId → Value
+value_of d i terms t = value_below (suc t.0) d i terms t

@@ -1,0 +1,28 @@
+//! Interpretations, what a term means in one, and whether one makes assertions true.
+#![tactic(auto)]
+
+mod application;
+mod assertions;
+mod boolean;
+mod error;
+mod fitting;
+mod index;
+mod interp;
+mod laws;
+mod nodes;
+mod proper;
+mod selection;
+mod term;
+mod valuation;
+
+pub use assertions::holds;
+pub use error::EvalError;
+pub use interp::{Interp, Row, Rows, Table, Tables, Valuation};
+pub use laws::evaluation;
+pub use proper::is_proper;
+pub use valuation::evaluate;
+
+#[cfg(test)]
+mod tests;
+#[cfg(test)]
+mod value_tests;

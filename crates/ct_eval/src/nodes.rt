@@ -1,0 +1,64 @@
+//! The nodes of the terms under a term, and what is known of them.
+ghost use Rattle.std.specs.Prelude.{◌≡◌, ◌<◌, length, map, All, IfOk};
+ghost use Rattle.ct_values.specs.Graph.{IsClosed};
+ghost use Rattle.ct_values.specs.Value.{reference};
+ghost use Rattle.ct_eval.specs.Evaluation.{is_built};
+ghost use Rattle.ct_eval.specs.Step.{Laws, HasNode, node_under};
+
+use crate::error::EvalError;
+use crate::interp::Interp;
+use ct_sorts::CtorId;
+use ct_terms::TermId;
+use ct_values::{Head, NodeId, SharedGraph, agreement, first_nodes};
+use std::alloc::Global;
+
+/// The laws that the steps rest on, and that the graph is closed.
+pub(crate) fn laws(shared: &SharedGraph)
+    ensures closed { IsClosed shared.now }
+    ensures laws { Laws }
+{
+    agreement();
+    first_nodes();
+    let _graph = shared.graph();
+}
+
+/// That the graph of the interpretation is closed.
+pub(crate) fn closed(interp: &Interp)
+    ensures closed { IsClosed interp.now.graph }
+{
+    let _len = interp.graph.len();
+}
+
+/// The node of this term.
+pub(crate) fn node_at(shared: &SharedGraph, nodes: &[NodeId], t: TermId) -> NodeId
+    requires there { HasNode shared.now nodes.now t }
+    ensures value { result ≡ node_under nodes.now t }
+    ensures within { result.0 < length shared.now }
+{
+    let _graph = shared.graph();
+    nodes[t.0 as usize]
+}
+
+/// The nodes of these terms.
+pub(crate) fn nodes_of(
+    alloc: Global,
+    nodes: &[NodeId],
+    terms: &[TermId],
+) -> Result<Vec<NodeId>, EvalError>
+    requires within { All (λ t. t.0 < length nodes.now) terms.now }
+    ensures value { IfOk result (λ list. list.items ≡ map (node_under nodes.now) terms.now) }
+{
+    let mut list = Vec::with_capacity(alloc, terms.len())?;
+    for t in terms {
+        list.push(nodes[t.0 as usize])?;
+    }
+    Ok(list)
+}
+
+/// Whether the node is built by this constructor.
+pub(crate) fn is_built(shared: &SharedGraph, c: CtorId, n: NodeId) -> bool
+    requires within { n.0 < length shared.now }
+    ensures value { result ≡ is_built shared.now c (reference n) }
+{
+    shared.graph().head(n) == Head::Con(c)
+}

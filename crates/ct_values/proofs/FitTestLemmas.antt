@@ -1,0 +1,102 @@
+-- The tests of fitting: nodes and fields one for one, a field by its sort, and a node by its head and its children.
+use Rattle.std.proofs.Common.{◌≡◌, ℕ, zero, suc, ◌+◌, ◌<◌, ◌⊎◌, ◌↔◌, Bool, true, false, nat_eq, List, [], ◌∷◌, length, get_or, slice_get, Option, Some, None, option_map, IsTrue, refl, sym, ap, subst, ◌∙◌, inl, inr, arith}
+use Rattle.std.specs.List.{AllZip}
+use Rattle.std.proofs.lemmas.List.{get_or_default}
+use Rattle.std.proofs.lemmas.Option.{none-some, same_Some}
+use Rattle.std.proofs.lemmas.Bool.{eqb-true, eq-eqb}
+use Rattle.ct_sorts.specs.declared.ids.SortId.{SortId}
+use Rattle.ct_sorts.specs.declared.ids.SelId.{SelId}
+use Rattle.ct_sorts.specs.Declarations.{Declarations, Selector}
+use Rattle.ct_values.specs.declared.node.NodeId.{NodeId}
+use Rattle.ct_values.specs.declared.node.Node.{Node}
+use Rattle.ct_values.specs.declared.node.Node.TheVariants.{Con, Elem}
+use Rattle.ct_values.specs.declared.node.Head.{Head}
+use Rattle.ct_values.specs.declared.node.Head.TheVariants as heads
+use Rattle.ct_values.specs.Graph.{Nodes, node_head, node_children}
+use Rattle.ct_values.specs.Fitting.{HasNodeSort, IsOfField, IsBuilt, IsElement, FitsNode}
+
+-- a number that is not past the last is before it, or is it
+last_or_before : (k i : ℕ) → k < i + 1 → (k < i) ⊎ (k ≡ i)
+last_or_before zero zero h = inr refl
+last_or_before zero (suc i) h = inl (omega arith)
+last_or_before (suc k) zero h = absurd (omega arith)
+last_or_before (suc k) (suc i) h =
+    elim (last_or_before k i (omega arith)) [ inl before ↦ inl (omega arith) | inr last ↦ inr (ap suc last) ]
+
+-- two lists, place by place
+module _ {X Y : Type 0} (R : X → Y → Type 0) where
+  -- what holds place by place of lists of one length
+  pub AllZip-from_places : (xs : List X) (ys : List Y) → length xs ≡ length ys → ((k : ℕ) (d : X) (e : Y) → k < length xs → R (get_or xs k d) (get_or ys k e)) → AllZip R xs ys
+  AllZip-from_places [] [] long each = tt
+  AllZip-from_places [] (y ∷ ys) long each = absurd (omega arith)
+  AllZip-from_places (x ∷ xs) [] long each = absurd (omega arith)
+  AllZip-from_places (x ∷ xs) (y ∷ ys) long each =
+      (each 0 x y (omega arith), AllZip-from_places xs ys (omega arith) (λ k d e within. each (suc k) d e (omega arith)))
+
+  -- and back
+  pub AllZip-at_place : (xs : List X) (ys : List Y) → AllZip R xs ys → (k : ℕ) (d : X) (e : Y) → k < length xs → R (get_or xs k d) (get_or ys k e)
+  AllZip-at_place [] ys all k d e within = absurd (omega arith)
+  AllZip-at_place (x ∷ xs) [] all k d e within = absurd all
+  AllZip-at_place (x ∷ xs) (y ∷ ys) all zero d e within = all.0
+  AllZip-at_place (x ∷ xs) (y ∷ ys) all (suc k) d e within = AllZip-at_place xs ys all.1 k d e (omega arith)
+
+  -- what holds place by place before a number and at it holds up to it
+  pub places-more : (xs : List X) (ys : List Y) (i : ℕ) (x : X) (y : Y) → i < length xs → i < length ys → ((k : ℕ) (d : X) (e : Y) → k < i → R (get_or xs k d) (get_or ys k e)) → R (get_or xs i x) (get_or ys i y) → (k : ℕ) (d : X) (e : Y) → k < i + 1 → R (get_or xs k d) (get_or ys k e)
+  places-more xs ys i x y in_xs in_ys before last k d e up_to =
+      elim (last_or_before k i up_to) [
+        | inl h ↦ before k d e h
+        | inr h ↦
+            let at_x : get_or xs i x ≡ get_or xs k d = get_or_default xs i x d in_xs ∙ ap (λ (n : ℕ). get_or xs n d) (sym h) in
+            let at_y : get_or ys i y ≡ get_or ys k e = get_or_default ys i y e in_ys ∙ ap (λ (n : ℕ). get_or ys n e) (sym h) in
+            subst (R (get_or xs k d)) at_y (subst (λ (z : X). R z (get_or ys i y)) at_x last)
+      ]
+
+-- what a look-up through a function finds
+there : {X Y : Type 0} (f : X → Y) (o : Option X) (y : Y) → option_map f o ≡ Some y → (x : X) × (o ≡ Some x) × (f x ≡ y)
+there f None y e = absurd (none-some y e)
+there f (Some x) y e = (x, refl, same_Some (f x) y e)
+
+-- a node has the sort of a selector's field
+pub IsOfField-tested : (d : Declarations) (g : Nodes) (child : NodeId) (s : SelId) (side : SortId) (r : Bool) → option_map (λ (f : Selector). f.sort) (slice_get d.sels s.0) ≡ Some side → (IsTrue r ↔ HasNodeSort d g child side) → IsTrue r ↔ IsOfField d g child s
+IsOfField-tested d g child s side r at told =
+    let sel = there (λ (f : Selector). f.sort) (slice_get d.sels s.0) side at in (
+      λ holds. record { selector = sel.0; declared = sel.1; sorted = subst (HasNodeSort d g child) (sym sel.2) (told.0 holds) },
+      λ h. told.1 (subst (HasNodeSort d g child) (ap (λ (f : Selector). f.sort) (same_Some h.selector sel.0 (sym h.declared ∙ sel.1)) ∙ sel.2) h.sorted),
+    )
+
+-- a node of this head and these children fits
+abbrev pub FitsHead : Declarations → Nodes → Head → List NodeId → Type 0
+FitsHead d g (heads.Con c) children = IsBuilt d g c.0 children
+FitsHead d g (heads.Elem s n) children = IsElement d s.0
+
+by_head : (d : Declarations) (g : Nodes) (node : Node) → FitsNode d g node ↔ FitsHead d g (node_head node) (node_children node)
+by_head d g (Con c children) = (λ h. h, λ h. h)
+by_head d g (Elem s n) = (λ h. h, λ h. h)
+
+-- a node fits where what is read of it fits
+pub FitsNode-tested : (d : Declarations) (g : Nodes) (n : ℕ) (head : Head) (r : Bool) → option_map node_head (slice_get g n) ≡ Some head → ((children : List NodeId) → option_map node_children (slice_get g n) ≡ Some children → IsTrue r ↔ FitsHead d g head children) → IsTrue r ↔ ((node : Node) → slice_get g n ≡ Some node → FitsNode d g node)
+FitsNode-tested d g n head r at told = by (slice_get g n) at told
+  where
+    by : (found : Option Node) → option_map node_head found ≡ Some head → ((children : List NodeId) → option_map node_children found ≡ Some children → IsTrue r ↔ FitsHead d g head children) → IsTrue r ↔ ((node : Node) → found ≡ Some node → FitsNode d g node)
+    by None e each = absurd (none-some head e)
+    by (Some x) e each =
+        let same : node_head x ≡ head = same_Some (node_head x) head e in
+        let here : IsTrue r ↔ FitsHead d g head (node_children x) = each (node_children x) refl in (
+          λ holds node is. subst (FitsNode d g) (same_Some x node is) ((by_head d g x).1 (subst (λ (h : Head). FitsHead d g h (node_children x)) (sym same) (here.0 holds))),
+          λ fit. here.1 (subst (λ (h : Head). FitsHead d g h (node_children x)) same ((by_head d g x).0 (fit x refl))),
+        )
+
+-- two look-ups at one place find one thing
+same_found : {X : Type 0} (o : Option X) (x y : X) → o ≡ Some x → o ≡ Some y → x ≡ y
+same_found o x y h k = same_Some x y (sym h ∙ k)
+
+-- what is found is tested against a sort
+pub found-tested : (o : Option SortId) (sort s : SortId) (P : Type 0) (r : Bool) → o ≡ Some sort → r ≡ nat_eq sort.0 s.0 → ((o ≡ Some s) ↔ P) → IsTrue r ↔ P
+found-tested o sort s P r at tested means = (
+  λ yes. means.0 (at ∙ ap (λ (n : ℕ). Some (record { 0 = n })) (eqb-true sort.0 s.0 (sym tested ∙ yes))),
+  λ h. tested ∙ subst (λ (t : SortId). nat_eq sort.0 t.0 ≡ true) (same_found o sort s at (means.1 h)) (eq-eqb sort.0 sort.0 refl),
+)
+
+-- where nothing is found the test is false
+pub nothing-tested : (o : Option SortId) (s : SortId) (P : Type 0) → o ≡ None → ((o ≡ Some s) ↔ P) → IsTrue false ↔ P
+nothing-tested o s P at means = (λ yes. cc, λ h. absurd (none-some s (sym at ∙ means.1 h)))

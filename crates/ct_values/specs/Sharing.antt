@@ -1,0 +1,32 @@
+-- The first node of a graph that is a value. Two nodes are the same value exactly where one node is the first for both.
+use Rattle.std.specs.Prelude.{◌≡◌, ℕ, ◌<◌, ◌≤◌, List, length, Some, slice_get}
+use Rattle.indexmap.specs.IndexMap.{IndexMap, get}
+use Rattle.ct_values.specs.declared.node.NodeId.{NodeId}
+use Rattle.ct_values.specs.declared.node.Node.{Node}
+use Rattle.ct_values.specs.declared.key.Key.{Key}
+use Rattle.ct_values.specs.Graph.{Nodes, IsClosed}
+use Rattle.ct_values.specs.Agreement.{Point, node_point, AgreeAlways}
+use Rattle.ct_values.specs.Partition.{class_at, node_key}
+use Rattle.ct_values.specs.KeyTest.{same_key}
+
+-- the node is the first of the graph that is the same value as this one, which may be over another graph
+pub record IsFirst (g : Nodes) (p : Point) (n : NodeId) : Type 0 where
+  pub within : n.0 < length g
+  pub same : AgreeAlways (node_point g n) p
+  pub first : (m : NodeId) → m.0 < length g → AgreeAlways (node_point g m) p → n.0 ≤ m.0
+
+-- each node's class is named for the first node that is the same value
+pub record AreClasses (g : Nodes) (classes : List ℕ) : Type 0 where
+  pub closed : IsClosed g
+  pub long : length classes ≡ length g
+  pub named : (n : NodeId) → n.0 < length g → IsFirst g (node_point g n) (record { 0 = class_at classes n.0 })
+
+-- the map has the key of each node before this number with its class, and no other
+pub record IsKeyed {S : Type 0} (g : Nodes) (classes : List ℕ) (firsts : IndexMap Key ℕ S) (count : ℕ) : Type 0 where
+  pub known : (n : ℕ) (node : Node) → n < count → slice_get g n ≡ Some node → get same_key firsts (node_key classes 0 node) ≡ Some (class_at classes n)
+  pub only : (key : Key) (n : ℕ) → get same_key firsts key ≡ Some n → (n < count) × ((node : Node) × (slice_get g n ≡ Some node) × (key ≡ node_key classes 0 node))
+
+-- besides, the map has the key of each node with its class, and no other
+pub record IsShared {S : Type 0} (g : Nodes) (classes : List ℕ) (firsts : IndexMap Key ℕ S) : Type 0 where
+  pub are_classes : AreClasses g classes
+  pub keyed : IsKeyed g classes firsts (length g)

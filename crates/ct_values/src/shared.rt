@@ -1,0 +1,189 @@
+//! A graph with the first node of each value at hand.
+//!
+//! Its nodes are put into classes of those that agree at every depth, once, by the rounds of equality. From
+//! then on a map from heads and classes of children to first nodes tells the first node of a constructor over
+//! nodes, so that a new node costs a look-up (hash-consing; Filliâtre and Conchon 2006).
+ghost use Rattle.std.specs.Prelude.{◌≡◌, ◌<◌, ◌⊎◌, [], ◌∷◌, ◌++◌, length, map, All, Some, None, OnErr, OnOk, IfOk, IfSome, IfNone};
+ghost use Rattle.indexmap.specs.IndexMap.{get};
+ghost use Rattle.ct_values.specs.declared.node.Node.TheVariants as nodes;
+ghost use Rattle.ct_values.specs.Graph.{IsClosed, HasChildrenBelow};
+ghost use Rattle.ct_values.specs.Value.{node_value};
+ghost use Rattle.ct_values.specs.Agreement.{point, node_point};
+ghost use Rattle.ct_values.specs.KeyTest.{same_key};
+ghost use Rattle.ct_values.specs.Partition.{class_at, node_key};
+ghost use Rattle.ct_values.specs.Sharing.{IsFirst, AreClasses, IsShared};
+
+use crate::error::ValueError;
+use crate::finite::finite_classes;
+use crate::graph::Graph;
+use crate::key::{Key, classes_of};
+use crate::node::{Head, Node, NodeId};
+use crate::node_ids::NodeIds;
+use crate::places::Places;
+use crate::refine::first_with;
+use crate::rounds::refined;
+use ct_sorts::CtorId;
+use indexmap::IndexMap;
+use std::alloc::Global;
+use std::marker::Model;
+
+/// A graph that may grow, in which the first node of each value is found by a look-up.
+#[derive(Debug, Drop)]
+pub struct SharedGraph {
+    graph: Graph,
+    classes: Vec<usize>,
+    firsts: IndexMap<Key, usize>,
+}
+
+impl Model for SharedGraph {
+    ghost use Rattle.ct_values.specs.Graph.{Nodes};
+    ghost use Rattle.ct_values.specs.Sharing.{IsShared};
+
+    ghost Value = { Nodes };
+
+    ghost view = { λ kept. kept.graph };
+
+    ghost invariant = { λ kept. IsShared kept.graph kept.classes.items kept.firsts };
+}
+
+impl SharedGraph {
+    /// The graph, with its nodes put into classes once.
+    pub fn new(alloc: Global, graph: Graph) -> Result<SharedGraph, ValueError>
+        ensures value { IfOk result (λ shared. shared ≡ graph) }
+    {
+        let classes = stable_classes(alloc, &graph)?;
+        let firsts = keyed(alloc, &graph, &classes)?;
+        Ok(SharedGraph {
+            graph,
+            classes,
+            firsts,
+        })
+    }
+
+    /// The graph, with the nodes that were added.
+    pub fn graph(&self) -> &Graph
+        ensures value { result.now ≡ self.now }
+        ensures closed { IsClosed self.now }
+    {
+        &self.graph
+    }
+
+    /// The graph, with the nodes that were added. Takes no memory.
+    pub fn into_graph(self) -> Graph
+        ensures value { result ≡ self }
+    {
+        self.graph
+    }
+
+    /// The first node that is the same value as this one. Takes no memory.
+    pub fn first(&self, n: NodeId) -> NodeId
+        requires within { n.0 < length self.now }
+        ensures first { IsFirst self.now (node_point self.now n) result }
+    {
+        NodeId(self.classes[n.0 as usize] as u64)
+    }
+
+    /// The first node that is the value of the constructor over these nodes: one that is there, or a new one at the
+    /// end. An error changes nothing.
+    pub fn construct(&mut self, c: CtorId, children: NodeIds) -> Result<NodeId, ValueError>
+        requires within { All (λ child. child.0 < length self.old) children }
+        ensures first { IfOk result (IsFirst self.new (point self.new (node_value (nodes.Con c children)))) }
+        ensures grown { OnOk result ((self.new ≡ self.old) ⊎ (self.new ≡ self.old ++ nodes.Con c children ∷ [])) }
+        ensures err { OnErr result (self.new ≡ self.old) }
+    {
+        let alloc = *self.classes.allocator();
+        let key = shape(alloc, &self.classes, Head::Con(c), children.as_slice())?;
+        if let Some(first) = first_of(&self.firsts, &key) {
+            return Ok(first);
+        }
+        let node = Node::Con(c, children);
+        add(
+            &mut self.graph,
+            &mut self.classes,
+            &mut self.firsts,
+            key,
+            node,
+        )
+    }
+}
+
+// The node that the map has for the key, if it has one.
+fn first_of(firsts: &IndexMap<Key, usize>, key: &Key) -> Option<NodeId>
+    ensures found { IfSome result (λ n. get same_key firsts.now key.now ≡ Some n.0) }
+    ensures absent { IfNone result (get same_key firsts.now key.now ≡ None) }
+{
+    match firsts.get(key) {
+        Some(first) => Some(NodeId(*first as u64)),
+        None => None,
+    }
+}
+
+// One more node, whose key the map does not have. An error changes nothing.
+fn add(
+    graph: &mut Graph,
+    classes: &mut Vec<usize>,
+    firsts: &mut IndexMap<Key, usize>,
+    key: Key,
+    node: Node,
+) -> Result<NodeId, ValueError>
+    requires shared { IsShared graph.old classes.old.items firsts.old }
+    requires below { HasChildrenBelow (length graph.old) node }
+    requires key { key ≡ node_key classes.old.items 0 node }
+    requires absent { get same_key firsts.old key ≡ None }
+    ensures shared { IsShared graph.new classes.new.items firsts.new }
+    ensures first { IfOk result (IsFirst graph.new (point graph.new (node_value node))) }
+    ensures grown { OnOk result (graph.new ≡ graph.old ++ node ∷ []) }
+    ensures err { OnErr result (graph.new ≡ graph.old) }
+{
+    classes.reserve(1)?;
+    let n = graph.push_keyed(node, firsts, key)?;
+    classes.push(n.0 as usize).unwrap();
+    Ok(n)
+}
+
+// The classes of the nodes that agree at every depth, each named for its first node.
+fn stable_classes(alloc: Global, graph: &Graph) -> Result<Vec<usize>, ValueError>
+    ensures classes { IfOk result (λ classes. AreClasses graph.now classes.items) }
+{
+    let start = finite_classes(alloc, graph)?;
+    if graph.len() == 0 {
+        return Ok(start);
+    }
+    let classes = refined(alloc, graph, start, NodeId(0), NodeId(0))?;
+    Ok(classes)
+}
+
+// What tells a node's value: its head, and the classes of its children.
+fn shape(
+    alloc: Global,
+    classes: &[usize],
+    head: Head,
+    children: &[NodeId],
+) -> Result<Key, ValueError>
+    requires within { All (λ child. child.0 < length classes.now) children.now }
+    ensures value { IfOk result (λ key. key ≡ record { head = head; class = 0; children = map (λ child. class_at classes.now child.0) children.now }) }
+{
+    Ok(Key {
+        head,
+        class: 0,
+        children: Places::new(classes_of(alloc, classes, children)?),
+    })
+}
+
+// The first node of each key.
+fn keyed(
+    alloc: Global,
+    graph: &Graph,
+    classes: &[usize],
+) -> Result<IndexMap<Key, usize>, ValueError>
+    requires classes { AreClasses graph.now classes.now }
+    ensures shared { IfOk result (IsShared graph.now classes.now) }
+{
+    let mut firsts = IndexMap::new(alloc);
+    for place in 0..classes.len() {
+        let n = NodeId(place as u64);
+        let key = shape(alloc, classes, graph.head(n), graph.children(n))?;
+        first_with(&mut firsts, key, place)?;
+    }
+    Ok(firsts)
+}

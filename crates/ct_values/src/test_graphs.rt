@@ -1,0 +1,86 @@
+//! Graphs that tests make.
+ghost use Rattle.std.specs.Prelude.{◌<◌, IsTrue, All};
+ghost use Rattle.ct_values.specs.Graph.{HasChildrenBelow};
+
+use crate::{Graph, Node, NodeId, NodeIds, ValueError};
+use ct_sorts::{CtorId, SortId};
+use std::alloc::Global;
+use std::process::Abort;
+
+/// A node that a test makes: a constructor over nodes, or an element of a sort, by its number.
+#[derive(Clone, Copy, Debug)]
+pub(crate) enum Step {
+    Zero(CtorId),
+    One(CtorId, u64),
+    Two(CtorId, u64, u64),
+    Element(u32, u64),
+}
+
+/// The nodes of these numbers.
+pub(crate) fn ids(alloc: Global, numbers: &[u64]) -> Result<NodeIds, ValueError> {
+    let mut ids = Vec::new(alloc);
+    for number in numbers {
+        ids.push(NodeId(*number))?;
+    }
+    Ok(NodeIds::new(ids))
+}
+
+/// The node of a step.
+pub(crate) fn node(alloc: Global, step: Step) -> Result<Node, ValueError> {
+    match step {
+        Step::Zero(c) => Ok(Node::Con(c, ids(alloc, &[])?)),
+        Step::One(c, a) => Ok(Node::Con(c, ids(alloc, &[a])?)),
+        Step::Two(c, a, b) => Ok(Node::Con(c, ids(alloc, &[a, b])?)),
+        Step::Element(s, n) => Ok(Node::Elem(SortId(s), n)),
+    }
+}
+
+/// The nodes of these steps.
+pub(crate) fn nodes(alloc: Global, steps: &[Step]) -> Result<Vec<Node>, ValueError> {
+    let mut nodes = Vec::new(alloc);
+    for step in steps {
+        nodes.push(node(alloc, *step)?)?;
+    }
+    Ok(nodes)
+}
+
+/// Whether the children of the node have numbers below the bound.
+pub(crate) fn has_children_below(node: &Node, bound: u64) -> bool
+    ensures value { IsTrue result → HasChildrenBelow bound node.now }
+{
+    match node {
+        Node::Con(_, children) => are_below(children.as_slice(), bound),
+        Node::Elem(_, _) => true,
+    }
+}
+
+/// Whether the nodes have numbers below the bound.
+pub(crate) fn are_below(children: &[NodeId], bound: u64) -> bool
+    ensures value { IsTrue result → All (λ child. child.0 < bound) children.now }
+{
+    for child in children {
+        if child.0 >= bound {
+            return false;
+        }
+    }
+    true
+}
+
+/// Whether the children of all the nodes have numbers below the bound.
+pub(crate) fn have_children_below(nodes: &[Node], bound: u64) -> bool
+    ensures value { IsTrue result → All (HasChildrenBelow bound) nodes.now }
+{
+    for node in nodes {
+        if !has_children_below(node, bound) {
+            return false;
+        }
+    }
+    true
+}
+
+/// The graph of these steps, numbered in their order.
+pub(crate) fn graph(rt: &impl Abort, alloc: Global, steps: &[Step]) -> Result<Graph, ValueError> {
+    let nodes = nodes(alloc, steps)?;
+    assert!(rt; have_children_below(&nodes, nodes.len() as u64));
+    Ok(Graph::from_nodes(nodes))
+}

@@ -1,0 +1,38 @@
+//! The text of a value.
+ghost use Rattle.std.specs.Prelude.{◌<◌, length, IfOk};
+ghost use Rattle.ct_values.specs.Fitting.{FitsGraph};
+ghost use Rattle.ct_values.specs.ValueText.{IsValueText};
+
+use crate::error::ValueError;
+use crate::graph::Graph;
+use crate::graph_text::graph_text;
+use crate::node::NodeId;
+use crate::smallest::minimise;
+use crate::tree_text::tree_text;
+use ct_sorts::Signature;
+use std::alloc::Global;
+
+/// The text of the value at the root, for printing and for telling values apart: two nodes have one text exactly where
+/// they are the same value.
+///
+/// A finite tree of at most 1,000 nodes, each counted as often as it occurs, is written as a constructor term: `C` for
+/// a constructor without arguments, `(C v ..)` for one with arguments, and `(as @U_3 U)` for the element 3 of the sort
+/// `U`. Any other value, infinite or not, is written as its smallest graph, whose nodes are numbered breadth first from
+/// the root: `(@graph ((@0 node) (@1 node) ..) @0)`, where a node is `C`, `(C @1 ..)` or `(as @U_3 U)`. A name has bars
+/// where it is no symbol or is reserved, as in `(as |@my sort_3| |my sort|)`. The only error is want of memory.
+pub fn value_text(
+    alloc: Global,
+    sig: &Signature,
+    g: &Graph,
+    root: NodeId,
+) -> Result<Vec<u8>, ValueError>
+    requires within { root.0 < length g.now }
+    requires fits { FitsGraph sig.now g.now }
+    ensures text { IfOk result (λ text. IsValueText sig.now g.now root text.items) }
+{
+    let (smallest, first) = minimise(alloc, g, root)?;
+    if let Some(text) = tree_text(alloc, sig, &smallest, first)? {
+        return Ok(text);
+    }
+    graph_text(alloc, sig, &smallest)
+}
