@@ -49,3 +49,13 @@ def seconds(words, want):
     if run.returncode != 0 or run.stdout != want:
         raise Unexpected(f"status {run.returncode}, wrote {run.stdout[:60]!r} where {want!r} is due")
     return after.ru_utime + after.ru_stime - before.ru_utime - before.ru_stime
+
+
+def memory(words):
+    """The most memory that a run of these words had, in MiB, and no less than this program has itself."""
+    run = subprocess.Popen(words, stdout=subprocess.DEVNULL)
+    status, used = os.wait4(run.pid, 0)[1:]
+    run.returncode = os.waitstatus_to_exitcode(status)
+    if run.returncode != 0:
+        raise Unexpected(f"status {run.returncode}")
+    return used.ru_maxrss // 1024

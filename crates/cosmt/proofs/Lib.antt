@@ -4,6 +4,7 @@ pub mod LiteralLemmas
 pub mod Counts
 pub mod SignatureLemmas
 pub mod SessionLemmas
+pub mod WritingLemmas
 pub mod TurnLemmas
 pub mod InputLemmas
 pub mod FaultLemmas

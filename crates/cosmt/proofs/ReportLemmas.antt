@@ -1,7 +1,7 @@
 -- What a run reports is true of its script.
-use Rattle.std.proofs.Common.{◌≡◌, ℕ, ◌≤◌, ◌⊎◌, inl, inr, List, [], ◌∷◌, ◌++◌, length, Option, Some, None, refl, ap, sym, ◌∙◌, subst, arith}
+use Rattle.std.proofs.Common.{◌≡◌, ℕ, ◌≤◌, ◌⊎◌, inl, inr, List, [], ◌∷◌, ◌++◌, length, map, Option, Some, None, refl, ap, sym, ◌∙◌, subst, arith}
 use Rattle.std.proofs.Math.Seq.{take-length}
-use Rattle.ct_io.specs.Bytes.{appended, GrewByFront}
+use Rattle.ct_io.specs.Bytes.{appended, GrewByFront, GrewByPart}
 use Rattle.ct_io.specs.declared.status.Status.{Status}
 use Rattle.ct_io.specs.declared.status.Status.TheVariants as status
 use Rattle.ct_io.specs.declared.sink.SinkError.{SinkError}
@@ -11,12 +11,12 @@ use Rattle.cosmt.specs.declared.verdict.FirstVerdict.{FirstVerdict}
 use Rattle.cosmt.specs.Command.{Command, State, start}
 use Rattle.cosmt.specs.Script.{HasCommands, IsStopped, AreErrors}
 use Rattle.cosmt.specs.Verdict.{AreVerdicts}
-use Rattle.cosmt.specs.Output.{lines_of, error_line, error_lines, text_of}
-use Rattle.cosmt.specs.Progress.{Kept, kept, Answered, Broke}
+use Rattle.cosmt.specs.Output.{line_of, lines_of, error_line, all_lines, text_of, BreaksInLine}
+use Rattle.cosmt.specs.Progress.{Kept, kept, Answered, Broke, BrokeInLine}
 use Rattle.cosmt.specs.Turns.{RanTo}
 use Rattle.cosmt.specs.Refusal.{status_of_error, Refused}
 use Rattle.cosmt.specs.Run.{most_bytes, Answers, AnswersSoFar, BreaksOff, Solves}
-use Rattle.cosmt.proofs.TurnLemmas.{append_nil, appended-twice, front-more}
+use Rattle.cosmt.proofs.WritingLemmas.{append_nil, appended-twice, front_of_part, front-more, text_of_lines, text_of_error, BreaksInLine-one, BreaksInLine-verdicts}
 use Rattle.cosmt.proofs.ScriptLemmas.{Laws, text_front, text_whole, errors_told}
 
 -- a sink's error ends a run with OutputFault where it is a fault, and never with InputFault
@@ -29,7 +29,7 @@ no_input_fault sink.Fault h = cc
 no_input_fault sink.NoMemory h = cc
 
 -- the sink failed while the line of the error was written
-pub Refused-broke : (error : ℕ × ℕ) (e : SinkError) (errors : List (ℕ × ℕ)) (old new : Option (List ℕ)) → errors ≡ error ∷ [] → GrewByFront (error_line error) old new → Refused error (status_of_error e) errors old new
+pub Refused-broke : (error : ℕ × ℕ) (e : SinkError) (errors : List (ℕ × ℕ)) (old new : Option (List ℕ)) → errors ≡ error ∷ [] → GrewByPart (error_line error) old new → Refused error (status_of_error e) errors old new
 Refused-broke error sink.Fault errors old new told grew = (told, grew)
 Refused-broke error sink.NoMemory errors old new told grew = inl (told, grew)
 
@@ -40,10 +40,6 @@ all_written text old new grown = record {
   within = omega arith;
   grown = grown ∙ ap (λ (xs : List ℕ). appended xs old) (sym (take-length text));
 }
-
--- without an error the text is the lines of the verdicts
-text_of_lines : (verdicts : List FirstVerdict) → lines_of verdicts ≡ text_of verdicts []
-text_of_lines verdicts = sym (append_nil (lines_of verdicts))
 
 -- the lines of a whole answer begin with those of the first commands, and so does its text
 lines_begin : (laws : Laws) (bytes : List ℕ) (cs : List Command) (mid : State) (rest : List ℕ) (verdicts : List FirstVerdict) → HasCommands start bytes cs mid rest → AreVerdicts start cs verdicts → (vs : List FirstVerdict) (es : List (ℕ × ℕ)) → Answers bytes vs es → (more : List ℕ) × (text_of vs es ≡ text_of verdicts [] ++ more)
@@ -72,9 +68,14 @@ module _ (laws : Laws) (bytes : List ℕ) (short : length bytes ≤ most_bytes) 
         };
       }
 
-  broke_from : (e : SinkError) (verdicts : List FirstVerdict) (state : State) (old new : Option (List ℕ)) → Broke (kept start [] old) bytes (kept state verdicts new) → Solves bytes (status_of_error e) verdicts [] old new
-  broke_from sink.Fault verdicts state old new broke = breaks_off verdicts state old new broke
-  broke_from sink.NoMemory verdicts state old new broke = inl (breaks_off verdicts state old new broke)
+  -- the sink failed inside the line of the last verdict
+  breaks_in_line : (verdicts : List FirstVerdict) (old new : Option (List ℕ)) → BrokeInLine [] old verdicts new → BreaksInLine (all_lines verdicts []) old new
+  breaks_in_line verdicts old new broke =
+      subst (λ (lines : List (List ℕ)). BreaksInLine lines old new) (ap (map line_of) (sym broke.verdicts) ∙ sym (append_nil (map line_of verdicts))) broke.breaks
+
+  broke_from : (e : SinkError) (verdicts : List FirstVerdict) (state : State) (old new : Option (List ℕ)) → Broke (kept start [] old) bytes (kept state verdicts new) → (e ≡ sink.Fault → BrokeInLine [] old verdicts new) → Solves bytes (status_of_error e) verdicts [] old new
+  broke_from sink.Fault verdicts state old new broke in_line = (breaks_off verdicts state old new broke, breaks_in_line verdicts old new (in_line refl))
+  broke_from sink.NoMemory verdicts state old new broke in_line = inl (breaks_off verdicts state old new broke)
 
 -- every command was answered
 module _ (laws : Laws) (u : Unread) (first : u.line ≡ 1) (short : length u.bytes ≤ most_bytes) (old mid : Option (List ℕ)) (verdicts : List FirstVerdict) (state : State) where
@@ -117,15 +118,16 @@ module _ (laws : Laws) (u : Unread) (first : u.line ≡ 1) (short : length u.byt
       };
     }
 
-    -- the lines of the verdicts were written, and a front of the error's
-    with_error : (error : ℕ × ℕ) (errors : List (ℕ × ℕ)) (new : Option (List ℕ)) → AreErrors u.bytes last.bytes errors → errors ≡ error ∷ [] → GrewByFront (error_line error) mid new → BreaksOff u.bytes verdicts errors old new
-    with_error error errors new told is grew =
-        let line_text : error_line error ≡ error_lines errors = sym (append_nil (error_line error)) ∙ ap error_lines (sym is) in
+    -- the lines of the verdicts were written, and a part of the error's
+    with_error : (error : ℕ × ℕ) (errors : List (ℕ × ℕ)) (new : Option (List ℕ)) → AreErrors u.bytes last.bytes errors → errors ≡ error ∷ [] → GrewByPart (error_line error) mid new → BreaksOff u.bytes verdicts errors old new
+    with_error error errors new told is part =
+        let front = front_of_part (error_line error) mid new part in
+        let text : lines_of verdicts ++ error_line error ≡ text_of verdicts errors = text_of_error verdicts error ∙ ap (text_of verdicts) (sym is) in
         record {
           short = short;
           answers = answers_so_far errors (inr (stopped, told));
           writes = record {
-            written = subst (λ (text : List ℕ). GrewByFront (lines_of verdicts ++ text) old new) line_text (front-more (lines_of verdicts) (error_line error) old mid new lines grew);
+            written = subst (λ (text : List ℕ). GrewByFront text old new) text (front-more (lines_of verdicts) (error_line error) old mid new lines front);
             begins = λ vs es whole. (
               [],
               text_whole laws u.bytes answered.commands state last.bytes verdicts answered.begins are stopped errors told vs es whole ∙ sym (append_nil (text_of verdicts errors)),
@@ -133,15 +135,24 @@ module _ (laws : Laws) (u : Unread) (first : u.line ≡ 1) (short : length u.byt
           };
         }
 
+    -- the line of the error is the last
+    in_error_line : (error : ℕ × ℕ) (errors : List (ℕ × ℕ)) (new : Option (List ℕ)) → errors ≡ error ∷ [] → GrewByPart (error_line error) mid new → BreaksInLine (all_lines verdicts errors) old new
+    in_error_line error errors new is part =
+        subst (λ (es : List (ℕ × ℕ)). BreaksInLine (all_lines verdicts es) old new) (sym is)
+        (BreaksInLine-verdicts verdicts (error_line error ∷ []) old mid new lines (BreaksInLine-one (error_line error) mid new part))
+
     Solves-stopped : (error : ℕ × ℕ) (s : Status) (errors : List (ℕ × ℕ)) (new : Option (List ℕ)) → AreErrors u.bytes last.bytes (error ∷ []) → Refused error s errors mid new → Solves u.bytes s verdicts errors old new
     Solves-stopped error status.Refused errors new told refused = (
       answers errors (subst (AreErrors u.bytes last.bytes) (sym refused.0) told),
       (λ empty. cc),
       refused.1 ∙ ap (appended (error_line error)) lines ∙ appended-twice (lines_of verdicts) (error_line error) old
-          ∙ ap (λ (text : List ℕ). appended (lines_of verdicts ++ text) old) (sym (append_nil (error_line error)))
+          ∙ ap (λ (text : List ℕ). appended text old) (text_of_error verdicts error)
           ∙ ap (λ (es : List (ℕ × ℕ)). appended (text_of verdicts es) old) (sym refused.0),
     )
-    Solves-stopped error status.OutputFault errors new told refused = with_error error errors new (subst (AreErrors u.bytes last.bytes) (sym refused.0) told) refused.0 refused.1
+    Solves-stopped error status.OutputFault errors new told refused = (
+      with_error error errors new (subst (AreErrors u.bytes last.bytes) (sym refused.0) told) refused.0 refused.1,
+      in_error_line error errors new refused.0 refused.1,
+    )
     Solves-stopped error status.NoMemory errors new told (inl refused) = inl (with_error error errors new (subst (AreErrors u.bytes last.bytes) (sym refused.0) told) refused.0 refused.1)
     Solves-stopped error status.NoMemory errors new told (inr refused) =
         inl (subst (λ (es : List (ℕ × ℕ)). BreaksOff u.bytes verdicts es old new) (sym refused.0)
@@ -159,7 +170,7 @@ module _ (laws : Laws) (u : Unread) (first : u.line ≡ 1) (short : length u.byt
         answers ran.last ran.answered ran.leaves.stopped errors told,
         empty,
         lines ran.last ran.answered ran.leaves.stopped
-            ∙ ap (λ (text : List ℕ). appended text old) (sym (append_nil (lines_of verdicts)))
+            ∙ ap (λ (text : List ℕ). appended text old) (text_of_lines verdicts)
             ∙ ap (λ (es : List (ℕ × ℕ)). appended (text_of verdicts es) old) (sym empty),
       )
 
@@ -174,8 +185,10 @@ module _ (laws : Laws) (u : Unread) (short : length u.bytes ≤ most_bytes) (sta
   from_start : (P : Kept → Type 0) → P (kept state verdicts old) → P (kept start [] old)
   from_start P h = subst (λ (s : State). P (kept s [] old)) fresh (subst (λ (vs : List FirstVerdict). P (kept state vs old)) none_yet h)
 
-  pub Solves-broke : (e : SinkError) → Broke (kept state verdicts old) u.bytes (kept state' verdicts' new) → Solves u.bytes (status_of_error e) verdicts' [] old new
-  Solves-broke e broke = broke_from laws u.bytes short e verdicts' state' old new (from_start (λ (first : Kept). Broke first u.bytes (kept state' verdicts' new)) broke)
+  pub Solves-broke : (e : SinkError) → Broke (kept state verdicts old) u.bytes (kept state' verdicts' new) → (e ≡ sink.Fault → BrokeInLine verdicts old verdicts' new) → Solves u.bytes (status_of_error e) verdicts' [] old new
+  Solves-broke e broke in_line =
+      broke_from laws u.bytes short e verdicts' state' old new (from_start (λ (first : Kept). Broke first u.bytes (kept state' verdicts' new)) broke)
+      (λ is. subst (λ (vs : List FirstVerdict). BrokeInLine vs old verdicts' new) none_yet (in_line is))
 
   module _ (first : u.line ≡ 1) where
     pub Solves-done : (errors : List (ℕ × ℕ)) → errors ≡ [] → RanTo u None (kept state verdicts old) (kept state' verdicts' new) → Solves u.bytes status.Done verdicts' errors old new

@@ -1,5 +1,6 @@
 -- A text has one script, and one text of answers.
-use Rattle.std.proofs.Common.{◌≡◌, ℕ, Bool, true, false, List, [], ◌∷◌, ◌++◌, inl, inr, Option, Some, refl, ap, sym, ◌∙◌, subst, arith, append_assoc}
+use Rattle.std.specs.List.{concat}
+use Rattle.std.proofs.Common.{◌≡◌, ℕ, Bool, true, false, List, [], ◌∷◌, ◌++◌, map, inl, inr, Option, Some, refl, ap, sym, ◌∙◌, subst, arith, append_assoc}
 use Rattle.ct_sexpr.specs.Layout.{behind_layout, line_feeds, line_of_rest}
 use Rattle.ct_sexpr.specs.Expression.{Expression}
 use Rattle.ct_sexpr.specs.Reading.{BeginsCommand, HasError, IsLayout, HasNoCommand}
@@ -9,10 +10,11 @@ use Rattle.cosmt.specs.declared.verdict.FirstVerdict.TheVariants.{Sat, Unsat}
 use Rattle.cosmt.specs.Command.{Command, declare, assert, check, State, start, after, written, Takes}
 use Rattle.cosmt.specs.Script.{HasCommands, IsStopped, IsErrorOf, AreErrors}
 use Rattle.cosmt.specs.Verdict.{Satisfies, Contradicts, Meets, AreVerdicts}
-use Rattle.cosmt.specs.Output.{line_of, lines_of, error_lines, text_of}
+use Rattle.cosmt.specs.Output.{line_of, lines_of, error_line, text_of}
 use Rattle.cosmt.specs.Turns.{Took, LeavesOver}
 use Rattle.cosmt.specs.Run.{Answers}
-use Rattle.cosmt.proofs.TurnLemmas.{append_nil, line_feeds-append}
+use Rattle.cosmt.proofs.WritingLemmas.{append_nil, text_split}
+use Rattle.cosmt.proofs.TurnLemmas.{line_feeds-append}
 
 -- two formulas that are written alike are one
 formula_written : (n m : List ℕ) (p q : Bool) → written (assert (record { name = n; positive = p })) ≡ written (assert (record { name = m; positive = q })) → assert (record { name = n; positive = p }) ≡ assert (record { name = m; positive = q })
@@ -128,17 +130,18 @@ module _ (laws : Laws) (bytes : List ℕ) (cs : List Command) (mid : State) (res
   text_front ws errors answers =
       let goes = script_goes_on laws.one_command start mid answers.last bytes rest answers.rest cs answers.commands begins answers.script.begins answers.script.stopped in
       let lines = lines_front start cs goes.0 vs ws are (subst (λ (ds : List Command). AreVerdicts start ds ws) goes.1 answers.verdicts_are) in
-      (lines.0 ++ error_lines errors, ap (λ (xs : List ℕ). xs ++ error_lines errors) lines.1 ∙ append_assoc (lines_of vs) lines.0 (error_lines errors))
+      let told : List ℕ = concat (map error_line errors) in
+      (lines.0 ++ told, text_split ws errors ∙ ap (λ (xs : List ℕ). xs ++ told) lines.1 ∙ append_assoc (lines_of vs) lines.0 told)
 
   -- and where no further command follows they and the errors of what is left over are all its lines
-  pub text_whole : IsStopped mid rest → (es : List (ℕ × ℕ)) → AreErrors bytes rest es → (ws : List FirstVerdict) (errors : List (ℕ × ℕ)) → Answers bytes ws errors → text_of ws errors ≡ lines_of vs ++ error_lines es
+  pub text_whole : IsStopped mid rest → (es : List (ℕ × ℕ)) → AreErrors bytes rest es → (ws : List FirstVerdict) (errors : List (ℕ × ℕ)) → Answers bytes ws errors → text_of ws errors ≡ text_of vs es
   text_whole stopped es told ws errors answers =
       let goes = script_goes_on laws.one_command start mid answers.last bytes rest answers.rest cs answers.commands begins answers.script.begins answers.script.stopped in
       let stop = stops_there mid answers.last rest answers.rest goes.0 stopped goes.2 in
       let lines = lines_front start cs goes.0 vs ws are (subst (λ (ds : List Command). AreVerdicts start ds ws) goes.1 answers.verdicts_are) in
       let same : lines_of ws ≡ lines_of vs = lines.1 ∙ ap (λ (xs : List ℕ). lines_of vs ++ xs) (lines.2 stop.0) ∙ append_nil (lines_of vs) in
       let errors_same : errors ≡ es = one_list laws bytes rest es errors told (subst (λ (r : List ℕ). AreErrors bytes r errors) (sym stop.1) answers.errors_are) in
-      ap (λ (xs : List ℕ). xs ++ error_lines errors) same ∙ ap (λ (xs : List (ℕ × ℕ)). lines_of vs ++ error_lines xs) errors_same
+      text_split ws errors ∙ ap (λ (xs : List ℕ). xs ++ concat (map error_line errors)) same ∙ sym (text_split vs errors) ∙ ap (λ (xs : List (ℕ × ℕ)). text_of vs xs) errors_same
 
 -- the line of a place is counted from the beginning of the text
 line_from_start : (u last : Unread) (place front : List ℕ) (line : ℕ) → u.line ≡ 1 → Took u last → last.bytes ≡ front ++ place → line ≡ line_of_rest last.line last.bytes place → line ≡ line_of_rest 1 u.bytes place

@@ -2,11 +2,10 @@
 use Rattle.std.proofs.Common.{◌≡◌, ℕ, zero, suc, ◌+◌, ◌*◌, ◌<◌, ◌≤◌, inl, inr, Bool, true, false, List, [], ◌∷◌, ◌++◌, length, map, Option, Some, None, slice_get, unwrap_or, refl, ap, sym, ◌∙◌, subst, arith, length-append}
 use Rattle.std.proofs.lemmas.List.{length-map, map-append}
 use Rattle.ct_sorts.specs.declared.ids.SortId.{SortId}
-use Rattle.ct_sorts.specs.Declarations.{Declarations, Function, names, bool_sort, with_function}
+use Rattle.ct_sorts.specs.Declarations.{Declarations, Function, function_names, bool_sort, with_function}
 use Rattle.ct_sorts.specs.Lookup.{AreDistinct}
 use Rattle.ct_terms.specs.declared.ids.TermId.{TermId}
 use Rattle.ct_terms.specs.declared.ids.Lit.{Lit}
-use Rattle.ct_terms.specs.declared.term.Core.{Core}
 use Rattle.ct_terms.specs.declared.term.Core.TheVariants.{Apply, Not}
 use Rattle.ct_terms.specs.Table.{Table, AreSorted, StandsSorted}
 use Rattle.cosmt.specs.declared.session.Constant.{Constant}
@@ -47,12 +46,12 @@ row_of d table constants literals kept l over =
     ap (λ (t : TermId). slice_get table t.0) (sym over.is) ∙ (kept.terms over.number over.constant over.there).atom
 
 -- a literal's constant is declared, and its name is that of the formula
-name_of : (d : Declarations) (table : Table) (constants : List Constant) (literals : List Lit) → IsKept d table constants literals → (l : Lit) → (over : IsOverConstant constants l) → slice_get (names d) over.number ≡ Some (formula_of (names d) table l).name
+name_of : (d : Declarations) (table : Table) (constants : List Constant) (literals : List Lit) → IsKept d table constants literals → (l : Lit) → (over : IsOverConstant constants l) → slice_get (function_names d) over.number ≡ Some (formula_of (function_names d) table l).name
 name_of d table constants literals kept l over =
-    let inside : over.number < length (names d) = omega (arith, slice_get-inside constants over.number over.constant over.there, kept.few, length-map d.functions (λ (f : Function). f.name)) in
-    let there = slice_get-below (names d) over.number inside in
+    let inside : over.number < length (function_names d) = omega (arith, slice_get-inside constants over.number over.constant over.there, kept.few, length-map d.functions (λ (f : Function). f.name)) in
+    let there = slice_get-below (function_names d) over.number inside in
     let number : constant_of (slice_get table l.term.0) ≡ over.number = ap constant_of (row_of d table constants literals kept l over) in
-    let name : (formula_of (names d) table l).name ≡ there.0 = ap (λ (n : ℕ). unwrap_or (slice_get (names d) n) []) number ∙ ap (λ (o : Option (List ℕ)). unwrap_or o []) there.1 in
+    let name : (formula_of (function_names d) table l).name ≡ there.0 = ap (λ (n : ℕ). unwrap_or (slice_get (function_names d) n) []) number ∙ ap (λ (o : Option (List ℕ)). unwrap_or o []) there.1 in
     there.1 ∙ ap (λ (n : List ℕ). Some n) (sym name)
 
 -- where no conflict is told there are no opposite literals
@@ -61,15 +60,15 @@ none_apart literals None apart none = apart
 none_apart literals (Some p) opposes none = absurd (none p refl)
 
 -- two opposite literals are an assertion and its negation
-pub Contradicts-opposes : (d : Declarations) (table : Table) (literals : List Lit) (i j : ℕ) → Opposes literals i j → Contradicts (state_of (names d) table literals) i j
+pub Contradicts-opposes : (d : Declarations) (table : Table) (literals : List Lit) (i j : ℕ) → Opposes literals i j → Contradicts (state_of (function_names d) table literals) i j
 Contradicts-opposes d table literals i j opposes = record {
-  name = (formula_of (names d) table (literal opposes.term true)).name;
-  bare = slice_get-map_at (formula_of (names d) table) literals i _ opposes.bare;
-  negated = slice_get-map_at (formula_of (names d) table) literals j _ opposes.negated;
+  name = (formula_of (function_names d) table (literal opposes.term true)).name;
+  bare = slice_get-map_at (formula_of (function_names d) table) literals i _ opposes.bare;
+  negated = slice_get-map_at (formula_of (function_names d) table) literals j _ opposes.negated;
 }
 
 -- without opposite literals, the constants that are asserted bare are those that are true
-module _ (d : Declarations) (table : Table) (constants : List Constant) (literals : List Lit) (values : List Bool) (kept : IsKept d table constants literals) (distinct : AreDistinct (names d)) (whole : length constants ≡ length d.functions) (apart : HasNoOpposites literals) (are : AreValues literals constants values) where
+module _ (d : Declarations) (table : Table) (constants : List Constant) (literals : List Lit) (values : List Bool) (kept : IsKept d table constants literals) (distinct : AreDistinct (function_names d)) (whole : length constants ≡ length d.functions) (apart : HasNoOpposites literals) (are : AreValues literals constants values) where
   value_at : (place : ℕ) (l : Lit) (sign : Bool) → l.positive ≡ sign → slice_get literals place ≡ Some l → (over : IsOverConstant constants l) → slice_get values over.number ≡ Some sign
   value_at place l true sign at over =
       let is : l ≡ literal over.constant.atom.0 true = ap (literal l.term.0) sign ∙ ap (λ (t : TermId). literal t.0 true) (sym over.is) in
@@ -78,7 +77,7 @@ module _ (d : Declarations) (table : Table) (constants : List Constant) (literal
       let is : l ≡ literal over.constant.atom.0 false = ap (literal l.term.0) sign ∙ ap (λ (t : TermId). literal t.0 false) (sym over.is) in
       are.false_where over.number over.constant over.there (λ asserted. apart asserted.0 place over.constant.atom.0 asserted.1 (at ∙ ap (λ (m : Lit). Some m) is))
 
-  true_under : (place : ℕ) (l : Lit) → slice_get literals place ≡ Some l → IsTrueUnder (names d) values (formula_of (names d) table l)
+  true_under : (place : ℕ) (l : Lit) → slice_get literals place ≡ Some l → IsTrueUnder (function_names d) values (formula_of (function_names d) table l)
   true_under place l at =
       let over = kept.over place l at in
       let name = name_of d table constants literals kept l over in
@@ -87,12 +86,12 @@ module _ (d : Declarations) (table : Table) (constants : List Constant) (literal
         value = λ other there. ap (slice_get values) (distinct other over.number _ there name) ∙ value_at place l l.positive refl at over;
       }
 
-  pub Satisfies-values : Satisfies (state_of (names d) table literals) values
+  pub Satisfies-values : Satisfies (state_of (function_names d) table literals) values
   Satisfies-values = record {
     each = are.each ∙ whole ∙ sym (length-map d.functions (λ (f : Function). f.name));
     holds = λ place formula at.
-        let there = slice_get-map_back (formula_of (names d) table) literals place formula at in
-        subst (IsTrueUnder (names d) values) there.2 (true_under place there.0 there.1);
+        let there = slice_get-map_back (formula_of (function_names d) table) literals place formula at in
+        subst (IsTrueUnder (function_names d) values) there.2 (true_under place there.0 there.1);
   }
 
 -- the terms of a constant stay in a table that grows
@@ -141,21 +140,21 @@ module _ (d : Declarations) (table table' : Table) (constants : List Constant) (
     };
   }
 
-  formula_stays : (i : ℕ) (l : Lit) → slice_get literals i ≡ Some l → formula_of (names (with_function d f)) table' l ≡ formula_of (names d) table l
+  formula_stays : (i : ℕ) (l : Lit) → slice_get literals i ≡ Some l → formula_of (function_names (with_function d f)) table' l ≡ formula_of (function_names d) table l
   formula_stays i l at =
       let over = kept.over i l at in
       let before = name_of d table constants literals kept l over in
       let after = name_of (with_function d f) table' constants literals IsKept-declared l over in
-      let stays : slice_get (names (with_function d f)) over.number ≡ Some (formula_of (names d) table l).name =
-      ap (λ (ns : List (List ℕ)). slice_get ns over.number) (map-append (λ (g : Function). g.name) d.functions (f ∷ [])) ∙ slice_get-append (names d) (f.name ∷ []) over.number _ before in
-      let same : Some (formula_of (names (with_function d f)) table' l).name ≡ Some (formula_of (names d) table l).name = sym after ∙ stays in
-      let name : (formula_of (names (with_function d f)) table' l).name ≡ (formula_of (names d) table l).name = cc in
+      let stays : slice_get (function_names (with_function d f)) over.number ≡ Some (formula_of (function_names d) table l).name =
+      ap (λ (ns : List (List ℕ)). slice_get ns over.number) (map-append (λ (g : Function). g.name) d.functions (f ∷ [])) ∙ slice_get-append (function_names d) (f.name ∷ []) over.number _ before in
+      let same : Some (formula_of (function_names (with_function d f)) table' l).name ≡ Some (formula_of (function_names d) table l).name = sym after ∙ stays in
+      let name : (formula_of (function_names (with_function d f)) table' l).name ≡ (formula_of (function_names d) table l).name = cc in
       ap (λ (n : List ℕ). record { name = n; positive = l.positive }) name
 
-  pub state-declared : state_of (names (with_function d f)) table' literals ≡ record { declared = names d ++ f.name ∷ []; asserted = map (formula_of (names d) table) literals }
+  pub state-declared : state_of (function_names (with_function d f)) table' literals ≡ record { declared = function_names d ++ f.name ∷ []; asserted = map (formula_of (function_names d) table) literals }
   state-declared =
-      ap (λ (ns : List (List ℕ)). record { declared = ns; asserted = map (formula_of (names (with_function d f)) table') literals }) (map-append (λ (g : Function). g.name) d.functions (f ∷ []))
-      ∙ ap (λ (fs : List Formula). record { declared = names d ++ f.name ∷ []; asserted = fs }) (map-same _ _ literals formula_stays)
+      ap (λ (ns : List (List ℕ)). record { declared = ns; asserted = map (formula_of (function_names (with_function d f)) table') literals }) (map-append (λ (g : Function). g.name) d.functions (f ∷ []))
+      ∙ ap (λ (fs : List Formula). record { declared = function_names d ++ f.name ∷ []; asserted = fs }) (map-same _ _ literals formula_stays)
 
 -- a literal over a constant was added
 pub IsKept-asserted : (d : Declarations) (table : Table) (constants : List Constant) (literals : List Lit) (l : Lit) → IsKept d table constants literals → IsOverConstant constants l → IsKept d table constants (literals ++ l ∷ [])
@@ -172,13 +171,13 @@ IsKept-asserted d table constants literals l kept over = record {
 }
 
 -- and its formula is asserted
-pub state-asserted : (d : Declarations) (table : Table) (constants : List Constant) (literals : List Lit) (l : Lit) (name : List ℕ) → IsKept d table constants literals → (over : IsOverConstant constants l) → slice_get (names d) over.number ≡ Some name → state_of (names d) table (literals ++ l ∷ []) ≡ record { declared = names d; asserted = map (formula_of (names d) table) literals ++ record { name = name; positive = l.positive } ∷ [] }
+pub state-asserted : (d : Declarations) (table : Table) (constants : List Constant) (literals : List Lit) (l : Lit) (name : List ℕ) → IsKept d table constants literals → (over : IsOverConstant constants l) → slice_get (function_names d) over.number ≡ Some name → state_of (function_names d) table (literals ++ l ∷ []) ≡ record { declared = function_names d; asserted = map (formula_of (function_names d) table) literals ++ record { name = name; positive = l.positive } ∷ [] }
 state-asserted d table constants literals l name kept over named =
-    let same : Some (formula_of (names d) table l).name ≡ Some name = sym (name_of d table constants literals kept l over) ∙ named in
-    let is : (formula_of (names d) table l).name ≡ name = cc in
-    ap (λ (fs : List Formula). record { declared = names d; asserted = fs })
-    (map-append (formula_of (names d) table) literals (l ∷ [])
-    ∙ ap (λ (n : List ℕ). map (formula_of (names d) table) literals ++ record { name = n; positive = l.positive } ∷ []) is)
+    let same : Some (formula_of (function_names d) table l).name ≡ Some name = sym (name_of d table constants literals kept l over) ∙ named in
+    let is : (formula_of (function_names d) table l).name ≡ name = cc in
+    ap (λ (fs : List Formula). record { declared = function_names d; asserted = fs })
+    (map-append (formula_of (function_names d) table) literals (l ∷ [])
+    ∙ ap (λ (n : List ℕ). map (formula_of (function_names d) table) literals ++ record { name = n; positive = l.positive } ∷ []) is)
 
 -- a constant that is made stands in the table with the sort Bool
 pub constant_row : (d : Declarations) (table : Table) (f : ℕ) (args : List TermId) (t : ℕ) → IsConstant d f → args ≡ [] → StandsSorted d table (Apply (record { 0 = f }) args) t → slice_get table t ≡ Some (Apply (record { 0 = f }) [], bool_sort)

@@ -1,8 +1,8 @@
 -- Turns: what one command does to what a run has kept, and how turns join.
-use Rattle.std.proofs.Common.{◌≡◌, ℕ, ◌+◌, ◌<◌, ◌⊎◌, inl, inr, true, List, [], ◌∷◌, ◌++◌, length, take, Result, Ok, Err, OnErr, Option, Some, None, refl, ap, sym, ◌∙◌, subst, arith, append_assoc, length-append}
-use Rattle.std.proofs.Math.Seq.{take-append-add}
+use Rattle.std.proofs.Common.{◌≡◌, ℕ, ◌+◌, ◌<◌, ◌⊎◌, inl, inr, true, List, [], ◌∷◌, ◌++◌, length, map, Result, Ok, Err, OnErr, Option, refl, ap, sym, ◌∙◌, subst, arith, append_assoc, length-append}
+use Rattle.std.proofs.lemmas.List.{map-append}
 use Rattle.std.proofs.lemmas.Grind.{flat_map-append, common_steps}
-use Rattle.ct_io.specs.Bytes.{appended, GrewByFront}
+use Rattle.ct_io.specs.Bytes.{appended, GrewByFront, GrewByPart}
 use Rattle.ct_sexpr.specs.Layout.{line_feeds}
 use Rattle.ct_sexpr.specs.Expression.{Expression}
 use Rattle.ct_sexpr.specs.Reading.{BeginsCommand, HasError}
@@ -12,23 +12,10 @@ use Rattle.cosmt.specs.declared.verdict.FirstVerdict.{FirstVerdict}
 use Rattle.cosmt.specs.Command.{Command, declare, assert, check, State, after, written}
 use Rattle.cosmt.specs.Script.{HasCommands, form_not_built}
 use Rattle.cosmt.specs.Verdict.{AreVerdicts}
-use Rattle.cosmt.specs.Output.{line_of, lines_of}
-use Rattle.cosmt.specs.Progress.{Kept, Answered, Broke, AnsweredOne, DeclinedOne, BrokeBefore, BrokeAfter}
+use Rattle.cosmt.specs.Output.{line_of, lines_of, BreaksInLine}
+use Rattle.cosmt.specs.Progress.{Kept, Answered, Broke, AnsweredOne, DeclinedOne, BrokeBefore, BrokeAfter, BrokeInLine}
 use Rattle.cosmt.specs.Turns.{Took, LeavesOver, LeavesNothing}
-
-pub append_nil : {X : Type 0} (xs : List X) → xs ++ [] ≡ xs
-append_nil [] = refl
-append_nil (x ∷ xs) = ap (λ ys. x ∷ ys) (append_nil xs)
-
--- nothing was appended
-pub appended-nothing : (o : Option (List ℕ)) → appended [] o ≡ o
-appended-nothing None = refl
-appended-nothing (Some bytes) = ap (λ (b : List ℕ). Some b) (append_nil bytes)
-
--- two pieces one after the other are one piece
-pub appended-twice : (xs ys : List ℕ) (o : Option (List ℕ)) → appended ys (appended xs o) ≡ appended (xs ++ ys) o
-appended-twice xs ys None = refl
-appended-twice xs ys (Some bytes) = ap (λ (b : List ℕ). Some b) (append_assoc bytes xs ys)
+use Rattle.cosmt.proofs.WritingLemmas.{append_nil, appended-nothing, appended-twice, front_of_part, front-more, BreaksInLine-one, BreaksInLine-verdicts}
 
 -- something broke in a turn
 pub Broke-turn : (old new : Kept) (u v : Unread) (e : Expression) (line : ℕ) → Gives u v e line → (BrokeBefore old new ⊎ BrokeAfter old e new) → Broke old u.bytes new
@@ -50,7 +37,7 @@ Broke-turn old new u v e line gives (inr broke) = record {
   added = broke.added;
   are = broke.are;
   verdicts = broke.verdicts;
-  front = broke.front;
+  front = front_of_part (lines_of broke.added) old.written new.written broke.part;
 }
 
 -- nothing was done when memory ran out
@@ -162,15 +149,6 @@ Answered-more old mid new bytes rest end first second = record {
   written = second.written ∙ ap (appended (lines_of second.added)) first.written ∙ appended-twice (lines_of first.added) (lines_of second.added) old.written ∙ ap (λ (text : List ℕ). appended text old.written) (sym (lines-append first.added second.added));
 }
 
--- a front of the second of two pieces is a front of both
-pub front-more : (first second : List ℕ) (old mid new : Option (List ℕ)) → mid ≡ appended first old → GrewByFront second mid new → GrewByFront (first ++ second) old new
-front-more first second old mid new begun front = record {
-  count = length first + front.count;
-  within = omega (arith, front.within, length-append first second);
-  grown = front.grown ∙ ap (appended (take front.count second)) begun ∙ appended-twice first (take front.count second) old
-      ∙ ap (λ (text : List ℕ). appended text old) (sym (take-append-add first second front.count));
-}
-
 -- commands were answered, and then something broke
 pub Broke-later : (old mid new : Kept) (bytes rest : List ℕ) → Answered old bytes mid rest → Broke mid rest new → Broke old bytes new
 Broke-later old mid new bytes rest first broke = record {
@@ -182,6 +160,23 @@ Broke-later old mid new bytes rest first broke = record {
   are = AreVerdicts-append old.state mid.state bytes rest first.commands broke.commands first.added broke.added first.begins first.are broke.are;
   verdicts = broke.verdicts ∙ ap (λ (vs : List FirstVerdict). vs ++ broke.added) first.verdicts ∙ append_assoc old.verdicts first.added broke.added;
   front = subst (λ (text : List ℕ). GrewByFront text old.written new.written) (sym (lines-append first.added broke.added)) (front-more (lines_of first.added) (lines_of broke.added) old.written mid.written new.written first.written broke.front);
+}
+
+-- a verdict was kept, and the sink failed inside its line
+pub broke_in_its_line : (verdict : FirstVerdict) (old new : List FirstVerdict) (before now : Option (List ℕ)) → new ≡ old ++ verdict ∷ [] → GrewByPart (line_of verdict) before now → BrokeInLine old before new now
+broke_in_its_line verdict old new before now kept_it part = record {
+  added = verdict ∷ [];
+  verdicts = kept_it;
+  breaks = BreaksInLine-one (line_of verdict) before now part;
+}
+
+-- commands were answered, and then the sink failed inside a line
+pub BrokeInLine-later : (old mid : Kept) (bytes rest : List ℕ) (verdicts : List FirstVerdict) (now : Option (List ℕ)) → Answered old bytes mid rest → BrokeInLine mid.verdicts mid.written verdicts now → BrokeInLine old.verdicts old.written verdicts now
+BrokeInLine-later old mid bytes rest verdicts now first broke = record {
+  added = first.added ++ broke.added;
+  verdicts = broke.verdicts ∙ ap (λ (vs : List FirstVerdict). vs ++ broke.added) first.verdicts ∙ append_assoc old.verdicts first.added broke.added;
+  breaks = subst (λ (lines : List (List ℕ)). BreaksInLine lines old.written now) (sym (map-append line_of first.added broke.added))
+      (BreaksInLine-verdicts first.added (map line_of broke.added) old.written mid.written now first.written broke.breaks);
 }
 
 -- line feeds of two texts

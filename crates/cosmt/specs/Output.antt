@@ -1,7 +1,8 @@
 -- The bytes that are written.
-use Rattle.std.specs.Prelude.{ℕ, List, ◌++◌, codes}
-use Rattle.std.specs.List.{flat_map}
+use Rattle.std.specs.Prelude.{◌≡◌, ℕ, List, [], ◌∷◌, ◌++◌, map, Option, codes}
+use Rattle.std.specs.List.{concat, flat_map}
 use Rattle.std.specs.Fmt.{decimal}
+use Rattle.ct_io.specs.Bytes.{appended, GrewByPart}
 use Rattle.ct_words.specs.Errors.{error_text}
 use Rattle.cosmt.specs.declared.verdict.FirstVerdict.{FirstVerdict}
 use Rattle.cosmt.specs.declared.verdict.FirstVerdict.TheVariants.{Sat, Unsat}
@@ -23,13 +24,20 @@ error_head e = codes "(error \"line " ++ (decimal e.0 ++ (codes ": [E" ++ (decim
 abbrev pub error_line : ℕ × ℕ → List ℕ
 error_line e = error_head e ++ (error_text e.1 ++ codes "\")\n")
 
--- the lines of the errors
-abbrev pub error_lines : List (ℕ × ℕ) → List ℕ
-error_lines errors = flat_map error_line errors
+-- the lines that a run writes, in order: one for each verdict, and then one for each error
+abbrev pub all_lines : List FirstVerdict → List (ℕ × ℕ) → List (List ℕ)
+all_lines verdicts errors = map line_of verdicts ++ map error_line errors
 
--- what a run writes: the verdicts, and then the error where there is one
+-- what a run writes: its lines, one after another
 abbrev pub text_of : List FirstVerdict → List (ℕ × ℕ) → List ℕ
-text_of verdicts errors = lines_of verdicts ++ error_lines errors
+text_of verdicts errors = concat (all_lines verdicts errors)
+
+-- the lines before the last one were written whole, and the last one in part
+pub record BreaksInLine (lines : List (List ℕ)) (old new : Option (List ℕ)) : Type 0 where
+  pub before : List (List ℕ)
+  pub last : List ℕ
+  pub all : lines ≡ before ++ last ∷ []
+  pub part : GrewByPart last (appended (concat before) old) new
 
 -- the one line that tells how the program is called
 abbrev pub usage_line : List ℕ

@@ -1,11 +1,11 @@
 -- How far a run has come.
-use Rattle.std.specs.Prelude.{◌≡◌, ℕ, List, [], ◌∷◌, ◌++◌, Option}
-use Rattle.ct_io.specs.Bytes.{appended, GrewByFront}
+use Rattle.std.specs.Prelude.{◌≡◌, ℕ, List, [], ◌∷◌, ◌++◌, map, Option}
+use Rattle.ct_io.specs.Bytes.{appended, GrewByFront, GrewByPart}
 use Rattle.ct_sexpr.specs.Expression.{Expression}
 use Rattle.cosmt.specs.Command.{Command, State, Fits, after, written}
 use Rattle.cosmt.specs.Script.{HasCommands}
 use Rattle.cosmt.specs.Verdict.{Meets, AreVerdicts}
-use Rattle.cosmt.specs.Output.{line_of, lines_of}
+use Rattle.cosmt.specs.Output.{line_of, lines_of, BreaksInLine}
 use Rattle.cosmt.specs.declared.verdict.FirstVerdict.{FirstVerdict}
 
 -- what a run has kept and written: its state, its verdicts, and the bytes of its sink
@@ -58,7 +58,7 @@ pub record BrokeBefore (old new : Kept) : Type 0 where
   pub verdicts : new.verdicts ≡ old.verdicts
   pub written : new.written ≡ old.written
 
--- something broke after the expression was answered, and a front of the answer was written
+-- something broke after the expression was answered, and a part of the answer was written
 pub record BrokeAfter (old : Kept) (expression : Expression) (new : Kept) : Type 0 where
   pub command : Command
   pub is : expression ≡ written command
@@ -66,14 +66,14 @@ pub record BrokeAfter (old : Kept) (expression : Expression) (new : Kept) : Type
   pub added : List FirstVerdict
   pub are : AreVerdicts old.state (command ∷ []) added
   pub verdicts : new.verdicts ≡ old.verdicts ++ added
-  pub front : GrewByFront (lines_of added) old.written new.written
+  pub part : GrewByPart (lines_of added) old.written new.written
 
--- something broke while a check was answered, and a front of the answer was written
+-- something broke while a check was answered, and a part of the answer was written
 pub record BrokeCheck (old new : Kept) : Type 0 where
   pub verdict : FirstVerdict
   pub meets : Meets old.state verdict
   pub verdicts : new.verdicts ≡ old.verdicts ++ verdict ∷ []
-  pub front : GrewByFront (line_of verdict) old.written new.written
+  pub part : GrewByPart (line_of verdict) old.written new.written
 
 -- a check was answered
 pub record Checked (old new : Kept) : Type 0 where
@@ -81,3 +81,9 @@ pub record Checked (old new : Kept) : Type 0 where
   pub meets : Meets old.state verdict
   pub verdicts : new.verdicts ≡ old.verdicts ++ verdict ∷ []
   pub written : new.written ≡ appended (line_of verdict) old.written
+
+-- verdicts were kept, and the sink failed inside the line of the last of them
+pub record BrokeInLine (old : List FirstVerdict) (before : Option (List ℕ)) (new : List FirstVerdict) (now : Option (List ℕ)) : Type 0 where
+  pub added : List FirstVerdict
+  pub verdicts : new ≡ old ++ added
+  pub breaks : BreaksInLine (map line_of added) before now

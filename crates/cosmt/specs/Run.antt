@@ -1,12 +1,12 @@
 -- What a run of the program does, by the status with which it ends.
 use Rattle.std.specs.Prelude.{◌≡◌, ◌≢◌, ℕ, ◌≤◌, ◌<◌, ◌⊎◌, List, [], ◌∷◌, ◌++◌, length, Option, Some, slice_get}
-use Rattle.ct_io.specs.Bytes.{appended, GrewByFront}
+use Rattle.ct_io.specs.Bytes.{appended, GrewByFront, GrewByPart}
 use Rattle.ct_io.specs.declared.status.Status.{Status}
 use Rattle.ct_io.specs.declared.status.Status.TheVariants.{Done, Refused, Usage, InputFault, OutputFault, NoMemory, Rejected, TooLong}
 use Rattle.cosmt.specs.Command.{Command, State, start}
 use Rattle.cosmt.specs.Script.{HasCommands, IsScript, IsStopped, AreErrors}
 use Rattle.cosmt.specs.Verdict.{AreVerdicts}
-use Rattle.cosmt.specs.Output.{text_of, usage_line}
+use Rattle.cosmt.specs.Output.{all_lines, text_of, BreaksInLine, usage_line}
 use Rattle.cosmt.specs.declared.verdict.FirstVerdict.{FirstVerdict}
 
 -- the greatest number of bytes that a slot may hold
@@ -58,33 +58,22 @@ abbrev pub DoesNothing : List FirstVerdict → List (ℕ × ℕ) → Option (Lis
 DoesNothing verdicts errors old new = (verdicts ≡ []) × (errors ≡ []) × (new ≡ old)
 
 -- a run over a slot that holds these bytes, by its status, its verdicts and errors, and the bytes of the sink
--- before and after it
+-- before and after it; after a fault of the sink it broke off inside the last line of what is reported
 abbrev pub Solves : List ℕ → Status → List FirstVerdict → List (ℕ × ℕ) → Option (List ℕ) → Option (List ℕ) → Type 0
 Solves bytes Done verdicts errors old new = Answers bytes verdicts errors × (errors ≡ []) × (new ≡ appended (text_of verdicts errors) old)
 Solves bytes Refused verdicts errors old new = Answers bytes verdicts errors × (errors ≢ []) × (new ≡ appended (text_of verdicts errors) old)
 Solves bytes TooLong verdicts errors old new = (most_bytes < length bytes) × DoesNothing verdicts errors old new
 Solves bytes InputFault verdicts errors old new = DoesNothing verdicts errors old new
-Solves bytes OutputFault verdicts errors old new = BreaksOff bytes verdicts errors old new
+Solves bytes OutputFault verdicts errors old new = BreaksOff bytes verdicts errors old new × BreaksInLine (all_lines verdicts errors) old new
 Solves bytes NoMemory verdicts errors old new = BreaksOff bytes verdicts errors old new ⊎ DoesNothing verdicts errors old new
 Solves bytes Usage verdicts errors old new = ⊥
 Solves bytes Rejected verdicts errors old new = ⊥
 
--- the script was answered to its end
-abbrev pub IsWhole : Status → Type 0
-IsWhole Done = Unit {0}
-IsWhole Refused = Unit {0}
-IsWhole Usage = ⊥
-IsWhole InputFault = ⊥
-IsWhole OutputFault = ⊥
-IsWhole NoMemory = ⊥
-IsWhole Rejected = ⊥
-IsWhole TooLong = ⊥
-
--- a run with words that have none of the forms: the usage line is written, or a front of it
+-- a run with words that have none of the forms: the usage line is written, or a part of it
 abbrev pub TellsUsage : Status → List FirstVerdict → List (ℕ × ℕ) → Option (List ℕ) → Option (List ℕ) → Type 0
 TellsUsage Usage verdicts errors old new = (verdicts ≡ []) × (errors ≡ []) × (new ≡ appended usage_line old)
-TellsUsage OutputFault verdicts errors old new = (verdicts ≡ []) × (errors ≡ []) × GrewByFront usage_line old new
-TellsUsage NoMemory verdicts errors old new = (verdicts ≡ []) × (errors ≡ []) × GrewByFront usage_line old new
+TellsUsage OutputFault verdicts errors old new = (verdicts ≡ []) × (errors ≡ []) × GrewByPart usage_line old new
+TellsUsage NoMemory verdicts errors old new = (verdicts ≡ []) × (errors ≡ []) × GrewByPart usage_line old new
 TellsUsage Done verdicts errors old new = ⊥
 TellsUsage Refused verdicts errors old new = ⊥
 TellsUsage InputFault verdicts errors old new = ⊥

@@ -1,11 +1,11 @@
 //! Commands are answered one after another.
 
-ghost use Rattle.std.specs.Prelude.{◌≡◌, ◌⊎◌, IfOk, OnOk, OnErr};
+ghost use Rattle.std.specs.Prelude.{◌≡◌, ◌⊎◌, IfOk, OnOk, OnErr, IsErrOf};
 ghost use Rattle.std.specs.Bool.{MatchBool};
 ghost use Rattle.ct_io.specs.Fault.{HasCause};
 ghost use Rattle.ct_sexpr.specs.View.{expression_of};
 ghost use Rattle.cosmt.specs.Output.{line_of};
-ghost use Rattle.cosmt.specs.Progress.{kept, AnsweredOne, DeclinedOne, BrokeBefore, BrokeAfter, BrokeCheck, Checked};
+ghost use Rattle.cosmt.specs.Progress.{kept, AnsweredOne, DeclinedOne, BrokeBefore, BrokeAfter, BrokeCheck, BrokeInLine, Checked};
 
 use crate::command::{FirstCommand, first_command};
 use crate::session::Session;
@@ -28,6 +28,8 @@ pub fn answer<K: Sink>(
     ensures broke { OnErr result
         (BrokeBefore (kept session.old verdicts.old.items (K.written out.old)) (kept session.new verdicts.new.items (K.written out.new))
         ⊎ BrokeAfter (kept session.old verdicts.old.items (K.written out.old)) (expression_of expr.now) (kept session.new verdicts.new.items (K.written out.new))) }
+    ensures fault { IsErrOf result SinkError.Fault
+        → BrokeInLine verdicts.old.items (K.written out.old) verdicts.new.items (K.written out.new) }
     ensures cause { HasCause SinkError.Fault (K.faults out.old) (K.faults out.new) result }
 {
     let Some(command) = first_command(expr) else {
@@ -43,6 +45,7 @@ pub fn answer<K: Sink>(
 }
 
 /// Keeps a verdict on the assertions in force, and writes its line.
+#[tactic(auto, using(crate::proofs::TurnLemmas::broke_in_its_line))]
 fn check<K: Sink>(
     alloc: Global,
     session: &Session,
@@ -54,6 +57,8 @@ fn check<K: Sink>(
     ensures broke { OnErr result
         (BrokeBefore (kept session.now verdicts.old.items (K.written out.old)) (kept session.now verdicts.new.items (K.written out.new))
         ⊎ BrokeCheck (kept session.now verdicts.old.items (K.written out.old)) (kept session.now verdicts.new.items (K.written out.new))) }
+    ensures fault { IsErrOf result SinkError.Fault
+        → BrokeInLine verdicts.old.items (K.written out.old) verdicts.new.items (K.written out.new) }
     ensures cause { HasCause SinkError.Fault (K.faults out.old) (K.faults out.new) result }
 {
     let verdict = session.check(alloc)?;

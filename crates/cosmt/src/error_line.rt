@@ -1,7 +1,7 @@
 //! The lines of errors.
 
 ghost use Rattle.std.specs.Prelude.{◌≡◌, string_bytes, IfOk, OnOk, OnErr};
-ghost use Rattle.ct_io.specs.Bytes.{appended, GrewByFront};
+ghost use Rattle.ct_io.specs.Bytes.{appended, GrewByPart};
 ghost use Rattle.ct_io.specs.Fault.{HasCause};
 ghost use Rattle.cosmt.specs.Output.{error_head, error_line};
 
@@ -10,10 +10,10 @@ use ct_io::{Sink, SinkError, write_all};
 use ct_words::{error_text, error_texts};
 use std::alloc::{AllocError, Global};
 
-/// Writes the line of the error.
+/// Writes the line of the error. After a refusal it was written in part, and not whole.
 pub fn write_error<K: Sink>(alloc: Global, error: ScriptError, out: &mut K) -> Result<(), SinkError>
     ensures ok { OnOk result (K.written out.new ≡ appended (error_line error) (K.written out.old)) }
-    ensures refused { OnErr result (GrewByFront (error_line error) (K.written out.old) (K.written out.new)) }
+    ensures refused { OnErr result (GrewByPart (error_line error) (K.written out.old) (K.written out.new)) }
     ensures cause { HasCause SinkError.Fault (K.faults out.old) (K.faults out.new) result }
 {
     let Ok(line) = line_of_error(alloc, error) else {

@@ -3,7 +3,7 @@
 ghost use Rattle.std.specs.Prelude.{◌≡◌, ◌≢◌, ℕ, List, [], ◌∷◌, Some, None, IfSome, ◌≤◌};
 ghost use Rattle.ct_io.specs.Fault.{Rose};
 ghost use Rattle.ct_io.specs.declared.status.Status.TheVariants as status;
-ghost use Rattle.cosmt.specs.Run.{NamesFile, AreFaulty, IsWhole, Solves, TellsUsage};
+ghost use Rattle.cosmt.specs.Run.{NamesFile, AreFaulty, Solves, TellsUsage};
 
 use crate::report::{Report, status_of, unanswered};
 use crate::solve::solve;
@@ -25,9 +25,9 @@ pub fn run<D: Desk, K: Sink>(alloc: Global, words: &[Text], desk: &mut D, out: &
     ensures usage { AreFaulty words.now
         → TellsUsage result.status result.verdicts.items result.errors.items (K.written out.old) (K.written out.new) }
 
-    // Where the desk tells nothing, as that of the host, a run that is Done or Refused still has the report of some
-    // script, and wrote its text where the sink tells what was written.
-    ensures some_script { IsWhole result.status → (bytes : List ℕ)
+    // Where the desk tells nothing, as that of the host, there are still bytes, whatever the status, of which the
+    // report is right, and what was written where the sink tells it.
+    ensures some_script { (name : List ℕ) → NamesFile words.now name → (bytes : List ℕ)
         × Solves bytes result.status result.verdicts.items result.errors.items (K.written out.old) (K.written out.new) }
 
     // When each status comes, whatever the desk and the sink tell.

@@ -3,7 +3,7 @@
 ghost use Rattle.std.specs.Prelude.{◌≡◌, ◌+◌, ◌≤◌, ◌<◌, [], length, Some, slice_get, IfOk, OnErr, MatchOption};
 ghost use Rattle.std.specs.Bool.{MatchBool};
 ghost use Rattle.ct_sorts.specs.Names.{IsListed};
-ghost use Rattle.ct_sorts.specs.Declarations.{names, with_function, bool_sort};
+ghost use Rattle.ct_sorts.specs.Declarations.{function_names, with_function, bool_sort};
 ghost use Rattle.ct_terms.specs.Table.{IsWellSorted, AreSorted, StandsSorted, most_terms};
 ghost use Rattle.cosmt.specs.Command.{declare, assert, start, MayDeclare, Fits, after};
 ghost use Rattle.cosmt.specs.Constants.{IsConstant, GrowsBy, AreTermsOf, AreTermsOfSome, AreValues};
@@ -49,9 +49,9 @@ impl Model for Session {
     ghost Value = { State };
 
     ghost use Rattle.cosmt.specs.Session.{state_of, IsKept};
-    ghost use Rattle.ct_sorts.specs.Declarations.{names};
+    ghost use Rattle.ct_sorts.specs.Declarations.{function_names};
 
-    ghost view = { λ s. state_of (names s.signature) s.terms s.literals };
+    ghost view = { λ s. state_of (function_names s.signature) s.terms s.literals };
 
     ghost invariant = { λ s. IsKept s.signature s.terms s.constants.items s.literals };
 }
@@ -147,8 +147,8 @@ fn add_constant(
 ) -> Result<Option<FunId>, AllocError>
     requires only { HasOnlyFunctions signature.old }
     ensures added { IfOk result (λ found. MatchOption found
-        ((MayDeclare (names signature.old) name.now → ⊥) × (signature.new ≡ signature.old))
-        (λ f. MayDeclare (names signature.old) name.now × (f.0 ≡ length signature.old.functions)
+        ((MayDeclare (function_names signature.old) name.now → ⊥) × (signature.new ≡ signature.old))
+        (λ f. MayDeclare (function_names signature.old) name.now × (f.0 ≡ length signature.old.functions)
         × (signature.new ≡ with_function signature.old (record { name = name.now; args = []; result = bool_sort })))) }
     ensures err { OnErr result (signature.new ≡ signature.old) }
 {
@@ -166,7 +166,7 @@ fn add_constant(
 /// The number of the constant with this name.
 fn constant_named(signature: &Signature, name: &[u8]) -> Option<FunId>
     requires only { HasOnlyFunctions signature.now }
-    ensures named { MatchOption result (IsListed (names signature.now) name.now → ⊥) (λ f. slice_get (names signature.now) f.0 ≡ Some name.now) }
+    ensures named { MatchOption result (IsListed (function_names signature.now) name.now → ⊥) (λ f. slice_get (function_names signature.now) f.0 ≡ Some name.now) }
 {
     if signature.funs() == 0 {
         return None;

@@ -3,7 +3,7 @@
 ghost use Rattle.std.specs.Prelude.{◌≡◌, ◌≢◌, ℕ, List, [], ◌∷◌, true, length, Some, IfOk, ◌≤◌};
 ghost use Rattle.ct_io.specs.Fault.{Rose};
 ghost use Rattle.ct_io.specs.declared.status.Status.TheVariants as status;
-ghost use Rattle.cosmt.specs.Run.{most_bytes, IsWhole, Solves};
+ghost use Rattle.cosmt.specs.Run.{most_bytes, Solves};
 ghost use Rattle.cosmt.specs.Refusal.{Refused};
 
 use crate::error_line::write_error;
@@ -20,7 +20,7 @@ use std::alloc::{AllocError, Global};
 pub fn solve<D: Desk, K: Sink>(alloc: Global, name: &str, desk: &mut D, out: &mut K) -> Report
     ensures solved { (bytes : List ℕ) → D.held desk.old name.now ≡ Some bytes
         → Solves bytes result.status result.verdicts.items result.errors.items (K.written out.old) (K.written out.new) }
-    ensures some_script { IsWhole result.status → (bytes : List ℕ)
+    ensures some_script { (bytes : List ℕ)
         × Solves bytes result.status result.verdicts.items result.errors.items (K.written out.old) (K.written out.new) }
     ensures input { result.status ≡ status.InputFault → Rose (D.faults desk.old) (D.faults desk.new) }
     ensures output { result.status ≡ status.OutputFault → Rose (K.faults out.old) (K.faults out.new) }

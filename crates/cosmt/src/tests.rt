@@ -384,3 +384,37 @@ fn takes_67_108_864_bytes_and_no_more(rt: HostRuntime) -> Result<(), Fail> {
     expect(&rt, &told, "TooLong 0 None []", "", "one byte more");
     Ok(())
 }
+
+/// A script that declares so many constants, one a line, and checks on its last line.
+fn declarations(alloc: Global, count: u64) -> Result<Vec<u8>, AllocError> {
+    let mut script = Vec::new(alloc);
+    for number in 0..count {
+        let line = format!(in alloc; "(declare-const c{number} Bool)\n")?;
+        script.extend_from_slice(line.as_bytes())?;
+    }
+    script.extend_from_slice(b"(check-sat)\n")?;
+    Ok(script)
+}
+
+#[test]
+fn declares_65_536_constants_and_no_more(rt: HostRuntime) -> Result<(), Fail> {
+    let script = declarations(rt.alloc(), 65_536)?;
+    let told = run_script(rt.alloc(), script.as_slice(), STEADY)?;
+    let values = vec![in rt.alloc(); false; 65_536]?;
+    let report = format!(in rt.alloc(); "Done 1 Some(Sat({values:?})) []")?;
+    expect(
+        &rt,
+        &told,
+        report.as_str(),
+        "sat\n",
+        "as many constants as there may be",
+    );
+    let script = declarations(rt.alloc(), 65_537)?;
+    expect_error(
+        &rt,
+        rt.alloc(),
+        script.as_slice(),
+        (65_537, 59, "form not built yet"),
+    )?;
+    Ok(())
+}

@@ -1,8 +1,8 @@
 //! One command after another.
 
-ghost use Rattle.std.specs.Prelude.{◌≡◌, true, IfOk, OnErr};
+ghost use Rattle.std.specs.Prelude.{◌≡◌, true, IfOk, OnErr, IsErrOf};
 ghost use Rattle.ct_io.specs.Fault.{HasCause};
-ghost use Rattle.cosmt.specs.Progress.{kept, Broke};
+ghost use Rattle.cosmt.specs.Progress.{kept, Broke, BrokeInLine};
 ghost use Rattle.cosmt.specs.Turns.{Turned, RanTo};
 
 use crate::answer::answer;
@@ -40,6 +40,8 @@ pub fn answer_all<K: Sink>(
         (kept session.old verdicts.old.items (K.written out.old)) (kept session.new verdicts.new.items (K.written out.new))) }
     ensures broke { OnErr result (Broke (kept session.old verdicts.old.items (K.written out.old)) reader.old.bytes
         (kept session.new verdicts.new.items (K.written out.new))) }
+    ensures fault { IsErrOf result SinkError.Fault
+        → BrokeInLine verdicts.old.items (K.written out.old) verdicts.new.items (K.written out.new) }
     ensures cause { HasCause SinkError.Fault (K.faults out.old) (K.faults out.new) result }
 {
     loop {
@@ -64,6 +66,8 @@ fn take_turn<K: Sink>(
         (kept session.old verdicts.old.items (K.written out.old)) (kept session.new verdicts.new.items (K.written out.new))) }
     ensures broke { OnErr result (Broke (kept session.old verdicts.old.items (K.written out.old)) reader.old.bytes
         (kept session.new verdicts.new.items (K.written out.new))) }
+    ensures fault { IsErrOf result SinkError.Fault
+        → BrokeInLine verdicts.old.items (K.written out.old) verdicts.new.items (K.written out.new) }
     ensures cause { HasCause SinkError.Fault (K.faults out.old) (K.faults out.new) result }
 {
     match reader.next() {

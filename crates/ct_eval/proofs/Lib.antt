@@ -14,3 +14,6 @@ pub mod EvaluationLemmas
 pub mod TruthLemmas
 pub mod ValuationLemmas
 pub mod FittingLemmas
+pub mod ValueSortLemmas
+pub mod ValueLemmas
+pub mod PathLemmas

@@ -40,7 +40,7 @@ module _ {X Y : Type 0} (R : X → Y → Type 0) (P : X → Type 0) (part : (x :
   AllZip-left_parts (x ∷ xs) (y ∷ ys) all (suc k) e within = AllZip-left_parts xs ys all.1 k e (omega arith)
 
 -- a number that is not past the last is before it, or is it
-last_or_before : (k i : ℕ) → k < i + 1 → (k < i) ⊎ (k ≡ i)
+pub last_or_before : (k i : ℕ) → k < i + 1 → (k < i) ⊎ (k ≡ i)
 last_or_before zero zero h = inr refl
 last_or_before zero (suc i) h = inl (omega arith)
 last_or_before (suc k) zero h = absurd (omega arith)

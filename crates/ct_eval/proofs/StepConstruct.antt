@@ -16,8 +16,7 @@ use Rattle.ct_terms.specs.declared.ids.TermId.{TermId}
 use Rattle.ct_terms.specs.Table.{Table as Terms, Constructs}
 use Rattle.ct_eval.specs.declared.interp.Interp.{Interp}
 use Rattle.ct_eval.specs.Index.{AreFirst}
-use Rattle.ct_eval.specs.Valued.{AreValued}
-use Rattle.ct_eval.specs.Step.{Laws, IsResult, node_under}
+use Rattle.ct_eval.specs.Step.{AreValued, Laws, IsResult, node_under}
 use Rattle.ct_eval.proofs.StepLists.{zip-weaken}
 use Rattle.ct_eval.proofs.StepNodes.{IsFirst-longer, head_of_first}
 use Rattle.ct_eval.proofs.StepSorts.{sorted_by_head, FitsGraph-grown, IsLonger-grown}

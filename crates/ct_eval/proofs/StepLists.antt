@@ -1,5 +1,5 @@
 -- Lists: two lists place by place, and what stands at a place of a longer list.
-use Rattle.std.proofs.Common.{◌≡◌, ◌⊎◌, inl, inr, ℕ, zero, suc, ◌<◌, Bool, List, [], ◌∷◌, ◌++◌, length, Some, slice_get, refl, subst, arith}
+use Rattle.std.proofs.Common.{◌≡◌, ℕ, zero, suc, Bool, List, [], ◌∷◌, Some, slice_get, refl, subst}
 use Rattle.std.specs.List.{AllZip, AllByRecursion, list_all, list_any}
 use Rattle.std.proofs.lemmas.Option.{none-some, same_Some}
 

@@ -15,8 +15,8 @@ use Rattle.ct_terms.specs.declared.ids.TermId.{TermId}
 use Rattle.ct_terms.specs.Table.{Table as Terms}
 use Rattle.ct_eval.specs.declared.interp.Interp.{Interp}
 use Rattle.ct_eval.specs.Evaluation.{is_head, is_built}
-use Rattle.ct_eval.specs.Valued.{IsLonger, HasValue, AreValued}
-use Rattle.ct_eval.specs.Step.{Laws}
+use Rattle.ct_eval.specs.Valued.{IsLonger}
+use Rattle.ct_eval.specs.Step.{HasValue, AreValued, Laws}
 use Rattle.ct_eval.proofs.ListLemmas.{slice_get-append_left}
 
 -- a graph goes on from itself, and what goes on from a longer graph goes on from the graph

@@ -13,8 +13,7 @@ use Rattle.ct_terms.specs.declared.term.Core.{Core}
 use Rattle.ct_terms.specs.declared.term.Core.TheVariants.{Con, Sel, Test, Eq, Not, And, Or, Iff, Ite}
 use Rattle.ct_terms.specs.Table.{Table as Terms, Has, AreSorted, HasChildrenBelow}
 use Rattle.ct_eval.specs.declared.interp.Interp.{Interp}
-use Rattle.ct_eval.specs.Valued.{AreValued}
-use Rattle.ct_eval.specs.Step.{HasNode, node_under, IsReady}
+use Rattle.ct_eval.specs.Step.{AreValued, HasNode, node_under, IsReady}
 use Rattle.ct_eval.proofs.StepTerms.{fields_sorted, booleans_sorted, has_node, have_nodes, are_first, first_within}
 
 -- numbers below a bound, by recursion

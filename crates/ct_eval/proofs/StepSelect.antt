@@ -20,8 +20,7 @@ use Rattle.ct_eval.specs.declared.interp.Interp.{Interp}
 use Rattle.ct_eval.specs.declared.interp.Table.{Table}
 use Rattle.ct_eval.specs.Evaluation.{is_head, is_built, given, select}
 use Rattle.ct_eval.specs.LookUp.{look_up}
-use Rattle.ct_eval.specs.Valued.{HasValue}
-use Rattle.ct_eval.specs.Step.{Laws}
+use Rattle.ct_eval.specs.Step.{HasValue, Laws}
 use Rattle.ct_eval.proofs.StepLists.{zip-at_right}
 use Rattle.ct_eval.proofs.StepNodes.{head_of_first, children_of_first, built_alike}
 use Rattle.ct_eval.proofs.StepSorts.{same_sorts}

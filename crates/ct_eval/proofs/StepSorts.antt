@@ -1,5 +1,5 @@
 -- Sorts of nodes: a node has the sort of its head, and a graph fits with one more node that does.
-use Rattle.std.proofs.Common.{◌≡◌, ◌⊎◌, inl, inr, [], ◌∷◌, ◌++◌, Option, Some, None, option_map, slice_get, refl, sym, ap, subst, ◌∙◌}
+use Rattle.std.proofs.Common.{◌≡◌, ◌⊎◌, inl, inr, [], ◌∷◌, ◌++◌, length, Option, Some, None, option_map, slice_get, refl, sym, ap, subst, ◌∙◌}
 use Rattle.std.proofs.lemmas.Option.{none-some, same_Some}
 use Rattle.ct_sorts.specs.declared.ids.SelId.{SelId}
 use Rattle.ct_sorts.specs.declared.ids.SortId.{SortId}
@@ -14,6 +14,7 @@ use Rattle.ct_values.specs.Value.{reference}
 use Rattle.ct_values.specs.Agreement.{head_of}
 use Rattle.ct_values.specs.Fitting.{node_sort, HasNodeSort, IsOfField, FitsNode, FitsGraph}
 use Rattle.ct_eval.specs.Valued.{IsLonger}
+use Rattle.ct_eval.specs.Step.{IsGrown}
 use Rattle.ct_eval.proofs.ListLemmas.{slice_get-push_cases}
 use Rattle.ct_eval.proofs.StepLists.{zip-weaken}
 use Rattle.ct_eval.proofs.StepNodes.{HasNodeSort-longer, IsLonger-itself}
@@ -70,6 +71,11 @@ FitsGraph-push d g node fits fit n other at =
 pub FitsGraph-grown : (d : Declarations) (g new : Nodes) (node : Node) → FitsGraph d g → FitsNode d g node → (new ≡ g) ⊎ (new ≡ g ++ node ∷ []) → FitsGraph d new
 FitsGraph-grown d g new node fits fit (inl same) = subst (FitsGraph d) (sym same) fits
 FitsGraph-grown d g new node fits fit (inr more) = subst (FitsGraph d) (sym more) (FitsGraph-push d g node fits fit)
+
+pub IsGrown-constructed : (g new : Nodes) (node : Node) (n : NodeId) → (new ≡ g) ⊎ (new ≡ g ++ node ∷ []) → (new ≡ g) ⊎ (n.0 ≡ length g) → IsGrown g new n
+IsGrown-constructed g new node n (inl same) numbered = inl same
+IsGrown-constructed g new node n (inr more) (inl same) = inl same
+IsGrown-constructed g new node n (inr more) (inr last) = inr (node, more, last)
 
 pub IsLonger-grown : (g new : Nodes) (node : Node) → (new ≡ g) ⊎ (new ≡ g ++ node ∷ []) → IsLonger g new
 IsLonger-grown g new node (inl same) = subst (IsLonger g) (sym same) (IsLonger-itself g)

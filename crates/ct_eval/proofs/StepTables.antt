@@ -15,8 +15,8 @@ use Rattle.ct_eval.specs.Interpretation.{IsProper, FitsTable}
 use Rattle.ct_eval.specs.declared.interp.Interp.{Interp}
 use Rattle.ct_eval.specs.Evaluation.{given}
 use Rattle.ct_eval.specs.LookUp.{are_same, row_for, look_up}
-use Rattle.ct_eval.specs.Valued.{IsLonger, HasValue}
-use Rattle.ct_eval.specs.Step.{Laws}
+use Rattle.ct_eval.specs.Valued.{IsLonger}
+use Rattle.ct_eval.specs.Step.{HasValue, Laws}
 use Rattle.ct_eval.proofs.ListLemmas.{stands}
 use Rattle.ct_eval.proofs.StepNodes.{HasNodeSort-longer, node_lasts, head_of_first}
 use Rattle.ct_eval.proofs.StepSorts.{same_sorts}

@@ -17,8 +17,7 @@ use Rattle.ct_terms.specs.Table.{Table as Terms, IsOfSort, IsBoolean, IsOfField}
 use Rattle.ct_eval.specs.declared.interp.Interp.{Interp}
 use Rattle.ct_eval.specs.Evaluation.{is_true}
 use Rattle.ct_eval.specs.Index.{AreFirst}
-use Rattle.ct_eval.specs.Valued.{HasValue, AreValued}
-use Rattle.ct_eval.specs.Step.{Laws, HasNode, node_under}
+use Rattle.ct_eval.specs.Step.{HasValue, AreValued, Laws, HasNode, node_under}
 use Rattle.ct_eval.proofs.StepLists.{zip-left, each-weaken}
 use Rattle.ct_eval.proofs.StepNodes.{built_alike}
 

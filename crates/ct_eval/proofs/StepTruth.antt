@@ -20,12 +20,11 @@ use Rattle.ct_terms.specs.declared.term.Core.{Core}
 use Rattle.ct_terms.specs.Table.{Table as Terms, HasSort}
 use Rattle.ct_eval.specs.declared.interp.Interp.{Interp}
 use Rattle.ct_eval.specs.Evaluation.{core_value, truth, is_same}
-use Rattle.ct_eval.specs.Valued.{HasValue, AreValued}
-use Rattle.ct_eval.specs.Step.{Laws, IsResult, IsNodeFor}
+use Rattle.ct_eval.specs.Step.{HasValue, AreValued, Laws, IsResult, IsNodeFor}
 use Rattle.ct_eval.proofs.StepConstruct.{constructed}
 
 -- what stands at a place of the first part stands in the whole
-at_take : {X : Type 0} (n : ℕ) (xs : List X) (k : ℕ) (x : X) → slice_get (take n xs) k ≡ Some x → slice_get xs k ≡ Some x
+pub at_take : {X : Type 0} (n : ℕ) (xs : List X) (k : ℕ) (x : X) → slice_get (take n xs) k ≡ Some x → slice_get xs k ≡ Some x
 at_take zero xs k x e = absurd (none-some x e)
 at_take (suc n) [] k x e = e
 at_take (suc n) (y ∷ xs) zero x e = e

@@ -1,6 +1,7 @@
 -- Terms with a node for each: one term more, and all of them.
-use Rattle.std.proofs.Common.{◌≡◌, ℕ, ◌<◌, inl, inr, List, [], ◌∷◌, ◌++◌, length, All, Result, Ok, Err, IfOk, Some, slice_get, get_or, sym, ap, subst, ◌∙◌, arith, append_assoc}
-use Rattle.std.proofs.lemmas.List.{append-nil}
+use Rattle.std.proofs.Common.{◌≡◌, ℕ, ◌<◌, inl, inr, List, [], ◌∷◌, ◌++◌, length, All, Contains, Result, Ok, Err, IfOk, Some, slice_get, get_or, sym, ap, subst, ◌∙◌, arith}
+use Rattle.std.proofs.lemmas.List.{append-nil, length_push}
+use Rattle.std.proofs.lemmas.List.Elements.{Contains-append_left, Contains-push}
 use Rattle.std.proofs.lemmas.Option.{none-some, same_Some, slice_get_within, slice_get-get_or}
 use Rattle.ct_sorts.specs.declared.ids.SortId.{SortId}
 use Rattle.ct_sorts.specs.Declarations.{Declarations}
@@ -22,13 +23,30 @@ use Rattle.ct_eval.specs.declared.interp.Table.{Table}
 use Rattle.ct_eval.specs.declared.interp.Valuation.{Valuation}
 use Rattle.ct_eval.specs.Interpretation.{FitsTable, IsProper}
 use Rattle.ct_eval.specs.Evaluation.{core_value, value_of}
-use Rattle.ct_eval.specs.Valued.{IsLonger, IsValuation, HasValue, AreValued, HaveNodes}
-use Rattle.ct_eval.proofs.ListLemmas.{stands, slice_get-append_left, slice_get-push_cases, AllZip-left_parts}
+use Rattle.ct_eval.specs.Valued.{IsLonger, AreNewAmong, IsValuation}
+use Rattle.ct_eval.specs.Step.{HasValue, AreValued, HaveNodes, IsGrown}
+use Rattle.ct_eval.proofs.ListLemmas.{stands, slice_get-append_left, slice_get-push_cases, AllZip-left_parts, last_or_before}
+use Rattle.ct_eval.proofs.StepNodes.{IsLonger-further}
 use Rattle.ct_eval.proofs.EvaluationLemmas.{value_of-unfolds}
 
 -- the law of first nodes in a graph that grows
 abbrev pub Lasting : Type 0
 Lasting = (g more : Nodes) (p : Point) (n : NodeId) → IsClosed g → IsFirst g p n → IsFirst (g ++ more) p n
+
+-- a graph to which one node was added at most goes on from what it was
+IsGrown-longer : (g longer : Nodes) (n : NodeId) → IsGrown g longer n → IsLonger g longer
+IsGrown-longer g longer n (inl same) = ([], same ∙ sym (append-nil g))
+IsGrown-longer g longer n (inr more) = (more.0 ∷ [], more.1)
+
+-- where each new node was one of these, it is one of these and the node that was added
+AreNewAmong-more : (first g longer : Nodes) (nodes : List NodeId) (n : NodeId) → AreNewAmong first g nodes → IsGrown g longer n → AreNewAmong first longer (nodes ++ n ∷ [])
+AreNewAmong-more first g longer nodes n made (inl same) m new within =
+    Contains-append_left nodes (n ∷ []) m (made m new (subst (λ (h : Nodes). m.0 < length h) same within))
+AreNewAmong-more first g longer nodes n made (inr more) m new within =
+    elim (last_or_before m.0 (length g) (subst (λ k. m.0 < k) (ap length more.1 ∙ length_push g more.0) within)) [
+      | inl before ↦ Contains-append_left nodes (n ∷ []) m (made m new before)
+      | inr last ↦ subst (Contains (nodes ++ n ∷ [])) (ap (λ (k : ℕ). record { 0 = k }) (more.2 ∙ sym last)) (Contains-push nodes n)
+    ]
 
 -- the arguments of all rows are nodes of the graph
 abbrev pub AreRowsWithin : Nodes → List Table → Type 0
@@ -85,6 +103,7 @@ module _ (d : Declarations) where
     pub HaveNodes-start : (g : Nodes) → IsProper d i → g ≡ i.graph → HaveNodes d i terms g []
     HaveNodes-start g proper same = record {
       longer = ([], same ∙ sym (append-nil i.graph));
+      made = λ n old within. let longs : length g ≡ length i.graph = ap length same in absurd (omega arith);
       fits = subst (FitsGraph d) (sym same) proper.fits;
       valued = λ t sort n sorted at. absurd (none-some n at);
     }
@@ -105,9 +124,10 @@ module _ (d : Declarations) where
         subst (λ (v : Value). HasValue d i g v side n) (sym (value_of-unfolds d i terms t sorted.0 side ordered sorted.1)) (subst (stated (sorted.0, side)) one (subst (λ (stood : Core × SortId). stated stood m) same h))
 
     -- a node more, for the next term
-    HaveNodes-push : Lasting → AreOrdered terms → (g longer : Nodes) (nodes : List NodeId) (n : NodeId) (core : Core) (sort : SortId) → HaveNodes d i terms g nodes → slice_get terms (length nodes) ≡ Some (core, sort) → IsLonger g longer → FitsGraph d longer → HasValue d i longer (core_value d i (value_of d i terms) core) sort n → HaveNodes d i terms longer (nodes ++ n ∷ [])
-    HaveNodes-push lasting ordered g longer nodes n core sort before at more fits value = record {
-      longer = (before.longer.0 ++ more.0, more.1 ∙ ap (λ (h : Nodes). h ++ more.0) before.longer.1 ∙ append_assoc i.graph before.longer.0 more.0);
+    HaveNodes-push : Lasting → AreOrdered terms → (g longer : Nodes) (nodes : List NodeId) (n : NodeId) (core : Core) (sort : SortId) → HaveNodes d i terms g nodes → slice_get terms (length nodes) ≡ Some (core, sort) → IsGrown g longer n → FitsGraph d longer → HasValue d i longer (core_value d i (value_of d i terms) core) sort n → HaveNodes d i terms longer (nodes ++ n ∷ [])
+    HaveNodes-push lasting ordered g longer nodes n core sort before at grown fits value = let more = IsGrown-longer g longer n grown in record {
+      longer = IsLonger-further i.graph g longer before.longer more;
+      made = AreNewAmong-more i.graph g longer nodes n before.made grown;
       fits = fits;
       valued = λ t side m sorted stood.
           elim (slice_get-push_cases nodes n m t.0 stood) [
@@ -117,11 +137,11 @@ module _ (d : Declarations) where
     }
 
     -- the same of what may fail
-    pub HaveNodes-next : {E : Type 0} → Lasting → AreOrdered terms → AreSorted d terms → (g longer : Nodes) (nodes : List NodeId) (t : TermId) (core : Core) (r : Result NodeId E) → HaveNodes d i terms g nodes → t.0 ≡ length nodes → Has terms core t.0 → IfOk r (λ n. IsLonger g longer) → ((table : Terms) (value : TermId → Value) (sort : SortId) → AreValued d i table g nodes value → HasSort d table core sort → IfOk r (λ n. FitsGraph d longer × HasValue d i longer (core_value d i value core) sort n)) → IfOk r (λ n. HaveNodes d i terms longer (nodes ++ n ∷ []))
-    HaveNodes-next lasting ordered sorted g longer nodes t core (Err e) before place has more value = tt
-    HaveNodes-next lasting ordered sorted g longer nodes t core (Ok n) before place has more value =
+    pub HaveNodes-next : {E : Type 0} → Lasting → AreOrdered terms → AreSorted d terms → (g longer : Nodes) (nodes : List NodeId) (t : TermId) (core : Core) (r : Result NodeId E) → HaveNodes d i terms g nodes → t.0 ≡ length nodes → Has terms core t.0 → IfOk r (IsGrown g longer) → ((table : Terms) (value : TermId → Value) (sort : SortId) → AreValued d i table g nodes value → HasSort d table core sort → IfOk r (λ n. FitsGraph d longer × HasValue d i longer (core_value d i value core) sort n)) → IfOk r (λ n. HaveNodes d i terms longer (nodes ++ n ∷ []))
+    HaveNodes-next lasting ordered sorted g longer nodes t core (Err e) before place has grown value = tt
+    HaveNodes-next lasting ordered sorted g longer nodes t core (Ok n) before place has grown value =
         let given = value terms (value_of d i terms) has.0 before.valued (sorted t.0 core has.0 has.1) in
-        HaveNodes-push lasting ordered g longer nodes n core has.0 before (ap (slice_get terms) (sym place) ∙ has.1) more given.0 given.1
+        HaveNodes-push lasting ordered g longer nodes n core has.0 before (ap (slice_get terms) (sym place) ∙ has.1) grown given.0 given.1
 
     -- where each term has a node, there is a valuation
     pub IsValuation-from : (g h : Nodes) (nodes list : List NodeId) → h ≡ g → list ≡ nodes → HaveNodes d i terms g nodes → length nodes ≡ length terms → IsValuation d i terms (record { graph = h; nodes = list })
@@ -132,12 +152,13 @@ module _ (d : Declarations) where
         valuation : (g : Nodes) (nodes : List NodeId) → HaveNodes d i terms g nodes → length nodes ≡ length terms → IsValuation d i terms (record { graph = g; nodes = nodes })
         valuation g nodes have all = record {
           longer = have.longer;
+          made = have.made;
           fits = have.fits;
           all = all;
           sorts = λ t sort n sorted at. (have.valued t sort n sorted at).sorted;
           values = λ t n at.
               let stood = stands terms t.0 (subst (λ k. t.0 < k) all (slice_get_within nodes t.0 n at)) in
-              (have.valued t stood.0.1 n (stood.0.0, stood.1) at).first.same;
+              (have.valued t stood.0.1 n (stood.0.0, stood.1) at).first;
         }
 
     -- each node of a valuation is one of its graph

@@ -1,20 +1,21 @@
 -- One step of evaluation: from the nodes of the terms under a term to its own.
-use Rattle.std.specs.Prelude.{◌≡◌, ◌↔◌, ℕ, ◌<◌, IsTrue, List, ◌++◌, length, get_or}
+use Rattle.std.specs.Prelude.{◌≡◌, ◌↔◌, ◌⊎◌, ℕ, ◌<◌, IsTrue, List, [], ◌∷◌, ◌++◌, length, get_or, Some, slice_get}
 use Rattle.std.specs.List.{AllZip}
 use Rattle.ct_sorts.specs.declared.ids.SortId.{SortId}
 use Rattle.ct_sorts.specs.Declarations.{Declarations}
 use Rattle.ct_values.specs.declared.node.NodeId.{NodeId}
+use Rattle.ct_values.specs.declared.node.Node.{Node}
 use Rattle.ct_values.specs.Graph.{Nodes, IsClosed}
 use Rattle.ct_values.specs.Value.{Value, IsOver}
 use Rattle.ct_values.specs.Agreement.{Point, point, head, children, agree, same, AgreeAlways}
-use Rattle.ct_values.specs.Fitting.{FitsGraph}
+use Rattle.ct_values.specs.Fitting.{HasNodeSort, FitsGraph}
 use Rattle.ct_values.specs.Sharing.{IsFirst}
 use Rattle.ct_terms.specs.declared.ids.TermId.{TermId}
 use Rattle.ct_terms.specs.declared.term.Core.{Core}
-use Rattle.ct_terms.specs.Table.{Table as Terms, HasSort, HasChildrenBelow}
+use Rattle.ct_terms.specs.Table.{Table as Terms, IsOfSort, HasSort, HasChildrenBelow}
 use Rattle.ct_eval.specs.declared.interp.Interp.{Interp}
-use Rattle.ct_eval.specs.Evaluation.{core_value}
-use Rattle.ct_eval.specs.Valued.{HasValue, AreValued}
+use Rattle.ct_eval.specs.Evaluation.{core_value, value_of}
+use Rattle.ct_eval.specs.Valued.{IsLonger, AreNewAmong}
 
 -- the laws of values and of first nodes that a step rests on
 pub record Laws : Type 0 where
@@ -27,6 +28,26 @@ pub record Laws : Type 0 where
   pub one : (g : Nodes) (p q : Point) (m n : NodeId) → IsFirst g p m → IsFirst g q n → (m ≡ n) ↔ AgreeAlways p q
   pub same_first : (g : Nodes) (p q : Point) (n : NodeId) → AgreeAlways p q → IsFirst g p n → IsFirst g q n
   pub lasting : (g more : Nodes) (p : Point) (n : NodeId) → IsClosed g → IsFirst g p n → IsFirst (g ++ more) p n
+
+-- the node is the first of the graph that is this value over the interpretation's graph, and has this sort
+pub record HasValue (d : Declarations) (i : Interp) (g : Nodes) (v : Value) (sort : SortId) (n : NodeId) : Type 0 where
+  pub first : IsFirst g (point i.graph v) n
+  pub sorted : HasNodeSort d g n sort
+
+-- each term that has a node here has its value
+abbrev pub AreValued : Declarations → Interp → Terms → Nodes → List NodeId → (TermId → Value) → Type 0
+AreValued d i terms g nodes value = (t : TermId) (sort : SortId) (n : NodeId) → IsOfSort terms t sort → slice_get nodes t.0 ≡ Some n → HasValue d i g (value t) sort n
+
+-- the graph goes on from that of the interpretation by some of these nodes, and each term that has a node here has its value
+pub record HaveNodes (d : Declarations) (i : Interp) (terms : Terms) (g : Nodes) (nodes : List NodeId) : Type 0 where
+  pub longer : IsLonger i.graph g
+  pub made : AreNewAmong i.graph g nodes
+  pub fits : FitsGraph d g
+  pub valued : AreValued d i terms g nodes (value_of d i terms)
+
+-- nothing was added to the graph, or one node at its end, which is this one
+abbrev pub IsGrown : Nodes → Nodes → NodeId → Type 0
+IsGrown old new n = (new ≡ old) ⊎ ((node : Node) × (new ≡ old ++ node ∷ []) × (n.0 ≡ length old))
 
 -- the node of a term under it
 abbrev pub node_under : List NodeId → TermId → NodeId

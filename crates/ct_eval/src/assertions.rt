@@ -6,16 +6,15 @@ ghost use Rattle.ct_eval.specs.declared.interp.Interp.{Interp};
 ghost use Rattle.ct_eval.specs.Truth.{truth_of, Holds, IsFirstUntrue};
 ghost use Rattle.ct_eval.specs.Valued.{IsValuation};
 
+use crate::boolean::TRUE;
 use crate::error::EvalError;
 use crate::interp::{Interp, Valuation};
+use crate::nodes::is_built;
 use crate::valuation::evaluate;
-use ct_sorts::{CtorId, Signature};
+use ct_sorts::Signature;
 use ct_terms::{TermId, TermTable};
-use ct_values::{Head, agreement};
+use ct_values::agreement;
 use std::alloc::Global;
-
-/// The constructor `true`.
-const TRUE: CtorId = CtorId(0);
 
 /// The place of the first assertion that is not true in the interpretation, or none where all are.
 pub fn holds(
@@ -62,5 +61,5 @@ fn is_true(valuation: &Valuation, t: TermId) -> bool
 {
     agreement();
     let node = valuation.nodes.as_slice()[t.0 as usize];
-    valuation.graph.head(node) == Head::Con(TRUE)
+    is_built(&valuation.graph, TRUE, node)
 }

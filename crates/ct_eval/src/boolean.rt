@@ -7,8 +7,7 @@ ghost use Rattle.ct_values.specs.Value.{reference, construct, no_values};
 ghost use Rattle.ct_values.specs.Fitting.{FitsGraph};
 ghost use Rattle.ct_eval.specs.declared.interp.Interp.{Interp};
 ghost use Rattle.ct_eval.specs.Evaluation.{truth, is_true};
-ghost use Rattle.ct_eval.specs.Valued.{IsLonger};
-ghost use Rattle.ct_eval.specs.Step.{HasNode, node_under, IsReady, IsResult, IsNodeFor};
+ghost use Rattle.ct_eval.specs.Step.{IsGrown, HasNode, node_under, IsReady, IsResult, IsNodeFor};
 
 use crate::error::EvalError;
 use crate::interp::Interp;
@@ -19,7 +18,7 @@ use ct_values::{NodeId, NodeIds, SharedGraph};
 use std::alloc::Global;
 
 /// The constructor `true`.
-const TRUE: CtorId = CtorId(0);
+pub(crate) const TRUE: CtorId = CtorId(0);
 
 /// The constructor `false`.
 const FALSE: CtorId = CtorId(1);
@@ -33,14 +32,14 @@ pub(crate) fn test(
     t: TermId,
 ) -> Result<NodeId, EvalError>
     requires ready { (d : Declarations) × (i : Interp) × IsReady d i shared.old nodes.now (Core.Test c t) }
-    ensures longer { IfOk result (λ n. IsLonger shared.old shared.new) }
+    ensures grown { IfOk result (IsGrown shared.old shared.new) }
     ensures value { (d : Declarations) (i : Interp)
         → IsConsistent d
         → FitsGraph d shared.old
         → IfOk result (IsNodeFor d i shared.old shared.new nodes.now (Core.Test c t)) }
 {
     laws(shared);
-    let answer = is_built(shared, c, node_at(shared, nodes, t));
+    let answer = is_built(shared.graph(), c, node_at(shared, nodes, t));
     truth(alloc, shared, answer)
 }
 
@@ -54,7 +53,7 @@ pub(crate) fn equate(
     b: TermId,
 ) -> Result<NodeId, EvalError>
     requires ready { (d : Declarations) × IsReady d interp.now shared.old nodes.now (Core.Eq a b) }
-    ensures longer { IfOk result (λ n. IsLonger shared.old shared.new) }
+    ensures grown { IfOk result (IsGrown shared.old shared.new) }
     ensures value { (d : Declarations)
         → IsConsistent d
         → FitsGraph d shared.old
@@ -74,7 +73,7 @@ pub(crate) fn negate(
     t: TermId,
 ) -> Result<NodeId, EvalError>
     requires ready { (d : Declarations) × (i : Interp) × IsReady d i shared.old nodes.now (Core.Not t) }
-    ensures longer { IfOk result (λ n. IsLonger shared.old shared.new) }
+    ensures grown { IfOk result (IsGrown shared.old shared.new) }
     ensures value { (d : Declarations) (i : Interp)
         → IsConsistent d
         → FitsGraph d shared.old
@@ -93,7 +92,7 @@ pub(crate) fn conjoin(
     args: &[TermId],
 ) -> Result<NodeId, EvalError>
     requires ready { (d : Declarations) × (i : Interp) × IsReady d i shared.old nodes.now (Core.And args.now) }
-    ensures longer { IfOk result (λ n. IsLonger shared.old shared.new) }
+    ensures grown { IfOk result (IsGrown shared.old shared.new) }
     ensures value { (d : Declarations) (i : Interp)
         → IsConsistent d
         → FitsGraph d shared.old
@@ -112,7 +111,7 @@ pub(crate) fn disjoin(
     args: &[TermId],
 ) -> Result<NodeId, EvalError>
     requires ready { (d : Declarations) × (i : Interp) × IsReady d i shared.old nodes.now (Core.Or args.now) }
-    ensures longer { IfOk result (λ n. IsLonger shared.old shared.new) }
+    ensures grown { IfOk result (IsGrown shared.old shared.new) }
     ensures value { (d : Declarations) (i : Interp)
         → IsConsistent d
         → FitsGraph d shared.old
@@ -132,7 +131,7 @@ pub(crate) fn compare(
     b: TermId,
 ) -> Result<NodeId, EvalError>
     requires ready { (d : Declarations) × (i : Interp) × IsReady d i shared.old nodes.now (Core.Iff a b) }
-    ensures longer { IfOk result (λ n. IsLonger shared.old shared.new) }
+    ensures grown { IfOk result (IsGrown shared.old shared.new) }
     ensures value { (d : Declarations) (i : Interp)
         → IsConsistent d
         → FitsGraph d shared.old
@@ -152,7 +151,7 @@ fn is_one_value(a: bool, b: bool) -> bool
 
 // The node of a truth value.
 fn truth(alloc: Global, shared: &mut SharedGraph, value: bool) -> Result<NodeId, EvalError>
-    ensures longer { IfOk result (λ n. IsLonger shared.old shared.new) }
+    ensures grown { IfOk result (IsGrown shared.old shared.new) }
     ensures value { (d : Declarations) (i : Interp)
         → IsConsistent d
         → FitsGraph d shared.old
@@ -175,7 +174,7 @@ pub(crate) fn is_true(shared: &SharedGraph, nodes: &[NodeId], t: TermId) -> bool
     requires there { HasNode shared.now nodes.now t }
     ensures value { result ≡ is_true shared.now (reference (node_under nodes.now t)) }
 {
-    is_built(shared, TRUE, node_at(shared, nodes, t))
+    is_built(shared.graph(), TRUE, node_at(shared, nodes, t))
 }
 
 // Whether the nodes of these terms are all `true`.

@@ -9,7 +9,7 @@ use crate::error::EvalError;
 use crate::interp::Interp;
 use ct_sorts::CtorId;
 use ct_terms::TermId;
-use ct_values::{Head, NodeId, SharedGraph, agreement, first_nodes};
+use ct_values::{Graph, Head, NodeId, SharedGraph, agreement, first_nodes};
 use std::alloc::Global;
 
 /// The laws that the steps rest on, and that the graph is closed.
@@ -56,9 +56,9 @@ pub(crate) fn nodes_of(
 }
 
 /// Whether the node is built by this constructor.
-pub(crate) fn is_built(shared: &SharedGraph, c: CtorId, n: NodeId) -> bool
-    requires within { n.0 < length shared.now }
-    ensures value { result ≡ is_built shared.now c (reference n) }
+pub(crate) fn is_built(graph: &Graph, c: CtorId, n: NodeId) -> bool
+    requires within { n.0 < length graph.now }
+    ensures value { result ≡ is_built graph.now c (reference n) }
 {
-    shared.graph().head(n) == Head::Con(c)
+    graph.head(n) == Head::Con(c)
 }

@@ -13,8 +13,8 @@ use ct_values::{Graph, NodeId, fits, has_sort, sort_of};
 
 /// Whether the interpretation is one of the signature's declarations, as `evaluate` and `holds` ask: its graph fits them,
 /// under each node of a datatype the nodes of datatypes have smaller numbers, so that values of datatypes are finite, and
-/// there is a table for each function and each selector, over its sorts. A graph that `minimise` gives is numbered the
-/// other way round.
+/// there is a table for each function and each selector, over its sorts. A graph that `minimise` gives has parents before
+/// their children, and so is seldom that of such an interpretation.
 pub fn is_proper(sig: &Signature, interp: &Interp) -> bool
     ensures proper { IsTrue result ↔ IsProper sig.now interp.now }
 {

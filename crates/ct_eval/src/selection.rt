@@ -13,8 +13,8 @@ ghost use Rattle.ct_eval.specs.Interpretation.{IsProper, FitsTable};
 ghost use Rattle.ct_eval.specs.Evaluation.{is_built};
 ghost use Rattle.ct_eval.specs.LookUp.{look_up};
 ghost use Rattle.ct_eval.specs.Index.{IsIndex};
-ghost use Rattle.ct_eval.specs.Valued.{IsLonger, HasValue};
-ghost use Rattle.ct_eval.specs.Step.{IsReady, IsNodeFor};
+ghost use Rattle.ct_eval.specs.Valued.{IsLonger};
+ghost use Rattle.ct_eval.specs.Step.{HasValue, IsReady, IsNodeFor};
 
 use crate::application::given;
 use crate::error::EvalError;
@@ -47,7 +47,7 @@ pub(crate) fn select(
 {
     laws(shared);
     let n = node_at(shared, nodes, t);
-    if is_built(shared, sig.sel_ctor(s), n) {
+    if is_built(shared.graph(), sig.sel_ctor(s), n) {
         return Ok(field(sig, shared, s, n));
     }
     off(alloc, interp, offs, shared, s, n)

@@ -13,8 +13,8 @@ ghost use Rattle.ct_eval.specs.declared.interp.Interp.{Interp};
 ghost use Rattle.ct_eval.specs.Interpretation.{IsProper};
 ghost use Rattle.ct_eval.specs.Evaluation.{core_value};
 ghost use Rattle.ct_eval.specs.Index.{IsIndex};
-ghost use Rattle.ct_eval.specs.Valued.{IsLonger, HasValue, AreValued};
-ghost use Rattle.ct_eval.specs.Step.{IsReady, IsNodeFor};
+ghost use Rattle.ct_eval.specs.Valued.{IsLonger};
+ghost use Rattle.ct_eval.specs.Step.{HasValue, AreValued, IsGrown, IsReady, IsNodeFor};
 
 use crate::application::apply;
 use crate::boolean::{compare, conjoin, disjoin, equate, is_true, negate, test};
@@ -47,7 +47,7 @@ pub(crate) fn node_of(
     requires offs { IsIndex interp.now.graph interp.now.offs offs.now }
     requires below { HasChildrenBelow (length nodes.now) core.now }
     requires ready { IsReady sig.now interp.now shared.old nodes.now core.now }
-    ensures longer { IfOk result (λ n. IsLonger shared.old shared.new) }
+    ensures grown { IfOk result (IsGrown shared.old shared.new) }
     ensures value { (terms : Terms) (value : TermId → Value) (sort : SortId)
         → AreValued sig.now interp.now terms shared.old nodes.now value
         → HasSort sig.now terms core.now sort
@@ -78,7 +78,7 @@ fn construct(
     args: &[TermId],
 ) -> Result<NodeId, EvalError>
     requires ready { (d : Declarations) × (i : Interp) × IsReady d i shared.old nodes.now (Core.Con c args.now) }
-    ensures longer { IfOk result (λ n. IsLonger shared.old shared.new) }
+    ensures grown { IfOk result (IsGrown shared.old shared.new) }
     ensures value { (d : Declarations) (i : Interp)
         → FitsGraph d shared.old
         → IfOk result (IsNodeFor d i shared.old shared.new nodes.now (Core.Con c args.now)) }

@@ -1,9 +1,8 @@
 //! Which assertions over streams an interpretation makes true, and which interpretations are refused.
-ghost use Rattle.std.specs.Prelude.{◌≡◌, ◌<◌, ◌⊎◌, All, IfOk, IsTrue};
+ghost use Rattle.std.specs.Prelude.{◌≡◌, ◌⊎◌, All, IfOk, IsTrue};
 ghost use Rattle.ct_sorts.specs.declared.ids.Kind.TheVariants as Kind;
 ghost use Rattle.ct_sorts.specs.Declarations.{start};
 ghost use Rattle.ct_sorts.specs.Grown.{Extends};
-ghost use Rattle.ct_values.specs.Graph.{HasChildrenBelow};
 ghost use Rattle.ct_terms.specs.Table.{AreSorted, IsBoolean};
 
 use crate::{EvalError, Interp, Row, Rows, Table, Tables, evaluation, holds, is_proper};
@@ -12,7 +11,7 @@ use ct_sorts::{
     SortId, growth,
 };
 use ct_terms::{Args, Core, TermError, TermId, TermTable, is_well_sorted};
-use ct_values::{Graph, Node, NodeId, NodeIds, ValueError};
+use ct_values::{Graph, Node, NodeId, NodeIds, ValueError, are_closed};
 use std::alloc::{AllocError, Global};
 use std::process::Abort;
 use std::test::Fail;
@@ -37,7 +36,7 @@ const F: FunId = FunId(0);
 
 const C: FunId = FunId(1);
 
-// A constructor with fields given by their names and the names of their sorts.
+/// A constructor with fields given by their names and the names of their sorts.
 pub(crate) fn ctor(
     alloc: Global,
     name: &[u8],
@@ -55,7 +54,7 @@ pub(crate) fn ctor(
     Ok(CtorDecl { name, fields })
 }
 
-// Adds one sort with these constructors.
+/// Adds one sort with these constructors.
 pub(crate) fn add_sort(
     alloc: Global,
     sig: &mut Signature,
@@ -76,7 +75,7 @@ pub(crate) fn add_sort(
     Ok(())
 }
 
-// Adds the datatype E of `a` and `b`.
+/// Adds the datatype E of `a` and `b`.
 pub(crate) fn add_e(alloc: Global, sig: &mut Signature) -> Result<(), SigError>
     requires before { Extends sig.old start }
     ensures grown { Extends sig.new start }
@@ -87,7 +86,7 @@ pub(crate) fn add_e(alloc: Global, sig: &mut Signature) -> Result<(), SigError>
     add_sort(alloc, sig, Kind::Data, b"E", ctors)
 }
 
-// Adds the codatatype Stream of `scons`.
+/// Adds the codatatype Stream of `scons`.
 fn add_stream(alloc: Global, sig: &mut Signature) -> Result<(), SigError>
     requires before { Extends sig.old start }
     ensures grown { Extends sig.new start }
@@ -98,7 +97,7 @@ fn add_stream(alloc: Global, sig: &mut Signature) -> Result<(), SigError>
     add_sort(alloc, sig, Kind::Codata, b"Stream", ctors)
 }
 
-// Adds a function `f` from streams to E.
+/// Adds a function `f` from streams to E.
 fn add_f(rt: &impl Abort, alloc: Global, sig: &mut Signature) -> Result<(), SigError>
     requires before { Extends sig.old start }
     ensures grown { Extends sig.new start }
@@ -111,7 +110,7 @@ fn add_f(rt: &impl Abort, alloc: Global, sig: &mut Signature) -> Result<(), SigE
     Ok(())
 }
 
-// Adds a constant `c` of streams.
+/// Adds a constant `c` of streams.
 fn add_c(rt: &impl Abort, alloc: Global, sig: &mut Signature) -> Result<(), SigError>
     requires before { Extends sig.old start }
     ensures grown { Extends sig.new start }
@@ -122,7 +121,7 @@ fn add_c(rt: &impl Abort, alloc: Global, sig: &mut Signature) -> Result<(), SigE
     Ok(())
 }
 
-// Declares E, Stream, `f` and `c`.
+/// Declares E, Stream, `f` and `c`.
 fn declare(rt: &impl Abort, alloc: Global, sig: &mut Signature)
     requires before { Extends sig.old start }
     ensures grown { Extends sig.new start }
@@ -133,7 +132,7 @@ fn declare(rt: &impl Abort, alloc: Global, sig: &mut Signature)
     assert_eq!(rt; add_c(rt, alloc, sig), Ok(()));
 }
 
-// E, Stream, `f` and `c`.
+/// E, Stream, `f` and `c`.
 pub(crate) fn declared(rt: &impl Abort, alloc: Global) -> Result<Signature, SigError>
     ensures grown { IfOk result (λ sig. Extends sig start) }
 {
@@ -143,6 +142,7 @@ pub(crate) fn declared(rt: &impl Abort, alloc: Global) -> Result<Signature, SigE
     Ok(sig)
 }
 
+/// The arguments of these numbers.
 pub(crate) fn args(alloc: Global, numbers: &[u32]) -> Result<Args, AllocError> {
     let mut args = Args::new(alloc);
     for number in numbers {
@@ -151,7 +151,7 @@ pub(crate) fn args(alloc: Global, numbers: &[u32]) -> Result<Args, AllocError> {
     Ok(args)
 }
 
-// Makes a term that is well sorted and gets this number.
+/// Makes a term that is well sorted and gets this number.
 pub(crate) fn make(
     rt: &impl Abort,
     table: &mut TermTable,
@@ -168,7 +168,7 @@ pub(crate) fn make(
     Ok(())
 }
 
-// Numbers 2 to 7: `c`, its tail, whether they are equal, `(f c)`, `b`, and whether these are.
+/// Numbers 2 to 7: `c`, its tail, whether they are equal, `(f c)`, `b`, and whether these are.
 fn make_streams(
     rt: &impl Abort,
     alloc: Global,
@@ -186,8 +186,8 @@ fn make_streams(
     make(rt, table, sig, Core::Eq(TermId(5), TermId(6)), 7)
 }
 
-// Numbers 8 to 14: `(scons b c)`, whether it is `c` and whether not, its head, whether that is `b`, `(f (scons b c))`,
-// and whether that is.
+/// Numbers 8 to 14: `(scons b c)`, whether it is `c` and whether not, its head, whether that is `b`, `(f (scons b c))`,
+/// and whether that is.
 fn make_longer(
     rt: &impl Abort,
     alloc: Global,
@@ -206,7 +206,7 @@ fn make_longer(
     make(rt, table, sig, Core::Eq(TermId(13), TermId(6)), 14)
 }
 
-// Numbers 15 to 19: a conjunction, a disjunction, an equivalence, a choice and a test.
+/// Numbers 15 to 19: a conjunction, a disjunction, an equivalence, a choice and a test.
 fn make_formulas(
     rt: &impl Abort,
     alloc: Global,
@@ -229,7 +229,7 @@ fn make_formulas(
     make(rt, table, sig, Core::Test(SCONS, TermId(2)), 19)
 }
 
-// The terms of these tests.
+/// The terms of these tests.
 fn terms(rt: &impl Abort, alloc: Global, sig: &Signature) -> Result<TermTable, TermError>
     requires declared { Extends sig.now start }
     ensures sorted { IfOk result (λ table. AreSorted sig.now table) }
@@ -241,6 +241,7 @@ fn terms(rt: &impl Abort, alloc: Global, sig: &Signature) -> Result<TermTable, T
     Ok(table)
 }
 
+/// The nodes of these numbers.
 pub(crate) fn ids(alloc: Global, numbers: &[u64]) -> Result<NodeIds, ValueError> {
     let mut ids = Vec::new(alloc);
     for number in numbers {
@@ -249,7 +250,7 @@ pub(crate) fn ids(alloc: Global, numbers: &[u64]) -> Result<NodeIds, ValueError>
     Ok(NodeIds::new(ids))
 }
 
-// `a`, `b`, the stream of `a` alone in one node and in two, and the stream of `b` before it.
+/// `a`, `b`, the stream of `a` alone in one node and in two, and the stream of `b` before it.
 fn nodes(alloc: Global) -> Result<Vec<Node>, ValueError> {
     let mut nodes = Vec::new(alloc);
     nodes.push(Node::Con(A, ids(alloc, &[])?))?;
@@ -261,46 +262,14 @@ fn nodes(alloc: Global) -> Result<Vec<Node>, ValueError> {
     Ok(nodes)
 }
 
-// Whether the children of the node have numbers below the bound.
-pub(crate) fn has_children_below(node: &Node, bound: u64) -> bool
-    ensures value { IsTrue result → HasChildrenBelow bound node.now }
-{
-    match node {
-        Node::Con(_, children) => are_below(children.as_slice(), bound),
-        Node::Elem(_, _) => true,
-    }
-}
-
-fn are_below(children: &[NodeId], bound: u64) -> bool
-    ensures value { IsTrue result → All (λ child. child.0 < bound) children.now }
-{
-    for child in children {
-        if child.0 >= bound {
-            return false;
-        }
-    }
-    true
-}
-
-// Whether the children of all the nodes have numbers below the bound.
-pub(crate) fn have_children_below(nodes: &[Node], bound: u64) -> bool
-    ensures value { IsTrue result → All (HasChildrenBelow bound) nodes.now }
-{
-    for node in nodes {
-        if !has_children_below(node, bound) {
-            return false;
-        }
-    }
-    true
-}
-
+/// The graph of the nodes of these tests.
 fn graph(rt: &impl Abort, alloc: Global) -> Result<Graph, ValueError> {
     let nodes = nodes(alloc)?;
-    assert!(rt; have_children_below(&nodes, nodes.len() as u64));
+    assert!(rt; are_closed(&nodes));
     Ok(Graph::from_nodes(nodes))
 }
 
-// A table with a row for an argument, or without rows.
+/// A table with a row for an argument, or without rows.
 fn table(alloc: Global, row: Option<(u64, u64)>, default: u64) -> Result<Table, ValueError> {
     let mut rows = Vec::new(alloc);
     if let Some((arg, result)) = row {
@@ -315,8 +284,8 @@ fn table(alloc: Global, row: Option<(u64, u64)>, default: u64) -> Result<Table, 
     })
 }
 
-// The interpretation in which `f` gives this for the stream of `a` alone and `a` for the others, `c` is that stream, and a
-// tail that is not there is this.
+/// The interpretation in which `f` gives this for the stream of `a` alone and `a` for the others, `c` is that stream, and a
+/// tail that is not there is this.
 fn interp(rt: &impl Abort, alloc: Global, f: u64, stail: u64) -> Result<Interp, ValueError> {
     let mut funs = Vec::new(alloc);
     funs.push(table(alloc, Some((3, f)), 0)?)?;
@@ -331,7 +300,7 @@ fn interp(rt: &impl Abort, alloc: Global, f: u64, stail: u64) -> Result<Interp, 
     })
 }
 
-// Whether these are Boolean terms of the table.
+/// Whether these are Boolean terms of the table.
 fn are_boolean(table: &TermTable, terms: &[TermId]) -> bool
     ensures boolean { IsTrue result → All (IsBoolean table.now) terms.now }
 {
@@ -343,6 +312,7 @@ fn are_boolean(table: &TermTable, terms: &[TermId]) -> bool
     true
 }
 
+/// Whether this is a Boolean term of the table.
 fn is_boolean(table: &TermTable, t: TermId) -> bool
     ensures boolean { IsTrue result → IsBoolean table.now t }
 {
@@ -352,6 +322,7 @@ fn is_boolean(table: &TermTable, t: TermId) -> bool
     table.sort(t) == BOOL
 }
 
+/// The terms of these numbers.
 fn term_ids(alloc: Global, numbers: &[u32]) -> Result<Vec<TermId>, EvalError> {
     let mut terms = Vec::new(alloc);
     for number in numbers {
@@ -360,7 +331,7 @@ fn term_ids(alloc: Global, numbers: &[u32]) -> Result<Vec<TermId>, EvalError> {
     Ok(terms)
 }
 
-// The place of the first of these assertions that is not true.
+/// The place of the first of these assertions that is not true.
 fn first_untrue(
     rt: &impl Abort,
     alloc: Global,
@@ -378,6 +349,7 @@ fn first_untrue(
     holds(alloc, sig, interp, table, asserts)
 }
 
+/// Which assertion of a list is the first that is not true, for some lists.
 fn check_places(rt: &impl Abort, alloc: Global, sig: &Signature, i: &Interp, table: &TermTable)
     requires sorted { AreSorted sig.now table.now }
 {
@@ -392,6 +364,7 @@ fn check_places(rt: &impl Abort, alloc: Global, sig: &Signature, i: &Interp, tab
     }
 }
 
+/// The same for the terms of these tests, in an interpretation of streams.
 fn check_streams(rt: &impl Abort, alloc: Global, sig: &Signature)
     requires declared { Extends sig.now start }
 {
@@ -409,7 +382,7 @@ fn finds_the_first_untrue(rt: HostRuntime) -> Result<(), Fail> {
     Ok(())
 }
 
-// Whether the interpretation is one of the declarations.
+/// Whether the interpretation is one of the declarations.
 fn is_accepted(
     rt: &impl Abort,
     alloc: Global,
@@ -421,7 +394,7 @@ fn is_accepted(
     Ok(is_proper(sig, &interp))
 }
 
-// The last three have a result, and a default, that are of another sort or not there.
+/// The last three have a result, and a default, that are of another sort or not there.
 fn check_fitting(rt: &impl Abort, alloc: Global, sig: &Signature) {
     for (f, stail, want) in [(1, 2, true), (2, 2, false), (1, 0, false), (1, 6, false)] {
         assert_eq!(rt;

@@ -7,7 +7,8 @@ ghost use Rattle.std.specs.Prelude.{◌≡◌, ◌<◌, [], ◌∷◌, ◌++◌,
 ghost use Rattle.ct_terms.specs.Table.{AreSorted};
 ghost use Rattle.ct_eval.specs.Interpretation.{IsProper};
 ghost use Rattle.ct_eval.specs.Index.{IsIndex};
-ghost use Rattle.ct_eval.specs.Valued.{IsValuation, HaveNodes};
+ghost use Rattle.ct_eval.specs.Valued.{IsValuation};
+ghost use Rattle.ct_eval.specs.Step.{HaveNodes};
 
 use crate::error::EvalError;
 use crate::index::{Index, indexed};
@@ -19,7 +20,9 @@ use ct_values::{NodeId, NodeIds, SharedGraph, first_nodes};
 use std::alloc::Global;
 
 /// A node for each term of the table, which is the same value as the term in the interpretation (SMT-LIB 2.7, section
-/// 5.3). The graph is that of the interpretation, with new nodes behind it where a term has a value of its own.
+/// 5.3). The graph is that of the interpretation, with new nodes behind it where a term has a value of its own: each new
+/// node is that of a term. A term's node is the first of the graph that is its value, so that two terms have one node
+/// exactly where their values are the same.
 pub fn evaluate(
     alloc: Global,
     sig: &Signature,
@@ -36,10 +39,9 @@ pub fn evaluate(
     let funs = indexed(alloc, &shared, interp.funs.as_slice())?;
     let offs = indexed(alloc, &shared, interp.offs.as_slice())?;
     let nodes = all_nodes(alloc, sig, interp, &funs, &offs, &mut shared, table)?;
-    Ok(Valuation {
-        graph: shared.into_graph(),
-        nodes: NodeIds::new(nodes),
-    })
+    let graph = shared.into_graph();
+    let nodes = NodeIds::new(nodes);
+    Ok(Valuation { graph, nodes })
 }
 
 // A node for each term of the table. The two maps have the rows of the interpretation's tables.

@@ -4,11 +4,11 @@ ghost use Rattle.ct_sorts.specs.Declarations.{start};
 ghost use Rattle.ct_sorts.specs.Grown.{Extends};
 ghost use Rattle.ct_terms.specs.Table.{AreSorted};
 
-use crate::tests::{add_e, add_sort, args, ctor, declared, have_children_below, ids, make};
+use crate::tests::{add_e, add_sort, args, ctor, declared, ids, make};
 use crate::{EvalError, Interp, Row, Rows, Table, Tables, evaluate, is_proper};
 use ct_sorts::{CtorId, FunId, Kind, Name, SelId, SigError, Signature, SortId, growth};
 use ct_terms::{Args, Core, TermError, TermId, TermTable};
-use ct_values::{Graph, Node, NodeId, ValueError, value_text};
+use ct_values::{Graph, Node, NodeId, ValueError, are_closed, value_text};
 use std::alloc::Global;
 use std::process::Abort;
 use std::test::Fail;
@@ -41,7 +41,7 @@ fn graph(rt: &impl Abort, alloc: Global, steps: &[Step]) -> Result<Graph, ValueE
     for (c, children) in steps {
         nodes.push(Node::Con(*c, ids(alloc, children)?))?;
     }
-    assert!(rt; have_children_below(&nodes, nodes.len() as u64));
+    assert!(rt; are_closed(&nodes));
     Ok(Graph::from_nodes(nodes))
 }
 

@@ -1,7 +1,7 @@
 -- A piece that is written front by front.
-use Rattle.std.proofs.Common.{◌≡◌, ℕ, List, ◌++◌, length, take, drop, Option, Some, None, refl, sym, ◌∙◌, ap, arith, append_assoc, length-append}
+use Rattle.std.proofs.Common.{◌≡◌, ℕ, ◌<◌, List, ◌++◌, length, take, drop, Option, Some, None, refl, sym, ◌∙◌, ap, arith, append_assoc, length-append}
 use Rattle.std.proofs.lemmas.List.{take_at, take-append-drop}
-use Rattle.ct_io.specs.Bytes.{appended, GrewByFront}
+use Rattle.ct_io.specs.Bytes.{appended, GrewByPart}
 
 -- the front of the piece was written, and the rest is still to come
 pub record IsWrittenUpTo (piece front rest : List ℕ) (old now : Option (List ℕ)) : Type 0 where
@@ -13,11 +13,11 @@ pub appended-appended : (xs ys : List ℕ) (old : Option (List ℕ)) → appende
 appended-appended xs ys None = refl
 appended-appended xs ys (Some before) = ap (λ (bytes : List ℕ). Some bytes) (append_assoc before xs ys)
 
--- what was written is a front of the piece
-pub written_front : {piece front rest : List ℕ} {old now : Option (List ℕ)} → IsWrittenUpTo piece front rest old now → GrewByFront piece old now
-written_front {piece} {front} {rest} {old} {now} h = record {
+-- what was written is a front of the piece, and not the whole piece where something is left
+pub written_part : {piece front rest : List ℕ} {old now : Option (List ℕ)} → IsWrittenUpTo piece front rest old now → 0 < length rest → GrewByPart piece old now
+written_part {piece} {front} {rest} {old} {now} h some = record {
   count = length front;
-  within = rw (← h.split) (rw length-append (omega arith));
+  short = rw (← h.split) (rw length-append (omega (arith, some)));
   grown = h.grown ∙ ap (λ (bytes : List ℕ). appended bytes old) (sym (take_at front rest (length front) refl) ∙ ap (λ (bytes : List ℕ). take (length front) bytes) h.split);
 }
 

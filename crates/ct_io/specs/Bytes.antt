@@ -15,6 +15,12 @@ pub record GrewByFront (piece : List ℕ) (old new : Option (List ℕ)) : Type 0
   pub within : count ≤ length piece
   pub grown : new ≡ appended (take count piece) old
 
+-- the new bytes are the old ones with a front of the piece behind them, which is not the whole piece
+pub record GrewByPart (piece : List ℕ) (old new : Option (List ℕ)) : Type 0 where
+  pub count : ℕ
+  pub short : count < length piece
+  pub grown : new ≡ appended (take count piece) old
+
 -- the first n bytes that are left stand at the front of the buffer, whose rest is as before
 pub record Reads (left : List ℕ) (n : ℕ) (old new : List ℕ) : Type 0 where
   pub there : n ≤ length left

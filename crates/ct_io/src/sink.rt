@@ -1,5 +1,5 @@
 ghost use Rattle.std.specs.Prelude.{◌≡◌, ◌≤◌, ◌<◌, ℕ, List, Option, take, length, OnOk, OnErr, IfOk};
-ghost use Rattle.ct_io.specs.Bytes.{appended, GrewByFront};
+ghost use Rattle.ct_io.specs.Bytes.{appended, GrewByPart};
 ghost use Rattle.ct_io.specs.Fault.{HasCause};
 
 use std::alloc::{AllocError, AllocFailed};
@@ -52,10 +52,10 @@ pub trait Sink {
         ensures cause { HasCause SinkError.Fault (faults self.old) (faults self.new) result };
 }
 
-/// Writes the whole piece. After a refusal a front of the piece was written.
+/// Writes the whole piece. After a refusal a front of the piece was written, and not the whole piece.
 pub fn write_all<K: Sink>(sink: &mut K, piece: &[u8]) -> Result<(), SinkError>
     ensures ok { OnOk result (K.written sink.new ≡ appended piece.now (K.written sink.old)) }
-    ensures refused { OnErr result (GrewByFront piece.now (K.written sink.old) (K.written sink.new)) }
+    ensures refused { OnErr result (GrewByPart piece.now (K.written sink.old) (K.written sink.new)) }
     ensures cause { HasCause SinkError.Fault (K.faults sink.old) (K.faults sink.new) result }
 {
     let mut rest = piece;

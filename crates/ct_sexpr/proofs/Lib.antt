@@ -19,6 +19,7 @@ pub mod Decided
 pub mod Fronts
 pub mod Readings
 pub mod Pieces
+pub mod WholeTexts
 pub mod ErrorPlaces
 pub mod Numbers
 pub mod Spelled

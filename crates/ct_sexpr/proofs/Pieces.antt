@@ -10,7 +10,7 @@ use Rattle.ct_sexpr.proofs.Texts.{layout_has_none}
 use Rattle.ct_sexpr.proofs.Fronts.{command_front, behind_is_shorter}
 use Rattle.ct_sexpr.proofs.Further.{behind_layout-append, command_stays, error_stays}
 use Rattle.ct_sexpr.proofs.Decided.{decided, standing_is_error, at_end}
-use Rattle.ct_sexpr.proofs.Readings.{one_text}
+use Rattle.ct_sexpr.proofs.Readings.{one_text, one_so_far}
 
 line_feeds-append : (xs ys : List ℕ) → line_feeds (xs ++ ys) ≡ line_feeds xs + line_feeds ys
 line_feeds-append xs ys = sum_by-append (λ b. cond (eqb b 10) 1 0) xs ys
@@ -65,9 +65,10 @@ abbrev LeftBehind : ℕ → List ℕ → List Located → Standing → Type 0
 LeftBehind line bytes cs x =
     (at : ℕ) × (left : List ℕ) × HasStanding at left x
     × ((tail : List ℕ) (ds : List Located) (y : Ending) → Reads at (left ++ tail) ds y → Reads line (bytes ++ tail) (cs ++ ds) y)
+    × ((tail : List ℕ) (ds : List Located) (y : Standing) → ReadsSoFar at (left ++ tail) ds y → ReadsSoFar line (bytes ++ tail) (cs ++ ds) y)
 
 left_behind : (line : ℕ) (bytes : List ℕ) (cs : List Located) (x : Standing) → ReadsSoFar line bytes cs x → LeftBehind line bytes cs x
-left_behind line bytes [] x r = (line, bytes, r, λ tail ds y s. s)
+left_behind line bytes [] x r = (line, bytes, r, λ tail ds y s. s, λ tail ds y s. s)
 left_behind line bytes (c ∷ cs) x r =
     let later = left_behind (line_of_rest line bytes r.0) r.0 cs x r.3 in
     let first : record { command = c.command; line = line_of_rest line bytes (behind_layout bytes) } ≡ c = ap (λ n. record { command = c.command; line = n }) (sym r.2) in (
@@ -77,6 +78,9 @@ left_behind line bytes (c ∷ cs) x r =
       λ tail ds y s.
           subst (λ d. Reads line (bytes ++ tail) (d ∷ (cs ++ ds)) y) first
           (first_command line bytes tail c.command r.0 (cs ++ ds) y r.1 (later.3 tail ds y s)),
+      λ tail ds y s.
+          subst (λ d. ReadsSoFar line (bytes ++ tail) (d ∷ (cs ++ ds)) y) first
+          (first_so_far line bytes tail c.command r.0 (cs ++ ds) y r.1 (later.4 tail ds y s)),
     )
 
 -- what was refused so far reads so whatever comes behind it
@@ -87,6 +91,15 @@ refused_so_far line bytes tail cs code at r =
     let error = standing_error l.0 l.1 tail code l.2.0 l.2.1 in
     subst (λ ds. Reads line (bytes ++ tail) ds (lexical code at)) (append-nil cs)
     (l.3 tail [] (lexical code at) (subst (λ n. Reads l.0 (l.1 ++ tail) [] (lexical code n)) (sym l.2.2) error))
+
+-- and stays so where it may still go on
+pub refused_goes_on : (line : ℕ) (bytes tail : List ℕ) (cs : List Located) (code at : ℕ) →
+    ReadsSoFar line bytes cs (refused code at) → ReadsSoFar line (bytes ++ tail) cs (refused code at)
+refused_goes_on line bytes tail cs code at r =
+    let l = left_behind line bytes cs (refused code at) r in
+    let error = error_so_far l.0 l.1 tail code l.2.0 l.2.1 in
+    subst (λ ds. ReadsSoFar line (bytes ++ tail) ds (refused code at)) (append-nil cs)
+    (l.4 tail [] (refused code at) (subst (λ n. ReadsSoFar l.0 (l.1 ++ tail) [] (refused code n)) (sym l.2.2) error))
 
 abbrev HasReadingSoFar : ℕ → List ℕ → Type 0
 HasReadingSoFar line bytes = (cs : List Located) × (x : Standing) × ReadsSoFar line bytes cs x
@@ -127,3 +140,11 @@ waiting_so_far line bytes tail cs ds x r s =
     let l = left_behind line bytes cs waiting r in
     let more = some_text l.0 (l.1 ++ tail) in
     (more.0, (one_text line (bytes ++ tail) (cs ++ more.0) ds more.1 x (l.3 tail more.0 more.1 more.2) s).0)
+
+-- and so they are where the longer bytes may go on
+pub waiting_goes_on : (line : ℕ) (bytes tail : List ℕ) (cs ds : List Located) (y : Standing) →
+    ReadsSoFar line bytes cs waiting → ReadsSoFar line (bytes ++ tail) ds y → (es : List Located) × (ds ≡ cs ++ es)
+waiting_goes_on line bytes tail cs ds y r s =
+    let l = left_behind line bytes cs waiting r in
+    let more = some_so_far l.0 (l.1 ++ tail) in
+    (more.0, (one_so_far line (bytes ++ tail) (cs ++ more.0) ds more.1 y (l.4 tail more.0 more.1 more.2) s).0)

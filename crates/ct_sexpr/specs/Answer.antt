@@ -1,8 +1,9 @@
 -- What a reader answers.
-use Rattle.std.specs.Prelude.{◌≡◌, ℕ, ◌<◌, ◌⊎◌, true, false, List, ◌++◌, length, Result, Ok, Err}
+use Rattle.std.specs.Prelude.{◌≡◌, ℕ, ◌<◌, ◌⊎◌, true, false, List, [], ◌∷◌, ◌++◌, length, Result, Ok, Err}
 use Rattle.ct_sexpr.specs.Layout.{behind_layout, line_of_rest}
 use Rattle.ct_sexpr.specs.Expression.{Expression}
 use Rattle.ct_sexpr.specs.Reading.{BeginsCommand, HasError, HasStandingError, IsUnfinished, IsLayout, HasNoCommand}
+use Rattle.ct_sexpr.specs.Text.{Located, Ending, clean, lexical, Reads, Standing, waiting, refused, ReadsSoFar}
 use Rattle.ct_sexpr.specs.View.{expression_of}
 use Rattle.ct_sexpr.specs.Unread.{Unread}
 use Rattle.ct_sexpr.specs.declared.reader.Next.{Next}
@@ -59,3 +60,29 @@ Answers old new (Ok Need) = Needs old new
 Answers old new (Ok End) = Ends old new
 Answers old new (Err (Lexical code line)) = Refuses old new code line
 Answers old new (Err NoMemory) = new ≡ old
+
+-- the command is the first of each text that begins with the bytes, before those of what is left
+pub record IsFirst (old new : Unread) (first : Located) : Type 0 where
+  pub ended : (tail : List ℕ) (cs : List Located) (x : Ending) → Reads new.line (new.bytes ++ tail) cs x → Reads old.line (old.bytes ++ tail) (first ∷ cs) x
+  pub so_far : (tail : List ℕ) (cs : List Located) (x : Standing) → ReadsSoFar new.line (new.bytes ++ tail) cs x → ReadsSoFar old.line (old.bytes ++ tail) (first ∷ cs) x
+
+-- an error with the number stands in the bytes
+abbrev pub ErrorStands : List ℕ → ℕ → Type 0
+ErrorStands bytes code = (place : List ℕ) × HasStandingError bytes code place
+
+-- The text has no command and ends at the error. Where the error stands, as it does before the input has ended, so it is
+-- with each text that begins with the bytes.
+pub record IsLast (old : Unread) (code line : ℕ) : Type 0 where
+  pub ended : Reads old.line old.bytes [] (lexical code line)
+  pub stands : old.ended ≡ false → ErrorStands old.bytes code
+  pub stays : ErrorStands old.bytes code → (tail : List ℕ) → Reads old.line (old.bytes ++ tail) [] (lexical code line)
+  pub so_far : ErrorStands old.bytes code → (tail : List ℕ) → ReadsSoFar old.line (old.bytes ++ tail) [] (refused code line)
+
+-- What each answer says of the whole text. So the commands that a reader gives, answer by answer, are those of the text,
+-- on their lines, and its last answer is how the text ends or how it stands so far.
+abbrev pub ReadsOn : Unread → Unread → Result Next ReadError → Type 0
+ReadsOn old new (Ok (Command e line)) = IsFirst old new (record { command = expression_of e; line = line })
+ReadsOn old new (Ok Need) = ReadsSoFar old.line old.bytes [] waiting
+ReadsOn old new (Ok End) = Reads old.line old.bytes [] clean
+ReadsOn old new (Err (Lexical code line)) = IsLast old code line
+ReadsOn old new (Err NoMemory) = Unit {0}

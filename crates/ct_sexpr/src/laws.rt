@@ -62,7 +62,7 @@ pub fn error_places()
 /// comes do not matter. The command that bytes begin with is the first of each text that begins with these bytes, on
 /// its line, and the commands of what is left follow; an error that stands in bytes ends each such text, on its line. So
 /// a text that is refused so far is read so whatever comes behind it, and where a text waits, its commands so far are
-/// the first, on their lines, whatever comes behind it.
+/// the first, on their lines, whatever comes behind it, and whether the longer text ends or may go on.
 pub fn one_text()
     ensures one_text { (line : ℕ) (bytes : List ℕ) (cs ds : List Located) (x y : Ending) → Reads line bytes cs x → Reads line bytes ds y → (ds ≡ cs) × (y ≡ x) }
     ensures some_text { (line : ℕ) (bytes : List ℕ) → (cs : List Located) × (x : Ending) × Reads line bytes cs x }
@@ -80,8 +80,12 @@ pub fn one_text()
         → HasStandingError bytes code place → ReadsSoFar line (bytes ++ tail) [] (refused code (line_of_rest line bytes place)) }
     ensures refused_so_far { (line : ℕ) (bytes tail : List ℕ) (cs : List Located) (code at : ℕ)
         → ReadsSoFar line bytes cs (refused code at) → Reads line (bytes ++ tail) cs (lexical code at) }
+    ensures refused_goes_on { (line : ℕ) (bytes tail : List ℕ) (cs : List Located) (code at : ℕ)
+        → ReadsSoFar line bytes cs (refused code at) → ReadsSoFar line (bytes ++ tail) cs (refused code at) }
     ensures waiting_so_far { (line : ℕ) (bytes tail : List ℕ) (cs ds : List Located) (x : Ending)
         → ReadsSoFar line bytes cs waiting → Reads line (bytes ++ tail) ds x → (es : List Located) × (ds ≡ cs ++ es) }
+    ensures waiting_goes_on { (line : ℕ) (bytes tail : List ℕ) (cs ds : List Located) (y : Standing)
+        → ReadsSoFar line bytes cs waiting → ReadsSoFar line (bytes ++ tail) ds y → (es : List Located) × (ds ≡ cs ++ es) }
 {}
 
 /// The laws of what is written, for whoever proves something about texts that are printed and read back. The function does

@@ -16,6 +16,8 @@ mod sexpr;
 mod tests;
 #[cfg(test)]
 mod text_tests;
+#[cfg(test)]
+mod token_table;
 mod write;
 
 pub use bytes::Bytes;

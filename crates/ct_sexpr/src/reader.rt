@@ -1,6 +1,6 @@
 ghost use Rattle.std.specs.Prelude.{◌≡◌, ℕ, ◌+◌, ◌^◌, ◌<◌, List, [], ◌++◌, true, false, length, OnOk, OnErr, IfOk, IfErr};
 ghost use Rattle.ct_sexpr.specs.Scanning.{Reached};
-ghost use Rattle.ct_sexpr.specs.Answer.{Answers};
+ghost use Rattle.ct_sexpr.specs.Answer.{Answers, ReadsOn};
 
 use crate::error::ReadError;
 use crate::scan::{Scanned, scan_bytes};
@@ -27,8 +27,10 @@ pub enum Next {
 
 /// Reads commands from bytes that are fed in any pieces.
 ///
-/// Each byte is read once, whatever the pieces are, and the bytes of commands that were given are
-/// dropped where they are more than those that are left, so that the moves take linear time in all.
+/// Each byte is read once, whatever the pieces are. Only a byte at which an error stands, or at which
+/// memory runs out, is not taken, and each later call of `next` looks at it again. The bytes of
+/// commands that were given are dropped where they are more than those that are left, so that the
+/// moves take linear time in all.
 #[derive(Drop)]
 pub struct Reader {
     buffer: Vec<u8>,
@@ -113,6 +115,7 @@ impl Reader {
     /// command once it has ended, and every other error at once. After one each later call gives the same, or `NoMemory`, which changes nothing.
     pub fn next(&mut self) -> Result<Next, ReadError>
         ensures answers { Answers self.old self.new result }
+        ensures reads { ReadsOn self.old self.new result }
     {
         let unread = &self.buffer[self.scanned..];
         let Scanned { count, outcome } = scan_bytes(&mut self.scanner, unread);

@@ -1,14 +1,13 @@
 -- The maps of a signature with a block behind them.
-use Rattle.std.proofs.Common.{◌≡◌, ℕ, zero, suc, ◌+◌, ◌<◌, ◌≤◌, List, [], ◌∷◌, ◌++◌, length, map, refl, sym, ◌∙◌, ap, subst, arith, length-append}
+use Rattle.std.proofs.Common.{◌≡◌, ℕ, ◌+◌, ◌≤◌, List, [], ◌++◌, length, map, refl, sym, ◌∙◌, ap, subst, arith, length-append}
 use Rattle.std.proofs.lemmas.List.{length-map}
-use Rattle.ct_sorts.specs.declared.ids.SortId.{SortId}
 use Rattle.ct_sorts.specs.declared.ids.Kind.{Kind}
 use Rattle.ct_sorts.specs.declared.block.SortDecl.{SortDecl}
 use Rattle.ct_sorts.specs.declared.entries.SortEntry.{SortEntry}
 use Rattle.ct_sorts.specs.declared.entries.CtorEntry.{CtorEntry}
 use Rattle.ct_sorts.specs.declared.entries.SelEntry.{SelEntry}
 use Rattle.ct_sorts.specs.declared.entries.FunctionEntry.{FunctionEntry}
-use Rattle.ct_sorts.specs.Declarations.{Declarations, Sort, Constructor, Selector, sort_names, ctor_names, sel_names, names, definition_names, most_sorts, most_ctors, most_sels}
+use Rattle.ct_sorts.specs.Declarations.{Declarations, Sort, Constructor, Selector, sort_names, ctor_names, sel_names, function_names, definition_names, most_sorts, most_ctors, most_sels}
 use Rattle.ct_sorts.specs.Lookup.{AreDistinct, names_of}
 use Rattle.ct_sorts.specs.Consistent.{IsConsistent}
 use Rattle.ct_sorts.specs.Kept.{declared, sort_of, ctor_of, sel_of}
@@ -62,12 +61,12 @@ module _ (sorts : List (List ℕ × SortEntry)) (ctors : List (List ℕ × CtorE
     pub ctors_fresh : AreDistinct (map (λ (t : Constructor). t.name) (map ctor_of ctors ++ new_ctors (length sorts) (length sels) block))
     ctors_fresh =
         subst (λ xs. AreDistinct (map (λ (t : Constructor). t.name) (map ctor_of ctors ++ xs))) (sym same_ctors)
-        (AreDistinct-middle [] (ctor_names (with_block (declared sorts ctors sels functions definitions) kind block)) (sel_names (with_block (declared sorts ctors sels functions definitions) kind block) ++ (names (declared sorts ctors sels functions definitions) ++ definition_names (declared sorts ctors sels functions definitions))) consistent.distinct)
+        (AreDistinct-middle [] (ctor_names (with_block (declared sorts ctors sels functions definitions) kind block)) (sel_names (with_block (declared sorts ctors sels functions definitions) kind block) ++ (function_names (declared sorts ctors sels functions definitions) ++ definition_names (declared sorts ctors sels functions definitions))) consistent.distinct)
 
     pub sels_fresh : AreDistinct (map (λ (s : Selector). s.name) (map sel_of sels ++ new_sels (sort_of_field (names_of sorts) own) (length ctors) (block_ctors block)))
     sels_fresh =
         subst (λ xs. AreDistinct (map (λ (s : Selector). s.name) (map sel_of sels ++ xs))) (sym same_sels)
-        (AreDistinct-middle (ctor_names (with_block (declared sorts ctors sels functions definitions) kind block)) (sel_names (with_block (declared sorts ctors sels functions definitions) kind block)) (names (declared sorts ctors sels functions definitions) ++ definition_names (declared sorts ctors sels functions definitions)) consistent.distinct)
+        (AreDistinct-middle (ctor_names (with_block (declared sorts ctors sels functions definitions) kind block)) (sel_names (with_block (declared sorts ctors sels functions definitions) kind block)) (function_names (declared sorts ctors sels functions definitions) ++ definition_names (declared sorts ctors sels functions definitions)) consistent.distinct)
 
 -- how much there is with the block
 pub lengths_with : (d : Declarations) (kind : Kind) (block : List SortDecl) → (length (with_block d kind block).sorts ≡ length d.sorts + length block) × (length (with_block d kind block).ctors ≡ length d.ctors + length (block_ctors block)) × (length (with_block d kind block).sels ≡ length d.sels + length (all_fields (block_ctors block)))
@@ -77,9 +76,3 @@ lengths_with d kind block =
       omega (arith, length-append d.ctors (new_ctors (length d.sorts) (length d.sels) block), length-new_ctors (length d.sorts) (length d.sels) block),
       omega (arith, length-append d.sels (new_sels find (length d.ctors) (block_ctors block)), length-new_sels find (length d.ctors) (block_ctors block)),
     )
-
--- what is not at most a number is above it
-pub above : (n m : ℕ) → (m ≤ n → ⊥) → n < m
-above n zero h = absurd (h (omega arith))
-above zero (suc m) h = omega arith
-above (suc n) (suc m) h = omega (arith, above n m (λ l. h (omega (arith, l))))

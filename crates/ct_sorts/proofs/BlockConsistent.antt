@@ -1,25 +1,26 @@
 -- With an accepted block the declarations still fit together.
-use Rattle.std.proofs.Common.{◌≡◌, ℕ, zero, suc, ◌+◌, ◌<◌, ◌≤◌, ◌⊎◌, Bool, true, false, ◌||◌, ◌==◌, List, [], ◌∷◌, ◌++◌, length, map, take, slice_get, Option, Some, None, refl, sym, ◌∙◌, ap, subst, inl, inr, ⊎_elim, arith, length-append}
-use Rattle.std.proofs.lemmas.Bool.{true≢false, false≢true}
+use Rattle.std.proofs.Common.{◌≡◌, ℕ, zero, suc, ◌+◌, ◌<◌, ◌≤◌, ◌⊎◌, Bool, true, false, ◌||◌, ◌==◌, List, [], ◌∷◌, ◌++◌, length, map, slice_get, Some, refl, sym, ◌∙◌, ap, subst, inl, inr, ⊎_elim, arith}
+use Rattle.std.proofs.Math.Nat.{lt_of_not-le}
+use Rattle.std.proofs.lemmas.Bool.{true≢false}
 use Rattle.std.proofs.lemmas.List.{append_assoc, append-nil, map-append, length-map}
 use Rattle.std.proofs.lemmas.Option.{none-some, same_Some}
-use Rattle.std.specs.List.{flat_map, list_any}
+use Rattle.std.specs.List.{list_any}
 use Rattle.ct_sorts.specs.declared.ids.SortId.{SortId}
 use Rattle.ct_sorts.specs.declared.ids.Kind.{Kind}
 use Rattle.ct_sorts.specs.declared.ids.Kind.TheVariants.{Data, Codata}
 use Rattle.ct_sorts.specs.declared.block.Field.{Field}
 use Rattle.ct_sorts.specs.declared.block.CtorDecl.{CtorDecl}
 use Rattle.ct_sorts.specs.declared.block.SortDecl.{SortDecl}
-use Rattle.ct_sorts.specs.Names.{IsListed, IsUnavailable, IsUnavailableSort, IsUnfit, HasRefused, HasUnavailable, HasUnavailableSort}
+use Rattle.ct_sorts.specs.Names.{IsListed, IsUnavailable, IsUnavailableSort, HasRefused, HasUnavailable, HasUnavailableSort}
 use Rattle.ct_sorts.specs.Lookup.{AreDistinct}
-use Rattle.ct_sorts.specs.Declarations.{Declarations, Sort, Constructor, Selector, start, sort_names, symbol_names, ctor_names, sel_names, ctor_ids, sel_ids, names, definition_names, most_sorts, most_ctors, most_sels}
+use Rattle.ct_sorts.specs.Declarations.{Declarations, Sort, Constructor, Selector, start, sort_names, symbol_names, ctor_names, sel_names, ctor_ids, sel_ids, function_names, definition_names, most_sorts, most_ctors, most_sels}
 use Rattle.ct_sorts.specs.Founded.{IsFounded}
-use Rattle.ct_sorts.specs.Consistent.{AreFew, AreFit, AreAvailable, FitsKind, IsConsistent}
+use Rattle.ct_sorts.specs.Consistent.{FitsKind, IsConsistent}
 use Rattle.ct_sorts.specs.Block.{block_ctors, all_fields, block_names, ctor_symbols, new_sorts, new_ctors, new_sels, sort_of_field, with_block, HasNameTaken, has_no_constructor, IsOverLimits}
-use Rattle.ct_sorts.proofs.Counts.{occurrences, occurrences-append, occurrences-listed, listed-occurrences, one_if_same, AreDistinct-once, AreOnce-distinct}
+use Rattle.ct_sorts.proofs.Counts.{occurrences, occurrences-append, occurrences-listed, listed-occurrences, AreDistinct-once, AreOnce-distinct}
 use Rattle.ct_sorts.proofs.NumberedLemmas.{AreDistinct-push}
-use Rattle.ct_sorts.proofs.Lists.{slice_get_right}
-use Rattle.ct_sorts.proofs.ConsistentLemmas.{IsMore, IsConsistent-more, IsUnavailable-later, begins}
+use Rattle.ct_sorts.proofs.ConsistentLemmas.{IsMore, IsConsistent-more, begins}
+use Rattle.ct_sorts.proofs.AdmitLemmas.{IsUnavailable-left}
 use Rattle.ct_sorts.proofs.BlockLemmas.{names-new_sorts, names-new_ctors, names-new_sels, length-new_sorts, length-new_ctors, length-new_sels, ctors-new_sorts, owners-new_ctors, sels-new_ctors, owners-new_sels, places-new_sels, kinds-new_sorts, sorts-new_sels, sort_of_field-within}
 
 -- names that are not refused in turn differ from those that are there and from each other
@@ -41,10 +42,9 @@ occurrences-ctor_symbols name [] = omega arith
 occurrences-ctor_symbols name (c ∷ ctors) =
     omega (arith, occurrences-ctor_symbols name ctors, occurrences-append name (map (λ (f : Field). f.name) c.fields) (ctor_symbols ctors), ap (occurrences name) (map-append (λ (f : Field). f.name) c.fields (all_fields ctors)), occurrences-append name (map (λ (f : Field). f.name) c.fields) (map (λ (f : Field). f.name) (all_fields ctors)))
 
+-- what is not above a number is at most it
 not_above : (n m : ℕ) → (n < m → ⊥) → m ≤ n
-not_above n zero h = omega arith
-not_above zero (suc m) h = absurd (h (omega arith))
-not_above (suc n) (suc m) h = omega (arith, not_above n m (λ l. h (omega (arith, l))))
+not_above n m h = omega (arith, lt_of_not-le h)
 
 -- what passes no test
 none_pass : {X : Type 0} (test : X → Bool) (xs : List X) → list_any test xs ≡ false → (i : ℕ) (x : X) → slice_get xs i ≡ Some x → test x ≡ false
@@ -92,7 +92,7 @@ IsConsistent-with_block d kind block c is_data fresh built room founded = IsCons
     free name there h =
         let found = listed-occurrences (ctor_symbols (block_ctors block)) name there in
         let p = fit_after IsUnavailable (symbol_names d) (ctor_symbols (block_ctors block)) no_symbol found.0 name found.1 in
-        p.1 (IsUnavailable-later p.0 name h)
+        p.1 (IsUnavailable-left [] p.0 name h)
 
     once : (name : List ℕ) → occurrences name (symbol_names (with_block d kind block)) ≤ 1
     once name =
@@ -101,11 +101,11 @@ IsConsistent-with_block d kind block c is_data fresh built room founded = IsCons
           AreOnce-distinct (symbol_names d ++ ctor_symbols (block_ctors block)) (distinct_after IsUnavailable (λ _ _ h. inl h) (symbol_names d) (ctor_symbols (block_ctors block)) c.distinct no_symbol) name,
           occurrences-append name (symbol_names d) (ctor_symbols (block_ctors block)),
           occurrences-ctor_symbols name (block_ctors block),
-          occurrences-append name (ctor_names d) (sel_names d ++ (names d ++ definition_names d)),
-          occurrences-append name (sel_names d) (names d ++ definition_names d),
-          occurrences-append name (names d) (definition_names d),
-          occurrences-append name (ctor_names (with_block d kind block)) (sel_names (with_block d kind block) ++ (names d ++ definition_names d)),
-          occurrences-append name (sel_names (with_block d kind block)) (names d ++ definition_names d),
+          occurrences-append name (ctor_names d) (sel_names d ++ (function_names d ++ definition_names d)),
+          occurrences-append name (sel_names d) (function_names d ++ definition_names d),
+          occurrences-append name (function_names d) (definition_names d),
+          occurrences-append name (ctor_names (with_block d kind block)) (sel_names (with_block d kind block) ++ (function_names d ++ definition_names d)),
+          occurrences-append name (sel_names (with_block d kind block)) (function_names d ++ definition_names d),
           ap (occurrences name) (map-append (λ (t : Constructor). t.name) d.ctors (new_ctors (length d.sorts) (length d.sels) block) ∙ ap (λ ns. ctor_names d ++ ns) new_ctor_names),
           occurrences-append name (ctor_names d) (map (λ (t : CtorDecl). t.name) (block_ctors block)),
           ap (occurrences name) (map-append (λ (t : Selector). t.name) d.sels (new_sels (sort_of_field (sort_names d) (block_names block)) (length d.ctors) (block_ctors block)) ∙ ap (λ ns. sel_names d ++ ns) new_sel_names),

@@ -1,5 +1,6 @@
 -- Where a block's sorts, constructors and fields stand among what the block adds.
-use Rattle.std.proofs.Common.{◌≡◌, ℕ, zero, suc, ◌+◌, ◌<◌, ◌≤◌, List, [], ◌∷◌, ◌++◌, length, map, slice_get, Some, refl, sym, ◌∙◌, ap, subst, arith, length-append}
+use Rattle.std.proofs.Common.{◌≡◌, ℕ, zero, suc, ◌+◌, List, [], ◌∷◌, ◌++◌, length, slice_get, Some, refl, sym, ◌∙◌, ap, subst, arith}
+use Rattle.std.proofs.Math.Nat.{add-zero, zero-add}
 use Rattle.std.proofs.lemmas.Option.{none-some, same_Some}
 use Rattle.ct_sorts.specs.declared.ids.SortId.{SortId}
 use Rattle.ct_sorts.specs.declared.ids.Kind.{Kind}
@@ -10,6 +11,12 @@ use Rattle.ct_sorts.specs.Declarations.{Sort, Constructor, Selector, ctor_ids, s
 use Rattle.ct_sorts.specs.Block.{block_ctors, all_fields, new_sorts, new_ctors, new_sels, ctors_of_sort, sels_of_ctor}
 use Rattle.ct_sorts.proofs.Lists.{slice_get_left, slice_get_right}
 use Rattle.ct_sorts.proofs.BlockLemmas.{new_sels-append, length-ctors_of_sort, length-sels_of_ctor, length-new_sels}
+
+regroup : (e l m : ℕ) → e + l + m ≡ e + (l + m)
+regroup e l m = omega arith
+
+shift : (l m p k : ℕ) → k ≡ l → l + m + p ≡ k + (m + p)
+shift l m p k e = omega arith
 
 -- a field's selector has the field's sort
 pub field_at : (find : List ℕ → SortId) (c q : ℕ) (fields : List Field) (p : ℕ) (f : Field) → slice_get fields p ≡ Some f → (sel : Selector) × (slice_get (sels_of_ctor find c q fields) p ≡ Some sel) × (sel.sort ≡ find f.sort)
@@ -27,18 +34,12 @@ ctor_at find [] j t at = absurd (none-some _ at)
 ctor_at find (u ∷ ctors) zero t at = (
   0,
   subst (λ v. IsCtorAt find (u ∷ ctors) 0 v 0) (same_Some _ _ at) (record {
-    ctor = λ s e. (record { name = u.name; sort = record { 0 = s }; sels = sel_ids e (length u.fields) }, refl, ap (λ n. sel_ids n (length u.fields)) (plus_zero e));
+    ctor = λ s e. (record { name = u.name; sort = record { 0 = s }; sels = sel_ids e (length u.fields) }, refl, ap (λ n. sel_ids n (length u.fields)) (sym (add-zero e)));
     sel = λ c p f at_f.
         let found = field_at find c 0 u.fields p f at_f in
-        (found.0, ap (slice_get (new_sels find c (u ∷ ctors))) (zero_plus p) ∙ slice_get_left (sels_of_ctor find c 0 u.fields) (new_sels find (c + 1) ctors) p found.0 found.1, found.2);
+        (found.0, ap (slice_get (new_sels find c (u ∷ ctors))) (zero-add p) ∙ slice_get_left (sels_of_ctor find c 0 u.fields) (new_sels find (c + 1) ctors) p found.0 found.1, found.2);
   }),
 )
-  where
-    plus_zero : (e : ℕ) → e ≡ e + 0
-    plus_zero e = omega arith
-
-    zero_plus : (p : ℕ) → 0 + p ≡ p
-    zero_plus p = omega arith
 ctor_at find (u ∷ ctors) (suc j) t at =
     let rest = ctor_at find ctors j t at in
     let l = length u.fields in (
@@ -50,12 +51,6 @@ ctor_at find (u ∷ ctors) (suc j) t at =
             (made.0, ap (slice_get (new_sels find c (u ∷ ctors))) (shift l rest.0 p (length (sels_of_ctor find c 0 u.fields)) (length-sels_of_ctor find c 0 u.fields)) ∙ slice_get_right (sels_of_ctor find c 0 u.fields) (new_sels find (c + 1) ctors) (rest.0 + p) ∙ made.1, made.2);
       },
     )
-  where
-    regroup : (e l m : ℕ) → e + l + m ≡ e + (l + m)
-    regroup e l m = omega arith
-
-    shift : (l m p k : ℕ) → k ≡ l → l + m + p ≡ k + (m + p)
-    shift l m p k e = omega arith
 
 -- the same in a block: sort i has the constructors from k on, and the selectors of constructor j begin at m
 pub record IsPlaced (find : List ℕ → SortId) (block : List SortDecl) (i j : ℕ) (decl : SortDecl) (t : CtorDecl) (k m : ℕ) : Type 0 where
@@ -70,21 +65,15 @@ placed find (d ∷ block) zero j decl t at_i at_j =
       0,
       found.0,
       subst (λ e. IsPlaced find (d ∷ block) 0 j e t 0 found.0) (same_Some _ _ at_i) (record {
-        sort = λ kind a. (record { name = d.name; kind = kind; ctors = ctor_ids a (length d.ctors) }, refl, ap (λ n. ctor_ids n (length d.ctors)) (plus_zero a));
+        sort = λ kind a. (record { name = d.name; kind = kind; ctors = ctor_ids a (length d.ctors) }, refl, ap (λ n. ctor_ids n (length d.ctors)) (sym (add-zero a)));
         ctor = λ s e.
             let made = found.1.ctor s e in
-            (made.0, ap (slice_get (new_ctors s e (d ∷ block))) (zero_plus j) ∙ slice_get_left (ctors_of_sort s e d.ctors) (new_ctors (s + 1) (e + length (all_fields d.ctors)) block) j made.0 made.1, made.2);
+            (made.0, ap (slice_get (new_ctors s e (d ∷ block))) (zero-add j) ∙ slice_get_left (ctors_of_sort s e d.ctors) (new_ctors (s + 1) (e + length (all_fields d.ctors)) block) j made.0 made.1, made.2);
         sel = λ c p f at_f.
             let made = found.1.sel c p f at_f in
             (made.0, ap (λ xs. slice_get xs (found.0 + p)) (new_sels-append find c d.ctors (block_ctors block)) ∙ slice_get_left (new_sels find c d.ctors) (new_sels find (c + length d.ctors) (block_ctors block)) (found.0 + p) made.0 made.1, made.2);
       }),
     )
-  where
-    plus_zero : (e : ℕ) → e ≡ e + 0
-    plus_zero e = omega arith
-
-    zero_plus : (p : ℕ) → 0 + p ≡ p
-    zero_plus p = omega arith
 placed find (d ∷ block) (suc i) j decl t at_i at_j =
     let rest = placed find block i j decl t at_i at_j in
     let l = length d.ctors in
@@ -101,9 +90,3 @@ placed find (d ∷ block) (suc i) j decl t at_i at_j =
             (made.0, ap (λ xs. slice_get xs (n + rest.1 + p)) (new_sels-append find c d.ctors (block_ctors block)) ∙ ap (slice_get (new_sels find c d.ctors ++ new_sels find (c + l) (block_ctors block))) (shift n rest.1 p (length (new_sels find c d.ctors)) (length-new_sels find c d.ctors)) ∙ slice_get_right (new_sels find c d.ctors) (new_sels find (c + l) (block_ctors block)) (rest.1 + p) ∙ made.1, made.2);
       },
     )
-  where
-    regroup : (e l m : ℕ) → e + l + m ≡ e + (l + m)
-    regroup e l m = omega arith
-
-    shift : (l m p k : ℕ) → k ≡ l → l + m + p ≡ k + (m + p)
-    shift l m p k e = omega arith

@@ -1,25 +1,27 @@
 -- What holds of a signature holds after more declarations, and after a cut.
-use Rattle.std.proofs.Common.{◌≡◌, ℕ, zero, suc, ◌+◌, ◌<◌, ◌≤◌, ◌⊎◌, Bool, true, false, List, [], ◌∷◌, ◌++◌, length, map, take, drop, replicate, get_or, slice_get, Option, Some, None, option_map, All, refl, sym, ◌∙◌, ap, subst, inl, inr, ⊎_elim, arith, length-append}
+use Rattle.std.proofs.Common.{◌≡◌, ℕ, zero, suc, ◌+◌, ◌<◌, ◌≤◌, ◌⊎◌, List, [], ◌∷◌, ◌++◌, length, map, take, drop, replicate, get_or, slice_get, Some, option_map, All, refl, sym, ◌∙◌, ap, subst, inl, inr, ⊎_elim, arith, length-append}
+use Rattle.std.proofs.Math.Nat.{zero-add}
 use Rattle.std.proofs.lemmas.List.{map-append, append-nil, append_assoc, take-map, length-map, length-take, length-take-le, take-append-le, take-take, drop-append-le}
 use Rattle.std.proofs.lemmas.List.Concat.{flat_map-append}
 use Rattle.std.proofs.lemmas.List.Elements.{All-weaker}
 use Rattle.std.proofs.lemmas.List.Folds.{flat_map-map}
 use Rattle.std.proofs.lemmas.List.FromFn.{length-map-range_with_len}
 use Rattle.std.proofs.lemmas.Option.{none-some, same_Some, slice_get-map, slice_get-get_or}
-use Rattle.std.specs.List.{flat_map, range_with_len}
+use Rattle.std.specs.List.{flat_map}
 use Rattle.ct_sorts.specs.declared.ids.SortId.{SortId}
 use Rattle.ct_sorts.specs.declared.ids.CtorId.{CtorId}
 use Rattle.ct_sorts.specs.declared.ids.SelId.{SelId}
 use Rattle.ct_sorts.specs.Names.{IsListed, IsUnavailable, IsUnfit}
-use Rattle.ct_sorts.specs.Declarations.{Declarations, Sort, Constructor, Selector, Function, IsSort, IsConstructor, IsSelector, bool, start, sort_names, symbol_names, ctor_names, sel_names, names, definition_names, ctor_ids, sel_ids, most_sorts, most_ctors, most_sels, most_functions, most_definitions, with_sort, with_function, with_definition}
+use Rattle.ct_sorts.specs.Declarations.{Declarations, Sort, Constructor, Selector, Function, IsSort, IsConstructor, IsSelector, bool, start, sort_names, symbol_names, ctor_names, sel_names, function_names, definition_names, ctor_ids, sel_ids, most_functions, most_definitions, with_function, with_definition}
 use Rattle.ct_sorts.specs.Lookup.{AreDistinct}
-use Rattle.ct_sorts.specs.Founded.{IsClosed, IsFounded}
-use Rattle.ct_sorts.specs.Consistent.{AreFew, AreAvailable, AreFit, IsOverSorts, AreOverSorts, AreFieldsOverSorts, owners, places, FitsKind, IsConsistent}
-use Rattle.ct_sorts.proofs.Lists.{slice_get_left, slice_get_right, slice_get_either, slice_get-range, range-slice_get, range-append0, slice_get-drop, owners-append, owners-take, places-take, in_flat_map}
+use Rattle.ct_sorts.specs.Founded.{IsFounded}
+use Rattle.ct_sorts.specs.Consistent.{AreFew, AreAvailable, AreFit, IsOverSorts, AreOverSorts, owners, places, FitsKind, IsConsistent}
+use Rattle.ct_sorts.proofs.Lists.{from_part, slice_get_either, slice_get-range, range-append0, slice_get-drop, owners-append, owners-take, places-take, in_flat_map}
 use Rattle.ct_sorts.specs.Lengths.{Lengths}
 use Rattle.ct_sorts.specs.Marks.{CanCut, cut}
 use Rattle.ct_sorts.proofs.Counts.{occurrences, occurrences-append, occurrences-take, occurrences-unlisted, one_if_same, one_if_same-cases, one_if_same-le, AreDistinct-once, AreOnce-distinct, AreDistinct-middle}
-use Rattle.ct_sorts.proofs.NumberedLemmas.{slice_get-take, slice_get-push, AreDistinct-push, AreDistinct-take}
+use Rattle.ct_sorts.proofs.NumberedLemmas.{slice_get-take, slice_get-push, AreDistinct-take}
+use Rattle.ct_sorts.proofs.AdmitLemmas.{IsUnavailable-left}
 use Rattle.ct_sorts.proofs.FoundedLemmas.{more, IsFounded-more, IsFounded-cut, ctor_within, sel_within}
 
 -- what is to be added fits what is there
@@ -65,10 +67,10 @@ IsConsistent-more d sorts ctors sels c m =
       first_sort = take-append-le 1 d.sorts sorts (begins 1 d.sorts start.sorts c.first_sort refl) ∙ c.first_sort;
       first_ctors = take-append-le 2 d.ctors ctors (begins 2 d.ctors start.ctors c.first_ctors refl) ∙ c.first_ctors;
       all_ctors = rw (flat_map-append (λ (s : Sort). s.ctors) d.sorts sorts, c.all_ctors, m.all_ctors, length-append d.ctors ctors) (range-append0 _ (length d.ctors) (length ctors));
-      ctor_sorts = rw (map-append (λ (t : Constructor). t.sort.0) d.ctors ctors, map-append (λ (s : Sort). s.ctors) d.sorts sorts, owners-append 0 (map (λ (s : Sort). s.ctors) d.sorts) (map (λ (s : Sort). s.ctors) sorts), length-map d.sorts (λ (s : Sort). s.ctors), c.ctor_sorts, m.ctor_sorts, from0 (length d.sorts)) refl;
+      ctor_sorts = rw (map-append (λ (t : Constructor). t.sort.0) d.ctors ctors, map-append (λ (s : Sort). s.ctors) d.sorts sorts, owners-append 0 (map (λ (s : Sort). s.ctors) d.sorts) (map (λ (s : Sort). s.ctors) sorts), length-map d.sorts (λ (s : Sort). s.ctors), c.ctor_sorts, m.ctor_sorts, zero-add (length d.sorts)) refl;
       kinds = each-append (λ i (s : Sort). FitsKind i s.kind (length s.ctors)) d.sorts sorts c.kinds m.kinds;
       all_sels = rw (flat_map-append (λ (t : Constructor). t.sels) d.ctors ctors, c.all_sels, m.all_sels, length-append d.sels sels) (range-append0 _ (length d.sels) (length sels));
-      sel_ctors = rw (map-append (λ (s : Selector). s.ctor.0) d.sels sels, map-append (λ (t : Constructor). t.sels) d.ctors ctors, owners-append 0 (map (λ (t : Constructor). t.sels) d.ctors) (map (λ (t : Constructor). t.sels) ctors), length-map d.ctors (λ (t : Constructor). t.sels), c.sel_ctors, m.sel_ctors, from0 (length d.ctors)) refl;
+      sel_ctors = rw (map-append (λ (s : Selector). s.ctor.0) d.sels sels, map-append (λ (t : Constructor). t.sels) d.ctors ctors, owners-append 0 (map (λ (t : Constructor). t.sels) d.ctors) (map (λ (t : Constructor). t.sels) ctors), length-map d.ctors (λ (t : Constructor). t.sels), c.sel_ctors, m.sel_ctors, zero-add (length d.ctors)) refl;
       sel_places = rw (map-append (λ (s : Selector). s.place) d.sels sels, map-append (λ (t : Constructor). t.sels) d.ctors ctors, c.sel_places, m.sel_places) (sym (flat_map-append _ (map (λ (t : Constructor). t.sels) d.ctors) (map (λ (t : Constructor). t.sels) ctors)));
       fields = each-append (λ _ (s : Selector). s.sort.0 < length (d.sorts ++ sorts)) d.sels sels (λ i s at. omega (arith, length-append d.sorts sorts, c.fields i s at)) (λ i s at. omega (arith, length-append d.sorts sorts, m.fields i s at));
       over_sorts = λ f declared at. over declared (c.over_sorts f declared at);
@@ -78,9 +80,6 @@ IsConsistent-more d sorts ctors sels c m =
   where
     two : 2 ≤ length (ctor_names d)
     two = omega (arith, begins 2 d.ctors start.ctors c.first_ctors refl, length-map d.ctors (λ (t : Constructor). t.name))
-
-    from0 : (n : ℕ) → 0 + n ≡ n
-    from0 n = omega arith
 
     over : (f : Function) → IsOverSorts d f → IsOverSorts (more d sorts ctors sels) f
     over f h =
@@ -112,11 +111,6 @@ once-between before after name distinct fresh = AreDistinct-once (before ++ (nam
             let none_there : occurrences text (before ++ after) ≡ 0 = occurrences-unlisted (before ++ after) text (λ h. fresh (subst (IsListed (before ++ after)) same h)) in
             omega (arith, whole, one_if_same-le text name)
 
--- a name that may be declared now may be declared at first
-pub IsUnavailable-later : (listed : List (List ℕ)) (name : List ℕ) → IsUnavailable [] name → IsUnavailable listed name
-IsUnavailable-later listed name (inl h) = absurd (none-some _ h.1)
-IsUnavailable-later listed name (inr h) = inr h
-
 -- the same closed sets where sorts, constructors and selectors are the same
 pub IsFounded-same : (d e : Declarations) → e.sorts ≡ d.sorts → e.ctors ≡ d.ctors → e.sels ≡ d.sels → (s : ℕ) → IsFounded d s → IsFounded e s
 IsFounded-same d e sorts ctors sels s founded set closed =
@@ -136,7 +130,7 @@ IsConsistent-with_function d f c fresh room over =
       fit = c.fit;
       ctors_available = c.ctors_available;
       sels_available = c.sels_available;
-      available = subst AreAvailable (sym (map-append (λ (g : Function). g.name) d.functions (f ∷ []))) (λ place name at. ⊎_elim (λ here. c.available place name here) (λ last. subst (λ t. IsUnavailable [] t → ⊥) (sym last.1) (λ h. fresh (IsUnavailable-later (symbol_names d) f.name h))) (slice_get-push (names d) f.name place name at));
+      available = subst AreAvailable (sym (map-append (λ (g : Function). g.name) d.functions (f ∷ []))) (λ place name at. ⊎_elim (λ here. c.available place name here) (λ last. subst (λ t. IsUnavailable [] t → ⊥) (sym last.1) (λ h. fresh (IsUnavailable-left [] (symbol_names d) f.name h))) (slice_get-push (function_names d) f.name place name at));
       definitions_available = c.definitions_available;
       first_sort = c.first_sort;
       first_ctors = c.first_ctors;
@@ -153,15 +147,15 @@ IsConsistent-with_function d f c fresh room over =
     }
   where
     before : List (List ℕ)
-    before = ctor_names d ++ (sel_names d ++ names d)
+    before = ctor_names d ++ (sel_names d ++ function_names d)
 
     around : symbol_names d ≡ before ++ definition_names d
-    around = ap (λ (xs : List (List ℕ)). ctor_names d ++ xs) (sym (append_assoc (sel_names d) (names d) (definition_names d))) ∙ sym (append_assoc (ctor_names d) (sel_names d ++ names d) (definition_names d))
+    around = ap (λ (xs : List (List ℕ)). ctor_names d ++ xs) (sym (append_assoc (sel_names d) (function_names d) (definition_names d))) ∙ sym (append_assoc (ctor_names d) (sel_names d ++ function_names d) (definition_names d))
 
     symbols : before ++ (f.name ∷ definition_names d) ≡ symbol_names (with_function d f)
     symbols =
-        append_assoc (ctor_names d) (sel_names d ++ names d) (f.name ∷ definition_names d)
-        ∙ ap (λ (xs : List (List ℕ)). ctor_names d ++ xs) (append_assoc (sel_names d) (names d) (f.name ∷ definition_names d) ∙ ap (λ (xs : List (List ℕ)). sel_names d ++ xs) (sym (append_assoc (names d) (f.name ∷ []) (definition_names d)) ∙ ap (λ (xs : List (List ℕ)). xs ++ definition_names d) (sym (map-append (λ (g : Function). g.name) d.functions (f ∷ [])))))
+        append_assoc (ctor_names d) (sel_names d ++ function_names d) (f.name ∷ definition_names d)
+        ∙ ap (λ (xs : List (List ℕ)). ctor_names d ++ xs) (append_assoc (sel_names d) (function_names d) (f.name ∷ definition_names d) ∙ ap (λ (xs : List (List ℕ)). sel_names d ++ xs) (sym (append_assoc (function_names d) (f.name ∷ []) (definition_names d)) ∙ ap (λ (xs : List (List ℕ)). xs ++ definition_names d) (sym (map-append (λ (g : Function). g.name) d.functions (f ∷ [])))))
 
 -- the same of one more definition
 pub IsConsistent-with_definition : (d : Declarations) (f : Function) → IsConsistent d → (IsUnavailable (symbol_names d) f.name → ⊥) → length d.definitions < most_definitions → IsOverSorts d f → IsConsistent (with_definition d f)
@@ -174,7 +168,7 @@ IsConsistent-with_definition d f c fresh room over =
       ctors_available = c.ctors_available;
       sels_available = c.sels_available;
       available = c.available;
-      definitions_available = subst AreAvailable (sym (map-append (λ (g : Function). g.name) d.definitions (f ∷ []))) (λ place name at. ⊎_elim (λ here. c.definitions_available place name here) (λ last. subst (λ t. IsUnavailable [] t → ⊥) (sym last.1) (λ h. fresh (IsUnavailable-later (symbol_names d) f.name h))) (slice_get-push (definition_names d) f.name place name at));
+      definitions_available = subst AreAvailable (sym (map-append (λ (g : Function). g.name) d.definitions (f ∷ []))) (λ place name at. ⊎_elim (λ here. c.definitions_available place name here) (λ last. subst (λ t. IsUnavailable [] t → ⊥) (sym last.1) (λ h. fresh (IsUnavailable-left [] (symbol_names d) f.name h))) (slice_get-push (definition_names d) f.name place name at));
       first_sort = c.first_sort;
       first_ctors = c.first_ctors;
       all_ctors = c.all_ctors;
@@ -191,8 +185,8 @@ IsConsistent-with_definition d f c fresh room over =
   where
     symbols : symbol_names d ++ (f.name ∷ []) ≡ symbol_names (with_definition d f)
     symbols =
-        append_assoc (ctor_names d) (sel_names d ++ (names d ++ definition_names d)) (f.name ∷ [])
-        ∙ ap (λ (xs : List (List ℕ)). ctor_names d ++ xs) (append_assoc (sel_names d) (names d ++ definition_names d) (f.name ∷ []) ∙ ap (λ (xs : List (List ℕ)). sel_names d ++ xs) (append_assoc (names d) (definition_names d) (f.name ∷ []) ∙ ap (λ (xs : List (List ℕ)). names d ++ xs) (sym (map-append (λ (g : Function). g.name) d.definitions (f ∷ [])))))
+        append_assoc (ctor_names d) (sel_names d ++ (function_names d ++ definition_names d)) (f.name ∷ [])
+        ∙ ap (λ (xs : List (List ℕ)). ctor_names d ++ xs) (append_assoc (sel_names d) (function_names d ++ definition_names d) (f.name ∷ []) ∙ ap (λ (xs : List (List ℕ)). sel_names d ++ xs) (append_assoc (function_names d) (definition_names d) (f.name ∷ []) ∙ ap (λ (xs : List (List ℕ)). function_names d ++ xs) (sym (map-append (λ (g : Function). g.name) d.definitions (f ∷ [])))))
 
 -- a cut to a mark that splits nothing
 pub IsConsistent-cut : (d : Declarations) (m : Lengths) → IsConsistent d → CanCut d m → 1 ≤ m.sorts → IsConsistent (cut d m)
@@ -204,7 +198,7 @@ IsConsistent-cut d m c can stays =
       fit = subst AreFit (take-map (λ (s : Sort). s.name) m.sorts d.sorts) (λ i name at. c.fit i name (slice_get-take m.sorts (sort_names d) i name at));
       ctors_available = λ i name at. c.ctors_available i name (slice_get-drop 2 (ctor_names d) i ∙ slice_get-take m.ctors (ctor_names d) (2 + i) name (subst (λ xs. slice_get xs (2 + i) ≡ Some name) (sym (take-map (λ (t : Constructor). t.name) m.ctors d.ctors)) (sym (slice_get-drop 2 (ctor_names (cut d m)) i) ∙ at)));
       sels_available = subst AreAvailable (take-map (λ (s : Selector). s.name) m.sels d.sels) (λ i name at. c.sels_available i name (slice_get-take m.sels (sel_names d) i name at));
-      available = subst AreAvailable (take-map (λ (f : Function). f.name) m.functions d.functions) (λ i name at. c.available i name (slice_get-take m.functions (names d) i name at));
+      available = subst AreAvailable (take-map (λ (f : Function). f.name) m.functions d.functions) (λ i name at. c.available i name (slice_get-take m.functions (function_names d) i name at));
       definitions_available = subst AreAvailable (take-map (λ (f : Function). f.name) m.definitions d.definitions) (λ i name at. c.definitions_available i name (slice_get-take m.definitions (definition_names d) i name at));
       first_sort = take-take 1 m.sorts d.sorts stays ∙ c.first_sort;
       first_ctors = take-take 2 m.ctors d.ctors two ∙ c.first_ctors;
@@ -243,15 +237,15 @@ IsConsistent-cut d m c can stays =
         (omega (
           arith,
           AreOnce-distinct (symbol_names d) c.distinct name,
-          occurrences-append name (ctor_names d) (sel_names d ++ (names d ++ definition_names d)),
-          occurrences-append name (sel_names d) (names d ++ definition_names d),
-          occurrences-append name (names d) (definition_names d),
-          occurrences-append name (take m.ctors (ctor_names d)) (take m.sels (sel_names d) ++ (take m.functions (names d) ++ take m.definitions (definition_names d))),
-          occurrences-append name (take m.sels (sel_names d)) (take m.functions (names d) ++ take m.definitions (definition_names d)),
-          occurrences-append name (take m.functions (names d)) (take m.definitions (definition_names d)),
+          occurrences-append name (ctor_names d) (sel_names d ++ (function_names d ++ definition_names d)),
+          occurrences-append name (sel_names d) (function_names d ++ definition_names d),
+          occurrences-append name (function_names d) (definition_names d),
+          occurrences-append name (take m.ctors (ctor_names d)) (take m.sels (sel_names d) ++ (take m.functions (function_names d) ++ take m.definitions (definition_names d))),
+          occurrences-append name (take m.sels (sel_names d)) (take m.functions (function_names d) ++ take m.definitions (definition_names d)),
+          occurrences-append name (take m.functions (function_names d)) (take m.definitions (definition_names d)),
           occurrences-take name m.ctors (ctor_names d),
           occurrences-take name m.sels (sel_names d),
-          occurrences-take name m.functions (names d),
+          occurrences-take name m.functions (function_names d),
           occurrences-take name m.definitions (definition_names d),
         ))
 
@@ -265,12 +259,6 @@ owner_within n (g ∷ gs) i k at =
     replicated zero n i k at = absurd (none-some _ at)
     replicated (suc count) n zero k at = sym (same_Some _ _ at)
     replicated (suc count) n (suc i) k at = replicated count n i k at
-
--- what a getter of a part tells of the whole
-pub from_part : {X P : Type 0} (part : X → P) (xs : List X) (i : ℕ) (p : P) → option_map part (slice_get xs i) ≡ Some p → (x : X) × (slice_get xs i ≡ Some x) × (part x ≡ p)
-from_part part [] i p at = absurd (none-some _ at)
-from_part part (x ∷ xs) zero p at = (x, refl, same_Some _ _ at)
-from_part part (x ∷ xs) (suc i) p at = from_part part xs i p at
 
 -- the sort of a constructor is there
 pub IsSort-ctor : (d : Declarations) → IsConsistent d → (c : ℕ) (sort : SortId) → option_map (λ t. t.sort) (slice_get d.ctors c) ≡ Some sort → IsSort d sort
@@ -318,6 +306,6 @@ IsSort-result d functions over f sort at =
     subst (IsSort d) whole.2 (over f whole.0 whole.1).1
 
 -- the names of functions differ
-pub AreDistinct-functions : (d : Declarations) → IsConsistent d → AreDistinct (names d)
+pub AreDistinct-functions : (d : Declarations) → IsConsistent d → AreDistinct (function_names d)
 AreDistinct-functions d c =
-    AreDistinct-middle (ctor_names d ++ sel_names d) (names d) (definition_names d) (subst AreDistinct (sym (append_assoc (ctor_names d) (sel_names d) (names d ++ definition_names d))) c.distinct)
+    AreDistinct-middle (ctor_names d ++ sel_names d) (function_names d) (definition_names d) (subst AreDistinct (sym (append_assoc (ctor_names d) (sel_names d) (function_names d ++ definition_names d))) c.distinct)

@@ -1,5 +1,6 @@
 -- Well-foundedness inside a block is well-foundedness in the declarations with the block.
-use Rattle.std.proofs.Common.{◌≡◌, ℕ, zero, suc, ◌+◌, ◌-◌, ◌<◌, ◌≤◌, ◌⊎◌, Bool, true, false, cond, nat_lt, Decides, ◌&&◌, ◌||◌, List, [], ◌∷◌, ◌++◌, length, map, slice_get, Option, Some, None, option_map, unwrap_or, MatchOption, refl, sym, ◌∙◌, ap, subst, inl, inr, ⊎_elim, arith}
+use Rattle.std.proofs.Common.{◌≡◌, ℕ, zero, suc, ◌+◌, ◌-◌, ◌<◌, Bool, true, false, cond, nat_lt, Decides, ◌&&◌, ◌||◌, List, [], ◌∷◌, length, slice_get, Option, Some, None, option_map, unwrap_or, MatchOption, refl, sym, ◌∙◌, ap, subst, ⊎_elim, arith}
+use Rattle.std.proofs.Math.Bool.{or-true}
 use Rattle.std.proofs.lemmas.Bool.{true≢false, false≢true}
 use Rattle.std.proofs.lemmas.Bool.Decides.{Decides-ltb}
 use Rattle.std.proofs.lemmas.List.{length-map}
@@ -12,17 +13,16 @@ use Rattle.ct_sorts.specs.declared.ids.SelId.{SelId}
 use Rattle.ct_sorts.specs.declared.ids.Kind.{Kind}
 use Rattle.ct_sorts.specs.declared.ids.Kind.TheVariants.{Data}
 use Rattle.ct_sorts.specs.declared.block.Field.{Field}
-use Rattle.ct_sorts.specs.declared.block.CtorDecl.{CtorDecl}
 use Rattle.ct_sorts.specs.declared.block.SortDecl.{SortDecl}
 use Rattle.ct_sorts.specs.Names.{IsListed}
 use Rattle.ct_sorts.specs.Lookup.{place_of}
 use Rattle.ct_sorts.specs.Declarations.{Declarations, Sort, Constructor, Selector, start, sort_names, ctor_ids, sel_ids}
 use Rattle.ct_sorts.specs.Founded.{HasFieldsIn, IsClosed, IsFounded}
 use Rattle.ct_sorts.specs.Consistent.{IsConsistent}
-use Rattle.ct_sorts.specs.Marked.{is_field_in, is_ctor_in, is_sort_in, IsClosedInBlock, IsFoundedInBlock}
+use Rattle.ct_sorts.specs.Marked.{is_field_in, is_ctor_in, IsClosedInBlock, IsFoundedInBlock}
 use Rattle.ct_sorts.specs.Block.{block_ctors, block_names, sort_of_field, with_block, new_sorts, new_ctors, new_sels}
 use Rattle.ct_sorts.proofs.NumberedLemmas.{place_of-cases}
-use Rattle.ct_sorts.proofs.Lists.{slice_get_left, slice_get_right, slice_get_either, slice_get_there, slice_get-range, range-slice_get}
+use Rattle.ct_sorts.proofs.Lists.{slice_get_right, slice_get_either, slice_get_there, slice_get-range, range-slice_get}
 use Rattle.ct_sorts.proofs.FoundedLemmas.{IsFounded-more}
 use Rattle.ct_sorts.proofs.ConsistentLemmas.{begins}
 use Rattle.ct_sorts.proofs.BlockLemmas.{length-new_sorts, kinds-new_sorts}
@@ -40,11 +40,7 @@ some_pass {X} test (y ∷ ys) e = by (test y) refl e (λ h. some_pass test ys h)
 pass_any : {X : Type 0} (test : X → Bool) (xs : List X) (j : ℕ) (x : X) → slice_get xs j ≡ Some x → test x ≡ true → list_any test xs ≡ true
 pass_any test [] j x at t = absurd (none-some _ at)
 pass_any test (y ∷ ys) zero x at t = rw (subst (λ z. test z ≡ true) (sym (same_Some _ _ at)) t) refl
-pass_any test (y ∷ ys) (suc j) x at t = rw (pass_any test ys j x at t) (or_true (test y))
-  where
-    or_true : (b : Bool) → (b || true) ≡ true
-    or_true true = refl
-    or_true false = refl
+pass_any test (y ∷ ys) (suc j) x at t = rw (pass_any test ys j x at t) (or-true (test y))
 
 each_passes : {X : Type 0} (test : X → Bool) (xs : List X) → list_all test xs ≡ true → (j : ℕ) (x : X) → slice_get xs j ≡ Some x → test x ≡ true
 each_passes test [] e j x at = absurd (none-some _ at)

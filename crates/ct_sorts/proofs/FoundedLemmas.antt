@@ -1,10 +1,9 @@
 -- What stays well founded as declarations come and go.
-use Rattle.std.proofs.Common.{◌≡◌, ℕ, ◌+◌, ◌<◌, ◌≤◌, ◌⊎◌, Bool, true, false, cond, List, [], ◌∷◌, ◌++◌, length, map, take, slice_get, Some, refl, sym, ◌∙◌, ap, subst, ⊎_elim, Decides, nat_lt, arith}
+use Rattle.std.proofs.Common.{◌≡◌, ℕ, ◌+◌, ◌<◌, Bool, true, false, cond, List, ◌++◌, length, take, slice_get, Some, refl, sym, ◌∙◌, ap, subst, ⊎_elim, Decides, nat_lt, arith}
 use Rattle.std.proofs.lemmas.Bool.{true≢false}
 use Rattle.std.proofs.lemmas.Bool.Decides.{Decides-ltb}
 use Rattle.std.proofs.lemmas.List.{length-take-le}
-use Rattle.std.specs.List.{flat_map, range_with_len}
-use Rattle.ct_sorts.specs.declared.ids.SortId.{SortId}
+use Rattle.std.specs.List.{flat_map}
 use Rattle.ct_sorts.specs.declared.ids.CtorId.{CtorId}
 use Rattle.ct_sorts.specs.declared.ids.SelId.{SelId}
 use Rattle.ct_sorts.specs.Declarations.{Declarations, Sort, Constructor, Selector, ctor_ids, sel_ids}

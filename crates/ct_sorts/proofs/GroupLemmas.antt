@@ -1,11 +1,11 @@
 -- Items in groups: the row of all items, with the number of each item's group and the item's place in it.
-use Rattle.std.proofs.Common.{◌≡◌, ℕ, zero, suc, ◌+◌, ◌<◌, ◌⊎◌, List, [], ◌∷◌, ◌++◌, length, map, replicate, slice_get, Option, Some, None, option_map, refl, sym, ◌∙◌, ap, subst, inl, inr, arith}
-use Rattle.std.proofs.lemmas.Option.{none-some, same_Some, slice_get_within, slice_get-map}
+use Rattle.std.proofs.Common.{◌≡◌, ℕ, zero, suc, ◌+◌, ◌<◌, ◌⊎◌, List, [], ◌∷◌, ◌++◌, length, replicate, slice_get, Some, refl, sym, ◌∙◌, ap, subst, inl, inr, arith}
+use Rattle.std.proofs.lemmas.Option.{none-some, same_Some, slice_get_within}
 use Rattle.std.proofs.lemmas.List.{length-replicate}
 use Rattle.std.proofs.lemmas.List.FromFn.{length-range_with_len}
 use Rattle.std.specs.List.{flat_map, range_with_len}
 use Rattle.ct_sorts.specs.Consistent.{owners, places}
-use Rattle.ct_sorts.proofs.Lists.{slice_get_left, slice_get_right, slice_get_either, slice_get-range, range-slice_get}
+use Rattle.ct_sorts.proofs.Lists.{slice_get_left, slice_get_right, slice_get_either, slice_get-numbers}
 
 -- all items, one group behind the other
 abbrev pub row : {X : Type 0} → List (List X) → List X
@@ -15,11 +15,6 @@ slice_get-replicate : {X : Type 0} (n : ℕ) (v : X) (i : ℕ) → i < n → sli
 slice_get-replicate zero v i h = absurd (omega arith)
 slice_get-replicate (suc n) v zero h = refl
 slice_get-replicate (suc n) v (suc i) h = slice_get-replicate n v i (omega arith)
-
-slice_get-numbers : (first count i : ℕ) → i < count → slice_get (range_with_len first count) i ≡ Some (first + i)
-slice_get-numbers first zero i h = absurd (omega arith)
-slice_get-numbers first (suc count) zero h = let e : first + 0 ≡ first = omega arith in rw e refl
-slice_get-numbers first (suc count) (suc i) h = let e : first + suc i ≡ first + 1 + i = omega arith in rw e (slice_get-numbers (first + 1) count i (omega arith))
 
 -- where an item stands in the row, the number of its group and its place in the group stand beside it
 pub record Stands {X : Type 0} (first : ℕ) (groups : List (List X)) (k g p : ℕ) (x : X) : Type 0 where

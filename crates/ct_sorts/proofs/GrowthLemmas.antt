@@ -1,6 +1,5 @@
 -- Declarations that grew: what was there can be cut back to.
-use Rattle.std.proofs.Common.{◌≡◌, ◌≤◌, List, [], ◌∷◌, ◌++◌, length, take, refl, sym, ◌∙◌, ap, subst, arith, length-append}
-use Rattle.std.proofs.lemmas.List.{append-nil, append_assoc}
+use Rattle.std.proofs.Common.{◌≡◌, ◌≤◌, List, [], ◌∷◌, length, take, refl, sym, ◌∙◌, ap, subst, arith, length-append}
 use Rattle.std.proofs.Math.Seq.{take-append_seam}
 use Rattle.std.specs.List.{flat_map}
 use Rattle.ct_sorts.specs.declared.ids.Kind.{Kind}
@@ -10,44 +9,40 @@ use Rattle.ct_sorts.specs.Block.{with_block}
 use Rattle.ct_sorts.specs.Consistent.{IsConsistent, AreFieldsOverSorts, AreOverSorts}
 use Rattle.ct_sorts.specs.Grown.{Begins, Extends}
 use Rattle.ct_sorts.specs.Marks.{CanCut, cut, lengths}
-
-itself : {X : Type 0} (xs : List X) → Begins xs xs
-itself xs = ([], sym (append-nil xs))
-
-further : {X : Type 0} (xs ys zs : List X) → Begins xs ys → Begins ys zs → Begins xs zs
-further xs ys zs h k = (h.0 ++ k.0, k.1 ∙ ap (λ l. l ++ k.0) h.1 ∙ append_assoc xs h.0 k.0)
+use Rattle.ct_sorts.proofs.PieceLemmas.{Begins-self, Begins-trans}
 
 -- the first list is what stands in front
 front : {X : Type 0} (xs ys : List X) → Begins xs ys → take (length xs) ys ≡ xs
 front xs ys h = subst (λ l. take (length xs) l ≡ xs) (sym h.1) (take-append_seam xs h.0)
 
+-- and is no longer
 within : {X : Type 0} (xs ys : List X) → Begins xs ys → length xs ≤ length ys
 within xs ys h = omega (arith, ap length h.1, length-append xs h.0)
 
 pub extends_itself : (d : Declarations) → Extends d d
-extends_itself d = record { sorts = itself d.sorts; ctors = itself d.ctors; sels = itself d.sels; functions = itself d.functions; definitions = itself d.definitions }
+extends_itself d = record { sorts = Begins-self d.sorts; ctors = Begins-self d.ctors; sels = Begins-self d.sels; functions = Begins-self d.functions; definitions = Begins-self d.definitions }
 
 pub extends_further : (last later earlier : Declarations) → Extends last later → Extends later earlier → Extends last earlier
 extends_further last later earlier h k =
     record {
-      sorts = further earlier.sorts later.sorts last.sorts k.sorts h.sorts;
-      ctors = further earlier.ctors later.ctors last.ctors k.ctors h.ctors;
-      sels = further earlier.sels later.sels last.sels k.sels h.sels;
-      functions = further earlier.functions later.functions last.functions k.functions h.functions;
-      definitions = further earlier.definitions later.definitions last.definitions k.definitions h.definitions;
+      sorts = Begins-trans earlier.sorts later.sorts last.sorts k.sorts h.sorts;
+      ctors = Begins-trans earlier.ctors later.ctors last.ctors k.ctors h.ctors;
+      sels = Begins-trans earlier.sels later.sels last.sels k.sels h.sels;
+      functions = Begins-trans earlier.functions later.functions last.functions k.functions h.functions;
+      definitions = Begins-trans earlier.definitions later.definitions last.definitions k.definitions h.definitions;
     }
 
 pub extends_sort : (d : Declarations) (s : Sort) → Extends (with_sort d s) d
-extends_sort d s = record { sorts = (s ∷ [], refl); ctors = itself d.ctors; sels = itself d.sels; functions = itself d.functions; definitions = itself d.definitions }
+extends_sort d s = record { sorts = (s ∷ [], refl); ctors = Begins-self d.ctors; sels = Begins-self d.sels; functions = Begins-self d.functions; definitions = Begins-self d.definitions }
 
 pub extends_block : (d : Declarations) (kind : Kind) (decls : List SortDecl) → Extends (with_block d kind decls) d
-extends_block d kind decls = record { sorts = (_, refl); ctors = (_, refl); sels = (_, refl); functions = itself d.functions; definitions = itself d.definitions }
+extends_block d kind decls = record { sorts = (_, refl); ctors = (_, refl); sels = (_, refl); functions = Begins-self d.functions; definitions = Begins-self d.definitions }
 
 pub extends_function : (d : Declarations) (f : Function) → Extends (with_function d f) d
-extends_function d f = record { sorts = itself d.sorts; ctors = itself d.ctors; sels = itself d.sels; functions = (f ∷ [], refl); definitions = itself d.definitions }
+extends_function d f = record { sorts = Begins-self d.sorts; ctors = Begins-self d.ctors; sels = Begins-self d.sels; functions = (f ∷ [], refl); definitions = Begins-self d.definitions }
 
 pub extends_definition : (d : Declarations) (f : Function) → Extends (with_definition d f) d
-extends_definition d f = record { sorts = itself d.sorts; ctors = itself d.ctors; sels = itself d.sels; functions = itself d.functions; definitions = (f ∷ [], refl) }
+extends_definition d f = record { sorts = Begins-self d.sorts; ctors = Begins-self d.ctors; sels = Begins-self d.sels; functions = Begins-self d.functions; definitions = (f ∷ [], refl) }
 
 pub cut_to_earlier : (later earlier : Declarations) → Extends later earlier → cut later (lengths earlier) ≡ earlier
 cut_to_earlier later earlier h =

@@ -1,15 +1,7 @@
 -- What the maps of a signature say of its declarations.
-use Rattle.std.proofs.Common.{◌≡◌, ℕ, ◌<◌, List, [], ◌∷◌, ◌++◌, length, map, slice_get, zero, suc, Option, Some, None, option_map, refl, sym, ◌∙◌, ap, subst}
-use Rattle.std.proofs.lemmas.List.{map-append, length-map}
-use Rattle.std.proofs.lemmas.Simd.{map-map}
+use Rattle.std.proofs.Common.{◌≡◌, ℕ, List, [], ◌∷◌, map, slice_get, zero, suc, Some, option_map, refl, ◌∙◌, ap}
 use Rattle.std.proofs.lemmas.Option.{slice_get-map, none-some, same_Some}
 use Rattle.ct_sorts.specs.Lookup.{names_of}
-use Rattle.ct_sorts.specs.Declarations.{Sort, Constructor, Selector, Function}
-use Rattle.ct_sorts.specs.Kept.{sort_of, ctor_of, sel_of, function_of}
-use Rattle.ct_sorts.specs.declared.entries.SortEntry.{SortEntry}
-use Rattle.ct_sorts.specs.declared.entries.CtorEntry.{CtorEntry}
-use Rattle.ct_sorts.specs.declared.entries.SelEntry.{SelEntry}
-use Rattle.ct_sorts.specs.declared.entries.FunctionEntry.{FunctionEntry}
 
 module _ {E R : Type 0} (of : List ℕ × E → R) where
   -- a part of what is at a place is that part of the entry there

@@ -12,7 +12,7 @@ pub mod BlockConsistent
 pub mod AppendLemmas
 pub mod BlockPlaces
 pub mod FoundedBlock
-pub mod GrowLemmas
+pub mod PieceLemmas
 pub mod GrowthLemmas
 pub mod FreeLemmas
 pub mod LookupLemmas

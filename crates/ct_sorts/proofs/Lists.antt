@@ -1,9 +1,9 @@
 -- Elements of lists by their places.
-use Rattle.std.proofs.Common.{◌≡◌, ℕ, zero, suc, ◌+◌, ◌<◌, ◌≤◌, ◌⊎◌, List, [], ◌∷◌, ◌++◌, length, map, take, drop, replicate, slice_get, Option, Some, None, refl, sym, ◌∙◌, ap, subst, inl, inr, ⊎_elim, arith, add-one, length-append}
-use Rattle.std.proofs.lemmas.Option.{none-some, same_Some, slice_get_within}
+use Rattle.std.proofs.Common.{◌≡◌, ℕ, zero, suc, ◌+◌, ◌<◌, ◌⊎◌, List, [], ◌∷◌, ◌++◌, length, map, take, drop, replicate, slice_get, Some, option_map, refl, sym, ◌∙◌, ap, subst, inl, inr, ⊎_elim, arith, length-append}
+use Rattle.std.proofs.lemmas.Option.{none-some, same_Some, slice_get-map, slice_get-get_or}
 use Rattle.std.proofs.lemmas.List.{append_assoc, length-replicate, take-append-drop, take_at}
 use Rattle.std.proofs.lemmas.List.Concat.{flat_map-append}
-use Rattle.std.proofs.lemmas.List.FromFn.{length-range_with_len}
+use Rattle.std.proofs.lemmas.List.FromFn.{length-range_with_len, get_or-range_with_len}
 use Rattle.std.specs.List.{flat_map, range_with_len}
 use Rattle.ct_sorts.specs.Consistent.{owners, places}
 
@@ -33,6 +33,12 @@ slice_get_there [] i h = absurd (omega arith)
 slice_get_there (x ∷ xs) zero h = (x, refl)
 slice_get_there (x ∷ xs) (suc i) h = slice_get_there xs i (omega arith)
 
+-- what a getter of a part tells of the whole
+pub from_part : {X P : Type 0} (part : X → P) (xs : List X) (i : ℕ) (p : P) → option_map part (slice_get xs i) ≡ Some p → (x : X) × (slice_get xs i ≡ Some x) × (part x ≡ p)
+from_part part [] i p at = absurd (none-some _ at)
+from_part part (x ∷ xs) zero p at = (x, refl, same_Some _ _ at)
+from_part part (x ∷ xs) (suc i) p at = from_part part xs i p at
+
 -- what stands in a piece stands in the pieces put together
 pub in_flat_map : {X Y : Type 0} (f : X → List Y) (xs : List X) (i j : ℕ) (x : X) (y : Y) → slice_get xs i ≡ Some x → slice_get (f x) j ≡ Some y → (k : ℕ) × (slice_get (flat_map f xs) k ≡ Some y)
 in_flat_map f [] i j x y at_i at_j = absurd (none-some _ at_i)
@@ -50,12 +56,12 @@ slice_get-range f first (suc count) (suc i) x e =
     let h : first + suc i ≡ first + 1 + i = omega arith in
     (omega (arith, rest.0), rw h rest.1)
 
+pub slice_get-numbers : (first count i : ℕ) → i < count → slice_get (range_with_len first count) i ≡ Some (first + i)
+slice_get-numbers first count i h =
+    slice_get-get_or (range_with_len first count) i 0 (omega (arith, h, length-range_with_len first count)) ∙ ap Some (get_or-range_with_len first count i 0 h)
+
 pub range-slice_get : {X : Type 0} (f : ℕ → X) (first count i : ℕ) → i < count → slice_get (map f (range_with_len first count)) i ≡ Some (f (first + i))
-range-slice_get f first zero i h = absurd (omega arith)
-range-slice_get f first (suc count) zero h = let e : first + 0 ≡ first = omega arith in rw e refl
-range-slice_get f first (suc count) (suc i) h =
-    let e : first + suc i ≡ first + 1 + i = omega arith in
-    rw e (range-slice_get f (first + 1) count i (omega arith))
+range-slice_get f first count i h = slice_get-map f (range_with_len first count) i ∙ ap (option_map f) (slice_get-numbers first count i h)
 
 -- two rows, one behind the other
 pub range-append : {X : Type 0} (f : ℕ → X) (first n m : ℕ) → map f (range_with_len first n) ++ map f (range_with_len (first + n) m) ≡ map f (range_with_len first (n + m))

@@ -1,5 +1,5 @@
 -- What the answers of look-ups say of the names.
-use Rattle.std.proofs.Common.{◌≡◌, ℕ, ◌+◌, ◌⊎◌, List, ◌++◌, length, map, slice_get, Option, Some, None, MatchOption, Bool, true, false, is_some, Decides, refl, sym, ◌∙◌, ap, subst, inl, inr, ⊎_elim, ◌<◌, IfSome}
+use Rattle.std.proofs.Common.{◌≡◌, ℕ, ◌+◌, ◌⊎◌, List, ◌++◌, length, map, slice_get, Option, Some, None, MatchOption, is_some, Decides, refl, sym, ◌∙◌, subst, inl, inr, ⊎_elim, ◌<◌, IfSome}
 use Rattle.std.proofs.lemmas.Bool.{true≢false}
 use Rattle.std.proofs.lemmas.List.{length-map}
 use Rattle.std.proofs.lemmas.Option.{slice_get_within}
@@ -7,7 +7,7 @@ use Rattle.ct_sorts.specs.declared.ids.SortId.{SortId}
 use Rattle.ct_sorts.specs.declared.ids.Symbol.{Symbol}
 use Rattle.ct_sorts.specs.declared.ids.Symbol.TheVariants.{Ctor, Sel, Fun, Def}
 use Rattle.ct_sorts.specs.Names.{IsListed}
-use Rattle.ct_sorts.specs.Declarations.{Declarations, Constructor, Selector, Function, ctor_names, sel_names, names, definition_names, symbol_names}
+use Rattle.ct_sorts.specs.Declarations.{Declarations, Constructor, Selector, Function, ctor_names, sel_names, function_names, definition_names, symbol_names}
 use Rattle.ct_sorts.specs.Lookup.{StandsFor, IsSymbol}
 use Rattle.ct_sorts.proofs.Lists.{slice_get_left, slice_get_right, slice_get_either}
 
@@ -29,8 +29,8 @@ pub is_some-symbol : (d : Declarations) (name : List ℕ) (found : Option Symbol
 is_some-symbol d name None absent = (λ e. absurd (true≢false (sym e)), λ h. absurd (absent h))
 is_some-symbol d name (Some (Ctor c)) at = (λ _. IsListed-left (ctor_names d) _ name (c.0, at), λ _. refl)
 is_some-symbol d name (Some (Sel s)) at = (λ _. IsListed-right (ctor_names d) _ name (IsListed-left (sel_names d) _ name (s.0, at)), λ _. refl)
-is_some-symbol d name (Some (Fun f)) at = (λ _. IsListed-right (ctor_names d) _ name (IsListed-right (sel_names d) _ name (IsListed-left (names d) _ name (f.0, at))), λ _. refl)
-is_some-symbol d name (Some (Def f)) at = (λ _. IsListed-right (ctor_names d) _ name (IsListed-right (sel_names d) _ name (IsListed-right (names d) (definition_names d) name (f.0, at))), λ _. refl)
+is_some-symbol d name (Some (Fun f)) at = (λ _. IsListed-right (ctor_names d) _ name (IsListed-right (sel_names d) _ name (IsListed-left (function_names d) _ name (f.0, at))), λ _. refl)
+is_some-symbol d name (Some (Def f)) at = (λ _. IsListed-right (ctor_names d) _ name (IsListed-right (sel_names d) _ name (IsListed-right (function_names d) (definition_names d) name (f.0, at))), λ _. refl)
 
 -- and a sort
 pub is_some-sort : (names : List (List ℕ)) (name : List ℕ) (found : Option SortId) → MatchOption found (IsListed names name → ⊥) (λ s. slice_get names s.0 ≡ Some name) → Decides (is_some found) (IsListed names name)
@@ -38,9 +38,9 @@ is_some-sort names name None absent = (λ e. absurd (true≢false (sym e)), λ h
 is_some-sort names name (Some s) at = (λ _. (s.0, at), λ _. refl)
 
 -- a name in none of the four lists is no symbol
-pub no_symbol : (d : Declarations) (name : List ℕ) → (IsListed (ctor_names d) name → ⊥) → (IsListed (sel_names d) name → ⊥) → (IsListed (names d) name → ⊥) → (IsListed (definition_names d) name → ⊥) → IsListed (symbol_names d) name → ⊥
+pub no_symbol : (d : Declarations) (name : List ℕ) → (IsListed (ctor_names d) name → ⊥) → (IsListed (sel_names d) name → ⊥) → (IsListed (function_names d) name → ⊥) → (IsListed (definition_names d) name → ⊥) → IsListed (symbol_names d) name → ⊥
 no_symbol d name no_ctor no_sel no_function no_definition found =
-    ⊎_elim no_ctor (λ rest. ⊎_elim no_sel (λ rest'. ⊎_elim no_function no_definition (IsListed-either (names d) (definition_names d) name rest')) (IsListed-either (sel_names d) _ name rest)) (IsListed-either (ctor_names d) _ name found)
+    ⊎_elim no_ctor (λ rest. ⊎_elim no_sel (λ rest'. ⊎_elim no_function no_definition (IsListed-either (function_names d) (definition_names d) name rest')) (IsListed-either (sel_names d) _ name rest)) (IsListed-either (ctor_names d) _ name found)
 
 -- what a name stands for is declared
 pub symbol_inside : (d : Declarations) (name : List ℕ) (found : Option Symbol) → StandsFor d name found → IfSome found (IsSymbol d)

@@ -1,10 +1,10 @@
 -- What the rounds of marking keep.
-use Rattle.std.proofs.Common.{◌≡◌, ℕ, zero, suc, ◌+◌, ◌<◌, ◌≤◌, ◌⊎◌, Bool, true, false, cond, ◌&&◌, ◌||◌, not, List, [], ◌∷◌, length, take, set, get_or, slice_get, replicate, Option, Some, None, option_map, unwrap_or, IsTrue, MatchBool, Decides, refl, sym, ◌∙◌, ap, subst, inl, inr, ⊎_elim, arith}
+use Rattle.std.proofs.Common.{◌≡◌, ℕ, zero, suc, ◌+◌, ◌<◌, ◌⊎◌, Bool, true, false, ◌&&◌, ◌||◌, List, [], ◌∷◌, length, set, slice_get, replicate, Option, Some, None, option_map, unwrap_or, MatchBool, refl, sym, ◌∙◌, ap, subst, inl, inr, ⊎_elim, arith}
 use Rattle.std.specs.List.{list_any, list_all}
+use Rattle.std.proofs.Math.Bool.{or-true}
 use Rattle.std.proofs.lemmas.Bool.{true≢false, false≢true}
-use Rattle.std.proofs.lemmas.Option.{none-some, same_Some}
+use Rattle.std.proofs.lemmas.Option.{same_Some}
 use Rattle.ct_sorts.specs.declared.block.Field.{Field}
-use Rattle.ct_sorts.specs.declared.block.CtorDecl.{CtorDecl}
 use Rattle.ct_sorts.specs.declared.block.SortDecl.{SortDecl}
 use Rattle.ct_sorts.specs.Lookup.{place_of}
 use Rattle.ct_sorts.specs.Marked.{is_field_in, is_ctor_in, is_sort_in, IsClosedInBlock, IsFoundedInBlock, marked, AreMarksSound, unmarked}
@@ -14,13 +14,9 @@ pub list_any-weaker : {X : Type 0} (f g : X → Bool) → ((x : X) → f x ≡ t
 list_any-weaker f g weaker [] h = h
 list_any-weaker f g weaker (x ∷ xs) h = by (f x) refl (list_any-weaker f g weaker xs) h
   where
-    or_true : (b : Bool) → (b || true) ≡ true
-    or_true true = refl
-    or_true false = refl
-
     by : (b : Bool) → f x ≡ b → (list_any f xs ≡ true → list_any g xs ≡ true) → (b || list_any f xs) ≡ true → (g x || list_any g xs) ≡ true
     by true e rest h = rw (weaker x e) refl
-    by false e rest h = rw (rest h) (or_true (g x))
+    by false e rest h = rw (rest h) (or-true (g x))
 
 pub list_all-weaker : {X : Type 0} (f g : X → Bool) → ((x : X) → f x ≡ true → g x ≡ true) → (xs : List X) → list_all f xs ≡ true → list_all g xs ≡ true
 list_all-weaker f g weaker [] h = h

@@ -1,5 +1,5 @@
 -- What a look-up in a list says of a name.
-use Rattle.std.proofs.Common.{◌≡◌, ℕ, zero, suc, ◌+◌, ◌<◌, ◌⊎◌, ◌||◌, Bool, true, false, cond, nat_lt, List, [], ◌∷◌, ◌++◌, length, map, slice_get, position, Option, Some, None, MatchOption, is_some, Decides, refl, sym, ap, inl, inr, ⊎_elim, arith}
+use Rattle.std.proofs.Common.{◌≡◌, ℕ, zero, suc, ◌+◌, ◌<◌, ◌⊎◌, ◌||◌, ◌&&◌, not, Bool, true, false, cond, nat_lt, List, [], ◌∷◌, ◌++◌, length, map, slice_get, position, Some, None, MatchOption, Decides, refl, sym, ◌∙◌, ap, inl, inr, ⊎_elim, arith}
 use Rattle.std.specs.List.{list_any, position_or_len}
 use Rattle.std.specs.Borrow.{Bor}
 use Rattle.std.specs.Map.{keys_of}
@@ -10,6 +10,7 @@ use Rattle.std.proofs.lemmas.Bool.{true≢false}
 use Rattle.std.proofs.lemmas.Bool.Decides.{Decides-or, Decides-like, Decides-ltb}
 use Rattle.std.proofs.lemmas.Option.{none-some, same_Some}
 use Rattle.ct_sorts.specs.Names.{IsListed}
+use Rattle.ct_sorts.specs.Lookup.{AreDistinct}
 
 -- a listed name is the first text or listed among the others
 pub IsListed-cons : (text : List ℕ) (texts : List (List ℕ)) (name : List ℕ) → IsListed (text ∷ texts) name → (text ≡ name) ⊎ IsListed texts name
@@ -22,6 +23,26 @@ list_any-IsListed [] name = (λ e. absurd (true≢false (sym e)), λ h. absurd (
 list_any-IsListed (text ∷ texts) name =
     Decides-like _ (⊎_elim (λ e. (0, ap Some e)) (λ h. (suc h.0, h.1))) (IsListed-cons text texts name)
     (Decides-or _ _ (bytes_eq-Decides text name) (list_any-IsListed texts name))
+
+-- no text stands again behind itself
+abbrev pub differ : List (List ℕ) → Bool
+differ [] = true
+differ (text ∷ texts) = not (list_any (λ t. bytes_eq t text) texts) && differ texts
+
+-- a text in front of distinct ones that it is none of
+AreDistinct-cons : (text : List ℕ) (texts : List (List ℕ)) → (IsListed texts text → ⊥) → AreDistinct texts → AreDistinct (text ∷ texts)
+AreDistinct-cons text texts fresh rest zero zero name at also = refl
+AreDistinct-cons text texts fresh rest zero (suc j) name at also = absurd (fresh (j, also ∙ sym at))
+AreDistinct-cons text texts fresh rest (suc i) zero name at also = absurd (fresh (i, at ∙ sym also))
+AreDistinct-cons text texts fresh rest (suc i) (suc j) name at also = ap suc (rest i j name at also)
+
+pub AreDistinct-differ : (texts : List (List ℕ)) → differ texts ≡ true → AreDistinct texts
+AreDistinct-differ [] e = λ i j name at also. absurd (none-some _ at)
+AreDistinct-differ (text ∷ texts) e = by (list_any (λ t. bytes_eq t text) texts) refl e (AreDistinct-differ texts)
+  where
+    by : (b : Bool) → list_any (λ t. bytes_eq t text) texts ≡ b → (not b && differ texts) ≡ true → (differ texts ≡ true → AreDistinct texts) → AreDistinct (text ∷ texts)
+    by true is h rest = absurd (true≢false (sym h))
+    by false is h rest = AreDistinct-cons text texts (λ listed. true≢false (sym ((list_any-IsListed texts text).1 listed) ∙ is)) (rest h)
 
 module _ {K : Type 0} (text_of : K → List ℕ) (test : K → Bool) (name : List ℕ) (decides : (key : K) → Decides (test key) (name ≡ text_of key)) where
   -- the first key that passes a test for the name has the name
@@ -58,11 +79,6 @@ module _ {K : Type 0} (text_of : K → List ℕ) (test : K → Bool) (name : Lis
       by : (b : Bool) → Decides b (position_or_len test keys < length keys) → MatchOption (cond b (Some (position_or_len test keys)) None) (IsListed (map text_of keys) name → ⊥) (λ place. slice_get (map text_of keys) place ≡ Some name)
       by true tells = slice_get-position keys (tells.0 refl)
       by false tells = λ h. true≢false (sym (tells.1 (position_or_len-IsListed keys h.0 h.1)))
-
--- whether a look-up found a place tells whether the name is listed
-pub is_some-IsListed : (found : Option ℕ) (texts : List (List ℕ)) (name : List ℕ) → MatchOption found (IsListed texts name → ⊥) (λ place. slice_get texts place ≡ Some name) → Decides (is_some found) (IsListed texts name)
-is_some-IsListed None texts name absent = (λ e. absurd (true≢false (sym e)), λ h. absurd (absent h))
-is_some-IsListed (Some place) texts name at = (λ _. (place, at), λ _. refl)
 
 -- a pair whose name is not listed goes last
 pub insert_entry-fresh : {K V : Type 0} (eq : K → K → Bool) (text_of : K → List ℕ) → ((a b : K) → Decides (eq a b) (text_of a ≡ text_of b)) → (es : List (K × V)) (key : K) (value : V) → (IsListed (map text_of (keys_of es)) (text_of key) → ⊥) → insert_entry eq es key value ≡ es ++ (key, value) ∷ []

@@ -1,6 +1,6 @@
 -- What the map of a table says of its list.
-use Rattle.std.proofs.Common.{◌≡◌, ℕ, zero, suc, ◌+◌, ◌<◌, List, [], ◌∷◌, ◌++◌, length, map, take, slice_get, position, Option, Some, None, option_map, MatchOption, Bool, true, false, refl, sym, ◌∙◌, ap, subst, ⊎_elim, ◌⊎◌, inl, inr, add-one, arith}
-use Rattle.std.proofs.lemmas.List.{map-append, take-map, length-map, length-take}
+use Rattle.std.proofs.Common.{◌≡◌, ℕ, zero, suc, ◌+◌, ◌<◌, List, [], ◌∷◌, ◌++◌, length, map, take, slice_get, position, Some, option_map, MatchOption, Bool, true, false, refl, sym, ◌∙◌, ap, subst, ⊎_elim, ◌⊎◌, inl, inr, add-one, arith}
+use Rattle.std.proofs.lemmas.List.{take-map, length-map, length-take}
 use Rattle.std.proofs.lemmas.Simd.{map-map}
 use Rattle.std.proofs.lemmas.Option.{slice_get-map, slice_get_within, none-some, same_Some}
 use Rattle.std.proofs.lemmas.Slice.Eq.{bytes_eq-Decides}

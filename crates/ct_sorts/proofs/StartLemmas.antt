@@ -1,33 +1,11 @@
 -- What every signature begins with fits together.
-use Rattle.std.proofs.Common.{◌≡◌, ℕ, zero, suc, ◌+◌, ◌<◌, List, [], ◌∷◌, length, slice_get, Some, codes, refl, sym, ap, subst, inl, inr, lit≤, arith}
+use Rattle.std.proofs.Common.{◌≡◌, ℕ, zero, suc, ◌<◌, [], ◌∷◌, length, slice_get, Some, codes, refl, sym, subst, inl, inr, arith}
 use Rattle.std.proofs.lemmas.Option.{none-some, same_Some}
-use Rattle.ct_sorts.specs.Names.{IsUnfit, HasByte}
-use Rattle.ct_sorts.specs.Lookup.{AreDistinct}
-use Rattle.ct_sorts.specs.declared.ids.Kind.TheVariants.{Data}
+use Rattle.ct_sorts.specs.Names.{IsUnfit}
 use Rattle.ct_sorts.specs.Declarations.{Sort, start, bool}
 use Rattle.ct_sorts.specs.Consistent.{AreFit, FitsKind, IsConsistent}
 use Rattle.ct_sorts.specs.Founded.{IsFounded}
-
--- a list of one name
-one_distinct : (text : List ℕ) → AreDistinct (text ∷ [])
-one_distinct text zero zero name at_i at_j = refl
-one_distinct text zero (suc j) name at_i at_j = absurd (none-some _ at_j)
-one_distinct text (suc i) j name at_i at_j = absurd (none-some _ at_i)
-
--- two names that differ
-two_distinct : (first second : List ℕ) → (first ≡ second → ⊥) → AreDistinct (first ∷ (second ∷ []))
-two_distinct first second differ zero zero name at_i at_j = refl
-two_distinct first second differ zero (suc zero) name at_i at_j = absurd (differ (sym_trans (same_Some _ _ at_i) (same_Some _ _ at_j)))
-  where
-    sym_trans : first ≡ name → second ≡ name → first ≡ second
-    sym_trans p q = cc
-two_distinct first second differ (suc zero) zero name at_i at_j = absurd (differ (sym_trans (same_Some _ _ at_j) (same_Some _ _ at_i)))
-  where
-    sym_trans : first ≡ name → second ≡ name → first ≡ second
-    sym_trans p q = cc
-two_distinct first second differ (suc zero) (suc zero) name at_i at_j = refl
-two_distinct first second differ i (suc (suc j)) name at_i at_j = absurd (none-some _ at_j)
-two_distinct first second differ (suc (suc i)) j name at_i at_j = absurd (none-some _ at_i)
+use Rattle.ct_sorts.proofs.NameLemmas.{AreDistinct-differ}
 
 -- a byte of the name Bool is one of its four
 bool_byte : (place byte : ℕ) → slice_get (codes "Bool") place ≡ Some byte → (byte ≡ 124 → ⊥) × (byte ≡ 92 → ⊥)
@@ -60,8 +38,8 @@ pub IsConsistent-start : IsConsistent start
 IsConsistent-start =
     record {
       few = record { sorts = omega arith; ctors = omega arith; sels = omega arith; functions = omega arith; definitions = omega arith };
-      sorts_distinct = one_distinct (codes "Bool");
-      distinct = two_distinct (codes "true") (codes "false") (λ e. cc);
+      sorts_distinct = AreDistinct-differ (codes "Bool" ∷ []) refl;
+      distinct = AreDistinct-differ (codes "true" ∷ (codes "false" ∷ [])) refl;
       fit = fit;
       ctors_available = λ place name at h. none-some _ at;
       sels_available = λ place name at h. none-some _ at;

@@ -1,6 +1,7 @@
 -- Which constructor is of which sort, and which selector of which constructor.
-use Rattle.std.proofs.Common.{◌≡◌, ℕ, ◌+◌, ◌<◌, List, length, map, slice_get, Option, Some, None, option_map, refl, sym, ◌∙◌, ap, subst, arith}
-use Rattle.std.proofs.lemmas.Option.{none-some, same_Some, slice_get_within, slice_get-map}
+use Rattle.std.proofs.Common.{◌≡◌, ℕ, ◌<◌, List, length, map, slice_get, Some, option_map, sym, ◌∙◌, ap, subst}
+use Rattle.std.proofs.Math.Nat.{zero-add}
+use Rattle.std.proofs.lemmas.Option.{same_Some, slice_get_within, slice_get-map}
 use Rattle.std.proofs.lemmas.List.Folds.{flat_map-map}
 use Rattle.std.specs.List.{range_with_len}
 use Rattle.ct_sorts.specs.declared.ids.CtorId.{CtorId}
@@ -8,22 +9,15 @@ use Rattle.ct_sorts.specs.declared.ids.SelId.{SelId}
 use Rattle.ct_sorts.specs.Declarations.{Declarations, Sort, Constructor, Selector}
 use Rattle.ct_sorts.specs.Consistent.{owners, places, IsConsistent}
 use Rattle.ct_sorts.specs.Structure.{HaveOwnConstructors, AreOfTheirSorts, HaveOwnSelectors, AreOfTheirConstructors}
-use Rattle.ct_sorts.proofs.Lists.{slice_get_there, slice_get-range, range-slice_get}
-use Rattle.ct_sorts.proofs.GroupLemmas.{row, IsOf, in_row, of_row}
+use Rattle.ct_sorts.proofs.Lists.{from_part, slice_get_there, slice_get-range, range-slice_get}
+use Rattle.ct_sorts.proofs.GroupLemmas.{row, in_row, of_row}
 
 -- what a map has at a place comes from what stands there
 source_of : {A B : Type 0} (f : A → B) (xs : List A) (i : ℕ) (y : B) → slice_get (map f xs) i ≡ Some y → (x : A) × (slice_get xs i ≡ Some x) × (f x ≡ y)
-source_of {A} {B} f xs i y at = by (slice_get xs i) refl (sym (slice_get-map f xs i) ∙ at)
-  where
-    by : (found : Option A) → slice_get xs i ≡ found → option_map f found ≡ Some y → (x : A) × (slice_get xs i ≡ Some x) × (f x ≡ y)
-    by None is e = absurd (none-some _ e)
-    by (Some x) is e = (x, is, same_Some _ _ e)
+source_of f xs i y at = from_part f xs i y (sym (slice_get-map f xs i) ∙ at)
 
 map_at : {A B : Type 0} (f : A → B) (xs : List A) (i : ℕ) (x : A) → slice_get xs i ≡ Some x → slice_get (map f xs) i ≡ Some (f x)
 map_at f xs i x at = slice_get-map f xs i ∙ ap (option_map f) at
-
-from0 : (n : ℕ) → 0 + n ≡ n
-from0 n = omega arith
 
 -- the items of the groups are those of a row of numbers, in order
 module _ {X : Type 0} (number : ℕ → X) (groups : List (List X)) (count : ℕ) (all : row groups ≡ map number (range_with_len 0 count)) where
@@ -32,13 +26,13 @@ module _ {X : Type 0} (number : ℕ → X) (groups : List (List X)) (count : ℕ
   item_number g p group x at_g at_p =
       let found = in_row 0 groups g p group x at_g at_p in
       let numbered = slice_get-range number 0 count found.0 x (subst (λ l. slice_get l found.0 ≡ Some x) all found.1.item) in
-      (found.0, numbered.0, numbered.1 ∙ ap number (from0 found.0), found.1.owner ∙ ap Some (from0 g), found.1.place)
+      (found.0, numbered.0, numbered.1 ∙ ap number (zero-add found.0), found.1.owner ∙ ap Some (zero-add g), found.1.place)
 
   -- each number is an item of a group
   pub number_item : (k : ℕ) → k < count → (g : ℕ) × (p : ℕ) × (group : List X) × (slice_get groups g ≡ Some group) × (slice_get group p ≡ Some (number k)) × (slice_get (owners 0 groups) k ≡ Some g) × (slice_get (places groups) k ≡ Some p)
   number_item k within =
-      let found = of_row 0 groups k (number k) (subst (λ l. slice_get l k ≡ Some (number k)) (sym all) (range-slice_get number 0 count k within ∙ ap (λ n. Some (number n)) (from0 k))) in
-      (found.g, found.p, found.group, found.at_g, found.at_p, found.stands.owner ∙ ap Some (from0 found.g), found.stands.place)
+      let found = of_row 0 groups k (number k) (subst (λ l. slice_get l k ≡ Some (number k)) (sym all) (range-slice_get number 0 count k within ∙ ap (λ n. Some (number n)) (zero-add k))) in
+      (found.g, found.p, found.group, found.at_g, found.at_p, found.stands.owner ∙ ap Some (zero-add found.g), found.stands.place)
 
 -- the groups of constructors, and those of selectors
 module _ (d : Declarations) (c : IsConsistent d) where

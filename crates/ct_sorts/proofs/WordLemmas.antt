@@ -1,40 +1,17 @@
 -- What the words of the core theory stand for: `true` and `false` for the first two constructors, the others for nothing.
-use Rattle.std.proofs.Common.{◌≡◌, ℕ, zero, suc, ◌+◌, ◌-◌, ◌<◌, ◌≤◌, ◌⊎◌, ◌&&◌, not, Bool, true, false, List, [], ◌∷◌, map, take, drop, slice_get, Option, Some, None, refl, sym, ◌∙◌, ap, subst, inl, inr, ⊎_elim, arith}
-use Rattle.std.specs.List.{list_any}
-use Rattle.std.specs.Str.{bytes_eq}
-use Rattle.std.proofs.lemmas.Bool.{true≢false}
+use Rattle.std.proofs.Common.{◌≡◌, ℕ, zero, suc, ◌+◌, ◌<◌, ◌≤◌, ◌⊎◌, List, map, take, slice_get, Option, Some, None, refl, sym, ◌∙◌, ap, subst, inl, inr, ⊎_elim, arith}
 use Rattle.std.proofs.lemmas.List.{take-map}
-use Rattle.std.proofs.lemmas.Option.{none-some, same_Some}
+use Rattle.std.proofs.lemmas.Option.{same_Some}
 use Rattle.ct_sorts.specs.declared.ids.Symbol.{Symbol}
 use Rattle.ct_sorts.specs.declared.ids.Symbol.TheVariants.{Ctor, Sel, Fun, Def}
-use Rattle.ct_sorts.specs.Names.{IsListed, core_words}
-use Rattle.ct_sorts.specs.Declarations.{Declarations, Constructor, ctor_names, sel_names, names, definition_names, symbol_names, start}
-use Rattle.ct_sorts.specs.Lookup.{AreDistinct, StandsFor}
+use Rattle.ct_sorts.specs.Names.{core_words}
+use Rattle.ct_sorts.specs.Declarations.{Declarations, Constructor, ctor_names, start}
+use Rattle.ct_sorts.specs.Lookup.{StandsFor}
 use Rattle.ct_sorts.specs.Consistent.{IsConsistent}
 use Rattle.ct_sorts.proofs.Lists.{slice_get-drop}
 use Rattle.ct_sorts.proofs.NumberedLemmas.{slice_get-take}
-use Rattle.ct_sorts.proofs.NameLemmas.{list_any-IsListed}
+use Rattle.ct_sorts.proofs.NameLemmas.{AreDistinct-differ}
 use Rattle.ct_sorts.proofs.LookupLemmas.{IsListed-left}
-
--- no text stands again behind itself
-abbrev differ : List (List ℕ) → Bool
-differ [] = true
-differ (text ∷ texts) = not (list_any (λ t. bytes_eq t text) texts) && differ texts
-
--- a text in front of distinct ones that it is none of
-AreDistinct-cons : (text : List ℕ) (texts : List (List ℕ)) → (IsListed texts text → ⊥) → AreDistinct texts → AreDistinct (text ∷ texts)
-AreDistinct-cons text texts fresh rest zero zero name at also = refl
-AreDistinct-cons text texts fresh rest zero (suc j) name at also = absurd (fresh (j, also ∙ sym at))
-AreDistinct-cons text texts fresh rest (suc i) zero name at also = absurd (fresh (i, at ∙ sym also))
-AreDistinct-cons text texts fresh rest (suc i) (suc j) name at also = ap suc (rest i j name at also)
-
-differ-distinct : (texts : List (List ℕ)) → differ texts ≡ true → AreDistinct texts
-differ-distinct [] e = λ i j name at also. absurd (none-some _ at)
-differ-distinct (text ∷ texts) e = by (list_any (λ t. bytes_eq t text) texts) refl e (differ-distinct texts)
-  where
-    by : (b : Bool) → list_any (λ t. bytes_eq t text) texts ≡ b → (not b && differ texts) ≡ true → (differ texts ≡ true → AreDistinct texts) → AreDistinct (text ∷ texts)
-    by true is h rest = absurd (true≢false (sym h))
-    by false is h rest = AreDistinct-cons text texts (λ listed. true≢false (sym ((list_any-IsListed texts text).1 listed) ∙ is)) (rest h)
 
 -- the first two constructors have the first two words as names
 truths_first : (d : Declarations) → IsConsistent d → (n : ℕ) (name : List ℕ) → n < 2 → slice_get core_words n ≡ Some name → slice_get (ctor_names d) n ≡ Some name
@@ -56,7 +33,7 @@ word_number d c name k n stands at = by k refl
     early m e few text word =
         let named : slice_get (ctor_names d) k ≡ Some text = subst (λ i. slice_get (ctor_names d) i ≡ Some text) (sym e) (truths_first d c m text few word) in
         let same : text ≡ name = same_Some text name (sym named ∙ stands) in
-        let number : m ≡ n = differ-distinct core_words refl m n name (word ∙ ap Some same) at in
+        let number : m ≡ n = AreDistinct-differ core_words refl m n name (word ∙ ap Some same) at in
         (subst (λ i. i < 2) number few, e ∙ number)
 
     -- a later constructor may be declared, and so its name is no word

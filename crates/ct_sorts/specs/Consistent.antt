@@ -4,7 +4,7 @@ use Rattle.std.specs.List.{flat_map, range_with_len}
 use Rattle.ct_sorts.specs.declared.ids.Kind.{Kind}
 use Rattle.ct_sorts.specs.declared.ids.Kind.TheVariants.{Bool as BoolKind, Free, Data, Codata}
 use Rattle.ct_sorts.specs.Names.{IsUnavailable, IsUnfit}
-use Rattle.ct_sorts.specs.Declarations.{Declarations, Sort, Selector, Function, IsSort, sort_names, symbol_names, ctor_names, sel_names, names, definition_names, start, ctor_ids, sel_ids, most_sorts, most_ctors, most_sels, most_functions, most_definitions}
+use Rattle.ct_sorts.specs.Declarations.{Declarations, Sort, Selector, Function, IsSort, sort_names, symbol_names, ctor_names, sel_names, function_names, definition_names, start, ctor_ids, sel_ids, most_sorts, most_ctors, most_sels, most_functions, most_definitions}
 use Rattle.ct_sorts.specs.Lookup.{AreDistinct}
 use Rattle.ct_sorts.specs.Founded.{IsFounded}
 
@@ -61,7 +61,7 @@ pub record IsConsistent (d : Declarations) : Type 0 where
   pub fit : AreFit (sort_names d)
   pub ctors_available : AreAvailable (drop 2 (ctor_names d))
   pub sels_available : AreAvailable (sel_names d)
-  pub available : AreAvailable (names d)
+  pub available : AreAvailable (function_names d)
   pub definitions_available : AreAvailable (definition_names d)
   -- Bool, `true` and `false` are there
   pub first_sort : take 1 d.sorts ≡ start.sorts

@@ -73,6 +73,7 @@ start =
       definitions = [];
     }
 
+-- the names of the sorts, the constructors, the selectors, the functions and the definitions, each in order
 abbrev pub sort_names : Declarations → List (List ℕ)
 sort_names d = map (λ s. s.name) d.sorts
 
@@ -82,17 +83,17 @@ ctor_names d = map (λ c. c.name) d.ctors
 abbrev pub sel_names : Declarations → List (List ℕ)
 sel_names d = map (λ s. s.name) d.sels
 
--- the names of the functions
-abbrev pub names : Declarations → List (List ℕ)
-names d = map (λ f. f.name) d.functions
+abbrev pub function_names : Declarations → List (List ℕ)
+function_names d = map (λ f. f.name) d.functions
 
 abbrev pub definition_names : Declarations → List (List ℕ)
 definition_names d = map (λ f. f.name) d.definitions
 
 -- the names that share the second space: constructors, selectors, functions and definitions
 abbrev pub symbol_names : Declarations → List (List ℕ)
-symbol_names d = ctor_names d ++ (sel_names d ++ (names d ++ definition_names d))
+symbol_names d = ctor_names d ++ (sel_names d ++ (function_names d ++ definition_names d))
 
+-- the number is that of a sort, a constructor, a selector, a function or a definition that is there
 abbrev pub IsSort : Declarations → SortId → Type 0
 IsSort d s = s.0 < length d.sorts
 

@@ -2,7 +2,7 @@
 use Rattle.std.specs.Prelude.{◌≡◌, ℕ, List, Option, Some, None, map, slice_get, position}
 use Rattle.std.specs.Str.{bytes_eq}
 use Rattle.ct_sorts.specs.Names.{IsListed}
-use Rattle.ct_sorts.specs.Declarations.{Declarations, IsConstructor, IsSelector, IsFunction, IsDefinition, ctor_names, sel_names, names, definition_names, symbol_names}
+use Rattle.ct_sorts.specs.Declarations.{Declarations, IsConstructor, IsSelector, IsFunction, IsDefinition, ctor_names, sel_names, function_names, definition_names, symbol_names}
 use Rattle.ct_sorts.specs.declared.ids.Symbol.{Symbol}
 use Rattle.ct_sorts.specs.declared.ids.Symbol.TheVariants.{Ctor, Sel, Fun, Def}
 
@@ -11,7 +11,7 @@ abbrev pub StandsFor : Declarations → List ℕ → Option Symbol → Type 0
 StandsFor d name None = IsListed (symbol_names d) name → ⊥
 StandsFor d name (Some (Ctor c)) = slice_get (ctor_names d) c.0 ≡ Some name
 StandsFor d name (Some (Sel s)) = slice_get (sel_names d) s.0 ≡ Some name
-StandsFor d name (Some (Fun f)) = slice_get (names d) f.0 ≡ Some name
+StandsFor d name (Some (Fun f)) = slice_get (function_names d) f.0 ≡ Some name
 StandsFor d name (Some (Def f)) = slice_get (definition_names d) f.0 ≡ Some name
 
 -- the symbol is declared

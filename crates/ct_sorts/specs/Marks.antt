@@ -1,7 +1,7 @@
 -- The lengths of the lists of declarations, and what is left after a cut.
-use Rattle.std.specs.Prelude.{◌≡◌, ℕ, ◌≤◌, List, length, take, Some, slice_get}
+use Rattle.std.specs.Prelude.{◌≡◌, ◌≤◌, length, take}
 use Rattle.std.specs.List.{flat_map}
-use Rattle.ct_sorts.specs.Declarations.{Declarations, Selector, Function, IsSort, ctor_ids, sel_ids}
+use Rattle.ct_sorts.specs.Declarations.{Declarations, ctor_ids, sel_ids}
 use Rattle.ct_sorts.specs.Lengths.{Lengths}
 use Rattle.ct_sorts.specs.Consistent.{AreOverSorts, AreFieldsOverSorts}
 

@@ -14,8 +14,8 @@ use crate::refusals::NAME_TAKEN;
 use crate::signature::Signature;
 use std::alloc::Global;
 
-/// Notes the names of the block's sorts in `own`, which is empty before. It is refused with 11 where a name of
-/// the block is taken, repeated or cannot be declared.
+/// Notes the names of the block's sorts in `own`, which is empty before. The block is refused with 11 where one of
+/// its names is taken, repeated or cannot be declared.
 pub(crate) fn admit_block(
     alloc: Global,
     sig: &Signature,

@@ -31,4 +31,10 @@ pub use name::Name;
 pub use signature::Signature;
 
 #[cfg(test)]
+mod mark_tests;
+#[cfg(test)]
+mod refusal_tests;
+#[cfg(test)]
+mod test_declarations;
+#[cfg(test)]
 mod tests;

@@ -1,6 +1,6 @@
 ghost use Rattle.std.specs.Prelude.{◌≡◌, ℕ, ◌+◌, List, ◌<◌, ◌≤◌, ◌⊎◌, ◌↔◌, [], length, Some, None, option_map, slice_get, All, IsTrue, IfSome, MatchOption, OnOk, OnErr, IfOk, IfErr, IsErrOf};
 ghost use Rattle.ct_sorts.specs.Names.{IsListed, IsUnavailable, IsUnavailableSort, core_words};
-ghost use Rattle.ct_sorts.specs.Declarations.{Declarations, Function, IsSort, IsConstructor, IsSelector, IsFunction, IsDefinition, start, names, symbol_names, sort_names, ctor_names, sel_names, most_sorts, most_functions, most_definitions, sort_ids, with_sort, with_function, with_definition};
+ghost use Rattle.ct_sorts.specs.Declarations.{Declarations, Function, IsSort, IsConstructor, IsSelector, IsFunction, IsDefinition, start, function_names, symbol_names, sort_names, ctor_names, sel_names, most_sorts, most_functions, most_definitions, sort_ids, with_sort, with_function, with_definition};
 ghost use Rattle.ct_sorts.specs.Lookup.{StandsFor, IsSymbol, AreDistinct, names_of};
 ghost use Rattle.ct_sorts.specs.Refusals.{name_taken, symbol_taken, too_many};
 ghost use Rattle.ct_sorts.specs.Consistent.{IsConsistent, IsOverSorts};
@@ -319,10 +319,11 @@ impl Signature {
         }
     }
 
-    /// Takes back what was declared after the mark. The mark's lengths are at most the present ones, no sort
-    /// is left without its constructors and no constructor without its selectors, and no field, function or
-    /// definition that is left has a sort that goes. So it is of a mark that was made of this signature, as long
-    /// as declarations were only added since.
+    /// Takes back what was declared after the mark. The mark's lengths are at most the present ones. The
+    /// constructors of the sorts that are left are exactly the constructors that are left, and the selectors of
+    /// these are exactly the selectors that are left. No field, function or definition that is left has a sort
+    /// that goes. A mark that was made of this signature is such a mark, as long as declarations were only added
+    /// since.
     pub fn cut_to(&mut self, mark: &Mark)
         requires can_cut { CanCut self.old mark.now }
         ensures cut { self.new ≡ cut self.old mark.now }
@@ -477,8 +478,8 @@ impl Signature {
     pub fn funs(&self) -> u32
         ensures count { result ≡ length self.now.functions }
         ensures few { result ≤ most_functions }
-        ensures distinct { AreDistinct (names self.now) }
-        ensures available { (f : ℕ) (name : List ℕ) → slice_get (names self.now) f ≡ Some name → IsUnavailable [] name → ⊥ }
+        ensures distinct { AreDistinct (function_names self.now) }
+        ensures available { (f : ℕ) (name : List ℕ) → slice_get (function_names self.now) f ≡ Some name → IsUnavailable [] name → ⊥ }
         ensures over_sorts { (f : ℕ) (declared : Function) → slice_get self.now.functions f ≡ Some declared → IsOverSorts self.now declared }
     {
         self.functions.len() as u32
@@ -487,7 +488,7 @@ impl Signature {
     /// The name of a function of this signature.
     pub fn fun_name(&self, f: FunId) -> &[u8]
         requires inside { IsFunction self.now f }
-        ensures value { slice_get (names self.now) f.0 ≡ Some result.now }
+        ensures value { slice_get (function_names self.now) f.0 ≡ Some result.now }
     {
         self.functions.name(f.0 as usize)
     }

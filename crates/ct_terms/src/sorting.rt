@@ -6,12 +6,9 @@ ghost use Rattle.ct_sorts.specs.Declarations.{IsSelector};
 ghost use Rattle.ct_terms.specs.Table.{IsOfSort, IsBoolean, AreOfSorts, IsOfField, Constructs, Selects, Tests, Applies, Equates, Joins, IsWellSorted};
 
 use crate::ids::TermId;
-use crate::table::TermTable;
+use crate::table::{BOOL, TermTable};
 use crate::term::Core;
 use ct_sorts::{CtorId, FunId, SelId, Signature, SortId};
-
-/// The sort of Boolean terms.
-const BOOL: SortId = SortId(0);
 
 /// Whether the term is well sorted over the terms of the table, as `TermTable::make` asks. It is not where it names
 /// a term, a constructor, a selector or a function that is not there.

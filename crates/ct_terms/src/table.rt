@@ -19,7 +19,7 @@ use std::marker::Model;
 const MOST_TERMS: usize = 400_000;
 
 /// The sort of Boolean terms.
-const BOOL: SortId = SortId(0);
+pub(crate) const BOOL: SortId = SortId(0);
 
 /// Terms with one number each, in the order in which they were made.
 #[derive(Drop)]

@@ -122,6 +122,20 @@ agree-trans k p q r h g = (agree_equiv k).congr p q r h ∙ g
 pub agree-sym : (k : ℕ) (p q : Point) → IsTrue (agree k p q) → IsTrue (agree k q p)
 agree-sym k p q h = (agree_equiv k).symm q p ∙ h
 
+-- agreement at every depth is an equivalence
+pub AgreeAlways-refl : (p : Point) → AgreeAlways p p
+AgreeAlways-refl p k = (agree_equiv k).refl p
+
+pub AgreeAlways-sym : (p q : Point) → AgreeAlways p q → AgreeAlways q p
+AgreeAlways-sym p q h k = agree-sym k p q (h k)
+
+pub AgreeAlways-trans : (p q r : Point) → AgreeAlways p q → AgreeAlways q r → AgreeAlways p r
+AgreeAlways-trans p q r first second k = agree-trans k p q r (first k) (second k)
+
+-- two points that agree with a third at every depth do so with each other
+pub AgreeAlways-meet : (p q r : Point) → AgreeAlways p r → AgreeAlways q r → AgreeAlways p q
+AgreeAlways-meet p q r first second = AgreeAlways-trans p r q first (AgreeAlways-sym q r second)
+
 -- points that agree at every depth with others do so with each other just where the others do
 pub AgreeAlways-across : (p q r s : Point) → AgreeAlways p r → AgreeAlways q s → AgreeAlways p q ↔ AgreeAlways r s
 AgreeAlways-across p q r s first second = (

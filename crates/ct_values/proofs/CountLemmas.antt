@@ -1,5 +1,5 @@
 -- Numbers that count up: their first occurrences are the numbers from the first one on, in order.
-use Rattle.std.proofs.Common.{◌≡◌, ℕ, zero, suc, ◌+◌, ◌<◌, ◌≤◌, Bool, true, false, cond, not, ◌&&◌, ◌||◌, List, [], ◌∷◌, ◌++◌, length, filter, nat_eq, nat_le, refl, sym, ap, subst, ◌∙◌, inl, inr, arith, true≢false, eq-or-lt_of_le}
+use Rattle.std.proofs.Common.{◌≡◌, ℕ, zero, suc, ◌+◌, ◌<◌, ◌≤◌, ◌↔◌, ◌⊎◌, Bool, true, false, cond, not, ◌&&◌, ◌||◌, List, [], ◌∷◌, ◌++◌, length, filter, nat_eq, nat_le, refl, sym, ap, subst, ◌∙◌, inl, inr, arith, true≢false, eq-or-lt_of_le}
 use Rattle.std.specs.List.{AllByRecursion, list_any, range_with_len, position_or_len}
 use Rattle.std.proofs.lemmas.Bool.{cases_lt}
 use Rattle.std.proofs.lemmas.Bool.Decides.{nat_tests, Decides-or, Decides-eqb}
@@ -22,28 +22,24 @@ CountsUp-below met all (n ∷ ns) (inl h) =
 CountsUp-below met all (n ∷ ns) (inr h) =
     let more = CountsUp-rises (suc met) all ns h.1 in (omega (arith, h.0), CountsUp-below (suc met) all ns h.1)
 
-here : (b rest : Bool) → b ≡ true → (b || rest) ≡ true
-here true rest e = refl
-here false rest e = absurd (true≢false (sym e))
-
-later : (b rest : Bool) → rest ≡ true → (b || rest) ≡ true
-later true rest e = refl
-later false rest e = e
+-- a number is among others where it is the first or among the rest
+pub is_among : (n m : ℕ) (ms : List ℕ) → list_any (nat_eq n) (m ∷ ms) ≡ true ↔ ((n ≡ m) ⊎ (list_any (nat_eq n) ms ≡ true))
+is_among n m ms = Decides-or (nat_eq n m) (list_any (nat_eq n) ms) (Decides-eqb n m) (λ e. e, λ e. e)
 
 -- each number that is newly met is among them
 pub CountsUp-has : (met all m : ℕ) (ns : List ℕ) → CountsUp met ns all → met ≤ m → m < all → list_any (nat_eq m) ns ≡ true
 CountsUp-has met all m [] h low high = absurd (omega arith)
 CountsUp-has met all m (n ∷ ns) (inl h) low high =
-    later (nat_eq m n) (list_any (nat_eq m) ns) (CountsUp-has met all m ns h.1 low high)
+    (is_among m n ns).1 (inr (CountsUp-has met all m ns h.1 low high))
 CountsUp-has met all m (n ∷ ns) (inr h) low high = elim (eq-or-lt_of_le low) [
-  | inl e ↦ here (nat_eq m n) (list_any (nat_eq m) ns) ((Decides-eqb m n).1 (sym e ∙ sym h.0))
-  | inr less ↦ later (nat_eq m n) (list_any (nat_eq m) ns) (CountsUp-has (suc met) all m ns h.1 (omega arith) high)
+  | inl e ↦ (is_among m n ns).1 (inl (sym e ∙ sym h.0))
+  | inr less ↦ (is_among m n ns).1 (inr (CountsUp-has (suc met) all m ns h.1 (omega arith) high))
 ]
 
 -- a number among numbers below a bound is below it
 pub has_below : (bound n : ℕ) (ns : List ℕ) → AllByRecursion (λ m. m < bound) ns → list_any (nat_eq n) ns ≡ true → n < bound
 has_below bound n [] all has = absurd (true≢false (sym has))
-has_below bound n (m ∷ ms) all has = elim ((Decides-or (nat_eq n m) (list_any (nat_eq n) ms) (Decides-eqb n m) (λ e. e, λ e. e)).0 has) [
+has_below bound n (m ∷ ms) all has = elim ((is_among n m ms).0 has) [
   | inl e ↦ omega (arith, e, all.0)
   | inr e ↦ has_below bound n ms all.1 e
 ]

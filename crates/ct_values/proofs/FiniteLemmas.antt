@@ -12,14 +12,10 @@ use Rattle.ct_values.specs.Agreement.{node_point, AgreeAlways}
 use Rattle.ct_values.specs.KeyTest.{same_key}
 use Rattle.ct_values.specs.Partition.{class_at, node_key, key_of, Alike, KeepsTogether}
 use Rattle.ct_values.specs.Settled.{IsTree, AreSettled, unsettled, IsSettling, AreTried}
-use Rattle.ct_values.proofs.AgreeLemmas.{agree-sym}
 use Rattle.ct_values.proofs.GraphLemmas.{closed_children}
-use Rattle.ct_values.proofs.NodeLemmas.{node_points, AgreeAlways-nodes}
+use Rattle.ct_values.proofs.NodeLemmas.{id, node_points, AgreeAlways-nodes}
 use Rattle.ct_values.proofs.RenumberLemmas.{stands_within}
-
--- the number as a number of a node
-abbrev id : ℕ → NodeId
-id i = record { 0 = i }
+use Rattle.ct_values.proofs.AgreeLemmas.{AgreeAlways-sym}
 
 -- ---- finite trees
 
@@ -188,7 +184,7 @@ KeepsTogether-settled g classes firsts closed settling tried = record {
         tree_class g classes firsts closed settling tried tree.0 (id i) (id j) i_in j_in tree.1 yes_i alike
     at i j i_in j_in alike (inl no_i) (inr yes_j) =
         let tree = settling.trees j j_in yes_j in
-        sym (tree_class g classes firsts closed settling tried tree.0 (id j) (id i) j_in i_in tree.1 yes_j (λ k. agree-sym k (node_point g (id i)) (node_point g (id j)) (alike k)))
+        sym (tree_class g classes firsts closed settling tried tree.0 (id j) (id i) j_in i_in tree.1 yes_j (AgreeAlways-sym (node_point g (id i)) (node_point g (id j)) alike))
 
 -- ---- a pass
 

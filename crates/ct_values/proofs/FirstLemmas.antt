@@ -1,4 +1,4 @@
--- Agreement at every depth is an equivalence that nodes behind a graph leave alone, and what first nodes are by it.
+-- Nodes behind a graph leave agreement at every depth alone, and what first nodes are by it.
 use Rattle.std.proofs.Common.{◌≡◌, ◌<◌, ◌≤◌, ◌↔◌, ◌⊎◌, inl, inr, ◌++◌, length, sym, subst, ◌∙◌, arith, length-append}
 use Rattle.std.proofs.lemmas.Bool.{cases_lt}
 use Rattle.ct_values.specs.declared.node.NodeId.{NodeId}
@@ -6,16 +6,8 @@ use Rattle.ct_values.specs.Graph.{Nodes, IsClosed}
 use Rattle.ct_values.specs.Value.{Value, IsOver, reference}
 use Rattle.ct_values.specs.Agreement.{Point, point, node_point, AgreeAlways}
 use Rattle.ct_values.specs.Sharing.{IsFirst}
-use Rattle.ct_values.proofs.AgreeLemmas.{agree_equiv}
+use Rattle.ct_values.proofs.AgreeLemmas.{agree_equiv, AgreeAlways-sym, AgreeAlways-trans, AgreeAlways-meet}
 use Rattle.ct_values.proofs.GraphLemmas.{agree-grown}
-use Rattle.ct_values.proofs.SmallestLemmas.{AgreeAlways-sym, AgreeAlways-trans}
-
-pub AgreeAlways-refl : (p : Point) → AgreeAlways p p
-AgreeAlways-refl p k = (agree_equiv k).refl p
-
--- points that are at the two ends of a chain
-pub AgreeAlways-meet : (p q r : Point) → AgreeAlways p r → AgreeAlways q r → AgreeAlways p q
-AgreeAlways-meet p q r first second = AgreeAlways-trans p r q first (AgreeAlways-sym q r second)
 
 -- nodes behind a closed graph change nothing for a value over it
 pub AgreeAlways-grown : (g more : Nodes) (v : Value) → IsClosed g → IsOver g v → AgreeAlways (point (g ++ more) v) (point g v)

@@ -1,5 +1,5 @@
 -- The tests of fitting: nodes and fields one for one, a field by its sort, and a node by its head and its children.
-use Rattle.std.proofs.Common.{◌≡◌, ℕ, zero, suc, ◌+◌, ◌<◌, ◌⊎◌, ◌↔◌, Bool, true, false, nat_eq, List, [], ◌∷◌, length, get_or, slice_get, Option, Some, None, option_map, IsTrue, refl, sym, ap, subst, ◌∙◌, inl, inr, arith}
+use Rattle.std.proofs.Common.{◌≡◌, ℕ, zero, suc, ◌+◌, ◌<◌, ◌↔◌, Bool, true, false, nat_eq, List, [], ◌∷◌, length, get_or, slice_get, Option, Some, None, option_map, IsTrue, refl, sym, ap, subst, ◌∙◌, inl, inr, arith, eq-or-lt_of_le, ◌≤◌}
 use Rattle.std.specs.List.{AllZip}
 use Rattle.std.proofs.lemmas.List.{get_or_default}
 use Rattle.std.proofs.lemmas.Option.{none-some, same_Some}
@@ -14,14 +14,7 @@ use Rattle.ct_values.specs.declared.node.Head.{Head}
 use Rattle.ct_values.specs.declared.node.Head.TheVariants as heads
 use Rattle.ct_values.specs.Graph.{Nodes, node_head, node_children}
 use Rattle.ct_values.specs.Fitting.{HasNodeSort, IsOfField, IsBuilt, IsElement, FitsNode}
-
--- a number that is not past the last is before it, or is it
-last_or_before : (k i : ℕ) → k < i + 1 → (k < i) ⊎ (k ≡ i)
-last_or_before zero zero h = inr refl
-last_or_before zero (suc i) h = inl (omega arith)
-last_or_before (suc k) zero h = absurd (omega arith)
-last_or_before (suc k) (suc i) h =
-    elim (last_or_before k i (omega arith)) [ inl before ↦ inl (omega arith) | inr last ↦ inr (ap suc last) ]
+use Rattle.ct_values.proofs.GraphLemmas.{option_map-Some}
 
 -- two lists, place by place
 module _ {X Y : Type 0} (R : X → Y → Type 0) where
@@ -40,26 +33,24 @@ module _ {X Y : Type 0} (R : X → Y → Type 0) where
   AllZip-at_place (x ∷ xs) (y ∷ ys) all zero d e within = all.0
   AllZip-at_place (x ∷ xs) (y ∷ ys) all (suc k) d e within = AllZip-at_place xs ys all.1 k d e (omega arith)
 
+  last_or_before : (k i : ℕ) → k < i + 1 → k ≤ i
+  last_or_before k i h = omega arith
+
   -- what holds place by place before a number and at it holds up to it
   pub places-more : (xs : List X) (ys : List Y) (i : ℕ) (x : X) (y : Y) → i < length xs → i < length ys → ((k : ℕ) (d : X) (e : Y) → k < i → R (get_or xs k d) (get_or ys k e)) → R (get_or xs i x) (get_or ys i y) → (k : ℕ) (d : X) (e : Y) → k < i + 1 → R (get_or xs k d) (get_or ys k e)
   places-more xs ys i x y in_xs in_ys before last k d e up_to =
-      elim (last_or_before k i up_to) [
-        | inl h ↦ before k d e h
-        | inr h ↦
+      elim (eq-or-lt_of_le (last_or_before k i up_to)) [
+        | inr h ↦ before k d e h
+        | inl h ↦
             let at_x : get_or xs i x ≡ get_or xs k d = get_or_default xs i x d in_xs ∙ ap (λ (n : ℕ). get_or xs n d) (sym h) in
             let at_y : get_or ys i y ≡ get_or ys k e = get_or_default ys i y e in_ys ∙ ap (λ (n : ℕ). get_or ys n e) (sym h) in
             subst (R (get_or xs k d)) at_y (subst (λ (z : X). R z (get_or ys i y)) at_x last)
       ]
 
--- what a look-up through a function finds
-there : {X Y : Type 0} (f : X → Y) (o : Option X) (y : Y) → option_map f o ≡ Some y → (x : X) × (o ≡ Some x) × (f x ≡ y)
-there f None y e = absurd (none-some y e)
-there f (Some x) y e = (x, refl, same_Some (f x) y e)
-
 -- a node has the sort of a selector's field
 pub IsOfField-tested : (d : Declarations) (g : Nodes) (child : NodeId) (s : SelId) (side : SortId) (r : Bool) → option_map (λ (f : Selector). f.sort) (slice_get d.sels s.0) ≡ Some side → (IsTrue r ↔ HasNodeSort d g child side) → IsTrue r ↔ IsOfField d g child s
 IsOfField-tested d g child s side r at told =
-    let sel = there (λ (f : Selector). f.sort) (slice_get d.sels s.0) side at in (
+    let sel = option_map-Some (λ (f : Selector). f.sort) (slice_get d.sels s.0) side at in (
       λ holds. record { selector = sel.0; declared = sel.1; sorted = subst (HasNodeSort d g child) (sym sel.2) (told.0 holds) },
       λ h. told.1 (subst (HasNodeSort d g child) (ap (λ (f : Selector). f.sort) (same_Some h.selector sel.0 (sym h.declared ∙ sel.1)) ∙ sel.2) h.sorted),
     )

@@ -1,8 +1,7 @@
 -- Graphs that fit declarations: what their heads are, and that the smallest graph of a tree fits where the tree's graph does.
-use Rattle.std.proofs.Common.{◌≡◌, ℕ, zero, suc, ◌<◌, true, List, [], ◌∷◌, length, map, Option, Some, None, option_map, slice_get, nat_eq, refl, sym, ap, subst, ◌∙◌, inl, inr, arith, true≢false}
-use Rattle.std.specs.List.{AllZip, list_any}
-use Rattle.std.proofs.lemmas.Option.{none-some, same_Some, slice_get_within}
-use Rattle.std.proofs.lemmas.Bool.Decides.{Decides-or, Decides-eqb}
+use Rattle.std.proofs.Common.{◌≡◌, ℕ, List, [], ◌∷◌, Some, option_map, slice_get, sym, ap, subst, ◌∙◌}
+use Rattle.std.specs.List.{AllZip}
+use Rattle.std.proofs.lemmas.Option.{same_Some, slice_get_within}
 use Rattle.ct_sorts.specs.declared.ids.CtorId.{CtorId}
 use Rattle.ct_sorts.specs.declared.ids.SortId.{SortId}
 use Rattle.ct_sorts.specs.declared.ids.SelId.{SelId}
@@ -10,24 +9,15 @@ use Rattle.ct_sorts.specs.Declarations.{Declarations, IsConstructor, IsSort}
 use Rattle.ct_values.specs.declared.node.NodeId.{NodeId}
 use Rattle.ct_values.specs.declared.node.Node.{Node}
 use Rattle.ct_values.specs.declared.node.Node.TheVariants.{Con, Elem}
-use Rattle.ct_values.specs.declared.node.Head.{Head}
 use Rattle.ct_values.specs.declared.node.Head.TheVariants as heads
 use Rattle.ct_values.specs.Graph.{Nodes, node_head, node_children}
 use Rattle.ct_values.specs.Agreement.{node_point, AgreeAlways}
 use Rattle.ct_values.specs.Smallest.{IsSmallest}
 use Rattle.ct_values.specs.Fitting.{node_sort, HasNodeSort, IsOfField, FitsNode, FitsGraph}
-use Rattle.ct_values.proofs.AgreeLemmas.{AgreeAlways-parts}
-use Rattle.ct_values.proofs.NodeLemmas.{node_points, head_at, AgreeAlways-nodes}
-use Rattle.ct_values.proofs.SmallestLemmas.{AgreeAlways-sym}
-
--- the number as a number of a node
-abbrev id : ℕ → NodeId
-id i = record { 0 = i }
-
--- what has a head is a node with this head
-pub node_of_head : (found : Option Node) (h : Head) → option_map node_head found ≡ Some h → (x : Node) × (found ≡ Some x) × (node_head x ≡ h)
-node_of_head None h e = absurd (none-some h e)
-node_of_head (Some x) h e = (x, refl, same_Some (node_head x) h e)
+use Rattle.ct_values.proofs.AgreeLemmas.{AgreeAlways-sym}
+use Rattle.ct_values.proofs.NodeLemmas.{id, node_points}
+use Rattle.ct_values.proofs.SmallestLemmas.{agreeing_node, like}
+use Rattle.ct_values.proofs.GraphLemmas.{option_map-Some}
 
 -- the constructor of a node that fits is declared, and so is the sort of an element
 ctor_of_node : (d : Declarations) (g : Nodes) (x : Node) (c : CtorId) → FitsNode d g x → node_head x ≡ heads.Con c → IsConstructor d c
@@ -46,44 +36,13 @@ sort_of_node d g (Elem t m) s n fits e =
 
 pub ctor_of_head : (d : Declarations) (g : Nodes) (n : ℕ) (c : CtorId) → FitsGraph d g → option_map node_head (slice_get g n) ≡ Some (heads.Con c) → IsConstructor d c
 ctor_of_head d g n c fits e =
-    let x = node_of_head (slice_get g n) (heads.Con c) e in
+    let x = option_map-Some node_head (slice_get g n) (heads.Con c) e in
     ctor_of_node d g x.0 c (fits n x.0 x.1) x.2
 
 pub sort_of_head : (d : Declarations) (g : Nodes) (n : ℕ) (s : SortId) (number : ℕ) → FitsGraph d g → option_map node_head (slice_get g n) ≡ Some (heads.Elem s number) → IsSort d s
 sort_of_head d g n s number fits e =
-    let x = node_of_head (slice_get g n) (heads.Elem s number) e in
+    let x = option_map-Some node_head (slice_get g n) (heads.Elem s number) e in
     sort_of_node d g x.0 s number (fits n x.0 x.1) x.2
-
--- what agrees at every depth with a node is a node with this head, and their children agree
-pub agreeing_node : (g h : Nodes) (m n : NodeId) (x : Node) → slice_get g m.0 ≡ Some x → AgreeAlways (node_point g m) (node_point h n) → (y : Node) × (slice_get h n.0 ≡ Some y) × (node_head y ≡ node_head x) × AllZip AgreeAlways (node_points g (node_children x)) (node_points h (node_children y))
-agreeing_node g h m n x at always =
-    let parts = (AgreeAlways-parts (node_point g m) (node_point h n)).0 always in
-    let y = node_of_head (slice_get h n.0) (node_head x) (sym parts.0 ∙ head_at g m x at) in
-    (y.0, y.1, y.2, (AgreeAlways-nodes g h m n x y.0 at y.1 always).1)
-
--- a child among the children has one that agrees with it at every depth among children that agree with them
-child_like : (s g : Nodes) (n : ℕ) (cs ds : List NodeId) → list_any (nat_eq n) (map (λ c. c.0) cs) ≡ true → AllZip AgreeAlways (node_points s cs) (node_points g ds) → (m : NodeId) × AgreeAlways (node_point s (id n)) (node_point g m)
-child_like s g n [] ds has pairs = absurd (true≢false (sym has))
-child_like s g n (c ∷ cs) [] has pairs = absurd pairs
-child_like s g n (c ∷ cs) (d ∷ ds) has pairs =
-    elim ((Decides-or (nat_eq n c.0) (list_any (nat_eq n) (map (λ x. x.0) cs)) (Decides-eqb n c.0) (λ e. e, λ e. e)).0 has) [
-      | inl e ↦ (d, subst (λ k. AgreeAlways (node_point s (id k)) (node_point g d)) (sym e) pairs.0)
-      | inr e ↦ child_like s g n cs ds e pairs.1
-    ]
-
--- each node of the smallest graph of a tree agrees at every depth with a node of the tree's graph
-like_below : (g s : Nodes) (a : NodeId) → IsSmallest g a s → (bound n : ℕ) → n < bound → n < length s → (m : NodeId) × AgreeAlways (node_point s (id n)) (node_point g m)
-like_below g s a smallest zero n below within = absurd (omega arith)
-like_below g s a smallest (suc bound) zero below within = (a, smallest.same)
-like_below g s a smallest (suc bound) (suc n) below within =
-    let has = smallest.breadth_first.reached (suc n) (omega arith) within in
-    let parent = like_below g s a smallest bound has.0 (omega (arith, has.1)) (omega (arith, has.1)) in
-    let x = has.2.0 in
-    let y = agreeing_node s g (id has.0) parent.0 x has.2.1 parent.1 in
-    child_like s g (suc n) (node_children x) (node_children y.0) has.2.2 y.3
-
-pub like : (g s : Nodes) (a : NodeId) → IsSmallest g a s → (n : ℕ) → n < length s → (m : NodeId) × AgreeAlways (node_point s (id n)) (node_point g m)
-like g s a smallest n within = like_below g s a smallest (suc n) n (omega arith) within
 
 -- ---- the smallest graph fits
 

@@ -4,7 +4,6 @@ use Rattle.std.specs.List.{AllZip, AllByRecursion, list_any}
 use Rattle.std.proofs.lemmas.List.{length-map}
 use Rattle.std.proofs.lemmas.List.Elements.{All-nil, All-cons}
 use Rattle.std.proofs.lemmas.Option.{none-some, same_Some, slice_get_within, slice_get-get_or, slice_get-map}
-use Rattle.std.proofs.lemmas.Bool.Decides.{Decides-or, Decides-eqb}
 use Rattle.ct_values.specs.declared.node.NodeId.{NodeId}
 use Rattle.ct_values.specs.declared.node.Node.{Node}
 use Rattle.ct_values.specs.declared.node.Node.TheVariants.{Con, Elem}
@@ -14,16 +13,12 @@ use Rattle.ct_values.specs.Smallest.{child_numbers, IsBreadthFirst, IsSmallest}
 use Rattle.ct_values.specs.Partition.{class_at, key_of, KeepsTogether, IsStable}
 use Rattle.ct_values.specs.Renumbering.{StandFor, IsRenumbered, IsPart}
 use Rattle.ct_values.specs.Merged.{first_node, merged_node, merged}
-use Rattle.ct_values.proofs.AgreeLemmas.{agree-zero, AgreeAlways-across}
+use Rattle.ct_values.proofs.AgreeLemmas.{agree-zero, AgreeAlways-across, AgreeAlways-trans}
 use Rattle.ct_values.proofs.GraphLemmas.{closed_children}
-use Rattle.ct_values.proofs.NodeLemmas.{node_points, agree-nodes}
+use Rattle.ct_values.proofs.NodeLemmas.{id, node_points, agree-nodes}
 use Rattle.ct_values.proofs.RefineLemmas.{same_keys}
 use Rattle.ct_values.proofs.RenumberLemmas.{stands_within, IsClosed-renumbered, AgreeAlways-renumbered}
-use Rattle.ct_values.proofs.SmallestLemmas.{AgreeAlways-trans}
-
--- the number as a number of a node
-abbrev id : ℕ → NodeId
-id i = record { 0 = i }
+use Rattle.ct_values.proofs.CountLemmas.{is_among}
 
 -- one more place of a list that a function was applied to
 pub take_node : (f : Node → Node) (g : Nodes) (place : ℕ) (node : Node) → option_map f (slice_get g place) ≡ Some node → take (place + 1) (map f g) ≡ take place (map f g) ++ node ∷ []
@@ -113,9 +108,8 @@ stands_for_child : (ids : List ℕ) (i n : ℕ) (ps ms : List NodeId) → slice_
 stands_for_child ids i n [] ms at has stand = absurd (true≢false (sym has))
 stands_for_child ids i n (p ∷ ps) [] at has stand = absurd stand
 stands_for_child ids i n (p ∷ ps) (m ∷ ms) at has stand =
-    let new = Decides-or (nat_eq i p.0) (list_any (nat_eq i) (map (λ x. x.0) ps)) (Decides-eqb i p.0) (λ e. e, λ e. e) in
-    let old = Decides-or (nat_eq n m.0) (list_any (nat_eq n) (map (λ x. x.0) ms)) (Decides-eqb n m.0) (λ e. e, λ e. e) in
-    elim (new.0 has) [
+    let old = is_among n m.0 (map (λ x. x.0) ms) in
+    elim ((is_among i p.0 (map (λ x. x.0) ps)).0 has) [
       | inl e ↦ old.1 (inl (same_Some n m.0 (sym at ∙ ap (slice_get ids) e ∙ stand.0)))
       | inr e ↦ old.1 (inr (stands_for_child ids i n ps ms at e stand.1))
     ]
@@ -124,7 +118,7 @@ stands_for_child ids i n (p ∷ ps) (m ∷ ms) at has stand =
 first_child : (g : Nodes) (classes : List ℕ) (n : ℕ) (ms : List NodeId) → ((i : ℕ) → i < length g → class_at classes (class_at classes i) ≡ class_at classes i) → AllByRecursion (λ m. m.0 < length g) ms → list_any (nat_eq n) (map (λ p. p.0) (map (first_node classes) ms)) ≡ true → class_at classes n ≡ n
 first_child g classes n [] own ms_in has = absurd (true≢false (sym has))
 first_child g classes n (m ∷ ms) own ms_in has =
-    elim ((Decides-or (nat_eq n (class_at classes m.0)) (list_any (nat_eq n) (map (λ p. p.0) (map (first_node classes) ms))) (Decides-eqb n (class_at classes m.0)) (λ e. e, λ e. e)).0 has) [
+    elim ((is_among n (class_at classes m.0) (map (λ p. p.0) (map (first_node classes) ms))).0 has) [
       | inl e ↦ ap (class_at classes) e ∙ own m.0 ms_in.0 ∙ sym e
       | inr e ↦ first_child g classes n ms own ms_in.1 e
     ]

@@ -3,11 +3,12 @@
 use Rattle.std.proofs.Common.{◌≡◌, ℕ, suc, ◌<◌, ◌↔◌, true, List, [], ◌∷◌, ◌++◌, length, map, Option, Some, slice_get, unwrap_or, refl, sym, ap, ap₂, ◌∙◌, inl, arith, append_assoc, codes}
 use Rattle.std.specs.List.{AllByRecursion, list_all}
 use Rattle.std.specs.Cmp.Derive.{both_true}
+use Rattle.std.proofs.lemmas.List.{length-map, append_cancel_left}
 use Rattle.std.proofs.lemmas.List.Folds.{list_all-append}
 use Rattle.std.proofs.lemmas.Option.{none-some, same_Some}
 use Rattle.ct_sorts.specs.declared.ids.CtorId.{CtorId}
 use Rattle.ct_sorts.specs.declared.ids.SortId.{SortId}
-use Rattle.ct_sorts.specs.Declarations.{Declarations, Constructor, Sort, IsSort, IsConstructor, sort_names, ctor_names, sel_names, names, definition_names}
+use Rattle.ct_sorts.specs.Declarations.{Declarations, Constructor, Sort, IsSort, IsConstructor, sort_names, ctor_names, sel_names, function_names, definition_names}
 use Rattle.ct_sorts.specs.Consistent.{IsConsistent}
 use Rattle.ct_sexpr.specs.Atom.{Atom, symbol, quoted}
 use Rattle.ct_sexpr.specs.Token.{is_between_bars}
@@ -59,20 +60,16 @@ at_place names n within =
     let x = stands_within names n within in
     x.1 ∙ ap (λ (found : Option (List ℕ)). Some (unwrap_or found [])) (sym x.1)
 
-length-names : {X : Type 0} (f : X → List ℕ) (xs : List X) → length (map f xs) ≡ length xs
-length-names f [] = refl
-length-names f (x ∷ xs) = ap suc (length-names f xs)
-
 ctor_at : (d : Declarations) (c : CtorId) → IsConstructor d c → slice_get (ctor_names d) c.0 ≡ Some (ctor_name d c.0)
-ctor_at d c declared = at_place (ctor_names d) c.0 (omega (arith, length-names (λ (k : Constructor). k.name) d.ctors))
+ctor_at d c declared = at_place (ctor_names d) c.0 (omega (arith, length-map d.ctors (λ (k : Constructor). k.name)))
 
 sort_at : (d : Declarations) (s : SortId) → IsSort d s → slice_get (sort_names d) s.0 ≡ Some (sort_name d s.0)
-sort_at d s declared = at_place (sort_names d) s.0 (omega (arith, length-names (λ (k : Sort). k.name) d.sorts))
+sort_at d s declared = at_place (sort_names d) s.0 (omega (arith, length-map d.sorts (λ (k : Sort). k.name)))
 
 -- constructors with one name are one, and so are sorts
 ctor_same : (d : Declarations) (b c : CtorId) → IsConsistent d → IsConstructor d b → IsConstructor d c → ctor_name d b.0 ≡ ctor_name d c.0 → b ≡ c
 ctor_same d b c consistent b_in c_in e =
-    let rest = sel_names d ++ (names d ++ definition_names d) in
+    let rest = sel_names d ++ (function_names d ++ definition_names d) in
     let at_b = slice_get-append_left (ctor_names d) rest b.0 (ctor_name d b.0) (ctor_at d b b_in) in
     let at_c = slice_get-append_left (ctor_names d) rest c.0 (ctor_name d b.0) (ctor_at d c c_in ∙ ap Some (sym e)) in
     let same : b.0 ≡ c.0 = consistent.distinct b.0 c.0 (ctor_name d b.0) at_b at_c in
@@ -102,19 +99,8 @@ name_of_word laws v w e = sym (laws.one_name (quoted v)) ∙ ap name_of_atom (le
 node_same : (m n : NodeId) → plain (node_name m.0) ≡ plain (node_name n.0) → m ≡ n
 node_same m n e =
     let words : 64 ∷ numeral m.0 ≡ 64 ∷ numeral n.0 = symbol_same (64 ∷ numeral m.0) (64 ∷ numeral n.0) (leaf_same (symbol (64 ∷ numeral m.0)) (symbol (64 ∷ numeral n.0)) e) in
-    let same : m.0 ≡ n.0 = numeral_injective m.0 n.0 (tail_same 64 64 (numeral m.0) (numeral n.0) words) in
+    let same : m.0 ≡ n.0 = numeral_injective m.0 n.0 (append_cancel_left (64 ∷ []) (numeral m.0) (numeral n.0) words) in
     λ i. record { 0 = same i }
-  where
-    tail_same : (a b : ℕ) (v w : List ℕ) → a ∷ v ≡ b ∷ w → v ≡ w
-    tail_same a b v w h = cc
-
--- what is behind a common front is the same
-behind_same : (front v w : List ℕ) → front ++ v ≡ front ++ w → v ≡ w
-behind_same [] v w e = e
-behind_same (b ∷ front) v w e = behind_same front v w (tail_same b b (front ++ v) (front ++ w) e)
-  where
-    tail_same : (a b : ℕ) (v w : List ℕ) → a ∷ v ≡ b ∷ w → v ≡ w
-    tail_same a b v w h = cc
 
 -- ---- values whose names are declared
 
@@ -184,7 +170,7 @@ module _ (laws : TextLaws) (d : Declarations) (consistent : IsConsistent d) wher
       let sorts = name_same laws u w last.0 in
       let names = name_same laws (element_name u m) (element_name w n) parts.0 in
       let turned : element_name u m ≡ element_name u n = names ∙ ap (λ (x : List ℕ). element_name x n) (sym sorts) in
-      let numbers : numeral m ≡ numeral n = behind_same (64 ∷ (u ++ 95 ∷ [])) (numeral m) (numeral n) (pulled u m ∙ turned ∙ sym (pulled u n)) in
+      let numbers : numeral m ≡ numeral n = append_cancel_left (64 ∷ (u ++ 95 ∷ [])) (numeral m) (numeral n) (pulled u m ∙ turned ∙ sym (pulled u n)) in
       ap₂ element (sort_same d s t consistent s_in t_in sorts) (numeral_injective m n numbers)
     where
       pulled : (x : List ℕ) (k : ℕ) → (64 ∷ (x ++ 95 ∷ [])) ++ numeral k ≡ element_name x k

@@ -12,12 +12,8 @@ use Rattle.ct_values.specs.Agreement.{Point, node_point, agree, AgreeAlways}
 use Rattle.ct_values.specs.Partition.{class_at, node_key, key_of, Alike, KeepsTogether, IsPartition, IsRefined}
 use Rattle.ct_values.proofs.AgreeLemmas.{agree-zero}
 use Rattle.ct_values.proofs.GraphLemmas.{closed_children}
-use Rattle.ct_values.proofs.NodeLemmas.{node_points, agree-nodes, AgreeAlways-nodes}
+use Rattle.ct_values.proofs.NodeLemmas.{id, node_points, agree-nodes, AgreeAlways-nodes}
 use Rattle.ct_values.proofs.RenumberLemmas.{stands_within}
-
--- the number as a number of a node
-abbrev id : ℕ → NodeId
-id i = record { 0 = i }
 
 -- what is read at a place is the class there
 pub class_read : (classes : List ℕ) (i x : ℕ) → i < length classes → x ≡ get_or classes i x → class_at classes i ≡ x

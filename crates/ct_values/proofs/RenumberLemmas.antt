@@ -1,11 +1,11 @@
 -- Nodes with new numbers agree with the nodes that they stand for.
-use Rattle.std.proofs.Common.{◌≡◌, ℕ, zero, suc, ◌<◌, ◌⊎◌, true, IsTrue, List, [], ◌∷◌, ◌++◌, length, Some, slice_get, get_or, eqb, All, refl, sym, ap, subst, ◌∙◌, inl, inr, arith, true≢false, eq-or-lt_of_le, nat_eq}
-use Rattle.std.specs.List.{AllZip, AllByRecursion, IsDistinct, list_any}
+use Rattle.std.proofs.Common.{◌≡◌, ℕ, zero, suc, ◌<◌, ◌⊎◌, IsTrue, List, [], ◌∷◌, ◌++◌, length, Some, slice_get, get_or, All, refl, sym, ap, subst, ◌∙◌, inl, inr, arith, true≢false, eq-or-lt_of_le, nat_eq}
+use Rattle.std.specs.List.{AllZip, IsDistinct}
 use Rattle.std.proofs.lemmas.Option.{none-some, same_Some, slice_get_within, slice_get-get_or, get_or_from_slice_get}
-use Rattle.std.proofs.lemmas.List.Elements.{All-nil, All-cons, recursion_from_All}
+use Rattle.std.proofs.lemmas.List.Elements.{All-nil, All-cons}
 use Rattle.std.proofs.lemmas.Bool.{cases_lt}
 use Rattle.std.proofs.lemmas.Map.Keys.{apart_from_distinct}
-use Rattle.std.proofs.lemmas.Bool.Decides.{Decides-or, Decides-eqb}
+use Rattle.std.proofs.lemmas.Bool.Decides.{Decides-eqb}
 use Rattle.ct_values.specs.declared.node.NodeId.{NodeId}
 use Rattle.ct_values.specs.declared.node.Node.{Node}
 use Rattle.ct_values.specs.Graph.{Nodes, IsClosed, HasChildrenBelow, node_children}
@@ -106,14 +106,3 @@ AgreeAlways-renumbered g ids nodes all long p n at (suc k) =
     let r = all p.0 n.0 node.0 node.1 at in
     agree-nodes k nodes g p n node.0 r.source node.1 r.stands r.head
     (AllZip-points (λ a b. IsTrue (agree k a b)) nodes g ids (node_children node.0) (node_children r.source) (λ q m e. AgreeAlways-renumbered g ids nodes all long q m e k) r.children)
-
--- a number that is found in a list of numbers below a bound is below it
-pub member_below : (ids : List ℕ) (bound : ℕ) → All (λ id. id < bound) ids → (q : ℕ) → list_any (eqb q) ids ≡ true → q < bound
-member_below ids bound below q found = by_recursion ids (recursion_from_All (λ id. id < bound) ids below) found
-  where
-    by_recursion : (ns : List ℕ) → AllByRecursion (λ id. id < bound) ns → list_any (eqb q) ns ≡ true → q < bound
-    by_recursion [] all h = absurd (true≢false (sym h))
-    by_recursion (n ∷ ns) all h = elim ((Decides-or (eqb q n) (list_any (eqb q) ns) (Decides-eqb q n) (λ e. e, λ e. e)).0 h) [
-      | inl e ↦ subst (λ m. m < bound) (sym e) all.0
-      | inr e ↦ by_recursion ns all.1 e
-    ]

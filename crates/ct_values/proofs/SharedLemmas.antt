@@ -16,19 +16,14 @@ use Rattle.ct_values.specs.Agreement.{Point, point, node_point, head, children, 
 use Rattle.ct_values.specs.Partition.{class_at, node_key, KeepsTogether, IsStable}
 use Rattle.ct_values.specs.KeyTest.{same_key}
 use Rattle.ct_values.specs.Sharing.{IsFirst, AreClasses, IsKeyed, IsShared}
-use Rattle.ct_values.proofs.AgreeLemmas.{AgreeAlways-parts}
+use Rattle.ct_values.proofs.AgreeLemmas.{AgreeAlways-parts, AgreeAlways-refl, AgreeAlways-sym, AgreeAlways-trans, AgreeAlways-meet}
 use Rattle.ct_values.proofs.GraphLemmas.{closed_children, slice_get-append_left}
-use Rattle.ct_values.proofs.NodeLemmas.{node_points, head_at, children_at}
+use Rattle.ct_values.proofs.NodeLemmas.{id, node_points, head_at, children_at}
 use Rattle.ct_values.proofs.RefineLemmas.{classes_together, together_agree, AgreeAlways-stable}
 use Rattle.ct_values.proofs.RoundLemmas.{class_at-before, class_at-last}
 use Rattle.ct_values.proofs.RenumberLemmas.{stands_within, slice_get-push_cases}
 use Rattle.ct_values.proofs.MergeLemmas.{first_is_own}
-use Rattle.ct_values.proofs.SmallestLemmas.{AgreeAlways-sym, AgreeAlways-trans}
-use Rattle.ct_values.proofs.FirstLemmas.{AgreeAlways-refl, AgreeAlways-meet, AgreeAlways-grown, IsFirst-same, IsFirst-grown, one_first}
-
--- the number as a number of a node
-abbrev id : ℕ → NodeId
-id i = record { 0 = i }
+use Rattle.ct_values.proofs.FirstLemmas.{AgreeAlways-grown, IsFirst-same, IsFirst-grown, one_first}
 
 -- all children are nodes of the graph
 abbrev AreWithin : Nodes → List NodeId → Type 0

@@ -1,8 +1,8 @@
 -- The smallest graph of a tree is a function of the tree, and no graph of the tree has fewer nodes.
 use Rattle.std.proofs.Common.{◌≡◌, ℕ, zero, suc, ◌+◌, ◌<◌, ◌≤◌, ◌↔◌, Bool, true, false, List, [], ◌∷◌, length, map, Some, slice_get, nat_eq, refl, sym, ap, ap₂, subst, ◌∙◌, inl, inr, arith, true≢false, eq-or-lt_of_le}
 use Rattle.std.specs.List.{AllZip, AllByRecursion, IsDistinct, list_any}
-use Rattle.std.proofs.lemmas.Bool.Decides.{Decides-or, Decides-eqb}
-use Rattle.std.proofs.lemmas.Option.{none-some}
+use Rattle.std.proofs.lemmas.Bool.Decides.{Decides-eqb}
+use Rattle.std.proofs.lemmas.Option.{none-some, slice_get_within}
 use Rattle.std.proofs.lemmas.Map.Steps.{length-le_from_distinct_below}
 use Rattle.ct_values.specs.declared.node.NodeId.{NodeId}
 use Rattle.ct_values.specs.declared.node.Node.{Node}
@@ -11,26 +11,14 @@ use Rattle.ct_values.specs.Graph.{Nodes, IsClosed, node_head, node_children}
 use Rattle.ct_values.specs.Agreement.{Point, node_point, AgreeAlways}
 use Rattle.ct_values.specs.Smallest.{IsSmallest}
 use Rattle.ct_values.specs.Numbered.{CountsUp, IsInOrder}
-use Rattle.ct_values.proofs.AgreeLemmas.{agree-trans, agree-sym}
-use Rattle.ct_values.proofs.GraphLemmas.{closed_children}
-use Rattle.ct_values.proofs.NodeLemmas.{node_points, AgreeAlways-nodes}
+use Rattle.ct_values.proofs.GraphLemmas.{closed_children, option_map-Some}
+use Rattle.ct_values.proofs.NodeLemmas.{id, node_points, AgreeAlways-nodes, head_at}
 use Rattle.ct_values.proofs.NumberedLemmas.{numbered-IsBreadthFirst, IsBreadthFirst-positive}
 use Rattle.ct_values.proofs.RenumberLemmas.{stands_within}
+use Rattle.ct_values.proofs.AgreeLemmas.{AgreeAlways-sym, AgreeAlways-trans, AgreeAlways-meet, AgreeAlways-parts}
+use Rattle.ct_values.proofs.CountLemmas.{is_among}
 
--- the number as a number of a node
-abbrev id : ℕ → NodeId
-id i = record { 0 = i }
-
-pub AgreeAlways-sym : (p q : Point) → AgreeAlways p q → AgreeAlways q p
-AgreeAlways-sym p q h k = agree-sym k p q (h k)
-
-pub AgreeAlways-trans : (p q r : Point) → AgreeAlways p q → AgreeAlways q r → AgreeAlways p r
-AgreeAlways-trans p q r first second k = agree-trans k p q r (first k) (second k)
-
--- two points that agree with a third at every depth do so with each other
-meet : (p q r : Point) → AgreeAlways p r → AgreeAlways q r → AgreeAlways p q
-meet p q r first second = AgreeAlways-trans p r q first (AgreeAlways-sym q r second)
-
+-- two points with which a third agrees at every depth do so with each other
 part : (p q r : Point) → AgreeAlways r p → AgreeAlways r q → AgreeAlways p q
 part p q r first second = AgreeAlways-trans p r q (AgreeAlways-sym r p first) second
 
@@ -69,7 +57,7 @@ same_children s t met m n (c ∷ cs) (d ∷ ds) s_apart t_apart cs_in ds_in pair
     absurd (omega (arith, old.0, new.0, number))
 same_children s t met m n (c ∷ cs) (d ∷ ds) s_apart t_apart cs_in ds_in pairs (inr new) (inl old) matched =
     let had = matched d old.0 in
-    let is : c ≡ d = s_apart c d cs_in.0 had.0 (meet (node_point s c) (node_point s d) (node_point t d) pairs.0 had.2) in
+    let is : c ≡ d = s_apart c d cs_in.0 had.0 (AgreeAlways-meet (node_point s c) (node_point s d) (node_point t d) pairs.0 had.2) in
     let number : c.0 ≡ d.0 = ap (λ x. x.0) is in
     absurd (omega (arith, old.0, new.0, number))
 same_children s t met m n (c ∷ cs) (d ∷ ds) s_apart t_apart cs_in ds_in pairs (inr new) (inr other) matched =
@@ -128,7 +116,7 @@ pub one_smallest : (g h : Nodes) (a b : NodeId) (s t : Nodes) → IsSmallest g a
 one_smallest g h a b s t first second = (
   λ e. part (node_point g a) (node_point h b) (node_point s (id 0)) first.same (subst (λ (u : Nodes). AgreeAlways (node_point u (id 0)) (node_point h b)) (sym e) second.same),
   λ alike.
-      let roots : AgreeAlways (node_point s (id 0)) (node_point t (id 0)) = meet (node_point s (id 0)) (node_point t (id 0)) (node_point h b) (AgreeAlways-trans (node_point s (id 0)) (node_point g a) (node_point h b) first.same alike) second.same in
+      let roots : AgreeAlways (node_point s (id 0)) (node_point t (id 0)) = AgreeAlways-meet (node_point s (id 0)) (node_point t (id 0)) (node_point h b) (AgreeAlways-trans (node_point s (id 0)) (node_point g a) (node_point h b) first.same alike) second.same in
       same_rest s t 1 0 (length s) (length t) s t first.closed second.closed first.apart second.apart (λ i. ap (slice_get s) (omega arith)) (λ i. ap (slice_get t) (omega arith)) (numbered-IsBreadthFirst s first.breadth_first) (numbered-IsBreadthFirst t second.breadth_first) (λ n less. root_matched roots n (omega arith)),
 )
   where
@@ -138,17 +126,40 @@ one_smallest g h a b s t first second = (
         let t_positive = IsBreadthFirst-positive t second.breadth_first in
         (omega arith, omega arith, subst (λ k. AgreeAlways (node_point s (id k)) (node_point t (id k))) (sym e) roots)
 
--- ---- no graph of the tree has fewer nodes
+-- ---- the nodes of a smallest graph
+
+-- what agrees at every depth with a node is a node with this head, and their children agree
+pub agreeing_node : (g h : Nodes) (m n : NodeId) (x : Node) → slice_get g m.0 ≡ Some x → AgreeAlways (node_point g m) (node_point h n) → (y : Node) × (slice_get h n.0 ≡ Some y) × (node_head y ≡ node_head x) × AllZip AgreeAlways (node_points g (node_children x)) (node_points h (node_children y))
+agreeing_node g h m n x at always =
+    let parts = (AgreeAlways-parts (node_point g m) (node_point h n)).0 always in
+    let y = option_map-Some node_head (slice_get h n.0) (node_head x) (sym parts.0 ∙ head_at g m x at) in
+    (y.0, y.1, y.2, (AgreeAlways-nodes g h m n x y.0 at y.1 always).1)
 
 -- a child among the children has one that agrees with it at every depth among children that agree with them
-child_like : (s h : Nodes) (n : ℕ) (cs ds : List NodeId) → list_any (nat_eq n) (map (λ c. c.0) cs) ≡ true → AllByRecursion (λ d. d.0 < length h) ds → AllZip AgreeAlways (node_points s cs) (node_points h ds) → (m : NodeId) × (m.0 < length h) × AgreeAlways (node_point s (id n)) (node_point h m)
-child_like s h n [] ds has ds_in pairs = absurd (true≢false (sym has))
-child_like s h n (c ∷ cs) [] has ds_in pairs = absurd pairs
-child_like s h n (c ∷ cs) (d ∷ ds) has ds_in pairs =
-    elim ((Decides-or (nat_eq n c.0) (list_any (nat_eq n) (map (λ x. x.0) cs)) (Decides-eqb n c.0) (λ e. e, λ e. e)).0 has) [
-      | inl e ↦ (d, ds_in.0, subst (λ k. AgreeAlways (node_point s (id k)) (node_point h d)) (sym e) pairs.0)
-      | inr e ↦ child_like s h n cs ds e ds_in.1 pairs.1
+child_like : (s g : Nodes) (n : ℕ) (cs ds : List NodeId) → list_any (nat_eq n) (map (λ c. c.0) cs) ≡ true → AllZip AgreeAlways (node_points s cs) (node_points g ds) → (m : NodeId) × AgreeAlways (node_point s (id n)) (node_point g m)
+child_like s g n [] ds has pairs = absurd (true≢false (sym has))
+child_like s g n (c ∷ cs) [] has pairs = absurd pairs
+child_like s g n (c ∷ cs) (d ∷ ds) has pairs =
+    elim ((is_among n c.0 (map (λ x. x.0) cs)).0 has) [
+      | inl e ↦ (d, subst (λ k. AgreeAlways (node_point s (id k)) (node_point g d)) (sym e) pairs.0)
+      | inr e ↦ child_like s g n cs ds e pairs.1
     ]
+
+-- each node of the smallest graph of a tree agrees at every depth with a node of the tree's graph
+like_below : (g s : Nodes) (a : NodeId) → IsSmallest g a s → (bound n : ℕ) → n < bound → n < length s → (m : NodeId) × AgreeAlways (node_point s (id n)) (node_point g m)
+like_below g s a smallest zero n below within = absurd (omega arith)
+like_below g s a smallest (suc bound) zero below within = (a, smallest.same)
+like_below g s a smallest (suc bound) (suc n) below within =
+    let has = smallest.breadth_first.reached (suc n) (omega arith) within in
+    let parent = like_below g s a smallest bound has.0 (omega (arith, has.1)) (omega (arith, has.1)) in
+    let x = has.2.0 in
+    let y = agreeing_node s g (id has.0) parent.0 x has.2.1 parent.1 in
+    child_like s g (suc n) (node_children x) (node_children y.0) has.2.2 y.3
+
+pub like : (g s : Nodes) (a : NodeId) → IsSmallest g a s → (n : ℕ) → n < length s → (m : NodeId) × AgreeAlways (node_point s (id n)) (node_point g m)
+like g s a smallest n within = like_below g s a smallest (suc n) n (omega arith) within
+
+-- ---- no graph of the tree has fewer nodes
 
 is_false : (t : Bool) → (t ≡ true → ⊥) → t ≡ false
 is_false true other = absurd (other refl)
@@ -158,22 +169,25 @@ is_false false other = refl
 not_among : (q : ℕ) (ms : List ℕ) → (list_any (nat_eq q) ms ≡ true → ⊥) → AllByRecursion (λ m. nat_eq q m ≡ false) ms
 not_among q [] none = tt
 not_among q (m ∷ ms) none =
-    let or = Decides-or {P = nat_eq q m ≡ true} {Q = list_any (nat_eq q) ms ≡ true} (nat_eq q m) (list_any (nat_eq q) ms) (λ x. x, λ x. x) (λ x. x, λ x. x) in
-    (is_false (nat_eq q m) (λ e. none (or.1 (inl e))), not_among q ms (λ e. none (or.1 (inr e))))
+    (is_false (nat_eq q m) (λ e. none ((is_among q m ms).1 (inl ((Decides-eqb q m).0 e)))), not_among q ms (λ e. none ((is_among q m ms).1 (inr e))))
 
-module _ (g h s : Nodes) (a b : NodeId) (smallest : IsSmallest g a s) (closed : IsClosed h) (b_in : b.0 < length h) (alike : AgreeAlways (node_point h b) (node_point g a)) where
-  -- each node of the smallest graph has one that agrees with it at every depth
-  node_like : (bound n : ℕ) → n < bound → n < length s → (m : NodeId) × (m.0 < length h) × AgreeAlways (node_point s (id n)) (node_point h m)
-  node_like zero n below within = absurd (omega arith)
-  node_like (suc bound) zero below within =
-      (b, b_in, meet (node_point s (id 0)) (node_point h b) (node_point g a) smallest.same alike)
-  node_like (suc bound) (suc n) below within =
-      let has = smallest.breadth_first.reached (suc n) (omega arith) within in
-      let parent = node_like bound has.0 (omega (arith, has.1)) (omega (arith, has.1)) in
-      let x = has.2.0 in
-      let y = stands_within h parent.0.0 parent.1 in
-      let parts = AgreeAlways-nodes s h (id has.0) parent.0 x y.0 has.2.1 y.1 parent.2 in
-      child_like s h (suc n) (node_children x) (node_children y.0) has.2.2 (closed_children h parent.0.0 y.0 closed y.1) parts.1
+-- the smallest graph of a tree is that of each node that is the same
+IsSmallest-same : (g h : Nodes) (a b : NodeId) (s : Nodes) → IsSmallest g a s → AgreeAlways (node_point h b) (node_point g a) → IsSmallest h b s
+IsSmallest-same g h a b s smallest alike = record {
+  closed = smallest.closed;
+  apart = smallest.apart;
+  same = AgreeAlways-meet (node_point s (id 0)) (node_point h b) (node_point g a) smallest.same alike;
+  breadth_first = smallest.breadth_first;
+}
+
+module _ (h s : Nodes) (b : NodeId) (smallest : IsSmallest h b s) where
+  -- each node of the smallest graph agrees at every depth with a node of the other graph
+  node_like : (n : ℕ) → n < length s → (m : NodeId) × (m.0 < length h) × AgreeAlways (node_point s (id n)) (node_point h m)
+  node_like n within =
+      let m = like h s b smallest n within in
+      let x = stands_within s n within in
+      let y = agreeing_node s h (id n) m.0 x.0 x.1 m.1 in
+      (m.0, slice_get_within h m.0.0 y.0 y.1, m.1)
 
   -- these numbers are of nodes of the other graph, and each agrees with one of the first nodes
   abbrev AreLike : ℕ → List ℕ → Type 0
@@ -185,17 +199,17 @@ module _ (g h s : Nodes) (a b : NodeId) (smallest : IsSmallest g a s) (closed : 
   likenesses zero le = ([], refl, tt, λ q has. absurd (true≢false (sym has)))
   likenesses (suc count) le =
       let before = likenesses count (omega arith) in
-      let one = node_like (suc count) count (omega arith) (omega arith) in
+      let one = node_like count (omega arith) in
       let ms = before.0 in
       let other : list_any (nat_eq one.0.0) ms ≡ true → ⊥ = λ has.
       let had = (before.3 one.0.0 has).1 in
-      let is = smallest.apart (id had.0) (id count) (omega (arith, had.1)) (omega arith) (meet (node_point s (id had.0)) (node_point s (id count)) (node_point h one.0) had.2 one.2) in
+      let is = smallest.apart (id had.0) (id count) (omega (arith, had.1)) (omega arith) (AgreeAlways-meet (node_point s (id had.0)) (node_point s (id count)) (node_point h one.0) had.2 one.2) in
       let number : had.0 ≡ count = ap (λ n. n.0) is in
       omega (arith, had.1, number) in (
         one.0.0 ∷ ms,
         ap suc before.1,
         (not_among one.0.0 ms other, before.2),
-        λ q has. elim ((Decides-or (nat_eq q one.0.0) (list_any (nat_eq q) ms) (Decides-eqb q one.0.0) (λ e. e, λ e. e)).0 has) [
+        λ q has. elim ((is_among q one.0.0 ms).0 has) [
           | inl e ↦ (omega (arith, e, one.1), (count, omega arith, subst (λ k. AgreeAlways (node_point s (id count)) (node_point h (id k))) (sym e) one.2))
           | inr e ↦ let had = before.3 q e in (had.0, (had.1.0, omega (arith, had.1.1), had.1.2))
         ],
@@ -208,5 +222,5 @@ module _ (g h s : Nodes) (a b : NodeId) (smallest : IsSmallest g a s) (closed : 
       omega (arith, all.1, few)
 
 -- no graph in which a node is the same has fewer nodes
-pub fewest_nodes : (g h : Nodes) (a b : NodeId) (s : Nodes) → IsSmallest g a s → IsClosed h → b.0 < length h → AgreeAlways (node_point h b) (node_point g a) → length s ≤ length h
-fewest_nodes g h a b s smallest closed b_in alike = fewest g h s a b smallest closed b_in alike
+pub fewest_nodes : (g h : Nodes) (a b : NodeId) (s : Nodes) → IsSmallest g a s → AgreeAlways (node_point h b) (node_point g a) → length s ≤ length h
+fewest_nodes g h a b s smallest alike = fewest h s b (IsSmallest-same g h a b s smallest alike)

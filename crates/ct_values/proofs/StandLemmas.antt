@@ -1,5 +1,5 @@
 -- Which finite trees a node stands for: those of its head over trees that its children stand for.
-use Rattle.std.proofs.Common.{◌≡◌, ℕ, ◌<◌, List, [], ◌∷◌, length, map, Option, Some, option_map, unwrap_or, slice_get, refl, sym, ap, subst, ◌∙◌, arith}
+use Rattle.std.proofs.Common.{◌≡◌, ℕ, ◌<◌, List, [], ◌∷◌, length, map, Some, option_map, slice_get, refl, sym, ap, subst, ◌∙◌, arith}
 use Rattle.std.specs.List.{AllZip}
 use Rattle.std.proofs.lemmas.Option.{same_Some}
 use Rattle.ct_sorts.specs.declared.ids.CtorId.{CtorId}
@@ -10,11 +10,11 @@ use Rattle.ct_values.specs.declared.node.Node.TheVariants as nodes
 use Rattle.ct_values.specs.declared.node.Head.TheVariants.{Con, Elem}
 use Rattle.ct_values.specs.Graph.{Nodes, node_head, node_children}
 use Rattle.ct_values.specs.Value.{Value, Values, reference, element, construct, no_values, with_value, list_of, subterms, AreOver}
-use Rattle.ct_values.specs.Agreement.{Point, point, node_point, children, AgreeAlways}
+use Rattle.ct_values.specs.Agreement.{Point, point, node_point, AgreeAlways}
 use Rattle.ct_values.specs.ValueText.{StandsFor}
 use Rattle.ct_values.proofs.AgreeLemmas.{AgreeAlways-parts}
-use Rattle.ct_values.proofs.NodeLemmas.{node_points}
-use Rattle.ct_values.proofs.FittingLemmas.{node_of_head}
+use Rattle.ct_values.proofs.GraphLemmas.{option_map-Some}
+use Rattle.ct_values.proofs.NodeLemmas.{node_points, children_are}
 
 -- the nodes stand for these trees, one for one
 abbrev pub StandForAll : Nodes → List NodeId → Values → Type 0
@@ -36,9 +36,6 @@ to_points g (n ∷ ns) no_values all = absurd all
 to_points g (n ∷ ns) (with_value v vs) all =
     let rest = to_points g ns vs all.1 in
     ((all.0.0, rest.0), (all.0.1, rest.1))
-
-children_are : (g : Nodes) (n : NodeId) (ns : List NodeId) → option_map node_children (slice_get g n.0) ≡ Some ns → children (node_point g n) ≡ node_points g ns
-children_are g n ns e = ap (λ (found : Option (List NodeId)). map (point g) (map reference (unwrap_or found []))) e
 
 -- a constructor stands for itself over the trees of its children
 pub stands_constructor : (g : Nodes) (n : NodeId) (c : CtorId) (ns : List NodeId) (v : Value) → option_map node_head (slice_get g n.0) ≡ Some (Con c) → option_map node_children (slice_get g n.0) ≡ Some ns → StandsFor g n v → (vs : Values) × (v ≡ construct c vs) × StandForAll g ns vs
@@ -78,7 +75,7 @@ no_children (nodes.Elem t j) s k e = refl
 
 pub element_stands : (g : Nodes) (n : NodeId) (s : SortId) (k : ℕ) → option_map node_head (slice_get g n.0) ≡ Some (Elem s k) → StandsFor g n (element s k)
 element_stands g n s k head_is =
-    let x = node_of_head (slice_get g n.0) (Elem s k) head_is in
+    let x = option_map-Some node_head (slice_get g n.0) (Elem s k) head_is in
     let below : option_map node_children (slice_get g n.0) ≡ Some [] = ap (option_map node_children) x.1 ∙ ap Some (no_children x.0 s k x.2) in
     let pairs = subst (λ (ps : List Point). AllZip AgreeAlways ps []) (sym (children_are g n [] below)) tt in
     (tt, (AgreeAlways-parts (node_point g n) (point [] (element s k))).1 (head_is, pairs))

@@ -8,9 +8,8 @@ use Rattle.ct_sexpr.specs.Written.{written, written_items, written_behind}
 use Rattle.ct_values.specs.declared.node.NodeId.{NodeId}
 use Rattle.ct_values.specs.declared.node.Node.{Node}
 use Rattle.ct_values.specs.Value.{reference, values_of}
-use Rattle.ct_values.specs.ValueText.{node_name, applied, expressions, node_texts, graph_text}
+use Rattle.ct_values.specs.ValueText.{node_name, applied, expressions, row, node_texts, graph_text}
 use Rattle.ct_values.specs.Rows.{gap}
-use Rattle.ct_values.specs.ValueText.{row}
 use Rattle.ct_values.specs.Graph.{Nodes}
 use Rattle.ct_values.proofs.RenumberLemmas.{stands_within}
 use Rattle.ct_values.specs.Numeral.{numeral}

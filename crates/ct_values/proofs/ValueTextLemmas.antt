@@ -16,16 +16,12 @@ use Rattle.ct_values.specs.Value.{Value, Values, reference, element, construct, 
 use Rattle.ct_values.specs.Agreement.{point, node_point, AgreeAlways}
 use Rattle.ct_values.specs.Fitting.{FitsGraph}
 use Rattle.ct_values.specs.ValueText.{StandsFor, expression, graph_text, IsTreeText, IsGraphText, IsValueText}
-use Rattle.ct_values.proofs.AgreeLemmas.{AgreeAlways-parts}
+use Rattle.ct_values.proofs.AgreeLemmas.{AgreeAlways-parts, AgreeAlways-sym, AgreeAlways-trans}
 use Rattle.ct_values.proofs.NodeLemmas.{node_points}
-use Rattle.ct_values.proofs.SmallestLemmas.{AgreeAlways-sym, AgreeAlways-trans, one_smallest}
+use Rattle.ct_values.proofs.SmallestLemmas.{one_smallest}
 use Rattle.ct_values.proofs.FittingLemmas.{ctor_of_head, sort_of_head, smallest_fits}
 use Rattle.ct_values.proofs.WritingLemmas.{stands_across}
 use Rattle.ct_values.proofs.PlainLemmas.{TextLaws, IsNamed, AreNamed, AreNodesNamed, readable, value_same, not_graph_text, graph_same, graph_readable}
-
--- the number as a number of a node
-abbrev id : ℕ → NodeId
-id i = record { 0 = i }
 
 -- ---- two trees that agree at every depth are one
 

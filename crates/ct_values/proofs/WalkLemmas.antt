@@ -13,9 +13,8 @@ use Rattle.ct_values.specs.declared.tree_text.Item.{Item}
 use Rattle.ct_values.specs.declared.tree_text.Item.TheVariants.{Node, Close}
 use Rattle.ct_values.specs.Graph.{Nodes, node_head, node_children}
 use Rattle.ct_values.specs.Value.{Value, Values, element, construct, no_values, with_value, subterms, subterms_of_all}
-use Rattle.ct_values.specs.ValueText.{IsTreeText, most_plain, name, ctor_name, sort_name, applied, element_text, expression, expressions}
+use Rattle.ct_values.specs.ValueText.{IsTreeText, IsTooGreat, most_plain, name, ctor_name, sort_name, applied, element_text, expression, expressions}
 use Rattle.ct_values.specs.Walk.{StandAs, AreWithin, closes, opening, pending, IsBegun, IsWalked}
-use Rattle.ct_values.specs.ValueText.{IsTooGreat}
 use Rattle.ct_values.proofs.StandLemmas.{StandForAll, stands_constructor, constructor_stands, stands_element, element_stands, subterms_positive}
 
 -- ---- trees on the stack, and a parenthesis behind them
@@ -228,11 +227,7 @@ walked-many d g root n out items count walked many v stands =
     let top = w.2 in
     omega (arith, walked.few_closes, w.4, top.5, items_count d g items top.1 top.2 top.6)
 
--- what follows from what holds where nothing failed
-pub on_ok : {E : Type 0} {P Q : Type 0} (r : Result (Unit {0}) E) → (P → Q) → OnOk r P → OnOk r Q
-on_ok (Ok u) give h = give h
-on_ok (Err e) give h = tt
-
+-- what follows from two facts that hold where nothing failed
 pub on_both : {E : Type 0} {P Q R : Type 0} (r : Result (Unit {0}) E) → (P → Q → R) → OnOk r P → OnOk r Q → OnOk r R
 on_both (Ok u) give h k = give h k
 on_both (Err e) give h k = tt
@@ -240,22 +235,14 @@ on_both (Err e) give h k = tt
 -- ---- the stack, whose top is its last item
 
 module _ {X : Type 0} where
-  -- an item that is put onto it
-  pub pushed : (old new : List X) (x : X) → new ≡ old ++ x ∷ [] → reverse new ≡ x ∷ reverse old
-  pushed old new x e = ap reverse e ∙ reverse-append old (x ∷ [])
-
-  -- an item that is taken from it
-  pub popped : (old new : List X) (x : X) → old ≡ new ++ x ∷ [] → reverse old ≡ x ∷ reverse new
-  popped old new x e = pushed new old x e
-
-  pub no_items : (xs : List X) → length xs ≡ 0 → xs ≡ []
-  no_items [] e = refl
-  no_items (x ∷ xs) e = absurd (omega arith)
+  -- a stack is its top before those below it
+  pub reverse-push : (below whole : List X) (top : X) → whole ≡ below ++ top ∷ [] → reverse whole ≡ top ∷ reverse below
+  reverse-push below whole top e = ap reverse e ∙ reverse-append below (top ∷ [])
 
 -- one more node on top, of those that are still to be put there
 pub pushed-node : (rest left : List NodeId) (n : NodeId) (old new items : List Item) → rest ≡ left ++ n ∷ [] → new ≡ old ++ Node n ∷ [] → map Node rest ++ reverse old ≡ items → map Node left ++ reverse new ≡ items
 pushed-node rest left n old new items rest_is new_is e =
-    ap (λ (s : List Item). map Node left ++ s) (pushed old new (Node n) new_is)
+    ap (λ (s : List Item). map Node left ++ s) (reverse-push old new (Node n) new_is)
     ∙ sym (append_assoc (map Node left) (Node n ∷ []) (reverse old))
     ∙ ap (λ (s : List Item). s ++ reverse old) (sym (map-append Node left (n ∷ [])) ∙ ap (map Node) (sym rest_is))
     ∙ e

@@ -7,14 +7,10 @@ use Rattle.ct_values.specs.Graph.{Nodes}
 use Rattle.ct_values.specs.Value.{Value}
 use Rattle.ct_values.specs.Agreement.{point, node_point, AgreeAlways}
 use Rattle.ct_values.specs.Smallest.{IsSmallest}
-use Rattle.ct_values.specs.ValueText.{StandsFor, IsTreeText, IsValueText, graph_text}
-use Rattle.ct_values.specs.ValueText.{IsTooGreat}
+use Rattle.ct_values.specs.ValueText.{StandsFor, IsTreeText, IsTooGreat, IsValueText, graph_text}
 use Rattle.ct_values.proofs.NumberedLemmas.{IsBreadthFirst-positive}
-use Rattle.ct_values.proofs.SmallestLemmas.{AgreeAlways-sym, AgreeAlways-trans}
-
--- the number as a number of a node
-abbrev id : ℕ → NodeId
-id i = record { 0 = i }
+use Rattle.ct_values.proofs.NodeLemmas.{id}
+use Rattle.ct_values.proofs.AgreeLemmas.{AgreeAlways-sym, AgreeAlways-trans}
 
 -- nodes that agree at every depth stand for the same trees
 pub stands_across : (g h : Nodes) (m n : NodeId) (v : Value) → AgreeAlways (node_point g m) (node_point h n) → StandsFor g m v → StandsFor h n v

@@ -26,7 +26,7 @@ pub record IsKeyed {S : Type 0} (g : Nodes) (classes : List ℕ) (firsts : Index
   pub known : (n : ℕ) (node : Node) → n < count → slice_get g n ≡ Some node → get same_key firsts (node_key classes 0 node) ≡ Some (class_at classes n)
   pub only : (key : Key) (n : ℕ) → get same_key firsts key ≡ Some n → (n < count) × ((node : Node) × (slice_get g n ≡ Some node) × (key ≡ node_key classes 0 node))
 
--- besides, the map has the key of each node with its class, and no other
+-- these are the classes, and the map has the key of each node with its class, and no other
 pub record IsShared {S : Type 0} (g : Nodes) (classes : List ℕ) (firsts : IndexMap Key ℕ S) : Type 0 where
   pub are_classes : AreClasses g classes
   pub keyed : IsKeyed g classes firsts (length g)

@@ -1,9 +1,10 @@
 //! Whether two nodes of a graph are the same value: whether they agree at every depth.
 //!
-//! The part of the graph that the two nodes reach is copied. Its finite trees get their classes from the
-//! leaves upward, and the partition that this gives is refined by rounds, until two rounds agree or the two
-//! nodes fall apart. Where no cycle is reached two rounds are enough, and else there are at most as many as
-//! there are nodes that reach one, and two. Nothing outside the part is looked at, and nothing recurses.
+//! The part of the graph that the two nodes reach is copied. Passes over it, up and down, give its finite trees
+//! their classes from the leaves upward (`finite.rt`). The partition that this gives is refined by rounds
+//! (`rounds.rt`), until two rounds agree or the two nodes fall apart. Where no cycle is reached two rounds are
+//! enough, and else there are at most as many as there are nodes that reach one, and two. Nothing outside the
+//! part is looked at, and nothing recurses.
 //!
 //! The rounds may begin with any partition that keeps nodes together which agree at every depth.
 ghost use Rattle.std.specs.Prelude.{◌≡◌, ◌↔◌, ◌<◌, length, IfOk, IsTrue};

@@ -18,7 +18,7 @@ use crate::refine::first_with;
 use indexmap::IndexMap;
 use std::alloc::Global;
 
-/// A partition that keeps nodes together which agree at every depth, and finite trees apart.
+/// A partition that keeps nodes together which agree at every depth.
 pub(crate) fn finite_classes(alloc: Global, graph: &Graph) -> Result<Vec<usize>, ValueError>
     ensures together { IfOk result (λ classes. KeepsTogether graph.now classes.items) }
 {

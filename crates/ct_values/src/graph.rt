@@ -1,4 +1,4 @@
-ghost use Rattle.std.specs.Prelude.{◌≡◌, ℕ, ◌+◌, ◌<◌, ◌⊎◌, [], ◌∷◌, ◌++◌, length, slice_get, option_map, Some, None, All, OnOk, OnErr, IfOk};
+ghost use Rattle.std.specs.Prelude.{◌≡◌, ℕ, ◌+◌, ◌<◌, ◌⊎◌, ◌↔◌, [], ◌∷◌, ◌++◌, length, slice_get, option_map, Some, None, All, OnOk, OnErr, IfOk, IsTrue};
 ghost use Rattle.indexmap.specs.IndexMap.{get};
 ghost use Rattle.ct_values.specs.declared.key.Key.{Key};
 ghost use Rattle.ct_values.specs.Graph.{IsClosed, HasChildrenBelow, node_head, node_children};
@@ -124,6 +124,47 @@ impl Graph {
             Node::Elem(_, _) => &[],
         }
     }
+}
+
+/// Whether the children of all these nodes are among them, which `Graph::from_nodes` asks for.
+pub fn are_closed(nodes: &[Node]) -> bool
+    ensures closed { IsTrue result ↔ IsClosed nodes.now }
+{
+    have_children_below(nodes, nodes.len() as u64)
+}
+
+/// Whether the children of all these nodes have numbers below the bound.
+pub(crate) fn have_children_below(nodes: &[Node], bound: u64) -> bool
+    ensures value { IsTrue result ↔ All (HasChildrenBelow bound) nodes.now }
+{
+    for node in nodes {
+        if !has_children_below(node, bound) {
+            return false;
+        }
+    }
+    true
+}
+
+/// Whether the children of the node have numbers below the bound.
+pub(crate) fn has_children_below(node: &Node, bound: u64) -> bool
+    ensures value { IsTrue result ↔ HasChildrenBelow bound node.now }
+{
+    match node {
+        Node::Con(_, children) => are_below(children.as_slice(), bound),
+        Node::Elem(_, _) => true,
+    }
+}
+
+/// Whether these nodes have numbers below the bound.
+pub(crate) fn are_below(nodes: &[NodeId], bound: u64) -> bool
+    ensures value { IsTrue result ↔ All (λ n. n.0 < bound) nodes.now }
+{
+    for n in nodes {
+        if n.0 >= bound {
+            return false;
+        }
+    }
+    true
 }
 
 // A copy of the nodes.

@@ -6,7 +6,6 @@ ghost use Rattle.ct_values.specs.declared.node.Node as spec_node;
 ghost use Rattle.ct_values.specs.Value.{reference, node_value, values_of};
 ghost use Rattle.ct_values.specs.Fitting.{FitsGraph};
 ghost use Rattle.ct_values.specs.Rows.{gap};
-ghost use Rattle.ct_values.specs.ValueText.{row};
 ghost use Rattle.ct_values.specs.ValueText as spec;
 
 use crate::error::ValueError;
@@ -30,7 +29,7 @@ pub(crate) fn graph_text(alloc: Global, sig: &Signature, g: &Graph) -> Result<Ve
     Ok(out)
 }
 
-/// Writes a node behind its name, as `(@3 node)`, and a blank before it where it is not the first.
+// Writes a node behind its name, as `(@3 node)`, and a blank before it where it is not the first.
 fn write_row(
     alloc: Global,
     sig: &Signature,
@@ -41,7 +40,7 @@ fn write_row(
     requires within { n.0 < length g.now }
     requires fits { FitsGraph sig.now g.now }
     ensures ok { OnOk result ((node : spec_node.Node) → slice_get g.now n.0 ≡ Some node
-        → out.new.items ≡ out.old.items ++ (gap n.0 ++ written (row sig.now n.0 node))) }
+        → out.new.items ≡ out.old.items ++ (gap n.0 ++ written (spec.row sig.now n.0 node))) }
 {
     write_gap(n, out)?;
     out.push(b'(')?;
@@ -51,7 +50,7 @@ fn write_row(
     Ok(out.push(b')')?)
 }
 
-/// Writes a blank before each row but the first.
+// Writes a blank before each row but the first.
 fn write_gap(n: NodeId, out: &mut Vec<u8>) -> Result<(), ValueError>
     ensures ok { OnOk result (out.new.items ≡ out.old.items ++ gap n.0) }
 {
@@ -61,7 +60,7 @@ fn write_gap(n: NodeId, out: &mut Vec<u8>) -> Result<(), ValueError>
     Ok(out.push(b' ')?)
 }
 
-/// Writes what stands at the node.
+// Writes what stands at the node.
 fn write_node(
     alloc: Global,
     sig: &Signature,
@@ -80,7 +79,7 @@ fn write_node(
     }
 }
 
-/// Writes the constructor over nodes, each by its name.
+// Writes the constructor over nodes, each by its name.
 fn write_constructor(
     alloc: Global,
     sig: &Signature,

@@ -67,8 +67,6 @@ pub fn smallest_graph()
     // No graph in which a node is the same has fewer nodes.
     ensures fewest { (g h : Nodes) (a b : NodeId) (s : Nodes)
         → IsSmallest g a s
-        → IsClosed h
-        → b.0 < length h
         → AgreeAlways (node_point h b) (node_point g a)
         → length s ≤ length h }
 {}

@@ -26,7 +26,7 @@ mod writing;
 pub use equality::same;
 pub use error::ValueError;
 pub use fitting::{fits, has_sort, sort_of};
-pub use graph::Graph;
+pub use graph::{Graph, are_closed};
 pub use laws::{agreement, first_nodes, smallest_graph, value_texts};
 pub use node::{Head, Node, NodeId};
 pub use node_ids::NodeIds;

@@ -1,6 +1,6 @@
 //! A graph with the first node of each value at hand.
 //!
-//! Its nodes are put into classes of those that agree at every depth, once, by the rounds of equality. From
+//! Its nodes are put into classes of those that agree at every depth, once, by the passes and rounds of equality. From
 //! then on a map from heads and classes of children to first nodes tells the first node of a constructor over
 //! nodes, so that a new node costs a look-up (hash-consing; Filliâtre and Conchon 2006).
 ghost use Rattle.std.specs.Prelude.{◌≡◌, ◌<◌, ◌⊎◌, [], ◌∷◌, ◌++◌, length, map, All, Some, None, OnErr, OnOk, IfOk, IfSome, IfNone};
@@ -89,6 +89,7 @@ impl SharedGraph {
         requires within { All (λ child. child.0 < length self.old) children }
         ensures first { IfOk result (IsFirst self.new (point self.new (node_value (nodes.Con c children)))) }
         ensures grown { OnOk result ((self.new ≡ self.old) ⊎ (self.new ≡ self.old ++ nodes.Con c children ∷ [])) }
+        ensures number { IfOk result (λ n. (self.new ≡ self.old) ⊎ (n.0 ≡ length self.old)) }
         ensures err { OnErr result (self.new ≡ self.old) }
     {
         let alloc = *self.classes.allocator();
@@ -133,6 +134,7 @@ fn add(
     ensures shared { IsShared graph.new classes.new.items firsts.new }
     ensures first { IfOk result (IsFirst graph.new (point graph.new (node_value node))) }
     ensures grown { OnOk result (graph.new ≡ graph.old ++ node ∷ []) }
+    ensures number { IfOk result (λ n. n.0 ≡ length graph.old) }
     ensures err { OnErr result (graph.new ≡ graph.old) }
 {
     classes.reserve(1)?;

@@ -3,7 +3,7 @@
 //! The part of the graph that the node reaches is copied, and its nodes are put into classes of those that
 //! agree at every depth, as for equality, with rounds until the partition is stable. Then each child becomes
 //! the first node of its class, and what the root reaches of that is numbered breadth first. Beyond the
-//! rounds the time is near-linear in the part, and nothing recurses.
+//! passes and rounds the time is near-linear in the part, and nothing recurses.
 ghost use Rattle.std.specs.Prelude.{◌≡◌, ◌<◌, length, IfOk};
 ghost use Rattle.ct_values.specs.Smallest.{IsSmallest};
 

@@ -1,8 +1,5 @@
 //! Graphs that tests make.
-ghost use Rattle.std.specs.Prelude.{◌<◌, IsTrue, All};
-ghost use Rattle.ct_values.specs.Graph.{HasChildrenBelow};
-
-use crate::{Graph, Node, NodeId, NodeIds, ValueError};
+use crate::{Graph, Node, NodeId, NodeIds, ValueError, are_closed};
 use ct_sorts::{CtorId, SortId};
 use std::alloc::Global;
 use std::process::Abort;
@@ -44,43 +41,9 @@ pub(crate) fn nodes(alloc: Global, steps: &[Step]) -> Result<Vec<Node>, ValueErr
     Ok(nodes)
 }
 
-/// Whether the children of the node have numbers below the bound.
-pub(crate) fn has_children_below(node: &Node, bound: u64) -> bool
-    ensures value { IsTrue result → HasChildrenBelow bound node.now }
-{
-    match node {
-        Node::Con(_, children) => are_below(children.as_slice(), bound),
-        Node::Elem(_, _) => true,
-    }
-}
-
-/// Whether the nodes have numbers below the bound.
-pub(crate) fn are_below(children: &[NodeId], bound: u64) -> bool
-    ensures value { IsTrue result → All (λ child. child.0 < bound) children.now }
-{
-    for child in children {
-        if child.0 >= bound {
-            return false;
-        }
-    }
-    true
-}
-
-/// Whether the children of all the nodes have numbers below the bound.
-pub(crate) fn have_children_below(nodes: &[Node], bound: u64) -> bool
-    ensures value { IsTrue result → All (HasChildrenBelow bound) nodes.now }
-{
-    for node in nodes {
-        if !has_children_below(node, bound) {
-            return false;
-        }
-    }
-    true
-}
-
 /// The graph of these steps, numbered in their order.
 pub(crate) fn graph(rt: &impl Abort, alloc: Global, steps: &[Step]) -> Result<Graph, ValueError> {
     let nodes = nodes(alloc, steps)?;
-    assert!(rt; have_children_below(&nodes, nodes.len() as u64));
+    assert!(rt; are_closed(&nodes));
     Ok(Graph::from_nodes(nodes))
 }

@@ -1,17 +1,16 @@
 //! What graphs hold, which of their nodes are the same, and what their smallest graphs are.
-use crate::test_graphs::{
-    Step, are_below, graph, has_children_below, have_children_below, ids, node, nodes,
-};
+use crate::graph::{are_below, has_children_below, have_children_below};
+use crate::test_graphs::{Step, graph, ids, node, nodes};
 use crate::{
-    Graph, Head, Node, NodeId, NodeIds, SharedGraph, ValueError, agreement, first_nodes, minimise,
-    same, smallest_graph,
+    Graph, Head, Node, NodeId, NodeIds, SharedGraph, ValueError, agreement, are_closed,
+    first_nodes, minimise, same, smallest_graph,
 };
 use ct_sorts::{CtorId, SortId};
 use std::alloc::Global;
 use std::process::Abort;
 use std::test::Fail;
 
-// The elements and the constructor of the streams of the worked example, and the constructors of lists.
+// The elements and the constructor of streams, and the constructors of lists.
 const A: CtorId = CtorId(2);
 
 const B: CtorId = CtorId(3);
@@ -22,7 +21,7 @@ const CONS: CtorId = CtorId(5);
 
 const NIL: CtorId = CtorId(6);
 
-// The streams of the worked example: `a, a, ..` in one node and in two, and `b, a, a, ..`.
+// Streams: `a, a, ..` in one node and in two, and `b, a, a, ..`.
 const STREAMS: [Step; 6] = [
     Step::Two(SCONS, 1, 0),
     Step::Zero(A),
@@ -288,6 +287,24 @@ fn looks_to_the_end_of_long_lists(rt: HostRuntime) -> Result<(), Fail> {
     Ok(())
 }
 
+// The last two have a child that is not there.
+#[test]
+fn tells_whether_children_are_there(rt: HostRuntime) -> Result<(), Fail> {
+    let alloc = rt.alloc();
+    for (steps, want) in [
+        ([Step::Element(7, 3)].as_slice(), true),
+        (&[], true),
+        (&[Step::One(CONS, 0)], true),
+        (&[Step::Two(CONS, 1, 0), Step::Zero(NIL)], true),
+        (&[Step::One(CONS, 1)], false),
+        (&[Step::Zero(NIL), Step::Two(CONS, 0, 2)], false),
+    ] {
+        let nodes = nodes(alloc, steps)?;
+        assert_eq!(rt; are_closed(&nodes), want, "of {steps:?}");
+    }
+    Ok(())
+}
+
 #[test]
 fn keeps_nodes_in_order(rt: HostRuntime) -> Result<(), Fail> {
     let alloc = rt.alloc();
@@ -334,7 +351,7 @@ fn construct(
     shared.construct(SCONS, children)
 }
 
-// The first nodes of the streams of the worked example. The last two children are of a stream that is not there.
+// The first nodes of the streams. The last two children are of a stream that is not there.
 #[test]
 fn shares_nodes_that_are_the_same(rt: HostRuntime) -> Result<(), Fail> {
     let alloc = rt.alloc();

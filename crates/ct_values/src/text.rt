@@ -11,7 +11,7 @@ use ct_sexpr::is_plain;
 use ct_sorts::{CtorId, Signature, SortId};
 use std::alloc::Global;
 
-/// Writes the name, between bars where it needs them.
+// Writes the name, between bars where it needs them.
 fn write_name(name: &[u8], out: &mut Vec<u8>) -> Result<(), ValueError>
     ensures ok { OnOk result (out.new.items ≡ out.old.items ++ written_name name.now) }
 {
@@ -23,7 +23,7 @@ fn write_name(name: &[u8], out: &mut Vec<u8>) -> Result<(), ValueError>
     Ok(out.push(b'|')?)
 }
 
-/// Writes the number in decimal.
+// Writes the number in decimal.
 fn write_number(alloc: Global, number: u64, out: &mut Vec<u8>) -> Result<(), ValueError>
     ensures ok { OnOk result (out.new.items ≡ out.old.items ++ numeral number) }
 {
@@ -66,7 +66,7 @@ pub(crate) fn write_element(
     Ok(out.push(b')')?)
 }
 
-/// The symbol of an element of the sort with this name, as `@U_3`.
+// The symbol of an element of the sort with this name, as `@U_3`.
 fn element_name(alloc: Global, sort: &[u8], number: u64) -> Result<Vec<u8>, ValueError>
     ensures value { IfOk result (λ symbol. symbol.items ≡ spec.element_name sort.now number) }
 {

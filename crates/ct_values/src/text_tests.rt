@@ -473,6 +473,33 @@ fn nodes_are_numbered_breadth_first(rt: HostRuntime) -> Result<(), Fail> {
     Ok(())
 }
 
+#[test]
+fn elements_and_names_with_bars_stand_in_graphs(rt: HostRuntime) -> Result<(), Fail> {
+    let cases: [(&[Step], u64, &str); 2] = [
+        (
+            &[
+                Step::Two(GROW, 1, 0),
+                Step::Two(NODE, 2, 3),
+                Step::Element(MY_SORT, 7),
+                Step::Zero(EMPTY),
+            ],
+            0,
+            "(@graph ((@0 (grow @1 @0)) (@1 (node @2 @3)) (@2 (as |@my sort_7| |my sort|)) (@3 empty)) @0)",
+        ),
+        (
+            &[Step::One(A_B, 1), Step::One(A_B, 0)],
+            1,
+            "(@graph ((@0 (|a b| @0))) @0)",
+        ),
+    ];
+    let mut sig = Signature::new(rt.alloc())?;
+    declare_all(&rt, rt.alloc(), &mut sig);
+    for (steps, root, want) in cases {
+        expect_text(&rt, rt.alloc(), &sig, steps, root, want.as_bytes());
+    }
+    Ok(())
+}
+
 // `a, a, ..` in one node and in two, and `b, a, a, ..`: values that are the same have one text.
 #[test]
 fn streams_that_are_the_same_have_one_text(rt: HostRuntime) -> Result<(), Fail> {

@@ -8,9 +8,8 @@ ghost use Rattle.ct_values.specs.declared.tree_text.Item.TheVariants as items;
 ghost use Rattle.ct_values.specs.Fitting.{FitsGraph};
 ghost use Rattle.ct_sorts.specs.Declarations.{IsConstructor};
 ghost use Rattle.ct_sexpr.specs.Written.{written};
-ghost use Rattle.ct_values.specs.ValueText.{IsTreeText, name, ctor_name};
+ghost use Rattle.ct_values.specs.ValueText.{IsTreeText, IsTooGreat, name, ctor_name};
 ghost use Rattle.ct_values.specs.Walk.{IsBegun, opening, pending};
-ghost use Rattle.ct_values.specs.ValueText.{IsTooGreat};
 
 use crate::error::ValueError;
 use crate::graph::Graph;
@@ -19,11 +18,11 @@ use crate::text::{write_ctor, write_element};
 use ct_sorts::{CtorId, Signature};
 use std::alloc::Global;
 
-/// The most nodes of a tree that is written as a constructor term, each counted as often as it occurs.
+// The most nodes of a tree that is written as a constructor term, each counted as often as it occurs.
 const MOST_PLAIN: u64 = 1_000;
 
-/// The most items on the stack with which the walk goes on. Of each node that was begun at most one is a parenthesis, so
-/// with as many items more nodes are left than may be written, and nodes with many children do not fill the stack.
+// The most items on the stack with which the walk goes on. Of each node that was begun at most one is a parenthesis, so
+// with as many items more nodes are left than may be written, and nodes with many children do not fill the stack.
 const MOST_ITEMS: usize = 2_000;
 
 /// What is still to be written.
@@ -69,7 +68,7 @@ pub(crate) fn tree_text(
     Ok(Some(out))
 }
 
-/// Writes the head of the node's tree, and puts what is left of the tree onto the stack.
+// Writes the head of the node's tree, and puts what is left of the tree onto the stack.
 fn begin(
     alloc: Global,
     sig: &Signature,
@@ -88,7 +87,7 @@ fn begin(
     }
 }
 
-/// Writes the constructor, behind an opening parenthesis where it has arguments, which go onto the stack.
+// Writes the constructor, behind an opening parenthesis where it has arguments, which go onto the stack.
 fn begin_constructor(
     sig: &Signature,
     c: CtorId,
@@ -109,7 +108,7 @@ fn begin_constructor(
     push_all(children, stack)
 }
 
-/// Puts the nodes onto the stack, the first on top.
+// Puts the nodes onto the stack, the first on top.
 fn push_all(nodes: &[NodeId], stack: &mut Vec<Item>) -> Result<(), ValueError>
     ensures pushed { OnOk result (reverse stack.new.items ≡ map items.Node nodes.now ++ reverse stack.old.items) }
 {

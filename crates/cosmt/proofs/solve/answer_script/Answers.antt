@@ -40,7 +40,7 @@ returns-in-Ok-Some-clause-output g c = λ is. Rose-since _ _ _ c.in-Ok-Some.ensu
 pub returns-clause-solved : goal.returns-clause-solved
 returns-clause-solved g c =
     rw (c.status_of.ensures, c.new-in-Err.ensures.items)
-    (Solves-broke (laws g (goal.at.returns-clause-solved g c).After-one_reading) c.args.reader.now c.requires.short _ _ _ _ _ _ c.in-Ok.ensures c.new-verdicts.ensures.items c.in-Err.error c.in-Err.ensures.broke)
+    (Solves-broke (laws g (goal.at.returns-clause-solved g c).After-one_reading) c.args.reader.now c.requires.short _ _ _ _ _ _ c.in-Ok.ensures c.new-verdicts.ensures.items c.in-Err.error c.in-Err.ensures.broke (λ is. c.in-Err.ensures.fault (ap (λ (e : SinkError). Err e) is)))
 
 pub returns-clause-output : goal.returns-clause-output
 returns-clause-output g c = λ is. c.in-Err.ensures.cause.caused (ap (λ (e : SinkError). Err e) (output_fault c.in-Err.error (sym c.status_of.ensures ∙ is)))

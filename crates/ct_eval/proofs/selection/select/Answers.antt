@@ -1,4 +1,4 @@
-use Rattle.std.proofs.Common.{◌≡◌, true, [], ◌∷◌, sym, subst, ◌∙◌}
+use Rattle.std.proofs.Common.{◌≡◌, true, [], ◌∷◌, sym, ap, subst, ◌∙◌}
 use Rattle.std.proofs.lemmas.Option.{slice_get_within}
 use Rattle.std.proofs.lemmas.Result.{IfOk-weaker}
 use Rattle.ct_values.specs.declared.node.NodeId.{NodeId}
@@ -6,8 +6,7 @@ use Rattle.ct_values.specs.Value.{reference}
 use Rattle.ct_terms.specs.declared.term.Core.TheVariants.{Sel}
 use Rattle.ct_eval.specs.Evaluation.{is_built, core_value}
 use Rattle.ct_eval.specs.LookUp.{look_up}
-use Rattle.ct_eval.specs.Valued.{HasValue}
-use Rattle.ct_eval.specs.Step.{IsResult}
+use Rattle.ct_eval.specs.Step.{HasValue, IsResult}
 use Rattle.ct_eval.proofs.StepTerms.{valued_under}
 use Rattle.ct_eval.proofs.StepTables.{selector_table}
 use Rattle.ct_eval.proofs.StepSelect.{ctor_is, test_is, selected_field, selected_off}
@@ -30,7 +29,7 @@ field-requires-clause-built c =
     let sorted = c.requires.ready.sorted in (
       sorted.selector,
       sorted.declared,
-      subst (λ k. is_built c.args.shared.now k (reference c.node_at-n.result) ≡ true) (sym (ctor_is d c.args.s sorted.selector c.sel_ctor.result sorted.declared c.sel_ctor.ensures.value)) (sym c.is_built.ensures.value ∙ c.if-is_built.true),
+      subst (λ k. is_built c.args.shared.now k (reference c.node_at-n.result) ≡ true) (sym (ctor_is d c.args.s sorted.selector c.sel_ctor.result sorted.declared c.sel_ctor.ensures.value)) (sym (c.is_built.ensures.value ∙ ap (λ h. is_built h c.sel_ctor.result (reference c.node_at-n.result)) c.graph.ensures.value) ∙ c.if-is_built.true),
     )
 
 pub returns-then-is_built : goal.returns-then-is_built
@@ -43,7 +42,7 @@ returns-then-is_built c = record {
       let v = value c.args.t in
       let has = subst (λ (n : NodeId). HasValue d i g v sorted.ctor.sort n) (sym c.node_at-n.ensures.value) (valued_under d i terms g nodes value valued c.args.t sorted.ctor.sort sorted.sorted c.requires.ready.below) in
       let told = c.field.ensures.value sorted.selector i.graph v sorted.declared has.first in
-      let test = test_is c.laws.ensures.laws d g i.graph c.args.s sorted.selector c.sel_ctor.result v c.node_at-n.result c.is_built.result sorted.declared c.sel_ctor.ensures.value c.is_built.ensures.value has.first in
+      let test = test_is c.laws.ensures.laws d g i.graph c.args.s sorted.selector c.sel_ctor.result v c.node_at-n.result c.is_built.result sorted.declared c.sel_ctor.ensures.value (c.is_built.ensures.value ∙ ap (λ h. is_built h c.sel_ctor.result (reference c.node_at-n.result)) c.graph.ensures.value) has.first in
       (c.requires.fits, selected_field d i g c.args.s sorted.selector v told.0 sort c.field.result sorted.declared (test ∙ c.if-is_built.true) told.1 sorted.result told.2 told.3);
 }
 
@@ -70,6 +69,6 @@ returns c =
           let table = selector_table d i c.args.s.0 sorted.selector sorted.ctor c.requires.proper sorted.declared sorted.constructor in
           let has = subst (λ (n : NodeId). HasValue d i g v sorted.ctor.sort n) (sym c.node_at-n.ensures.value) (valued_under d i terms g nodes value valued c.args.t sorted.ctor.sort sorted.sorted c.requires.ready.below) in
           let told = c.off.ensures.value d (sorted.ctor.sort ∷ []) sorted.selector.sort table.0 v table.1 table.2 has.first in
-          let test = test_is c.laws.ensures.laws d g i.graph c.args.s sorted.selector c.sel_ctor.result v c.node_at-n.result c.is_built.result sorted.declared c.sel_ctor.ensures.value c.is_built.ensures.value has.first in
+          let test = test_is c.laws.ensures.laws d g i.graph c.args.s sorted.selector c.sel_ctor.result v c.node_at-n.result c.is_built.result sorted.declared c.sel_ctor.ensures.value (c.is_built.ensures.value ∙ ap (λ h. is_built h c.sel_ctor.result (reference c.node_at-n.result)) c.graph.ensures.value) has.first in
           IfOk-weaker c.off.result (HasValue d i g (reference (look_up i.graph table.0 (v ∷ []))) sorted.selector.sort) (IsResult d i g (core_value d i value (Sel c.args.s c.args.t)) sort) (λ n h. (c.requires.fits, selected_off d i g c.args.s sorted.selector v table.0 sort n sorted.declared (test ∙ c.if-is_built.false) table.1 sorted.result h)) told);
     }

@@ -6,8 +6,7 @@ use Rattle.ct_values.specs.Graph.{Nodes}
 use Rattle.ct_values.specs.Value.{Value}
 use Rattle.ct_eval.specs.declared.interp.Interp.{Interp}
 use Rattle.ct_eval.specs.Evaluation.{is_true}
-use Rattle.ct_eval.specs.Valued.{HasValue}
-use Rattle.ct_eval.specs.Step.{node_under}
+use Rattle.ct_eval.specs.Step.{HasValue, node_under}
 use Rattle.ct_eval.proofs.StepTerms.{true_alike, valued_under}
 use Rattle.ct_eval.proofs.StepReady.{ready_Ite}
 use Rattle.ct_eval.proofs.term.choose.Goals as goal

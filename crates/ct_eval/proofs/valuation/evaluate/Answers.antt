@@ -19,6 +19,6 @@ indexed-requires-2 c = record {
 pub returns : goal.returns
 returns c = record {
   valuation =
-      IsValuation-from c.args.sig.now c.args.interp.now c.args.table.now c.all_nodes.new.shared c.into_graph.result c.in_ok-nodes.nodes.items c.new-2.result
-      c.into_graph.ensures.value c.new-2.ensures.value c.in_ok-nodes.ensures.nodes c.in_ok-nodes.ensures.all;
+      IsValuation-from c.args.sig.now c.args.interp.now c.args.table.now c.all_nodes.new.shared c.into_graph-graph.result c.in_ok-nodes.nodes.items c.new-nodes.result
+      c.into_graph-graph.ensures.value c.new-nodes.ensures.value c.in_ok-nodes.ensures.nodes c.in_ok-nodes.ensures.all;
 }

@@ -16,5 +16,5 @@ returns c = record {
   node =
       HaveNodes-next c.args.sig.now c.args.interp.now c.args.table.now c.first_nodes.ensures.lasting c.len.ensures.ordered c.requires.sorted
       c.args.shared.now c.node_of.new.shared c.args.nodes.now c.args.t c.core.result.now c.node_of.result c.requires.before c.requires.next
-      c.core.ensures.value c.node_of.ensures.longer c.node_of.ensures.value;
+      c.core.ensures.value c.node_of.ensures.grown c.node_of.ensures.value;
 }

@@ -1,11 +1,12 @@
-use Rattle.std.proofs.Common.{rules, ◌++◌, take, arith}
+use Rattle.std.proofs.Common.{rules, ◌<◌, length, ◌++◌, take, arith}
 use Rattle.std.proofs.lemmas.List.{take_rest}
-use Rattle.ct_io.proofs.Fronts.{written_front, written_more}
+use Rattle.ct_io.proofs.Fronts.{written_part, written_more}
 use Rattle.ct_io.proofs.sink.write_all.Goals as goal
 
 pub returns-in_err-n-clause-refused : goal.returns-in_err-n-clause-refused
 returns-in_err-n-clause-refused g c =
-    let front = written_front c.loop-rest.invariant.written.1 in search (rules, front)
+    let some : 0 < length c.loop-rest.rest.now = search (rules, arith) in
+    let part = written_part c.loop-rest.invariant.written.1 some in search (rules, part)
 
 pub loop-rest-preserved : goal.loop-rest-preserved
 loop-rest-preserved g c = record {

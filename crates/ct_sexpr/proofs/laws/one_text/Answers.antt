@@ -1,5 +1,5 @@
 use Rattle.ct_sexpr.proofs.Readings.{one_text, one_so_far}
-use Rattle.ct_sexpr.proofs.Pieces.{some_text, some_so_far, first_command, first_so_far, standing_error, error_so_far, refused_so_far, waiting_so_far}
+use Rattle.ct_sexpr.proofs.Pieces.{some_text, some_so_far, first_command, first_so_far, standing_error, error_so_far, refused_so_far, refused_goes_on, waiting_so_far, waiting_goes_on}
 use Rattle.ct_sexpr.proofs.laws.one_text.Goals as goal
 
 pub returns : goal.returns
@@ -13,5 +13,7 @@ returns c = record {
   standing_error = standing_error;
   error_so_far = error_so_far;
   refused_so_far = refused_so_far;
+  refused_goes_on = refused_goes_on;
   waiting_so_far = waiting_so_far;
+  waiting_goes_on = waiting_goes_on;
 }

@@ -1,16 +1,14 @@
-use Rattle.std.proofs.Common.{◌≡◌, ℕ, List, [], ◌∷◌, ◌++◌, map, get_or, refl, sym, ◌∙◌, ap, subst, inl, inr, ⊎_elim}
+use Rattle.std.proofs.Common.{ℕ, List, ◌∷◌, ◌++◌, map, sym, ◌∙◌, ap, subst}
 use Rattle.std.proofs.lemmas.List.{append-nil}
-use Rattle.std.proofs.lemmas.List.Concat.{flat_map_single}
 use Rattle.std.proofs.lemmas.Result.{err_from_is_err_and}
 use Rattle.std.specs.List.{flat_map}
-use Rattle.ct_sorts.specs.declared.block.Field.{Field}
 use Rattle.ct_sorts.specs.declared.block.CtorDecl.{CtorDecl}
 use Rattle.ct_sorts.specs.declared.block.SortDecl.{SortDecl}
-use Rattle.ct_sorts.specs.Names.{IsUnavailable, IsUnavailableSort, HasUnavailable, HasUnavailableSort}
-use Rattle.ct_sorts.specs.Declarations.{symbol_names, sort_names}
+use Rattle.ct_sorts.specs.Names.{IsUnavailable, HasUnavailable}
+use Rattle.ct_sorts.specs.Declarations.{symbol_names}
 use Rattle.ct_sorts.specs.Lookup.{names_of}
-use Rattle.ct_sorts.specs.Block.{ctor_symbols, block_ctors, block_names}
-use Rattle.ct_sorts.proofs.AdmitLemmas.{IsAdmitted, IsAdmitted-start, IsAdmitted-more, IsAdmitted-refused, IsAdmitted-all, HasRefused-one, flat_map-flat_map}
+use Rattle.ct_sorts.specs.Block.{ctor_symbols}
+use Rattle.ct_sorts.proofs.AdmitLemmas.{IsAdmitted-start, IsAdmitted-more, IsAdmitted-refused, IsAdmitted-all, flat_map-flat_map}
 use Rattle.ct_sorts.proofs.admit.admit_all_ctors.Goals as goal
 
 pub loop-decl-init : goal.loop-decl-init

@@ -1,16 +1,10 @@
-use Rattle.std.proofs.Common.{◌≡◌, ℕ, List, [], ◌∷◌, ◌++◌, map, get_or, refl, sym, ◌∙◌, ap, subst, inl, inr, ⊎_elim}
-use Rattle.std.proofs.lemmas.List.{append-nil}
-use Rattle.std.proofs.lemmas.List.Concat.{flat_map_single}
+use Rattle.std.proofs.Common.{◌∷◌, map}
 use Rattle.std.proofs.lemmas.Result.{err_from_is_err_and}
-use Rattle.std.specs.List.{flat_map}
-use Rattle.ct_sorts.specs.declared.block.Field.{Field}
 use Rattle.ct_sorts.specs.declared.block.CtorDecl.{CtorDecl}
-use Rattle.ct_sorts.specs.declared.block.SortDecl.{SortDecl}
-use Rattle.ct_sorts.specs.Names.{IsUnavailable, IsUnavailableSort, HasUnavailable, HasUnavailableSort}
-use Rattle.ct_sorts.specs.Declarations.{symbol_names, sort_names}
+use Rattle.ct_sorts.specs.Names.{IsUnavailable}
+use Rattle.ct_sorts.specs.Declarations.{symbol_names}
 use Rattle.ct_sorts.specs.Lookup.{names_of}
-use Rattle.ct_sorts.specs.Block.{ctor_symbols, block_ctors, block_names}
-use Rattle.ct_sorts.proofs.AdmitLemmas.{IsAdmitted, IsAdmitted-start, IsAdmitted-more, IsAdmitted-refused, IsAdmitted-all, HasRefused-one, flat_map-flat_map}
+use Rattle.ct_sorts.proofs.AdmitLemmas.{IsAdmitted-start, IsAdmitted-more, IsAdmitted-refused, IsAdmitted-all}
 use Rattle.ct_sorts.proofs.admit.admit_ctors.Goals as goal
 
 pub loop-ctor-init : goal.loop-ctor-init

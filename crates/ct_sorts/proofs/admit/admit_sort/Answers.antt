@@ -1,8 +1,8 @@
-use Rattle.std.proofs.Common.{◌≡◌, ℕ, List, [], ◌∷◌, ◌++◌, refl, sym, ◌∙◌, ap, subst, inl, inr, ⊎_elim}
+use Rattle.std.proofs.Common.{ℕ, List, [], ◌∷◌, ◌++◌, refl, sym, ◌∙◌, ap, subst, inl, ⊎_elim}
 use Rattle.std.proofs.lemmas.Bool.{true≢false}
 use Rattle.std.proofs.lemmas.List.{map-append}
 use Rattle.std.proofs.lemmas.Result.{on_ok_weaker}
-use Rattle.ct_sorts.specs.Names.{IsListed, IsUnavailableSort}
+use Rattle.ct_sorts.specs.Names.{IsListed}
 use Rattle.ct_sorts.specs.Declarations.{sort_names}
 use Rattle.ct_sorts.specs.Lookup.{names_of}
 use Rattle.ct_sorts.proofs.LookupLemmas.{IsListed-right}

@@ -1,10 +1,7 @@
-use Rattle.std.proofs.Common.{List, [], ◌∷◌, map}
-use Rattle.ct_sorts.specs.Names.{IsUnavailable, IsUnavailableSort}
-use Rattle.ct_sorts.specs.Declarations.{sort_names, symbol_names}
+use Rattle.std.proofs.Common.{[], ◌∷◌}
+use Rattle.ct_sorts.specs.Names.{IsUnavailableSort}
+use Rattle.ct_sorts.specs.Declarations.{sort_names}
 use Rattle.ct_sorts.specs.Lookup.{names_of}
-use Rattle.ct_sorts.specs.Block.{ctor_symbols}
-use Rattle.ct_sorts.specs.declared.block.Field.{Field}
-use Rattle.ct_sorts.specs.declared.block.CtorDecl.{CtorDecl}
 use Rattle.ct_sorts.specs.declared.block.SortDecl.{SortDecl}
 use Rattle.ct_sorts.proofs.AdmitLemmas.{IsAdmitted}
 use Rattle.ct_sorts.proofs.admit.admit_sorts.Given as goal

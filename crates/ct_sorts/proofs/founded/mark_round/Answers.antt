@@ -1,10 +1,9 @@
-use Rattle.std.proofs.Common.{◌≡◌, ◌<◌, ◌+◌, Bool, true, false, Some, slice_get, refl, sym, ◌∙◌, ap, subst, arith}
+use Rattle.std.proofs.Common.{refl, sym, ◌∙◌, arith}
 use Rattle.std.proofs.lemmas.Option.{slice_get_read}
 use Rattle.std.proofs.lemmas.Bool.{false≢true}
 use Rattle.ct_sorts.specs.Lookup.{names_of}
-use Rattle.ct_sorts.specs.Marked.{marked}
 use Rattle.ct_sorts.proofs.Lists.{slice_get_there}
-use Rattle.ct_sorts.proofs.MarkedLemmas.{IsRound, IsRound-marked, IsRound-kept, IsRound-start}
+use Rattle.ct_sorts.proofs.MarkedLemmas.{IsRound-marked, IsRound-kept, IsRound-start}
 use Rattle.ct_sorts.proofs.founded.mark_round.Goals as goal
 use Rattle.ct_sorts.proofs.founded.mark_round.Goals.{then-not-marks-i+then-is_built, else-not-marks-i, else-not-marks-i-via-then-not-marks-i+else-is_built, else-not-marks-i-via-else-not-marks-i}
 

@@ -1,22 +1,14 @@
-use Rattle.std.proofs.Common.{◌≡◌, ℕ, ◌+◌, ◌<◌, ◌≤◌, List, [], ◌∷◌, ◌++◌, length, map, take, drop, get_or, refl, sym, ◌∙◌, ap, subst, arith, length-append}
-use Rattle.std.proofs.lemmas.List.{map-append}
+use Rattle.std.proofs.Common.{◌≡◌, ℕ, ◌+◌, List, ◌++◌, length, map, take, drop, sym, ◌∙◌, ap, subst, arith, length-append}
 use Rattle.std.proofs.lemmas.List.Folds.{length-flat_map-take}
-use Rattle.std.specs.List.{flat_map}
-use Rattle.ct_sorts.specs.declared.ids.SortId.{SortId}
-use Rattle.ct_sorts.specs.declared.ids.SelId.{SelId}
-use Rattle.ct_sorts.specs.declared.ids.CtorId.{CtorId}
-use Rattle.ct_sorts.specs.declared.block.Field.{Field}
 use Rattle.ct_sorts.specs.declared.block.CtorDecl.{CtorDecl}
 use Rattle.ct_sorts.specs.declared.block.SortDecl.{SortDecl}
-use Rattle.ct_sorts.specs.Names.{IsListed}
-use Rattle.ct_sorts.specs.Declarations.{Sort, Constructor, Selector, sel_ids, ctor_ids}
+use Rattle.ct_sorts.specs.Declarations.{Selector}
 use Rattle.ct_sorts.specs.Lookup.{AreDistinct, names_of}
-use Rattle.ct_sorts.specs.Grown.{Begins}
-use Rattle.ct_sorts.specs.Kept.{sort_of, ctor_of, sel_of}
-use Rattle.ct_sorts.specs.Block.{block_ctors, all_fields, new_sorts, new_ctors, new_sels, ctors_of_sort, sels_of_ctor, sort_of_field}
+use Rattle.ct_sorts.specs.Kept.{sel_of}
+use Rattle.ct_sorts.specs.Block.{block_ctors, all_fields, new_sels, sort_of_field}
 use Rattle.ct_sorts.proofs.AdmitLemmas.{flat_map-flat_map, flat_map-take_more}
 use Rattle.ct_sorts.proofs.BlockLemmas.{new_sels-append}
-use Rattle.ct_sorts.proofs.GrowLemmas.{Begins-self, Begins-more, Begins-trans, piece_next, piece_more, piece_distinct, pieces_all, piece_fresh}
+use Rattle.ct_sorts.proofs.PieceLemmas.{Begins-trans, piece_more, piece_distinct}
 use Rattle.ct_sorts.proofs.grow.push_all_sels.Goals as goal
 
 pub push_sels-requires : goal.push_sels-requires

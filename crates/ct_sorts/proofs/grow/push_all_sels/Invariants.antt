@@ -1,8 +1,8 @@
 use Rattle.std.proofs.Common.{◌≡◌, ◌+◌, ◌++◌, length, map, take, drop}
 use Rattle.ct_sorts.specs.Lookup.{names_of}
 use Rattle.ct_sorts.specs.Grown.{Begins}
-use Rattle.ct_sorts.specs.Kept.{sort_of, ctor_of, sel_of}
-use Rattle.ct_sorts.specs.Block.{block_ctors, all_fields, new_sorts, new_ctors, new_sels, ctors_of_sort, sels_of_ctor, sort_of_field}
+use Rattle.ct_sorts.specs.Kept.{sel_of}
+use Rattle.ct_sorts.specs.Block.{block_ctors, new_sels, sort_of_field}
 use Rattle.ct_sorts.proofs.grow.push_all_sels.Given as goal
 
 abbrev pub invariant-loop-decl : goal.invariant-loop-decl

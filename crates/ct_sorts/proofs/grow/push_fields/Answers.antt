@@ -1,21 +1,12 @@
-use Rattle.std.proofs.Common.{◌≡◌, ℕ, ◌+◌, ◌<◌, ◌≤◌, List, [], ◌∷◌, ◌++◌, length, map, take, drop, get_or, refl, sym, ◌∙◌, ap, subst, arith}
+use Rattle.std.proofs.Common.{◌≡◌, ℕ, ◌+◌, List, [], ◌∷◌, ◌++◌, map, refl, sym, ◌∙◌, ap, subst, arith}
 use Rattle.std.proofs.lemmas.List.{map-append}
-use Rattle.std.proofs.lemmas.List.Folds.{length-flat_map-take}
-use Rattle.std.specs.List.{flat_map}
-use Rattle.ct_sorts.specs.declared.ids.SortId.{SortId}
-use Rattle.ct_sorts.specs.declared.ids.SelId.{SelId}
-use Rattle.ct_sorts.specs.declared.ids.CtorId.{CtorId}
 use Rattle.ct_sorts.specs.declared.block.Field.{Field}
-use Rattle.ct_sorts.specs.declared.block.CtorDecl.{CtorDecl}
-use Rattle.ct_sorts.specs.declared.block.SortDecl.{SortDecl}
 use Rattle.ct_sorts.specs.Names.{IsListed}
-use Rattle.ct_sorts.specs.Declarations.{Sort, Constructor, Selector, sel_ids, ctor_ids}
-use Rattle.ct_sorts.specs.Lookup.{AreDistinct, names_of}
-use Rattle.ct_sorts.specs.Grown.{Begins}
-use Rattle.ct_sorts.specs.Kept.{sort_of, ctor_of, sel_of}
-use Rattle.ct_sorts.specs.Block.{block_ctors, all_fields, new_sorts, new_ctors, new_sels, ctors_of_sort, sels_of_ctor, sort_of_field}
-use Rattle.ct_sorts.proofs.AdmitLemmas.{flat_map-flat_map}
-use Rattle.ct_sorts.proofs.GrowLemmas.{Begins-self, Begins-more, Begins-trans, piece_next, piece_more, piece_distinct, pieces_all, piece_fresh}
+use Rattle.ct_sorts.specs.Declarations.{Selector}
+use Rattle.ct_sorts.specs.Lookup.{names_of}
+use Rattle.ct_sorts.specs.Kept.{sel_of}
+use Rattle.ct_sorts.specs.Block.{sels_of_ctor, sort_of_field}
+use Rattle.ct_sorts.proofs.PieceLemmas.{Begins-more, piece_more, piece_distinct, piece_fresh}
 use Rattle.ct_sorts.proofs.grow.push_fields.Goals as goal
 
 pub push-requires : goal.push-requires

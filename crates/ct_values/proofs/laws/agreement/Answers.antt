@@ -1,8 +1,7 @@
-use Rattle.ct_values.proofs.AgreeLemmas.{agree_equiv, agree-falls, agree-zero, agree-suc, AgreeAlways-parts}
+use Rattle.ct_values.proofs.AgreeLemmas.{agree_equiv, agree-falls, agree-zero, agree-suc, AgreeAlways-parts, AgreeAlways-refl, AgreeAlways-sym, AgreeAlways-trans}
 use Rattle.ct_values.proofs.GraphLemmas.{agree-grown}
 use Rattle.ct_values.proofs.DepthLemmas.{every_depth, same-parts}
-use Rattle.ct_values.proofs.FirstLemmas.{AgreeAlways-refl, AgreeAlways-grown}
-use Rattle.ct_values.proofs.SmallestLemmas.{AgreeAlways-sym, AgreeAlways-trans}
+use Rattle.ct_values.proofs.FirstLemmas.{AgreeAlways-grown}
 use Rattle.ct_values.proofs.laws.agreement.Goals as goal
 
 pub returns-clause-start : goal.returns-clause-start

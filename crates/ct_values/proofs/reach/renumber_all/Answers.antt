@@ -1,11 +1,13 @@
 use Rattle.std.proofs.Common.{◌≡◌, ℕ, ◌<◌, ◌-◌, List, [], ◌∷◌, ◌++◌, length, Some, slice_get, sym, ap, subst, ◌∙◌, arith, length-append}
 use Rattle.std.proofs.lemmas.Option.{slice_get_within}
 use Rattle.std.proofs.lemmas.Map.Steps.{length-le_from_distinct_below}
+use Rattle.std.proofs.lemmas.List.Elements.{recursion_from_All}
 use Rattle.ct_values.specs.declared.node.Node.{Node}
 use Rattle.ct_values.specs.Numbered.{IsInOrder}
 use Rattle.ct_values.specs.Renumbering.{AreRenumbered}
 use Rattle.ct_values.proofs.NumberedLemmas.{IsInOrder-push}
-use Rattle.ct_values.proofs.RenumberLemmas.{Stay-trans, AreRenumbered-push, member_below}
+use Rattle.ct_values.proofs.RenumberLemmas.{Stay-trans, AreRenumbered-push}
+use Rattle.ct_values.proofs.CountLemmas.{has_below}
 use Rattle.ct_values.proofs.reach.renumber_all.Goals as goal
 
 -- one more node is nearer to the bound
@@ -19,7 +21,7 @@ loop-id-smaller c =
     let bound = length c.args.g.now in
     let count : c.len.result ≡ length nodes = c.len.ensures ∙ c.loop-id.nodes.ok.0 in
     let turn : slice_get keys (length nodes) ≡ Some c.in-Some.id = ap (slice_get keys) (sym count) ∙ sym c.get_index.ensures.key ∙ sym c.copied.ensures ∙ c.in-Some.is in
-    let few = length-le_from_distinct_below keys bound c.loop-id.invariant.0.unique (member_below keys bound c.loop-id.invariant.0.below) in
+    let few = length-le_from_distinct_below keys bound c.loop-id.invariant.0.unique (λ q found. has_below bound q keys (recursion_from_All (λ id. id < bound) keys c.loop-id.invariant.0.below) found) in
     nearer bound nodes c.push.new.self.items c.in_ok-node.node c.in_ok-push.ensures.items (omega (arith, few, slice_get_within keys (length nodes) c.in-Some.id turn))
 
 pub loop-id-preserved : goal.loop-id-preserved

@@ -1,7 +1,8 @@
 use Rattle.std.proofs.Common.{Some, ap, ◌∙◌, refl, reverse}
 use Rattle.std.proofs.lemmas.List.Elements.{recursion_from_All}
+use Rattle.std.proofs.lemmas.Result.{on_ok_weaker}
 use Rattle.ct_values.proofs.FittingLemmas.{ctor_of_head, sort_of_head}
-use Rattle.ct_values.proofs.WalkLemmas.{begun-element, begun-constructor, on_ok, on_both}
+use Rattle.ct_values.proofs.WalkLemmas.{begun-element, begun-constructor, on_both}
 use Rattle.ct_values.proofs.tree_text.begin.Goals as goal
 
 pub begin_constructor-requires : goal.begin_constructor-requires
@@ -27,5 +28,5 @@ returns-in-Elem c =
     let d = c.args.sig.now in
     let items = reverse c.args.stack.now.items in
     record {
-      begun = on_ok c.write_element.result (λ is. begun-element d c.args.g.now c.args.n c.in-Elem.s c.in-Elem.number c.args.out.now.items c.write_element.new.out.items items items (c.head.ensures.value ∙ ap Some c.in-Elem.is) is refl) c.write_element.ensures.ok;
+      begun = on_ok_weaker c.write_element.result (λ is. begun-element d c.args.g.now c.args.n c.in-Elem.s c.in-Elem.number c.args.out.now.items c.write_element.new.out.items items items (c.head.ensures.value ∙ ap Some c.in-Elem.is) is refl) c.write_element.ensures.ok;
     }

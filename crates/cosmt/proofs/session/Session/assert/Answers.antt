@@ -1,5 +1,5 @@
 use Rattle.std.proofs.Common.{◌≡◌, Bool, List, [], ◌∷◌, ◌++◌, Some, slice_get, ap, sym, subst, ◌∙◌}
-use Rattle.ct_sorts.specs.Declarations.{names}
+use Rattle.ct_sorts.specs.Declarations.{function_names}
 use Rattle.ct_terms.specs.declared.ids.Lit.{Lit}
 use Rattle.cosmt.specs.declared.session.Constant.{Constant}
 use Rattle.cosmt.specs.Command.{State}
@@ -32,10 +32,10 @@ pub returns : goal.returns
 unfolding over
 returns c =
     let s = c.self.inside in
-    let named : slice_get (names s.signature) c.in-Some.f.0 ≡ Some c.args.name.now = c.in-Some.ensures.named in
+    let named : slice_get (function_names s.signature) c.in-Some.f.0 ≡ Some c.args.name.now = c.in-Some.ensures.named in
     let positive : c.literal_of-literal.result.positive ≡ c.args.positive = ap (λ (l : Lit). l.positive) c.literal_of-literal.ensures in (
       (c.in-Some.f.0, ap (λ (state : State). slice_get state.declared c.in-Some.f.0) (sym c.self.view_is) ∙ named),
-      ap (state_of (names s.signature) s.terms) c.in_ok-add.ensures.ok
+      ap (state_of (function_names s.signature) s.terms) c.in_ok-add.ensures.ok
           ∙ state-asserted s.signature s.terms s.constants.items s.literals c.literal_of-literal.result c.args.name.now c.self.invariant (over c) named
           ∙ ap (λ (state : State). record { declared = state.declared; asserted = state.asserted ++ record { name = c.args.name.now; positive = c.literal_of-literal.result.positive } ∷ [] }) c.self.view_is
           ∙ ap (λ (b : Bool). record { declared = c.args.self.now.declared; asserted = c.args.self.now.asserted ++ record { name = c.args.name.now; positive = b } ∷ [] }) positive,

@@ -1,6 +1,6 @@
 use Rattle.std.proofs.Common.{◌≡◌, ℕ, List, [], ◌∷◌, ◌++◌, length, ap, sym, subst, ◌∙◌, arith}
 use Rattle.ct_sorts.specs.declared.ids.FunId.{FunId}
-use Rattle.ct_sorts.specs.Declarations.{Declarations, Function, names, with_function, bool_sort}
+use Rattle.ct_sorts.specs.Declarations.{Declarations, Function, function_names, with_function, bool_sort}
 use Rattle.ct_terms.specs.Table.{AreSorted}
 use Rattle.cosmt.specs.Command.{State, MayDeclare}
 use Rattle.cosmt.specs.Constants.{AreTermsOf}
@@ -15,7 +15,7 @@ declared_function name = record { name = name; args = []; result = bool_sort }
 
 -- the constant was added
 pub record IsAdded (old new : Declarations) (name : List ℕ) (f : FunId) : Type 0 where
-  pub may : MayDeclare (names old) name
+  pub may : MayDeclare (function_names old) name
   pub number : f.0 ≡ length old.functions
   pub grown : new ≡ with_function old (record { name = name; args = []; result = bool_sort })
 
@@ -65,7 +65,7 @@ returns c =
     let is = added (goal.at.returns c).In-Some in
     let sorted = subst (λ (d : Declarations). AreSorted d c.terms_of.new.terms) is.grown c.in_ok-constant.ensures.sorted in (
       subst (λ (state : State). MayDeclare state.declared c.args.name.now) c.self.view_is is.may,
-      ap (λ (d : Declarations). state_of (names d) c.terms_of.new.terms s.literals) is.grown
+      ap (λ (d : Declarations). state_of (function_names d) c.terms_of.new.terms s.literals) is.grown
           ∙ state-declared s.signature s.terms c.terms_of.new.terms s.constants.items s.literals f c.self.invariant c.in_ok-constant.ensures.grown sorted
           ∙ ap (λ (state : State). record { declared = state.declared ++ c.args.name.now ∷ []; asserted = state.asserted }) c.self.view_is,
     )

@@ -9,7 +9,8 @@ use Rattle.ct_sexpr.specs.declared.error.ReadError.{ReadError}
 use Rattle.ct_sexpr.specs.declared.error.ReadError.TheVariants.{NoMemory}
 use Rattle.ct_sexpr.proofs.Buffers.{buffered-give, fresh_again, reached_now, scanned_failed, scanned_all, scanned_wrong, scanned_command}
 use Rattle.ct_sexpr.proofs.Decided.{standing_is_error}
-use Rattle.ct_sexpr.proofs.Given.{line_fits, gives, refuses}
+use Rattle.ct_sexpr.proofs.Given.{unread, line_fits, gives, refuses}
+use Rattle.ct_sexpr.proofs.WholeTexts.{given_is_first, refused_is_last, reads_on}
 use Rattle.ct_sexpr.proofs.reader.Reader.next.Goals as goal
 use Rattle.ct_sexpr.proofs.reader.Reader.next.Goals.{After-scan_bytes-count}
 
@@ -111,24 +112,30 @@ pub returns-in-Going : goal.returns-in-Going
 returns-in-Going c =
     let i = c.self.inside in
     let r = (all (goal.at.returns-in-Going c).After-scan_bytes-count (c.in_ok-outcome.was ∙ ap Ok c.in-Going.is)).1 in
-    record { answers = rw (← c.self.view_is) (c.next_at_end.ensures.answers (drop i.start i.buffer.items) i.fed r) }
+    let before = unread (drop i.start i.buffer.items) i.lines i.fed i.ended in
+    let answers = c.next_at_end.ensures.answers (drop i.start i.buffer.items) i.fed r in
+    record {
+      answers = rw (← c.self.view_is) answers;
+      reads = rw (← c.self.view_is) (reads_on before before c.next_at_end.result answers);
+    }
 
 pub returns-in-Wrong : goal.returns-in-Wrong
 returns-in-Wrong c =
     let i = c.self.inside in
     let r = (wrong (goal.at.returns-in-Wrong c).After-scan_bytes-count c.in-Wrong.code (c.in_ok-outcome.was ∙ ap Ok c.in-Wrong.is)).1 in
+    let before = unread (drop i.start i.buffer.items) i.lines i.fed i.ended in
+    let answers = refuses c.scan_bytes-count.new.scanner c.in-Wrong.code (drop i.start i.buffer.items) _ i.lines i.fed i.ended r in
     record {
-      answers =
-          rw (c.lexical.ensures.error, c.lines_read.ensures.lines, ← c.self.view_is)
-          (refuses c.scan_bytes-count.new.scanner c.in-Wrong.code (drop i.start i.buffer.items) _ i.lines i.fed i.ended r);
+      answers = rw (c.lexical.ensures.error, c.lines_read.ensures.lines, ← c.self.view_is) answers;
+      reads = rw (c.lexical.ensures.error, c.lines_read.ensures.lines, ← c.self.view_is) (refused_is_last before before c.in-Wrong.code _ answers);
     }
 
 pub returns-in-Command : goal.returns-in-Command
 returns-in-Command c =
     let i = c.self.inside in
     let done = command (goal.at.returns-in-Command c).After-scan_bytes-count c.in-Command.expr (c.in_ok-outcome.was ∙ ap Ok c.in-Command.is) in
+    let answers = gives c.scan_bytes-count.new.scanner (expression_of c.in-Command.expr) (drop i.start i.buffer.items) (drop (i.scanned + c.scan_bytes-count.result.count) i.buffer.items) i.lines i.fed i.ended done in
     record {
-      answers =
-          rw (← c.self.view_is, c.begun.ensures.lines, c.take_line_feeds.ensures.count)
-          (gives c.scan_bytes-count.new.scanner (expression_of c.in-Command.expr) (drop i.start i.buffer.items) (drop (i.scanned + c.scan_bytes-count.result.count) i.buffer.items) i.lines i.fed i.ended done);
+      answers = rw (← c.self.view_is, c.begun.ensures.lines, c.take_line_feeds.ensures.count) answers;
+      reads = rw (← c.self.view_is, c.begun.ensures.lines, c.take_line_feeds.ensures.count) (given_is_first _ _ _ _ answers);
     }

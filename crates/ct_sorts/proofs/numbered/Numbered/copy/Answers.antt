@@ -1,8 +1,7 @@
-use Rattle.std.proofs.Common.{◌≡◌, ℕ, List, [], ◌∷◌, ◌++◌, take, Some, option_map, slice_get, sym, ◌∙◌, ap, subst}
+use Rattle.std.proofs.Common.{◌≡◌, [], ◌∷◌, ◌++◌, take, Some, option_map, slice_get, sym, ◌∙◌, ap, subst}
 use Rattle.ct_sorts.specs.Names.{IsListed}
 use Rattle.ct_sorts.specs.Lookup.{names_of}
 use Rattle.ct_sorts.proofs.NumberedLemmas.{take_pair, fresh_before}
-use Rattle.ct_sorts.proofs.numbered.Numbered.copy.Given as given
 use Rattle.ct_sorts.proofs.numbered.Numbered.copy.Goals as goal
 
 pub push-requires : goal.push-requires

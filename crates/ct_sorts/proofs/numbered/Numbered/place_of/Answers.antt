@@ -1,4 +1,4 @@
-use Rattle.std.proofs.Common.{◌≡◌, List, ℕ, Some, Option, MatchOption, slice_get, sym, ◌∙◌, ap, subst}
+use Rattle.std.proofs.Common.{◌≡◌, ℕ, Some, Option, MatchOption, slice_get, sym, ◌∙◌, ap, subst}
 use Rattle.ct_sorts.specs.Names.{IsListed}
 use Rattle.ct_sorts.specs.Lookup.{names_of, place_of}
 use Rattle.ct_sorts.proofs.NumberedLemmas.{place_of-pairs, place_of-cases}

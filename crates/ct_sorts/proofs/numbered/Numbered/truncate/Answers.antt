@@ -1,4 +1,4 @@
-use Rattle.std.proofs.Common.{◌≡◌, map, take, sym, ◌∙◌, ap, subst}
+use Rattle.std.proofs.Common.{map, take, sym, ◌∙◌, ap, subst}
 use Rattle.std.proofs.lemmas.List.{take-map}
 use Rattle.ct_sorts.specs.Lookup.{AreDistinct}
 use Rattle.ct_sorts.proofs.NumberedLemmas.{pair_of, pairs_of, AreDistinct-take}

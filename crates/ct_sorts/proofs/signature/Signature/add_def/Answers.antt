@@ -1,19 +1,19 @@
-use Rattle.std.proofs.Common.{◌≡◌, ℕ, ◌<◌, List, [], ◌∷◌, ◌++◌, length, map, refl, sym, ◌∙◌, ap, subst, inl, arith}
+use Rattle.std.proofs.Common.{◌≡◌, ℕ, List, [], ◌∷◌, ◌++◌, length, map, refl, sym, ◌∙◌, ap, subst, inl, arith}
 use Rattle.std.proofs.lemmas.Bool.{true≢false}
 use Rattle.std.proofs.lemmas.List.{length-map, map-append}
 use Rattle.ct_sorts.specs.declared.ids.SortId.{SortId}
 use Rattle.ct_sorts.specs.Names.{IsListed, IsUnavailable}
-use Rattle.ct_sorts.specs.Declarations.{Declarations, Function, ctor_names, sel_names, names, definition_names, symbol_names, with_definition}
+use Rattle.ct_sorts.specs.Declarations.{Declarations, Function, ctor_names, sel_names, function_names, definition_names, symbol_names, with_definition}
 use Rattle.ct_sorts.specs.Consistent.{IsConsistent}
 use Rattle.ct_sorts.specs.Kept.{declared, sort_of, ctor_of, sel_of, function_of}
 use Rattle.ct_sorts.proofs.KeptLemmas.{names_at}
-use Rattle.ct_sorts.proofs.LookupLemmas.{IsListed-left, IsListed-right}
+use Rattle.ct_sorts.proofs.LookupLemmas.{IsListed-right}
 use Rattle.ct_sorts.proofs.ConsistentLemmas.{IsConsistent-with_definition}
 use Rattle.ct_sorts.proofs.signature.Signature.add_def.Goals as goal
 
 -- a name among these is a symbol
 symbol : (d : Declarations) (name : List ℕ) → IsListed (definition_names d) name → IsListed (symbol_names d) name
-symbol d name h = IsListed-right (ctor_names d) _ name (IsListed-right (sel_names d) _ name (IsListed-right (names d) (definition_names d) name h))
+symbol d name h = IsListed-right (ctor_names d) _ name (IsListed-right (sel_names d) _ name (IsListed-right (function_names d) (definition_names d) name h))
 
 pub push-requires : goal.push-requires
 push-requires c =

@@ -1,9 +1,9 @@
-use Rattle.std.proofs.Common.{◌≡◌, ℕ, ◌<◌, List, [], ◌∷◌, ◌++◌, length, map, refl, sym, ◌∙◌, ap, subst, inl, arith}
+use Rattle.std.proofs.Common.{◌≡◌, ℕ, List, [], ◌∷◌, ◌++◌, length, map, refl, sym, ◌∙◌, ap, subst, inl, arith}
 use Rattle.std.proofs.lemmas.Bool.{true≢false}
 use Rattle.std.proofs.lemmas.List.{length-map, map-append}
 use Rattle.ct_sorts.specs.declared.ids.SortId.{SortId}
 use Rattle.ct_sorts.specs.Names.{IsListed, IsUnavailable}
-use Rattle.ct_sorts.specs.Declarations.{Declarations, Function, ctor_names, sel_names, names, definition_names, symbol_names, with_function}
+use Rattle.ct_sorts.specs.Declarations.{Declarations, Function, ctor_names, sel_names, function_names, symbol_names, with_function}
 use Rattle.ct_sorts.specs.Consistent.{IsConsistent}
 use Rattle.ct_sorts.specs.Kept.{declared, sort_of, ctor_of, sel_of, function_of}
 use Rattle.ct_sorts.proofs.KeptLemmas.{names_at}
@@ -12,13 +12,13 @@ use Rattle.ct_sorts.proofs.ConsistentLemmas.{IsConsistent-with_function}
 use Rattle.ct_sorts.proofs.signature.Signature.add_fun.Goals as goal
 
 -- a name among these is a symbol
-symbol : (d : Declarations) (name : List ℕ) → IsListed (names d) name → IsListed (symbol_names d) name
-symbol d name h = IsListed-right (ctor_names d) _ name (IsListed-right (sel_names d) _ name (IsListed-left (names d) _ name h))
+symbol : (d : Declarations) (name : List ℕ) → IsListed (function_names d) name → IsListed (symbol_names d) name
+symbol d name h = IsListed-right (ctor_names d) _ name (IsListed-right (sel_names d) _ name (IsListed-left (function_names d) _ name h))
 
 pub push-requires : goal.push-requires
 push-requires c =
-    let fresh : IsListed (names c.args.self.now) c.args.name → ⊥ = λ h. true≢false (sym (c.if-is_unavailable.ensures.unavailable.1 (inl (symbol c.args.self.now c.args.name h)))) in
-    record { fresh = subst (λ xs. IsListed xs c.args.name → ⊥) (names_at function_of (λ (f : Function). f.name) c.self.inside.functions (λ _. refl)) (subst (λ d. IsListed (names d) c.args.name → ⊥) (sym c.self.view_is) fresh) }
+    let fresh : IsListed (function_names c.args.self.now) c.args.name → ⊥ = λ h. true≢false (sym (c.if-is_unavailable.ensures.unavailable.1 (inl (symbol c.args.self.now c.args.name h)))) in
+    record { fresh = subst (λ xs. IsListed xs c.args.name → ⊥) (names_at function_of (λ (f : Function). f.name) c.self.inside.functions (λ _. refl)) (subst (λ d. IsListed (function_names d) c.args.name → ⊥) (sym c.self.view_is) fresh) }
 
 -- the name may be declared
 available : (c : goal.In_ok-push) → IsUnavailable (symbol_names c.args.self.now) c.args.name → ⊥

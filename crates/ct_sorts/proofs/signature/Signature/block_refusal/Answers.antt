@@ -1,10 +1,10 @@
-use Rattle.std.proofs.Common.{◌≡◌, List, ℕ, ◌+◌, ◌<◌, length, map, Bool, true, false, MatchBool, refl, sym, ◌∙◌, ap, subst, inl, inr}
-use Rattle.std.proofs.lemmas.Bool.{true≢false, false≢true}
+use Rattle.std.proofs.Common.{◌≡◌, List, ℕ, ◌+◌, ◌<◌, length, map, Bool, false, MatchBool, refl, sym, ◌∙◌, ap, subst, inl, inr}
+use Rattle.std.proofs.lemmas.Bool.{false≢true}
 use Rattle.ct_sorts.specs.Declarations.{Declarations, Sort, sort_names}
 use Rattle.ct_sorts.specs.Lookup.{names_of}
 use Rattle.ct_sorts.specs.declared.block.SortDecl.{SortDecl}
 use Rattle.ct_sorts.specs.declared.entries.SortEntry.{SortEntry}
-use Rattle.ct_sorts.specs.Kept.{sort_of, declared}
+use Rattle.ct_sorts.specs.Kept.{sort_of}
 use Rattle.ct_sorts.specs.Founded.{IsFounded}
 use Rattle.ct_sorts.specs.Block.{HasUnfounded, IsOverLimits, block_names, has_no_constructor, has_unknown_sort, with_block}
 use Rattle.ct_sorts.proofs.KeptLemmas.{names_at}

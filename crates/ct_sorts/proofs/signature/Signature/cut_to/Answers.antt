@@ -2,8 +2,7 @@ use Rattle.std.proofs.Common.{◌≡◌, ◌≤◌, List, ℕ, map, take, sym, �
 use Rattle.std.proofs.lemmas.List.{take-map}
 use Rattle.ct_sorts.specs.Consistent.{IsConsistent}
 use Rattle.ct_sorts.specs.Kept.{declared, sort_of, ctor_of, sel_of, function_of}
-use Rattle.ct_sorts.specs.Inside.{declarations}
-use Rattle.ct_sorts.specs.Marks.{CanCut, cut}
+use Rattle.ct_sorts.specs.Marks.{cut}
 use Rattle.ct_sorts.proofs.ConsistentLemmas.{IsConsistent-cut}
 use Rattle.ct_sorts.proofs.signature.Signature.cut_to.Goals as goal
 

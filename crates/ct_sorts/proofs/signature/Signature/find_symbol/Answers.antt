@@ -1,6 +1,6 @@
 use Rattle.std.proofs.Common.{◌≡◌, Some, slice_get, refl, sym, ◌∙◌, ap, subst}
 use Rattle.ct_sorts.specs.Names.{IsListed}
-use Rattle.ct_sorts.specs.Declarations.{Constructor, Selector, Function, ctor_names, sel_names, names, definition_names}
+use Rattle.ct_sorts.specs.Declarations.{Constructor, Selector, Function, ctor_names, sel_names, function_names, definition_names}
 use Rattle.ct_sorts.specs.Kept.{ctor_of, sel_of, function_of}
 use Rattle.ct_sorts.proofs.KeptLemmas.{names_at}
 use Rattle.ct_sorts.proofs.LookupLemmas.{no_symbol}
@@ -16,7 +16,7 @@ returns-in-Some-place_of c =
 
 pub returns-in-Some-place_of-2 : goal.returns-in-Some-place_of-2
 returns-in-Some-place_of-2 c =
-    record { value = subst (λ d. slice_get (names d) c.in-Some-place_of-2.place ≡ Some c.args.name.now) c.self.view_is (ap (λ xs. slice_get xs c.in-Some-place_of-2.place) (names_at function_of (λ (t : Function). t.name) c.self.inside.functions (λ _. refl)) ∙ c.in-Some-place_of-2.ensures.listed) }
+    record { value = subst (λ d. slice_get (function_names d) c.in-Some-place_of-2.place ≡ Some c.args.name.now) c.self.view_is (ap (λ xs. slice_get xs c.in-Some-place_of-2.place) (names_at function_of (λ (t : Function). t.name) c.self.inside.functions (λ _. refl)) ∙ c.in-Some-place_of-2.ensures.listed) }
 
 pub returns-in-Some-place_of-3 : goal.returns-in-Some-place_of-3
 returns-in-Some-place_of-3 c =
@@ -28,6 +28,6 @@ returns c =
       value = no_symbol c.args.self.now c.args.name.now
           (subst (λ d. IsListed (ctor_names d) c.args.name.now → ⊥) c.self.view_is (subst (λ xs. IsListed xs c.args.name.now → ⊥) (sym (names_at ctor_of (λ (t : Constructor). t.name) c.self.inside.ctors (λ _. refl))) c.in_default.ensures.listed))
           (subst (λ d. IsListed (sel_names d) c.args.name.now → ⊥) c.self.view_is (subst (λ xs. IsListed xs c.args.name.now → ⊥) (sym (names_at sel_of (λ (t : Selector). t.name) c.self.inside.sels (λ _. refl))) c.in_default-place_of.ensures.listed))
-          (subst (λ d. IsListed (names d) c.args.name.now → ⊥) c.self.view_is (subst (λ xs. IsListed xs c.args.name.now → ⊥) (sym (names_at function_of (λ (t : Function). t.name) c.self.inside.functions (λ _. refl))) c.in_default-place_of-2.ensures.listed))
+          (subst (λ d. IsListed (function_names d) c.args.name.now → ⊥) c.self.view_is (subst (λ xs. IsListed xs c.args.name.now → ⊥) (sym (names_at function_of (λ (t : Function). t.name) c.self.inside.functions (λ _. refl))) c.in_default-place_of-2.ensures.listed))
           (subst (λ d. IsListed (definition_names d) c.args.name.now → ⊥) c.self.view_is (subst (λ xs. IsListed xs c.args.name.now → ⊥) (sym (names_at function_of (λ (t : Function). t.name) c.self.inside.definitions (λ _. refl))) c.in_default-place_of-3.ensures.listed));
     }

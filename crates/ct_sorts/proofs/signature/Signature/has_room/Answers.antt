@@ -1,10 +1,10 @@
-use Rattle.std.proofs.Common.{◌≡◌, ℕ, ◌+◌, ◌<◌, ◌≤◌, Bool, true, false, length, IsTrue, MatchBool, ◌↔◌, refl, sym, ◌∙◌, ap, inl, inr, ⊎_elim, arith}
+use Rattle.std.proofs.Common.{◌≡◌, Bool, true, false, length, MatchBool, refl, sym, ◌∙◌, ap, inl, inr, ⊎_elim, arith}
+use Rattle.std.proofs.Math.Nat.{lt_of_not-le}
 use Rattle.std.proofs.lemmas.Bool.{true≢false, false≢true}
 use Rattle.std.proofs.lemmas.List.{length-map}
 use Rattle.ct_sorts.specs.Declarations.{Declarations}
 use Rattle.ct_sorts.specs.Kept.{sort_of, ctor_of, sel_of}
-use Rattle.ct_sorts.specs.Block.{IsOverLimits, with_block}
-use Rattle.ct_sorts.proofs.AppendLemmas.{lengths_with, above}
+use Rattle.ct_sorts.proofs.AppendLemmas.{lengths_with}
 use Rattle.ct_sorts.proofs.signature.Signature.has_room.Goals as goal
 
 -- either case
@@ -20,7 +20,7 @@ returns-then-block-len c =
 pub returns-then-not-fits_ctors : goal.returns-then-not-fits_ctors
 returns-then-not-fits_ctors c =
     let here = c.len-2.ensures.len ∙ sym (length-map c.self.inside.ctors ctor_of) ∙ ap (λ (d : Declarations). length d.ctors) c.self.view_is in
-    let over = above _ _ (λ l. true≢false (sym (c.fits_ctors.ensures.fits.1 l) ∙ c.if-not-fits_ctors.true)) in
+    let over = lt_of_not-le (λ l. true≢false (sym (c.fits_ctors.ensures.fits.1 l) ∙ c.if-not-fits_ctors.true)) in
     record { room = λ kind. inr (inl (omega (arith, (lengths_with c.args.self.now kind c.args.block.now).1, here, over, c.self.invariant.few.ctors, length-map c.self.inside.ctors ctor_of))) }
 
 pub returns : goal.returns
@@ -34,5 +34,5 @@ returns c =
           let all = lengths_with c.args.self.now kind c.args.block.now in
           pick c.fits_sels.result
           (λ e over. ⊎_elim (λ h. omega (arith, all.0, sorts, c.if-block-len.false, h, c.self.invariant.few.sorts, length-map c.self.inside.sorts sort_of)) (λ rest. ⊎_elim (λ h. omega (arith, all.1, ctors, fit, h, c.self.invariant.few.ctors, length-map c.self.inside.ctors ctor_of)) (λ h. omega (arith, all.2, sels, c.fits_sels.ensures.fits.0 e, h, c.self.invariant.few.sels, length-map c.self.inside.sels sel_of)) rest) over)
-          (λ e. inr (inr (omega (arith, all.2, sels, above _ _ (λ l. false≢true (sym e ∙ c.fits_sels.ensures.fits.1 l)), c.self.invariant.few.sels, length-map c.self.inside.sels sel_of))));
+          (λ e. inr (inr (omega (arith, all.2, sels, lt_of_not-le (λ l. false≢true (sym e ∙ c.fits_sels.ensures.fits.1 l)), c.self.invariant.few.sels, length-map c.self.inside.sels sel_of))));
     }

@@ -1,7 +1,6 @@
-use Rattle.std.proofs.Common.{◌≡◌, List, ℕ, Bool, true, false, MatchBool, refl, sym, ap, subst}
+use Rattle.std.proofs.Common.{Bool, true, false, MatchBool, sym, subst}
 use Rattle.std.proofs.lemmas.Result.{IfOk-weaker}
 use Rattle.ct_sorts.specs.Consistent.{IsConsistent}
-use Rattle.ct_sorts.specs.Lookup.{names_of}
 use Rattle.ct_sorts.specs.Marked.{IsFoundedInBlock}
 use Rattle.ct_sorts.proofs.FoundedBlock.{IsFounded-in_block, IsFoundedInBlock-whole, IsFounded-other}
 use Rattle.ct_sorts.proofs.signature.Signature.is_founded.Goals as goal

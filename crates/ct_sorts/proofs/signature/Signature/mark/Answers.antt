@@ -1,4 +1,4 @@
-use Rattle.std.proofs.Common.{◌≡◌, length, sym, ◌∙◌, ap, subst, refl, arith}
+use Rattle.std.proofs.Common.{sym, ◌∙◌, ap, subst, refl, arith}
 use Rattle.std.proofs.lemmas.List.{length-map}
 use Rattle.ct_sorts.specs.Declarations.{start}
 use Rattle.ct_sorts.specs.Kept.{sort_of, ctor_of, sel_of, function_of}

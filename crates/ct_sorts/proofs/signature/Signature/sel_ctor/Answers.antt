@@ -1,4 +1,4 @@
-use Rattle.std.proofs.Common.{◌≡◌, Some, map, option_map, slice_get, refl, sym, subst}
+use Rattle.std.proofs.Common.{◌≡◌, Some, option_map, slice_get, refl, subst}
 use Rattle.ct_sorts.specs.Declarations.{Selector}
 use Rattle.ct_sorts.specs.Consistent.{IsConsistent}
 use Rattle.ct_sorts.specs.Kept.{sel_of}

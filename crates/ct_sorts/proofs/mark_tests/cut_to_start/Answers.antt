@@ -6,7 +6,7 @@ use Rattle.ct_sorts.specs.Lengths.{Lengths}
 use Rattle.ct_sorts.specs.Consistent.{IsConsistent}
 use Rattle.ct_sorts.specs.Marks.{CanCut, lengths}
 use Rattle.ct_sorts.proofs.ConsistentLemmas.{begins}
-use Rattle.ct_sorts.proofs.tests.cut_to_start.Goals as goal
+use Rattle.ct_sorts.proofs.mark_tests.cut_to_start.Goals as goal
 
 -- everything can be cut to the start
 can_cut : (d : Declarations) → IsConsistent d → CanCut d (lengths start)

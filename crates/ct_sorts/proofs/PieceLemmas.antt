@@ -1,5 +1,5 @@
 -- What a loop keeps that puts pieces behind a list, one item after another.
-use Rattle.std.proofs.Common.{◌≡◌, ℕ, ◌+◌, ◌<◌, ◌≤◌, List, [], ◌∷◌, ◌++◌, length, map, take, drop, get_or, refl, sym, ◌∙◌, ap, subst, arith}
+use Rattle.std.proofs.Common.{◌≡◌, ℕ, ◌+◌, ◌<◌, ◌≤◌, List, [], ◌∷◌, ◌++◌, length, map, drop, get_or, sym, ◌∙◌, ap, subst}
 use Rattle.std.proofs.lemmas.List.{append_assoc, append-nil, map-append, drop_more, drop_all}
 use Rattle.ct_sorts.specs.Names.{IsListed}
 use Rattle.ct_sorts.specs.Lookup.{AreDistinct, names_of}
@@ -7,6 +7,7 @@ use Rattle.ct_sorts.specs.Grown.{Begins}
 use Rattle.ct_sorts.proofs.Counts.{AreDistinct-middle, fresh-next}
 use Rattle.ct_sorts.proofs.KeptLemmas.{names_at}
 
+-- each list begins with itself, and beginnings of longer lists are beginnings still
 pub Begins-self : {X : Type 0} (xs : List X) → Begins xs xs
 Begins-self xs = ([], sym (append-nil xs))
 

@@ -1,6 +1,0 @@
-use Rattle.std.proofs.Common.{All, take}
-use Rattle.ct_values.specs.Graph.{HasChildrenBelow}
-use Rattle.ct_eval.proofs.tests.have_children_below.Given as goal
-
-abbrev pub invariant-loop-node : goal.invariant-loop-node
-invariant-loop-node l = All (HasChildrenBelow l.bound) (take l.node-index l.nodes)
