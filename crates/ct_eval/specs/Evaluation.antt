@@ -1,4 +1,4 @@
--- What a term means in an interpretation (SMT-LIB 2.7, section 5.3), by recursion on the term.
+-- What a term means in an interpretation (SMT-LIB 2.7, section 5.3), by recursion on its number: arguments have smaller ones.
 use Rattle.std.specs.Prelude.{ℕ, zero, suc, Bool, true, false, not, ◌==◌, List, [], ◌∷◌, map, Option, Some, None, slice_get, unwrap_or, if◌then◌else◌}
 use Rattle.std.specs.List.{list_all, list_any}
 use Rattle.ct_sorts.specs.declared.ids.CtorId.{CtorId}

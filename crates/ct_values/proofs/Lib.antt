@@ -6,11 +6,15 @@ pub mod NodeLemmas
 pub mod RenumberLemmas
 pub mod RefineLemmas
 pub mod RoundLemmas
+pub mod ShapeLemmas
 pub mod FiniteLemmas
 pub mod CountLemmas
 pub mod NumberedLemmas
 pub mod SmallestLemmas
-pub mod MergeLemmas
+pub mod PackedLemmas
+pub mod PostorderLemmas
+pub mod NamedLemmas
+pub mod QuotientLemmas
 pub mod FirstLemmas
 pub mod SharedLemmas
 pub mod FitTestLemmas

@@ -9,7 +9,7 @@ use Rattle.ct_values.specs.declared.node.NodeId.{NodeId}
 use Rattle.ct_values.specs.declared.node.Node.{Node}
 use Rattle.ct_values.specs.Graph.{Nodes, IsClosed, node_children}
 use Rattle.ct_values.specs.Agreement.{Point, node_point, agree, AgreeAlways}
-use Rattle.ct_values.specs.Partition.{class_at, node_key, key_of, Alike, KeepsTogether, IsPartition, IsRefined}
+use Rattle.ct_values.specs.Partition.{class_at, node_key, key_of, Alike, KeepsTogether, IsPartition, IsRefined, IsStable}
 use Rattle.ct_values.proofs.AgreeLemmas.{agree-zero}
 use Rattle.ct_values.proofs.GraphLemmas.{closed_children}
 use Rattle.ct_values.proofs.NodeLemmas.{id, node_points, agree-nodes, AgreeAlways-nodes}
@@ -79,6 +79,12 @@ AgreeAlways-stable g classes closed long refined m n m_in n_in e (suc k) =
     agree-nodes k g g m n x.0 y.0 x.1 y.1
     (ap (λ key. key.head) same)
     (together_agree (λ p q. IsTrue (agree k p q)) g classes (node_children x.0) (node_children y.0) (λ a b a_in b_in c. AgreeAlways-stable g classes closed long refined a b a_in b_in c k) (closed_children g m.0 x.0 closed x.1) (closed_children g n.0 y.0 closed y.1) (ap (λ key. key.children) same))
+
+-- the class of a first node is its own
+pub first_is_own : (g : Nodes) (classes : List ℕ) → length classes ≡ length g → IsStable g classes → (i : ℕ) → i < length g → class_at classes (class_at classes i) ≡ class_at classes i
+first_is_own g classes long stable i within =
+    let le : class_at classes i ≤ i = stable.early i in
+    stable.together (class_at classes i) i (omega (arith, le, long)) (omega (arith, long)) (stable.alike i (omega (arith, long)))
 
 -- ---- a round that changes something raises the sum of the classes
 

@@ -1,5 +1,5 @@
 -- Nodes with new numbers agree with the nodes that they stand for.
-use Rattle.std.proofs.Common.{◌≡◌, ℕ, zero, suc, ◌<◌, ◌⊎◌, IsTrue, List, [], ◌∷◌, ◌++◌, length, Some, slice_get, get_or, All, refl, sym, ap, subst, ◌∙◌, inl, inr, arith, true≢false, eq-or-lt_of_le, nat_eq}
+use Rattle.std.proofs.Common.{◌≡◌, ℕ, zero, suc, ◌<◌, ◌⊎◌, Bool, true, IsTrue, List, [], ◌∷◌, ◌++◌, length, Some, slice_get, get_or, All, refl, sym, ap, ap₂, subst, ◌∙◌, inl, inr, arith, true≢false, eq-or-lt_of_le, nat_eq}
 use Rattle.std.specs.List.{AllZip, IsDistinct}
 use Rattle.std.proofs.lemmas.Option.{none-some, same_Some, slice_get_within, slice_get-get_or, get_or_from_slice_get}
 use Rattle.std.proofs.lemmas.List.Elements.{All-nil, All-cons}
@@ -29,20 +29,25 @@ module _ {X : Type 0} where
   slice_get-push_cases (z ∷ zs) x y (suc i) e =
       elim (slice_get-push_cases zs x y i e) [ inl h ↦ inl h | inr h ↦ inr (ap suc h.0, h.1) ]
 
+  -- where the test holds of no two places, and of each element and itself, an element stands at one place
+  pub one_place : (eq : X → X → Bool) → ((x : X) → eq x x ≡ true) → (xs : List X) → IsDistinct eq xs → (i j : ℕ) (x : X) → slice_get xs i ≡ Some x → slice_get xs j ≡ Some x → i ≡ j
+  one_place eq own xs distinct i j x at_i at_j = elim (cases_lt i j) [
+    | inl less ↦ absurd (apart i j less at_i at_j)
+    | inr le ↦ elim (eq-or-lt_of_le le) [ inl e ↦ sym e | inr less ↦ absurd (apart j i less at_j at_i) ]
+  ]
+    where
+      apart : (a b : ℕ) → a < b → slice_get xs a ≡ Some x → slice_get xs b ≡ Some x → ⊥
+      apart a b less at_a at_b =
+          let test = apart_from_distinct eq xs a b x distinct less (slice_get_within xs b x at_b) in
+          true≢false (sym (own x) ∙ sym (ap₂ eq (get_or_from_slice_get xs a x x at_a) (get_or_from_slice_get xs b x x at_b)) ∙ test)
+
 -- different numbers stand at different places
 pub unique_places : (ids : List ℕ) → IsDistinct nat_eq ids → (i j n : ℕ) → slice_get ids i ≡ Some n → slice_get ids j ≡ Some n → i ≡ j
-unique_places ids unique i j n at_i at_j = elim (cases_lt i j) [
-  | inl less ↦ absurd (apart i j less at_i at_j)
-  | inr le ↦ elim (eq-or-lt_of_le le) [ inl e ↦ sym e | inr less ↦ absurd (apart j i less at_j at_i) ]
-]
-  where
-    apart : (a b : ℕ) → a < b → slice_get ids a ≡ Some n → slice_get ids b ≡ Some n → ⊥
-    apart a b less at_a at_b =
-        let test = apart_from_distinct nat_eq ids a b 0 unique less (slice_get_within ids b n at_b) in
-        true≢false (sym ((Decides-eqb (get_or ids a 0) (get_or ids b 0)).1 (get_or_from_slice_get ids a n 0 at_a ∙ sym (get_or_from_slice_get ids b n 0 at_b))) ∙ test)
+unique_places = one_place nat_eq (λ n. (Decides-eqb n n).1 refl)
 
-pub Stay-trans : (a b c : List ℕ) → Stay a b → Stay b c → Stay a c
-Stay-trans a b c first second i n e = second i n (first i n e)
+-- what stays twice stays
+pub Stay-trans : {X : Type 0} (a b c : List X) → Stay a b → Stay b c → Stay a c
+Stay-trans a b c first second i x e = second i x (first i x e)
 
 -- new numbers keep standing for the old ones
 pub StandFor-stay : (old new : List ℕ) (ps ns : List NodeId) → Stay old new → StandFor old ps ns → StandFor new ps ns

@@ -19,10 +19,9 @@ use Rattle.ct_values.specs.Sharing.{IsFirst, AreClasses, IsKeyed, IsShared}
 use Rattle.ct_values.proofs.AgreeLemmas.{AgreeAlways-parts, AgreeAlways-refl, AgreeAlways-sym, AgreeAlways-trans, AgreeAlways-meet}
 use Rattle.ct_values.proofs.GraphLemmas.{closed_children, slice_get-append_left}
 use Rattle.ct_values.proofs.NodeLemmas.{id, node_points, head_at, children_at}
-use Rattle.ct_values.proofs.RefineLemmas.{classes_together, together_agree, AgreeAlways-stable}
+use Rattle.ct_values.proofs.RefineLemmas.{classes_together, together_agree, AgreeAlways-stable, first_is_own}
 use Rattle.ct_values.proofs.RoundLemmas.{class_at-before, class_at-last}
 use Rattle.ct_values.proofs.RenumberLemmas.{stands_within, slice_get-push_cases}
-use Rattle.ct_values.proofs.MergeLemmas.{first_is_own}
 use Rattle.ct_values.proofs.FirstLemmas.{AgreeAlways-grown, IsFirst-same, IsFirst-grown, one_first}
 
 -- all children are nodes of the graph
@@ -94,14 +93,6 @@ AreClasses-stable g classes closed together stable = record {
             let early : class_at classes m.0 ≤ m.0 = stable.early m.0 in
             omega arith;
       };
-}
-
--- those of no nodes
-pub AreClasses-none : (g : Nodes) (classes : List ℕ) → IsClosed g → length classes ≡ length g → length g ≡ 0 → AreClasses g classes
-AreClasses-none g classes closed long none = record {
-  closed = closed;
-  long = long;
-  named = λ n within. absurd (omega arith);
 }
 
 module _ (g : Nodes) (classes : List ℕ) (are : AreClasses g classes) where

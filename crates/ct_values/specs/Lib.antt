@@ -1,4 +1,5 @@
 pub mod Graph
+pub mod Packed
 pub mod Value
 pub mod Agreement
 pub mod Smallest
@@ -8,7 +9,9 @@ pub mod NodeIdTest
 pub mod Partition
 pub mod KeyTest
 pub mod Renumbering
-pub mod Merged
+pub mod Quotient
+pub mod Shape
+pub mod Postorder
 pub mod Settled
 pub mod Fitting
 pub mod Numeral

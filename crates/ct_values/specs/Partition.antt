@@ -1,5 +1,7 @@
--- Partitions of the nodes of a graph, which give each node the number of the first node of its class.
-use Rattle.std.specs.Prelude.{◌≡◌, ℕ, ◌<◌, ◌≤◌, List, length, map, Option, option_map, slice_get, slice_index}
+-- Partitions of the nodes of a graph: a number for each node, which is that of its class. Most are named for the first nodes of
+-- their classes.
+use Rattle.std.specs.Prelude.{◌≡◌, ℕ, ◌<◌, ◌≤◌, List, length, map, Option, Some, option_map, slice_get, slice_index}
+use Rattle.std.specs.List.{AllByRecursion}
 use Rattle.ct_values.specs.declared.node.Node.{Node}
 use Rattle.ct_values.specs.declared.key.Key.{Key}
 use Rattle.ct_values.specs.Graph.{Nodes, node_head, node_children}
@@ -45,3 +47,19 @@ pub record IsRefined (g : Nodes) (old new : List ℕ) : Type 0 where
 -- a round changes nothing
 abbrev pub IsStable : Nodes → List ℕ → Type 0
 IsStable g classes = IsRefined g classes classes
+
+-- the same partition, in which each class has the number of its first node
+pub record AreNamed (classes names : List ℕ) : Type 0 where
+  pub long : length names ≡ length classes
+  pub early : (i : ℕ) → class_at names i ≤ i
+  pub alike : (i : ℕ) → i < length classes → class_at classes (class_at names i) ≡ class_at classes i
+  pub together : (i j : ℕ) → i < length classes → j < length classes → class_at classes i ≡ class_at classes j → class_at names i ≡ class_at names j
+
+-- a node is settled where its class in the first list is not 0; the children of settled nodes are settled, and in the second
+-- list each settled node is in the class of a settled node that is no later and has the same key, and no other node is in such a class
+pub record IsSteady (g : Nodes) (settled classes : List ℕ) : Type 0 where
+  pub early : (i : ℕ) → class_at classes i ≤ i
+  pub parts : (i : ℕ) (node : Node) → slice_get g i ≡ Some node → 0 < class_at settled i → AllByRecursion (λ child. 0 < class_at settled child.0) (node_children node)
+  pub keys : (i : ℕ) → i < length g → 0 < class_at settled i → key_of g classes (class_at classes i) ≡ key_of g classes i
+  pub apart : (i : ℕ) → i < length g → class_at settled i ≡ 0 → class_at settled (class_at classes i) ≡ 0
+  pub kept : (i : ℕ) → i < length g → 0 < class_at settled i → 0 < class_at settled (class_at classes i)

@@ -12,8 +12,8 @@ pub record IsNumbering {S : Type 0} (bound : ℕ) (ids : IndexSet ℕ S) : Type 
   pub below : All (λ id. id < bound) ids.keys
 
 -- what stands at a place stays there
-abbrev pub Stay : List ℕ → List ℕ → Type 0
-Stay old new = (i n : ℕ) → slice_get old i ≡ Some n → slice_get new i ≡ Some n
+abbrev pub Stay : {X : Type 0} → List X → List X → Type 0
+Stay {X} old new = (i : ℕ) (x : X) → slice_get old i ≡ Some x → slice_get new i ≡ Some x
 
 -- the new numbers stand for the old ones, one for one
 abbrev pub StandFor : List ℕ → List NodeId → List NodeId → Type 0

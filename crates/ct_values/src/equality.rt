@@ -1,21 +1,17 @@
 //! Whether two nodes of a graph are the same value: whether they agree at every depth.
 //!
 //! The part of the graph that the two nodes reach is copied. Passes over it, up and down, give its finite trees
-//! their classes from the leaves upward (`finite.rt`). The partition that this gives is refined by rounds
-//! (`rounds.rt`), until two rounds agree or the two nodes fall apart. Where no cycle is reached two rounds are
-//! enough, and else there are at most as many as there are nodes that reach one, and two. Nothing outside the
-//! part is looked at, and nothing recurses.
-//!
-//! The rounds may begin with any partition that keeps nodes together which agree at every depth.
+//! their classes from the leaves upward (`finite.rt`). The others are refined by rounds (`rounds.rt`), until a
+//! round changes nothing or the two nodes fall apart. Where no cycle is reached one round is enough, and else
+//! there are at most as many as there are nodes that reach one. Nothing outside the part is looked at, and
+//! nothing recurses.
 ghost use Rattle.std.specs.Prelude.{◌≡◌, ◌↔◌, ◌<◌, length, IfOk, IsTrue};
 ghost use Rattle.ct_values.specs.Agreement.{node_point, AgreeAlways};
-ghost use Rattle.ct_values.specs.Graph.{IsClosed};
-ghost use Rattle.ct_values.specs.Partition.{KeepsTogether};
 
 use crate::error::ValueError;
-use crate::finite::finite_classes;
 use crate::graph::Graph;
 use crate::node::NodeId;
+use crate::packed::PackedGraph;
 use crate::reach::reached;
 use crate::rounds::refined;
 use std::alloc::Global;
@@ -27,24 +23,16 @@ pub fn same(alloc: Global, g: &Graph, a: NodeId, b: NodeId) -> Result<bool, Valu
     ensures value { IfOk result (λ r. IsTrue r ↔ AgreeAlways (node_point g.now a) (node_point g.now b)) }
 {
     let part = reached(alloc, g, a, b)?;
-    let classes = finite_classes(alloc, &part.graph)?;
-    decide(alloc, &part.graph, classes, part.first, part.second)
+    decide(alloc, &part.graph, part.first, part.second)
 }
 
-// Whether the two nodes are the same, by rounds that begin with this partition.
-fn decide(
-    alloc: Global,
-    graph: &Graph,
-    start: Vec<usize>,
-    a: NodeId,
-    b: NodeId,
-) -> Result<bool, ValueError>
+// Whether the two nodes are the same, by their classes.
+fn decide(alloc: Global, graph: &PackedGraph, a: NodeId, b: NodeId) -> Result<bool, ValueError>
     requires a_within { a.0 < length graph.now }
     requires b_within { b.0 < length graph.now }
-    requires closed { IsClosed graph.now }
-    requires together { KeepsTogether graph.now start.items }
     ensures value { IfOk result (λ r. IsTrue r ↔ AgreeAlways (node_point graph.now a) (node_point graph.now b)) }
 {
-    let classes = refined(alloc, graph, start, a, b)?;
+    prove!(a.0 < graph.len());
+    let classes = refined(alloc, graph, a, b)?;
     Ok(classes[a.0 as usize] == classes[b.0 as usize])
 }

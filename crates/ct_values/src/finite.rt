@@ -1,89 +1,52 @@
 //! The classes of the nodes that stand for finite trees, made from the leaves upward.
 //!
-//! A node is settled once all of its children are: its head and the classes of its children then name its
-//! class, through one map for the whole graph. What is never settled reaches a cycle, and stays in the class
-//! 0. A pass goes up from the first node to the last, since children may be numbered before their parents, and
-//! one back down, since they may be numbered behind them; each takes time near-linear in the nodes and their
-//! children. Passes are made until two settle nothing: of one order two pairs are enough, and else there is a
-//! pair at most for each time that a way down a tree turns from smaller numbers to greater ones, and two.
+//! A node is settled once all of its children are: the number of its shape, which is its head over the classes of
+//! its children, then makes its class. What is never settled reaches a cycle, and stays in the class 0. A pass
+//! goes over all nodes, in an order in which children come before their parents where no cycle stands against it, so
+//! that one pass settles all that can be settled, and a second one sees that. So the time is near-linear in the nodes
+//! and their children.
 ghost use Rattle.std.specs.Prelude.{◌≡◌, ◌<◌, ◌||◌, length, replicate, IfOk, All, MatchBool};
-ghost use Rattle.ct_values.specs.Partition.{class_at, KeepsTogether};
-ghost use Rattle.ct_values.specs.Settled.{IsSettling, IsTried, AreTried, unsettled};
+ghost use Rattle.ct_values.specs.Partition.{class_at};
+ghost use Rattle.ct_values.specs.Postorder.{HasEach};
+ghost use Rattle.ct_values.specs.Settled.{IsSettling, IsTried, AreTried, TellsTrees, unsettled};
 
 use crate::error::ValueError;
-use crate::graph::Graph;
-use crate::key::{Key, node_key};
 use crate::node::NodeId;
-use crate::refine::first_with;
-use indexmap::IndexMap;
+use crate::packed::PackedGraph;
+use crate::postorder::postorder;
+use crate::shape::{Step, shape};
+use indexmap::IndexSet;
 use std::alloc::Global;
 
-/// A partition that keeps nodes together which agree at every depth.
-pub(crate) fn finite_classes(alloc: Global, graph: &Graph) -> Result<Vec<usize>, ValueError>
-    ensures together { IfOk result (λ classes. KeepsTogether graph.now classes.items) }
+/// The classes of the finite trees, by the numbers of their shapes from 1 on, and 0 for what reaches a cycle.
+pub(crate) fn finite_classes(alloc: Global, graph: &PackedGraph) -> Result<Vec<usize>, ValueError>
+    ensures trees { IfOk result (λ classes. TellsTrees graph.now classes.items) }
 {
+    let order = postorder(alloc, graph)?;
     let mut classes = all_unsettled(alloc, graph.len() as usize)?;
-    let mut firsts = IndexMap::new(alloc);
-    'passes: while settle_all(alloc, graph, &mut classes, &mut firsts)? {}
+    let mut steps = IndexSet::new(alloc);
+    'passes: while settle_all(graph, &order, &mut classes, &mut steps)? {}
     Ok(classes)
 }
 
-// A pass from the first node to the last and one back: whether they have settled a node.
+// One pass over all nodes: whether it has settled one. Where it has not, no node can be settled.
 fn settle_all(
-    alloc: Global,
-    graph: &Graph,
+    graph: &PackedGraph,
+    order: &[NodeId],
     classes: &mut Vec<usize>,
-    firsts: &mut IndexMap<Key, usize>,
+    steps: &mut IndexSet<Step>,
 ) -> Result<bool, ValueError>
-    requires settling { IsSettling graph.now classes.old.items firsts.old }
-    ensures settling { IfOk result (λ more. IsSettling graph.now classes.new.items firsts.new) }
+    requires within { All (λ n. n.0 < length graph.now) order.now }
+    requires each { HasEach (length graph.now) order.now }
+    requires settling { IsSettling graph.now classes.old.items steps.old }
+    ensures settling { IfOk result (λ more. IsSettling graph.now classes.new.items steps.new) }
     ensures more { IfOk result (λ more. MatchBool more
         (unsettled classes.new.items < unsettled classes.old.items)
-        (AreTried graph.now classes.new.items 0)) }
-{
-    let up = settle_up(alloc, graph, classes, firsts)?;
-    let down = settle_down(alloc, graph, classes, firsts)?;
-    Ok(either(up, down))
-}
-
-// One pass from the first node to the last: whether it has settled one.
-fn settle_up(
-    alloc: Global,
-    graph: &Graph,
-    classes: &mut Vec<usize>,
-    firsts: &mut IndexMap<Key, usize>,
-) -> Result<bool, ValueError>
-    requires settling { IsSettling graph.now classes.old.items firsts.old }
-    ensures settling { IfOk result (λ more. IsSettling graph.now classes.new.items firsts.new) }
-    ensures more { IfOk result (λ more. MatchBool more
-        (unsettled classes.new.items < unsettled classes.old.items)
-        (classes.new.items ≡ classes.old.items)) }
+        (AreTried graph.now classes.new.items)) }
 {
     let mut more = false;
-    for n in 0..graph.len() {
-        let done = settle(alloc, graph, classes, firsts, NodeId(n))?;
-        more = either(more, done);
-    }
-    Ok(more)
-}
-
-// One pass from the last node to the first: whether it has settled one. Where it has not, no node can be settled.
-fn settle_down(
-    alloc: Global,
-    graph: &Graph,
-    classes: &mut Vec<usize>,
-    firsts: &mut IndexMap<Key, usize>,
-) -> Result<bool, ValueError>
-    requires settling { IsSettling graph.now classes.old.items firsts.old }
-    ensures settling { IfOk result (λ more. IsSettling graph.now classes.new.items firsts.new) }
-    ensures more { IfOk result (λ more. MatchBool more
-        (unsettled classes.new.items < unsettled classes.old.items)
-        ((classes.new.items ≡ classes.old.items) × AreTried graph.now classes.new.items 0)) }
-{
-    let count = graph.len();
-    let mut more = false;
-    for step in 0..count {
-        let done = settle(alloc, graph, classes, firsts, NodeId(count - 1 - step))?;
+    for n in order {
+        let done = settle(graph, classes, steps, *n)?;
         more = either(more, done);
     }
     Ok(more)
@@ -91,15 +54,14 @@ fn settle_down(
 
 // Settles a node, if its children are settled and it is not: whether it has.
 fn settle(
-    alloc: Global,
-    graph: &Graph,
+    graph: &PackedGraph,
     classes: &mut Vec<usize>,
-    firsts: &mut IndexMap<Key, usize>,
+    steps: &mut IndexSet<Step>,
     n: NodeId,
 ) -> Result<bool, ValueError>
     requires within { n.0 < length graph.now }
-    requires settling { IsSettling graph.now classes.old.items firsts.old }
-    ensures settling { IfOk result (λ done. IsSettling graph.now classes.new.items firsts.new) }
+    requires settling { IsSettling graph.now classes.old.items steps.old }
+    ensures settling { IfOk result (λ done. IsSettling graph.now classes.new.items steps.new) }
     ensures done { IfOk result (λ done. MatchBool done
         (unsettled classes.new.items < unsettled classes.old.items)
         ((classes.new.items ≡ classes.old.items) × IsTried graph.now classes.new.items n.0)) }
@@ -108,12 +70,13 @@ fn settle(
     if classes[place] > 0 {
         return Ok(false);
     }
-    if !are_settled(classes, graph.children(n)) {
+    let parts = graph.children(n);
+    if !are_settled(classes, parts) {
         return Ok(false);
     }
-    let key = node_key(alloc, graph, classes, n)?;
-    let first = first_with(firsts, key, place)?;
-    classes[place] = first + 1;
+    let number = shape(steps, graph.head(n), classes, parts)?;
+    prove!(number < steps.len());
+    classes[place] = number + 1;
     Ok(true)
 }
 

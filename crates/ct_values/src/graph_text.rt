@@ -9,14 +9,18 @@ ghost use Rattle.ct_values.specs.Rows.{gap};
 ghost use Rattle.ct_values.specs.ValueText as spec;
 
 use crate::error::ValueError;
-use crate::graph::Graph;
 use crate::node::{Head, NodeId};
+use crate::packed::PackedGraph;
 use crate::text::{write_ctor, write_element, write_node_name};
 use ct_sorts::{CtorId, Signature};
 use std::alloc::Global;
 
 /// The graph as `(@graph ((@0 node) (@1 node) ..) @0)`.
-pub(crate) fn graph_text(alloc: Global, sig: &Signature, g: &Graph) -> Result<Vec<u8>, ValueError>
+pub(crate) fn graph_text(
+    alloc: Global,
+    sig: &Signature,
+    g: &PackedGraph,
+) -> Result<Vec<u8>, ValueError>
     requires fits { FitsGraph sig.now g.now }
     ensures text { IfOk result (λ text. text.items ≡ written (spec.graph_text sig.now g.now)) }
 {
@@ -33,7 +37,7 @@ pub(crate) fn graph_text(alloc: Global, sig: &Signature, g: &Graph) -> Result<Ve
 fn write_row(
     alloc: Global,
     sig: &Signature,
-    g: &Graph,
+    g: &PackedGraph,
     n: NodeId,
     out: &mut Vec<u8>,
 ) -> Result<(), ValueError>
@@ -64,7 +68,7 @@ fn write_gap(n: NodeId, out: &mut Vec<u8>) -> Result<(), ValueError>
 fn write_node(
     alloc: Global,
     sig: &Signature,
-    g: &Graph,
+    g: &PackedGraph,
     n: NodeId,
     out: &mut Vec<u8>,
 ) -> Result<(), ValueError>

@@ -2,8 +2,8 @@ ghost use Rattle.std.specs.Prelude.{◌≡◌, ◌<◌, length, Some, IfOk, All,
 ghost use Rattle.ct_values.specs.Partition.{class_at, key_of};
 
 use crate::error::ValueError;
-use crate::graph::Graph;
 use crate::node::{Head, NodeId};
+use crate::packed::PackedGraph;
 use crate::places::Places;
 use std::alloc::Global;
 
@@ -18,7 +18,7 @@ pub(crate) struct Key {
 /// The key of a node.
 pub(crate) fn node_key(
     alloc: Global,
-    graph: &Graph,
+    graph: &PackedGraph,
     classes: &[usize],
     n: NodeId,
 ) -> Result<Key, ValueError>

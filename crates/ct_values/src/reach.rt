@@ -5,27 +5,31 @@
 //! breadth first. The time is near-linear in these nodes and their children.
 ghost use Rattle.std.specs.Prelude.{◌≡◌, ◌<◌, [], ◌∷◌, length, map, Some, slice_get, IfOk, All};
 ghost use Rattle.ct_values.specs.Agreement.{node_point, AgreeAlways};
-ghost use Rattle.ct_values.specs.Smallest.{child_numbers, IsBreadthFirst};
+ghost use Rattle.ct_values.specs.Smallest.{IsBreadthFirst};
 ghost use Rattle.ct_values.specs.Numbered.{CountsUp, IsInOrder};
-ghost use Rattle.ct_values.specs.Renumbering.{IsNumbering, Stay, StandFor, IsRenumbered, AreRenumbered, IsPart};
+ghost use Rattle.ct_values.specs.Renumbering.{IsNumbering, Stay, StandFor, AreRenumbered, IsPart};
 
 use crate::error::ValueError;
 use crate::graph::Graph;
-use crate::node::{Head, Node, NodeId};
-use crate::node_ids::NodeIds;
+use crate::node::NodeId;
+use crate::packed::{PackedGraph, PackedNodes};
 use indexmap::IndexSet;
 use std::alloc::Global;
 
 /// The part of a graph that two nodes reach, with the numbers of the two in it.
 #[derive(Drop)]
 pub(crate) struct Part {
-    pub(crate) graph: Graph,
+    pub(crate) graph: PackedGraph,
     pub(crate) first: NodeId,
     pub(crate) second: NodeId,
 }
 
 /// The part of the graph that this node reaches. Its number there is 0.
-pub(crate) fn reached_from(alloc: Global, g: &Graph, root: NodeId) -> Result<Graph, ValueError>
+pub(crate) fn reached_from(
+    alloc: Global,
+    g: &Graph,
+    root: NodeId,
+) -> Result<PackedGraph, ValueError>
     requires within { root.0 < length g.now }
     ensures part { IfOk result (λ part. IsPart g.now root.0 part) }
     ensures breadth_first { IfOk result (λ part. IsBreadthFirst part) }
@@ -33,7 +37,7 @@ pub(crate) fn reached_from(alloc: Global, g: &Graph, root: NodeId) -> Result<Gra
     let mut ids = IndexSet::new(alloc);
     let _ = number(g, &mut ids, root)?;
     let nodes = renumber_all(alloc, g, &mut ids)?;
-    Ok(Graph::from_nodes(nodes))
+    Ok(PackedGraph::from_nodes(nodes))
 }
 
 /// The part of the graph that these two nodes reach.
@@ -50,50 +54,32 @@ pub(crate) fn reached(alloc: Global, g: &Graph, a: NodeId, b: NodeId) -> Result<
     let second = number(g, &mut ids, b)?;
     let nodes = renumber_all(alloc, g, &mut ids)?;
     Ok(Part {
-        graph: Graph::from_nodes(nodes),
+        graph: PackedGraph::from_nodes(nodes),
         first,
         second,
     })
 }
 
 // The numbered nodes and those that they reach, with the new numbers of their children.
-fn renumber_all(alloc: Global, g: &Graph, ids: &mut IndexSet<u64>) -> Result<Vec<Node>, ValueError>
-    requires numbering { IsNumbering (length g.now) ids.old }
-    ensures stay { IfOk result (λ nodes. Stay ids.old.keys ids.new.keys) }
-    ensures numbering { IfOk result (λ nodes. IsNumbering (length g.now) ids.new) }
-    ensures renumbered { IfOk result (λ nodes. AreRenumbered g.now ids.new.keys nodes.items) }
-    ensures all { IfOk result (λ nodes. length nodes.items ≡ length ids.new.keys) }
-    ensures in_order { IfOk result (λ nodes. IsInOrder (length ids.old.keys) 0 nodes.items (length ids.new.keys)) }
-{
-    let mut nodes = Vec::new(alloc);
-    while let Some(id) = ids.get_index(nodes.len()).copied() {
-        let node = renumber(alloc, g, ids, NodeId(id))?;
-        nodes.push(node)?;
-    }
-    Ok(nodes)
-}
-
-// A node with the new numbers of its children. Children that have none yet get one.
-fn renumber(
+fn renumber_all(
     alloc: Global,
     g: &Graph,
     ids: &mut IndexSet<u64>,
-    n: NodeId,
-) -> Result<Node, ValueError>
-    requires within { n.0 < length g.now }
+) -> Result<PackedNodes, ValueError>
     requires numbering { IsNumbering (length g.now) ids.old }
-    ensures stay { IfOk result (λ node. Stay ids.old.keys ids.new.keys) }
-    ensures numbering { IfOk result (λ node. IsNumbering (length g.now) ids.new) }
-    ensures renumbered { IfOk result (λ node. IsRenumbered g.now ids.new.keys n.0 node) }
-    ensures counts { IfOk result (λ node. CountsUp (length ids.old.keys) (child_numbers node) (length ids.new.keys)) }
+    ensures stay { IfOk result (λ nodes. Stay ids.old.keys ids.new.keys) }
+    ensures numbering { IfOk result (λ nodes. IsNumbering (length g.now) ids.new) }
+    ensures renumbered { IfOk result (λ nodes. AreRenumbered g.now ids.new.keys nodes) }
+    ensures all { IfOk result (λ nodes. length nodes ≡ length ids.new.keys) }
+    ensures in_order { IfOk result (λ nodes. IsInOrder (length ids.old.keys) 0 nodes (length ids.new.keys)) }
 {
-    match g.head(n) {
-        Head::Con(c) => {
-            let children = number_all(alloc, g, ids, g.children(n))?;
-            Ok(Node::Con(c, NodeIds::new(children)))
-        }
-        Head::Elem(s, number) => Ok(Node::Elem(s, number)),
+    let mut nodes = PackedNodes::new(alloc);
+    while let Some(id) = ids.get_index(nodes.len()).copied() {
+        let n = NodeId(id);
+        let children = number_all(alloc, g, ids, g.children(n))?;
+        nodes.push(g.head(n), &children)?;
     }
+    Ok(nodes)
 }
 
 // The new numbers of these nodes. Those that have none yet get one.

@@ -1,33 +1,42 @@
 //! One round of the refinement of a partition of the nodes of a graph.
 //!
 //! A partition gives each node the number of the first node of its class. A round splits each class by the
-//! heads of its nodes and the classes of their children, through one map from keys to first nodes. The time
-//! is near-linear in the nodes and their children.
+//! heads of its nodes and the classes of their children, through one map from keys to first nodes. Nodes that
+//! are settled keep their classes, and are not looked at. The time is near-linear in the other nodes and their
+//! children, and the number of all nodes.
 ghost use Rattle.std.specs.Prelude.{◌≡◌, ℕ, ◌≤◌, ◌<◌, ◌⊎◌, length, Some, IfOk};
 ghost use Rattle.indexmap.specs.IndexMap.{get};
 ghost use Rattle.ct_values.specs.declared.key.Key.{Key};
 ghost use Rattle.ct_values.specs.KeyTest.{same_key};
-ghost use Rattle.ct_values.specs.Partition.{IsRefined};
+ghost use Rattle.ct_values.specs.Partition.{IsRefined, IsSteady};
 
 use crate::error::ValueError;
-use crate::graph::Graph;
 use crate::key::{Key, node_key};
 use crate::node::NodeId;
+use crate::packed::PackedGraph;
 use indexmap::IndexMap;
 use std::alloc::Global;
 
 /// The partition after one more round.
 pub(crate) fn refine(
     alloc: Global,
-    graph: &Graph,
+    graph: &PackedGraph,
+    settled: &[usize],
     classes: &[usize],
 ) -> Result<Vec<usize>, ValueError>
+    requires settled { length settled.now ≡ length graph.now }
     requires long { length classes.now ≡ length graph.now }
+    requires steady { IsSteady graph.now settled.now classes.now }
     ensures refined { IfOk result (λ next. IsRefined graph.now classes.now next.items) }
+    ensures steady { IfOk result (λ next. IsSteady graph.now settled.now next.items) }
 {
     let mut firsts = IndexMap::new(alloc);
     let mut next = Vec::with_capacity(alloc, classes.len())?;
     for place in 0..classes.len() {
+        if settled[place] > 0 {
+            next.push(classes[place])?;
+            continue;
+        }
         let key = node_key(alloc, graph, classes, NodeId(place as u64))?;
         next.push(first_with(&mut firsts, key, place)?)?;
     }

@@ -1,37 +1,38 @@
-//! Rounds of refinement, one after another, until the partition is stable.
+//! The classes of the nodes that agree at every depth.
 //!
-//! With n nodes that have e children in all, a round takes time near n + e. Each round but the first and the
-//! last one splits a class, so that there are at most n + 1.
+//! The finite trees get theirs first, from the leaves upward. Then rounds of refinement, one after another, split
+//! the others, until the partition is stable. With n nodes that have e children in all, a round takes time near
+//! n + e. Each round but the last one splits a class, so that there are at most n.
 ghost use Rattle.std.specs.Prelude.{◌≡◌, ◌↔◌, ◌<◌, length, IfOk, IsTrue};
-ghost use Rattle.ct_values.specs.Graph.{IsClosed};
 ghost use Rattle.ct_values.specs.Partition.{class_at, KeepsTogether, IsStable};
 
 use crate::error::ValueError;
-use crate::graph::Graph;
+use crate::finite::finite_classes;
+use crate::named::named_for_first;
 use crate::node::NodeId;
+use crate::packed::PackedGraph;
 use crate::refine::refine;
 use std::alloc::Global;
 
-/// Rounds that begin with this partition, until one changes nothing or has told the two nodes apart. With
-/// one node given twice they go on until the partition is stable.
+/// The classes after rounds until one changes nothing or has told the two nodes apart. With one node given
+/// twice they go on until the partition is stable.
 pub(crate) fn refined(
     alloc: Global,
-    graph: &Graph,
-    start: Vec<usize>,
+    graph: &PackedGraph,
     a: NodeId,
     b: NodeId,
 ) -> Result<Vec<usize>, ValueError>
     requires a_within { a.0 < length graph.now }
     requires b_within { b.0 < length graph.now }
-    requires closed { IsClosed graph.now }
-    requires together { KeepsTogether graph.now start.items }
     ensures together { IfOk result (λ classes. KeepsTogether graph.now classes.items) }
     ensures stable { IfOk result (λ classes.
         class_at classes.items a.0 ≡ class_at classes.items b.0 → IsStable graph.now classes.items) }
 {
-    let mut classes = refine(alloc, graph, &start)?;
+    prove!(a.0 < graph.len());
+    let settled = finite_classes(alloc, graph)?;
+    let mut classes = named_for_first(alloc, &settled)?;
     loop {
-        let next = refine(alloc, graph, &classes)?;
+        let next = refine(alloc, graph, &settled, &classes)?;
         if next[a.0 as usize] != next[b.0 as usize] {
             return Ok(next);
         }

@@ -14,11 +14,11 @@ ghost use Rattle.ct_values.specs.Partition.{class_at, node_key};
 ghost use Rattle.ct_values.specs.Sharing.{IsFirst, AreClasses, IsShared};
 
 use crate::error::ValueError;
-use crate::finite::finite_classes;
 use crate::graph::Graph;
 use crate::key::{Key, classes_of};
 use crate::node::{Head, Node, NodeId};
 use crate::node_ids::NodeIds;
+use crate::packed::packed;
 use crate::places::Places;
 use crate::refine::first_with;
 use crate::rounds::refined;
@@ -93,7 +93,7 @@ impl SharedGraph {
         ensures err { OnErr result (self.new ≡ self.old) }
     {
         let alloc = *self.classes.allocator();
-        let key = shape(alloc, &self.classes, Head::Con(c), children.as_slice())?;
+        let key = key_over(alloc, &self.classes, Head::Con(c), children.as_slice())?;
         if let Some(first) = first_of(&self.firsts, &key) {
             return Ok(first);
         }
@@ -147,16 +147,16 @@ fn add(
 fn stable_classes(alloc: Global, graph: &Graph) -> Result<Vec<usize>, ValueError>
     ensures classes { IfOk result (λ classes. AreClasses graph.now classes.items) }
 {
-    let start = finite_classes(alloc, graph)?;
     if graph.len() == 0 {
-        return Ok(start);
+        return Ok(Vec::new(alloc));
     }
-    let classes = refined(alloc, graph, start, NodeId(0), NodeId(0))?;
+    let packed = packed(alloc, graph)?;
+    let classes = refined(alloc, &packed, NodeId(0), NodeId(0))?;
     Ok(classes)
 }
 
 // What tells a node's value: its head, and the classes of its children.
-fn shape(
+fn key_over(
     alloc: Global,
     classes: &[usize],
     head: Head,
@@ -184,7 +184,7 @@ fn keyed(
     let mut firsts = IndexMap::new(alloc);
     for place in 0..classes.len() {
         let n = NodeId(place as u64);
-        let key = shape(alloc, classes, graph.head(n), graph.children(n))?;
+        let key = key_over(alloc, classes, graph.head(n), graph.children(n))?;
         first_with(&mut firsts, key, place)?;
     }
     Ok(firsts)

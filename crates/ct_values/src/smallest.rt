@@ -1,17 +1,18 @@
 //! The smallest graph of the tree at a node.
 //!
-//! The part of the graph that the node reaches is copied, and its nodes are put into classes of those that
-//! agree at every depth, as for equality, with rounds until the partition is stable. Then each child becomes
-//! the first node of its class, and what the root reaches of that is numbered breadth first. Beyond the
+//! The part of the graph that the node reaches is copied, numbered breadth first, and its nodes are put into classes of
+//! those that agree at every depth, as for equality. Of each class the first node is kept, over the numbers that those
+//! of its children's classes have among the kept ones. So what is kept is numbered breadth first as well. Beyond the
 //! passes and rounds the time is near-linear in the part, and nothing recurses.
-ghost use Rattle.std.specs.Prelude.{◌≡◌, ◌<◌, length, IfOk};
+ghost use Rattle.std.specs.Prelude.{◌≡◌, ℕ, ◌<◌, ◌≤◌, length, map, IfOk, All};
+ghost use Rattle.ct_values.specs.Partition.{class_at};
+ghost use Rattle.ct_values.specs.Quotient.{NumbersClasses, AreNumbered, numbered_child, quotient};
 ghost use Rattle.ct_values.specs.Smallest.{IsSmallest};
 
 use crate::error::ValueError;
-use crate::finite::finite_classes;
 use crate::graph::Graph;
-use crate::merge::merged;
 use crate::node::NodeId;
+use crate::packed::{PackedGraph, PackedNodes, unpacked};
 use crate::reach::reached_from;
 use crate::rounds::refined;
 use std::alloc::Global;
@@ -25,10 +26,76 @@ pub fn minimise(alloc: Global, g: &Graph, root: NodeId) -> Result<(Graph, NodeId
     ensures smallest { IfOk result (λ r. IsSmallest g.now root r.0) }
     ensures first { IfOk result (λ r. r.1.0 ≡ 0) }
 {
+    let smallest = smallest(alloc, g, root)?;
+    Ok((unpacked(alloc, &smallest)?, NodeId(0)))
+}
+
+/// The smallest graph of the tree at the root, side by side. The root has the number 0 in it.
+pub(crate) fn smallest(alloc: Global, g: &Graph, root: NodeId) -> Result<PackedGraph, ValueError>
+    requires within { root.0 < length g.now }
+    ensures smallest { IfOk result (λ smallest. IsSmallest g.now root smallest) }
+{
     let part = reached_from(alloc, g, root)?;
-    let first = NodeId(0);
-    let start = finite_classes(alloc, &part)?;
-    let classes = refined(alloc, &part, start, first, first)?;
-    let smaller = Graph::from_nodes(merged(alloc, &part, &classes)?);
-    Ok((reached_from(alloc, &smaller, first)?, first))
+    let numbers = class_numbers(alloc, &part)?;
+    let kept = kept(alloc, &part, &numbers)?;
+    Ok(PackedGraph::from_nodes(kept))
+}
+
+// For each node of the part the number of its class.
+fn class_numbers(alloc: Global, part: &PackedGraph) -> Result<Vec<usize>, ValueError>
+    requires positive { 0 < length part.now }
+    ensures numbers { IfOk result (λ numbers. AreNumbered part.now numbers.items) }
+{
+    prove!(part.len() > 0);
+    let classes = refined(alloc, part, NodeId(0), NodeId(0))?;
+    numbered(alloc, &classes)
+}
+
+// The classes that are named for their first nodes, each with its number among them: how many begin before it.
+fn numbered(alloc: Global, classes: &[usize]) -> Result<Vec<usize>, ValueError>
+    requires early { (i : ℕ) → class_at classes.now i ≤ i }
+    requires own { (i : ℕ) → i < length classes.now → class_at classes.now (class_at classes.now i) ≡ class_at classes.now i }
+    ensures numbers { IfOk result (λ numbers. NumbersClasses classes.now numbers.items) }
+{
+    let mut numbers = Vec::with_capacity(alloc, classes.len())?;
+    let mut count = 0;
+    for place in 0..classes.len() {
+        let class = classes[place];
+        if class == place {
+            numbers.push(count)?;
+            count += 1;
+        } else {
+            let number = numbers[class];
+            numbers.push(number)?;
+        }
+    }
+    Ok(numbers)
+}
+
+// The first node of each class, over the numbers of its children's classes. A class begins where its number is the next.
+fn kept(alloc: Global, part: &PackedGraph, numbers: &[usize]) -> Result<PackedNodes, ValueError>
+    requires long { length numbers.now ≡ length part.now }
+    ensures value { IfOk result (λ nodes. nodes ≡ quotient numbers.now part.now) }
+{
+    let mut nodes = PackedNodes::new(alloc);
+    for place in 0..numbers.len() {
+        if numbers[place] == nodes.len() {
+            let n = NodeId(place as u64);
+            let children = numbers_of(alloc, numbers, part.children(n))?;
+            nodes.push(part.head(n), &children)?;
+        }
+    }
+    Ok(nodes)
+}
+
+// The numbers of the classes of these nodes.
+fn numbers_of(alloc: Global, numbers: &[usize], nodes: &[NodeId]) -> Result<Vec<NodeId>, ValueError>
+    requires within { All (λ n. n.0 < length numbers.now) nodes.now }
+    ensures value { IfOk result (λ list. list.items ≡ map (numbered_child numbers.now) nodes.now) }
+{
+    let mut list = Vec::with_capacity(alloc, nodes.len())?;
+    for n in nodes {
+        list.push(NodeId(numbers[n.0 as usize] as u64))?;
+    }
+    Ok(list)
 }

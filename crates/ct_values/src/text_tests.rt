@@ -1,4 +1,5 @@
-//! The texts of values. Somebody who had not written the code worked them out by hand.
+//! The texts of values. Somebody who had not written the code worked them out by hand, but for those of
+//! `elements_and_names_with_bars_stand_in_graphs`, which came later.
 use crate::test_graphs::{Step, graph};
 use crate::test_sorts::{
     A, A_B, B, CONS, EMPTY, FALSE, FLAGS, GROW, LEAF, LET, MY_SORT, NIL, NODE, PAIR, SCONS, STOP,

@@ -22,7 +22,7 @@ use std::alloc::Global;
 const MOST_PLAIN: u64 = 1_000;
 
 // The most items on the stack with which the walk goes on. Of each node that was begun at most one is a parenthesis, so
-// with as many items more nodes are left than may be written, and nodes with many children do not fill the stack.
+// with as many items more nodes are left than may be written: the walk does not go on behind a node with many children.
 const MOST_ITEMS: usize = 2_000;
 
 /// What is still to be written.

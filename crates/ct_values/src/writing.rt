@@ -7,7 +7,7 @@ use crate::error::ValueError;
 use crate::graph::Graph;
 use crate::graph_text::graph_text;
 use crate::node::NodeId;
-use crate::smallest::minimise;
+use crate::smallest::smallest;
 use crate::tree_text::tree_text;
 use ct_sorts::Signature;
 use std::alloc::Global;
@@ -30,9 +30,9 @@ pub fn value_text(
     requires fits { FitsGraph sig.now g.now }
     ensures text { IfOk result (λ text. IsValueText sig.now g.now root text.items) }
 {
-    let (smallest, first) = minimise(alloc, g, root)?;
-    if let Some(text) = tree_text(alloc, sig, &smallest, first)? {
+    if let Some(text) = tree_text(alloc, sig, g, root)? {
         return Ok(text);
     }
+    let smallest = smallest(alloc, g, root)?;
     graph_text(alloc, sig, &smallest)
 }

@@ -16,7 +16,7 @@ returns c =
       value = (
         λ h.
             let one = a ∙ test.0 h ∙ sym b in
-            AgreeAlways-stable g classes c.requires.closed long (done.stable one) c.args.a c.args.b c.requires.a_within c.requires.b_within one,
+            AgreeAlways-stable g classes c.len.ensures.closed long (done.stable one) c.args.a c.args.b c.requires.a_within c.requires.b_within one,
         λ always. test.1 (sym a ∙ done.together.together c.args.a.0 c.args.b.0 c.requires.a_within c.requires.b_within always ∙ b),
       );
     }

@@ -14,9 +14,9 @@ returns-clause-settling c =
     let place = c.args.n.0 in
     let within : place < length classes = omega (arith, c.requires.within, c.requires.settling.long) in
     let zero_at = zero_class classes place c.index.result.now within c.index.ensures c.if-index-gt0.false in
-    let found = c.in_ok-first.ensures in
+    let made = c.in_ok-number.ensures in
     rw add-one
-    (IsSettling-step c.args.graph.now classes c.args.firsts.now c.first_with.new.firsts place c.in_ok-first.first c.in_ok-key.key c.children.result.now c.requires.settling c.requires.within zero_at c.children.ensures.value c.children.ensures.below (rw c.deref.ensures.value at c.if-not-are_settled.ensures.value) (rw c.deref-2.ensures.value at c.in_ok-key.ensures.value) found.found found.stay found.only)
+    (IsSettling-step c.args.graph.now classes c.args.steps.now c.shape.new.steps place c.in_ok-number.number c.head.result c.children-parts.result.now c.requires.settling c.requires.within zero_at c.head.ensures.value c.children-parts.ensures.value c.children-parts.ensures.below (rw c.deref.ensures.value at c.if-not-are_settled.ensures.value) made.steps made.stay (rw c.deref-2.ensures.value at made.spells))
 
 pub returns-clause-done : goal.returns-clause-done
 returns-clause-done c =
@@ -24,4 +24,4 @@ returns-clause-done c =
     let place = c.args.n.0 in
     let within : place < length classes = omega (arith, c.requires.within, c.requires.settling.long) in
     let zero_at = zero_class classes place c.index.result.now within c.index.ensures c.if-index-gt0.false in
-    rw add-one (unsettled-set classes place c.in_ok-first.first within zero_at)
+    rw add-one (unsettled-set classes place c.in_ok-number.number within zero_at)

@@ -11,7 +11,7 @@ use Rattle.ct_values.proofs.reach.reached_from.Goals as goal
 pub from_nodes-requires : goal.from_nodes-requires
 from_nodes-requires c =
     let done = c.in_ok-nodes.ensures in
-    record { closed = IsClosed-renumbered c.args.g.now c.renumber_all.new.ids.keys c.in_ok-nodes.nodes.items done.renumbered done.all }
+    record { closed = IsClosed-renumbered c.args.g.now c.renumber_all.new.ids.keys c.in_ok-nodes.nodes done.renumbered done.all }
 
 pub returns-clause-part : goal.returns-clause-part
 returns-clause-part c =
@@ -21,7 +21,7 @@ returns-clause-part c =
     let numbered = c.in_ok-number.ensures in
     let place = c.in_ok-number.field-0.0 in
     let keys = c.renumber_all.new.ids.keys in
-    let nodes = c.in_ok-nodes.nodes.items in
+    let nodes = c.in_ok-nodes.nodes in
     let start = CountsUp-first (length c.new-ids.result.keys) place (length c.number.new.ids.keys) (omega (arith, c.new-ids.ensures.len)) numbered.counts in
     let at : slice_get keys 0 ≡ Some root = ap (slice_get keys) (sym start.0) ∙ done.stay place root numbered.at in
     let is : IsPart g root nodes = record {
@@ -36,7 +36,7 @@ returns-clause-part c =
 pub returns-clause-breadth_first : goal.returns-clause-breadth_first
 returns-clause-breadth_first c =
     let done = c.in_ok-nodes.ensures in
-    let nodes = c.in_ok-nodes.nodes.items in
+    let nodes = c.in_ok-nodes.nodes in
     let start = CountsUp-first (length c.new-ids.result.keys) c.in_ok-number.field-0.0 (length c.number.new.ids.keys) (omega (arith, c.new-ids.ensures.len)) c.in_ok-number.ensures.counts in
     let from_one : IsInOrder 1 0 nodes (length c.renumber_all.new.ids.keys) = subst (λ k. IsInOrder k 0 nodes (length c.renumber_all.new.ids.keys)) start.1 done.in_order in
     let order : IsInOrder 1 0 nodes (length nodes) = subst (λ k. IsInOrder 1 0 nodes k) (sym done.all) from_one in

@@ -1,8 +1,6 @@
-use Rattle.std.proofs.Common.{Result, Ok, Err, IfOk, MatchOption, subst}
-use Rattle.ct_values.specs.ValueText.{IsTreeText}
-use Rattle.ct_values.specs.ValueText.{IsTooGreat}
+use Rattle.std.proofs.Common.{Result, Ok, Err, IfOk, MatchOption, subst, inl, inr}
+use Rattle.ct_values.specs.ValueText.{IsTreeText, IsTooGreat}
 use Rattle.ct_values.proofs.FittingLemmas.{smallest_fits}
-use Rattle.ct_values.proofs.WritingLemmas.{tree-value_text, graph-value_text}
 use Rattle.ct_values.proofs.writing.value_text.Goals as goal
 
 -- what follows of each value that a result has
@@ -10,17 +8,12 @@ where_ok : {X E : Type 0} (P Q : X → Type 0) (r : Result X E) → ((x : X) →
 where_ok P Q (Ok x) give h = give x h
 where_ok P Q (Err e) give h = h
 
-pub tree_text-requires-clause-fits : goal.tree_text-requires-clause-fits
-tree_text-requires-clause-fits c = smallest_fits c.args.sig.now c.args.g.now c.args.root c.in_ok-smallest.smallest c.requires.fits c.in_ok-smallest.ensures.smallest
-
 pub returns-in-Some : goal.returns-in-Some
 returns-in-Some c =
     let d = c.args.sig.now in
     let g = c.args.g.now in
-    let h = c.in_ok-smallest.smallest in
-    let first = c.in_ok-smallest.first in
-    let is = subst (λ found. MatchOption found (IsTooGreat h first) (λ text. IsTreeText d h first text.items)) c.in-Some.is c.in_ok-text.ensures.text in
-    record { text = tree-value_text d g h c.args.root first c.in-Some.text.items c.in_ok-smallest.ensures.smallest c.in_ok-smallest.ensures.first is }
+    let root = c.args.root in
+    record { text = inl (subst (λ found. MatchOption found (IsTooGreat g root) (λ text. IsTreeText d g root text.items)) c.in-Some.is c.in_ok-text.ensures.text) }
 
 pub graph_text-requires : goal.graph_text-requires
 graph_text-requires c = record { fits = smallest_fits c.args.sig.now c.args.g.now c.args.root c.in_ok-smallest.smallest c.requires.fits c.in_ok-smallest.ensures.smallest }
@@ -29,7 +22,13 @@ pub returns : goal.returns
 returns c =
     let d = c.args.sig.now in
     let g = c.args.g.now in
-    let h = c.in_ok-smallest.smallest in
-    let first = c.in_ok-smallest.first in
-    let great : IsTooGreat h first = subst (λ found. MatchOption found (IsTooGreat h first) (λ text. IsTreeText d h first text.items)) c.in_default.is c.in_ok-text.ensures.text in
-    record { text = where_ok _ _ c.graph_text.result (λ text text_is. graph-value_text d g h c.args.root first text.items c.in_ok-smallest.ensures.smallest c.in_ok-smallest.ensures.first great text_is) c.graph_text.ensures.text }
+    let root = c.args.root in
+    let great : IsTooGreat g root = subst (λ found. MatchOption found (IsTooGreat g root) (λ text. IsTreeText d g root text.items)) c.in_default.is c.in_ok-text.ensures.text in
+    record {
+      text = where_ok _ _ c.graph_text.result (λ text text_is. inr (record {
+        many = great;
+        smallest = c.in_ok-smallest.smallest;
+        is_smallest = c.in_ok-smallest.ensures.smallest;
+        text_is = text_is;
+      })) c.graph_text.ensures.text;
+    }
