@@ -1,5 +1,5 @@
--- Partitions of the nodes of a graph: a number for each node, which is that of its class. Most are named for the first nodes of
--- their classes.
+-- Partitions of the nodes of a graph: a number for each node, which is that of its class. All but those of finite trees are
+-- named for the first nodes of their classes.
 use Rattle.std.specs.Prelude.{◌≡◌, ℕ, ◌<◌, ◌≤◌, List, length, map, Option, Some, option_map, slice_get, slice_index}
 use Rattle.std.specs.List.{AllByRecursion}
 use Rattle.ct_values.specs.declared.node.Node.{Node}

@@ -42,7 +42,8 @@ EachMetStands met order = (n : ℕ) → IsMet met n → StandsIn (numbered n) or
 abbrev pub StayMet : List Bool → List Bool → Type 0
 StayMet old new = (n : ℕ) → IsMet old n → IsMet new n
 
--- how much the stack may still grow: for each node that was not met its turn, one more, and its children
+-- a bound on how much the stack may still grow, by the turn and the children of each node that was not met, and one more for
+-- each, so that to meet it makes less
 abbrev pub room : Nodes → List Bool → ℕ
 room [] met = 0
 room (node ∷ g) [] = 0

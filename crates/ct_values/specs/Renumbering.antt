@@ -30,7 +30,7 @@ pub record IsRenumbered (g : Nodes) (ids : List ℕ) (n : ℕ) (node : Node) : T
 abbrev pub AreRenumbered : Nodes → List ℕ → List Node → Type 0
 AreRenumbered g ids nodes = (i n : ℕ) (node : Node) → slice_get nodes i ≡ Some node → slice_get ids i ≡ Some n → IsRenumbered g ids n node
 
--- the nodes are those that stand for a root and for what it reaches, each for another one
+-- the nodes are those that stand for a root and for all that it reaches, and maybe for others, each for another one
 pub record IsPart (g : Nodes) (root : ℕ) (nodes : Nodes) : Type 0 where
   pub ids : List ℕ
   pub unique : (i j n : ℕ) → slice_get ids i ≡ Some n → slice_get ids j ≡ Some n → i ≡ j

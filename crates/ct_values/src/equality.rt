@@ -1,8 +1,8 @@
 //! Whether two nodes of a graph are the same value: whether they agree at every depth.
 //!
-//! The part of the graph that the two nodes reach is copied. Passes over it, up and down, give its finite trees
-//! their classes from the leaves upward (`finite.rt`). The others are refined by rounds (`rounds.rt`), until a
-//! round changes nothing or the two nodes fall apart. Where no cycle is reached one round is enough, and else
+//! The part of the graph that the two nodes reach is copied. A pass over it, children before parents, gives its
+//! finite trees their classes (`finite.rt`). The others are refined by rounds (`rounds.rt`), until a round
+//! changes nothing or the two nodes fall apart. Where no cycle is reached one round is enough, and else
 //! there are at most as many as there are nodes that reach one. Nothing outside the part is looked at, and
 //! nothing recurses.
 ghost use Rattle.std.specs.Prelude.{◌≡◌, ◌↔◌, ◌<◌, length, IfOk, IsTrue};

@@ -3,7 +3,7 @@
 //! A node is settled once all of its children are: the number of its shape, which is its head over the classes of
 //! its children, then makes its class. What is never settled reaches a cycle, and stays in the class 0. A pass
 //! goes over all nodes, in an order in which children come before their parents where no cycle stands against it, so
-//! that one pass settles all that can be settled, and a second one sees that. So the time is near-linear in the nodes
+//! that one pass settles all that can be settled, and a second one, if any, sees that. So the time is near-linear in the nodes
 //! and their children.
 ghost use Rattle.std.specs.Prelude.{◌≡◌, ◌<◌, ◌||◌, length, replicate, IfOk, All, MatchBool};
 ghost use Rattle.ct_values.specs.Partition.{class_at};

@@ -1,8 +1,8 @@
 //! An order of the nodes of a graph in which children come before their parents, where no cycle stands against it.
 //!
 //! From each node that was not met a walk goes down, depth first, from a stack: a node is met when it is taken from the
-//! stack for the first time, and has its turn when all that it reaches was met. The time and the memory are linear in
-//! the nodes and their children, and nothing recurses.
+//! stack for the first time, and has its turn when what was put onto the stack for it is done. The time and the memory are
+//! linear in the nodes and their children, and nothing recurses.
 ghost use Rattle.std.specs.Prelude.{◌≡◌, ◌<◌, false, length, replicate, OnOk, IfOk, All};
 ghost use Rattle.ct_values.specs.Postorder.{HasEach, EachMetStands, StayMet, IsMet, IsMeeting, IsStep, AreAdded, visited};
 

@@ -20,7 +20,7 @@ pub(crate) enum Step {
     Con(CtorId),
     /// An element, which begins a shape and ends it.
     Elem(SortId, u64),
-    /// One class more, behind the step at this place.
+    /// Behind the step at the first place, one class more: the second number.
     More(usize, usize),
 }
 

@@ -1,9 +1,9 @@
 //! The smallest graph of the tree at a node.
 //!
 //! The part of the graph that the node reaches is copied, numbered breadth first, and its nodes are put into classes of
-//! those that agree at every depth, as for equality. Of each class the first node is kept, over the numbers that those
-//! of its children's classes have among the kept ones. So what is kept is numbered breadth first as well. Beyond the
-//! passes and rounds the time is near-linear in the part, and nothing recurses.
+//! those that agree at every depth, as for equality. Of each class the first node is kept, over the places of its
+//! children's classes among the kept nodes. So what is kept is numbered breadth first as well. Beyond the rounds the time is
+//! near-linear in the part, and nothing recurses.
 ghost use Rattle.std.specs.Prelude.{◌≡◌, ℕ, ◌<◌, ◌≤◌, length, map, IfOk, All};
 ghost use Rattle.ct_values.specs.Partition.{class_at};
 ghost use Rattle.ct_values.specs.Quotient.{NumbersClasses, AreNumbered, numbered_child, quotient};
@@ -51,7 +51,7 @@ fn class_numbers(alloc: Global, part: &PackedGraph) -> Result<Vec<usize>, ValueE
     numbered(alloc, &classes)
 }
 
-// The classes that are named for their first nodes, each with its number among them: how many begin before it.
+// For each node the number of its class, which is named for its first node: how many classes begin before it.
 fn numbered(alloc: Global, classes: &[usize]) -> Result<Vec<usize>, ValueError>
     requires early { (i : ℕ) → class_at classes.now i ≤ i }
     requires own { (i : ℕ) → i < length classes.now → class_at classes.now (class_at classes.now i) ≡ class_at classes.now i }
