@@ -1,4 +1,4 @@
-pub mod PlaceLemmas
+pub mod IndexLemmas
 pub mod Lists
 pub mod LiteralLemmas
 pub mod Counts

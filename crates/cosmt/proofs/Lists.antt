@@ -1,4 +1,4 @@
--- Places in lists.
+-- Indices in lists.
 use Rattle.std.proofs.Common.{◌≡◌, ◌≢◌, ℕ, zero, suc, ◌<◌, ◌⊎◌, inl, inr, List, [], ◌∷◌, ◌++◌, length, map, Some, slice_get, refl, ap, ◌∙◌, arith}
 
 -- two numbers are one, or are not
@@ -8,7 +8,7 @@ same_or_other zero (suc b) = inr (λ e. omega (arith, e))
 same_or_other (suc a) zero = inr (λ e. omega (arith, e))
 same_or_other (suc a) (suc b) = elim (same_or_other a b) [ inl e ↦ inl (ap suc e) | inr n ↦ inr (λ e. n (omega (arith, e))) ]
 
--- a list that grows keeps what stands at its places
+-- a list that grows keeps what stands at its indices
 pub slice_get-append : {X : Type 0} (xs ys : List X) (i : ℕ) (x : X) → slice_get xs i ≡ Some x → slice_get (xs ++ ys) i ≡ Some x
 slice_get-append [] ys i x h = cc
 slice_get-append (y ∷ xs) ys zero x h = h
@@ -38,7 +38,7 @@ slice_get-map_at f [] i x h = cc
 slice_get-map_at f (y ∷ xs) zero x h = let same : y ≡ x = cc in ap (λ z. Some (f z)) same
 slice_get-map_at f (y ∷ xs) (suc i) x h = slice_get-map_at f xs i x h
 
--- something stands at each place below the length
+-- something stands at each index below the length
 pub slice_get-below : {X : Type 0} (xs : List X) (i : ℕ) → i < length xs → (x : X) × (slice_get xs i ≡ Some x)
 slice_get-below [] i h = absurd (omega arith)
 slice_get-below (x ∷ xs) zero h = (x, refl)

@@ -1,4 +1,4 @@
--- What is told of words that have none of the forms.
+-- What is reported of arguments that have none of the forms.
 use Rattle.std.proofs.Common.{◌≡◌, ℕ, List, [], Option}
 use Rattle.ct_io.specs.Bytes.{GrewByPart}
 use Rattle.ct_io.specs.declared.sink.SinkError.{SinkError}
@@ -6,9 +6,9 @@ use Rattle.ct_io.specs.declared.sink.SinkError.TheVariants as sink
 use Rattle.cosmt.specs.declared.verdict.FirstVerdict.{FirstVerdict}
 use Rattle.cosmt.specs.Output.{usage_line}
 use Rattle.cosmt.specs.Refusal.{status_of_error}
-use Rattle.cosmt.specs.Run.{TellsUsage}
+use Rattle.cosmt.specs.Run.{ReportsUsage}
 
 -- the sink failed while the line of usage was written
-pub TellsUsage-broke : (e : SinkError) (vs : List FirstVerdict) (es : List (ℕ × ℕ)) (old new : Option (List ℕ)) → vs ≡ [] → es ≡ [] → GrewByPart usage_line old new → TellsUsage (status_of_error e) vs es old new
-TellsUsage-broke sink.Fault vs es old new no_verdicts no_errors grew = (no_verdicts, no_errors, grew)
-TellsUsage-broke sink.NoMemory vs es old new no_verdicts no_errors grew = (no_verdicts, no_errors, grew)
+pub ReportsUsage-broke : (e : SinkError) (vs : List FirstVerdict) (es : List (ℕ × ℕ)) (old new : Option (List ℕ)) → vs ≡ [] → es ≡ [] → GrewByPart usage_line old new → ReportsUsage (status_of_error e) vs es old new
+ReportsUsage-broke sink.Fault vs es old new no_verdicts no_errors grew = (no_verdicts, no_errors, grew)
+ReportsUsage-broke sink.NoMemory vs es old new no_verdicts no_errors grew = (no_verdicts, no_errors, grew)

@@ -1,9 +1,9 @@
 -- A text has one script, and one text of answers.
 use Rattle.std.specs.List.{concat}
 use Rattle.std.proofs.Common.{◌≡◌, ℕ, Bool, true, false, List, [], ◌∷◌, ◌++◌, map, inl, inr, Option, Some, refl, ap, sym, ◌∙◌, subst, arith, append_assoc}
-use Rattle.ct_sexpr.specs.Layout.{behind_layout, line_feeds, line_of_rest}
+use Rattle.ct_sexpr.specs.Whitespace.{after_whitespace, line_feeds, line_of_rest}
 use Rattle.ct_sexpr.specs.Expression.{Expression}
-use Rattle.ct_sexpr.specs.Reading.{BeginsCommand, HasError, IsLayout, HasNoCommand}
+use Rattle.ct_sexpr.specs.Reading.{BeginsCommand, HasError, IsWhitespace, HasNoCommand}
 use Rattle.ct_sexpr.specs.Unread.{Unread}
 use Rattle.cosmt.specs.declared.verdict.FirstVerdict.{FirstVerdict}
 use Rattle.cosmt.specs.declared.verdict.FirstVerdict.TheVariants.{Sat, Unsat}
@@ -38,10 +38,10 @@ written-injective check check e = refl
 -- a state cannot be both satisfied and contradicted
 pub no_both : (s : State) (values : List Bool) (i j : ℕ) → Satisfies s values → Contradicts s i j → ⊥
 no_both s values i j sat contradicts =
-    let bare = sat.holds i _ contradicts.bare in
+    let positive_at = sat.holds i _ contradicts.positive_at in
     let negated = sat.holds j _ contradicts.negated in
-    let place = bare.known.0 in
-    let both : ◌≡◌ {A = Option Bool} (Some true) (Some false) = sym (bare.value place bare.known.1) ∙ negated.value place bare.known.1 in
+    let suffix = positive_at.known.0 in
+    let both : ◌≡◌ {A = Option Bool} (Some true) (Some false) = sym (positive_at.value suffix positive_at.known.1) ∙ negated.value suffix positive_at.known.1 in
     cc
 
 -- two verdicts that are true of one state have one line
@@ -52,59 +52,59 @@ one_line s (Sat values) (Unsat k l) p q = absurd (no_both s values.items k l p q
 one_line s (Unsat i j) (Sat others) p q = absurd (no_both s others.items i j q p)
 
 -- the lines of the first commands' verdicts begin those of all
-pub lines_front : (s : State) (cs ds : List Command) (vs ws : List FirstVerdict) → AreVerdicts s cs vs → AreVerdicts s (cs ++ ds) ws → (more : List ℕ) × (lines_of ws ≡ lines_of vs ++ more) × (ds ≡ [] → more ≡ [])
-lines_front s [] [] [] [] p q = ([], refl, (λ e. refl))
-lines_front s [] [] [] (w ∷ ws) p q = absurd q
-lines_front s [] (d ∷ ds) [] ws p q = (lines_of ws, refl, (λ e. cc))
-lines_front s [] ds (v ∷ vs) ws p q = absurd p
-lines_front s (check ∷ cs) ds [] ws p q = absurd p
-lines_front s (check ∷ cs) ds (v ∷ vs) [] p q = absurd q
-lines_front s (check ∷ cs) ds (v ∷ vs) (w ∷ ws) p q =
-    let rest = lines_front s cs ds vs ws p.1 q.1 in
+pub lines_prefix : (s : State) (cs ds : List Command) (vs ws : List FirstVerdict) → AreVerdicts s cs vs → AreVerdicts s (cs ++ ds) ws → (more : List ℕ) × (lines_of ws ≡ lines_of vs ++ more) × (ds ≡ [] → more ≡ [])
+lines_prefix s [] [] [] [] p q = ([], refl, (λ e. refl))
+lines_prefix s [] [] [] (w ∷ ws) p q = absurd q
+lines_prefix s [] (d ∷ ds) [] ws p q = (lines_of ws, refl, (λ e. cc))
+lines_prefix s [] ds (v ∷ vs) ws p q = absurd p
+lines_prefix s (check ∷ cs) ds [] ws p q = absurd p
+lines_prefix s (check ∷ cs) ds (v ∷ vs) [] p q = absurd q
+lines_prefix s (check ∷ cs) ds (v ∷ vs) (w ∷ ws) p q =
+    let rest = lines_prefix s cs ds vs ws p.1 q.1 in
     (rest.0, ap (λ (xs : List ℕ). xs ++ lines_of ws) (one_line s w v q.0 p.0) ∙ ap (λ (xs : List ℕ). line_of v ++ xs) rest.1 ∙ sym (append_assoc (line_of v) (lines_of vs) rest.0), rest.2)
-lines_front s (declare n ∷ cs) ds vs ws p q = lines_front (after s (declare n)) cs ds vs ws p q
-lines_front s (assert f ∷ cs) ds vs ws p q = lines_front (after s (assert f)) cs ds vs ws p q
+lines_prefix s (declare n ∷ cs) ds vs ws p q = lines_prefix (after s (declare n)) cs ds vs ws p q
+lines_prefix s (assert f ∷ cs) ds vs ws p q = lines_prefix (after s (assert f)) cs ds vs ws p q
 
 -- bytes begin with one command
 abbrev pub OneCommand : Type 0
 OneCommand = (bytes : List ℕ) (e f : Expression) (r s : List ℕ) → BeginsCommand bytes e r → BeginsCommand bytes f s → (f ≡ e) × (s ≡ r)
 
--- the laws of reading that a whole answer rests on
-pub record Laws : Type 0 where
+-- the theorems on reading that a whole answer rests on
+pub record Theorems : Type 0 where
   pub one_command : OneCommand
   pub one_error : (bytes : List ℕ) (c d : ℕ) (p q : List ℕ) → HasError bytes c p → HasError bytes d q → (d ≡ c) × (q ≡ p)
-  pub error_has_no_command : (bytes : List ℕ) (code : ℕ) (place : List ℕ) → HasError bytes code place → HasNoCommand bytes
-  pub error_is_no_layout : (bytes : List ℕ) (code : ℕ) (place : List ℕ) → HasError bytes code place → IsLayout bytes → ⊥
-  pub layout_has_no_command : (bytes : List ℕ) → IsLayout bytes → HasNoCommand bytes
-  pub error_is_an_end : (bytes : List ℕ) (code : ℕ) (place : List ℕ) → HasError bytes code place → (front : List ℕ) × (bytes ≡ front ++ place)
-  pub layout_is_a_front : (bytes : List ℕ) → (front : List ℕ) × (bytes ≡ front ++ behind_layout bytes)
+  pub error_has_no_command : (bytes : List ℕ) (code : ℕ) (suffix : List ℕ) → HasError bytes code suffix → HasNoCommand bytes
+  pub error_is_no_whitespace : (bytes : List ℕ) (code : ℕ) (suffix : List ℕ) → HasError bytes code suffix → IsWhitespace bytes → ⊥
+  pub whitespace_has_no_command : (bytes : List ℕ) → IsWhitespace bytes → HasNoCommand bytes
+  pub error_is_an_end : (bytes : List ℕ) (code : ℕ) (suffix : List ℕ) → HasError bytes code suffix → (prefix : List ℕ) × (bytes ≡ prefix ++ suffix)
+  pub whitespace_is_a_prefix : (bytes : List ℕ) → (prefix : List ℕ) × (bytes ≡ prefix ++ after_whitespace bytes)
 
 pair_of : {a b c d : ℕ} → c ≡ a → d ≡ b → ◌≡◌ {A = ℕ × ℕ} (c, d) (a, b)
 pair_of p q = cc
 
 -- two errors of what is left over are one
-one_error_of : Laws → (line : ℕ) (bytes rest : List ℕ) (e f : ℕ × ℕ) → IsErrorOf line bytes rest e → IsErrorOf line bytes rest f → f ≡ e
-one_error_of laws line bytes rest e f (inl p) (inl q) = pair_of (q.1 ∙ sym p.1) (q.2 ∙ sym p.2)
-one_error_of laws line bytes rest e f (inl p) (inr q) = absurd (laws.error_has_no_command rest f.1 q.0 q.1 p.0.0 p.0.1 p.0.2)
-one_error_of laws line bytes rest e f (inr p) (inl q) = absurd (laws.error_has_no_command rest e.1 p.0 p.1 q.0.0 q.0.1 q.0.2)
-one_error_of laws line bytes rest e f (inr p) (inr q) =
-    let same = laws.one_error rest e.1 f.1 p.0 q.0 p.1 q.1 in
+one_error_of : Theorems → (line : ℕ) (bytes rest : List ℕ) (e f : ℕ × ℕ) → IsErrorOf line bytes rest e → IsErrorOf line bytes rest f → f ≡ e
+one_error_of theorems line bytes rest e f (inl p) (inl q) = pair_of (q.1 ∙ sym p.1) (q.2 ∙ sym p.2)
+one_error_of theorems line bytes rest e f (inl p) (inr q) = absurd (theorems.error_has_no_command rest f.1 q.0 q.1 p.0.0 p.0.1 p.0.2)
+one_error_of theorems line bytes rest e f (inr p) (inl q) = absurd (theorems.error_has_no_command rest e.1 p.0 p.1 q.0.0 q.0.1 q.0.2)
+one_error_of theorems line bytes rest e f (inr p) (inr q) =
+    let same = theorems.one_error rest e.1 f.1 p.0 q.0 p.1 q.1 in
     pair_of (q.2 ∙ ap (line_of_rest line bytes) same.1 ∙ sym p.2) same.0
 
--- blanks and comments have no error
-no_error_of : Laws → (line : ℕ) (bytes rest : List ℕ) (e : ℕ × ℕ) → IsErrorOf line bytes rest e → IsLayout rest → ⊥
-no_error_of laws line bytes rest e (inl p) h = laws.layout_has_no_command rest h p.0.0 p.0.1 p.0.2
-no_error_of laws line bytes rest e (inr p) h = laws.error_is_no_layout rest e.1 p.0 p.1 h
+-- whitespace and comments have no error
+no_error_of : Theorems → (line : ℕ) (bytes rest : List ℕ) (e : ℕ × ℕ) → IsErrorOf line bytes rest e → IsWhitespace rest → ⊥
+no_error_of theorems line bytes rest e (inl p) h = theorems.whitespace_has_no_command rest h p.0.0 p.0.1 p.0.2
+no_error_of theorems line bytes rest e (inr p) h = theorems.error_is_no_whitespace rest e.1 p.0 p.1 h
 
 -- what is left over has one list of errors
-pub one_list : Laws → (bytes rest : List ℕ) (es fs : List (ℕ × ℕ)) → AreErrors bytes rest es → AreErrors bytes rest fs → fs ≡ es
-one_list laws bytes rest [] [] p q = refl
-one_list laws bytes rest [] (f ∷ []) p q = absurd (no_error_of laws 1 bytes rest f q p)
-one_list laws bytes rest [] (f ∷ (g ∷ fs)) p q = absurd q
-one_list laws bytes rest (e ∷ []) [] p q = absurd (no_error_of laws 1 bytes rest e p q)
-one_list laws bytes rest (e ∷ []) (f ∷ []) p q = ap (λ (x : ℕ × ℕ). x ∷ []) (one_error_of laws 1 bytes rest e f p q)
-one_list laws bytes rest (e ∷ []) (f ∷ (g ∷ fs)) p q = absurd q
-one_list laws bytes rest (e ∷ (g ∷ es)) fs p q = absurd p
+pub one_list : Theorems → (bytes rest : List ℕ) (es fs : List (ℕ × ℕ)) → AreErrors bytes rest es → AreErrors bytes rest fs → fs ≡ es
+one_list theorems bytes rest [] [] p q = refl
+one_list theorems bytes rest [] (f ∷ []) p q = absurd (no_error_of theorems 1 bytes rest f q p)
+one_list theorems bytes rest [] (f ∷ (g ∷ fs)) p q = absurd q
+one_list theorems bytes rest (e ∷ []) [] p q = absurd (no_error_of theorems 1 bytes rest e p q)
+one_list theorems bytes rest (e ∷ []) (f ∷ []) p q = ap (λ (x : ℕ × ℕ). x ∷ []) (one_error_of theorems 1 bytes rest e f p q)
+one_list theorems bytes rest (e ∷ []) (f ∷ (g ∷ fs)) p q = absurd q
+one_list theorems bytes rest (e ∷ (g ∷ es)) fs p q = absurd p
 
 -- the commands of a script go on where its first commands end
 pub script_goes_on : OneCommand → (s mid last : State) (bytes rest end : List ℕ) (cs ds : List Command) → HasCommands s bytes cs mid rest → HasCommands s bytes ds last end → IsStopped last end → (es : List Command) × (ds ≡ cs ++ es) × HasCommands mid rest es last end
@@ -124,38 +124,38 @@ pub stops_there : (mid last : State) (rest end : List ℕ) (es : List Command) �
 stops_there mid last rest end [] stopped has = (refl, has.1)
 stops_there mid last rest end (e ∷ es) stopped has = absurd (stopped e has.0 has.1)
 
-module _ (laws : Laws) (bytes : List ℕ) (cs : List Command) (mid : State) (rest : List ℕ) (vs : List FirstVerdict) (begins : HasCommands start bytes cs mid rest) (are : AreVerdicts start cs vs) where
+module _ (theorems : Theorems) (bytes : List ℕ) (cs : List Command) (mid : State) (rest : List ℕ) (vs : List FirstVerdict) (begins : HasCommands start bytes cs mid rest) (are : AreVerdicts start cs vs) where
   -- the lines of the first commands' verdicts begin the text of every whole answer
-  pub text_front : (ws : List FirstVerdict) (errors : List (ℕ × ℕ)) → Answers bytes ws errors → (more : List ℕ) × (text_of ws errors ≡ lines_of vs ++ more)
-  text_front ws errors answers =
-      let goes = script_goes_on laws.one_command start mid answers.last bytes rest answers.rest cs answers.commands begins answers.script.begins answers.script.stopped in
-      let lines = lines_front start cs goes.0 vs ws are (subst (λ (ds : List Command). AreVerdicts start ds ws) goes.1 answers.verdicts_are) in
-      let told : List ℕ = concat (map error_line errors) in
-      (lines.0 ++ told, text_split ws errors ∙ ap (λ (xs : List ℕ). xs ++ told) lines.1 ∙ append_assoc (lines_of vs) lines.0 told)
+  pub text_prefix : (ws : List FirstVerdict) (errors : List (ℕ × ℕ)) → Answers bytes ws errors → (more : List ℕ) × (text_of ws errors ≡ lines_of vs ++ more)
+  text_prefix ws errors answers =
+      let goes = script_goes_on theorems.one_command start mid answers.last bytes rest answers.rest cs answers.commands begins answers.script.begins answers.script.stopped in
+      let lines = lines_prefix start cs goes.0 vs ws are (subst (λ (ds : List Command). AreVerdicts start ds ws) goes.1 answers.verdicts_are) in
+      let reported : List ℕ = concat (map error_line errors) in
+      (lines.0 ++ reported, text_split ws errors ∙ ap (λ (xs : List ℕ). xs ++ reported) lines.1 ∙ append_assoc (lines_of vs) lines.0 reported)
 
   -- and where no further command follows they and the errors of what is left over are all its lines
   pub text_whole : IsStopped mid rest → (es : List (ℕ × ℕ)) → AreErrors bytes rest es → (ws : List FirstVerdict) (errors : List (ℕ × ℕ)) → Answers bytes ws errors → text_of ws errors ≡ text_of vs es
-  text_whole stopped es told ws errors answers =
-      let goes = script_goes_on laws.one_command start mid answers.last bytes rest answers.rest cs answers.commands begins answers.script.begins answers.script.stopped in
+  text_whole stopped es reported ws errors answers =
+      let goes = script_goes_on theorems.one_command start mid answers.last bytes rest answers.rest cs answers.commands begins answers.script.begins answers.script.stopped in
       let stop = stops_there mid answers.last rest answers.rest goes.0 stopped goes.2 in
-      let lines = lines_front start cs goes.0 vs ws are (subst (λ (ds : List Command). AreVerdicts start ds ws) goes.1 answers.verdicts_are) in
+      let lines = lines_prefix start cs goes.0 vs ws are (subst (λ (ds : List Command). AreVerdicts start ds ws) goes.1 answers.verdicts_are) in
       let same : lines_of ws ≡ lines_of vs = lines.1 ∙ ap (λ (xs : List ℕ). lines_of vs ++ xs) (lines.2 stop.0) ∙ append_nil (lines_of vs) in
-      let errors_same : errors ≡ es = one_list laws bytes rest es errors told (subst (λ (r : List ℕ). AreErrors bytes r errors) (sym stop.1) answers.errors_are) in
+      let errors_same : errors ≡ es = one_list theorems bytes rest es errors reported (subst (λ (r : List ℕ). AreErrors bytes r errors) (sym stop.1) answers.errors_are) in
       text_split ws errors ∙ ap (λ (xs : List ℕ). xs ++ concat (map error_line errors)) same ∙ sym (text_split vs errors) ∙ ap (λ (xs : List (ℕ × ℕ)). text_of vs xs) errors_same
 
--- the line of a place is counted from the beginning of the text
-line_from_start : (u last : Unread) (place front : List ℕ) (line : ℕ) → u.line ≡ 1 → Took u last → last.bytes ≡ front ++ place → line ≡ line_of_rest last.line last.bytes place → line ≡ line_of_rest 1 u.bytes place
-line_from_start u last place front line first took is told =
-    omega (arith, told, took.line, first, ap line_feeds took.taken, line_feeds-append took.front last.bytes, ap line_feeds is, line_feeds-append front place)
+-- the line of a position is counted from the beginning of the text
+line_from_start : (u last : Unread) (suffix prefix : List ℕ) (line : ℕ) → u.line ≡ 1 → Took u last → last.bytes ≡ prefix ++ suffix → line ≡ line_of_rest last.line last.bytes suffix → line ≡ line_of_rest 1 u.bytes suffix
+line_from_start u last suffix prefix line first took is reported =
+    omega (arith, reported, took.line, first, ap line_feeds took.taken, line_feeds-append took.prefix last.bytes, ap line_feeds is, line_feeds-append prefix suffix)
 
 -- the error of what the turns leave over is the error of the text
-pub errors_told : Laws → (u last : Unread) (state : State) (error : ℕ × ℕ) → u.line ≡ 1 → Took u last → LeavesOver state last error → AreErrors u.bytes last.bytes (error ∷ [])
-errors_told laws u last state error first took over = by over.error_is
+pub errors_reported : Theorems → (u last : Unread) (state : State) (error : ℕ × ℕ) → u.line ≡ 1 → Took u last → LeavesOver state last error → AreErrors u.bytes last.bytes (error ∷ [])
+errors_reported theorems u last state error first took over = by over.error_is
   where
     by : IsErrorOf last.line last.bytes last.bytes error → IsErrorOf 1 u.bytes last.bytes error
     by (inl p) =
-        let front = laws.layout_is_a_front last.bytes in
-        inl (p.0, line_from_start u last (behind_layout last.bytes) front.0 error.0 first took front.1 p.1, p.2)
+        let prefix = theorems.whitespace_is_a_prefix last.bytes in
+        inl (p.0, line_from_start u last (after_whitespace last.bytes) prefix.0 error.0 first took prefix.1 p.1, p.2)
     by (inr p) =
-        let front = laws.error_is_an_end last.bytes error.1 p.0 p.1 in
-        inr (p.0, p.1, line_from_start u last p.0 front.0 error.0 first took front.1 p.2)
+        let prefix = theorems.error_is_an_end last.bytes error.1 p.0 p.1 in
+        inr (p.0, p.1, line_from_start u last p.0 prefix.0 error.0 first took prefix.1 p.2)

@@ -5,9 +5,9 @@ use Rattle.std.proofs.lemmas.List.{append-nil}
 use Rattle.ct_sorts.specs.declared.ids.FunId.{FunId}
 use Rattle.ct_sorts.specs.declared.ids.Symbol.{Symbol}
 use Rattle.ct_sorts.specs.declared.ids.Symbol.TheVariants.{Ctor, Sel, Fun, Def}
-use Rattle.ct_sorts.specs.Names.{IsListed, IsUnavailable}
+use Rattle.ct_sorts.specs.Availability.{IsListed, IsUnavailable}
 use Rattle.ct_sorts.specs.Declarations.{Declarations, Function, start, function_names, symbol_names, with_function}
-use Rattle.ct_sorts.specs.Lookup.{StandsFor}
+use Rattle.ct_sorts.specs.Lookup.{ResolvesTo}
 use Rattle.cosmt.specs.Session.{HasOnlyFunctions}
 
 -- at the start nothing is declared
@@ -29,7 +29,7 @@ unavailable-functions d only name h = by (subst (λ (ns : List (List ℕ)). IsUn
     by : IsUnavailable (codes "true" ∷ (codes "false" ∷ function_names d)) name → IsUnavailable (function_names d) name
     by (inl (zero, e)) = inr (inl (0, e))
     by (inl (suc zero, e)) = inr (inl (1, e))
-    by (inl (suc (suc place), e)) = inl (place, e)
+    by (inl (suc (suc index), e)) = inl (index, e)
     by (inr h) = inr h
 
 pub unavailable-symbols : (d : Declarations) → HasOnlyFunctions d → (name : List ℕ) → IsUnavailable (function_names d) name → IsUnavailable (symbol_names d) name
@@ -41,7 +41,7 @@ abbrev pub AreDeclarable : Declarations → Type 0
 AreDeclarable d = (f : ℕ) (name : List ℕ) → slice_get (function_names d) f ≡ Some name → IsUnavailable [] name → ⊥
 
 -- a name that stands for no function is that of none
-pub no_function : (d : Declarations) → HasOnlyFunctions d → AreDeclarable d → (name : List ℕ) (found : Option Symbol) → StandsFor d name found → ((f : FunId) → found ≡ Some (Fun f) → ⊥) → IsListed (function_names d) name → ⊥
+pub no_function : (d : Declarations) → HasOnlyFunctions d → AreDeclarable d → (name : List ℕ) (found : Option Symbol) → ResolvesTo d name found → ((f : FunId) → found ≡ Some (Fun f) → ⊥) → IsListed (function_names d) name → ⊥
 no_function d only fit name None stands other h = stands (subst (λ (ns : List (List ℕ)). IsListed ns name) (sym (symbols d only)) (suc (suc h.0), h.1))
 no_function d only fit name (Some (Ctor c)) stands other h = fit h.0 name h.1 (by c.0 (subst (λ (ns : List (List ℕ)). slice_get ns c.0 ≡ Some name) only.ctors stands))
   where

@@ -1,9 +1,9 @@
--- Turns: what one command does to what a run has kept, and how turns join.
+-- Turns: what one command does to what a run has stored, and how turns join.
 use Rattle.std.proofs.Common.{◌≡◌, ℕ, ◌+◌, ◌<◌, ◌⊎◌, inl, inr, true, List, [], ◌∷◌, ◌++◌, length, map, Result, Ok, Err, OnErr, Option, refl, ap, sym, ◌∙◌, subst, arith, append_assoc, length-append}
 use Rattle.std.proofs.lemmas.List.{map-append}
 use Rattle.std.proofs.lemmas.Grind.{flat_map-append, common_steps}
-use Rattle.ct_io.specs.Bytes.{appended, GrewByFront, GrewByPart}
-use Rattle.ct_sexpr.specs.Layout.{line_feeds}
+use Rattle.ct_io.specs.Bytes.{appended, GrewByPrefix, GrewByPart}
+use Rattle.ct_sexpr.specs.Whitespace.{line_feeds}
 use Rattle.ct_sexpr.specs.Expression.{Expression}
 use Rattle.ct_sexpr.specs.Reading.{BeginsCommand, HasError}
 use Rattle.ct_sexpr.specs.Unread.{Unread}
@@ -13,12 +13,12 @@ use Rattle.cosmt.specs.Command.{Command, declare, assert, check, State, after, w
 use Rattle.cosmt.specs.Script.{HasCommands, form_not_built}
 use Rattle.cosmt.specs.Verdict.{AreVerdicts}
 use Rattle.cosmt.specs.Output.{line_of, lines_of, BreaksInLine}
-use Rattle.cosmt.specs.Progress.{Kept, Answered, Broke, AnsweredOne, DeclinedOne, BrokeBefore, BrokeAfter, BrokeInLine}
+use Rattle.cosmt.specs.Progress.{Progress, Answered, Broke, AnsweredOne, DeclinedOne, BrokeBefore, BrokeAfter, BrokeInLine}
 use Rattle.cosmt.specs.Turns.{Took, LeavesOver, LeavesNothing}
-use Rattle.cosmt.proofs.WritingLemmas.{append_nil, appended-nothing, appended-twice, front_of_part, front-more, BreaksInLine-one, BreaksInLine-verdicts}
+use Rattle.cosmt.proofs.WritingLemmas.{append_nil, appended-nothing, appended-twice, prefix_of_part, prefix-more, BreaksInLine-one, BreaksInLine-verdicts}
 
 -- something broke in a turn
-pub Broke-turn : (old new : Kept) (u v : Unread) (e : Expression) (line : ℕ) → Gives u v e line → (BrokeBefore old new ⊎ BrokeAfter old e new) → Broke old u.bytes new
+pub Broke-turn : (old new : Progress) (u v : Unread) (e : Expression) (line : ℕ) → Gives u v e line → (BrokeBefore old new ⊎ BrokeAfter old e new) → Broke old u.bytes new
 Broke-turn old new u v e line gives (inl before) = record {
   commands = [];
   last = old.state;
@@ -27,7 +27,7 @@ Broke-turn old new u v e line gives (inl before) = record {
   added = [];
   are = tt;
   verdicts = before.verdicts ∙ sym (append_nil old.verdicts);
-  front = record { count = 0; within = omega arith; grown = before.written ∙ sym (appended-nothing old.written) };
+  prefix = record { count = 0; within = omega arith; grown = before.written ∙ sym (appended-nothing old.written) };
 }
 Broke-turn old new u v e line gives (inr broke) = record {
   commands = broke.command ∷ [];
@@ -37,11 +37,11 @@ Broke-turn old new u v e line gives (inr broke) = record {
   added = broke.added;
   are = broke.are;
   verdicts = broke.verdicts;
-  front = front_of_part (lines_of broke.added) old.written new.written broke.part;
+  prefix = prefix_of_part (lines_of broke.added) old.written new.written broke.part;
 }
 
 -- nothing was done when memory ran out
-pub Broke-nothing : (old : Kept) (bytes : List ℕ) → Broke old bytes old
+pub Broke-nothing : (old : Progress) (bytes : List ℕ) → Broke old bytes old
 Broke-nothing old bytes = record {
   commands = [];
   last = old.state;
@@ -50,11 +50,11 @@ Broke-nothing old bytes = record {
   added = [];
   are = tt;
   verdicts = sym (append_nil old.verdicts);
-  front = record { count = 0; within = omega arith; grown = sym (appended-nothing old.written) };
+  prefix = record { count = 0; within = omega arith; grown = sym (appended-nothing old.written) };
 }
 
 -- a command was answered
-pub Answered-turn : (old new : Kept) (u v : Unread) (e : Expression) (line : ℕ) → u.ended ≡ true → Gives u v e line → AnsweredOne old e new → Answered old u.bytes new v.bytes × Took u v × (length v.bytes < length u.bytes)
+pub Answered-turn : (old new : Progress) (u v : Unread) (e : Expression) (line : ℕ) → u.ended ≡ true → Gives u v e line → AnsweredOne old e new → Answered old u.bytes new v.bytes × Took u v × (length v.bytes < length u.bytes)
 Answered-turn old new u v e line ended gives one = (
   record {
     commands = one.command ∷ [];
@@ -65,38 +65,38 @@ Answered-turn old new u v e line ended gives one = (
     written = one.output;
   },
   record {
-    front = gives.front;
+    prefix = gives.prefix;
     taken = gives.taken;
     line = gives.line_after;
     ended = gives.ended ∙ ended;
   },
-  omega (arith, gives.some, ap length gives.taken, length-append gives.front v.bytes),
+  omega (arith, gives.some, ap length gives.taken, length-append gives.prefix v.bytes),
 )
 
 -- a command was declined
-pub LeavesOver-declined : (old new : Kept) (u v : Unread) (e : Expression) (line : ℕ) → Gives u v e line → DeclinedOne old e new → LeavesOver old.state u (line, form_not_built)
+pub LeavesOver-declined : (old new : Progress) (u v : Unread) (e : Expression) (line : ℕ) → Gives u v e line → DeclinedOne old e new → LeavesOver old.state u (line, form_not_built)
 LeavesOver-declined old new u v e line gives declined = record {
-  stopped = λ c behind takes. declined.none c (sym (gives.only (written c) behind takes.begins).0) takes.fits;
+  stopped = λ c remaining takes. declined.none c (sym (gives.only (written c) remaining takes.begins).0) takes.fits;
   error_is = inl ((e, v.bytes, gives.begins), gives.line_is, refl);
 }
 
 -- the text has an error at which the input ends
-error_in : (u : Unread) (code : ℕ) (place : List ℕ) → HasFault u code place → HasError u.bytes code place
-error_in u code place (inl e) = record { tokens = e.tokens; depth = e.depth; rest = e.rest; part = e.part; error = e.error }
-error_in u code place (inr e) = e.1
+error_in : (u : Unread) (code : ℕ) (suffix : List ℕ) → HasFault u code suffix → HasError u.bytes code suffix
+error_in u code suffix (inl e) = record { tokens = e.tokens; depth = e.depth; rest = e.rest; part = e.part; error = e.error }
+error_in u code suffix (inr e) = e.1
 
 -- the reader found an error
 pub LeavesOver-refused : (state : State) (u v : Unread) (code line : ℕ) → Refuses u v code line → LeavesOver state u (line, code)
 LeavesOver-refused state u v code line refuses = record {
-  stopped = λ c behind takes. refuses.none (written c) behind takes.begins;
-  error_is = inr (refuses.place, error_in u code refuses.place refuses.fault, refuses.line_is);
+  stopped = λ c remaining takes. refuses.none (written c) remaining takes.begins;
+  error_is = inr (refuses.suffix, error_in u code refuses.suffix refuses.fault, refuses.line_is);
 }
 
 -- the input has ended
 pub LeavesNothing-end : (state : State) (u v : Unread) → Ends u v → LeavesNothing state u
 LeavesNothing-end state u v ends = record {
-  stopped = λ c behind takes. ends.none (written c) behind takes.begins;
-  layout = ends.layout;
+  stopped = λ c remaining takes. ends.none (written c) remaining takes.begins;
+  whitespace = ends.whitespace;
 }
 
 -- a fact that holds is one that holds at an error
@@ -105,7 +105,7 @@ at_err (Ok x) p = tt
 at_err (Err e) p = p
 
 -- no command was answered yet
-pub Answered-start : (old : Kept) (bytes : List ℕ) → Answered old bytes old bytes
+pub Answered-start : (old : Progress) (bytes : List ℕ) → Answered old bytes old bytes
 Answered-start old bytes = record {
   commands = [];
   begins = (refl, refl);
@@ -139,7 +139,7 @@ lines-append : (vs ws : List FirstVerdict) → lines_of (vs ++ ws) ≡ lines_of 
 lines-append vs ws = flat_map-append line_of vs ws
 
 -- commands were answered, and then more commands
-pub Answered-more : (old mid new : Kept) (bytes rest end : List ℕ) → Answered old bytes mid rest → Answered mid rest new end → Answered old bytes new end
+pub Answered-more : (old mid new : Progress) (bytes rest end : List ℕ) → Answered old bytes mid rest → Answered mid rest new end → Answered old bytes new end
 Answered-more old mid new bytes rest end first second = record {
   commands = first.commands ++ second.commands;
   begins = HasCommands-append old.state mid.state new.state bytes rest end first.commands second.commands first.begins second.begins;
@@ -150,7 +150,7 @@ Answered-more old mid new bytes rest end first second = record {
 }
 
 -- commands were answered, and then something broke
-pub Broke-later : (old mid new : Kept) (bytes rest : List ℕ) → Answered old bytes mid rest → Broke mid rest new → Broke old bytes new
+pub Broke-later : (old mid new : Progress) (bytes rest : List ℕ) → Answered old bytes mid rest → Broke mid rest new → Broke old bytes new
 Broke-later old mid new bytes rest first broke = record {
   commands = first.commands ++ broke.commands;
   last = broke.last;
@@ -159,19 +159,19 @@ Broke-later old mid new bytes rest first broke = record {
   added = first.added ++ broke.added;
   are = AreVerdicts-append old.state mid.state bytes rest first.commands broke.commands first.added broke.added first.begins first.are broke.are;
   verdicts = broke.verdicts ∙ ap (λ (vs : List FirstVerdict). vs ++ broke.added) first.verdicts ∙ append_assoc old.verdicts first.added broke.added;
-  front = subst (λ (text : List ℕ). GrewByFront text old.written new.written) (sym (lines-append first.added broke.added)) (front-more (lines_of first.added) (lines_of broke.added) old.written mid.written new.written first.written broke.front);
+  prefix = subst (λ (text : List ℕ). GrewByPrefix text old.written new.written) (sym (lines-append first.added broke.added)) (prefix-more (lines_of first.added) (lines_of broke.added) old.written mid.written new.written first.written broke.prefix);
 }
 
--- a verdict was kept, and the sink failed inside its line
+-- a verdict was stored, and the sink failed inside its line
 pub broke_in_its_line : (verdict : FirstVerdict) (old new : List FirstVerdict) (before now : Option (List ℕ)) → new ≡ old ++ verdict ∷ [] → GrewByPart (line_of verdict) before now → BrokeInLine old before new now
-broke_in_its_line verdict old new before now kept_it part = record {
+broke_in_its_line verdict old new before now stored_it part = record {
   added = verdict ∷ [];
-  verdicts = kept_it;
+  verdicts = stored_it;
   breaks = BreaksInLine-one (line_of verdict) before now part;
 }
 
 -- commands were answered, and then the sink failed inside a line
-pub BrokeInLine-later : (old mid : Kept) (bytes rest : List ℕ) (verdicts : List FirstVerdict) (now : Option (List ℕ)) → Answered old bytes mid rest → BrokeInLine mid.verdicts mid.written verdicts now → BrokeInLine old.verdicts old.written verdicts now
+pub BrokeInLine-later : (old mid : Progress) (bytes rest : List ℕ) (verdicts : List FirstVerdict) (now : Option (List ℕ)) → Answered old bytes mid rest → BrokeInLine mid.verdicts mid.written verdicts now → BrokeInLine old.verdicts old.written verdicts now
 BrokeInLine-later old mid bytes rest verdicts now first broke = record {
   added = first.added ++ broke.added;
   verdicts = broke.verdicts ∙ ap (λ (vs : List FirstVerdict). vs ++ broke.added) first.verdicts ∙ append_assoc old.verdicts first.added broke.added;
@@ -187,19 +187,19 @@ line_feeds-append (x ∷ xs) ys = grind (arith, common_steps, line_feeds-append 
 -- nothing was taken yet
 pub Took-start : (u : Unread) → u.ended ≡ true → Took u u
 Took-start u ended = record {
-  front = [];
+  prefix = [];
   taken = refl;
   line = omega arith;
   ended = ended;
 }
 
--- a front was taken, and then another
+-- a prefix was taken, and then another
 pub Took-more : (u v w : Unread) → Took u v → Took v w → Took u w
 Took-more u v w first second =
-    let whole : u.bytes ≡ (first.front ++ second.front) ++ w.bytes = first.taken ∙ ap (λ (b : List ℕ). first.front ++ b) second.taken ∙ sym (append_assoc first.front second.front w.bytes) in
+    let whole : u.bytes ≡ (first.prefix ++ second.prefix) ++ w.bytes = first.taken ∙ ap (λ (b : List ℕ). first.prefix ++ b) second.taken ∙ sym (append_assoc first.prefix second.prefix w.bytes) in
     record {
-      front = first.front ++ second.front;
+      prefix = first.prefix ++ second.prefix;
       taken = whole;
-      line = omega (arith, first.line, second.line, ap line_feeds first.taken, ap line_feeds second.taken, line_feeds-append first.front v.bytes, line_feeds-append second.front w.bytes);
+      line = omega (arith, first.line, second.line, ap line_feeds first.taken, ap line_feeds second.taken, line_feeds-append first.prefix v.bytes, line_feeds-append second.prefix w.bytes);
       ended = second.ended;
     }

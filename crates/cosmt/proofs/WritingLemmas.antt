@@ -4,7 +4,7 @@ use Rattle.std.proofs.Common.{◌≡◌, ℕ, ◌+◌, List, [], ◌∷◌, ◌+
 use Rattle.std.proofs.Math.Seq.{take-append-add}
 use Rattle.std.proofs.lemmas.List.Concat.{concat_is}
 use Rattle.std.proofs.lemmas.List.Folds.{concat-append, flat_map-map}
-use Rattle.ct_io.specs.Bytes.{appended, GrewByFront, GrewByPart}
+use Rattle.ct_io.specs.Bytes.{appended, GrewByPrefix, GrewByPart}
 use Rattle.cosmt.specs.declared.verdict.FirstVerdict.{FirstVerdict}
 use Rattle.cosmt.specs.Output.{line_of, lines_of, error_line, text_of, BreaksInLine}
 
@@ -22,17 +22,17 @@ pub appended-twice : (xs ys : List ℕ) (o : Option (List ℕ)) → appended ys 
 appended-twice xs ys None = refl
 appended-twice xs ys (Some bytes) = ap (λ (b : List ℕ). Some b) (append_assoc bytes xs ys)
 
--- a part of a piece is a front of it
-pub front_of_part : (piece : List ℕ) (old new : Option (List ℕ)) → GrewByPart piece old new → GrewByFront piece old new
-front_of_part piece old new part = record { count = part.count; within = omega (arith, part.short); grown = part.grown }
+-- a part of a piece is a prefix of it
+pub prefix_of_part : (piece : List ℕ) (old new : Option (List ℕ)) → GrewByPart piece old new → GrewByPrefix piece old new
+prefix_of_part piece old new part = record { count = part.count; within = omega (arith, part.short); grown = part.grown }
 
--- a front of the second of two pieces is a front of both
-pub front-more : (first second : List ℕ) (old mid new : Option (List ℕ)) → mid ≡ appended first old → GrewByFront second mid new → GrewByFront (first ++ second) old new
-front-more first second old mid new begun front = record {
-  count = length first + front.count;
-  within = omega (arith, front.within, length-append first second);
-  grown = front.grown ∙ ap (appended (take front.count second)) begun ∙ appended-twice first (take front.count second) old
-      ∙ ap (λ (text : List ℕ). appended text old) (sym (take-append-add first second front.count));
+-- a prefix of the second of two pieces is a prefix of both
+pub prefix-more : (first second : List ℕ) (old mid new : Option (List ℕ)) → mid ≡ appended first old → GrewByPrefix second mid new → GrewByPrefix (first ++ second) old new
+prefix-more first second old mid new begun prefix = record {
+  count = length first + prefix.count;
+  within = omega (arith, prefix.within, length-append first second);
+  grown = prefix.grown ∙ ap (appended (take prefix.count second)) begun ∙ appended-twice first (take prefix.count second) old
+      ∙ ap (λ (text : List ℕ). appended text old) (sym (take-append-add first second prefix.count));
 }
 
 -- the lines of verdicts, one after another

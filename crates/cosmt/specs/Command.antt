@@ -3,7 +3,7 @@ use Rattle.std.specs.Prelude.{◌≡◌, ℕ, ◌<◌, Bool, true, false, List, 
 use Rattle.ct_sexpr.specs.Expression.{Expression, word, list, Expressions, none, more}
 use Rattle.ct_sexpr.specs.Reading.{BeginsCommand}
 use Rattle.ct_sexpr.specs.Written.{is_reserved}
-use Rattle.ct_sorts.specs.Names.{IsListed, IsUnavailable}
+use Rattle.ct_sorts.specs.Availability.{IsListed, IsUnavailable}
 
 -- an assertion: a constant, or its negation
 pub record Formula : Type 0 where
@@ -61,7 +61,7 @@ after s (declare name) = record { declared = s.declared ++ name ∷ []; asserted
 after s (assert formula) = record { declared = s.declared; asserted = s.asserted ++ formula ∷ [] }
 after s check = s
 
--- behind blanks and comments, the bytes begin with the command, which may stand in the state; the rest is what follows it
+-- after whitespace and comments, the bytes begin with the command, which may stand in the state; the rest is what follows it
 pub record Takes (s : State) (bytes : List ℕ) (command : Command) (rest : List ℕ) : Type 0 where
   pub fits : Fits s command
   pub begins : BeginsCommand bytes (written command) rest

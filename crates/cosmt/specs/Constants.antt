@@ -3,7 +3,7 @@ use Rattle.std.specs.Prelude.{◌≡◌, ℕ, ◌≤◌, Bool, true, false, List
 use Rattle.ct_sorts.specs.Declarations.{Declarations, Function, bool_sort}
 use Rattle.ct_terms.specs.declared.ids.Lit.{Lit}
 use Rattle.ct_terms.specs.declared.term.Core.TheVariants.{Apply, Not}
-use Rattle.ct_terms.specs.Table.{Table}
+use Rattle.ct_terms.specs.Terms.{Terms}
 use Rattle.cosmt.specs.Literals.{literal}
 use Rattle.cosmt.specs.declared.session.Constant.{Constant}
 
@@ -15,17 +15,17 @@ pub record IsConstant (d : Declarations) (f : ℕ) : Type 0 where
   pub result : function.result ≡ bool_sort
 
 -- the table has grown by at most so many terms
-pub record GrowsBy (most : ℕ) (old new : Table) : Type 0 where
-  pub more : Table
+pub record GrowsBy (most : ℕ) (old new : Terms) : Type 0 where
+  pub more : Terms
   pub few : length more ≤ most
   pub grown : new ≡ old ++ more
 
 -- the two terms of the constant with this number
-pub record AreTermsOf (table : Table) (f : ℕ) (constant : Constant) : Type 0 where
+pub record AreTermsOf (table : Terms) (f : ℕ) (constant : Constant) : Type 0 where
   pub atom : slice_get table constant.atom.0 ≡ Some (Apply (record { 0 = f }) [], bool_sort)
   pub negation : slice_get table constant.negation.0 ≡ Some (Not constant.atom, bool_sort)
 
-abbrev pub AreTermsOfSome : Table → Constant → Type 0
+abbrev pub AreTermsOfSome : Terms → Constant → Type 0
 AreTermsOfSome table constant = (f : ℕ) × AreTermsOf table f constant
 
 -- the constant is asserted without a negation

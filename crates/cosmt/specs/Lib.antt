@@ -3,7 +3,7 @@ pub mod Script
 pub mod Verdict
 pub mod Output
 pub mod Run
-pub mod Places
+pub mod FirstIndices
 pub mod Literals
 pub mod Form
 pub mod Progress

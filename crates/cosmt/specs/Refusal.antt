@@ -12,7 +12,7 @@ abbrev pub status_of_error : SinkError → Status
 status_of_error sink.Fault = status.OutputFault
 status_of_error sink.NoMemory = status.NoMemory
 
--- the error is kept and its line written, or a part of it; where memory ran out before it was kept nothing was written
+-- the error is stored and its line written, or a part of it; where memory ran out before it was stored nothing was written
 abbrev pub Refused : ℕ × ℕ → Status → List (ℕ × ℕ) → Option (List ℕ) → Option (List ℕ) → Type 0
 Refused error status.Refused errors old new = (errors ≡ error ∷ []) × (new ≡ appended (error_line error) old)
 Refused error status.OutputFault errors old new = (errors ≡ error ∷ []) × GrewByPart (error_line error) old new

@@ -4,7 +4,7 @@ use Rattle.ct_sorts.specs.declared.ids.SortId.{SortId}
 use Rattle.ct_terms.specs.declared.ids.Lit.{Lit}
 use Rattle.ct_terms.specs.declared.term.Core.{Core}
 use Rattle.ct_terms.specs.declared.term.Core.TheVariants.{Apply}
-use Rattle.ct_terms.specs.Table.{Table, AreSorted}
+use Rattle.ct_terms.specs.Terms.{Terms, AreSorted}
 use Rattle.ct_sorts.specs.Declarations.{Declarations, start, ctor_names, sel_names, definition_names}
 use Rattle.cosmt.specs.Command.{Formula, State}
 use Rattle.cosmt.specs.Constants.{AreTermsOf}
@@ -16,7 +16,7 @@ constant_of (Some (Apply f args, s)) = f.0
 constant_of _ = 0
 
 -- the formula that a literal over the table stands for
-abbrev pub formula_of : List (List ℕ) → Table → Lit → Formula
+abbrev pub formula_of : List (List ℕ) → Terms → Lit → Formula
 formula_of names table l = record { name = unwrap_or (slice_get names (constant_of (slice_get table l.term.0))) []; positive = l.positive }
 
 -- the literal is over the term of a constant
@@ -27,7 +27,7 @@ pub record IsOverConstant (constants : List Constant) (l : Lit) : Type 0 where
   pub is : constant.atom ≡ l.term
 
 -- the names and the assertions
-abbrev pub state_of : List (List ℕ) → Table → List Lit → State
+abbrev pub state_of : List (List ℕ) → Terms → List Lit → State
 state_of names table literals = record { declared = names; asserted = map (formula_of names table) literals }
 
 -- beside Bool with its constructors, nothing but functions is declared
@@ -38,7 +38,7 @@ pub record HasOnlyFunctions (d : Declarations) : Type 0 where
   pub definitions : definition_names d ≡ []
 
 -- nothing but functions is declared, each constant has its two terms, which are well sorted over the signature, and each literal is over a constant
-pub record IsKept (d : Declarations) (table : Table) (constants : List Constant) (literals : List Lit) : Type 0 where
+pub record IsSessionState (d : Declarations) (table : Terms) (constants : List Constant) (literals : List Lit) : Type 0 where
   pub only : HasOnlyFunctions d
   pub few : length constants ≤ length d.functions
   pub small : length table ≤ 2 + 2 * length d.functions

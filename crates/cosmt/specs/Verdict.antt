@@ -1,25 +1,25 @@
 -- What a verdict says, by the meaning of the assertions in force.
 use Rattle.std.specs.Prelude.{◌≡◌, ℕ, Bool, true, false, List, [], ◌∷◌, length, Some, slice_get}
-use Rattle.ct_sorts.specs.Names.{IsListed}
+use Rattle.ct_sorts.specs.Availability.{IsListed}
 use Rattle.cosmt.specs.Command.{Formula, Command, declare, assert, check, State, after}
 use Rattle.cosmt.specs.declared.verdict.FirstVerdict.{FirstVerdict}
 use Rattle.cosmt.specs.declared.verdict.FirstVerdict.TheVariants.{Sat, Unsat}
 
 -- under these values of the declared constants, in order, the assertion is true: its constant is declared, and
--- is true where it is asserted bare, and false where its negation is
+-- is true where it is asserted positively, and false where its negation is
 pub record IsTrueUnder (declared : List (List ℕ)) (values : List Bool) (formula : Formula) : Type 0 where
   pub known : IsListed declared formula.name
-  pub value : (place : ℕ) → slice_get declared place ≡ Some formula.name → slice_get values place ≡ Some formula.positive
+  pub value : (index : ℕ) → slice_get declared index ≡ Some formula.name → slice_get values index ≡ Some formula.positive
 
 -- one value for each declared constant, under which every assertion in force is true
 pub record Satisfies (s : State) (values : List Bool) : Type 0 where
   pub each : length values ≡ length s.declared
-  pub holds : (place : ℕ) (formula : Formula) → slice_get s.asserted place ≡ Some formula → IsTrueUnder s.declared values formula
+  pub holds : (index : ℕ) (formula : Formula) → slice_get s.asserted index ≡ Some formula → IsTrueUnder s.declared values formula
 
--- one assertion is a constant, and another is its negation; the places count from 0
+-- one assertion is a constant, and another is its negation; the indices count from 0
 pub record Contradicts (s : State) (i j : ℕ) : Type 0 where
   pub name : List ℕ
-  pub bare : slice_get s.asserted i ≡ Some (record { name = name; positive = true })
+  pub positive_at : slice_get s.asserted i ≡ Some (record { name = name; positive = true })
   pub negated : slice_get s.asserted j ≡ Some (record { name = name; positive = false })
 
 -- the verdict is true of the state

@@ -5,7 +5,7 @@ ghost use Rattle.std.specs.Bool.{MatchBool};
 ghost use Rattle.ct_io.specs.Fault.{HasCause};
 ghost use Rattle.ct_sexpr.specs.View.{expression_of};
 ghost use Rattle.cosmt.specs.Output.{line_of};
-ghost use Rattle.cosmt.specs.Progress.{kept, AnsweredOne, DeclinedOne, BrokeBefore, BrokeAfter, BrokeCheck, BrokeInLine, Checked};
+ghost use Rattle.cosmt.specs.Progress.{stored, AnsweredOne, DeclinedOne, BrokeBefore, BrokeAfter, BrokeCheck, BrokeInLine, Checked};
 
 use crate::command::{FirstCommand, first_command};
 use crate::session::Session;
@@ -23,11 +23,11 @@ pub fn answer<K: Sink>(
     out: &mut K,
 ) -> Result<bool, SinkError>
     ensures answered { IfOk result (λ yes. MatchBool yes
-        (AnsweredOne (kept session.old verdicts.old.items (K.written out.old)) (expression_of expr.now) (kept session.new verdicts.new.items (K.written out.new)))
-        (DeclinedOne (kept session.old verdicts.old.items (K.written out.old)) (expression_of expr.now) (kept session.new verdicts.new.items (K.written out.new)))) }
+        (AnsweredOne (stored session.old verdicts.old.items (K.written out.old)) (expression_of expr.now) (stored session.new verdicts.new.items (K.written out.new)))
+        (DeclinedOne (stored session.old verdicts.old.items (K.written out.old)) (expression_of expr.now) (stored session.new verdicts.new.items (K.written out.new)))) }
     ensures broke { OnErr result
-        (BrokeBefore (kept session.old verdicts.old.items (K.written out.old)) (kept session.new verdicts.new.items (K.written out.new))
-        ⊎ BrokeAfter (kept session.old verdicts.old.items (K.written out.old)) (expression_of expr.now) (kept session.new verdicts.new.items (K.written out.new))) }
+        (BrokeBefore (stored session.old verdicts.old.items (K.written out.old)) (stored session.new verdicts.new.items (K.written out.new))
+        ⊎ BrokeAfter (stored session.old verdicts.old.items (K.written out.old)) (expression_of expr.now) (stored session.new verdicts.new.items (K.written out.new))) }
     ensures fault { IsErrOf result SinkError.Fault
         → BrokeInLine verdicts.old.items (K.written out.old) verdicts.new.items (K.written out.new) }
     ensures cause { HasCause SinkError.Fault (K.faults out.old) (K.faults out.new) result }
@@ -53,10 +53,10 @@ fn check<K: Sink>(
     out: &mut K,
 ) -> Result<(), SinkError>
     ensures checked { OnOk result
-        (Checked (kept session.now verdicts.old.items (K.written out.old)) (kept session.now verdicts.new.items (K.written out.new))) }
+        (Checked (stored session.now verdicts.old.items (K.written out.old)) (stored session.now verdicts.new.items (K.written out.new))) }
     ensures broke { OnErr result
-        (BrokeBefore (kept session.now verdicts.old.items (K.written out.old)) (kept session.now verdicts.new.items (K.written out.new))
-        ⊎ BrokeCheck (kept session.now verdicts.old.items (K.written out.old)) (kept session.now verdicts.new.items (K.written out.new))) }
+        (BrokeBefore (stored session.now verdicts.old.items (K.written out.old)) (stored session.now verdicts.new.items (K.written out.new))
+        ⊎ BrokeCheck (stored session.now verdicts.old.items (K.written out.old)) (stored session.now verdicts.new.items (K.written out.new))) }
     ensures fault { IsErrOf result SinkError.Fault
         → BrokeInLine verdicts.old.items (K.written out.old) verdicts.new.items (K.written out.new) }
     ensures cause { HasCause SinkError.Fault (K.faults out.old) (K.faults out.new) result }

@@ -1,7 +1,7 @@
 //! The script is read whole.
 
 ghost use Rattle.std.specs.Prelude.{◌≡◌, ℕ, List, ◌<◌, ◌≤◌, true, length, Some, IfSome, IfOk, OnOk, IsErrOf};
-ghost use Rattle.ct_io.specs.Bytes.{Reads, behind};
+ghost use Rattle.ct_io.specs.Bytes.{ReadsBytes, remaining};
 ghost use Rattle.ct_io.specs.Fault.{HasCause};
 ghost use Rattle.ct_io.specs.declared.desk.Slot.TheVariants.{Script};
 ghost use Rattle.cosmt.specs.Fresh.{fresh};
@@ -95,8 +95,8 @@ fn open_script<D: Desk>(desk: &mut D, name: &str) -> Result<(), InputError>
 /// Reads the next piece of the script.
 fn read_piece<D: Desk>(desk: &mut D, buffer: &mut [u8]) -> Result<usize, InputError>
     ensures bound { IfOk result (λ n. n ≤ length buffer.old) }
-    ensures bytes { IfOk result (λ n. IfSome (D.left desk.old Script) (λ bytes. Reads bytes n buffer.old buffer.new)) }
-    ensures taken { IfOk result (λ n. D.left desk.new Script ≡ behind n (D.left desk.old Script)) }
+    ensures bytes { IfOk result (λ n. IfSome (D.left desk.old Script) (λ bytes. ReadsBytes bytes n buffer.old buffer.new)) }
+    ensures taken { IfOk result (λ n. D.left desk.new Script ≡ remaining n (D.left desk.old Script)) }
     ensures fits { IsErrOf result InputError.TooLong → ⊥ }
     ensures cause { HasCause InputError.Fault (D.faults desk.old) (D.faults desk.new) result }
 {

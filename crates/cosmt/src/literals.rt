@@ -2,10 +2,10 @@
 
 ghost use Rattle.std.specs.Prelude.{◌≡◌, ℕ, List, length, ◌∷◌, ◌++◌, [], ◌↔◌, true, Some, slice_get, OnOk, OnErr, IsTrue};
 ghost use Rattle.cosmt.specs.Literals.{IsConflict, AreMarked, literal, both};
-ghost use Rattle.cosmt.specs.Places.{place_at};
+ghost use Rattle.cosmt.specs.FirstIndices.{index_at};
 ghost use Rattle.ct_terms.specs.declared.ids.Lit.{Lit};
 
-use crate::places::FirstPlaces;
+use crate::indices::FirstIndices;
 use ct_terms::{Lit, TermId};
 use std::alloc::{AllocError, Global};
 use std::marker::Model;
@@ -14,8 +14,8 @@ use std::marker::Model;
 #[derive(Drop)]
 pub struct Literals {
     list: Vec<Lit>,
-    bare: FirstPlaces,
-    negated: FirstPlaces,
+    positive_at: FirstIndices,
+    negated: FirstIndices,
     conflict: Option<(u64, u64)>,
 }
 
@@ -28,7 +28,7 @@ impl Model for Literals {
 
     ghost view = { λ l. l.list.items };
 
-    ghost invariant = { λ l. IsIndexed l.list.items l.bare l.negated l.conflict };
+    ghost invariant = { λ l. IsIndexed l.list.items l.positive_at l.negated l.conflict };
 }
 
 impl Literals {
@@ -38,8 +38,8 @@ impl Literals {
     {
         Literals {
             list: Vec::new(alloc),
-            bare: FirstPlaces::new(alloc),
-            negated: FirstPlaces::new(alloc),
+            positive_at: FirstIndices::new(alloc),
+            negated: FirstIndices::new(alloc),
             conflict: None,
         }
     }
@@ -49,17 +49,20 @@ impl Literals {
         ensures ok { OnOk result (self.new ≡ self.old ++ literal ∷ []) }
         ensures err { OnErr result (self.new ≡ self.old) }
     {
-        let place = self.list.len() as u64;
+        let index = self.list.len() as u64;
         self.list.reserve(1)?;
-        mark(&mut self.bare, &mut self.negated, literal, place)?;
-        self.conflict = self
-            .conflict
-            .or(opposites(&self.bare, &self.negated, literal.term));
+        mark(&mut self.positive_at, &mut self.negated, literal, index)?;
+        self.conflict = self.conflict.or(opposite_pair(
+            &self.positive_at,
+            &self.negated,
+            literal.term,
+        ));
         self.list.push(literal).unwrap();
         Ok(())
     }
 
-    /// The places of a literal without a negation and of the opposite one, where the list has such a pair.
+    /// The indices of a literal without a negation and of the opposite one, where the list has such
+    /// a pair.
     pub fn conflict(&self) -> Option<(u64, u64)>
         ensures { IsConflict self.now result }
     {
@@ -67,37 +70,41 @@ impl Literals {
     }
 
     /// Whether the term itself is among the literals.
-    pub fn has_bare(&self, term: TermId) -> bool
+    pub fn has_positive(&self, term: TermId) -> bool
         ensures { IsTrue result ↔ ((i : ℕ) × (slice_get self.now i ≡ Some (literal term.0 true))) }
     {
-        self.bare.at(term).is_some()
+        self.positive_at.at(term).is_some()
     }
 }
 
-/// Marks the place of a literal that is put at the end of a list.
+/// Marks the index of a literal that is put at the end of a list.
 fn mark(
-    bare: &mut FirstPlaces,
-    negated: &mut FirstPlaces,
+    positive_at: &mut FirstIndices,
+    negated: &mut FirstIndices,
     literal: Lit,
-    place: u64,
+    index: u64,
 ) -> Result<(), AllocError>
-    ensures ok { OnOk result ((list : List Lit) → place ≡ length list → AreMarked list bare.old negated.old
-        → AreMarked (list ++ literal ∷ []) bare.new negated.new) }
-    ensures err { OnErr result ((list : List Lit) → AreMarked list bare.old negated.old → AreMarked list bare.new negated.new) }
+    ensures ok { OnOk result ((list : List Lit) → index ≡ length list → AreMarked list positive_at.old negated.old
+        → AreMarked (list ++ literal ∷ []) positive_at.new negated.new) }
+    ensures err { OnErr result ((list : List Lit) → AreMarked list positive_at.old negated.old → AreMarked list positive_at.new negated.new) }
 {
     if literal.positive {
-        bare.note(literal.term, place)?;
+        positive_at.note(literal.term, index)?;
         return Ok(());
     }
-    negated.note(literal.term, place)?;
+    negated.note(literal.term, index)?;
     Ok(())
 }
 
-/// The first places of the two literals of the term, where both are there.
-fn opposites(bare: &FirstPlaces, negated: &FirstPlaces, term: TermId) -> Option<(u64, u64)>
-    ensures { result ≡ both (place_at bare.now term.0) (place_at negated.now term.0) }
+/// The first indices of the two literals of the term, where both are there.
+fn opposite_pair(
+    positive_at: &FirstIndices,
+    negated: &FirstIndices,
+    term: TermId,
+) -> Option<(u64, u64)>
+    ensures { result ≡ both (index_at positive_at.now term.0) (index_at negated.now term.0) }
 {
-    match (bare.at(term), negated.at(term)) {
+    match (positive_at.at(term), negated.at(term)) {
         (Some(i), Some(j)) => Some((i, j)),
         _ => None,
     }

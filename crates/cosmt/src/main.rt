@@ -4,9 +4,9 @@
 mod answer;
 mod command;
 mod error_line;
+mod indices;
 mod input;
 mod literals;
-mod places;
 mod report;
 mod run;
 mod session;
@@ -17,7 +17,7 @@ mod turn;
 mod verdict;
 
 use crate::report::{Report, unanswered};
-use crate::run::{run, tell_usage};
+use crate::run::{report_usage, run};
 use ct_io::{HostDesk, HostSink, Status, Text};
 use std::process::ExitCode;
 use std::{env, io};
@@ -31,12 +31,12 @@ fn main(rt: HostRuntime) -> ExitCode {
             &mut HostDesk::new(rt),
             &mut out,
         ),
-        Err(error) => without_words(&rt, error.kind(), &mut out),
+        Err(error) => without_arguments(&rt, error.kind(), &mut out),
     };
     ExitCode::from(report.status.code())
 }
 
-/// The words of the command line, without the program's own name.
+/// The arguments of the command line, without the program's own name.
 fn words(rt: &HostRuntime) -> io::Result<Vec<Text>> {
     let mut words = Vec::new(rt.alloc());
     for word in env::args(rt)?.skip(1) {
@@ -45,14 +45,14 @@ fn words(rt: &HostRuntime) -> io::Result<Vec<Text>> {
     Ok(words)
 }
 
-/// A word that is not UTF-8 is none of the accepted forms; else memory ran out.
-fn without_words(
+/// An argument that is not UTF-8 is none of the accepted forms; else memory ran out.
+fn without_arguments(
     rt: &HostRuntime,
     error: io::ErrorKind,
     out: &mut HostSink<HostRuntime>,
 ) -> Report {
     if error == io::ErrorKind::InvalidData {
-        return tell_usage(rt.alloc(), out);
+        return report_usage(rt.alloc(), out);
     }
     unanswered(rt.alloc(), Status::NoMemory)
 }

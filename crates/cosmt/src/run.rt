@@ -3,7 +3,7 @@
 ghost use Rattle.std.specs.Prelude.{◌≡◌, ◌≢◌, ℕ, List, [], ◌∷◌, Some, None, IfSome, ◌≤◌};
 ghost use Rattle.ct_io.specs.Fault.{Rose};
 ghost use Rattle.ct_io.specs.declared.status.Status.TheVariants as status;
-ghost use Rattle.cosmt.specs.Run.{NamesFile, AreFaulty, Solves, TellsUsage};
+ghost use Rattle.cosmt.specs.Run.{NamesFile, AreFaulty, Solves, ReportsUsage};
 
 use crate::report::{Report, status_of, unanswered};
 use crate::solve::solve;
@@ -13,17 +13,18 @@ use std::alloc::Global;
 /// How the program is called.
 const USAGE: &str = "usage: cosmt [FILE | --audit PROOF FILE | --gen N]\n";
 
-/// Runs the program on the words of its command line, without its own name.
+/// Runs the program on the arguments of its command line, without its own name.
 ///
-/// No word, or an empty one, names standard input, and a word that does not begin with `-` names a file. The
-/// script there is answered command by command; what is left over where no command of the accepted form
-/// follows is told in one error line. All other words are answered with the line of usage.
+/// No argument, or an empty one, names standard input, and an argument that does not begin with `-`
+/// names a file. The script there is answered command by command; what is left over where no
+/// command of the accepted form follows is reported in one error line. All other arguments are
+/// answered with the line of usage.
 pub fn run<D: Desk, K: Sink>(alloc: Global, words: &[Text], desk: &mut D, out: &mut K) -> Report
     // Where the desk tells what it holds under the script's name, the report and what was written are its answers.
     ensures solved { (name bytes : List ℕ) → NamesFile words.now name → D.held desk.old name ≡ Some bytes
         → Solves bytes result.status result.verdicts.items result.errors.items (K.written out.old) (K.written out.new) }
     ensures usage { AreFaulty words.now
-        → TellsUsage result.status result.verdicts.items result.errors.items (K.written out.old) (K.written out.new) }
+        → ReportsUsage result.status result.verdicts.items result.errors.items (K.written out.old) (K.written out.new) }
 
     // Where the desk tells nothing, as that of the host, there are still bytes, whatever the status, of which the
     // report is right, and what was written where the sink tells it.
@@ -41,13 +42,13 @@ pub fn run<D: Desk, K: Sink>(alloc: Global, words: &[Text], desk: &mut D, out: &
 {
     match script_name(words) {
         Some(name) => solve(alloc, name, desk, out),
-        None => tell_usage(alloc, out),
+        None => report_usage(alloc, out),
     }
 }
 
 /// Writes the line of usage, and nothing else.
-pub fn tell_usage<K: Sink>(alloc: Global, out: &mut K) -> Report
-    ensures told { TellsUsage result.status result.verdicts.items result.errors.items (K.written out.old) (K.written out.new) }
+pub fn report_usage<K: Sink>(alloc: Global, out: &mut K) -> Report
+    ensures reported { ReportsUsage result.status result.verdicts.items result.errors.items (K.written out.old) (K.written out.new) }
     ensures output { result.status ≡ status.OutputFault → Rose (K.faults out.old) (K.faults out.new) }
     ensures count { K.faults out.old ≤ K.faults out.new }
 {
@@ -58,7 +59,7 @@ pub fn tell_usage<K: Sink>(alloc: Global, out: &mut K) -> Report
     unanswered(alloc, status)
 }
 
-/// The name of the script. `None` where the words have none of the accepted forms.
+/// The name of the script. `None` where the arguments have none of the accepted forms.
 fn script_name(words: &[Text]) -> Option<&str>
     ensures named { IfSome result (λ name. NamesFile words.now name.now) }
     ensures faulty { result ≡ None → AreFaulty words.now }
@@ -70,7 +71,7 @@ fn script_name(words: &[Text]) -> Option<&str>
     }
 }
 
-/// The word where it may name a file: it does not begin with `-`.
+/// The argument where it may name a file: it does not begin with `-`.
 fn file_name(word: &str) -> Option<&str>
     ensures named { IfSome result (λ name. NamesFile (word.now ∷ []) name.now) }
     ensures faulty { result ≡ None → AreFaulty (word.now ∷ []) }

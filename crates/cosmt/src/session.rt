@@ -2,9 +2,9 @@
 
 ghost use Rattle.std.specs.Prelude.{◌≡◌, ◌+◌, ◌≤◌, ◌<◌, [], length, Some, slice_get, IfOk, OnErr, MatchOption};
 ghost use Rattle.std.specs.Bool.{MatchBool};
-ghost use Rattle.ct_sorts.specs.Names.{IsListed};
+ghost use Rattle.ct_sorts.specs.Availability.{IsListed};
 ghost use Rattle.ct_sorts.specs.Declarations.{function_names, with_function, bool_sort};
-ghost use Rattle.ct_terms.specs.Table.{IsWellSorted, AreSorted, StandsSorted, most_terms};
+ghost use Rattle.ct_terms.specs.Terms.{IsWellSorted, AreSorted, StandsSorted, most_terms};
 ghost use Rattle.cosmt.specs.Command.{declare, assert, start, MayDeclare, Fits, after};
 ghost use Rattle.cosmt.specs.Constants.{IsConstant, GrowsBy, AreTermsOf, AreTermsOfSome, AreValues};
 ghost use Rattle.cosmt.specs.Form.{command_of};
@@ -34,7 +34,7 @@ pub struct Constant {
 
 /// What a script has declared and asserted so far. An assertion is the literal of its term.
 ///
-/// After an error, which is want of memory, the session is to be dropped.
+/// After an error, which is always out of memory, the session is to be dropped.
 #[derive(Drop)]
 pub struct Session {
     signature: Signature,
@@ -48,12 +48,12 @@ impl Model for Session {
 
     ghost Value = { State };
 
-    ghost use Rattle.cosmt.specs.Session.{state_of, IsKept};
+    ghost use Rattle.cosmt.specs.Session.{state_of, IsSessionState};
     ghost use Rattle.ct_sorts.specs.Declarations.{function_names};
 
     ghost view = { λ s. state_of (function_names s.signature) s.terms s.literals };
 
-    ghost invariant = { λ s. IsKept s.signature s.terms s.constants.items s.literals };
+    ghost invariant = { λ s. IsSessionState s.signature s.terms s.constants.items s.literals };
 }
 
 impl Session {
@@ -243,7 +243,7 @@ fn values_of(
 {
     let mut values = Vec::new(alloc);
     for constant in constants {
-        values.push(literals.has_bare(constant.atom))?;
+        values.push(literals.has_positive(constant.atom))?;
     }
     Ok(values)
 }

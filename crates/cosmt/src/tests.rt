@@ -26,9 +26,9 @@ const STEADY: Setting = Setting {
     piece: WHOLE,
 };
 
-/// What a run told.
+/// What a run reported.
 #[derive(Drop)]
-struct Told {
+struct Reported {
     /// The status, the number of verdicts, the last verdict and the errors.
     report: String,
     /// What was written.
@@ -61,33 +61,33 @@ fn desk_of(alloc: Global, script: Vec<u8>, setting: Setting) -> Result<DeskInMem
     Ok(DeskInMemory::new(files, fails, setting.piece.max(1)))
 }
 
-fn run_words(
+fn run_arguments(
     alloc: Global,
     words: &[&str],
     script: Vec<u8>,
     setting: Setting,
-) -> Result<Told, AllocError> {
+) -> Result<Reported, AllocError> {
     let words = texts(alloc, words)?;
     let mut desk = desk_of(alloc, script, setting)?;
     let fails = numbers(alloc, setting.sink_fails)?;
     let mut sink = SinkInMemory::new(alloc, fails, setting.piece.max(1));
     let report = run(alloc, words.as_slice(), &mut desk, &mut sink);
     let (count, last) = (report.verdicts.len(), report.verdicts.last());
-    Ok(Told {
+    Ok(Reported {
         report: format!(in alloc; "{:?} {count} {last:?} {:?}", report.status, report.errors)?,
         output: sink.bytes().to_vec(alloc)?,
         reads: desk.calls(),
     })
 }
 
-fn run_script(alloc: Global, script: &[u8], setting: Setting) -> Result<Told, AllocError> {
-    run_words(alloc, &["s"], script.to_vec(alloc)?, setting)
+fn run_script(alloc: Global, script: &[u8], setting: Setting) -> Result<Reported, AllocError> {
+    run_arguments(alloc, &["s"], script.to_vec(alloc)?, setting)
 }
 
-fn expect(rt: &(impl Abort + Print), told: &Told, report: &str, output: &str, case: &str) {
-    assert_eq!(rt; told.report.as_str(), report, "the report of {case:?}");
+fn expect(rt: &(impl Abort + Print), reported: &Reported, report: &str, output: &str, case: &str) {
+    assert_eq!(rt; reported.report.as_str(), report, "the report of {case:?}");
     assert_eq!(rt;
-        told.output.as_slice(),
+        reported.output.as_slice(),
         output.as_bytes(),
         "the output of {case:?}"
     );
@@ -117,42 +117,42 @@ fn answers_each_check(rt: HostRuntime) -> Result<(), Fail> {
         ),
     ];
     for (script, report, output) in cases {
-        let told = run_script(rt.alloc(), script.as_bytes(), STEADY)?;
-        expect(&rt, &told, report, output, script);
+        let reported = run_script(rt.alloc(), script.as_bytes(), STEADY)?;
+        expect(&rt, &reported, report, output, script);
     }
     Ok(())
 }
 
 #[test]
 fn answers_what_stands_before_the_first_other_command(rt: HostRuntime) -> Result<(), Fail> {
-    let told = run_script(
+    let reported = run_script(
         rt.alloc(),
         b"(declare-const p Bool)\n(check-sat)\n(assert (not p))\n(check-sat)\n(push 1)\n",
         STEADY,
     )?;
     expect(
         &rt,
-        &told,
+        &reported,
         "Refused 2 Some(Sat([false])) [(5, 59)]",
         "sat\nsat\n(error \"line 5: [E59] form not built yet\")\n",
         "a push",
     );
-    let told = run_script(
+    let reported = run_script(
         rt.alloc(),
         b"(declare-const p Bool)\n(check-sat)\n(assert (and p",
         STEADY,
     )?;
     expect(
         &rt,
-        &told,
+        &reported,
         "Refused 1 Some(Sat([false])) [(3, 3)]",
         "sat\n(error \"line 3: [E3] input ends inside an expression\")\n",
         "an unfinished command",
     );
-    let told = run_script(rt.alloc(), b"(check-sat)\n)\n", STEADY)?;
+    let reported = run_script(rt.alloc(), b"(check-sat)\n)\n", STEADY)?;
     expect(
         &rt,
-        &told,
+        &reported,
         "Refused 1 Some(Sat([])) [(2, 2)]",
         "sat\n(error \"line 2: [E2] closing parenthesis without opening\")\n",
         "a closing parenthesis",
@@ -168,10 +168,16 @@ fn expect_error(
     error: (u64, u16, &str),
 ) -> Result<(), AllocError> {
     let (line, code, text) = error;
-    let told = run_script(alloc, script, STEADY)?;
+    let reported = run_script(alloc, script, STEADY)?;
     let report = format!(in alloc; "Refused 0 None [({line}, {code})]")?;
     let output = format!(in alloc; "(error \"line {line}: [E{code}] {text}\")\n")?;
-    expect(rt, &told, report.as_str(), output.as_str(), report.as_str());
+    expect(
+        rt,
+        &reported,
+        report.as_str(),
+        output.as_str(),
+        report.as_str(),
+    );
     Ok(())
 }
 
@@ -267,10 +273,10 @@ fn nests_1_000_parentheses_and_no_more(rt: HostRuntime) -> Result<(), Fail> {
 fn reads_and_writes_in_any_pieces(rt: HostRuntime) -> Result<(), Fail> {
     for piece in [1, 2, 7, 64, 65] {
         let setting = Setting { piece, ..STEADY };
-        let told = run_script(rt.alloc(), CONTRADICTION.as_bytes(), setting)?;
+        let reported = run_script(rt.alloc(), CONTRADICTION.as_bytes(), setting)?;
         expect(
             &rt,
-            &told,
+            &reported,
             "Done 1 Some(Unsat(0, 1)) []",
             "unsat\n",
             "pieces",
@@ -287,9 +293,15 @@ fn ends_at_the_first_read_that_fails(rt: HostRuntime) -> Result<(), Fail> {
             piece: 16,
             ..STEADY
         };
-        let told = run_script(rt.alloc(), CONTRADICTION.as_bytes(), setting)?;
-        expect(&rt, &told, "InputFault 0 None []", "", "a read that fails");
-        assert_eq!(rt; told.reads, number + 1);
+        let reported = run_script(rt.alloc(), CONTRADICTION.as_bytes(), setting)?;
+        expect(
+            &rt,
+            &reported,
+            "InputFault 0 None []",
+            "",
+            "a read that fails",
+        );
+        assert_eq!(rt; reported.reads, number + 1);
     }
     Ok(())
 }
@@ -311,8 +323,8 @@ fn keeps_what_was_answered_before_a_write_failed(rt: HostRuntime) -> Result<(), 
             sink_fails: Some(number),
             ..STEADY
         };
-        let told = run_script(rt.alloc(), script.as_bytes(), setting)?;
-        expect(&rt, &told, report, output, "a write that fails");
+        let reported = run_script(rt.alloc(), script.as_bytes(), setting)?;
+        expect(&rt, &reported, report, output, "a write that fails");
     }
     Ok(())
 }
@@ -323,9 +335,9 @@ fn writes_nothing_where_the_first_write_fails(rt: HostRuntime) -> Result<(), Fai
         sink_fails: Some(0),
         ..STEADY
     };
-    let told = run_script(rt.alloc(), CONTRADICTION.as_bytes(), setting)?;
+    let reported = run_script(rt.alloc(), CONTRADICTION.as_bytes(), setting)?;
     let report = "OutputFault 1 Some(Unsat(0, 1)) []";
-    expect(&rt, &told, report, "", "the first write");
+    expect(&rt, &reported, report, "", "the first write");
     Ok(())
 }
 
@@ -343,8 +355,8 @@ fn takes_the_words_that_have_a_form(rt: HostRuntime) -> Result<(), Fail> {
         (&["--gen", "1"], "Usage 0 None []", usage),
     ];
     for (words, report, output) in cases {
-        let told = run_words(rt.alloc(), words, Vec::new(rt.alloc()), STEADY)?;
-        expect(&rt, &told, report, output, report);
+        let reported = run_arguments(rt.alloc(), words, Vec::new(rt.alloc()), STEADY)?;
+        expect(&rt, &reported, report, output, report);
     }
     Ok(())
 }
@@ -356,10 +368,10 @@ fn tells_usage_as_far_as_the_sink_takes_it(rt: HostRuntime) -> Result<(), Fail> 
         piece: 6,
         ..STEADY
     };
-    let told = run_words(rt.alloc(), &["--bogus"], Vec::new(rt.alloc()), setting)?;
+    let reported = run_arguments(rt.alloc(), &["--bogus"], Vec::new(rt.alloc()), setting)?;
     expect(
         &rt,
-        &told,
+        &reported,
         "OutputFault 0 None []",
         "usage:",
         "a write that fails",
@@ -369,19 +381,19 @@ fn tells_usage_as_far_as_the_sink_takes_it(rt: HostRuntime) -> Result<(), Fail> 
 
 #[test]
 fn takes_67_108_864_bytes_and_no_more(rt: HostRuntime) -> Result<(), Fail> {
-    let blanks = vec![in rt.alloc(); b' '; 67_108_864]?;
-    let told = run_words(rt.alloc(), &["s"], blanks, STEADY)?;
+    let spaces = vec![in rt.alloc(); b' '; 67_108_864]?;
+    let reported = run_arguments(rt.alloc(), &["s"], spaces, STEADY)?;
     expect(
         &rt,
-        &told,
+        &reported,
         "Done 0 None []",
         "",
         "as many blanks as a slot may hold",
     );
-    let mut blanks = vec![in rt.alloc(); b' '; 67_108_852]?;
-    blanks.extend_from_slice(b"\n(check-sat)(")?;
-    let told = run_words(rt.alloc(), &["s"], blanks, STEADY)?;
-    expect(&rt, &told, "TooLong 0 None []", "", "one byte more");
+    let mut spaces = vec![in rt.alloc(); b' '; 67_108_852]?;
+    spaces.extend_from_slice(b"\n(check-sat)(")?;
+    let reported = run_arguments(rt.alloc(), &["s"], spaces, STEADY)?;
+    expect(&rt, &reported, "TooLong 0 None []", "", "one byte more");
     Ok(())
 }
 
@@ -399,12 +411,12 @@ fn declarations(alloc: Global, count: u64) -> Result<Vec<u8>, AllocError> {
 #[test]
 fn declares_65_536_constants_and_no_more(rt: HostRuntime) -> Result<(), Fail> {
     let script = declarations(rt.alloc(), 65_536)?;
-    let told = run_script(rt.alloc(), script.as_slice(), STEADY)?;
+    let reported = run_script(rt.alloc(), script.as_slice(), STEADY)?;
     let values = vec![in rt.alloc(); false; 65_536]?;
     let report = format!(in rt.alloc(); "Done 1 Some(Sat({values:?})) []")?;
     expect(
         &rt,
-        &told,
+        &reported,
         report.as_str(),
         "sat\n",
         "as many constants as there may be",

@@ -2,7 +2,7 @@
 
 ghost use Rattle.std.specs.Prelude.{◌≡◌, true, IfOk, OnErr, IsErrOf};
 ghost use Rattle.ct_io.specs.Fault.{HasCause};
-ghost use Rattle.cosmt.specs.Progress.{kept, Broke, BrokeInLine};
+ghost use Rattle.cosmt.specs.Progress.{stored, Broke, BrokeInLine};
 ghost use Rattle.cosmt.specs.Turns.{Turned, RanTo};
 
 use crate::answer::answer;
@@ -20,14 +20,14 @@ const FORM_NOT_BUILT: u16 = 59;
 pub enum Turn {
     /// A command was answered.
     Answered,
-    /// Nothing but blanks and comments was left.
+    /// Nothing but whitespace and comments was left.
     Ended,
     /// Something else was left, with this error.
     Stopped(ScriptError),
 }
 
-/// Answers commands up to the end of the script. The error of what is left over, where anything but blanks and
-/// comments is.
+/// Answers commands up to the end of the script. The error of what is left over, where anything but
+/// whitespace and comments is.
 pub fn answer_all<K: Sink>(
     alloc: Global,
     reader: &mut Reader,
@@ -37,9 +37,9 @@ pub fn answer_all<K: Sink>(
 ) -> Result<Option<ScriptError>, SinkError>
     requires { reader.old.ended ≡ true }
     ensures ran { IfOk result (λ stopped. RanTo reader.old stopped
-        (kept session.old verdicts.old.items (K.written out.old)) (kept session.new verdicts.new.items (K.written out.new))) }
-    ensures broke { OnErr result (Broke (kept session.old verdicts.old.items (K.written out.old)) reader.old.bytes
-        (kept session.new verdicts.new.items (K.written out.new))) }
+        (stored session.old verdicts.old.items (K.written out.old)) (stored session.new verdicts.new.items (K.written out.new))) }
+    ensures broke { OnErr result (Broke (stored session.old verdicts.old.items (K.written out.old)) reader.old.bytes
+        (stored session.new verdicts.new.items (K.written out.new))) }
     ensures fault { IsErrOf result SinkError.Fault
         → BrokeInLine verdicts.old.items (K.written out.old) verdicts.new.items (K.written out.new) }
     ensures cause { HasCause SinkError.Fault (K.faults out.old) (K.faults out.new) result }
@@ -63,9 +63,9 @@ fn take_turn<K: Sink>(
 ) -> Result<Turn, SinkError>
     requires { reader.old.ended ≡ true }
     ensures turned { IfOk result (λ turn. Turned turn reader.old reader.new
-        (kept session.old verdicts.old.items (K.written out.old)) (kept session.new verdicts.new.items (K.written out.new))) }
-    ensures broke { OnErr result (Broke (kept session.old verdicts.old.items (K.written out.old)) reader.old.bytes
-        (kept session.new verdicts.new.items (K.written out.new))) }
+        (stored session.old verdicts.old.items (K.written out.old)) (stored session.new verdicts.new.items (K.written out.new))) }
+    ensures broke { OnErr result (Broke (stored session.old verdicts.old.items (K.written out.old)) reader.old.bytes
+        (stored session.new verdicts.new.items (K.written out.new))) }
     ensures fault { IsErrOf result SinkError.Fault
         → BrokeInLine verdicts.old.items (K.written out.old) verdicts.new.items (K.written out.new) }
     ensures cause { HasCause SinkError.Fault (K.faults out.old) (K.faults out.new) result }

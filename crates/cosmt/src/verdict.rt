@@ -6,6 +6,7 @@ pub enum FirstVerdict {
     /// One truth value for each declared constant, in the order of declarations, under which every assertion in
     /// force is true.
     Sat(Vec<bool>),
-    /// The places of two assertions in force, counted from 0: the first is a constant and the second its negation.
+    /// The indices of two assertions in force, counted from 0: the first is a constant and the
+    /// second its negation.
     Unsat(u64, u64),
 }

@@ -1,5 +1,5 @@
 -- What a term means: it depends on the terms under it alone, so that the bound of the recursion does not matter in an
--- ordered table, and nor do terms behind it.
+-- ordered table, and nor do terms after it.
 use Rattle.std.proofs.Common.{◌≡◌, ℕ, zero, suc, ◌<◌, Bool, not, ◌||◌, List, [], ◌∷◌, ◌++◌, length, map, All, Option, Some, None, slice_get, if◌then◌else◌, refl, sym, ap, ◌∙◌, arith}
 use Rattle.std.specs.List.{list_all, list_any}
 use Rattle.std.proofs.lemmas.List.Folds.{list_all-map}
@@ -9,10 +9,10 @@ use Rattle.ct_values.specs.Value.{Value, construct, values_of}
 use Rattle.ct_terms.specs.declared.ids.TermId.{TermId}
 use Rattle.ct_terms.specs.declared.term.Core.{Core}
 use Rattle.ct_terms.specs.declared.term.Core.TheVariants.{Con, Sel, Test, Apply, Eq, Not, And, Or, Iff, Ite}
-use Rattle.ct_terms.specs.Table.{Table as Terms, HasChildrenBelow, AreOrdered}
+use Rattle.ct_terms.specs.Terms.{Terms, HasArgumentsBelow, AreOrdered}
 use Rattle.ct_eval.specs.declared.interp.Interp.{Interp}
 use Rattle.ct_eval.specs.Evaluation.{truth, is_built, is_true, is_same, given, select, core_value, layer, value_below, value_of}
-use Rattle.ct_eval.proofs.ListLemmas.{slice_get-front}
+use Rattle.ct_eval.proofs.ListLemmas.{slice_get-prefix}
 
 -- lists over which two functions agree
 module _ {X Y : Type 0} (f g : X → Y) (P : X → Type 0) (agree : (x : X) → P x → f x ≡ g x) where
@@ -41,7 +41,7 @@ module _ (d : Declarations) (i : Interp) where
     lists args below = map-agrees f g (λ t. t.0 < n) agree args below
 
     -- one layer gives one value where the terms under it have the same values
-    pub core_value-agrees : (core : Core) → HasChildrenBelow n core → core_value d i f core ≡ core_value d i g core
+    pub core_value-agrees : (core : Core) → HasArgumentsBelow n core → core_value d i f core ≡ core_value d i g core
     core_value-agrees (Con c args) below = ap (λ (vs : List Value). construct c (values_of vs)) (lists args below)
     core_value-agrees (Sel s t) below = ap (select i s (slice_get d.sels s.0)) (agree t below)
     core_value-agrees (Test c t) below = ap (λ (v : Value). truth (is_built i.graph c v)) (agree t below)
@@ -59,7 +59,7 @@ module _ (d : Declarations) (i : Interp) where
         ap (λ (v : Value). ite v (f a) (f b)) (agree c below.0) ∙ ap (λ (v : Value). ite (g c) v (f b)) (agree a below.1) ∙ ap (λ (v : Value). ite (g c) (g a) v) (agree b below.2)
 
     -- so does what stands at a number
-    pub layer-agrees : (r : Option (Core × SortId)) → ((core : Core) (s : SortId) → r ≡ Some (core, s) → HasChildrenBelow n core) → layer d i f r ≡ layer d i g r
+    pub layer-agrees : (r : Option (Core × SortId)) → ((core : Core) (s : SortId) → r ≡ Some (core, s) → HasArgumentsBelow n core) → layer d i f r ≡ layer d i g r
     layer-agrees None below = refl
     layer-agrees (Some (core, s)) below = core_value-agrees core (below core s refl)
 
@@ -82,7 +82,7 @@ module _ (d : Declarations) (i : Interp) where
       (λ u below. value_below-enough terms ordered t.0 (suc u.0) u below (omega arith))
       core (ordered t.0 core (sort, at))
 
-  -- terms behind those of an ordered table change nothing
+  -- terms after those of an ordered table change nothing
   pub value_below-longer : (terms more : Terms) → AreOrdered (terms ++ more) → (n : ℕ) (t : TermId) → t.0 < length terms → value_below n d i (terms ++ more) t ≡ value_below n d i terms t
   unfolding value_below
   value_below-longer terms more ordered zero t within = refl
@@ -90,4 +90,4 @@ module _ (d : Declarations) (i : Interp) where
       layer-agrees (value_below n d i (terms ++ more)) (value_below n d i terms) t.0
       (λ u below. value_below-longer terms more ordered n u (omega arith))
       (slice_get (terms ++ more) t.0)
-      (λ core s e. ordered t.0 core (s, e)) ∙ ap (layer d i (value_below n d i terms)) (slice_get-front terms more t.0 within)
+      (λ core s e. ordered t.0 core (s, e)) ∙ ap (layer d i (value_below n d i terms)) (slice_get-prefix terms more t.0 within)

@@ -9,18 +9,18 @@ use Rattle.ct_values.specs.Graph.{Nodes, IsClosed}
 use Rattle.ct_values.specs.NodeIdTest.{same_node, same_nodes}
 use Rattle.ct_values.specs.Value.{Value}
 use Rattle.ct_values.specs.Agreement.{Point, point, node_point, same, AgreeAlways}
-use Rattle.ct_values.specs.Sharing.{IsFirst}
+use Rattle.ct_values.specs.Sharing.{IsRepresentative}
 use Rattle.ct_eval.specs.declared.interp.Row.{Row}
 use Rattle.ct_eval.specs.declared.index.RowKey.{RowKey}
-use Rattle.ct_eval.specs.Index.{AreFirst, AreFirstNodes, HasRows, row_key, same_row_key}
+use Rattle.ct_eval.specs.Index.{AreRepresentatives, AreRepresentativeNodes, HasRows, row_key, same_row_key}
 use Rattle.ct_eval.specs.LookUp.{are_same, row_for}
 use Rattle.ct_eval.specs.Valued.{IsLonger}
 
--- the laws of agreement and of first nodes that are needed
-pub record Laws : Type 0 where
+-- the theorems on agreement and representatives that are needed
+pub record Theorems : Type 0 where
   pub every_depth : (p q : Point) → IsClosed p.graph → IsClosed q.graph → IsTrue (same p q) ↔ AgreeAlways p q
-  pub one : (g : Nodes) (p q : Point) (m n : NodeId) → IsFirst g p m → IsFirst g q n → (m ≡ n) ↔ AgreeAlways p q
-  pub lasting : (g more : Nodes) (p : Point) (n : NodeId) → IsClosed g → IsFirst g p n → IsFirst (g ++ more) p n
+  pub one : (g : Nodes) (p q : Point) (m n : NodeId) → IsRepresentative g p m → IsRepresentative g q n → (m ≡ n) ↔ AgreeAlways p q
+  pub lasting : (g more : Nodes) (p : Point) (n : NodeId) → IsClosed g → IsRepresentative g p n → IsRepresentative (g ++ more) p n
 
 -- ---- keys
 
@@ -68,7 +68,7 @@ same_elsewhere index more key node stay only k other = at (get same_row_key inde
 
 -- ---- rows
 
--- the first row stays the first where one more comes behind
+-- the first row stays the first where one more follows
 row_for-found : (g : Nodes) (rows : List Row) (row : Row) (values : List Value) (n : NodeId) → row_for g rows values ≡ Some n → row_for g (rows ++ row ∷ []) values ≡ Some n
 row_for-found g [] row values n e = absurd (none-some n e)
 row_for-found g (r ∷ rs) row values n e =
@@ -78,27 +78,27 @@ row_for-found g (r ∷ rs) row values n e =
     at true old new rest h = h
     at false old new rest h = rest h
 
--- where no row fits, the one behind decides
-row_for-behind : (g : Nodes) (rows : List Row) (row : Row) (values : List Value) → row_for g rows values ≡ None → row_for g (rows ++ row ∷ []) values ≡ cond (are_same g row.args values) (Some row.result) None
-row_for-behind g [] row values e = refl
-row_for-behind g (r ∷ rs) row values e =
-    at (are_same g r.args values) (row_for g rs values) (row_for g (rs ++ row ∷ []) values) (row_for-behind g rs row values) e
+-- where no row fits, the one after decides
+row_for-remaining : (g : Nodes) (rows : List Row) (row : Row) (values : List Value) → row_for g rows values ≡ None → row_for g (rows ++ row ∷ []) values ≡ cond (are_same g row.args values) (Some row.result) None
+row_for-remaining g [] row values e = refl
+row_for-remaining g (r ∷ rs) row values e =
+    at (are_same g r.args values) (row_for g rs values) (row_for g (rs ++ row ∷ []) values) (row_for-remaining g rs row values) e
   where
     at : (b : Bool) (old new : Option NodeId) → (old ≡ None → new ≡ cond (are_same g row.args values) (Some row.result) None) → cond b (Some r.result) old ≡ None → cond b (Some r.result) new ≡ cond (are_same g row.args values) (Some row.result) None
     at true old new rest h = absurd (none-some r.result (sym h))
     at false old new rest h = rest h
 
-module _ (laws : Laws) (g longer : Nodes) (closed : IsClosed g) (behind : IsLonger g longer) where
-  -- a node is the same as a value exactly where the first nodes for both are one
-  Decides-first : (n m a : NodeId) (v : Value) → IsFirst g (node_point g n) m → IsFirst longer (point g v) a → Decides (same (node_point g n) (point g v)) (m ≡ a)
+module _ (theorems : Theorems) (g longer : Nodes) (closed : IsClosed g) (remaining : IsLonger g longer) where
+  -- a node is equal to a value exactly where both have one representative
+  Decides-first : (n m a : NodeId) (v : Value) → IsRepresentative g (node_point g n) m → IsRepresentative longer (point g v) a → Decides (same (node_point g n) (point g v)) (m ≡ a)
   Decides-first n m a v first_m first_a =
-      let lasting : IsFirst longer (node_point g n) m = subst (λ (h : Nodes). IsFirst h (node_point g n) m) (sym behind.1) (laws.lasting g behind.0 (node_point g n) m closed first_m) in
-      let one = laws.one longer (node_point g n) (point g v) m a lasting first_a in
-      let depth = laws.every_depth (node_point g n) (point g v) closed closed in
+      let lasting : IsRepresentative longer (node_point g n) m = subst (λ (h : Nodes). IsRepresentative h (node_point g n) m) (sym remaining.1) (theorems.lasting g remaining.0 (node_point g n) m closed first_m) in
+      let one = theorems.one longer (node_point g n) (point g v) m a lasting first_a in
+      let depth = theorems.every_depth (node_point g n) (point g v) closed closed in
       (λ h. one.1 (depth.0 h), λ e. depth.1 (one.0 e))
 
-  -- a row fits exactly where its first nodes are those of the arguments
-  Decides-fits : (nodes firsts args : List NodeId) (values : List Value) → AreFirstNodes g firsts nodes → AreFirst g longer args values → Decides (are_same g nodes values) (firsts ≡ args)
+  -- a row fits exactly where its representatives are those of the arguments
+  Decides-fits : (nodes representatives args : List NodeId) (values : List Value) → AreRepresentativeNodes g representatives nodes → AreRepresentatives g longer args values → Decides (are_same g nodes values) (representatives ≡ args)
   Decides-fits [] [] [] [] row_first first = (λ h. refl, λ e. refl)
   Decides-fits [] [] [] (v ∷ vs) row_first first = absurd first
   Decides-fits [] [] (a ∷ more) [] row_first first = absurd first
@@ -113,27 +113,27 @@ module _ (laws : Laws) (g longer : Nodes) (closed : IsClosed g) (behind : IsLong
       (λ h. ap₂ (λ (x : NodeId) (xs : List NodeId). x ∷ xs) (both.0 h).0 (both.0 h).1, λ e. both.1 (cc, cc))
 
 -- a map with the rows of a table has one row more, once that has its key
-pub HasRows-push : {S : Type 0} (laws : Laws) (g : Nodes) (closed : IsClosed g) (t : ℕ) (rows : List Row) (row : Row) (firsts : List NodeId) (index more : IndexMap RowKey NodeId S) → AreFirstNodes g firsts row.args → ((k : RowKey) (n : NodeId) → get same_row_key index k ≡ Some n → get same_row_key more k ≡ Some n) → (get same_row_key index (row_key t firsts) ≡ None → get same_row_key more (row_key t firsts) ≡ Some row.result) → ((k : RowKey) (n : NodeId) → get same_row_key more k ≡ Some n → (get same_row_key index k ≡ Some n) ⊎ ((k ≡ row_key t firsts) × (n ≡ row.result))) → HasRows g t rows index → HasRows g t (rows ++ row ∷ []) more
-HasRows-push {S} laws g closed t rows row firsts index more row_first stay added only old longer args values behind first = at (row_for g rows values) refl
+pub HasRows-push : {S : Type 0} (theorems : Theorems) (g : Nodes) (closed : IsClosed g) (t : ℕ) (rows : List Row) (row : Row) (representatives : List NodeId) (index more : IndexMap RowKey NodeId S) → AreRepresentativeNodes g representatives row.args → ((k : RowKey) (n : NodeId) → get same_row_key index k ≡ Some n → get same_row_key more k ≡ Some n) → (get same_row_key index (row_key t representatives) ≡ None → get same_row_key more (row_key t representatives) ≡ Some row.result) → ((k : RowKey) (n : NodeId) → get same_row_key more k ≡ Some n → (get same_row_key index k ≡ Some n) ⊎ ((k ≡ row_key t representatives) × (n ≡ row.result))) → HasRows g t rows index → HasRows g t (rows ++ row ∷ []) more
+HasRows-push {S} theorems g closed t rows row representatives index more row_first stay added only old longer args values remaining first = at (row_for g rows values) refl
   where
     before : get same_row_key index (row_key t args) ≡ row_for g rows values
-    before = old longer args values behind first
+    before = old longer args values remaining first
 
-    fits : Decides (are_same g row.args values) (firsts ≡ args)
-    fits = Decides-fits laws g longer closed behind row.args firsts args values row_first first
+    fits : Decides (are_same g row.args values) (representatives ≡ args)
+    fits = Decides-fits theorems g longer closed remaining row.args representatives args values row_first first
 
     by_test : (b : Bool) → are_same g row.args values ≡ b → row_for g rows values ≡ None → get same_row_key more (row_key t args) ≡ cond b (Some row.result) None
     by_test true e none =
-        let is : row_key t firsts ≡ row_key t args = ap (row_key t) (fits.0 e) in
+        let is : row_key t representatives ≡ row_key t args = ap (row_key t) (fits.0 e) in
         ap (get same_row_key more) (sym is) ∙ added (ap (get same_row_key index) is ∙ before ∙ none)
     by_test false e none =
-        same_elsewhere index more (row_key t firsts) row.result stay only (row_key t args) (λ same_keys. true≢false (sym (fits.1 (ap (λ k. k.args) (sym same_keys))) ∙ e))
+        same_elsewhere index more (row_key t representatives) row.result stay only (row_key t args) (λ same_keys. true≢false (sym (fits.1 (ap (λ k. k.args) (sym same_keys))) ∙ e))
         ∙ before ∙ none
 
     at : (found : Option NodeId) → row_for g rows values ≡ found → get same_row_key more (row_key t args) ≡ row_for g (rows ++ row ∷ []) values
     at (Some n) e = stay (row_key t args) n (before ∙ e) ∙ sym (row_for-found g rows row values n e)
-    at None e = by_test (are_same g row.args values) refl e ∙ sym (row_for-behind g rows row values e)
+    at None e = by_test (are_same g row.args values) refl e ∙ sym (row_for-remaining g rows row values e)
 
 -- the rows of a table stay where its keys have what they had
 pub HasRows-same : {S : Type 0} (g : Nodes) (t : ℕ) (rows : List Row) (index more : IndexMap RowKey NodeId S) → ((args : List NodeId) → get same_row_key more (row_key t args) ≡ get same_row_key index (row_key t args)) → HasRows g t rows index → HasRows g t rows more
-HasRows-same g t rows index more elsewhere old longer args values behind first = elsewhere args ∙ old longer args values behind first
+HasRows-same g t rows index more elsewhere old longer args values remaining first = elsewhere args ∙ old longer args values remaining first

@@ -1,29 +1,29 @@
--- Lists by their places: what stands at a place, in the front of a list and with one more element at the end.
+-- Lists by their indices: what stands at an index, in a prefix of a list and with one more element at the end.
 use Rattle.std.proofs.Common.{◌≡◌, ℕ, zero, suc, ◌+◌, ◌<◌, ◌≤◌, ◌⊎◌, inl, inr, List, [], ◌∷◌, ◌++◌, length, All, Some, slice_get, get_or, refl, sym, ap, subst, ◌∙◌, arith}
 use Rattle.std.specs.List.{AllZip}
 use Rattle.std.proofs.lemmas.List.{get_or_default}
 use Rattle.std.proofs.lemmas.Option.{none-some, same_Some, slice_get_within, get_or_from_slice_get}
 
 module _ {X : Type 0} where
-  -- something stands at each place within
+  -- something stands at each index within
   pub stands : (xs : List X) (k : ℕ) → k < length xs → (x : X) × (slice_get xs k ≡ Some x)
   stands [] k within = absurd (omega arith)
   stands (x ∷ xs) zero within = (x, refl)
   stands (x ∷ xs) (suc k) within = stands xs k (omega arith)
 
-  -- what stands in the front of a list
-  pub slice_get-front : (xs ys : List X) (k : ℕ) → k < length xs → slice_get (xs ++ ys) k ≡ slice_get xs k
-  slice_get-front [] ys k within = absurd (omega arith)
-  slice_get-front (x ∷ xs) ys zero within = refl
-  slice_get-front (x ∷ xs) ys (suc k) within = slice_get-front xs ys k (omega arith)
+  -- what stands in a prefix of a list
+  pub slice_get-prefix : (xs ys : List X) (k : ℕ) → k < length xs → slice_get (xs ++ ys) k ≡ slice_get xs k
+  slice_get-prefix [] ys k within = absurd (omega arith)
+  slice_get-prefix (x ∷ xs) ys zero within = refl
+  slice_get-prefix (x ∷ xs) ys (suc k) within = slice_get-prefix xs ys k (omega arith)
 
-  -- with more behind it, it stands there
+  -- with more after it, it stands there
   pub slice_get-append_left : (xs ys : List X) (k : ℕ) (x : X) → slice_get xs k ≡ Some x → slice_get (xs ++ ys) k ≡ Some x
   slice_get-append_left [] ys k x e = absurd (none-some x e)
   slice_get-append_left (z ∷ zs) ys zero x e = e
   slice_get-append_left (z ∷ zs) ys (suc k) x e = slice_get-append_left zs ys k x e
 
-  -- with a new last element, what stands at a place stood there before, or is the new one at the end
+  -- with a new last element, what stands at an index stood there before, or is the new one at the end
   pub slice_get-push_cases : (xs : List X) (x y : X) (k : ℕ) → slice_get (xs ++ x ∷ []) k ≡ Some y → (slice_get xs k ≡ Some y) ⊎ ((k ≡ length xs) × (x ≡ y))
   slice_get-push_cases [] x y zero e = inr (refl, same_Some x y e)
   slice_get-push_cases [] x y (suc k) e = absurd (none-some y e)
@@ -31,7 +31,7 @@ module _ {X : Type 0} where
   slice_get-push_cases (z ∷ zs) x y (suc k) e =
       elim (slice_get-push_cases zs x y k e) [ inl h ↦ inl h | inr h ↦ inr (ap suc h.0, h.1) ]
 
--- what follows for each left part of lists that are related place by place
+-- what follows for each left part of lists that are related element by element
 module _ {X Y : Type 0} (R : X → Y → Type 0) (P : X → Type 0) (part : (x : X) (y : Y) → R x y → P x) where
   pub AllZip-left_parts : (xs : List X) (ys : List Y) → AllZip R xs ys → All P xs
   AllZip-left_parts [] ys all k e within = absurd (omega arith)
@@ -47,22 +47,22 @@ last_or_before (suc k) zero h = absurd (omega arith)
 last_or_before (suc k) (suc i) h =
     elim (last_or_before k i (omega arith)) [ inl before ↦ inl (omega arith) | inr last ↦ inr (ap suc last) ]
 
--- two lists, place by place
+-- two lists, element by element
 module _ {X Y : Type 0} (R : X → Y → Type 0) where
-  -- what holds place by place of lists of one length
-  pub AllZip-from_places : (xs : List X) (ys : List Y) → length xs ≡ length ys → ((k : ℕ) (d : X) (e : Y) → k < length xs → R (get_or xs k d) (get_or ys k e)) → AllZip R xs ys
-  AllZip-from_places [] [] long each = tt
-  AllZip-from_places [] (y ∷ ys) long each = absurd (omega arith)
-  AllZip-from_places (x ∷ xs) [] long each = absurd (omega arith)
-  AllZip-from_places (x ∷ xs) (y ∷ ys) long each =
-      (each 0 x y (omega arith), AllZip-from_places xs ys (omega arith) (λ k d e within. each (suc k) d e (omega arith)))
+  -- what holds element by element of lists of one length
+  pub AllZip-from_positions : (xs : List X) (ys : List Y) → length xs ≡ length ys → ((k : ℕ) (d : X) (e : Y) → k < length xs → R (get_or xs k d) (get_or ys k e)) → AllZip R xs ys
+  AllZip-from_positions [] [] long each = tt
+  AllZip-from_positions [] (y ∷ ys) long each = absurd (omega arith)
+  AllZip-from_positions (x ∷ xs) [] long each = absurd (omega arith)
+  AllZip-from_positions (x ∷ xs) (y ∷ ys) long each =
+      (each 0 x y (omega arith), AllZip-from_positions xs ys (omega arith) (λ k d e within. each (suc k) d e (omega arith)))
 
   -- and back
-  pub AllZip-at_place : (xs : List X) (ys : List Y) → AllZip R xs ys → (k : ℕ) (d : X) (e : Y) → k < length xs → R (get_or xs k d) (get_or ys k e)
-  AllZip-at_place [] ys all k d e within = absurd (omega arith)
-  AllZip-at_place (x ∷ xs) [] all k d e within = absurd all
-  AllZip-at_place (x ∷ xs) (y ∷ ys) all zero d e within = all.0
-  AllZip-at_place (x ∷ xs) (y ∷ ys) all (suc k) d e within = AllZip-at_place xs ys all.1 k d e (omega arith)
+  pub AllZip-at_position : (xs : List X) (ys : List Y) → AllZip R xs ys → (k : ℕ) (d : X) (e : Y) → k < length xs → R (get_or xs k d) (get_or ys k e)
+  AllZip-at_position [] ys all k d e within = absurd (omega arith)
+  AllZip-at_position (x ∷ xs) [] all k d e within = absurd all
+  AllZip-at_position (x ∷ xs) (y ∷ ys) all zero d e within = all.0
+  AllZip-at_position (x ∷ xs) (y ∷ ys) all (suc k) d e within = AllZip-at_position xs ys all.1 k d e (omega arith)
 
   -- such lists have one length
   pub AllZip-one_length : (xs : List X) (ys : List Y) → AllZip R xs ys → length xs ≡ length ys
@@ -71,9 +71,9 @@ module _ {X Y : Type 0} (R : X → Y → Type 0) where
   AllZip-one_length (x ∷ xs) [] all = absurd all
   AllZip-one_length (x ∷ xs) (y ∷ ys) all = ap suc (AllZip-one_length xs ys all.1)
 
-  -- what holds place by place before a number and at it holds up to it
-  pub places-more : (xs : List X) (ys : List Y) (i : ℕ) (x : X) (y : Y) → i < length xs → i < length ys → ((k : ℕ) (d : X) (e : Y) → k < i → R (get_or xs k d) (get_or ys k e)) → R (get_or xs i x) (get_or ys i y) → (k : ℕ) (d : X) (e : Y) → k < i + 1 → R (get_or xs k d) (get_or ys k e)
-  places-more xs ys i x y in_xs in_ys before last k d e up_to =
+  -- what holds element by element before a number and at it holds up to it
+  pub positions-more : (xs : List X) (ys : List Y) (i : ℕ) (x : X) (y : Y) → i < length xs → i < length ys → ((k : ℕ) (d : X) (e : Y) → k < i → R (get_or xs k d) (get_or ys k e)) → R (get_or xs i x) (get_or ys i y) → (k : ℕ) (d : X) (e : Y) → k < i + 1 → R (get_or xs k d) (get_or ys k e)
+  positions-more xs ys i x y in_xs in_ys before last k d e up_to =
       elim (last_or_before k i up_to) [
         | inl h ↦ before k d e h
         | inr h ↦
@@ -82,7 +82,7 @@ module _ {X Y : Type 0} (R : X → Y → Type 0) where
             subst (R (get_or xs k d)) at_y (subst (λ (z : X). R z (get_or ys i y)) at_x last)
       ]
 
--- what holds of the element at each place below a bound
+-- what holds of the element at each index below a bound
 module _ {X : Type 0} (P : ℕ → X → Type 0) (xs : List X) where
   abbrev pub EachBelow : ℕ → Type 0
   EachBelow bound = (k : ℕ) (x : X) → k < bound → slice_get xs k ≡ Some x → P k x
@@ -95,7 +95,7 @@ module _ {X : Type 0} (P : ℕ → X → Type 0) (xs : List X) where
         | inr h ↦ subst (λ (n : ℕ). P n x) (sym h) (last x (ap (slice_get xs) (sym h) ∙ at))
       ]
 
-  -- holds of the element at each place
+  -- holds of the element at each index
   pub EachBelow-all : (bound : ℕ) → length xs ≤ bound → EachBelow bound → (k : ℕ) (x : X) → slice_get xs k ≡ Some x → P k x
   EachBelow-all bound long each k x at = let within = slice_get_within xs k x at in each k x (omega arith) at
 

@@ -1,4 +1,4 @@
--- Lists: two lists place by place, and what stands at a place of a longer list.
+-- Lists: two lists element by element, and what stands at an index of a longer list.
 use Rattle.std.proofs.Common.{◌≡◌, ℕ, zero, suc, Bool, List, [], ◌∷◌, Some, slice_get, refl, subst}
 use Rattle.std.specs.List.{AllZip, AllByRecursion, list_all, list_any}
 use Rattle.std.proofs.lemmas.Option.{none-some, same_Some}
@@ -33,18 +33,18 @@ module _ {X Y : Type 0} where
 
   -- what each pair says of its first, and of its second
   pub zip-left : (R : X → Y → Type 0) (P : X → Type 0) → ((x : X) (y : Y) → R x y → P x) → (xs : List X) (ys : List Y) → AllZip R xs ys → AllByRecursion P xs
-  zip-left R P told [] ys all = tt
-  zip-left R P told (x ∷ xs) [] all = absurd all
-  zip-left R P told (x ∷ xs) (y ∷ ys) all = (told x y all.0, zip-left R P told xs ys all.1)
+  zip-left R P reported [] ys all = tt
+  zip-left R P reported (x ∷ xs) [] all = absurd all
+  zip-left R P reported (x ∷ xs) (y ∷ ys) all = (reported x y all.0, zip-left R P reported xs ys all.1)
 
-  -- the first of the pair whose second stands at a place
+  -- the first of the pair whose second stands at an index
   pub zip-at_right : (R : X → Y → Type 0) (xs : List X) (ys : List Y) (k : ℕ) (y : Y) → AllZip R xs ys → slice_get ys k ≡ Some y → (x : X) × (slice_get xs k ≡ Some x) × R x y
   zip-at_right R xs [] k y all e = absurd (none-some y e)
   zip-at_right R [] (z ∷ ys) k y all e = absurd all
   zip-at_right R (x ∷ xs) (z ∷ ys) zero y all e = (x, refl, subst (λ (w : Y). R x w) (same_Some z y e) all.0)
   zip-at_right R (x ∷ xs) (z ∷ ys) (suc k) y all e = zip-at_right R xs ys k y all.1 e
 
-  -- the second of the pair whose first stands at a place
+  -- the second of the pair whose first stands at an index
   pub zip-at_left : (R : X → Y → Type 0) (xs : List X) (ys : List Y) (k : ℕ) (x : X) → AllZip R xs ys → slice_get xs k ≡ Some x → (y : Y) × (slice_get ys k ≡ Some y) × R x y
   zip-at_left R [] ys k x all e = absurd (none-some x e)
   zip-at_left R (z ∷ xs) [] k x all e = absurd all

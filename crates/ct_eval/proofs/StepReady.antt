@@ -11,10 +11,10 @@ use Rattle.ct_values.specs.Value.{Value}
 use Rattle.ct_terms.specs.declared.ids.TermId.{TermId}
 use Rattle.ct_terms.specs.declared.term.Core.{Core}
 use Rattle.ct_terms.specs.declared.term.Core.TheVariants.{Con, Sel, Test, Eq, Not, And, Or, Iff, Ite}
-use Rattle.ct_terms.specs.Table.{Table as Terms, Has, AreSorted, HasChildrenBelow}
+use Rattle.ct_terms.specs.Terms.{Terms, Has, AreSorted, HasArgumentsBelow}
 use Rattle.ct_eval.specs.declared.interp.Interp.{Interp}
-use Rattle.ct_eval.specs.Step.{AreValued, HasNode, node_under, IsReady}
-use Rattle.ct_eval.proofs.StepTerms.{fields_sorted, booleans_sorted, has_node, have_nodes, are_first, first_within}
+use Rattle.ct_eval.specs.EvaluationStep.{AreValued, HasNode, node_under, IsReady}
+use Rattle.ct_eval.proofs.StepTerms.{fields_sorted, booleans_sorted, has_node, have_nodes, are_representatives, first_within}
 
 -- numbers below a bound, by recursion
 pub all_below : (n : ℕ) (ts : List TermId) → All (λ t. t.0 < n) ts → AllByRecursion (λ t. t.0 < n) ts
@@ -23,7 +23,7 @@ all_below n ts = recursion_from_All (λ t. t.0 < n) ts
 module _ (d : Declarations) (i : Interp) (g : Nodes) (nodes : List NodeId) where
   pub ready_Con : (c : CtorId) (args : List TermId) → IsReady d i g nodes (Con c args) → All (λ n. n.0 < length g) (map (node_under nodes) args)
   ready_Con c args r =
-      first_within i.graph g (map (node_under nodes) args) (map r.value args) (are_first d i r.terms g nodes r.value r.valued args (fields_sorted d r.terms args r.sorted.ctor.sels r.sorted.fields) (all_below (length nodes) args r.below))
+      first_within i.graph g (map (node_under nodes) args) (map r.value args) (are_representatives d i r.terms g nodes r.value r.valued args (fields_sorted d r.terms args r.sorted.ctor.sels r.sorted.fields) (all_below (length nodes) args r.below))
 
   pub ready_Test : (c : CtorId) (t : TermId) → IsReady d i g nodes (Test c t) → HasNode g nodes t
   ready_Test c t r = has_node d i r.terms g nodes r.value r.valued t r.sorted.ctor.sort r.sorted.sorted r.below
@@ -62,6 +62,6 @@ module _ (d : Declarations) (i : Interp) (g : Nodes) (nodes : List NodeId) where
   )
 
 -- a term of a well-sorted table is ready where the terms before it have their nodes
-pub ready_at : (d : Declarations) (i : Interp) (terms : Terms) (g : Nodes) (nodes : List NodeId) (value : TermId → Value) (t : ℕ) (core : Core) → AreValued d i terms g nodes value → AreSorted d terms → Has terms core t → HasChildrenBelow (length nodes) core → IsReady d i g nodes core
+pub ready_at : (d : Declarations) (i : Interp) (terms : Terms) (g : Nodes) (nodes : List NodeId) (value : TermId → Value) (t : ℕ) (core : Core) → AreValued d i terms g nodes value → AreSorted d terms → Has terms core t → HasArgumentsBelow (length nodes) core → IsReady d i g nodes core
 ready_at d i terms g nodes value t core valued sorted has below =
     record { terms = terms; value = value; sort = has.0; valued = valued; sorted = sorted t core has.0 has.1; below = below }

@@ -7,10 +7,10 @@ use Rattle.ct_values.specs.Graph.{Nodes}
 use Rattle.ct_values.specs.Value.{Value}
 use Rattle.ct_terms.specs.declared.ids.TermId.{TermId}
 use Rattle.ct_terms.specs.declared.term.Core.{Core}
-use Rattle.ct_terms.specs.Table.{Table as Terms, HasSort}
+use Rattle.ct_terms.specs.Terms.{Terms, HasSort}
 use Rattle.ct_eval.specs.declared.interp.Interp.{Interp}
 use Rattle.ct_eval.specs.Evaluation.{core_value}
-use Rattle.ct_eval.specs.Step.{AreValued, IsResult, IsNodeFor}
+use Rattle.ct_eval.specs.EvaluationStep.{AreValued, IsResult, IsNodeFor}
 
 module _ {E : Type 0} (d : Declarations) (i : Interp) (old new : Nodes) (nodes : List NodeId) (core : Core) where
   -- the result is right for each meaning

@@ -12,9 +12,9 @@ use Rattle.ct_values.specs.declared.node.Head.TheVariants as heads
 use Rattle.ct_values.specs.Graph.{Nodes, node_head}
 use Rattle.ct_values.specs.Value.{reference}
 use Rattle.ct_values.specs.Agreement.{head_of}
-use Rattle.ct_values.specs.Fitting.{node_sort, HasNodeSort, IsOfField, FitsNode, FitsGraph}
+use Rattle.ct_values.specs.Fitting.{node_sort, HasNodeSort, IsNodeOfField, FitsNode, FitsGraph}
 use Rattle.ct_eval.specs.Valued.{IsLonger}
-use Rattle.ct_eval.specs.Step.{IsGrown}
+use Rattle.ct_eval.specs.EvaluationStep.{IsGrown}
 use Rattle.ct_eval.proofs.ListLemmas.{slice_get-push_cases}
 use Rattle.ct_eval.proofs.StepLists.{zip-weaken}
 use Rattle.ct_eval.proofs.StepNodes.{HasNodeSort-longer, IsLonger-itself}
@@ -44,8 +44,8 @@ same_sorts d g h m n s heads_alike has =
     sorted_by_head d g m (node_head has.0) s (heads_alike ∙ ap (option_map node_head) has.1) (sym (node_sort_by_head d has.0) ∙ has.2)
 
 -- what fits a graph fits a longer one
-IsOfField-longer : (d : Declarations) (g longer : Nodes) → IsLonger g longer → (child : NodeId) (s : SelId) → IsOfField d g child s → IsOfField d longer child s
-IsOfField-longer d g longer l child s h = record {
+IsNodeOfField-longer : (d : Declarations) (g longer : Nodes) → IsLonger g longer → (child : NodeId) (s : SelId) → IsNodeOfField d g child s → IsNodeOfField d longer child s
+IsNodeOfField-longer d g longer l child s h = record {
   selector = h.selector;
   declared = h.declared;
   sorted = HasNodeSort-longer d g longer child h.selector.sort l h.sorted;
@@ -55,7 +55,7 @@ FitsNode-longer : (d : Declarations) (g longer : Nodes) (node : Node) → IsLong
 FitsNode-longer d g longer (Con c children) l h = record {
   ctor = h.ctor;
   declared = h.declared;
-  fields = zip-weaken (IsOfField d g) (IsOfField d longer) (IsOfField-longer d g longer l) children h.ctor.sels h.fields;
+  fields = zip-weaken (IsNodeOfField d g) (IsNodeOfField d longer) (IsNodeOfField-longer d g longer l) children h.ctor.sels h.fields;
 }
 FitsNode-longer d g longer (Elem s n) l h = h
 

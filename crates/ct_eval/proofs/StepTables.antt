@@ -8,7 +8,7 @@ use Rattle.ct_values.specs.Graph.{Nodes, IsClosed}
 use Rattle.ct_values.specs.Value.{Value, reference}
 use Rattle.ct_values.specs.Agreement.{point, node_point}
 use Rattle.ct_values.specs.Fitting.{HasNodeSort}
-use Rattle.ct_values.specs.Sharing.{IsFirst}
+use Rattle.ct_values.specs.Sharing.{IsRepresentative}
 use Rattle.ct_eval.specs.declared.interp.Row.{Row}
 use Rattle.ct_eval.specs.declared.interp.Table.{Table}
 use Rattle.ct_eval.specs.Interpretation.{IsProper, FitsTable}
@@ -16,9 +16,9 @@ use Rattle.ct_eval.specs.declared.interp.Interp.{Interp}
 use Rattle.ct_eval.specs.Evaluation.{given}
 use Rattle.ct_eval.specs.LookUp.{are_same, row_for, look_up}
 use Rattle.ct_eval.specs.Valued.{IsLonger}
-use Rattle.ct_eval.specs.Step.{HasValue, Laws}
+use Rattle.ct_eval.specs.EvaluationStep.{HasValue, Theorems}
 use Rattle.ct_eval.proofs.ListLemmas.{stands}
-use Rattle.ct_eval.proofs.StepNodes.{HasNodeSort-longer, node_lasts, head_of_first}
+use Rattle.ct_eval.proofs.StepNodes.{HasNodeSort-longer, node_lasts, head_of_representative}
 use Rattle.ct_eval.proofs.StepSorts.{same_sorts}
 
 -- the result of the first row that fits, or the default, has a sort that all have
@@ -41,11 +41,11 @@ sorted_within d g longer n sort l has =
     let stays = HasNodeSort-longer d g longer n sort l has in
     slice_get_within longer n.0 stays.0 stays.1
 
--- the first node of what a table gives
-pub looked_up : Laws → (d : Declarations) (g longer : Nodes) (n r : NodeId) (sort : SortId) → IsClosed g → IsLonger g longer → HasNodeSort d g n sort → IsFirst longer (node_point longer n) r → IsFirst longer (point g (reference n)) r × HasNodeSort d longer r sort
-looked_up laws d g longer n r sort closed l has f = (
-  laws.same_first longer (node_point longer n) (point g (reference n)) r (node_lasts laws g longer n closed l (slice_get_within g n.0 has.0 has.1)) f,
-  same_sorts d longer longer r n sort (head_of_first laws longer (node_point longer n) r f) (HasNodeSort-longer d g longer n sort l has),
+-- the representative of what a table gives
+pub looked_up : Theorems → (d : Declarations) (g longer : Nodes) (n r : NodeId) (sort : SortId) → IsClosed g → IsLonger g longer → HasNodeSort d g n sort → IsRepresentative longer (node_point longer n) r → IsRepresentative longer (point g (reference n)) r × HasNodeSort d longer r sort
+looked_up theorems d g longer n r sort closed l has f = (
+  theorems.same_first longer (node_point longer n) (point g (reference n)) r (node_lasts theorems g longer n closed l (slice_get_within g n.0 has.0 has.1)) f,
+  same_sorts d longer longer r n sort (head_of_representative theorems longer (node_point longer n) r f) (HasNodeSort-longer d g longer n sort l has),
 )
 
 -- each function has a table over its sorts
@@ -63,10 +63,10 @@ selector_table d i s selector ctor proper declared built =
     (table.0, table.1, proper.selectors.fit s selector ctor table.0 declared built table.1)
 
 -- what a table gives is a value that a reference stands for
-pub given_is : (d : Declarations) (i : Interp) (g : Nodes) (o : Option Table) (table : Table) (values : List Value) (sort s : SortId) (n : NodeId) → o ≡ Some table → sort ≡ s → IsFirst g (point i.graph (reference (look_up i.graph table values))) n → HasNodeSort d g n s → HasValue d i g (given i o values) sort n
+pub given_is : (d : Declarations) (i : Interp) (g : Nodes) (o : Option Table) (table : Table) (values : List Value) (sort s : SortId) (n : NodeId) → o ≡ Some table → sort ≡ s → IsRepresentative g (point i.graph (reference (look_up i.graph table values))) n → HasNodeSort d g n s → HasValue d i g (given i o values) sort n
 given_is d i g o table values sort s n at is first sorted =
     let value : given i o values ≡ reference (look_up i.graph table values) = ap (λ (x : Option Table). given i x values) at in
     record {
-      first = subst (λ (v : Value). IsFirst g (point i.graph v) n) (sym value) first;
+      first = subst (λ (v : Value). IsRepresentative g (point i.graph v) n) (sym value) first;
       sorted = subst (λ (t : SortId). HasNodeSort d g n t) (sym is) sorted;
     }

@@ -11,13 +11,13 @@ use Rattle.ct_values.specs.Graph.{Nodes}
 use Rattle.ct_values.specs.Value.{Value, reference}
 use Rattle.ct_values.specs.Agreement.{point}
 use Rattle.ct_values.specs.Fitting as fitting
-use Rattle.ct_values.specs.Sharing.{IsFirst}
+use Rattle.ct_values.specs.Sharing.{IsRepresentative}
 use Rattle.ct_terms.specs.declared.ids.TermId.{TermId}
-use Rattle.ct_terms.specs.Table.{Table as Terms, IsOfSort, IsBoolean, IsOfField}
+use Rattle.ct_terms.specs.Terms.{Terms, IsOfSort, IsBoolean, IsOfField}
 use Rattle.ct_eval.specs.declared.interp.Interp.{Interp}
 use Rattle.ct_eval.specs.Evaluation.{is_true}
-use Rattle.ct_eval.specs.Index.{AreFirst}
-use Rattle.ct_eval.specs.Step.{HasValue, AreValued, Laws, HasNode, node_under}
+use Rattle.ct_eval.specs.Index.{AreRepresentatives}
+use Rattle.ct_eval.specs.EvaluationStep.{HasValue, AreValued, Theorems, HasNode, node_under}
 use Rattle.ct_eval.proofs.StepLists.{zip-left, each-weaken}
 use Rattle.ct_eval.proofs.StepNodes.{built_alike}
 
@@ -44,21 +44,21 @@ module _ (d : Declarations) (i : Interp) (terms : Terms) (g : Nodes) (nodes : Li
   has_node t sort sorted below = (below, (valued_under t sort sorted below).first.within)
 
   -- it is `true` where the term is
-  pub true_alike : Laws → (t : TermId) (sort : SortId) → IsOfSort terms t sort → t.0 < length nodes → is_true g (reference (node_under nodes t)) ≡ is_true i.graph (value t)
-  true_alike laws t sort sorted below = built_alike laws g i.graph (record { 0 = 0 }) (value t) (node_under nodes t) (valued_under t sort sorted below).first
+  pub true_alike : Theorems → (t : TermId) (sort : SortId) → IsOfSort terms t sort → t.0 < length nodes → is_true g (reference (node_under nodes t)) ≡ is_true i.graph (value t)
+  true_alike theorems t sort sorted below = built_alike theorems g i.graph (record { 0 = 0 }) (value t) (node_under nodes t) (valued_under t sort sorted below).first
 
   -- the same of several terms
-  pub are_first : (ts : List TermId) → AllByRecursion (HasSomeSort terms) ts → AllByRecursion (λ t. t.0 < length nodes) ts → AreFirst i.graph g (map (node_under nodes) ts) (map value ts)
-  are_first [] sorted below = tt
-  are_first (t ∷ ts) sorted below = ((valued_under t sorted.0.0 sorted.0.1 below.0).first, are_first ts sorted.1 below.1)
+  pub are_representatives : (ts : List TermId) → AllByRecursion (HasSomeSort terms) ts → AllByRecursion (λ t. t.0 < length nodes) ts → AreRepresentatives i.graph g (map (node_under nodes) ts) (map value ts)
+  are_representatives [] sorted below = tt
+  are_representatives (t ∷ ts) sorted below = ((valued_under t sorted.0.0 sorted.0.1 below.0).first, are_representatives ts sorted.1 below.1)
 
   pub have_nodes : (ts : List TermId) → AllByRecursion (HasSomeSort terms) ts → AllByRecursion (λ t. t.0 < length nodes) ts → AllByRecursion (HasNode g nodes) ts
   have_nodes [] sorted below = tt
   have_nodes (t ∷ ts) sorted below = (has_node t sorted.0.0 sorted.0.1 below.0, have_nodes ts sorted.1 below.1)
 
-  pub trues_alike : Laws → (ts : List TermId) → AllByRecursion (HasSomeSort terms) ts → AllByRecursion (λ t. t.0 < length nodes) ts → AllByRecursion (λ t. is_true g (reference (node_under nodes t)) ≡ is_true i.graph (value t)) ts
-  trues_alike laws [] sorted below = tt
-  trues_alike laws (t ∷ ts) sorted below = (true_alike laws t sorted.0.0 sorted.0.1 below.0, trues_alike laws ts sorted.1 below.1)
+  pub trues_alike : Theorems → (ts : List TermId) → AllByRecursion (HasSomeSort terms) ts → AllByRecursion (λ t. t.0 < length nodes) ts → AllByRecursion (λ t. is_true g (reference (node_under nodes t)) ≡ is_true i.graph (value t)) ts
+  trues_alike theorems [] sorted below = tt
+  trues_alike theorems (t ∷ ts) sorted below = (true_alike theorems t sorted.0.0 sorted.0.1 below.0, trues_alike theorems ts sorted.1 below.1)
 
   -- nodes of fields have the sorts of the fields
   pub fields_fit : (ts : List TermId) (ss : List SelId) → AllZip (IsOfField d terms) ts ss → AllByRecursion (λ t. t.0 < length nodes) ts → AllZip (fitting.IsOfField d g) (map (node_under nodes) ts) ss
@@ -71,5 +71,5 @@ module _ (d : Declarations) (i : Interp) (terms : Terms) (g : Nodes) (nodes : Li
   )
 
 -- nodes that are the first for values are nodes of the graph
-pub first_within : (h g : Nodes) (ns : List NodeId) (vs : List Value) → AreFirst h g ns vs → All (λ n. n.0 < length g) ns
-first_within h g ns vs first = All-from_recursion (λ n. n.0 < length g) ns (zip-left (λ (n : NodeId) (v : Value). IsFirst g (point h v) n) (λ n. n.0 < length g) (λ n v f. f.within) ns vs first)
+pub first_within : (h g : Nodes) (ns : List NodeId) (vs : List Value) → AreRepresentatives h g ns vs → All (λ n. n.0 < length g) ns
+first_within h g ns vs first = All-from_recursion (λ n. n.0 < length g) ns (zip-left (λ (n : NodeId) (v : Value). IsRepresentative g (point h v) n) (λ n. n.0 < length g) (λ n v f. f.within) ns vs first)

@@ -13,17 +13,17 @@ use Rattle.ct_values.specs.declared.node.Node.TheVariants.{Con}
 use Rattle.ct_values.specs.Graph.{Nodes, IsClosed}
 use Rattle.ct_values.specs.Value.{Value, construct, no_values, node_value}
 use Rattle.ct_values.specs.Agreement.{point, AgreeAlways}
-use Rattle.ct_values.specs.Fitting.{IsBuilt, IsOfField, FitsGraph}
-use Rattle.ct_values.specs.Sharing.{IsFirst}
+use Rattle.ct_values.specs.Fitting.{IsBuilt, IsNodeOfField, FitsGraph}
+use Rattle.ct_values.specs.Sharing.{IsRepresentative}
 use Rattle.ct_terms.specs.declared.ids.TermId.{TermId}
 use Rattle.ct_terms.specs.declared.term.Core.{Core}
-use Rattle.ct_terms.specs.Table.{Table as Terms, HasSort}
+use Rattle.ct_terms.specs.Terms.{Terms, HasSort}
 use Rattle.ct_eval.specs.declared.interp.Interp.{Interp}
 use Rattle.ct_eval.specs.Evaluation.{core_value, truth, is_same}
-use Rattle.ct_eval.specs.Step.{HasValue, AreValued, Laws, IsResult, IsNodeFor}
+use Rattle.ct_eval.specs.EvaluationStep.{HasValue, AreValued, Theorems, IsResult, IsNodeFor}
 use Rattle.ct_eval.proofs.StepConstruct.{constructed}
 
--- what stands at a place of the first part stands in the whole
+-- what stands at an index of the first part stands in the whole
 pub at_take : {X : Type 0} (n : ℕ) (xs : List X) (k : ℕ) (x : X) → slice_get (take n xs) k ≡ Some x → slice_get xs k ≡ Some x
 at_take zero xs k x e = absurd (none-some x e)
 at_take (suc n) [] k x e = e
@@ -42,19 +42,19 @@ truth_ctor d k consistent below =
     (at.0, at_take 2 d.ctors k at.0 (subst (λ (cs : List Constructor). slice_get cs k ≡ Some at.0) (sym consistent.first_ctors) at.1), at.2, at.3)
 
 -- the node of `true` or `false`
-pub truth_constructed : Laws → (d : Declarations) (i : Interp) (old new : Nodes) (c : CtorId) (ns : List NodeId) (b : Bool) (n : NodeId) → IsConsistent d → IsClosed old → FitsGraph d old → c.0 < 2 → ns ≡ [] → truth b ≡ construct c no_values → (new ≡ old) ⊎ (new ≡ old ++ Con c ns ∷ []) → IsFirst new (point new (node_value (Con c ns))) n → IsResult d i new (truth b) bool_sort n
-truth_constructed laws d i old new c ns b n consistent closed fits below empty is grown f =
+pub truth_constructed : Theorems → (d : Declarations) (i : Interp) (old new : Nodes) (c : CtorId) (ns : List NodeId) (b : Bool) (n : NodeId) → IsConsistent d → IsClosed old → FitsGraph d old → c.0 < 2 → ns ≡ [] → truth b ≡ construct c no_values → (new ≡ old) ⊎ (new ≡ old ++ Con c ns ∷ []) → IsRepresentative new (point new (node_value (Con c ns))) n → IsResult d i new (truth b) bool_sort n
+truth_constructed theorems d i old new c ns b n consistent closed fits below empty is grown f =
     let grown' : (new ≡ old) ⊎ (new ≡ old ++ Con c [] ∷ []) = subst (λ (ms : List NodeId). (new ≡ old) ⊎ (new ≡ old ++ Con c ms ∷ [])) empty grown in
-    let f' : IsFirst new (point new (node_value (Con c []))) n = subst (λ (ms : List NodeId). IsFirst new (point new (node_value (Con c ms))) n) empty f in
+    let f' : IsRepresentative new (point new (node_value (Con c []))) n = subst (λ (ms : List NodeId). IsRepresentative new (point new (node_value (Con c ms))) n) empty f in
     let ctor = truth_ctor d c.0 consistent below in
-    let built : IsBuilt d old c.0 [] = record { ctor = ctor.0; declared = ctor.1; fields = subst (λ (ss : List SelId). AllZip (IsOfField d old) [] ss) (sym ctor.3) tt } in
-    subst (λ (v : Value). IsResult d i new v bool_sort n) (sym is) (constructed laws d i old new c [] [] bool_sort n closed fits built ctor.2 tt grown' f')
+    let built : IsBuilt d old c.0 [] = record { ctor = ctor.0; declared = ctor.1; fields = subst (λ (ss : List SelId). AllZip (IsNodeOfField d old) [] ss) (sym ctor.3) tt } in
+    subst (λ (v : Value). IsResult d i new v bool_sort n) (sym is) (constructed theorems d i old new c [] [] bool_sort n closed fits built ctor.2 tt grown' f')
 
 -- the node of an answer is that of a Boolean term that has this answer
 pub answered : {E : Type 0} (d : Declarations) (i : Interp) (old new : Nodes) (nodes : List NodeId) (core : Core) (answer : Bool) (r : Result NodeId E) → IfOk r (IsResult d i new (truth answer) bool_sort) → ((terms : Terms) (value : TermId → Value) (sort : SortId) → AreValued d i terms old nodes value → HasSort d terms core sort → (truth answer ≡ core_value d i value core) × (sort ≡ bool_sort)) → IfOk r (IsNodeFor d i old new nodes core)
-answered d i old new nodes core answer r given told =
+answered d i old new nodes core answer r given reported =
     IfOk-weaker r (IsResult d i new (truth answer) bool_sort) (IsNodeFor d i old new nodes core) (λ n h terms value sort valued sorted.
-    let is = told terms value sort valued sorted in
+    let is = reported terms value sort valued sorted in
     subst (λ (s : SortId). IsResult d i new (core_value d i value core) s n) (sym is.1) (subst (λ (v : Value). IsResult d i new v bool_sort n) is.0 h)) given
 
 -- two tests that hold together are one
@@ -63,9 +63,9 @@ one_answer true b P p q = sym (q.1 (p.0 refl))
 one_answer false true P p q = p.1 (q.0 refl)
 one_answer false false P p q = refl
 
--- two values are the same where one node is the first for both
-pub same_value : Laws → (d : Declarations) (i : Interp) (g : Nodes) (v w : Value) (s t : SortId) (m n : NodeId) (b : Bool) → IsClosed i.graph → HasValue d i g v s m → HasValue d i g w t n → (IsTrue b ↔ (m ≡ n)) → b ≡ is_same i.graph v w
-same_value laws d i g v w s t m n b closed left right told =
-    let one = laws.one g (point i.graph v) (point i.graph w) m n left.first right.first in
-    let every = laws.every_depth (point i.graph v) (point i.graph w) closed closed in
-    one_answer b (is_same i.graph v w) (AgreeAlways (point i.graph v) (point i.graph w)) (λ e. one.0 (told.0 e), λ h. told.1 (one.1 h)) every
+-- two values are equal where one node is the representative of both
+pub same_value : Theorems → (d : Declarations) (i : Interp) (g : Nodes) (v w : Value) (s t : SortId) (m n : NodeId) (b : Bool) → IsClosed i.graph → HasValue d i g v s m → HasValue d i g w t n → (IsTrue b ↔ (m ≡ n)) → b ≡ is_same i.graph v w
+same_value theorems d i g v w s t m n b closed left right reported =
+    let one = theorems.one g (point i.graph v) (point i.graph w) m n left.first right.first in
+    let every = theorems.every_depth (point i.graph v) (point i.graph w) closed closed in
+    one_answer b (is_same i.graph v w) (AgreeAlways (point i.graph v) (point i.graph w)) (λ e. one.0 (reported.0 e), λ h. reported.1 (one.1 h)) every

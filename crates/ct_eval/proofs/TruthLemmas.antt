@@ -7,7 +7,7 @@ use Rattle.ct_values.specs.declared.node.NodeId.{NodeId}
 use Rattle.ct_values.specs.Value.{reference}
 use Rattle.ct_values.specs.Agreement.{Point, point, node_point, head, children, AgreeAlways}
 use Rattle.ct_terms.specs.declared.ids.TermId.{TermId}
-use Rattle.ct_terms.specs.Table.{Table as Terms}
+use Rattle.ct_terms.specs.Terms.{Terms}
 use Rattle.ct_eval.specs.declared.interp.Interp.{Interp}
 use Rattle.ct_eval.specs.declared.interp.Valuation.{Valuation}
 use Rattle.ct_eval.specs.Evaluation.{is_head, is_true, value_of}

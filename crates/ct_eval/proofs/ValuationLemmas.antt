@@ -12,11 +12,11 @@ use Rattle.ct_values.specs.declared.node.Node.TheVariants.{Con, Elem}
 use Rattle.ct_values.specs.Graph.{Nodes, IsClosed, HasChildrenBelow}
 use Rattle.ct_values.specs.Value.{Value}
 use Rattle.ct_values.specs.Agreement.{Point, point}
-use Rattle.ct_values.specs.Fitting.{HasNodeSort, IsOfField, FitsNode, FitsGraph}
-use Rattle.ct_values.specs.Sharing.{IsFirst}
+use Rattle.ct_values.specs.Fitting.{HasNodeSort, IsNodeOfField, FitsNode, FitsGraph}
+use Rattle.ct_values.specs.Sharing.{IsRepresentative}
 use Rattle.ct_terms.specs.declared.ids.TermId.{TermId}
 use Rattle.ct_terms.specs.declared.term.Core.{Core}
-use Rattle.ct_terms.specs.Table.{Table as Terms, Has, HasSort, IsOfSort, IsBoolean, AreSorted, AreOrdered}
+use Rattle.ct_terms.specs.Terms.{Terms, Has, HasSort, IsOfSort, IsBoolean, AreSorted, AreOrdered}
 use Rattle.ct_eval.specs.declared.interp.Interp.{Interp}
 use Rattle.ct_eval.specs.declared.interp.Row.{Row}
 use Rattle.ct_eval.specs.declared.interp.Table.{Table}
@@ -24,14 +24,14 @@ use Rattle.ct_eval.specs.declared.interp.Valuation.{Valuation}
 use Rattle.ct_eval.specs.Interpretation.{FitsTable, IsProper}
 use Rattle.ct_eval.specs.Evaluation.{core_value, value_of}
 use Rattle.ct_eval.specs.Valued.{IsLonger, AreNewAmong, IsValuation}
-use Rattle.ct_eval.specs.Step.{HasValue, AreValued, HaveNodes, IsGrown}
+use Rattle.ct_eval.specs.EvaluationStep.{HasValue, AreValued, HaveNodes, IsGrown}
 use Rattle.ct_eval.proofs.ListLemmas.{stands, slice_get-append_left, slice_get-push_cases, AllZip-left_parts, last_or_before}
 use Rattle.ct_eval.proofs.StepNodes.{IsLonger-further}
 use Rattle.ct_eval.proofs.EvaluationLemmas.{value_of-unfolds}
 
--- the law of first nodes in a graph that grows
+-- the theorem on representatives in a graph that grows
 abbrev pub Lasting : Type 0
-Lasting = (g more : Nodes) (p : Point) (n : NodeId) → IsClosed g → IsFirst g p n → IsFirst (g ++ more) p n
+Lasting = (g more : Nodes) (p : Point) (n : NodeId) → IsClosed g → IsRepresentative g p n → IsRepresentative (g ++ more) p n
 
 -- a graph to which one node was added at most goes on from what it was
 IsGrown-longer : (g longer : Nodes) (n : NodeId) → IsGrown g longer n → IsLonger g longer
@@ -64,7 +64,7 @@ module _ (d : Declarations) where
   -- a node that fits has children of the graph
   FitsNode-below : (g : Nodes) (node : Node) → FitsNode d g node → HasChildrenBelow (length g) node
   FitsNode-below g (Con c children) fits =
-      AllZip-left_parts (IsOfField d g) (λ child. child.0 < length g) (λ child s field. HasNodeSort-within g child field.selector.sort field.sorted) children fits.ctor.sels fits.fields
+      AllZip-left_parts (IsNodeOfField d g) (λ child. child.0 < length g) (λ child s field. HasNodeSort-within g child field.selector.sort field.sorted) children fits.ctor.sels fits.fields
   FitsNode-below g (Elem s n) fits = λ k e within. absurd (omega arith)
 
   -- a graph that fits is closed
@@ -118,9 +118,9 @@ module _ (d : Declarations) where
 
     -- the value of the next term
     HasValue-next : AreOrdered terms → (g : Nodes) (t : TermId) (m n : NodeId) (core : Core) (sort side : SortId) (k : ℕ) → slice_get terms k ≡ Some (core, sort) → IsOfSort terms t side → t.0 ≡ k → m ≡ n → HasValue d i g (core_value d i (value_of d i terms) core) sort m → HasValue d i g (value_of d i terms t) side n
-    HasValue-next ordered g t m n core sort side k at sorted place one h =
+    HasValue-next ordered g t m n core sort side k at sorted position one h =
         let stated : Core × SortId → NodeId → Type 0 = λ stood o. HasValue d i g (core_value d i (value_of d i terms) stood.0) stood.1 o in
-        let same : (core, sort) ≡ (sorted.0, side) = same_Some (core, sort) (sorted.0, side) (sym at ∙ ap (slice_get terms) (sym place) ∙ sorted.1) in
+        let same : (core, sort) ≡ (sorted.0, side) = same_Some (core, sort) (sorted.0, side) (sym at ∙ ap (slice_get terms) (sym position) ∙ sorted.1) in
         subst (λ (v : Value). HasValue d i g v side n) (sym (value_of-unfolds d i terms t sorted.0 side ordered sorted.1)) (subst (stated (sorted.0, side)) one (subst (λ (stood : Core × SortId). stated stood m) same h))
 
     -- a node more, for the next term
@@ -138,10 +138,10 @@ module _ (d : Declarations) where
 
     -- the same of what may fail
     pub HaveNodes-next : {E : Type 0} → Lasting → AreOrdered terms → AreSorted d terms → (g longer : Nodes) (nodes : List NodeId) (t : TermId) (core : Core) (r : Result NodeId E) → HaveNodes d i terms g nodes → t.0 ≡ length nodes → Has terms core t.0 → IfOk r (IsGrown g longer) → ((table : Terms) (value : TermId → Value) (sort : SortId) → AreValued d i table g nodes value → HasSort d table core sort → IfOk r (λ n. FitsGraph d longer × HasValue d i longer (core_value d i value core) sort n)) → IfOk r (λ n. HaveNodes d i terms longer (nodes ++ n ∷ []))
-    HaveNodes-next lasting ordered sorted g longer nodes t core (Err e) before place has grown value = tt
-    HaveNodes-next lasting ordered sorted g longer nodes t core (Ok n) before place has grown value =
+    HaveNodes-next lasting ordered sorted g longer nodes t core (Err e) before position has grown value = tt
+    HaveNodes-next lasting ordered sorted g longer nodes t core (Ok n) before position has grown value =
         let given = value terms (value_of d i terms) has.0 before.valued (sorted t.0 core has.0 has.1) in
-        HaveNodes-push lasting ordered g longer nodes n core has.0 before (ap (slice_get terms) (sym place) ∙ has.1) grown given.0 given.1
+        HaveNodes-push lasting ordered g longer nodes n core has.0 before (ap (slice_get terms) (sym position) ∙ has.1) grown given.0 given.1
 
     -- where each term has a node, there is a valuation
     pub IsValuation-from : (g h : Nodes) (nodes list : List NodeId) → h ≡ g → list ≡ nodes → HaveNodes d i terms g nodes → length nodes ≡ length terms → IsValuation d i terms (record { graph = h; nodes = list })

@@ -12,7 +12,7 @@ use Rattle.ct_values.specs.Graph.{Nodes}
 use Rattle.ct_terms.specs.declared.ids.TermId.{TermId}
 use Rattle.ct_terms.specs.declared.term.Core.{Core}
 use Rattle.ct_terms.specs.declared.term.Core.TheVariants.{Con, Sel, Test, Apply, Eq, Not, And, Or, Iff, Ite}
-use Rattle.ct_terms.specs.Table.{Table as Terms, IsOfSort, IsOfField, HasSort, HasChildrenBelow, AreSorted, AreOrdered}
+use Rattle.ct_terms.specs.Terms.{Terms, IsOfSort, IsOfField, HasSort, HasArgumentsBelow, AreSorted, AreOrdered}
 use Rattle.ct_terms.specs.Literal.{literal_step, literal_below, literal_of}
 use Rattle.ct_terms.specs.Clause.{with_value, literal_value}
 use Rattle.ct_eval.specs.declared.interp.Interp.{Interp}
@@ -23,7 +23,7 @@ use Rattle.ct_eval.specs.Truth.{truth_of}
 use Rattle.ct_eval.specs.ValueSort.{HasValueSort, AreOfFields}
 use Rattle.ct_eval.proofs.EvaluationLemmas.{value_below-enough}
 use Rattle.ct_eval.proofs.StepReady.{all_below}
-use Rattle.ct_eval.proofs.StepSelect.{select_built, select_off}
+use Rattle.ct_eval.proofs.StepSelect.{select_built, select_wrongly}
 use Rattle.ct_eval.proofs.StepTables.{look_up_sorted, function_table, selector_table}
 use Rattle.ct_eval.proofs.StepTruth.{truth_ctor}
 use Rattle.ct_eval.proofs.ValueSortLemmas.{HasValueSort-over, built_field}
@@ -62,7 +62,7 @@ module _ (d : Declarations) (i : Interp) (consistent : IsConsistent d) (own : Ar
           subst (λ (u : Value). Sorted u selector.sort) (sym (select_built i s (slice_get d.sels s.0) selector v w.0 declared e w.1)) w.2
       by false e =
           let table = selector_table d i s.0 selector ctor proper declared built in
-          subst (λ (u : Value). Sorted u selector.sort) (sym (select_off i s (slice_get d.sels s.0) selector v table.0 declared e table.1)) (look_up_sorted d i.graph (ctor.sort ∷ []) selector.sort table.0 (v ∷ []) table.2)
+          subst (λ (u : Value). Sorted u selector.sort) (sym (select_wrongly i s (slice_get d.sels s.0) selector v table.0 declared e table.1)) (look_up_sorted d i.graph (ctor.sort ∷ []) selector.sort table.0 (v ∷ []) table.2)
 
   -- what is of a sort in both cases of a test
   choice_sorted : (b : Bool) (v w : Value) (sort : SortId) → Sorted v sort → Sorted w sort → Sorted (if b then v else w) sort
@@ -84,7 +84,7 @@ module _ (d : Declarations) (i : Interp) (consistent : IsConsistent d) (own : Ar
     )
 
     -- one layer of a term has the term's sort
-    core_sorted : (n : ℕ) (value : TermId → Value) → AreSortedBelow n value → (core : Core) (sort : SortId) → HasSort d terms core sort → HasChildrenBelow n core → Sorted (core_value d i value core) sort
+    core_sorted : (n : ℕ) (value : TermId → Value) → AreSortedBelow n value → (core : Core) (sort : SortId) → HasSort d terms core sort → HasArgumentsBelow n core → Sorted (core_value d i value core) sort
     core_sorted n value sorted (Con c args) sort h below =
         (h.ctor, h.declared, sym h.result, fields_sorted n value sorted args h.ctor.sels h.fields (all_below n args below))
     core_sorted n value sorted (Sel s t) sort h below =

@@ -16,7 +16,7 @@ use Rattle.ct_values.specs.declared.node.Head.TheVariants as heads
 use Rattle.ct_values.specs.Graph.{Nodes, node_head, node_children}
 use Rattle.ct_values.specs.Value.{Value, Values, reference, element, construct, no_values, with_value, list_of, IsOver, AreOver}
 use Rattle.ct_values.specs.Agreement.{Point, point, head, children, head_of, children_of, AgreeAlways}
-use Rattle.ct_values.specs.Fitting.{node_sort, IsOfField, IsElement, FitsGraph}
+use Rattle.ct_values.specs.Fitting.{node_sort, IsNodeOfField, IsElement, FitsGraph}
 use Rattle.ct_eval.specs.Evaluation.{truth, is_head, is_built, is_true}
 use Rattle.ct_eval.specs.ValueSort.{HasValueSort, AreOfFields}
 use Rattle.ct_eval.proofs.StepSelect.{field_child}
@@ -35,21 +35,21 @@ module _ (d : Declarations) (g : Nodes) where
     AreOfFields-over (with_value v vs) [] h = absurd h
     AreOfFields-over (with_value v vs) (s ∷ ss) h = (HasValueSort-over v h.0.0.sort h.0.2, AreOfFields-over vs ss h.1)
 
-  -- the value at a place is of the field of the selector there
-  field_at : (vs : Values) (ss : List SelId) (place : ℕ) (s : SelId) (selector : Selector) → AreOfFields d g vs ss → slice_get ss place ≡ Some s → slice_get d.sels s.0 ≡ Some selector → (w : Value) × (slice_get (list_of vs) place ≡ Some w) × HasValueSort d g w selector.sort
-  field_at vs [] place s selector h at declared = absurd (none-some s at)
-  field_at no_values (r ∷ ss) place s selector h at declared = absurd h
+  -- the value at an index is of the field of the selector there
+  field_at : (vs : Values) (ss : List SelId) (position : ℕ) (s : SelId) (selector : Selector) → AreOfFields d g vs ss → slice_get ss position ≡ Some s → slice_get d.sels s.0 ≡ Some selector → (w : Value) × (slice_get (list_of vs) position ≡ Some w) × HasValueSort d g w selector.sort
+  field_at vs [] position s selector h at declared = absurd (none-some s at)
+  field_at no_values (r ∷ ss) position s selector h at declared = absurd h
   field_at (with_value v vs) (r ∷ ss) zero s selector h at declared =
       let one : r ≡ s = same_Some r s at in
       let same : h.0.0 ≡ selector = same_Some h.0.0 selector (sym h.0.1 ∙ ap (λ (k : SelId). slice_get d.sels k.0) one ∙ declared) in
       (v, refl, subst (λ (f : Selector). HasValueSort d g v f.sort) same h.0.2)
-  field_at (with_value v vs) (r ∷ ss) (suc place) s selector h at declared = field_at vs ss place s selector h.1 at declared
+  field_at (with_value v vs) (r ∷ ss) (suc position) s selector h at declared = field_at vs ss position s selector h.1 at declared
 
-  -- the child of a reference at a place
-  child_at : (ns : List NodeId) (place : ℕ) (child : NodeId) → slice_get ns place ≡ Some child → slice_get (map reference ns) place ≡ Some (reference child)
-  child_at [] place child at = absurd (none-some child at)
+  -- the child of a reference at an index
+  child_at : (ns : List NodeId) (position : ℕ) (child : NodeId) → slice_get ns position ≡ Some child → slice_get (map reference ns) position ≡ Some (reference child)
+  child_at [] position child at = absurd (none-some child at)
   child_at (n ∷ ns) zero child at = ap (λ (m : NodeId). Some (reference m)) (same_Some n child at)
-  child_at (n ∷ ns) (suc place) child at = child_at ns place child at
+  child_at (n ∷ ns) (suc position) child at = child_at ns position child at
 
   -- a value that is built by the constructor of a selector has a child at the selector's place, of its field's sort
   pub built_field : (v : Value) (sort : SortId) (s : SelId) (selector : Selector) → AreOfTheirConstructors d → FitsGraph d g → slice_get d.sels s.0 ≡ Some selector → HasValueSort d g v sort → is_built g selector.ctor v ≡ true → (w : Value) × (slice_get (children_of g v) selector.place ≡ Some w) × HasValueSort d g w selector.sort
@@ -77,10 +77,10 @@ module _ (d : Declarations) (consistent : IsConsistent d) where
   bool_there : slice_get d.sorts 0 ≡ Some bool
   bool_there = at_take 1 d.sorts 0 bool (subst (λ (ss : List Sort). slice_get ss 0 ≡ Some bool) (sym consistent.first_sort) refl)
 
-  first_two : (c : CtorId) (place : ℕ) → slice_get bool.ctors place ≡ Some c → (b : Bool) × (c.0 ≡ truth_number b)
+  first_two : (c : CtorId) (position : ℕ) → slice_get bool.ctors position ≡ Some c → (b : Bool) × (c.0 ≡ truth_number b)
   first_two c zero at = (true, ap (λ (k : CtorId). k.0) (sym (same_Some _ c at)))
   first_two c (suc zero) at = (false, ap (λ (k : CtorId). k.0) (sym (same_Some _ c at)))
-  first_two c (suc (suc place)) at = absurd (none-some c at)
+  first_two c (suc (suc position)) at = absurd (none-some c at)
 
   bool_ctor : AreOfTheirSorts d → (c : CtorId) (ctor : Constructor) → slice_get d.ctors c.0 ≡ Some ctor → ctor.sort ≡ bool_sort → (b : Bool) × (c.0 ≡ truth_number b)
   bool_ctor own c ctor declared sort =
@@ -100,7 +100,7 @@ module _ (d : Declarations) (consistent : IsConsistent d) where
 
   -- an element is not of sort Bool
   bool_element : (s : ℕ) → IsElement d s → s ≡ 0 → ⊥
-  bool_element s of_free is = cc (of_free.free, same_Some of_free.sort bool (sym of_free.declared ∙ ap (slice_get d.sorts) is ∙ bool_there))
+  bool_element s of_uninterpreted is = cc (of_uninterpreted.free, same_Some of_uninterpreted.sort bool (sym of_uninterpreted.declared ∙ ap (slice_get d.sorts) is ∙ bool_there))
 
 -- the value has the head of this truth value, and nothing under it
 abbrev pub IsTruth : Nodes → Value → Bool → Type 0
@@ -124,7 +124,7 @@ module _ (d : Declarations) (g : Nodes) (consistent : IsConsistent d) (own : Are
   bool_node n (Con c ns) at sort =
       let built = fits n.0 (Con c ns) at in
       let b = bool_ctor d consistent own c built.ctor built.declared (same_Some built.ctor.sort bool_sort (sym (ap (option_map (λ (k : Constructor). k.sort)) built.declared) ∙ sort)) in
-      let empty : ns ≡ [] = paired_none (IsOfField d g) ns built.ctor.sels (bool_fields d consistent c built.ctor built.declared b.0 b.1) built.fields in (
+      let empty : ns ≡ [] = paired_none (IsNodeOfField d g) ns built.ctor.sels (bool_fields d consistent c built.ctor built.declared b.0 b.1) built.fields in (
         b.0,
         (
           ap (option_map node_head) at ∙ ap (λ (k : ℕ). Some (heads.Con (record { 0 = k }))) b.1,
@@ -150,7 +150,7 @@ truth_tested : (g : Nodes) (v : Value) (b : Bool) → IsTruth g v b → is_true 
 truth_tested g v true is = ap (is_head (record { 0 = 0 })) is.0
 truth_tested g v false is = ap (is_head (record { 0 = 0 })) is.0
 
--- and it is the same value
+-- and it is an equal value
 truth_same : (always : (p q : Point) → AgreeAlways p q ↔ ((head p ≡ head q) × AllZip AgreeAlways (children p) (children q))) → (g : Nodes) (v : Value) (b : Bool) → IsTruth g v b → AgreeAlways (point g v) (point g (truth b))
 truth_same always g v true is = (always (point g v) (point g (truth true))).1 (is.0, subst (λ (vs : List Value). AllZip AgreeAlways (map (point g) vs) []) (sym is.1) tt)
 truth_same always g v false is = (always (point g v) (point g (truth false))).1 (is.0, subst (λ (vs : List Value). AllZip AgreeAlways (map (point g) vs) []) (sym is.1) tt)

@@ -13,7 +13,7 @@ use Rattle.ct_values.specs.Agreement.{point, same, head_of, children_of}
 use Rattle.ct_terms.specs.declared.ids.TermId.{TermId}
 use Rattle.ct_terms.specs.declared.term.Core.{Core}
 use Rattle.ct_terms.specs.declared.term.Core.TheVariants.{Con, Sel, Test, Apply, Eq, Not, And, Or, Iff, Ite}
-use Rattle.ct_terms.specs.Table.{Table as Terms}
+use Rattle.ct_terms.specs.Terms.{Terms}
 use Rattle.ct_eval.specs.declared.interp.Interp.{Interp}
 use Rattle.ct_eval.specs.declared.interp.Table.{Table}
 use Rattle.ct_eval.specs.LookUp.{look_up}
@@ -37,7 +37,7 @@ is_built g c v = is_head c (head_of g v)
 abbrev pub is_true : Nodes → Value → Bool
 is_true g v = is_built g (record { 0 = 0 }) v
 
--- the values are the same
+-- the values are equal
 abbrev pub is_same : Nodes → Value → Value → Bool
 is_same g v w = same (point g v) (point g w)
 

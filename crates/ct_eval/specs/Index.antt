@@ -1,4 +1,4 @@
--- The rows of tables in one map, from the table and the first nodes of the arguments to the result of the first row.
+-- The rows of tables in one map, from the table and the representatives of the arguments to the result of the first row.
 use Rattle.std.specs.Prelude.{◌≡◌, ℕ, Bool, List, Some, slice_get}
 use Rattle.std.specs.List.{AllZip}
 use Rattle.indexmap.specs.IndexMap.{IndexMap, get}
@@ -6,7 +6,7 @@ use Rattle.ct_values.specs.declared.node.NodeId.{NodeId}
 use Rattle.ct_values.specs.Graph.{Nodes}
 use Rattle.ct_values.specs.Value.{Value}
 use Rattle.ct_values.specs.Agreement.{point, node_point}
-use Rattle.ct_values.specs.Sharing.{IsFirst}
+use Rattle.ct_values.specs.Sharing.{IsRepresentative}
 use Rattle.ct_eval.specs.declared.interp.Row.{Row}
 use Rattle.ct_eval.specs.declared.interp.Table.{Table}
 use Rattle.ct_eval.specs.declared.index.RowKey.{RowKey}
@@ -14,15 +14,15 @@ use Rattle.ct_eval.specs.contracts.index.RowKeyPartialEq.TheImpl as derived
 use Rattle.ct_eval.specs.LookUp.{row_for}
 use Rattle.ct_eval.specs.Valued.{IsLonger}
 
--- the nodes are the first of the longer graph that are these values over g, one for one
-abbrev pub AreFirst : Nodes → Nodes → List NodeId → List Value → Type 0
-AreFirst g longer nodes values = AllZip (λ n v. IsFirst longer (point g v) n) nodes values
+-- the nodes are the representatives in the longer graph of these values over g, one for one
+abbrev pub AreRepresentatives : Nodes → Nodes → List NodeId → List Value → Type 0
+AreRepresentatives g longer nodes values = AllZip (λ n v. IsRepresentative longer (point g v) n) nodes values
 
--- the nodes are the first of the graph that are the same values as these nodes, one for one
-abbrev pub AreFirstNodes : Nodes → List NodeId → List NodeId → Type 0
-AreFirstNodes g firsts nodes = AllZip (λ m n. IsFirst g (node_point g n) m) firsts nodes
+-- the nodes are the representatives of these nodes, one for one
+abbrev pub AreRepresentativeNodes : Nodes → List NodeId → List NodeId → Type 0
+AreRepresentativeNodes g representatives nodes = AllZip (λ m n. IsRepresentative g (node_point g n) m) representatives nodes
 
--- the key of a row: its table, and the first nodes of its arguments
+-- the key of a row: its table, and the representatives of its arguments
 abbrev pub row_key : ℕ → List NodeId → RowKey
 row_key table args = record { table = table; args = args }
 
@@ -34,7 +34,7 @@ same_row_key = derived.eq-value.it
 abbrev pub HasRows : {S : Type 0} → Nodes → ℕ → List Row → IndexMap RowKey NodeId S → Type 0
 HasRows g t rows index = (longer : Nodes) (args : List NodeId) (values : List Value)
     → IsLonger g longer
-    → AreFirst g longer args values
+    → AreRepresentatives g longer args values
     → get same_row_key index (row_key t args) ≡ row_for g rows values
 
 -- the map has the rows of each table

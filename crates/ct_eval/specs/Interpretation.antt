@@ -1,6 +1,6 @@
--- Interpretations: a graph of values, a table for each function, and a table for each selector off its constructor
--- (SMT-LIB 2.7, section 5.3; Reynolds and Blanchette 2015). A free sort is the natural numbers, and a selector off its
--- constructor may have any values.
+-- Interpretations: a graph of values, a table for each function, and a table for each selector where it is wrongly applied
+-- (SMT-LIB 2.7, section 5.3; Reynolds and Blanchette 2015). An uninterpreted sort is the natural numbers, and a wrongly applied selector may
+-- have any values.
 use Rattle.std.specs.Prelude.{◌≡◌, ℕ, ◌<◌, List, [], ◌∷◌, length, All, Contains, Some, slice_get}
 use Rattle.std.specs.List.{AllZip}
 use Rattle.ct_sorts.specs.declared.ids.SortId.{SortId}

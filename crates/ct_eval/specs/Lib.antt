@@ -5,4 +5,4 @@ pub mod ValueSort
 pub mod Truth
 pub mod Valued
 pub mod Index
-pub mod Step
+pub mod EvaluationStep

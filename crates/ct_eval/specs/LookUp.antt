@@ -1,4 +1,4 @@
--- What a table gives for arguments: the result of the first row whose arguments are the same values, and else the default.
+-- What a table gives for arguments: the result of the first row whose arguments are equal values, and else the default.
 use Rattle.std.specs.Prelude.{Bool, List, [], ◌∷◌, map, Option, Some, None, unwrap_or, if◌then◌else◌}
 use Rattle.std.specs.Cmp.Lexicographic.{pointwise}
 use Rattle.ct_values.specs.declared.node.NodeId.{NodeId}
@@ -8,7 +8,7 @@ use Rattle.ct_values.specs.Agreement.{point, node_point, same}
 use Rattle.ct_eval.specs.declared.interp.Row.{Row}
 use Rattle.ct_eval.specs.declared.interp.Table.{Table}
 
--- the nodes are the same values as these, one for one
+-- the nodes are equal to these values, one for one
 abbrev pub are_same : Nodes → List NodeId → List Value → Bool
 are_same g nodes values = pointwise same (map (node_point g) nodes) (map (point g) values)
 

@@ -2,7 +2,7 @@
 use Rattle.std.specs.Prelude.{◌≡◌, ℕ, true, Bool, List, All, take, Some, slice_get}
 use Rattle.ct_sorts.specs.Declarations.{Declarations}
 use Rattle.ct_terms.specs.declared.ids.TermId.{TermId}
-use Rattle.ct_terms.specs.Table.{Table as Terms}
+use Rattle.ct_terms.specs.Terms.{Terms}
 use Rattle.ct_terms.specs.Clause.{Clause, HoldsUnder}
 use Rattle.ct_eval.specs.declared.interp.Interp.{Interp}
 use Rattle.ct_eval.specs.Evaluation.{is_true, value_of}
@@ -19,9 +19,9 @@ Holds d i terms asserts = All (λ t. truth_of d i terms t ≡ true) asserts
 abbrev pub TrueIn : Declarations → Interp → Terms → Clause → Type 0
 TrueIn d i terms clause = HoldsUnder (λ t. truth_of d i terms (record { 0 = t })) clause
 
--- the assertion at this place is the first that is not true
-pub record IsFirstUntrue (d : Declarations) (i : Interp) (terms : Terms) (asserts : List TermId) (place : ℕ) : Type 0 where
+-- the assertion at this index is the first that is not true
+pub record IsFirstUntrue (d : Declarations) (i : Interp) (terms : Terms) (asserts : List TermId) (position : ℕ) : Type 0 where
   pub assert : TermId
-  pub stands : slice_get asserts place ≡ Some assert
+  pub stands : slice_get asserts position ≡ Some assert
   pub untrue : truth_of d i terms assert ≡ true → ⊥
-  pub before : Holds d i terms (take place asserts)
+  pub before : Holds d i terms (take position asserts)

@@ -10,7 +10,7 @@ use Rattle.ct_values.specs.Agreement.{children_of}
 use Rattle.ct_values.specs.Fitting.{HasNodeSort, IsElement}
 
 abbrev mutual
-  -- a reference has the sort of its node, an element that of its free sort, and a constructor its own over values of its fields
+  -- a reference has the sort of its node, an element that of its uninterpreted sort, and a constructor its own over values of its fields
   pub HasValueSort : Declarations → Nodes → Value → SortId → Type 0
   HasValueSort d g (reference n) sort = HasNodeSort d g n sort
   HasValueSort d g (element s n) sort = IsElement d s.0 × (s ≡ sort)

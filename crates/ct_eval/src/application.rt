@@ -6,18 +6,18 @@ ghost use Rattle.ct_values.specs.Graph.{Nodes, IsClosed};
 ghost use Rattle.ct_values.specs.Value.{Value, reference};
 ghost use Rattle.ct_values.specs.Agreement.{point};
 ghost use Rattle.ct_values.specs.Fitting.{FitsGraph, HasNodeSort};
-ghost use Rattle.ct_values.specs.Sharing.{IsFirst};
+ghost use Rattle.ct_values.specs.Sharing.{IsRepresentative};
 ghost use Rattle.ct_eval.specs.declared.interp.Table.{Table};
 ghost use Rattle.ct_eval.specs.Interpretation.{IsProper, FitsTable};
 ghost use Rattle.ct_eval.specs.LookUp.{look_up};
-ghost use Rattle.ct_eval.specs.Index.{IsIndex, AreFirst};
+ghost use Rattle.ct_eval.specs.Index.{IsIndex, AreRepresentatives};
 ghost use Rattle.ct_eval.specs.Valued.{IsLonger};
-ghost use Rattle.ct_eval.specs.Step.{IsReady, IsNodeFor};
+ghost use Rattle.ct_eval.specs.EvaluationStep.{IsReady, IsNodeFor};
 
 use crate::error::EvalError;
 use crate::index::{Index, found};
 use crate::interp::{Interp, Table, Tables};
-use crate::nodes::{closed, laws, nodes_of};
+use crate::nodes::{closed, nodes_of, theorems};
 use ct_sorts::FunId;
 use ct_terms::{Core, TermId};
 use ct_values::{NodeId, NodeIds, SharedGraph};
@@ -47,7 +47,7 @@ pub(crate) fn apply(
     Ok(given(funs, &interp.funs, f.0, shared, args))
 }
 
-/// The first node of what a table gives for first nodes.
+/// The representative of what a table gives for representatives.
 pub(crate) fn given(
     index: &Index,
     tables: &Tables,
@@ -61,19 +61,19 @@ pub(crate) fn given(
         × (slice_get tables.now number ≡ Some table)
         × IsLonger g shared.now
         × FitsTable d g sorts sort table
-        × AreFirst g shared.now args values }
+        × AreRepresentatives g shared.now args values }
     ensures value { (g : Nodes) (d : Declarations) (sorts : List SortId) (sort : SortId) (table : Table)
         (values : List Value)
         → IsIndex g tables.now index.now
         → slice_get tables.now number ≡ Some table
         → IsLonger g shared.now
         → FitsTable d g sorts sort table
-        → AreFirst g shared.now args values
+        → AreRepresentatives g shared.now args values
         → IsClosed g
-        → IsFirst shared.now (point g (reference (look_up g table values))) result
+        → IsRepresentative shared.now (point g (reference (look_up g table values))) result
         × HasNodeSort d shared.now result sort }
 {
-    laws(shared);
+    theorems(shared);
     let node = found(index, number as u64, table_at(tables, number), args);
     shared.first(node)
 }

@@ -1,6 +1,6 @@
 ghost use Rattle.std.specs.Prelude.{◌≡◌, ◌<◌, length, All, IfOk, MatchOption};
 ghost use Rattle.ct_sorts.specs.Declarations.{Declarations};
-ghost use Rattle.ct_terms.specs.Table.{Table as Terms, AreSorted, IsBoolean};
+ghost use Rattle.ct_terms.specs.Terms.{Terms, AreSorted, IsBoolean};
 ghost use Rattle.ct_eval.specs.Interpretation.{IsProper};
 ghost use Rattle.ct_eval.specs.declared.interp.Interp.{Interp};
 ghost use Rattle.ct_eval.specs.Truth.{truth_of, Holds, IsFirstUntrue};
@@ -16,7 +16,7 @@ use ct_terms::{TermId, TermTable};
 use ct_values::agreement;
 use std::alloc::Global;
 
-/// The place of the first assertion that is not true in the interpretation, or none where all are.
+/// The index of the first assertion that is not true in the interpretation, or none where all are.
 pub fn holds(
     alloc: Global,
     sig: &Signature,
@@ -27,7 +27,7 @@ pub fn holds(
     requires proper { IsProper sig.now interp.now }
     requires sorted { AreSorted sig.now table.now }
     requires booleans { All (IsBoolean table.now) asserts.now }
-    ensures place { IfOk result (λ r. MatchOption r
+    ensures position { IfOk result (λ r. MatchOption r
         (Holds sig.now interp.now table.now asserts.now)
         (IsFirstUntrue sig.now interp.now table.now asserts.now)) }
 {
@@ -35,17 +35,17 @@ pub fn holds(
     Ok(first_untrue(&valuation, asserts))
 }
 
-// The place of the first assertion whose node is not `true`.
+// The index of the first assertion whose node is not `true`.
 fn first_untrue(valuation: &Valuation, asserts: &[TermId]) -> Option<usize>
     requires within { All (λ t. t.0 < length valuation.now.nodes) asserts.now }
     requires nodes { All (λ n. n.0 < length valuation.now.graph) valuation.now.nodes }
-    ensures place { (d : Declarations) (i : Interp) (terms : Terms)
+    ensures position { (d : Declarations) (i : Interp) (terms : Terms)
         → IsValuation d i terms valuation.now
         → MatchOption result (Holds d i terms asserts.now) (IsFirstUntrue d i terms asserts.now) }
 {
-    for place in 0..asserts.len() {
-        if !is_true(valuation, asserts[place]) {
-            return Some(place);
+    for position in 0..asserts.len() {
+        if !is_true(valuation, asserts[position]) {
+            return Some(position);
         }
     }
     None

@@ -7,11 +7,11 @@ ghost use Rattle.ct_values.specs.Value.{reference, construct, no_values};
 ghost use Rattle.ct_values.specs.Fitting.{FitsGraph};
 ghost use Rattle.ct_eval.specs.declared.interp.Interp.{Interp};
 ghost use Rattle.ct_eval.specs.Evaluation.{truth, is_true};
-ghost use Rattle.ct_eval.specs.Step.{IsGrown, HasNode, node_under, IsReady, IsResult, IsNodeFor};
+ghost use Rattle.ct_eval.specs.EvaluationStep.{IsGrown, HasNode, node_under, IsReady, IsResult, IsNodeFor};
 
 use crate::error::EvalError;
 use crate::interp::Interp;
-use crate::nodes::{closed, is_built, laws, node_at};
+use crate::nodes::{closed, is_built, node_at, theorems};
 use ct_sorts::CtorId;
 use ct_terms::{Core, TermId};
 use ct_values::{NodeId, NodeIds, SharedGraph};
@@ -38,12 +38,12 @@ pub(crate) fn test(
         → FitsGraph d shared.old
         → IfOk result (IsNodeFor d i shared.old shared.new nodes.now (Core.Test c t)) }
 {
-    laws(shared);
+    theorems(shared);
     let answer = is_built(shared.graph(), c, node_at(shared, nodes, t));
     truth(alloc, shared, answer)
 }
 
-/// The node of whether two terms are the same value: their first nodes are one.
+/// The node of whether two terms are equal values: they have one representative.
 pub(crate) fn equate(
     alloc: Global,
     interp: &Interp,
@@ -59,7 +59,7 @@ pub(crate) fn equate(
         → FitsGraph d shared.old
         → IfOk result (IsNodeFor d interp.now shared.old shared.new nodes.now (Core.Eq a b)) }
 {
-    laws(shared);
+    theorems(shared);
     closed(interp);
     let answer = node_at(shared, nodes, a) == node_at(shared, nodes, b);
     truth(alloc, shared, answer)
@@ -79,7 +79,7 @@ pub(crate) fn negate(
         → FitsGraph d shared.old
         → IfOk result (IsNodeFor d i shared.old shared.new nodes.now (Core.Not t)) }
 {
-    laws(shared);
+    theorems(shared);
     let answer = !is_true(shared, nodes, t);
     truth(alloc, shared, answer)
 }
@@ -98,7 +98,7 @@ pub(crate) fn conjoin(
         → FitsGraph d shared.old
         → IfOk result (IsNodeFor d i shared.old shared.new nodes.now (Core.And args.now)) }
 {
-    laws(shared);
+    theorems(shared);
     let answer = are_true(shared, nodes, args);
     truth(alloc, shared, answer)
 }
@@ -117,7 +117,7 @@ pub(crate) fn disjoin(
         → FitsGraph d shared.old
         → IfOk result (IsNodeFor d i shared.old shared.new nodes.now (Core.Or args.now)) }
 {
-    laws(shared);
+    theorems(shared);
     let answer = is_one_true(shared, nodes, args);
     truth(alloc, shared, answer)
 }
@@ -137,7 +137,7 @@ pub(crate) fn compare(
         → FitsGraph d shared.old
         → IfOk result (IsNodeFor d i shared.old shared.new nodes.now (Core.Iff a b)) }
 {
-    laws(shared);
+    theorems(shared);
     let answer = is_one_value(is_true(shared, nodes, a), is_true(shared, nodes, b));
     truth(alloc, shared, answer)
 }
@@ -157,7 +157,7 @@ fn truth(alloc: Global, shared: &mut SharedGraph, value: bool) -> Result<NodeId,
         → FitsGraph d shared.old
         → IfOk result (IsResult d i shared.new (truth value) bool_sort) }
 {
-    laws(shared);
+    theorems(shared);
     Ok(shared.construct(truth_ctor(value), NodeIds::new(Vec::new(alloc)))?)
 }
 

@@ -17,7 +17,7 @@ pub(crate) fn kind_of(sig: &Signature, s: SortId) -> Option<Kind>
 }
 
 /// Whether the nodes are of these sorts, one for one.
-pub(crate) fn are_of_sorts(
+pub(crate) fn are_nodes_of_sorts(
     sig: &Signature,
     graph: &Graph,
     nodes: &[NodeId],

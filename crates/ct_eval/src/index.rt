@@ -1,6 +1,7 @@
 //! The rows of all tables in one map, so that what a table gives costs a look-up.
 //!
-//! A row is found by its table and the first nodes of its arguments. Of the rows with one key the first stays.
+//! A row is found by its table and the representatives of its arguments. Of the rows with one key
+//! the first stays.
 ghost use Rattle.std.specs.Prelude.{◌≡◌, ◌<◌, ◌⊎◌, ℕ, List, [], ◌∷◌, ◌++◌, length, All, Some, None, slice_get, IfOk, OnOk};
 ghost use Rattle.indexmap.specs.IndexMap.{get};
 ghost use Rattle.ct_values.specs.declared.node.NodeId.{NodeId};
@@ -9,17 +10,17 @@ ghost use Rattle.ct_values.specs.Graph.{Nodes};
 ghost use Rattle.ct_eval.specs.declared.index.RowKey.{RowKey};
 ghost use Rattle.ct_eval.specs.declared.interp.Row.{Row};
 ghost use Rattle.ct_eval.specs.declared.interp.Table.{Table};
-ghost use Rattle.ct_eval.specs.Index.{IsIndex, HasRows, AreFirst, AreFirstNodes, row_key, same_row_key};
+ghost use Rattle.ct_eval.specs.Index.{IsIndex, HasRows, AreRepresentatives, AreRepresentativeNodes, row_key, same_row_key};
 ghost use Rattle.ct_eval.specs.LookUp.{look_up};
 ghost use Rattle.ct_eval.specs.Valued.{IsLonger};
 
 use crate::error::EvalError;
 use crate::interp::{Row, Table};
-use ct_values::{NodeId, NodeIds, SharedGraph, agreement, first_nodes};
+use ct_values::{NodeId, NodeIds, SharedGraph, agreement, representative_nodes};
 use indexmap::IndexMap;
 use std::alloc::Global;
 
-/// The table of a row, and the first nodes of its arguments.
+/// The table of a row, and the representatives of its arguments.
 #[derive(Debug, Drop, PartialEq, Eq, Hash)]
 pub(crate) struct RowKey {
     pub(crate) table: u64,
@@ -54,13 +55,13 @@ pub(crate) fn indexed(
     Ok(index)
 }
 
-/// What the table with this number gives for arguments, which are first nodes.
+/// What the table with this number gives for arguments, which are representatives.
 pub(crate) fn found(index: &Index, number: u64, table: &Table, args: NodeIds) -> NodeId
     ensures value { (g longer : Nodes) (values : List Value) (tables : List Table)
         → IsIndex g tables index.now
         → slice_get tables number ≡ Some table.now
         → IsLonger g longer
-        → AreFirst g longer args values
+        → AreRepresentatives g longer args values
         → result ≡ look_up g table.now values }
 {
     let key = RowKey {
@@ -106,22 +107,27 @@ fn index_row(
         → (other ≡ number → ⊥)
         → get same_row_key index.new (row_key other args) ≡ get same_row_key index.old (row_key other args)) }
 {
-    // The laws of first nodes ask for a closed graph: the look-up of the graph says that it is.
+    // The theorems on representatives ask for a closed graph: the look-up of the graph says that it
+    // is.
     shared.graph();
     agreement();
-    first_nodes();
+    representative_nodes();
     let key = RowKey {
         table: number,
-        args: NodeIds::new(firsts(alloc, shared, row.args.as_slice())?),
+        args: NodeIds::new(representatives(alloc, shared, row.args.as_slice())?),
     };
-    insert_first(index, key, row.result)?;
+    insert_row(index, key, row.result)?;
     Ok(())
 }
 
-// The first nodes that are the same values as these.
-fn firsts(alloc: Global, shared: &SharedGraph, nodes: &[NodeId]) -> Result<Vec<NodeId>, EvalError>
+// The representatives of these nodes.
+fn representatives(
+    alloc: Global,
+    shared: &SharedGraph,
+    nodes: &[NodeId],
+) -> Result<Vec<NodeId>, EvalError>
     requires within { All (λ n. n.0 < length shared.now) nodes.now }
-    ensures first { IfOk result (λ list. AreFirstNodes shared.now list.items nodes.now) }
+    ensures first { IfOk result (λ list. AreRepresentativeNodes shared.now list.items nodes.now) }
 {
     let mut list = Vec::with_capacity(alloc, nodes.len())?;
     for n in nodes {
@@ -131,7 +137,7 @@ fn firsts(alloc: Global, shared: &SharedGraph, nodes: &[NodeId]) -> Result<Vec<N
 }
 
 // Puts a result under a key, unless there is one.
-fn insert_first(index: &mut Index, key: RowKey, node: NodeId) -> Result<(), EvalError>
+fn insert_row(index: &mut Index, key: RowKey, node: NodeId) -> Result<(), EvalError>
     ensures stay { OnOk result ((k : RowKey) (n : NodeId)
         → get same_row_key index.old k ≡ Some n
         → get same_row_key index.new k ≡ Some n) }

@@ -24,7 +24,7 @@ impl Model for Rows {
 
     ghost Value = { List Row };
 
-    ghost view = { λ kept. kept.rows.items };
+    ghost view = { λ stored. stored.rows.items };
 }
 
 impl Rows {
@@ -50,8 +50,9 @@ impl Rows {
     }
 }
 
-/// What a function gives for all arguments, or a selector off its constructor. The first row whose arguments are the
-/// same values as those that are given decides, and where there is none the default.
+/// What a function gives for all arguments, or a selector where it is wrongly applied. The first
+/// row whose arguments are equal values as those that are given decides, and where there is none
+/// the default.
 #[derive(Debug, Drop)]
 pub struct Table {
     /// The rows, of which the first that fits decides.
@@ -72,7 +73,7 @@ impl Model for Tables {
 
     ghost Value = { List Table };
 
-    ghost view = { λ kept. kept.tables.items };
+    ghost view = { λ stored. stored.tables.items };
 }
 
 impl Tables {
@@ -105,14 +106,14 @@ pub struct Interp {
     pub graph: Graph,
     /// The table of each function, in the order of their numbers.
     pub funs: Tables,
-    /// The table of each selector off its constructor, in the order of their numbers.
+    /// The table of each selector for wrong applications, in the order of their numbers.
     pub offs: Tables,
 }
 
 /// What the terms of a table mean in an interpretation.
 #[derive(Debug, Drop)]
 pub struct Valuation {
-    /// The graph of the interpretation, with further nodes behind it.
+    /// The graph of the interpretation, with further nodes after it.
     pub graph: Graph,
     /// A node for each term, in the order of their numbers.
     pub nodes: NodeIds,

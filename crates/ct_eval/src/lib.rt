@@ -8,18 +8,18 @@ mod error;
 mod fitting;
 mod index;
 mod interp;
-mod laws;
 mod nodes;
 mod proper;
 mod selection;
 mod term;
+mod theorems;
 mod valuation;
 
 pub use assertions::holds;
 pub use error::EvalError;
 pub use interp::{Interp, Row, Rows, Table, Tables, Valuation};
-pub use laws::evaluation;
 pub use proper::is_proper;
+pub use theorems::evaluation;
 pub use valuation::evaluate;
 
 #[cfg(test)]

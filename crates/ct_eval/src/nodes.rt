@@ -3,22 +3,22 @@ ghost use Rattle.std.specs.Prelude.{◌≡◌, ◌<◌, length, map, All, IfOk};
 ghost use Rattle.ct_values.specs.Graph.{IsClosed};
 ghost use Rattle.ct_values.specs.Value.{reference};
 ghost use Rattle.ct_eval.specs.Evaluation.{is_built};
-ghost use Rattle.ct_eval.specs.Step.{Laws, HasNode, node_under};
+ghost use Rattle.ct_eval.specs.EvaluationStep.{Theorems, HasNode, node_under};
 
 use crate::error::EvalError;
 use crate::interp::Interp;
 use ct_sorts::CtorId;
 use ct_terms::TermId;
-use ct_values::{Graph, Head, NodeId, SharedGraph, agreement, first_nodes};
+use ct_values::{Graph, Head, NodeId, SharedGraph, agreement, representative_nodes};
 use std::alloc::Global;
 
-/// The laws that the steps rest on, and that the graph is closed.
-pub(crate) fn laws(shared: &SharedGraph)
+/// The theorems that the steps rest on, and that the graph is closed.
+pub(crate) fn theorems(shared: &SharedGraph)
     ensures closed { IsClosed shared.now }
-    ensures laws { Laws }
+    ensures theorems { Theorems }
 {
     agreement();
-    first_nodes();
+    representative_nodes();
     let _graph = shared.graph();
 }
 

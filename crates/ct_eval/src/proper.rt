@@ -6,7 +6,7 @@ ghost use Rattle.ct_values.specs.declared.node.Node.{Node};
 ghost use Rattle.ct_values.specs.Graph.{node_children};
 ghost use Rattle.ct_eval.specs.Interpretation.{IsData, AreBefore, AreFinite, FitsRow, FitsTable, HasFunctions, HasSelectors, IsProper};
 
-use crate::fitting::{are_of_sorts, kind_of};
+use crate::fitting::{are_nodes_of_sorts, kind_of};
 use crate::interp::{Interp, Row, Table};
 use ct_sorts::{FunId, Kind, SelId, Signature, SortId};
 use ct_values::{Graph, NodeId, fits, has_sort, sort_of};
@@ -156,5 +156,6 @@ fn fits_table(sig: &Signature, graph: &Graph, args: &[SortId], sort: SortId, tab
 fn fits_row(sig: &Signature, graph: &Graph, args: &[SortId], sort: SortId, row: &Row) -> bool
     ensures fits { IsTrue result ↔ FitsRow sig.now graph.now args.now sort row.now }
 {
-    are_of_sorts(sig, graph, row.args.as_slice(), args) && has_sort(sig, graph, row.result, sort)
+    are_nodes_of_sorts(sig, graph, row.args.as_slice(), args)
+        && has_sort(sig, graph, row.result, sort)
 }

@@ -7,20 +7,20 @@ ghost use Rattle.ct_values.specs.Graph.{Nodes, node_children};
 ghost use Rattle.ct_values.specs.Value.{Value, reference};
 ghost use Rattle.ct_values.specs.Agreement.{point, children_of};
 ghost use Rattle.ct_values.specs.Fitting.{FitsGraph, HasNodeSort};
-ghost use Rattle.ct_values.specs.Sharing.{IsFirst};
+ghost use Rattle.ct_values.specs.Sharing.{IsRepresentative};
 ghost use Rattle.ct_eval.specs.declared.interp.Table.{Table};
 ghost use Rattle.ct_eval.specs.Interpretation.{IsProper, FitsTable};
 ghost use Rattle.ct_eval.specs.Evaluation.{is_built};
 ghost use Rattle.ct_eval.specs.LookUp.{look_up};
 ghost use Rattle.ct_eval.specs.Index.{IsIndex};
 ghost use Rattle.ct_eval.specs.Valued.{IsLonger};
-ghost use Rattle.ct_eval.specs.Step.{HasValue, IsReady, IsNodeFor};
+ghost use Rattle.ct_eval.specs.EvaluationStep.{HasValue, IsReady, IsNodeFor};
 
 use crate::application::given;
 use crate::error::EvalError;
 use crate::index::Index;
 use crate::interp::Interp;
-use crate::nodes::{closed, is_built, laws, node_at};
+use crate::nodes::{closed, is_built, node_at, theorems};
 use ct_sorts::{SelId, Signature, structure};
 use ct_terms::{Core, TermId};
 use ct_values::{NodeId, NodeIds, SharedGraph};
@@ -45,12 +45,12 @@ pub(crate) fn select(
     requires ready { IsReady sig.now interp.now shared.now nodes.now (Core.Sel s t) }
     ensures value { IfOk result (IsNodeFor sig.now interp.now shared.now shared.now nodes.now (Core.Sel s t)) }
 {
-    laws(shared);
+    theorems(shared);
     let n = node_at(shared, nodes, t);
     if is_built(shared.graph(), sig.sel_ctor(s), n) {
         return Ok(field(sig, shared, s, n));
     }
-    off(alloc, interp, offs, shared, s, n)
+    wrongly_applied(alloc, interp, offs, shared, s, n)
 }
 
 // The node of the field that a selector of its constructor gives.
@@ -61,33 +61,33 @@ fn field(sig: &Signature, shared: &SharedGraph, s: SelId, n: NodeId) -> NodeId
         × IsTrue (is_built shared.now selector.ctor (reference n)) }
     ensures value { (selector : Selector) (g : Nodes) (v : Value)
         → slice_get sig.now.sels s.0 ≡ Some selector
-        → IsFirst shared.now (point g v) n
+        → IsRepresentative shared.now (point g v) n
         → (w : Value) × (slice_get (children_of g v) selector.place ≡ Some w)
-        × IsFirst shared.now (point g w) result
+        × IsRepresentative shared.now (point g w) result
         × HasNodeSort sig.now shared.now result selector.sort }
 {
     prove!(sig.sorts() > 0);
     structure();
-    laws(shared);
+    theorems(shared);
     shared.first(child_at(shared, n, sig.sel_place(s)))
 }
 
-// The child of a node at a place.
-fn child_at(shared: &SharedGraph, n: NodeId, place: u32) -> NodeId
+// The child of a node at an index.
+fn child_at(shared: &SharedGraph, n: NodeId, position: u32) -> NodeId
     requires within { n.0 < length shared.now }
     requires there { (children : List NodeId)
         × (option_map node_children (slice_get shared.now n.0) ≡ Some children)
-        × (place < length children) }
+        × (position < length children) }
     ensures value { (children : List NodeId)
         → option_map node_children (slice_get shared.now n.0) ≡ Some children
-        → slice_get children place ≡ Some result }
+        → slice_get children position ≡ Some result }
     ensures within { result.0 < length shared.now }
 {
-    shared.graph().children(n)[place as usize]
+    shared.graph().children(n)[position as usize]
 }
 
-// The node of what the table of a selector gives off its constructor.
-fn off(
+// The node of what the table of a selector gives where it is wrongly applied.
+fn wrongly_applied(
     alloc: Global,
     interp: &Interp,
     offs: &Index,
@@ -100,11 +100,11 @@ fn off(
     requires fits { (d : Declarations) × (args : List SortId) × (sort : SortId) × (table : Table) × (v : Value)
         × (slice_get interp.now.offs s.0 ≡ Some table)
         × FitsTable d interp.now.graph args sort table
-        × IsFirst shared.now (point interp.now.graph v) n }
+        × IsRepresentative shared.now (point interp.now.graph v) n }
     ensures value { (d : Declarations) (args : List SortId) (sort : SortId) (table : Table) (v : Value)
         → slice_get interp.now.offs s.0 ≡ Some table
         → FitsTable d interp.now.graph args sort table
-        → IsFirst shared.now (point interp.now.graph v) n
+        → IsRepresentative shared.now (point interp.now.graph v) n
         → IfOk result (HasValue d interp.now shared.now (reference (look_up interp.now.graph table (v ∷ []))) sort) }
 {
     closed(interp);

@@ -1,27 +1,28 @@
 //! The value of one term, over the nodes of the terms under it.
 //!
-//! Every node is the first of its graph that is its value, so that two values are the same where their nodes are one.
-//! Each kind of term has a function of its own, and `node_of` calls the one of the term.
+//! Every node is the representative of its value in its graph, so that two values are equal where
+//! their nodes are one. Each kind of term has a function of its own, and `node_of_term` calls the
+//! one of the term.
 ghost use Rattle.std.specs.Prelude.{length, IfOk};
 ghost use Rattle.ct_sorts.specs.declared.ids.SortId.{SortId};
 ghost use Rattle.ct_sorts.specs.Declarations.{Declarations};
 ghost use Rattle.ct_values.specs.Value.{Value};
 ghost use Rattle.ct_values.specs.Fitting.{FitsGraph};
 ghost use Rattle.ct_terms.specs.declared.ids.TermId.{TermId};
-ghost use Rattle.ct_terms.specs.Table.{Table as Terms, HasSort, HasChildrenBelow};
+ghost use Rattle.ct_terms.specs.Terms.{Terms, HasSort, HasArgumentsBelow};
 ghost use Rattle.ct_eval.specs.declared.interp.Interp.{Interp};
 ghost use Rattle.ct_eval.specs.Interpretation.{IsProper};
 ghost use Rattle.ct_eval.specs.Evaluation.{core_value};
 ghost use Rattle.ct_eval.specs.Index.{IsIndex};
 ghost use Rattle.ct_eval.specs.Valued.{IsLonger};
-ghost use Rattle.ct_eval.specs.Step.{HasValue, AreValued, IsGrown, IsReady, IsNodeFor};
+ghost use Rattle.ct_eval.specs.EvaluationStep.{HasValue, AreValued, IsGrown, IsReady, IsNodeFor};
 
 use crate::application::apply;
 use crate::boolean::{compare, conjoin, disjoin, equate, is_true, negate, test};
 use crate::error::EvalError;
 use crate::index::Index;
 use crate::interp::Interp;
-use crate::nodes::{laws, node_at, nodes_of};
+use crate::nodes::{node_at, nodes_of, theorems};
 use crate::selection::select;
 use ct_sorts::{CtorId, Signature};
 use ct_terms::{Core, TermId};
@@ -30,7 +31,7 @@ use std::alloc::Global;
 
 /// The node of a term. `nodes` has those of the terms under it, by their numbers, and the two maps have the rows of the
 /// interpretation's tables.
-pub(crate) fn node_of(
+pub(crate) fn node_of_term(
     alloc: Global,
     sig: &Signature,
     interp: &Interp,
@@ -45,7 +46,7 @@ pub(crate) fn node_of(
     requires fits { FitsGraph sig.now shared.old }
     requires funs { IsIndex interp.now.graph interp.now.funs funs.now }
     requires offs { IsIndex interp.now.graph interp.now.offs offs.now }
-    requires below { HasChildrenBelow (length nodes.now) core.now }
+    requires below { HasArgumentsBelow (length nodes.now) core.now }
     requires ready { IsReady sig.now interp.now shared.old nodes.now core.now }
     ensures grown { IfOk result (IsGrown shared.old shared.new) }
     ensures value { (terms : Terms) (value : TermId → Value) (sort : SortId)
@@ -83,7 +84,7 @@ fn construct(
         → FitsGraph d shared.old
         → IfOk result (IsNodeFor d i shared.old shared.new nodes.now (Core.Con c args.now)) }
 {
-    laws(shared);
+    theorems(shared);
     let children = nodes_of(alloc, nodes, args)?;
     Ok(shared.construct(c, NodeIds::new(children))?)
 }
@@ -95,7 +96,7 @@ fn choose(shared: &SharedGraph, nodes: &[NodeId], c: TermId, a: TermId, b: TermI
         → FitsGraph d shared.now
         → IsNodeFor d i shared.now shared.now nodes.now (Core.Ite c a b) result }
 {
-    laws(shared);
+    theorems(shared);
     if is_true(shared, nodes, c) {
         return node_at(shared, nodes, a);
     }

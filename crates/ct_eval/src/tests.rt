@@ -3,7 +3,7 @@ ghost use Rattle.std.specs.Prelude.{◌≡◌, ◌⊎◌, All, IfOk, IsTrue};
 ghost use Rattle.ct_sorts.specs.declared.ids.Kind.TheVariants as Kind;
 ghost use Rattle.ct_sorts.specs.Declarations.{start};
 ghost use Rattle.ct_sorts.specs.Grown.{Extends};
-ghost use Rattle.ct_terms.specs.Table.{AreSorted, IsBoolean};
+ghost use Rattle.ct_terms.specs.Terms.{AreSorted, IsBoolean};
 
 use crate::{EvalError, Interp, Row, Rows, Table, Tables, evaluation, holds, is_proper};
 use ct_sorts::{
@@ -331,7 +331,7 @@ fn term_ids(alloc: Global, numbers: &[u32]) -> Result<Vec<TermId>, EvalError> {
     Ok(terms)
 }
 
-/// The place of the first of these assertions that is not true.
+/// The index of the first of these assertions that is not true.
 fn first_untrue(
     rt: &impl Abort,
     alloc: Global,
@@ -350,7 +350,7 @@ fn first_untrue(
 }
 
 /// Which assertion of a list is the first that is not true, for some lists.
-fn check_places(rt: &impl Abort, alloc: Global, sig: &Signature, i: &Interp, table: &TermTable)
+fn check_positions(rt: &impl Abort, alloc: Global, sig: &Signature, i: &Interp, table: &TermTable)
     requires sorted { AreSorted sig.now table.now }
 {
     for (asserts, want) in [
@@ -369,7 +369,7 @@ fn check_streams(rt: &impl Abort, alloc: Global, sig: &Signature)
     requires declared { Extends sig.now start }
 {
     match (terms(rt, alloc, sig), interp(rt, alloc, 1, 2)) {
-        (Ok(table), Ok(i)) => check_places(rt, alloc, sig, &i, &table),
+        (Ok(table), Ok(i)) => check_positions(rt, alloc, sig, &i, &table),
         _ => assert!(rt; false),
     }
 }

@@ -1,28 +1,28 @@
 //! What all terms of a table mean in an interpretation.
 //!
-//! The terms are gone through in the order of their numbers, so that nothing recurses. Each gets the first node that is
-//! its value: equality is then equality of numbers, and a constructor over nodes costs a look-up, as does what a table
-//! gives.
+//! The terms are gone through in the order of their numbers, so that nothing recurses. Each gets
+//! the representative that is its value: equality is then equality of numbers, and a constructor
+//! over nodes costs a look-up, as does what a table gives.
 ghost use Rattle.std.specs.Prelude.{◌≡◌, ◌<◌, [], ◌∷◌, ◌++◌, length, IfOk};
-ghost use Rattle.ct_terms.specs.Table.{AreSorted};
+ghost use Rattle.ct_terms.specs.Terms.{AreSorted};
 ghost use Rattle.ct_eval.specs.Interpretation.{IsProper};
 ghost use Rattle.ct_eval.specs.Index.{IsIndex};
 ghost use Rattle.ct_eval.specs.Valued.{IsValuation};
-ghost use Rattle.ct_eval.specs.Step.{HaveNodes};
+ghost use Rattle.ct_eval.specs.EvaluationStep.{HaveNodes};
 
 use crate::error::EvalError;
 use crate::index::{Index, indexed};
 use crate::interp::{Interp, Valuation};
-use crate::term::node_of;
+use crate::term::node_of_term;
 use ct_sorts::{Signature, structure};
 use ct_terms::{TermId, TermTable};
-use ct_values::{NodeId, NodeIds, SharedGraph, first_nodes};
+use ct_values::{NodeId, NodeIds, SharedGraph, representative_nodes};
 use std::alloc::Global;
 
-/// A node for each term of the table, which is the same value as the term in the interpretation (SMT-LIB 2.7, section
-/// 5.3). The graph is that of the interpretation, with new nodes behind it where a term has a value of its own: each new
-/// node is that of a term. A term's node is the first of the graph that is its value, so that two terms have one node
-/// exactly where their values are the same.
+/// A node for each term of the table, which is equal to the term in the interpretation (SMT-LIB
+/// 2.7, section 5.3). The graph is that of the interpretation, with new nodes after it where a term
+/// has a value of its own: each new node is that of a term. A term's node is the first of the graph
+/// that is its value, so that two terms have one node exactly where their values are equal.
 pub fn evaluate(
     alloc: Global,
     sig: &Signature,
@@ -101,7 +101,7 @@ fn next_node(
     requires before { HaveNodes sig.now interp.now table.now shared.old nodes.now }
     ensures node { IfOk result (λ n. HaveNodes sig.now interp.now table.now shared.new (nodes.now ++ n ∷ [])) }
 {
-    first_nodes();
+    representative_nodes();
     prove!(table.len() > 0);
-    node_of(alloc, sig, interp, funs, offs, shared, nodes, table.core(t))
+    node_of_term(alloc, sig, interp, funs, offs, shared, nodes, table.core(t))
 }

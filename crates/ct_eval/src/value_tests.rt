@@ -2,7 +2,7 @@
 ghost use Rattle.std.specs.Prelude.{IfOk};
 ghost use Rattle.ct_sorts.specs.Declarations.{start};
 ghost use Rattle.ct_sorts.specs.Grown.{Extends};
-ghost use Rattle.ct_terms.specs.Table.{AreSorted};
+ghost use Rattle.ct_terms.specs.Terms.{AreSorted};
 
 use crate::tests::{add_e, add_sort, args, ctor, declared, ids, make};
 use crate::{EvalError, Interp, Row, Rows, Table, Tables, evaluate, is_proper};
@@ -31,12 +31,12 @@ const HEAD: SelId = SelId(0);
 const TAIL: SelId = SelId(1);
 
 // A constructor over nodes.
-type Step<'a> = (CtorId, &'a [u64]);
+type EvaluationStep<'a> = (CtorId, &'a [u64]);
 
 // The arguments and the result of a row.
 type Line<'a> = (&'a [u64], u64);
 
-fn graph(rt: &impl Abort, alloc: Global, steps: &[Step]) -> Result<Graph, ValueError> {
+fn graph(rt: &impl Abort, alloc: Global, steps: &[EvaluationStep]) -> Result<Graph, ValueError> {
     let mut nodes = Vec::new(alloc);
     for (c, children) in steps {
         nodes.push(Node::Con(*c, ids(alloc, children)?))?;

@@ -1,3 +1,3 @@
-pub mod Fronts
-pub mod Places
+pub mod Prefixes
+pub mod Offsets
 pub mod Files

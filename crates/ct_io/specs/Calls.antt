@@ -16,7 +16,7 @@ no_calls failing = record { failing = failing; next = Some 0; faults = 0 }
 abbrev pub call_count : Calls → ℕ
 call_count calls = unwrap_or calls.next last_count
 
--- the number behind this one, where 64 bits hold it
+-- the number after this one, where 64 bits hold it
 abbrev pub number_after : ℕ → Option ℕ
 number_after n = if nat_lt n last_count then Some (n + 1) else None
 
@@ -28,6 +28,6 @@ IsToFail calls = IsSomeAnd calls.next (λ n. Contains calls.failing n)
 abbrev pub with_call : Calls → Calls
 with_call calls = record calls { next = option_and_then number_after calls.next }
 
--- after one more fault, which is not counted behind the last count
+-- after one more fault, which is not counted after the last count
 abbrev pub with_fault : Calls → Calls
 with_fault calls = record calls { faults = min (calls.faults + 1) last_count }

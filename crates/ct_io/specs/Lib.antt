@@ -2,8 +2,8 @@ pub mod Fault
 pub mod Bytes
 pub mod Status
 pub mod Calls
-pub mod Shelf
-pub mod Place
+pub mod FileStore
+pub mod FileOffset
 pub mod MemoryDesk
 pub mod SteadyDesk
 pub mod MemorySink

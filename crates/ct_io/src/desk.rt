@@ -1,5 +1,5 @@
 ghost use Rattle.std.specs.Prelude.{◌≡◌, ◌≢◌, ◌≤◌, ℕ, List, Option, length, OnOk, OnErr, IfOk, IfSome};
-ghost use Rattle.ct_io.specs.Bytes.{behind, Reads};
+ghost use Rattle.ct_io.specs.Bytes.{remaining, ReadsBytes};
 ghost use Rattle.ct_io.specs.Fault.{HasCause};
 
 /// The two inputs of the program, each opened under a name of its own.
@@ -44,12 +44,12 @@ pub trait Desk {
         ensures names { (n : List ℕ) → held self.new n ≡ held self.old n }
         ensures cause { HasCause DeskError.Fault (faults self.old) (faults self.new) result };
 
-    /// Moves the next bytes that are left in the slot into the front of `buf` and says how many:
+    /// Moves the next bytes that are left in the slot into the start of `buf` and says how many:
     /// none only where `buf` is empty or nothing is left.
     fn read(&mut self, slot: Slot, buf: &mut [u8]) -> Result<usize, DeskError>
         ensures bound { IfOk result (λ n. n ≤ length buf.old) }
-        ensures bytes { IfOk result (λ n. IfSome (left self.old slot) (λ bytes. Reads bytes n buf.old buf.new)) }
-        ensures taken { IfOk result (λ n. left self.new slot ≡ behind n (left self.old slot)) }
+        ensures bytes { IfOk result (λ n. IfSome (left self.old slot) (λ bytes. ReadsBytes bytes n buf.old buf.new)) }
+        ensures taken { IfOk result (λ n. left self.new slot ≡ remaining n (left self.old slot)) }
         ensures refused { OnErr result (left self.new slot ≡ left self.old slot) }
         ensures other { (s : Slot) → s ≢ slot → left self.new s ≡ left self.old s }
         ensures names { (n : List ℕ) → held self.new n ≡ held self.old n }

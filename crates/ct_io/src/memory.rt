@@ -1,11 +1,11 @@
-//! Desks and sinks in memory, two that fail where they are told and two that never fail.
+//! Desks and sinks in memory, two that fail where they are asked to and two that never fail.
 
 mod calls;
 mod desk;
-mod shelf;
 mod sink;
 mod steady_desk;
 mod steady_sink;
+mod store;
 
 pub use desk::DeskInMemory;
 pub use sink::SinkInMemory;

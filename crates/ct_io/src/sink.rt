@@ -43,7 +43,7 @@ pub trait Sink {
     /// How often the outside has failed.
     ghost faults: { Self → ℕ };
 
-    /// Takes a front of the piece, not empty unless the piece is, and says how long it was.
+    /// Takes a prefix of the piece, not empty unless the piece is, and says how long it was.
     fn write(&mut self, piece: &[u8]) -> Result<usize, SinkError>
         ensures bound { IfOk result (λ n. n ≤ length piece.now) }
         ensures progress { IfOk result (λ n. 0 < length piece.now → 0 < n) }
@@ -52,7 +52,8 @@ pub trait Sink {
         ensures cause { HasCause SinkError.Fault (faults self.old) (faults self.new) result };
 }
 
-/// Writes the whole piece. After a refusal a front of the piece was written, and not the whole piece.
+/// Writes the whole piece. After a refusal a prefix of the piece was written, and not the whole
+/// piece.
 pub fn write_all<K: Sink>(sink: &mut K, piece: &[u8]) -> Result<(), SinkError>
     ensures ok { OnOk result (K.written sink.new ≡ appended piece.now (K.written sink.old)) }
     ensures refused { OnErr result (GrewByPart piece.now (K.written sink.old) (K.written sink.new)) }

@@ -8,7 +8,7 @@ pub enum Status {
     Done,
     /// The script was answered to its end, with at least one error.
     Refused,
-    /// The words of the command line have none of the accepted forms.
+    /// The arguments of the command line have none of the accepted forms.
     Usage,
     /// The desk could not give what was asked of it.
     InputFault,

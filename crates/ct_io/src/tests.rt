@@ -97,7 +97,7 @@ fn desk_in_memory_gives_pieces(rt: HostRuntime) -> Result<(), Fail> {
 }
 
 #[test]
-fn desk_in_memory_fails_where_it_is_told(rt: HostRuntime) -> Result<(), Fail> {
+fn desk_in_memory_fails_where_it_is_reported(rt: HostRuntime) -> Result<(), Fail> {
     let fail = vec![in rt.alloc(); 1, 4]?;
     let mut desk = DeskInMemory::new(files(rt.alloc())?, fail, 2);
     let mut buf = [0u8; 8];
@@ -151,7 +151,7 @@ fn steady_desk_has_empty_files(rt: HostRuntime) -> Result<(), Fail> {
 }
 
 #[test]
-fn sink_in_memory_fails_where_it_is_told(rt: HostRuntime) -> Result<(), Fail> {
+fn sink_in_memory_fails_where_it_is_reported(rt: HostRuntime) -> Result<(), Fail> {
     let fail = vec![in rt.alloc(); 1]?;
     let mut sink = SinkInMemory::new(rt.alloc(), fail, 3);
     assert_eq!(rt; sink.write(b"hello"), Ok(3));

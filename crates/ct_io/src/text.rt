@@ -2,7 +2,7 @@ ghost use Rattle.std.specs.Prelude.{◌≡◌, string_bytes};
 
 use std::marker::Model;
 
-/// A text in UTF-8, as a word of the command line. Clauses see its bytes.
+/// A text in UTF-8, as an argument of the command line. Clauses see its bytes.
 #[derive(Debug, Drop)]
 pub struct Text {
     string: String,

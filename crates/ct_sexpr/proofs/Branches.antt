@@ -1,4 +1,4 @@
--- What holds of a test and behind it.
+-- What holds of a test and after it.
 use Rattle.std.proofs.Common.{◌≡◌, Bool, true, false, not, ◌&&◌, cond, refl}
 
 -- a test has what holds of each outcome, where it comes

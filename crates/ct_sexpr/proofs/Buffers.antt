@@ -6,8 +6,8 @@ use Rattle.ct_sexpr.specs.Buffered.{IsBuffered}
 use Rattle.ct_sexpr.specs.Expression.{Expression}
 use Rattle.ct_sexpr.specs.View.{expression_of}
 use Rattle.ct_sexpr.specs.declared.sexpr.Sexpr.{Sexpr}
-use Rattle.ct_sexpr.specs.declared.scanner.Step.{Step}
-use Rattle.ct_sexpr.specs.declared.scanner.Step.TheVariants.{Going, Command, Wrong}
+use Rattle.ct_sexpr.specs.declared.scanner.ScanStep.{ScanStep}
+use Rattle.ct_sexpr.specs.declared.scanner.ScanStep.TheVariants.{Going, Command, Wrong}
 use Rattle.ct_sexpr.specs.declared.error.ReadError.{ReadError}
 use Rattle.ct_sexpr.specs.declared.error.ReadError.TheVariants.{NoMemory}
 use Rattle.ct_sexpr.specs.declared.scanner.Scanner.{Scanner}
@@ -15,9 +15,9 @@ use Rattle.ct_sexpr.specs.declared.scanner.Scanner.{Scanner}
 -- a scanner that has read nothing is at the beginning of each text
 fresh_reached : (s : Scanner) (text : List ℕ) → IsFresh s → s.line_feeds ≡ 0 → Reached s text text
 fresh_reached s text f none = record {
-  place =
+  position =
       rw (f.lists, f.mode, f.word)
-      (record { behind = text; part = record { spelled = refl; nested = refl }; goes_on = (refl, refl) });
+      (record { remaining = text; part = record { spelled = refl; nested = refl }; goes_on = (refl, refl) });
   lines = rw (f.lists, none) (record { count = omega arith; few = omega arith; begun = λ h. absurd (omega arith) });
 }
 
@@ -51,7 +51,7 @@ pub reached_now : (buffer : List ℕ) (start scanned : ℕ) (s : Scanner) (lines
 reached_now buffer start scanned s lines fed b =
     subst (λ l. Reached s (drop start buffer) l) (append-nil (drop scanned buffer)) (subst (λ l. Reached s l (drop scanned buffer ++ [])) (append-nil (drop start buffer)) (b.reached []))
 
--- the bytes of a command that was given are behind the start
+-- the bytes of a command that was given are after the start
 pub buffered-give : (buffer : List ℕ) (start scanned count : ℕ) (old new fresh : Scanner) (e : Expression) (lines fed : ℕ) (bytes : List ℕ) → IsBuffered buffer start scanned old lines fed →
     bytes ≡ drop scanned buffer → count ≤ length bytes → Completes new e (drop start buffer) (drop (scanned + count) buffer) → IsFresh fresh → fresh.line_feeds ≡ 0 →
     IsBuffered buffer (scanned + count) (scanned + count) fresh (lines + new.line_feeds) fed
@@ -80,7 +80,7 @@ refutes_now buffer start scanned count code old new lines fed bytes b is scans =
     scans (drop start buffer) [] (subst (Reached old (drop start buffer)) (sym (append-nil bytes ∙ is)) (reached_now buffer start scanned old lines fed b))
 
 -- what a scan of all bytes that were not yet read leaves
-module _ (buffer : List ℕ) (start scanned count : ℕ) (old new : Scanner) (lines fed : ℕ) (bytes : List ℕ) (outcome : Result Step ReadError)
+module _ (buffer : List ℕ) (start scanned count : ℕ) (old new : Scanner) (lines fed : ℕ) (bytes : List ℕ) (outcome : Result ScanStep ReadError)
     (b : IsBuffered buffer start scanned old lines fed) (is : bytes ≡ drop scanned buffer) (within : count ≤ length bytes)
     (scans : Scans old new bytes (drop count bytes) outcome) where
   pub scanned_failed : (e : ReadError) → outcome ≡ Err e → (e ≡ NoMemory) × IsBuffered buffer start (scanned + count) new lines fed

@@ -1,10 +1,10 @@
 -- What a byte begins: a token or an error, and whether bytes that follow may change it.
 use Rattle.std.proofs.Common.{◌≡◌, ℕ, Bool, true, false, eqb, nat_lt, cond, List, [], ◌∷◌, Option, Some, None, Result, Ok, Err, ◌⊎◌, inl, inr, refl, sym, ap, ◌∙◌, subst}
 use Rattle.std.proofs.lemmas.Bool.Decides.{eqb_tells}
-use Rattle.ct_sexpr.specs.Run.{run_of, behind_run}
-use Rattle.ct_sexpr.specs.ErrorNumber.{begins_no_token, closes_nothing, nests_too_deep, stands_outside}
-use Rattle.ct_sexpr.specs.Atom.{Atom, quoted, text, begins_word, word_of, behind_word, atom_of}
-use Rattle.ct_sexpr.specs.Token.{Token, opening, closing, atom, bar, is_between_bars, text_of, behind_text, Lexeme, token, wrong, cut, quoted_lexeme, text_lexeme, word_lexeme, lexeme_at, begins_atom, is_empty, text_may_go_on, may_go_on}
+use Rattle.ct_sexpr.specs.TakeWhile.{take_while, drop_while}
+use Rattle.ct_sexpr.specs.ErrorNumber.{begins_no_token, closes_nothing, nests_too_deep, atom_outside}
+use Rattle.ct_sexpr.specs.Atom.{Atom, quoted, text, begins_word, word_of, after_word, atom_of}
+use Rattle.ct_sexpr.specs.Token.{Token, opening, closing, atom, bar, is_in_quoted_symbol, string_content, after_text, Lexeme, token, wrong, cut, quoted_lexeme, text_lexeme, word_lexeme, lexeme_at, begins_atom, is_empty, text_may_go_on, may_go_on}
 use Rattle.ct_sexpr.specs.Reading.{nesting_limit, error_of, error_at}
 
 -- what a byte may begin
@@ -16,29 +16,29 @@ pub data First : Type 0 where
   a_word : First
   no_token : First
 
--- what stands at the front of bytes of which the first begins so
+-- what stands at the start of bytes of which the first begins so
 abbrev pub lexeme_from : First → ℕ → List ℕ → Lexeme
 lexeme_from an_opening b bs = token opening bs
 lexeme_from a_closing b bs = token closing bs
-lexeme_from a_quoted b bs = quoted_lexeme (run_of is_between_bars bs) (behind_run is_between_bars bs)
-lexeme_from a_text b bs = text_lexeme (text_of bs) (behind_text bs)
-lexeme_from a_word b bs = word_lexeme (atom_of (b ∷ word_of bs)) (b ∷ bs) (behind_word bs)
+lexeme_from a_quoted b bs = quoted_lexeme (take_while is_in_quoted_symbol bs) (drop_while is_in_quoted_symbol bs)
+lexeme_from a_text b bs = text_lexeme (string_content bs) (after_text bs)
+lexeme_from a_word b bs = word_lexeme (atom_of (b ∷ word_of bs)) (b ∷ bs) (after_word bs)
 lexeme_from no_token b bs = wrong begins_no_token (b ∷ bs)
 
 -- whether bytes that follow may change it
 abbrev pub goes_on_from : First → List ℕ → Bool
 goes_on_from an_opening bs = false
 goes_on_from a_closing bs = false
-goes_on_from a_quoted bs = is_empty (behind_run is_between_bars bs)
-goes_on_from a_text bs = text_may_go_on (behind_text bs)
-goes_on_from a_word bs = is_empty (behind_word bs)
+goes_on_from a_quoted bs = is_empty (drop_while is_in_quoted_symbol bs)
+goes_on_from a_text bs = text_may_go_on (after_text bs)
+goes_on_from a_word bs = is_empty (after_word bs)
 goes_on_from no_token bs = false
 
 -- the error of what is no parenthesis
 abbrev pub error_inside : Lexeme → ℕ → ℕ → List ℕ → Option (ℕ × List ℕ)
-error_inside lexeme depth b bs = cond (nat_lt 0 depth) (error_of lexeme) (Some (cond (begins_atom b) stands_outside begins_no_token, b ∷ bs))
+error_inside lexeme depth b bs = cond (nat_lt 0 depth) (error_of lexeme) (Some (cond (begins_atom b) atom_outside begins_no_token, b ∷ bs))
 
--- the error at the front of bytes of which the first begins so
+-- the error at the start of bytes of which the first begins so
 abbrev pub error_from : First → ℕ → ℕ → List ℕ → Option (ℕ × List ℕ)
 error_from an_opening depth b bs = cond (nat_lt depth nesting_limit) None (Some (nests_too_deep, b ∷ bs))
 error_from a_closing depth b bs = cond (nat_lt 0 depth) None (Some (closes_nothing, b ∷ bs))
@@ -92,36 +92,36 @@ first_of b =
     ]
 
 -- a quoted symbol that may go on is cut
-pub quoted_goes_on : (content left : List ℕ) (t : Token) (behind : List ℕ) → is_empty left ≡ true → quoted_lexeme content left ≡ token t behind → ⊥
-quoted_goes_on content [] t behind g e = cc
-quoted_goes_on content (b ∷ bs) t behind g e = cc
+pub quoted_goes_on : (content left : List ℕ) (t : Token) (remaining : List ℕ) → is_empty left ≡ true → quoted_lexeme content left ≡ token t remaining → ⊥
+quoted_goes_on content [] t remaining g e = cc
+quoted_goes_on content (b ∷ bs) t remaining g e = cc
 
--- a string or a word that may go on has nothing behind it
-text_goes_on : (content : List ℕ) (left : Option (List ℕ)) (t : Token) (behind : List ℕ) → text_may_go_on left ≡ true → text_lexeme content left ≡ token t behind →
-    (a : Atom) × (t ≡ atom a) × (behind ≡ [])
-text_goes_on content None t behind g e = cc
-text_goes_on content (Some []) t behind g e = (text content, cc, cc)
-text_goes_on content (Some (b ∷ bs)) t behind g e = cc
+-- a string or a word that may go on has nothing after it
+text_goes_on : (content : List ℕ) (left : Option (List ℕ)) (t : Token) (remaining : List ℕ) → text_may_go_on left ≡ true → text_lexeme content left ≡ token t remaining →
+    (a : Atom) × (t ≡ atom a) × (remaining ≡ [])
+text_goes_on content None t remaining g e = cc
+text_goes_on content (Some []) t remaining g e = (text content, cc, cc)
+text_goes_on content (Some (b ∷ bs)) t remaining g e = cc
 
-word_goes_on : (read : Result Atom ℕ) (bytes left : List ℕ) (t : Token) (behind : List ℕ) → is_empty left ≡ true → word_lexeme read bytes left ≡ token t behind →
-    (a : Atom) × (t ≡ atom a) × (behind ≡ [])
-word_goes_on (Ok a) bytes [] t behind g e = (a, cc, cc)
-word_goes_on (Ok a) bytes (b ∷ bs) t behind g e = cc
-word_goes_on (Err code) bytes left t behind g e = cc
+word_goes_on : (read : Result Atom ℕ) (bytes left : List ℕ) (t : Token) (remaining : List ℕ) → is_empty left ≡ true → word_lexeme read bytes left ≡ token t remaining →
+    (a : Atom) × (t ≡ atom a) × (remaining ≡ [])
+word_goes_on (Ok a) bytes [] t remaining g e = (a, cc, cc)
+word_goes_on (Ok a) bytes (b ∷ bs) t remaining g e = cc
+word_goes_on (Err code) bytes left t remaining g e = cc
 
--- a token that may go on is an atom, and nothing is left behind it
-pub token_goes_on : (l : List ℕ) (t : Token) (behind : List ℕ) → may_go_on l ≡ true → lexeme_at l ≡ token t behind → (a : Atom) × (t ≡ atom a) × (behind ≡ [])
-token_goes_on [] t behind g e = cc
-token_goes_on (b ∷ bs) t behind g e =
+-- a token that may go on is an atom, and nothing is left after it
+pub token_goes_on : (l : List ℕ) (t : Token) (remaining : List ℕ) → may_go_on l ≡ true → lexeme_at l ≡ token t remaining → (a : Atom) × (t ≡ atom a) × (remaining ≡ [])
+token_goes_on [] t remaining g e = cc
+token_goes_on (b ∷ bs) t remaining g e =
     let f = first_of b in
     by f.0 (sym (f.1.goes_on bs) ∙ g) (sym (f.1.lexeme bs) ∙ e)
   where
-    by : (f : First) → goes_on_from f bs ≡ true → lexeme_from f b bs ≡ token t behind → (a : Atom) × (t ≡ atom a) × (behind ≡ [])
+    by : (f : First) → goes_on_from f bs ≡ true → lexeme_from f b bs ≡ token t remaining → (a : Atom) × (t ≡ atom a) × (remaining ≡ [])
     by an_opening h k = cc
     by a_closing h k = cc
-    by a_quoted h k = absurd (quoted_goes_on (run_of is_between_bars bs) (behind_run is_between_bars bs) t behind h k)
-    by a_text h k = text_goes_on (text_of bs) (behind_text bs) t behind h k
-    by a_word h k = word_goes_on (atom_of (b ∷ word_of bs)) (b ∷ bs) (behind_word bs) t behind h k
+    by a_quoted h k = absurd (quoted_goes_on (take_while is_in_quoted_symbol bs) (drop_while is_in_quoted_symbol bs) t remaining h k)
+    by a_text h k = text_goes_on (string_content bs) (after_text bs) t remaining h k
+    by a_word h k = word_goes_on (atom_of (b ∷ word_of bs)) (b ∷ bs) (after_word bs) t remaining h k
     by no_token h k = cc
 
 -- neither a quoted symbol that a byte ends nor a word is cut
@@ -154,9 +154,9 @@ cut_goes_on (b ∷ bs) e =
     by : (f : First) → lexeme_from f b bs ≡ cut → goes_on_from f bs ≡ true
     by an_opening k = cc
     by a_closing k = cc
-    by a_quoted k = of_quoted (run_of is_between_bars bs) (behind_run is_between_bars bs) k
-    by a_text k = of_text (text_of bs) (behind_text bs) k
-    by a_word k = absurd (word_is_not_cut (atom_of (b ∷ word_of bs)) (b ∷ bs) (behind_word bs) k)
+    by a_quoted k = of_quoted (take_while is_in_quoted_symbol bs) (drop_while is_in_quoted_symbol bs) k
+    by a_text k = of_text (string_content bs) (after_text bs) k
+    by a_word k = absurd (word_is_not_cut (atom_of (b ∷ word_of bs)) (b ∷ bs) (after_word bs) k)
     by no_token k = cc
 
 -- the error, where there is one
@@ -179,24 +179,24 @@ pub true_or_false : (b : Bool) → (b ≡ true) ⊎ (b ≡ false)
 true_or_false true = inl refl
 true_or_false false = inr refl
 
--- an error has its place at the front, or is one of what stands there inside parentheses
-pub error_cases : (b : ℕ) (bs : List ℕ) (depth code : ℕ) (place : List ℕ) → error_at depth (b ∷ bs) ≡ Some (code, place) →
-    (place ≡ b ∷ bs) ⊎ ((nat_lt 0 depth ≡ true) × (error_of (lexeme_at (b ∷ bs)) ≡ Some (code, place)))
-error_cases b bs depth code place e =
+-- an error has its position at the start, or is one of what stands there inside parentheses
+pub error_cases : (b : ℕ) (bs : List ℕ) (depth code : ℕ) (suffix : List ℕ) → error_at depth (b ∷ bs) ≡ Some (code, suffix) →
+    (suffix ≡ b ∷ bs) ⊎ ((nat_lt 0 depth ≡ true) × (error_of (lexeme_at (b ∷ bs)) ≡ Some (code, suffix)))
+error_cases b bs depth code suffix e =
     let f = first_of b in
     by f.0 (sym (f.1.lexeme bs)) (sym (f.1.error depth bs) ∙ e)
   where
-    here : (p : Bool) (n : ℕ) → cond {A = Option (ℕ × List ℕ)} p None (Some (n, b ∷ bs)) ≡ Some (code, place) → place ≡ b ∷ bs
-    here true n k = absurd (no_error code place k)
-    here false n k = sym (same_error n code (b ∷ bs) place k).1
+    here : (p : Bool) (n : ℕ) → cond {A = Option (ℕ × List ℕ)} p None (Some (n, b ∷ bs)) ≡ Some (code, suffix) → suffix ≡ b ∷ bs
+    here true n k = absurd (no_error code suffix k)
+    here false n k = sym (same_error n code (b ∷ bs) suffix k).1
 
-    inside : (p : Bool) (n : ℕ) (l m : Lexeme) → nat_lt 0 depth ≡ p → l ≡ m → cond p (error_of l) (Some (n, b ∷ bs)) ≡ Some (code, place) →
-        (place ≡ b ∷ bs) ⊎ ((nat_lt 0 depth ≡ true) × (error_of m ≡ Some (code, place)))
-    inside true n l m d is k = inr (d, subst (λ x. error_of x ≡ Some (code, place)) is k)
-    inside false n l m d is k = inl (sym (same_error n code (b ∷ bs) place k).1)
+    inside : (p : Bool) (n : ℕ) (l m : Lexeme) → nat_lt 0 depth ≡ p → l ≡ m → cond p (error_of l) (Some (n, b ∷ bs)) ≡ Some (code, suffix) →
+        (suffix ≡ b ∷ bs) ⊎ ((nat_lt 0 depth ≡ true) × (error_of m ≡ Some (code, suffix)))
+    inside true n l m d is k = inr (d, subst (λ x. error_of x ≡ Some (code, suffix)) is k)
+    inside false n l m d is k = inl (sym (same_error n code (b ∷ bs) suffix k).1)
 
-    by : (f : First) → lexeme_from f b bs ≡ lexeme_at (b ∷ bs) → error_from f depth b bs ≡ Some (code, place) →
-        (place ≡ b ∷ bs) ⊎ ((nat_lt 0 depth ≡ true) × (error_of (lexeme_at (b ∷ bs)) ≡ Some (code, place)))
+    by : (f : First) → lexeme_from f b bs ≡ lexeme_at (b ∷ bs) → error_from f depth b bs ≡ Some (code, suffix) →
+        (suffix ≡ b ∷ bs) ⊎ ((nat_lt 0 depth ≡ true) × (error_of (lexeme_at (b ∷ bs)) ≡ Some (code, suffix)))
     by an_opening is k = inl (here (nat_lt depth nesting_limit) nests_too_deep k)
     by a_closing is k = inl (here (nat_lt 0 depth) closes_nothing k)
     by a_quoted is k = inside (nat_lt 0 depth) _ (lexeme_from a_quoted b bs) (lexeme_at (b ∷ bs)) refl is k
@@ -205,57 +205,57 @@ error_cases b bs depth code place e =
     by no_token is k = inside (nat_lt 0 depth) _ (lexeme_from no_token b bs) (lexeme_at (b ∷ bs)) refl is k
 
 -- whether a token may stand where so many lists are open
-abbrev pub MayStand : Token → ℕ → Type 0
-MayStand opening depth = nat_lt depth nesting_limit ≡ true
-MayStand closing depth = nat_lt 0 depth ≡ true
-MayStand (atom a) depth = nat_lt 0 depth ≡ true
+abbrev pub MayFollow : Token → ℕ → Type 0
+MayFollow opening depth = nat_lt depth nesting_limit ≡ true
+MayFollow closing depth = nat_lt 0 depth ≡ true
+MayFollow (atom a) depth = nat_lt 0 depth ≡ true
 
 -- the token of what begins an atom is one
-quoted_atom : (content left : List ℕ) (t : Token) (behind : List ℕ) → quoted_lexeme content left ≡ token t behind → (a : Atom) × (t ≡ atom a)
-quoted_atom content [] t behind e = cc
-quoted_atom content (c ∷ cs) t behind e = by (eqb c bar) e
+quoted_atom : (content left : List ℕ) (t : Token) (remaining : List ℕ) → quoted_lexeme content left ≡ token t remaining → (a : Atom) × (t ≡ atom a)
+quoted_atom content [] t remaining e = cc
+quoted_atom content (c ∷ cs) t remaining e = by (eqb c bar) e
   where
-    by : (p : Bool) → cond p (token (atom (quoted content)) cs) (wrong begins_no_token (c ∷ cs)) ≡ token t behind → (a : Atom) × (t ≡ atom a)
+    by : (p : Bool) → cond p (token (atom (quoted content)) cs) (wrong begins_no_token (c ∷ cs)) ≡ token t remaining → (a : Atom) × (t ≡ atom a)
     by true k = (quoted content, cc)
     by false k = cc
 
-text_atom : (content : List ℕ) (left : Option (List ℕ)) (t : Token) (behind : List ℕ) → text_lexeme content left ≡ token t behind → (a : Atom) × (t ≡ atom a)
-text_atom content None t behind e = cc
-text_atom content (Some left) t behind e = (text content, cc)
+text_atom : (content : List ℕ) (left : Option (List ℕ)) (t : Token) (remaining : List ℕ) → text_lexeme content left ≡ token t remaining → (a : Atom) × (t ≡ atom a)
+text_atom content None t remaining e = cc
+text_atom content (Some left) t remaining e = (text content, cc)
 
-word_atom : (read : Result Atom ℕ) (bytes left : List ℕ) (t : Token) (behind : List ℕ) → word_lexeme read bytes left ≡ token t behind → (a : Atom) × (t ≡ atom a)
-word_atom (Ok a) bytes left t behind e = (a, cc)
-word_atom (Err code) bytes left t behind e = cc
+word_atom : (read : Result Atom ℕ) (bytes left : List ℕ) (t : Token) (remaining : List ℕ) → word_lexeme read bytes left ≡ token t remaining → (a : Atom) × (t ≡ atom a)
+word_atom (Ok a) bytes left t remaining e = (a, cc)
+word_atom (Err code) bytes left t remaining e = cc
 
 -- no error stands where a token does that may stand there
-pub token_is_no_error : (l : List ℕ) (t : Token) (behind : List ℕ) (depth : ℕ) → lexeme_at l ≡ token t behind → MayStand t depth → error_at depth l ≡ None
-token_is_no_error [] t behind depth e m = cc
-token_is_no_error (b ∷ bs) t behind depth e m =
+pub token_is_no_error : (l : List ℕ) (t : Token) (remaining : List ℕ) (depth : ℕ) → lexeme_at l ≡ token t remaining → MayFollow t depth → error_at depth l ≡ None
+token_is_no_error [] t remaining depth e m = cc
+token_is_no_error (b ∷ bs) t remaining depth e m =
     let f = first_of b in
     f.1.error depth bs ∙ by f.0 (sym (f.1.lexeme bs) ∙ e)
   where
-    inside : (l : Lexeme) → (a : Atom) × (t ≡ atom a) → l ≡ token t behind → error_inside l depth b bs ≡ None
+    inside : (l : Lexeme) → (a : Atom) × (t ≡ atom a) → l ≡ token t remaining → error_inside l depth b bs ≡ None
     inside l a k =
-        let deep : nat_lt 0 depth ≡ true = subst (λ u. MayStand u depth) a.1 m in
+        let deep : nat_lt 0 depth ≡ true = subst (λ u. MayFollow u depth) a.1 m in
         rw (deep, k) refl
 
-    by : (f : First) → lexeme_from f b bs ≡ token t behind → error_from f depth b bs ≡ None
+    by : (f : First) → lexeme_from f b bs ≡ token t remaining → error_from f depth b bs ≡ None
     by an_opening k =
         let is : t ≡ opening = cc in
-        let room : nat_lt depth nesting_limit ≡ true = subst (λ u. MayStand u depth) is m in
+        let room : nat_lt depth nesting_limit ≡ true = subst (λ u. MayFollow u depth) is m in
         rw room refl
     by a_closing k =
         let is : t ≡ closing = cc in
-        let deep : nat_lt 0 depth ≡ true = subst (λ u. MayStand u depth) is m in
+        let deep : nat_lt 0 depth ≡ true = subst (λ u. MayFollow u depth) is m in
         rw deep refl
-    by a_quoted k = inside _ (quoted_atom (run_of is_between_bars bs) (behind_run is_between_bars bs) t behind k) k
-    by a_text k = inside _ (text_atom (text_of bs) (behind_text bs) t behind k) k
-    by a_word k = inside _ (word_atom (atom_of (b ∷ word_of bs)) (b ∷ bs) (behind_word bs) t behind k) k
+    by a_quoted k = inside _ (quoted_atom (take_while is_in_quoted_symbol bs) (drop_while is_in_quoted_symbol bs) t remaining k) k
+    by a_text k = inside _ (text_atom (string_content bs) (after_text bs) t remaining k) k
+    by a_word k = inside _ (word_atom (atom_of (b ∷ word_of bs)) (b ∷ bs) (after_word bs) t remaining k) k
     by no_token k = cc
 
 -- a token that may stand there
 abbrev pub Follows : ℕ → Lexeme → Type 0
-Follows depth l = (t : Token) × (behind : List ℕ) × (l ≡ token t behind) × MayStand t depth
+Follows depth l = (t : Token) × (remaining : List ℕ) × (l ≡ token t remaining) × MayFollow t depth
 
 -- where no error is a token follows that may stand there
 pub token_or_error : (b : ℕ) (bs : List ℕ) (depth : ℕ) → error_at depth (b ∷ bs) ≡ None → Follows depth (lexeme_at (b ∷ bs))
@@ -265,15 +265,15 @@ token_or_error b bs depth e = begun (first_of b).0 (first_of b).1
     guarded true x k = refl
     guarded false x k = cc
 
-    read : (l : Lexeme) → error_of l ≡ None → (t : Token) × (behind : List ℕ) × (l ≡ token t behind)
-    read (token t behind) k = (t, behind, refl)
-    read (wrong code place) k = cc
+    read : (l : Lexeme) → error_of l ≡ None → (t : Token) × (remaining : List ℕ) × (l ≡ token t remaining)
+    read (token t remaining) k = (t, remaining, refl)
+    read (wrong code suffix) k = cc
     read cut k = cc
 
-    stand : (t : Token) → (a : Atom) × (t ≡ atom a) → nat_lt 0 depth ≡ true → MayStand t depth
-    stand t a d = subst (λ t. MayStand t depth) (sym a.1) d
+    stand : (t : Token) → (a : Atom) × (t ≡ atom a) → nat_lt 0 depth ≡ true → MayFollow t depth
+    stand t a d = subst (λ t. MayFollow t depth) (sym a.1) d
 
-    inside : (l : Lexeme) (p : Bool) (x : ℕ × List ℕ) → nat_lt 0 depth ≡ p → ((t : Token) (behind : List ℕ) → l ≡ token t behind → (a : Atom) × (t ≡ atom a)) →
+    inside : (l : Lexeme) (p : Bool) (x : ℕ × List ℕ) → nat_lt 0 depth ≡ p → ((t : Token) (remaining : List ℕ) → l ≡ token t remaining → (a : Atom) × (t ≡ atom a)) →
         cond p (error_of l) (Some x) ≡ None → Follows depth l
     inside l true x d atoms k =
         let r = read l k in
@@ -283,10 +283,10 @@ token_or_error b bs depth e = begun (first_of b).0 (first_of b).1
     by : (f : First) → error_from f depth b bs ≡ None → Follows depth (lexeme_from f b bs)
     by an_opening k = (opening, bs, refl, guarded (nat_lt depth nesting_limit) (nests_too_deep, b ∷ bs) k)
     by a_closing k = (closing, bs, refl, guarded (nat_lt 0 depth) (closes_nothing, b ∷ bs) k)
-    by a_quoted k = inside (lexeme_from a_quoted b bs) (nat_lt 0 depth) _ refl (λ t behind h. quoted_atom (run_of is_between_bars bs) (behind_run is_between_bars bs) t behind h) k
-    by a_text k = inside (lexeme_from a_text b bs) (nat_lt 0 depth) _ refl (λ t behind h. text_atom (text_of bs) (behind_text bs) t behind h) k
-    by a_word k = inside (lexeme_from a_word b bs) (nat_lt 0 depth) _ refl (λ t behind h. word_atom (atom_of (b ∷ word_of bs)) (b ∷ bs) (behind_word bs) t behind h) k
-    by no_token k = inside (lexeme_from no_token b bs) (nat_lt 0 depth) _ refl (λ t behind h. cc) k
+    by a_quoted k = inside (lexeme_from a_quoted b bs) (nat_lt 0 depth) _ refl (λ t remaining h. quoted_atom (take_while is_in_quoted_symbol bs) (drop_while is_in_quoted_symbol bs) t remaining h) k
+    by a_text k = inside (lexeme_from a_text b bs) (nat_lt 0 depth) _ refl (λ t remaining h. text_atom (string_content bs) (after_text bs) t remaining h) k
+    by a_word k = inside (lexeme_from a_word b bs) (nat_lt 0 depth) _ refl (λ t remaining h. word_atom (atom_of (b ∷ word_of bs)) (b ∷ bs) (after_word bs) t remaining h) k
+    by no_token k = inside (lexeme_from no_token b bs) (nat_lt 0 depth) _ refl (λ t remaining h. cc) k
 
     begun : (f : First) → Begins f b → Follows depth (lexeme_at (b ∷ bs))
     begun f is = subst (Follows depth) (sym (is.lexeme bs)) (by f (sym (is.error depth bs) ∙ e))

@@ -5,9 +5,9 @@ pub mod Trees
 pub mod FirstBytes
 pub mod Texts
 pub mod Opened
-pub mod Layouts
+pub mod WhitespaceLemmas
 pub mod Lexemes
-pub mod Places
+pub mod Positions
 pub mod Counted
 pub mod Stepped
 pub mod Ended
@@ -16,11 +16,11 @@ pub mod Given
 pub mod Further
 pub mod Completable
 pub mod Decided
-pub mod Fronts
+pub mod Prefixes
 pub mod Readings
 pub mod Pieces
 pub mod WholeTexts
-pub mod ErrorPlaces
+pub mod ErrorPositions
 pub mod Numbers
 pub mod Spelled
 pub mod Writing

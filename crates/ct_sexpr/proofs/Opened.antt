@@ -103,10 +103,10 @@ pub open_of-finish : (lists outer : List (Vec Sexpr Global)) (inner : Vec Sexpr 
 open_of-finish lists outer inner old view split one =
     let count : length lists ≡ length outer + 1 = ap length split ∙ length_push outer inner in
     let depth : length lists ≡ old.depth = ap (λ o. o.depth) view in
-    let bare : outer ≡ [] = nil_from_length outer (omega arith) in
+    let empty : outer ≡ [] = nil_from_length outer (omega arith) in
     let spelled : tokens_of_lists lists ≡ opening ∷ tokens_of_each (expressions_of inner.items) =
-    ap tokens_of_lists split ∙ tokens_of_lists-push outer inner ∙ ap (λ o. tokens_of_lists o ++ opening ∷ tokens_of_each (expressions_of inner.items)) bare in
-    (ap tokens_of (expression_of_list inner) ∙ ap (λ ts. ts ++ closing ∷ []) (sym spelled) ∙ ap (λ o. o.tokens ++ closing ∷ []) view, ap open_of bare)
+    ap tokens_of_lists split ∙ tokens_of_lists-push outer inner ∙ ap (λ o. tokens_of_lists o ++ opening ∷ tokens_of_each (expressions_of inner.items)) empty in
+    (ap tokens_of (expression_of_list inner) ∙ ap (λ ts. ts ++ closing ∷ []) (sym spelled) ∙ ap (λ o. o.tokens ++ closing ∷ []) view, ap open_of empty)
 
 -- what holds whatever the answer
 pub OnErr-any : {T E P : Type 0} (r : Result T E) → P → OnErr r P

@@ -6,37 +6,37 @@ use Rattle.std.specs.Fmt.{decimal}
 use Rattle.std.specs.Cmp.Derive.{both_true}
 use Rattle.std.proofs.lemmas.Bool.{eqb-true}
 use Rattle.std.proofs.lemmas.Bool.Decides.{eqb_tells, nat_tests}
-use Rattle.ct_sexpr.specs.Layout.{behind_layout}
-use Rattle.ct_sexpr.specs.Run.{run_of, behind_run}
-use Rattle.ct_sexpr.specs.Atom.{Atom, symbol, quoted, keyword, numeral, decimal as decimal_atom, binary, hexadecimal, is_word_byte, begins_word, word_of, behind_word, are_digits, is_binary_digit, is_point_and_digits, value_of, numeral_bound, number, keyword_of, literal, atom_of}
-use Rattle.ct_sexpr.specs.Token.{Token, opening, closing, atom, is_between_bars, text_of, behind_text, Lexeme, token, wrong, cut, quoted_lexeme, text_lexeme, word_lexeme, lexeme_at, AreTokens}
+use Rattle.ct_sexpr.specs.Whitespace.{after_whitespace}
+use Rattle.ct_sexpr.specs.TakeWhile.{take_while, drop_while}
+use Rattle.ct_sexpr.specs.Atom.{Atom, symbol, quoted, keyword, numeral, decimal as decimal_atom, binary, hexadecimal, is_word_byte, begins_word, word_of, after_word, are_digits, is_binary_digit, is_point_and_digits, numeral_value, numeral_bound, number, keyword_of, literal, atom_of}
+use Rattle.ct_sexpr.specs.Token.{Token, opening, closing, atom, is_in_quoted_symbol, string_content, after_text, Lexeme, token, wrong, cut, quoted_lexeme, text_lexeme, word_lexeme, lexeme_at, AreTokens}
 use Rattle.ct_sexpr.specs.Expression.{Expression, leaf, list, Expressions, none, more, tokens_of, tokens_of_each}
 use Rattle.ct_sexpr.specs.Written.{forms_symbol, written_atom}
 use Rattle.ct_sexpr.specs.Readable.{is_keyword, is_decimal, is_literal, HasForm, IsReadable, AreReadable}
 use Rattle.ct_sexpr.specs.Scanning.{BeginsWord}
 use Rattle.ct_sexpr.proofs.Branches.{by_test, negated, both}
-use Rattle.ct_sexpr.proofs.Layouts.{told_apart, run_goes_on}
+use Rattle.ct_sexpr.proofs.WhitespaceLemmas.{distinguished, run_goes_on}
 use Rattle.ct_sexpr.proofs.Numbers.{AreDigitsOf, decimal-AreDigitsOf}
 
 -- what is written of the atom is a word that is the atom
 abbrev pub IsWord : Atom → Type 0
 IsWord a = BeginsWord (written_atom a) × (atom_of (written_atom a) ≡ Ok a)
 
--- a run leaves nothing behind it exactly if all bytes pass
-pub all_run : (test : ℕ → Bool) (bs : List ℕ) → list_all test bs ≡ true → behind_run test bs ≡ []
+-- a run leaves nothing after it exactly if all bytes pass
+pub all_run : (test : ℕ → Bool) (bs : List ℕ) → list_all test bs ≡ true → drop_while test bs ≡ []
 all_run test [] h = refl
 all_run test (b ∷ bs) h =
     let p = both (test b) (list_all test bs) h in
     rw p.0 (all_run test bs p.1)
 
-run_all : (test : ℕ → Bool) (bs : List ℕ) → behind_run test bs ≡ [] → list_all test bs ≡ true
+run_all : (test : ℕ → Bool) (bs : List ℕ) → drop_while test bs ≡ [] → list_all test bs ≡ true
 run_all test [] h = refl
 run_all test (b ∷ bs) h =
-    let p = run_goes_on (test b) (behind_run test bs) bs b h in
+    let p = run_goes_on (test b) (drop_while test bs) bs b h in
     both_true p.0 (run_all test bs p.1)
 
 -- bytes of a kind that words have are a run of a word
-within_word : (test : ℕ → Bool) → ((b : ℕ) → test b ≡ true → is_word_byte b ≡ true) → (bs : List ℕ) → list_all test bs ≡ true → behind_word bs ≡ []
+within_word : (test : ℕ → Bool) → ((b : ℕ) → test b ≡ true → is_word_byte b ≡ true) → (bs : List ℕ) → list_all test bs ≡ true → after_word bs ≡ []
 within_word test f [] h = refl
 within_word test f (b ∷ bs) h =
     let p = both (test b) (list_all test bs) h in
@@ -70,12 +70,12 @@ symbol_IsWord (b ∷ bs) h =
     let p = both (not (is_ascii_digit b)) (list_all is_word_byte (b ∷ bs)) h in
     let q = both (is_word_byte b) (list_all is_word_byte bs) p.1 in
     let no_digit : is_ascii_digit b ≡ false = negated (is_ascii_digit b) p.0 in
-    ((rw q.0 refl, all_run is_word_byte bs q.1), rw (told_apart is_word_byte b 58 q.0 refl, told_apart is_word_byte b 35 q.0 refl, no_digit) refl)
+    ((rw q.0 refl, all_run is_word_byte bs q.1), rw (distinguished is_word_byte b 58 q.0 refl, distinguished is_word_byte b 35 q.0 refl, no_digit) refl)
 
--- so it is behind a colon
-behind_colon : (bs : List ℕ) → forms_symbol bs ≡ true → IsWord (keyword (58 ∷ bs))
-behind_colon [] h = cc
-behind_colon (c ∷ cs) h =
+-- so it is after a colon
+after_colon : (bs : List ℕ) → forms_symbol bs ≡ true → IsWord (keyword (58 ∷ bs))
+after_colon [] h = cc
+after_colon (c ∷ cs) h =
     let p = both (not (is_ascii_digit c)) (list_all is_word_byte (c ∷ cs)) h in
     ((refl, all_run is_word_byte (c ∷ cs) p.1), rw (negated (is_ascii_digit c) p.0) refl)
 
@@ -83,15 +83,15 @@ pub keyword_IsWord : (w : List ℕ) → is_keyword w ≡ true → IsWord (keywor
 keyword_IsWord [] h = cc
 keyword_IsWord (b ∷ bs) h =
     let p = both (eqb b 58) (forms_symbol bs) h in
-    subst (λ c. IsWord (keyword (c ∷ bs))) (sym (eqb-true b 58 p.0)) (behind_colon bs p.1)
+    subst (λ c. IsWord (keyword (c ∷ bs))) (sym (eqb-true b 58 p.0)) (after_colon bs p.1)
 
 number_is : (n : ℕ) (w : List ℕ) → n < numeral_bound → AreDigitsOf n w → number w ≡ Ok (numeral n)
 number_is n w small d =
-    let e : ltb (value_of w) numeral_bound ≡ true = grind (arith, nat_tests) in
+    let e : ltb (numeral_value w) numeral_bound ≡ true = grind (arith, nat_tests) in
     rw (d.0, e) (ap (λ m. Ok (numeral m)) d.2)
 
 atom_of-digit : (b : ℕ) (bs : List ℕ) → is_ascii_digit b ≡ true → atom_of (b ∷ bs) ≡ number (b ∷ bs)
-atom_of-digit b bs h = rw (told_apart is_ascii_digit b 58 h refl, told_apart is_ascii_digit b 35 h refl, h) refl
+atom_of-digit b bs h = rw (distinguished is_ascii_digit b 58 h refl, distinguished is_ascii_digit b 35 h refl, h) refl
 
 -- digits that write a number below the bound are its numeral
 numeral_is : (n : ℕ) (w : List ℕ) → n < numeral_bound → AreDigitsOf n w → BeginsWord w × (atom_of w ≡ Ok (numeral n))
@@ -103,33 +103,33 @@ numeral_is n (b ∷ bs) small d =
 pub numeral_IsWord : (n : ℕ) → n < numeral_bound → IsWord (numeral n)
 numeral_IsWord n small = numeral_is n (decimal n) small (decimal-AreDigitsOf n small)
 
--- a point and digits behind digits go on with the word, and are no digits
-digits_and_more : (ds : List ℕ) → behind_word (behind_run is_ascii_digit ds) ≡ [] → behind_word ds ≡ []
+-- a point and digits after digits go on with the word, and are no digits
+digits_and_more : (ds : List ℕ) → after_word (drop_while is_ascii_digit ds) ≡ [] → after_word ds ≡ []
 digits_and_more [] h = refl
 digits_and_more (d ∷ ds) h =
-    by_test (λ left. behind_word left ≡ [] → behind_word (d ∷ ds) ≡ []) (is_ascii_digit d) (behind_run is_ascii_digit ds) (d ∷ ds)
+    by_test (λ left. after_word left ≡ [] → after_word (d ∷ ds) ≡ []) (is_ascii_digit d) (drop_while is_ascii_digit ds) (d ∷ ds)
     (λ e k. rw e (digits_and_more ds k)) (λ e k. k) h
 
-point_in_word : (bs : List ℕ) → is_point_and_digits bs ≡ true → behind_word bs ≡ []
+point_in_word : (bs : List ℕ) → is_point_and_digits bs ≡ true → after_word bs ≡ []
 point_in_word [] h = refl
 point_in_word (b ∷ bs) h =
     let p = both (eqb b 46) (are_digits is_ascii_digit bs) h in
-    subst (λ c. behind_word (c ∷ bs) ≡ []) (sym (eqb-true b 46 p.0)) (within_word is_ascii_digit digit_in_word bs (some_digits is_ascii_digit bs p.1))
+    subst (λ c. after_word (c ∷ bs) ≡ []) (sym (eqb-true b 46 p.0)) (within_word is_ascii_digit digit_in_word bs (some_digits is_ascii_digit bs p.1))
 
-not_all_digits : (ds : List ℕ) (all : Bool) → list_all is_ascii_digit ds ≡ all → is_point_and_digits (behind_run is_ascii_digit ds) ≡ true → all ≡ false
+not_all_digits : (ds : List ℕ) (all : Bool) → list_all is_ascii_digit ds ≡ all → is_point_and_digits (drop_while is_ascii_digit ds) ≡ true → all ≡ false
 not_all_digits ds true e h =
-    let nothing : is_point_and_digits (behind_run is_ascii_digit ds) ≡ false = ap is_point_and_digits (all_run is_ascii_digit ds e) in
+    let nothing : is_point_and_digits (drop_while is_ascii_digit ds) ≡ false = ap is_point_and_digits (all_run is_ascii_digit ds e) in
     absurd (true≢false (sym h ∙ nothing))
 not_all_digits ds false e h = refl
 
 pub decimal_IsWord : (w : List ℕ) → is_decimal w ≡ true → IsWord (decimal_atom w)
 decimal_IsWord [] h = cc
 decimal_IsWord (d ∷ ds) h =
-    let p = both (is_ascii_digit d) (is_point_and_digits (behind_run is_ascii_digit ds)) h in
+    let p = both (is_ascii_digit d) (is_point_and_digits (drop_while is_ascii_digit ds)) h in
     let not_all : list_all is_ascii_digit ds ≡ false = not_all_digits ds (list_all is_ascii_digit ds) refl p.1 in
-    ((rw p.0 refl, digits_and_more ds (point_in_word (behind_run is_ascii_digit ds) p.1)), atom_of-digit d ds p.0 ∙ rw (p.0, not_all, p.1) refl)
+    ((rw p.0 refl, digits_and_more ds (point_in_word (drop_while is_ascii_digit ds) p.1)), atom_of-digit d ds p.0 ∙ rw (p.0, not_all, p.1) refl)
 
--- behind a number sign and its letter digits are a literal
+-- after a number sign and its letter digits are a literal
 pub binary_IsWord : (w : List ℕ) → is_literal 98 is_binary_digit w ≡ true → IsWord (binary w)
 binary_IsWord [] h = cc
 binary_IsWord (b ∷ []) h = cc
@@ -156,10 +156,10 @@ number_forms : (d : ℕ) (ds : List ℕ) → is_ascii_digit d ≡ true → Forms
 number_forms d ds h =
     let w = d ∷ ds in
     by_test Forms (list_all is_ascii_digit w) _ _
-    (λ _. by_test Forms (nat_lt (value_of w) numeral_bound) (Ok (numeral (value_of w))) (Err 6) (λ small. grind (arith, nat_tests)) (λ _. tt))
-    (λ _. by_test Forms (is_point_and_digits (behind_run is_ascii_digit w)) (Ok (decimal_atom w)) (Err 1) (λ e. both_true h (rw h at e)) (λ _. tt))
+    (λ _. by_test Forms (nat_lt (numeral_value w) numeral_bound) (Ok (numeral (numeral_value w))) (Err 6) (λ small. grind (arith, nat_tests)) (λ _. tt))
+    (λ _. by_test Forms (is_point_and_digits (drop_while is_ascii_digit w)) (Ok (decimal_atom w)) (Err 1) (λ e. both_true h (rw h at e)) (λ _. tt))
 
-keyword_forms : (bs : List ℕ) → behind_word bs ≡ [] → Forms (keyword_of bs)
+keyword_forms : (bs : List ℕ) → after_word bs ≡ [] → Forms (keyword_of bs)
 keyword_forms [] h = tt
 keyword_forms (b ∷ bs) h =
     by_test Forms (is_ascii_digit b) (Err 1) (Ok (keyword (58 ∷ (b ∷ bs)))) (λ _. tt) (λ e. both_true (ap not e) (run_all is_word_byte (b ∷ bs) h))
@@ -195,41 +195,41 @@ HaveForms [] = Unit {0}
 HaveForms (t ∷ ts) = HasFormToken t × HaveForms ts
 
 abbrev Says : Lexeme → Type 0
-Says (token t behind) = HasFormToken t
-Says (wrong code place) = Unit {0}
+Says (token t remaining) = HasFormToken t
+Says (wrong code suffix) = Unit {0}
 Says cut = Unit {0}
 
-behind_run-run_of : (test : ℕ → Bool) (bs : List ℕ) → behind_run test (run_of test bs) ≡ []
-behind_run-run_of test [] = refl
-behind_run-run_of test (b ∷ bs) = by_test (λ r. behind_run test r ≡ []) (test b) (b ∷ run_of test bs) [] (λ h. rw h (behind_run-run_of test bs)) (λ _. refl)
+drop_while-take_while : (test : ℕ → Bool) (bs : List ℕ) → drop_while test (take_while test bs) ≡ []
+drop_while-take_while test [] = refl
+drop_while-take_while test (b ∷ bs) = by_test (λ r. drop_while test r ≡ []) (test b) (b ∷ take_while test bs) [] (λ h. rw h (drop_while-take_while test bs)) (λ _. refl)
 
-quoted_says : (w rest : List ℕ) → list_all is_between_bars w ≡ true → Says (quoted_lexeme w rest)
+quoted_says : (w rest : List ℕ) → list_all is_in_quoted_symbol w ≡ true → Says (quoted_lexeme w rest)
 quoted_says w [] h = tt
 quoted_says w (c ∷ cs) h = by_test Says (eqb c 124) (token (atom (quoted w)) cs) (wrong 1 (c ∷ cs)) (λ _. h) (λ _. tt)
 
-text_says : (w : List ℕ) (behind : Option (List ℕ)) → Says (text_lexeme w behind)
+text_says : (w : List ℕ) (remaining : Option (List ℕ)) → Says (text_lexeme w remaining)
 text_says w None = tt
 text_says w (Some bs) = tt
 
-word_says : (r : Result Atom ℕ) (bytes behind : List ℕ) → Forms r → Says (word_lexeme r bytes behind)
-word_says (Ok a) bytes behind h = h
-word_says (Err code) bytes behind h = tt
+word_says : (r : Result Atom ℕ) (bytes remaining : List ℕ) → Forms r → Says (word_lexeme r bytes remaining)
+word_says (Ok a) bytes remaining h = h
+word_says (Err code) bytes remaining h = tt
 
 lexeme_says : (bytes : List ℕ) → Says (lexeme_at bytes)
 lexeme_says [] = tt
 lexeme_says (b ∷ bs) =
     by_test Says (eqb b 40) (token opening bs) _ (λ _. tt)
     (λ _. by_test Says (eqb b 41) (token closing bs) _ (λ _. tt)
-    (λ _. by_test Says (eqb b 124) (quoted_lexeme (run_of is_between_bars bs) (behind_run is_between_bars bs)) _
-    (λ _. quoted_says (run_of is_between_bars bs) (behind_run is_between_bars bs) (run_all is_between_bars (run_of is_between_bars bs) (behind_run-run_of is_between_bars bs)))
-    (λ _. by_test Says (eqb b 34) (text_lexeme (text_of bs) (behind_text bs)) _ (λ _. text_says (text_of bs) (behind_text bs))
-    (λ _. by_test Says (begins_word b) (word_lexeme (atom_of (b ∷ word_of bs)) (b ∷ bs) (behind_word bs)) (wrong 1 (b ∷ bs))
-    (λ h. word_says (atom_of (b ∷ word_of bs)) (b ∷ bs) (behind_word bs) (atom_forms (b ∷ word_of bs) (h, behind_run-run_of is_word_byte bs)))
+    (λ _. by_test Says (eqb b 124) (quoted_lexeme (take_while is_in_quoted_symbol bs) (drop_while is_in_quoted_symbol bs)) _
+    (λ _. quoted_says (take_while is_in_quoted_symbol bs) (drop_while is_in_quoted_symbol bs) (run_all is_in_quoted_symbol (take_while is_in_quoted_symbol bs) (drop_while-take_while is_in_quoted_symbol bs)))
+    (λ _. by_test Says (eqb b 34) (text_lexeme (string_content bs) (after_text bs)) _ (λ _. text_says (string_content bs) (after_text bs))
+    (λ _. by_test Says (begins_word b) (word_lexeme (atom_of (b ∷ word_of bs)) (b ∷ bs) (after_word bs)) (wrong 1 (b ∷ bs))
+    (λ h. word_says (atom_of (b ∷ word_of bs)) (b ∷ bs) (after_word bs) (atom_forms (b ∷ word_of bs) (h, drop_while-take_while is_word_byte bs)))
     (λ _. tt)))))
 
 tokens_HaveForms : (ts : List Token) (bytes rest : List ℕ) → AreTokens ts bytes rest → HaveForms ts
 tokens_HaveForms [] bytes rest h = tt
-tokens_HaveForms (t ∷ ts) bytes rest h = (subst Says h.1 (lexeme_says (behind_layout bytes)), tokens_HaveForms ts h.0 rest h.2)
+tokens_HaveForms (t ∷ ts) bytes rest h = (subst Says h.1 (lexeme_says (after_whitespace bytes)), tokens_HaveForms ts h.0 rest h.2)
 
 HaveForms-parts : (ts us : List Token) → HaveForms (ts ++ us) → HaveForms ts × HaveForms us
 HaveForms-parts [] us h = (tt, h)

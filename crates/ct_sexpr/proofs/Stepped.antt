@@ -1,57 +1,57 @@
 -- What each step of a scanner does to where it is.
 use Rattle.std.proofs.Common.{◌≡◌, ℕ, ◌+◌, ◌-◌, ◌<◌, true, false, eqb, nat_lt, List, [], ◌∷◌, ◌++◌, Some, Result, Ok, Err, ◌⊎◌, inl, inr, refl, ap, ◌∙◌, subst, arith}
 use Rattle.std.proofs.lemmas.Bool.Decides.{nat_tests}
-use Rattle.ct_sexpr.specs.Layout.{is_blank, line_feeds}
+use Rattle.ct_sexpr.specs.Whitespace.{is_whitespace, line_feeds}
 use Rattle.ct_sexpr.specs.Atom.{Atom, quoted, text, is_word_byte, atom_of}
-use Rattle.ct_sexpr.specs.Token.{opening, closing, atom, is_between_bars, begins_atom, may_go_on}
+use Rattle.ct_sexpr.specs.Token.{opening, closing, atom, is_in_quoted_symbol, begins_atom, may_go_on}
 use Rattle.ct_sexpr.specs.Expression.{Expression, leaf, tokens_of}
 use Rattle.ct_sexpr.specs.Reading.{nesting_limit, error_at}
 use Rattle.ct_sexpr.specs.Open.{Open, none_open}
 use Rattle.ct_sexpr.specs.Scanning.{IsAt, Counts, Reached, Completes, Refutes, Passes, Stays, Steps, lines_before}
 use Rattle.ct_sexpr.specs.declared.scanner.Mode.{Mode}
 use Rattle.ct_sexpr.specs.declared.scanner.Mode.TheVariants.{Between, Word, Quoted, Text, Mark}
-use Rattle.ct_sexpr.specs.declared.scanner.Step.{Step}
-use Rattle.ct_sexpr.specs.declared.scanner.Step.TheVariants.{Going, Command, Wrong}
+use Rattle.ct_sexpr.specs.declared.scanner.ScanStep.{ScanStep}
+use Rattle.ct_sexpr.specs.declared.scanner.ScanStep.TheVariants.{Going, Command, Wrong}
 use Rattle.ct_sexpr.specs.declared.scanner.Scanner.{Scanner}
 use Rattle.ct_sexpr.specs.declared.error.ReadError.{ReadError}
-use Rattle.ct_sexpr.proofs.Layouts.{told_apart}
-use Rattle.ct_sexpr.proofs.Places.{grow_word, end_word, wrong_word, grow_quoted, end_quoted, wrong_quoted, grow_text, double_mark, end_text, open_list, close_list, close_command, find_error, error_at-deep, error_at-closing, error_at-outside, error_at-no_token}
-use Rattle.ct_sexpr.proofs.Counted.{word_on_line, count_byte, count_other, count_depth, count_begin, begins_behind}
+use Rattle.ct_sexpr.proofs.WhitespaceLemmas.{distinguished}
+use Rattle.ct_sexpr.proofs.Positions.{grow_word, end_word, wrong_word, grow_quoted, end_quoted, wrong_quoted, grow_text, double_mark, end_text, open_list, close_list, close_command, find_error, error_at-deep, error_at-closing, error_at-outside, error_at-no_token}
+use Rattle.ct_sexpr.proofs.Counted.{word_on_line, count_byte, count_other, count_depth, count_begin, begins_after}
 
--- a scanner's place, where its mode is known
+-- a scanner's position, where its mode is known
 was_at : (s : Scanner) (mode : Mode) (whole left : List ℕ) → s.mode ≡ mode → Reached s whole left → IsAt s.lists mode s.word.items whole left
-was_at s mode whole left e r = subst (λ m. IsAt s.lists m s.word.items whole left) e r.place
+was_at s mode whole left e r = subst (λ m. IsAt s.lists m s.word.items whole left) e r.position
 
 -- a scanner is where its parts say
 now_at : (s : Scanner) (lists : Open) (mode : Mode) (word whole left : List ℕ) → s.lists ≡ lists → s.mode ≡ mode → s.word.items ≡ word →
     IsAt lists mode word whole left → Counts lists.depth s.line_feeds s.before whole left → Reached s whole left
-now_at s lists mode word whole left l m w at c = record { place = rw (l, m, w) at; lines = rw l c }
+now_at s lists mode word whole left l m w at c = record { position = rw (l, m, w) at; lines = rw l c }
 
--- what a scanner is told to be inside, where no list is opened or closed
+-- what a scanner is known to be inside, where no list is opened or closed
 module _ (old new : Scanner) (b : ℕ) (lists : new.lists ≡ old.lists) (before : new.before ≡ old.before) where
   -- a byte that is counted
   moves : (from to : Mode) (word : List ℕ) → old.mode ≡ from →
       ((whole left : List ℕ) → IsAt old.lists from old.word.items whole (b ∷ left) → IsAt old.lists to word whole left) →
       new.mode ≡ to → new.word.items ≡ word → new.line_feeds ≡ old.line_feeds + line_feeds (b ∷ []) → Passes old new b
-  moves from to word mode place now is lines whole left r =
-      now_at new old.lists to word whole left lists now is (place whole left (was_at old from whole (b ∷ left) mode r))
+  moves from to word mode suffix now is lines whole left r =
+      now_at new old.lists to word whole left lists now is (suffix whole left (was_at old from whole (b ∷ left) mode r))
       (rw (lines, before) (count_byte old.lists.depth old.line_feeds old.before b whole left r.lines))
 
   -- a byte that ends no line
   moves_on_line : (from to : Mode) (word : List ℕ) → old.mode ≡ from →
       ((whole left : List ℕ) → IsAt old.lists from old.word.items whole (b ∷ left) → IsAt old.lists to word whole left) →
       new.mode ≡ to → new.word.items ≡ word → new.line_feeds ≡ old.line_feeds → eqb b 10 ≡ false → Passes old new b
-  moves_on_line from to word mode place now is lines feed whole left r =
-      now_at new old.lists to word whole left lists now is (place whole left (was_at old from whole (b ∷ left) mode r))
+  moves_on_line from to word mode suffix now is lines feed whole left r =
+      now_at new old.lists to word whole left lists now is (suffix whole left (was_at old from whole (b ∷ left) mode r))
       (rw (lines, before) (count_other old.lists.depth old.line_feeds old.before b whole left feed r.lines))
 
   -- a later byte of a word
   pub grows_word : old.mode ≡ Word → is_word_byte b ≡ true → new.mode ≡ old.mode → new.word.items ≡ old.word.items ++ b ∷ [] → new.line_feeds ≡ old.line_feeds → Passes old new b
   grows_word mode further now is lines =
-      moves_on_line Word Word (old.word.items ++ b ∷ []) mode (λ whole left. grow_word old.lists old.word.items whole left b further) (now ∙ mode) is lines (told_apart is_word_byte b 10 further refl)
+      moves_on_line Word Word (old.word.items ++ b ∷ []) mode (λ whole left. grow_word old.lists old.word.items whole left b further) (now ∙ mode) is lines (distinguished is_word_byte b 10 further refl)
 
-  -- a byte between bars
-  pub grows_quoted : old.mode ≡ Quoted → is_between_bars b ≡ true → new.mode ≡ old.mode → new.word.items ≡ old.word.items ++ b ∷ [] →
+  -- a byte of a quoted symbol
+  pub grows_quoted : old.mode ≡ Quoted → is_in_quoted_symbol b ≡ true → new.mode ≡ old.mode → new.word.items ≡ old.word.items ++ b ∷ [] →
       new.line_feeds ≡ old.line_feeds + line_feeds (b ∷ []) → Passes old new b
   grows_quoted mode further now is lines =
       moves Quoted Quoted (old.word.items ++ b ∷ []) mode (λ whole left. grow_quoted old.lists old.word.items whole left b further) (now ∙ mode) is lines
@@ -74,7 +74,7 @@ pub opens : (old new : Scanner) → old.mode ≡ Between → old.lists.depth < n
 opens old new mode room lists same word lines before whole left r =
     let at = was_at old Between whole (40 ∷ left) mode r in
     let test : nat_lt old.lists.depth nesting_limit ≡ true = grind (arith, nat_tests) in
-    let begun = begins_behind old.lists old.word.items whole left 40 old.line_feeds old.before at refl r.lines in
+    let begun = begins_after old.lists old.word.items whole left 40 old.line_feeds old.before at refl r.lines in
     let c = count_begin old.lists.depth (old.lists.depth + 1) old.line_feeds old.before (lines_before old) whole left begun (count_other old.lists.depth old.line_feeds old.before 40 whole left refl r.lines) in
     now_at new _ Between old.word.items whole left lists (same ∙ mode) word (open_list old.lists old.word.items whole left 40 refl test at) (rw (lines, before) c)
 
@@ -123,7 +123,7 @@ module _ (old new : Scanner) (e : Expression)
       now_at new (with_atom old.lists a) Between [] whole (b ∷ left) (item_added old new e a item (lists at.goes_on.1)) now word
       (end_word old.lists old.word.items whole left b a over is at) (rw (lines, before) r.lines)
 
-  -- a quoted symbol ends with its bar
+  -- a quoted symbol ends with its `|`
   pub ends_quoted : old.mode ≡ Quoted → e ≡ leaf (quoted old.word.items) → Passes old new 124
   ends_quoted mode item whole left r =
       let at = was_at old Quoted whole (124 ∷ left) mode r in
@@ -138,13 +138,13 @@ module _ (old new : Scanner) (e : Expression)
       (end_text old.lists old.word.items whole left b over at) (rw (lines, before) r.lines)
 
 -- an error at the byte that comes next, between tokens
-refutes : (s : Scanner) (code b : ℕ) → s.mode ≡ Between → is_blank b ≡ false → eqb b 59 ≡ false →
+refutes : (s : Scanner) (code b : ℕ) → s.mode ≡ Between → is_whitespace b ≡ false → eqb b 59 ≡ false →
     ((left : List ℕ) → error_at s.lists.depth (b ∷ left) ≡ Some (code, b ∷ left)) → ((left : List ℕ) → (s.lists.depth ≡ 0) ⊎ (may_go_on (b ∷ left) ≡ false)) →
     (whole left : List ℕ) → Reached s whole (b ∷ left) → Refutes s code whole (b ∷ left)
-refutes s code b mode blank comment error stands whole left r = record {
+refutes s code b mode space comment error definite whole left r = record {
   reached = r;
-  place = b ∷ left;
-  error = find_error s.lists s.word.items whole left b code blank comment (error left) (stands left) (was_at s Between whole (b ∷ left) mode r);
+  suffix = b ∷ left;
+  error = find_error s.lists s.word.items whole left b code space comment (error left) (definite left) (was_at s Between whole (b ∷ left) mode r);
   line = r.lines.count;
 }
 
@@ -157,19 +157,19 @@ pub refutes_closing : (s : Scanner) → s.mode ≡ Between → s.lists.depth ≡
 refutes_closing s mode none = refutes s 2 41 mode refl refl (λ left. error_at-closing s.lists.depth left none) (λ left. inl none)
 
 -- a byte that begins no token
-pub refutes_no_token : (s : Scanner) (b : ℕ) → s.mode ≡ Between → is_blank b ≡ false → eqb b 59 ≡ false → eqb b 40 ≡ false → eqb b 41 ≡ false → begins_atom b ≡ false →
+pub refutes_no_token : (s : Scanner) (b : ℕ) → s.mode ≡ Between → is_whitespace b ≡ false → eqb b 59 ≡ false → eqb b 40 ≡ false → eqb b 41 ≡ false → begins_atom b ≡ false →
     (whole left : List ℕ) → Reached s whole (b ∷ left) → Refutes s 1 whole (b ∷ left)
-refutes_no_token s b mode blank comment left_one right_one no_atom =
-    refutes s 1 b mode blank comment (λ left. (error_at-no_token s.lists.depth b left no_atom left_one right_one).0) (λ left. inr (error_at-no_token s.lists.depth b left no_atom left_one right_one).1)
+refutes_no_token s b mode space comment left_one right_one no_atom =
+    refutes s 1 b mode space comment (λ left. (error_at-no_token s.lists.depth b left no_atom left_one right_one).0) (λ left. inr (error_at-no_token s.lists.depth b left no_atom left_one right_one).1)
 
 -- an atom outside all parentheses
 pub refutes_outside : (s : Scanner) (b : ℕ) → s.mode ≡ Between → begins_atom b ≡ true → s.lists.depth ≡ 0 →
     (whole left : List ℕ) → Reached s whole (b ∷ left) → Refutes s 5 whole (b ∷ left)
 refutes_outside s b mode first none =
-    refutes s 5 b mode (no_blank b first) (told_apart begins_atom b 59 first refl) (λ left. error_at-outside s.lists.depth b left first none) (λ left. inl none)
+    refutes s 5 b mode (no_whitespace b first) (distinguished begins_atom b 59 first refl) (λ left. error_at-outside s.lists.depth b left first none) (λ left. inl none)
   where
-    no_blank : (b : ℕ) → begins_atom b ≡ true → is_blank b ≡ false
-    no_blank b first = rw (told_apart begins_atom b 9 first refl, told_apart begins_atom b 10 first refl, told_apart begins_atom b 13 first refl, told_apart begins_atom b 32 first refl) refl
+    no_whitespace : (b : ℕ) → begins_atom b ≡ true → is_whitespace b ≡ false
+    no_whitespace b first = rw (distinguished begins_atom b 9 first refl, distinguished begins_atom b 10 first refl, distinguished begins_atom b 13 first refl, distinguished begins_atom b 32 first refl) refl
 
 -- a word that is no atom
 pub refutes_word : (s : Scanner) (code b : ℕ) → s.mode ≡ Word → is_word_byte b ≡ false → atom_of s.word.items ≡ Err code →
@@ -178,7 +178,7 @@ refutes_word s code b mode over is whole left r =
     let at = was_at s Word whole (b ∷ left) mode r in
     record {
       reached = r;
-      place = s.word.items ++ b ∷ left;
+      suffix = s.word.items ++ b ∷ left;
       error = wrong_word s.lists s.word.items whole left b code over is at;
       line = ap (λ n. s.line_feeds + n) (word_on_line s.word.items (b ∷ left) at.goes_on.0) ∙ r.lines.count;
     }
@@ -187,14 +187,14 @@ refutes_word s code b mode over is whole left r =
 pub refutes_backslash : (s : Scanner) → s.mode ≡ Quoted → (whole left : List ℕ) → Reached s whole (92 ∷ left) → Refutes s 1 whole (92 ∷ left)
 refutes_backslash s mode whole left r = record {
   reached = r;
-  place = 92 ∷ left;
+  suffix = 92 ∷ left;
   error = wrong_quoted s.lists s.word.items whole left 92 refl (was_at s Quoted whole (92 ∷ left) mode r);
   line = r.lines.count;
 }
 
--- a step behind what reads no byte is a step
-pub Steps-behind : (old middle new : Scanner) (b : ℕ) (result : Result Step ReadError) → Stays old middle b → Steps middle new b result → Steps old new b result
-Steps-behind old middle new b (Ok Going) s t = λ whole left r. t whole left (s whole left r)
-Steps-behind old middle new b (Ok (Command e)) s t = λ whole left r. t whole left (s whole left r)
-Steps-behind old middle new b (Ok (Wrong code)) s t = λ whole left r. t whole left (s whole left r)
-Steps-behind old middle new b (Err e) s t = (t.0, λ whole left r. t.1 whole left (s whole left r))
+-- a step after what reads no byte is a step
+pub Steps-remaining : (old middle new : Scanner) (b : ℕ) (result : Result ScanStep ReadError) → Stays old middle b → Steps middle new b result → Steps old new b result
+Steps-remaining old middle new b (Ok Going) s t = λ whole left r. t whole left (s whole left r)
+Steps-remaining old middle new b (Ok (Command e)) s t = λ whole left r. t whole left (s whole left r)
+Steps-remaining old middle new b (Ok (Wrong code)) s t = λ whole left r. t whole left (s whole left r)
+Steps-remaining old middle new b (Err e) s t = (t.0, λ whole left r. t.1 whole left (s whole left r))

@@ -1,13 +1,13 @@
 -- Atoms (SMT-LIB 2.7, section 3.1): symbols, keywords, strings and numbers. The project's own choice, and wider than the
--- standard, are zeros in front of a number (`007`, `00.5`), control bytes in quoted symbols and strings, and a reserved
--- word behind a colon (`:let`); its own is, too, the bound of numerals.
+-- standard, are leading zeros of a number (`007`, `00.5`), control bytes in quoted symbols and strings, and a reserved
+-- word after a colon (`:let`); its own is, too, the bound of numerals.
 use Rattle.std.specs.Prelude.{ℕ, ◌+◌, ◌-◌, ◌*◌, ◌^◌, Bool, false, ◌||◌, ◌&&◌, ◌==◌, nat_lt, List, [], ◌∷◌, Result, Ok, Err, if◌then◌else◌, codes}
 use Rattle.std.specs.List.{list_any, list_all}
 use Rattle.std.specs.Char.{is_ascii_alphanumeric, is_ascii_digit, is_ascii_hexdigit}
 use Rattle.ct_sexpr.specs.ErrorNumber.{begins_no_token, numeral_too_great}
-use Rattle.ct_sexpr.specs.Run.{run_of, behind_run}
+use Rattle.ct_sexpr.specs.TakeWhile.{take_while, drop_while}
 
--- A quoted symbol is told without its bars, a string without its marks and with each mark inside it once, and a
+-- A quoted symbol is given without the `|` around it, a string without its marks and with each mark inside it once, and a
 -- numeral by its value; every other atom as it is written.
 pub data Atom : Type 0 where
   symbol : List ℕ → Atom
@@ -28,8 +28,8 @@ abbrev pub number_sign : ℕ
 number_sign = 35
 
 -- the byte between the digits of a decimal
-abbrev pub point : ℕ
-point = 46
+abbrev pub decimal_point : ℕ
+decimal_point = 46
 
 -- a letter, a digit or one of these marks: the bytes of the standard's simple symbols
 abbrev pub is_word_byte : ℕ → Bool
@@ -40,13 +40,13 @@ is_word_byte b = is_ascii_alphanumeric b || list_any (λ mark. mark == b) (codes
 abbrev pub begins_word : ℕ → Bool
 begins_word b = is_word_byte b || (b == colon || b == number_sign)
 
--- the longest run of word bytes at the front
+-- the longest run of word bytes at the start
 abbrev pub word_of : List ℕ → List ℕ
-word_of bytes = run_of is_word_byte bytes
+word_of bytes = take_while is_word_byte bytes
 
--- what is left behind that run
-abbrev pub behind_word : List ℕ → List ℕ
-behind_word bytes = behind_run is_word_byte bytes
+-- what is left after that run
+abbrev pub after_word : List ℕ → List ℕ
+after_word bytes = drop_while is_word_byte bytes
 
 -- one digit at least, and nothing else
 abbrev pub are_digits : (ℕ → Bool) → List ℕ → Bool
@@ -56,20 +56,20 @@ are_digits is_digit (d ∷ ds) = list_all is_digit (d ∷ ds)
 -- a point and then decimal digits, one at least
 abbrev pub is_point_and_digits : List ℕ → Bool
 is_point_and_digits [] = false
-is_point_and_digits (b ∷ bs) = b == point && are_digits is_ascii_digit bs
+is_point_and_digits (b ∷ bs) = b == decimal_point && are_digits is_ascii_digit bs
 
 -- `0` or `1`
 abbrev pub is_binary_digit : ℕ → Bool
 is_binary_digit b = b == 48 || b == 49
 
--- the number that digits go on with, behind a number that earlier digits wrote
-abbrev pub value_behind : ℕ → List ℕ → ℕ
-value_behind n [] = n
-value_behind n (d ∷ ds) = value_behind (n * 10 + (d - 48)) ds
+-- the number that digits go on with, after a number that earlier digits wrote
+abbrev pub value_after : ℕ → List ℕ → ℕ
+value_after n [] = n
+value_after n (d ∷ ds) = value_after (n * 10 + (d - 48)) ds
 
 -- the number that digits write
-abbrev pub value_of : List ℕ → ℕ
-value_of digits = value_behind 0 digits
+abbrev pub numeral_value : List ℕ → ℕ
+numeral_value digits = value_after 0 digits
 
 -- numerals end below this number
 abbrev pub numeral_bound : ℕ
@@ -78,15 +78,15 @@ numeral_bound = 2 ^ 128
 -- a word that begins with a digit: a numeral, or a decimal, which is digits, a point and digits
 abbrev pub number : List ℕ → Result Atom ℕ
 number word =
-    if list_all is_ascii_digit word then (if nat_lt (value_of word) numeral_bound then Ok (numeral (value_of word)) else Err numeral_too_great) else
-    (if is_point_and_digits (behind_run is_ascii_digit word) then Ok (decimal word) else Err begins_no_token)
+    if list_all is_ascii_digit word then (if nat_lt (numeral_value word) numeral_bound then Ok (numeral (numeral_value word)) else Err numeral_too_great) else
+    (if is_point_and_digits (drop_while is_ascii_digit word) then Ok (decimal word) else Err begins_no_token)
 
--- the keyword with this word behind its colon, which begins with no digit
+-- the keyword with this word after its colon, which begins with no digit
 abbrev pub keyword_of : List ℕ → Result Atom ℕ
 keyword_of [] = Err begins_no_token
 keyword_of (b ∷ bs) = if is_ascii_digit b then Err begins_no_token else Ok (keyword (colon ∷ (b ∷ bs)))
 
--- the literal with these bytes behind its number sign: `b` and binary digits, or `x` and hexadecimal digits
+-- the literal with these bytes after its number sign: `b` and binary digits, or `x` and hexadecimal digits
 abbrev pub literal : List ℕ → Result Atom ℕ
 literal [] = Err begins_no_token
 literal (b ∷ bs) =

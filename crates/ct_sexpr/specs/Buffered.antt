@@ -3,7 +3,7 @@ use Rattle.std.specs.Prelude.{ℕ, ◌+◌, ◌≤◌, List, ◌++◌, length, d
 use Rattle.ct_sexpr.specs.Scanning.{Reached}
 use Rattle.ct_sexpr.specs.declared.scanner.Scanner.{Scanner}
 
--- a scanner has read a buffer as far as a place, since the last command, which ended at the start;
+-- a scanner has read a buffer as far as a position, since the last command, which ended at the start;
 -- so it has whatever bytes may still come
 pub record IsBuffered (buffer : List ℕ) (start scanned : ℕ) (scanner : Scanner) (lines fed : ℕ) : Type 0 where
   pub start_le : start ≤ scanned

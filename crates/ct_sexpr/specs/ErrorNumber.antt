@@ -18,8 +18,8 @@ abbrev pub nests_too_deep : ℕ
 nests_too_deep = 4
 
 -- an atom outside all parentheses
-abbrev pub stands_outside : ℕ
-stands_outside = 5
+abbrev pub atom_outside : ℕ
+atom_outside = 5
 
 -- a numeral that is too great
 abbrev pub numeral_too_great : ℕ

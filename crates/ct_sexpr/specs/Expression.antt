@@ -37,6 +37,6 @@ abbrev pub with_last : Expressions → Expression → Expressions
 with_last none last = more last none
 with_last (more e es) last = more e (with_last es last)
 
--- the symbol with these bytes, written plain
+-- the simple symbol with these bytes
 abbrev pub word : List ℕ → Expression
 word bytes = leaf (symbol bytes)

@@ -1,9 +1,9 @@
-pub mod Layout
-pub mod Run
+pub mod Whitespace
+pub mod TakeWhile
 pub mod ErrorNumber
 pub mod Atom
 pub mod Token
-pub mod Kind
+pub mod AtomKind
 pub mod Expression
 pub mod Reading
 pub mod Text

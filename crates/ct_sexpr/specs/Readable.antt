@@ -3,9 +3,9 @@
 use Rattle.std.specs.Prelude.{◌≡◌, ℕ, ◌<◌, Bool, true, false, ◌&&◌, ◌==◌, List, [], ◌∷◌, Option, Some, None, if◌then◌else◌}
 use Rattle.std.specs.List.{list_all}
 use Rattle.std.specs.Char.{is_ascii_digit, is_ascii_hexdigit}
-use Rattle.ct_sexpr.specs.Run.{behind_run}
+use Rattle.ct_sexpr.specs.TakeWhile.{drop_while}
 use Rattle.ct_sexpr.specs.Atom.{Atom, symbol, quoted, keyword, text, numeral, decimal, binary, hexadecimal, colon, number_sign, are_digits, is_binary_digit, is_point_and_digits, numeral_bound}
-use Rattle.ct_sexpr.specs.Token.{is_between_bars}
+use Rattle.ct_sexpr.specs.Token.{is_in_quoted_symbol}
 use Rattle.ct_sexpr.specs.Expression.{Expression, leaf, list, Expressions, none, more}
 use Rattle.ct_sexpr.specs.Written.{is_reserved, forms_symbol}
 
@@ -17,7 +17,7 @@ is_keyword (b ∷ bs) = b == colon && forms_symbol bs
 -- decimal digits, one at least, and then a point and decimal digits, one at least
 abbrev pub is_decimal : List ℕ → Bool
 is_decimal [] = false
-is_decimal (d ∷ ds) = is_ascii_digit d && is_point_and_digits (behind_run is_ascii_digit ds)
+is_decimal (d ∷ ds) = is_ascii_digit d && is_point_and_digits (drop_while is_ascii_digit ds)
 
 -- a number sign, this letter, and then digits, one at least
 abbrev pub is_literal : ℕ → (ℕ → Bool) → List ℕ → Bool
@@ -28,7 +28,7 @@ is_literal letter is_digit (b ∷ (c ∷ ds)) = b == number_sign && (c == letter
 -- the atom has the form of its kind; 98 is `b`, and 120 is `x`
 abbrev pub HasForm : Atom → Type 0
 HasForm (symbol w) = forms_symbol w ≡ true
-HasForm (quoted w) = list_all is_between_bars w ≡ true
+HasForm (quoted w) = list_all is_in_quoted_symbol w ≡ true
 HasForm (keyword w) = is_keyword w ≡ true
 HasForm (text w) = Unit {0}
 HasForm (numeral n) = n < numeral_bound
@@ -46,7 +46,7 @@ abbrev mutual
   AreReadable none = Unit {0}
   AreReadable (more e es) = IsReadable e × AreReadable es
 
--- The name that a symbol is. The symbols `a` and `|a|` are one name; a reserved word that is written plain is none.
+-- The name that a symbol is. The symbols `a` and `|a|` are one name; a reserved word that is not quoted is none.
 abbrev pub name_of_atom : Atom → Option (List ℕ)
 name_of_atom (symbol w) = if is_reserved w then None else Some w
 name_of_atom (quoted w) = Some w

@@ -1,56 +1,56 @@
 -- How far a scanner has read a text that it may not know to its end.
 use Rattle.std.specs.Prelude.{◌≡◌, ℕ, ◌+◌, ◌<◌, ◌≤◌, ◌==◌, List, [], ◌∷◌, ◌++◌, length, true, Option, Some, None, if◌then◌else◌, Result, Ok, Err}
-use Rattle.ct_sexpr.specs.Layout.{behind_layout, behind_comment, line_feeds}
-use Rattle.ct_sexpr.specs.Run.{behind_run}
-use Rattle.ct_sexpr.specs.Atom.{begins_word, behind_word}
-use Rattle.ct_sexpr.specs.Token.{bar, quotation_mark, is_between_bars}
+use Rattle.ct_sexpr.specs.Whitespace.{after_whitespace, after_comment, line_feeds}
+use Rattle.ct_sexpr.specs.TakeWhile.{drop_while}
+use Rattle.ct_sexpr.specs.Atom.{begins_word, after_word}
+use Rattle.ct_sexpr.specs.Token.{bar, quotation_mark, is_in_quoted_symbol}
 use Rattle.ct_sexpr.specs.Expression.{Expression}
-use Rattle.ct_sexpr.specs.Reading.{BeginsPart, BeginsCommand, HasError, HasStandingError, IsLayout}
+use Rattle.ct_sexpr.specs.Reading.{BeginsPart, BeginsCommand, HasError, HasDefiniteError, IsWhitespace}
 use Rattle.ct_sexpr.specs.Written.{doubled}
 use Rattle.ct_sexpr.specs.View.{expression_of}
 use Rattle.ct_sexpr.specs.Open.{Open, none_open}
 use Rattle.ct_sexpr.specs.declared.scanner.Mode.{Mode}
 use Rattle.ct_sexpr.specs.declared.scanner.Mode.TheVariants.{Between, Comment, Word, Quoted, Text, Mark}
-use Rattle.ct_sexpr.specs.declared.scanner.Step.{Step}
-use Rattle.ct_sexpr.specs.declared.scanner.Step.TheVariants.{Going, Command, Wrong}
+use Rattle.ct_sexpr.specs.declared.scanner.ScanStep.{ScanStep}
+use Rattle.ct_sexpr.specs.declared.scanner.ScanStep.TheVariants.{Going, Command, Wrong}
 use Rattle.ct_sexpr.specs.declared.scanner.Scanner.{Scanner}
 use Rattle.ct_sexpr.specs.declared.error.ReadError.{ReadError}
 use Rattle.ct_sexpr.specs.declared.error.ReadError.TheVariants.{NoMemory}
 
--- the front of a word, a keyword or a literal
+-- a prefix of a word, a keyword or a literal
 abbrev pub BeginsWord : List ℕ → Type 0
 BeginsWord [] = ⊥
-BeginsWord (b ∷ bs) = (begins_word b ≡ true) × (behind_word bs ≡ [])
+BeginsWord (b ∷ bs) = (begins_word b ≡ true) × (after_word bs ≡ [])
 
--- the bytes behind the last token go on as those that are left, behind what the scanner is inside
+-- the bytes after the last token go on as those that are left, after what the scanner is inside
 abbrev pub GoesOn : Mode → List ℕ → ℕ → List ℕ → List ℕ → Type 0
-GoesOn Between word depth behind left = (word ≡ []) × (behind_layout behind ≡ behind_layout left)
-GoesOn Comment word depth behind left = (word ≡ []) × (behind_layout behind ≡ behind_comment left)
-GoesOn Word word depth behind left = BeginsWord word × (0 < depth) × (behind_layout behind ≡ word ++ left)
-GoesOn Quoted word depth behind left = (behind_run is_between_bars word ≡ []) × (0 < depth) × (behind_layout behind ≡ bar ∷ (word ++ left))
-GoesOn Text word depth behind left = (0 < depth) × (behind_layout behind ≡ quotation_mark ∷ (doubled word ++ left))
-GoesOn Mark word depth behind left = (0 < depth) × (behind_layout behind ≡ quotation_mark ∷ (doubled word ++ quotation_mark ∷ left))
+GoesOn Between word depth remaining left = (word ≡ []) × (after_whitespace remaining ≡ after_whitespace left)
+GoesOn Comment word depth remaining left = (word ≡ []) × (after_whitespace remaining ≡ after_comment left)
+GoesOn Word word depth remaining left = BeginsWord word × (0 < depth) × (after_whitespace remaining ≡ word ++ left)
+GoesOn Quoted word depth remaining left = (drop_while is_in_quoted_symbol word ≡ []) × (0 < depth) × (after_whitespace remaining ≡ bar ∷ (word ++ left))
+GoesOn Text word depth remaining left = (0 < depth) × (after_whitespace remaining ≡ quotation_mark ∷ (doubled word ++ left))
+GoesOn Mark word depth remaining left = (0 < depth) × (after_whitespace remaining ≡ quotation_mark ∷ (doubled word ++ quotation_mark ∷ left))
 
 -- where a scanner is that has read a text as far as what is left
 pub record IsAt (lists : Open) (mode : Mode) (word whole left : List ℕ) : Type 0 where
-  pub behind : List ℕ
-  pub part : BeginsPart whole lists.tokens lists.depth behind
-  pub goes_on : GoesOn mode word lists.depth behind left
+  pub remaining : List ℕ
+  pub part : BeginsPart whole lists.tokens lists.depth remaining
+  pub goes_on : GoesOn mode word lists.depth remaining left
 
--- so many lines end before the first byte of the text that is neither a blank nor part of a comment
-pub record BeginsBehind (lines : ℕ) (whole : List ℕ) : Type 0 where
-  pub count : lines + line_feeds (behind_layout whole) ≡ line_feeds whole
+-- so many lines end before the first byte of the text that is neither whitespace nor part of a comment
+pub record BeginsAfter (lines : ℕ) (whole : List ℕ) : Type 0 where
+  pub count : lines + line_feeds (after_whitespace whole) ≡ line_feeds whole
   pub few : lines < length whole
 
 -- so many lines end in what was read of a text, and so many before the command that is open
 pub record Counts (depth lines before : ℕ) (whole left : List ℕ) : Type 0 where
   pub count : lines + line_feeds left ≡ line_feeds whole
   pub few : lines + length left ≤ length whole
-  pub begun : 0 < depth → BeginsBehind before whole
+  pub begun : 0 < depth → BeginsAfter before whole
 
 -- a scanner has read a text as far as what is left
 pub record Reached (scanner : Scanner) (whole left : List ℕ) : Type 0 where
-  pub place : IsAt scanner.lists scanner.mode scanner.word.items whole left
+  pub position : IsAt scanner.lists scanner.mode scanner.word.items whole left
   pub lines : Counts scanner.lists.depth scanner.line_feeds scanner.before whole left
 
 -- a scanner that has read no byte of a text's command
@@ -64,7 +64,7 @@ pub record Completes (scanner : Scanner) (command : Expression) (whole left : Li
   pub begins : BeginsCommand whole command left
   pub fresh : IsFresh scanner
   pub lines : Counts 0 scanner.line_feeds scanner.before whole left
-  pub begun : BeginsBehind scanner.before whole
+  pub begun : BeginsAfter scanner.before whole
 
 -- how many lines end before the command that is open, or where none is, before the byte that comes next
 abbrev pub lines_before : Scanner → ℕ
@@ -72,24 +72,24 @@ lines_before scanner = if scanner.lists.depth == 0 then scanner.line_feeds else 
 
 -- the error has as many lines before it as the scanner has read
 abbrev pub IsOnLine : Scanner → List ℕ → List ℕ → Type 0
-IsOnLine scanner whole place = scanner.line_feeds + line_feeds place ≡ line_feeds whole
+IsOnLine scanner whole suffix = scanner.line_feeds + line_feeds suffix ≡ line_feeds whole
 
--- an error stands in the text, which was read as far as what is left
+-- the text has a definite error, and was read as far as what is left
 pub record Refutes (scanner : Scanner) (code : ℕ) (whole left : List ℕ) : Type 0 where
   pub reached : Reached scanner whole left
-  pub place : List ℕ
-  pub error : HasStandingError whole code place
-  pub line : IsOnLine scanner whole place
+  pub suffix : List ℕ
+  pub error : HasDefiniteError whole code suffix
+  pub line : IsOnLine scanner whole suffix
 
--- the input ends behind the text, and there the text has an error
+-- the input ends after the text, and there the text has an error
 pub record EndsWrong (scanner : Scanner) (code : ℕ) (whole : List ℕ) : Type 0 where
-  pub place : List ℕ
-  pub error : HasError whole code place
-  pub line : IsOnLine scanner whole place
+  pub suffix : List ℕ
+  pub error : HasError whole code suffix
+  pub line : IsOnLine scanner whole suffix
 
--- the end of a text that was read whole: the number of the error, or None where it is blanks and comments alone
+-- the end of a text that was read whole: the number of the error, or None where it is whitespace and comments alone
 abbrev pub EndsAt : Scanner → Option ℕ → Type 0
-EndsAt scanner None = (whole : List ℕ) → Reached scanner whole [] → IsLayout whole
+EndsAt scanner None = (whole : List ℕ) → Reached scanner whole [] → IsWhitespace whole
 EndsAt scanner (Some code) = (whole : List ℕ) → Reached scanner whole [] → EndsWrong scanner code whole
 
 -- one byte of the text is read
@@ -101,14 +101,14 @@ abbrev pub Stays : Scanner → Scanner → ℕ → Type 0
 Stays old new b = (whole left : List ℕ) → Reached old whole (b ∷ left) → Reached new whole (b ∷ left)
 
 -- what reading one byte does
-abbrev pub Steps : Scanner → Scanner → ℕ → Result Step ReadError → Type 0
+abbrev pub Steps : Scanner → Scanner → ℕ → Result ScanStep ReadError → Type 0
 Steps old new b (Ok Going) = Passes old new b
 Steps old new b (Ok (Command e)) = (whole left : List ℕ) → Reached old whole (b ∷ left) → Completes new (expression_of e) whole left
 Steps old new b (Ok (Wrong code)) = (whole left : List ℕ) → Reached old whole (b ∷ left) → Refutes new code whole (b ∷ left)
 Steps old new b (Err e) = (e ≡ NoMemory) × Stays old new b
 
 -- what reading bytes does, as far as what is left of them
-abbrev pub Scans : Scanner → Scanner → List ℕ → List ℕ → Result Step ReadError → Type 0
+abbrev pub Scans : Scanner → Scanner → List ℕ → List ℕ → Result ScanStep ReadError → Type 0
 Scans old new bytes left (Ok Going) = (left ≡ []) × ((whole more : List ℕ) → Reached old whole (bytes ++ more) → Reached new whole more)
 Scans old new bytes left (Ok (Command e)) = (whole more : List ℕ) → Reached old whole (bytes ++ more) → Completes new (expression_of e) whole (left ++ more)
 Scans old new bytes left (Ok (Wrong code)) = (whole more : List ℕ) → Reached old whole (bytes ++ more) → Refutes new code whole (left ++ more)

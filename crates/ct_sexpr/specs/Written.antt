@@ -1,5 +1,5 @@
--- How an expression is written (SMT-LIB 2.7, sections 3.1 and 3.2). That a name has bars only where it needs them, and
--- that one blank stands between two items, is this project's choice.
+-- How an expression is written (SMT-LIB 2.7, sections 3.1 and 3.2). That a name is quoted only where it needs to be, and
+-- that one space stands between two items, is this project's choice.
 use Rattle.std.specs.Prelude.{ℕ, Bool, false, not, ◌&&◌, ◌==◌, List, [], ◌∷◌, ◌++◌, if◌then◌else◌, codes}
 use Rattle.std.specs.List.{list_all, list_any}
 use Rattle.std.specs.Char.{is_ascii_digit}
@@ -23,18 +23,18 @@ abbrev pub forms_symbol : List ℕ → Bool
 forms_symbol [] = false
 forms_symbol (b ∷ bs) = not (is_ascii_digit b) && list_all is_word_byte (b ∷ bs)
 
--- a name that needs no bars
-abbrev pub is_plain : List ℕ → Bool
-is_plain name = forms_symbol name && not (is_reserved name)
+-- a name that is a simple symbol
+abbrev pub is_simple : List ℕ → Bool
+is_simple name = forms_symbol name && not (is_reserved name)
 
 -- each quotation mark twice
 abbrev pub doubled : List ℕ → List ℕ
 doubled [] = []
 doubled (b ∷ bs) = if b == quotation_mark then b ∷ (b ∷ doubled bs) else b ∷ doubled bs
 
--- a name, between bars where it needs them
+-- a name, quoted where it needs to be
 abbrev pub written_name : List ℕ → List ℕ
-written_name name = if is_plain name then name else bar ∷ (name ++ bar ∷ [])
+written_name name = if is_simple name then name else bar ∷ (name ++ bar ∷ [])
 
 -- a string, by what it says, between marks
 abbrev pub written_text : List ℕ → List ℕ
@@ -51,7 +51,7 @@ written_atom (decimal w) = w
 written_atom (binary w) = w
 written_atom (hexadecimal w) = w
 
--- the items of a list, with one blank between two
+-- the items of a list, with one space between two
 abbrev mutual
   pub written : Expression → List ℕ
   written (leaf a) = written_atom a
@@ -59,29 +59,29 @@ abbrev mutual
 
   pub written_items : Expressions → List ℕ
   written_items none = []
-  written_items (more e es) = written e ++ written_behind es
+  written_items (more e es) = written e ++ written_after es
 
-  pub written_behind : Expressions → List ℕ
-  written_behind none = []
-  written_behind (more e es) = 32 ∷ (written e ++ written_behind es)
+  pub written_after : Expressions → List ℕ
+  written_after none = []
+  written_after (more e es) = 32 ∷ (written e ++ written_after es)
 
--- the atom with bars where they are needed alone
-abbrev pub plain_atom : Atom → Atom
-plain_atom (symbol w) = symbol w
-plain_atom (quoted w) = if is_plain w then symbol w else quoted w
-plain_atom (keyword w) = keyword w
-plain_atom (text w) = text w
-plain_atom (numeral n) = numeral n
-plain_atom (decimal w) = decimal w
-plain_atom (binary w) = binary w
-plain_atom (hexadecimal w) = hexadecimal w
+-- the atom, quoted only where it needs to be
+abbrev pub canonical_atom : Atom → Atom
+canonical_atom (symbol w) = symbol w
+canonical_atom (quoted w) = if is_simple w then symbol w else quoted w
+canonical_atom (keyword w) = keyword w
+canonical_atom (text w) = text w
+canonical_atom (numeral n) = numeral n
+canonical_atom (decimal w) = decimal w
+canonical_atom (binary w) = binary w
+canonical_atom (hexadecimal w) = hexadecimal w
 
--- the same expression, with bars where they are needed alone
+-- the same expression, with symbols quoted only where they need to be
 abbrev mutual
-  pub plain : Expression → Expression
-  plain (leaf a) = leaf (plain_atom a)
-  plain (list es) = list (plain_each es)
+  pub canonical : Expression → Expression
+  canonical (leaf a) = leaf (canonical_atom a)
+  canonical (list es) = list (canonical_each es)
 
-  pub plain_each : Expressions → Expressions
-  plain_each none = none
-  plain_each (more e es) = more (plain e) (plain_each es)
+  pub canonical_each : Expressions → Expressions
+  canonical_each none = none
+  canonical_each (more e es) = more (canonical e) (canonical_each es)

@@ -2,11 +2,11 @@
 ghost use Rattle.std.specs.Prelude.{◌≡◌, ◌≤◌, ◌∷◌, Ok, Err, IfOk, IfErr, IfSome, IfNone, true};
 ghost use Rattle.std.specs.List.{list_all};
 ghost use Rattle.std.specs.Char.{is_ascii_digit, is_ascii_hexdigit};
-ghost use Rattle.ct_sexpr.specs.Atom.{atom_of, keyword_of, literal, number, colon, number_sign, are_digits, is_binary_digit, is_point_and_digits, value_of, numeral_bound};
-ghost use Rattle.ct_sexpr.specs.Run.{behind_run};
+ghost use Rattle.ct_sexpr.specs.Atom.{atom_of, keyword_of, literal, number, colon, number_sign, are_digits, is_binary_digit, is_point_and_digits, numeral_value, numeral_bound};
+ghost use Rattle.ct_sexpr.specs.TakeWhile.{drop_while};
 ghost use Rattle.ct_sexpr.specs.Expression.{leaf};
 ghost use Rattle.ct_sexpr.specs.View.{expression_of};
-ghost use Rattle.ct_sexpr.specs.Kind.{atom_as};
+ghost use Rattle.ct_sexpr.specs.AtomKind.{atom_as};
 
 use crate::bytes::Bytes;
 use crate::error::{BEGINS_NO_TOKEN, NUMERAL_TOO_GREAT, ReadError};
@@ -15,7 +15,7 @@ use std::alloc::Global;
 
 /// What a word is, beside its bytes.
 #[derive(Clone, Copy, Debug, PartialEq, Eq)]
-pub(crate) enum Kind {
+pub(crate) enum AtomKind {
     /// A symbol.
     Symbol,
     /// A keyword.
@@ -31,7 +31,7 @@ pub(crate) enum Kind {
 }
 
 /// What the word is, or the number of the error.
-pub(crate) fn kind_of(word: &[u8]) -> Result<Kind, u16>
+pub(crate) fn kind_of(word: &[u8]) -> Result<AtomKind, u16>
     ensures ok { IfOk result (λ kind. atom_of word.now ≡ Ok (atom_as kind word.now)) }
     ensures err { IfErr result (λ code. atom_of word.now ≡ Err code) }
 {
@@ -40,22 +40,22 @@ pub(crate) fn kind_of(word: &[u8]) -> Result<Kind, u16>
         [b':', name @ ..] => keyword_of(name),
         [b'#', digits @ ..] => literal_of(digits),
         [first, ..] if first.is_ascii_digit() => number_of(word),
-        [_, ..] => Ok(Kind::Symbol),
+        [_, ..] => Ok(AtomKind::Symbol),
     }
 }
 
 /// The expression of a word of this kind.
-pub(crate) fn atom(alloc: Global, kind: Kind, word: &[u8]) -> Result<Sexpr, ReadError>
+pub(crate) fn atom(alloc: Global, kind: AtomKind, word: &[u8]) -> Result<Sexpr, ReadError>
     ensures ok { IfOk result (λ e. expression_of e ≡ leaf (atom_as kind word.now)) }
     ensures err { IfErr result (λ e. e ≡ ReadError.NoMemory) }
 {
     match kind {
-        Kind::Numeral(value) => Ok(Sexpr::Numeral(value)),
-        Kind::Symbol => Ok(Sexpr::Symbol(copied(alloc, word)?)),
-        Kind::Keyword => Ok(Sexpr::Keyword(copied(alloc, word)?)),
-        Kind::Decimal => Ok(Sexpr::Decimal(copied(alloc, word)?)),
-        Kind::Binary => Ok(Sexpr::Binary(copied(alloc, word)?)),
-        Kind::Hex => Ok(Sexpr::Hex(copied(alloc, word)?)),
+        AtomKind::Numeral(value) => Ok(Sexpr::Numeral(value)),
+        AtomKind::Symbol => Ok(Sexpr::Symbol(copied(alloc, word)?)),
+        AtomKind::Keyword => Ok(Sexpr::Keyword(copied(alloc, word)?)),
+        AtomKind::Decimal => Ok(Sexpr::Decimal(copied(alloc, word)?)),
+        AtomKind::Binary => Ok(Sexpr::Binary(copied(alloc, word)?)),
+        AtomKind::Hex => Ok(Sexpr::Hex(copied(alloc, word)?)),
     }
 }
 
@@ -67,42 +67,42 @@ pub(crate) fn copied(alloc: Global, bytes: &[u8]) -> Result<Bytes, ReadError>
     Ok(Bytes::new(Vec::from_slice(alloc, bytes)?))
 }
 
-/// A keyword, by what stands behind its colon.
-fn keyword_of(name: &[u8]) -> Result<Kind, u16>
+/// A keyword, by what stands after its colon.
+fn keyword_of(name: &[u8]) -> Result<AtomKind, u16>
     ensures ok { IfOk result (λ kind. keyword_of name.now ≡ Ok (atom_as kind (colon ∷ name.now))) }
     ensures err { IfErr result (λ code. keyword_of name.now ≡ Err code) }
 {
     match name {
-        [first, ..] if !first.is_ascii_digit() => Ok(Kind::Keyword),
+        [first, ..] if !first.is_ascii_digit() => Ok(AtomKind::Keyword),
         _ => Err(BEGINS_NO_TOKEN),
     }
 }
 
-/// A binary or hexadecimal literal, by what stands behind its number sign.
-fn literal_of(text: &[u8]) -> Result<Kind, u16>
+/// A binary or hexadecimal literal, by what stands after its number sign.
+fn literal_of(text: &[u8]) -> Result<AtomKind, u16>
     ensures ok { IfOk result (λ kind. literal text.now ≡ Ok (atom_as kind (number_sign ∷ text.now))) }
     ensures err { IfErr result (λ code. literal text.now ≡ Err code) }
 {
     match text {
-        [b'b', digits @ ..] if are_binary_digits(digits) => Ok(Kind::Binary),
-        [b'x', digits @ ..] if are_hexadecimal_digits(digits) => Ok(Kind::Hex),
+        [b'b', digits @ ..] if are_binary_digits(digits) => Ok(AtomKind::Binary),
+        [b'x', digits @ ..] if are_hexadecimal_digits(digits) => Ok(AtomKind::Hex),
         _ => Err(BEGINS_NO_TOKEN),
     }
 }
 
 /// A numeral or a decimal: a word that begins with a digit.
-fn number_of(word: &[u8]) -> Result<Kind, u16>
+fn number_of(word: &[u8]) -> Result<AtomKind, u16>
     ensures ok { IfOk result (λ kind. number word.now ≡ Ok (atom_as kind word.now)) }
     ensures err { IfErr result (λ code. number word.now ≡ Err code) }
 {
     if are_all_digits(word) {
-        return match value_of(word) {
-            Some(value) => Ok(Kind::Numeral(value)),
+        return match numeral_value(word) {
+            Some(value) => Ok(AtomKind::Numeral(value)),
             None => Err(NUMERAL_TOO_GREAT),
         };
     }
-    if is_point_and_digits(behind_digits(word)) {
-        return Ok(Kind::Decimal);
+    if is_point_and_digits(after_digits(word)) {
+        return Ok(AtomKind::Decimal);
     }
     Err(BEGINS_NO_TOKEN)
 }
@@ -138,9 +138,9 @@ fn is_point_and_digits(text: &[u8]) -> bool
     }
 }
 
-/// What is left behind the digits at the front.
-fn behind_digits(text: &[u8]) -> &[u8]
-    ensures behind { result.now ≡ behind_run is_ascii_digit text.now }
+/// What is left after the digits at the start.
+fn after_digits(text: &[u8]) -> &[u8]
+    ensures remaining { result.now ≡ drop_while is_ascii_digit text.now }
 {
     let mut rest = text;
     while let [first, others @ ..] = rest {
@@ -153,10 +153,10 @@ fn behind_digits(text: &[u8]) -> &[u8]
 }
 
 /// The value of decimal digits. `None` where it is 2^128 or more.
-fn value_of(digits: &[u8]) -> Option<u128>
+fn numeral_value(digits: &[u8]) -> Option<u128>
     requires digits { list_all is_ascii_digit digits.now ≡ true }
-    ensures value { IfSome result (λ value. value ≡ value_of digits.now) }
-    ensures too_great { IfNone result (numeral_bound ≤ value_of digits.now) }
+    ensures value { IfSome result (λ value. value ≡ numeral_value digits.now) }
+    ensures too_great { IfNone result (numeral_bound ≤ numeral_value digits.now) }
 {
     let mut value: u128 = 0;
     for digit in digits {

@@ -1,11 +1,11 @@
 ghost use Rattle.std.specs.Prelude.{◌≡◌};
-ghost use Rattle.ct_sexpr.specs.Layout.{is_blank, ends_comment};
+ghost use Rattle.ct_sexpr.specs.Whitespace.{is_whitespace, ends_comment};
 ghost use Rattle.ct_sexpr.specs.Atom.{is_word_byte, begins_word};
 ghost use Rattle.ct_sexpr.specs.Token.{begins_atom};
 
 /// Whether the byte is a tab, a line feed, a carriage return or a space.
-pub(crate) fn is_blank(byte: u8) -> bool
-    ensures blank { result ≡ is_blank byte }
+pub(crate) fn is_whitespace(byte: u8) -> bool
+    ensures space { result ≡ is_whitespace byte }
 {
     matches!(byte, b'\t' | b'\n' | b'\r' | b' ')
 }

@@ -16,7 +16,7 @@ pub(crate) const ENDS_INSIDE: u16 = 3;
 pub(crate) const NESTS_TOO_DEEP: u16 = 4;
 
 /// The number of the error for an atom outside all parentheses.
-pub(crate) const STANDS_OUTSIDE: u16 = 5;
+pub(crate) const ATOM_OUTSIDE: u16 = 5;
 
 /// The number of the error for a numeral of 2^128 or more.
 pub(crate) const NUMERAL_TOO_GREAT: u16 = 6;
@@ -26,10 +26,11 @@ pub(crate) const NUMERAL_TOO_GREAT: u16 = 6;
 pub enum ReadError {
     /// The bytes are no script (SMT-LIB 2.7, sections 3.1, 3.2 and 3.9), or go beyond a limit of this project (4 and 6).
     Lexical {
-        /// 1 where a byte begins no token, where a word that begins with a digit is no number, where a colon begins no
-        /// keyword or a number sign no literal, and where a backslash stands between bars; 2 where a closing
-        /// parenthesis closes nothing, 3 where the input ends inside a command, 4 where parentheses would nest more
-        /// than 1,000 deep, 5 where an atom stands outside all parentheses, and 6 where a numeral is 2^128 or more.
+        /// 1 where a byte begins no token, where a word that begins with a digit is no number,
+        /// where a colon begins no keyword or a number sign no literal, and where a backslash
+        /// stands in a quoted symbol; 2 where a closing parenthesis closes nothing, 3 where the
+        /// input ends inside a command, 4 where parentheses would nest more than 1,000 deep, 5
+        /// where an atom stands outside all parentheses, and 6 where a numeral is 2^128 or more.
         code: u16,
         /// The line of the byte at which the error stands, and for 3 that on which the input ends, counted from 1.
         line: u64,

@@ -5,7 +5,6 @@ mod atom;
 mod byte_class;
 mod bytes;
 mod error;
-mod laws;
 mod open_lists;
 mod reader;
 mod reserved;
@@ -16,14 +15,15 @@ mod sexpr;
 mod tests;
 #[cfg(test)]
 mod text_tests;
+mod theorems;
 #[cfg(test)]
 mod token_table;
 mod write;
 
 pub use bytes::Bytes;
 pub use error::ReadError;
-pub use laws::{error_places, one_reading, one_text, written_texts};
 pub use reader::{Next, Reader};
-pub use reserved::{is_plain, is_reserved};
+pub use reserved::{is_reserved, is_simple};
 pub use sexpr::Sexpr;
+pub use theorems::{error_positions, one_reading, one_text, written_texts};
 pub use write::sexpr_text;

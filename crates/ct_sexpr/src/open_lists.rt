@@ -32,7 +32,7 @@ impl Model for OpenLists {
 impl OpenLists {
     /// No list is open.
     pub(crate) fn new(alloc: Global) -> OpenLists
-        ensures bare { result ≡ none_open }
+        ensures empty { result ≡ none_open }
     {
         OpenLists {
             lists: Vec::new(alloc),

@@ -1,10 +1,10 @@
 ghost use Rattle.std.specs.Prelude.{◌≡◌, ℕ, ◌+◌, ◌^◌, ◌<◌, List, [], ◌++◌, true, false, length, OnOk, OnErr, IfOk, IfErr};
 ghost use Rattle.ct_sexpr.specs.Scanning.{Reached};
-ghost use Rattle.ct_sexpr.specs.Answer.{Answers, ReadsOn};
+ghost use Rattle.ct_sexpr.specs.Answer.{IsAnswer, ReadsOn};
 
 use crate::error::ReadError;
 use crate::scan::{Scanned, scan_bytes};
-use crate::scanner::{Scanner, Step};
+use crate::scanner::{ScanStep, Scanner};
 use crate::sexpr::Sexpr;
 use std::alloc::Global;
 use std::marker::Model;
@@ -19,18 +19,18 @@ pub enum Next {
         /// The line, counted from 1.
         line: u64,
     },
-    /// No further whole command has been fed, no error stands, and the input has not ended.
+    /// No further whole command has been fed, no error is definite, and the input has not ended.
     Need,
-    /// The input has ended, and nothing but blanks and comments is left.
+    /// The input has ended, and nothing but whitespace and comments is left.
     End,
 }
 
 /// Reads commands from bytes that are fed in any pieces.
 ///
-/// Each byte is read once, whatever the pieces are. Only a byte at which an error stands, or at which
-/// memory runs out, is not taken, and each later call of `next` looks at it again. The bytes of
-/// commands that were given are dropped where they are more than those that are left, so that the
-/// moves take linear time in all.
+/// Each byte is read once, whatever the pieces are. Only a byte at which an error becomes definite,
+/// or at which memory runs out, is not taken, and each later call of `next` looks at it again. The
+/// bytes of commands that were given are dropped where they are more than those that are left, so
+/// that the moves take linear time in all.
 #[derive(Drop)]
 pub struct Reader {
     buffer: Vec<u8>,
@@ -108,22 +108,24 @@ impl Reader {
         self.ended = true;
     }
 
-    /// Gives the next whole command. `Need` comes where the input has not ended, no lexical error stands and no
-    /// further whole command was fed; `End` where the input has ended and nothing but blanks and comments is left. A
-    /// lexical error has its number, 1 to 6, and its line, as `ReadError` says; an error of a word, a keyword or a
-    /// literal stands once a byte is there behind its word bytes or the input has ended, that the input ends inside a
-    /// command once it has ended, and every other error at once. After one each later call gives the same, or `NoMemory`, which changes nothing.
+    /// Gives the next whole command. `Need` comes where the input has not ended, no lexical error
+    /// is definite and no further whole command was fed; `End` where the input has ended and
+    /// nothing but whitespace and comments is left. A lexical error has its number, 1 to 6, and its
+    /// line, as `ReadError` says; an error of a word, a keyword or a literal is definite once a
+    /// byte is there after its word bytes or the input has ended, that the input ends inside a
+    /// command once it has ended, and every other error at once. After one each later call gives
+    /// the same, or `NoMemory`, which changes nothing.
     pub fn next(&mut self) -> Result<Next, ReadError>
-        ensures answers { Answers self.old self.new result }
+        ensures answers { IsAnswer self.old self.new result }
         ensures reads { ReadsOn self.old self.new result }
     {
         let unread = &self.buffer[self.scanned..];
         let Scanned { count, outcome } = scan_bytes(&mut self.scanner, unread);
         self.scanned += count;
         match outcome? {
-            Step::Going => next_at_end(&self.scanner, self.lines, self.ended),
-            Step::Wrong(code) => Err(lexical(code, self.lines + self.scanner.lines_read())),
-            Step::Command(expr) => {
+            ScanStep::Going => next_at_end(&self.scanner, self.lines, self.ended),
+            ScanStep::Wrong(code) => Err(lexical(code, self.lines + self.scanner.lines_read())),
+            ScanStep::Command(expr) => {
                 let line = self.lines + self.scanner.begun() + 1;
                 self.lines += self.scanner.take_line_feeds();
                 self.start = self.scanned;
@@ -133,12 +135,12 @@ impl Reader {
     }
 }
 
-/// What there is behind bytes that a scanner has read whole, and that complete no command. They begin behind so many
-/// lines.
+/// What there is after bytes that a scanner has read whole, and that complete no command. They
+/// begin after so many lines.
 fn next_at_end(scanner: &Scanner, lines: u64, ended: bool) -> Result<Next, ReadError>
     requires read { (whole : List ℕ) × Reached scanner.now whole [] × (lines + length whole < 2 ^ 64) }
     ensures answers { (whole : List ℕ) (fed : ℕ) → Reached scanner.now whole [] →
-        Answers (record { bytes = whole; line = lines + 1; fed = fed; ended = ended }) (record { bytes = whole; line = lines + 1; fed = fed; ended = ended }) result }
+        IsAnswer (record { bytes = whole; line = lines + 1; fed = fed; ended = ended }) (record { bytes = whole; line = lines + 1; fed = fed; ended = ended }) result }
 {
     if !ended {
         return Ok(Next::Need);

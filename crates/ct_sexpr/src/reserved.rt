@@ -1,6 +1,6 @@
-//! Words that the language reserves, and names that need no bars.
+//! Words that the language reserves, and names that are simple symbols.
 ghost use Rattle.std.specs.Prelude.{◌≡◌};
-ghost use Rattle.ct_sexpr.specs.Written.{is_reserved, forms_symbol, is_plain};
+ghost use Rattle.ct_sexpr.specs.Written.{is_reserved, forms_symbol, is_simple};
 
 use crate::byte_class::is_word_byte;
 
@@ -22,7 +22,8 @@ const RESERVED_WORDS: [&[u8]; 14] = [
     b"STRING",
 ];
 
-/// Whether the bytes are a word that the language reserves. A symbol that is written plain with these bytes is no name.
+/// Whether the bytes are a word that the language reserves. A simple symbol with these bytes is no
+/// name.
 pub fn is_reserved(name: &[u8]) -> bool
     ensures reserved { result ≡ is_reserved name.now }
 {
@@ -39,9 +40,9 @@ fn forms_symbol(name: &[u8]) -> bool
     }
 }
 
-/// Whether the name is written without bars: its bytes form a symbol that is not reserved.
-pub fn is_plain(name: &[u8]) -> bool
-    ensures plain { result ≡ is_plain name.now }
+/// Whether the name is written as a simple symbol: its bytes form a symbol that is not reserved.
+pub fn is_simple(name: &[u8]) -> bool
+    ensures canonical { result ≡ is_simple name.now }
 {
     forms_symbol(name) && !is_reserved(name)
 }

@@ -2,7 +2,7 @@ ghost use Rattle.std.specs.Prelude.{◌≡◌, ◌+◌, ◌<◌, ◌≤◌, ◌^
 ghost use Rattle.ct_sexpr.specs.Scanning.{Scans};
 
 use crate::error::ReadError;
-use crate::scanner::{Scanner, Step};
+use crate::scanner::{ScanStep, Scanner};
 
 /// What reading many bytes gave.
 #[derive(Drop)]
@@ -10,10 +10,10 @@ pub(crate) struct Scanned {
     /// How many of the bytes were read.
     pub(crate) count: usize,
     /// What stopped the scan; it is `Going` where nothing did, so that all bytes were read.
-    pub(crate) outcome: Result<Step, ReadError>,
+    pub(crate) outcome: Result<ScanStep, ReadError>,
 }
 
-/// Reads bytes until a command is complete, an error stands, memory runs out or none is left.
+/// Reads bytes until a command is complete, an error is definite, memory runs out or none is left.
 pub(crate) fn scan_bytes(scanner: &mut Scanner, bytes: &[u8]) -> Scanned
     requires few { scanner.old.line_feeds + length bytes.now < 2 ^ 64 }
     ensures within { result.count ≤ length bytes.now }
@@ -21,17 +21,17 @@ pub(crate) fn scan_bytes(scanner: &mut Scanner, bytes: &[u8]) -> Scanned
 {
     for (index, byte) in bytes.iter().enumerate() {
         match scanner.step(*byte) {
-            Ok(Step::Going) => {}
-            Ok(Step::Command(command)) => {
+            Ok(ScanStep::Going) => {}
+            Ok(ScanStep::Command(command)) => {
                 return Scanned {
                     count: index + 1,
-                    outcome: Ok(Step::Command(command)),
+                    outcome: Ok(ScanStep::Command(command)),
                 };
             }
-            Ok(Step::Wrong(code)) => {
+            Ok(ScanStep::Wrong(code)) => {
                 return Scanned {
                     count: index,
-                    outcome: Ok(Step::Wrong(code)),
+                    outcome: Ok(ScanStep::Wrong(code)),
                 };
             }
             Err(error) => {
@@ -44,6 +44,6 @@ pub(crate) fn scan_bytes(scanner: &mut Scanner, bytes: &[u8]) -> Scanned
     }
     Scanned {
         count: bytes.len(),
-        outcome: Ok(Step::Going),
+        outcome: Ok(ScanStep::Going),
     }
 }

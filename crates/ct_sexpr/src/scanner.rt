@@ -1,15 +1,15 @@
 ghost use Rattle.std.specs.Prelude.{◌≡◌, ℕ, ◌+◌, ◌<◌, ◌≤◌, ◌^◌, ◌==◌, true, false, [], ◌∷◌, ◌++◌, Ok, Err, OnOk, OnErr, IfErr, IfSome, IfNone};
-ghost use Rattle.ct_sexpr.specs.Layout.{is_blank, line_feeds, semicolon};
+ghost use Rattle.ct_sexpr.specs.Whitespace.{is_whitespace, line_feeds, semicolon};
 ghost use Rattle.ct_sexpr.specs.Atom.{Atom, begins_word, atom_of};
-ghost use Rattle.ct_sexpr.specs.Token.{left_parenthesis, right_parenthesis, quotation_mark, is_between_bars};
+ghost use Rattle.ct_sexpr.specs.Token.{left_parenthesis, right_parenthesis, quotation_mark, is_in_quoted_symbol};
 ghost use Rattle.ct_sexpr.specs.Expression.{tokens_of};
 ghost use Rattle.ct_sexpr.specs.View.{expression_of};
 ghost use Rattle.ct_sexpr.specs.Scanning.{IsFresh, Steps, EndsAt, lines_before};
 
 use crate::atom::{atom, copied, kind_of};
-use crate::byte_class::{begins_atom, ends_comment, is_blank, is_word_byte};
+use crate::byte_class::{begins_atom, ends_comment, is_whitespace, is_word_byte};
 use crate::error::{
-    BEGINS_NO_TOKEN, CLOSES_NOTHING, ENDS_INSIDE, NESTS_TOO_DEEP, ReadError, STANDS_OUTSIDE,
+    ATOM_OUTSIDE, BEGINS_NO_TOKEN, CLOSES_NOTHING, ENDS_INSIDE, NESTS_TOO_DEEP, ReadError,
 };
 use crate::open_lists::{NESTING_LIMIT, OpenLists};
 use crate::sexpr::Sexpr;
@@ -25,23 +25,23 @@ pub(crate) enum Mode {
     Comment,
     /// In a word, a keyword or a literal, which its next byte may end.
     Word,
-    /// Between the bars of a quoted symbol.
+    /// Inside a quoted symbol.
     Quoted,
     /// In a string.
     Text,
-    /// Behind a quotation mark in a string, which ends it unless another follows.
+    /// After a quotation mark in a string, which ends it unless another follows.
     Mark,
 }
 
 /// What reading one byte gave.
 #[derive(Drop)]
-pub(crate) enum Step {
+pub(crate) enum ScanStep {
     /// The byte was read, and completes no command.
     Going,
     /// The byte was read, and closes this command.
     Command(Sexpr),
-    /// The error with this number stands, at the byte or before it. The byte was not read, so that the error is
-    /// found again.
+    /// The error with this number is definite, at the byte or before it. The byte was not read, so
+    /// that the error is found again.
     Wrong(u16),
 }
 
@@ -50,7 +50,8 @@ pub(crate) enum Step {
 pub(crate) struct Scanner {
     lists: OpenLists,
     mode: Mode,
-    /// The bytes so far of the atom that the scanner is inside, without bars and outer quotation marks.
+    /// The bytes so far of the atom that the scanner is inside, without the `|` or the quotation
+    /// marks around it.
     word: Vec<u8>,
     /// How many lines ended in the bytes read since the last command.
     line_feeds: u64,
@@ -108,7 +109,8 @@ impl Scanner {
         mem::replace(&mut self.line_feeds, 0)
     }
 
-    /// The number of the error where the input ends here. `None` where nothing but blanks and comments was read.
+    /// The number of the error where the input ends here. `None` where nothing but whitespace and
+    /// comments was read.
     pub(crate) fn error_at_end(&self) -> Option<u16>
         ensures ends { EndsAt self.now result }
     {
@@ -131,7 +133,7 @@ impl Scanner {
     }
 
     /// Reads one byte. On an error the byte was not read.
-    pub(crate) fn step(&mut self, byte: u8) -> Result<Step, ReadError>
+    pub(crate) fn step(&mut self, byte: u8) -> Result<ScanStep, ReadError>
         requires few { self.old.line_feeds + 1 < 2 ^ 64 }
         ensures steps { Steps self.old self.new byte result }
         ensures lines { self.new.line_feeds ≤ self.old.line_feeds + 1 }
@@ -140,9 +142,9 @@ impl Scanner {
             Mode::Between => self.step_between(byte),
             Mode::Comment => Ok(self.step_in_comment(byte)),
             Mode::Word => self.step_in_word(byte),
-            Mode::Quoted => self.step_between_bars(byte),
+            Mode::Quoted => self.step_in_quoted_symbol(byte),
             Mode::Text => self.step_in_text(byte),
-            Mode::Mark => self.step_behind_mark(byte),
+            Mode::Mark => self.step_after_mark(byte),
         }
     }
 
@@ -156,7 +158,7 @@ impl Scanner {
         }
     }
 
-    fn step_in_comment(&mut self, byte: u8) -> Step
+    fn step_in_comment(&mut self, byte: u8) -> ScanStep
         requires mode { self.old.mode ≡ Mode.Comment }
         requires few { self.old.line_feeds + 1 < 2 ^ 64 }
         ensures steps { Steps self.old self.new byte (Ok result) }
@@ -166,10 +168,10 @@ impl Scanner {
             self.mode = Mode::Between;
         }
         self.count(byte);
-        Step::Going
+        ScanStep::Going
     }
 
-    fn step_in_word(&mut self, byte: u8) -> Result<Step, ReadError>
+    fn step_in_word(&mut self, byte: u8) -> Result<ScanStep, ReadError>
         requires mode { self.old.mode ≡ Mode.Word }
         requires few { self.old.line_feeds + 1 < 2 ^ 64 }
         ensures steps { Steps self.old self.new byte result }
@@ -177,7 +179,7 @@ impl Scanner {
     {
         if is_word_byte(byte) {
             self.word.push(byte)?;
-            return Ok(Step::Going);
+            return Ok(ScanStep::Going);
         }
         match kind_of(&self.word) {
             Ok(kind) => {
@@ -185,28 +187,28 @@ impl Scanner {
                 self.end_atom(item)?;
                 self.step_between(byte)
             }
-            Err(code) => Ok(Step::Wrong(code)),
+            Err(code) => Ok(ScanStep::Wrong(code)),
         }
     }
 
-    fn step_between_bars(&mut self, byte: u8) -> Result<Step, ReadError>
+    fn step_in_quoted_symbol(&mut self, byte: u8) -> Result<ScanStep, ReadError>
         requires mode { self.old.mode ≡ Mode.Quoted }
         requires few { self.old.line_feeds + 1 < 2 ^ 64 }
         ensures steps { Steps self.old self.new byte result }
         ensures lines { self.new.line_feeds ≤ self.old.line_feeds + 1 }
     {
         match byte {
-            b'\\' => Ok(Step::Wrong(BEGINS_NO_TOKEN)),
+            b'\\' => Ok(ScanStep::Wrong(BEGINS_NO_TOKEN)),
             b'|' => {
                 let name = copied(self.alloc, &self.word)?;
                 self.end_atom(Sexpr::Quoted(name))?;
-                Ok(Step::Going)
+                Ok(ScanStep::Going)
             }
             _ => self.add_to_word(byte),
         }
     }
 
-    fn step_in_text(&mut self, byte: u8) -> Result<Step, ReadError>
+    fn step_in_text(&mut self, byte: u8) -> Result<ScanStep, ReadError>
         requires mode { self.old.mode ≡ Mode.Text }
         requires few { self.old.line_feeds + 1 < 2 ^ 64 }
         ensures steps { Steps self.old self.new byte result }
@@ -214,12 +216,12 @@ impl Scanner {
     {
         if byte == b'"' {
             self.mode = Mode::Mark;
-            return Ok(Step::Going);
+            return Ok(ScanStep::Going);
         }
         self.add_to_word(byte)
     }
 
-    fn step_behind_mark(&mut self, byte: u8) -> Result<Step, ReadError>
+    fn step_after_mark(&mut self, byte: u8) -> Result<ScanStep, ReadError>
         requires mode { self.old.mode ≡ Mode.Mark }
         requires few { self.old.line_feeds + 1 < 2 ^ 64 }
         ensures steps { Steps self.old self.new byte result }
@@ -228,7 +230,7 @@ impl Scanner {
         if byte == b'"' {
             self.word.push(byte)?;
             self.mode = Mode::Text;
-            return Ok(Step::Going);
+            return Ok(ScanStep::Going);
         }
         let content = copied(self.alloc, &self.word)?;
         self.end_atom(Sexpr::Text(content))?;
@@ -252,31 +254,31 @@ impl Scanner {
     }
 
     /// Reads a byte of a quoted symbol or a string, which may end a line.
-    fn add_to_word(&mut self, byte: u8) -> Result<Step, ReadError>
+    fn add_to_word(&mut self, byte: u8) -> Result<ScanStep, ReadError>
         requires few { self.old.line_feeds + 1 < 2 ^ 64 }
-        ensures quoted { self.old.mode ≡ Mode.Quoted → is_between_bars byte ≡ true → Steps self.old self.new byte result }
+        ensures quoted { self.old.mode ≡ Mode.Quoted → is_in_quoted_symbol byte ≡ true → Steps self.old self.new byte result }
         ensures text { self.old.mode ≡ Mode.Text → (byte == quotation_mark) ≡ false → Steps self.old self.new byte result }
         ensures lines { self.new.line_feeds ≤ self.old.line_feeds + 1 }
     {
         self.word.push(byte)?;
         self.count(byte);
-        Ok(Step::Going)
+        Ok(ScanStep::Going)
     }
 
-    fn step_between(&mut self, byte: u8) -> Result<Step, ReadError>
+    fn step_between(&mut self, byte: u8) -> Result<ScanStep, ReadError>
         requires mode { self.old.mode ≡ Mode.Between }
         requires few { self.old.line_feeds + 1 < 2 ^ 64 }
         ensures steps { Steps self.old self.new byte result }
         ensures lines { self.new.line_feeds ≤ self.old.line_feeds + 1 }
     {
-        if is_blank(byte) {
+        if is_whitespace(byte) {
             self.count(byte);
-            return Ok(Step::Going);
+            return Ok(ScanStep::Going);
         }
         match byte {
             b';' => {
                 self.mode = Mode::Comment;
-                Ok(Step::Going)
+                Ok(ScanStep::Going)
             }
             b'(' => self.open_list(),
             b')' => self.close_list(),
@@ -285,40 +287,41 @@ impl Scanner {
     }
 
     /// Reads an opening parenthesis.
-    fn open_list(&mut self) -> Result<Step, ReadError>
+    fn open_list(&mut self) -> Result<ScanStep, ReadError>
         requires mode { self.old.mode ≡ Mode.Between }
         ensures steps { Steps self.old self.new left_parenthesis result }
         ensures lines { self.new.line_feeds ≡ self.old.line_feeds }
     {
         if self.lists.depth() >= NESTING_LIMIT {
-            return Ok(Step::Wrong(NESTS_TOO_DEEP));
+            return Ok(ScanStep::Wrong(NESTS_TOO_DEEP));
         }
         let before = self.lines_before();
         self.lists.open(self.alloc)?;
         self.before = before;
-        Ok(Step::Going)
+        Ok(ScanStep::Going)
     }
 
     /// Reads a closing parenthesis.
-    fn close_list(&mut self) -> Result<Step, ReadError>
+    fn close_list(&mut self) -> Result<ScanStep, ReadError>
         requires mode { self.old.mode ≡ Mode.Between }
         ensures steps { Steps self.old self.new right_parenthesis result }
         ensures lines { self.new.line_feeds ≡ self.old.line_feeds }
     {
         match self.lists.depth() {
-            0 => Ok(Step::Wrong(CLOSES_NOTHING)),
-            1 => Ok(Step::Command(self.lists.finish())),
+            0 => Ok(ScanStep::Wrong(CLOSES_NOTHING)),
+            1 => Ok(ScanStep::Command(self.lists.finish())),
             _ => {
                 self.lists.close()?;
-                Ok(Step::Going)
+                Ok(ScanStep::Going)
             }
         }
     }
 
-    /// Reads a byte that is no blank and no parenthesis and begins no comment. It begins an atom, or no token.
-    fn begin_atom(&mut self, byte: u8) -> Result<Step, ReadError>
+    /// Reads a byte that is no whitespace and no parenthesis and begins no comment. It begins an
+    /// atom, or no token.
+    fn begin_atom(&mut self, byte: u8) -> Result<ScanStep, ReadError>
         requires mode { self.old.mode ≡ Mode.Between }
-        requires no_blank { is_blank byte ≡ false }
+        requires no_whitespace { is_whitespace byte ≡ false }
         requires no_comment { (byte == semicolon) ≡ false }
         requires no_opening { (byte == left_parenthesis) ≡ false }
         requires no_closing { (byte == right_parenthesis) ≡ false }
@@ -326,26 +329,26 @@ impl Scanner {
         ensures lines { self.new.line_feeds ≡ self.old.line_feeds }
     {
         if !begins_atom(byte) {
-            return Ok(Step::Wrong(BEGINS_NO_TOKEN));
+            return Ok(ScanStep::Wrong(BEGINS_NO_TOKEN));
         }
         if self.lists.depth() == 0 {
-            return Ok(Step::Wrong(STANDS_OUTSIDE));
+            return Ok(ScanStep::Wrong(ATOM_OUTSIDE));
         }
         match byte {
             b'|' => {
                 self.mode = Mode::Quoted;
-                Ok(Step::Going)
+                Ok(ScanStep::Going)
             }
             b'"' => {
                 self.mode = Mode::Text;
-                Ok(Step::Going)
+                Ok(ScanStep::Going)
             }
             _ => self.begin_word(byte),
         }
     }
 
     /// Reads the first byte of a word, a keyword or a literal.
-    fn begin_word(&mut self, byte: u8) -> Result<Step, ReadError>
+    fn begin_word(&mut self, byte: u8) -> Result<ScanStep, ReadError>
         requires mode { self.old.mode ≡ Mode.Between }
         requires first { begins_word byte ≡ true }
         requires within { 0 < self.old.lists.depth }
@@ -354,6 +357,6 @@ impl Scanner {
     {
         self.word.push(byte)?;
         self.mode = Mode::Word;
-        Ok(Step::Going)
+        Ok(ScanStep::Going)
     }
 }

@@ -7,9 +7,9 @@ use crate::bytes::Bytes;
 /// An expression as it was read (SMT-LIB 2.7, sections 3.1 and 3.2).
 #[derive(Debug, Drop)]
 pub enum Sexpr {
-    /// A symbol that is written plain.
+    /// A simple symbol.
     Symbol(Bytes),
-    /// A symbol that is written between bars, without them.
+    /// A quoted symbol, without the `|` around it.
     Quoted(Bytes),
     /// A keyword, with its colon.
     Keyword(Bytes),
@@ -28,7 +28,7 @@ pub enum Sexpr {
 }
 
 impl Sexpr {
-    /// The bytes of a symbol that is written plain.
+    /// The bytes of a simple symbol.
     pub fn as_symbol(&self) -> Option<&[u8]>
         ensures found { IfSome result (λ bytes. expression_of self.now ≡ word bytes.now) }
         ensures none { IfNone result ((bytes : List ℕ) → expression_of self.now ≢ word bytes) }

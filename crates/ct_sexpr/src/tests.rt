@@ -1,7 +1,7 @@
 ghost use Rattle.std.specs.Prelude.{◌≡◌};
 
 use crate::{
-    Bytes, Next, ReadError, Reader, Sexpr, error_places, is_plain, is_reserved, one_reading,
+    Bytes, Next, ReadError, Reader, Sexpr, error_positions, is_reserved, is_simple, one_reading,
     one_text, sexpr_text, written_texts,
 };
 use std::test::Fail;
@@ -168,7 +168,7 @@ pub(crate) fn write_bytewise(rt: &HostRuntime, text: &[u8]) -> Result<String, Fa
     Ok(out)
 }
 
-/// Puts the byte so many times behind what is there.
+/// Puts the byte so many times after what is there.
 fn push_times(byte: u8, count: u32, out: &mut Vec<u8>) -> Result<(), Fail> {
     for _ in 0..count {
         out.push(byte)?;
@@ -287,7 +287,7 @@ fn an_error_stands_once_its_word_has_ended(rt: HostRuntime) -> Result<(), Fail> 
 }
 
 #[test]
-fn an_error_stays_whatever_comes_behind(rt: HostRuntime) -> Result<(), Fail> {
+fn an_error_stays_whatever_comes_after(rt: HostRuntime) -> Result<(), Fail> {
     let mut out = String::new(rt.alloc());
     let mut reader = Reader::new(rt.alloc())?;
     reader.feed(b"(\n1a ")?;
@@ -336,7 +336,7 @@ fn one_command_comes_in_any_pieces(rt: HostRuntime) -> Result<(), Fail> {
 }
 
 #[test]
-fn expressions_are_written_with_few_bars_and_blanks(rt: HostRuntime) -> Result<(), Fail> {
+fn expressions_are_written_with_few_quotes_and_blanks(rt: HostRuntime) -> Result<(), Fail> {
     let cases: [(&[u8], &str); 6] = [
         (b"(  ( ) ; c\n (a  b))", "(() (a b))"),
         (
@@ -358,7 +358,7 @@ fn expressions_are_written_with_few_bars_and_blanks(rt: HostRuntime) -> Result<(
 }
 
 #[test]
-fn names_are_plain_or_need_bars(rt: HostRuntime) {
+fn names_are_plain_or_need_quotes(rt: HostRuntime) {
     let reserved: [&[u8]; 14] = [
         b"!",
         b"_",
@@ -377,25 +377,25 @@ fn names_are_plain_or_need_bars(rt: HostRuntime) {
     ];
     for name in reserved {
         assert!(rt; is_reserved(name));
-        assert!(rt; !is_plain(name));
+        assert!(rt; !is_simple(name));
     }
-    let plain: [&[u8]; 6] = [b"a", b"check-sat", b".5", b"-", b"@x", b"Let"];
-    for name in plain {
+    let canonical: [&[u8]; 6] = [b"a", b"check-sat", b".5", b"-", b"@x", b"Let"];
+    for name in canonical {
         assert!(rt; !is_reserved(name));
-        assert!(rt; is_plain(name));
+        assert!(rt; is_simple(name));
     }
     let barred: [&[u8]; 7] = [b"", b"1a", b"a b", b"a|b", b":k", b"#b1", b"\xc8"];
     for name in barred {
         assert!(rt; !is_reserved(name));
-        assert!(rt; !is_plain(name));
+        assert!(rt; !is_simple(name));
     }
 }
 
 #[test]
-fn laws_do_nothing() {
+fn theorems_do_nothing() {
     one_reading();
     one_text();
-    error_places();
+    error_positions();
     written_texts();
 }
 
@@ -408,7 +408,7 @@ fn bytes_keep_their_vector(rt: HostRuntime) -> Result<(), Fail> {
 }
 
 #[test]
-fn symbols_and_lists_are_told_apart(rt: HostRuntime) -> Result<(), Fail> {
+fn symbols_and_lists_are_reported_apart(rt: HostRuntime) -> Result<(), Fail> {
     let symbol = Sexpr::Symbol(Bytes::new(b"p".to_vec(rt.alloc())?));
     assert!(rt; matches!(symbol.as_symbol(), Some(b"p")));
     assert!(rt; symbol.as_list().is_none());

@@ -1,11 +1,11 @@
-//! Small texts of every kind, each with the answers that somebody worked out who had not seen the code.
+//! Small texts of every kind, each with its answers, worked out by hand.
 use crate::tests::answers;
 use std::test::Fail;
 
 #[test]
-fn layout_lists_symbols_and_keywords_are_read(rt: HostRuntime) -> Result<(), Fail> {
+fn whitespace_lists_symbols_and_keywords_are_read(rt: HostRuntime) -> Result<(), Fail> {
     let cases: [(&[u8], &str); 66] = [
-        // blanks and comments alone
+        // whitespace and comments alone
         (b"", ".."),
         (b" \t\r\n", ".."),
         (b";", ".."),
@@ -49,7 +49,7 @@ fn layout_lists_symbols_and_keywords_are_read(rt: HostRuntime) -> Result<(), Fai
             "1(aZ09 - -1 +1 .5 ... /0 .5.2 @x)..",
         ),
         (b"(let ! _ as BINARY par)", "1(let ! _ as BINARY par).."),
-        // quoted symbols: any bytes but a bar and a backslash
+        // quoted symbols: any bytes but a `|` and a backslash
         (b"(|b c|)", "1(<quoted b c>).."),
         (b"(a)\n(|b c|)", "1(a)2(<quoted b c>).."),
         (
@@ -79,7 +79,7 @@ fn layout_lists_symbols_and_keywords_are_read(rt: HostRuntime) -> Result<(), Fai
         ),
         (b"(:a:b)", "1(<keyword :a> <keyword :b>).."),
         (b"(:k;c\n)", "1(<keyword :k>).."),
-        // an error: a colon without a name behind it
+        // an error: a colon without a name after it
         (b"(:)", "!1@1!1@1"),
         (b"(: a)", "!1@1!1@1"),
         (b"(a\n:\nb)", "!1@2!1@2"),
@@ -215,7 +215,7 @@ fn strings_and_literals_are_read(rt: HostRuntime) -> Result<(), Fail> {
             b"(#xAb #x0 #x9fF #xb0)",
             "1(<hex #xAb> <hex #x0> <hex #x9fF> <hex #xb0>)..",
         ),
-        // an error: a number sign without a whole literal behind it
+        // an error: a number sign without a whole literal after it
         (b"(#)", "!1@1!1@1"),
         (b"(# b0)", "!1@1!1@1"),
         (b"(#b)", "!1@1!1@1"),
@@ -407,7 +407,7 @@ fn the_input_ends_inside_parentheses(rt: HostRuntime) -> Result<(), Fail> {
 #[test]
 fn the_first_error_is_the_answer(rt: HostRuntime) -> Result<(), Fail> {
     let cases: [(&[u8], &str); 12] = [
-        // no command is given behind an error
+        // no command is given after an error
         (b"(a [\n1x\n)", "!1@1!1@1"),
         (b"(a))\np", "1(a)!2@1!2@1"),
         (b"p)", "!5@1!5@1"),

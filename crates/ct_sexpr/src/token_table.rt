@@ -1,5 +1,5 @@
-//! One table of small texts with every form of token and every error, each with the answers that somebody worked out by
-//! hand who had not written the reader.
+//! One table of small texts with every form of token and every error, each with its answers, worked
+//! out by hand.
 use crate::tests::{answers, nested, write_bytewise, write_first};
 use std::test::Fail;
 

@@ -3,30 +3,31 @@ ghost use Rattle.std.specs.Prelude.{◌≡◌, ℕ, List, [], ◌∷◌, ◌++�
 ghost use Rattle.ct_sexpr.specs.Expression.{list};
 ghost use Rattle.ct_sexpr.specs.Reading.{BeginsCommand};
 ghost use Rattle.ct_sexpr.specs.View.{expression_of, expressions_of};
-ghost use Rattle.ct_sexpr.specs.Written.{written, written_name, written_text, written_items, doubled, plain};
+ghost use Rattle.ct_sexpr.specs.Written.{written, written_name, written_text, written_items, doubled, canonical};
 
 use crate::bytes::Bytes;
 use crate::error::ReadError;
-use crate::reserved::is_plain;
+use crate::reserved::is_simple;
 use crate::sexpr::Sexpr;
 use std::alloc::Global;
 
-/// The expression as it is written (SMT-LIB 2.7, sections 3.1 and 3.2): single blanks between the items of a list, names with
-/// bars where they need them, numerals in decimal without leading zeros, and strings with each quotation mark twice.
-/// What is written of a command that was read is read as the same expression, with a quoted name that needs no bars as
-/// a plain one; `written_texts` says more of what is written. The only error is `NoMemory`.
+/// The expression as it is written (SMT-LIB 2.7, sections 3.1 and 3.2): single spaces between the
+/// items of a list, names quoted where they need to be, numerals in decimal without leading zeros,
+/// and strings with each quotation mark twice. What is written of a command that was read is read
+/// as the same expression, with a quoted name that need not be quoted as a simple one;
+/// `written_texts` says more of what is written. The only error is `NoMemory`.
 pub fn sexpr_text(alloc: Global, expr: &Sexpr) -> Result<Bytes, ReadError>
     ensures text { IfOk result (λ text. text ≡ written (expression_of expr.now)) }
     ensures err { IfErr result (λ e. e ≡ ReadError.NoMemory) }
     ensures reads_back { (bytes rest : List ℕ) → BeginsCommand bytes (expression_of expr.now) rest
-        → IfOk result (λ text. BeginsCommand text (plain (expression_of expr.now)) []) }
+        → IfOk result (λ text. BeginsCommand text (canonical (expression_of expr.now)) []) }
 {
     let mut out = Vec::new(alloc);
     write(alloc, expr, &mut out)?;
     Ok(Bytes::new(out))
 }
 
-/// Writes the expression behind what is there.
+/// Writes the expression after what is there.
 #[cycle(write)]
 #[tactic(auto, using(crate::proofs::Rows::expression_of_list))]
 fn write(alloc: Global, expr: &Sexpr, out: &mut Vec<u8>) -> Result<(), ReadError>
@@ -48,12 +49,12 @@ fn write(alloc: Global, expr: &Sexpr, out: &mut Vec<u8>) -> Result<(), ReadError
     }
 }
 
-/// Writes the name, between bars where it needs them.
+/// Writes the name, quoted where it needs to be.
 fn write_name(name: &[u8], out: &mut Vec<u8>) -> Result<(), ReadError>
     ensures ok { OnOk result (out.new.items ≡ out.old.items ++ written_name name.now) }
     ensures err { IfErr result (λ e. e ≡ ReadError.NoMemory) }
 {
-    if is_plain(name) {
+    if is_simple(name) {
         return Ok(out.extend_from_slice(name)?);
     }
     out.push(b'|')?;
@@ -85,7 +86,7 @@ fn write_in_text(byte: u8, out: &mut Vec<u8>) -> Result<(), ReadError>
     Ok(out.push(byte)?)
 }
 
-/// Writes the items between parentheses, with one blank between two.
+/// Writes the items between parentheses, with one space between two.
 #[cycle(write)]
 fn write_list(alloc: Global, items: &[Sexpr], out: &mut Vec<u8>) -> Result<(), ReadError>
     ensures ok { OnOk result (out.new.items ≡ out.old.items ++ written (list (expressions_of items.now))) }
@@ -96,7 +97,7 @@ fn write_list(alloc: Global, items: &[Sexpr], out: &mut Vec<u8>) -> Result<(), R
     Ok(out.push(b')')?)
 }
 
-/// Writes the items, with one blank between two.
+/// Writes the items, with one space between two.
 #[cycle(write)]
 fn write_items(alloc: Global, items: &[Sexpr], out: &mut Vec<u8>) -> Result<(), ReadError>
     ensures ok { OnOk result (out.new.items ≡ out.old.items ++ written_items (expressions_of items.now)) }

@@ -3,7 +3,7 @@ use Rattle.std.proofs.Common.{◌≡◌, ℕ, ◌+◌, ◌<◌, ◌≤◌, ◌�
 use Rattle.std.proofs.lemmas.List.{append_assoc, append-nil, take_more, take_all, take-append-drop, drop_more}
 use Rattle.std.proofs.lemmas.List.Concat.{flat_map-append}
 use Rattle.std.specs.List.{flat_map}
-use Rattle.ct_sorts.specs.Names.{IsListed, IsUnavailable, IsUnavailableSort, HasRefused}
+use Rattle.ct_sorts.specs.Availability.{IsListed, IsUnavailable, IsUnavailableSort, HasRefused}
 use Rattle.ct_sorts.proofs.LookupLemmas.{IsListed-left, IsListed-either}
 
 -- the first n + 1 pieces are the first n and one more
@@ -53,7 +53,7 @@ module _ (R : List (List ℕ) → List ℕ → Type 0) where
     pub noted-more : (then' : List (List ℕ)) → then' ≡ now ++ f x → then' ≡ before ++ flat_map f (take (i + 1) xs)
     noted-more then' e = e ∙ ap (λ ys. ys ++ f x) noted ∙ append_assoc before (flat_map f (take i xs)) (f x) ∙ ap (λ ys. before ++ ys) (sym (flat_map-take_more f xs i x within is))
 
--- the names of the first i items were admitted, and noted behind those that were noted before
+-- the names of the first i items were admitted, and noted after those that were noted before
 pub record IsAdmitted {X : Type 0} (R : List (List ℕ) → List ℕ → Type 0) (f : X → List (List ℕ)) (declared before now : List (List ℕ)) (xs : List X) (i : ℕ) : Type 0 where
   pub none_refused : HasRefused R (declared ++ before) (flat_map f (take i xs)) → ⊥
   pub noted : now ≡ before ++ flat_map f (take i xs)
@@ -72,7 +72,7 @@ module _ {X : Type 0} (R : List (List ℕ) → List ℕ → Type 0) (f : X → L
   pub IsAdmitted-all : (now : List (List ℕ)) (i : ℕ) → length xs ≤ i → IsAdmitted R f declared before now xs i → (HasRefused R (declared ++ before) (flat_map f xs) → ⊥) × (now ≡ before ++ flat_map f xs)
   IsAdmitted-all now i past a = (λ h. a.none_refused (subst (λ ys. HasRefused R (declared ++ before) (flat_map f ys)) (sym (take_all i xs past)) h), a.noted ∙ ap (λ ys. before ++ flat_map f ys) (take_all i xs past))
 
--- a name is unavailable behind more names where it was so before, or is one of them
+-- a name is unavailable after more names where it was so before, or is one of them
 pub IsUnavailable-either : (xs ys : List (List ℕ)) (name : List ℕ) → IsUnavailable (xs ++ ys) name → IsUnavailable xs name ⊎ IsListed ys name
 IsUnavailable-either xs ys name (inl h) = ⊎_elim (λ l. inl (inl l)) (λ r. inr r) (IsListed-either xs ys name h)
 IsUnavailable-either xs ys name (inr h) = inl (inr h)

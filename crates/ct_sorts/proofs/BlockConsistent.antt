@@ -11,7 +11,7 @@ use Rattle.ct_sorts.specs.declared.ids.Kind.TheVariants.{Data, Codata}
 use Rattle.ct_sorts.specs.declared.block.Field.{Field}
 use Rattle.ct_sorts.specs.declared.block.CtorDecl.{CtorDecl}
 use Rattle.ct_sorts.specs.declared.block.SortDecl.{SortDecl}
-use Rattle.ct_sorts.specs.Names.{IsListed, IsUnavailable, IsUnavailableSort, HasRefused, HasUnavailable, HasUnavailableSort}
+use Rattle.ct_sorts.specs.Availability.{IsListed, IsUnavailable, IsUnavailableSort, HasRefused, HasUnavailable, HasUnavailableSort}
 use Rattle.ct_sorts.specs.Lookup.{AreDistinct}
 use Rattle.ct_sorts.specs.Declarations.{Declarations, Sort, Constructor, Selector, start, sort_names, symbol_names, ctor_names, sel_names, ctor_ids, sel_ids, function_names, definition_names, most_sorts, most_ctors, most_sels}
 use Rattle.ct_sorts.specs.Founded.{IsFounded}
@@ -21,7 +21,7 @@ use Rattle.ct_sorts.proofs.Counts.{occurrences, occurrences-append, occurrences-
 use Rattle.ct_sorts.proofs.NumberedLemmas.{AreDistinct-push}
 use Rattle.ct_sorts.proofs.ConsistentLemmas.{IsMore, IsConsistent-more, begins}
 use Rattle.ct_sorts.proofs.AdmitLemmas.{IsUnavailable-left}
-use Rattle.ct_sorts.proofs.BlockLemmas.{names-new_sorts, names-new_ctors, names-new_sels, length-new_sorts, length-new_ctors, length-new_sels, ctors-new_sorts, owners-new_ctors, sels-new_ctors, owners-new_sels, places-new_sels, kinds-new_sorts, sorts-new_sels, sort_of_field-within}
+use Rattle.ct_sorts.proofs.BlockLemmas.{names-new_sorts, names-new_ctors, names-new_sels, length-new_sorts, length-new_ctors, length-new_sels, ctors-new_sorts, owners-new_ctors, sels-new_ctors, owners-new_sels, indices-new_sels, kinds-new_sorts, sorts-new_sels, sort_of_field-within}
 
 -- names that are not refused in turn differ from those that are there and from each other
 module _ (R : List (List ℕ) → List ℕ → Type 0) (listed : (declared : List (List ℕ)) (name : List ℕ) → IsListed declared name → R declared name) where
@@ -31,10 +31,10 @@ module _ (R : List (List ℕ) → List ℕ → Type 0) (listed : (declared : Lis
       subst AreDistinct (append_assoc declared (n ∷ []) ns) (distinct_after (declared ++ n ∷ []) ns (AreDistinct-push declared n distinct (λ h. none (inl (listed declared n h)))) (λ h. none (inr h)))
 
 -- nor is any of them refused for itself
-pub fit_after : (R : List (List ℕ) → List ℕ → Type 0) (declared names : List (List ℕ)) → (HasRefused R declared names → ⊥) → (place : ℕ) (name : List ℕ) → slice_get names place ≡ Some name → (d : List (List ℕ)) × (R d name → ⊥)
-fit_after R declared [] none place name at = absurd (none-some _ at)
+pub fit_after : (R : List (List ℕ) → List ℕ → Type 0) (declared names : List (List ℕ)) → (HasRefused R declared names → ⊥) → (index : ℕ) (name : List ℕ) → slice_get names index ≡ Some name → (d : List (List ℕ)) × (R d name → ⊥)
+fit_after R declared [] none index name at = absurd (none-some _ at)
 fit_after R declared (n ∷ ns) none zero name at = (declared, λ h. none (inl (subst (R declared) (sym (same_Some _ _ at)) h)))
-fit_after R declared (n ∷ ns) none (suc place) name at = fit_after R (declared ++ n ∷ []) ns (λ h. none (inr h)) place name at
+fit_after R declared (n ∷ ns) none (suc index) name at = fit_after R (declared ++ n ∷ []) ns (λ h. none (inr h)) index name at
 
 -- the names of constructors and fields, one after another, are those of the constructors and those of the fields
 pub occurrences-ctor_symbols : (name : List ℕ) (ctors : List CtorDecl) → occurrences name (ctor_symbols ctors) ≡ occurrences name (map (λ (c : CtorDecl). c.name) ctors) + occurrences name (map (λ (f : Field). f.name) (all_fields ctors))
@@ -131,14 +131,14 @@ IsConsistent-with_block d kind block c is_data fresh built room founded = IsCons
           sorts_distinct = subst AreDistinct (sym (map-append (λ (t : Sort). t.name) d.sorts sorts ∙ ap (λ ns. sort_names d ++ ns) (names-new_sorts kind (length d.ctors) block))) (distinct_after IsUnavailableSort (λ _ _ h. inl h) (sort_names d) (block_names block) c.sorts_distinct no_sort);
           distinct = AreDistinct-once (symbol_names (with_block d kind block)) once;
           fit = λ s name at h. let p = fit_after IsUnavailableSort (sort_names d) (block_names block) no_sort s name (subst (λ ns. slice_get ns s ≡ Some name) (names-new_sorts kind (length d.ctors) block) at) in p.1 (inr h);
-          ctors_available = λ place name at. free name (omega (arith, occurrences-ctor_symbols name (block_ctors block), occurrences-listed (map (λ (t : CtorDecl). t.name) (block_ctors block)) name place (subst (λ ns. slice_get ns place ≡ Some name) new_ctor_names at)));
-          sels_available = λ place name at. free name (omega (arith, occurrences-ctor_symbols name (block_ctors block), occurrences-listed (map (λ (f : Field). f.name) (all_fields (block_ctors block))) name place (subst (λ ns. slice_get ns place ≡ Some name) new_sel_names at)));
+          ctors_available = λ index name at. free name (omega (arith, occurrences-ctor_symbols name (block_ctors block), occurrences-listed (map (λ (t : CtorDecl). t.name) (block_ctors block)) name index (subst (λ ns. slice_get ns index ≡ Some name) new_ctor_names at)));
+          sels_available = λ index name at. free name (omega (arith, occurrences-ctor_symbols name (block_ctors block), occurrences-listed (map (λ (f : Field). f.name) (all_fields (block_ctors block))) name index (subst (λ ns. slice_get ns index ≡ Some name) new_sel_names at)));
           all_ctors = ctors-new_sorts kind (length d.ctors) block ∙ ap (ctor_ids (length d.ctors)) (sym (length-new_ctors (length d.sorts) (length d.sels) block));
           ctor_sorts = owners-new_ctors kind (length d.sorts) (length d.sels) (length d.ctors) block;
           kinds = kinds;
           all_sels = sels-new_ctors (length d.sorts) (length d.sels) block ∙ ap (sel_ids (length d.sels)) (sym (length-new_sels find (length d.ctors) (block_ctors block)));
           sel_ctors = owners-new_sels find (length d.ctors) (length d.sorts) (length d.sels) block;
-          sel_places = places-new_sels find (length d.ctors) (length d.sorts) (length d.sels) block;
+          sel_places = indices-new_sels find (length d.ctors) (length d.sorts) (length d.sels) block;
           fields = λ s sel at.
               let p = sorts-new_sels find (length d.ctors) (block_ctors block) s sel at in
               let some : 0 < length (sort_names d) = omega (arith, begins 1 d.sorts start.sorts c.first_sort refl, length-map d.sorts (λ (t : Sort). t.name)) in

@@ -13,19 +13,19 @@ use Rattle.ct_sorts.specs.declared.block.Field.{Field}
 use Rattle.ct_sorts.specs.declared.block.CtorDecl.{CtorDecl}
 use Rattle.ct_sorts.specs.declared.block.SortDecl.{SortDecl}
 use Rattle.ct_sorts.specs.Declarations.{Sort, Constructor, Selector, ctor_ids, sel_ids}
-use Rattle.ct_sorts.specs.Consistent.{owners, places}
+use Rattle.ct_sorts.specs.Consistent.{owners, indices}
 use Rattle.ct_sorts.proofs.Lists.{range-append, owners-append, slice_get_either}
-use Rattle.ct_sorts.proofs.NumberedLemmas.{place_of-cases}
-use Rattle.ct_sorts.specs.Names.{IsListed}
-use Rattle.ct_sorts.specs.Lookup.{place_of}
+use Rattle.ct_sorts.proofs.NumberedLemmas.{index_of-cases}
+use Rattle.ct_sorts.specs.Availability.{IsListed}
+use Rattle.ct_sorts.specs.Lookup.{index_of}
 use Rattle.ct_sorts.specs.Block.{block_ctors, all_fields, block_names, new_sorts, new_ctors, new_sels, ctors_of_sort, sels_of_ctor, sort_of_field}
 
 -- the selectors of two rows of constructors
-pub new_sels-append : (sort_of : List ℕ → SortId) (k : ℕ) (xs ys : List CtorDecl) → new_sels sort_of k (xs ++ ys) ≡ new_sels sort_of k xs ++ new_sels sort_of (k + length xs) ys
-new_sels-append sort_of k [] ys = let e : k + 0 ≡ k = omega arith in rw e refl
-new_sels-append sort_of k (x ∷ xs) ys =
+pub new_sels-append : (sort_of_entry : List ℕ → SortId) (k : ℕ) (xs ys : List CtorDecl) → new_sels sort_of_entry k (xs ++ ys) ≡ new_sels sort_of_entry k xs ++ new_sels sort_of_entry (k + length xs) ys
+new_sels-append sort_of_entry k [] ys = let e : k + 0 ≡ k = omega arith in rw e refl
+new_sels-append sort_of_entry k (x ∷ xs) ys =
     let e : k + suc (length xs) ≡ k + 1 + length xs = omega arith in
-    rw (e, new_sels-append sort_of (k + 1) xs ys) (sym (append_assoc (sels_of_ctor sort_of k 0 x.fields) (new_sels sort_of (k + 1) xs) (new_sels sort_of (k + 1 + length xs) ys)))
+    rw (e, new_sels-append sort_of_entry (k + 1) xs ys) (sym (append_assoc (sels_of_ctor sort_of_entry k 0 x.fields) (new_sels sort_of_entry (k + 1) xs) (new_sels sort_of_entry (k + 1 + length xs) ys)))
 
 -- the names that a block adds
 pub names-new_sorts : (kind : Kind) (k : ℕ) (block : List SortDecl) → map (λ (s : Sort). s.name) (new_sorts kind k block) ≡ block_names block
@@ -44,16 +44,16 @@ names-new_ctors s k (d ∷ block) =
     ∙ ap (λ ns. map (λ (c : CtorDecl). c.name) d.ctors ++ ns) (names-new_ctors (s + 1) (k + length (all_fields d.ctors)) block)
     ∙ sym (map-append (λ (c : CtorDecl). c.name) d.ctors (block_ctors block))
 
-pub names-sels_of_ctor : (sort_of : List ℕ → SortId) (c p : ℕ) (fields : List Field) → map (λ (s : Selector). s.name) (sels_of_ctor sort_of c p fields) ≡ map (λ (f : Field). f.name) fields
-names-sels_of_ctor sort_of c p [] = refl
-names-sels_of_ctor sort_of c p (f ∷ fields) = ap (λ ns. f.name ∷ ns) (names-sels_of_ctor sort_of c (p + 1) fields)
+pub names-sels_of_ctor : (sort_of_entry : List ℕ → SortId) (c p : ℕ) (fields : List Field) → map (λ (s : Selector). s.name) (sels_of_ctor sort_of_entry c p fields) ≡ map (λ (f : Field). f.name) fields
+names-sels_of_ctor sort_of_entry c p [] = refl
+names-sels_of_ctor sort_of_entry c p (f ∷ fields) = ap (λ ns. f.name ∷ ns) (names-sels_of_ctor sort_of_entry c (p + 1) fields)
 
-pub names-new_sels : (sort_of : List ℕ → SortId) (c : ℕ) (ctors : List CtorDecl) → map (λ (s : Selector). s.name) (new_sels sort_of c ctors) ≡ map (λ (f : Field). f.name) (all_fields ctors)
-names-new_sels sort_of c [] = refl
-names-new_sels sort_of c (t ∷ ctors) =
-    map-append (λ (s : Selector). s.name) (sels_of_ctor sort_of c 0 t.fields) (new_sels sort_of (c + 1) ctors)
-    ∙ ap (λ ns. ns ++ map (λ (s : Selector). s.name) (new_sels sort_of (c + 1) ctors)) (names-sels_of_ctor sort_of c 0 t.fields)
-    ∙ ap (λ ns. map (λ (f : Field). f.name) t.fields ++ ns) (names-new_sels sort_of (c + 1) ctors)
+pub names-new_sels : (sort_of_entry : List ℕ → SortId) (c : ℕ) (ctors : List CtorDecl) → map (λ (s : Selector). s.name) (new_sels sort_of_entry c ctors) ≡ map (λ (f : Field). f.name) (all_fields ctors)
+names-new_sels sort_of_entry c [] = refl
+names-new_sels sort_of_entry c (t ∷ ctors) =
+    map-append (λ (s : Selector). s.name) (sels_of_ctor sort_of_entry c 0 t.fields) (new_sels sort_of_entry (c + 1) ctors)
+    ∙ ap (λ ns. ns ++ map (λ (s : Selector). s.name) (new_sels sort_of_entry (c + 1) ctors)) (names-sels_of_ctor sort_of_entry c 0 t.fields)
+    ∙ ap (λ ns. map (λ (f : Field). f.name) t.fields ++ ns) (names-new_sels sort_of_entry (c + 1) ctors)
     ∙ sym (map-append (λ (f : Field). f.name) t.fields (all_fields ctors))
 
 -- how many a block adds
@@ -70,14 +70,14 @@ length-new_ctors s k [] = refl
 length-new_ctors s k (d ∷ block) =
     omega (arith, length-append (ctors_of_sort s k d.ctors) (new_ctors (s + 1) (k + length (all_fields d.ctors)) block), length-ctors_of_sort s k d.ctors, length-new_ctors (s + 1) (k + length (all_fields d.ctors)) block, length-append d.ctors (block_ctors block))
 
-pub length-sels_of_ctor : (sort_of : List ℕ → SortId) (c p : ℕ) (fields : List Field) → length (sels_of_ctor sort_of c p fields) ≡ length fields
-length-sels_of_ctor sort_of c p [] = refl
-length-sels_of_ctor sort_of c p (f ∷ fields) = ap suc (length-sels_of_ctor sort_of c (p + 1) fields)
+pub length-sels_of_ctor : (sort_of_entry : List ℕ → SortId) (c p : ℕ) (fields : List Field) → length (sels_of_ctor sort_of_entry c p fields) ≡ length fields
+length-sels_of_ctor sort_of_entry c p [] = refl
+length-sels_of_ctor sort_of_entry c p (f ∷ fields) = ap suc (length-sels_of_ctor sort_of_entry c (p + 1) fields)
 
-pub length-new_sels : (sort_of : List ℕ → SortId) (c : ℕ) (ctors : List CtorDecl) → length (new_sels sort_of c ctors) ≡ length (all_fields ctors)
-length-new_sels sort_of c [] = refl
-length-new_sels sort_of c (t ∷ ctors) =
-    omega (arith, length-append (sels_of_ctor sort_of c 0 t.fields) (new_sels sort_of (c + 1) ctors), length-sels_of_ctor sort_of c 0 t.fields, length-new_sels sort_of (c + 1) ctors, length-append t.fields (all_fields ctors))
+pub length-new_sels : (sort_of_entry : List ℕ → SortId) (c : ℕ) (ctors : List CtorDecl) → length (new_sels sort_of_entry c ctors) ≡ length (all_fields ctors)
+length-new_sels sort_of_entry c [] = refl
+length-new_sels sort_of_entry c (t ∷ ctors) =
+    omega (arith, length-append (sels_of_ctor sort_of_entry c 0 t.fields) (new_sels sort_of_entry (c + 1) ctors), length-sels_of_ctor sort_of_entry c 0 t.fields, length-new_sels sort_of_entry (c + 1) ctors, length-append t.fields (all_fields ctors))
 
 -- the constructors of the new sorts are the next in a row
 pub ctors-new_sorts : (kind : Kind) (k : ℕ) (block : List SortDecl) → flat_map (λ (s : Sort). s.ctors) (new_sorts kind k block) ≡ ctor_ids k (length (block_ctors block))
@@ -119,52 +119,52 @@ sels-new_ctors s k (d ∷ block) =
     ∙ ap (sel_ids k) (sym (length-append (all_fields d.ctors) (all_fields (block_ctors block))) ∙ ap length (sym (flat_map-append (λ (c : CtorDecl). c.fields) d.ctors (block_ctors block))))
 
 -- each new selector is of its constructor and its place
-pub owners-sels_of_ctor : (sort_of : List ℕ → SortId) (c p : ℕ) (fields : List Field) → map (λ (s : Selector). s.ctor.0) (sels_of_ctor sort_of c p fields) ≡ replicate (length fields) c
-owners-sels_of_ctor sort_of c p [] = refl
-owners-sels_of_ctor sort_of c p (f ∷ fields) = ap (λ ns. c ∷ ns) (owners-sels_of_ctor sort_of c (p + 1) fields)
+pub owners-sels_of_ctor : (sort_of_entry : List ℕ → SortId) (c p : ℕ) (fields : List Field) → map (λ (s : Selector). s.ctor.0) (sels_of_ctor sort_of_entry c p fields) ≡ replicate (length fields) c
+owners-sels_of_ctor sort_of_entry c p [] = refl
+owners-sels_of_ctor sort_of_entry c p (f ∷ fields) = ap (λ ns. c ∷ ns) (owners-sels_of_ctor sort_of_entry c (p + 1) fields)
 
-pub places-sels_of_ctor : (sort_of : List ℕ → SortId) (c p : ℕ) (fields : List Field) → map (λ (s : Selector). s.place) (sels_of_ctor sort_of c p fields) ≡ range_with_len p (length fields)
-places-sels_of_ctor sort_of c p [] = refl
-places-sels_of_ctor sort_of c p (f ∷ fields) = ap (λ ns. p ∷ ns) (places-sels_of_ctor sort_of c (p + 1) fields)
+pub indices-sels_of_ctor : (sort_of_entry : List ℕ → SortId) (c p : ℕ) (fields : List Field) → map (λ (s : Selector). s.place) (sels_of_ctor sort_of_entry c p fields) ≡ range_with_len p (length fields)
+indices-sels_of_ctor sort_of_entry c p [] = refl
+indices-sels_of_ctor sort_of_entry c p (f ∷ fields) = ap (λ ns. p ∷ ns) (indices-sels_of_ctor sort_of_entry c (p + 1) fields)
 
-pub owners-new_sels-sort : (sort_of : List ℕ → SortId) (c s k : ℕ) (ctors : List CtorDecl) → map (λ (t : Selector). t.ctor.0) (new_sels sort_of c ctors) ≡ owners c (map (λ (t : Constructor). t.sels) (ctors_of_sort s k ctors))
-owners-new_sels-sort sort_of c s k [] = refl
-owners-new_sels-sort sort_of c s k (t ∷ ctors) =
-    map-append (λ (u : Selector). u.ctor.0) (sels_of_ctor sort_of c 0 t.fields) (new_sels sort_of (c + 1) ctors)
-    ∙ ap (λ ns. ns ++ map (λ (u : Selector). u.ctor.0) (new_sels sort_of (c + 1) ctors)) (owners-sels_of_ctor sort_of c 0 t.fields ∙ ap (λ n. replicate n c) (sym (length-map-range_with_len (λ n. record { 0 = n }) k (length t.fields))))
-    ∙ ap (λ ns. replicate (length (sel_ids k (length t.fields))) c ++ ns) (owners-new_sels-sort sort_of (c + 1) s (k + length t.fields) ctors)
+pub owners-new_sels-sort : (sort_of_entry : List ℕ → SortId) (c s k : ℕ) (ctors : List CtorDecl) → map (λ (t : Selector). t.ctor.0) (new_sels sort_of_entry c ctors) ≡ owners c (map (λ (t : Constructor). t.sels) (ctors_of_sort s k ctors))
+owners-new_sels-sort sort_of_entry c s k [] = refl
+owners-new_sels-sort sort_of_entry c s k (t ∷ ctors) =
+    map-append (λ (u : Selector). u.ctor.0) (sels_of_ctor sort_of_entry c 0 t.fields) (new_sels sort_of_entry (c + 1) ctors)
+    ∙ ap (λ ns. ns ++ map (λ (u : Selector). u.ctor.0) (new_sels sort_of_entry (c + 1) ctors)) (owners-sels_of_ctor sort_of_entry c 0 t.fields ∙ ap (λ n. replicate n c) (sym (length-map-range_with_len (λ n. record { 0 = n }) k (length t.fields))))
+    ∙ ap (λ ns. replicate (length (sel_ids k (length t.fields))) c ++ ns) (owners-new_sels-sort sort_of_entry (c + 1) s (k + length t.fields) ctors)
 
-pub owners-new_sels : (sort_of : List ℕ → SortId) (c s k : ℕ) (block : List SortDecl) → map (λ (t : Selector). t.ctor.0) (new_sels sort_of c (block_ctors block)) ≡ owners c (map (λ (t : Constructor). t.sels) (new_ctors s k block))
-owners-new_sels sort_of c s k [] = refl
-owners-new_sels sort_of c s k (d ∷ block) =
+pub owners-new_sels : (sort_of_entry : List ℕ → SortId) (c s k : ℕ) (block : List SortDecl) → map (λ (t : Selector). t.ctor.0) (new_sels sort_of_entry c (block_ctors block)) ≡ owners c (map (λ (t : Constructor). t.sels) (new_ctors s k block))
+owners-new_sels sort_of_entry c s k [] = refl
+owners-new_sels sort_of_entry c s k (d ∷ block) =
     let n = length (all_fields d.ctors) in
     let groups = map (λ (t : Constructor). t.sels) (ctors_of_sort s k d.ctors) in
     let count : length d.ctors ≡ length groups = sym (length-map (ctors_of_sort s k d.ctors) (λ (t : Constructor). t.sels) ∙ length-ctors_of_sort s k d.ctors) in
-    ap (map (λ (t : Selector). t.ctor.0)) (new_sels-append sort_of c d.ctors (block_ctors block))
-    ∙ map-append (λ (t : Selector). t.ctor.0) (new_sels sort_of c d.ctors) (new_sels sort_of (c + length d.ctors) (block_ctors block))
-    ∙ ap (λ ns. ns ++ map (λ (t : Selector). t.ctor.0) (new_sels sort_of (c + length d.ctors) (block_ctors block))) (owners-new_sels-sort sort_of c s k d.ctors)
-    ∙ ap (λ ns. owners c groups ++ ns) (owners-new_sels sort_of (c + length d.ctors) (s + 1) (k + n) block ∙ ap (λ m. owners (c + m) (map (λ (t : Constructor). t.sels) (new_ctors (s + 1) (k + n) block))) count)
+    ap (map (λ (t : Selector). t.ctor.0)) (new_sels-append sort_of_entry c d.ctors (block_ctors block))
+    ∙ map-append (λ (t : Selector). t.ctor.0) (new_sels sort_of_entry c d.ctors) (new_sels sort_of_entry (c + length d.ctors) (block_ctors block))
+    ∙ ap (λ ns. ns ++ map (λ (t : Selector). t.ctor.0) (new_sels sort_of_entry (c + length d.ctors) (block_ctors block))) (owners-new_sels-sort sort_of_entry c s k d.ctors)
+    ∙ ap (λ ns. owners c groups ++ ns) (owners-new_sels sort_of_entry (c + length d.ctors) (s + 1) (k + n) block ∙ ap (λ m. owners (c + m) (map (λ (t : Constructor). t.sels) (new_ctors (s + 1) (k + n) block))) count)
     ∙ sym (owners-append c groups (map (λ (t : Constructor). t.sels) (new_ctors (s + 1) (k + n) block)))
     ∙ ap (owners c) (sym (map-append (λ (t : Constructor). t.sels) (ctors_of_sort s k d.ctors) (new_ctors (s + 1) (k + n) block)))
 
-pub places-new_sels-sort : (sort_of : List ℕ → SortId) (c s k : ℕ) (ctors : List CtorDecl) → map (λ (t : Selector). t.place) (new_sels sort_of c ctors) ≡ places (map (λ (t : Constructor). t.sels) (ctors_of_sort s k ctors))
-places-new_sels-sort sort_of c s k [] = refl
-places-new_sels-sort sort_of c s k (t ∷ ctors) =
-    map-append (λ (u : Selector). u.place) (sels_of_ctor sort_of c 0 t.fields) (new_sels sort_of (c + 1) ctors)
-    ∙ ap (λ ns. ns ++ map (λ (u : Selector). u.place) (new_sels sort_of (c + 1) ctors)) (places-sels_of_ctor sort_of c 0 t.fields ∙ ap (range_with_len 0) (sym (length-map-range_with_len (λ n. record { 0 = n }) k (length t.fields))))
-    ∙ ap (λ ns. range_with_len 0 (length (sel_ids k (length t.fields))) ++ ns) (places-new_sels-sort sort_of (c + 1) s (k + length t.fields) ctors)
+pub indices-new_sels-sort : (sort_of_entry : List ℕ → SortId) (c s k : ℕ) (ctors : List CtorDecl) → map (λ (t : Selector). t.place) (new_sels sort_of_entry c ctors) ≡ indices (map (λ (t : Constructor). t.sels) (ctors_of_sort s k ctors))
+indices-new_sels-sort sort_of_entry c s k [] = refl
+indices-new_sels-sort sort_of_entry c s k (t ∷ ctors) =
+    map-append (λ (u : Selector). u.place) (sels_of_ctor sort_of_entry c 0 t.fields) (new_sels sort_of_entry (c + 1) ctors)
+    ∙ ap (λ ns. ns ++ map (λ (u : Selector). u.place) (new_sels sort_of_entry (c + 1) ctors)) (indices-sels_of_ctor sort_of_entry c 0 t.fields ∙ ap (range_with_len 0) (sym (length-map-range_with_len (λ n. record { 0 = n }) k (length t.fields))))
+    ∙ ap (λ ns. range_with_len 0 (length (sel_ids k (length t.fields))) ++ ns) (indices-new_sels-sort sort_of_entry (c + 1) s (k + length t.fields) ctors)
 
-pub places-new_sels : (sort_of : List ℕ → SortId) (c s k : ℕ) (block : List SortDecl) → map (λ (t : Selector). t.place) (new_sels sort_of c (block_ctors block)) ≡ places (map (λ (t : Constructor). t.sels) (new_ctors s k block))
-places-new_sels sort_of c s k [] = refl
-places-new_sels sort_of c s k (d ∷ block) =
+pub indices-new_sels : (sort_of_entry : List ℕ → SortId) (c s k : ℕ) (block : List SortDecl) → map (λ (t : Selector). t.place) (new_sels sort_of_entry c (block_ctors block)) ≡ indices (map (λ (t : Constructor). t.sels) (new_ctors s k block))
+indices-new_sels sort_of_entry c s k [] = refl
+indices-new_sels sort_of_entry c s k (d ∷ block) =
     let n = length (all_fields d.ctors) in
     let groups = map (λ (t : Constructor). t.sels) (ctors_of_sort s k d.ctors) in
-    ap (map (λ (t : Selector). t.place)) (new_sels-append sort_of c d.ctors (block_ctors block))
-    ∙ map-append (λ (t : Selector). t.place) (new_sels sort_of c d.ctors) (new_sels sort_of (c + length d.ctors) (block_ctors block))
-    ∙ ap (λ ns. ns ++ map (λ (t : Selector). t.place) (new_sels sort_of (c + length d.ctors) (block_ctors block))) (places-new_sels-sort sort_of c s k d.ctors)
-    ∙ ap (λ ns. places groups ++ ns) (places-new_sels sort_of (c + length d.ctors) (s + 1) (k + n) block)
+    ap (map (λ (t : Selector). t.place)) (new_sels-append sort_of_entry c d.ctors (block_ctors block))
+    ∙ map-append (λ (t : Selector). t.place) (new_sels sort_of_entry c d.ctors) (new_sels sort_of_entry (c + length d.ctors) (block_ctors block))
+    ∙ ap (λ ns. ns ++ map (λ (t : Selector). t.place) (new_sels sort_of_entry (c + length d.ctors) (block_ctors block))) (indices-new_sels-sort sort_of_entry c s k d.ctors)
+    ∙ ap (λ ns. indices groups ++ ns) (indices-new_sels sort_of_entry (c + length d.ctors) (s + 1) (k + n) block)
     ∙ sym (flat_map-append (λ (g : List SelId). range_with_len 0 (length g)) groups (map (λ (t : Constructor). t.sels) (new_ctors (s + 1) (k + n) block)))
-    ∙ ap places (sym (map-append (λ (t : Constructor). t.sels) (ctors_of_sort s k d.ctors) (new_ctors (s + 1) (k + n) block)))
+    ∙ ap indices (sym (map-append (λ (t : Constructor). t.sels) (ctors_of_sort s k d.ctors) (new_ctors (s + 1) (k + n) block)))
 
 -- each new sort is of the kind and has as many constructors as are declared
 pub kinds-new_sorts : (kind : Kind) (k : ℕ) (block : List SortDecl) (i : ℕ) (sort : Sort) → slice_get (new_sorts kind k block) i ≡ Some sort → (decl : SortDecl) × (slice_get block i ≡ Some decl) × (sort.kind ≡ kind) × (length sort.ctors ≡ length decl.ctors)
@@ -175,19 +175,19 @@ kinds-new_sorts kind k (s ∷ block) zero sort at =
 kinds-new_sorts kind k (s ∷ block) (suc i) sort at = kinds-new_sorts kind (k + length s.ctors) block i sort at
 
 -- each new selector has the sort of a field
-pub sorts-sels_of_ctor : (sort_of : List ℕ → SortId) (c p : ℕ) (fields : List Field) (i : ℕ) (sel : Selector) → slice_get (sels_of_ctor sort_of c p fields) i ≡ Some sel → (name : List ℕ) × (sel.sort ≡ sort_of name)
-sorts-sels_of_ctor sort_of c p [] i sel at = absurd (none-some _ at)
-sorts-sels_of_ctor sort_of c p (f ∷ fields) zero sel at = (f.sort, ap (λ (t : Selector). t.sort) (sym (same_Some _ _ at)))
-sorts-sels_of_ctor sort_of c p (f ∷ fields) (suc i) sel at = sorts-sels_of_ctor sort_of c (p + 1) fields i sel at
+pub sorts-sels_of_ctor : (sort_of_entry : List ℕ → SortId) (c p : ℕ) (fields : List Field) (i : ℕ) (sel : Selector) → slice_get (sels_of_ctor sort_of_entry c p fields) i ≡ Some sel → (name : List ℕ) × (sel.sort ≡ sort_of_entry name)
+sorts-sels_of_ctor sort_of_entry c p [] i sel at = absurd (none-some _ at)
+sorts-sels_of_ctor sort_of_entry c p (f ∷ fields) zero sel at = (f.sort, ap (λ (t : Selector). t.sort) (sym (same_Some _ _ at)))
+sorts-sels_of_ctor sort_of_entry c p (f ∷ fields) (suc i) sel at = sorts-sels_of_ctor sort_of_entry c (p + 1) fields i sel at
 
-pub sorts-new_sels : (sort_of : List ℕ → SortId) (c : ℕ) (ctors : List CtorDecl) (i : ℕ) (sel : Selector) → slice_get (new_sels sort_of c ctors) i ≡ Some sel → (name : List ℕ) × (sel.sort ≡ sort_of name)
-sorts-new_sels sort_of c [] i sel at = absurd (none-some _ at)
-sorts-new_sels sort_of c (t ∷ ctors) i sel at =
-    ⊎_elim (λ h. sorts-sels_of_ctor sort_of c 0 t.fields i sel h) (λ h. sorts-new_sels sort_of (c + 1) ctors h.0 sel h.2) (slice_get_either (sels_of_ctor sort_of c 0 t.fields) (new_sels sort_of (c + 1) ctors) i sel at)
+pub sorts-new_sels : (sort_of_entry : List ℕ → SortId) (c : ℕ) (ctors : List CtorDecl) (i : ℕ) (sel : Selector) → slice_get (new_sels sort_of_entry c ctors) i ≡ Some sel → (name : List ℕ) × (sel.sort ≡ sort_of_entry name)
+sorts-new_sels sort_of_entry c [] i sel at = absurd (none-some _ at)
+sorts-new_sels sort_of_entry c (t ∷ ctors) i sel at =
+    ⊎_elim (λ h. sorts-sels_of_ctor sort_of_entry c 0 t.fields i sel h) (λ h. sorts-new_sels sort_of_entry (c + 1) ctors h.0 sel h.2) (slice_get_either (sels_of_ctor sort_of_entry c 0 t.fields) (new_sels sort_of_entry (c + 1) ctors) i sel at)
 
 -- a field's sort is an earlier one or one of the block
 pub sort_of_field-within : (earlier own : List (List ℕ)) (name : List ℕ) → 0 < length earlier → (sort_of_field earlier own name).0 < length earlier + length own
-sort_of_field-within earlier own name some = by (place_of own name) (place_of earlier name) (place_of-cases own name) (place_of-cases earlier name)
+sort_of_field-within earlier own name some = by (index_of own name) (index_of earlier name) (index_of-cases own name) (index_of-cases earlier name)
   where
     by : (here there : Option ℕ) → MatchOption here (IsListed own name → ⊥) (λ p. slice_get own p ≡ Some name) → MatchOption there (IsListed earlier name → ⊥) (λ p. slice_get earlier p ≡ Some name) → unwrap_or (option_or (option_map (λ p. length earlier + p) here) there) 0 < length earlier + length own
     by (Some p) there at _ = omega (arith, slice_get_within own p name at)

@@ -11,12 +11,12 @@ use Rattle.std.specs.List.{flat_map}
 use Rattle.ct_sorts.specs.declared.ids.SortId.{SortId}
 use Rattle.ct_sorts.specs.declared.ids.CtorId.{CtorId}
 use Rattle.ct_sorts.specs.declared.ids.SelId.{SelId}
-use Rattle.ct_sorts.specs.Names.{IsListed, IsUnavailable, IsUnfit}
+use Rattle.ct_sorts.specs.Availability.{IsListed, IsUnavailable, IsUnfit}
 use Rattle.ct_sorts.specs.Declarations.{Declarations, Sort, Constructor, Selector, Function, IsSort, IsConstructor, IsSelector, bool, start, sort_names, symbol_names, ctor_names, sel_names, function_names, definition_names, ctor_ids, sel_ids, most_functions, most_definitions, with_function, with_definition}
 use Rattle.ct_sorts.specs.Lookup.{AreDistinct}
 use Rattle.ct_sorts.specs.Founded.{IsFounded}
-use Rattle.ct_sorts.specs.Consistent.{AreFew, AreAvailable, AreFit, IsOverSorts, AreOverSorts, owners, places, FitsKind, IsConsistent}
-use Rattle.ct_sorts.proofs.Lists.{from_part, slice_get_either, slice_get-range, range-append0, slice_get-drop, owners-append, owners-take, places-take, in_flat_map}
+use Rattle.ct_sorts.specs.Consistent.{AreFew, AreAvailable, AreFit, IsOverSorts, AreOverSorts, owners, indices, FitsKind, IsConsistent}
+use Rattle.ct_sorts.proofs.Lists.{from_part, slice_get_either, slice_get-range, range-append0, slice_get-drop, owners-append, owners-take, indices-take, in_flat_map}
 use Rattle.ct_sorts.specs.Lengths.{Lengths}
 use Rattle.ct_sorts.specs.Marks.{CanCut, cut}
 use Rattle.ct_sorts.proofs.Counts.{occurrences, occurrences-append, occurrences-take, occurrences-unlisted, one_if_same, one_if_same-cases, one_if_same-le, AreDistinct-once, AreOnce-distinct, AreDistinct-middle}
@@ -37,7 +37,7 @@ pub record IsMore (d : Declarations) (sorts : List Sort) (ctors : List Construct
   pub kinds : (s : ℕ) (sort : Sort) → slice_get sorts s ≡ Some sort → FitsKind (length d.sorts + s) sort.kind (length sort.ctors)
   pub all_sels : flat_map (λ c. c.sels) ctors ≡ sel_ids (length d.sels) (length sels)
   pub sel_ctors : map (λ s. s.ctor.0) sels ≡ owners (length d.ctors) (map (λ c. c.sels) ctors)
-  pub sel_places : map (λ s. s.place) sels ≡ places (map (λ c. c.sels) ctors)
+  pub sel_places : map (λ s. s.place) sels ≡ indices (map (λ c. c.sels) ctors)
   pub fields : (s : ℕ) (sel : Selector) → slice_get sels s ≡ Some sel → sel.sort.0 < length d.sorts + length sorts
   pub founded : (s : ℕ) → s < length sorts → IsFounded (more d sorts ctors sels) (length d.sorts + s)
 
@@ -116,8 +116,8 @@ pub IsFounded-same : (d e : Declarations) → e.sorts ≡ d.sorts → e.ctors �
 IsFounded-same d e sorts ctors sels s founded set closed =
     founded set (record {
       others = λ s sort at other. closed.others s sort (ap (λ xs. slice_get xs s) sorts ∙ at) other;
-      built = λ s sort place c ctor at_s at_c at_ctor has. closed.built s sort place c ctor (ap (λ xs. slice_get xs s) sorts ∙ at_s) at_c (ap (λ xs. slice_get xs c.0) ctors ∙ at_ctor)
-          (λ place' id sel at_id at_sel. has place' id sel at_id (sym (ap (λ xs. slice_get xs id.0) sels) ∙ at_sel));
+      built = λ s sort index c ctor at_s at_c at_ctor has. closed.built s sort index c ctor (ap (λ xs. slice_get xs s) sorts ∙ at_s) at_c (ap (λ xs. slice_get xs c.0) ctors ∙ at_ctor)
+          (λ index' id sel at_id at_sel. has index' id sel at_id (sym (ap (λ xs. slice_get xs id.0) sels) ∙ at_sel));
     })
 
 -- one more function with a name that may be declared, below the limit, over sorts that are there
@@ -130,7 +130,7 @@ IsConsistent-with_function d f c fresh room over =
       fit = c.fit;
       ctors_available = c.ctors_available;
       sels_available = c.sels_available;
-      available = subst AreAvailable (sym (map-append (λ (g : Function). g.name) d.functions (f ∷ []))) (λ place name at. ⊎_elim (λ here. c.available place name here) (λ last. subst (λ t. IsUnavailable [] t → ⊥) (sym last.1) (λ h. fresh (IsUnavailable-left [] (symbol_names d) f.name h))) (slice_get-push (function_names d) f.name place name at));
+      available = subst AreAvailable (sym (map-append (λ (g : Function). g.name) d.functions (f ∷ []))) (λ index name at. ⊎_elim (λ here. c.available index name here) (λ last. subst (λ t. IsUnavailable [] t → ⊥) (sym last.1) (λ h. fresh (IsUnavailable-left [] (symbol_names d) f.name h))) (slice_get-push (function_names d) f.name index name at));
       definitions_available = c.definitions_available;
       first_sort = c.first_sort;
       first_ctors = c.first_ctors;
@@ -168,7 +168,7 @@ IsConsistent-with_definition d f c fresh room over =
       ctors_available = c.ctors_available;
       sels_available = c.sels_available;
       available = c.available;
-      definitions_available = subst AreAvailable (sym (map-append (λ (g : Function). g.name) d.definitions (f ∷ []))) (λ place name at. ⊎_elim (λ here. c.definitions_available place name here) (λ last. subst (λ t. IsUnavailable [] t → ⊥) (sym last.1) (λ h. fresh (IsUnavailable-left [] (symbol_names d) f.name h))) (slice_get-push (definition_names d) f.name place name at));
+      definitions_available = subst AreAvailable (sym (map-append (λ (g : Function). g.name) d.definitions (f ∷ []))) (λ index name at. ⊎_elim (λ here. c.definitions_available index name here) (λ last. subst (λ t. IsUnavailable [] t → ⊥) (sym last.1) (λ h. fresh (IsUnavailable-left [] (symbol_names d) f.name h))) (slice_get-push (definition_names d) f.name index name at));
       first_sort = c.first_sort;
       first_ctors = c.first_ctors;
       all_ctors = c.all_ctors;
@@ -207,7 +207,7 @@ IsConsistent-cut d m c can stays =
       kinds = λ s sort at. c.kinds s sort (slice_get-take m.sorts d.sorts s sort at);
       all_sels = can.whole_ctors ∙ ap (sel_ids 0) (sym (length-take-le m.sels d.sels can.sels_within));
       sel_ctors = sym (take-map (λ (s : Selector). s.ctor.0) m.sels d.sels) ∙ ap (take m.sels) c.sel_ctors ∙ owners-take 0 m.ctors m.sels (map (λ (t : Constructor). t.sels) d.ctors) ctor_count ∙ ap (owners 0) (take-map (λ (t : Constructor). t.sels) m.ctors d.ctors);
-      sel_places = sym (take-map (λ (s : Selector). s.place) m.sels d.sels) ∙ ap (take m.sels) c.sel_places ∙ places-take m.ctors m.sels (map (λ (t : Constructor). t.sels) d.ctors) ctor_count ∙ ap places (take-map (λ (t : Constructor). t.sels) m.ctors d.ctors);
+      sel_places = sym (take-map (λ (s : Selector). s.place) m.sels d.sels) ∙ ap (take m.sels) c.sel_places ∙ indices-take m.ctors m.sels (map (λ (t : Constructor). t.sels) d.ctors) ctor_count ∙ ap indices (take-map (λ (t : Constructor). t.sels) m.ctors d.ctors);
       fields = can.fields;
       over_sorts = can.over_sorts;
       definitions_over_sorts = can.definitions_over_sorts;
@@ -253,7 +253,7 @@ IsConsistent-cut d m c can stays =
 pub owner_within : {X : Type 0} (n : ℕ) (gs : List (List X)) (i k : ℕ) → slice_get (owners n gs) i ≡ Some k → k < n + length gs
 owner_within n [] i k at = absurd (none-some _ at)
 owner_within n (g ∷ gs) i k at =
-    ⊎_elim (λ here. omega (arith, replicated (length g) n i k here)) (λ behind. omega (arith, owner_within (n + 1) gs behind.0 k behind.2)) (slice_get_either (replicate (length g) n) (owners (n + 1) gs) i k at)
+    ⊎_elim (λ here. omega (arith, replicated (length g) n i k here)) (λ remaining. omega (arith, owner_within (n + 1) gs remaining.0 k remaining.2)) (slice_get_either (replicate (length g) n) (owners (n + 1) gs) i k at)
   where
     replicated : (count n i k : ℕ) → slice_get (replicate count n) i ≡ Some k → k ≡ n
     replicated zero n i k at = absurd (none-some _ at)

@@ -3,7 +3,7 @@ use Rattle.std.proofs.Common.{◌≡◌, ℕ, zero, suc, ◌+◌, ◌≤◌, Lis
 use Rattle.std.proofs.lemmas.Option.{none-some, same_Some}
 use Rattle.std.proofs.lemmas.Slice.Eq.{bytes_eq-Decides}
 use Rattle.std.specs.Str.{bytes_eq}
-use Rattle.ct_sorts.specs.Names.{IsListed}
+use Rattle.ct_sorts.specs.Availability.{IsListed}
 use Rattle.ct_sorts.specs.Lookup.{AreDistinct}
 
 -- one where the texts are equal
@@ -37,12 +37,12 @@ occurrences-append name [] ys = omega arith
 occurrences-append name (x ∷ xs) ys = omega (arith, occurrences-append name xs ys)
 
 -- a listed name stands there
-pub occurrences-listed : (xs : List (List ℕ)) (name : List ℕ) (place : ℕ) → slice_get xs place ≡ Some name → 1 ≤ occurrences name xs
-occurrences-listed [] name place e = absurd (none-some _ e)
+pub occurrences-listed : (xs : List (List ℕ)) (name : List ℕ) (index : ℕ) → slice_get xs index ≡ Some name → 1 ≤ occurrences name xs
+occurrences-listed [] name index e = absurd (none-some _ e)
 occurrences-listed (x ∷ xs) name zero e =
     let same : one_if_same name x ≡ 1 = subst (λ text. one_if_same name text ≡ 1) (sym (same_Some _ _ e)) (one_if_same-self name) in
     omega arith
-occurrences-listed (x ∷ xs) name (suc place) e = omega (arith, occurrences-listed xs name place e)
+occurrences-listed (x ∷ xs) name (suc index) e = omega (arith, occurrences-listed xs name index e)
 
 -- what stands there is listed
 pub listed-occurrences : (xs : List (List ℕ)) (name : List ℕ) → 1 ≤ occurrences name xs → IsListed xs name
@@ -103,8 +103,8 @@ occurrences-take name (suc n) (x ∷ xs) = omega (arith, occurrences-take name n
 
 -- the name of the next of distinct texts is not among those before it
 pub fresh-next : (xs ys : List (List ℕ)) (name : List ℕ) → AreDistinct (xs ++ name ∷ ys) → IsListed xs name → ⊥
-fresh-next xs ys name distinct (place, there) =
-    omega (arith, AreOnce-distinct (xs ++ name ∷ ys) distinct name, occurrences-append name xs (name ∷ ys), occurrences-listed xs name place there, one_if_same-self name)
+fresh-next xs ys name distinct (index, there) =
+    omega (arith, AreOnce-distinct (xs ++ name ∷ ys) distinct name, occurrences-append name xs (name ∷ ys), occurrences-listed xs name index there, one_if_same-self name)
 
 -- parts of a list without repetition are without repetition
 pub AreDistinct-middle : (before xs after : List (List ℕ)) → AreDistinct (before ++ (xs ++ after)) → AreDistinct xs

@@ -14,19 +14,19 @@ use Rattle.ct_sorts.specs.declared.ids.Kind.{Kind}
 use Rattle.ct_sorts.specs.declared.ids.Kind.TheVariants.{Data}
 use Rattle.ct_sorts.specs.declared.block.Field.{Field}
 use Rattle.ct_sorts.specs.declared.block.SortDecl.{SortDecl}
-use Rattle.ct_sorts.specs.Names.{IsListed}
-use Rattle.ct_sorts.specs.Lookup.{place_of}
+use Rattle.ct_sorts.specs.Availability.{IsListed}
+use Rattle.ct_sorts.specs.Lookup.{index_of}
 use Rattle.ct_sorts.specs.Declarations.{Declarations, Sort, Constructor, Selector, start, sort_names, ctor_ids, sel_ids}
-use Rattle.ct_sorts.specs.Founded.{HasFieldsIn, IsClosed, IsFounded}
+use Rattle.ct_sorts.specs.Founded.{HasFieldsIn, IsClosedSet, IsFounded}
 use Rattle.ct_sorts.specs.Consistent.{IsConsistent}
 use Rattle.ct_sorts.specs.Marked.{is_field_in, is_ctor_in, IsClosedInBlock, IsFoundedInBlock}
 use Rattle.ct_sorts.specs.Block.{block_ctors, block_names, sort_of_field, with_block, new_sorts, new_ctors, new_sels}
-use Rattle.ct_sorts.proofs.NumberedLemmas.{place_of-cases}
+use Rattle.ct_sorts.proofs.NumberedLemmas.{index_of-cases}
 use Rattle.ct_sorts.proofs.Lists.{slice_get_right, slice_get_either, slice_get_there, slice_get-range, range-slice_get}
 use Rattle.ct_sorts.proofs.FoundedLemmas.{IsFounded-more}
 use Rattle.ct_sorts.proofs.ConsistentLemmas.{begins}
 use Rattle.ct_sorts.proofs.BlockLemmas.{length-new_sorts, kinds-new_sorts}
-use Rattle.ct_sorts.proofs.BlockPlaces.{placed}
+use Rattle.ct_sorts.proofs.BlockIndices.{indexed}
 
 -- one that passes
 some_pass : {X : Type 0} (test : X → Bool) (xs : List X) → list_any test xs ≡ true → (j : ℕ) × (x : X) × (slice_get xs j ≡ Some x) × (test x ≡ true)
@@ -57,7 +57,7 @@ all_pass test (y ∷ ys) h = rw (h 0 y refl, all_pass test ys (λ j x at. h (suc
 
 -- the sort of a field is in a set of the whole where it is so in the block
 field_in_whole : (earlier own : List (List ℕ)) (n : ℕ) → length earlier ≡ n → 0 < n → (set : ℕ → Bool) → ((s : ℕ) → s < n → set s ≡ true) → (f : Field) → is_field_in own (λ k. set (n + k)) f ≡ true → set (sort_of_field earlier own f.sort).0 ≡ true
-field_in_whole earlier own n count some set below f h = by (place_of own f.sort) (place_of earlier f.sort) (place_of-cases earlier f.sort) h
+field_in_whole earlier own n count some set below f h = by (index_of own f.sort) (index_of earlier f.sort) (index_of-cases earlier f.sort) h
   where
     by : (here there : Option ℕ) → MatchOption there (IsListed earlier f.sort → ⊥) (λ p. slice_get earlier p ≡ Some f.sort) → unwrap_or (option_map (λ k. set (n + k)) here) true ≡ true → set (unwrap_or (option_or (option_map (λ p. length earlier + p) here) there) 0) ≡ true
     by (Some p) there _ h = rw count h
@@ -66,13 +66,13 @@ field_in_whole earlier own n count some set below f h = by (place_of own f.sort)
 
 -- and the other way round
 field_in_block : (earlier own : List (List ℕ)) (n : ℕ) → length earlier ≡ n → (set all : ℕ → Bool) → ((k : ℕ) → all (n + k) ≡ set k) → (f : Field) → all (sort_of_field earlier own f.sort).0 ≡ true → is_field_in own set f ≡ true
-field_in_block earlier own n count set all same f h = by (place_of own f.sort) (place_of earlier f.sort) h
+field_in_block earlier own n count set all same f h = by (index_of own f.sort) (index_of earlier f.sort) h
   where
     by : (here there : Option ℕ) → all (unwrap_or (option_or (option_map (λ p. length earlier + p) here) there) 0) ≡ true → unwrap_or (option_map set here) true ≡ true
     by None there h = refl
     by (Some p) there h = sym (same p) ∙ ap (λ m. all (m + p)) (sym count) ∙ h
 
--- all numbers below a bound, and behind it a set
+-- all numbers below a bound, and after it a set
 abbrev shifted : ℕ → (ℕ → Bool) → ℕ → Bool
 shifted n set s = cond (nat_lt s n) true (set (s - n))
 
@@ -83,8 +83,8 @@ shifted-below n set s h = by (nat_lt s n) (Decides-ltb s n)
     by true tells = refl
     by false tells = absurd (true≢false (sym (tells.1 h)))
 
-shifted-behind : (n : ℕ) (set : ℕ → Bool) (k : ℕ) → shifted n set (n + k) ≡ set k
-shifted-behind n set k = by (nat_lt (n + k) n) (Decides-ltb (n + k) n)
+shifted-remaining : (n : ℕ) (set : ℕ → Bool) (k : ℕ) → shifted n set (n + k) ≡ set k
+shifted-remaining n set k = by (nat_lt (n + k) n) (Decides-ltb (n + k) n)
   where
     by : (b : Bool) → Decides b (n + k < n) → cond b true (set (n + k - n)) ≡ set k
     by true tells = let h : n + k < n = tells.0 refl in absurd (omega arith)
@@ -98,26 +98,26 @@ module _ (d : Declarations) (kind : Kind) (block : List SortDecl) (consistent : 
   has_bool = omega (arith, begins 1 d.sorts start.sorts consistent.first_sort refl)
 
   -- a set closed in the whole is closed in the block
-  closed_in_block : (set : ℕ → Bool) → IsClosed (with_block d kind block) set → IsClosedInBlock (block_names block) block (λ k. set (length d.sorts + k))
+  closed_in_block : (set : ℕ → Bool) → IsClosedSet (with_block d kind block) set → IsClosedInBlock (block_names block) block (λ k. set (length d.sorts + k))
   closed_in_block set closed i decl at built =
       let find = sort_of_field (sort_names d) (block_names block) in
       let found = some_pass (is_ctor_in (block_names block) (λ k. set (length d.sorts + k))) decl.ctors built in
       let j = found.0 in
       let t = found.1 in
-      let place = placed find block i j decl t at found.2 in
-      let sort = place.2.sort kind (length d.ctors) in
-      let ctor = place.2.ctor (length d.sorts) (length d.sels) in
-      let c : CtorId = record { 0 = length d.ctors + place.0 + j } in
+      let index = indexed find block i j decl t at found.2 in
+      let sort = index.2.sort kind (length d.ctors) in
+      let ctor = index.2.ctor (length d.sorts) (length d.sels) in
+      let c : CtorId = record { 0 = length d.ctors + index.0 + j } in
       let at_s : slice_get (with_block d kind block).sorts (length d.sorts + i) ≡ Some sort.0 = slice_get_right d.sorts (new_sorts kind (length d.ctors) block) i ∙ sort.1 in
-      let at_c : slice_get sort.0.ctors j ≡ Some c = ap (λ ids. slice_get ids j) sort.2 ∙ range-slice_get (λ n. record { 0 = n }) (length d.ctors + place.0) (length decl.ctors) j (slice_get_within decl.ctors j t found.2) in
-      let shift : length d.ctors + place.0 + j ≡ length d.ctors + (place.0 + j) = omega arith in
-      let at_ctor : slice_get (with_block d kind block).ctors c.0 ≡ Some ctor.0 = ap (slice_get (with_block d kind block).ctors) shift ∙ slice_get_right d.ctors (new_ctors (length d.sorts) (length d.sels) block) (place.0 + j) ∙ ctor.1 in
+      let at_c : slice_get sort.0.ctors j ≡ Some c = ap (λ ids. slice_get ids j) sort.2 ∙ range-slice_get (λ n. record { 0 = n }) (length d.ctors + index.0) (length decl.ctors) j (slice_get_within decl.ctors j t found.2) in
+      let shift : length d.ctors + index.0 + j ≡ length d.ctors + (index.0 + j) = omega arith in
+      let at_ctor : slice_get (with_block d kind block).ctors c.0 ≡ Some ctor.0 = ap (slice_get (with_block d kind block).ctors) shift ∙ slice_get_right d.ctors (new_ctors (length d.sorts) (length d.sels) block) (index.0 + j) ∙ ctor.1 in
       closed.built (length d.sorts + i) sort.0 j c ctor.0 at_s at_c at_ctor (λ p id sel at_id at_sel.
-      let row = slice_get-range (λ n. record { 0 = n }) (length d.sels + place.1) (length t.fields) p id (ap (λ ids. slice_get ids p) (sym ctor.2) ∙ at_id) in
+      let row = slice_get-range (λ n. record { 0 = n }) (length d.sels + index.1) (length t.fields) p id (ap (λ ids. slice_get ids p) (sym ctor.2) ∙ at_id) in
       let f = slice_get_there t.fields p row.0 in
-      let made = place.2.sel (length d.ctors) p f.0 f.1 in
-      let shift' : length d.sels + place.1 + p ≡ length d.sels + (place.1 + p) = omega arith in
-      let here : slice_get (with_block d kind block).sels id.0 ≡ Some made.0 = ap (slice_get (with_block d kind block).sels) (ap (λ (s : SelId). s.0) row.1 ∙ shift') ∙ slice_get_right d.sels (new_sels find (length d.ctors) (block_ctors block)) (place.1 + p) ∙ made.1 in
+      let made = index.2.sel (length d.ctors) p f.0 f.1 in
+      let shift' : length d.sels + index.1 + p ≡ length d.sels + (index.1 + p) = omega arith in
+      let here : slice_get (with_block d kind block).sels id.0 ≡ Some made.0 = ap (slice_get (with_block d kind block).sels) (ap (λ (s : SelId). s.0) row.1 ∙ shift') ∙ slice_get_right d.sels (new_sels find (length d.ctors) (block_ctors block)) (index.1 + p) ∙ made.1 in
       let same : made.0 ≡ sel = same_Some _ _ (sym here ∙ at_sel) in
       let inside = each_passes (is_field_in (block_names block) (λ k. set (length d.sorts + k))) t.fields found.3 p f.0 f.1 in
       let whole = field_in_whole (sort_names d) (block_names block) (length d.sorts) count has_bool set (λ s h. IsFounded-more d (new_sorts kind (length d.ctors) block) (new_ctors (length d.sorts) (length d.sels) block) (new_sels find (length d.ctors) (block_ctors block)) consistent.all_sels s (consistent.founded s h) set closed) f.0 inside in
@@ -128,42 +128,42 @@ module _ (d : Declarations) (kind : Kind) (block : List SortDecl) (consistent : 
   IsFounded-in_block i within founded set closed = founded (λ k. set (length d.sorts + k)) (closed_in_block set closed)
 
   -- a set closed in the block of datatypes is closed in the whole, with the earlier sorts
-  closed_in_whole : kind ≡ Data → (set : ℕ → Bool) → IsClosedInBlock (block_names block) block set → IsClosed (with_block d kind block) (shifted (length d.sorts) set)
+  closed_in_whole : kind ≡ Data → (set : ℕ → Bool) → IsClosedInBlock (block_names block) block set → IsClosedSet (with_block d kind block) (shifted (length d.sorts) set)
   closed_in_whole is_data set closed =
       record {
-        others = λ s sort at other. ⊎_elim (λ here. shifted-below (length d.sorts) set s (slice_get_within d.sorts s sort here)) (λ behind. absurd (other ((kinds-new_sorts kind (length d.ctors) block behind.0 sort behind.2).2 ∙ is_data))) (slice_get_either d.sorts (new_sorts kind (length d.ctors) block) s sort at);
-        built = λ s sort place c ctor at_s at_c at_ctor has. ⊎_elim (λ here. shifted-below (length d.sorts) set s (slice_get_within d.sorts s sort here)) (λ behind. ap (shifted (length d.sorts) set) behind.1 ∙ shifted-behind (length d.sorts) set behind.0 ∙ built behind.0 sort place c ctor behind.2 at_c at_ctor has) (slice_get_either d.sorts (new_sorts kind (length d.ctors) block) s sort at_s);
+        others = λ s sort at other. ⊎_elim (λ here. shifted-below (length d.sorts) set s (slice_get_within d.sorts s sort here)) (λ remaining. absurd (other ((kinds-new_sorts kind (length d.ctors) block remaining.0 sort remaining.2).2 ∙ is_data))) (slice_get_either d.sorts (new_sorts kind (length d.ctors) block) s sort at);
+        built = λ s sort index c ctor at_s at_c at_ctor has. ⊎_elim (λ here. shifted-below (length d.sorts) set s (slice_get_within d.sorts s sort here)) (λ remaining. ap (shifted (length d.sorts) set) remaining.1 ∙ shifted-remaining (length d.sorts) set remaining.0 ∙ built remaining.0 sort index c ctor remaining.2 at_c at_ctor has) (slice_get_either d.sorts (new_sorts kind (length d.ctors) block) s sort at_s);
       }
     where
-      built : (k : ℕ) (sort : Sort) (place : ℕ) (c : CtorId) (ctor : Constructor) → slice_get (new_sorts kind (length d.ctors) block) k ≡ Some sort → slice_get sort.ctors place ≡ Some c → slice_get (with_block d kind block).ctors c.0 ≡ Some ctor → HasFieldsIn (with_block d kind block) (shifted (length d.sorts) set) ctor → set k ≡ true
-      built k sort place c ctor at_s at_c at_ctor has =
+      built : (k : ℕ) (sort : Sort) (index : ℕ) (c : CtorId) (ctor : Constructor) → slice_get (new_sorts kind (length d.ctors) block) k ≡ Some sort → slice_get sort.ctors index ≡ Some c → slice_get (with_block d kind block).ctors c.0 ≡ Some ctor → HasFieldsIn (with_block d kind block) (shifted (length d.sorts) set) ctor → set k ≡ true
+      built k sort index c ctor at_s at_c at_ctor has =
           let find = sort_of_field (sort_names d) (block_names block) in
           let made = kinds-new_sorts kind (length d.ctors) block k sort at_s in
           let decl = made.0 in
-          let t = slice_get_there decl.ctors place (omega (arith, made.3, slice_get_within sort.ctors place c at_c)) in
-          let where_ = placed find block k place decl t.0 made.1 t.1 in
-          let placed_sort = where_.2.sort kind (length d.ctors) in
-          let placed_ctor = where_.2.ctor (length d.sorts) (length d.sels) in
-          let same_sort : placed_sort.0 ≡ sort = same_Some _ _ (sym placed_sort.1 ∙ at_s) in
-          let ids : sort.ctors ≡ ctor_ids (length d.ctors + where_.0) (length decl.ctors) = ap (λ (u : Sort). u.ctors) (sym same_sort) ∙ placed_sort.2 in
-          let row = slice_get-range (λ n. record { 0 = n }) (length d.ctors + where_.0) (length decl.ctors) place c (ap (λ xs. slice_get xs place) (sym ids) ∙ at_c) in
-          let shift : length d.ctors + where_.0 + place ≡ length d.ctors + (where_.0 + place) = omega arith in
-          let at_made : slice_get (with_block d kind block).ctors c.0 ≡ Some placed_ctor.0 = ap (slice_get (with_block d kind block).ctors) (ap (λ (u : CtorId). u.0) row.1 ∙ shift) ∙ slice_get_right d.ctors (new_ctors (length d.sorts) (length d.sels) block) (where_.0 + place) ∙ placed_ctor.1 in
-          let same_ctor : placed_ctor.0 ≡ ctor = same_Some _ _ (sym at_made ∙ at_ctor) in
-          let sels : ctor.sels ≡ sel_ids (length d.sels + where_.1) (length t.0.fields) = ap (λ (u : Constructor). u.sels) (sym same_ctor) ∙ placed_ctor.2 in
+          let t = slice_get_there decl.ctors index (omega (arith, made.3, slice_get_within sort.ctors index c at_c)) in
+          let where_ = indexed find block k index decl t.0 made.1 t.1 in
+          let indexed_sort = where_.2.sort kind (length d.ctors) in
+          let indexed_ctor = where_.2.ctor (length d.sorts) (length d.sels) in
+          let same_sort : indexed_sort.0 ≡ sort = same_Some _ _ (sym indexed_sort.1 ∙ at_s) in
+          let ids : sort.ctors ≡ ctor_ids (length d.ctors + where_.0) (length decl.ctors) = ap (λ (u : Sort). u.ctors) (sym same_sort) ∙ indexed_sort.2 in
+          let row = slice_get-range (λ n. record { 0 = n }) (length d.ctors + where_.0) (length decl.ctors) index c (ap (λ xs. slice_get xs index) (sym ids) ∙ at_c) in
+          let shift : length d.ctors + where_.0 + index ≡ length d.ctors + (where_.0 + index) = omega arith in
+          let at_made : slice_get (with_block d kind block).ctors c.0 ≡ Some indexed_ctor.0 = ap (slice_get (with_block d kind block).ctors) (ap (λ (u : CtorId). u.0) row.1 ∙ shift) ∙ slice_get_right d.ctors (new_ctors (length d.sorts) (length d.sels) block) (where_.0 + index) ∙ indexed_ctor.1 in
+          let same_ctor : indexed_ctor.0 ≡ ctor = same_Some _ _ (sym at_made ∙ at_ctor) in
+          let sels : ctor.sels ≡ sel_ids (length d.sels + where_.1) (length t.0.fields) = ap (λ (u : Constructor). u.sels) (sym same_ctor) ∙ indexed_ctor.2 in
           let fields : list_all (is_field_in (block_names block) set) t.0.fields ≡ true = all_pass (is_field_in (block_names block) set) t.0.fields (λ p f at_f.
           let sel = where_.2.sel (length d.ctors) p f at_f in
           let id : SelId = record { 0 = length d.sels + where_.1 + p } in
           let at_id : slice_get ctor.sels p ≡ Some id = ap (λ xs. slice_get xs p) sels ∙ range-slice_get (λ n. record { 0 = n }) (length d.sels + where_.1) (length t.0.fields) p (slice_get_within t.0.fields p f at_f) in
           let shift' : length d.sels + where_.1 + p ≡ length d.sels + (where_.1 + p) = omega arith in
           let at_sel : slice_get (with_block d kind block).sels id.0 ≡ Some sel.0 = ap (slice_get (with_block d kind block).sels) shift' ∙ slice_get_right d.sels (new_sels find (length d.ctors) (block_ctors block)) (where_.1 + p) ∙ sel.1 in
-          field_in_block (sort_names d) (block_names block) (length d.sorts) (length-map d.sorts (λ (u : Sort). u.name)) set (shifted (length d.sorts) set) (shifted-behind (length d.sorts) set) f
+          field_in_block (sort_names d) (block_names block) (length d.sorts) (length-map d.sorts (λ (u : Sort). u.name)) set (shifted (length d.sorts) set) (shifted-remaining (length d.sorts) set) f
           (ap (λ (u : SortId). shifted (length d.sorts) set u.0) (sym sel.2) ∙ has p id sel.0 at_id at_sel)) in
-          closed k decl made.1 (pass_any (is_ctor_in (block_names block) set) decl.ctors place t.0 t.1 fields)
+          closed k decl made.1 (pass_any (is_ctor_in (block_names block) set) decl.ctors index t.0 t.1 fields)
 
   -- and the other way round, for datatypes
   pub IsFoundedInBlock-whole : kind ≡ Data → (i : ℕ) → i < length block → IsFounded (with_block d kind block) (length d.sorts + i) → IsFoundedInBlock (block_names block) block i
-  IsFoundedInBlock-whole is_data i within founded set closed = sym (shifted-behind (length d.sorts) set i) ∙ founded (shifted (length d.sorts) set) (closed_in_whole is_data set closed)
+  IsFoundedInBlock-whole is_data i within founded set closed = sym (shifted-remaining (length d.sorts) set i) ∙ founded (shifted (length d.sorts) set) (closed_in_whole is_data set closed)
 
 -- the sorts of a block of another kind are all well founded
 pub IsFounded-other : (d : Declarations) (kind : Kind) (block : List SortDecl) → (kind ≡ Data → ⊥) → (i : ℕ) → i < length block → IsFounded (with_block d kind block) (length d.sorts + i)

@@ -7,7 +7,7 @@ use Rattle.std.specs.List.{flat_map}
 use Rattle.ct_sorts.specs.declared.ids.CtorId.{CtorId}
 use Rattle.ct_sorts.specs.declared.ids.SelId.{SelId}
 use Rattle.ct_sorts.specs.Declarations.{Declarations, Sort, Constructor, Selector, ctor_ids, sel_ids}
-use Rattle.ct_sorts.specs.Founded.{HasFieldsIn, IsClosed, IsFounded}
+use Rattle.ct_sorts.specs.Founded.{HasFieldsIn, IsClosedSet, IsFounded}
 use Rattle.ct_sorts.specs.Lengths.{Lengths}
 use Rattle.ct_sorts.specs.Marks.{CanCut, cut}
 use Rattle.ct_sorts.proofs.NumberedLemmas.{slice_get-take}
@@ -18,39 +18,39 @@ abbrev pub more : Declarations → List Sort → List Constructor → List Selec
 more d sorts ctors sels = record d { sorts = d.sorts ++ sorts; ctors = d.ctors ++ ctors; sels = d.sels ++ sels }
 
 -- the selectors of a constructor are there
-pub sel_within : (d : Declarations) → flat_map (λ c. c.sels) d.ctors ≡ sel_ids 0 (length d.sels) → (c : ℕ) (ctor : Constructor) (place : ℕ) (s : SelId) → slice_get d.ctors c ≡ Some ctor → slice_get ctor.sels place ≡ Some s → s.0 < length d.sels
-sel_within d all_sels c ctor place s at_c at_s =
-    let found = in_flat_map (λ (c : Constructor). c.sels) d.ctors c place ctor s at_c at_s in
+pub sel_within : (d : Declarations) → flat_map (λ c. c.sels) d.ctors ≡ sel_ids 0 (length d.sels) → (c : ℕ) (ctor : Constructor) (index : ℕ) (s : SelId) → slice_get d.ctors c ≡ Some ctor → slice_get ctor.sels index ≡ Some s → s.0 < length d.sels
+sel_within d all_sels c ctor index s at_c at_s =
+    let found = in_flat_map (λ (c : Constructor). c.sels) d.ctors c index ctor s at_c at_s in
     let row = slice_get-range (λ n. record { 0 = n }) 0 (length d.sels) found.0 s (subst (λ (ids : List SelId). slice_get ids found.0 ≡ Some s) all_sels found.1) in
     let is : s.0 ≡ 0 + found.0 = ap (λ (t : SelId). t.0) row.1 in
     omega (arith, row.0)
 
 -- the constructors of a sort are there
-pub ctor_within : (d : Declarations) → flat_map (λ s. s.ctors) d.sorts ≡ ctor_ids 0 (length d.ctors) → (s : ℕ) (sort : Sort) (place : ℕ) (c : CtorId) → slice_get d.sorts s ≡ Some sort → slice_get sort.ctors place ≡ Some c → c.0 < length d.ctors
-ctor_within d all_ctors s sort place c at_s at_c =
-    let found = in_flat_map (λ (s : Sort). s.ctors) d.sorts s place sort c at_s at_c in
+pub ctor_within : (d : Declarations) → flat_map (λ s. s.ctors) d.sorts ≡ ctor_ids 0 (length d.ctors) → (s : ℕ) (sort : Sort) (index : ℕ) (c : CtorId) → slice_get d.sorts s ≡ Some sort → slice_get sort.ctors index ≡ Some c → c.0 < length d.ctors
+ctor_within d all_ctors s sort index c at_s at_c =
+    let found = in_flat_map (λ (s : Sort). s.ctors) d.sorts s index sort c at_s at_c in
     let row = slice_get-range (λ n. record { 0 = n }) 0 (length d.ctors) found.0 c (subst (λ (ids : List CtorId). slice_get ids found.0 ≡ Some c) all_ctors found.1) in
     let is : c.0 ≡ 0 + found.0 = ap (λ (t : CtorId). t.0) row.1 in
     omega (arith, row.0)
 
 -- a set that is closed under more declarations is closed under the earlier ones
-pub IsClosed-less : (d : Declarations) (sorts : List Sort) (ctors : List Constructor) (sels : List Selector) → flat_map (λ c. c.sels) d.ctors ≡ sel_ids 0 (length d.sels) → (set : ℕ → Bool) → IsClosed (more d sorts ctors sels) set → IsClosed d set
-IsClosed-less d sorts ctors sels all_sels set closed =
+pub IsClosedSet-less : (d : Declarations) (sorts : List Sort) (ctors : List Constructor) (sels : List Selector) → flat_map (λ c. c.sels) d.ctors ≡ sel_ids 0 (length d.sels) → (set : ℕ → Bool) → IsClosedSet (more d sorts ctors sels) set → IsClosedSet d set
+IsClosedSet-less d sorts ctors sels all_sels set closed =
     record {
       others = λ s sort at other. closed.others s sort (slice_get_left d.sorts sorts s sort at) other;
-      built = λ s sort place c ctor at_s at_c at_ctor has. closed.built s sort place c ctor (slice_get_left d.sorts sorts s sort at_s) at_c (slice_get_left d.ctors ctors c.0 ctor at_ctor) (fields c ctor at_ctor has);
+      built = λ s sort index c ctor at_s at_c at_ctor has. closed.built s sort index c ctor (slice_get_left d.sorts sorts s sort at_s) at_c (slice_get_left d.ctors ctors c.0 ctor at_ctor) (fields c ctor at_ctor has);
     }
   where
     fields : (c : CtorId) (ctor : Constructor) → slice_get d.ctors c.0 ≡ Some ctor → HasFieldsIn d set ctor → HasFieldsIn (more d sorts ctors sels) set ctor
-    fields c ctor at_ctor has place s sel at_s at_sel =
-        ⊎_elim (λ here. has place s sel at_s here) (λ behind. by behind.0 behind.1) (slice_get_either d.sels sels s.0 sel at_sel)
+    fields c ctor at_ctor has index s sel at_s at_sel =
+        ⊎_elim (λ here. has index s sel at_s here) (λ remaining. by remaining.0 remaining.1) (slice_get_either d.sels sels s.0 sel at_sel)
       where
         by : (k : ℕ) → s.0 ≡ length d.sels + k → set sel.sort.0 ≡ true
-        by k e = absurd (omega (arith, sel_within d all_sels c.0 ctor place s at_ctor at_s))
+        by k e = absurd (omega (arith, sel_within d all_sels c.0 ctor index s at_ctor at_s))
 
 -- what is well founded stays so
 pub IsFounded-more : (d : Declarations) (sorts : List Sort) (ctors : List Constructor) (sels : List Selector) → flat_map (λ c. c.sels) d.ctors ≡ sel_ids 0 (length d.sels) → (s : ℕ) → IsFounded d s → IsFounded (more d sorts ctors sels) s
-IsFounded-more d sorts ctors sels all_sels s founded set closed = founded set (IsClosed-less d sorts ctors sels all_sels set closed)
+IsFounded-more d sorts ctors sels all_sels s founded set closed = founded set (IsClosedSet-less d sorts ctors sels all_sels set closed)
 
 -- a set of numbers below a bound, and all from the bound on
 abbrev pub below_or_all : ℕ → (ℕ → Bool) → ℕ → Bool
@@ -75,16 +75,16 @@ pub IsFounded-cut : (d : Declarations) (m : Lengths) → CanCut d m → (s : ℕ
 IsFounded-cut d m can s within founded set closed =
     sym (below_or_all-within n set s within) ∙ founded (below_or_all n set) (record {
       others = λ s sort at other. below_or_all-cases n set s (λ h. closed.others s sort (take-slice_get m.sorts d.sorts s sort h at) other);
-      built = λ s sort place c ctor at_s at_c at_ctor has. below_or_all-cases n set s (λ h. built s sort place c ctor (take-slice_get m.sorts d.sorts s sort h at_s) at_c at_ctor has);
+      built = λ s sort index c ctor at_s at_c at_ctor has. below_or_all-cases n set s (λ h. built s sort index c ctor (take-slice_get m.sorts d.sorts s sort h at_s) at_c at_ctor has);
     })
   where
     n : ℕ
     n = length (take m.sorts d.sorts)
 
-    built : (s : ℕ) (sort : Sort) (place : ℕ) (c : CtorId) (ctor : Constructor) → slice_get (take m.sorts d.sorts) s ≡ Some sort → slice_get sort.ctors place ≡ Some c → slice_get d.ctors c.0 ≡ Some ctor → HasFieldsIn d (below_or_all (length (take m.sorts d.sorts)) set) ctor → set s ≡ true
-    built s sort place c ctor at_s at_c at_ctor has =
+    built : (s : ℕ) (sort : Sort) (index : ℕ) (c : CtorId) (ctor : Constructor) → slice_get (take m.sorts d.sorts) s ≡ Some sort → slice_get sort.ctors index ≡ Some c → slice_get d.ctors c.0 ≡ Some ctor → HasFieldsIn d (below_or_all (length (take m.sorts d.sorts)) set) ctor → set s ≡ true
+    built s sort index c ctor at_s at_c at_ctor has =
         let whole = can.whole_sorts ∙ ap (ctor_ids 0) (sym (length-take-le m.ctors d.ctors can.ctors_within)) in
-        let within_c : c.0 < length (take m.ctors d.ctors) = ctor_within (cut d m) whole s sort place c at_s at_c in
+        let within_c : c.0 < length (take m.ctors d.ctors) = ctor_within (cut d m) whole s sort index c at_s at_c in
         let at_ctor' : slice_get (take m.ctors d.ctors) c.0 ≡ Some ctor = take-slice_get m.ctors d.ctors c.0 ctor within_c at_ctor in
-        closed.built s sort place c ctor at_s at_c at_ctor'
-        (λ place' id sel at_id at_sel. sym (below_or_all-within (length (take m.sorts d.sorts)) set sel.sort.0 (can.fields id.0 sel at_sel)) ∙ has place' id sel at_id (slice_get-take m.sels d.sels id.0 sel at_sel))
+        closed.built s sort index c ctor at_s at_c at_ctor'
+        (λ index' id sel at_id at_sel. sym (below_or_all-within (length (take m.sorts d.sorts)) set sel.sort.0 (can.fields id.0 sel at_sel)) ∙ has index' id sel at_id (slice_get-take m.sels d.sels id.0 sel at_sel))

@@ -1,13 +1,13 @@
--- Items in groups: the row of all items, with the number of each item's group and the item's place in it.
+-- Items in groups: the row of all items, with the number of each item's group and the item's index in it.
 use Rattle.std.proofs.Common.{◌≡◌, ℕ, zero, suc, ◌+◌, ◌<◌, ◌⊎◌, List, [], ◌∷◌, ◌++◌, length, replicate, slice_get, Some, refl, sym, ◌∙◌, ap, subst, inl, inr, arith}
 use Rattle.std.proofs.lemmas.Option.{none-some, same_Some, slice_get_within}
 use Rattle.std.proofs.lemmas.List.{length-replicate}
 use Rattle.std.proofs.lemmas.List.FromFn.{length-range_with_len}
 use Rattle.std.specs.List.{flat_map, range_with_len}
-use Rattle.ct_sorts.specs.Consistent.{owners, places}
+use Rattle.ct_sorts.specs.Consistent.{owners, indices}
 use Rattle.ct_sorts.proofs.Lists.{slice_get_left, slice_get_right, slice_get_either, slice_get-numbers}
 
--- all items, one group behind the other
+-- all items, one group after the other
 abbrev pub row : {X : Type 0} → List (List X) → List X
 row {X} groups = flat_map (λ (g : List X). g) groups
 
@@ -16,11 +16,11 @@ slice_get-replicate zero v i h = absurd (omega arith)
 slice_get-replicate (suc n) v zero h = refl
 slice_get-replicate (suc n) v (suc i) h = slice_get-replicate n v i (omega arith)
 
--- where an item stands in the row, the number of its group and its place in the group stand beside it
+-- where an item stands in the row, the number of its group and its index in the group stand beside it
 pub record Stands {X : Type 0} (first : ℕ) (groups : List (List X)) (k g p : ℕ) (x : X) : Type 0 where
   pub item : slice_get (row groups) k ≡ Some x
   pub owner : slice_get (owners first groups) k ≡ Some (first + g)
-  pub place : slice_get (places groups) k ≡ Some p
+  pub place : slice_get (indices groups) k ≡ Some p
 
 -- in the first group
 stands_here : {X : Type 0} (first : ℕ) (group : List X) (groups : List (List X)) (p : ℕ) (x : X) → slice_get group p ≡ Some x → Stands first (group ∷ groups) p 0 p x
@@ -30,7 +30,7 @@ stands_here {X} first group groups p x at =
     record {
       item = slice_get_left group (row groups) p x at;
       owner = slice_get_left (replicate (length group) first) (owners (first + 1) groups) p _ (rw e (slice_get-replicate (length group) first p within));
-      place = slice_get_left (range_with_len 0 (length group)) (places groups) p p (slice_get-numbers 0 (length group) p within ∙ ap Some (omega arith));
+      place = slice_get_left (range_with_len 0 (length group)) (indices groups) p p (slice_get-numbers 0 (length group) p within ∙ ap Some (omega arith));
     }
 
 -- in a later group
@@ -40,7 +40,7 @@ stands_later {X} first group groups k g p x h =
     record {
       item = slice_get_right group (row groups) k ∙ h.item;
       owner = subst (λ n. slice_get (replicate (length group) first ++ owners (first + 1) groups) (n + k) ≡ Some (first + suc g)) (length-replicate (length group) first) (slice_get_right (replicate (length group) first) (owners (first + 1) groups) k ∙ h.owner ∙ ap Some (sym e));
-      place = subst (λ n. slice_get (range_with_len 0 (length group) ++ places groups) (n + k) ≡ Some p) (length-range_with_len 0 (length group)) (slice_get_right (range_with_len 0 (length group)) (places groups) k ∙ h.place);
+      place = subst (λ n. slice_get (range_with_len 0 (length group) ++ indices groups) (n + k) ≡ Some p) (length-range_with_len 0 (length group)) (slice_get_right (range_with_len 0 (length group)) (indices groups) k ∙ h.place);
     }
 
 -- an item of a group stands in the row

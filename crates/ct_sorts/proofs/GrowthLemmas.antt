@@ -11,9 +11,9 @@ use Rattle.ct_sorts.specs.Grown.{Begins, Extends}
 use Rattle.ct_sorts.specs.Marks.{CanCut, cut, lengths}
 use Rattle.ct_sorts.proofs.PieceLemmas.{Begins-self, Begins-trans}
 
--- the first list is what stands in front
-front : {X : Type 0} (xs ys : List X) → Begins xs ys → take (length xs) ys ≡ xs
-front xs ys h = subst (λ l. take (length xs) l ≡ xs) (sym h.1) (take-append_seam xs h.0)
+-- the first list is what comes first
+prefix : {X : Type 0} (xs ys : List X) → Begins xs ys → take (length xs) ys ≡ xs
+prefix xs ys h = subst (λ l. take (length xs) l ≡ xs) (sym h.1) (take-append_seam xs h.0)
 
 -- and is no longer
 within : {X : Type 0} (xs ys : List X) → Begins xs ys → length xs ≤ length ys
@@ -47,11 +47,11 @@ extends_definition d f = record { sorts = Begins-self d.sorts; ctors = Begins-se
 pub cut_to_earlier : (later earlier : Declarations) → Extends later earlier → cut later (lengths earlier) ≡ earlier
 cut_to_earlier later earlier h =
     λ j. record {
-      sorts = front earlier.sorts later.sorts h.sorts j;
-      ctors = front earlier.ctors later.ctors h.ctors j;
-      sels = front earlier.sels later.sels h.sels j;
-      functions = front earlier.functions later.functions h.functions j;
-      definitions = front earlier.definitions later.definitions h.definitions j;
+      sorts = prefix earlier.sorts later.sorts h.sorts j;
+      ctors = prefix earlier.ctors later.ctors h.ctors j;
+      sels = prefix earlier.sels later.sels h.sels j;
+      functions = prefix earlier.functions later.functions h.functions j;
+      definitions = prefix earlier.definitions later.definitions h.definitions j;
     }
 
 pub can_cut_to_earlier : (later earlier : Declarations) → IsConsistent earlier → Extends later earlier → CanCut later (lengths earlier)
@@ -62,8 +62,8 @@ can_cut_to_earlier later earlier c h =
       sels_within = within earlier.sels later.sels h.sels;
       functions_within = within earlier.functions later.functions h.functions;
       definitions_within = within earlier.definitions later.definitions h.definitions;
-      whole_sorts = ap (flat_map (λ s. s.ctors)) (front earlier.sorts later.sorts h.sorts) ∙ c.all_ctors;
-      whole_ctors = ap (flat_map (λ c. c.sels)) (front earlier.ctors later.ctors h.ctors) ∙ c.all_sels;
+      whole_sorts = ap (flat_map (λ s. s.ctors)) (prefix earlier.sorts later.sorts h.sorts) ∙ c.all_ctors;
+      whole_ctors = ap (flat_map (λ c. c.sels)) (prefix earlier.ctors later.ctors h.ctors) ∙ c.all_sels;
       fields = subst AreFieldsOverSorts (sym (cut_to_earlier later earlier h)) c.fields;
       over_sorts = subst (λ x. AreOverSorts x x.functions) (sym (cut_to_earlier later earlier h)) c.over_sorts;
       definitions_over_sorts = subst (λ x. AreOverSorts x x.definitions) (sym (cut_to_earlier later earlier h)) c.definitions_over_sorts;

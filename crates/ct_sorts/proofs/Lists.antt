@@ -1,19 +1,19 @@
--- Elements of lists by their places.
+-- Elements of lists by their indices.
 use Rattle.std.proofs.Common.{◌≡◌, ℕ, zero, suc, ◌+◌, ◌<◌, ◌⊎◌, List, [], ◌∷◌, ◌++◌, length, map, take, drop, replicate, slice_get, Some, option_map, refl, sym, ◌∙◌, ap, subst, inl, inr, ⊎_elim, arith, length-append}
 use Rattle.std.proofs.lemmas.Option.{none-some, same_Some, slice_get-map, slice_get-get_or}
 use Rattle.std.proofs.lemmas.List.{append_assoc, length-replicate, take-append-drop, take_at}
 use Rattle.std.proofs.lemmas.List.Concat.{flat_map-append}
 use Rattle.std.proofs.lemmas.List.FromFn.{length-range_with_len, get_or-range_with_len}
 use Rattle.std.specs.List.{flat_map, range_with_len}
-use Rattle.ct_sorts.specs.Consistent.{owners, places}
+use Rattle.ct_sorts.specs.Consistent.{owners, indices}
 
--- what stands in the first list stands at the same place in both
+-- what stands in the first list stands at the same index in both
 pub slice_get_left : {X : Type 0} (xs ys : List X) (i : ℕ) (x : X) → slice_get xs i ≡ Some x → slice_get (xs ++ ys) i ≡ Some x
 slice_get_left [] ys i x e = absurd (none-some _ e)
 slice_get_left (z ∷ xs) ys zero x e = e
 slice_get_left (z ∷ xs) ys (suc i) x e = slice_get_left xs ys i x e
 
--- what stands in the second list stands behind the first
+-- what stands in the second list stands after the first
 pub slice_get_right : {X : Type 0} (xs ys : List X) (k : ℕ) → slice_get (xs ++ ys) (length xs + k) ≡ slice_get ys k
 slice_get_right [] ys k = let e : 0 + k ≡ k = omega arith in rw e refl
 slice_get_right (z ∷ xs) ys k = let e : suc (length xs) + k ≡ suc (length xs + k) = omega arith in rw e (slice_get_right xs ys k)
@@ -27,7 +27,7 @@ slice_get_either (z ∷ xs) ys (suc i) x e = ⊎_elim (λ h. inl h) (λ h. inr (
     by : (k : ℕ) → i ≡ length xs + k → suc i ≡ suc (length xs) + k
     by k h = omega arith
 
--- a place inside has an element
+-- an index inside has an element
 pub slice_get_there : {X : Type 0} (xs : List X) (i : ℕ) → i < length xs → (x : X) × (slice_get xs i ≡ Some x)
 slice_get_there [] i h = absurd (omega arith)
 slice_get_there (x ∷ xs) zero h = (x, refl)
@@ -63,7 +63,7 @@ slice_get-numbers first count i h =
 pub range-slice_get : {X : Type 0} (f : ℕ → X) (first count i : ℕ) → i < count → slice_get (map f (range_with_len first count)) i ≡ Some (f (first + i))
 range-slice_get f first count i h = slice_get-map f (range_with_len first count) i ∙ ap (option_map f) (slice_get-numbers first count i h)
 
--- two rows, one behind the other
+-- two rows, one after the other
 pub range-append : {X : Type 0} (f : ℕ → X) (first n m : ℕ) → map f (range_with_len first n) ++ map f (range_with_len (first + n) m) ≡ map f (range_with_len first (n + m))
 range-append f first zero m = let e : first + 0 ≡ first = omega arith in let z : 0 + m ≡ m = omega arith in rw (e, z) refl
 range-append {X} f first (suc n) m =
@@ -74,7 +74,7 @@ range-append {X} f first (suc n) m =
 pub range-append0 : {X : Type 0} (f : ℕ → X) (n m : ℕ) → map f (range_with_len 0 n) ++ map f (range_with_len n m) ≡ map f (range_with_len 0 (n + m))
 range-append0 {X} f n m = let e : 0 + n ≡ n = omega arith in subst (λ k. map f (range_with_len 0 n) ++ map f (range_with_len k m) ≡ map f (range_with_len 0 (n + m))) e (range-append f 0 n m)
 
--- what is left of a list behind its first n
+-- what is left of a list after its first n
 pub slice_get-drop : {X : Type 0} (n : ℕ) (xs : List X) (i : ℕ) → slice_get (drop n xs) i ≡ slice_get xs (n + i)
 slice_get-drop zero xs i = let e : 0 + i ≡ i = omega arith in rw e refl
 slice_get-drop (suc n) [] i = refl
@@ -91,9 +91,9 @@ pub length-owners : {X : Type 0} (n : ℕ) (gs : List (List X)) → length (owne
 length-owners n [] = refl
 length-owners n (g ∷ gs) = omega (arith, length-append (replicate (length g) n) (owners (n + 1) gs), length-replicate (length g) n, length-append g (flat_map (λ g. g) gs), length-owners (n + 1) gs)
 
-pub length-places : {X : Type 0} (gs : List (List X)) → length (places gs) ≡ length (flat_map (λ g. g) gs)
-length-places [] = refl
-length-places (g ∷ gs) = omega (arith, length-append (range_with_len 0 (length g)) (places gs), length-range_with_len 0 (length g), length-append g (flat_map (λ g. g) gs), length-places gs)
+pub length-indices : {X : Type 0} (gs : List (List X)) → length (indices gs) ≡ length (flat_map (λ g. g) gs)
+length-indices [] = refl
+length-indices (g ∷ gs) = omega (arith, length-append (range_with_len 0 (length g)) (indices gs), length-range_with_len 0 (length g), length-append g (flat_map (λ g. g) gs), length-indices gs)
 
 -- the owners of the first groups are the first owners
 pub owners-take : {X : Type 0} (n k count : ℕ) (gs : List (List X)) → length (flat_map (λ g. g) (take k gs)) ≡ count → take count (owners n gs) ≡ owners n (take k gs)
@@ -101,12 +101,12 @@ owners-take n k count gs e =
     let whole : owners n gs ≡ owners n (take k gs) ++ owners (n + length (take k gs)) (drop k gs) = ap (owners n) (sym (take-append-drop k gs)) ∙ owners-append n (take k gs) (drop k gs) in
     ap (take count) whole ∙ take_at (owners n (take k gs)) _ count (length-owners n (take k gs) ∙ e)
 
-pub places-take : {X : Type 0} (k count : ℕ) (gs : List (List X)) → length (flat_map (λ g. g) (take k gs)) ≡ count → take count (places gs) ≡ places (take k gs)
-places-take {X} k count gs e =
-    let whole : places gs ≡ places (take k gs) ++ places (drop k gs) = ap places (sym (take-append-drop k gs)) ∙ flat_map-append (λ (g : List X). range_with_len 0 (length g)) (take k gs) (drop k gs) in
-    ap (take count) whole ∙ take_at (places (take k gs)) _ count (length-places (take k gs) ∙ e)
+pub indices-take : {X : Type 0} (k count : ℕ) (gs : List (List X)) → length (flat_map (λ g. g) (take k gs)) ≡ count → take count (indices gs) ≡ indices (take k gs)
+indices-take {X} k count gs e =
+    let whole : indices gs ≡ indices (take k gs) ++ indices (drop k gs) = ap indices (sym (take-append-drop k gs)) ∙ flat_map-append (λ (g : List X). range_with_len 0 (length g)) (take k gs) (drop k gs) in
+    ap (take count) whole ∙ take_at (indices (take k gs)) _ count (length-indices (take k gs) ∙ e)
 
--- what stands at a place of the first part in the whole stands there in the part
+-- what stands at an index of the first part in the whole stands there in the part
 pub take-slice_get : {X : Type 0} (n : ℕ) (xs : List X) (i : ℕ) (x : X) → i < length (take n xs) → slice_get xs i ≡ Some x → slice_get (take n xs) i ≡ Some x
 take-slice_get zero xs i x h e = absurd (omega arith)
 take-slice_get (suc n) [] i x h e = e

@@ -6,9 +6,9 @@ use Rattle.std.proofs.lemmas.Option.{slice_get_within}
 use Rattle.ct_sorts.specs.declared.ids.SortId.{SortId}
 use Rattle.ct_sorts.specs.declared.ids.Symbol.{Symbol}
 use Rattle.ct_sorts.specs.declared.ids.Symbol.TheVariants.{Ctor, Sel, Fun, Def}
-use Rattle.ct_sorts.specs.Names.{IsListed}
+use Rattle.ct_sorts.specs.Availability.{IsListed}
 use Rattle.ct_sorts.specs.Declarations.{Declarations, Constructor, Selector, Function, ctor_names, sel_names, function_names, definition_names, symbol_names}
-use Rattle.ct_sorts.specs.Lookup.{StandsFor, IsSymbol}
+use Rattle.ct_sorts.specs.Lookup.{ResolvesTo, IsSymbol}
 use Rattle.ct_sorts.proofs.Lists.{slice_get_left, slice_get_right, slice_get_either}
 
 pub IsListed-left : (xs ys : List (List ℕ)) (name : List ℕ) → IsListed xs name → IsListed (xs ++ ys) name
@@ -25,7 +25,7 @@ pub named_inside : {X : Type 0} (name_of : X → List ℕ) (xs : List X) (i : �
 named_inside name_of xs i name at = subst (λ n. i < n) (length-map xs name_of) (slice_get_within (map name_of xs) i name at)
 
 -- a name is a symbol exactly where it is found
-pub is_some-symbol : (d : Declarations) (name : List ℕ) (found : Option Symbol) → StandsFor d name found → Decides (is_some found) (IsListed (symbol_names d) name)
+pub is_some-symbol : (d : Declarations) (name : List ℕ) (found : Option Symbol) → ResolvesTo d name found → Decides (is_some found) (IsListed (symbol_names d) name)
 is_some-symbol d name None absent = (λ e. absurd (true≢false (sym e)), λ h. absurd (absent h))
 is_some-symbol d name (Some (Ctor c)) at = (λ _. IsListed-left (ctor_names d) _ name (c.0, at), λ _. refl)
 is_some-symbol d name (Some (Sel s)) at = (λ _. IsListed-right (ctor_names d) _ name (IsListed-left (sel_names d) _ name (s.0, at)), λ _. refl)
@@ -43,7 +43,7 @@ no_symbol d name no_ctor no_sel no_function no_definition found =
     ⊎_elim no_ctor (λ rest. ⊎_elim no_sel (λ rest'. ⊎_elim no_function no_definition (IsListed-either (function_names d) (definition_names d) name rest')) (IsListed-either (sel_names d) _ name rest)) (IsListed-either (ctor_names d) _ name found)
 
 -- what a name stands for is declared
-pub symbol_inside : (d : Declarations) (name : List ℕ) (found : Option Symbol) → StandsFor d name found → IfSome found (IsSymbol d)
+pub symbol_inside : (d : Declarations) (name : List ℕ) (found : Option Symbol) → ResolvesTo d name found → IfSome found (IsSymbol d)
 symbol_inside d name None absent = tt
 symbol_inside d name (Some (Ctor c)) at = named_inside (λ (t : Constructor). t.name) d.ctors c.0 name at
 symbol_inside d name (Some (Sel s)) at = named_inside (λ (t : Selector). t.name) d.sels s.0 name at

@@ -6,7 +6,7 @@ use Rattle.std.proofs.lemmas.Bool.{true≢false, false≢true}
 use Rattle.std.proofs.lemmas.Option.{same_Some}
 use Rattle.ct_sorts.specs.declared.block.Field.{Field}
 use Rattle.ct_sorts.specs.declared.block.SortDecl.{SortDecl}
-use Rattle.ct_sorts.specs.Lookup.{place_of}
+use Rattle.ct_sorts.specs.Lookup.{index_of}
 use Rattle.ct_sorts.specs.Marked.{is_field_in, is_ctor_in, is_sort_in, IsClosedInBlock, IsFoundedInBlock, marked, AreMarksSound, unmarked}
 
 -- what passes one test passes a weaker one
@@ -32,13 +32,13 @@ is_sort_in-more own set more bigger decl =
     list_any-weaker (is_ctor_in own set) (is_ctor_in own more) (λ ctor. list_all-weaker (is_field_in own set) (is_field_in own more) field ctor.fields) decl.ctors
   where
     field : (f : Field) → is_field_in own set f ≡ true → is_field_in own more f ≡ true
-    field f h = by (place_of own f.sort) h
+    field f h = by (index_of own f.sort) h
       where
         by : (found : Option ℕ) → unwrap_or (option_map set found) true ≡ true → unwrap_or (option_map more found) true ≡ true
         by None h = refl
         by (Some i) h = bigger i h
 
--- a mark at a place, and elsewhere
+-- a mark at an index, and elsewhere
 pub marked-set : (marks : List Bool) (i j : ℕ) → marked (set marks i true) j ≡ true → (j ≡ i) ⊎ (marked marks j ≡ true)
 marked-set [] i j h = inr h
 marked-set (m ∷ marks) zero zero h = inl refl
@@ -87,7 +87,7 @@ all_marked own block marks same sound closed = by (list_all (λ m. m) marks) ref
     by true e = λ i h. sound i (each marks e i (omega (arith, same)))
     by false e = let found = some marks e in (found.0, omega (arith, found.1, same), λ founded. false≢true (sym found.2 ∙ founded (marked marks) closed))
 
--- a round so far, over the sorts before place i: `old` became `marks`
+-- a round so far, over the sorts before index i: `old` became `marks`
 pub record IsRound (own : List (List ℕ)) (block : List SortDecl) (old marks : List Bool) (changed : Bool) (i : ℕ) : Type 0 where
   pub sound : AreMarksSound own block old → AreMarksSound own block marks
   pub fewer : changed ≡ true → unmarked marks < unmarked old
@@ -110,8 +110,8 @@ module _ (own : List (List ℕ)) (block : List SortDecl) (old marks : List Bool)
       by false e = subst (λ ms. unmarked (set marks i true) < unmarked ms) (r.same e) (unmarked-set marks i within unset)
 
   -- a sort is left as it is
-  pub IsRound-kept : (is_sort_in own (marked marks) decl ≡ true → marked marks i ≡ true) → IsRound own block old marks changed (i + 1)
-  IsRound-kept kept =
+  pub IsRound-stored : (is_sort_in own (marked marks) decl ≡ true → marked marks i ≡ true) → IsRound own block old marks changed (i + 1)
+  IsRound-stored stored =
       record {
         sound = r.sound;
         fewer = r.fewer;
@@ -131,7 +131,7 @@ module _ (own : List (List ℕ)) (block : List SortDecl) (old marks : List Bool)
           last s =
               let same_decl : d ≡ decl = same_Some _ _ (sym at_k ∙ ap (slice_get block) s ∙ at) in
               let built' : is_sort_in own (marked marks) decl ≡ true = subst (λ ms. is_sort_in own (marked ms) decl ≡ true) (sym (r.same e)) (subst (λ t. is_sort_in own (marked old) t ≡ true) same_decl built) in
-              subst (λ ms. marked ms k ≡ true) (r.same e) (subst (λ n. marked marks n ≡ true) (sym s) (kept built'))
+              subst (λ ms. marked ms k ≡ true) (r.same e) (subst (λ n. marked marks n ≡ true) (sym s) (stored built'))
 
 pub IsRound-start : (own : List (List ℕ)) (block : List SortDecl) (old : List Bool) → IsRound own block old old false 0
 IsRound-start own block old = record { sound = λ h. h; fewer = λ e. absurd (false≢true e); same = λ _. refl; closed = λ _ k decl h. absurd (omega arith) }

@@ -9,13 +9,13 @@ use Rattle.std.proofs.lemmas.Slice.Eq.{bytes_eq-Decides}
 use Rattle.std.proofs.lemmas.Bool.{true≢false}
 use Rattle.std.proofs.lemmas.Bool.Decides.{Decides-or, Decides-like, Decides-ltb}
 use Rattle.std.proofs.lemmas.Option.{none-some, same_Some}
-use Rattle.ct_sorts.specs.Names.{IsListed}
+use Rattle.ct_sorts.specs.Availability.{IsListed}
 use Rattle.ct_sorts.specs.Lookup.{AreDistinct}
 
 -- a listed name is the first text or listed among the others
 pub IsListed-cons : (text : List ℕ) (texts : List (List ℕ)) (name : List ℕ) → IsListed (text ∷ texts) name → (text ≡ name) ⊎ IsListed texts name
 IsListed-cons text texts name (zero, e) = inl (same_Some _ _ e)
-IsListed-cons text texts name (suc place, e) = inr (place, e)
+IsListed-cons text texts name (suc index, e) = inr (index, e)
 
 -- a search for a name finds it exactly where it is listed
 pub list_any-IsListed : (texts : List (List ℕ)) (name : List ℕ) → Decides (list_any (λ text. bytes_eq text name) texts) (IsListed texts name)
@@ -24,12 +24,12 @@ list_any-IsListed (text ∷ texts) name =
     Decides-like _ (⊎_elim (λ e. (0, ap Some e)) (λ h. (suc h.0, h.1))) (IsListed-cons text texts name)
     (Decides-or _ _ (bytes_eq-Decides text name) (list_any-IsListed texts name))
 
--- no text stands again behind itself
+-- no text stands again after itself
 abbrev pub differ : List (List ℕ) → Bool
 differ [] = true
 differ (text ∷ texts) = not (list_any (λ t. bytes_eq t text) texts) && differ texts
 
--- a text in front of distinct ones that it is none of
+-- a text before distinct ones that it is none of
 AreDistinct-cons : (text : List ℕ) (texts : List (List ℕ)) → (IsListed texts text → ⊥) → AreDistinct texts → AreDistinct (text ∷ texts)
 AreDistinct-cons text texts fresh rest zero zero name at also = refl
 AreDistinct-cons text texts fresh rest zero (suc j) name at also = absurd (fresh (j, also ∙ sym at))
@@ -58,25 +58,25 @@ module _ {K : Type 0} (text_of : K → List ℕ) (test : K → Bool) (name : Lis
           rw (e, s) (rest (omega arith))
 
   -- a listed name is found
-  pub position_or_len-IsListed : (keys : List K) (place : ℕ) → slice_get (map text_of keys) place ≡ Some name → position_or_len test keys < length keys
-  position_or_len-IsListed [] place e = absurd (none-some _ e)
+  pub position_or_len-IsListed : (keys : List K) (index : ℕ) → slice_get (map text_of keys) index ≡ Some name → position_or_len test keys < length keys
+  position_or_len-IsListed [] index e = absurd (none-some _ e)
   position_or_len-IsListed (key ∷ keys) zero e =
       let passes : test key ≡ true = (decides key).1 (sym (same_Some _ _ e)) in
       rw passes (omega arith)
-  position_or_len-IsListed (key ∷ keys) (suc place) e = by (test key) refl (position_or_len-IsListed keys place e)
+  position_or_len-IsListed (key ∷ keys) (suc index) e = by (test key) refl (position_or_len-IsListed keys index e)
     where
       by : (b : Bool) → test key ≡ b → position_or_len test keys < length keys → position_or_len test (key ∷ keys) < length (key ∷ keys)
       by true e rest = rw e (omega arith)
       by false e rest = rw e (omega arith)
 
-  -- a look-up gives a place of the name, or the name is not listed
-  pub position-cases : (keys : List K) → MatchOption (position test keys) (IsListed (map text_of keys) name → ⊥) (λ place. slice_get (map text_of keys) place ≡ Some name)
+  -- a look-up gives an index of the name, or the name is not listed
+  pub position-cases : (keys : List K) → MatchOption (position test keys) (IsListed (map text_of keys) name → ⊥) (λ index. slice_get (map text_of keys) index ≡ Some name)
   position-cases keys = by (nat_lt first (length keys)) (Decides-ltb first (length keys))
     where
       first : ℕ
       first = position_or_len test keys
 
-      by : (b : Bool) → Decides b (position_or_len test keys < length keys) → MatchOption (cond b (Some (position_or_len test keys)) None) (IsListed (map text_of keys) name → ⊥) (λ place. slice_get (map text_of keys) place ≡ Some name)
+      by : (b : Bool) → Decides b (position_or_len test keys < length keys) → MatchOption (cond b (Some (position_or_len test keys)) None) (IsListed (map text_of keys) name → ⊥) (λ index. slice_get (map text_of keys) index ≡ Some name)
       by true tells = slice_get-position keys (tells.0 refl)
       by false tells = λ h. true≢false (sym (tells.1 (position_or_len-IsListed keys h.0 h.1)))
 

@@ -9,8 +9,8 @@ use Rattle.std.specs.Map.{keys_of}
 use Rattle.std.specs.List.{position_or_len}
 use Rattle.std.specs.Str.{bytes_eq}
 use Rattle.indexmap.specs.IndexMap.{insert_entry}
-use Rattle.ct_sorts.specs.Names.{IsListed}
-use Rattle.ct_sorts.specs.Lookup.{AreDistinct, names_of, place_of}
+use Rattle.ct_sorts.specs.Availability.{IsListed}
+use Rattle.ct_sorts.specs.Lookup.{AreDistinct, names_of, index_of}
 use Rattle.ct_sorts.proofs.NameLemmas.{position-cases, insert_entry-fresh}
 
 -- what a map's entry means
@@ -28,7 +28,7 @@ names_of-pairs {T} es = map-map _ _ es ∙ sym (map-map _ _ es)
 pub names_of-entries : {T : Type 0} (es : List (Vec ℕ × T)) → names_of (pairs_of es) ≡ map (λ e. e.0.items) es
 names_of-entries {T} es = map-map _ _ es
 
--- a test of the keys finds the place that the test of their bytes finds
+-- a test of the keys finds the index that the test of their bytes finds
 pub position_or_len-map : {K X : Type 0} (f : K → X) (test : X → Bool) (ks : List K) → position_or_len test (map f ks) ≡ position_or_len (λ k. test (f k)) ks
 position_or_len-map f test [] = refl
 position_or_len-map f test (k ∷ ks) = by (test (f k)) refl (position_or_len-map f test ks)
@@ -41,12 +41,12 @@ pub position-map : {K X : Type 0} (f : K → X) (test : X → Bool) (ks : List K
 position-map f test ks = rw (position_or_len-map f test ks, length-map) refl
 
 -- a look-up in the map is one in the names
-pub place_of-pairs : {T : Type 0} (es : List (Vec ℕ × T)) (name : List ℕ) → position (λ key. bytes_eq name key.items) (keys_of es) ≡ place_of (names_of (pairs_of es)) name
-place_of-pairs {T} es name = position-map (λ (key : Vec ℕ). key.items) (bytes_eq name) (keys_of es) ∙ ap (λ texts. position (bytes_eq name) texts) (sym (names_of-pairs es))
+pub index_of-pairs : {T : Type 0} (es : List (Vec ℕ × T)) (name : List ℕ) → position (λ key. bytes_eq name key.items) (keys_of es) ≡ index_of (names_of (pairs_of es)) name
+index_of-pairs {T} es name = position-map (λ (key : Vec ℕ). key.items) (bytes_eq name) (keys_of es) ∙ ap (λ texts. position (bytes_eq name) texts) (sym (names_of-pairs es))
 
--- a look-up gives a place of the name, or the name is not listed
-pub place_of-cases : (names : List (List ℕ)) (name : List ℕ) → MatchOption (place_of names name) (IsListed names name → ⊥) (λ place. slice_get names place ≡ Some name)
-place_of-cases names name = subst (λ texts. MatchOption (place_of names name) (IsListed texts name → ⊥) (λ place. slice_get texts place ≡ Some name)) (map-id' names) (position-cases (λ (text : List ℕ). text) (bytes_eq name) name (λ text. bytes_eq-Decides name text) names)
+-- a look-up gives an index of the name, or the name is not listed
+pub index_of-cases : (names : List (List ℕ)) (name : List ℕ) → MatchOption (index_of names name) (IsListed names name → ⊥) (λ index. slice_get names index ≡ Some name)
+index_of-cases names name = subst (λ texts. MatchOption (index_of names name) (IsListed texts name → ⊥) (λ index. slice_get texts index ≡ Some name)) (map-id' names) (position-cases (λ (text : List ℕ). text) (bytes_eq name) name (λ text. bytes_eq-Decides name text) names)
   where
     map-id' : (texts : List (List ℕ)) → map (λ (text : List ℕ). text) texts ≡ texts
     map-id' [] = refl
@@ -92,10 +92,10 @@ take_pair {X} {Y} xs i a b at_a at_b = rw add-one (by xs i at_a at_b)
     by (x ∷ xs) zero p q = ap (λ (y : X × Y). y ∷ []) (λ j. (same_Some _ _ p j, same_Some _ _ q j))
     by (x ∷ xs) (suc i) p q = ap (λ (ys : List (X × Y)). x ∷ ys) (by xs i p q)
 
--- the name at a place is not among those before it
+-- the name at an index is not among those before it
 pub fresh_before : {X : Type 0} (xs : List (List ℕ × X)) (i : ℕ) (name : List ℕ) → AreDistinct (names_of xs) → option_map (λ e. e.0) (slice_get xs i) ≡ Some name → IsListed (names_of (take i xs)) name → ⊥
-fresh_before xs i name distinct at (place, there) =
-    let there' : slice_get (take i (names_of xs)) place ≡ Some name = subst (λ ys. slice_get ys place ≡ Some name) (sym (take-map _ i xs)) there in
-    let same : place ≡ i = distinct place i name (slice_get-take i (names_of xs) place name there') (slice_get-map _ xs i ∙ at) in
-    let within : place < length (take i (names_of xs)) = slice_get_within (take i (names_of xs)) place name there' in
+fresh_before xs i name distinct at (index, there) =
+    let there' : slice_get (take i (names_of xs)) index ≡ Some name = subst (λ ys. slice_get ys index ≡ Some name) (sym (take-map _ i xs)) there in
+    let same : index ≡ i = distinct index i name (slice_get-take i (names_of xs) index name there') (slice_get-map _ xs i ∙ at) in
+    let within : index < length (take i (names_of xs)) = slice_get_within (take i (names_of xs)) index name there' in
     omega (arith, length-take i (names_of xs))

@@ -1,11 +1,11 @@
--- What a loop keeps that puts pieces behind a list, one item after another.
+-- What a loop keeps that puts pieces after a list, one item after another.
 use Rattle.std.proofs.Common.{◌≡◌, ℕ, ◌+◌, ◌<◌, ◌≤◌, List, [], ◌∷◌, ◌++◌, length, map, drop, get_or, sym, ◌∙◌, ap, subst}
 use Rattle.std.proofs.lemmas.List.{append_assoc, append-nil, map-append, drop_more, drop_all}
-use Rattle.ct_sorts.specs.Names.{IsListed}
+use Rattle.ct_sorts.specs.Availability.{IsListed}
 use Rattle.ct_sorts.specs.Lookup.{AreDistinct, names_of}
 use Rattle.ct_sorts.specs.Grown.{Begins}
 use Rattle.ct_sorts.proofs.Counts.{AreDistinct-middle, fresh-next}
-use Rattle.ct_sorts.proofs.KeptLemmas.{names_at}
+use Rattle.ct_sorts.proofs.StoredLemmas.{names_at}
 
 -- each list begins with itself, and beginnings of longer lists are beginnings still
 pub Begins-self : {X : Type 0} (xs : List X) → Begins xs xs
@@ -19,12 +19,12 @@ Begins-trans xs ys zs b c = Begins-more xs ys zs c.0 b c.1
 
 -- what is there and what is left make the whole
 module _ {X R K : Type 0} (F : K → List X → List R) (G : K → X → List R) (next : K → X → K) (unfolds : (k : K) (x : X) (xs : List X) → F k (x ∷ xs) ≡ G k x ++ F (next k x) xs) (xs : List X) (i : ℕ) (x : X) (within : i < length xs) (is : x ≡ get_or xs i x) (k : K) (now whole : List R) (all : now ++ F k (drop i xs) ≡ whole) where
-  -- the next piece and what is left behind it
+  -- the next piece and what is left after it
   pub piece_next : now ++ (G k x ++ F (next k x) (drop (i + 1) xs)) ≡ whole
   piece_next =
       ap (λ ys. now ++ ys) (sym (ap (F k) (drop_more xs i x within ∙ ap (λ (y : X). y ∷ drop (i + 1) xs) (sym is)) ∙ unfolds k x (drop (i + 1) xs))) ∙ all
 
-  -- the piece is put behind
+  -- the piece is appended
   pub piece_more : (then' : List R) → then' ≡ now ++ G k x → then' ++ F (next k x) (drop (i + 1) xs) ≡ whole
   piece_more then' e = ap (λ ys. ys ++ F (next k x) (drop (i + 1) xs)) e ∙ append_assoc now (G k x) (F (next k x) (drop (i + 1) xs)) ∙ piece_next
 

@@ -1,19 +1,19 @@
 -- What every signature begins with fits together.
 use Rattle.std.proofs.Common.{◌≡◌, ℕ, zero, suc, ◌<◌, [], ◌∷◌, length, slice_get, Some, codes, refl, sym, subst, inl, inr, arith}
 use Rattle.std.proofs.lemmas.Option.{none-some, same_Some}
-use Rattle.ct_sorts.specs.Names.{IsUnfit}
+use Rattle.ct_sorts.specs.Availability.{IsUnfit}
 use Rattle.ct_sorts.specs.Declarations.{Sort, start, bool}
 use Rattle.ct_sorts.specs.Consistent.{AreFit, FitsKind, IsConsistent}
 use Rattle.ct_sorts.specs.Founded.{IsFounded}
 use Rattle.ct_sorts.proofs.NameLemmas.{AreDistinct-differ}
 
 -- a byte of the name Bool is one of its four
-bool_byte : (place byte : ℕ) → slice_get (codes "Bool") place ≡ Some byte → (byte ≡ 124 → ⊥) × (byte ≡ 92 → ⊥)
+bool_byte : (index byte : ℕ) → slice_get (codes "Bool") index ≡ Some byte → (byte ≡ 124 → ⊥) × (byte ≡ 92 → ⊥)
 bool_byte zero byte at = let e : 66 ≡ byte = same_Some _ _ at in (λ h. omega arith, λ h. omega arith)
 bool_byte (suc zero) byte at = let e : 111 ≡ byte = same_Some _ _ at in (λ h. omega arith, λ h. omega arith)
 bool_byte (suc (suc zero)) byte at = let e : 111 ≡ byte = same_Some _ _ at in (λ h. omega arith, λ h. omega arith)
 bool_byte (suc (suc (suc zero))) byte at = let e : 108 ≡ byte = same_Some _ _ at in (λ h. omega arith, λ h. omega arith)
-bool_byte (suc (suc (suc (suc place)))) byte at = absurd (none-some _ at)
+bool_byte (suc (suc (suc (suc index)))) byte at = absurd (none-some _ at)
 
 -- Bool may be declared
 bool_fit : IsUnfit (codes "Bool") → ⊥
@@ -41,10 +41,10 @@ IsConsistent-start =
       sorts_distinct = AreDistinct-differ (codes "Bool" ∷ []) refl;
       distinct = AreDistinct-differ (codes "true" ∷ (codes "false" ∷ [])) refl;
       fit = fit;
-      ctors_available = λ place name at h. none-some _ at;
-      sels_available = λ place name at h. none-some _ at;
-      available = λ place name at h. none-some _ at;
-      definitions_available = λ place name at h. none-some _ at;
+      ctors_available = λ index name at h. none-some _ at;
+      sels_available = λ index name at h. none-some _ at;
+      available = λ index name at h. none-some _ at;
+      definitions_available = λ index name at h. none-some _ at;
       first_sort = refl;
       first_ctors = refl;
       all_ctors = refl;

@@ -4,9 +4,9 @@ use Rattle.std.proofs.lemmas.List.{take-map}
 use Rattle.std.proofs.lemmas.Option.{same_Some}
 use Rattle.ct_sorts.specs.declared.ids.Symbol.{Symbol}
 use Rattle.ct_sorts.specs.declared.ids.Symbol.TheVariants.{Ctor, Sel, Fun, Def}
-use Rattle.ct_sorts.specs.Names.{core_words}
+use Rattle.ct_sorts.specs.Availability.{core_words}
 use Rattle.ct_sorts.specs.Declarations.{Declarations, Constructor, ctor_names, start}
-use Rattle.ct_sorts.specs.Lookup.{StandsFor}
+use Rattle.ct_sorts.specs.Lookup.{ResolvesTo}
 use Rattle.ct_sorts.specs.Consistent.{IsConsistent}
 use Rattle.ct_sorts.proofs.Lists.{slice_get-drop}
 use Rattle.ct_sorts.proofs.NumberedLemmas.{slice_get-take}
@@ -46,7 +46,7 @@ word_number d c name k n stands at = by k refl
     by (suc (suc m)) e = absurd (later m (omega (arith, e)))
 
 -- what a word stands for: nothing, or the constructor with its number, one of the first two
-word_stands : (d : Declarations) → IsConsistent d → (name : List ℕ) (found : Option Symbol) → StandsFor d name found → (n : ℕ) → slice_get core_words n ≡ Some name → (found ≡ None) ⊎ ((n < 2) × (found ≡ Some (Ctor (record { 0 = n }))))
+word_stands : (d : Declarations) → IsConsistent d → (name : List ℕ) (found : Option Symbol) → ResolvesTo d name found → (n : ℕ) → slice_get core_words n ≡ Some name → (found ≡ None) ⊎ ((n < 2) × (found ≡ Some (Ctor (record { 0 = n }))))
 word_stands d c name None absent n at = inl refl
 word_stands d c name (Some (Ctor k)) stands n at =
     let h = word_number d c name k.0 n stands at in
@@ -56,12 +56,12 @@ word_stands d c name (Some (Fun f)) stands n at = absurd (c.available f.0 name s
 word_stands d c name (Some (Def f)) stands n at = absurd (c.definitions_available f.0 name stands (inr (inl (n, at))))
 
 -- `true` and `false` stand for the first two constructors
-pub truth_found : (d : Declarations) → IsConsistent d → (name : List ℕ) (found : Option Symbol) → StandsFor d name found → (n : ℕ) → n < 2 → slice_get core_words n ≡ Some name → found ≡ Some (Ctor (record { 0 = n }))
+pub truth_found : (d : Declarations) → IsConsistent d → (name : List ℕ) (found : Option Symbol) → ResolvesTo d name found → (n : ℕ) → n < 2 → slice_get core_words n ≡ Some name → found ≡ Some (Ctor (record { 0 = n }))
 truth_found d c name found stands n few at = ⊎_elim missing (λ h. h.1) (word_stands d c name found stands n at)
   where
     missing : found ≡ None → found ≡ Some (Ctor (record { 0 = n }))
-    missing e = absurd (subst (StandsFor d name) e stands (IsListed-left (ctor_names d) _ name (n, truths_first d c n name few at)))
+    missing e = absurd (subst (ResolvesTo d name) e stands (IsListed-left (ctor_names d) _ name (n, truths_first d c n name few at)))
 
 -- the other words stand for nothing
-pub word_found : (d : Declarations) → IsConsistent d → (name : List ℕ) (found : Option Symbol) → StandsFor d name found → (n : ℕ) → 2 ≤ n → slice_get core_words n ≡ Some name → found ≡ None
+pub word_found : (d : Declarations) → IsConsistent d → (name : List ℕ) (found : Option Symbol) → ResolvesTo d name found → (n : ℕ) → 2 ≤ n → slice_get core_words n ≡ Some name → found ≡ None
 word_found d c name found stands n many at = ⊎_elim (λ e. e) (λ h. absurd (omega (arith, h.0))) (word_stands d c name found stands n at)

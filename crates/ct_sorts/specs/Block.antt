@@ -9,10 +9,10 @@ use Rattle.ct_sorts.specs.declared.block.Field.{Field}
 use Rattle.ct_sorts.specs.declared.block.CtorDecl.{CtorDecl}
 use Rattle.ct_sorts.specs.declared.block.SortDecl.{SortDecl}
 use Rattle.ct_sorts.specs.Declarations.{Declarations, Sort, Constructor, Selector, ctor_ids, sel_ids, sort_names, symbol_names, most_sorts, most_ctors, most_sels}
-use Rattle.ct_sorts.specs.Names.{HasUnavailable, HasUnavailableSort}
-use Rattle.ct_sorts.specs.Lookup.{place_of}
+use Rattle.ct_sorts.specs.Availability.{HasUnavailable, HasUnavailableSort}
+use Rattle.ct_sorts.specs.Lookup.{index_of}
 use Rattle.ct_sorts.specs.Founded.{IsFounded}
-use Rattle.ct_sorts.specs.Refusals.{IsFirst, IsNone, name_taken, no_constructor, unknown_sort, not_founded, too_many}
+use Rattle.ct_sorts.specs.Refusals.{IsFirstCause, IsNone, name_taken, no_constructor, unknown_sort, not_founded, too_many}
 
 -- the constructors that a block declares, one sort after the other
 abbrev pub block_ctors : List SortDecl → List CtorDecl
@@ -32,7 +32,7 @@ ctor_symbols ctors = flat_map (λ c. c.name ∷ map (λ f. f.name) c.fields) cto
 
 -- the sort that a name stands for inside a block: the block's own sorts come first, and then the earlier ones
 abbrev pub sort_number : List (List ℕ) → List (List ℕ) → List ℕ → Option ℕ
-sort_number earlier own name = option_or (option_map (λ place. length earlier + place) (place_of own name)) (place_of earlier name)
+sort_number earlier own name = option_or (option_map (λ index. length earlier + index) (index_of own name)) (index_of earlier name)
 
 -- the sort of a field of a block in which every field's sort is known
 abbrev pub sort_of_field : List (List ℕ) → List (List ℕ) → List ℕ → SortId
@@ -55,15 +55,15 @@ new_ctors sort sel (s ∷ rest) = ctors_of_sort sort sel s.ctors ++ new_ctors (s
 
 -- the selectors of one constructor, from the field at `place` on
 abbrev pub sels_of_ctor : (List ℕ → SortId) → ℕ → ℕ → List Field → List Selector
-sels_of_ctor sort_of ctor place [] = []
-sels_of_ctor sort_of ctor place (f ∷ rest) = record { name = f.name; ctor = record { 0 = ctor }; place = place; sort = sort_of f.sort } ∷ sels_of_ctor sort_of ctor (place + 1) rest
+sels_of_ctor sort_of_entry ctor index [] = []
+sels_of_ctor sort_of_entry ctor index (f ∷ rest) = record { name = f.name; ctor = record { 0 = ctor }; place = index; sort = sort_of_entry f.sort } ∷ sels_of_ctor sort_of_entry ctor (index + 1) rest
 
 -- the selectors of constructors, which have the numbers from `ctor` on
 abbrev pub new_sels : (List ℕ → SortId) → ℕ → List CtorDecl → List Selector
-new_sels sort_of ctor [] = []
-new_sels sort_of ctor (c ∷ rest) = sels_of_ctor sort_of ctor 0 c.fields ++ new_sels sort_of (ctor + 1) rest
+new_sels sort_of_entry ctor [] = []
+new_sels sort_of_entry ctor (c ∷ rest) = sels_of_ctor sort_of_entry ctor 0 c.fields ++ new_sels sort_of_entry (ctor + 1) rest
 
--- the declarations with the block: its sorts, constructors and selectors behind those that are there
+-- the declarations with the block: its sorts, constructors and selectors after those that are there
 abbrev pub with_block : Declarations → Kind → List SortDecl → Declarations
 with_block d kind block =
     record d {
@@ -95,11 +95,11 @@ IsOverLimits d = (most_sorts < length d.sorts) ⊎ ((most_ctors < length d.ctors
 -- the number with which the block is refused: that of the first cause that applies
 abbrev pub IsBlockRefusal : Declarations → Kind → List SortDecl → ℕ → Type 0
 IsBlockRefusal d kind block =
-    IsFirst name_taken (HasNameTaken d block)
-    (IsFirst no_constructor (has_no_constructor block ≡ true)
-    (IsFirst unknown_sort (has_unknown_sort (sort_names d) (block_names block) block ≡ true)
-    (IsFirst not_founded (HasUnfounded d kind block)
-    (IsFirst too_many (IsOverLimits (with_block d kind block)) IsNone))))
+    IsFirstCause name_taken (HasNameTaken d block)
+    (IsFirstCause no_constructor (has_no_constructor block ≡ true)
+    (IsFirstCause unknown_sort (has_unknown_sort (sort_names d) (block_names block) block ≡ true)
+    (IsFirstCause not_founded (HasUnfounded d kind block)
+    (IsFirstCause too_many (IsOverLimits (with_block d kind block)) IsNone))))
 
 -- no cause but a taken name is left to refuse the block
 pub record IsAcceptable (d : Declarations) (kind : Kind) (block : List SortDecl) : Type 0 where

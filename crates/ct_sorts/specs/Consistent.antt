@@ -3,7 +3,7 @@ use Rattle.std.specs.Prelude.{◌≡◌, ℕ, ◌+◌, ◌≤◌, ◌<◌, List,
 use Rattle.std.specs.List.{flat_map, range_with_len}
 use Rattle.ct_sorts.specs.declared.ids.Kind.{Kind}
 use Rattle.ct_sorts.specs.declared.ids.Kind.TheVariants.{Bool as BoolKind, Free, Data, Codata}
-use Rattle.ct_sorts.specs.Names.{IsUnavailable, IsUnfit}
+use Rattle.ct_sorts.specs.Availability.{IsUnavailable, IsUnfit}
 use Rattle.ct_sorts.specs.Declarations.{Declarations, Sort, Selector, Function, IsSort, sort_names, symbol_names, ctor_names, sel_names, function_names, definition_names, start, ctor_ids, sel_ids, most_sorts, most_ctors, most_sels, most_functions, most_definitions}
 use Rattle.ct_sorts.specs.Lookup.{AreDistinct}
 use Rattle.ct_sorts.specs.Founded.{IsFounded}
@@ -18,7 +18,7 @@ pub record AreFew (d : Declarations) : Type 0 where
 
 -- each of the symbols may be declared
 abbrev pub AreAvailable : List (List ℕ) → Type 0
-AreAvailable symbols = (place : ℕ) (name : List ℕ) → slice_get symbols place ≡ Some name → IsUnavailable [] name → ⊥
+AreAvailable symbols = (index : ℕ) (name : List ℕ) → slice_get symbols index ≡ Some name → IsUnavailable [] name → ⊥
 
 -- each sort has a name that may be declared
 abbrev pub AreFit : List (List ℕ) → Type 0
@@ -41,11 +41,11 @@ abbrev pub owners : {X : Type 0} → ℕ → List (List X) → List ℕ
 owners first [] = []
 owners first (group ∷ groups) = replicate (length group) first ++ owners (first + 1) groups
 
--- for each item of the groups, in order, its place in its group
-abbrev pub places : {X : Type 0} → List (List X) → List ℕ
-places groups = flat_map (λ group. range_with_len 0 (length group)) groups
+-- for each item of the groups, in order, its index in its group
+abbrev pub indices : {X : Type 0} → List (List X) → List ℕ
+indices groups = flat_map (λ group. range_with_len 0 (length group)) groups
 
--- Bool is the first sort alone, a free sort has no constructor, a datatype and a codatatype have one or more
+-- Bool is the first sort alone, an uninterpreted sort has no constructor, a datatype and a codatatype have one or more
 abbrev pub FitsKind : ℕ → Kind → ℕ → Type 0
 FitsKind s BoolKind count = s ≡ 0
 FitsKind s Free count = count ≡ 0
@@ -73,7 +73,7 @@ pub record IsConsistent (d : Declarations) : Type 0 where
   -- the selectors of the constructors, one constructor after the other, are all selectors in order, each of its constructor and its place
   pub all_sels : flat_map (λ c. c.sels) d.ctors ≡ sel_ids 0 (length d.sels)
   pub sel_ctors : map (λ s. s.ctor.0) d.sels ≡ owners 0 (map (λ c. c.sels) d.ctors)
-  pub sel_places : map (λ s. s.place) d.sels ≡ places (map (λ c. c.sels) d.ctors)
+  pub sel_places : map (λ s. s.place) d.sels ≡ indices (map (λ c. c.sels) d.ctors)
   -- every field, function and definition is over sorts that are there
   pub fields : AreFieldsOverSorts d
   pub over_sorts : AreOverSorts d d.functions

@@ -34,7 +34,7 @@ pub record Function : Type 0 where
   pub args : List SortId
   pub result : SortId
 
--- all declarations, each list in the order of declaration: what has number n stands at place n
+-- all declarations, each list in the order of declaration: what has number n stands at index n
 pub record Declarations : Type 0 where
   pub sorts : List Sort
   pub ctors : List Constructor

@@ -8,13 +8,13 @@ use Rattle.ct_sorts.specs.Declarations.{Declarations, Sort, Constructor, Selecto
 
 -- all fields of the constructor have sorts of the set
 abbrev pub HasFieldsIn : Declarations → (ℕ → Bool) → Constructor → Type 0
-HasFieldsIn d set ctor = (place : ℕ) (s : SelId) (sel : Selector) → slice_get ctor.sels place ≡ Some s → slice_get d.sels s.0 ≡ Some sel → set sel.sort.0 ≡ true
+HasFieldsIn d set ctor = (index : ℕ) (s : SelId) (sel : Selector) → slice_get ctor.sels index ≡ Some s → slice_get d.sels s.0 ≡ Some sel → set sel.sort.0 ≡ true
 
 -- the set holds Bool, every Free and every Codata sort, and every Data sort that has a constructor all of whose field sorts it holds
-pub record IsClosed (d : Declarations) (set : ℕ → Bool) : Type 0 where
+pub record IsClosedSet (d : Declarations) (set : ℕ → Bool) : Type 0 where
   pub others : (s : ℕ) (sort : Sort) → slice_get d.sorts s ≡ Some sort → (sort.kind ≡ Data → ⊥) → set s ≡ true
-  pub built : (s : ℕ) (sort : Sort) (place : ℕ) (c : CtorId) (ctor : Constructor) → slice_get d.sorts s ≡ Some sort → slice_get sort.ctors place ≡ Some c → slice_get d.ctors c.0 ≡ Some ctor → HasFieldsIn d set ctor → set s ≡ true
+  pub built : (s : ℕ) (sort : Sort) (index : ℕ) (c : CtorId) (ctor : Constructor) → slice_get d.sorts s ≡ Some sort → slice_get sort.ctors index ≡ Some c → slice_get d.ctors c.0 ≡ Some ctor → HasFieldsIn d set ctor → set s ≡ true
 
 -- the sort is in each such set, and so in the least one
 abbrev pub IsFounded : Declarations → ℕ → Type 0
-IsFounded d s = (set : ℕ → Bool) → IsClosed d set → set s ≡ true
+IsFounded d s = (set : ℕ → Bool) → IsClosedSet d set → set s ≡ true

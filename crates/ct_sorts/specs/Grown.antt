@@ -6,7 +6,7 @@ use Rattle.ct_sorts.specs.Declarations.{Declarations}
 abbrev pub Begins : {X : Type 0} → List X → List X → Type 0
 Begins {X} first second = (rest : List X) × (second ≡ first ++ rest)
 
--- the later declarations are the earlier ones, in each list with more behind them or the same
+-- the later declarations are the earlier ones, in each list with more after them or the same
 pub record Extends (later earlier : Declarations) : Type 0 where
   pub sorts : Begins earlier.sorts later.sorts
   pub ctors : Begins earlier.ctors later.ctors

@@ -1,4 +1,4 @@
-pub mod Names
+pub mod Availability
 pub mod Declarations
 pub mod Lookup
 pub mod Founded
@@ -10,5 +10,5 @@ pub mod Refusals
 pub mod Block
 pub mod Marked
 pub mod Grown
-pub mod Kept
+pub mod Stored
 pub mod Inside

@@ -4,11 +4,11 @@ use Rattle.std.specs.List.{list_any, list_all}
 use Rattle.ct_sorts.specs.declared.block.Field.{Field}
 use Rattle.ct_sorts.specs.declared.block.CtorDecl.{CtorDecl}
 use Rattle.ct_sorts.specs.declared.block.SortDecl.{SortDecl}
-use Rattle.ct_sorts.specs.Lookup.{place_of}
+use Rattle.ct_sorts.specs.Lookup.{index_of}
 
 -- the sort of the field is an earlier one, or one of the block that the set holds
 abbrev pub is_field_in : List (List ℕ) → (ℕ → Bool) → Field → Bool
-is_field_in own set field = unwrap_or (option_map set (place_of own field.sort)) true
+is_field_in own set field = unwrap_or (option_map set (index_of own field.sort)) true
 
 -- all fields of the constructor are so
 abbrev pub is_ctor_in : List (List ℕ) → (ℕ → Bool) → CtorDecl → Bool

@@ -26,8 +26,8 @@ abbrev pub symbol_taken : ℕ
 symbol_taken = 29
 
 -- the refusal has this number where the cause applies, and else it is a later one
-abbrev pub IsFirst : ℕ → Type 0 → (ℕ → Type 0) → ℕ → Type 0
-IsFirst number cause later n = ((n ≡ number) × cause) ⊎ ((cause → ⊥) × later n)
+abbrev pub IsFirstCause : ℕ → Type 0 → (ℕ → Type 0) → ℕ → Type 0
+IsFirstCause number cause later n = ((n ≡ number) × cause) ⊎ ((cause → ⊥) × later n)
 
 -- there is no further cause
 abbrev pub IsNone : ℕ → Type 0

@@ -1,6 +1,6 @@
 //! Whether the names of a block may be declared.
 ghost use Rattle.std.specs.Prelude.{◌≡◌, ℕ, List, [], ◌∷◌, ◌++◌, map, OnOk, IsErrOf};
-ghost use Rattle.ct_sorts.specs.Names.{IsUnavailable, IsUnavailableSort, HasUnavailable, HasUnavailableSort};
+ghost use Rattle.ct_sorts.specs.Availability.{IsUnavailable, IsUnavailableSort, HasUnavailable, HasUnavailableSort};
 ghost use Rattle.ct_sorts.specs.Declarations.{sort_names, symbol_names};
 ghost use Rattle.ct_sorts.specs.Lookup.{names_of};
 ghost use Rattle.ct_sorts.specs.Refusals.{name_taken};

@@ -6,21 +6,21 @@ use crate::ids::{CtorId, Kind, SelId, SortId};
 use crate::items::Items;
 use std::alloc::{AllocError, Global};
 
-/// What is kept of a sort.
+/// What is stored of a sort.
 #[derive(Drop)]
 pub(crate) struct SortEntry {
     pub(crate) kind: Kind,
     pub(crate) ctors: Items<CtorId>,
 }
 
-/// What is kept of a constructor.
+/// What is stored of a constructor.
 #[derive(Drop)]
 pub(crate) struct CtorEntry {
     pub(crate) sort: SortId,
     pub(crate) sels: Items<SelId>,
 }
 
-/// What is kept of a selector.
+/// What is stored of a selector.
 #[derive(Clone, Copy)]
 pub(crate) struct SelEntry {
     pub(crate) ctor: CtorId,
@@ -28,7 +28,7 @@ pub(crate) struct SelEntry {
     pub(crate) sort: SortId,
 }
 
-/// What is kept of a function or a definition.
+/// What is stored of a function or a definition.
 #[derive(Drop)]
 pub(crate) struct FunctionEntry {
     pub(crate) args: Items<SortId>,

@@ -76,8 +76,8 @@ fn has_marked_fields(own: &Numbered<()>, marks: &[bool], ctor: &CtorDecl) -> boo
 fn is_marked(own: &Numbered<()>, marks: &[bool], field: &Field) -> bool
     ensures value { result ≡ is_field_in (names_of own.now) (marked marks.now) field.now }
 {
-    match own.place_of(field.sort.as_slice()) {
-        Some(place) => place < marks.len() && marks[place],
+    match own.index_of(field.sort.as_slice()) {
+        Some(index) => index < marks.len() && marks[index],
         None => true,
     }
 }

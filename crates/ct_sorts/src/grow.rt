@@ -1,10 +1,10 @@
-//! Puts the sorts, constructors and selectors of a block behind those that are there. The names of the block may
-//! all be declared, its fields have known sorts, and no limit is passed.
+//! Puts the sorts, constructors and selectors of a block after those that are there. The names of
+//! the block may all be declared, its fields have known sorts, and no limit is passed.
 ghost use Rattle.std.specs.Prelude.{◌≡◌, ℕ, ◌+◌, ◌<◌, ◌≤◌, List, ◌++◌, length, map, IfOk, IfErr, OnOk, OnErr};
 ghost use Rattle.ct_sorts.specs.Declarations.{ctor_ids, sel_ids, sort_ids, most_sorts, most_ctors, most_sels};
 ghost use Rattle.ct_sorts.specs.Lookup.{AreDistinct, names_of};
 ghost use Rattle.ct_sorts.specs.Grown.{Begins};
-ghost use Rattle.ct_sorts.specs.Kept.{sort_of, ctor_of, sel_of};
+ghost use Rattle.ct_sorts.specs.Stored.{sort_of_entry, ctor_of, sel_of};
 ghost use Rattle.ct_sorts.specs.Block.{block_ctors, all_fields, new_sorts, new_ctors, new_sels, ctors_of_sort, sels_of_ctor, sort_of_field};
 
 use crate::block::{CtorDecl, Field, SortDecl};
@@ -70,10 +70,10 @@ pub(crate) fn grow(
     requires ctors_few { length ctors.old + length (block_ctors block.now) ≤ most_ctors }
     requires sels_few { length sels.old + length (all_fields (block_ctors block.now)) ≤ most_sels }
     requires own { length own.now ≡ length block.now }
-    requires sorts_fresh { AreDistinct (map (λ s. s.name) (map sort_of sorts.old ++ new_sorts kind (length ctors.old) block.now)) }
+    requires sorts_fresh { AreDistinct (map (λ s. s.name) (map sort_of_entry sorts.old ++ new_sorts kind (length ctors.old) block.now)) }
     requires ctors_fresh { AreDistinct (map (λ c. c.name) (map ctor_of ctors.old ++ new_ctors (length sorts.old) (length sels.old) block.now)) }
     requires sels_fresh { AreDistinct (map (λ s. s.name) (map sel_of sels.old ++ new_sels (sort_of_field (names_of sorts.old) (names_of own.now)) (length ctors.old) (block_ctors block.now))) }
-    ensures sorts { OnOk result (map sort_of sorts.new ≡ map sort_of sorts.old ++ new_sorts kind (length ctors.old) block.now) }
+    ensures sorts { OnOk result (map sort_of_entry sorts.new ≡ map sort_of_entry sorts.old ++ new_sorts kind (length ctors.old) block.now) }
     ensures ctors { OnOk result (map ctor_of ctors.new ≡ map ctor_of ctors.old ++ new_ctors (length sorts.old) (length sels.old) block.now) }
     ensures sels { OnOk result (map sel_of sels.new ≡ map sel_of sels.old ++ new_sels (sort_of_field (names_of sorts.old) (names_of own.now)) (length ctors.old) (block_ctors block.now)) }
     ensures err { IfErr result (λ e. e ≡ SigError.NoMemory) }
@@ -109,9 +109,9 @@ fn push_sorts(
     block: &[SortDecl],
 ) -> Result<(), SigError>
     requires few { first + length (block_ctors block.now) ≤ most_ctors }
-    requires fresh { AreDistinct (map (λ s. s.name) (map sort_of sorts.old ++ new_sorts kind first block.now)) }
-    ensures ok { OnOk result (map sort_of sorts.new ≡ map sort_of sorts.old ++ new_sorts kind first block.now) }
-    ensures kept { Begins sorts.old sorts.new }
+    requires fresh { AreDistinct (map (λ s. s.name) (map sort_of_entry sorts.old ++ new_sorts kind first block.now)) }
+    ensures ok { OnOk result (map sort_of_entry sorts.new ≡ map sort_of_entry sorts.old ++ new_sorts kind first block.now) }
+    ensures stored { Begins sorts.old sorts.new }
     ensures err { IfErr result (λ e. e ≡ SigError.NoMemory) }
 {
     let mut next = first;
@@ -138,7 +138,7 @@ fn push_all_ctors(
     requires sels_few { first_sel + length (all_fields (block_ctors block.now)) ≤ most_sels }
     requires fresh { AreDistinct (map (λ c. c.name) (map ctor_of ctors.old ++ new_ctors first_sort first_sel block.now)) }
     ensures ok { OnOk result (map ctor_of ctors.new ≡ map ctor_of ctors.old ++ new_ctors first_sort first_sel block.now) }
-    ensures kept { Begins ctors.old ctors.new }
+    ensures stored { Begins ctors.old ctors.new }
     ensures err { IfErr result (λ e. e ≡ SigError.NoMemory) }
 {
     let mut sort = first_sort;
@@ -150,7 +150,7 @@ fn push_all_ctors(
     Ok(())
 }
 
-// The constructors of one sort. Gives the number of the selector behind theirs.
+// The constructors of one sort. Gives the number of the selector after theirs.
 fn push_ctors(
     alloc: Global,
     ctors: &mut Numbered<CtorEntry>,
@@ -163,7 +163,7 @@ fn push_ctors(
     requires fresh { AreDistinct (map (λ c. c.name) (map ctor_of ctors.old ++ ctors_of_sort sort first decls.now)) }
     ensures ok { IfOk result (λ next. (next ≡ first + length (all_fields decls.now))
         × (map ctor_of ctors.new ≡ map ctor_of ctors.old ++ ctors_of_sort sort first decls.now)) }
-    ensures kept { Begins ctors.old ctors.new }
+    ensures stored { Begins ctors.old ctors.new }
     ensures err { IfErr result (λ e. e ≡ SigError.NoMemory) }
 {
     let mut next = first;
@@ -192,7 +192,7 @@ fn push_all_sels(
     requires sels_few { length (all_fields (block_ctors block.now)) ≤ most_sels }
     requires fresh { AreDistinct (map (λ s. s.name) (map sel_of sels.old ++ new_sels (sort_of_field (names_of sorts.now) (names_of own.now)) first (block_ctors block.now))) }
     ensures ok { OnOk result (map sel_of sels.new ≡ map sel_of sels.old ++ new_sels (sort_of_field (names_of sorts.now) (names_of own.now)) first (block_ctors block.now)) }
-    ensures kept { Begins sels.old sels.new }
+    ensures stored { Begins sels.old sels.new }
     ensures err { IfErr result (λ e. e ≡ SigError.NoMemory) }
 {
     let mut next = first;
@@ -218,7 +218,7 @@ fn push_sels(
     requires sels_few { length (all_fields decls.now) ≤ most_sels }
     requires fresh { AreDistinct (map (λ s. s.name) (map sel_of sels.old ++ new_sels (sort_of_field (names_of sorts.now) (names_of own.now)) first decls.now)) }
     ensures ok { OnOk result (map sel_of sels.new ≡ map sel_of sels.old ++ new_sels (sort_of_field (names_of sorts.now) (names_of own.now)) first decls.now) }
-    ensures kept { Begins sels.old sels.new }
+    ensures stored { Begins sels.old sels.new }
     ensures err { IfErr result (λ e. e ≡ SigError.NoMemory) }
 {
     let mut ctor = first;
@@ -243,7 +243,7 @@ fn push_fields(
     requires few { length fields.now ≤ most_sels }
     requires fresh { AreDistinct (map (λ s. s.name) (map sel_of sels.old ++ sels_of_ctor (sort_of_field (names_of sorts.now) (names_of own.now)) ctor.0 0 fields.now)) }
     ensures ok { OnOk result (map sel_of sels.new ≡ map sel_of sels.old ++ sels_of_ctor (sort_of_field (names_of sorts.now) (names_of own.now)) ctor.0 0 fields.now) }
-    ensures kept { Begins sels.old sels.new }
+    ensures stored { Begins sels.old sels.new }
     ensures err { IfErr result (λ e. e ≡ SigError.NoMemory) }
 {
     let mut place = 0;

@@ -13,7 +13,7 @@ impl<T> Model for Items<T> {
 
     ghost Value = { List T };
 
-    ghost view = { λ kept. kept.items.items };
+    ghost view = { λ stored. stored.items.items };
 }
 
 impl<T> Items<T> {

@@ -10,7 +10,6 @@ mod founded;
 mod grow;
 mod ids;
 mod items;
-mod laws;
 mod limits;
 mod mark;
 mod name;
@@ -18,6 +17,7 @@ mod numbered;
 mod refusals;
 mod signature;
 mod start;
+mod theorems;
 mod unavailable;
 mod unknown;
 
@@ -25,10 +25,10 @@ pub use block::{CtorDecl, Field, SortDecl};
 pub use error::SigError;
 pub use ids::{CtorId, DefId, FunId, Kind, SelId, SortId, Symbol};
 pub use items::Items;
-pub use laws::{growth, structure};
 pub use mark::Mark;
 pub use name::Name;
 pub use signature::Signature;
+pub use theorems::{growth, structure};
 
 #[cfg(test)]
 mod mark_tests;

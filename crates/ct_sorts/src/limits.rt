@@ -25,7 +25,7 @@ pub(crate) fn fits_sels(room: usize, block: &[SortDecl]) -> bool
 {
     let mut left = room;
     for decl in block {
-        match room_behind(left, decl.ctors.as_slice()) {
+        match room_after(left, decl.ctors.as_slice()) {
             Some(rest) => left = rest,
             None => return false,
         }
@@ -33,8 +33,8 @@ pub(crate) fn fits_sels(room: usize, block: &[SortDecl]) -> bool
     true
 }
 
-// The room that is left behind the fields of these constructors.
-fn room_behind(room: usize, ctors: &[CtorDecl]) -> Option<usize>
+// The room that is left after the fields of these constructors.
+fn room_after(room: usize, ctors: &[CtorDecl]) -> Option<usize>
     ensures room { MatchOption result (room < length (all_fields ctors.now)) (λ left. left + length (all_fields ctors.now) ≡ room) }
 {
     let mut left = room;

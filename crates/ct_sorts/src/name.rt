@@ -3,7 +3,8 @@ ghost use Rattle.std.specs.Prelude.{◌≡◌, IfOk};
 use std::alloc::{AllocError, Global};
 use std::marker::Model;
 
-/// A name of a sort or a symbol, without the bars that may surround it in a script. Clauses see its bytes.
+/// A name of a sort or a symbol, without the `|` that may surround it in a script. Clauses see its
+/// bytes.
 #[derive(Debug, Drop)]
 pub struct Name {
     bytes: Vec<u8>,

@@ -1,7 +1,7 @@
-//! A map from names to what is declared under them, in which a place is a number.
+//! A map from names to what is declared under them, in which an index is a number.
 ghost use Rattle.std.specs.Prelude.{◌≡◌, ℕ, ◌+◌, ◌<◌, ◌^◌, [], ◌∷◌, ◌++◌, List, length, take, Some, option_map, slice_get, IfSome, MatchOption, OnOk, OnErr, IfErr, IfOk, IsTrue, ◌↔◌};
-ghost use Rattle.ct_sorts.specs.Names.{IsListed};
-ghost use Rattle.ct_sorts.specs.Lookup.{AreDistinct, names_of, place_of};
+ghost use Rattle.ct_sorts.specs.Availability.{IsListed};
+ghost use Rattle.ct_sorts.specs.Lookup.{AreDistinct, names_of, index_of};
 
 use crate::duplicate::Duplicate;
 use crate::error::SigError;
@@ -22,9 +22,9 @@ impl<T> Model for Numbered<T> {
 
     ghost Value = { List (List ℕ × T) };
 
-    ghost view = { λ kept. map (λ e. (e.0.items, e.1)) kept.entries.entries };
+    ghost view = { λ stored. map (λ e. (e.0.items, e.1)) stored.entries.entries };
 
-    ghost invariant = { λ kept. AreDistinct (map (λ e. e.0.items) kept.entries.entries) };
+    ghost invariant = { λ stored. AreDistinct (map (λ e. e.0.items) stored.entries.entries) };
 }
 
 impl<T> Numbered<T> {
@@ -46,12 +46,12 @@ impl<T> Numbered<T> {
         self.entries.len()
     }
 
-    /// The place of the name.
-    pub(crate) fn place_of(&self, name: &[u8]) -> Option<usize>
-        ensures place { result ≡ place_of (names_of self.now) name.now }
+    /// The index of the name.
+    pub(crate) fn index_of(&self, name: &[u8]) -> Option<usize>
+        ensures index { result ≡ index_of (names_of self.now) name.now }
         ensures listed { MatchOption result (IsListed (names_of self.now) name.now → ⊥)
-            (λ place. slice_get (names_of self.now) place ≡ Some name.now) }
-        ensures below { IfSome result (λ place. place < length self.now) }
+            (λ index. slice_get (names_of self.now) index ≡ Some name.now) }
+        ensures below { IfSome result (λ index. index < length self.now) }
     {
         self.entries.get_index_of(name)
     }
@@ -60,24 +60,24 @@ impl<T> Numbered<T> {
     pub(crate) fn has(&self, name: &[u8]) -> bool
         ensures listed { IsTrue result ↔ IsListed (names_of self.now) name.now }
     {
-        self.place_of(name).is_some()
+        self.index_of(name).is_some()
     }
 
-    /// The name at a place.
-    pub(crate) fn name(&self, place: usize) -> &[u8]
-        requires inside { place < length self.now }
-        ensures name { option_map (λ e. e.0) (slice_get self.now place) ≡ Some result.now }
+    /// The name at an index.
+    pub(crate) fn name(&self, index: usize) -> &[u8]
+        requires inside { index < length self.now }
+        ensures name { option_map (λ e. e.0) (slice_get self.now index) ≡ Some result.now }
     {
-        let (name, _) = self.entries.get_index(place).unwrap();
+        let (name, _) = self.entries.get_index(index).unwrap();
         name.as_slice()
     }
 
-    /// What is declared at a place.
-    pub(crate) fn get(&self, place: usize) -> &T
-        requires inside { place < length self.now }
-        ensures value { option_map (λ e. e.1) (slice_get self.now place) ≡ Some result.now }
+    /// What is declared at an index.
+    pub(crate) fn get(&self, index: usize) -> &T
+        requires inside { index < length self.now }
+        ensures value { option_map (λ e. e.1) (slice_get self.now index) ≡ Some result.now }
     {
-        let (_, value) = self.entries.get_index(place).unwrap();
+        let (_, value) = self.entries.get_index(index).unwrap();
         value
     }
 
@@ -111,9 +111,9 @@ impl<T: Duplicate + Drop> Numbered<T> {
         ensures err { IfErr result (λ e. e ≡ SigError.NoMemory) }
     {
         let mut copied = Numbered::new(alloc);
-        for place in 0..self.len() {
-            let name = Name::from_slice(alloc, self.name(place))?;
-            copied.push(name, self.get(place).duplicate(alloc)?)?;
+        for index in 0..self.len() {
+            let name = Name::from_slice(alloc, self.name(index))?;
+            copied.push(name, self.get(index).duplicate(alloc)?)?;
         }
         Ok(copied)
     }

@@ -11,7 +11,11 @@ use std::test::Fail;
 
 // Adds a block of a sort of one constructor with a field of an unknown sort and a sort without constructors, and
 // gives the refusal.
-fn add_bare(alloc: Global, sig: &mut Signature, con: &[u8]) -> Result<Option<SigError>, SigError> {
+fn add_constant(
+    alloc: Global,
+    sig: &mut Signature,
+    con: &[u8],
+) -> Result<Option<SigError>, SigError> {
     let mut block = Vec::new(alloc);
     block.push(sort_of_one(alloc, b"S", ctor(alloc, con, &[(b"f", b"X")])?)?)?;
     block.push(sort_with(alloc, b"T", Vec::new(alloc))?)?;
@@ -48,14 +52,14 @@ fn holds_65536_functions(rt: HostRuntime) -> Result<(), Fail> {
 }
 
 // Declares an uninterpreted sort whose name ends with a number.
-fn free_numbered(alloc: Global, sig: &mut Signature, n: u32) -> Result<SortId, SigError> {
+fn uninterpreted_numbered(alloc: Global, sig: &mut Signature, n: u32) -> Result<SortId, SigError> {
     let text = format!(in alloc; "S{n}")?;
     free(alloc, sig, text.as_bytes())
 }
 
 fn fill_sorts(rt: &impl Abort, alloc: Global, sig: &mut Signature) {
     for n in 1..4_096u32 {
-        assert_eq!(rt; free_numbered(alloc, sig, n), Ok(SortId(n)));
+        assert_eq!(rt; uninterpreted_numbered(alloc, sig, n), Ok(SortId(n)));
     }
 }
 
@@ -227,11 +231,11 @@ fn check_order(rt: &impl Abort, alloc: Global, sig: &mut Signature) {
 }
 
 // A sort without constructors beside an unknown sort, and beside a taken name.
-fn check_bare_sorts(rt: &impl Abort, alloc: Global, sig: &mut Signature) {
-    let bare = Ok(Some(SigError::Refused(13)));
-    assert_eq!(rt; add_bare(alloc, sig, b"k"), bare);
+fn check_constant_sorts(rt: &impl Abort, alloc: Global, sig: &mut Signature) {
+    let constant = Ok(Some(SigError::Refused(13)));
+    assert_eq!(rt; add_constant(alloc, sig, b"k"), constant);
     let taken = Ok(Some(SigError::Refused(11)));
-    assert_eq!(rt; add_bare(alloc, sig, b"c"), taken);
+    assert_eq!(rt; add_constant(alloc, sig, b"c"), taken);
 }
 
 #[test]
@@ -245,7 +249,7 @@ fn refuses_with_the_first_cause(rt: HostRuntime) -> Result<(), Fail> {
     check_unfit_symbols(&rt, rt.alloc(), &mut sig);
     check_taken_symbols(&rt, rt.alloc(), &mut sig);
     check_order(&rt, rt.alloc(), &mut sig);
-    check_bare_sorts(&rt, rt.alloc(), &mut sig);
+    check_constant_sorts(&rt, rt.alloc(), &mut sig);
     compare(&rt, &sig, &before);
     Ok(())
 }

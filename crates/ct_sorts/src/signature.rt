@@ -1,7 +1,7 @@
 ghost use Rattle.std.specs.Prelude.{◌≡◌, ℕ, ◌+◌, List, ◌<◌, ◌≤◌, ◌⊎◌, ◌↔◌, [], length, Some, None, option_map, slice_get, All, IsTrue, IfSome, MatchOption, OnOk, OnErr, IfOk, IfErr, IsErrOf};
-ghost use Rattle.ct_sorts.specs.Names.{IsListed, IsUnavailable, IsUnavailableSort, core_words};
+ghost use Rattle.ct_sorts.specs.Availability.{IsListed, IsUnavailable, IsUnavailableSort, core_words};
 ghost use Rattle.ct_sorts.specs.Declarations.{Declarations, Function, IsSort, IsConstructor, IsSelector, IsFunction, IsDefinition, start, function_names, symbol_names, sort_names, ctor_names, sel_names, most_sorts, most_functions, most_definitions, sort_ids, with_sort, with_function, with_definition};
-ghost use Rattle.ct_sorts.specs.Lookup.{StandsFor, IsSymbol, AreDistinct, names_of};
+ghost use Rattle.ct_sorts.specs.Lookup.{ResolvesTo, IsSymbol, AreDistinct, names_of};
 ghost use Rattle.ct_sorts.specs.Refusals.{name_taken, symbol_taken, too_many};
 ghost use Rattle.ct_sorts.specs.Consistent.{IsConsistent, IsOverSorts};
 ghost use Rattle.ct_sorts.specs.Block.{HasNameTaken, HasUnfounded, IsAcceptable, IsBlockRefusal, IsOverLimits, block_names, with_block};
@@ -50,7 +50,7 @@ const MOST_DEFINITIONS: usize = 65_536;
 #[derive(Drop)]
 pub struct Signature {
     alloc: Global,
-    // In each map a place is a number.
+    // In each map an index is a number.
     sorts: Numbered<SortEntry>,
     ctors: Numbered<CtorEntry>,
     sels: Numbered<SelEntry>,
@@ -68,7 +68,7 @@ impl Model for Signature {
 
     ghost view = { declarations };
 
-    ghost invariant = { λ kept. IsConsistent (declarations kept) };
+    ghost invariant = { λ stored. IsConsistent (declarations stored) };
 }
 
 impl Signature {
@@ -212,7 +212,7 @@ impl Signature {
         fits_sels(MOST_SELS - self.sels.len(), block)
     }
 
-    // Puts the block behind the declarations, or leaves them as they were.
+    // Puts the block after the declarations, or leaves them as they were.
     fn append_block(
         &mut self,
         kind: Kind,
@@ -342,8 +342,8 @@ impl Signature {
             (λ s. slice_get (sort_names self.now) s.0 ≡ Some name.now) }
         ensures inside { IfSome result (IsSort self.now) }
     {
-        if let Some(place) = self.sorts.place_of(name) {
-            return Some(SortId(place as u32));
+        if let Some(index) = self.sorts.index_of(name) {
+            return Some(SortId(index as u32));
         }
         None
     }
@@ -351,7 +351,7 @@ impl Signature {
     /// What the name stands for: `true` and `false` for the constructors 0 and 1, and the other words of the core
     /// theory for nothing. `None` where the name is not declared.
     pub fn lookup(&self, name: &[u8]) -> Option<Symbol>
-        ensures value { StandsFor self.now name.now result }
+        ensures value { ResolvesTo self.now name.now result }
         ensures truths { (n : ℕ) → n < 2 → slice_get core_words n ≡ Some name.now → result ≡ Some (Symbol.Ctor (record { 0 = n })) }
         ensures words { (n : ℕ) → 2 ≤ n → slice_get core_words n ≡ Some name.now → result ≡ None }
         ensures inside { IfSome result (IsSymbol self.now) }
@@ -362,19 +362,19 @@ impl Signature {
 
     // What stands under the name in one of the four maps of symbols.
     fn find_symbol(&self, name: &[u8]) -> Option<Symbol>
-        ensures value { StandsFor self.now name.now result }
+        ensures value { ResolvesTo self.now name.now result }
     {
-        if let Some(place) = self.ctors.place_of(name) {
-            return Some(Symbol::Ctor(CtorId(place as u32)));
+        if let Some(index) = self.ctors.index_of(name) {
+            return Some(Symbol::Ctor(CtorId(index as u32)));
         }
-        if let Some(place) = self.sels.place_of(name) {
-            return Some(Symbol::Sel(SelId(place as u32)));
+        if let Some(index) = self.sels.index_of(name) {
+            return Some(Symbol::Sel(SelId(index as u32)));
         }
-        if let Some(place) = self.functions.place_of(name) {
-            return Some(Symbol::Fun(FunId(place as u32)));
+        if let Some(index) = self.functions.index_of(name) {
+            return Some(Symbol::Fun(FunId(index as u32)));
         }
-        if let Some(place) = self.definitions.place_of(name) {
-            return Some(Symbol::Def(DefId(place as u32)));
+        if let Some(index) = self.definitions.index_of(name) {
+            return Some(Symbol::Def(DefId(index as u32)));
         }
         None
     }

@@ -1,7 +1,7 @@
 //! What every signature begins with.
 ghost use Rattle.std.specs.Prelude.{◌≡◌, map, IfOk, IfErr};
 ghost use Rattle.ct_sorts.specs.Declarations.{start};
-ghost use Rattle.ct_sorts.specs.Kept.{sort_of, ctor_of};
+ghost use Rattle.ct_sorts.specs.Stored.{sort_of_entry, ctor_of};
 
 use crate::entries::{CtorEntry, SortEntry};
 use crate::error::SigError;
@@ -17,7 +17,7 @@ const BOOL: &[u8] = b"Bool";
 
 /// The sort Bool.
 pub(crate) fn start_sorts(alloc: Global) -> Result<Numbered<SortEntry>, SigError>
-    ensures ok { IfOk result (λ sorts. map sort_of sorts ≡ start.sorts) }
+    ensures ok { IfOk result (λ sorts. map sort_of_entry sorts ≡ start.sorts) }
     ensures err { IfErr result (λ e. e ≡ SigError.NoMemory) }
 {
     let mut sorts = Numbered::new(alloc);

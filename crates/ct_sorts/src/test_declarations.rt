@@ -146,11 +146,11 @@ pub(crate) fn has_sel(sig: &Signature, s: u32, name: &[u8], ctor: CtorId) -> boo
 }
 
 /// Whether the selector's field has the place and the sort.
-pub(crate) fn has_field(sig: &Signature, s: u32, place: u32, sort: SortId) -> bool {
+pub(crate) fn has_field(sig: &Signature, s: u32, index: u32, sort: SortId) -> bool {
     if s >= sig.mark().sels() {
         return false;
     }
-    sig.sel_place(SelId(s)) == place && sig.sel_sort(SelId(s)) == sort
+    sig.sel_place(SelId(s)) == index && sig.sel_sort(SelId(s)) == sort
 }
 
 /// Whether the function has the name, the arguments and the result.
@@ -289,7 +289,7 @@ pub(crate) fn compare(rt: &impl Abort, a: &Signature, b: &Signature) {
     assert!(rt; have_same_defs(a, b));
 }
 
-/// The free sort U, and the sort not of one constructor c with a field g of U.
+/// The uninterpreted sort U, and the sort not of one constructor c with a field g of U.
 pub(crate) fn declare_sorts(rt: &impl Abort, alloc: Global, sig: &mut Signature) {
     assert_eq!(rt; free(alloc, sig, b"U"), Ok(SortId(1)));
     assert_eq!(rt; add_one(alloc, sig, b"not", b"c", b"g", b"U"), Ok(None));

@@ -1,6 +1,6 @@
 //! Which texts cannot be declared, whatever is declared already.
 ghost use Rattle.std.specs.Prelude.{◌↔◌, map, IsTrue};
-ghost use Rattle.ct_sorts.specs.Names.{HasByte, IsListed, IsUnfit, core_words};
+ghost use Rattle.ct_sorts.specs.Availability.{HasByte, IsListed, IsUnfit, core_words};
 
 /// The name of the first constructor of Bool.
 pub(crate) const TRUE: &[u8] = b"true";
@@ -43,7 +43,7 @@ fn has_byte(text: &[u8], byte: u8) -> bool
     text.contains(&byte)
 }
 
-/// Whether the name is kept for the solver, or is no name at all.
+/// Whether the name is reserved for the solver, or is no name at all.
 pub(crate) fn is_unfit(name: &[u8]) -> bool
     ensures unfit { IsTrue result ↔ IsUnfit name.now }
 {

@@ -20,11 +20,11 @@ pub(crate) fn sort_number(
     ensures below { IfSome result (λ number. number < length sorts.now + length own.now) }
 {
     let text = name.as_slice();
-    if let Some(place) = own.place_of(text) {
-        prove!(place < own.len());
-        return Some(sorts.len() + place);
+    if let Some(index) = own.index_of(text) {
+        prove!(index < own.len());
+        return Some(sorts.len() + index);
     }
-    sorts.place_of(text)
+    sorts.index_of(text)
 }
 
 /// Whether some sort of the block has no constructor.

@@ -1,4 +1,4 @@
--- Lists by their places: one more element at the end, and a search by a test.
+-- Lists by their indices: one more element at the end, and a search by a test.
 use Rattle.std.proofs.Common.{◌≡◌, ℕ, zero, suc, ◌+◌, ◌<◌, ◌≤◌, ◌⊎◌, Bool, true, false, List, [], ◌∷◌, ◌++◌, length, take, slice_get, get_or, position, All, Some, None, refl, sym, ap, subst, ◌∙◌, inl, inr, arith, add-one}
 use Rattle.std.specs.List.{position_or_len, AllZip}
 use Rattle.std.proofs.lemmas.List.{get_or_default}
@@ -11,7 +11,7 @@ not_true true h = absurd (h refl)
 not_true false h = refl
 
 module _ {X : Type 0} where
-  -- what stands at a place stands there with more behind it
+  -- what stands at an index stands there with more after it
   pub slice_get-append_left : (xs ys : List X) (i : ℕ) (x : X) → slice_get xs i ≡ Some x → slice_get (xs ++ ys) i ≡ Some x
   slice_get-append_left [] ys i x e = absurd (none-some x e)
   slice_get-append_left (z ∷ zs) ys zero x e = e
@@ -22,7 +22,7 @@ module _ {X : Type 0} where
   slice_get-last [] x = refl
   slice_get-last (z ∷ zs) x = slice_get-last zs x
 
-  -- with a new last element, what stands at a place stood there before, or is the new one at the end
+  -- with a new last element, what stands at an index stood there before, or is the new one at the end
   pub slice_get-push_cases : (xs : List X) (x y : X) (i : ℕ) → slice_get (xs ++ x ∷ []) i ≡ Some y → (slice_get xs i ≡ Some y) ⊎ ((i ≡ length xs) × (x ≡ y))
   slice_get-push_cases [] x y zero e = inr (refl, same_Some x y e)
   slice_get-push_cases [] x y (suc i) e = absurd (none-some y e)
@@ -46,14 +46,14 @@ module _ {X : Type 0} where
   slice_get-take (suc n) (y ∷ xs) zero x e = e
   slice_get-take (suc n) (y ∷ xs) (suc i) x e = slice_get-take n xs i x e
 
-  -- its place is among the first
+  -- its index is among the first
   pub slice_get-take_below : (n : ℕ) (xs : List X) (i : ℕ) (x : X) → slice_get (take n xs) i ≡ Some x → i < n
   slice_get-take_below zero xs i x e = absurd (none-some _ e)
   slice_get-take_below (suc n) [] i x e = absurd (none-some _ e)
   slice_get-take_below (suc n) (y ∷ xs) zero x e = omega arith
   slice_get-take_below (suc n) (y ∷ xs) (suc i) x e = let h = slice_get-take_below n xs i x e in omega arith
 
-  -- what stands in the whole at a place of the first part stands in that
+  -- what stands in the whole at an index of the first part stands in that
   pub take-slice_get : (n : ℕ) (xs : List X) (i : ℕ) (x : X) → i < n → slice_get xs i ≡ Some x → slice_get (take n xs) i ≡ Some x
   take-slice_get zero xs i x h e = absurd (omega arith)
   take-slice_get (suc n) [] i x h e = e
@@ -77,22 +77,22 @@ last_or_before (suc k) zero h = absurd (omega arith)
 last_or_before (suc k) (suc i) h =
     elim (last_or_before k i (omega arith)) [ inl before ↦ inl (omega arith) | inr last ↦ inr (ap suc last) ]
 
--- two lists, place by place
+-- two lists, element by element
 module _ {X Y : Type 0} (R : X → Y → Type 0) where
-  -- what holds place by place of lists of one length
-  pub AllZip-from_places : (xs : List X) (ys : List Y) → length xs ≡ length ys → ((k : ℕ) (d : X) (e : Y) → k < length xs → R (get_or xs k d) (get_or ys k e)) → AllZip R xs ys
-  AllZip-from_places [] [] long each = tt
-  AllZip-from_places [] (y ∷ ys) long each = absurd (omega arith)
-  AllZip-from_places (x ∷ xs) [] long each = absurd (omega arith)
-  AllZip-from_places (x ∷ xs) (y ∷ ys) long each =
-      (each 0 x y (omega arith), AllZip-from_places xs ys (omega arith) (λ k d e within. each (suc k) d e (omega arith)))
+  -- what holds element by element of lists of one length
+  pub AllZip-from_indices : (xs : List X) (ys : List Y) → length xs ≡ length ys → ((k : ℕ) (d : X) (e : Y) → k < length xs → R (get_or xs k d) (get_or ys k e)) → AllZip R xs ys
+  AllZip-from_indices [] [] long each = tt
+  AllZip-from_indices [] (y ∷ ys) long each = absurd (omega arith)
+  AllZip-from_indices (x ∷ xs) [] long each = absurd (omega arith)
+  AllZip-from_indices (x ∷ xs) (y ∷ ys) long each =
+      (each 0 x y (omega arith), AllZip-from_indices xs ys (omega arith) (λ k d e within. each (suc k) d e (omega arith)))
 
   -- and back
-  pub AllZip-at_place : (xs : List X) (ys : List Y) → AllZip R xs ys → (k : ℕ) (d : X) (e : Y) → k < length xs → R (get_or xs k d) (get_or ys k e)
-  AllZip-at_place [] ys all k d e within = absurd (omega arith)
-  AllZip-at_place (x ∷ xs) [] all k d e within = absurd all
-  AllZip-at_place (x ∷ xs) (y ∷ ys) all zero d e within = all.0
-  AllZip-at_place (x ∷ xs) (y ∷ ys) all (suc k) d e within = AllZip-at_place xs ys all.1 k d e (omega arith)
+  pub AllZip-at_index : (xs : List X) (ys : List Y) → AllZip R xs ys → (k : ℕ) (d : X) (e : Y) → k < length xs → R (get_or xs k d) (get_or ys k e)
+  AllZip-at_index [] ys all k d e within = absurd (omega arith)
+  AllZip-at_index (x ∷ xs) [] all k d e within = absurd all
+  AllZip-at_index (x ∷ xs) (y ∷ ys) all zero d e within = all.0
+  AllZip-at_index (x ∷ xs) (y ∷ ys) all (suc k) d e within = AllZip-at_index xs ys all.1 k d e (omega arith)
 
   -- such lists have one length
   pub AllZip-one_length : (xs : List X) (ys : List Y) → AllZip R xs ys → length xs ≡ length ys
@@ -101,9 +101,9 @@ module _ {X Y : Type 0} (R : X → Y → Type 0) where
   AllZip-one_length (x ∷ xs) [] all = absurd all
   AllZip-one_length (x ∷ xs) (y ∷ ys) all = ap suc (AllZip-one_length xs ys all.1)
 
-  -- what holds place by place before a number and at it holds up to it
-  pub places-more : (xs : List X) (ys : List Y) (i : ℕ) (x : X) (y : Y) → i < length xs → i < length ys → ((k : ℕ) (d : X) (e : Y) → k < i → R (get_or xs k d) (get_or ys k e)) → R (get_or xs i x) (get_or ys i y) → (k : ℕ) (d : X) (e : Y) → k < i + 1 → R (get_or xs k d) (get_or ys k e)
-  places-more xs ys i x y in_xs in_ys before last k d e up_to =
+  -- what holds element by element before a number and at it holds up to it
+  pub indices-more : (xs : List X) (ys : List Y) (i : ℕ) (x : X) (y : Y) → i < length xs → i < length ys → ((k : ℕ) (d : X) (e : Y) → k < i → R (get_or xs k d) (get_or ys k e)) → R (get_or xs i x) (get_or ys i y) → (k : ℕ) (d : X) (e : Y) → k < i + 1 → R (get_or xs k d) (get_or ys k e)
+  indices-more xs ys i x y in_xs in_ys before last k d e up_to =
       elim (last_or_before k i up_to) [
         | inl h ↦ before k d e h
         | inr h ↦

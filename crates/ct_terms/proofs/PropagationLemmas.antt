@@ -31,9 +31,9 @@ IsUnit-one set clause l k one other =
       | inr false_one ↦ absurd (one.not_false false_one)
     ]
 
--- a clause keeps its number when clauses are put behind
+-- a clause keeps its number when clauses are appended
 IsNumbered-longer : (clauses more : List Clause) (number : ℕ) (clause : Clause) → IsNumbered clauses number clause → IsNumbered (clauses ++ more) number clause
-IsNumbered-longer clauses more number clause (place, is, at) = (place, is, slice_get-append_left clauses more place clause at)
+IsNumbered-longer clauses more number clause (index, is, at) = (index, is, slice_get-append_left clauses more index clause at)
 
 -- hints propagate among more clauses as before
 Propagates-longer : (clauses more : List Clause) (hints : List ℕ) (before after : List Lit) → Propagates clauses hints before after → Propagates (clauses ++ more) hints before after

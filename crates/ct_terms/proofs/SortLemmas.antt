@@ -10,16 +10,16 @@ use Rattle.ct_sorts.specs.Declarations.{Declarations, Function, bool_sort, with_
 use Rattle.ct_terms.specs.declared.ids.TermId.{TermId}
 use Rattle.ct_terms.specs.declared.term.Core.{Core}
 use Rattle.ct_terms.specs.declared.term.Core.TheVariants.{Con, Sel, Test, Apply, Eq, Not, And, Or, Iff, Ite}
-use Rattle.ct_terms.specs.Table.{Table, IsOfSort, IsBoolean, IsOfField, Joins, HasSort, AreSorted, HasChildrenBelow, AreOrdered}
+use Rattle.ct_terms.specs.Terms.{Terms, IsOfSort, IsBoolean, IsOfField, Joins, HasSort, AreSorted, HasArgumentsBelow, AreOrdered}
 use Rattle.ct_sorts.specs.Grown.{Begins, Extends}
 use Rattle.ct_terms.proofs.ListLemmas.{slice_get-append_left, slice_get-take, slice_get-take_below, take-slice_get, All-cons}
 
 -- one number has one sort
-IsOfSort-same : (table : Table) (t : TermId) (r s : SortId) → IsOfSort table t r → IsOfSort table t s → r ≡ s
+IsOfSort-same : (table : Terms) (t : TermId) (r s : SortId) → IsOfSort table t r → IsOfSort table t s → r ≡ s
 IsOfSort-same table t r s h k = ap (λ e. e.1) (same_Some (h.0, r) (k.0, s) (sym h.1 ∙ k.1))
 
 -- a term has one sort
-pub HasSort-same : (d : Declarations) (table : Table) (core : Core) (r s : SortId) → HasSort d table core r → HasSort d table core s → r ≡ s
+pub HasSort-same : (d : Declarations) (table : Terms) (core : Core) (r s : SortId) → HasSort d table core r → HasSort d table core s → r ≡ s
 HasSort-same d table (Con c args) r s h k = h.result ∙ ap (λ g. g.sort) (same_Some h.ctor k.ctor (sym h.declared ∙ k.declared)) ∙ sym k.result
 HasSort-same d table (Sel f t) r s h k = h.result ∙ ap (λ g. g.sort) (same_Some h.selector k.selector (sym h.declared ∙ k.declared)) ∙ sym k.result
 HasSort-same d table (Test c t) r s h k = h.result ∙ sym k.result
@@ -32,7 +32,7 @@ HasSort-same d table (Iff a b) r s h k = h.2 ∙ sym k.2
 HasSort-same d table (Ite c a b) r s h k = IsOfSort-same table a r s h.1 k.1
 
 -- a term with a sort has its number below the length
-pub IsOfSort-below : (table : Table) (t : TermId) (sort : SortId) → IsOfSort table t sort → t.0 < length table
+pub IsOfSort-below : (table : Terms) (t : TermId) (sort : SortId) → IsOfSort table t sort → t.0 < length table
 IsOfSort-below table t sort h = slice_get_within table t.0 (h.0, sort) h.1
 
 -- terms that go with something, each one below a number, are all below it
@@ -50,11 +50,11 @@ AllZip-stays R S n each (t ∷ ts) (x ∷ xs) below h =
     (each t x (All-head (λ t. t.0 < n) t ts below) h.0, AllZip-stays R S n each ts xs (All-tail (λ t. t.0 < n) t ts below) h.1)
 
 -- Boolean terms have their numbers below the length
-AreBoolean-below : (table : Table) (ts : List TermId) → All (IsBoolean table) ts → All (λ t. t.0 < length table) ts
+AreBoolean-below : (table : Terms) (ts : List TermId) → All (IsBoolean table) ts → All (λ t. t.0 < length table) ts
 AreBoolean-below table ts h = All-weaker (IsBoolean table) (λ t. t.0 < length table) (λ t boolean. IsOfSort-below table t bool_sort boolean) ts h
 
 -- the terms under a well-sorted term have their numbers below the length
-pub HasSort-below : (d : Declarations) (table : Table) (core : Core) (sort : SortId) → HasSort d table core sort → HasChildrenBelow (length table) core
+pub HasSort-below : (d : Declarations) (table : Terms) (core : Core) (sort : SortId) → HasSort d table core sort → HasArgumentsBelow (length table) core
 HasSort-below d table (Con c args) sort h = AllZip-below (IsOfField d table) (length table) (λ t s filled. IsOfSort-below table t filled.selector.sort filled.sorted) args h.ctor.sels h.fields
 HasSort-below d table (Sel s t) sort h = IsOfSort-below table t h.ctor.sort h.sorted
 HasSort-below d table (Test c t) sort h = IsOfSort-below table t h.ctor.sort h.sorted
@@ -67,24 +67,24 @@ HasSort-below d table (Iff a b) sort h = (IsOfSort-below table a bool_sort h.0, 
 HasSort-below d table (Ite c a b) sort h = (IsOfSort-below table c bool_sort h.0, IsOfSort-below table a sort h.1, IsOfSort-below table b sort h.2)
 
 -- a bound on the terms right under a term can be raised
-pub HasChildrenBelow-more : (n m : ℕ) (core : Core) → n ≤ m → HasChildrenBelow n core → HasChildrenBelow m core
-HasChildrenBelow-more n m (Con c args) more h = λ k d l. let below = h k d l in omega arith
-HasChildrenBelow-more n m (Sel s t) more h = omega arith
-HasChildrenBelow-more n m (Test c t) more h = omega arith
-HasChildrenBelow-more n m (Apply f args) more h = λ k d l. let below = h k d l in omega arith
-HasChildrenBelow-more n m (Eq a b) more h = (omega (arith, h.0), omega (arith, h.1))
-HasChildrenBelow-more n m (Not t) more h = omega arith
-HasChildrenBelow-more n m (And args) more h = λ k d l. let below = h k d l in omega arith
-HasChildrenBelow-more n m (Or args) more h = λ k d l. let below = h k d l in omega arith
-HasChildrenBelow-more n m (Iff a b) more h = (omega (arith, h.0), omega (arith, h.1))
-HasChildrenBelow-more n m (Ite c a b) more h = (omega (arith, h.0), omega (arith, h.1), omega (arith, h.2))
+pub HasArgumentsBelow-more : (n m : ℕ) (core : Core) → n ≤ m → HasArgumentsBelow n core → HasArgumentsBelow m core
+HasArgumentsBelow-more n m (Con c args) more h = λ k d l. let below = h k d l in omega arith
+HasArgumentsBelow-more n m (Sel s t) more h = omega arith
+HasArgumentsBelow-more n m (Test c t) more h = omega arith
+HasArgumentsBelow-more n m (Apply f args) more h = λ k d l. let below = h k d l in omega arith
+HasArgumentsBelow-more n m (Eq a b) more h = (omega (arith, h.0), omega (arith, h.1))
+HasArgumentsBelow-more n m (Not t) more h = omega arith
+HasArgumentsBelow-more n m (And args) more h = λ k d l. let below = h k d l in omega arith
+HasArgumentsBelow-more n m (Or args) more h = λ k d l. let below = h k d l in omega arith
+HasArgumentsBelow-more n m (Iff a b) more h = (omega (arith, h.0), omega (arith, h.1))
+HasArgumentsBelow-more n m (Ite c a b) more h = (omega (arith, h.0), omega (arith, h.1), omega (arith, h.2))
 
--- what stands at a place stays there in a list that begins with the list
+-- what stands at an index stays there in a list that begins with the list
 slice_get-longer : {X : Type 0} (longer shorter : List X) (i : ℕ) (x : X) → Begins shorter longer → slice_get shorter i ≡ Some x → slice_get longer i ≡ Some x
 slice_get-longer {X} longer shorter i x begins at = ap (λ (xs : List X). slice_get xs i) begins.1 ∙ slice_get-append_left shorter begins.0 i x at
 
 -- more is declared, and the terms below a number have the sorts in the new table that they had in the old one
-module _ (later earlier : Declarations) (new old : Table) (n : ℕ) (extends : Extends later earlier) (stay : (t : TermId) (s : SortId) → t.0 < n → IsOfSort old t s → IsOfSort new t s) where
+module _ (later earlier : Declarations) (new old : Terms) (n : ℕ) (extends : Extends later earlier) (stay : (t : TermId) (s : SortId) → t.0 < n → IsOfSort old t s → IsOfSort new t s) where
   IsOfField-stays : (t : TermId) (s : SelId) → t.0 < n → IsOfField earlier old t s → IsOfField later new t s
   IsOfField-stays t s below h = record {
     selector = h.selector;
@@ -98,7 +98,7 @@ module _ (later earlier : Declarations) (new old : Table) (n : ℕ) (extends : E
   Joins-stays : (args : List TermId) (sort : SortId) → All (λ t. t.0 < n) args → Joins old args sort → Joins new args sort
   Joins-stays args sort below h = record { some = h.some; booleans = AreBoolean-stay args below h.booleans; result = h.result }
 
-  pub HasSort-stays : (core : Core) (sort : SortId) → HasChildrenBelow n core → HasSort earlier old core sort → HasSort later new core sort
+  pub HasSort-stays : (core : Core) (sort : SortId) → HasArgumentsBelow n core → HasSort earlier old core sort → HasSort later new core sort
   HasSort-stays (Con c args) sort below h = record {
     ctor = h.ctor;
     declared = slice_get-longer later.ctors earlier.ctors c.0 h.ctor extends.ctors h.declared;
@@ -163,29 +163,29 @@ Extends-function d f = record {
 }
 
 -- with more declarations a term keeps its sort
-pub HasSort-extends : (later earlier : Declarations) (table : Table) (core : Core) (sort : SortId) → Extends later earlier → HasSort earlier table core sort → HasSort later table core sort
+pub HasSort-extends : (later earlier : Declarations) (table : Terms) (core : Core) (sort : SortId) → Extends later earlier → HasSort earlier table core sort → HasSort later table core sort
 HasSort-extends later earlier table core sort extends h =
     HasSort-stays later earlier table table (length table) extends (λ t s below at. at) core sort (HasSort-below earlier table core sort h) h
 
 -- and so every term of a table
-pub AreSorted-extends : (later earlier : Declarations) (table : Table) → Extends later earlier → AreSorted earlier table → AreSorted later table
+pub AreSorted-extends : (later earlier : Declarations) (table : Terms) → Extends later earlier → AreSorted earlier table → AreSorted later table
 AreSorted-extends later earlier table extends all t core sort at = HasSort-extends later earlier table core sort extends (all t core sort at)
 
 -- as with one function more
-pub AreSorted-declared : (d : Declarations) (f : Function) (table : Table) → AreSorted d table → AreSorted (with_function d f) table
+pub AreSorted-declared : (d : Declarations) (f : Function) (table : Terms) → AreSorted d table → AreSorted (with_function d f) table
 AreSorted-declared d f table = AreSorted-extends (with_function d f) d table (Extends-function d f)
 
 -- a term of the table stays with its number and its sort in a longer table
-pub IsOfSort-append : (table more : Table) (t : TermId) (sort : SortId) → IsOfSort table t sort → IsOfSort (table ++ more) t sort
+pub IsOfSort-append : (table more : Terms) (t : TermId) (sort : SortId) → IsOfSort table t sort → IsOfSort (table ++ more) t sort
 IsOfSort-append table more t sort h = (h.0, slice_get-append_left table more t.0 (h.0, sort) h.1)
 
 -- a term keeps its sort when the table grows
-pub HasSort-append : (d : Declarations) (table more : Table) (core : Core) (sort : SortId) → HasSort d table core sort → HasSort d (table ++ more) core sort
+pub HasSort-append : (d : Declarations) (table more : Terms) (core : Core) (sort : SortId) → HasSort d table core sort → HasSort d (table ++ more) core sort
 HasSort-append d table more core sort h =
     HasSort-stays d d (table ++ more) table (length table) (Extends-same d) (λ t s below at. IsOfSort-append table more t s at) core sort (HasSort-below d table core sort h) h
 
 -- the first terms of a well-sorted table are well sorted among themselves
-pub AreSorted-take : (d : Declarations) (table : Table) (n : ℕ) → AreOrdered table → AreSorted d table → AreSorted d (take n table)
+pub AreSorted-take : (d : Declarations) (table : Terms) (n : ℕ) → AreOrdered table → AreSorted d table → AreSorted d (take n table)
 AreSorted-take d table n ordered all t core sort at =
     let whole : slice_get table t ≡ Some (core, sort) = slice_get-take n table t (core, sort) at in
     let within : t < n = slice_get-take_below n table t (core, sort) at in

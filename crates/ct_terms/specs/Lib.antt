@@ -1,5 +1,5 @@
 pub mod Args
-pub mod Table
+pub mod Terms
 pub mod Literal
 pub mod Clause
 pub mod Propagation

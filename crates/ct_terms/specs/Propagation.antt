@@ -20,7 +20,7 @@ pub record IsUnit (set : List Lit) (clause : Clause) (l : Lit) : Type 0 where
 
 -- the clause has this number among the clauses, counted from 1
 abbrev pub IsNumbered : List Clause → ℕ → Clause → Type 0
-IsNumbered clauses number clause = (place : ℕ) × (number ≡ place + 1) × (slice_get clauses place ≡ Some clause)
+IsNumbered clauses number clause = (index : ℕ) × (number ≡ index + 1) × (slice_get clauses index ≡ Some clause)
 
 -- each hint in turn is the number of a clause with exactly one literal that is not false, and this is put into the set
 abbrev pub Propagates : List Clause → List ℕ → List Lit → List Lit → Type 0

@@ -42,7 +42,7 @@ impl Args {
         Ok(())
     }
 
-    /// Equal arguments. Its only error is want of memory.
+    /// Equal arguments. Its only error is out of memory.
     pub fn copy(&self) -> Result<Args, AllocError>
         ensures ok { IfOk result (λ args. args ≡ self.now) }
     {

@@ -4,17 +4,17 @@
 mod args;
 mod error;
 mod ids;
-mod laws;
 mod sorting;
 mod table;
 mod term;
 #[cfg(test)]
 mod tests;
+mod theorems;
 
 pub use args::Args;
 pub use error::TermError;
 pub use ids::{Lit, TermId};
-pub use laws::{one_lasting_sort, propagation_is_sound};
 pub use sorting::is_well_sorted;
 pub use table::TermTable;
 pub use term::Core;
+pub use theorems::{one_lasting_sort, propagation_is_sound};

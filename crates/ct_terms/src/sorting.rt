@@ -3,7 +3,7 @@ ghost use Rattle.std.specs.Prelude.{◌↔◌, All, IsTrue};
 ghost use Rattle.std.specs.List.{AllZip};
 ghost use Rattle.ct_sorts.specs.declared.ids.SortId.{SortId};
 ghost use Rattle.ct_sorts.specs.Declarations.{IsSelector};
-ghost use Rattle.ct_terms.specs.Table.{IsOfSort, IsBoolean, AreOfSorts, IsOfField, Constructs, Selects, Tests, Applies, Equates, Joins, IsWellSorted};
+ghost use Rattle.ct_terms.specs.Terms.{IsOfSort, IsBoolean, AreOfSorts, IsOfField, Constructs, Selects, Tests, Applies, Equates, Joins, IsWellSorted};
 
 use crate::ids::TermId;
 use crate::table::{BOOL, TermTable};

@@ -2,7 +2,7 @@ ghost use Rattle.std.specs.Prelude.{◌≡◌, ℕ, ◌<◌, ◌≤◌, ◌↔�
 ghost use Rattle.ct_sorts.specs.declared.ids.SortId.{SortId};
 ghost use Rattle.ct_sorts.specs.Declarations.{Declarations, start, bool_sort};
 ghost use Rattle.ct_terms.specs.declared.ids.TermId.{TermId};
-ghost use Rattle.ct_terms.specs.Table.{Table, IsOfSort, HasSort, IsWellSorted, AreSorted, StandsSorted, Has, IsAbsent, Makes, HasChildrenBelow, AreOrdered, AreSingle, NegatesBooleans, BeginsWithTruths, most_terms, truths};
+ghost use Rattle.ct_terms.specs.Terms.{Terms, IsOfSort, HasSort, IsWellSorted, AreSorted, StandsSorted, Has, IsAbsent, Makes, HasArgumentsBelow, AreOrdered, AreSingle, NegatesBooleans, BeginsWithTruths, most_terms, truths};
 ghost use Rattle.ct_sorts.specs.Grown.{Extends};
 ghost use Rattle.ct_terms.specs.Literal.{literal_of, IsLiteral, IsStripped};
 
@@ -25,18 +25,18 @@ pub(crate) const BOOL: SortId = SortId(0);
 #[derive(Drop)]
 pub struct TermTable {
     alloc: Global,
-    // A place in the map is a number.
+    // An index in the map is a number.
     terms: IndexMap<Core, SortId>,
 }
 
 impl Model for TermTable {
-    ghost use Rattle.ct_terms.specs.Table.{Table, IsTable};
+    ghost use Rattle.ct_terms.specs.Terms.{Terms, IsTermTable};
 
-    ghost Value = { Table };
+    ghost Value = { Terms };
 
     ghost view = { λ t. t.terms.entries };
 
-    ghost invariant = { λ t. IsTable t.terms.entries };
+    ghost invariant = { λ t. IsTermTable t.terms.entries };
 }
 
 impl TermTable {
@@ -59,8 +59,8 @@ impl TermTable {
         ensures err { IfErr result (λ e. e ≡ TermError.NoMemory) }
     {
         let mut copied = IndexMap::new(self.alloc);
-        for place in 0..self.terms.len() {
-            let term = TermId(place as u32);
+        for index in 0..self.terms.len() {
+            let term = TermId(index as u32);
             copied.insert(self.core(term).copy()?, self.sort(term))?;
         }
         Ok(TermTable {
@@ -131,8 +131,8 @@ impl TermTable {
     pub fn core(&self, t: TermId) -> &Core
         requires { t.0 < length self.now }
         ensures value { Has self.now result.now t.0 }
-        ensures below { HasChildrenBelow t.0 result.now }
-        ensures inside { HasChildrenBelow (length self.now) result.now }
+        ensures below { HasArgumentsBelow t.0 result.now }
+        ensures inside { HasArgumentsBelow (length self.now) result.now }
     {
         match self.terms.get_index(t.0 as usize) {
             Some((core, _)) => core,
@@ -171,7 +171,7 @@ impl TermTable {
         ensures absent { IfNone result (IsAbsent self.now core.now) }
     {
         match self.terms.get_index_of(core) {
-            Some(place) => Some(TermId(place as u32)),
+            Some(index) => Some(TermId(index as u32)),
             None => None,
         }
     }

@@ -31,7 +31,7 @@ pub enum Core {
 }
 
 impl Core {
-    /// An equal term. Its only error is want of memory.
+    /// An equal term. Its only error is out of memory.
     pub fn copy(&self) -> Result<Core, AllocError>
         ensures ok { IfOk result (λ core. core ≡ self.now) }
     {

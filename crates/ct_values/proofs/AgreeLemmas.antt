@@ -48,7 +48,7 @@ agree_equiv zero = record { refl = λ p. refl; symm = λ p q. refl; congr = λ p
 agree_equiv (suc k) =
     and_equiv (on_equiv head (options_equiv (decided same_head Decides-same_head))) (on_equiv children (lists_equiv (agree_equiv k)))
 
--- a test that passes where another does passes at each place where the other does
+-- a test that passes where another does passes at each index where the other does
 pub pointwise-weaken : (E F : Point → Point → Bool) → ((p q : Point) → E p q ≡ true → F p q ≡ true) → (ps qs : List Point) → pointwise E ps qs ≡ true → pointwise F ps qs ≡ true
 pointwise-weaken E F weaker [] [] h = h
 pointwise-weaken E F weaker [] (q ∷ qs) h = h
@@ -69,7 +69,7 @@ agree-falls (suc k) p q h =
     parts.0
     (pointwise-weaken (agree (suc k)) (agree k) (agree-falls k) (children p) (children q) parts.1)
 
--- a test of two lists at each place holds where their elements are paired by it
+-- a test of two lists at each index holds where their elements are paired by it
 pub Decides-paired : (E : Point → Point → Bool) (ps qs : List Point) → Decides (pointwise E ps qs) (AllZip (λ p q. IsTrue (E p q)) ps qs)
 Decides-paired E [] [] = (λ h. tt, λ e. refl)
 Decides-paired E [] (q ∷ qs) = (λ h. absurd (true≢false (sym h)), λ e. absurd e)

@@ -3,8 +3,8 @@ use Rattle.std.proofs.Common.{◌≡◌, ℕ, zero, suc, ◌+◌, ◌<◌, ◌�
 use Rattle.std.specs.List.{AllByRecursion, list_any, range_with_len, position_or_len}
 use Rattle.std.proofs.lemmas.Bool.{cases_lt}
 use Rattle.std.proofs.lemmas.Bool.Decides.{nat_tests, Decides-or, Decides-eqb}
-use Rattle.ct_values.specs.Smallest.{first_occurrences}
-use Rattle.ct_values.specs.Numbered.{CountsUp}
+use Rattle.ct_values.specs.Minimal.{first_occurrences}
+use Rattle.ct_values.specs.Numbering.{CountsUp}
 
 -- ---- how many are met
 
@@ -153,10 +153,10 @@ counts-first_occurrences all ns e =
 
 -- ---- a set of numbers
 
--- a number that is not there has the length of the list as its place
-absent_place : (n : ℕ) (ids : List ℕ) → list_any (nat_eq n) ids ≡ false → position_or_len (nat_eq n) ids ≡ length ids
-absent_place n [] e = refl
-absent_place n (m ∷ ms) e = at (nat_eq n m) e (absent_place n ms)
+-- a number that is not there has the length of the list as its index
+absent_index : (n : ℕ) (ids : List ℕ) → list_any (nat_eq n) ids ≡ false → position_or_len (nat_eq n) ids ≡ length ids
+absent_index n [] e = refl
+absent_index n (m ∷ ms) e = at (nat_eq n m) e (absent_index n ms)
   where
     at : (b : Bool) → (b || list_any (nat_eq n) ms) ≡ false → (list_any (nat_eq n) ms ≡ false → position_or_len (nat_eq n) ms ≡ length ms) → cond (not b) (1 + position_or_len (nat_eq n) ms) 0 ≡ suc (length ms)
     at true h rest = absurd (true≢false h)
@@ -166,13 +166,13 @@ negated : (b : Bool) → true ≡ not b → b ≡ false
 negated true e = absurd (true≢false e)
 negated false e = refl
 
--- a number that is put into a set, and its place there, count up
-pub CountsUp-insert : (ids : List ℕ) (n place len : ℕ) (fresh : Bool) → fresh ≡ not (list_any (nat_eq n) ids) → place ≡ position_or_len (nat_eq n) ids → place < len → len ≡ length ids + cond fresh 1 0 → CountsUp (length ids) (place ∷ []) len
-CountsUp-insert ids n place len true is at within long =
-    inr (at ∙ absent_place n ids (negated (list_any (nat_eq n) ids) is), omega (arith, long))
-CountsUp-insert ids n place len false is at within long = inl (omega (arith, within, long), omega (arith, long))
+-- a number that is put into a set, and its index there, count up
+pub CountsUp-insert : (ids : List ℕ) (n index len : ℕ) (fresh : Bool) → fresh ≡ not (list_any (nat_eq n) ids) → index ≡ position_or_len (nat_eq n) ids → index < len → len ≡ length ids + cond fresh 1 0 → CountsUp (length ids) (index ∷ []) len
+CountsUp-insert ids n index len true is at within long =
+    inr (at ∙ absent_index n ids (negated (list_any (nat_eq n) ids) is), omega (arith, long))
+CountsUp-insert ids n index len false is at within long = inl (omega (arith, within, long), omega (arith, long))
 
 -- the first number of all is 0, and then there is one
-pub CountsUp-first : (met place all : ℕ) → met ≡ 0 → CountsUp met (place ∷ []) all → (place ≡ 0) × (all ≡ 1)
-CountsUp-first met place all e (inl old) = absurd (omega (arith, old.0))
-CountsUp-first met place all e (inr new) = (new.0 ∙ e, omega (arith, new.1))
+pub CountsUp-first : (met index all : ℕ) → met ≡ 0 → CountsUp met (index ∷ []) all → (index ≡ 0) × (all ≡ 1)
+CountsUp-first met index all e (inl old) = absurd (omega (arith, old.0))
+CountsUp-first met index all e (inr new) = (new.0 ∙ e, omega (arith, new.1))

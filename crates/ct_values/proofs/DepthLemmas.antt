@@ -200,7 +200,7 @@ paired_in R S g h turn [] (w ∷ ws) r = r
 paired_in R S g h turn (v ∷ vs) [] r = r
 paired_in R S g h turn (v ∷ vs) (w ∷ ws) r = (turn v w r.0, paired_in R S g h turn vs ws r.1)
 
--- values over closed graphs are the same where their heads are equal and their children are the same
+-- values over closed graphs are equal where their heads and their children are
 pub same-parts : (p q : Point) → IsClosed p.graph → IsClosed q.graph → IsTrue (same p q) ↔ ((head p ≡ head q) × AllZip (λ x y. IsTrue (same x y)) (children p) (children q))
 same-parts p q p_closed q_closed =
     let vs = children_of p.graph p.value in

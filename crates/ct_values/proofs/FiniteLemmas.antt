@@ -7,7 +7,7 @@ use Rattle.indexmap.specs.IndexSet.{IndexSet}
 use Rattle.ct_values.specs.declared.node.NodeId.{NodeId}
 use Rattle.ct_values.specs.declared.node.Node.{Node}
 use Rattle.ct_values.specs.declared.node.Head.{Head}
-use Rattle.ct_values.specs.declared.shape.Step.{Step}
+use Rattle.ct_values.specs.declared.shape.ShapeStep.{ShapeStep}
 use Rattle.ct_values.specs.Graph.{Nodes, IsClosed, node_head, node_children}
 use Rattle.ct_values.specs.Agreement.{node_point, AgreeAlways}
 use Rattle.ct_values.specs.Partition.{class_at, node_key, Alike, KeepsTogether}
@@ -73,22 +73,22 @@ abbrev pub child_classes : List ℕ → List NodeId → List ℕ
 child_classes classes ns = map (λ n. class_at classes n.0) ns
 
 -- settled nodes keep their classes where one that is not settled gets one
-kept_classes : (classes : List ℕ) (i c : ℕ) (ns : List NodeId) → class_at classes i ≡ 0 → AreSettled classes ns → (child_classes (set classes i c) ns ≡ child_classes classes ns) × AreSettled (set classes i c) ns
-kept_classes classes i c [] zero_at settled = (refl, tt)
-kept_classes classes i c (n ∷ ns) zero_at settled =
+stored_classes : (classes : List ℕ) (i c : ℕ) (ns : List NodeId) → class_at classes i ≡ 0 → AreSettled classes ns → (child_classes (set classes i c) ns ≡ child_classes classes ns) × AreSettled (set classes i c) ns
+stored_classes classes i c [] zero_at settled = (refl, tt)
+stored_classes classes i c (n ∷ ns) zero_at settled =
     let other : n.0 ≡ i → ⊥ = λ e. let same : class_at classes n.0 ≡ class_at classes i = ap (class_at classes) e in omega (arith, settled.0) in
     let here = class_at-set_other classes i n.0 c other in
-    let rest = kept_classes classes i c ns zero_at settled.1 in
+    let rest = stored_classes classes i c ns zero_at settled.1 in
     (ap₂ (λ (x : ℕ) (xs : List ℕ). x ∷ xs) here rest.0, (subst (λ x. 0 < x) (sym here) settled.0, rest.1))
 
 -- settled children are trees
-child_trees : {S : Type 0} (g : Nodes) (classes : List ℕ) (steps : IndexSet Step S) (ns : List NodeId) → IsSettling g classes steps → AllByRecursion (λ n. n.0 < length g) ns → AreSettled classes ns → AllByRecursion (λ n. (h : ℕ) × IsTree g h n.0) ns
+child_trees : {S : Type 0} (g : Nodes) (classes : List ℕ) (steps : IndexSet ShapeStep S) (ns : List NodeId) → IsSettling g classes steps → AllByRecursion (λ n. n.0 < length g) ns → AreSettled classes ns → AllByRecursion (λ n. (h : ℕ) × IsTree g h n.0) ns
 child_trees g classes steps [] settling inside settled = tt
 child_trees g classes steps (n ∷ ns) settling inside settled =
     (settling.trees n.0 inside.0 settled.0, child_trees g classes steps ns settling inside.1 settled.1)
 
 -- a step settles a node whose children are settled
-pub IsSettling-set : {S : Type 0} (g : Nodes) (classes : List ℕ) (steps more : IndexSet Step S) (i c : ℕ) (x : Node) → AllByRecursion (λ n. n.0 < length g) (node_children x) → IsSettling g classes steps → slice_get g i ≡ Some x → class_at classes i ≡ 0 → AreSettled classes (node_children x) → AreSteps more → Stay steps.keys more.keys → Spells more.keys c (node_head x) (child_classes classes (node_children x)) → IsSettling g (set classes i (suc c)) more
+pub IsSettling-set : {S : Type 0} (g : Nodes) (classes : List ℕ) (steps more : IndexSet ShapeStep S) (i c : ℕ) (x : Node) → AllByRecursion (λ n. n.0 < length g) (node_children x) → IsSettling g classes steps → slice_get g i ≡ Some x → class_at classes i ≡ 0 → AreSettled classes (node_children x) → AreSteps more → Stay steps.keys more.keys → Spells more.keys c (node_head x) (child_classes classes (node_children x)) → IsSettling g (set classes i (suc c)) more
 IsSettling-set g classes steps more i c x inside_x old at zero_at settled apart stay spells =
     let within : i < length classes = omega (arith, slice_get_within g i x at, old.long) in
     record {
@@ -110,21 +110,21 @@ IsSettling-set g classes steps more i c x inside_x old at zero_at settled apart 
         let same : x ≡ node = same_Some x node (sym at ∙ ap (slice_get g) (sym e) ∙ at_j) in
         let d_is : suc c ≡ suc d = sym (class_at-set_same classes i (suc c) within) ∙ ap (class_at (set classes i (suc c))) (sym e) ∙ class in
         let c_is : c ≡ d = omega arith in
-        let here : Spells more.keys c (node_head x) (child_classes (set classes i (suc c)) (node_children x)) = subst (Spells more.keys c (node_head x)) (sym (kept_classes classes i (suc c) (node_children x) zero_at settled).0) spells in
+        let here : Spells more.keys c (node_head x) (child_classes (set classes i (suc c)) (node_children x)) = subst (Spells more.keys c (node_head x)) (sym (stored_classes classes i (suc c) (node_children x) zero_at settled).0) spells in
         subst (λ (n : Node). Spells more.keys d (node_head n) (child_classes (set classes i (suc c)) (node_children n))) same
         (subst (λ k. Spells more.keys k (node_head x) (child_classes (set classes i (suc c)) (node_children x))) c_is here)
     known_at j d node at_j class within (inr other) =
         let before : class_at classes j ≡ suc d = sym (class_at-set_other classes i j (suc c) other) ∙ class in
         let its_parts = old.parts j node at_j (subst (λ n. 0 < n) (sym before) (omega arith)) in
-        subst (Spells more.keys d (node_head node)) (sym (kept_classes classes i (suc c) (node_children node) zero_at its_parts).0)
+        subst (Spells more.keys d (node_head node)) (sym (stored_classes classes i (suc c) (node_children node) zero_at its_parts).0)
         (Spells-stay steps.keys more.keys d (node_head node) (child_classes classes (node_children node)) stay (old.known j d node at_j before))
 
     parts_at : (j : ℕ) (node : Node) → slice_get g j ≡ Some node → 0 < class_at (set classes i (suc c)) j → (j ≡ i) ⊎ (j ≡ i → ⊥) → AreSettled (set classes i (suc c)) (node_children node)
     parts_at j node at_j positive (inl e) =
         let same : x ≡ node = same_Some x node (sym at ∙ ap (slice_get g) (sym e) ∙ at_j) in
-        subst (λ (n : Node). AreSettled (set classes i (suc c)) (node_children n)) same (kept_classes classes i (suc c) (node_children x) zero_at settled).1
+        subst (λ (n : Node). AreSettled (set classes i (suc c)) (node_children n)) same (stored_classes classes i (suc c) (node_children x) zero_at settled).1
     parts_at j node at_j positive (inr other) =
-        (kept_classes classes i (suc c) (node_children node) zero_at (old.parts j node at_j (subst (λ n. 0 < n) (class_at-set_other classes i j (suc c) other) positive))).1
+        (stored_classes classes i (suc c) (node_children node) zero_at (old.parts j node at_j (subst (λ n. 0 < n) (class_at-set_other classes i j (suc c) other) positive))).1
 
     trees_at : (j : ℕ) → j < length g → 0 < class_at (set classes i (suc c)) j → (j ≡ i) ⊎ (j ≡ i → ⊥) → (h : ℕ) × IsTree g h j
     trees_at j inside positive (inl e) =
@@ -134,7 +134,7 @@ IsSettling-set g classes steps more i c x inside_x old at zero_at settled apart 
         old.trees j inside (subst (λ n. 0 < n) (class_at-set_other classes i j (suc c) other) positive)
 
 -- the same, as a program knows it
-pub IsSettling-step : {S : Type 0} (g : Nodes) (classes : List ℕ) (steps more : IndexSet Step S) (i c : ℕ) (head : Head) (kids : List NodeId) → IsSettling g classes steps → i < length g → class_at classes i ≡ 0 → option_map node_head (slice_get g i) ≡ Some head → option_map node_children (slice_get g i) ≡ Some kids → All (λ n. n.0 < length g) kids → All (λ n. 0 < class_at classes n.0) kids → AreSteps more → Stay steps.keys more.keys → Spells more.keys c head (child_classes classes kids) → IsSettling g (set classes i (suc c)) more
+pub IsSettling-step : {S : Type 0} (g : Nodes) (classes : List ℕ) (steps more : IndexSet ShapeStep S) (i c : ℕ) (head : Head) (kids : List NodeId) → IsSettling g classes steps → i < length g → class_at classes i ≡ 0 → option_map node_head (slice_get g i) ≡ Some head → option_map node_children (slice_get g i) ≡ Some kids → All (λ n. n.0 < length g) kids → All (λ n. 0 < class_at classes n.0) kids → AreSteps more → Stay steps.keys more.keys → Spells more.keys c head (child_classes classes kids) → IsSettling g (set classes i (suc c)) more
 IsSettling-step g classes steps more i c head kids old inside zero_at head_at kids_at kids_in settled apart stay spells =
     let x = stands_within g i inside in
     let its_head : head ≡ node_head x.0 = same_Some head (node_head x.0) (sym head_at ∙ ap (option_map node_head) x.1) in
@@ -164,7 +164,7 @@ positive zero h = absurd (omega arith)
 positive (suc m) h = (m, refl)
 
 -- where every node was tried, what agrees with a settled tree at every depth is settled with the same class
-tree_class : {S : Type 0} (g : Nodes) (classes : List ℕ) (steps : IndexSet Step S) → IsClosed g → IsSettling g classes steps → AreTried g classes → (h : ℕ) (m n : NodeId) → m.0 < length g → n.0 < length g → IsTree g h m.0 → 0 < class_at classes m.0 → AgreeAlways (node_point g m) (node_point g n) → class_at classes m.0 ≡ class_at classes n.0
+tree_class : {S : Type 0} (g : Nodes) (classes : List ℕ) (steps : IndexSet ShapeStep S) → IsClosed g → IsSettling g classes steps → AreTried g classes → (h : ℕ) (m n : NodeId) → m.0 < length g → n.0 < length g → IsTree g h m.0 → 0 < class_at classes m.0 → AgreeAlways (node_point g m) (node_point g n) → class_at classes m.0 ≡ class_at classes n.0
 tree_class g classes steps closed settling tried zero m n m_in n_in tree settled alike = absurd tree
 tree_class g classes steps closed settling tried (suc h) m n m_in n_in tree settled alike =
     let x = tree.0 in
@@ -180,7 +180,7 @@ tree_class g classes steps closed settling tried (suc h) m n m_in n_in tree sett
     c.1 ∙ ap suc same ∙ sym d.1
 
 -- where every node was tried, nodes that agree at every depth have one class
-KeepsTogether-settled : {S : Type 0} (g : Nodes) (classes : List ℕ) (steps : IndexSet Step S) → IsClosed g → IsSettling g classes steps → AreTried g classes → KeepsTogether g classes
+KeepsTogether-settled : {S : Type 0} (g : Nodes) (classes : List ℕ) (steps : IndexSet ShapeStep S) → IsClosed g → IsSettling g classes steps → AreTried g classes → KeepsTogether g classes
 KeepsTogether-settled g classes steps closed settling tried = record {
   long = settling.long;
   together = λ i j i_in j_in alike. at i j i_in j_in alike (eq-zero-or-pos (class_at classes i)) (eq-zero-or-pos (class_at classes j));
@@ -196,14 +196,14 @@ KeepsTogether-settled g classes steps closed settling tried = record {
         sym (tree_class g classes steps closed settling tried tree.0 (id j) (id i) j_in i_in tree.1 yes_j (AgreeAlways-sym (node_point g (id i)) (node_point g (id j)) alike))
 
 -- settled nodes of one class have one head, and children of the same classes
-one_key : {S : Type 0} (g : Nodes) (classes : List ℕ) (steps : IndexSet Step S) → IsSettling g classes steps → (i j : ℕ) (x y : Node) → slice_get g i ≡ Some x → slice_get g j ≡ Some y → 0 < class_at classes i → class_at classes i ≡ class_at classes j → node_key classes 0 x ≡ node_key classes 0 y
+one_key : {S : Type 0} (g : Nodes) (classes : List ℕ) (steps : IndexSet ShapeStep S) → IsSettling g classes steps → (i j : ℕ) (x y : Node) → slice_get g i ≡ Some x → slice_get g j ≡ Some y → 0 < class_at classes i → class_at classes i ≡ class_at classes j → node_key classes 0 x ≡ node_key classes 0 y
 one_key g classes steps settling i j x y at_i at_j settled one =
     let c = positive (class_at classes i) settled in
     let parts = Spells-one steps.keys c.0 (node_head x) (node_head y) (child_classes classes (node_children x)) (child_classes classes (node_children y)) (settling.known i c.0 x at_i c.1) (settling.known j c.0 y at_j (sym one ∙ c.1)) in
     λ t. record { head = parts.0 t; class = 0; children = parts.1 t }
 
 -- where every node was tried, the classes tell the finite trees
-pub TellsTrees-settled : {S : Type 0} (g : Nodes) (classes : List ℕ) (steps : IndexSet Step S) → IsClosed g → IsSettling g classes steps → AreTried g classes → TellsTrees g classes
+pub TellsTrees-settled : {S : Type 0} (g : Nodes) (classes : List ℕ) (steps : IndexSet ShapeStep S) → IsClosed g → IsSettling g classes steps → AreTried g classes → TellsTrees g classes
 TellsTrees-settled g classes steps closed settling tried = record {
   keeps = KeepsTogether-settled g classes steps closed settling tried;
   parts = settling.parts;
@@ -231,5 +231,5 @@ pub AreTried-passed : (g : Nodes) (before now : List ℕ) (order : List NodeId) 
 AreTried-passed g before now order true each passed = passed
 AreTried-passed g before now order false each passed =
     λ i node at settled.
-    let place = each i (slice_get_within g i node at) in
-    All-at (λ n. IsTried g now n.0) order place.0 (record { 0 = i }) passed.1 place.1 node at settled
+    let index = each i (slice_get_within g i node at) in
+    All-at (λ n. IsTried g now n.0) order index.0 (record { 0 = i }) passed.1 index.1 node at settled

@@ -13,32 +13,32 @@ use Rattle.ct_values.specs.declared.node.Node.TheVariants.{Con, Elem}
 use Rattle.ct_values.specs.declared.node.Head.{Head}
 use Rattle.ct_values.specs.declared.node.Head.TheVariants as heads
 use Rattle.ct_values.specs.Graph.{Nodes, node_head, node_children}
-use Rattle.ct_values.specs.Fitting.{HasNodeSort, IsOfField, IsBuilt, IsElement, FitsNode}
+use Rattle.ct_values.specs.Fitting.{HasNodeSort, IsNodeOfField, IsBuilt, IsElement, FitsNode}
 use Rattle.ct_values.proofs.GraphLemmas.{option_map-Some}
 
--- two lists, place by place
+-- two lists, element by element
 module _ {X Y : Type 0} (R : X → Y → Type 0) where
-  -- what holds place by place of lists of one length
-  pub AllZip-from_places : (xs : List X) (ys : List Y) → length xs ≡ length ys → ((k : ℕ) (d : X) (e : Y) → k < length xs → R (get_or xs k d) (get_or ys k e)) → AllZip R xs ys
-  AllZip-from_places [] [] long each = tt
-  AllZip-from_places [] (y ∷ ys) long each = absurd (omega arith)
-  AllZip-from_places (x ∷ xs) [] long each = absurd (omega arith)
-  AllZip-from_places (x ∷ xs) (y ∷ ys) long each =
-      (each 0 x y (omega arith), AllZip-from_places xs ys (omega arith) (λ k d e within. each (suc k) d e (omega arith)))
+  -- what holds element by element of lists of one length
+  pub AllZip-from_indices : (xs : List X) (ys : List Y) → length xs ≡ length ys → ((k : ℕ) (d : X) (e : Y) → k < length xs → R (get_or xs k d) (get_or ys k e)) → AllZip R xs ys
+  AllZip-from_indices [] [] long each = tt
+  AllZip-from_indices [] (y ∷ ys) long each = absurd (omega arith)
+  AllZip-from_indices (x ∷ xs) [] long each = absurd (omega arith)
+  AllZip-from_indices (x ∷ xs) (y ∷ ys) long each =
+      (each 0 x y (omega arith), AllZip-from_indices xs ys (omega arith) (λ k d e within. each (suc k) d e (omega arith)))
 
   -- and back
-  pub AllZip-at_place : (xs : List X) (ys : List Y) → AllZip R xs ys → (k : ℕ) (d : X) (e : Y) → k < length xs → R (get_or xs k d) (get_or ys k e)
-  AllZip-at_place [] ys all k d e within = absurd (omega arith)
-  AllZip-at_place (x ∷ xs) [] all k d e within = absurd all
-  AllZip-at_place (x ∷ xs) (y ∷ ys) all zero d e within = all.0
-  AllZip-at_place (x ∷ xs) (y ∷ ys) all (suc k) d e within = AllZip-at_place xs ys all.1 k d e (omega arith)
+  pub AllZip-at_index : (xs : List X) (ys : List Y) → AllZip R xs ys → (k : ℕ) (d : X) (e : Y) → k < length xs → R (get_or xs k d) (get_or ys k e)
+  AllZip-at_index [] ys all k d e within = absurd (omega arith)
+  AllZip-at_index (x ∷ xs) [] all k d e within = absurd all
+  AllZip-at_index (x ∷ xs) (y ∷ ys) all zero d e within = all.0
+  AllZip-at_index (x ∷ xs) (y ∷ ys) all (suc k) d e within = AllZip-at_index xs ys all.1 k d e (omega arith)
 
   last_or_before : (k i : ℕ) → k < i + 1 → k ≤ i
   last_or_before k i h = omega arith
 
-  -- what holds place by place before a number and at it holds up to it
-  pub places-more : (xs : List X) (ys : List Y) (i : ℕ) (x : X) (y : Y) → i < length xs → i < length ys → ((k : ℕ) (d : X) (e : Y) → k < i → R (get_or xs k d) (get_or ys k e)) → R (get_or xs i x) (get_or ys i y) → (k : ℕ) (d : X) (e : Y) → k < i + 1 → R (get_or xs k d) (get_or ys k e)
-  places-more xs ys i x y in_xs in_ys before last k d e up_to =
+  -- what holds element by element before a number and at it holds up to it
+  pub indices-more : (xs : List X) (ys : List Y) (i : ℕ) (x : X) (y : Y) → i < length xs → i < length ys → ((k : ℕ) (d : X) (e : Y) → k < i → R (get_or xs k d) (get_or ys k e)) → R (get_or xs i x) (get_or ys i y) → (k : ℕ) (d : X) (e : Y) → k < i + 1 → R (get_or xs k d) (get_or ys k e)
+  indices-more xs ys i x y in_xs in_ys before last k d e up_to =
       elim (eq-or-lt_of_le (last_or_before k i up_to)) [
         | inr h ↦ before k d e h
         | inl h ↦
@@ -48,11 +48,11 @@ module _ {X Y : Type 0} (R : X → Y → Type 0) where
       ]
 
 -- a node has the sort of a selector's field
-pub IsOfField-tested : (d : Declarations) (g : Nodes) (child : NodeId) (s : SelId) (side : SortId) (r : Bool) → option_map (λ (f : Selector). f.sort) (slice_get d.sels s.0) ≡ Some side → (IsTrue r ↔ HasNodeSort d g child side) → IsTrue r ↔ IsOfField d g child s
-IsOfField-tested d g child s side r at told =
+pub IsNodeOfField-tested : (d : Declarations) (g : Nodes) (child : NodeId) (s : SelId) (side : SortId) (r : Bool) → option_map (λ (f : Selector). f.sort) (slice_get d.sels s.0) ≡ Some side → (IsTrue r ↔ HasNodeSort d g child side) → IsTrue r ↔ IsNodeOfField d g child s
+IsNodeOfField-tested d g child s side r at reported =
     let sel = option_map-Some (λ (f : Selector). f.sort) (slice_get d.sels s.0) side at in (
-      λ holds. record { selector = sel.0; declared = sel.1; sorted = subst (HasNodeSort d g child) (sym sel.2) (told.0 holds) },
-      λ h. told.1 (subst (HasNodeSort d g child) (ap (λ (f : Selector). f.sort) (same_Some h.selector sel.0 (sym h.declared ∙ sel.1)) ∙ sel.2) h.sorted),
+      λ holds. record { selector = sel.0; declared = sel.1; sorted = subst (HasNodeSort d g child) (sym sel.2) (reported.0 holds) },
+      λ h. reported.1 (subst (HasNodeSort d g child) (ap (λ (f : Selector). f.sort) (same_Some h.selector sel.0 (sym h.declared ∙ sel.1)) ∙ sel.2) h.sorted),
     )
 
 -- a node of this head and these children fits
@@ -66,7 +66,7 @@ by_head d g (Elem s n) = (λ h. h, λ h. h)
 
 -- a node fits where what is read of it fits
 pub FitsNode-tested : (d : Declarations) (g : Nodes) (n : ℕ) (head : Head) (r : Bool) → option_map node_head (slice_get g n) ≡ Some head → ((children : List NodeId) → option_map node_children (slice_get g n) ≡ Some children → IsTrue r ↔ FitsHead d g head children) → IsTrue r ↔ ((node : Node) → slice_get g n ≡ Some node → FitsNode d g node)
-FitsNode-tested d g n head r at told = by (slice_get g n) at told
+FitsNode-tested d g n head r at reported = by (slice_get g n) at reported
   where
     by : (found : Option Node) → option_map node_head found ≡ Some head → ((children : List NodeId) → option_map node_children found ≡ Some children → IsTrue r ↔ FitsHead d g head children) → IsTrue r ↔ ((node : Node) → found ≡ Some node → FitsNode d g node)
     by None e each = absurd (none-some head e)
@@ -77,7 +77,7 @@ FitsNode-tested d g n head r at told = by (slice_get g n) at told
           λ fit. here.1 (subst (λ (h : Head). FitsHead d g h (node_children x)) same ((by_head d g x).0 (fit x refl))),
         )
 
--- two look-ups at one place find one thing
+-- two look-ups at one index find one thing
 same_found : {X : Type 0} (o : Option X) (x y : X) → o ≡ Some x → o ≡ Some y → x ≡ y
 same_found o x y h k = same_Some x y (sym h ∙ k)
 

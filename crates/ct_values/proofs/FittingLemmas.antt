@@ -1,4 +1,4 @@
--- Graphs that fit declarations: what their heads are, and that the smallest graph of a tree fits where the tree's graph does.
+-- Graphs that fit declarations: what their heads are, and that the minimal graph of a tree fits where the tree's graph does.
 use Rattle.std.proofs.Common.{◌≡◌, ℕ, List, [], ◌∷◌, Some, option_map, slice_get, sym, ap, subst, ◌∙◌}
 use Rattle.std.specs.List.{AllZip}
 use Rattle.std.proofs.lemmas.Option.{same_Some, slice_get_within}
@@ -12,11 +12,11 @@ use Rattle.ct_values.specs.declared.node.Node.TheVariants.{Con, Elem}
 use Rattle.ct_values.specs.declared.node.Head.TheVariants as heads
 use Rattle.ct_values.specs.Graph.{Nodes, node_head, node_children}
 use Rattle.ct_values.specs.Agreement.{node_point, AgreeAlways}
-use Rattle.ct_values.specs.Smallest.{IsSmallest}
-use Rattle.ct_values.specs.Fitting.{node_sort, HasNodeSort, IsOfField, FitsNode, FitsGraph}
+use Rattle.ct_values.specs.Minimal.{IsMinimal}
+use Rattle.ct_values.specs.Fitting.{node_sort, HasNodeSort, IsNodeOfField, FitsNode, FitsGraph}
 use Rattle.ct_values.proofs.AgreeLemmas.{AgreeAlways-sym}
 use Rattle.ct_values.proofs.NodeLemmas.{id, node_points}
-use Rattle.ct_values.proofs.SmallestLemmas.{agreeing_node, like}
+use Rattle.ct_values.proofs.MinimalLemmas.{agreeing_node, like}
 use Rattle.ct_values.proofs.GraphLemmas.{option_map-Some}
 
 -- the constructor of a node that fits is declared, and so is the sort of an element
@@ -44,7 +44,7 @@ sort_of_head d g n s number fits e =
     let x = option_map-Some node_head (slice_get g n) (heads.Elem s number) e in
     sort_of_node d g x.0 s number (fits n x.0 x.1) x.2
 
--- ---- the smallest graph fits
+-- ---- the minimal graph fits
 
 node_sort_same : (d : Declarations) (x y : Node) → node_head x ≡ node_head y → node_sort d x ≡ node_sort d y
 node_sort_same d (Con c cs) (Con e es) same = let is : c ≡ e = cc in ap (λ k. node_sort d (Con k [])) is
@@ -58,14 +58,14 @@ same_sort d g h m n s has always =
     let y = agreeing_node g h m n has.0 has.1 always in
     (y.0, y.1, node_sort_same d y.0 has.0 y.2 ∙ has.2)
 
-same_fields : (d : Declarations) (g h : Nodes) (ms ns : List NodeId) (sels : List SelId) → AllZip (IsOfField d g) ms sels → AllZip AgreeAlways (node_points g ms) (node_points h ns) → AllZip (IsOfField d h) ns sels
+same_fields : (d : Declarations) (g h : Nodes) (ms ns : List NodeId) (sels : List SelId) → AllZip (IsNodeOfField d g) ms sels → AllZip AgreeAlways (node_points g ms) (node_points h ns) → AllZip (IsNodeOfField d h) ns sels
 same_fields d g h [] [] sels fields pairs = fields
 same_fields d g h [] (n ∷ ns) sels fields pairs = absurd pairs
 same_fields d g h (m ∷ ms) [] sels fields pairs = absurd pairs
 same_fields d g h (m ∷ ms) (n ∷ ns) [] fields pairs = absurd fields
 same_fields d g h (m ∷ ms) (n ∷ ns) (s ∷ sels) fields pairs =
     let first = fields.0 in
-    let of : IsOfField d h n s = record {
+    let of : IsNodeOfField d h n s = record {
       selector = first.selector;
       declared = first.declared;
       sorted = same_sort d g h m n first.selector.sort first.sorted pairs.0;
@@ -90,9 +90,9 @@ fits_same d g h (Elem s m) (Elem t n) fits same pairs =
       free = fits.free;
     }
 
-pub smallest_fits : (d : Declarations) (g : Nodes) (root : NodeId) (h : Nodes) → FitsGraph d g → IsSmallest g root h → FitsGraph d h
-smallest_fits d g root h fits smallest n x at =
-    let found = like g h root smallest n (slice_get_within h n x at) in
+pub minimal_fits : (d : Declarations) (g : Nodes) (root : NodeId) (h : Nodes) → FitsGraph d g → IsMinimal g root h → FitsGraph d h
+minimal_fits d g root h fits minimal n x at =
+    let found = like g h root minimal n (slice_get_within h n x at) in
     let y = agreeing_node h g (id n) found.0 x at found.1 in
     let back = agreeing_node g h found.0 (id n) y.0 y.1 (AgreeAlways-sym (node_point h (id n)) (node_point g found.0) found.1) in
     let same : back.0 ≡ x = same_Some back.0 x (sym back.1 ∙ at) in

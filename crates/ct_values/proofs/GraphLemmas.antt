@@ -1,4 +1,4 @@
--- Graphs: children of a closed graph, and nodes added behind it.
+-- Graphs: children of a closed graph, and nodes added after it.
 use Rattle.std.proofs.Common.{◌≡◌, ℕ, zero, suc, ◌<◌, Bool, List, [], ◌∷◌, ◌++◌, length, map, slice_get, Option, Some, None, option_map, unwrap_or, All, refl, ap, ap₂, subst, ◌∙◌, ◌&&◌, arith}
 use Rattle.std.specs.List.{AllByRecursion}
 use Rattle.std.specs.Option.{option_eq}
@@ -12,13 +12,13 @@ use Rattle.ct_values.specs.Value.{Value, Values, reference, element, construct, 
 use Rattle.ct_values.specs.Agreement.{Point, point, head, head_of, children, children_of, same_head, agree}
 
 module _ {X : Type 0} where
-  -- what stands at a place stands there with more behind it
+  -- what stands at an index stands there with more after it
   pub slice_get-append_left : (xs ys : List X) (i : ℕ) (x : X) → slice_get xs i ≡ Some x → slice_get (xs ++ ys) i ≡ Some x
   slice_get-append_left [] ys i x e = absurd (none-some x e)
   slice_get-append_left (z ∷ zs) ys zero x e = e
   slice_get-append_left (z ∷ zs) ys (suc i) x e = slice_get-append_left zs ys i x e
 
-  -- what holds of all holds of what stands at a place
+  -- what holds of all holds of what stands at an index
   pub All-at : (P : X → Type 0) (xs : List X) (i : ℕ) (x : X) → All P xs → slice_get xs i ≡ Some x → P x
   All-at P xs i x all e = subst P (get_or_from_slice_get xs i x x e) (all i x (slice_get_within xs i x e))
 
@@ -51,7 +51,7 @@ children_are_over g (reference n) closed h = at (slice_get g n.0) refl
 children_are_over g (element s n) closed h = tt
 children_are_over g (construct c vs) closed h = list_over g vs h
 
--- what stands at a node stands there with more behind it
+-- what stands at a node stands there with more after it
 grown_at : (g more : Nodes) (n : ℕ) → n < length g → slice_get (g ++ more) n ≡ slice_get g n
 grown_at [] more n h = absurd (omega arith)
 grown_at (x ∷ xs) more zero h = refl
@@ -68,7 +68,7 @@ children_of-grown g more (reference n) h =
 children_of-grown g more (element s n) h = refl
 children_of-grown g more (construct c vs) h = refl
 
--- a test that does not see the nodes behind a graph gives one answer over lists of values
+-- a test that does not see the nodes after a graph gives one answer over lists of values
 all-grown : (test : Point → Point → Bool) (g more : Nodes) → ((v : Value) (q : Point) → IsOver g v → test (point (g ++ more) v) q ≡ test (point g v) q) → (vs : List Value) (qs : List Point) → AllByRecursion (IsOver g) vs → pointwise test (map (point (g ++ more)) vs) qs ≡ pointwise test (map (point g) vs) qs
 all-grown test g more one [] [] over = refl
 all-grown test g more one [] (q ∷ qs) over = refl
@@ -76,7 +76,7 @@ all-grown test g more one (v ∷ vs) [] over = refl
 all-grown test g more one (v ∷ vs) (q ∷ qs) over =
     ap₂ (λ a b. a && b) (one v q over.0) (all-grown test g more one vs qs over.1)
 
--- nodes behind a closed graph change nothing for a value over it
+-- nodes after a closed graph change nothing for a value over it
 pub agree-grown : (k : ℕ) (g more : Nodes) (v : Value) (q : Point) → IsClosed g → IsOver g v → agree k (point (g ++ more) v) q ≡ agree k (point g v) q
 unfolding agree
 agree-grown zero g more v q closed over = refl

@@ -10,12 +10,12 @@ pub mod ShapeLemmas
 pub mod FiniteLemmas
 pub mod CountLemmas
 pub mod NumberedLemmas
-pub mod SmallestLemmas
+pub mod MinimalLemmas
 pub mod PackedLemmas
 pub mod PostorderLemmas
 pub mod NamedLemmas
 pub mod QuotientLemmas
-pub mod FirstLemmas
+pub mod RepresentativeLemmas
 pub mod SharedLemmas
 pub mod FitTestLemmas
 pub mod NumeralLemmas

@@ -7,37 +7,37 @@ use Rattle.std.proofs.lemmas.Option.{same_Some}
 use Rattle.ct_values.specs.declared.node.NodeId.{NodeId}
 use Rattle.ct_values.specs.declared.node.Node.{Node}
 use Rattle.ct_values.specs.Graph.{Nodes}
-use Rattle.ct_values.specs.Smallest.{child_numbers, HasChild, IsBreadthFirst}
-use Rattle.ct_values.specs.Numbered.{CountsUp, IsInOrder}
+use Rattle.ct_values.specs.Minimal.{child_numbers, HasChild, IsBreadthFirst}
+use Rattle.ct_values.specs.Numbering.{CountsUp, IsInOrder}
 use Rattle.ct_values.proofs.CountLemmas.{CountsUp-rises, CountsUp-below, CountsUp-has, CountsUp-append, CountsUp-split, first_occurrences-counts, counts-first_occurrences, has_below}
 
 -- ---- numbered when first met
 
 -- one more number
-pub CountsUp-push : (met mid all : ℕ) (places : List NodeId) (place : NodeId) → CountsUp met (map (λ p. p.0) places) mid → CountsUp mid (place.0 ∷ []) all → CountsUp met (map (λ p. p.0) (places ++ place ∷ [])) all
-CountsUp-push met mid all places place first last =
-    subst (λ ns. CountsUp met ns all) (sym (map-append (λ p. p.0) places (place ∷ []))) (CountsUp-append met mid all (map (λ p. p.0) places) (place.0 ∷ []) first last)
+pub CountsUp-push : (met mid all : ℕ) (indices : List NodeId) (index : NodeId) → CountsUp met (map (λ p. p.0) indices) mid → CountsUp mid (index.0 ∷ []) all → CountsUp met (map (λ p. p.0) (indices ++ index ∷ [])) all
+CountsUp-push met mid all indices index first last =
+    subst (λ ns. CountsUp met ns all) (sym (map-append (λ p. p.0) indices (index ∷ []))) (CountsUp-append met mid all (map (λ p. p.0) indices) (index.0 ∷ []) first last)
 
 -- one more node, which was met before
-pub IsInOrder-push : (met place mid all : ℕ) (nodes : List Node) (node : Node) → IsInOrder met place nodes mid → place + length nodes < mid → CountsUp mid (child_numbers node) all → IsInOrder met place (nodes ++ node ∷ []) all
-IsInOrder-push met place mid all [] node e before counts =
+pub IsInOrder-push : (met index mid all : ℕ) (nodes : List Node) (node : Node) → IsInOrder met index nodes mid → index + length nodes < mid → CountsUp mid (child_numbers node) all → IsInOrder met index (nodes ++ node ∷ []) all
+IsInOrder-push met index mid all [] node e before counts =
     (omega (arith, e), (all, subst (λ k. CountsUp k (child_numbers node) all) (sym e) counts, refl))
-IsInOrder-push met place mid all (x ∷ xs) node h before counts =
-    (h.0, (h.1.0, h.1.1, IsInOrder-push h.1.0 (suc place) mid all xs node h.1.2 (omega arith) counts))
+IsInOrder-push met index mid all (x ∷ xs) node h before counts =
+    (h.0, (h.1.0, h.1.1, IsInOrder-push h.1.0 (suc index) mid all xs node h.1.2 (omega arith) counts))
 
 -- the children of all count up
-IsInOrder-counts : (met place all : ℕ) (nodes : List Node) → IsInOrder met place nodes all → CountsUp met (flat_map child_numbers nodes) all
-IsInOrder-counts met place all [] h = h
-IsInOrder-counts met place all (node ∷ nodes) h =
-    CountsUp-append met h.1.0 all (child_numbers node) (flat_map child_numbers nodes) h.1.1 (IsInOrder-counts h.1.0 (suc place) all nodes h.1.2)
+IsInOrder-counts : (met index all : ℕ) (nodes : List Node) → IsInOrder met index nodes all → CountsUp met (flat_map child_numbers nodes) all
+IsInOrder-counts met index all [] h = h
+IsInOrder-counts met index all (node ∷ nodes) h =
+    CountsUp-append met h.1.0 all (child_numbers node) (flat_map child_numbers nodes) h.1.1 (IsInOrder-counts h.1.0 (suc index) all nodes h.1.2)
 
 -- a number that is newly met is that of a child of a node before it
-IsInOrder-has : (met place all n : ℕ) (nodes : List Node) → IsInOrder met place nodes all → met ≤ n → n < all → (m : ℕ) × (place + m < n) × HasChild nodes m n
-IsInOrder-has met place all n [] h low high = absurd (omega arith)
-IsInOrder-has met place all n (node ∷ nodes) h low high = elim (cases_lt n h.1.0) [
+IsInOrder-has : (met index all n : ℕ) (nodes : List Node) → IsInOrder met index nodes all → met ≤ n → n < all → (m : ℕ) × (index + m < n) × HasChild nodes m n
+IsInOrder-has met index all n [] h low high = absurd (omega arith)
+IsInOrder-has met index all n (node ∷ nodes) h low high = elim (cases_lt n h.1.0) [
   | inl here ↦ (0, omega (arith, h.0), (node, refl, CountsUp-has met h.1.0 n (child_numbers node) h.1.1 low here))
   | inr after ↦
-      let later = IsInOrder-has h.1.0 (suc place) all n nodes h.1.2 after high in
+      let later = IsInOrder-has h.1.0 (suc index) all n nodes h.1.2 after high in
       (suc later.0, omega (arith, later.1), later.2)
 ]
 
@@ -80,9 +80,9 @@ in_order_from h before (node ∷ rest) met reached whole positive met_before cou
     let next : (before ++ node ∷ []) ++ rest ≡ h = append_assoc before (node ∷ []) rest ∙ whole in
     let now_met = AreMet-push met mid before node rises met_before (CountsUp-below met mid (child_numbers node) parts.1) in
     let later = in_order_from h (before ++ node ∷ []) rest mid reached next (omega (arith, rises)) now_met parts.2 in
-    let place : length (before ++ node ∷ []) ≡ suc (length before) = omega (arith, length-append before (node ∷ [])) in (
+    let index : length (before ++ node ∷ []) ≡ suc (length before) = omega (arith, length-append before (node ∷ [])) in (
       elim (cases_lt (length before) met) [ inl less ↦ less | inr high ↦ absurd (none_new high) ],
-      (mid, parts.1, subst (λ k. IsInOrder mid k rest (length h)) place later),
+      (mid, parts.1, subst (λ k. IsInOrder mid k rest (length h)) index later),
     )
   where
     none_new : met ≤ length before → ⊥

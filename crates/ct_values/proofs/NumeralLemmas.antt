@@ -12,7 +12,7 @@ pub numeral_is_decimal : (n : ℕ) → n < 2 ^ 64 → numeral n ≡ decimal n
 numeral_is_decimal zero small = sym (decimal_digit 0 (omega arith))
 numeral_is_decimal (suc n) small = sym (decimal-digits_of (suc n) (omega arith) small)
 
--- digits are told from what stands for them
+-- digits are distinguished from what stands for them
 digits_same : (ds es : List ℕ) → map (λ d. 48 + d) ds ≡ map (λ d. 48 + d) es → ds ≡ es
 digits_same [] [] e = refl
 digits_same [] (x ∷ es) e = cc

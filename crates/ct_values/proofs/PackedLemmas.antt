@@ -24,14 +24,14 @@ node_of-parts : (node : Node) (head : Head) (ns : List NodeId) → node_head nod
 node_of-parts (nodes.Con c children) head ns head_is children_are = ap₂ node_of head_is children_are
 node_of-parts (nodes.Elem s n) head ns head_is children_are = ap (λ (x : Head). node_of x ns) head_is
 
--- the same of what stands at a place
+-- the same of what stands at an index
 pub node_of-found : (g : Nodes) (n : ℕ) (head : Head) (ns : List NodeId) → option_map node_head (slice_get g n) ≡ Some head → option_map node_children (slice_get g n) ≡ Some ns → slice_get g n ≡ Some (node_of head ns)
 node_of-found g n head ns at_head at_children =
     let found = option_map-Some node_head (slice_get g n) head at_head in
     let same : Some (node_children found.0) ≡ Some ns = sym (ap (option_map node_children) found.1) ∙ at_children in
     found.1 ∙ ap Some (node_of-parts found.0 head ns found.2 (same_Some (node_children found.0) ns same))
 
--- one more place of a list
+-- one more index of a list
 pub take_found : {X : Type 0} (xs : List X) (n : ℕ) (x : X) → slice_get xs n ≡ Some x → take (n + 1) xs ≡ take n xs ++ x ∷ []
 take_found xs n x at = take_more xs n x (slice_get_within xs n x at) ∙ ap (λ y. take n xs ++ y ∷ []) (get_or_from_slice_get xs n x x at)
 
@@ -50,14 +50,14 @@ unpacked_long from [] ends children all packed = refl
 unpacked_long from (head ∷ heads) [] children all packed = absurd packed
 unpacked_long from (head ∷ heads) (end ∷ ends) children all packed = ap suc (unpacked_long end heads ends children all packed.1)
 
--- the place where the children of the first begin is not beyond all
+-- the index where the children of the first begin is not beyond all
 from_within : (from : ℕ) (heads : List Head) (ends : List ℕ) (all : ℕ) → ArePacked from heads ends all → from ≤ all
 from_within from [] [] all packed = omega (arith, packed)
 from_within from [] (end ∷ ends) all packed = absurd packed
 from_within from (head ∷ heads) [] all packed = absurd packed
 from_within from (head ∷ heads) (end ∷ ends) all packed = omega (arith, packed.0, from_within end heads ends all packed.1)
 
--- the children of each node end where they begin or behind it, and not beyond all
+-- the children of each node end where they begin or after it, and not beyond all
 pub ends_within : (from : ℕ) (heads : List Head) (ends : List ℕ) (all n start end : ℕ) → ArePacked from heads ends all → slice_get (from ∷ ends) n ≡ Some start → slice_get ends n ≡ Some end → (start ≤ end) × (end ≤ all)
 ends_within from heads [] all n start end packed at_start at_end = absurd (none-some end at_end)
 ends_within from [] (e ∷ ends) all n start end packed at_start at_end = absurd packed
@@ -96,10 +96,10 @@ node_unpacked from (h ∷ heads) (e ∷ ends) children all (suc n) head packed a
 -- a part of a list is one of a longer list
 part-append : {X : Type 0} (xs ys : List X) (from count : ℕ) → from + count ≤ length xs → take count (drop from (xs ++ ys)) ≡ take count (drop from xs)
 part-append xs ys from count within =
-    let front : from ≤ length xs = omega arith in
-    ap (take count) (drop-append-le from xs ys front) ∙ take-append-le count (drop from xs) ys (omega (arith, length-drop from xs))
+    let prefix : from ≤ length xs = omega arith in
+    ap (take count) (drop-append-le from xs ys prefix) ∙ take-append-le count (drop from xs) ys (omega (arith, length-drop from xs))
 
--- what was added to a list is what is behind it
+-- what was added to a list is what comes after it
 part-added : {X : Type 0} (xs ys : List X) (from end : ℕ) → from ≡ length xs → end ≡ length (xs ++ ys) → take (end - from) (drop from (xs ++ ys)) ≡ ys
 part-added xs ys from end start_is end_is =
     let rest : drop from (xs ++ ys) ≡ ys = ap (λ n. drop n (xs ++ ys)) start_is ∙ drop-append_seam xs ys in
@@ -112,7 +112,7 @@ ArePacked-push from [] (e ∷ ends) all head end packed le = absurd packed
 ArePacked-push from (h ∷ heads) [] all head end packed le = absurd packed
 ArePacked-push from (h ∷ heads) (e ∷ ends) all head end packed le = (packed.0, ArePacked-push e heads ends all head end packed.1 le)
 
--- one head more, whose children are behind the others, is one node more
+-- one head more, whose children are after the others, is one node more
 pub unpacked-push : (from : ℕ) (heads : List Head) (ends : List ℕ) (children : List NodeId) (head : Head) (added : List NodeId) (end : ℕ) → ArePacked from heads ends (length children) → end ≡ length (children ++ added) → unpacked from (heads ++ head ∷ []) (ends ++ end ∷ []) (children ++ added) ≡ unpacked from heads ends children ++ node_of head added ∷ []
 unpacked-push from [] [] children head added end packed end_is =
     ap (λ (ns : List NodeId). node_of head ns ∷ []) (part-added children added from end packed end_is)

@@ -1,5 +1,5 @@
--- What values and graphs are written as tells them: expressions of values are readable, and are the same but for bars that
--- are not needed only where the values are the same.
+-- What values and graphs are written as tells them: expressions of values are readable, and are the same but for quoting that
+-- is not needed only where the values are equal.
 use Rattle.std.proofs.Common.{◌≡◌, ℕ, suc, ◌<◌, ◌↔◌, true, List, [], ◌∷◌, ◌++◌, length, map, Option, Some, slice_get, unwrap_or, refl, sym, ap, ap₂, ◌∙◌, inl, arith, append_assoc, codes}
 use Rattle.std.specs.List.{AllByRecursion, list_all}
 use Rattle.std.specs.Cmp.Derive.{both_true}
@@ -11,9 +11,9 @@ use Rattle.ct_sorts.specs.declared.ids.SortId.{SortId}
 use Rattle.ct_sorts.specs.Declarations.{Declarations, Constructor, Sort, IsSort, IsConstructor, sort_names, ctor_names, sel_names, function_names, definition_names}
 use Rattle.ct_sorts.specs.Consistent.{IsConsistent}
 use Rattle.ct_sexpr.specs.Atom.{Atom, symbol, quoted}
-use Rattle.ct_sexpr.specs.Token.{is_between_bars}
+use Rattle.ct_sexpr.specs.Token.{is_in_quoted_symbol}
 use Rattle.ct_sexpr.specs.Expression.{Expression, Expressions, leaf, list, none, more}
-use Rattle.ct_sexpr.specs.Written.{plain_atom, plain, plain_each, written}
+use Rattle.ct_sexpr.specs.Written.{canonical_atom, canonical, canonical_each, written}
 use Rattle.ct_sexpr.specs.Readable.{IsReadable, AreReadable, name_of_atom}
 use Rattle.ct_values.specs.declared.node.NodeId.{NodeId}
 use Rattle.ct_values.specs.declared.node.Node.{Node}
@@ -28,9 +28,9 @@ use Rattle.ct_values.proofs.NumeralLemmas.{numeral_injective}
 use Rattle.ct_values.proofs.FitNameLemmas.{ctor_fits, fit_between, digits_between, digits_word}
 
 -- what the texts of expressions tell
-pub record TextLaws : Type 0 where
-  pub same_text : (e f : Expression) → IsReadable e → IsReadable f → (written e ≡ written f) ↔ (plain e ≡ plain f)
-  pub one_name : (a : Atom) → name_of_atom (plain_atom a) ≡ name_of_atom a
+pub record TextTheorems : Type 0 where
+  pub same_text : (e f : Expression) → IsReadable e → IsReadable f → (written e ≡ written f) ↔ (canonical e ≡ canonical f)
+  pub one_name : (a : Atom) → name_of_atom (canonical_atom a) ≡ name_of_atom a
 
 -- ---- parts of expressions
 
@@ -54,17 +54,17 @@ symbol_same v w e = cc
 
 -- ---- names
 
--- what stands in a list at a place, or nothing
-at_place : (names : List (List ℕ)) (n : ℕ) → n < length names → slice_get names n ≡ Some (unwrap_or (slice_get names n) [])
-at_place names n within =
+-- what stands in a list at an index, or nothing
+at_index : (names : List (List ℕ)) (n : ℕ) → n < length names → slice_get names n ≡ Some (unwrap_or (slice_get names n) [])
+at_index names n within =
     let x = stands_within names n within in
     x.1 ∙ ap (λ (found : Option (List ℕ)). Some (unwrap_or found [])) (sym x.1)
 
 ctor_at : (d : Declarations) (c : CtorId) → IsConstructor d c → slice_get (ctor_names d) c.0 ≡ Some (ctor_name d c.0)
-ctor_at d c declared = at_place (ctor_names d) c.0 (omega (arith, length-map d.ctors (λ (k : Constructor). k.name)))
+ctor_at d c declared = at_index (ctor_names d) c.0 (omega (arith, length-map d.ctors (λ (k : Constructor). k.name)))
 
 sort_at : (d : Declarations) (s : SortId) → IsSort d s → slice_get (sort_names d) s.0 ≡ Some (sort_name d s.0)
-sort_at d s declared = at_place (sort_names d) s.0 (omega (arith, length-map d.sorts (λ (k : Sort). k.name)))
+sort_at d s declared = at_index (sort_names d) s.0 (omega (arith, length-map d.sorts (λ (k : Sort). k.name)))
 
 -- constructors with one name are one, and so are sorts
 ctor_same : (d : Declarations) (b c : CtorId) → IsConsistent d → IsConstructor d b → IsConstructor d c → ctor_name d b.0 ≡ ctor_name d c.0 → b ≡ c
@@ -86,17 +86,17 @@ not_at d c rest consistent c_in e =
     ctor_fits d c.0 (ctor_name d c.0) consistent (ctor_at d c c_in) (inl (ap (λ (w : List ℕ). slice_get w 0) e))
 
 -- names that are written alike are one
-name_same : TextLaws → (v w : List ℕ) → plain (name v) ≡ plain (name w) → v ≡ w
-name_same laws v w e =
-    let atoms = leaf_same (plain_atom (quoted v)) (plain_atom (quoted w)) e in
-    same_Some v w (sym (laws.one_name (quoted v)) ∙ ap name_of_atom atoms ∙ laws.one_name (quoted w))
+name_same : TextTheorems → (v w : List ℕ) → canonical (name v) ≡ canonical (name w) → v ≡ w
+name_same theorems v w e =
+    let atoms = leaf_same (canonical_atom (quoted v)) (canonical_atom (quoted w)) e in
+    same_Some v w (sym (theorems.one_name (quoted v)) ∙ ap name_of_atom atoms ∙ theorems.one_name (quoted w))
 
 -- a name that is written as a symbol is the name that the symbol is
-name_of_word : TextLaws → (v w : List ℕ) → leaf (plain_atom (quoted v)) ≡ leaf (symbol w) → Some v ≡ name_of_atom (symbol w)
-name_of_word laws v w e = sym (laws.one_name (quoted v)) ∙ ap name_of_atom (leaf_same (plain_atom (quoted v)) (symbol w) e)
+name_of_word : TextTheorems → (v w : List ℕ) → leaf (canonical_atom (quoted v)) ≡ leaf (symbol w) → Some v ≡ name_of_atom (symbol w)
+name_of_word theorems v w e = sym (theorems.one_name (quoted v)) ∙ ap name_of_atom (leaf_same (canonical_atom (quoted v)) (symbol w) e)
 
 -- numbers of nodes that are written alike are one
-node_same : (m n : NodeId) → plain (node_name m.0) ≡ plain (node_name n.0) → m ≡ n
+node_same : (m n : NodeId) → canonical (node_name m.0) ≡ canonical (node_name n.0) → m ≡ n
 node_same m n e =
     let words : 64 ∷ numeral m.0 ≡ 64 ∷ numeral n.0 = symbol_same (64 ∷ numeral m.0) (64 ∷ numeral n.0) (leaf_same (symbol (64 ∷ numeral m.0)) (symbol (64 ∷ numeral n.0)) e) in
     let same : m.0 ≡ n.0 = numeral_injective m.0 n.0 (append_cancel_left (64 ∷ []) (numeral m.0) (numeral n.0) words) in
@@ -125,8 +125,8 @@ name_readable d c consistent c_in = fit_between (ctor_name d c.0) (ctor_fits d c
 element_readable : (d : Declarations) (s : SortId) (n : ℕ) → IsConsistent d → IsSort d s → IsReadable (element_text (sort_name d s.0) n)
 element_readable d s n consistent s_in =
     let sort = sort_name d s.0 in
-    let clean : list_all is_between_bars sort ≡ true = fit_between sort (consistent.fit s.0 sort (sort_at d s s_in)) in
-    let symbol_clean : list_all is_between_bars (sort ++ 95 ∷ numeral n) ≡ true = list_all-append is_between_bars sort (95 ∷ numeral n) ∙ both_true clean (digits_between n) in
+    let clean : list_all is_in_quoted_symbol sort ≡ true = fit_between sort (consistent.fit s.0 sort (sort_at d s s_in)) in
+    let symbol_clean : list_all is_in_quoted_symbol (sort ++ 95 ∷ numeral n) ≡ true = list_all-append is_in_quoted_symbol sort (95 ∷ numeral n) ∙ both_true clean (digits_between n) in
     (refl, (symbol_clean, (clean, tt)))
 
 applied_readable : (head : Expression) (es : Expressions) → IsReadable head → AreReadable es → IsReadable (applied head es)
@@ -147,28 +147,28 @@ mutual
 -- ---- they tell the values
 
 -- an element is written with `as`, which is no name, and a graph with `@graph`, which is none of a constructor
-not_as : TextLaws → (v : List ℕ) → leaf (plain_atom (quoted v)) ≡ leaf (symbol (codes "as")) → ⊥
-not_as laws v e = none-some v (sym (name_of_word laws v (codes "as") e))
+not_as : TextTheorems → (v : List ℕ) → leaf (canonical_atom (quoted v)) ≡ leaf (symbol (codes "as")) → ⊥
+not_as theorems v e = none-some v (sym (name_of_word theorems v (codes "as") e))
 
-module _ (laws : TextLaws) (d : Declarations) (consistent : IsConsistent d) where
-  not_node : (c : CtorId) (n : ℕ) → IsConstructor d c → leaf (plain_atom (quoted (ctor_name d c.0))) ≡ leaf (symbol (64 ∷ numeral n)) → ⊥
+module _ (theorems : TextTheorems) (d : Declarations) (consistent : IsConsistent d) where
+  not_node : (c : CtorId) (n : ℕ) → IsConstructor d c → leaf (canonical_atom (quoted (ctor_name d c.0))) ≡ leaf (symbol (64 ∷ numeral n)) → ⊥
   not_node c n c_in e =
-      not_at d c (numeral n) consistent c_in (same_Some (ctor_name d c.0) (64 ∷ numeral n) (name_of_word laws (ctor_name d c.0) (64 ∷ numeral n) e))
+      not_at d c (numeral n) consistent c_in (same_Some (ctor_name d c.0) (64 ∷ numeral n) (name_of_word theorems (ctor_name d c.0) (64 ∷ numeral n) e))
 
-  not_graph : (c : CtorId) → IsConstructor d c → leaf (plain_atom (quoted (ctor_name d c.0))) ≡ leaf (symbol (codes "@graph")) → ⊥
+  not_graph : (c : CtorId) → IsConstructor d c → leaf (canonical_atom (quoted (ctor_name d c.0))) ≡ leaf (symbol (codes "@graph")) → ⊥
   not_graph c c_in e =
-      not_at d c (codes "graph") consistent c_in (same_Some (ctor_name d c.0) (codes "@graph") (name_of_word laws (ctor_name d c.0) (codes "@graph") e))
+      not_at d c (codes "graph") consistent c_in (same_Some (ctor_name d c.0) (codes "@graph") (name_of_word theorems (ctor_name d c.0) (codes "@graph") e))
 
-  element_same : (s t : SortId) (m n : ℕ) → IsSort d s → IsSort d t → plain (element_text (sort_name d s.0) m) ≡ plain (element_text (sort_name d t.0) n) → element s m ≡ element t n
+  element_same : (s t : SortId) (m n : ℕ) → IsSort d s → IsSort d t → canonical (element_text (sort_name d s.0) m) ≡ canonical (element_text (sort_name d t.0) n) → element s m ≡ element t n
   element_same s t m n s_in t_in e =
       let u = sort_name d s.0 in
       let w = sort_name d t.0 in
       let items = list_same _ _ e in
-      let behind_as = (more_same _ _ _ _ items).1 in
-      let parts = more_same _ _ _ _ behind_as in
+      let after_as = (more_same _ _ _ _ items).1 in
+      let parts = more_same _ _ _ _ after_as in
       let last = more_same _ _ _ _ parts.1 in
-      let sorts = name_same laws u w last.0 in
-      let names = name_same laws (element_name u m) (element_name w n) parts.0 in
+      let sorts = name_same theorems u w last.0 in
+      let names = name_same theorems (element_name u m) (element_name w n) parts.0 in
       let turned : element_name u m ≡ element_name u n = names ∙ ap (λ (x : List ℕ). element_name x n) (sym sorts) in
       let numbers : numeral m ≡ numeral n = append_cancel_left (64 ∷ (u ++ 95 ∷ [])) (numeral m) (numeral n) (pulled u m ∙ turned ∙ sym (pulled u n)) in
       ap₂ element (sort_same d s t consistent s_in t_in sorts) (numeral_injective m n numbers)
@@ -177,7 +177,7 @@ module _ (laws : TextLaws) (d : Declarations) (consistent : IsConsistent d) wher
       pulled x k = ap (λ (y : List ℕ). 64 ∷ y) (append_assoc x (95 ∷ []) (numeral k))
 
   mutual
-    pub value_same : (v w : Value) → IsNamed d v → IsNamed d w → plain (expression d v) ≡ plain (expression d w) → v ≡ w
+    pub value_same : (v w : Value) → IsNamed d v → IsNamed d w → canonical (expression d v) ≡ canonical (expression d w) → v ≡ w
     value_same (reference m) (reference n) v_named w_named e = ap reference (node_same m n e)
     value_same (reference m) (element s n) v_named w_named e = absurd (leaf_list _ _ e)
     value_same (reference m) (construct c no_values) v_named w_named e = absurd (not_node c m.0 w_named.0 (sym e))
@@ -185,21 +185,21 @@ module _ (laws : TextLaws) (d : Declarations) (consistent : IsConsistent d) wher
     value_same (element s m) (reference n) v_named w_named e = absurd (leaf_list _ _ (sym e))
     value_same (element s m) (element t n) v_named w_named e = element_same s t m n v_named w_named e
     value_same (element s m) (construct c no_values) v_named w_named e = absurd (leaf_list _ _ (sym e))
-    value_same (element s m) (construct c (with_value w ws)) v_named w_named e = absurd (not_as laws (ctor_name d c.0) (sym (more_same _ _ _ _ (list_same _ _ e)).0))
+    value_same (element s m) (construct c (with_value w ws)) v_named w_named e = absurd (not_as theorems (ctor_name d c.0) (sym (more_same _ _ _ _ (list_same _ _ e)).0))
     value_same (construct b no_values) (reference n) v_named w_named e = absurd (not_node b n.0 v_named.0 e)
     value_same (construct b (with_value v vs)) (reference n) v_named w_named e = absurd (leaf_list _ _ (sym e))
     value_same (construct b no_values) (element s n) v_named w_named e = absurd (leaf_list _ _ e)
-    value_same (construct b (with_value v vs)) (element s n) v_named w_named e = absurd (not_as laws (ctor_name d b.0) (more_same _ _ _ _ (list_same _ _ e)).0)
+    value_same (construct b (with_value v vs)) (element s n) v_named w_named e = absurd (not_as theorems (ctor_name d b.0) (more_same _ _ _ _ (list_same _ _ e)).0)
     value_same (construct b no_values) (construct c no_values) v_named w_named e =
-        ap (λ (k : CtorId). construct k no_values) (ctor_same d b c consistent v_named.0 w_named.0 (name_same laws (ctor_name d b.0) (ctor_name d c.0) e))
+        ap (λ (k : CtorId). construct k no_values) (ctor_same d b c consistent v_named.0 w_named.0 (name_same theorems (ctor_name d b.0) (ctor_name d c.0) e))
     value_same (construct b no_values) (construct c (with_value w ws)) v_named w_named e = absurd (leaf_list _ _ e)
     value_same (construct b (with_value v vs)) (construct c no_values) v_named w_named e = absurd (leaf_list _ _ (sym e))
     value_same (construct b (with_value v vs)) (construct c (with_value w ws)) v_named w_named e =
         let parts = more_same _ _ _ _ (list_same _ _ e) in
-        let heads = ctor_same d b c consistent v_named.0 w_named.0 (name_same laws (ctor_name d b.0) (ctor_name d c.0) parts.0) in
+        let heads = ctor_same d b c consistent v_named.0 w_named.0 (name_same theorems (ctor_name d b.0) (ctor_name d c.0) parts.0) in
         ap₂ construct heads (values_same (with_value v vs) (with_value w ws) v_named.1 w_named.1 parts.1)
 
-    values_same : (vs ws : Values) → AreNamed d vs → AreNamed d ws → plain_each (expressions d vs) ≡ plain_each (expressions d ws) → vs ≡ ws
+    values_same : (vs ws : Values) → AreNamed d vs → AreNamed d ws → canonical_each (expressions d vs) ≡ canonical_each (expressions d ws) → vs ≡ ws
     values_same no_values no_values v_named w_named e = refl
     values_same no_values (with_value w ws) v_named w_named e = absurd (none_more _ _ e)
     values_same (with_value v vs) no_values v_named w_named e = absurd (none_more _ _ (sym e))
@@ -208,7 +208,7 @@ module _ (laws : TextLaws) (d : Declarations) (consistent : IsConsistent d) wher
         ap₂ with_value (value_same v w v_named.0 w_named.0 parts.0) (values_same vs ws v_named.1 w_named.1 parts.1)
 
   -- no value is written as a graph is
-  pub not_graph_text : (v : Value) (h : Nodes) → IsNamed d v → plain (expression d v) ≡ plain (graph_text d h) → ⊥
+  pub not_graph_text : (v : Value) (h : Nodes) → IsNamed d v → canonical (expression d v) ≡ canonical (graph_text d h) → ⊥
   not_graph_text (reference n) h named e = leaf_list _ _ e
   not_graph_text (element s n) h named e = as_graph (leaf_same _ _ (more_same _ _ _ _ (list_same _ _ e)).0)
     where
@@ -241,8 +241,8 @@ node_value_same (Elem s m) (Elem t n) e = cc
 abbrev pub AreNodesNamed : Declarations → List Node → Type 0
 AreNodesNamed d nodes = AllByRecursion (λ x. IsNamed d (node_value x)) nodes
 
-module _ (laws : TextLaws) (d : Declarations) (consistent : IsConsistent d) where
-  rows_same : (n : ℕ) (xs ys : List Node) → AreNodesNamed d xs → AreNodesNamed d ys → plain_each (node_texts d n xs) ≡ plain_each (node_texts d n ys) → xs ≡ ys
+module _ (theorems : TextTheorems) (d : Declarations) (consistent : IsConsistent d) where
+  rows_same : (n : ℕ) (xs ys : List Node) → AreNodesNamed d xs → AreNodesNamed d ys → canonical_each (node_texts d n xs) ≡ canonical_each (node_texts d n ys) → xs ≡ ys
   rows_same n [] [] xs_named ys_named e = refl
   rows_same n [] (y ∷ ys) xs_named ys_named e = absurd (none_more _ _ e)
   rows_same n (x ∷ xs) [] xs_named ys_named e = absurd (none_more _ _ (sym e))
@@ -250,13 +250,13 @@ module _ (laws : TextLaws) (d : Declarations) (consistent : IsConsistent d) wher
       let parts = more_same _ _ _ _ e in
       let row = more_same _ _ _ _ (list_same _ _ parts.0) in
       let node = more_same _ _ _ _ row.1 in
-      let first = node_value_same x y (value_same laws d consistent (node_value x) (node_value y) xs_named.0 ys_named.0 node.0) in
+      let first = node_value_same x y (value_same theorems d consistent (node_value x) (node_value y) xs_named.0 ys_named.0 node.0) in
       ap₂ (λ (z : Node) (zs : List Node). z ∷ zs) first (rows_same (suc n) xs ys xs_named.1 ys_named.1 parts.1)
 
-  pub graph_same : (g h : Nodes) → AreNodesNamed d g → AreNodesNamed d h → plain (graph_text d g) ≡ plain (graph_text d h) → g ≡ h
+  pub graph_same : (g h : Nodes) → AreNodesNamed d g → AreNodesNamed d h → canonical (graph_text d g) ≡ canonical (graph_text d h) → g ≡ h
   graph_same g h g_named h_named e =
-      let behind = (more_same _ _ _ _ (list_same _ _ e)).1 in
-      let rows = list_same _ _ (more_same _ _ _ _ behind).0 in
+      let remaining = (more_same _ _ _ _ (list_same _ _ e)).1 in
+      let rows = list_same _ _ (more_same _ _ _ _ remaining).0 in
       rows_same 0 g h g_named h_named rows
 
   rows_readable : (n : ℕ) (xs : List Node) → AreNodesNamed d xs → AreReadable (node_texts d n xs)

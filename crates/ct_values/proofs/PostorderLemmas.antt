@@ -1,4 +1,4 @@
--- Walks over a graph from a stack of visits: one step, and what stands in the order behind them.
+-- Walks over a graph from a stack of visits: one step, and what stands in the order after them.
 use Rattle.std.proofs.Common.{◌≡◌, ℕ, zero, suc, ◌+◌, ◌<◌, ◌≤◌, ◌⊎◌, inl, inr, Bool, true, false, List, [], ◌∷◌, ◌++◌, length, Option, Some, None, slice_get, refl, sym, ap, subst, ◌∙◌, arith, length-append, replicate, slice_set, slice_index_or, option_map, All, true≢false}
 use Rattle.std.proofs.lemmas.List.{append-nil, append_assoc, length-set, length-replicate}
 use Rattle.std.proofs.lemmas.Option.{none-some, same_Some, slice_get_within}
@@ -14,7 +14,7 @@ use Rattle.ct_values.specs.Postorder.{StandsIn, numbered, HasEach, visited, AreV
 -- ---- what stands in a list
 
 module _ {X : Type 0} where
-  -- what stands in the front of a list stands in the list
+  -- what stands in a prefix of a list stands in the list
   pub stands-left : (x : X) (xs ys : List X) → StandsIn x xs → StandsIn x (xs ++ ys)
   stands-left x [] ys stands = absurd (none-some x stands.1)
   stands-left x (y ∷ xs) ys (zero, at) = (0, at)
@@ -55,7 +55,7 @@ room-meet (k ∷ g) (false ∷ met) (suc n) node at unmet = let later = room-mee
 
 -- ---- met nodes
 
--- what is met after one place was set was met before, or is that place
+-- what is met after one index was set was met before, or is that index
 set-at : (met : List Bool) (n i : ℕ) → IsMet (slice_set met n true) i → IsMet met i ⊎ (n ≡ i)
 set-at [] n i at = absurd (none-some true at)
 set-at (b ∷ met) zero zero at = inr refl
@@ -71,13 +71,13 @@ set-stays (b ∷ met) zero (suc i) at = at
 set-stays (b ∷ met) (suc n) zero at = at
 set-stays (b ∷ met) (suc n) (suc i) at = set-stays met n i at
 
--- the place that is set is met
+-- the index that is set is met
 set-here : (met : List Bool) (n : ℕ) → n < length met → IsMet (slice_set met n true) n
 set-here [] n lt = absurd (omega arith)
 set-here (b ∷ met) zero lt = refl
 set-here (b ∷ met) (suc n) lt = set-here met n (omega arith)
 
--- what is read at a place within the list stands there
+-- what is read at an index within the list stands there
 pub read-stands : (met : List Bool) (n : ℕ) (b : Bool) → n < length met → b ≡ slice_index_or met n b → slice_get met n ≡ Some b
 read-stands [] n b lt e = absurd (omega arith)
 read-stands (x ∷ met) zero b lt e = ap Some (sym e)
@@ -113,7 +113,7 @@ same_Turn n m e = same_Some n m (ap node-of-turn e)
 
 -- ---- meeting a node
 
--- visits behind visits: all are of nodes below the bound
+-- visits after visits: all are of nodes below the bound
 visits-append : (count : ℕ) (xs ys : List Visit) → AreVisits count xs → AreVisits count ys → AreVisits count (xs ++ ys)
 visits-append count xs ys left right visit stands = elim (stands-split visit xs ys stands) [ inl s ↦ left visit s | inr s ↦ right visit s ]
 
@@ -292,14 +292,14 @@ pub walk-less : (g : Nodes) (met met_new : List Bool) (order order_new : List No
     → IsStep g visit met met_new order order_new left new → room g met_new + length new < room g met + length before
 walk-less g met met_new order order_new before left new visit is step = omega (arith, step.less, ap length is, length-append left (visit ∷ []))
 
--- behind a walk each met node stands in the order
+-- after a walk each met node stands in the order
 pub walk-each : (g : Nodes) (from : NodeId) (start met : List Bool) (order : List NodeId) (stack : List Visit) → stack ≡ [] → IsWalking g from start met order stack → EachMetStands met order
 walk-each g from start met order stack none walking i is_met = elim (walking.1.each i is_met) [
   | inl stands ↦ stands
   | inr waits ↦ absurd (none-some (Turn (numbered i)) (subst (StandsIn (Turn (numbered i))) none waits).1)
 ]
 
--- behind a walk its node is met
+-- after a walk its node is met
 pub walk-from : (g : Nodes) (from : NodeId) (start met : List Bool) (order : List NodeId) (stack : List Visit) → stack ≡ [] → IsWalking g from start met order stack → IsMet met from.0
 walk-from g from start met order stack none walking = elim walking.2 [
   | inl is_met ↦ is_met
@@ -334,7 +334,7 @@ below-next zero (suc n) lt = inl (omega arith)
 below-next (suc i) zero lt = absurd (omega (arith, lt))
 below-next (suc i) (suc n) lt = elim (below-next i n (omega (arith, lt))) [ inl less ↦ inl (omega (arith, less)) | inr e ↦ inr (ap suc e) ]
 
--- where the next node is met too, all below the number behind it are
+-- where the next node is met too, all below the number after it are
 all-next : (met : List Bool) (n : ℕ) → ((i : ℕ) → i < n → IsMet met i) → IsMet met n → (i : ℕ) → i < n + 1 → IsMet met i
 all-next met n all is_met i lt = elim (below-next i n lt) [ inl less ↦ all i less | inr e ↦ subst (IsMet met) e is_met ]
 
@@ -348,11 +348,11 @@ pub walked-walk : (g : Nodes) (n : ℕ) (met met_new : List Bool) (order order_n
 walked-walk g n met met_new order order_new long within each stay is_met walked =
     (long ∙ walked.0, within, each, all-next met_new n (λ i lt. stay i (walked.3 i lt)) is_met)
 
--- behind the last walk each node stands in the order
+-- after the last walk each node stands in the order
 pub walked-end : (g : Nodes) (n : ℕ) (met : List Bool) (order : List NodeId) → length g ≤ n → AreWalked g n met order → HasEach (length g) order
 walked-end g n met order all walked i lt = walked.2 i (walked.3 i (omega (arith, all, lt)))
 
--- what holds behind walks holds of lists that are equal to these
+-- what holds after walks holds of lists that are equal to these
 pub walked-same : (g : Nodes) (n : ℕ) (met met_new : List Bool) (order order_new : List NodeId) → met_new ≡ met → order_new ≡ order → AreWalked g n met order → AreWalked g n met_new order_new
 walked-same g n met met_new order order_new met_is order_is walked =
     subst (λ (seen : List Bool). AreWalked g n seen order_new) (sym met_is) (subst (λ (nodes : List NodeId). AreWalked g n met nodes) (sym order_is) walked)

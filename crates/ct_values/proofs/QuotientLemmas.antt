@@ -1,4 +1,4 @@
--- The quotient of what a root reaches, by numbered classes of nodes that agree at every depth, is the smallest graph.
+-- The quotient of what a root reaches, by numbered classes of nodes that agree at every depth, is the minimal graph.
 use Rattle.std.proofs.Common.{◌≡◌, ℕ, zero, suc, ◌+◌, ◌<◌, ◌≤◌, ◌⊎◌, true, false, cond, IsTrue, List, [], ◌∷◌, ◌++◌, length, map, take, drop, get_or, Some, option_map, slice_get, nat_eq, ◌↔◌, All, refl, sym, ap, ap₂, subst, ◌∙◌, inl, inr, arith, append_assoc, length-append}
 use Rattle.std.specs.List.{AllZip, AllByRecursion}
 use Rattle.std.proofs.Math.Seq.{take-length, drop-cons}
@@ -13,8 +13,8 @@ use Rattle.ct_values.specs.declared.node.Node.TheVariants.{Con, Elem}
 use Rattle.ct_values.specs.declared.node.Head.{Head}
 use Rattle.ct_values.specs.Graph.{Nodes, IsClosed, HasChildrenBelow, node_head, node_children}
 use Rattle.ct_values.specs.Agreement.{Point, node_point, agree, AgreeAlways}
-use Rattle.ct_values.specs.Smallest.{child_numbers, IsBreadthFirst, IsSmallest}
-use Rattle.ct_values.specs.Numbered.{CountsUp, IsInOrder}
+use Rattle.ct_values.specs.Minimal.{child_numbers, IsBreadthFirst, IsMinimal}
+use Rattle.ct_values.specs.Numbering.{CountsUp, IsInOrder}
 use Rattle.ct_values.specs.Partition.{class_at, Alike, KeepsTogether, IsStable}
 use Rattle.ct_values.specs.Renumbering.{IsPart}
 use Rattle.ct_values.specs.Packed.{node_of}
@@ -27,7 +27,7 @@ use Rattle.ct_values.proofs.RefineLemmas.{AgreeAlways-stable}
 use Rattle.ct_values.proofs.CountLemmas.{CountsUp-rises, CountsUp-below, CountsUp-append}
 use Rattle.ct_values.proofs.NumberedLemmas.{IsBreadthFirst-numbered, numbered-IsBreadthFirst, IsBreadthFirst-positive}
 
--- ---- numbers that count up, place by place
+-- ---- numbers that count up, element by element
 
 -- numbers have one count
 CountsUp-one : (met a b : ℕ) (ns : List ℕ) → CountsUp met ns a → CountsUp met ns b → a ≡ b
@@ -70,7 +70,7 @@ first_stands met count (suc k) m (n ∷ ns) (inr h) low high = elim (cases_lt me
   | inr le ↦ (0, omega arith, omega arith, omega (arith, h.0))
 ]
 
--- the number behind the first ones was met, or is the next
+-- the number after the first ones was met, or is the next
 abbrev IsNext : ℕ → ℕ → ℕ → List ℕ → Type 0
 IsNext met count k ns = ((class_at ns k < count) × CountsUp met (take (suc k) ns) count) ⊎ ((class_at ns k ≡ count) × CountsUp met (take (suc k) ns) (suc count))
 
@@ -256,59 +256,59 @@ module _ (g : Nodes) (numbers : List ℕ) (closed : IsClosed g) (are : AreNumber
             (rest.0, inr (is ∙ next.0, rest.1), rest.2)
       ]
 
-  -- the children of the nodes before this place were met
+  -- the children of the nodes before this index were met
   abbrev AreMet : ℕ → ℕ → Type 0
-  AreMet place met = (i : ℕ) (x : Node) → i < place → slice_get g i ≡ Some x → AllByRecursion (λ n. n.0 < met) (node_children x)
+  AreMet index met = (i : ℕ) (x : Node) → i < index → slice_get g i ≡ Some x → AllByRecursion (λ n. n.0 < met) (node_children x)
 
-  -- one place more
-  AreMet-next : (place met mid : ℕ) (node : Node) → AreMet place met → slice_get g place ≡ Some node → CountsUp met (child_numbers node) mid → AreMet (suc place) mid
-  AreMet-next place met mid node before at counts i x early at_x = elim (cases_lt i place) [
+  -- one index more
+  AreMet-next : (index met mid : ℕ) (node : Node) → AreMet index met → slice_get g index ≡ Some node → CountsUp met (child_numbers node) mid → AreMet (suc index) mid
+  AreMet-next index met mid node before at counts i x early at_x = elim (cases_lt i index) [
     | inl less ↦ below_more met mid (node_children x) (CountsUp-rises met mid (child_numbers node) counts) (before i x less at_x)
     | inr le ↦
-        let here : i ≡ place = omega arith in
+        let here : i ≡ index = omega arith in
         let is : node ≡ x = same_Some node x (sym at ∙ ap (slice_get g) (sym here) ∙ at_x) in
         subst (λ (y : Node). AllByRecursion (λ n. n.0 < mid) (node_children y)) is (below_numbers mid (node_children node) (CountsUp-below met mid (child_numbers node) counts))
   ]
 
   -- a node whose number was met meets none
-  none_new : (place met mid count begun : ℕ) (node : Node) → slice_get g place ≡ Some node → AreMet place met → CountsUp 0 (take met numbers) count → CountsUp 0 (take place numbers) begun → class_at numbers place < begun → CountsUp count (map (λ n. n.0) (map (numbered_child numbers) (node_children node))) mid → mid ≡ count
-  none_new place met mid count begun node at before counts so_far old steps =
-      let first = first_stands 0 begun place (class_at numbers place) numbers so_far (omega arith) old in
+  none_new : (index met mid count begun : ℕ) (node : Node) → slice_get g index ≡ Some node → AreMet index met → CountsUp 0 (take met numbers) count → CountsUp 0 (take index numbers) begun → class_at numbers index < begun → CountsUp count (map (λ n. n.0) (map (numbered_child numbers) (node_children node))) mid → mid ≡ count
+  none_new index met mid count begun node at before counts so_far old steps =
+      let first = first_stands 0 begun index (class_at numbers index) numbers so_far (omega arith) old in
       let first_in : first.0 < length g = omega (arith, first.2, are.long) in
       let x = stands_within g first.0 first_in in
-      let alike = (are.same first.0 place first_in (slice_get_within g place node at)).0 first.3 in
-      let parts = AgreeAlways-nodes g g (id first.0) (id place) x.0 node x.1 at alike in
+      let alike = (are.same first.0 index first_in (slice_get_within g index node at)).0 first.3 in
+      let parts = AgreeAlways-nodes g g (id first.0) (id index) x.0 node x.1 at alike in
       let x_in = closed_children g first.0 x.0 closed x.1 in
-      let same = same_numbers g numbers (node_children x.0) (node_children node) (λ i j i_in j_in. (are.same i j i_in j_in).1) x_in (closed_children g place node closed at) parts.1 in
+      let same = same_numbers g numbers (node_children x.0) (node_children node) (λ i j i_in j_in. (are.same i j i_in j_in).1) x_in (closed_children g index node closed at) parts.1 in
       let stays = old_children met count (node_children x.0) (before first.0 x.0 first.1 x.1) x_in counts in
       CountsUp-one count mid count (map (λ n. n.0) (map (numbered_child numbers) (node_children node))) steps (subst (λ (ns : List NodeId). CountsUp count (map (λ n. n.0) ns) count) same stays)
 
-  -- where nodes from a place on are numbered when they are first met, so are those that the quotient has of them
-  in_order-quotient : (met place count begun : ℕ) (left : List ℕ) (rest : Nodes) → length left ≡ length rest → ((i : ℕ) → slice_get left i ≡ slice_get numbers (place + i)) → ((i : ℕ) → slice_get rest i ≡ slice_get g (place + i)) → IsInOrder met place rest (length g) → AreMet place met → CountsUp 0 (take met numbers) count → CountsUp 0 (take place numbers) begun → IsInOrder count begun (quotient_from begun numbers left rest) are.count
-  in_order-quotient met place count begun [] [] long left_at rest_at order before counts so_far =
+  -- where nodes from an index on are numbered when they are first met, so are those that the quotient has of them
+  in_order-quotient : (met index count begun : ℕ) (left : List ℕ) (rest : Nodes) → length left ≡ length rest → ((i : ℕ) → slice_get left i ≡ slice_get numbers (index + i)) → ((i : ℕ) → slice_get rest i ≡ slice_get g (index + i)) → IsInOrder met index rest (length g) → AreMet index met → CountsUp 0 (take met numbers) count → CountsUp 0 (take index numbers) begun → IsInOrder count begun (quotient_from begun numbers left rest) are.count
+  in_order-quotient met index count begun [] [] long left_at rest_at order before counts so_far =
       let all : take met numbers ≡ numbers = take_all met numbers (omega (arith, order, are.long)) in
       CountsUp-one 0 count are.count numbers (subst (λ (ns : List ℕ). CountsUp 0 ns count) all counts) are.in_order
-  in_order-quotient met place count begun [] (node ∷ rest) long left_at rest_at order before counts so_far = absurd (omega arith)
-  in_order-quotient met place count begun (number ∷ left) [] long left_at rest_at order before counts so_far = absurd (omega arith)
-  in_order-quotient met place count begun (number ∷ left) (node ∷ rest) long left_at rest_at order before counts so_far =
-      let here : place ≡ place + 0 = omega arith in
-      let at : slice_get g place ≡ Some node = ap (slice_get g) here ∙ sym (rest_at 0) in
-      let at_number : slice_get numbers place ≡ Some number = ap (slice_get numbers) here ∙ sym (left_at 0) in
-      let is : class_at numbers place ≡ number = get_or_from_slice_get numbers place number 0 at_number in
-      let within : place < length numbers = slice_get_within numbers place number at_number in
+  in_order-quotient met index count begun [] (node ∷ rest) long left_at rest_at order before counts so_far = absurd (omega arith)
+  in_order-quotient met index count begun (number ∷ left) [] long left_at rest_at order before counts so_far = absurd (omega arith)
+  in_order-quotient met index count begun (number ∷ left) (node ∷ rest) long left_at rest_at order before counts so_far =
+      let here : index ≡ index + 0 = omega arith in
+      let at : slice_get g index ≡ Some node = ap (slice_get g) here ∙ sym (rest_at 0) in
+      let at_number : slice_get numbers index ≡ Some number = ap (slice_get numbers) here ∙ sym (left_at 0) in
+      let is : class_at numbers index ≡ number = get_or_from_slice_get numbers index number 0 at_number in
+      let within : index < length numbers = slice_get_within numbers index number at_number in
       let mid = order.1.0 in
-      let next = count_children met mid count (node_children node) (closed_children g place node closed at) order.1.1 counts in
-      let left_later : (i : ℕ) → slice_get left i ≡ slice_get numbers (suc place + i) = λ i. left_at (suc i) ∙ ap (slice_get numbers) (omega arith) in
-      let rest_later : (i : ℕ) → slice_get rest i ≡ slice_get g (suc place + i) = λ i. rest_at (suc i) ∙ ap (slice_get g) (omega arith) in
-      let now_met = AreMet-next place met mid node before at order.1.1 in
-      elim (next_number 0 are.count begun place numbers are.in_order within so_far) [
+      let next = count_children met mid count (node_children node) (closed_children g index node closed at) order.1.1 counts in
+      let left_later : (i : ℕ) → slice_get left i ≡ slice_get numbers (suc index + i) = λ i. left_at (suc i) ∙ ap (slice_get numbers) (omega arith) in
+      let rest_later : (i : ℕ) → slice_get rest i ≡ slice_get g (suc index + i) = λ i. rest_at (suc i) ∙ ap (slice_get g) (omega arith) in
+      let now_met = AreMet-next index met mid node before at order.1.1 in
+      elim (next_number 0 are.count begun index numbers are.in_order within so_far) [
         | inl old ↦
-            let none = none_new place met next.0 count begun node at before counts so_far old.0 next.1 in
-            let later = in_order-quotient mid (suc place) count begun left rest (omega arith) left_later rest_later order.1.2 now_met (subst (λ k. CountsUp 0 (take mid numbers) k) none next.2) old.1 in
+            let none = none_new index met next.0 count begun node at before counts so_far old.0 next.1 in
+            let later = in_order-quotient mid (suc index) count begun left rest (omega arith) left_later rest_later order.1.2 now_met (subst (λ k. CountsUp 0 (take mid numbers) k) none next.2) old.1 in
             subst (λ (h : Nodes). IsInOrder count begun h are.count) (sym (quotient_old begun numbers left number node rest (omega (arith, is, old.0)))) later
         | inr new ↦
-            let later = in_order-quotient mid (suc place) next.0 (suc begun) left rest (omega arith) left_later rest_later order.1.2 now_met next.2 new.1 in
-            let low = first_below 0 count met place numbers counts order.0 within in
+            let later = in_order-quotient mid (suc index) next.0 (suc begun) left rest (omega arith) left_later rest_later order.1.2 now_met next.2 new.1 in
+            let low = first_below 0 count met index numbers counts order.0 within in
             let steps : CountsUp count (child_numbers (numbered_node numbers node)) next.0 = subst (λ (ns : List NodeId). CountsUp count (map (λ n. n.0) ns) next.0) (sym (children_numbered numbers node)) next.1 in
             subst (λ (h : Nodes). IsInOrder count begun h are.count) (sym (quotient_new begun numbers left number node rest (sym is ∙ new.0))) (omega (arith, low, new.0), (next.0, steps, later))
       ]
@@ -327,9 +327,9 @@ module _ (g : Nodes) (numbers : List ℕ) (closed : IsClosed g) (are : AreNumber
       let order = in_order-quotient 1 0 1 0 numbers g are.long (λ i. ap (slice_get numbers) (omega arith)) (λ i. ap (slice_get g) (omega arith)) (numbered-IsBreadthFirst g first) (λ i x early at. absurd (omega arith)) root.1 refl in
       IsBreadthFirst-numbered (quotient numbers g) (subst (λ k. IsInOrder 1 0 (quotient numbers g) k) (sym length-quotient) order)
 
--- the quotient of what the root reaches is the smallest graph
-pub IsSmallest-quotient : (whole g : Nodes) (root : NodeId) (numbers : List ℕ) → IsPart whole root.0 g → IsBreadthFirst g → AreNumbered g numbers → IsSmallest whole root (quotient numbers g)
-IsSmallest-quotient whole g root numbers of first are =
+-- the quotient of what the root reaches is the minimal graph
+pub IsMinimal-quotient : (whole g : Nodes) (root : NodeId) (numbers : List ℕ) → IsPart whole root.0 g → IsBreadthFirst g → AreNumbered g numbers → IsMinimal whole root (quotient numbers g)
+IsMinimal-quotient whole g root numbers of first are =
     let closed = IsClosed-renumbered whole of.ids g of.renumbered of.all in
     let positive = IsBreadthFirst-positive g first in
     let before = AgreeAlways-renumbered whole of.ids g of.renumbered of.all (id 0) root of.first in
@@ -349,27 +349,27 @@ CountsUp-few met all [] h = omega arith
 CountsUp-few met all (n ∷ ns) (inl h) = let few = CountsUp-few met all ns h.1 in omega (arith, few)
 CountsUp-few met all (n ∷ ns) (inr h) = let few = CountsUp-few (suc met) all ns h.1 in omega (arith, few)
 
--- the numbers of the places before this one are equal where the classes are, and so many are met
-pub record AreNumberedTo (classes numbers : List ℕ) (place count : ℕ) : Type 0 where
-  pub long : length numbers ≡ place
-  pub same : (i j : ℕ) → i < place → j < place → (class_at numbers i ≡ class_at numbers j) ↔ (class_at classes i ≡ class_at classes j)
+-- the numbers of the indices before this one are equal where the classes are, and so many are met
+pub record AreNumberedTo (classes numbers : List ℕ) (index count : ℕ) : Type 0 where
+  pub long : length numbers ≡ index
+  pub same : (i j : ℕ) → i < index → j < index → (class_at numbers i ≡ class_at numbers j) ↔ (class_at classes i ≡ class_at classes j)
   pub in_order : CountsUp 0 numbers count
 
 -- one more number, which is equal to those before it where its class is
-AreNumberedTo-push : (classes numbers : List ℕ) (place count number next : ℕ) → AreNumberedTo classes numbers place count → ((j : ℕ) → j < place → (number ≡ class_at numbers j) ↔ (class_at classes place ≡ class_at classes j)) → CountsUp count (number ∷ []) next → AreNumberedTo classes (numbers ++ number ∷ []) (place + 1) next
-AreNumberedTo-push classes numbers place count number next before equal counts = record {
+AreNumberedTo-push : (classes numbers : List ℕ) (index count number next : ℕ) → AreNumberedTo classes numbers index count → ((j : ℕ) → j < index → (number ≡ class_at numbers j) ↔ (class_at classes index ≡ class_at classes j)) → CountsUp count (number ∷ []) next → AreNumberedTo classes (numbers ++ number ∷ []) (index + 1) next
+AreNumberedTo-push classes numbers index count number next before equal counts = record {
   long = omega (arith, length-append numbers (number ∷ []), before.long);
-  same = λ i j i_in j_in. elim (cases_lt i place) [
-    | inl i_old ↦ elim (cases_lt j place) [
+  same = λ i j i_in j_in. elim (cases_lt i index) [
+    | inl i_old ↦ elim (cases_lt j index) [
       | inl j_old ↦ rw (old i i_old, old j j_old) (before.same i j i_old j_old)
       | inr j_new ↦
           let both = equal i i_old in
-          let at : j ≡ place = omega arith in
+          let at : j ≡ index = omega arith in
           rw (at, old i i_old, new) (λ e. sym (both.0 (sym e)), λ e. sym (both.1 (sym e)))
     ]
     | inr i_new ↦
-        let at : i ≡ place = omega arith in
-        elim (cases_lt j place) [
+        let at : i ≡ index = omega arith in
+        elim (cases_lt j index) [
           | inl j_old ↦ rw (at, old j j_old, new) (equal j j_old)
           | inr j_new ↦
               let is : i ≡ j = omega arith in
@@ -379,29 +379,29 @@ AreNumberedTo-push classes numbers place count number next before equal counts =
   in_order = CountsUp-append 0 count next numbers (number ∷ []) before.in_order counts;
 }
   where
-    old : (i : ℕ) → i < place → class_at (numbers ++ number ∷ []) i ≡ class_at numbers i
+    old : (i : ℕ) → i < index → class_at (numbers ++ number ∷ []) i ≡ class_at numbers i
     old i within = get_or_append_left numbers (number ∷ []) 0 i (omega (arith, before.long))
 
-    new : class_at (numbers ++ number ∷ []) place ≡ number
-    new = get_or_push numbers number 0 place before.long
+    new : class_at (numbers ++ number ∷ []) index ≡ number
+    new = get_or_push numbers number 0 index before.long
 
--- a class that begins at this place has the next number
-pub AreNumberedTo-new : (classes numbers : List ℕ) (place count : ℕ) → ((i : ℕ) → class_at classes i ≤ i) → class_at classes place ≡ place → AreNumberedTo classes numbers place count → AreNumberedTo classes (numbers ++ count ∷ []) (place + 1) (count + 1)
-AreNumberedTo-new classes numbers place count early first before =
-    AreNumberedTo-push classes numbers place count count (count + 1) before (λ j j_in. (λ e. absurd (other j j_in e), λ e. absurd (later j j_in e))) (inr (refl, omega arith))
+-- a class that begins at this index has the next number
+pub AreNumberedTo-new : (classes numbers : List ℕ) (index count : ℕ) → ((i : ℕ) → class_at classes i ≤ i) → class_at classes index ≡ index → AreNumberedTo classes numbers index count → AreNumberedTo classes (numbers ++ count ∷ []) (index + 1) (count + 1)
+AreNumberedTo-new classes numbers index count early first before =
+    AreNumberedTo-push classes numbers index count count (count + 1) before (λ j j_in. (λ e. absurd (other j j_in e), λ e. absurd (later j j_in e))) (inr (refl, omega arith))
   where
-    other : (j : ℕ) → j < place → count ≡ class_at numbers j → ⊥
+    other : (j : ℕ) → j < index → count ≡ class_at numbers j → ⊥
     other j j_in e =
         let below = number_below count j numbers before.in_order (omega (arith, before.long)) in omega (arith, below)
 
-    later : (j : ℕ) → j < place → class_at classes place ≡ class_at classes j → ⊥
+    later : (j : ℕ) → j < index → class_at classes index ≡ class_at classes j → ⊥
     later j j_in e = omega (arith, early j)
 
 -- a node of a class that began has the number of the class
-pub AreNumberedTo-old : (classes numbers : List ℕ) (place count class number : ℕ) → class < place → class_at classes place ≡ class → class_at classes class ≡ class → class_at numbers class ≡ number → AreNumberedTo classes numbers place count → AreNumberedTo classes (numbers ++ number ∷ []) (place + 1) count
-AreNumberedTo-old classes numbers place count class number began is own at before =
-    let equal : class_at classes place ≡ class_at classes class = is ∙ sym own in
-    AreNumberedTo-push classes numbers place count number count before
+pub AreNumberedTo-old : (classes numbers : List ℕ) (index count class number : ℕ) → class < index → class_at classes index ≡ class → class_at classes class ≡ class → class_at numbers class ≡ number → AreNumberedTo classes numbers index count → AreNumberedTo classes (numbers ++ number ∷ []) (index + 1) count
+AreNumberedTo-old classes numbers index count class number began is own at before =
+    let equal : class_at classes index ≡ class_at classes class = is ∙ sym own in
+    AreNumberedTo-push classes numbers index count number count before
     (λ j j_in. let both = before.same class j began j_in in (λ e. equal ∙ both.0 (at ∙ e), λ e. sym at ∙ both.1 (sym equal ∙ e)))
     (inl (below, refl))
   where
@@ -409,43 +409,43 @@ AreNumberedTo-old classes numbers place count class number began is own at befor
     below =
         let less = number_below count class numbers before.in_order (omega (arith, before.long)) in omega (arith, less, at)
 
--- ---- the first nodes, one after another
+-- ---- the representatives, one after another
 
--- these nodes are those of the quotient that come from the places before this one
-abbrev pub IsKept : List ℕ → Nodes → ℕ → Nodes → Type 0
-IsKept numbers g place nodes = nodes ++ quotient_from (length nodes) numbers (drop place numbers) (drop place g) ≡ quotient numbers g
+-- these nodes are those of the quotient that come from the indices before this one
+abbrev pub IsStored : List ℕ → Nodes → ℕ → Nodes → Type 0
+IsStored numbers g index nodes = nodes ++ quotient_from (length nodes) numbers (drop index numbers) (drop index g) ≡ quotient numbers g
 
--- what is left from a place on, place by place
-quotient_step : (numbers : List ℕ) (g : Nodes) (place count : ℕ) (x : Node) → length numbers ≡ length g → slice_get g place ≡ Some x → quotient_from count numbers (drop place numbers) (drop place g) ≡ quotient_from count numbers (class_at numbers place ∷ drop (place + 1) numbers) (x ∷ drop (place + 1) g)
-quotient_step numbers g place count x long at =
-    let within : place < length g = slice_get_within g place x at in
-    let next : suc place ≡ place + 1 = omega arith in
-    let numbers_in : place < length numbers = omega arith in
-    let left : drop place numbers ≡ class_at numbers place ∷ drop (place + 1) numbers = drop-cons numbers place 0 numbers_in ∙ ap (λ n. class_at numbers place ∷ drop n numbers) next in
-    let rest : drop place g ≡ x ∷ drop (place + 1) g = drop-cons g place x within ∙ ap₂ (λ (y : Node) (n : ℕ). y ∷ drop n g) (get_or_from_slice_get g place x x at) next in
+-- what is left from an index on, element by element
+quotient_step : (numbers : List ℕ) (g : Nodes) (index count : ℕ) (x : Node) → length numbers ≡ length g → slice_get g index ≡ Some x → quotient_from count numbers (drop index numbers) (drop index g) ≡ quotient_from count numbers (class_at numbers index ∷ drop (index + 1) numbers) (x ∷ drop (index + 1) g)
+quotient_step numbers g index count x long at =
+    let within : index < length g = slice_get_within g index x at in
+    let next : suc index ≡ index + 1 = omega arith in
+    let numbers_in : index < length numbers = omega arith in
+    let left : drop index numbers ≡ class_at numbers index ∷ drop (index + 1) numbers = drop-cons numbers index 0 numbers_in ∙ ap (λ n. class_at numbers index ∷ drop n numbers) next in
+    let rest : drop index g ≡ x ∷ drop (index + 1) g = drop-cons g index x within ∙ ap₂ (λ (y : Node) (n : ℕ). y ∷ drop n g) (get_or_from_slice_get g index x x at) next in
     ap₂ (λ (ns : List ℕ) (h : Nodes). quotient_from count numbers ns h) left rest
 
--- a class begins at this place
-pub IsKept-new : (numbers : List ℕ) (g : Nodes) (place : ℕ) (nodes : Nodes) (x : Node) → length numbers ≡ length g → slice_get g place ≡ Some x → class_at numbers place ≡ length nodes → IsKept numbers g place nodes → IsKept numbers g (place + 1) (nodes ++ numbered_node numbers x ∷ [])
-IsKept-new numbers g place nodes x long at new kept =
-    let left = drop (place + 1) numbers in
-    let rest = drop (place + 1) g in
+-- a class begins at this index
+pub IsStored-new : (numbers : List ℕ) (g : Nodes) (index : ℕ) (nodes : Nodes) (x : Node) → length numbers ≡ length g → slice_get g index ≡ Some x → class_at numbers index ≡ length nodes → IsStored numbers g index nodes → IsStored numbers g (index + 1) (nodes ++ numbered_node numbers x ∷ [])
+IsStored-new numbers g index nodes x long at new stored =
+    let left = drop (index + 1) numbers in
+    let rest = drop (index + 1) g in
     let count : length (nodes ++ numbered_node numbers x ∷ []) ≡ suc (length nodes) = omega (arith, length-append nodes (numbered_node numbers x ∷ [])) in
-    let step : quotient_from (length nodes) numbers (drop place numbers) (drop place g) ≡ numbered_node numbers x ∷ quotient_from (suc (length nodes)) numbers left rest = quotient_step numbers g place (length nodes) x long at ∙ quotient_new (length nodes) numbers left (class_at numbers place) x rest new in
+    let step : quotient_from (length nodes) numbers (drop index numbers) (drop index g) ≡ numbered_node numbers x ∷ quotient_from (suc (length nodes)) numbers left rest = quotient_step numbers g index (length nodes) x long at ∙ quotient_new (length nodes) numbers left (class_at numbers index) x rest new in
     append_assoc nodes (numbered_node numbers x ∷ []) (quotient_from (length (nodes ++ numbered_node numbers x ∷ [])) numbers left rest)
     ∙ ap (λ k. nodes ++ numbered_node numbers x ∷ quotient_from k numbers left rest) count
     ∙ ap (λ (h : Nodes). nodes ++ h) (sym step)
-    ∙ kept
+    ∙ stored
 
 -- none begins
-pub IsKept-old : (numbers : List ℕ) (g : Nodes) (place : ℕ) (nodes : Nodes) (x : Node) → length numbers ≡ length g → slice_get g place ≡ Some x → (class_at numbers place ≡ length nodes → ⊥) → IsKept numbers g place nodes → IsKept numbers g (place + 1) nodes
-IsKept-old numbers g place nodes x long at other kept =
-    let step = quotient_step numbers g place (length nodes) x long at ∙ quotient_old (length nodes) numbers (drop (place + 1) numbers) (class_at numbers place) x (drop (place + 1) g) other in
-    ap (λ (h : Nodes). nodes ++ h) (sym step) ∙ kept
+pub IsStored-old : (numbers : List ℕ) (g : Nodes) (index : ℕ) (nodes : Nodes) (x : Node) → length numbers ≡ length g → slice_get g index ≡ Some x → (class_at numbers index ≡ length nodes → ⊥) → IsStored numbers g index nodes → IsStored numbers g (index + 1) nodes
+IsStored-old numbers g index nodes x long at other stored =
+    let step = quotient_step numbers g index (length nodes) x long at ∙ quotient_old (length nodes) numbers (drop (index + 1) numbers) (class_at numbers index) x (drop (index + 1) g) other in
+    ap (λ (h : Nodes). nodes ++ h) (sym step) ∙ stored
 
--- a head and the numbers of the children of the node at this place make its node in the quotient
-pub numbered_at : (numbers : List ℕ) (g : Nodes) (place : ℕ) (x : Node) (top : Head) (children : List NodeId) → slice_get g place ≡ Some x → option_map node_head (slice_get g place) ≡ Some top → option_map node_children (slice_get g place) ≡ Some children → node_of top (map (numbered_child numbers) children) ≡ numbered_node numbers x
-numbered_at numbers g place x top children at heads kids =
+-- a head and the numbers of the children of the node at this index make its node in the quotient
+pub numbered_at : (numbers : List ℕ) (g : Nodes) (index : ℕ) (x : Node) (top : Head) (children : List NodeId) → slice_get g index ≡ Some x → option_map node_head (slice_get g index) ≡ Some top → option_map node_children (slice_get g index) ≡ Some children → node_of top (map (numbered_child numbers) children) ≡ numbered_node numbers x
+numbered_at numbers g index x top children at heads kids =
     let head_is : top ≡ node_head x = same_Some top (node_head x) (sym heads ∙ ap (option_map node_head) at) in
     let children_is : children ≡ node_children x = same_Some children (node_children x) (sym kids ∙ ap (option_map node_children) at) in
     ap₂ (λ (h : Head) (ns : List NodeId). node_of h (map (numbered_child numbers) ns)) head_is children_is

@@ -15,7 +15,7 @@ use Rattle.ct_values.proofs.GraphLemmas.{closed_children}
 use Rattle.ct_values.proofs.NodeLemmas.{id, node_points, agree-nodes, AgreeAlways-nodes}
 use Rattle.ct_values.proofs.RenumberLemmas.{stands_within}
 
--- what is read at a place is the class there
+-- what is read at an index is the class there
 pub class_read : (classes : List ℕ) (i x : ℕ) → i < length classes → x ≡ get_or classes i x → class_at classes i ≡ x
 class_read classes i x within read = sym (read ∙ get_or_default_zero classes i x within)
 
@@ -80,7 +80,7 @@ AgreeAlways-stable g classes closed long refined m n m_in n_in e (suc k) =
     (ap (λ key. key.head) same)
     (together_agree (λ p q. IsTrue (agree k p q)) g classes (node_children x.0) (node_children y.0) (λ a b a_in b_in c. AgreeAlways-stable g classes closed long refined a b a_in b_in c k) (closed_children g m.0 x.0 closed x.1) (closed_children g n.0 y.0 closed y.1) (ap (λ key. key.children) same))
 
--- the class of a first node is its own
+-- the class of a representative is its own
 pub first_is_own : (g : Nodes) (classes : List ℕ) → length classes ≡ length g → IsStable g classes → (i : ℕ) → i < length g → class_at classes (class_at classes i) ≡ class_at classes i
 first_is_own g classes long stable i within =
     let le : class_at classes i ≤ i = stable.early i in

@@ -15,13 +15,13 @@ use Rattle.ct_values.proofs.AgreeLemmas.{agree-zero}
 use Rattle.ct_values.proofs.NodeLemmas.{node_points, agree-nodes}
 
 module _ {X : Type 0} where
-  -- something stands at each place within the list
+  -- something stands at each index within the list
   pub stands_within : (xs : List X) (i : ℕ) → i < length xs → (x : X) × (slice_get xs i ≡ Some x)
   stands_within [] i h = absurd (omega arith)
   stands_within (x ∷ xs) zero h = (x, refl)
   stands_within (x ∷ xs) (suc i) h = stands_within xs i (omega arith)
 
-  -- with a new last element, what stands at a place stood there before, or is the new one at the end
+  -- with a new last element, what stands at an index stood there before, or is the new one at the end
   pub slice_get-push_cases : (xs : List X) (x y : X) (i : ℕ) → slice_get (xs ++ x ∷ []) i ≡ Some y → (slice_get xs i ≡ Some y) ⊎ ((i ≡ length xs) × (x ≡ y))
   slice_get-push_cases [] x y zero e = inr (refl, same_Some x y e)
   slice_get-push_cases [] x y (suc i) e = absurd (none-some y e)
@@ -29,9 +29,9 @@ module _ {X : Type 0} where
   slice_get-push_cases (z ∷ zs) x y (suc i) e =
       elim (slice_get-push_cases zs x y i e) [ inl h ↦ inl h | inr h ↦ inr (ap suc h.0, h.1) ]
 
-  -- where the test holds of no two places, and of each element and itself, an element stands at one place
-  pub one_place : (eq : X → X → Bool) → ((x : X) → eq x x ≡ true) → (xs : List X) → IsDistinct eq xs → (i j : ℕ) (x : X) → slice_get xs i ≡ Some x → slice_get xs j ≡ Some x → i ≡ j
-  one_place eq own xs distinct i j x at_i at_j = elim (cases_lt i j) [
+  -- where the test holds of no two indices, and of each element and itself, an element stands at one index
+  pub one_index : (eq : X → X → Bool) → ((x : X) → eq x x ≡ true) → (xs : List X) → IsDistinct eq xs → (i j : ℕ) (x : X) → slice_get xs i ≡ Some x → slice_get xs j ≡ Some x → i ≡ j
+  one_index eq own xs distinct i j x at_i at_j = elim (cases_lt i j) [
     | inl less ↦ absurd (apart i j less at_i at_j)
     | inr le ↦ elim (eq-or-lt_of_le le) [ inl e ↦ sym e | inr less ↦ absurd (apart j i less at_j at_i) ]
   ]
@@ -41,9 +41,9 @@ module _ {X : Type 0} where
           let test = apart_from_distinct eq xs a b x distinct less (slice_get_within xs b x at_b) in
           true≢false (sym (own x) ∙ sym (ap₂ eq (get_or_from_slice_get xs a x x at_a) (get_or_from_slice_get xs b x x at_b)) ∙ test)
 
--- different numbers stand at different places
-pub unique_places : (ids : List ℕ) → IsDistinct nat_eq ids → (i j n : ℕ) → slice_get ids i ≡ Some n → slice_get ids j ≡ Some n → i ≡ j
-unique_places = one_place nat_eq (λ n. (Decides-eqb n n).1 refl)
+-- different numbers stand at different indices
+pub unique_indices : (ids : List ℕ) → IsDistinct nat_eq ids → (i j n : ℕ) → slice_get ids i ≡ Some n → slice_get ids j ≡ Some n → i ≡ j
+unique_indices = one_index nat_eq (λ n. (Decides-eqb n n).1 refl)
 
 -- what stays twice stays
 pub Stay-trans : {X : Type 0} (a b c : List X) → Stay a b → Stay b c → Stay a c
@@ -79,7 +79,7 @@ AreRenumbered-push g old new nodes n node stay at_n all one i m x at_x at_m =
           subst (λ k. IsRenumbered g new k x) same (subst (IsRenumbered g new n) e.1 one)
     ]
 
--- new numbers are places
+-- new numbers are indices
 StandFor-below : (ids : List ℕ) (ps ns : List NodeId) → StandFor ids ps ns → All (λ p. p.0 < length ids) ps
 StandFor-below ids [] ns h = All-nil (λ p. p.0 < length ids)
 StandFor-below ids (p ∷ ps) [] h = absurd h

@@ -14,13 +14,13 @@ use Rattle.ct_values.specs.Settled.{TellsTrees}
 use Rattle.ct_values.proofs.RenumberLemmas.{stands_within}
 use Rattle.ct_values.proofs.RefineLemmas.{same_keys}
 
--- the places before this one have their classes
-pub record IsRound {S : Type 0} (g : Nodes) (settled old : List ℕ) (firsts : IndexMap Key ℕ S) (next : List ℕ) (place : ℕ) : Type 0 where
-  pub long : length next ≡ place
+-- the indices before this one have their classes
+pub record IsRound {S : Type 0} (g : Nodes) (settled old : List ℕ) (representatives : IndexMap Key ℕ S) (next : List ℕ) (index : ℕ) : Type 0 where
+  pub long : length next ≡ index
   pub early : (i : ℕ) → class_at next i ≤ i
-  pub stays : (i : ℕ) → i < place → 0 < class_at settled i → class_at next i ≡ class_at old i
-  pub kept : (i : ℕ) (key : Key) → i < place → class_at settled i ≡ 0 → key_of g old i ≡ Some key → get same_key firsts key ≡ Some (class_at next i)
-  pub first : (key : Key) (n : ℕ) → get same_key firsts key ≡ Some n → (n < place) × (class_at settled n ≡ 0) × (key_of g old n ≡ Some key)
+  pub stays : (i : ℕ) → i < index → 0 < class_at settled i → class_at next i ≡ class_at old i
+  pub stored : (i : ℕ) (key : Key) → i < index → class_at settled i ≡ 0 → key_of g old i ≡ Some key → get same_key representatives key ≡ Some (class_at next i)
+  pub first : (key : Key) (n : ℕ) → get same_key representatives key ≡ Some n → (n < index) × (class_at settled n ≡ 0) × (key_of g old n ≡ Some key)
 
 -- a class among those so far, and the one that is added
 pub class_at-before : (xs : List ℕ) (x i : ℕ) → i < length xs → class_at (xs ++ x ∷ []) i ≡ class_at xs i
@@ -41,73 +41,73 @@ early-push (y ∷ ys) x d last early (suc i) =
     let e : class_at (ys ++ x ∷ []) i ≤ i + suc d = early-push ys x (suc d) (omega arith) more i in
     omega arith
 
--- with a new last class that is no greater than its place, no class is greater than its place
-pub early-last : (xs : List ℕ) (x place : ℕ) → length xs ≡ place → x ≤ place → ((i : ℕ) → class_at xs i ≤ i) → (i : ℕ) → class_at (xs ++ x ∷ []) i ≤ i
-early-last xs x place long last early i =
+-- with a new last class that is no greater than its index, no class is greater than its index
+pub early-last : (xs : List ℕ) (x index : ℕ) → length xs ≡ index → x ≤ index → ((i : ℕ) → class_at xs i ≤ i) → (i : ℕ) → class_at (xs ++ x ∷ []) i ≤ i
+early-last xs x index long last early i =
     let e : class_at (xs ++ x ∷ []) i ≤ i + 0 = early-push xs x 0 (omega arith) (λ j. let b : class_at xs j ≤ j = early j in omega arith) i in
     omega arith
 
--- a place below the next one is this one or comes before it
-pub last_or_before : (i place : ℕ) → i < place + 1 → (i ≡ place) ⊎ (i < place)
-last_or_before i place h = eq-or-lt_of_le (below h)
+-- an index below the next one is this one or comes before it
+pub last_or_before : (i index : ℕ) → i < index + 1 → (i ≡ index) ⊎ (i < index)
+last_or_before i index h = eq-or-lt_of_le (below h)
   where
-    below : i < place + 1 → i ≤ place
+    below : i < index + 1 → i ≤ index
     below h = omega arith
 
--- one more place, which is settled
-pub IsRound-settled : {S : Type 0} (g : Nodes) (settled old : List ℕ) (firsts : IndexMap Key ℕ S) (next : List ℕ) (place : ℕ) → IsRound g settled old firsts next place → class_at old place ≤ place → 0 < class_at settled place → IsRound g settled old firsts (next ++ class_at old place ∷ []) (place + 1)
-IsRound-settled g settled old firsts next place round low here = record {
-  long = omega (arith, round.long, length-append next (class_at old place ∷ []));
-  early = early-last next (class_at old place) place round.long low round.early;
-  stays = λ i within above. stays_at i (last_or_before i place within) above;
-  kept = λ i key within zero_at e. kept_at i key (last_or_before i place within) zero_at e;
+-- one more index, which is settled
+pub IsRound-settled : {S : Type 0} (g : Nodes) (settled old : List ℕ) (representatives : IndexMap Key ℕ S) (next : List ℕ) (index : ℕ) → IsRound g settled old representatives next index → class_at old index ≤ index → 0 < class_at settled index → IsRound g settled old representatives (next ++ class_at old index ∷ []) (index + 1)
+IsRound-settled g settled old representatives next index round low here = record {
+  long = omega (arith, round.long, length-append next (class_at old index ∷ []));
+  early = early-last next (class_at old index) index round.long low round.early;
+  stays = λ i within above. stays_at i (last_or_before i index within) above;
+  stored = λ i key within zero_at e. stored_at i key (last_or_before i index within) zero_at e;
   first = λ key n h. let before = round.first key n h in (omega (arith, before.0), before.1, before.2);
 }
   where
-    stays_at : (i : ℕ) → (i ≡ place) ⊎ (i < place) → 0 < class_at settled i → class_at (next ++ class_at old place ∷ []) i ≡ class_at old i
+    stays_at : (i : ℕ) → (i ≡ index) ⊎ (i < index) → 0 < class_at settled i → class_at (next ++ class_at old index ∷ []) i ≡ class_at old i
     stays_at i (inl e) above =
-        ap (class_at (next ++ class_at old place ∷ [])) (e ∙ sym round.long) ∙ class_at-last next (class_at old place) ∙ ap (class_at old) (sym e)
+        ap (class_at (next ++ class_at old index ∷ [])) (e ∙ sym round.long) ∙ class_at-last next (class_at old index) ∙ ap (class_at old) (sym e)
     stays_at i (inr before) above =
-        class_at-before next (class_at old place) i (omega (arith, round.long)) ∙ round.stays i before above
+        class_at-before next (class_at old index) i (omega (arith, round.long)) ∙ round.stays i before above
 
-    kept_at : (i : ℕ) (key : Key) → (i ≡ place) ⊎ (i < place) → class_at settled i ≡ 0 → key_of g old i ≡ Some key → get same_key firsts key ≡ Some (class_at (next ++ class_at old place ∷ []) i)
-    kept_at i key (inl e) zero_at at =
-        let same : class_at settled i ≡ class_at settled place = ap (class_at settled) e in
+    stored_at : (i : ℕ) (key : Key) → (i ≡ index) ⊎ (i < index) → class_at settled i ≡ 0 → key_of g old i ≡ Some key → get same_key representatives key ≡ Some (class_at (next ++ class_at old index ∷ []) i)
+    stored_at i key (inl e) zero_at at =
+        let same : class_at settled i ≡ class_at settled index = ap (class_at settled) e in
         absurd (omega arith)
-    kept_at i key (inr before) zero_at at =
-        round.kept i key before zero_at at ∙ ap Some (sym (class_at-before next (class_at old place) i (omega (arith, round.long))))
+    stored_at i key (inr before) zero_at at =
+        round.stored i key before zero_at at ∙ ap Some (sym (class_at-before next (class_at old index) i (omega (arith, round.long))))
 
--- one more place, which is not settled
-pub IsRound-push : {S : Type 0} (g : Nodes) (settled old : List ℕ) (firsts more : IndexMap Key ℕ S) (next : List ℕ) (place n : ℕ) (key : Key) → IsRound g settled old firsts next place → class_at settled place ≡ 0 → key_of g old place ≡ Some key → get same_key more key ≡ Some n → ((k : Key) (m : ℕ) → get same_key firsts k ≡ Some m → get same_key more k ≡ Some m) → ((k : Key) (m : ℕ) → get same_key more k ≡ Some m → (get same_key firsts k ≡ Some m) ⊎ ((k ≡ key) × (m ≡ place))) → IsRound g settled old more (next ++ n ∷ []) (place + 1)
-IsRound-push g settled old firsts more next place n key round here at found stay only =
-    let last : n ≤ place = elim (only key n found) [
+-- one more index, which is not settled
+pub IsRound-push : {S : Type 0} (g : Nodes) (settled old : List ℕ) (representatives more : IndexMap Key ℕ S) (next : List ℕ) (index n : ℕ) (key : Key) → IsRound g settled old representatives next index → class_at settled index ≡ 0 → key_of g old index ≡ Some key → get same_key more key ≡ Some n → ((k : Key) (m : ℕ) → get same_key representatives k ≡ Some m → get same_key more k ≡ Some m) → ((k : Key) (m : ℕ) → get same_key more k ≡ Some m → (get same_key representatives k ≡ Some m) ⊎ ((k ≡ key) × (m ≡ index))) → IsRound g settled old more (next ++ n ∷ []) (index + 1)
+IsRound-push g settled old representatives more next index n key round here at found stay only =
+    let last : n ≤ index = elim (only key n found) [
       | inl had ↦ let before = round.first key n had in omega (arith, before.0)
       | inr new ↦ omega (arith, new.1)
     ] in
     record {
       long = omega (arith, round.long, length-append next (n ∷ []));
-      early = early-last next n place round.long last round.early;
-      stays = λ i within above. stays_at i (last_or_before i place within) above;
-      kept = λ i k within zero_at e. kept_at i k zero_at e (last_or_before i place within);
+      early = early-last next n index round.long last round.early;
+      stays = λ i within above. stays_at i (last_or_before i index within) above;
+      stored = λ i k within zero_at e. stored_at i k zero_at e (last_or_before i index within);
       first = λ k m h. elim (only k m h) [
         | inl had ↦ let before = round.first k m had in (omega (arith, before.0), before.1, before.2)
         | inr new ↦ (omega (arith, new.1), ap (class_at settled) new.1 ∙ here, ap (key_of g old) new.1 ∙ at ∙ ap Some (sym new.0))
       ];
     }
   where
-    stays_at : (i : ℕ) → (i ≡ place) ⊎ (i < place) → 0 < class_at settled i → class_at (next ++ n ∷ []) i ≡ class_at old i
+    stays_at : (i : ℕ) → (i ≡ index) ⊎ (i < index) → 0 < class_at settled i → class_at (next ++ n ∷ []) i ≡ class_at old i
     stays_at i (inl e) above =
-        let same : class_at settled i ≡ class_at settled place = ap (class_at settled) e in
+        let same : class_at settled i ≡ class_at settled index = ap (class_at settled) e in
         absurd (omega arith)
     stays_at i (inr before) above =
         class_at-before next n i (omega (arith, round.long)) ∙ round.stays i before above
 
-    kept_at : (i : ℕ) (k : Key) → class_at settled i ≡ 0 → key_of g old i ≡ Some k → (i ≡ place) ⊎ (i < place) → get same_key more k ≡ Some (class_at (next ++ n ∷ []) i)
-    kept_at i k zero_at e (inl e_place) =
-        let same : key ≡ k = same_Some key k (sym at ∙ ap (key_of g old) (sym e_place) ∙ e) in
-        ap (get same_key more) (sym same) ∙ found ∙ ap Some (sym (ap (class_at (next ++ n ∷ [])) (e_place ∙ sym round.long) ∙ class_at-last next n))
-    kept_at i k zero_at e (inr before) =
-        stay k (class_at next i) (round.kept i k before zero_at e) ∙ ap Some (sym (class_at-before next n i (omega (arith, round.long))))
+    stored_at : (i : ℕ) (k : Key) → class_at settled i ≡ 0 → key_of g old i ≡ Some k → (i ≡ index) ⊎ (i < index) → get same_key more k ≡ Some (class_at (next ++ n ∷ []) i)
+    stored_at i k zero_at e (inl e_index) =
+        let same : key ≡ k = same_Some key k (sym at ∙ ap (key_of g old) (sym e_index) ∙ e) in
+        ap (get same_key more) (sym same) ∙ found ∙ ap Some (sym (ap (class_at (next ++ n ∷ [])) (e_index ∙ sym round.long) ∙ class_at-last next n))
+    stored_at i k zero_at e (inr before) =
+        stay k (class_at next i) (round.stored i k before zero_at e) ∙ ap Some (sym (class_at-before next n i (omega (arith, round.long))))
 
 -- each node has a key
 key_within : (g : Nodes) (old : List ℕ) (i : ℕ) → i < length g → (key : Key) × (key_of g old i ≡ Some key)
@@ -131,14 +131,14 @@ class_within (x ∷ xs) (suc i) h = let rest = class_within xs i h in omega arit
 -- a node that is not settled has no key of one that is
 apart_keys : (g : Nodes) (settled old : List ℕ) (i j : ℕ) → IsSteady g settled old → i < length g → j < length g → key_of g old i ≡ key_of g old j → 0 < class_at settled i → class_at settled j ≡ 0 → ⊥
 apart_keys g settled old i j steady i_in j_in e above zero_at =
-    let a : 0 < class_at settled (class_at old i) = steady.kept i i_in above in
+    let a : 0 < class_at settled (class_at old i) = steady.stored i i_in above in
     let b : class_at settled (class_at old j) ≡ 0 = steady.apart j j_in zero_at in
     let same : class_at settled (class_at old i) ≡ class_at settled (class_at old j) = ap (class_at settled) (class_of_key g old i j i_in j_in e) in
     omega arith
 
--- behind the last place the round is done
-pub IsRefined-round : {S : Type 0} (g : Nodes) (settled old : List ℕ) (firsts : IndexMap Key ℕ S) (next : List ℕ) (place : ℕ) → length old ≡ length g → place ≡ length old → IsSteady g settled old → IsRound g settled old firsts next place → IsRefined g old next
-IsRefined-round g settled old firsts next place long all steady round = record {
+-- after the last index the round is done
+pub IsRefined-round : {S : Type 0} (g : Nodes) (settled old : List ℕ) (representatives : IndexMap Key ℕ S) (next : List ℕ) (index : ℕ) → length old ≡ length g → index ≡ length old → IsSteady g settled old → IsRound g settled old representatives next index → IsRefined g old next
+IsRefined-round g settled old representatives next index long all steady round = record {
   long = round.long ∙ all;
   early = round.early;
   alike = λ i within. alike_at i within (eq-zero-or-pos (class_at settled i));
@@ -148,14 +148,14 @@ IsRefined-round g settled old firsts next place long all steady round = record {
     alike_at : (i : ℕ) → i < length old → (class_at settled i ≡ 0) ⊎ (0 < class_at settled i) → key_of g old (class_at next i) ≡ key_of g old i
     alike_at i within (inl zero_at) =
         let key = key_within g old i (omega arith) in
-        (round.first key.0 (class_at next i) (round.kept i key.0 (omega arith) zero_at key.1)).2 ∙ sym key.1
+        (round.first key.0 (class_at next i) (round.stored i key.0 (omega arith) zero_at key.1)).2 ∙ sym key.1
     alike_at i within (inr above) =
         ap (key_of g old) (round.stays i (omega arith) above) ∙ steady.keys i (omega arith) above
 
     together_at : (i j : ℕ) → i < length old → j < length old → key_of g old i ≡ key_of g old j → (class_at settled i ≡ 0) ⊎ (0 < class_at settled i) → (class_at settled j ≡ 0) ⊎ (0 < class_at settled j) → class_at next i ≡ class_at next j
     together_at i j i_in j_in e (inl zero_i) (inl zero_j) =
         let key = key_within g old i (omega arith) in
-        same_Some (class_at next i) (class_at next j) (sym (round.kept i key.0 (omega arith) zero_i key.1) ∙ round.kept j key.0 (omega arith) zero_j (sym e ∙ key.1))
+        same_Some (class_at next i) (class_at next j) (sym (round.stored i key.0 (omega arith) zero_i key.1) ∙ round.stored j key.0 (omega arith) zero_j (sym e ∙ key.1))
     together_at i j i_in j_in e (inl zero_i) (inr above_j) =
         absurd (apart_keys g settled old j i steady (omega arith) (omega arith) (sym e) above_j zero_i)
     together_at i j i_in j_in e (inr above_i) (inl zero_j) =
@@ -171,15 +171,15 @@ same_classes settled xs ys bound (n ∷ ns) long same all =
     ap₂ (λ (c : ℕ) (cs : List ℕ). c ∷ cs) (same n.0 inside all.0) (same_classes settled xs ys bound ns long same all.1)
 
 -- a round leaves what is settled alone
-pub IsSteady-round : {S : Type 0} (g : Nodes) (settled old : List ℕ) (firsts : IndexMap Key ℕ S) (next : List ℕ) (place : ℕ) → length settled ≡ length g → length old ≡ length g → place ≡ length old → IsSteady g settled old → IsRound g settled old firsts next place → IsSteady g settled next
-IsSteady-round g settled old firsts next place long long_old all steady round = record {
+pub IsSteady-round : {S : Type 0} (g : Nodes) (settled old : List ℕ) (representatives : IndexMap Key ℕ S) (next : List ℕ) (index : ℕ) → length settled ≡ length g → length old ≡ length g → index ≡ length old → IsSteady g settled old → IsRound g settled old representatives next index → IsSteady g settled next
+IsSteady-round g settled old representatives next index long long_old all steady round = record {
   early = round.early;
   parts = steady.parts;
   keys = keys_at;
   apart = λ i within zero_at.
       let key = key_within g old i within in
-      (round.first key.0 (class_at next i) (round.kept i key.0 (omega arith) zero_at key.1)).1;
-  kept = λ i within above. subst (λ n. 0 < class_at settled n) (sym (round.stays i (omega arith) above)) (steady.kept i within above);
+      (round.first key.0 (class_at next i) (round.stored i key.0 (omega arith) zero_at key.1)).1;
+  stored = λ i within above. subst (λ n. 0 < class_at settled n) (sym (round.stays i (omega arith) above)) (steady.stored i within above);
 }
   where
     stays_at : (i : ℕ) → i < length g → 0 < class_at settled i → class_at next i ≡ class_at old i
@@ -197,7 +197,7 @@ IsSteady-round g settled old firsts next place long long_old all steady round = 
         let f = class_at old i in
         let low : f ≤ i = steady.early i in
         let f_in : f < length g = omega arith in
-        let f_above = steady.kept i within above in
+        let f_above = steady.stored i within above in
         let x = stands_within g f f_in in
         let y = stands_within g i within in
         let keys = same_keys g old f i x.0 y.0 x.1 y.1 (steady.keys i within above) in
@@ -214,7 +214,7 @@ names_together classes names (m ∷ ms) [] named ms_in ns_in e = cc
 names_together classes names (m ∷ ms) (n ∷ ns) named ms_in ns_in e =
     ap₂ (λ (c : ℕ) (cs : List ℕ). c ∷ cs) (named.together m.0 n.0 (class_within classes m.0 ms_in.0) (class_within classes n.0 ns_in.0) (cc)) (names_together classes names ms ns named ms_in.1 ns_in.1 (cc))
 
--- classes that tell the finite trees, named for their first nodes, are a partition
+-- classes that tell the finite trees, named for their representatives, are a partition
 pub IsPartition-named : (g : Nodes) (settled names : List ℕ) → TellsTrees g settled → AreNamed settled names → IsPartition g names
 IsPartition-named g settled names tells named = record {
   keeps = record {
@@ -232,7 +232,7 @@ IsSteady-named g settled names tells named = record {
   parts = tells.parts;
   keys = keys_at;
   apart = λ i within zero_at. named.alike i (omega (arith, tells.keeps.long)) ∙ zero_at;
-  kept = λ i within above. subst (λ n. 0 < n) (sym (named.alike i (omega (arith, tells.keeps.long)))) above;
+  stored = λ i within above. subst (λ n. 0 < n) (sym (named.alike i (omega (arith, tells.keeps.long)))) above;
 }
   where
     keys_at : (i : ℕ) → i < length g → 0 < class_at settled i → key_of g names (class_at names i) ≡ key_of g names i

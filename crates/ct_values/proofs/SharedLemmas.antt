@@ -15,14 +15,14 @@ use Rattle.ct_values.specs.Value.{Value, reference, IsOver, AreOver, values_of, 
 use Rattle.ct_values.specs.Agreement.{Point, point, node_point, head, children, AgreeAlways}
 use Rattle.ct_values.specs.Partition.{class_at, node_key, KeepsTogether, IsStable}
 use Rattle.ct_values.specs.KeyTest.{same_key}
-use Rattle.ct_values.specs.Sharing.{IsFirst, AreClasses, IsKeyed, IsShared}
+use Rattle.ct_values.specs.Sharing.{IsRepresentative, AreClasses, IsKeyed, IsShared}
 use Rattle.ct_values.proofs.AgreeLemmas.{AgreeAlways-parts, AgreeAlways-refl, AgreeAlways-sym, AgreeAlways-trans, AgreeAlways-meet}
 use Rattle.ct_values.proofs.GraphLemmas.{closed_children, slice_get-append_left}
 use Rattle.ct_values.proofs.NodeLemmas.{id, node_points, head_at, children_at}
 use Rattle.ct_values.proofs.RefineLemmas.{classes_together, together_agree, AgreeAlways-stable, first_is_own}
 use Rattle.ct_values.proofs.RoundLemmas.{class_at-before, class_at-last}
 use Rattle.ct_values.proofs.RenumberLemmas.{stands_within, slice_get-push_cases}
-use Rattle.ct_values.proofs.FirstLemmas.{AgreeAlways-grown, IsFirst-same, IsFirst-grown, one_first}
+use Rattle.ct_values.proofs.RepresentativeLemmas.{AgreeAlways-grown, IsRepresentative-same, IsRepresentative-grown, one_first}
 
 -- all children are nodes of the graph
 abbrev AreWithin : Nodes → List NodeId → Type 0
@@ -102,8 +102,8 @@ module _ (g : Nodes) (classes : List ℕ) (are : AreClasses g classes) where
       (one_first g (node_point g m) (node_point g n) (id (class_at classes m.0)) (id (class_at classes n.0)) (are.named m m_in) (are.named n n_in)).0 (λ i. id (one i))
 
   -- and the other way
-  kept_together : KeepsTogether g classes
-  kept_together = record {
+  stored_together : KeepsTogether g classes
+  stored_together = record {
     long = are.long;
     together = λ i j i_in j_in alike. ap (λ n. n.0) ((one_first g (node_point g (id i)) (node_point g (id j)) (id (class_at classes i)) (id (class_at classes j)) (are.named (id i) i_in) (are.named (id j) j_in)).1 alike);
   }
@@ -115,9 +115,9 @@ module _ (g : Nodes) (classes : List ℕ) (are : AreClasses g classes) where
   class_own : (n : ℕ) → n < length g → class_at classes (class_at classes n) ≡ class_at classes n
   class_own n within =
       let named = are.named (id n) within in
-      kept_together.together (class_at classes n) n named.within within named.same
+      stored_together.together (class_at classes n) n named.within within named.same
 
-  -- a node with the key of a value is the same
+  -- a node with the key of a value is equal to it
   alike_by_key : (n : NodeId) (y x : Node) → slice_get g n.0 ≡ Some y → AreWithin g (node_children x) → node_key classes 0 y ≡ node_key classes 0 x → AgreeAlways (node_point g n) (point g (node_value x))
   alike_by_key n y x at within keys =
       node_and_value g n y x at (
@@ -129,21 +129,21 @@ module _ (g : Nodes) (classes : List ℕ) (are : AreClasses g classes) where
   key_by_alike : (n : NodeId) (y x : Node) → slice_get g n.0 ≡ Some y → AreWithin g (node_children x) → AgreeAlways (node_point g n) (point g (node_value x)) → node_key classes 0 y ≡ node_key classes 0 x
   key_by_alike n y x at within alike =
       let parts = parts_of_value g n y x at alike in
-      let each = classes_together g classes (node_children y) (node_children x) kept_together (closed_children g n.0 y are.closed at) within parts.1 in
+      let each = classes_together g classes (node_children y) (node_children x) stored_together (closed_children g n.0 y are.closed at) within parts.1 in
       λ t. record { head = parts.0 t; class = 0; children = each t }
 
 -- ---- the map, as it is made
 
 -- no node's key is in an empty map
-pub IsKeyed-none : {S : Type 0} (g : Nodes) (classes : List ℕ) (firsts : IndexMap Key ℕ S) → ((key : Key) → get same_key firsts key ≡ None) → IsKeyed g classes firsts 0
-IsKeyed-none g classes firsts empty = record {
+pub IsKeyed-none : {S : Type 0} (g : Nodes) (classes : List ℕ) (representatives : IndexMap Key ℕ S) → ((key : Key) → get same_key representatives key ≡ None) → IsKeyed g classes representatives 0
+IsKeyed-none g classes representatives empty = record {
   known = λ n node below at. absurd (omega arith);
   only = λ key n e. absurd (none-some n (sym (empty key) ∙ e));
 }
 
 -- one more node
-pub IsKeyed-step : {S : Type 0} (g : Nodes) (classes : List ℕ) (firsts more : IndexMap Key ℕ S) (place first : ℕ) (x : Node) → AreClasses g classes → IsKeyed g classes firsts place → slice_get g place ≡ Some x → get same_key more (node_key classes 0 x) ≡ Some first → ((k : Key) (m : ℕ) → get same_key firsts k ≡ Some m → get same_key more k ≡ Some m) → ((k : Key) (m : ℕ) → get same_key more k ≡ Some m → (get same_key firsts k ≡ Some m) ⊎ ((k ≡ node_key classes 0 x) × (m ≡ place))) → IsKeyed g classes more (place + 1)
-IsKeyed-step g classes firsts more place first x are keyed at found stay only = record {
+pub IsKeyed-step : {S : Type 0} (g : Nodes) (classes : List ℕ) (representatives more : IndexMap Key ℕ S) (index first : ℕ) (x : Node) → AreClasses g classes → IsKeyed g classes representatives index → slice_get g index ≡ Some x → get same_key more (node_key classes 0 x) ≡ Some first → ((k : Key) (m : ℕ) → get same_key representatives k ≡ Some m → get same_key more k ≡ Some m) → ((k : Key) (m : ℕ) → get same_key more k ≡ Some m → (get same_key representatives k ≡ Some m) ⊎ ((k ≡ node_key classes 0 x) × (m ≡ index))) → IsKeyed g classes more (index + 1)
+IsKeyed-step g classes representatives more index first x are keyed at found stay only = record {
   known = λ n node below at_n. known_at n node at_n (eq-or-lt_of_le (at_most n below));
   only = λ k m e. elim (only k m e) [
     | inl had ↦ let before = keyed.only k m had in (omega (arith, before.0), before.1)
@@ -151,35 +151,35 @@ IsKeyed-step g classes firsts more place first x are keyed at found stay only = 
   ];
 }
   where
-    within : place < length g
-    within = slice_get_within g place x at
+    within : index < length g
+    within = slice_get_within g index x at
 
-    at_most : (n : ℕ) → n < place + 1 → n ≤ place
+    at_most : (n : ℕ) → n < index + 1 → n ≤ index
     at_most n below = omega arith
 
-    -- the class of the node is the first node with its key
-    class_is : (class_at classes place ≡ place) ⊎ (class_at classes place < place) → first ≡ class_at classes place
+    -- the class of the node is the representative with its key
+    class_is : (class_at classes index ≡ index) ⊎ (class_at classes index < index) → first ≡ class_at classes index
     class_is (inr less) =
-        let named = are.named (id place) within in
-        let y = stands_within g (class_at classes place) named.within in
-        let value = AgreeAlways-trans (node_point g (id (class_at classes place))) (node_point g (id place)) (point g (node_value x)) named.same (AgreeAlways-value g (id place) x at) in
-        let keys = key_by_alike g classes are (id (class_at classes place)) y.0 x y.1 (closed_children g place x are.closed at) value in
-        let before = stay (node_key classes 0 y.0) (class_at classes (class_at classes place)) (keyed.known (class_at classes place) y.0 less y.1) in
-        same_Some first (class_at classes place) (sym found ∙ ap (get same_key more) (sym keys) ∙ before ∙ ap Some (class_own g classes are place within))
+        let named = are.named (id index) within in
+        let y = stands_within g (class_at classes index) named.within in
+        let value = AgreeAlways-trans (node_point g (id (class_at classes index))) (node_point g (id index)) (point g (node_value x)) named.same (AgreeAlways-value g (id index) x at) in
+        let keys = key_by_alike g classes are (id (class_at classes index)) y.0 x y.1 (closed_children g index x are.closed at) value in
+        let before = stay (node_key classes 0 y.0) (class_at classes (class_at classes index)) (keyed.known (class_at classes index) y.0 less y.1) in
+        same_Some first (class_at classes index) (sym found ∙ ap (get same_key more) (sym keys) ∙ before ∙ ap Some (class_own g classes are index within))
     class_is (inl own) = elim (only (node_key classes 0 x) first found) [
       | inl had ↦
           let before = keyed.only (node_key classes 0 x) first had in
-          let value = alike_by_key g classes are (id first) before.1.0 x before.1.1 (closed_children g place x are.closed at) (sym before.1.2) in
-          let alike = AgreeAlways-meet (node_point g (id first)) (node_point g (id place)) (point g (node_value x)) value (AgreeAlways-value g (id place) x at) in
-          let early = (are.named (id place) within).first (id first) (slice_get_within g first before.1.0 before.1.1) alike in
+          let value = alike_by_key g classes are (id first) before.1.0 x before.1.1 (closed_children g index x are.closed at) (sym before.1.2) in
+          let alike = AgreeAlways-meet (node_point g (id first)) (node_point g (id index)) (point g (node_value x)) value (AgreeAlways-value g (id index) x at) in
+          let early = (are.named (id index) within).first (id first) (slice_get_within g first before.1.0 before.1.1) alike in
           absurd (omega (arith, early, own, before.0))
       | inr new ↦ new.1 ∙ sym own
     ]
 
-    known_at : (n : ℕ) (node : Node) → slice_get g n ≡ Some node → (n ≡ place) ⊎ (n < place) → get same_key more (node_key classes 0 node) ≡ Some (class_at classes n)
+    known_at : (n : ℕ) (node : Node) → slice_get g n ≡ Some node → (n ≡ index) ⊎ (n < index) → get same_key more (node_key classes 0 node) ≡ Some (class_at classes n)
     known_at n node at_n (inl here) =
         let same : x ≡ node = same_Some x node (sym at ∙ ap (slice_get g) (sym here) ∙ at_n) in
-        ap (λ (y : Node). get same_key more (node_key classes 0 y)) (sym same) ∙ found ∙ ap Some (class_is (eq-or-lt_of_le (class_low g classes are place within))) ∙ ap (λ i. Some (class_at classes i)) (sym here)
+        ap (λ (y : Node). get same_key more (node_key classes 0 y)) (sym same) ∙ found ∙ ap Some (class_is (eq-or-lt_of_le (class_low g classes are index within))) ∙ ap (λ i. Some (class_at classes i)) (sym here)
     known_at n node at_n (inr less) = stay (node_key classes 0 node) (class_at classes n) (keyed.known n node less at_n)
 
 -- the key that is made of what stands at a node
@@ -189,18 +189,18 @@ key_of_parts g classes n x h ids key at at_head at_children is =
     let its_ids : ids ≡ node_children x = same_Some ids (node_children x) (sym at_children ∙ ap (option_map node_children) at) in
     is ∙ (λ t. record { head = its_head t; class = 0; children = map (λ child. class_at classes child.0) (its_ids t) })
 
--- ---- the first node of a value
+-- ---- the representative of a value
 
-module _ {S : Type 0} (g : Nodes) (classes : List ℕ) (firsts : IndexMap Key ℕ S) (x : Node) (shared : IsShared g classes firsts) (below : AreWithin g (node_children x)) where
+module _ {S : Type 0} (g : Nodes) (classes : List ℕ) (representatives : IndexMap Key ℕ S) (x : Node) (shared : IsShared g classes representatives) (below : AreWithin g (node_children x)) where
   -- a node that is the value has its key with its class
-  known_value : (m : NodeId) → m.0 < length g → AgreeAlways (node_point g m) (point g (node_value x)) → get same_key firsts (node_key classes 0 x) ≡ Some (class_at classes m.0)
+  known_value : (m : NodeId) → m.0 < length g → AgreeAlways (node_point g m) (point g (node_value x)) → get same_key representatives (node_key classes 0 x) ≡ Some (class_at classes m.0)
   known_value m m_in alike =
       let y = stands_within g m.0 m_in in
-      ap (get same_key firsts) (sym (key_by_alike g classes shared.are_classes m y.0 x y.1 below alike)) ∙ shared.keyed.known m.0 y.0 m_in y.1
+      ap (get same_key representatives) (sym (key_by_alike g classes shared.are_classes m y.0 x y.1 below alike)) ∙ shared.keyed.known m.0 y.0 m_in y.1
 
-  -- what the map has for the key of a value is the first node that is the value
-  pub IsFirst-known : (n : ℕ) → get same_key firsts (node_key classes 0 x) ≡ Some n → IsFirst g (point g (node_value x)) (id n)
-  IsFirst-known n found =
+  -- what the map has for the key of a value is the representative of the value
+  pub IsRepresentative-known : (n : ℕ) → get same_key representatives (node_key classes 0 x) ≡ Some n → IsRepresentative g (point g (node_value x)) (id n)
+  IsRepresentative-known n found =
       let has = shared.keyed.only (node_key classes 0 x) n found in
       record {
         within = has.0;
@@ -233,8 +233,8 @@ module _ {S : Type 0} (g : Nodes) (classes : List ℕ) (firsts : IndexMap Key �
   same_node m m_in = AgreeAlways-grown g (x ∷ []) (reference m) shared.are_classes.closed m_in
 
   -- a new node is the first that is the value, where the map has nothing for its key
-  pub IsFirst-new : get same_key firsts (node_key classes 0 x) ≡ None → IsFirst grown (point grown (node_value x)) (id (length g))
-  IsFirst-new none = record {
+  pub IsRepresentative-new : get same_key representatives (node_key classes 0 x) ≡ None → IsRepresentative grown (point grown (node_value x)) (id (length g))
+  IsRepresentative-new none = record {
     within = omega (arith, longer);
     same = new_value;
     first = λ m m_in alike. at m alike (cases_lt m.0 (length g));
@@ -244,7 +244,7 @@ module _ {S : Type 0} (g : Nodes) (classes : List ℕ) (firsts : IndexMap Key �
       at m alike (inl less) =
           let before = AgreeAlways-trans (node_point g m) (node_point grown m) (point g (node_value x)) (AgreeAlways-sym (node_point grown m) (node_point g m) (same_node m less)) (AgreeAlways-trans (node_point grown m) (point grown (node_value x)) (point g (node_value x)) alike same_value) in
           absurd (none-some (class_at classes m.0) (sym none ∙ known_value m less before))
-      at m alike (inr behind) = behind
+      at m alike (inr remaining) = remaining
 
   -- a key over old classes is one over the new ones
   same_classes : (c : ℕ) (ids : List NodeId) → AreWithin g ids → map (λ n. class_at (classes ++ c ∷ []) n.0) ids ≡ map (λ n. class_at classes n.0) ids
@@ -266,25 +266,25 @@ module _ {S : Type 0} (g : Nodes) (classes : List ℕ) (firsts : IndexMap Key �
   old_class : (n : ℕ) → n < length g → class_at more_classes n ≡ class_at classes n
   old_class n within = class_at-before classes (length g) n (omega (arith, within, shared.are_classes.long))
 
-  AreClasses-grown : IsClosed grown → get same_key firsts (node_key classes 0 x) ≡ None → AreClasses grown more_classes
+  AreClasses-grown : IsClosed grown → get same_key representatives (node_key classes 0 x) ≡ None → AreClasses grown more_classes
   AreClasses-grown closed none = record {
     closed = closed;
     long = omega (arith, longer, length-append classes (length g ∷ []), shared.are_classes.long);
     named = λ n n_in. at n (cases_lt n.0 (length g)) n_in;
   }
     where
-      at : (n : NodeId) → (n.0 < length g) ⊎ (length g ≤ n.0) → n.0 < length grown → IsFirst grown (node_point grown n) (id (class_at more_classes n.0))
+      at : (n : NodeId) → (n.0 < length g) ⊎ (length g ≤ n.0) → n.0 < length grown → IsRepresentative grown (node_point grown n) (id (class_at more_classes n.0))
       at n (inl less) n_in =
-          let before = IsFirst-grown g (x ∷ []) (node_point g n) (id (class_at classes n.0)) shared.are_classes.closed (shared.are_classes.named n less) in
-          let now = IsFirst-same grown (node_point g n) (node_point grown n) (id (class_at classes n.0)) (AgreeAlways-sym (node_point grown n) (node_point g n) (same_node n less)) before in
-          subst (λ c. IsFirst grown (node_point grown n) (id c)) (sym (old_class n.0 less)) now
-      at n (inr behind) n_in =
+          let before = IsRepresentative-grown g (x ∷ []) (node_point g n) (id (class_at classes n.0)) shared.are_classes.closed (shared.are_classes.named n less) in
+          let now = IsRepresentative-same grown (node_point g n) (node_point grown n) (id (class_at classes n.0)) (AgreeAlways-sym (node_point grown n) (node_point g n) (same_node n less)) before in
+          subst (λ c. IsRepresentative grown (node_point grown n) (id c)) (sym (old_class n.0 less)) now
+      at n (inr remaining) n_in =
           let here : length g ≡ n.0 = omega (arith, longer) in
-          let now = IsFirst-same grown (point grown (node_value x)) (node_point grown (id (length g))) (id (length g)) (AgreeAlways-sym (node_point grown (id (length g))) (point grown (node_value x)) new_value) (IsFirst-new none) in
-          subst (λ k. IsFirst grown (node_point grown (id k)) (id (class_at more_classes k))) here (subst (λ c. IsFirst grown (node_point grown (id (length g))) (id c)) (sym last_class) now)
+          let now = IsRepresentative-same grown (point grown (node_value x)) (node_point grown (id (length g))) (id (length g)) (AgreeAlways-sym (node_point grown (id (length g))) (point grown (node_value x)) new_value) (IsRepresentative-new none) in
+          subst (λ k. IsRepresentative grown (node_point grown (id k)) (id (class_at more_classes k))) here (subst (λ c. IsRepresentative grown (node_point grown (id (length g))) (id c)) (sym last_class) now)
 
   -- the graph is shared with the new node, whose key the map now has
-  pub IsShared-grown : (more : IndexMap Key ℕ S) → IsClosed grown → get same_key firsts (node_key classes 0 x) ≡ None → get same_key more (node_key classes 0 x) ≡ Some (length g) → ((k : Key) (m : ℕ) → get same_key firsts k ≡ Some m → get same_key more k ≡ Some m) → ((k : Key) (m : ℕ) → get same_key more k ≡ Some m → (get same_key firsts k ≡ Some m) ⊎ ((k ≡ node_key classes 0 x) × (m ≡ length g))) → IsShared grown more_classes more
+  pub IsShared-grown : (more : IndexMap Key ℕ S) → IsClosed grown → get same_key representatives (node_key classes 0 x) ≡ None → get same_key more (node_key classes 0 x) ≡ Some (length g) → ((k : Key) (m : ℕ) → get same_key representatives k ≡ Some m → get same_key more k ≡ Some m) → ((k : Key) (m : ℕ) → get same_key more k ≡ Some m → (get same_key representatives k ≡ Some m) ⊎ ((k ≡ node_key classes 0 x) × (m ≡ length g))) → IsShared grown more_classes more
   IsShared-grown more closed none found stay only = record {
     are_classes = AreClasses-grown closed none;
     keyed = record {
@@ -305,7 +305,7 @@ module _ {S : Type 0} (g : Nodes) (classes : List ℕ) (firsts : IndexMap Key �
           ∙ found
           ∙ ap Some (sym last_class ∙ ap (class_at more_classes) (sym new.0))
 
-      only_at : (k : Key) (m : ℕ) → (get same_key firsts k ≡ Some m) ⊎ ((k ≡ node_key classes 0 x) × (m ≡ length g)) → (m < length grown) × ((node : Node) × (slice_get grown m ≡ Some node) × (k ≡ node_key more_classes 0 node))
+      only_at : (k : Key) (m : ℕ) → (get same_key representatives k ≡ Some m) ⊎ ((k ≡ node_key classes 0 x) × (m ≡ length g)) → (m < length grown) × ((node : Node) × (slice_get grown m ≡ Some node) × (k ≡ node_key more_classes 0 node))
       only_at k m (inl had) =
           let before = shared.keyed.only k m had in
           let node = before.1.0 in (
@@ -326,21 +326,21 @@ IsClosed-push g x closed below =
     wide y h i d within = omega (arith, h i d within, length-append g (x ∷ []))
 
 -- the same, as a program knows it
-pub IsShared-added : {S : Type 0} (g new : Nodes) (classes new_classes : List ℕ) (firsts more : IndexMap Key ℕ S) (key : Key) (x : Node) (n : ℕ) → IsShared g classes firsts → HasChildrenBelow (length g) x → key ≡ node_key classes 0 x → get same_key firsts key ≡ None → get same_key more key ≡ Some (length g) → ((k : Key) (m : ℕ) → get same_key firsts k ≡ Some m → get same_key more k ≡ Some m) → ((k : Key) (m : ℕ) → get same_key more k ≡ Some m → (get same_key firsts k ≡ Some m) ⊎ ((k ≡ key) × (m ≡ length g))) → n ≡ length g → new ≡ g ++ x ∷ [] → new_classes ≡ classes ++ n ∷ [] → IsShared new new_classes more
-IsShared-added {S} g new classes new_classes firsts more key x n shared below is absent found stay only count graph_is classes_are =
+pub IsShared-added : {S : Type 0} (g new : Nodes) (classes new_classes : List ℕ) (representatives more : IndexMap Key ℕ S) (key : Key) (x : Node) (n : ℕ) → IsShared g classes representatives → HasChildrenBelow (length g) x → key ≡ node_key classes 0 x → get same_key representatives key ≡ None → get same_key more key ≡ Some (length g) → ((k : Key) (m : ℕ) → get same_key representatives k ≡ Some m → get same_key more k ≡ Some m) → ((k : Key) (m : ℕ) → get same_key more k ≡ Some m → (get same_key representatives k ≡ Some m) ⊎ ((k ≡ key) × (m ≡ length g))) → n ≡ length g → new ≡ g ++ x ∷ [] → new_classes ≡ classes ++ n ∷ [] → IsShared new new_classes more
+IsShared-added {S} g new classes new_classes representatives more key x n shared below is absent found stay only count graph_is classes_are =
     let within = recursion_from_All (λ child. child.0 < length g) (node_children x) below in
-    let added = IsShared-grown g classes firsts x shared within more
+    let added = IsShared-grown g classes representatives x shared within more
     (IsClosed-push g x shared.are_classes.closed below)
-    (ap (get same_key firsts) (sym is) ∙ absent)
+    (ap (get same_key representatives) (sym is) ∙ absent)
     (ap (get same_key more) (sym is) ∙ found)
     stay
     (λ k m e. elim (only k m e) [ inl had ↦ inl had | inr at ↦ inr (at.0 ∙ is, at.1) ]) in
     let all : new_classes ≡ classes ++ length g ∷ [] = classes_are ∙ ap (λ k. classes ++ k ∷ []) count in
     subst (λ (h : Nodes). IsShared h new_classes more) (sym graph_is) (subst (λ (cs : List ℕ). IsShared (g ++ x ∷ []) cs more) (sym all) added)
 
-pub IsFirst-added : {S : Type 0} (g new : Nodes) (classes : List ℕ) (firsts : IndexMap Key ℕ S) (key : Key) (x : Node) (n : NodeId) → IsShared g classes firsts → HasChildrenBelow (length g) x → key ≡ node_key classes 0 x → get same_key firsts key ≡ None → n.0 ≡ length g → new ≡ g ++ x ∷ [] → IsFirst new (point new (node_value x)) n
-IsFirst-added g new classes firsts key x n shared below is absent count graph_is =
+pub IsRepresentative-added : {S : Type 0} (g new : Nodes) (classes : List ℕ) (representatives : IndexMap Key ℕ S) (key : Key) (x : Node) (n : NodeId) → IsShared g classes representatives → HasChildrenBelow (length g) x → key ≡ node_key classes 0 x → get same_key representatives key ≡ None → n.0 ≡ length g → new ≡ g ++ x ∷ [] → IsRepresentative new (point new (node_value x)) n
+IsRepresentative-added g new classes representatives key x n shared below is absent count graph_is =
     let within = recursion_from_All (λ child. child.0 < length g) (node_children x) below in
-    let first = IsFirst-new g classes firsts x shared within (ap (get same_key firsts) (sym is) ∙ absent) in
+    let first = IsRepresentative-new g classes representatives x shared within (ap (get same_key representatives) (sym is) ∙ absent) in
     let number : id (length g) ≡ n = λ i. id (sym count i) in
-    subst (λ (h : Nodes). IsFirst h (point h (node_value x)) n) (sym graph_is) (subst (λ (m : NodeId). IsFirst (g ++ x ∷ []) (point (g ++ x ∷ []) (node_value x)) m) number first)
+    subst (λ (h : Nodes). IsRepresentative h (point h (node_value x)) n) (sym graph_is) (subst (λ (m : NodeId). IsRepresentative (g ++ x ∷ []) (point (g ++ x ∷ []) (node_value x)) m) number first)

@@ -4,29 +4,29 @@ use Rattle.std.proofs.lemmas.List.{append-nil, take_more, length-take, take_all}
 use Rattle.std.proofs.lemmas.Option.{get_or_from_slice_get}
 use Rattle.ct_sorts.specs.Declarations.{Declarations}
 use Rattle.ct_sexpr.specs.Expression.{Expression}
-use Rattle.ct_sexpr.specs.Written.{written, written_items, written_behind}
+use Rattle.ct_sexpr.specs.Written.{written, written_items, written_after}
 use Rattle.ct_values.specs.declared.node.NodeId.{NodeId}
 use Rattle.ct_values.specs.declared.node.Node.{Node}
 use Rattle.ct_values.specs.Value.{reference, values_of}
 use Rattle.ct_values.specs.ValueText.{node_name, applied, expressions, row, node_texts, graph_text}
-use Rattle.ct_values.specs.Rows.{gap}
+use Rattle.ct_values.specs.Separation.{gap}
 use Rattle.ct_values.specs.Graph.{Nodes}
 use Rattle.ct_values.proofs.RenumberLemmas.{stands_within}
 use Rattle.ct_values.specs.Numeral.{numeral}
 
--- one more node behind those that are written
-names-push : (d : Declarations) (ns : List NodeId) (n : NodeId) → written_behind (expressions d (values_of (map reference (ns ++ n ∷ [])))) ≡ written_behind (expressions d (values_of (map reference ns))) ++ 32 ∷ written (node_name n.0)
+-- one more node after those that are written
+names-push : (d : Declarations) (ns : List NodeId) (n : NodeId) → written_after (expressions d (values_of (map reference (ns ++ n ∷ [])))) ≡ written_after (expressions d (values_of (map reference ns))) ++ 32 ∷ written (node_name n.0)
 names-push d [] n = ap (λ w. 32 ∷ w) (append-nil (written (node_name n.0)))
 names-push d (m ∷ ms) n =
     ap (λ w. 32 ∷ (written (node_name m.0) ++ w)) (names-push d ms n)
-    ∙ ap (λ w. 32 ∷ w) (sym (append_assoc (written (node_name m.0)) (written_behind (expressions d (values_of (map reference ms)))) (32 ∷ written (node_name n.0))))
+    ∙ ap (λ w. 32 ∷ w) (sym (append_assoc (written (node_name m.0)) (written_after (expressions d (values_of (map reference ms)))) (32 ∷ written (node_name n.0))))
 
 -- the same, as a program knows it
-pub names-more : (d : Declarations) (ns : List NodeId) (i : ℕ) (z : NodeId) (old now blank new : List ℕ) → i < length ns
-    → now ≡ old ++ written_behind (expressions d (values_of (map reference (take i ns)))) → blank ≡ now ++ 32 ∷ [] → new ≡ blank ++ written (node_name (get_or ns i z).0)
-    → new ≡ old ++ written_behind (expressions d (values_of (map reference (take (i + 1) ns))))
-names-more d ns i z old now blank new within p q r =
-    let before = written_behind (expressions d (values_of (map reference (take i ns)))) in
+pub names-more : (d : Declarations) (ns : List NodeId) (i : ℕ) (z : NodeId) (old now space new : List ℕ) → i < length ns
+    → now ≡ old ++ written_after (expressions d (values_of (map reference (take i ns)))) → space ≡ now ++ 32 ∷ [] → new ≡ space ++ written (node_name (get_or ns i z).0)
+    → new ≡ old ++ written_after (expressions d (values_of (map reference (take (i + 1) ns))))
+names-more d ns i z old now space new within p q r =
+    let before = written_after (expressions d (values_of (map reference (take i ns)))) in
     let n = get_or ns i z in
     let word = written (node_name n.0) in
     let taken : take (i + 1) ns ≡ take i ns ++ n ∷ [] = take_more ns i z within in
@@ -34,37 +34,37 @@ names-more d ns i z old now blank new within p q r =
     ∙ ap (λ w. w ++ word) (q ∙ ap (λ w. w ++ 32 ∷ []) p)
     ∙ append_assoc (old ++ before) (32 ∷ []) word
     ∙ append_assoc old before (32 ∷ word)
-    ∙ ap (λ w. old ++ w) (sym (names-push d (take i ns) n) ∙ ap (λ (ms : List NodeId). written_behind (expressions d (values_of (map reference ms)))) (sym taken))
+    ∙ ap (λ w. old ++ w) (sym (names-push d (take i ns) n) ∙ ap (λ (ms : List NodeId). written_after (expressions d (values_of (map reference ms)))) (sym taken))
 
 -- a constructor with arguments, from its parts
 pub written-constructor : (d : Declarations) (head : Expression) (ns : List NodeId) (old begun named all new : List ℕ) → 0 < length ns
-    → begun ≡ old ++ 40 ∷ [] → named ≡ begun ++ written head → all ≡ named ++ written_behind (expressions d (values_of (map reference ns))) → new ≡ all ++ 41 ∷ []
+    → begun ≡ old ++ 40 ∷ [] → named ≡ begun ++ written head → all ≡ named ++ written_after (expressions d (values_of (map reference ns))) → new ≡ all ++ 41 ∷ []
     → new ≡ old ++ written (applied head (expressions d (values_of (map reference ns))))
 written-constructor d head [] old begun named all new some p q r s = absurd (omega arith)
 written-constructor d head (n ∷ ns) old begun named all new some p q r s =
-    let args = written_behind (expressions d (values_of (map reference (n ∷ ns)))) in
+    let args = written_after (expressions d (values_of (map reference (n ∷ ns)))) in
     s
     ∙ ap (λ w. w ++ 41 ∷ []) (r ∙ ap (λ w. w ++ args) (q ∙ ap (λ w. w ++ written head) p))
     ∙ ap (λ w. (w ++ args) ++ 41 ∷ []) (append_assoc old (40 ∷ []) (written head))
     ∙ ap (λ w. w ++ 41 ∷ []) (append_assoc old (40 ∷ written head) args)
     ∙ append_assoc old (40 ∷ (written head ++ args)) (41 ∷ [])
 
--- one more row behind those that are written
-rows_behind-push : (d : Declarations) (n : ℕ) (xs : List Node) (x : Node) → written_behind (node_texts d n (xs ++ x ∷ [])) ≡ written_behind (node_texts d n xs) ++ 32 ∷ written (row d (n + length xs) x)
-rows_behind-push d n [] x =
+-- one more row after those that are written
+rows_after-push : (d : Declarations) (n : ℕ) (xs : List Node) (x : Node) → written_after (node_texts d n (xs ++ x ∷ [])) ≡ written_after (node_texts d n xs) ++ 32 ∷ written (row d (n + length xs) x)
+rows_after-push d n [] x =
     let at : n ≡ n + 0 = omega arith in
     ap (λ w. 32 ∷ w) (append-nil (written (row d n x))) ∙ ap (λ k. 32 ∷ written (row d k x)) at
-rows_behind-push d n (y ∷ ys) x =
+rows_after-push d n (y ∷ ys) x =
     let at : suc n + length ys ≡ n + suc (length ys) = omega arith in
-    ap (λ w. 32 ∷ (written (row d n y) ++ w)) (rows_behind-push d (suc n) ys x ∙ ap (λ k. written_behind (node_texts d (suc n) ys) ++ 32 ∷ written (row d k x)) at)
-    ∙ ap (λ w. 32 ∷ w) (sym (append_assoc (written (row d n y)) (written_behind (node_texts d (suc n) ys)) (32 ∷ written (row d (n + suc (length ys)) x))))
+    ap (λ w. 32 ∷ (written (row d n y) ++ w)) (rows_after-push d (suc n) ys x ∙ ap (λ k. written_after (node_texts d (suc n) ys) ++ 32 ∷ written (row d k x)) at)
+    ∙ ap (λ w. 32 ∷ w) (sym (append_assoc (written (row d n y)) (written_after (node_texts d (suc n) ys)) (32 ∷ written (row d (n + suc (length ys)) x))))
 
 rows-push : (d : Declarations) (xs : List Node) (x : Node) → written_items (node_texts d 0 (xs ++ x ∷ [])) ≡ written_items (node_texts d 0 xs) ++ (gap (length xs) ++ written (row d (length xs) x))
 rows-push d [] x = append-nil (written (row d 0 x))
 rows-push d (y ∷ ys) x =
     let at : 1 + length ys ≡ suc (length ys) = omega arith in
-    ap (λ w. written (row d 0 y) ++ w) (rows_behind-push d 1 ys x ∙ ap (λ k. written_behind (node_texts d 1 ys) ++ 32 ∷ written (row d k x)) at)
-    ∙ sym (append_assoc (written (row d 0 y)) (written_behind (node_texts d 1 ys)) (32 ∷ written (row d (suc (length ys)) x)))
+    ap (λ w. written (row d 0 y) ++ w) (rows_after-push d 1 ys x ∙ ap (λ k. written_after (node_texts d 1 ys) ++ 32 ∷ written (row d k x)) at)
+    ∙ sym (append_assoc (written (row d 0 y)) (written_after (node_texts d 1 ys)) (32 ∷ written (row d (suc (length ys)) x)))
 
 -- the same, as a program knows it
 pub rows-more : (d : Declarations) (g : Nodes) (i : ℕ) (start now new : List ℕ) → i < length g → now ≡ start ++ written_items (node_texts d 0 (take i g))

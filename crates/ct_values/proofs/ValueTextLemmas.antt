@@ -1,11 +1,11 @@
--- Two nodes have one text exactly where they are the same value.
+-- Two nodes have one text exactly where they are equal values.
 use Rattle.std.proofs.Common.{◌≡◌, ℕ, suc, ◌↔◌, List, [], ◌∷◌, map, Some, option_map, unwrap_or, slice_get, refl, sym, ap, ap₂, subst, ◌∙◌, inl, inr, arith}
 use Rattle.std.specs.List.{AllZip}
 use Rattle.std.proofs.lemmas.Option.{same_Some}
 use Rattle.ct_sorts.specs.Declarations.{Declarations}
 use Rattle.ct_sorts.specs.Consistent.{IsConsistent}
 use Rattle.ct_sexpr.specs.Expression.{Expression}
-use Rattle.ct_sexpr.specs.Written.{written, plain}
+use Rattle.ct_sexpr.specs.Written.{written, canonical}
 use Rattle.ct_sexpr.specs.Readable.{IsReadable}
 use Rattle.ct_values.specs.declared.node.NodeId.{NodeId}
 use Rattle.ct_values.specs.declared.node.Node.{Node}
@@ -18,10 +18,10 @@ use Rattle.ct_values.specs.Fitting.{FitsGraph}
 use Rattle.ct_values.specs.ValueText.{StandsFor, expression, graph_text, IsTreeText, IsGraphText, IsValueText}
 use Rattle.ct_values.proofs.AgreeLemmas.{AgreeAlways-parts, AgreeAlways-sym, AgreeAlways-trans}
 use Rattle.ct_values.proofs.NodeLemmas.{node_points}
-use Rattle.ct_values.proofs.SmallestLemmas.{one_smallest}
-use Rattle.ct_values.proofs.FittingLemmas.{ctor_of_head, sort_of_head, smallest_fits}
+use Rattle.ct_values.proofs.MinimalLemmas.{one_minimal}
+use Rattle.ct_values.proofs.FittingLemmas.{ctor_of_head, sort_of_head, minimal_fits}
 use Rattle.ct_values.proofs.WritingLemmas.{stands_across}
-use Rattle.ct_values.proofs.PlainLemmas.{TextLaws, IsNamed, AreNamed, AreNodesNamed, readable, value_same, not_graph_text, graph_same, graph_readable}
+use Rattle.ct_values.proofs.PlainLemmas.{TextTheorems, IsNamed, AreNamed, AreNodesNamed, readable, value_same, not_graph_text, graph_same, graph_readable}
 
 -- ---- two trees that agree at every depth are one
 
@@ -93,11 +93,11 @@ named_nodes d g fits = named_all d g (λ i x at. named_node d g i x fits at)
 
 -- ---- texts
 
--- readable expressions that are written alike are the same but for bars
-plain_same : TextLaws → (e f : Expression) (x y : List ℕ) → IsReadable e → IsReadable f → x ≡ written e → y ≡ written f → x ≡ y → plain e ≡ plain f
-plain_same laws e f x y e_readable f_readable x_is y_is same = (laws.same_text e f e_readable f_readable).0 (sym x_is ∙ same ∙ y_is)
+-- readable expressions that are written alike are the same but for quoting
+plain_same : TextTheorems → (e f : Expression) (x y : List ℕ) → IsReadable e → IsReadable f → x ≡ written e → y ≡ written f → x ≡ y → canonical e ≡ canonical f
+plain_same theorems e f x y e_readable f_readable x_is y_is same = (theorems.same_text e f e_readable f_readable).0 (sym x_is ∙ same ∙ y_is)
 
-module _ (laws : TextLaws) (d : Declarations) (consistent : IsConsistent d) (g h : Nodes) (a b : NodeId) (g_fits : FitsGraph d g) (h_fits : FitsGraph d h) where
+module _ (theorems : TextTheorems) (d : Declarations) (consistent : IsConsistent d) (g h : Nodes) (a b : NodeId) (g_fits : FitsGraph d g) (h_fits : FitsGraph d h) where
   -- one text, two trees
   tree_tree : (x y : List ℕ) → IsTreeText d g a x → IsTreeText d h b y → x ≡ y → AgreeAlways (node_point g a) (node_point h b)
   tree_tree x y first second same =
@@ -105,32 +105,32 @@ module _ (laws : TextLaws) (d : Declarations) (consistent : IsConsistent d) (g h
       let w = second.tree in
       let v_named = named_tree d g g_fits v a first.stands_for in
       let w_named = named_tree d h h_fits w b second.stands_for in
-      let plains = plain_same laws (expression d v) (expression d w) x y (readable d v consistent v_named) (readable d w consistent w_named) first.text_is second.text_is same in
-      let trees = value_same laws d consistent v w v_named w_named plains in
+      let plains = plain_same theorems (expression d v) (expression d w) x y (readable d v consistent v_named) (readable d w consistent w_named) first.text_is second.text_is same in
+      let trees = value_same theorems d consistent v w v_named w_named plains in
       let of_v : AgreeAlways (node_point h b) (point [] v) = subst (λ (u : Value). AgreeAlways (node_point h b) (point [] u)) (sym trees) second.stands_for.1 in
       AgreeAlways-trans (node_point g a) (point [] v) (node_point h b) first.stands_for.1 (AgreeAlways-sym (node_point h b) (point [] v) of_v)
 
   -- one text, two graphs
   graph_graph : (x y : List ℕ) → IsGraphText d g a x → IsGraphText d h b y → x ≡ y → AgreeAlways (node_point g a) (node_point h b)
   graph_graph x y first second same =
-      let s = first.smallest in
-      let t = second.smallest in
-      let s_named = named_nodes d s (smallest_fits d g a s g_fits first.is_smallest) in
-      let t_named = named_nodes d t (smallest_fits d h b t h_fits second.is_smallest) in
-      let plains = plain_same laws (graph_text d s) (graph_text d t) x y (graph_readable laws d consistent s s_named) (graph_readable laws d consistent t t_named) first.text_is second.text_is same in
-      (one_smallest g h a b s t first.is_smallest second.is_smallest).0 (graph_same laws d consistent s t s_named t_named plains)
+      let s = first.minimal in
+      let t = second.minimal in
+      let s_named = named_nodes d s (minimal_fits d g a s g_fits first.is_minimal) in
+      let t_named = named_nodes d t (minimal_fits d h b t h_fits second.is_minimal) in
+      let plains = plain_same theorems (graph_text d s) (graph_text d t) x y (graph_readable theorems d consistent s s_named) (graph_readable theorems d consistent t t_named) first.text_is second.text_is same in
+      (one_minimal g h a b s t first.is_minimal second.is_minimal).0 (graph_same theorems d consistent s t s_named t_named plains)
 
 -- a tree and a graph never have one text
-tree_graph : TextLaws → (d : Declarations) → IsConsistent d → (g h : Nodes) (a b : NodeId) → FitsGraph d g → FitsGraph d h → (x y : List ℕ) → IsTreeText d g a x → IsGraphText d h b y → x ≡ y → ⊥
-tree_graph laws d consistent g h a b g_fits h_fits x y first second same =
+tree_graph : TextTheorems → (d : Declarations) → IsConsistent d → (g h : Nodes) (a b : NodeId) → FitsGraph d g → FitsGraph d h → (x y : List ℕ) → IsTreeText d g a x → IsGraphText d h b y → x ≡ y → ⊥
+tree_graph theorems d consistent g h a b g_fits h_fits x y first second same =
     let v = first.tree in
-    let t = second.smallest in
+    let t = second.minimal in
     let v_named = named_tree d g g_fits v a first.stands_for in
-    let t_named = named_nodes d t (smallest_fits d h b t h_fits second.is_smallest) in
-    let plains = plain_same laws (expression d v) (graph_text d t) x y (readable d v consistent v_named) (graph_readable laws d consistent t t_named) first.text_is second.text_is same in
-    not_graph_text laws d consistent v t v_named plains
+    let t_named = named_nodes d t (minimal_fits d h b t h_fits second.is_minimal) in
+    let plains = plain_same theorems (expression d v) (graph_text d t) x y (readable d v consistent v_named) (graph_readable theorems d consistent t t_named) first.text_is second.text_is same in
+    not_graph_text theorems d consistent v t v_named plains
 
--- nodes that are the same value do not have a tree's and a graph's text
+-- equal nodes do not have a tree's and a graph's text
 no_mix : (d : Declarations) (g h : Nodes) (a b : NodeId) (x y : List ℕ) → IsTreeText d g a x → IsGraphText d h b y → AgreeAlways (node_point g a) (node_point h b) → ⊥
 no_mix d g h a b x y first second alike =
     omega (arith, first.few, second.many first.tree (stands_across g h a b first.tree alike first.stands_for))
@@ -144,18 +144,18 @@ same_value_text d g h a b x y (inl first) (inl second) alike =
 same_value_text d g h a b x y (inl first) (inr second) alike = absurd (no_mix d g h a b x y first second alike)
 same_value_text d g h a b x y (inr first) (inl second) alike = absurd (no_mix d h g b a y x second first (AgreeAlways-sym (node_point g a) (node_point h b) alike))
 same_value_text d g h a b x y (inr first) (inr second) alike =
-    let graphs = (one_smallest g h a b first.smallest second.smallest first.is_smallest second.is_smallest).1 alike in
+    let graphs = (one_minimal g h a b first.minimal second.minimal first.is_minimal second.is_minimal).1 alike in
     first.text_is ∙ ap (λ (s : Nodes). written (graph_text d s)) graphs ∙ sym second.text_is
 
--- nodes of one text are the same value
-alike_by_text : TextLaws → (d : Declarations) → IsConsistent d → (g h : Nodes) (a b : NodeId) → FitsGraph d g → FitsGraph d h → (x y : List ℕ) → IsValueText d g a x → IsValueText d h b y → x ≡ y → AgreeAlways (node_point g a) (node_point h b)
-alike_by_text laws d consistent g h a b g_fits h_fits x y (inl first) (inl second) same = tree_tree laws d consistent g h a b g_fits h_fits x y first second same
-alike_by_text laws d consistent g h a b g_fits h_fits x y (inl first) (inr second) same = absurd (tree_graph laws d consistent g h a b g_fits h_fits x y first second same)
-alike_by_text laws d consistent g h a b g_fits h_fits x y (inr first) (inl second) same = absurd (tree_graph laws d consistent h g b a h_fits g_fits y x second first (sym same))
-alike_by_text laws d consistent g h a b g_fits h_fits x y (inr first) (inr second) same = graph_graph laws d consistent g h a b g_fits h_fits x y first second same
+-- nodes of one text are equal values
+alike_by_text : TextTheorems → (d : Declarations) → IsConsistent d → (g h : Nodes) (a b : NodeId) → FitsGraph d g → FitsGraph d h → (x y : List ℕ) → IsValueText d g a x → IsValueText d h b y → x ≡ y → AgreeAlways (node_point g a) (node_point h b)
+alike_by_text theorems d consistent g h a b g_fits h_fits x y (inl first) (inl second) same = tree_tree theorems d consistent g h a b g_fits h_fits x y first second same
+alike_by_text theorems d consistent g h a b g_fits h_fits x y (inl first) (inr second) same = absurd (tree_graph theorems d consistent g h a b g_fits h_fits x y first second same)
+alike_by_text theorems d consistent g h a b g_fits h_fits x y (inr first) (inl second) same = absurd (tree_graph theorems d consistent h g b a h_fits g_fits y x second first (sym same))
+alike_by_text theorems d consistent g h a b g_fits h_fits x y (inr first) (inr second) same = graph_graph theorems d consistent g h a b g_fits h_fits x y first second same
 
-pub one_text : TextLaws → (d : Declarations) (g h : Nodes) (a b : NodeId) (x y : List ℕ) → IsConsistent d → FitsGraph d g → FitsGraph d h → IsValueText d g a x → IsValueText d h b y → (x ≡ y) ↔ AgreeAlways (node_point g a) (node_point h b)
-one_text laws d g h a b x y consistent g_fits h_fits first second = (
-  alike_by_text laws d consistent g h a b g_fits h_fits x y first second,
+pub one_text : TextTheorems → (d : Declarations) (g h : Nodes) (a b : NodeId) (x y : List ℕ) → IsConsistent d → FitsGraph d g → FitsGraph d h → IsValueText d g a x → IsValueText d h b y → (x ≡ y) ↔ AgreeAlways (node_point g a) (node_point h b)
+one_text theorems d g h a b x y consistent g_fits h_fits first second = (
+  alike_by_text theorems d consistent g h a b g_fits h_fits x y first second,
   same_value_text d g h a b x y first second,
 )

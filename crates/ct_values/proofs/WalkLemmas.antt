@@ -6,7 +6,7 @@ use Rattle.ct_sorts.specs.declared.ids.CtorId.{CtorId}
 use Rattle.ct_sorts.specs.declared.ids.SortId.{SortId}
 use Rattle.ct_sorts.specs.Declarations.{Declarations}
 use Rattle.ct_sexpr.specs.Expression.{Expression, Expressions, more}
-use Rattle.ct_sexpr.specs.Written.{written, written_behind}
+use Rattle.ct_sexpr.specs.Written.{written, written_after}
 use Rattle.ct_values.specs.declared.node.NodeId.{NodeId}
 use Rattle.ct_values.specs.declared.node.Head.TheVariants.{Con, Elem}
 use Rattle.ct_values.specs.declared.tree_text.Item.{Item}
@@ -17,17 +17,17 @@ use Rattle.ct_values.specs.ValueText.{IsTreeText, IsTooGreat, most_plain, name, 
 use Rattle.ct_values.specs.Walk.{StandAs, AreWithin, closes, opening, pending, IsBegun, IsWalked}
 use Rattle.ct_values.proofs.StandLemmas.{StandForAll, stands_constructor, constructor_stands, stands_element, element_stands, subterms_positive}
 
--- ---- trees on the stack, and a parenthesis behind them
+-- ---- trees on the stack, and a parenthesis after them
 
 split_trees : (d : Declarations) (g : Nodes) (ns : List NodeId) (items : List Item) (rest : List ℕ) (others : ℕ) → StandAs d g (map Node ns ++ Close ∷ items) rest others
-    → (vs : Values) × (text : List ℕ) × (count : ℕ) × StandForAll g ns vs × StandAs d g items text count × (rest ≡ written_behind (expressions d vs) ++ 41 ∷ text) × (others ≡ length (subterms_of_all vs) + count)
+    → (vs : Values) × (text : List ℕ) × (count : ℕ) × StandForAll g ns vs × StandAs d g items text count × (rest ≡ written_after (expressions d vs) ++ 41 ∷ text) × (others ≡ length (subterms_of_all vs) + count)
 split_trees d g [] items rest others h = (no_values, h.0, others, tt, h.2, h.1, omega arith)
 split_trees d g (n ∷ ns) items rest others h =
     let v = h.0 in
     let w = written (expression d v) in
     let later = split_trees d g ns items h.1 h.2 h.6 in
     let vs = later.0 in
-    let b = written_behind (expressions d vs) in (
+    let b = written_after (expressions d vs) in (
       with_value v vs,
       later.1,
       later.2,
@@ -38,13 +38,13 @@ split_trees d g (n ∷ ns) items rest others h =
     )
 
 join_trees : (d : Declarations) (g : Nodes) (ns : List NodeId) (items : List Item) (vs : Values) (text : List ℕ) (count : ℕ) → StandForAll g ns vs → StandAs d g items text count
-    → StandAs d g (map Node ns ++ Close ∷ items) (written_behind (expressions d vs) ++ 41 ∷ text) (length (subterms_of_all vs) + count)
+    → StandAs d g (map Node ns ++ Close ∷ items) (written_after (expressions d vs) ++ 41 ∷ text) (length (subterms_of_all vs) + count)
 join_trees d g [] items no_values text count all h = (text, refl, subst (λ (k : ℕ). StandAs d g items text k) (omega arith) h)
 join_trees d g [] items (with_value v vs) text count all h = absurd all
 join_trees d g (n ∷ ns) items no_values text count all h = absurd all
 join_trees d g (n ∷ ns) items (with_value v vs) text count all h =
     let w = written (expression d v) in
-    let b = written_behind (expressions d vs) in (
+    let b = written_after (expressions d vs) in (
       v,
       b ++ 41 ∷ text,
       length (subterms_of_all vs) + count,
@@ -64,9 +64,9 @@ closes_trees (n ∷ ns) items = closes_trees ns items
 
 -- ---- a tree is begun
 
-applied_text : (head first : Expression) (others : Expressions) (old text : List ℕ) → old ++ (written (applied head (more first others)) ++ text) ≡ (old ++ 40 ∷ written head) ++ (written_behind (more first others) ++ 41 ∷ text)
+applied_text : (head first : Expression) (others : Expressions) (old text : List ℕ) → old ++ (written (applied head (more first others)) ++ text) ≡ (old ++ 40 ∷ written head) ++ (written_after (more first others) ++ 41 ∷ text)
 applied_text head first others old text =
-    let args = written_behind (more first others) in
+    let args = written_after (more first others) in
     let h = written head in
     ap (λ w. old ++ 40 ∷ w) (append_assoc (h ++ args) (41 ∷ []) text ∙ append_assoc h args (41 ∷ text))
     ∙ sym (append_assoc old (40 ∷ h) (args ++ 41 ∷ text))
@@ -113,7 +113,7 @@ begun_over d g n c m ms old before head_is below inside =
           let made = stands_constructor g n c (m ∷ ms) v head_is below stands in
           let vs = made.0 in
           let many : length (subterms v) ≡ suc (length (subterms_of_all vs)) = ap (λ (u : Value). length (subterms u)) made.1 in (
-            written_behind (expressions d vs) ++ 41 ∷ text,
+            written_after (expressions d vs) ++ 41 ∷ text,
             length (subterms_of_all vs) + count,
             join_trees d g (m ∷ ms) before vs text count made.2 h,
             ap (λ (u : Value). old ++ (written (expression d u) ++ text)) made.1 ∙ text_of vs text made.2,
@@ -132,7 +132,7 @@ begun_over d g n c m ms old before head_is below inside =
           );
     }
   where
-    text_of : (vs : Values) (text : List ℕ) → StandForAll g (m ∷ ms) vs → old ++ (written (expression d (construct c vs)) ++ text) ≡ (old ++ 40 ∷ written (name (ctor_name d c.0))) ++ (written_behind (expressions d vs) ++ 41 ∷ text)
+    text_of : (vs : Values) (text : List ℕ) → StandForAll g (m ∷ ms) vs → old ++ (written (expression d (construct c vs)) ++ text) ≡ (old ++ 40 ∷ written (name (ctor_name d c.0))) ++ (written_after (expressions d vs) ++ 41 ∷ text)
     text_of no_values text all = absurd all
     text_of (with_value v vs) text all = applied_text (name (ctor_name d c.0)) (expression d v) (expressions d vs) old text
 

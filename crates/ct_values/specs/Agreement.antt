@@ -58,7 +58,7 @@ agree (suc k) p q = option_eq same_head (head p) (head q) && pointwise (agree k)
 abbrev pub size : Point → ℕ
 size p = length p.graph + length (subterms p.value)
 
--- the points are the same: they agree to the product of their sizes
+-- the points are equal: they agree to the product of their sizes
 unfoldable pub same : Point → Point → Bool
 same p q = agree (size p * size q) p q
 

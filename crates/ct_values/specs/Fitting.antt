@@ -1,4 +1,4 @@
--- When a graph fits declarations: each node is a constructor with children of its fields' sorts, or an element of a free sort.
+-- When a graph fits declarations: each node is a constructor with children of its fields' sorts, or an element of an uninterpreted sort.
 use Rattle.std.specs.Prelude.{◌≡◌, ℕ, List, Option, Some, option_map, slice_get}
 use Rattle.std.specs.List.{AllZip}
 use Rattle.ct_sorts.specs.declared.ids.SortId.{SortId}
@@ -20,7 +20,7 @@ abbrev pub HasNodeSort : Declarations → Nodes → NodeId → SortId → Type 0
 HasNodeSort d g n s = (node : Node) × (slice_get g n.0 ≡ Some node) × (node_sort d node ≡ Some s)
 
 -- the node has the sort of the selector's field
-pub record IsOfField (d : Declarations) (g : Nodes) (child : NodeId) (s : SelId) : Type 0 where
+pub record IsNodeOfField (d : Declarations) (g : Nodes) (child : NodeId) (s : SelId) : Type 0 where
   pub selector : Selector
   pub declared : slice_get d.sels s.0 ≡ Some selector
   pub sorted : HasNodeSort d g child selector.sort
@@ -29,9 +29,9 @@ pub record IsOfField (d : Declarations) (g : Nodes) (child : NodeId) (s : SelId)
 pub record IsBuilt (d : Declarations) (g : Nodes) (c : ℕ) (children : List NodeId) : Type 0 where
   pub ctor : Constructor
   pub declared : slice_get d.ctors c ≡ Some ctor
-  pub fields : AllZip (IsOfField d g) children ctor.sels
+  pub fields : AllZip (IsNodeOfField d g) children ctor.sels
 
--- an element of a free sort
+-- an element of an uninterpreted sort
 pub record IsElement (d : Declarations) (s : ℕ) : Type 0 where
   pub sort : Sort
   pub declared : slice_get d.sorts s ≡ Some sort

@@ -2,9 +2,9 @@ pub mod Graph
 pub mod Packed
 pub mod Value
 pub mod Agreement
-pub mod Smallest
-pub mod Numbered
-pub mod Places
+pub mod Minimal
+pub mod Numbering
+pub mod Indices
 pub mod NodeIdTest
 pub mod Partition
 pub mod KeyTest
@@ -17,5 +17,5 @@ pub mod Fitting
 pub mod Numeral
 pub mod ValueText
 pub mod Sharing
-pub mod Rows
+pub mod Separation
 pub mod Walk

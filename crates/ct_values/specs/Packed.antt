@@ -1,4 +1,4 @@
--- Nodes side by side: a list of heads, the children of all nodes one behind another, and where those of each node end.
+-- Nodes side by side: a list of heads, the children of all nodes one after another, and where those of each node end.
 use Rattle.std.specs.Prelude.{◌≡◌, ℕ, ◌-◌, ◌≤◌, List, [], ◌∷◌, take, drop}
 use Rattle.ct_values.specs.declared.node.NodeId.{NodeId}
 use Rattle.ct_values.specs.declared.node.Node.{Node}
@@ -12,7 +12,7 @@ abbrev pub node_of : Head → List NodeId → Node
 node_of (Con c) children = nodes.Con c children
 node_of (Elem s n) children = nodes.Elem s n
 
--- the nodes with these heads, where the children of the first begin at this place, and those of each other one where
+-- the nodes with these heads, where the children of the first begin at this index, and those of each other one where
 -- those of the one before it end
 abbrev pub unpacked : ℕ → List Head → List ℕ → List NodeId → Nodes
 unpacked from [] ends children = []

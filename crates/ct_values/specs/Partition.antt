@@ -1,5 +1,5 @@
 -- Partitions of the nodes of a graph: a number for each node, which is that of its class. All but those of finite trees are
--- named for the first nodes of their classes.
+-- named for the representatives of their classes.
 use Rattle.std.specs.Prelude.{◌≡◌, ℕ, ◌<◌, ◌≤◌, List, length, map, Option, Some, option_map, slice_get, slice_index}
 use Rattle.std.specs.List.{AllByRecursion}
 use Rattle.ct_values.specs.declared.node.Node.{Node}
@@ -48,7 +48,7 @@ pub record IsRefined (g : Nodes) (old new : List ℕ) : Type 0 where
 abbrev pub IsStable : Nodes → List ℕ → Type 0
 IsStable g classes = IsRefined g classes classes
 
--- the same partition, in which each class has the number of its first node
+-- the same partition, in which each class has the number of its representative
 pub record AreNamed (classes names : List ℕ) : Type 0 where
   pub long : length names ≡ length classes
   pub early : (i : ℕ) → class_at names i ≤ i
@@ -62,4 +62,4 @@ pub record IsSteady (g : Nodes) (settled classes : List ℕ) : Type 0 where
   pub parts : (i : ℕ) (node : Node) → slice_get g i ≡ Some node → 0 < class_at settled i → AllByRecursion (λ child. 0 < class_at settled child.0) (node_children node)
   pub keys : (i : ℕ) → i < length g → 0 < class_at settled i → key_of g classes (class_at classes i) ≡ key_of g classes i
   pub apart : (i : ℕ) → i < length g → class_at settled i ≡ 0 → class_at settled (class_at classes i) ≡ 0
-  pub kept : (i : ℕ) → i < length g → 0 < class_at settled i → 0 < class_at settled (class_at classes i)
+  pub stored : (i : ℕ) → i < length g → 0 < class_at settled i → 0 < class_at settled (class_at classes i)

@@ -7,7 +7,7 @@ use Rattle.ct_values.specs.Graph.{Nodes, node_children}
 
 -- this stands in the list
 abbrev pub StandsIn : {X : Type 0} → X → List X → Type 0
-StandsIn x xs = (place : ℕ) × (slice_get xs place ≡ Some x)
+StandsIn x xs = (index : ℕ) × (slice_get xs index ≡ Some x)
 
 -- the node with this number
 abbrev pub numbered : ℕ → NodeId
@@ -26,7 +26,7 @@ visited (Turn n) = n
 abbrev pub AreVisits : ℕ → List Visit → Type 0
 AreVisits count stack = (visit : Visit) → StandsIn visit stack → (visited visit).0 < count
 
--- the second stack is the first with visits behind it, of nodes below the bound, and at most this many
+-- the second stack is the first with visits after it, of nodes below the bound, and at most this many
 abbrev pub AreAdded : ℕ → ℕ → List Visit → List Visit → Type 0
 AreAdded count most old new = (more : List Visit) × (new ≡ old ++ more) × AreVisits count more × (length more ≤ most)
 

@@ -1,4 +1,4 @@
--- New numbers for nodes of a graph: a node's new number is its place in a list of old numbers.
+-- New numbers for nodes of a graph: a node's new number is its index in a list of old numbers.
 use Rattle.std.specs.Prelude.{◌≡◌, ℕ, ◌<◌, List, length, All, Some, slice_get, nat_eq}
 use Rattle.std.specs.List.{AllZip}
 use Rattle.indexmap.specs.IndexSet.{IndexSet, IsUnique}
@@ -11,7 +11,7 @@ pub record IsNumbering {S : Type 0} (bound : ℕ) (ids : IndexSet ℕ S) : Type 
   pub unique : IsUnique nat_eq ids
   pub below : All (λ id. id < bound) ids.keys
 
--- what stands at a place stays there
+-- what stands at an index stays there
 abbrev pub Stay : {X : Type 0} → List X → List X → Type 0
 Stay {X} old new = (i : ℕ) (x : X) → slice_get old i ≡ Some x → slice_get new i ≡ Some x
 
@@ -26,7 +26,7 @@ pub record IsRenumbered (g : Nodes) (ids : List ℕ) (n : ℕ) (node : Node) : T
   pub head : node_head node ≡ node_head source
   pub children : StandFor ids (node_children node) (node_children source)
 
--- the nodes are those whose old numbers stand at their places
+-- the nodes are those whose old numbers stand at their indices
 abbrev pub AreRenumbered : Nodes → List ℕ → List Node → Type 0
 AreRenumbered g ids nodes = (i n : ℕ) (node : Node) → slice_get nodes i ≡ Some node → slice_get ids i ≡ Some n → IsRenumbered g ids n node
 

@@ -4,7 +4,7 @@ use Rattle.std.specs.List.{AllByRecursion}
 use Rattle.indexmap.specs.IndexSet.{IndexSet}
 use Rattle.ct_values.specs.declared.node.NodeId.{NodeId}
 use Rattle.ct_values.specs.declared.node.Node.{Node}
-use Rattle.ct_values.specs.declared.shape.Step.{Step}
+use Rattle.ct_values.specs.declared.shape.ShapeStep.{ShapeStep}
 use Rattle.ct_values.specs.Graph.{Nodes, node_head, node_children}
 use Rattle.ct_values.specs.Partition.{class_at, node_key, KeepsTogether}
 use Rattle.ct_values.specs.Shape.{Spells, AreSteps}
@@ -25,7 +25,7 @@ unsettled (zero ∷ classes) = suc (unsettled classes)
 unsettled (suc c ∷ classes) = unsettled classes
 
 -- settled nodes are finite trees, and the class of each is one more than the number of its shape
-pub record IsSettling {S : Type 0} (g : Nodes) (classes : List ℕ) (steps : IndexSet Step S) : Type 0 where
+pub record IsSettling {S : Type 0} (g : Nodes) (classes : List ℕ) (steps : IndexSet ShapeStep S) : Type 0 where
   pub steps_apart : AreSteps steps
   pub long : length classes ≡ length g
   pub known : (i c : ℕ) (node : Node) → slice_get g i ≡ Some node → class_at classes i ≡ suc c → Spells steps.keys c (node_head node) (map (λ child. class_at classes child.0) (node_children node))

@@ -1,4 +1,4 @@
--- How a value is written: a small finite tree as a constructor term, and else its smallest graph, node by node. That is this
+-- How a value is written: a small finite tree as a constructor term, and else its minimal graph, node by node. That is this
 -- project's choice, as are `(as @U_3 U)` for an element and `@3` for a node.
 use Rattle.std.specs.Prelude.{◌≡◌, ℕ, suc, ◌<◌, ◌≤◌, ◌⊎◌, List, [], ◌∷◌, ◌++◌, length, slice_get, unwrap_or, codes}
 use Rattle.ct_sorts.specs.Declarations.{Declarations, ctor_names, sort_names}
@@ -11,7 +11,7 @@ use Rattle.ct_values.specs.Graph.{Nodes}
 use Rattle.ct_values.specs.Value.{Value, Values, reference, element, construct, no_values, with_value, subterms, IsOver, node_value}
 use Rattle.ct_values.specs.Agreement.{point, node_point, AgreeAlways}
 use Rattle.ct_values.specs.Numeral.{numeral}
-use Rattle.ct_values.specs.Smallest.{IsSmallest}
+use Rattle.ct_values.specs.Minimal.{IsMinimal}
 
 -- the node stands for this finite tree, in which no node of a graph is named; where a cycle is reached it stands for none
 abbrev pub StandsFor : Nodes → NodeId → Value → Type 0
@@ -21,7 +21,7 @@ StandsFor g n v = IsOver [] v × AgreeAlways (node_point g n) (point [] v)
 abbrev pub most_plain : ℕ
 most_plain = 1000
 
--- a name, which has bars where it needs them
+-- a name, quoted where it needs to be
 abbrev pub name : List ℕ → Expression
 name bytes = leaf (quoted bytes)
 
@@ -45,7 +45,7 @@ sort_name d s = unwrap_or (slice_get (sort_names d) s) []
 abbrev pub ctor_name : Declarations → ℕ → List ℕ
 ctor_name d c = unwrap_or (slice_get (ctor_names d) c) []
 
--- a head alone, or in front of its arguments in a list
+-- a head alone, or before its arguments in a list
 abbrev pub applied : Expression → Expressions → Expression
 applied head none = head
 applied head (more e es) = list (more head (more e es))
@@ -61,11 +61,11 @@ abbrev mutual
   expressions d no_values = none
   expressions d (with_value v vs) = more (expression d v) (expressions d vs)
 
--- a node behind its name, `(@n node)`
+-- a node after its name, `(@n node)`
 abbrev pub row : Declarations → ℕ → Node → Expression
 row d n node = list (more (node_name n) (more (expression d (node_value node)) none))
 
--- each node behind its name, from the number n on
+-- each node after its name, from the number n on
 abbrev pub node_texts : Declarations → ℕ → List Node → Expressions
 node_texts d n [] = none
 node_texts d n (node ∷ nodes) = more (row d n node) (node_texts d (suc n) nodes)
@@ -85,12 +85,12 @@ pub record IsTreeText (d : Declarations) (g : Nodes) (root : NodeId) (text : Lis
 abbrev pub IsTooGreat : Nodes → NodeId → Type 0
 IsTooGreat g root = (tree : Value) → StandsFor g root tree → most_plain < length (subterms tree)
 
--- the node stands for no such tree, and the text is that of the smallest graph
+-- the node stands for no such tree, and the text is that of the minimal graph
 pub record IsGraphText (d : Declarations) (g : Nodes) (root : NodeId) (text : List ℕ) : Type 0 where
   pub many : IsTooGreat g root
-  pub smallest : Nodes
-  pub is_smallest : IsSmallest g root smallest
-  pub text_is : text ≡ written (graph_text d smallest)
+  pub minimal : Nodes
+  pub is_minimal : IsMinimal g root minimal
+  pub text_is : text ≡ written (graph_text d minimal)
 
 -- the text of the value that a node stands for
 abbrev pub IsValueText : Declarations → Nodes → NodeId → List ℕ → Type 0

@@ -11,7 +11,7 @@ use Rattle.ct_values.specs.Graph.{Nodes}
 use Rattle.ct_values.specs.Value.{Value, subterms}
 use Rattle.ct_values.specs.ValueText.{StandsFor, most_plain, expression}
 
--- the items stand for trees that are written with this text, each tree behind a blank, and have so many nodes in all
+-- the items stand for trees that are written with this text, each tree after a space, and have so many nodes in all
 abbrev pub StandAs : Declarations → Nodes → List Item → List ℕ → ℕ → Type 0
 StandAs d g [] text count = (text ≡ []) × (count ≡ 0)
 StandAs d g (Close ∷ items) text count = (rest : List ℕ) × (text ≡ right_parenthesis ∷ rest) × StandAs d g items rest count

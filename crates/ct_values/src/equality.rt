@@ -1,10 +1,10 @@
-//! Whether two nodes of a graph are the same value: whether they agree at every depth.
+//! Whether two nodes of a graph are equal values: whether they agree at every depth.
 //!
-//! The part of the graph that the two nodes reach is copied. A pass over it, children before parents, gives its
-//! finite trees their classes (`finite.rt`). The others are refined by rounds (`rounds.rt`), until a round
-//! changes nothing or the two nodes fall apart. Where no cycle is reached one round is enough, and else
-//! there are at most as many as there are nodes that reach one. Nothing outside the part is looked at, and
-//! nothing recurses.
+//! The part of the graph that the two nodes reach is copied. A pass over it, children before
+//! parents, gives its finite trees their classes (`finite.rt`). The others are refined by rounds
+//! (`rounds.rt`), until a round changes nothing or the two nodes fall apart. Where no cycle is
+//! reached one round is enough, and else there are at most as many as there are nodes that reach
+//! one. Nothing outside the part is looked at, and nothing recurses.
 ghost use Rattle.std.specs.Prelude.{◌≡◌, ◌↔◌, ◌<◌, length, IfOk, IsTrue};
 ghost use Rattle.ct_values.specs.Agreement.{node_point, AgreeAlways};
 
@@ -16,7 +16,7 @@ use crate::reach::reached;
 use crate::rounds::refined;
 use std::alloc::Global;
 
-/// Whether the two nodes are the same value.
+/// Whether the two nodes are equal values.
 pub fn same(alloc: Global, g: &Graph, a: NodeId, b: NodeId) -> Result<bool, ValueError>
     requires a_within { a.0 < length g.now }
     requires b_within { b.0 < length g.now }
@@ -26,7 +26,7 @@ pub fn same(alloc: Global, g: &Graph, a: NodeId, b: NodeId) -> Result<bool, Valu
     decide(alloc, &part.graph, part.first, part.second)
 }
 
-// Whether the two nodes are the same, by their classes.
+// Whether the two nodes are equal, by their classes.
 fn decide(alloc: Global, graph: &PackedGraph, a: NodeId, b: NodeId) -> Result<bool, ValueError>
     requires a_within { a.0 < length graph.now }
     requires b_within { b.0 < length graph.now }

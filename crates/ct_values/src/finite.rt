@@ -14,7 +14,7 @@ use crate::error::ValueError;
 use crate::node::NodeId;
 use crate::packed::PackedGraph;
 use crate::postorder::postorder;
-use crate::shape::{Step, shape};
+use crate::shape::{ShapeStep, shape};
 use indexmap::IndexSet;
 use std::alloc::Global;
 
@@ -34,7 +34,7 @@ fn settle_all(
     graph: &PackedGraph,
     order: &[NodeId],
     classes: &mut Vec<usize>,
-    steps: &mut IndexSet<Step>,
+    steps: &mut IndexSet<ShapeStep>,
 ) -> Result<bool, ValueError>
     requires within { All (λ n. n.0 < length graph.now) order.now }
     requires each { HasEach (length graph.now) order.now }
@@ -56,7 +56,7 @@ fn settle_all(
 fn settle(
     graph: &PackedGraph,
     classes: &mut Vec<usize>,
-    steps: &mut IndexSet<Step>,
+    steps: &mut IndexSet<ShapeStep>,
     n: NodeId,
 ) -> Result<bool, ValueError>
     requires within { n.0 < length graph.now }
@@ -66,8 +66,8 @@ fn settle(
         (unsettled classes.new.items < unsettled classes.old.items)
         ((classes.new.items ≡ classes.old.items) × IsTried graph.now classes.new.items n.0)) }
 {
-    let place = n.0 as usize;
-    if classes[place] > 0 {
+    let index = n.0 as usize;
+    if classes[index] > 0 {
         return Ok(false);
     }
     let parts = graph.children(n);
@@ -76,7 +76,7 @@ fn settle(
     }
     let number = shape(steps, graph.head(n), classes, parts)?;
     prove!(number < steps.len());
-    classes[place] = number + 1;
+    classes[index] = number + 1;
     Ok(true)
 }
 

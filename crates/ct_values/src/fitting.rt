@@ -5,14 +5,15 @@ ghost use Rattle.std.specs.List.{AllZip};
 ghost use Rattle.ct_sorts.specs.Declarations.{IsSelector};
 ghost use Rattle.ct_values.specs.declared.node.Node.{Node};
 ghost use Rattle.ct_values.specs.Graph.{node_head};
-ghost use Rattle.ct_values.specs.Fitting.{node_sort, HasNodeSort, IsOfField, IsBuilt, IsElement, FitsNode, FitsGraph};
+ghost use Rattle.ct_values.specs.Fitting.{node_sort, HasNodeSort, IsNodeOfField, IsBuilt, IsElement, FitsNode, FitsGraph};
 
 use crate::graph::Graph;
 use crate::node::{Head, NodeId};
 use ct_sorts::{CtorId, Kind, SelId, Signature, SortId};
 
-/// Whether the graph fits the declarations: each node is a constructor over nodes of its fields' sorts, as many as it has
-/// fields, or an element of a free sort. `value_text` asks for it.
+/// Whether the graph fits the declarations: each node is a constructor over nodes of its fields'
+/// sorts, as many as it has fields, or an element of an uninterpreted sort. `value_text` asks for
+/// it.
 pub fn fits(sig: &Signature, g: &Graph) -> bool
     ensures value { IsTrue result ↔ FitsGraph sig.now g.now }
 {
@@ -43,14 +44,14 @@ fn is_built(sig: &Signature, g: &Graph, c: CtorId, children: &[NodeId]) -> bool
     if c.0 >= sig.mark().ctors() {
         return false;
     }
-    are_of_fields(sig, g, children, sig.ctor_sels(c))
+    are_nodes_of_fields(sig, g, children, sig.ctor_sels(c))
 }
 
 // Whether the nodes are of the sorts of these selectors' fields, one for one.
-fn are_of_fields(sig: &Signature, g: &Graph, children: &[NodeId], sels: &[SelId]) -> bool
+fn are_nodes_of_fields(sig: &Signature, g: &Graph, children: &[NodeId], sels: &[SelId]) -> bool
     requires below { All (λ child. child.0 < length g.now) children.now }
     requires inside { All (IsSelector sig.now) sels.now }
-    ensures value { IsTrue result ↔ AllZip (IsOfField sig.now g.now) children.now sels.now }
+    ensures value { IsTrue result ↔ AllZip (IsNodeOfField sig.now g.now) children.now sels.now }
 {
     if children.len() != sels.len() {
         return false;

@@ -1,5 +1,5 @@
 //! Which graphs fit declarations of each kind.
-use crate::test_graphs::{Step, graph};
+use crate::test_graphs::{ShapeStep, graph};
 use crate::test_sorts::{
     A, A_B, B, CONS, E, EMPTY, FALSE, FLAGS, GROW, LEAF, LET, LIST, MY_SORT, NIL, NODE, PAIR,
     SCONS, STOP, STREAM, TRUE, U, X, declare_all,
@@ -10,27 +10,28 @@ use std::alloc::Global;
 use std::process::Abort;
 use std::test::Fail;
 
-// A right node of each constructor and an element of each free sort. Two nodes of codatatypes are their own children.
-const RIGHT: [Step; 19] = [
-    Step::Zero(A),
-    Step::Zero(B),
-    Step::Two(SCONS, 1, 2),
-    Step::Two(CONS, 0, 4),
-    Step::Zero(NIL),
-    Step::Element(MY_SORT, 5),
-    Step::Zero(LEAF),
-    Step::Two(NODE, 5, 9),
-    Step::Zero(EMPTY),
-    Step::Two(GROW, 6, 8),
-    Step::Zero(TRUE),
-    Step::Zero(FALSE),
-    Step::Two(FLAGS, 11, 10),
-    Step::Element(U, 0),
-    Step::One(LET, 13),
-    Step::One(A_B, 14),
-    Step::Zero(X),
-    Step::Two(PAIR, 17, 18),
-    Step::Zero(STOP),
+// A right node of each constructor and an element of each uninterpreted sort. Two nodes of
+// codatatypes are their own children.
+const RIGHT: [ShapeStep; 19] = [
+    ShapeStep::Zero(A),
+    ShapeStep::Zero(B),
+    ShapeStep::Two(SCONS, 1, 2),
+    ShapeStep::Two(CONS, 0, 4),
+    ShapeStep::Zero(NIL),
+    ShapeStep::Element(MY_SORT, 5),
+    ShapeStep::Zero(LEAF),
+    ShapeStep::Two(NODE, 5, 9),
+    ShapeStep::Zero(EMPTY),
+    ShapeStep::Two(GROW, 6, 8),
+    ShapeStep::Zero(TRUE),
+    ShapeStep::Zero(FALSE),
+    ShapeStep::Two(FLAGS, 11, 10),
+    ShapeStep::Element(U, 0),
+    ShapeStep::One(LET, 13),
+    ShapeStep::One(A_B, 14),
+    ShapeStep::Zero(X),
+    ShapeStep::Two(PAIR, 17, 18),
+    ShapeStep::Zero(STOP),
 ];
 
 fn check_sorts(rt: &impl Abort, sig: &Signature) {
@@ -84,17 +85,17 @@ fn fit(
     rt: &impl Abort,
     alloc: Global,
     sig: &Signature,
-    steps: &[Step],
+    steps: &[ShapeStep],
 ) -> Result<bool, ValueError> {
     let g = graph(rt, alloc, steps)?;
     Ok(fits(sig, &g))
 }
 
-fn accept(rt: &impl Abort, alloc: Global, sig: &Signature, steps: &[Step]) {
+fn accept(rt: &impl Abort, alloc: Global, sig: &Signature, steps: &[ShapeStep]) {
     assert_eq!(rt; fit(rt, alloc, sig, steps), Ok(true));
 }
 
-fn refuse(rt: &impl Abort, alloc: Global, sig: &Signature, steps: &[Step]) {
+fn refuse(rt: &impl Abort, alloc: Global, sig: &Signature, steps: &[ShapeStep]) {
     assert_eq!(rt; fit(rt, alloc, sig, steps), Ok(false), "of {steps:?}");
 }
 
@@ -103,15 +104,15 @@ fn accept_right_nodes(rt: &impl Abort, alloc: Global, sig: &Signature) {
     accept(rt, alloc, sig, &RIGHT);
 }
 
-// A constructor and a sort that are not declared, also before and behind a right node.
+// A constructor and a sort that are not declared, also before and after a right node.
 fn refuse_undeclared(rt: &impl Abort, alloc: Global, sig: &Signature) {
-    let undeclared = Step::Zero(CtorId(17));
-    let right = Step::Zero(A);
+    let undeclared = ShapeStep::Zero(CtorId(17));
+    let right = ShapeStep::Zero(A);
     for steps in [
         [undeclared].as_slice(),
         &[undeclared, right],
         &[right, undeclared],
-        &[right, Step::Element(11, 0)],
+        &[right, ShapeStep::Element(11, 0)],
     ] {
         refuse(rt, alloc, sig, steps);
     }
@@ -120,17 +121,17 @@ fn refuse_undeclared(rt: &impl Abort, alloc: Global, sig: &Signature) {
 // Elements of sorts that are not free.
 fn refuse_elements(rt: &impl Abort, alloc: Global, sig: &Signature) {
     for sort in [0, 1, 2, 3, 5, 6, 7, 9, 10] {
-        refuse(rt, alloc, sig, &[Step::Element(sort, 0)]);
+        refuse(rt, alloc, sig, &[ShapeStep::Element(sort, 0)]);
     }
 }
 
 // Too few children, and too many.
 fn refuse_counts(rt: &impl Abort, alloc: Global, sig: &Signature) {
     for steps in [
-        [Step::Zero(CONS)].as_slice(),
-        &[Step::Zero(A), Step::One(SCONS, 0)],
-        &[Step::Zero(A), Step::One(A, 0)],
-        &[Step::Zero(X), Step::Two(A_B, 0, 0)],
+        [ShapeStep::Zero(CONS)].as_slice(),
+        &[ShapeStep::Zero(A), ShapeStep::One(SCONS, 0)],
+        &[ShapeStep::Zero(A), ShapeStep::One(A, 0)],
+        &[ShapeStep::Zero(X), ShapeStep::Two(A_B, 0, 0)],
     ] {
         refuse(rt, alloc, sig, steps);
     }
@@ -139,25 +140,25 @@ fn refuse_counts(rt: &impl Abort, alloc: Global, sig: &Signature) {
 // Children of another sort: in the first field, in the second, in both, and the node itself.
 fn refuse_children(rt: &impl Abort, alloc: Global, sig: &Signature) {
     for last in [
-        Step::Two(CONS, 1, 1),
-        Step::Two(CONS, 0, 0),
-        Step::Two(CONS, 1, 0),
-        Step::Two(CONS, 2, 1),
-        Step::Two(FLAGS, 0, 0),
+        ShapeStep::Two(CONS, 1, 1),
+        ShapeStep::Two(CONS, 0, 0),
+        ShapeStep::Two(CONS, 1, 0),
+        ShapeStep::Two(CONS, 2, 1),
+        ShapeStep::Two(FLAGS, 0, 0),
     ] {
-        let steps = [Step::Zero(A), Step::Zero(NIL), last];
+        let steps = [ShapeStep::Zero(A), ShapeStep::Zero(NIL), last];
         refuse(rt, alloc, sig, &steps);
     }
 }
 
-// Elements of one free sort in the fields of another.
+// Elements of one uninterpreted sort in the fields of another.
 fn refuse_other_elements(rt: &impl Abort, alloc: Global, sig: &Signature) {
     for steps in [
-        [Step::Element(MY_SORT, 0), Step::One(LET, 0)].as_slice(),
+        [ShapeStep::Element(MY_SORT, 0), ShapeStep::One(LET, 0)].as_slice(),
         &[
-            Step::Element(U, 0),
-            Step::Zero(EMPTY),
-            Step::Two(NODE, 0, 1),
+            ShapeStep::Element(U, 0),
+            ShapeStep::Zero(EMPTY),
+            ShapeStep::Two(NODE, 0, 1),
         ],
     ] {
         refuse(rt, alloc, sig, steps);
@@ -213,7 +214,7 @@ fn check_own_sorts(rt: &impl Abort, sig: &Signature, g: &Graph) {
 // The right nodes, and one whose constructor is not declared.
 fn right_and_undeclared(rt: &impl Abort, alloc: Global) -> Result<Graph, ValueError> {
     let mut steps = Vec::from_slice(alloc, &RIGHT)?;
-    steps.push(Step::Zero(CtorId(17)))?;
+    steps.push(ShapeStep::Zero(CtorId(17)))?;
     graph(rt, alloc, &steps)
 }
 

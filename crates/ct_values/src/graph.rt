@@ -23,9 +23,9 @@ impl Model for Graph {
 
     ghost Value = { Nodes };
 
-    ghost view = { λ kept. kept.nodes.items };
+    ghost view = { λ stored. stored.nodes.items };
 
-    ghost invariant = { λ kept. IsClosed kept.nodes.items };
+    ghost invariant = { λ stored. IsClosed stored.nodes.items };
 }
 
 impl Graph {
@@ -62,27 +62,27 @@ impl Graph {
     pub(crate) fn push_keyed(
         &mut self,
         node: Node,
-        firsts: &mut IndexMap<Key, usize>,
+        representatives: &mut IndexMap<Key, usize>,
         key: Key,
     ) -> Result<NodeId, ValueError>
         requires below { HasChildrenBelow (length self.old) node }
-        requires absent { get same_key firsts.old key ≡ None }
+        requires absent { get same_key representatives.old key ≡ None }
         ensures ok { IfOk result (λ n. (n.0 ≡ length self.old) × (self.new ≡ self.old ++ node ∷ [])) }
-        ensures found { OnOk result (get same_key firsts.new key ≡ Some (length self.old)) }
+        ensures found { OnOk result (get same_key representatives.new key ≡ Some (length self.old)) }
         ensures stay { OnOk result ((k : Key) (n : ℕ)
-            → get same_key firsts.old k ≡ Some n
-            → get same_key firsts.new k ≡ Some n) }
+            → get same_key representatives.old k ≡ Some n
+            → get same_key representatives.new k ≡ Some n) }
         ensures only { OnOk result ((k : Key) (n : ℕ)
-            → get same_key firsts.new k ≡ Some n
-            → (get same_key firsts.old k ≡ Some n) ⊎ ((k ≡ key) × (n ≡ length self.old))) }
+            → get same_key representatives.new k ≡ Some n
+            → (get same_key representatives.old k ≡ Some n) ⊎ ((k ≡ key) × (n ≡ length self.old))) }
         ensures err { OnErr result (self.new ≡ self.old) }
-        ensures kept { OnErr result ((k : Key) → get same_key firsts.new k ≡ get same_key firsts.old k) }
+        ensures stored { OnErr result ((k : Key) → get same_key representatives.new k ≡ get same_key representatives.old k) }
     {
-        let place = self.nodes.len();
+        let index = self.nodes.len();
         self.nodes.reserve(1)?;
-        firsts.insert(key, place)?;
+        representatives.insert(key, index)?;
         self.nodes.push(node).unwrap();
-        Ok(NodeId(place as u64))
+        Ok(NodeId(index as u64))
     }
 
     /// The number of nodes.

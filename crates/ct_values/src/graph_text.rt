@@ -5,7 +5,7 @@ ghost use Rattle.ct_sexpr.specs.Written.{written};
 ghost use Rattle.ct_values.specs.declared.node.Node as spec_node;
 ghost use Rattle.ct_values.specs.Value.{reference, node_value, values_of};
 ghost use Rattle.ct_values.specs.Fitting.{FitsGraph};
-ghost use Rattle.ct_values.specs.Rows.{gap};
+ghost use Rattle.ct_values.specs.Separation.{gap};
 ghost use Rattle.ct_values.specs.ValueText as spec;
 
 use crate::error::ValueError;
@@ -33,7 +33,7 @@ pub(crate) fn graph_text(
     Ok(out)
 }
 
-// Writes a node behind its name, as `(@3 node)`, and a blank before it where it is not the first.
+// Writes a node after its name, as `(@3 node)`, and a space before it where it is not the first.
 fn write_row(
     alloc: Global,
     sig: &Signature,
@@ -54,7 +54,7 @@ fn write_row(
     Ok(out.push(b')')?)
 }
 
-// Writes a blank before each row but the first.
+// Writes a space before each row but the first.
 fn write_gap(n: NodeId, out: &mut Vec<u8>) -> Result<(), ValueError>
     ensures ok { OnOk result (out.new.items ≡ out.old.items ++ gap n.0) }
 {

@@ -2,9 +2,9 @@ ghost use Rattle.std.specs.Prelude.{◌≡◌, ◌<◌, length, Some, IfOk, All,
 ghost use Rattle.ct_values.specs.Partition.{class_at, key_of};
 
 use crate::error::ValueError;
+use crate::indices::Indices;
 use crate::node::{Head, NodeId};
 use crate::packed::PackedGraph;
-use crate::places::Places;
 use std::alloc::Global;
 
 /// What a round of refinement compares of a node: its head, its class, and the classes of its children.
@@ -12,7 +12,7 @@ use std::alloc::Global;
 pub(crate) struct Key {
     pub(crate) head: Head,
     pub(crate) class: usize,
-    pub(crate) children: Places,
+    pub(crate) children: Indices,
 }
 
 /// The key of a node.
@@ -29,7 +29,7 @@ pub(crate) fn node_key(
     Ok(Key {
         head: graph.head(n),
         class: classes[n.0 as usize],
-        children: Places::new(classes_of(alloc, classes, graph.children(n))?),
+        children: Indices::new(classes_of(alloc, classes, graph.children(n))?),
     })
 }
 

@@ -1,4 +1,5 @@
-//! Graphs of nodes, the values that their nodes stand for, when two values are the same, and how a value is written.
+//! Graphs of nodes, the values that their nodes stand for, when two values are equal, and how a
+//! value is written.
 #![tactic(auto)]
 
 mod equality;
@@ -7,21 +8,21 @@ mod finite;
 mod fitting;
 mod graph;
 mod graph_text;
+mod indices;
 mod key;
-mod laws;
+mod minimal;
 mod named;
 mod node;
 mod node_ids;
 mod packed;
-mod places;
 mod postorder;
 mod reach;
 mod refine;
 mod rounds;
 mod shape;
 mod shared;
-mod smallest;
 mod text;
+mod theorems;
 mod tree_text;
 mod value;
 mod writing;
@@ -30,11 +31,11 @@ pub use equality::same;
 pub use error::ValueError;
 pub use fitting::{fits, has_sort, sort_of};
 pub use graph::{Graph, are_closed};
-pub use laws::{agreement, first_nodes, smallest_graph, value_texts};
+pub use minimal::minimise;
 pub use node::{Head, Node, NodeId};
 pub use node_ids::NodeIds;
 pub use shared::SharedGraph;
-pub use smallest::minimise;
+pub use theorems::{agreement, minimal_graph, representative_nodes, value_texts};
 pub use value::Value;
 pub use writing::value_text;
 

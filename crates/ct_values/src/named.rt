@@ -1,23 +1,26 @@
-//! Classes named for their first nodes.
+//! Classes named for their representatives.
 ghost use Rattle.std.specs.Prelude.{◌≡◌, suc, ◌≤◌, replicate, IfOk, All};
 ghost use Rattle.ct_values.specs.Partition.{AreNamed};
 
 use crate::error::ValueError;
 use std::alloc::Global;
 
-/// The same partition, in which each class has the number of its first node.
-pub(crate) fn named_for_first(alloc: Global, classes: &[usize]) -> Result<Vec<usize>, ValueError>
+/// The same partition, in which each class has the number of its representative.
+pub(crate) fn named_for_representative(
+    alloc: Global,
+    classes: &[usize],
+) -> Result<Vec<usize>, ValueError>
     ensures named { IfOk result (λ names. AreNamed classes.now names.items) }
 {
     let none = classes.len();
-    let mut firsts = filled(alloc, none, greatest(classes))?;
+    let mut representatives = filled(alloc, none, greatest(classes))?;
     let mut names = Vec::with_capacity(alloc, classes.len())?;
-    for place in 0..classes.len() {
-        let class = classes[place];
-        if firsts[class] == none {
-            firsts[class] = place;
+    for index in 0..classes.len() {
+        let class = classes[index];
+        if representatives[class] == none {
+            representatives[class] = index;
         }
-        names.push(firsts[class])?;
+        names.push(representatives[class])?;
     }
     Ok(names)
 }
@@ -33,7 +36,7 @@ fn greatest(numbers: &[usize]) -> usize
     greatest
 }
 
-// The number at each place up to the last.
+// The number at each index up to the last.
 fn filled(alloc: Global, number: usize, last: usize) -> Result<Vec<usize>, ValueError>
     ensures value { IfOk result (λ list. list.items ≡ replicate (suc last) number) }
 {

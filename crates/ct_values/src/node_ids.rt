@@ -19,7 +19,7 @@ impl Model for NodeIds {
 
     ghost Value = { List NodeId };
 
-    ghost view = { λ kept. kept.ids.items };
+    ghost view = { λ stored. stored.ids.items };
 }
 
 impl NodeIds {

@@ -1,6 +1,6 @@
-//! Graphs of many nodes, side by side in three lists: the heads of the nodes, the children of all of them, those of one
-//! node behind those of the node before it, and where the children of each node end. So a node takes no block of memory
-//! of its own.
+//! Graphs of many nodes, side by side in three lists: the heads of the nodes, the children of all
+//! of them, those of one node after those of the node before it, and where the children of each
+//! node end. So a node takes no block of memory of its own.
 ghost use Rattle.std.specs.Prelude.{◌≡◌, ◌-◌, ◌<◌, ◌≤◌, [], ◌∷◌, ◌++◌, length, take, drop, slice_get, option_map, Some, All, OnOk, OnErr, IfOk};
 ghost use Rattle.ct_values.specs.Graph.{IsClosed, node_head, node_children};
 ghost use Rattle.ct_values.specs.Packed.{node_of};
@@ -27,9 +27,9 @@ impl Model for PackedNodes {
 
     ghost Value = { Nodes };
 
-    ghost view = { λ kept. unpacked 0 kept.heads.items kept.ends.items kept.children.items };
+    ghost view = { λ stored. unpacked 0 stored.heads.items stored.ends.items stored.children.items };
 
-    ghost invariant = { λ kept. ArePacked 0 kept.heads.items kept.ends.items (length kept.children.items) };
+    ghost invariant = { λ stored. ArePacked 0 stored.heads.items stored.ends.items (length stored.children.items) };
 }
 
 impl PackedNodes {
@@ -93,7 +93,7 @@ fn start(ends: &[usize], n: usize) -> usize
     if n == 0 { 0 } else { ends[n - 1] }
 }
 
-// The children from the one place to the other.
+// The children from the one index to the other.
 fn part(children: &[NodeId], start: usize, end: usize) -> &[NodeId]
     requires order { start ≤ end }
     requires within { end ≤ length children.now }
@@ -113,9 +113,9 @@ impl Model for PackedGraph {
 
     ghost Value = { Nodes };
 
-    ghost view = { λ kept. kept.nodes };
+    ghost view = { λ stored. stored.nodes };
 
-    ghost invariant = { λ kept. IsClosed kept.nodes };
+    ghost invariant = { λ stored. IsClosed stored.nodes };
 }
 
 impl PackedGraph {

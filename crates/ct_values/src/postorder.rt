@@ -90,11 +90,11 @@ fn meet(
     requires long { length met.old.items ≡ length graph.now }
     ensures meeting { OnOk result (IsMeeting graph.now n met.old.items met.new.items stack.old.items stack.new.items) }
 {
-    let place = n.0 as usize;
-    if met[place] {
+    let index = n.0 as usize;
+    if met[index] {
         return Ok(());
     }
-    met[place] = true;
+    met[index] = true;
     stack.push(Visit::Turn(n))?;
     push_unmet(graph.children(n), met, stack)
 }

@@ -5,8 +5,8 @@
 //! breadth first. The time is near-linear in these nodes and their children.
 ghost use Rattle.std.specs.Prelude.{◌≡◌, ◌<◌, [], ◌∷◌, length, map, Some, slice_get, IfOk, All};
 ghost use Rattle.ct_values.specs.Agreement.{node_point, AgreeAlways};
-ghost use Rattle.ct_values.specs.Smallest.{IsBreadthFirst};
-ghost use Rattle.ct_values.specs.Numbered.{CountsUp, IsInOrder};
+ghost use Rattle.ct_values.specs.Minimal.{IsBreadthFirst};
+ghost use Rattle.ct_values.specs.Numbering.{CountsUp, IsInOrder};
 ghost use Rattle.ct_values.specs.Renumbering.{IsNumbering, Stay, StandFor, AreRenumbered, IsPart};
 
 use crate::error::ValueError;
@@ -91,28 +91,28 @@ fn number_all(
 ) -> Result<Vec<NodeId>, ValueError>
     requires within { All (λ n. n.0 < length g.now) nodes.now }
     requires numbering { IsNumbering (length g.now) ids.old }
-    ensures stay { IfOk result (λ places. Stay ids.old.keys ids.new.keys) }
-    ensures numbering { IfOk result (λ places. IsNumbering (length g.now) ids.new) }
-    ensures stand { IfOk result (λ places. StandFor ids.new.keys places.items nodes.now) }
-    ensures counts { IfOk result (λ places.
-        CountsUp (length ids.old.keys) (map (λ place. place.0) places.items) (length ids.new.keys)) }
+    ensures stay { IfOk result (λ indices. Stay ids.old.keys ids.new.keys) }
+    ensures numbering { IfOk result (λ indices. IsNumbering (length g.now) ids.new) }
+    ensures stand { IfOk result (λ indices. StandFor ids.new.keys indices.items nodes.now) }
+    ensures counts { IfOk result (λ indices.
+        CountsUp (length ids.old.keys) (map (λ index. index.0) indices.items) (length ids.new.keys)) }
 {
-    let mut places = Vec::with_capacity(alloc, nodes.len())?;
+    let mut indices = Vec::with_capacity(alloc, nodes.len())?;
     for n in nodes {
-        places.push(number(g, ids, *n)?)?;
+        indices.push(number(g, ids, *n)?)?;
     }
-    Ok(places)
+    Ok(indices)
 }
 
 // The new number of a node, which it gets here where it has none yet.
 fn number(g: &Graph, ids: &mut IndexSet<u64>, n: NodeId) -> Result<NodeId, ValueError>
     requires within { n.0 < length g.now }
     requires numbering { IsNumbering (length g.now) ids.old }
-    ensures stay { IfOk result (λ place. Stay ids.old.keys ids.new.keys) }
-    ensures numbering { IfOk result (λ place. IsNumbering (length g.now) ids.new) }
-    ensures at { IfOk result (λ place. slice_get ids.new.keys place.0 ≡ Some n.0) }
-    ensures counts { IfOk result (λ place. CountsUp (length ids.old.keys) (place.0 ∷ []) (length ids.new.keys)) }
+    ensures stay { IfOk result (λ index. Stay ids.old.keys ids.new.keys) }
+    ensures numbering { IfOk result (λ index. IsNumbering (length g.now) ids.new) }
+    ensures at { IfOk result (λ index. slice_get ids.new.keys index.0 ≡ Some n.0) }
+    ensures counts { IfOk result (λ index. CountsUp (length ids.old.keys) (index.0 ∷ []) (length ids.new.keys)) }
 {
-    let (place, _) = ids.insert_full(n.0)?;
-    Ok(NodeId(place as u64))
+    let (index, _) = ids.insert_full(n.0)?;
+    Ok(NodeId(index as u64))
 }

@@ -1,9 +1,9 @@
 //! One round of the refinement of a partition of the nodes of a graph.
 //!
-//! A partition gives each node the number of the first node of its class. A round splits each class by the
-//! heads of its nodes and the classes of their children, through one map from keys to first nodes. Nodes that
-//! are settled keep their classes, and are not looked at. The time is near-linear in the other nodes and their
-//! children, and the number of all nodes.
+//! A partition gives each node the number of the representative of its class. A round splits each
+//! class by the heads of its nodes and the classes of their children, through one map from keys to
+//! representatives. Nodes that are settled keep their classes, and are not looked at. The time is
+//! near-linear in the other nodes and their children, and the number of all nodes.
 ghost use Rattle.std.specs.Prelude.{◌≡◌, ℕ, ◌≤◌, ◌<◌, ◌⊎◌, length, Some, IfOk};
 ghost use Rattle.indexmap.specs.IndexMap.{get};
 ghost use Rattle.ct_values.specs.declared.key.Key.{Key};
@@ -30,36 +30,37 @@ pub(crate) fn refine(
     ensures refined { IfOk result (λ next. IsRefined graph.now classes.now next.items) }
     ensures steady { IfOk result (λ next. IsSteady graph.now settled.now next.items) }
 {
-    let mut firsts = IndexMap::new(alloc);
+    let mut representatives = IndexMap::new(alloc);
     let mut next = Vec::with_capacity(alloc, classes.len())?;
-    for place in 0..classes.len() {
-        if settled[place] > 0 {
-            next.push(classes[place])?;
+    for index in 0..classes.len() {
+        if settled[index] > 0 {
+            next.push(classes[index])?;
             continue;
         }
-        let key = node_key(alloc, graph, classes, NodeId(place as u64))?;
-        next.push(first_with(&mut firsts, key, place)?)?;
+        let key = node_key(alloc, graph, classes, NodeId(index as u64))?;
+        next.push(first_with(&mut representatives, key, index)?)?;
     }
     Ok(next)
 }
 
-/// The first place that has the key: the one that is kept for it, or this one, which is then kept.
+/// The first index that has the key: the one that is stored for it, or this one, which is then
+/// stored.
 pub(crate) fn first_with(
-    firsts: &mut IndexMap<Key, usize>,
+    representatives: &mut IndexMap<Key, usize>,
     key: Key,
-    place: usize,
+    index: usize,
 ) -> Result<usize, ValueError>
-    ensures found { IfOk result (λ first. get same_key firsts.new key ≡ Some first) }
+    ensures found { IfOk result (λ first. get same_key representatives.new key ≡ Some first) }
     ensures stay { IfOk result (λ first. (k : Key) (n : ℕ)
-        → get same_key firsts.old k ≡ Some n
-        → get same_key firsts.new k ≡ Some n) }
+        → get same_key representatives.old k ≡ Some n
+        → get same_key representatives.new k ≡ Some n) }
     ensures only { IfOk result (λ first. (k : Key) (n : ℕ)
-        → get same_key firsts.new k ≡ Some n
-        → (get same_key firsts.old k ≡ Some n) ⊎ ((k ≡ key) × (n ≡ place))) }
+        → get same_key representatives.new k ≡ Some n
+        → (get same_key representatives.old k ≡ Some n) ⊎ ((k ≡ key) × (n ≡ index))) }
 {
-    if let Some(first) = firsts.get(&key) {
+    if let Some(first) = representatives.get(&key) {
         return Ok(*first);
     }
-    firsts.insert(key, place)?;
-    Ok(place)
+    representatives.insert(key, index)?;
+    Ok(index)
 }

@@ -8,14 +8,14 @@ ghost use Rattle.ct_values.specs.Partition.{class_at, KeepsTogether, IsStable};
 
 use crate::error::ValueError;
 use crate::finite::finite_classes;
-use crate::named::named_for_first;
+use crate::named::named_for_representative;
 use crate::node::NodeId;
 use crate::packed::PackedGraph;
 use crate::refine::refine;
 use std::alloc::Global;
 
-/// The classes after rounds until one changes nothing or has told the two nodes apart. With one node given
-/// twice they go on until the partition is stable.
+/// The classes after rounds until one changes nothing or has separated the two nodes. With one node
+/// given twice they go on until the partition is stable.
 pub(crate) fn refined(
     alloc: Global,
     graph: &PackedGraph,
@@ -30,7 +30,7 @@ pub(crate) fn refined(
 {
     prove!(a.0 < graph.len());
     let settled = finite_classes(alloc, graph)?;
-    let mut classes = named_for_first(alloc, &settled)?;
+    let mut classes = named_for_representative(alloc, &settled)?;
     loop {
         let next = refine(alloc, graph, &settled, &classes)?;
         if next[a.0 as usize] != next[b.0 as usize] {

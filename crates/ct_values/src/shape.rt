@@ -1,8 +1,9 @@
 //! Numbers for shapes: one number for each head with a list of classes.
 //!
-//! A shape is spelled step by step: its head first, and then one class more at a time, each behind the number of what was
-//! spelled before it. So a set of steps of one size has all shapes, however many children they have, and the place of the
-//! last step in it is the number of the shape (hash-consing; Filliâtre and Conchon 2006).
+//! A shape is spelled step by step: its head first, and then one class more at a time, each after
+//! the number of what was spelled before it. So a set of steps of one size has all shapes, however
+//! many children they have, and the index of the last step in it is the number of the shape
+//! (hash-consing; Filliâtre and Conchon 2006).
 ghost use Rattle.std.specs.Prelude.{◌≡◌, ◌<◌, length, map, slice_get, Some, IfOk, All};
 ghost use Rattle.ct_values.specs.Partition.{class_at};
 ghost use Rattle.ct_values.specs.Renumbering.{Stay};
@@ -15,18 +16,18 @@ use indexmap::IndexSet;
 
 /// A step of a shape.
 #[derive(Clone, Copy, Debug, PartialEq, Eq, Hash)]
-pub(crate) enum Step {
+pub(crate) enum ShapeStep {
     /// A constructor, which begins a shape.
     Con(CtorId),
     /// An element, which begins a shape and ends it.
     Elem(SortId, u64),
-    /// Behind the step at the first place, one class more: the second number.
+    /// After the step at the first index, one class more: the second number.
     More(usize, usize),
 }
 
 /// The number of the shape of this head over the classes of these nodes.
 pub(crate) fn shape(
-    steps: &mut IndexSet<Step>,
+    steps: &mut IndexSet<ShapeStep>,
     head: Head,
     classes: &[usize],
     children: &[NodeId],
@@ -40,28 +41,28 @@ pub(crate) fn shape(
 {
     let mut last = add_step(steps, first_step(head))?;
     for child in children {
-        last = add_step(steps, Step::More(last, classes[child.0 as usize]))?;
+        last = add_step(steps, ShapeStep::More(last, classes[child.0 as usize]))?;
     }
     Ok(last)
 }
 
 // The step that begins a shape.
-fn first_step(head: Head) -> Step
+fn first_step(head: Head) -> ShapeStep
     ensures value { result ≡ first_step head }
 {
     match head {
-        Head::Con(c) => Step::Con(c),
-        Head::Elem(s, number) => Step::Elem(s, number),
+        Head::Con(c) => ShapeStep::Con(c),
+        Head::Elem(s, number) => ShapeStep::Elem(s, number),
     }
 }
 
-// The place of the step, which it gets here where it has none yet.
-fn add_step(steps: &mut IndexSet<Step>, step: Step) -> Result<usize, ValueError>
+// The index of the step, which it gets here where it has none yet.
+fn add_step(steps: &mut IndexSet<ShapeStep>, step: ShapeStep) -> Result<usize, ValueError>
     requires steps { AreSteps steps.old }
     ensures steps { IfOk result (λ n. AreSteps steps.new) }
     ensures stay { IfOk result (λ n. Stay steps.old.keys steps.new.keys) }
     ensures at { IfOk result (λ n. slice_get steps.new.keys n ≡ Some step) }
 {
-    let (place, _) = steps.insert_full(step)?;
-    Ok(place)
+    let (index, _) = steps.insert_full(step)?;
+    Ok(index)
 }

@@ -1,8 +1,9 @@
-//! A graph with the first node of each value at hand.
+//! A graph with the representative of each value at hand.
 //!
-//! Its nodes are put into classes of those that agree at every depth, once, by the passes and rounds of equality. From
-//! then on a map from heads and classes of children to first nodes tells the first node of a constructor over
-//! nodes, so that a new node costs a look-up (hash-consing; Filliâtre and Conchon 2006).
+//! Its nodes are put into classes of those that agree at every depth, once, by the passes and
+//! rounds of equality. From then on a map from heads and classes of children to representatives
+//! tells the representative of a constructor over nodes, so that a new node costs a look-up
+//! (hash-consing; Filliâtre and Conchon 2006).
 ghost use Rattle.std.specs.Prelude.{◌≡◌, ◌<◌, ◌⊎◌, [], ◌∷◌, ◌++◌, length, map, All, Some, None, OnErr, OnOk, IfOk, IfSome, IfNone};
 ghost use Rattle.indexmap.specs.IndexMap.{get};
 ghost use Rattle.ct_values.specs.declared.node.Node.TheVariants as nodes;
@@ -11,15 +12,15 @@ ghost use Rattle.ct_values.specs.Value.{node_value};
 ghost use Rattle.ct_values.specs.Agreement.{point, node_point};
 ghost use Rattle.ct_values.specs.KeyTest.{same_key};
 ghost use Rattle.ct_values.specs.Partition.{class_at, node_key};
-ghost use Rattle.ct_values.specs.Sharing.{IsFirst, AreClasses, IsShared};
+ghost use Rattle.ct_values.specs.Sharing.{IsRepresentative, AreClasses, IsShared};
 
 use crate::error::ValueError;
 use crate::graph::Graph;
+use crate::indices::Indices;
 use crate::key::{Key, classes_of};
 use crate::node::{Head, Node, NodeId};
 use crate::node_ids::NodeIds;
 use crate::packed::packed;
-use crate::places::Places;
 use crate::refine::first_with;
 use crate::rounds::refined;
 use ct_sorts::CtorId;
@@ -27,12 +28,12 @@ use indexmap::IndexMap;
 use std::alloc::Global;
 use std::marker::Model;
 
-/// A graph that may grow, in which the first node of each value is found by a look-up.
+/// A graph that may grow, in which the representative of each value is found by a look-up.
 #[derive(Debug, Drop)]
 pub struct SharedGraph {
     graph: Graph,
     classes: Vec<usize>,
-    firsts: IndexMap<Key, usize>,
+    representatives: IndexMap<Key, usize>,
 }
 
 impl Model for SharedGraph {
@@ -41,9 +42,9 @@ impl Model for SharedGraph {
 
     ghost Value = { Nodes };
 
-    ghost view = { λ kept. kept.graph };
+    ghost view = { λ stored. stored.graph };
 
-    ghost invariant = { λ kept. IsShared kept.graph kept.classes.items kept.firsts };
+    ghost invariant = { λ stored. IsShared stored.graph stored.classes.items stored.representatives };
 }
 
 impl SharedGraph {
@@ -52,11 +53,11 @@ impl SharedGraph {
         ensures value { IfOk result (λ shared. shared ≡ graph) }
     {
         let classes = stable_classes(alloc, &graph)?;
-        let firsts = keyed(alloc, &graph, &classes)?;
+        let representatives = keyed(alloc, &graph, &classes)?;
         Ok(SharedGraph {
             graph,
             classes,
-            firsts,
+            representatives,
         })
     }
 
@@ -75,33 +76,33 @@ impl SharedGraph {
         self.graph
     }
 
-    /// The first node that is the same value as this one. Takes no memory.
+    /// The representative of this node. Takes no memory.
     pub fn first(&self, n: NodeId) -> NodeId
         requires within { n.0 < length self.now }
-        ensures first { IsFirst self.now (node_point self.now n) result }
+        ensures first { IsRepresentative self.now (node_point self.now n) result }
     {
         NodeId(self.classes[n.0 as usize] as u64)
     }
 
-    /// The first node that is the value of the constructor over these nodes: one that is there, or a new one at the
-    /// end. An error changes nothing.
+    /// The representative of the constructor over these nodes: one that is there, or a new one at
+    /// the end. An error changes nothing.
     pub fn construct(&mut self, c: CtorId, children: NodeIds) -> Result<NodeId, ValueError>
         requires within { All (λ child. child.0 < length self.old) children }
-        ensures first { IfOk result (IsFirst self.new (point self.new (node_value (nodes.Con c children)))) }
+        ensures first { IfOk result (IsRepresentative self.new (point self.new (node_value (nodes.Con c children)))) }
         ensures grown { OnOk result ((self.new ≡ self.old) ⊎ (self.new ≡ self.old ++ nodes.Con c children ∷ [])) }
         ensures number { IfOk result (λ n. (self.new ≡ self.old) ⊎ (n.0 ≡ length self.old)) }
         ensures err { OnErr result (self.new ≡ self.old) }
     {
         let alloc = *self.classes.allocator();
         let key = key_over(alloc, &self.classes, Head::Con(c), children.as_slice())?;
-        if let Some(first) = first_of(&self.firsts, &key) {
+        if let Some(first) = first_of(&self.representatives, &key) {
             return Ok(first);
         }
         let node = Node::Con(c, children);
         add(
             &mut self.graph,
             &mut self.classes,
-            &mut self.firsts,
+            &mut self.representatives,
             key,
             node,
         )
@@ -109,11 +110,11 @@ impl SharedGraph {
 }
 
 // The node that the map has for the key, if it has one.
-fn first_of(firsts: &IndexMap<Key, usize>, key: &Key) -> Option<NodeId>
-    ensures found { IfSome result (λ n. get same_key firsts.now key.now ≡ Some n.0) }
-    ensures absent { IfNone result (get same_key firsts.now key.now ≡ None) }
+fn first_of(representatives: &IndexMap<Key, usize>, key: &Key) -> Option<NodeId>
+    ensures found { IfSome result (λ n. get same_key representatives.now key.now ≡ Some n.0) }
+    ensures absent { IfNone result (get same_key representatives.now key.now ≡ None) }
 {
-    match firsts.get(key) {
+    match representatives.get(key) {
         Some(first) => Some(NodeId(*first as u64)),
         None => None,
     }
@@ -123,27 +124,27 @@ fn first_of(firsts: &IndexMap<Key, usize>, key: &Key) -> Option<NodeId>
 fn add(
     graph: &mut Graph,
     classes: &mut Vec<usize>,
-    firsts: &mut IndexMap<Key, usize>,
+    representatives: &mut IndexMap<Key, usize>,
     key: Key,
     node: Node,
 ) -> Result<NodeId, ValueError>
-    requires shared { IsShared graph.old classes.old.items firsts.old }
+    requires shared { IsShared graph.old classes.old.items representatives.old }
     requires below { HasChildrenBelow (length graph.old) node }
     requires key { key ≡ node_key classes.old.items 0 node }
-    requires absent { get same_key firsts.old key ≡ None }
-    ensures shared { IsShared graph.new classes.new.items firsts.new }
-    ensures first { IfOk result (IsFirst graph.new (point graph.new (node_value node))) }
+    requires absent { get same_key representatives.old key ≡ None }
+    ensures shared { IsShared graph.new classes.new.items representatives.new }
+    ensures first { IfOk result (IsRepresentative graph.new (point graph.new (node_value node))) }
     ensures grown { OnOk result (graph.new ≡ graph.old ++ node ∷ []) }
     ensures number { IfOk result (λ n. n.0 ≡ length graph.old) }
     ensures err { OnErr result (graph.new ≡ graph.old) }
 {
     classes.reserve(1)?;
-    let n = graph.push_keyed(node, firsts, key)?;
+    let n = graph.push_keyed(node, representatives, key)?;
     classes.push(n.0 as usize).unwrap();
     Ok(n)
 }
 
-// The classes of the nodes that agree at every depth, each named for its first node.
+// The classes of the nodes that agree at every depth, each named for its representative.
 fn stable_classes(alloc: Global, graph: &Graph) -> Result<Vec<usize>, ValueError>
     ensures classes { IfOk result (λ classes. AreClasses graph.now classes.items) }
 {
@@ -168,11 +169,11 @@ fn key_over(
     Ok(Key {
         head,
         class: 0,
-        children: Places::new(classes_of(alloc, classes, children)?),
+        children: Indices::new(classes_of(alloc, classes, children)?),
     })
 }
 
-// The first node of each key.
+// The representative of each key.
 fn keyed(
     alloc: Global,
     graph: &Graph,
@@ -181,11 +182,11 @@ fn keyed(
     requires classes { AreClasses graph.now classes.now }
     ensures shared { IfOk result (IsShared graph.now classes.now) }
 {
-    let mut firsts = IndexMap::new(alloc);
-    for place in 0..classes.len() {
-        let n = NodeId(place as u64);
+    let mut representatives = IndexMap::new(alloc);
+    for index in 0..classes.len() {
+        let n = NodeId(index as u64);
         let key = key_over(alloc, classes, graph.head(n), graph.children(n))?;
-        first_with(&mut firsts, key, place)?;
+        first_with(&mut representatives, key, index)?;
     }
-    Ok(firsts)
+    Ok(representatives)
 }

@@ -6,7 +6,7 @@ use std::process::Abort;
 
 /// A node that a test makes: a constructor over nodes, or an element of a sort, by its number.
 #[derive(Clone, Copy, Debug)]
-pub(crate) enum Step {
+pub(crate) enum ShapeStep {
     Zero(CtorId),
     One(CtorId, u64),
     Two(CtorId, u64, u64),
@@ -23,17 +23,17 @@ pub(crate) fn ids(alloc: Global, numbers: &[u64]) -> Result<NodeIds, ValueError>
 }
 
 /// The node of a step.
-pub(crate) fn node(alloc: Global, step: Step) -> Result<Node, ValueError> {
+pub(crate) fn node(alloc: Global, step: ShapeStep) -> Result<Node, ValueError> {
     match step {
-        Step::Zero(c) => Ok(Node::Con(c, ids(alloc, &[])?)),
-        Step::One(c, a) => Ok(Node::Con(c, ids(alloc, &[a])?)),
-        Step::Two(c, a, b) => Ok(Node::Con(c, ids(alloc, &[a, b])?)),
-        Step::Element(s, n) => Ok(Node::Elem(SortId(s), n)),
+        ShapeStep::Zero(c) => Ok(Node::Con(c, ids(alloc, &[])?)),
+        ShapeStep::One(c, a) => Ok(Node::Con(c, ids(alloc, &[a])?)),
+        ShapeStep::Two(c, a, b) => Ok(Node::Con(c, ids(alloc, &[a, b])?)),
+        ShapeStep::Element(s, n) => Ok(Node::Elem(SortId(s), n)),
     }
 }
 
 /// The nodes of these steps.
-pub(crate) fn nodes(alloc: Global, steps: &[Step]) -> Result<Vec<Node>, ValueError> {
+pub(crate) fn nodes(alloc: Global, steps: &[ShapeStep]) -> Result<Vec<Node>, ValueError> {
     let mut nodes = Vec::new(alloc);
     for step in steps {
         nodes.push(node(alloc, *step)?)?;
@@ -42,7 +42,11 @@ pub(crate) fn nodes(alloc: Global, steps: &[Step]) -> Result<Vec<Node>, ValueErr
 }
 
 /// The graph of these steps, numbered in their order.
-pub(crate) fn graph(rt: &impl Abort, alloc: Global, steps: &[Step]) -> Result<Graph, ValueError> {
+pub(crate) fn graph(
+    rt: &impl Abort,
+    alloc: Global,
+    steps: &[ShapeStep],
+) -> Result<Graph, ValueError> {
     let nodes = nodes(alloc, steps)?;
     assert!(rt; are_closed(&nodes));
     Ok(Graph::from_nodes(nodes))

@@ -9,10 +9,10 @@ pub(crate) const STREAM: SortId = SortId(2);
 
 pub(crate) const LIST: SortId = SortId(3);
 
-/// The number of the free sort whose name has a blank.
+/// The number of the uninterpreted sort whose name has a space.
 pub(crate) const MY_SORT: u32 = 4;
 
-/// The number of the other free sort.
+/// The number of the other uninterpreted sort.
 pub(crate) const U: u32 = 8;
 
 pub(crate) const TRUE: CtorId = CtorId(0);
@@ -99,7 +99,7 @@ fn add_codata(
     Ok(())
 }
 
-// Adds a free sort.
+// Adds an uninterpreted sort.
 fn add_free(alloc: Global, sig: &mut Signature, name: &[u8]) -> Result<(), SigError> {
     let name = Name::from_slice(alloc, name)?;
     sig.add_free(name)?;
@@ -148,7 +148,7 @@ fn declare_lists(rt: &impl Abort, alloc: Global, sig: &mut Signature) {
     assert_eq!(rt; list, Ok(()));
 }
 
-// The free sort `my sort`, and the block of Tree and Forest.
+// The uninterpreted sort `my sort`, and the block of Tree and Forest.
 fn declare_trees(rt: &impl Abort, alloc: Global, sig: &mut Signature) {
     assert_eq!(rt; add_free(alloc, sig, b"my sort"), Ok(()));
     assert_eq!(rt; add_trees(alloc, sig), Ok(()));
@@ -161,7 +161,8 @@ fn declare_flags(rt: &impl Abort, alloc: Global, sig: &mut Signature) {
     assert_eq!(rt; added, Ok(()));
 }
 
-// The free sort U, and a datatype that is written between bars, as are its constructors but `x`.
+// The uninterpreted sort U, and a datatype whose name is a quoted symbol, as are those of its
+// constructors but `x`.
 fn declare_odd_names(rt: &impl Abort, alloc: Global, sig: &mut Signature) {
     assert_eq!(rt; add_free(alloc, sig, b"U"), Ok(()));
     let it: Fields = &[(b"it", b"U")];

@@ -1,9 +1,9 @@
-//! What graphs hold, which of their nodes are the same, and what their smallest graphs are.
+//! What graphs hold, which of their nodes are the same, and what their minimal graphs are.
 use crate::graph::{are_below, has_children_below, have_children_below};
-use crate::test_graphs::{Step, graph, ids, node, nodes};
+use crate::test_graphs::{ShapeStep, graph, ids, node, nodes};
 use crate::{
     Graph, Head, Node, NodeId, NodeIds, SharedGraph, ValueError, agreement, are_closed,
-    first_nodes, minimise, same, smallest_graph,
+    minimal_graph, minimise, representative_nodes, same,
 };
 use ct_sorts::{CtorId, SortId};
 use std::alloc::Global;
@@ -22,40 +22,40 @@ const CONS: CtorId = CtorId(5);
 const NIL: CtorId = CtorId(6);
 
 // Streams: `a, a, ..` in one node and in two, and `b, a, a, ..`.
-const STREAMS: [Step; 6] = [
-    Step::Two(SCONS, 1, 0),
-    Step::Zero(A),
-    Step::Two(SCONS, 1, 3),
-    Step::Two(SCONS, 1, 2),
-    Step::Zero(B),
-    Step::Two(SCONS, 4, 0),
+const STREAMS: [ShapeStep; 6] = [
+    ShapeStep::Two(SCONS, 1, 0),
+    ShapeStep::Zero(A),
+    ShapeStep::Two(SCONS, 1, 3),
+    ShapeStep::Two(SCONS, 1, 2),
+    ShapeStep::Zero(B),
+    ShapeStep::Two(SCONS, 4, 0),
 ];
 
-// Streams of `a` and `b` that repeat after one, two or three elements, some behind a prefix.
-const PERIODS: [Step; 20] = [
-    Step::Zero(A),
-    Step::Zero(B),
+// Streams of `a` and `b` that repeat after one, two or three elements, some after a prefix.
+const PERIODS: [ShapeStep; 20] = [
+    ShapeStep::Zero(A),
+    ShapeStep::Zero(B),
     // a, b, a, b, .. in two nodes, and in four.
-    Step::Two(SCONS, 0, 3),
-    Step::Two(SCONS, 1, 2),
-    Step::Two(SCONS, 0, 5),
-    Step::Two(SCONS, 1, 6),
-    Step::Two(SCONS, 0, 7),
-    Step::Two(SCONS, 1, 4),
+    ShapeStep::Two(SCONS, 0, 3),
+    ShapeStep::Two(SCONS, 1, 2),
+    ShapeStep::Two(SCONS, 0, 5),
+    ShapeStep::Two(SCONS, 1, 6),
+    ShapeStep::Two(SCONS, 0, 7),
+    ShapeStep::Two(SCONS, 1, 4),
     // a, a, b, a, a, b, .. in three nodes, and in six that begin at the second element.
-    Step::Two(SCONS, 0, 9),
-    Step::Two(SCONS, 0, 10),
-    Step::Two(SCONS, 1, 8),
-    Step::Two(SCONS, 0, 12),
-    Step::Two(SCONS, 1, 13),
-    Step::Two(SCONS, 0, 14),
-    Step::Two(SCONS, 0, 15),
-    Step::Two(SCONS, 1, 16),
-    Step::Two(SCONS, 0, 11),
+    ShapeStep::Two(SCONS, 0, 9),
+    ShapeStep::Two(SCONS, 0, 10),
+    ShapeStep::Two(SCONS, 1, 8),
+    ShapeStep::Two(SCONS, 0, 12),
+    ShapeStep::Two(SCONS, 1, 13),
+    ShapeStep::Two(SCONS, 0, 14),
+    ShapeStep::Two(SCONS, 0, 15),
+    ShapeStep::Two(SCONS, 1, 16),
+    ShapeStep::Two(SCONS, 0, 11),
     // b, a, b, a, b, .. by way of a prefix of three.
-    Step::Two(SCONS, 1, 18),
-    Step::Two(SCONS, 0, 19),
-    Step::Two(SCONS, 1, 2),
+    ShapeStep::Two(SCONS, 1, 18),
+    ShapeStep::Two(SCONS, 0, 19),
+    ShapeStep::Two(SCONS, 1, 2),
 ];
 
 fn are_same(rt: &impl Abort, alloc: Global, g: &Graph, a: u64, b: u64) -> Result<bool, ValueError> {
@@ -64,19 +64,19 @@ fn are_same(rt: &impl Abort, alloc: Global, g: &Graph, a: u64, b: u64) -> Result
     same(alloc, g, NodeId(a), NodeId(b))
 }
 
-// Whether the smallest graph of the tree at this node has these nodes.
-fn is_smallest(
+// Whether the minimal graph of the tree at this node has these nodes.
+fn is_minimal(
     rt: &impl Abort,
     alloc: Global,
     g: &Graph,
     root: u64,
-    steps: &[Step],
+    steps: &[ShapeStep],
 ) -> Result<bool, ValueError> {
     assert!(rt; root < g.len());
-    let (smallest, first) = minimise(alloc, g, NodeId(root))?;
+    let (minimal, first) = minimise(alloc, g, NodeId(root))?;
     assert_eq!(rt; first, NodeId(0));
     let want = graph(rt, alloc, steps)?;
-    Ok(have_equal_nodes(&smallest, &want))
+    Ok(have_equal_nodes(&minimal, &want))
 }
 
 fn have_equal_nodes(g: &Graph, h: &Graph) -> bool {
@@ -139,16 +139,16 @@ fn finds_streams_that_are_the_same(rt: HostRuntime) -> Result<(), Fail> {
 fn tells_elements_and_numbers_of_children_apart(rt: HostRuntime) -> Result<(), Fail> {
     let alloc = rt.alloc();
     let steps = [
-        Step::Element(7, 3),
-        Step::Element(7, 4),
-        Step::Element(8, 3),
-        Step::Element(7, 3),
-        Step::Zero(CONS),
-        Step::One(CONS, 0),
-        Step::Two(CONS, 0, 0),
-        Step::Two(CONS, 0, 3),
-        Step::Two(CONS, 0, 1),
-        Step::Two(CONS, 2, 0),
+        ShapeStep::Element(7, 3),
+        ShapeStep::Element(7, 4),
+        ShapeStep::Element(8, 3),
+        ShapeStep::Element(7, 3),
+        ShapeStep::Zero(CONS),
+        ShapeStep::One(CONS, 0),
+        ShapeStep::Two(CONS, 0, 0),
+        ShapeStep::Two(CONS, 0, 3),
+        ShapeStep::Two(CONS, 0, 1),
+        ShapeStep::Two(CONS, 2, 0),
     ];
     let g = graph(&rt, alloc, &steps)?;
     for (a, b, want) in [
@@ -189,48 +189,48 @@ fn finds_periods(rt: HostRuntime) -> Result<(), Fail> {
 }
 
 #[test]
-fn makes_streams_smallest(rt: HostRuntime) -> Result<(), Fail> {
+fn makes_streams_minimal(rt: HostRuntime) -> Result<(), Fail> {
     let alloc = rt.alloc();
     let g = graph(&rt, alloc, &STREAMS)?;
-    let a_only = [Step::Two(SCONS, 1, 0), Step::Zero(A)];
+    let a_only = [ShapeStep::Two(SCONS, 1, 0), ShapeStep::Zero(A)];
     for root in [0, 2, 3] {
-        assert!(rt; is_smallest(&rt, alloc, &g, root, &a_only)?, "of {root}");
+        assert!(rt; is_minimal(&rt, alloc, &g, root, &a_only)?, "of {root}");
     }
     let b_first = [
-        Step::Two(SCONS, 1, 2),
-        Step::Zero(B),
-        Step::Two(SCONS, 3, 2),
-        Step::Zero(A),
+        ShapeStep::Two(SCONS, 1, 2),
+        ShapeStep::Zero(B),
+        ShapeStep::Two(SCONS, 3, 2),
+        ShapeStep::Zero(A),
     ];
-    assert!(rt; is_smallest(&rt, alloc, &g, 5, &b_first)?);
-    assert!(rt; is_smallest(&rt, alloc, &g, 4, &[Step::Zero(B)])?);
+    assert!(rt; is_minimal(&rt, alloc, &g, 5, &b_first)?);
+    assert!(rt; is_minimal(&rt, alloc, &g, 4, &[ShapeStep::Zero(B)])?);
     Ok(())
 }
 
 // A stream of period three in three nodes and in six, and the one that begins at its second element.
 #[test]
-fn makes_periods_smallest(rt: HostRuntime) -> Result<(), Fail> {
+fn makes_periods_minimal(rt: HostRuntime) -> Result<(), Fail> {
     let alloc = rt.alloc();
     let g = graph(&rt, alloc, &PERIODS)?;
     let at_first = [
-        Step::Two(SCONS, 1, 2),
-        Step::Zero(A),
-        Step::Two(SCONS, 1, 3),
-        Step::Two(SCONS, 4, 0),
-        Step::Zero(B),
+        ShapeStep::Two(SCONS, 1, 2),
+        ShapeStep::Zero(A),
+        ShapeStep::Two(SCONS, 1, 3),
+        ShapeStep::Two(SCONS, 4, 0),
+        ShapeStep::Zero(B),
     ];
     let at_second = [
-        Step::Two(SCONS, 1, 2),
-        Step::Zero(A),
-        Step::Two(SCONS, 3, 4),
-        Step::Zero(B),
-        Step::Two(SCONS, 1, 0),
+        ShapeStep::Two(SCONS, 1, 2),
+        ShapeStep::Zero(A),
+        ShapeStep::Two(SCONS, 3, 4),
+        ShapeStep::Zero(B),
+        ShapeStep::Two(SCONS, 1, 0),
     ];
     for root in [8, 13, 16] {
-        assert!(rt; is_smallest(&rt, alloc, &g, root, &at_first)?, "of {root}");
+        assert!(rt; is_minimal(&rt, alloc, &g, root, &at_first)?, "of {root}");
     }
     for root in [9, 11, 14] {
-        assert!(rt; is_smallest(&rt, alloc, &g, root, &at_second)?, "of {root}");
+        assert!(rt; is_minimal(&rt, alloc, &g, root, &at_second)?, "of {root}");
     }
     Ok(())
 }
@@ -240,24 +240,24 @@ fn makes_periods_smallest(rt: HostRuntime) -> Result<(), Fail> {
 fn numbers_trees_breadth_first(rt: HostRuntime) -> Result<(), Fail> {
     let alloc = rt.alloc();
     let steps = [
-        Step::Element(7, 3),
-        Step::Element(7, 3),
-        Step::One(CONS, 0),
-        Step::One(CONS, 1),
-        Step::Zero(NIL),
-        Step::Two(CONS, 2, 4),
-        Step::Two(CONS, 5, 3),
+        ShapeStep::Element(7, 3),
+        ShapeStep::Element(7, 3),
+        ShapeStep::One(CONS, 0),
+        ShapeStep::One(CONS, 1),
+        ShapeStep::Zero(NIL),
+        ShapeStep::Two(CONS, 2, 4),
+        ShapeStep::Two(CONS, 5, 3),
     ];
     let g = graph(&rt, alloc, &steps)?;
-    let smallest = [
-        Step::Two(CONS, 1, 2),
-        Step::Two(CONS, 2, 3),
-        Step::One(CONS, 4),
-        Step::Zero(NIL),
-        Step::Element(7, 3),
+    let minimal = [
+        ShapeStep::Two(CONS, 1, 2),
+        ShapeStep::Two(CONS, 2, 3),
+        ShapeStep::One(CONS, 4),
+        ShapeStep::Zero(NIL),
+        ShapeStep::Element(7, 3),
     ];
-    assert!(rt; is_smallest(&rt, alloc, &g, 6, &smallest)?);
-    smallest_graph();
+    assert!(rt; is_minimal(&rt, alloc, &g, 6, &minimal)?);
+    minimal_graph();
     Ok(())
 }
 
@@ -267,11 +267,11 @@ fn looks_to_the_end_of_long_lists(rt: HostRuntime) -> Result<(), Fail> {
     let alloc = rt.alloc();
     let mut steps = Vec::new(alloc);
     for end in [NIL, NIL, A] {
-        steps.push(Step::Zero(end))?;
+        steps.push(ShapeStep::Zero(end))?;
         for _ in 0..500 {
             let below = steps.len() as u64;
             assert!(rt; below > 0);
-            steps.push(Step::One(CONS, below - 1))?;
+            steps.push(ShapeStep::One(CONS, below - 1))?;
         }
     }
     let g = graph(&rt, alloc, &steps)?;
@@ -292,12 +292,12 @@ fn looks_to_the_end_of_long_lists(rt: HostRuntime) -> Result<(), Fail> {
 fn tells_whether_children_are_there(rt: HostRuntime) -> Result<(), Fail> {
     let alloc = rt.alloc();
     for (steps, want) in [
-        ([Step::Element(7, 3)].as_slice(), true),
+        ([ShapeStep::Element(7, 3)].as_slice(), true),
         (&[], true),
-        (&[Step::One(CONS, 0)], true),
-        (&[Step::Two(CONS, 1, 0), Step::Zero(NIL)], true),
-        (&[Step::One(CONS, 1)], false),
-        (&[Step::Zero(NIL), Step::Two(CONS, 0, 2)], false),
+        (&[ShapeStep::One(CONS, 0)], true),
+        (&[ShapeStep::Two(CONS, 1, 0), ShapeStep::Zero(NIL)], true),
+        (&[ShapeStep::One(CONS, 1)], false),
+        (&[ShapeStep::Zero(NIL), ShapeStep::Two(CONS, 0, 2)], false),
     ] {
         let nodes = nodes(alloc, steps)?;
         assert_eq!(rt; are_closed(&nodes), want, "of {steps:?}");
@@ -308,16 +308,19 @@ fn tells_whether_children_are_there(rt: HostRuntime) -> Result<(), Fail> {
 #[test]
 fn keeps_nodes_in_order(rt: HostRuntime) -> Result<(), Fail> {
     let alloc = rt.alloc();
-    let mut g = graph(&rt, alloc, &[Step::Zero(NIL)])?;
+    let mut g = graph(&rt, alloc, &[ShapeStep::Zero(NIL)])?;
     assert_eq!(rt;
-        push(&rt, &mut g, node(alloc, Step::Element(7, 3))?)?,
+        push(&rt, &mut g, node(alloc, ShapeStep::Element(7, 3))?)?,
         NodeId(1)
     );
     assert_eq!(rt;
-        push(&rt, &mut g, node(alloc, Step::Two(CONS, 1, 0))?)?,
+        push(&rt, &mut g, node(alloc, ShapeStep::Two(CONS, 1, 0))?)?,
         NodeId(2)
     );
-    let more = nodes(alloc, &[Step::Two(SCONS, 1, 4), Step::Two(SCONS, 1, 3)])?;
+    let more = nodes(
+        alloc,
+        &[ShapeStep::Two(SCONS, 1, 4), ShapeStep::Two(SCONS, 1, 3)],
+    )?;
     append(&rt, &mut g, more)?;
     assert_eq!(rt; g.len(), 5);
     let copy = g.copy()?;
@@ -351,7 +354,7 @@ fn construct(
     shared.construct(SCONS, children)
 }
 
-// The first nodes of the streams. The last two children are of a stream that is not there.
+// The representatives of the streams. The last two children are of a stream that is not there.
 #[test]
 fn shares_nodes_that_are_the_same(rt: HostRuntime) -> Result<(), Fail> {
     let alloc = rt.alloc();
@@ -365,7 +368,7 @@ fn shares_nodes_that_are_the_same(rt: HostRuntime) -> Result<(), Fail> {
     }
     assert_eq!(rt; shared.graph().len(), 7);
     assert_eq!(rt; shared.into_graph().len(), 7);
-    first_nodes();
+    representative_nodes();
     Ok(())
 }
 

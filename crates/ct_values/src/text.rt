@@ -1,4 +1,4 @@
-//! What texts of values are made of, each written behind what is there: names, numbers, and heads.
+//! What texts of values are made of, each written after what is there: names, numbers, and heads.
 ghost use Rattle.std.specs.Prelude.{◌≡◌, ◌++◌, OnOk, IfOk};
 ghost use Rattle.ct_sorts.specs.Declarations.{IsSort, IsConstructor};
 ghost use Rattle.ct_sexpr.specs.Written.{written, written_name};
@@ -7,15 +7,15 @@ ghost use Rattle.ct_values.specs.ValueText as spec;
 
 use crate::error::ValueError;
 use crate::node::NodeId;
-use ct_sexpr::is_plain;
+use ct_sexpr::is_simple;
 use ct_sorts::{CtorId, Signature, SortId};
 use std::alloc::Global;
 
-// Writes the name, between bars where it needs them.
+// Writes the name, quoted where it needs to be.
 fn write_name(name: &[u8], out: &mut Vec<u8>) -> Result<(), ValueError>
     ensures ok { OnOk result (out.new.items ≡ out.old.items ++ written_name name.now) }
 {
-    if is_plain(name) {
+    if is_simple(name) {
         return Ok(out.extend_from_slice(name)?);
     }
     out.push(b'|')?;

@@ -1,6 +1,6 @@
-//! The texts of values. Somebody who had not written the code worked them out by hand, but for those of
-//! `elements_and_names_with_bars_stand_in_graphs`, which came later.
-use crate::test_graphs::{Step, graph};
+//! The texts of values. They are worked out by hand, but for those of
+//! `elements_and_names_with_quotes_stand_in_graphs`, which came later.
+use crate::test_graphs::{ShapeStep, graph};
 use crate::test_sorts::{
     A, A_B, B, CONS, EMPTY, FALSE, FLAGS, GROW, LEAF, LET, MY_SORT, NIL, NODE, PAIR, SCONS, STOP,
     TRUE, U, X, declare_all,
@@ -16,7 +16,7 @@ fn text_of(
     rt: &impl Abort,
     alloc: Global,
     sig: &Signature,
-    steps: &[Step],
+    steps: &[ShapeStep],
     root: u64,
 ) -> Result<Vec<u8>, ValueError> {
     let g = graph(rt, alloc, steps)?;
@@ -29,7 +29,7 @@ fn expect_text(
     rt: &impl Abort,
     alloc: Global,
     sig: &Signature,
-    steps: &[Step],
+    steps: &[ShapeStep],
     root: u64,
     want: &[u8],
 ) {
@@ -41,128 +41,144 @@ fn expect_text(
 
 #[test]
 fn finite_values_are_constructor_terms(rt: HostRuntime) -> Result<(), Fail> {
-    let cases: [(&[Step], u64, &str); 22] = [
-        (&[Step::Zero(A)], 0, "a"),
-        (&[Step::Zero(TRUE)], 0, "true"),
-        (&[Step::Zero(TRUE), Step::Zero(FALSE)], 1, "false"),
-        (&[Step::Zero(NIL)], 0, "nil"),
+    let cases: [(&[ShapeStep], u64, &str); 22] = [
+        (&[ShapeStep::Zero(A)], 0, "a"),
+        (&[ShapeStep::Zero(TRUE)], 0, "true"),
+        (&[ShapeStep::Zero(TRUE), ShapeStep::Zero(FALSE)], 1, "false"),
+        (&[ShapeStep::Zero(NIL)], 0, "nil"),
         (
-            &[Step::Two(CONS, 1, 2), Step::Zero(A), Step::Zero(NIL)],
+            &[
+                ShapeStep::Two(CONS, 1, 2),
+                ShapeStep::Zero(A),
+                ShapeStep::Zero(NIL),
+            ],
             0,
             "(cons a nil)",
         ),
         (
             &[
-                Step::Zero(NIL),
-                Step::Zero(A),
-                Step::Zero(B),
-                Step::Two(CONS, 1, 0),
-                Step::Two(CONS, 2, 3),
+                ShapeStep::Zero(NIL),
+                ShapeStep::Zero(A),
+                ShapeStep::Zero(B),
+                ShapeStep::Two(CONS, 1, 0),
+                ShapeStep::Two(CONS, 2, 3),
             ],
             4,
             "(cons b (cons a nil))",
         ),
         (
             &[
-                Step::Zero(A),
-                Step::Zero(NIL),
-                Step::Two(CONS, 0, 1),
-                Step::Two(CONS, 0, 2),
-                Step::Two(CONS, 0, 3),
+                ShapeStep::Zero(A),
+                ShapeStep::Zero(NIL),
+                ShapeStep::Two(CONS, 0, 1),
+                ShapeStep::Two(CONS, 0, 2),
+                ShapeStep::Two(CONS, 0, 3),
             ],
             4,
             "(cons a (cons a (cons a nil)))",
         ),
         (
             &[
-                Step::Two(CONS, 1, 2),
-                Step::Zero(A),
-                Step::Two(CONS, 3, 4),
-                Step::Zero(A),
-                Step::Zero(NIL),
-                Step::Zero(NIL),
+                ShapeStep::Two(CONS, 1, 2),
+                ShapeStep::Zero(A),
+                ShapeStep::Two(CONS, 3, 4),
+                ShapeStep::Zero(A),
+                ShapeStep::Zero(NIL),
+                ShapeStep::Zero(NIL),
             ],
             0,
             "(cons a (cons a nil))",
         ),
-        (&[Step::Element(U, 0)], 0, "(as @U_0 U)"),
+        (&[ShapeStep::Element(U, 0)], 0, "(as @U_0 U)"),
         (
-            &[Step::Element(U, 18446744073709551615)],
+            &[ShapeStep::Element(U, 18446744073709551615)],
             0,
             "(as @U_18446744073709551615 U)",
         ),
         (
-            &[Step::Element(MY_SORT, 3)],
+            &[ShapeStep::Element(MY_SORT, 3)],
             0,
             "(as |@my sort_3| |my sort|)",
         ),
         (
             &[
-                Step::Element(U, 3),
-                Step::Element(MY_SORT, 18446744073709551615),
+                ShapeStep::Element(U, 3),
+                ShapeStep::Element(MY_SORT, 18446744073709551615),
             ],
             1,
             "(as |@my sort_18446744073709551615| |my sort|)",
         ),
-        (&[Step::Zero(LEAF)], 0, "leaf"),
+        (&[ShapeStep::Zero(LEAF)], 0, "leaf"),
         (
             &[
-                Step::Two(NODE, 1, 2),
-                Step::Element(MY_SORT, 7),
-                Step::Zero(EMPTY),
+                ShapeStep::Two(NODE, 1, 2),
+                ShapeStep::Element(MY_SORT, 7),
+                ShapeStep::Zero(EMPTY),
             ],
             0,
             "(node (as |@my sort_7| |my sort|) empty)",
         ),
         (
             &[
-                Step::Zero(EMPTY),
-                Step::Zero(LEAF),
-                Step::Two(GROW, 1, 0),
-                Step::Two(GROW, 1, 2),
+                ShapeStep::Zero(EMPTY),
+                ShapeStep::Zero(LEAF),
+                ShapeStep::Two(GROW, 1, 0),
+                ShapeStep::Two(GROW, 1, 2),
             ],
             3,
             "(grow leaf (grow leaf empty))",
         ),
         (
             &[
-                Step::Zero(EMPTY),
-                Step::Element(MY_SORT, 0),
-                Step::Two(NODE, 1, 0),
-                Step::Two(GROW, 2, 0),
-                Step::Element(MY_SORT, 12),
-                Step::Two(NODE, 4, 3),
-                Step::Two(GROW, 5, 3),
+                ShapeStep::Zero(EMPTY),
+                ShapeStep::Element(MY_SORT, 0),
+                ShapeStep::Two(NODE, 1, 0),
+                ShapeStep::Two(GROW, 2, 0),
+                ShapeStep::Element(MY_SORT, 12),
+                ShapeStep::Two(NODE, 4, 3),
+                ShapeStep::Two(GROW, 5, 3),
             ],
             6,
             "(grow (node (as |@my sort_12| |my sort|) (grow (node (as |@my sort_0| |my sort|) empty) empty)) (grow (node (as |@my sort_0| |my sort|) empty) empty))",
         ),
         (
-            &[Step::Zero(TRUE), Step::Zero(FALSE), Step::Two(FLAGS, 0, 1)],
+            &[
+                ShapeStep::Zero(TRUE),
+                ShapeStep::Zero(FALSE),
+                ShapeStep::Two(FLAGS, 0, 1),
+            ],
             2,
             "(flags true false)",
         ),
         (
-            &[Step::Two(FLAGS, 2, 1), Step::Zero(TRUE), Step::Zero(TRUE)],
+            &[
+                ShapeStep::Two(FLAGS, 2, 1),
+                ShapeStep::Zero(TRUE),
+                ShapeStep::Zero(TRUE),
+            ],
             0,
             "(flags true true)",
         ),
-        (&[Step::Zero(X)], 0, "x"),
+        (&[ShapeStep::Zero(X)], 0, "x"),
         (
-            &[Step::One(LET, 1), Step::Element(U, 5)],
+            &[ShapeStep::One(LET, 1), ShapeStep::Element(U, 5)],
             0,
             "(|let| (as @U_5 U))",
         ),
         (
-            &[Step::One(A_B, 1), Step::One(A_B, 2), Step::Zero(X)],
+            &[
+                ShapeStep::One(A_B, 1),
+                ShapeStep::One(A_B, 2),
+                ShapeStep::Zero(X),
+            ],
             0,
             "(|a b| (|a b| x))",
         ),
         (
             &[
-                Step::Element(U, 18446744073709551615),
-                Step::One(LET, 0),
-                Step::One(A_B, 1),
+                ShapeStep::Element(U, 18446744073709551615),
+                ShapeStep::One(LET, 0),
+                ShapeStep::One(A_B, 1),
             ],
             2,
             "(|a b| (|let| (as @U_18446744073709551615 U)))",
@@ -178,19 +194,19 @@ fn finite_values_are_constructor_terms(rt: HostRuntime) -> Result<(), Fail> {
 
 #[test]
 fn codata_without_a_cycle_is_written_plain(rt: HostRuntime) -> Result<(), Fail> {
-    let cases: [(&[Step], u64, &str); 3] = [
-        (&[Step::Zero(STOP)], 0, "stop"),
+    let cases: [(&[ShapeStep], u64, &str); 3] = [
+        (&[ShapeStep::Zero(STOP)], 0, "stop"),
         (
-            &[Step::Zero(STOP), Step::Two(PAIR, 0, 0)],
+            &[ShapeStep::Zero(STOP), ShapeStep::Two(PAIR, 0, 0)],
             1,
             "(pair stop stop)",
         ),
         (
             &[
-                Step::Two(PAIR, 1, 2),
-                Step::Two(PAIR, 2, 3),
-                Step::Zero(STOP),
-                Step::Zero(STOP),
+                ShapeStep::Two(PAIR, 1, 2),
+                ShapeStep::Two(PAIR, 2, 3),
+                ShapeStep::Zero(STOP),
+                ShapeStep::Zero(STOP),
             ],
             0,
             "(pair (pair stop stop) stop)",
@@ -205,102 +221,102 @@ fn codata_without_a_cycle_is_written_plain(rt: HostRuntime) -> Result<(), Fail> 
 }
 
 #[test]
-fn cycles_are_written_as_their_smallest_graph(rt: HostRuntime) -> Result<(), Fail> {
-    let cases: [(&[Step], u64, &str); 9] = [
+fn cycles_are_written_as_their_minimal_graph(rt: HostRuntime) -> Result<(), Fail> {
+    let cases: [(&[ShapeStep], u64, &str); 9] = [
         (
-            &[Step::Two(SCONS, 1, 0), Step::Zero(A)],
+            &[ShapeStep::Two(SCONS, 1, 0), ShapeStep::Zero(A)],
             0,
             "(@graph ((@0 (scons @1 @0)) (@1 a)) @0)",
         ),
         (
             &[
-                Step::Two(SCONS, 1, 2),
-                Step::Zero(A),
-                Step::Two(SCONS, 3, 4),
-                Step::Zero(A),
-                Step::Two(SCONS, 1, 0),
+                ShapeStep::Two(SCONS, 1, 2),
+                ShapeStep::Zero(A),
+                ShapeStep::Two(SCONS, 3, 4),
+                ShapeStep::Zero(A),
+                ShapeStep::Two(SCONS, 1, 0),
             ],
             2,
             "(@graph ((@0 (scons @1 @0)) (@1 a)) @0)",
         ),
         (
             &[
-                Step::Two(SCONS, 1, 2),
-                Step::Zero(A),
-                Step::Two(SCONS, 3, 0),
-                Step::Zero(B),
+                ShapeStep::Two(SCONS, 1, 2),
+                ShapeStep::Zero(A),
+                ShapeStep::Two(SCONS, 3, 0),
+                ShapeStep::Zero(B),
             ],
             0,
             "(@graph ((@0 (scons @1 @2)) (@1 a) (@2 (scons @3 @0)) (@3 b)) @0)",
         ),
         (
             &[
-                Step::Zero(A),
-                Step::Zero(B),
-                Step::Two(SCONS, 0, 3),
-                Step::Two(SCONS, 1, 4),
-                Step::Two(SCONS, 0, 5),
-                Step::Two(SCONS, 1, 2),
+                ShapeStep::Zero(A),
+                ShapeStep::Zero(B),
+                ShapeStep::Two(SCONS, 0, 3),
+                ShapeStep::Two(SCONS, 1, 4),
+                ShapeStep::Two(SCONS, 0, 5),
+                ShapeStep::Two(SCONS, 1, 2),
             ],
             4,
             "(@graph ((@0 (scons @1 @2)) (@1 a) (@2 (scons @3 @0)) (@3 b)) @0)",
         ),
         (
             &[
-                Step::Zero(A),
-                Step::Zero(B),
-                Step::Two(SCONS, 0, 3),
-                Step::Two(SCONS, 1, 4),
-                Step::Two(SCONS, 0, 5),
-                Step::Two(SCONS, 1, 2),
+                ShapeStep::Zero(A),
+                ShapeStep::Zero(B),
+                ShapeStep::Two(SCONS, 0, 3),
+                ShapeStep::Two(SCONS, 1, 4),
+                ShapeStep::Two(SCONS, 0, 5),
+                ShapeStep::Two(SCONS, 1, 2),
             ],
             3,
             "(@graph ((@0 (scons @1 @2)) (@1 b) (@2 (scons @3 @0)) (@3 a)) @0)",
         ),
         (
             &[
-                Step::Zero(A),
-                Step::Zero(B),
-                Step::Two(SCONS, 0, 3),
-                Step::Two(SCONS, 0, 4),
-                Step::Two(SCONS, 1, 2),
+                ShapeStep::Zero(A),
+                ShapeStep::Zero(B),
+                ShapeStep::Two(SCONS, 0, 3),
+                ShapeStep::Two(SCONS, 0, 4),
+                ShapeStep::Two(SCONS, 1, 2),
             ],
             2,
             "(@graph ((@0 (scons @1 @2)) (@1 a) (@2 (scons @1 @3)) (@3 (scons @4 @0)) (@4 b)) @0)",
         ),
         (
             &[
-                Step::Zero(A),
-                Step::Zero(B),
-                Step::Two(SCONS, 0, 3),
-                Step::Two(SCONS, 0, 4),
-                Step::Two(SCONS, 1, 5),
-                Step::Two(SCONS, 8, 6),
-                Step::Two(SCONS, 0, 7),
-                Step::Two(SCONS, 1, 2),
-                Step::Zero(A),
+                ShapeStep::Zero(A),
+                ShapeStep::Zero(B),
+                ShapeStep::Two(SCONS, 0, 3),
+                ShapeStep::Two(SCONS, 0, 4),
+                ShapeStep::Two(SCONS, 1, 5),
+                ShapeStep::Two(SCONS, 8, 6),
+                ShapeStep::Two(SCONS, 0, 7),
+                ShapeStep::Two(SCONS, 1, 2),
+                ShapeStep::Zero(A),
             ],
             5,
             "(@graph ((@0 (scons @1 @2)) (@1 a) (@2 (scons @1 @3)) (@3 (scons @4 @0)) (@4 b)) @0)",
         ),
         (
             &[
-                Step::Zero(A),
-                Step::Zero(B),
-                Step::Two(SCONS, 0, 3),
-                Step::Two(SCONS, 0, 4),
-                Step::Two(SCONS, 1, 2),
+                ShapeStep::Zero(A),
+                ShapeStep::Zero(B),
+                ShapeStep::Two(SCONS, 0, 3),
+                ShapeStep::Two(SCONS, 0, 4),
+                ShapeStep::Two(SCONS, 1, 2),
             ],
             3,
             "(@graph ((@0 (scons @1 @2)) (@1 a) (@2 (scons @3 @4)) (@3 b) (@4 (scons @1 @0))) @0)",
         ),
         (
             &[
-                Step::Zero(A),
-                Step::Zero(B),
-                Step::Two(SCONS, 0, 3),
-                Step::Two(SCONS, 0, 4),
-                Step::Two(SCONS, 1, 2),
+                ShapeStep::Zero(A),
+                ShapeStep::Zero(B),
+                ShapeStep::Two(SCONS, 0, 3),
+                ShapeStep::Two(SCONS, 0, 4),
+                ShapeStep::Two(SCONS, 1, 2),
             ],
             4,
             "(@graph ((@0 (scons @1 @2)) (@1 b) (@2 (scons @3 @4)) (@3 a) (@4 (scons @3 @0))) @0)",
@@ -315,63 +331,63 @@ fn cycles_are_written_as_their_smallest_graph(rt: HostRuntime) -> Result<(), Fai
 }
 
 #[test]
-fn a_cycle_may_stand_behind_a_prefix(rt: HostRuntime) -> Result<(), Fail> {
-    let cases: [(&[Step], u64, &str); 6] = [
+fn a_cycle_may_stand_after_a_prefix(rt: HostRuntime) -> Result<(), Fail> {
+    let cases: [(&[ShapeStep], u64, &str); 6] = [
         (
             &[
-                Step::Two(SCONS, 1, 0),
-                Step::Zero(A),
-                Step::Zero(B),
-                Step::Two(SCONS, 2, 0),
+                ShapeStep::Two(SCONS, 1, 0),
+                ShapeStep::Zero(A),
+                ShapeStep::Zero(B),
+                ShapeStep::Two(SCONS, 2, 0),
             ],
             3,
             "(@graph ((@0 (scons @1 @2)) (@1 b) (@2 (scons @3 @2)) (@3 a)) @0)",
         ),
         (
             &[
-                Step::Two(SCONS, 1, 0),
-                Step::Zero(A),
-                Step::Two(SCONS, 1, 0),
-                Step::Two(SCONS, 1, 2),
+                ShapeStep::Two(SCONS, 1, 0),
+                ShapeStep::Zero(A),
+                ShapeStep::Two(SCONS, 1, 0),
+                ShapeStep::Two(SCONS, 1, 2),
             ],
             3,
             "(@graph ((@0 (scons @1 @0)) (@1 a)) @0)",
         ),
         (
             &[
-                Step::Zero(A),
-                Step::Zero(B),
-                Step::Two(SCONS, 0, 3),
-                Step::Two(SCONS, 1, 2),
-                Step::Two(SCONS, 0, 2),
-                Step::Two(SCONS, 1, 4),
+                ShapeStep::Zero(A),
+                ShapeStep::Zero(B),
+                ShapeStep::Two(SCONS, 0, 3),
+                ShapeStep::Two(SCONS, 1, 2),
+                ShapeStep::Two(SCONS, 0, 2),
+                ShapeStep::Two(SCONS, 1, 4),
             ],
             5,
             "(@graph ((@0 (scons @1 @2)) (@1 b) (@2 (scons @3 @4)) (@3 a) (@4 (scons @3 @5)) (@5 (scons @1 @4))) @0)",
         ),
         (
             &[
-                Step::Two(PAIR, 1, 0),
-                Step::Two(PAIR, 2, 2),
-                Step::Zero(STOP),
+                ShapeStep::Two(PAIR, 1, 0),
+                ShapeStep::Two(PAIR, 2, 2),
+                ShapeStep::Zero(STOP),
             ],
             0,
             "(@graph ((@0 (pair @1 @0)) (@1 (pair @2 @2)) (@2 stop)) @0)",
         ),
         (
             &[
-                Step::Two(PAIR, 1, 0),
-                Step::Two(PAIR, 2, 2),
-                Step::Zero(STOP),
+                ShapeStep::Two(PAIR, 1, 0),
+                ShapeStep::Two(PAIR, 2, 2),
+                ShapeStep::Zero(STOP),
             ],
             1,
             "(pair stop stop)",
         ),
         (
             &[
-                Step::Two(PAIR, 1, 1),
-                Step::Two(PAIR, 2, 1),
-                Step::Zero(STOP),
+                ShapeStep::Two(PAIR, 1, 1),
+                ShapeStep::Two(PAIR, 2, 1),
+                ShapeStep::Zero(STOP),
             ],
             0,
             "(@graph ((@0 (pair @1 @1)) (@1 (pair @2 @1)) (@2 stop)) @0)",
@@ -387,80 +403,80 @@ fn a_cycle_may_stand_behind_a_prefix(rt: HostRuntime) -> Result<(), Fail> {
 
 #[test]
 fn nodes_are_numbered_breadth_first(rt: HostRuntime) -> Result<(), Fail> {
-    let cases: [(&[Step], u64, &str); 8] = [
+    let cases: [(&[ShapeStep], u64, &str); 8] = [
         (
-            &[Step::Two(PAIR, 0, 0)],
+            &[ShapeStep::Two(PAIR, 0, 0)],
             0,
             "(@graph ((@0 (pair @0 @0))) @0)",
         ),
         (
             &[
-                Step::Two(PAIR, 1, 2),
-                Step::Two(PAIR, 2, 0),
-                Step::Two(PAIR, 0, 1),
+                ShapeStep::Two(PAIR, 1, 2),
+                ShapeStep::Two(PAIR, 2, 0),
+                ShapeStep::Two(PAIR, 0, 1),
             ],
             1,
             "(@graph ((@0 (pair @0 @0))) @0)",
         ),
         (
-            &[Step::Two(PAIR, 0, 1), Step::Zero(STOP)],
+            &[ShapeStep::Two(PAIR, 0, 1), ShapeStep::Zero(STOP)],
             0,
             "(@graph ((@0 (pair @0 @1)) (@1 stop)) @0)",
         ),
         (
             &[
-                Step::Two(PAIR, 1, 2),
-                Step::Zero(STOP),
-                Step::Two(PAIR, 0, 1),
+                ShapeStep::Two(PAIR, 1, 2),
+                ShapeStep::Zero(STOP),
+                ShapeStep::Two(PAIR, 0, 1),
             ],
             0,
             "(@graph ((@0 (pair @1 @2)) (@1 stop) (@2 (pair @0 @1))) @0)",
         ),
         (
             &[
-                Step::Two(PAIR, 1, 2),
-                Step::Two(PAIR, 3, 4),
-                Step::Two(PAIR, 4, 0),
-                Step::Two(PAIR, 0, 0),
-                Step::Zero(STOP),
+                ShapeStep::Two(PAIR, 1, 2),
+                ShapeStep::Two(PAIR, 3, 4),
+                ShapeStep::Two(PAIR, 4, 0),
+                ShapeStep::Two(PAIR, 0, 0),
+                ShapeStep::Zero(STOP),
             ],
             0,
             "(@graph ((@0 (pair @1 @2)) (@1 (pair @3 @4)) (@2 (pair @4 @0)) (@3 (pair @0 @0)) (@4 stop)) @0)",
         ),
         (
             &[
-                Step::Two(PAIR, 1, 2),
-                Step::Two(PAIR, 3, 4),
-                Step::Two(PAIR, 4, 0),
-                Step::Two(PAIR, 0, 0),
-                Step::Zero(STOP),
+                ShapeStep::Two(PAIR, 1, 2),
+                ShapeStep::Two(PAIR, 3, 4),
+                ShapeStep::Two(PAIR, 4, 0),
+                ShapeStep::Two(PAIR, 0, 0),
+                ShapeStep::Zero(STOP),
             ],
             2,
             "(@graph ((@0 (pair @1 @2)) (@1 stop) (@2 (pair @3 @0)) (@3 (pair @4 @1)) (@4 (pair @2 @2))) @0)",
         ),
         (
             &[
-                Step::Two(PAIR, 1, 2),
-                Step::Two(PAIR, 3, 4),
-                Step::Two(PAIR, 4, 0),
-                Step::Two(PAIR, 0, 0),
-                Step::Zero(STOP),
+                ShapeStep::Two(PAIR, 1, 2),
+                ShapeStep::Two(PAIR, 3, 4),
+                ShapeStep::Two(PAIR, 4, 0),
+                ShapeStep::Two(PAIR, 0, 0),
+                ShapeStep::Zero(STOP),
             ],
             3,
             "(@graph ((@0 (pair @1 @1)) (@1 (pair @2 @3)) (@2 (pair @0 @4)) (@3 (pair @4 @1)) (@4 stop)) @0)",
         ),
         (
             &[
-                Step::Element(U, 9),
-                Step::Two(PAIR, 1, 1),
-                Step::Zero(STOP),
-                Step::Two(PAIR, 4, 6),
-                Step::Two(PAIR, 7, 2),
-                Step::Zero(STOP),
-                Step::Two(PAIR, 5, 3),
-                Step::Two(PAIR, 3, 8),
-                Step::Two(PAIR, 9, 6),
-                Step::Two(PAIR, 7, 5),
+                ShapeStep::Element(U, 9),
+                ShapeStep::Two(PAIR, 1, 1),
+                ShapeStep::Zero(STOP),
+                ShapeStep::Two(PAIR, 4, 6),
+                ShapeStep::Two(PAIR, 7, 2),
+                ShapeStep::Zero(STOP),
+                ShapeStep::Two(PAIR, 5, 3),
+                ShapeStep::Two(PAIR, 3, 8),
+                ShapeStep::Two(PAIR, 9, 6),
+                ShapeStep::Two(PAIR, 7, 5),
             ],
             8,
             "(@graph ((@0 (pair @1 @2)) (@1 (pair @3 @4)) (@2 (pair @4 @0)) (@3 (pair @0 @0)) (@4 stop)) @0)",
@@ -475,20 +491,20 @@ fn nodes_are_numbered_breadth_first(rt: HostRuntime) -> Result<(), Fail> {
 }
 
 #[test]
-fn elements_and_names_with_bars_stand_in_graphs(rt: HostRuntime) -> Result<(), Fail> {
-    let cases: [(&[Step], u64, &str); 2] = [
+fn elements_and_names_with_quotes_stand_in_graphs(rt: HostRuntime) -> Result<(), Fail> {
+    let cases: [(&[ShapeStep], u64, &str); 2] = [
         (
             &[
-                Step::Two(GROW, 1, 0),
-                Step::Two(NODE, 2, 3),
-                Step::Element(MY_SORT, 7),
-                Step::Zero(EMPTY),
+                ShapeStep::Two(GROW, 1, 0),
+                ShapeStep::Two(NODE, 2, 3),
+                ShapeStep::Element(MY_SORT, 7),
+                ShapeStep::Zero(EMPTY),
             ],
             0,
             "(@graph ((@0 (grow @1 @0)) (@1 (node @2 @3)) (@2 (as |@my sort_7| |my sort|)) (@3 empty)) @0)",
         ),
         (
-            &[Step::One(A_B, 1), Step::One(A_B, 0)],
+            &[ShapeStep::One(A_B, 1), ShapeStep::One(A_B, 0)],
             1,
             "(@graph ((@0 (|a b| @0))) @0)",
         ),
@@ -501,16 +517,16 @@ fn elements_and_names_with_bars_stand_in_graphs(rt: HostRuntime) -> Result<(), F
     Ok(())
 }
 
-// `a, a, ..` in one node and in two, and `b, a, a, ..`: values that are the same have one text.
+// `a, a, ..` in one node and in two, and `b, a, a, ..`: equal values have one text.
 #[test]
 fn streams_that_are_the_same_have_one_text(rt: HostRuntime) -> Result<(), Fail> {
     let steps = [
-        Step::Two(SCONS, 1, 0),
-        Step::Zero(A),
-        Step::Two(SCONS, 1, 3),
-        Step::Two(SCONS, 1, 2),
-        Step::Zero(B),
-        Step::Two(SCONS, 4, 0),
+        ShapeStep::Two(SCONS, 1, 0),
+        ShapeStep::Zero(A),
+        ShapeStep::Two(SCONS, 1, 3),
+        ShapeStep::Two(SCONS, 1, 2),
+        ShapeStep::Zero(B),
+        ShapeStep::Two(SCONS, 4, 0),
     ];
     let a_only = "(@graph ((@0 (scons @1 @0)) (@1 a)) @0)";
     let b_first = "(@graph ((@0 (scons @1 @2)) (@1 b) (@2 (scons @3 @2)) (@3 a)) @0)";
@@ -524,40 +540,40 @@ fn streams_that_are_the_same_have_one_text(rt: HostRuntime) -> Result<(), Fail> 
 
 #[test]
 fn what_the_root_does_not_reach_is_not_written(rt: HostRuntime) -> Result<(), Fail> {
-    let cases: [(&[Step], u64, &str); 3] = [
+    let cases: [(&[ShapeStep], u64, &str); 3] = [
         (
             &[
-                Step::Two(SCONS, 4, 0),
-                Step::Zero(B),
-                Step::Zero(EMPTY),
-                Step::Element(MY_SORT, 2),
-                Step::Zero(A),
-                Step::Zero(NIL),
-                Step::Two(CONS, 4, 5),
+                ShapeStep::Two(SCONS, 4, 0),
+                ShapeStep::Zero(B),
+                ShapeStep::Zero(EMPTY),
+                ShapeStep::Element(MY_SORT, 2),
+                ShapeStep::Zero(A),
+                ShapeStep::Zero(NIL),
+                ShapeStep::Two(CONS, 4, 5),
             ],
             6,
             "(cons a nil)",
         ),
         (
             &[
-                Step::Two(SCONS, 4, 0),
-                Step::Zero(B),
-                Step::Zero(EMPTY),
-                Step::Element(MY_SORT, 2),
-                Step::Zero(A),
-                Step::Zero(NIL),
-                Step::Two(CONS, 4, 5),
+                ShapeStep::Two(SCONS, 4, 0),
+                ShapeStep::Zero(B),
+                ShapeStep::Zero(EMPTY),
+                ShapeStep::Element(MY_SORT, 2),
+                ShapeStep::Zero(A),
+                ShapeStep::Zero(NIL),
+                ShapeStep::Two(CONS, 4, 5),
             ],
             0,
             "(@graph ((@0 (scons @1 @0)) (@1 a)) @0)",
         ),
         (
             &[
-                Step::Two(PAIR, 0, 2),
-                Step::Two(SCONS, 3, 1),
-                Step::Zero(STOP),
-                Step::Zero(A),
-                Step::Two(PAIR, 2, 2),
+                ShapeStep::Two(PAIR, 0, 2),
+                ShapeStep::Two(SCONS, 3, 1),
+                ShapeStep::Zero(STOP),
+                ShapeStep::Zero(A),
+                ShapeStep::Two(PAIR, 2, 2),
             ],
             4,
             "(pair stop stop)",
@@ -573,66 +589,66 @@ fn what_the_root_does_not_reach_is_not_written(rt: HostRuntime) -> Result<(), Fa
 
 #[test]
 fn shared_parts_count_as_often_as_they_occur(rt: HostRuntime) -> Result<(), Fail> {
-    let cases: [(&[Step], u64, &str); 4] = [
+    let cases: [(&[ShapeStep], u64, &str); 4] = [
         (
             &[
-                Step::Zero(STOP),
-                Step::Two(PAIR, 0, 0),
-                Step::Two(PAIR, 1, 1),
-                Step::Two(PAIR, 2, 2),
-                Step::Two(PAIR, 3, 3),
-                Step::Two(PAIR, 4, 4),
-                Step::Two(PAIR, 5, 5),
-                Step::Two(PAIR, 6, 6),
-                Step::Two(PAIR, 7, 7),
-                Step::Two(PAIR, 8, 8),
+                ShapeStep::Zero(STOP),
+                ShapeStep::Two(PAIR, 0, 0),
+                ShapeStep::Two(PAIR, 1, 1),
+                ShapeStep::Two(PAIR, 2, 2),
+                ShapeStep::Two(PAIR, 3, 3),
+                ShapeStep::Two(PAIR, 4, 4),
+                ShapeStep::Two(PAIR, 5, 5),
+                ShapeStep::Two(PAIR, 6, 6),
+                ShapeStep::Two(PAIR, 7, 7),
+                ShapeStep::Two(PAIR, 8, 8),
             ],
             9,
             "(@graph ((@0 (pair @1 @1)) (@1 (pair @2 @2)) (@2 (pair @3 @3)) (@3 (pair @4 @4)) (@4 (pair @5 @5)) (@5 (pair @6 @6)) (@6 (pair @7 @7)) (@7 (pair @8 @8)) (@8 (pair @9 @9)) (@9 stop)) @0)",
         ),
         (
             &[
-                Step::Zero(STOP),
-                Step::Two(PAIR, 0, 0),
-                Step::Two(PAIR, 1, 1),
-                Step::Two(PAIR, 2, 2),
-                Step::Two(PAIR, 3, 3),
-                Step::Two(PAIR, 4, 4),
-                Step::Two(PAIR, 5, 5),
-                Step::Two(PAIR, 6, 6),
-                Step::Two(PAIR, 7, 7),
-                Step::Two(PAIR, 8, 8),
-                Step::Two(PAIR, 9, 9),
+                ShapeStep::Zero(STOP),
+                ShapeStep::Two(PAIR, 0, 0),
+                ShapeStep::Two(PAIR, 1, 1),
+                ShapeStep::Two(PAIR, 2, 2),
+                ShapeStep::Two(PAIR, 3, 3),
+                ShapeStep::Two(PAIR, 4, 4),
+                ShapeStep::Two(PAIR, 5, 5),
+                ShapeStep::Two(PAIR, 6, 6),
+                ShapeStep::Two(PAIR, 7, 7),
+                ShapeStep::Two(PAIR, 8, 8),
+                ShapeStep::Two(PAIR, 9, 9),
             ],
             10,
             "(@graph ((@0 (pair @1 @1)) (@1 (pair @2 @2)) (@2 (pair @3 @3)) (@3 (pair @4 @4)) (@4 (pair @5 @5)) (@5 (pair @6 @6)) (@6 (pair @7 @7)) (@7 (pair @8 @8)) (@8 (pair @9 @9)) (@9 (pair @10 @10)) (@10 stop)) @0)",
         ),
         (
             &[
-                Step::Zero(STOP),
-                Step::Two(PAIR, 0, 0),
-                Step::Two(PAIR, 1, 1),
-                Step::Two(PAIR, 2, 2),
-                Step::Two(PAIR, 3, 3),
-                Step::Two(PAIR, 4, 4),
-                Step::Two(PAIR, 5, 5),
-                Step::Two(PAIR, 6, 6),
-                Step::Two(PAIR, 7, 7),
-                Step::Two(PAIR, 2, 0),
-                Step::Two(PAIR, 4, 9),
-                Step::Two(PAIR, 5, 10),
-                Step::Two(PAIR, 6, 11),
-                Step::Two(PAIR, 7, 12),
-                Step::Two(PAIR, 8, 13),
+                ShapeStep::Zero(STOP),
+                ShapeStep::Two(PAIR, 0, 0),
+                ShapeStep::Two(PAIR, 1, 1),
+                ShapeStep::Two(PAIR, 2, 2),
+                ShapeStep::Two(PAIR, 3, 3),
+                ShapeStep::Two(PAIR, 4, 4),
+                ShapeStep::Two(PAIR, 5, 5),
+                ShapeStep::Two(PAIR, 6, 6),
+                ShapeStep::Two(PAIR, 7, 7),
+                ShapeStep::Two(PAIR, 2, 0),
+                ShapeStep::Two(PAIR, 4, 9),
+                ShapeStep::Two(PAIR, 5, 10),
+                ShapeStep::Two(PAIR, 6, 11),
+                ShapeStep::Two(PAIR, 7, 12),
+                ShapeStep::Two(PAIR, 8, 13),
             ],
             14,
             "(@graph ((@0 (pair @1 @2)) (@1 (pair @3 @3)) (@2 (pair @3 @4)) (@3 (pair @5 @5)) (@4 (pair @5 @6)) (@5 (pair @7 @7)) (@6 (pair @7 @8)) (@7 (pair @9 @9)) (@8 (pair @9 @10)) (@9 (pair @11 @11)) (@10 (pair @12 @13)) (@11 (pair @12 @12)) (@12 (pair @14 @14)) (@13 stop) (@14 (pair @13 @13))) @0)",
         ),
         (
             &[
-                Step::Zero(STOP),
-                Step::Two(PAIR, 0, 0),
-                Step::Two(PAIR, 1, 1),
+                ShapeStep::Zero(STOP),
+                ShapeStep::Two(PAIR, 0, 0),
+                ShapeStep::Two(PAIR, 1, 1),
             ],
             2,
             "(pair (pair stop stop) (pair stop stop))",
@@ -646,7 +662,7 @@ fn shared_parts_count_as_often_as_they_occur(rt: HostRuntime) -> Result<(), Fail
     Ok(())
 }
 
-// The text so many times behind what is there.
+// The text so many times after what is there.
 fn push_times(text: &[u8], times: u32, out: &mut Vec<u8>) -> Result<(), ValueError> {
     for _ in 0..times {
         out.extend_from_slice(text)?;
@@ -655,11 +671,11 @@ fn push_times(text: &[u8], times: u32, out: &mut Vec<u8>) -> Result<(), ValueErr
 }
 
 // So many nodes, each over the one before it, on top of one node.
-fn tower(alloc: Global, bottom: Step, count: u32) -> Result<Vec<Step>, ValueError> {
+fn tower(alloc: Global, bottom: ShapeStep, count: u32) -> Result<Vec<ShapeStep>, ValueError> {
     let mut steps = Vec::new(alloc);
     steps.push(bottom)?;
     for below in 0..count {
-        steps.push(Step::One(A_B, u64::from(below)))?;
+        steps.push(ShapeStep::One(A_B, u64::from(below)))?;
     }
     Ok(steps)
 }
@@ -694,13 +710,14 @@ fn expect_tower(
     count: u32,
     want: Result<Vec<u8>, ValueError>,
 ) {
-    match (tower(alloc, Step::Zero(X), count), want) {
+    match (tower(alloc, ShapeStep::Zero(X), count), want) {
         (Ok(steps), Ok(want)) => expect_text(rt, alloc, sig, &steps, u64::from(count), &want),
         _ => assert!(rt; false, "of {count}"),
     }
 }
 
-// A tower of 999 over one node has 1,000 nodes, and one of 1,000 has one more than is written plain.
+// A tower of 999 over one node has 1,000 nodes, and one of 1,000 has one more than is written as a
+// plain term.
 #[test]
 fn a_tree_of_a_thousand_nodes_is_written_plain(rt: HostRuntime) -> Result<(), Fail> {
     let alloc = rt.alloc();
@@ -713,12 +730,12 @@ fn a_tree_of_a_thousand_nodes_is_written_plain(rt: HostRuntime) -> Result<(), Fa
 }
 
 // A list of so many cells of `a`. Its last node is its first cell.
-fn cells(alloc: Global, count: u32) -> Result<Vec<Step>, ValueError> {
+fn cells(alloc: Global, count: u32) -> Result<Vec<ShapeStep>, ValueError> {
     let mut steps = Vec::new(alloc);
-    steps.push(Step::Zero(A))?;
-    steps.push(Step::Zero(NIL))?;
+    steps.push(ShapeStep::Zero(A))?;
+    steps.push(ShapeStep::Zero(NIL))?;
     for cell in 0..count {
-        steps.push(Step::Two(CONS, 0, u64::from(cell) + 1))?;
+        steps.push(ShapeStep::Two(CONS, 0, u64::from(cell) + 1))?;
     }
     Ok(steps)
 }

@@ -1,8 +1,9 @@
 //! The text of a small finite tree, as a constructor term.
 //!
-//! The tree at a node is written head first, from a stack of what is still to be written. The walk gives up when it
-//! comes to one node more than may be written plain: a node that reaches a cycle, whose tree has no end, comes there
-//! too. So nothing recurses, and nothing but the stack and the text is kept.
+//! The tree at a node is written head first, from a stack of what is still to be written. The walk
+//! gives up when it comes to one node more than may be written as a plain term: a node that reaches
+//! a cycle, whose tree has no end, comes there too. So nothing recurses, and nothing but the stack
+//! and the text is stored.
 ghost use Rattle.std.specs.Prelude.{◌≡◌, ◌<◌, length, reverse, map, ◌++◌, MatchOption, OnOk, IfOk};
 ghost use Rattle.ct_values.specs.declared.tree_text.Item.TheVariants as items;
 ghost use Rattle.ct_values.specs.Fitting.{FitsGraph};
@@ -21,14 +22,15 @@ use std::alloc::Global;
 // The most nodes of a tree that is written as a constructor term, each counted as often as it occurs.
 const MOST_PLAIN: u64 = 1_000;
 
-// The most items on the stack with which the walk goes on. Of each node that was begun at most one is a parenthesis, so
-// with as many items more nodes are left than may be written: the walk does not go on behind a node with many children.
+// The most items on the stack with which the walk goes on. Of each node that was begun at most one
+// is a parenthesis, so with as many items more nodes are left than may be written: the walk does
+// not go on after a node with many children.
 const MOST_ITEMS: usize = 2_000;
 
 /// What is still to be written.
 #[derive(Clone, Copy, Debug)]
 pub(crate) enum Item {
-    /// The tree at a node, behind a blank.
+    /// The tree at a node, after a space.
     Node(NodeId),
     /// A closing parenthesis.
     Close,
@@ -87,7 +89,8 @@ fn begin(
     }
 }
 
-// Writes the constructor, behind an opening parenthesis where it has arguments, which go onto the stack.
+// Writes the constructor, after an opening parenthesis where it has arguments, which go onto the
+// stack.
 fn begin_constructor(
     sig: &Signature,
     c: CtorId,

@@ -6,20 +6,22 @@ ghost use Rattle.ct_values.specs.ValueText.{IsValueText};
 use crate::error::ValueError;
 use crate::graph::Graph;
 use crate::graph_text::graph_text;
+use crate::minimal::minimal;
 use crate::node::NodeId;
-use crate::smallest::smallest;
 use crate::tree_text::tree_text;
 use ct_sorts::Signature;
 use std::alloc::Global;
 
-/// The text of the value at the root, for printing and for telling values apart: two nodes have one text exactly where
-/// they are the same value.
+/// The text of the value at the root, for printing and for telling values apart: two nodes have one
+/// text exactly where they are equal values.
 ///
-/// A finite tree of at most 1,000 nodes, each counted as often as it occurs, is written as a constructor term: `C` for
-/// a constructor without arguments, `(C v ..)` for one with arguments, and `(as @U_3 U)` for the element 3 of the sort
-/// `U`. Any other value, infinite or not, is written as its smallest graph, whose nodes are numbered breadth first from
-/// the root: `(@graph ((@0 node) (@1 node) ..) @0)`, where a node is `C`, `(C @1 ..)` or `(as @U_3 U)`. A name has bars
-/// where it is no symbol or is reserved, as in `(as |@my sort_3| |my sort|)`. The only error is want of memory.
+/// A finite tree of at most 1,000 nodes, each counted as often as it occurs, is written as a
+/// constructor term: `C` for a constructor without arguments, `(C v ..)` for one with arguments,
+/// and `(as @U_3 U)` for the element 3 of the sort `U`. Any other value, infinite or not, is
+/// written as its minimal graph, whose nodes are numbered breadth first from the root: `(@graph
+/// ((@0 node) (@1 node) ..) @0)`, where a node is `C`, `(C @1 ..)` or `(as @U_3 U)`. A name is
+/// quoted where it is no symbol or is reserved, as in `(as |@my sort_3| |my sort|)`. The only error
+/// is out of memory.
 pub fn value_text(
     alloc: Global,
     sig: &Signature,
@@ -33,6 +35,6 @@ pub fn value_text(
     if let Some(text) = tree_text(alloc, sig, g, root)? {
         return Ok(text);
     }
-    let smallest = smallest(alloc, g, root)?;
-    graph_text(alloc, sig, &smallest)
+    let minimal = minimal(alloc, g, root)?;
+    graph_text(alloc, sig, &minimal)
 }

@@ -6,12 +6,12 @@ use Rattle.std.proofs.lemmas.Slice.Eq.{bytes_eq-Decides}
 use Rattle.std.proofs.lemmas.Bool.{true≢false}
 use Rattle.std.proofs.lemmas.Bool.Decides.{Decides-or, Decides-like}
 use Rattle.std.proofs.lemmas.Option.{none-some, same_Some}
-use Rattle.ct_words.specs.Names.{AreDistinct, IsListed, names_of, text_of}
+use Rattle.ct_words.specs.NameList.{AreDistinct, IsListed, names_in, text_of_names}
 
 -- a listed name is the first one or listed among the others
 pub IsListed-cons : (first : List ℕ) (names : List (List ℕ)) (name : List ℕ) → IsListed (first ∷ names) name → (first ≡ name) ⊎ IsListed names name
 IsListed-cons first names name (zero, e) = inl (same_Some _ _ e)
-IsListed-cons first names name (suc place, e) = inr (place, e)
+IsListed-cons first names name (suc index, e) = inr (index, e)
 
 -- a search for a name finds it exactly where it is listed
 pub list_any-IsListed : (names : List (List ℕ)) (name : List ℕ) → Decides (list_any (λ other. bytes_eq other name) names) (IsListed names name)
@@ -46,11 +46,11 @@ AreDistinct-test (first ∷ names) passed (suc i) (suc j) name ei ej =
     ap suc (AreDistinct-test names (both _ _ passed).1 i j name ei ej)
 
 -- a text that is written as different names may stand for a table
-pub is_table_text : (text written : List ℕ) (names : List (List ℕ)) (count : ℕ) → text ≡ written → names_of written ≡ names → text_of names ≡ written → length names ≡ count → are_distinct names ≡ true → (text_of (names_of text) ≡ text) × (length (names_of text) ≡ count) × AreDistinct (names_of text)
+pub is_table_text : (text written : List ℕ) (names : List (List ℕ)) (count : ℕ) → text ≡ written → names_in written ≡ names → text_of_names names ≡ written → length names ≡ count → are_distinct names ≡ true → (text_of_names (names_in text) ≡ text) × (length (names_in text) ≡ count) × AreDistinct (names_in text)
 is_table_text text written names count is_text is_names again counted passed =
     rw (is_text, is_names) (again, counted, AreDistinct-test names passed)
 
--- a place of a name among different names is its only one
-pub only_place : (names : List (List ℕ)) (text : List ℕ) (place other : ℕ) → AreDistinct names → slice_get names place ≡ Some text → (Some place ≡ Some other) ↔ (slice_get names other ≡ Some text)
-only_place names text place other distinct at =
-    (λ same. subst (λ (x : ℕ). slice_get names x ≡ Some text) (same_Some _ _ same) at, λ at_other. ap Some (distinct place other text at at_other))
+-- an index of a name among different names is its only one
+pub only_index : (names : List (List ℕ)) (text : List ℕ) (index other : ℕ) → AreDistinct names → slice_get names index ≡ Some text → (Some index ≡ Some other) ↔ (slice_get names other ≡ Some text)
+only_index names text index other distinct at =
+    (λ same. subst (λ (x : ℕ). slice_get names x ≡ Some text) (same_Some _ _ same) at, λ at_other. ap Some (distinct index other text at at_other))

@@ -1,4 +1,4 @@
 pub mod NameLemmas
-pub mod KeptLemmas
+pub mod StorageLemmas
 pub mod ChainLemmas
 pub mod DistinctLemmas

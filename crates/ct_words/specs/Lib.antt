@@ -1,4 +1,4 @@
-pub mod Names
+pub mod NameList
 pub mod Words
 pub mod Errors
-pub mod Kept
+pub mod Storage

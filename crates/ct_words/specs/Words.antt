@@ -1,6 +1,6 @@
 -- The words and texts of the program, each list in the order of the tables.
 --
--- A word has its place where it comes first in the description of the commands, or of the lines, the equality steps and the
+-- A word has its index where it comes first in the description of the commands, or of the lines, the equality steps and the
 -- items of a derivation. Names that a script chooses, and letters that stand for numbers, terms or a rule, are no words.
 use Rattle.std.specs.Prelude.{ℕ, List, [], ◌∷◌, ◌++◌, codes}
 

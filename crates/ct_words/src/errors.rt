@@ -18,9 +18,9 @@ pub fn error_text(texts: &NameTable<ERROR_TEXTS>, number: u16) -> &[u8]
     requires table { texts.now ≡ error_names }
     ensures text { result.now ≡ error_text number }
 {
-    for (place, known) in ERROR_NUMBERS.iter().enumerate() {
+    for (index, known) in ERROR_NUMBERS.iter().enumerate() {
         if *known == number {
-            return texts.name(place);
+            return texts.name(index);
         }
     }
     b""

@@ -1,9 +1,9 @@
 //! The words and texts that the program knows, in tables that are searched by name.
 #![tactic(auto)]
 
+mod buckets;
 mod errors;
 mod name_table;
-mod places;
 mod text;
 mod words;
 

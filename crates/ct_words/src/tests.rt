@@ -41,10 +41,10 @@ fn finds_each_command(rt: HostRuntime) -> Result<(), Fail> {
         b"get-unsat-assumptions",
     ];
     assert_eq!(rt; COMMANDS, 34);
-    for place in 0..names.len() {
-        let name = names[place];
-        assert_eq!(rt; table.find(name), Some(place), "at {name:?}");
-        assert_eq!(rt; table.name(place), name, "at {place}");
+    for index in 0..names.len() {
+        let name = names[index];
+        assert_eq!(rt; table.find(name), Some(index), "at {name:?}");
+        assert_eq!(rt; table.name(index), name, "at {place}");
     }
     let others: [&[u8]; 9] = [
         b"",
@@ -79,10 +79,10 @@ fn finds_each_option(rt: HostRuntime) -> Result<(), Fail> {
         b":verbosity",
     ];
     assert_eq!(rt; OPTIONS, 10);
-    for place in 0..names.len() {
-        let name = names[place];
-        assert_eq!(rt; table.find(name), Some(place), "at {name:?}");
-        assert_eq!(rt; table.name(place), name, "at {place}");
+    for index in 0..names.len() {
+        let name = names[index];
+        assert_eq!(rt; table.find(name), Some(index), "at {name:?}");
+        assert_eq!(rt; table.name(index), name, "at {place}");
     }
     let others: [&[u8]; 6] = [
         b"",
@@ -155,10 +155,10 @@ fn finds_each_derivation_word(rt: HostRuntime) -> Result<(), Fail> {
         b"end",
     ];
     assert_eq!(rt; DERIVATION_WORDS, 51);
-    for place in 0..names.len() {
-        let name = names[place];
-        assert_eq!(rt; table.find(name), Some(place), "at {name:?}");
-        assert_eq!(rt; table.name(place), name, "at {place}");
+    for index in 0..names.len() {
+        let name = names[index];
+        assert_eq!(rt; table.find(name), Some(index), "at {name:?}");
+        assert_eq!(rt; table.name(index), name, "at {place}");
     }
     let others: [&[u8]; 8] = [
         b"", b"iff-5", b"iff-", b"close", b"lit", b"xor", b"T", b"t s",
@@ -218,10 +218,10 @@ fn finds_each_error_text(rt: HostRuntime) -> Result<(), Fail> {
         b"form not built yet",
     ];
     assert_eq!(rt; ERROR_TEXTS, 43);
-    for place in 0..texts.len() {
-        let text = texts[place];
-        assert_eq!(rt; table.find(text), Some(place), "at {text:?}");
-        assert_eq!(rt; table.name(place), text, "at {place}");
+    for index in 0..texts.len() {
+        let text = texts[index];
+        assert_eq!(rt; table.find(text), Some(index), "at {text:?}");
+        assert_eq!(rt; table.name(index), text, "at {place}");
     }
     let others: [&[u8]; 5] = [
         b"",

@@ -1,8 +1,8 @@
 //! Names in a text, each ended by a byte 10.
 ghost use Rattle.std.specs.Prelude.{◌≡◌, ◌==◌, ◌+◌, ◌<◌, ◌∷◌, length, drop, position};
 ghost use Rattle.std.specs.Bool.{OnTrue, OnFalse};
-ghost use Rattle.ct_words.specs.Names.{names_of};
-ghost use Rattle.ct_words.specs.Kept.{bucket};
+ghost use Rattle.ct_words.specs.NameList.{names_in};
+ghost use Rattle.ct_words.specs.Storage.{bucket};
 
 /// The byte that ends a name.
 const END: u8 = 10;
@@ -10,7 +10,7 @@ const END: u8 = 10;
 /// The number of buckets, about as many as a table has names.
 pub(crate) const BUCKETS: usize = 64;
 
-// The place of the first byte that ends a name.
+// The index of the first byte that ends a name.
 fn end_of(text: &[u8]) -> Option<usize>
     ensures end { result ≡ position (λ byte. byte == 10) text.now }
 {
@@ -19,8 +19,8 @@ fn end_of(text: &[u8]) -> Option<usize>
 
 /// The first name of the text.
 pub(crate) fn first_name(text: &[u8]) -> &[u8]
-    requires named { 0 < length (names_of text.now) }
-    ensures first { names_of text.now ≡ result.now ∷ names_of (drop (length result.now + 1) text.now) }
+    requires named { 0 < length (names_in text.now) }
+    ensures first { names_in text.now ≡ result.now ∷ names_in (drop (length result.now + 1) text.now) }
     ensures ended { length result.now < length text.now }
 {
     let Some(end) = end_of(text) else {
@@ -42,7 +42,7 @@ pub(crate) fn bucket_of(name: &[u8]) -> usize
 }
 
 /// Whether the two texts are the same.
-pub(crate) fn is_same(name: &[u8], text: &[u8]) -> bool
+pub(crate) fn equal_bytes(name: &[u8], text: &[u8]) -> bool
     ensures same { OnTrue result (name.now ≡ text.now) }
     ensures other { OnFalse result (name.now ≡ text.now → ⊥) }
 {

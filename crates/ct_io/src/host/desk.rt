@@ -39,7 +39,7 @@ impl<R: Files + Input> Source<R> {
 
 /// The files of the host, and its standard input under the empty name.
 ///
-/// It tells no content. Every error of the host is a fault, want of memory among them. Clauses see
+/// It tells no content. Every error of the host is a fault, out of memory among them. Clauses see
 /// the number of faults.
 #[derive(Drop)]
 pub struct HostDesk<R: Files + Input> {

@@ -44,8 +44,8 @@ impl<P: Print> HostSink<P> {
         self.faults.get()
     }
 
-    /// Writes a front of the piece. To take nothing of a piece is an error.
-    fn write_front(&self, piece: &[u8]) -> io::Result<usize>
+    /// Writes a prefix of the piece. To take nothing of a piece is an error.
+    fn write_prefix(&self, piece: &[u8]) -> io::Result<usize>
         ensures bound { IfOk result (λ n. n ≤ length piece.now) }
         ensures progress { IfOk result (λ n. 0 < length piece.now → 0 < n) }
     {
@@ -71,7 +71,7 @@ impl<P: Print> Sink for HostSink<P> {
         ensures uncounted { OnOk result (self.new ≡ self.old) }
         ensures only_faults { IfErr result (λ e. e ≡ SinkError.Fault) }
     {
-        let written = self.write_front(piece);
+        let written = self.write_prefix(piece);
         self.faults.settle(written, SinkError::Fault)
     }
 }

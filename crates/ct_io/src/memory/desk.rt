@@ -1,12 +1,12 @@
 ghost use Rattle.std.specs.Prelude.{◌≡◌, ◌≢◌, ◌≤◌, ◌<◌, ◌↔◌, ℕ, List, length, drop, min, IfErr, IfOk, IsErrOf, IsSomeAnd, OnErr, OnOk};
-ghost use Rattle.ct_io.specs.Bytes.{behind, Reads};
+ghost use Rattle.ct_io.specs.Bytes.{remaining, ReadsBytes};
 ghost use Rattle.ct_io.specs.Calls.{no_calls, call_count, IsToFail, with_fault};
 ghost use Rattle.ct_io.specs.Fault.{HasCause, Rose};
 ghost use Rattle.ct_io.specs.MemoryDesk.{held_by, left_of, CannotOpen, desk_after, desk_after_fault};
-ghost use Rattle.ct_io.specs.Shelf.{contents, unopened, left_in};
+ghost use Rattle.ct_io.specs.FileStore.{contents, unopened, left_in};
 
 use super::calls::NumberedCalls;
-use super::shelf::ShelfInMemory;
+use super::store::FilesInMemory;
 use crate::desk::{Desk, DeskError, Slot};
 use crate::text::Text;
 use std::marker::Model;
@@ -16,7 +16,7 @@ use std::marker::Model;
 /// Its calls of `open` and `read` are numbered together from 0. A name that is not there fails too.
 #[derive(Drop)]
 pub struct DeskInMemory {
-    shelf: ShelfInMemory,
+    store: FilesInMemory,
     piece: usize,
     calls: NumberedCalls,
 }
@@ -27,7 +27,7 @@ impl Model for DeskInMemory {
 
     ghost Value = { MemoryDesk };
 
-    ghost view = { λ desk. record { shelf = desk.shelf; piece = desk.piece; calls = desk.calls } };
+    ghost view = { λ desk. record { store = desk.store; piece = desk.piece; calls = desk.calls } };
 
     ghost invariant = { λ desk. 0 < desk.piece };
 }
@@ -38,13 +38,13 @@ impl DeskInMemory {
     pub fn new(files: Vec<(Text, Vec<u8>)>, fail: Vec<u64>, piece: usize) -> DeskInMemory
         requires some { 0 < piece }
         ensures value { result ≡ record {
-          shelf = unopened (contents files.items);
+          store = unopened (contents files.items);
           piece = piece;
           calls = no_calls fail.items;
         } }
     {
         DeskInMemory {
-            shelf: ShelfInMemory::new(files),
+            store: FilesInMemory::new(files),
             piece,
             calls: NumberedCalls::new(fail),
         }
@@ -93,7 +93,7 @@ impl Desk for DeskInMemory {
         if self.calls.begin_call() {
             return Err(self.fault());
         }
-        if !self.shelf.open(slot, name) {
+        if !self.store.open(slot, name) {
             return Err(self.fault());
         }
         Ok(())
@@ -101,8 +101,8 @@ impl Desk for DeskInMemory {
 
     fn read(&mut self, slot: Slot, buf: &mut [u8]) -> Result<usize, DeskError>
         ensures bound { IfOk result (λ n. n ≤ length buf.old) }
-        ensures bytes { IfOk result (λ n. Reads (left_in self.old.shelf slot) n buf.old buf.new) }
-        ensures taken { IfOk result (λ n. left_of self.new slot ≡ behind n (left_of self.old slot)) }
+        ensures bytes { IfOk result (λ n. ReadsBytes (left_in self.old.store slot) n buf.old buf.new) }
+        ensures taken { IfOk result (λ n. left_of self.new slot ≡ remaining n (left_of self.old slot)) }
         ensures refused { OnErr result (left_of self.new slot ≡ left_of self.old slot) }
         ensures other { (s : Slot) → s ≢ slot → left_of self.new s ≡ left_of self.old s }
         ensures names { (n : List ℕ) → held_by self.new n ≡ held_by self.old n }
@@ -112,15 +112,15 @@ impl Desk for DeskInMemory {
         ensures fails { IsErrOf result DeskError.Fault ↔ IsToFail self.old.calls }
         ensures only_faults { IfErr result (λ e. e ≡ DeskError.Fault) }
         ensures count { IfOk result (λ n.
-            n ≡ min self.old.piece (min (length buf.old) (length (left_in self.old.shelf slot)))) }
+            n ≡ min self.old.piece (min (length buf.old) (length (left_in self.old.store slot)))) }
         ensures after_ok { IfOk result (λ n.
-            self.new ≡ desk_after self.old slot (drop n (left_in self.old.shelf slot))) }
+            self.new ≡ desk_after self.old slot (drop n (left_in self.old.store slot))) }
         ensures after_fault { OnErr result (self.new ≡ desk_after_fault self.old) }
         ensures untouched { OnErr result (buf.new ≡ buf.old) }
     {
         if self.calls.begin_call() {
             return Err(self.fault());
         }
-        Ok(self.shelf.read(slot, buf, self.piece))
+        Ok(self.store.read(slot, buf, self.piece))
     }
 }

@@ -1,10 +1,10 @@
 ghost use Rattle.std.specs.Prelude.{◌≡◌, ◌≢◌, ◌≤◌, ℕ, List, length, drop, min, IfOk, IsOk, IsOkAnd, OnErr, OnOk};
-ghost use Rattle.ct_io.specs.Bytes.{behind, Reads};
+ghost use Rattle.ct_io.specs.Bytes.{remaining, ReadsBytes};
 ghost use Rattle.ct_io.specs.Fault.{HasCause};
-ghost use Rattle.ct_io.specs.Shelf.{contents, unopened, left_in, with_left};
+ghost use Rattle.ct_io.specs.FileStore.{contents, unopened, left_in, with_left};
 ghost use Rattle.ct_io.specs.SteadyDesk.{bytes_under, held_by, left_of};
 
-use super::shelf::ShelfInMemory;
+use super::store::FilesInMemory;
 use crate::desk::{Desk, DeskError, Slot};
 use crate::text::Text;
 use std::marker::Model;
@@ -12,15 +12,15 @@ use std::marker::Model;
 /// A desk in memory that never fails. A name that is not there is an empty file.
 #[derive(Drop)]
 pub struct SteadyDesk {
-    shelf: ShelfInMemory,
+    store: FilesInMemory,
 }
 
 impl Model for SteadyDesk {
-    ghost use Rattle.ct_io.specs.Shelf.{Shelf};
+    ghost use Rattle.ct_io.specs.FileStore.{FileStore};
 
-    ghost Value = { Shelf };
+    ghost Value = { FileStore };
 
-    ghost view = { λ desk. desk.shelf };
+    ghost view = { λ desk. desk.store };
 }
 
 impl SteadyDesk {
@@ -29,7 +29,7 @@ impl SteadyDesk {
         ensures value { result ≡ unopened (contents files.items) }
     {
         SteadyDesk {
-            shelf: ShelfInMemory::new(files),
+            store: FilesInMemory::new(files),
         }
     }
 }
@@ -51,16 +51,16 @@ impl Desk for SteadyDesk {
         ensures succeeds { IsOk result }
         ensures after { self.new ≡ with_left self.old slot (bytes_under self.old name.now) }
     {
-        if !self.shelf.open(slot, name) {
-            self.shelf.clear(slot);
+        if !self.store.open(slot, name) {
+            self.store.clear(slot);
         }
         Ok(())
     }
 
     fn read(&mut self, slot: Slot, buf: &mut [u8]) -> Result<usize, DeskError>
         ensures bound { IfOk result (λ n. n ≤ length buf.old) }
-        ensures bytes { IfOk result (λ n. Reads (left_in self.old slot) n buf.old buf.new) }
-        ensures taken { IfOk result (λ n. left_of self.new slot ≡ behind n (left_of self.old slot)) }
+        ensures bytes { IfOk result (λ n. ReadsBytes (left_in self.old slot) n buf.old buf.new) }
+        ensures taken { IfOk result (λ n. left_of self.new slot ≡ remaining n (left_of self.old slot)) }
         ensures refused { OnErr result (left_of self.new slot ≡ left_of self.old slot) }
         ensures other { (s : Slot) → s ≢ slot → left_of self.new s ≡ left_of self.old s }
         ensures names { (n : List ℕ) → held_by self.new n ≡ held_by self.old n }
@@ -73,6 +73,6 @@ impl Desk for SteadyDesk {
             self.new ≡ with_left self.old slot (drop n (left_in self.old slot))) }
     {
         let room = buf.len();
-        Ok(self.shelf.read(slot, buf, room))
+        Ok(self.store.read(slot, buf, room))
     }
 }

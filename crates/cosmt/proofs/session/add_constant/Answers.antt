@@ -32,11 +32,11 @@ returns-in-Ok-clause-added c =
 pub returns-in-Err-Refused-clause-added : goal.returns-in-Err-Refused-clause-added
 returns-in-Err-Refused-clause-added c =
     let d = c.args.signature.now in
-    let told : ◌≡◌ {A = Result FunId SigError} (Err c.in-Err-Refused.field-0) (Err (Refused c.in-Err-Refused.field-0-0)) = ap (λ (e : SigError). Err e) c.in-Err-Refused.field-0-is in (
+    let reported : ◌≡◌ {A = Result FunId SigError} (Err c.in-Err-Refused.field-0) (Err (Refused c.in-Err-Refused.field-0-0)) = ap (λ (e : SigError). Err e) c.in-Err-Refused.field-0-is in (
       (λ may. let is : MayDeclare (function_names d) c.in_ok-name.name = subst (MayDeclare (function_names d)) (sym c.in_ok-name.ensures.ok) may in
-          elim (c.in-Err-Refused.ensures.codes c.in-Err-Refused.field-0-0 told) [
-            | inl e ↦ is.available (unavailable-functions d c.requires.only _ (c.in-Err-Refused.ensures.taken.0 (told ∙ ap (λ (n : ℕ). Err (Refused n)) e)))
-            | inr e ↦ absurd (omega (arith, is.few, (c.in-Err-Refused.ensures.full.0 (told ∙ ap (λ (n : ℕ). Err (Refused n)) e)).1, length-map d.functions (λ (f : Function). f.name)))
+          elim (c.in-Err-Refused.ensures.codes c.in-Err-Refused.field-0-0 reported) [
+            | inl e ↦ is.available (unavailable-functions d c.requires.only _ (c.in-Err-Refused.ensures.taken.0 (reported ∙ ap (λ (n : ℕ). Err (Refused n)) e)))
+            | inr e ↦ absurd (omega (arith, is.few, (c.in-Err-Refused.ensures.full.0 (reported ∙ ap (λ (n : ℕ). Err (Refused n)) e)).1, length-map d.functions (λ (f : Function). f.name)))
           ]),
       c.in-Err-Refused.ensures.refused,
     )

@@ -1,6 +1,6 @@
 use Rattle.std.proofs.Common.{subst, sym}
 use Rattle.ct_sorts.specs.Declarations.{bool_sort}
-use Rattle.ct_terms.specs.Table.{Table, StandsSorted}
+use Rattle.ct_terms.specs.Terms.{Terms, StandsSorted}
 use Rattle.ct_terms.specs.declared.term.Core.TheVariants.{Not}
 use Rattle.cosmt.proofs.SessionLemmas.{AreTermsOf-made}
 use Rattle.cosmt.proofs.session.terms_of.Goals as goal
@@ -19,5 +19,5 @@ term_of-requires-clause-well c = (
 pub returns-clause-terms : goal.returns-clause-terms
 returns-clause-terms c =
     let grown = c.in_ok-negation.ensures.grown in
-    let negation = subst (λ (table : Table). StandsSorted c.args.signature.now table (Not c.in_ok-atom.atom) c.in_ok-negation.negation.0) grown.grown c.in_ok-negation.ensures.made in
+    let negation = subst (λ (table : Terms). StandsSorted c.args.signature.now table (Not c.in_ok-atom.atom) c.in_ok-negation.negation.0) grown.grown c.in_ok-negation.ensures.made in
     rw grown.grown (AreTermsOf-made c.args.signature.now c.term_of.new.terms grown.more c.args.f.0 c.new.result _ c.requires.constant c.new.ensures.empty c.in_ok-atom.ensures.made negation)

@@ -9,4 +9,4 @@ loop-constant-preserved c =
     let constants = c.args.constants.now in
     let none : Constant = record { atom = record { 0 = 0 }; negation = record { 0 = 0 } } in
     rw (c.in_ok-push.ensures.items, take_more constants c.loop-constant.constant-index none c.loop-constant-test.true)
-    (AreValues-push c.args.literals.now (take c.loop-constant.constant-index constants) (get_or constants c.loop-constant.constant-index none) c.loop-constant.values.items c.has_bare.result c.loop-constant.invariant c.has_bare.ensures)
+    (AreValues-push c.args.literals.now (take c.loop-constant.constant-index constants) (get_or constants c.loop-constant.constant-index none) c.loop-constant.values.items c.has_positive.result c.loop-constant.invariant c.has_positive.ensures)

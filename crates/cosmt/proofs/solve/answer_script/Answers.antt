@@ -2,34 +2,34 @@ use Rattle.std.proofs.Common.{Err, ap, sym, ◌∙◌}
 use Rattle.ct_io.specs.declared.sink.SinkError.{SinkError}
 use Rattle.cosmt.proofs.FaultLemmas.{Rose-since}
 use Rattle.cosmt.proofs.ReportLemmas.{output_fault, no_input_fault, Solves-broke, Solves-done, Solves-refused}
-use Rattle.cosmt.proofs.ScriptLemmas.{Laws}
+use Rattle.cosmt.proofs.ScriptLemmas.{Theorems}
 use Rattle.cosmt.proofs.solve.answer_script.Goals.{After-one_reading}
 use Rattle.cosmt.proofs.solve.answer_script.Goals as goal
 
--- the laws that were told
-laws : (g : _) (c : After-one_reading g) → Laws
-laws g c =
+-- the theorems that were given
+theorems : (g : _) (c : After-one_reading g) → Theorems
+theorems g c =
     let e = c.one_reading.ensures in
     record {
       one_command = e.one_command;
       one_error = e.one_error;
       error_has_no_command = e.error_has_no_command;
-      error_is_no_layout = e.error_is_no_layout;
-      layout_has_no_command = e.layout_has_no_command;
+      error_is_no_whitespace = e.error_is_no_whitespace;
+      whitespace_has_no_command = e.whitespace_has_no_command;
       error_is_an_end = e.error_is_an_end;
-      layout_is_a_front = e.layout_is_a_front;
+      whitespace_is_a_prefix = e.whitespace_is_a_prefix;
     }
 
 pub returns-in-Ok-None-clause-solved : goal.returns-in-Ok-None-clause-solved
 returns-in-Ok-None-clause-solved g c =
-    Solves-done (laws g (goal.at.returns-in-Ok-None-clause-solved g c).After-one_reading) c.args.reader.now c.requires.short _ _ _ _ _ _ c.in-Ok.ensures c.new-verdicts.ensures.items
+    Solves-done (theorems g (goal.at.returns-in-Ok-None-clause-solved g c).After-one_reading) c.args.reader.now c.requires.short _ _ _ _ _ _ c.in-Ok.ensures c.new-verdicts.ensures.items
     c.requires.line _ c.new-in-Ok-None.ensures.items
     (rw c.in-Ok-None.field-0-is at c.in-Ok-None.ensures.ran)
 
 pub returns-in-Ok-Some-clause-solved : goal.returns-in-Ok-Some-clause-solved
 returns-in-Ok-Some-clause-solved g c =
     rw c.refuse.ensures.verdicts
-    (Solves-refused (laws g (goal.at.returns-in-Ok-Some-clause-solved g c).After-one_reading) c.args.reader.now c.requires.short _ _ _ _ _ _ c.in-Ok.ensures c.new-verdicts.ensures.items
+    (Solves-refused (theorems g (goal.at.returns-in-Ok-Some-clause-solved g c).After-one_reading) c.args.reader.now c.requires.short _ _ _ _ _ _ c.in-Ok.ensures c.new-verdicts.ensures.items
     c.requires.line c.in-Ok-Some.error _ _ _
     (rw c.in-Ok-Some.field-0-is at c.in-Ok-Some.ensures.ran)
     c.refuse.ensures.refused)
@@ -40,7 +40,7 @@ returns-in-Ok-Some-clause-output g c = λ is. Rose-since _ _ _ c.in-Ok-Some.ensu
 pub returns-clause-solved : goal.returns-clause-solved
 returns-clause-solved g c =
     rw (c.status_of.ensures, c.new-in-Err.ensures.items)
-    (Solves-broke (laws g (goal.at.returns-clause-solved g c).After-one_reading) c.args.reader.now c.requires.short _ _ _ _ _ _ c.in-Ok.ensures c.new-verdicts.ensures.items c.in-Err.error c.in-Err.ensures.broke (λ is. c.in-Err.ensures.fault (ap (λ (e : SinkError). Err e) is)))
+    (Solves-broke (theorems g (goal.at.returns-clause-solved g c).After-one_reading) c.args.reader.now c.requires.short _ _ _ _ _ _ c.in-Ok.ensures c.new-verdicts.ensures.items c.in-Err.error c.in-Err.ensures.broke (λ is. c.in-Err.ensures.fault (ap (λ (e : SinkError). Err e) is)))
 
 pub returns-clause-output : goal.returns-clause-output
 returns-clause-output g c = λ is. c.in-Err.ensures.cause.caused (ap (λ (e : SinkError). Err e) (output_fault c.in-Err.error (sym c.status_of.ensures ∙ is)))

@@ -1,5 +1,5 @@
 use Rattle.std.proofs.Common.{rules, arith}
-use Rattle.cosmt.specs.Progress.{Kept, kept}
+use Rattle.cosmt.specs.Progress.{Progress, stored}
 use Rattle.cosmt.proofs.TurnLemmas.{at_err, Answered-start, Answered-more, Broke-later, BrokeInLine-later, Took-start, Took-more}
 use Rattle.cosmt.proofs.turn.answer_all.Goals as goal
 
@@ -12,23 +12,23 @@ loop-error-init g c = record {
 
 pub returns-in_err-take_turn-clause-broke : goal.returns-in_err-take_turn-clause-broke
 returns-in_err-take_turn-clause-broke g c =
-    let old : Kept = kept c.args.session.now c.args.verdicts.now.items (g.K.Sink.written c.args.out.now) in
-    let mid : Kept = kept c.loop-error.session c.loop-error.verdicts.items (g.K.Sink.written c.loop-error.out) in
-    let new : Kept = kept c.take_turn.new.session c.take_turn.new.verdicts.items (g.K.Sink.written c.take_turn.new.out) in
+    let old : Progress = stored c.args.session.now c.args.verdicts.now.items (g.K.Sink.written c.args.out.now) in
+    let mid : Progress = stored c.loop-error.session c.loop-error.verdicts.items (g.K.Sink.written c.loop-error.out) in
+    let new : Progress = stored c.take_turn.new.session c.take_turn.new.verdicts.items (g.K.Sink.written c.take_turn.new.out) in
     at_err c.from_residual.result (Broke-later old mid new c.args.reader.now.bytes c.loop-error.reader.bytes c.loop-error.invariant.answered c.in_err-take_turn.ensures.broke)
 
 pub returns-in_err-take_turn-clause-fault : goal.returns-in_err-take_turn-clause-fault
 returns-in_err-take_turn-clause-fault g c =
-    let old : Kept = kept c.args.session.now c.args.verdicts.now.items (g.K.Sink.written c.args.out.now) in
-    let mid : Kept = kept c.loop-error.session c.loop-error.verdicts.items (g.K.Sink.written c.loop-error.out) in
+    let old : Progress = stored c.args.session.now c.args.verdicts.now.items (g.K.Sink.written c.args.out.now) in
+    let mid : Progress = stored c.loop-error.session c.loop-error.verdicts.items (g.K.Sink.written c.loop-error.out) in
     let later = BrokeInLine-later old mid c.args.reader.now.bytes c.loop-error.reader.bytes c.take_turn.new.verdicts.items (g.K.Sink.written c.take_turn.new.out) c.loop-error.invariant.answered in
     search (rules, later)
 
 pub loop-error-preserved : goal.loop-error-preserved
 loop-error-preserved g c =
-    let old : Kept = kept c.args.session.now c.args.verdicts.now.items (g.K.Sink.written c.args.out.now) in
-    let mid : Kept = kept c.loop-error.session c.loop-error.verdicts.items (g.K.Sink.written c.loop-error.out) in
-    let new : Kept = kept c.take_turn.new.session c.take_turn.new.verdicts.items (g.K.Sink.written c.take_turn.new.out) in
+    let old : Progress = stored c.args.session.now c.args.verdicts.now.items (g.K.Sink.written c.args.out.now) in
+    let mid : Progress = stored c.loop-error.session c.loop-error.verdicts.items (g.K.Sink.written c.loop-error.out) in
+    let new : Progress = stored c.take_turn.new.session c.take_turn.new.verdicts.items (g.K.Sink.written c.take_turn.new.out) in
     let turned = rw c.in-Answered.is at c.in_ok-take_turn.ensures.turned in
     record {
       answered = Answered-more old mid new c.args.reader.now.bytes c.loop-error.reader.bytes c.take_turn.new.reader.bytes c.loop-error.invariant.answered turned.0;

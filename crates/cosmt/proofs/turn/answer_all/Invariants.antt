@@ -1,11 +1,11 @@
 use Rattle.std.proofs.Common.{◌≤◌, length}
-use Rattle.cosmt.specs.Progress.{kept, Answered}
+use Rattle.cosmt.specs.Progress.{stored, Answered}
 use Rattle.cosmt.specs.Turns.{Took}
 use Rattle.cosmt.proofs.turn.answer_all.Given as goal
 
 abbrev pub invariant-loop-error : goal.invariant-loop-error
 invariant-loop-error g l = record {
-  answered : Answered (kept l.initial.session l.initial.verdicts.items (g.K.Sink.written l.initial.out)) l.initial.reader.bytes (kept l.session l.verdicts.items (g.K.Sink.written l.out)) l.reader.bytes;
+  answered : Answered (stored l.initial.session l.initial.verdicts.items (g.K.Sink.written l.initial.out)) l.initial.reader.bytes (stored l.session l.verdicts.items (g.K.Sink.written l.out)) l.reader.bytes;
   took : Took l.initial.reader l.reader;
   later : g.K.Sink.faults l.initial.out ≤ g.K.Sink.faults l.out;
 }

@@ -1,7 +1,7 @@
 use Rattle.std.proofs.Common.{refl}
 use Rattle.ct_sexpr.specs.View.{expression_of}
 use Rattle.ct_sexpr.specs.Answer.{Gives, Ends, Refuses}
-use Rattle.cosmt.specs.Progress.{Kept, kept, AnsweredOne, DeclinedOne}
+use Rattle.cosmt.specs.Progress.{Progress, stored, AnsweredOne, DeclinedOne}
 use Rattle.cosmt.proofs.TurnLemmas.{at_err, Broke-turn, Broke-nothing, Answered-turn, LeavesOver-declined, LeavesOver-refused, LeavesNothing-end}
 use Rattle.cosmt.proofs.turn.take_turn.Goals as goal
 
@@ -14,16 +14,16 @@ returns-in_err-answer-in-Ok-Command-clause-broke g c =
 pub returns-then-branch-clause-turned : goal.returns-then-branch-clause-turned
 returns-then-branch-clause-turned g c =
     let gives : Gives c.args.reader.now c.next.new.self (expression_of c.in-Ok-Command.expr) c.in-Ok-Command.line = rw c.in-Ok-Command.field-0-is at c.in-Ok-Command.ensures.answers in
-    let old : Kept = kept c.args.session.now c.args.verdicts.now.items (g.K.Sink.written c.args.out.now) in
-    let new : Kept = kept c.answer.new.session c.answer.new.verdicts.items (g.K.Sink.written c.answer.new.out) in
+    let old : Progress = stored c.args.session.now c.args.verdicts.now.items (g.K.Sink.written c.args.out.now) in
+    let new : Progress = stored c.answer.new.session c.answer.new.verdicts.items (g.K.Sink.written c.answer.new.out) in
     let one : AnsweredOne old (expression_of c.in-Ok-Command.expr) new = rw c.if-branch.true at c.in_ok-answer-in-Ok-Command.ensures.answered in
     Answered-turn old new c.args.reader.now c.next.new.self _ _ c.requires gives one
 
 pub returns-else-branch-clause-turned : goal.returns-else-branch-clause-turned
 returns-else-branch-clause-turned g c =
     let gives : Gives c.args.reader.now c.next.new.self (expression_of c.in-Ok-Command.expr) c.in-Ok-Command.line = rw c.in-Ok-Command.field-0-is at c.in-Ok-Command.ensures.answers in
-    let old : Kept = kept c.args.session.now c.args.verdicts.now.items (g.K.Sink.written c.args.out.now) in
-    let new : Kept = kept c.answer.new.session c.answer.new.verdicts.items (g.K.Sink.written c.answer.new.out) in
+    let old : Progress = stored c.args.session.now c.args.verdicts.now.items (g.K.Sink.written c.args.out.now) in
+    let new : Progress = stored c.answer.new.session c.answer.new.verdicts.items (g.K.Sink.written c.answer.new.out) in
     let declined : DeclinedOne old (expression_of c.in-Ok-Command.expr) new = rw c.if-branch.false at c.in_ok-answer-in-Ok-Command.ensures.answered in
     (LeavesOver-declined old new c.args.reader.now c.next.new.self _ _ gives declined, declined.same)
 

@@ -1,7 +1,7 @@
 use Rattle.std.proofs.Common.{List, length, map, subst, sym, ◌∙◌}
 use Rattle.ct_values.specs.declared.node.NodeId.{NodeId}
-use Rattle.ct_eval.specs.Index.{AreFirst}
-use Rattle.ct_eval.proofs.StepTerms.{are_first, sorts_sorted}
+use Rattle.ct_eval.specs.Index.{AreRepresentatives}
+use Rattle.ct_eval.proofs.StepTerms.{are_representatives, sorts_sorted}
 use Rattle.ct_eval.proofs.StepTables.{function_table, given_is}
 use Rattle.ct_eval.proofs.StepReady.{all_below}
 use Rattle.ct_eval.proofs.application.apply.Goals as goal
@@ -15,7 +15,7 @@ given-requires c =
     let nodes = c.args.nodes.now in
     let args = c.args.args.now in
     let table = function_table d i c.args.f.0 r.sorted.function c.requires.ready.1 r.sorted.declared in
-    let first = are_first d i r.terms g nodes r.value r.valued args (sorts_sorted r.terms args r.sorted.function.args r.sorted.sorted) (all_below (length nodes) args r.below) in
+    let first = are_representatives d i r.terms g nodes r.value r.valued args (sorts_sorted r.terms args r.sorted.function.args r.sorted.sorted) (all_below (length nodes) args r.below) in
     record {
       fits = (
         i.graph,
@@ -28,7 +28,7 @@ given-requires c =
         table.1,
         c.requires.longer,
         table.2,
-        subst (λ (ns : List NodeId). AreFirst i.graph g ns (map r.value args)) (sym (c.new-args.ensures.value ∙ c.in_ok-nodes_of.ensures.value)) first,
+        subst (λ (ns : List NodeId). AreRepresentatives i.graph g ns (map r.value args)) (sym (c.new-args.ensures.value ∙ c.in_ok-nodes_of.ensures.value)) first,
       );
     }
 
@@ -40,9 +40,9 @@ returns c = record {
       let nodes = c.args.nodes.now in
       let args = c.args.args.now in
       let table = function_table d i c.args.f.0 sorted.function proper sorted.declared in
-      let first = are_first d i terms g nodes value valued args (sorts_sorted terms args sorted.function.args sorted.sorted) (all_below (length nodes) args c.requires.ready.2.below) in
-      let told = c.given.ensures.value i.graph d sorted.function.args sorted.function.result table.0 (map value args) c.requires.funs table.1 c.requires.longer table.2
-      (subst (λ (ns : List NodeId). AreFirst i.graph g ns (map value args)) (sym (c.new-args.ensures.value ∙ c.in_ok-nodes_of.ensures.value)) first)
+      let first = are_representatives d i terms g nodes value valued args (sorts_sorted terms args sorted.function.args sorted.sorted) (all_below (length nodes) args c.requires.ready.2.below) in
+      let reported = c.given.ensures.value i.graph d sorted.function.args sorted.function.result table.0 (map value args) c.requires.funs table.1 c.requires.longer table.2
+      (subst (λ (ns : List NodeId). AreRepresentatives i.graph g ns (map value args)) (sym (c.new-args.ensures.value ∙ c.in_ok-nodes_of.ensures.value)) first)
       c.closed.ensures.closed in
-      (fits, given_is d i g _ table.0 (map value args) sort sorted.function.result c.given.result table.1 sorted.result told.0 told.1);
+      (fits, given_is d i g _ table.0 (map value args) sort sorted.function.result c.given.result table.1 sorted.result reported.0 reported.1);
 }

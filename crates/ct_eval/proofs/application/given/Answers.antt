@@ -2,7 +2,7 @@ use Rattle.std.proofs.Common.{◌≡◌, ◌<◌, length, ap, sym, ◌∙◌, su
 use Rattle.std.proofs.lemmas.Option.{same_Some, slice_get_within}
 use Rattle.ct_values.specs.declared.node.NodeId.{NodeId}
 use Rattle.ct_values.specs.Agreement.{node_point}
-use Rattle.ct_values.specs.Sharing.{IsFirst}
+use Rattle.ct_values.specs.Sharing.{IsRepresentative}
 use Rattle.ct_eval.specs.declared.interp.Table.{Table}
 use Rattle.ct_eval.specs.LookUp.{look_up}
 use Rattle.ct_eval.proofs.StepTables.{look_up_sorted, sorted_within, looked_up}
@@ -29,6 +29,6 @@ returns c = record {
       let longer = c.args.shared.now in
       let one : c.table_at.result.now ≡ table = same_Some c.table_at.result.now table (sym c.table_at.ensures.value ∙ at) in
       let found : c.found-node.result ≡ look_up g table values = c.found-node.ensures.value g longer values c.args.tables.now index c.table_at.ensures.value l first ∙ ap (λ (t : Table). look_up g t values) one in
-      looked_up c.laws.ensures.laws d g longer (look_up g table values) c.first.result sort closed l (look_up_sorted d g sorts sort table values fits)
-      (subst (λ (n : NodeId). IsFirst longer (node_point longer n) c.first.result) found c.first.ensures.first);
+      looked_up c.theorems.ensures.theorems d g longer (look_up g table values) c.first.result sort closed l (look_up_sorted d g sorts sort table values fits)
+      (subst (λ (n : NodeId). IsRepresentative longer (node_point longer n) c.first.result) found c.first.ensures.first);
 }

@@ -5,14 +5,14 @@ use Rattle.ct_terms.specs.declared.ids.TermId.{TermId}
 use Rattle.ct_eval.specs.Truth.{truth_of, Holds}
 use Rattle.ct_eval.proofs.assertions.first_untrue.Goals as goal
 
-pub loop-place-preserved : goal.loop-place-preserved
-loop-place-preserved c = λ d i terms valued.
-    All-more (λ (t : TermId). truth_of d i terms t ≡ true) c.args.asserts.now c.loop-place.place _ (omega arith)
-    (c.loop-place.invariant d i terms valued)
+pub loop-position-preserved : goal.loop-position-preserved
+loop-position-preserved c = λ d i terms valued.
+    All-more (λ (t : TermId). truth_of d i terms t ≡ true) c.args.asserts.now c.loop-position.position _ (omega arith)
+    (c.loop-position.invariant d i terms valued)
     (sym (c.if-not-is_true.ensures.truth d i terms valued))
 
 pub returns : goal.returns
 returns c = record {
-  place = λ d i terms valued.
-      subst (Holds d i terms) (take_all c.loop-place.place c.args.asserts.now (omega arith)) (c.loop-place.invariant d i terms valued);
+  position = λ d i terms valued.
+      subst (Holds d i terms) (take_all c.loop-position.position c.args.asserts.now (omega arith)) (c.loop-position.invariant d i terms valued);
 }

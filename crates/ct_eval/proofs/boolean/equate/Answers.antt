@@ -3,7 +3,7 @@ use Rattle.std.proofs.lemmas.Bool.Decides.{Decides-eqb}
 use Rattle.ct_values.specs.declared.node.NodeId.{NodeId}
 use Rattle.ct_terms.specs.declared.term.Core.TheVariants.{Eq}
 use Rattle.ct_eval.specs.Evaluation.{truth}
-use Rattle.ct_eval.specs.Step.{node_under}
+use Rattle.ct_eval.specs.EvaluationStep.{node_under}
 use Rattle.ct_eval.proofs.StepTerms.{valued_under}
 use Rattle.ct_eval.proofs.StepReady.{ready_Eq}
 use Rattle.ct_eval.proofs.StepTruth.{answered, same_value}
@@ -20,8 +20,8 @@ node_at-requires-2 c =
     record { there = (ready_Eq r.0 c.args.interp.now c.args.shared.now c.args.nodes.now c.args.a c.args.b r.1).1 }
 
 -- the test of two nodes tells whether they are one
-told : (m n : NodeId) (b : Bool) → b ≡ nat_eq m.0 n.0 → IsTrue b ↔ (m ≡ n)
-told m n b is =
+reported : (m n : NodeId) (b : Bool) → b ≡ nat_eq m.0 n.0 → IsTrue b ↔ (m ≡ n)
+reported m n b is =
     let test = Decides-eqb m.0 n.0 in
     (λ e. ap (λ (k : ℕ). record { 0 = k }) (test.0 (sym is ∙ e)), λ e. is ∙ test.1 (ap (λ (k : NodeId). k.0) e))
 
@@ -37,5 +37,5 @@ returns-clause-value c = λ d consistent fits.
     answered d i g c.truth.new.shared nodes (Eq c.args.a c.args.b) c.eq-answer.result c.truth.result (c.truth.ensures.value d i consistent fits) (λ terms value sort valued sorted.
     let left = valued_under d i terms g nodes value valued c.args.a sorted.side sorted.left below.0 in
     let right = valued_under d i terms g nodes value valued c.args.b sorted.side sorted.right below.1 in
-    let same = same_value c.laws.ensures.laws d i g (value c.args.a) (value c.args.b) sorted.side sorted.side m n c.eq-answer.result c.closed.ensures.closed left right (told m n c.eq-answer.result is) in
+    let same = same_value c.theorems.ensures.theorems d i g (value c.args.a) (value c.args.b) sorted.side sorted.side m n c.eq-answer.result c.closed.ensures.closed left right (reported m n c.eq-answer.result is) in
     (ap truth same, sorted.result))

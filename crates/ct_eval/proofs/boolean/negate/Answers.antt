@@ -17,5 +17,5 @@ returns-clause-value c = λ d i consistent fits.
     let g = c.args.shared.now in
     let nodes = c.args.nodes.now in
     answered d i g c.truth.new.shared nodes (Not c.args.t) (not c.is_true-answer.result) c.truth.result (c.truth.ensures.value d i consistent fits) (λ terms value sort valued sorted.
-    let same = c.is_true-answer.ensures.value ∙ true_alike d i terms g nodes value valued c.laws.ensures.laws c.args.t bool_sort sorted.0 c.requires.ready.2.below in
+    let same = c.is_true-answer.ensures.value ∙ true_alike d i terms g nodes value valued c.theorems.ensures.theorems c.args.t bool_sort sorted.0 c.requires.ready.2.below in
     (ap (λ b. truth (not b)) same, sorted.1))

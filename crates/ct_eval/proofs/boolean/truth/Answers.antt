@@ -10,6 +10,6 @@ returns-clause-grown c =
 
 pub returns-clause-value : goal.returns-clause-value
 returns-clause-value c = λ d i consistent fits.
-    truth_constructed c.laws.ensures.laws d i c.args.shared.now c.construct.new.self c.truth_ctor.result c.new-2.result c.args.value c.in_ok-construct.field-0 consistent c.laws.ensures.closed fits c.truth_ctor.ensures.few (c.new-2.ensures.value ∙ c.new.ensures.items) c.truth_ctor.ensures.value
+    truth_constructed c.theorems.ensures.theorems d i c.args.shared.now c.construct.new.self c.truth_ctor.result c.new-2.result c.args.value c.in_ok-construct.field-0 consistent c.theorems.ensures.closed fits c.truth_ctor.ensures.few (c.new-2.ensures.value ∙ c.new.ensures.items) c.truth_ctor.ensures.value
     c.in_ok-construct.ensures.grown
     c.in_ok-construct.ensures.first

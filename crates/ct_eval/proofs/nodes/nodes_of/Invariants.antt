@@ -1,5 +1,5 @@
 use Rattle.std.proofs.Common.{◌≡◌, map, take}
-use Rattle.ct_eval.specs.Step.{node_under}
+use Rattle.ct_eval.specs.EvaluationStep.{node_under}
 use Rattle.ct_eval.proofs.nodes.nodes_of.Given as goal
 
 abbrev pub invariant-loop-t : goal.invariant-loop-t

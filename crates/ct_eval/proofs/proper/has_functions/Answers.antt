@@ -5,10 +5,10 @@ use Rattle.ct_eval.proofs.proper.has_functions.Goals as goal
 
 pub loop-f-preserved : goal.loop-f-preserved
 loop-f-preserved c =
-    let told =
+    let reported =
     function-tested c.args.sig.now c.args.graph.now c.loop-f.f c.fun_args.result.now c.fun_result.result c.index-funs-f.result c.fits_table.result c.fun_args.ensures.value c.fun_result.ensures.value
     c.fits_table.ensures.fits in
-    EachBelow-read (FitsFunction c.args.sig.now c.args.graph.now) c.args.funs.now c.args.funs.now c.loop-f.f c.index-funs-f.result refl c.index-funs-f.is c.loop-f.invariant (told.0 c.if-not-fits_table.false)
+    EachBelow-read (FitsFunction c.args.sig.now c.args.graph.now) c.args.funs.now c.args.funs.now c.loop-f.f c.index-funs-f.result refl c.index-funs-f.is c.loop-f.invariant (reported.0 c.if-not-fits_table.false)
 
 pub returns : goal.returns
 returns c = record {

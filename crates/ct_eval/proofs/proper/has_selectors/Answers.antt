@@ -6,10 +6,10 @@ use Rattle.ct_eval.proofs.proper.has_selectors.Goals as goal
 
 pub loop-s-preserved : goal.loop-s-preserved
 loop-s-preserved c =
-    let told =
+    let reported =
     selector-tested c.args.sig.now c.args.graph.now c.loop-s.s c.sel_ctor.result c.ctor_sort-of.result c.sel_sort.result c.index-offs-s.result c.fits_table.result c.sel_ctor.ensures.value
     c.ctor_sort-of.ensures.value c.sel_sort.ensures.value c.fits_table.ensures.fits in
-    EachBelow-read (FitsSelector c.args.sig.now c.args.graph.now) c.args.offs.now c.args.offs.now c.loop-s.s c.index-offs-s.result refl c.index-offs-s.is c.loop-s.invariant (told.0 c.if-not-fits_table.false)
+    EachBelow-read (FitsSelector c.args.sig.now c.args.graph.now) c.args.offs.now c.args.offs.now c.loop-s.s c.index-offs-s.result refl c.index-offs-s.is c.loop-s.invariant (reported.0 c.if-not-fits_table.false)
 
 pub returns : goal.returns
 returns c = record {

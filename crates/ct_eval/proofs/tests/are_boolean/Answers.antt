@@ -1,7 +1,7 @@
 use Rattle.std.proofs.Common.{All, subst}
 use Rattle.std.proofs.lemmas.List.{take_all}
 use Rattle.std.proofs.lemmas.List.Elements.{All-more}
-use Rattle.ct_terms.specs.Table.{IsBoolean}
+use Rattle.ct_terms.specs.Terms.{IsBoolean}
 use Rattle.ct_eval.proofs.tests.are_boolean.Goals as goal
 
 pub loop-t-preserved : goal.loop-t-preserved

@@ -1,5 +1,5 @@
 use Rattle.std.proofs.Common.{◌≡◌, length}
-use Rattle.ct_eval.specs.Step.{HaveNodes}
+use Rattle.ct_eval.specs.EvaluationStep.{HaveNodes}
 use Rattle.ct_eval.proofs.valuation.all_nodes.Given as goal
 
 -- so many terms have nodes

@@ -1,6 +1,6 @@
 use Rattle.std.proofs.Common.{rules, ◌<◌, length, ◌++◌, take, arith}
 use Rattle.std.proofs.lemmas.List.{take_rest}
-use Rattle.ct_io.proofs.Fronts.{written_part, written_more}
+use Rattle.ct_io.proofs.Prefixes.{written_part, written_more}
 use Rattle.ct_io.proofs.sink.write_all.Goals as goal
 
 pub returns-in_err-n-clause-refused : goal.returns-in_err-n-clause-refused

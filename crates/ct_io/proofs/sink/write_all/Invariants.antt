@@ -1,10 +1,10 @@
 use Rattle.std.proofs.Common.{ℕ, List, length, ◌≤◌}
-use Rattle.ct_io.proofs.Fronts.{IsWrittenUpTo}
+use Rattle.ct_io.proofs.Prefixes.{IsWrittenUpTo}
 use Rattle.ct_io.proofs.sink.write_all.Given as goal
 
 abbrev pub invariant-loop-rest : goal.invariant-loop-rest
 invariant-loop-rest g l = record {
-  written : (front : List ℕ) × IsWrittenUpTo l.fn.piece front l.rest (g.K.Sink.written l.fn.sink) (g.K.Sink.written l.sink);
+  written : (prefix : List ℕ) × IsWrittenUpTo l.fn.piece prefix l.rest (g.K.Sink.written l.fn.sink) (g.K.Sink.written l.sink);
   later : g.K.Sink.faults l.fn.sink ≤ g.K.Sink.faults l.sink;
 }
 

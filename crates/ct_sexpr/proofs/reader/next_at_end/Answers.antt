@@ -9,7 +9,7 @@ pub lexical-requires : goal.lexical-requires
 lexical-requires c =
     let read = c.requires.read in
     let wrong = c.in-Some.ensures.ends read.0 read.1 in
-    record { few = omega (arith, read.2, line_fits c.args.scanner.now read.0 c.in-Some.code wrong.place wrong.error wrong.line) }
+    record { few = omega (arith, read.2, line_fits c.args.scanner.now read.0 c.in-Some.code wrong.suffix wrong.error wrong.line) }
 
 pub returns-in-Some : goal.returns-in-Some
 returns-in-Some c = record {

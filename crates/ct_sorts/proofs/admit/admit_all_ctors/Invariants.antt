@@ -1,4 +1,4 @@
-use Rattle.ct_sorts.specs.Names.{IsUnavailable}
+use Rattle.ct_sorts.specs.Availability.{IsUnavailable}
 use Rattle.ct_sorts.specs.Declarations.{symbol_names}
 use Rattle.ct_sorts.specs.Lookup.{names_of}
 use Rattle.ct_sorts.specs.Block.{ctor_symbols}

@@ -4,7 +4,7 @@ use Rattle.std.proofs.lemmas.List.Concat.{flat_map_single}
 use Rattle.std.proofs.lemmas.Result.{err_from_is_err_and}
 use Rattle.std.specs.List.{flat_map}
 use Rattle.ct_sorts.specs.declared.block.SortDecl.{SortDecl}
-use Rattle.ct_sorts.specs.Names.{IsUnavailableSort, HasUnavailableSort}
+use Rattle.ct_sorts.specs.Availability.{IsUnavailableSort, HasUnavailableSort}
 use Rattle.ct_sorts.specs.Declarations.{sort_names}
 use Rattle.ct_sorts.specs.Lookup.{names_of}
 use Rattle.ct_sorts.specs.Block.{block_names}

@@ -1,5 +1,5 @@
 use Rattle.std.proofs.Common.{[], ◌∷◌}
-use Rattle.ct_sorts.specs.Names.{IsUnavailableSort}
+use Rattle.ct_sorts.specs.Availability.{IsUnavailableSort}
 use Rattle.ct_sorts.specs.Declarations.{sort_names}
 use Rattle.ct_sorts.specs.Lookup.{names_of}
 use Rattle.ct_sorts.specs.declared.block.SortDecl.{SortDecl}

@@ -3,7 +3,7 @@ use Rattle.std.proofs.lemmas.Option.{slice_get_read}
 use Rattle.std.proofs.lemmas.Bool.{false≢true}
 use Rattle.ct_sorts.specs.Lookup.{names_of}
 use Rattle.ct_sorts.proofs.Lists.{slice_get_there}
-use Rattle.ct_sorts.proofs.MarkedLemmas.{IsRound-marked, IsRound-kept, IsRound-start}
+use Rattle.ct_sorts.proofs.MarkedLemmas.{IsRound-marked, IsRound-stored, IsRound-start}
 use Rattle.ct_sorts.proofs.founded.mark_round.Goals as goal
 use Rattle.ct_sorts.proofs.founded.mark_round.Goals.{then-not-marks-i+then-is_built, else-not-marks-i, else-not-marks-i-via-then-not-marks-i+else-is_built, else-not-marks-i-via-else-not-marks-i}
 
@@ -22,9 +22,9 @@ loop-i-preserved c =
       | else-not-marks-i w ↦
           rw (w.marks-is, w.changed-is) (elim w.else-not-marks-i.branch [
             | else-not-marks-i-via-then-not-marks-i+else-is_built w' ↦
-                IsRound-kept own block c.args.marks.now marks c.loop-i.changed i w'.index-block-i.result (slice_get_read block _ i w'.index-block-i.result refl c.loop-i-test.true w'.index-block-i.is) c.loop-i.invariant (λ built. absurd (false≢true (sym w'.if-is_built.false ∙ w'.is_built.ensures.value ∙ built)))
+                IsRound-stored own block c.args.marks.now marks c.loop-i.changed i w'.index-block-i.result (slice_get_read block _ i w'.index-block-i.result refl c.loop-i-test.true w'.index-block-i.is) c.loop-i.invariant (λ built. absurd (false≢true (sym w'.if-is_built.false ∙ w'.is_built.ensures.value ∙ built)))
             | else-not-marks-i-via-else-not-marks-i w' ↦
                 let at = slice_get_there block i c.loop-i-test.true in
-                IsRound-kept own block c.args.marks.now marks c.loop-i.changed i at.0 at.1 c.loop-i.invariant (λ _. w'.if-not-marks-i.false)
+                IsRound-stored own block c.args.marks.now marks c.loop-i.changed i at.0 at.1 c.loop-i.invariant (λ _. w'.if-not-marks-i.false)
           ])
     ]

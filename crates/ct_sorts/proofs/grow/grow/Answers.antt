@@ -1,7 +1,7 @@
 use Rattle.std.proofs.Common.{◌++◌, map, sym, subst}
 use Rattle.ct_sorts.specs.Lookup.{AreDistinct, names_of}
 use Rattle.ct_sorts.specs.Declarations.{Selector}
-use Rattle.ct_sorts.specs.Kept.{sel_of}
+use Rattle.ct_sorts.specs.Stored.{sel_of}
 use Rattle.ct_sorts.specs.Block.{block_ctors, new_sels, sort_of_field}
 use Rattle.ct_sorts.proofs.grow.grow.Goals as goal
 

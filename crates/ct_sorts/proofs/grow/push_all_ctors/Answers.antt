@@ -5,7 +5,7 @@ use Rattle.ct_sorts.specs.declared.block.CtorDecl.{CtorDecl}
 use Rattle.ct_sorts.specs.declared.block.SortDecl.{SortDecl}
 use Rattle.ct_sorts.specs.Declarations.{Constructor}
 use Rattle.ct_sorts.specs.Lookup.{AreDistinct}
-use Rattle.ct_sorts.specs.Kept.{ctor_of}
+use Rattle.ct_sorts.specs.Stored.{ctor_of}
 use Rattle.ct_sorts.specs.Block.{all_fields, new_ctors, ctors_of_sort}
 use Rattle.ct_sorts.proofs.AdmitLemmas.{flat_map-flat_map, flat_map-take_more}
 use Rattle.ct_sorts.proofs.PieceLemmas.{Begins-trans, piece_more, piece_distinct}
@@ -30,5 +30,5 @@ loop-decl-preserved c =
       sorts_counted = omega (arith, c.loop-decl.invariant.sorts_counted);
       counted = omega (arith, c.loop-decl.invariant.counted, next, ap length (flat_map-take_more (λ (s : SortDecl). all_fields s.ctors) c.args.block.now c.loop-decl.decl-index c.decl-item.result c.loop-decl-test.true c.decl-item.is), length-append (flat_map (λ (s : SortDecl). all_fields s.ctors) (take c.loop-decl.decl-index c.args.block.now)) (all_fields c.decl-item.result.ctors));
       all = subst (λ n. map ctor_of c.push_ctors.new.ctors ++ new_ctors (c.loop-decl.sort + 1) n (drop (c.loop-decl.decl-index + 1) c.args.block.now) ≡ map ctor_of c.args.ctors.now ++ new_ctors c.args.first_sort c.args.first_sel c.args.block.now) (sym next) (piece_more (λ (k : ℕ × ℕ) (ss : List SortDecl). new_ctors k.0 k.1 ss) (λ (k : ℕ × ℕ) (s : SortDecl). ctors_of_sort k.0 k.1 s.ctors) (λ (k : ℕ × ℕ) (s : SortDecl). (k.0 + 1, k.1 + length (all_fields s.ctors))) (λ _ _ _. refl) c.args.block.now c.loop-decl.decl-index c.decl-item.result c.loop-decl-test.true c.decl-item.is (c.loop-decl.sort, c.loop-decl.sel) (map ctor_of c.loop-decl.ctors) _ c.loop-decl.invariant.all (map ctor_of c.push_ctors.new.ctors) put);
-      kept = Begins-trans c.args.ctors.now c.loop-decl.ctors c.push_ctors.new.ctors c.loop-decl.invariant.kept c.in_ok-sel.ensures.kept;
+      stored = Begins-trans c.args.ctors.now c.loop-decl.ctors c.push_ctors.new.ctors c.loop-decl.invariant.stored c.in_ok-sel.ensures.stored;
     }

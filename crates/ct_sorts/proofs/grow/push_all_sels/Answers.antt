@@ -4,7 +4,7 @@ use Rattle.ct_sorts.specs.declared.block.CtorDecl.{CtorDecl}
 use Rattle.ct_sorts.specs.declared.block.SortDecl.{SortDecl}
 use Rattle.ct_sorts.specs.Declarations.{Selector}
 use Rattle.ct_sorts.specs.Lookup.{AreDistinct, names_of}
-use Rattle.ct_sorts.specs.Kept.{sel_of}
+use Rattle.ct_sorts.specs.Stored.{sel_of}
 use Rattle.ct_sorts.specs.Block.{block_ctors, all_fields, new_sels, sort_of_field}
 use Rattle.ct_sorts.proofs.AdmitLemmas.{flat_map-flat_map, flat_map-take_more}
 use Rattle.ct_sorts.proofs.BlockLemmas.{new_sels-append}
@@ -29,7 +29,7 @@ loop-decl-preserved c =
     record {
       counted = omega (arith, c.loop-decl.invariant.counted, count, ap length (flat_map-take_more (λ (s : SortDecl). s.ctors) c.args.block.now c.loop-decl.decl-index c.decl-item.result c.loop-decl-test.true c.decl-item.is), length-append (block_ctors (take c.loop-decl.decl-index c.args.block.now)) c.decl-item.result.ctors);
       all = subst (λ n. map sel_of c.push_sels.new.sels ++ new_sels (sort_of_field (names_of c.args.sorts.now) (names_of c.args.own.now)) (c.loop-decl.next + n) (block_ctors (drop (c.loop-decl.decl-index + 1) c.args.block.now)) ≡ map sel_of c.args.sels.now ++ new_sels (sort_of_field (names_of c.args.sorts.now) (names_of c.args.own.now)) c.args.first (block_ctors c.args.block.now)) (sym count) (piece_more (λ (k : ℕ) (ss : List SortDecl). new_sels (sort_of_field (names_of c.args.sorts.now) (names_of c.args.own.now)) k (block_ctors ss)) (λ (k : ℕ) (s : SortDecl). new_sels (sort_of_field (names_of c.args.sorts.now) (names_of c.args.own.now)) k s.ctors) (λ (k : ℕ) (s : SortDecl). k + length s.ctors) (λ k s ss. new_sels-append (sort_of_field (names_of c.args.sorts.now) (names_of c.args.own.now)) k s.ctors (block_ctors ss)) c.args.block.now c.loop-decl.decl-index c.decl-item.result c.loop-decl-test.true c.decl-item.is c.loop-decl.next (map sel_of c.loop-decl.sels) _ c.loop-decl.invariant.all (map sel_of c.push_sels.new.sels) put);
-      kept = Begins-trans c.args.sels.now c.loop-decl.sels c.push_sels.new.sels c.loop-decl.invariant.kept c.in_ok-push_sels.ensures.kept;
+      stored = Begins-trans c.args.sels.now c.loop-decl.sels c.push_sels.new.sels c.loop-decl.invariant.stored c.in_ok-push_sels.ensures.stored;
     }
 
 pub overflow_add-next : goal.overflow_add-next

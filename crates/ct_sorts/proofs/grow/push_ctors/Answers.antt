@@ -2,10 +2,10 @@ use Rattle.std.proofs.Common.{◌≡◌, ℕ, ◌+◌, List, [], ◌∷◌, ◌+
 use Rattle.std.proofs.lemmas.List.{map-append}
 use Rattle.std.proofs.lemmas.List.Folds.{length-flat_map-take}
 use Rattle.ct_sorts.specs.declared.block.CtorDecl.{CtorDecl}
-use Rattle.ct_sorts.specs.Names.{IsListed}
+use Rattle.ct_sorts.specs.Availability.{IsListed}
 use Rattle.ct_sorts.specs.Declarations.{Constructor, sel_ids}
 use Rattle.ct_sorts.specs.Lookup.{names_of}
-use Rattle.ct_sorts.specs.Kept.{ctor_of}
+use Rattle.ct_sorts.specs.Stored.{ctor_of}
 use Rattle.ct_sorts.specs.Block.{all_fields, ctors_of_sort}
 use Rattle.ct_sorts.proofs.AdmitLemmas.{flat_map-take_more}
 use Rattle.ct_sorts.proofs.PieceLemmas.{Begins-more, piece_more, piece_distinct, piece_fresh}
@@ -25,7 +25,7 @@ loop-decl-preserved c =
     record {
       counted = omega (arith, c.loop-decl.invariant.counted, c.len-count.ensures.len, ap length (flat_map-take_more (λ (t : CtorDecl). t.fields) c.args.decls.now c.loop-decl.decl-index c.decl-item.result c.loop-decl-test.true c.decl-item.is), length-append (all_fields (take c.loop-decl.decl-index c.args.decls.now)) c.decl-item.result.fields);
       all = subst (λ n. map ctor_of c.push.new.self ++ ctors_of_sort c.args.sort (c.loop-decl.next + n) (drop (c.loop-decl.decl-index + 1) c.args.decls.now) ≡ map ctor_of c.args.ctors.now ++ ctors_of_sort c.args.sort c.args.first c.args.decls.now) (sym c.len-count.ensures.len) (piece_more (λ (k : ℕ) (ts : List CtorDecl). ctors_of_sort c.args.sort k ts) (λ (k : ℕ) (t : CtorDecl). record { name = t.name; sort = record { 0 = c.args.sort }; sels = sel_ids k (length t.fields) } ∷ []) (λ (k : ℕ) (t : CtorDecl). k + length t.fields) (λ _ _ _. refl) c.args.decls.now c.loop-decl.decl-index c.decl-item.result c.loop-decl-test.true c.decl-item.is c.loop-decl.next (map ctor_of c.loop-decl.ctors) _ c.loop-decl.invariant.all (map ctor_of c.push.new.self) put);
-      kept = Begins-more c.args.ctors.now c.loop-decl.ctors c.push.new.self _ c.loop-decl.invariant.kept c.in_ok-push.ensures.ok;
+      stored = Begins-more c.args.ctors.now c.loop-decl.ctors c.push.new.self _ c.loop-decl.invariant.stored c.in_ok-push.ensures.ok;
     }
 
 pub sel_ids-requires : goal.sel_ids-requires

@@ -1,10 +1,10 @@
 use Rattle.std.proofs.Common.{◌≡◌, ℕ, ◌+◌, List, [], ◌∷◌, ◌++◌, map, refl, sym, ◌∙◌, ap, subst, arith}
 use Rattle.std.proofs.lemmas.List.{map-append}
 use Rattle.ct_sorts.specs.declared.block.Field.{Field}
-use Rattle.ct_sorts.specs.Names.{IsListed}
+use Rattle.ct_sorts.specs.Availability.{IsListed}
 use Rattle.ct_sorts.specs.Declarations.{Selector}
 use Rattle.ct_sorts.specs.Lookup.{names_of}
-use Rattle.ct_sorts.specs.Kept.{sel_of}
+use Rattle.ct_sorts.specs.Stored.{sel_of}
 use Rattle.ct_sorts.specs.Block.{sels_of_ctor, sort_of_field}
 use Rattle.ct_sorts.proofs.PieceLemmas.{Begins-more, piece_more, piece_distinct, piece_fresh}
 use Rattle.ct_sorts.proofs.grow.push_fields.Goals as goal
@@ -23,5 +23,5 @@ loop-field-preserved c =
     record {
       counted = omega (arith, c.loop-field.invariant.counted);
       all = piece_more (λ (k : ℕ) (fs : List Field). sels_of_ctor (sort_of_field (names_of c.args.sorts.now) (names_of c.args.own.now)) c.args.ctor.0 k fs) (λ (k : ℕ) (f : Field). record { name = f.name; ctor = record { 0 = c.args.ctor.0 }; place = k; sort = (sort_of_field (names_of c.args.sorts.now) (names_of c.args.own.now)) f.sort } ∷ []) (λ (k : ℕ) (f : Field). k + 1) (λ _ _ _. refl) c.args.fields.now c.loop-field.field-index c.field-item.result c.loop-field-test.true c.field-item.is c.loop-field.place (map sel_of c.loop-field.sels) _ c.loop-field.invariant.all (map sel_of c.push.new.self) put;
-      kept = Begins-more c.args.sels.now c.loop-field.sels c.push.new.self _ c.loop-field.invariant.kept c.in_ok-push.ensures.ok;
+      stored = Begins-more c.args.sels.now c.loop-field.sels c.push.new.self _ c.loop-field.invariant.stored c.in_ok-push.ensures.ok;
     }

@@ -4,7 +4,7 @@ use Rattle.ct_sorts.specs.declared.block.Field.{Field}
 use Rattle.ct_sorts.specs.declared.block.CtorDecl.{CtorDecl}
 use Rattle.ct_sorts.specs.Declarations.{Selector}
 use Rattle.ct_sorts.specs.Lookup.{AreDistinct, names_of}
-use Rattle.ct_sorts.specs.Kept.{sel_of}
+use Rattle.ct_sorts.specs.Stored.{sel_of}
 use Rattle.ct_sorts.specs.Block.{new_sels, sels_of_ctor, sort_of_field}
 use Rattle.ct_sorts.proofs.PieceLemmas.{Begins-trans, piece_more, piece_distinct}
 use Rattle.ct_sorts.proofs.grow.push_sels.Goals as goal
@@ -25,5 +25,5 @@ loop-decl-preserved c =
     record {
       counted = omega (arith, c.loop-decl.invariant.counted);
       all = piece_more (λ (k : ℕ) (ts : List CtorDecl). new_sels (sort_of_field (names_of c.args.sorts.now) (names_of c.args.own.now)) k ts) (λ (k : ℕ) (t : CtorDecl). sels_of_ctor (sort_of_field (names_of c.args.sorts.now) (names_of c.args.own.now)) k 0 t.fields) (λ (k : ℕ) (t : CtorDecl). k + 1) (λ _ _ _. refl) c.args.decls.now c.loop-decl.decl-index c.decl-item.result c.loop-decl-test.true c.decl-item.is c.loop-decl.ctor (map sel_of c.loop-decl.sels) _ c.loop-decl.invariant.all (map sel_of c.push_fields.new.sels) put;
-      kept = Begins-trans c.args.sels.now c.loop-decl.sels c.push_fields.new.sels c.loop-decl.invariant.kept c.in_ok-push_fields.ensures.kept;
+      stored = Begins-trans c.args.sels.now c.loop-decl.sels c.push_fields.new.sels c.loop-decl.invariant.stored c.in_ok-push_fields.ensures.stored;
     }

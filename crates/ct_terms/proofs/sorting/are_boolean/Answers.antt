@@ -2,7 +2,7 @@ use Rattle.std.proofs.Common.{◌≡◌, ℕ, ◌<◌, zero, suc, false, nat_eq,
 use Rattle.std.proofs.lemmas.List.Elements.{All-more}
 use Rattle.std.proofs.lemmas.List.{take_all}
 use Rattle.ct_sorts.specs.Declarations.{bool_sort}
-use Rattle.ct_terms.specs.Table.{IsBoolean}
+use Rattle.ct_terms.specs.Terms.{IsBoolean}
 use Rattle.ct_terms.proofs.sorting.are_boolean.Goals as goal
 
 -- a number that the test tells apart from 0 is above it

@@ -4,8 +4,8 @@ use Rattle.ct_terms.proofs.sorting.is_well_sorted.Goals as goal
 
 pub returns-in-Not : goal.returns-in-Not
 returns-in-Not c =
-    let told = c.is_of_sort.ensures.sorted in
-    rw c.in-Not.is (record { sorted = (λ yes. (bool_sort, (told.0 yes, refl)), λ h. told.1 h.1.0) })
+    let reported = c.is_of_sort.ensures.sorted in
+    rw c.in-Not.is (record { sorted = (λ yes. (bool_sort, (reported.0 yes, refl)), λ h. reported.1 h.1.0) })
 
 pub returns-then-is_of_sort : goal.returns-then-is_of_sort
 returns-then-is_of_sort c =

@@ -16,10 +16,10 @@ loop-n-preserved c =
     let done = c.in_ok-number.ensures in
     let none : NodeId = record { 0 = 0 } in
     let node = get_or nodes c.loop-n.n-index none in
-    let kept : StandFor new c.loop-n.places.items before = StandFor-stay old new c.loop-n.places.items before done.stay c.loop-n.invariant.2 in (
+    let stored : StandFor new c.loop-n.indices.items before = StandFor-stay old new c.loop-n.indices.items before done.stay c.loop-n.invariant.2 in (
       done.numbering,
       Stay-trans c.args.ids.now.keys old new c.loop-n.invariant.1 done.stay,
       rw (c.in_ok-push.ensures.items, take_more nodes c.loop-n.n-index none c.loop-n-test.true)
-          (AllZip-push (λ p n. slice_get new p.0 ≡ Some n.0) c.loop-n.places.items before c.in_ok-number.field-0 node kept done.at),
-      rw c.in_ok-push.ensures.items (CountsUp-push (length c.args.ids.now.keys) (length old) (length new) c.loop-n.places.items c.in_ok-number.field-0 c.loop-n.invariant.3 done.counts),
+          (AllZip-push (λ p n. slice_get new p.0 ≡ Some n.0) c.loop-n.indices.items before c.in_ok-number.field-0 node stored done.at),
+      rw c.in_ok-push.ensures.items (CountsUp-push (length c.args.ids.now.keys) (length old) (length new) c.loop-n.indices.items c.in_ok-number.field-0 c.loop-n.invariant.3 done.counts),
     )

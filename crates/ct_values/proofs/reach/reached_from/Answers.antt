@@ -1,11 +1,11 @@
 use Rattle.std.proofs.Common.{◌≡◌, length, Some, slice_get, sym, ap, subst, ◌∙◌, arith}
 use Rattle.ct_values.specs.Graph.{Nodes}
-use Rattle.ct_values.specs.Smallest.{IsBreadthFirst}
-use Rattle.ct_values.specs.Numbered.{IsInOrder}
+use Rattle.ct_values.specs.Minimal.{IsBreadthFirst}
+use Rattle.ct_values.specs.Numbering.{IsInOrder}
 use Rattle.ct_values.specs.Renumbering.{IsPart}
 use Rattle.ct_values.proofs.CountLemmas.{CountsUp-first}
 use Rattle.ct_values.proofs.NumberedLemmas.{IsBreadthFirst-numbered}
-use Rattle.ct_values.proofs.RenumberLemmas.{IsClosed-renumbered, unique_places}
+use Rattle.ct_values.proofs.RenumberLemmas.{IsClosed-renumbered, unique_indices}
 use Rattle.ct_values.proofs.reach.reached_from.Goals as goal
 
 pub from_nodes-requires : goal.from_nodes-requires
@@ -19,14 +19,14 @@ returns-clause-part c =
     let root = c.args.root.0 in
     let done = c.in_ok-nodes.ensures in
     let numbered = c.in_ok-number.ensures in
-    let place = c.in_ok-number.field-0.0 in
+    let index = c.in_ok-number.field-0.0 in
     let keys = c.renumber_all.new.ids.keys in
     let nodes = c.in_ok-nodes.nodes in
-    let start = CountsUp-first (length c.new-ids.result.keys) place (length c.number.new.ids.keys) (omega (arith, c.new-ids.ensures.len)) numbered.counts in
-    let at : slice_get keys 0 ≡ Some root = ap (slice_get keys) (sym start.0) ∙ done.stay place root numbered.at in
+    let start = CountsUp-first (length c.new-ids.result.keys) index (length c.number.new.ids.keys) (omega (arith, c.new-ids.ensures.len)) numbered.counts in
+    let at : slice_get keys 0 ≡ Some root = ap (slice_get keys) (sym start.0) ∙ done.stay index root numbered.at in
     let is : IsPart g root nodes = record {
       ids = keys;
-      unique = unique_places keys done.numbering.unique;
+      unique = unique_indices keys done.numbering.unique;
       first = at;
       all = done.all;
       renumbered = done.renumbered;

@@ -8,8 +8,8 @@ use Rattle.ct_values.specs.declared.node.Node.TheVariants.{Con, Elem}
 use Rattle.ct_values.specs.declared.node.Head.{Head}
 use Rattle.ct_values.specs.Graph.{Nodes, node_head, node_children}
 use Rattle.ct_values.specs.Packed.{node_of}
-use Rattle.ct_values.specs.Smallest.{child_numbers}
-use Rattle.ct_values.specs.Numbered.{CountsUp, IsInOrder}
+use Rattle.ct_values.specs.Minimal.{child_numbers}
+use Rattle.ct_values.specs.Numbering.{CountsUp, IsInOrder}
 use Rattle.ct_values.specs.Renumbering.{StandFor, IsRenumbered, AreRenumbered}
 use Rattle.ct_values.proofs.GraphLemmas.{All-at, option_map-Some}
 use Rattle.ct_values.proofs.NumberedLemmas.{IsInOrder-push}
@@ -23,10 +23,10 @@ nearer : (bound : ℕ) (nodes more : List Node) (node : Node) → more ≡ nodes
 nearer bound nodes more node e less = omega (arith, ap length e, length-append nodes (node ∷ []))
 
 -- numbers that stand for a node's children are the children of a node with its head, also where it is an element and so has none
-children_kept : (ids : List ℕ) (source : Node) (ps : List NodeId) → StandFor ids ps (node_children source) → node_children (node_of (node_head source) ps) ≡ ps
-children_kept ids (Con c ns) ps stand = refl
-children_kept ids (Elem s n) [] stand = refl
-children_kept ids (Elem s n) (p ∷ ps) stand = absurd stand
+children_stored : (ids : List ℕ) (source : Node) (ps : List NodeId) → StandFor ids ps (node_children source) → node_children (node_of (node_head source) ps) ≡ ps
+children_stored ids (Con c ns) ps stand = refl
+children_stored ids (Elem s n) [] stand = refl
+children_stored ids (Elem s n) (p ∷ ps) stand = absurd stand
 
 -- a node with the head of another, over numbers that stand for its children: it is that node renumbered, and its children are these numbers
 renumbered_node : (g : Nodes) (ids : List ℕ) (n : ℕ) (head : Head) (ps ns : List NodeId) → option_map node_head (slice_get g n) ≡ Some head → option_map node_children (slice_get g n) ≡ Some ns → StandFor ids ps ns → IsRenumbered g ids n (node_of head ps) × (node_children (node_of head ps) ≡ ps)
@@ -35,14 +35,14 @@ renumbered_node g ids n head ps ns at_head at_children stand =
     let source = found.0 in
     let same : ns ≡ node_children source = same_Some ns (node_children source) (sym at_children ∙ ap (option_map node_children) found.1) in
     let stands : StandFor ids ps (node_children source) = subst (StandFor ids ps) same stand in
-    let kept : node_children (node_of head ps) ≡ ps = subst (λ (h : Head). node_children (node_of h ps) ≡ ps) found.2 (children_kept ids source ps stands) in (
+    let stored : node_children (node_of head ps) ≡ ps = subst (λ (h : Head). node_children (node_of h ps) ≡ ps) found.2 (children_stored ids source ps stands) in (
       record {
         source = source;
         stands = found.1;
         head = node_head-of head ps ∙ sym found.2;
-        children = subst (λ (qs : List NodeId). StandFor ids qs (node_children source)) (sym kept) stands;
+        children = subst (λ (qs : List NodeId). StandFor ids qs (node_children source)) (sym stored) stands;
       },
-      kept,
+      stored,
     )
 
 pub children-requires : goal.children-requires
@@ -71,14 +71,14 @@ loop-id-preserved c =
     let old = c.loop-id.ids.keys in
     let new = c.number_all.new.ids.keys in
     let nodes = c.loop-id.nodes in
-    let places = c.deref.result.now in
-    let node = node_of c.head.result places in
+    let indices = c.deref.result.now in
+    let node = node_of c.head.result indices in
     let first = length c.args.ids.now.keys in
     let done = c.in_ok-children.ensures in
     let turn : slice_get old (length nodes) ≡ Some n = ap (slice_get old) (sym c.len.ensures.count) ∙ sym c.get_index.ensures.key ∙ sym c.copied.ensures ∙ c.in-Some.is in
     let room : length nodes < length new = slice_get_within new (length nodes) n (done.stay (length nodes) n turn) in
-    let stand : StandFor new places c.children.result.now = subst (λ (ps : List NodeId). StandFor new ps c.children.result.now) (sym c.deref.ensures.value) done.stand in
-    let one = renumbered_node g new n c.head.result places c.children.result.now c.head.ensures.value c.children.ensures.value stand in
+    let stand : StandFor new indices c.children.result.now = subst (λ (ps : List NodeId). StandFor new ps c.children.result.now) (sym c.deref.ensures.value) done.stand in
+    let one = renumbered_node g new n c.head.result indices c.children.result.now c.head.ensures.value c.children.ensures.value stand in
     let counts : CountsUp (length old) (child_numbers node) (length new) = subst (λ (ps : List NodeId). CountsUp (length old) (map (λ p. p.0) ps) (length new)) (sym (one.1 ∙ c.deref.ensures.value)) done.counts in
     let all : AreRenumbered g new (nodes ++ node ∷ []) = AreRenumbered-push g old new nodes n node done.stay turn c.loop-id.invariant.2 one.0 in (
       done.numbering,

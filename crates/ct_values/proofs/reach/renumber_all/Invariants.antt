@@ -1,5 +1,5 @@
 use Rattle.std.proofs.Common.{◌≤◌, ◌-◌, length}
-use Rattle.ct_values.specs.Numbered.{IsInOrder}
+use Rattle.ct_values.specs.Numbering.{IsInOrder}
 use Rattle.ct_values.specs.Renumbering.{IsNumbering, Stay, AreRenumbered}
 use Rattle.ct_values.proofs.reach.renumber_all.Given as goal
 

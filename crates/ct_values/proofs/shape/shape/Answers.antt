@@ -20,11 +20,11 @@ loop-child-preserved c =
     let before = take c.loop-child.child-index children in
     let done = c.in_ok-last-2.ensures in
     let last = c.in_ok-last-2.last in
-    let kept : Spells new c.loop-child.last head (map class_of before) = Spells-stay old new c.loop-child.last head (map class_of before) done.stay c.loop-child.invariant.2 in (
+    let stored : Spells new c.loop-child.last head (map class_of before) = Spells-stay old new c.loop-child.last head (map class_of before) done.stay c.loop-child.invariant.2 in (
       done.steps,
       Stay-trans c.args.steps.now.keys old new c.loop-child.invariant.1 done.stay,
       rw (take_more children c.loop-child.child-index none c.loop-child-test.true, map-append class_of before (child ∷ []))
-          (Spells-push new c.loop-child.last last head (map class_of before) (class_of child) kept done.at),
+          (Spells-push new c.loop-child.last last head (map class_of before) (class_of child) stored done.at),
     )
 
 pub returns-clause-within : goal.returns-clause-within

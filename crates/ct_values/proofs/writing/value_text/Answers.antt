@@ -1,6 +1,6 @@
 use Rattle.std.proofs.Common.{Result, Ok, Err, IfOk, MatchOption, subst, inl, inr}
 use Rattle.ct_values.specs.ValueText.{IsTreeText, IsTooGreat}
-use Rattle.ct_values.proofs.FittingLemmas.{smallest_fits}
+use Rattle.ct_values.proofs.FittingLemmas.{minimal_fits}
 use Rattle.ct_values.proofs.writing.value_text.Goals as goal
 
 -- what follows of each value that a result has
@@ -16,7 +16,7 @@ returns-in-Some c =
     record { text = inl (subst (λ found. MatchOption found (IsTooGreat g root) (λ text. IsTreeText d g root text.items)) c.in-Some.is c.in_ok-text.ensures.text) }
 
 pub graph_text-requires : goal.graph_text-requires
-graph_text-requires c = record { fits = smallest_fits c.args.sig.now c.args.g.now c.args.root c.in_ok-smallest.smallest c.requires.fits c.in_ok-smallest.ensures.smallest }
+graph_text-requires c = record { fits = minimal_fits c.args.sig.now c.args.g.now c.args.root c.in_ok-minimal.minimal c.requires.fits c.in_ok-minimal.ensures.minimal }
 
 pub returns : goal.returns
 returns c =
@@ -27,8 +27,8 @@ returns c =
     record {
       text = where_ok _ _ c.graph_text.result (λ text text_is. inr (record {
         many = great;
-        smallest = c.in_ok-smallest.smallest;
-        is_smallest = c.in_ok-smallest.ensures.smallest;
+        minimal = c.in_ok-minimal.minimal;
+        is_minimal = c.in_ok-minimal.ensures.minimal;
         text_is = text_is;
       })) c.graph_text.ensures.text;
     }

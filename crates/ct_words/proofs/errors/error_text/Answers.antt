@@ -8,15 +8,15 @@ use Rattle.ct_words.proofs.errors.error_text.Goals as goal
 
 pub returns-then-known-number : goal.returns-then-known-number
 returns-then-known-number c =
-    let here : eqb (get_or error_numbers c.loop-place.place 0) c.args.number ≡ true = grind (arith, nat_tests, c.if-known-number.true) in
-    let first = position_or_len_is (λ n. eqb n c.args.number) error_numbers c.loop-place.place 0 (omega (arith, c.loop-place-test.true)) c.loop-place.invariant (λ _. here) in
+    let here : eqb (get_or error_numbers c.loop-index.index 0) c.args.number ≡ true = grind (arith, nat_tests, c.if-known-number.true) in
+    let first = position_or_len_is (λ n. eqb n c.args.number) error_numbers c.loop-index.index 0 (omega (arith, c.loop-index-test.true)) c.loop-index.invariant (λ _. here) in
     record {
       text =
-          sym (get_or_from_slice_get error_names c.loop-place.place c.name.result.now [] (rw c.requires.table at c.name.ensures.name))
-          ∙ sym (ap (λ place. get_or error_names place []) first);
+          sym (get_or_from_slice_get error_names c.loop-index.index c.name.result.now [] (rw c.requires.table at c.name.ensures.name))
+          ∙ sym (ap (λ index. get_or error_names index []) first);
     }
 
 pub returns : goal.returns
 returns c =
-    let last = position_or_len_is (λ n. eqb n c.args.number) error_numbers 43 0 (omega arith) (λ k h. c.loop-place.invariant k (omega (arith, h, c.loop-place-test.false))) (λ h. absurd (omega (arith, h))) in
-    record { text = sym (ap (λ place. get_or error_names place []) last) }
+    let last = position_or_len_is (λ n. eqb n c.args.number) error_numbers 43 0 (omega arith) (λ k h. c.loop-index.invariant k (omega (arith, h, c.loop-index-test.false))) (λ h. absurd (omega (arith, h))) in
+    record { text = sym (ap (λ index. get_or error_names index []) last) }

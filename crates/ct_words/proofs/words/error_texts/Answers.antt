@@ -1,5 +1,5 @@
 use Rattle.std.proofs.Common.{refl, ap, ◌∙◌, arith}
-use Rattle.ct_words.specs.Names.{names_of}
+use Rattle.ct_words.specs.NameList.{names_in}
 use Rattle.ct_words.specs.Words.{error_names}
 use Rattle.ct_words.proofs.DistinctLemmas.{is_table_text}
 use Rattle.ct_words.proofs.words.error_texts.Goals as goal
@@ -10,4 +10,4 @@ new-requires c =
     (omega arith, (table.0, (table.1, table.2)))
 
 pub returns : goal.returns
-returns c = record { names = c.new.ensures.names ∙ ap names_of c.as_bytes.ensures.value }
+returns c = record { names = c.new.ensures.names ∙ ap names_in c.as_bytes.ensures.value }

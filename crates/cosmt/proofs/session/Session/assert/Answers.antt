@@ -3,8 +3,8 @@ use Rattle.ct_sorts.specs.Declarations.{function_names}
 use Rattle.ct_terms.specs.declared.ids.Lit.{Lit}
 use Rattle.cosmt.specs.declared.session.Constant.{Constant}
 use Rattle.cosmt.specs.Command.{State}
-use Rattle.cosmt.specs.Session.{IsOverConstant, IsKept, state_of}
-use Rattle.cosmt.proofs.SessionLemmas.{IsKept-asserted, state-asserted}
+use Rattle.cosmt.specs.Session.{IsOverConstant, IsSessionState, state_of}
+use Rattle.cosmt.proofs.SessionLemmas.{IsSessionState-asserted, state-asserted}
 use Rattle.cosmt.proofs.session.Session.assert.Goals as goal
 use Rattle.cosmt.proofs.session.Session.assert.Goals.{In-Some-constant_at, In_ok-add}
 
@@ -25,8 +25,8 @@ over c = record {
 pub invariant_of-self-2 : goal.invariant_of-self-2
 invariant_of-self-2 c =
     let s = c.self.inside in
-    subst (IsKept s.signature s.terms s.constants.items) (sym c.in_ok-add.ensures.ok)
-    (IsKept-asserted s.signature s.terms s.constants.items s.literals c.literal_of-literal.result c.self.invariant (over c))
+    subst (IsSessionState s.signature s.terms s.constants.items) (sym c.in_ok-add.ensures.ok)
+    (IsSessionState-asserted s.signature s.terms s.constants.items s.literals c.literal_of-literal.result c.self.invariant (over c))
 
 pub returns : goal.returns
 unfolding over

@@ -1,11 +1,11 @@
 use Rattle.std.proofs.Common.{◌≡◌, ℕ, List, [], ◌∷◌, ◌++◌, length, ap, sym, subst, ◌∙◌, arith}
 use Rattle.ct_sorts.specs.declared.ids.FunId.{FunId}
 use Rattle.ct_sorts.specs.Declarations.{Declarations, Function, function_names, with_function, bool_sort}
-use Rattle.ct_terms.specs.Table.{AreSorted}
+use Rattle.ct_terms.specs.Terms.{AreSorted}
 use Rattle.cosmt.specs.Command.{State, MayDeclare}
 use Rattle.cosmt.specs.Constants.{AreTermsOf}
-use Rattle.cosmt.specs.Session.{IsKept, state_of}
-use Rattle.cosmt.proofs.SessionLemmas.{IsKept-declared, IsKept-added, state-declared}
+use Rattle.cosmt.specs.Session.{IsSessionState, state_of}
+use Rattle.cosmt.proofs.SessionLemmas.{IsSessionState-declared, IsSessionState-added, state-declared}
 use Rattle.cosmt.proofs.session.Session.declare.Goals as goal
 use Rattle.cosmt.proofs.session.Session.declare.Goals.{In-Some}
 
@@ -21,8 +21,8 @@ pub record IsAdded (old new : Declarations) (name : List ℕ) (f : FunId) : Type
 
 added : (c : In-Some) → IsAdded c.self.inside.signature c.add_constant.new.signature c.args.name.now c.in-Some.f
 added c =
-    let told = rw c.in-Some.is at c.in_ok-f.ensures.added in
-    record { may = told.0; number = told.1; grown = told.2 }
+    let reported = rw c.in-Some.is at c.in_ok-f.ensures.added in
+    record { may = reported.0; number = reported.1; grown = reported.2 }
 
 pub terms_of-requires-clause-sorted : goal.terms_of-requires-clause-sorted
 terms_of-requires-clause-sorted c =
@@ -35,8 +35,8 @@ invariant_of-self-in_err-constant c =
     let f = declared_function c.args.name.now in
     let is = added (goal.at.invariant_of-self-in_err-constant c).In-Some in
     let sorted = subst (λ (d : Declarations). AreSorted d c.terms_of.new.terms) is.grown c.in_err-constant.ensures.sorted in
-    subst (λ (d : Declarations). IsKept d c.terms_of.new.terms s.constants.items s.literals) (sym is.grown)
-    (IsKept-declared s.signature s.terms c.terms_of.new.terms s.constants.items s.literals f c.self.invariant c.in_err-constant.ensures.grown sorted)
+    subst (λ (d : Declarations). IsSessionState d c.terms_of.new.terms s.constants.items s.literals) (sym is.grown)
+    (IsSessionState-declared s.signature s.terms c.terms_of.new.terms s.constants.items s.literals f c.self.invariant c.in_err-constant.ensures.grown sorted)
 
 pub invariant_of-self-in_err-push : goal.invariant_of-self-in_err-push
 invariant_of-self-in_err-push c =
@@ -44,8 +44,8 @@ invariant_of-self-in_err-push c =
     let f = declared_function c.args.name.now in
     let is = added (goal.at.invariant_of-self-in_err-push c).In-Some in
     let sorted = subst (λ (d : Declarations). AreSorted d c.terms_of.new.terms) is.grown c.in_ok-constant.ensures.sorted in
-    rw c.in_err-push.ensures.items (subst (λ (d : Declarations). IsKept d c.terms_of.new.terms s.constants.items s.literals) (sym is.grown)
-    (IsKept-declared s.signature s.terms c.terms_of.new.terms s.constants.items s.literals f c.self.invariant c.in_ok-constant.ensures.grown sorted))
+    rw c.in_err-push.ensures.items (subst (λ (d : Declarations). IsSessionState d c.terms_of.new.terms s.constants.items s.literals) (sym is.grown)
+    (IsSessionState-declared s.signature s.terms c.terms_of.new.terms s.constants.items s.literals f c.self.invariant c.in_ok-constant.ensures.grown sorted))
 
 pub invariant_of-self-2 : goal.invariant_of-self-2
 invariant_of-self-2 c =
@@ -55,8 +55,8 @@ invariant_of-self-2 c =
     let sorted = subst (λ (d : Declarations). AreSorted d c.terms_of.new.terms) is.grown c.in_ok-constant.ensures.sorted in
     let whole : length s.constants.items ≡ length s.signature.functions = omega (arith, c.self.invariant.few, c.funs.ensures.count, c.len.ensures, c.if-len-funs.false, s.constants.ok.0) in
     let are = subst (λ (n : ℕ). AreTermsOf c.terms_of.new.terms n c.in_ok-constant.constant) is.number c.in_ok-constant.ensures.terms in
-    rw c.in_ok-push.ensures.items (subst (λ (d : Declarations). IsKept d c.terms_of.new.terms (s.constants.items ++ c.in_ok-constant.constant ∷ []) s.literals) (sym is.grown)
-    (IsKept-added s.signature s.terms c.terms_of.new.terms s.constants.items s.literals f c.self.invariant c.in_ok-constant.ensures.grown sorted c.in_ok-constant.constant whole are))
+    rw c.in_ok-push.ensures.items (subst (λ (d : Declarations). IsSessionState d c.terms_of.new.terms (s.constants.items ++ c.in_ok-constant.constant ∷ []) s.literals) (sym is.grown)
+    (IsSessionState-added s.signature s.terms c.terms_of.new.terms s.constants.items s.literals f c.self.invariant c.in_ok-constant.ensures.grown sorted c.in_ok-constant.constant whole are))
 
 pub returns : goal.returns
 returns c =

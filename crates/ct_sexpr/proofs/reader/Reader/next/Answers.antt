@@ -2,13 +2,13 @@ use Rattle.std.proofs.Common.{◌≡◌, ◌+◌, ◌-◌, ◌<◌, ◌^◌, [],
 use Rattle.std.proofs.lemmas.List.{take_rest}
 use Rattle.ct_sexpr.specs.View.{expression_of}
 use Rattle.ct_sexpr.specs.Buffered.{IsBuffered}
-use Rattle.ct_sexpr.specs.Scanning.{Reached, Refutes, Completes, BeginsBehind}
+use Rattle.ct_sexpr.specs.Scanning.{Reached, Refutes, Completes, BeginsAfter}
 use Rattle.ct_sexpr.specs.declared.sexpr.Sexpr.{Sexpr}
-use Rattle.ct_sexpr.specs.declared.scanner.Step.TheVariants.{Going, Command, Wrong}
+use Rattle.ct_sexpr.specs.declared.scanner.ScanStep.TheVariants.{Going, Command, Wrong}
 use Rattle.ct_sexpr.specs.declared.error.ReadError.{ReadError}
 use Rattle.ct_sexpr.specs.declared.error.ReadError.TheVariants.{NoMemory}
 use Rattle.ct_sexpr.proofs.Buffers.{buffered-give, fresh_again, reached_now, scanned_failed, scanned_all, scanned_wrong, scanned_command}
-use Rattle.ct_sexpr.proofs.Decided.{standing_is_error}
+use Rattle.ct_sexpr.proofs.Decided.{definite_is_error}
 use Rattle.ct_sexpr.proofs.Given.{unread, line_fits, gives, refuses}
 use Rattle.ct_sexpr.proofs.WholeTexts.{given_is_first, refused_is_last, reads_on}
 use Rattle.ct_sexpr.proofs.reader.Reader.next.Goals as goal
@@ -47,7 +47,7 @@ command : (c : After-scan_bytes-count) (e : Sexpr) → c.scan_bytes-count.result
 command c = scanned_command _ _ _ _ _ _ _ _ _ _ c.self.invariant (is_unread c) c.scan_bytes-count.ensures.within c.scan_bytes-count.ensures.scans
 
 -- a line of the unread bytes fits
-fits : (c : After-scan_bytes-count) (n : ℕ) → BeginsBehind n (drop c.self.inside.start c.self.inside.buffer.items) → c.self.inside.lines + n + 1 < 2 ^ 64
+fits : (c : After-scan_bytes-count) (n : ℕ) → BeginsAfter n (drop c.self.inside.start c.self.inside.buffer.items) → c.self.inside.lines + n + 1 < 2 ^ 64
 fits c n b = omega (arith, b.few, c.self.invariant.few)
 
 pub invariant_of-self : goal.invariant_of-self
@@ -62,11 +62,11 @@ next_at_end-requires c =
 pub invariant_of-self-in-Going : goal.invariant_of-self-in-Going
 invariant_of-self-in-Going c = (all (goal.at.invariant_of-self-in-Going c).After-scan_bytes-count (c.in_ok-outcome.was ∙ ap Ok c.in-Going.is)).0
 
--- the line of an error that stands fits
+-- the line of a definite error fits
 wrong_fits : (c : After-scan_bytes-count) (code : ℕ) → c.scan_bytes-count.result.outcome ≡ Ok (Wrong code) → c.self.inside.lines + c.scan_bytes-count.new.scanner.line_feeds + 1 < 2 ^ 64
 wrong_fits c code o =
     let r = (wrong c code o).1 in
-    omega (arith, c.self.invariant.few, line_fits c.scan_bytes-count.new.scanner _ code r.place (standing_is_error _ code r.place r.error) r.line)
+    omega (arith, c.self.invariant.few, line_fits c.scan_bytes-count.new.scanner _ code r.suffix (definite_is_error _ code r.suffix r.error) r.line)
 
 pub overflow_add-self-inside : goal.overflow_add-self-inside
 overflow_add-self-inside c =

@@ -1,6 +1,6 @@
 use Rattle.std.proofs.Common.{◌≡◌, ℕ, List, [], ◌∷◌, ◌++◌, map, sym, ◌∙◌, ap, subst}
 use Rattle.std.proofs.lemmas.List.{map-append}
-use Rattle.ct_sorts.specs.Names.{IsListed}
+use Rattle.ct_sorts.specs.Availability.{IsListed}
 use Rattle.ct_sorts.specs.Lookup.{AreDistinct, names_of}
 use Rattle.ct_sorts.proofs.NumberedLemmas.{pair_of, pairs_of, pairs_of-insert, names_of-entries, AreDistinct-push}
 use Rattle.ct_sorts.proofs.numbered.Numbered.push.Given as given

@@ -2,11 +2,11 @@ use Rattle.std.proofs.Common.{◌≡◌, ℕ, List, [], ◌∷◌, ◌++◌, len
 use Rattle.std.proofs.lemmas.Bool.{true≢false}
 use Rattle.std.proofs.lemmas.List.{length-map, map-append}
 use Rattle.ct_sorts.specs.declared.ids.SortId.{SortId}
-use Rattle.ct_sorts.specs.Names.{IsListed, IsUnavailable}
+use Rattle.ct_sorts.specs.Availability.{IsListed, IsUnavailable}
 use Rattle.ct_sorts.specs.Declarations.{Declarations, Function, ctor_names, sel_names, function_names, definition_names, symbol_names, with_definition}
 use Rattle.ct_sorts.specs.Consistent.{IsConsistent}
-use Rattle.ct_sorts.specs.Kept.{declared, sort_of, ctor_of, sel_of, function_of}
-use Rattle.ct_sorts.proofs.KeptLemmas.{names_at}
+use Rattle.ct_sorts.specs.Stored.{declared, sort_of_entry, ctor_of, sel_of, function_of}
+use Rattle.ct_sorts.proofs.StoredLemmas.{names_at}
 use Rattle.ct_sorts.proofs.LookupLemmas.{IsListed-right}
 use Rattle.ct_sorts.proofs.ConsistentLemmas.{IsConsistent-with_definition}
 use Rattle.ct_sorts.proofs.signature.Signature.add_def.Goals as goal
@@ -38,7 +38,7 @@ one_more c =
     let old = c.self.inside in
     let put : map function_of c.push.new.self ≡ map function_of old.definitions ++ function c ∷ [] =
     ap (map function_of) c.in_ok-push.ensures.ok ∙ map-append function_of old.definitions _ ∙ ap (λ (args : List SortId). map function_of old.definitions ++ record { name = c.args.name; args = args; result = c.args.sort } ∷ []) c.new-args.ensures.value in
-    (λ j. record { sorts = map sort_of old.sorts; ctors = map ctor_of old.ctors; sels = map sel_of old.sels; functions = map function_of old.functions; definitions = put j }) ∙ ap (λ d. with_definition d (function c)) c.self.view_is
+    (λ j. record { sorts = map sort_of_entry old.sorts; ctors = map ctor_of old.ctors; sels = map sel_of old.sels; functions = map function_of old.functions; definitions = put j }) ∙ ap (λ d. with_definition d (function c)) c.self.view_is
 
 pub invariant_of-self-2 : goal.invariant_of-self-2
 invariant_of-self-2 c =

@@ -4,7 +4,7 @@ use Rattle.ct_sorts.specs.Lookup.{names_of}
 use Rattle.ct_sorts.specs.declared.block.SortDecl.{SortDecl}
 use Rattle.ct_sorts.specs.Declarations.{Declarations, sort_ids}
 use Rattle.ct_sorts.specs.Consistent.{IsConsistent}
-use Rattle.ct_sorts.specs.Kept.{declared, sort_of}
+use Rattle.ct_sorts.specs.Stored.{declared, sort_of_entry}
 use Rattle.ct_sorts.specs.Block.{with_block}
 use Rattle.ct_sorts.proofs.BlockConsistent.{IsConsistent-with_block}
 use Rattle.ct_sorts.proofs.AppendLemmas.{is_with_block, sorts_fit, ctors_fit, sels_fit, sorts_fresh, ctors_fresh, sels_fresh}
@@ -47,4 +47,4 @@ invariant_of-self-2 c =
 
 pub returns-clause-ok : goal.returns-clause-ok
 returns-clause-ok c =
-    (c.in_ok-ids.ensures.ok ∙ ap (λ n. sort_ids n (length c.args.block.now)) (c.len.ensures.len ∙ sym (length-map c.self.inside.sorts sort_of) ∙ ap (λ (d : Declarations). length d.sorts) c.self.view_is), grown c)
+    (c.in_ok-ids.ensures.ok ∙ ap (λ n. sort_ids n (length c.args.block.now)) (c.len.ensures.len ∙ sym (length-map c.self.inside.sorts sort_of_entry) ∙ ap (λ (d : Declarations). length d.sorts) c.self.view_is), grown c)

@@ -4,16 +4,16 @@ use Rattle.ct_sorts.specs.Declarations.{Declarations, Sort, sort_names}
 use Rattle.ct_sorts.specs.Lookup.{names_of}
 use Rattle.ct_sorts.specs.declared.block.SortDecl.{SortDecl}
 use Rattle.ct_sorts.specs.declared.entries.SortEntry.{SortEntry}
-use Rattle.ct_sorts.specs.Kept.{sort_of}
+use Rattle.ct_sorts.specs.Stored.{sort_of_entry}
 use Rattle.ct_sorts.specs.Founded.{IsFounded}
 use Rattle.ct_sorts.specs.Block.{HasUnfounded, IsOverLimits, block_names, has_no_constructor, has_unknown_sort, with_block}
-use Rattle.ct_sorts.proofs.KeptLemmas.{names_at}
+use Rattle.ct_sorts.proofs.StoredLemmas.{names_at}
 use Rattle.ct_sorts.proofs.signature.Signature.block_refusal.Goals as goal
 
 -- the names of the map are those of the declarations
-same : (sorts : List (List ℕ × SortEntry)) (d : Declarations) (own : List (List ℕ)) (block : List SortDecl) (b : Bool) → map sort_of sorts ≡ d.sorts → own ≡ block_names block → b ≡ has_unknown_sort (names_of sorts) own block → b ≡ has_unknown_sort (sort_names d) (block_names block) block
+same : (sorts : List (List ℕ × SortEntry)) (d : Declarations) (own : List (List ℕ)) (block : List SortDecl) (b : Bool) → map sort_of_entry sorts ≡ d.sorts → own ≡ block_names block → b ≡ has_unknown_sort (names_of sorts) own block → b ≡ has_unknown_sort (sort_names d) (block_names block) block
 same sorts d own block b view own_is e =
-    e ∙ (λ j. has_unknown_sort ((sym (names_at sort_of (λ (s : Sort). s.name) sorts (λ _. refl)) ∙ ap (map (λ (s : Sort). s.name)) view) j) (own_is j) block)
+    e ∙ (λ j. has_unknown_sort ((sym (names_at sort_of_entry (λ (s : Sort). s.name) sorts (λ _. refl)) ∙ ap (map (λ (s : Sort). s.name)) view) j) (own_is j) block)
 
 pub returns-then-has_unknown_sort-clause-ok : goal.returns-then-has_unknown_sort-clause-ok
 returns-then-has_unknown_sort-clause-ok c =

@@ -1,7 +1,7 @@
 use Rattle.std.proofs.lemmas.Result.{err_from_is_err_and}
 use Rattle.std.proofs.Common.{sym, ◌∙◌, subst}
 use Rattle.ct_sorts.specs.Consistent.{IsConsistent}
-use Rattle.ct_sorts.specs.Kept.{declared}
+use Rattle.ct_sorts.specs.Stored.{declared}
 use Rattle.ct_sorts.proofs.signature.Signature.copy.Goals as goal
 
 pub invariant_of-result : goal.invariant_of-result

@@ -1,7 +1,7 @@
 use Rattle.std.proofs.Common.{◌≡◌, Some, slice_get, refl, subst}
 use Rattle.ct_sorts.specs.Declarations.{Constructor, ctor_names}
-use Rattle.ct_sorts.specs.Kept.{ctor_of}
-use Rattle.ct_sorts.proofs.KeptLemmas.{name_at}
+use Rattle.ct_sorts.specs.Stored.{ctor_of}
+use Rattle.ct_sorts.proofs.StoredLemmas.{name_at}
 use Rattle.ct_sorts.proofs.signature.Signature.ctor_name.Goals as goal
 
 pub returns : goal.returns

@@ -1,8 +1,8 @@
 use Rattle.std.proofs.Common.{◌≡◌, Some, map, option_map, slice_get, refl, sym, subst}
 use Rattle.ct_sorts.specs.Declarations.{Constructor}
 use Rattle.ct_sorts.specs.Consistent.{IsConsistent}
-use Rattle.ct_sorts.specs.Kept.{ctor_of}
-use Rattle.ct_sorts.proofs.KeptLemmas.{part_at}
+use Rattle.ct_sorts.specs.Stored.{ctor_of}
+use Rattle.ct_sorts.proofs.StoredLemmas.{part_at}
 use Rattle.ct_sorts.proofs.ConsistentLemmas.{AreSelectors}
 use Rattle.ct_sorts.proofs.signature.Signature.ctor_sels.Goals as goal
 

@@ -1,8 +1,8 @@
 use Rattle.std.proofs.Common.{◌≡◌, Some, option_map, slice_get, refl, subst}
 use Rattle.ct_sorts.specs.Declarations.{Constructor}
 use Rattle.ct_sorts.specs.Consistent.{IsConsistent}
-use Rattle.ct_sorts.specs.Kept.{ctor_of}
-use Rattle.ct_sorts.proofs.KeptLemmas.{part_at}
+use Rattle.ct_sorts.specs.Stored.{ctor_of}
+use Rattle.ct_sorts.proofs.StoredLemmas.{part_at}
 use Rattle.ct_sorts.proofs.ConsistentLemmas.{IsSort-ctor}
 use Rattle.ct_sorts.proofs.signature.Signature.ctor_sort.Goals as goal
 

@@ -1,7 +1,7 @@
 use Rattle.std.proofs.Common.{◌≡◌, ◌≤◌, List, ℕ, map, take, sym, ◌∙◌, ap, subst}
 use Rattle.std.proofs.lemmas.List.{take-map}
 use Rattle.ct_sorts.specs.Consistent.{IsConsistent}
-use Rattle.ct_sorts.specs.Kept.{declared, sort_of, ctor_of, sel_of, function_of}
+use Rattle.ct_sorts.specs.Stored.{declared, sort_of_entry, ctor_of, sel_of, function_of}
 use Rattle.ct_sorts.specs.Marks.{cut}
 use Rattle.ct_sorts.proofs.ConsistentLemmas.{IsConsistent-cut}
 use Rattle.ct_sorts.proofs.signature.Signature.cut_to.Goals as goal
@@ -14,7 +14,7 @@ first of n m old new e same = ap (map of) e ∙ sym (take-map of n old) ∙ ap (
 is_cut : (c : goal.After-truncate-5) → declared c.truncate.new.self c.truncate-2.new.self c.truncate-3.new.self c.truncate-4.new.self c.truncate-5.new.self ≡ cut c.args.self.now c.args.mark.now
 is_cut c =
     (λ j. record {
-      sorts = first sort_of _ _ c.self.inside.sorts c.truncate.new.self c.truncate.ensures.first c.sorts-sorts.ensures.value j;
+      sorts = first sort_of_entry _ _ c.self.inside.sorts c.truncate.new.self c.truncate.ensures.first c.sorts-sorts.ensures.value j;
       ctors = first ctor_of _ _ c.self.inside.ctors c.truncate-2.new.self c.truncate-2.ensures.first c.ctors.ensures.value j;
       sels = first sel_of _ _ c.self.inside.sels c.truncate-3.new.self c.truncate-3.ensures.first c.sels.ensures.value j;
       functions = first function_of _ _ c.self.inside.functions c.truncate-4.new.self c.truncate-4.ensures.first c.funs.ensures.value j;

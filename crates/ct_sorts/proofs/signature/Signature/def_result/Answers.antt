@@ -1,8 +1,8 @@
 use Rattle.std.proofs.Common.{◌≡◌, Some, option_map, slice_get, refl, subst}
 use Rattle.ct_sorts.specs.Declarations.{Function}
 use Rattle.ct_sorts.specs.Consistent.{IsConsistent}
-use Rattle.ct_sorts.specs.Kept.{function_of}
-use Rattle.ct_sorts.proofs.KeptLemmas.{part_at}
+use Rattle.ct_sorts.specs.Stored.{function_of}
+use Rattle.ct_sorts.proofs.StoredLemmas.{part_at}
 use Rattle.ct_sorts.proofs.ConsistentLemmas.{IsSort-result}
 use Rattle.ct_sorts.proofs.signature.Signature.def_result.Goals as goal
 

@@ -1,6 +1,6 @@
 use Rattle.std.proofs.Common.{map, sym, subst}
 use Rattle.ct_sorts.specs.Consistent.{IsConsistent}
-use Rattle.ct_sorts.specs.Kept.{sel_of, function_of}
+use Rattle.ct_sorts.specs.Stored.{sel_of, function_of}
 use Rattle.ct_sorts.proofs.StartLemmas.{IsConsistent-start}
 use Rattle.ct_sorts.proofs.signature.Signature.new.Goals as goal
 

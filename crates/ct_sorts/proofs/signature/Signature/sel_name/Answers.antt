@@ -1,7 +1,7 @@
 use Rattle.std.proofs.Common.{◌≡◌, Some, slice_get, refl, subst}
 use Rattle.ct_sorts.specs.Declarations.{Selector, sel_names}
-use Rattle.ct_sorts.specs.Kept.{sel_of}
-use Rattle.ct_sorts.proofs.KeptLemmas.{name_at}
+use Rattle.ct_sorts.specs.Stored.{sel_of}
+use Rattle.ct_sorts.proofs.StoredLemmas.{name_at}
 use Rattle.ct_sorts.proofs.signature.Signature.sel_name.Goals as goal
 
 pub returns : goal.returns

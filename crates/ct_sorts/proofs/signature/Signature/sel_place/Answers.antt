@@ -1,7 +1,7 @@
 use Rattle.std.proofs.Common.{◌≡◌, Some, option_map, slice_get, refl, subst}
 use Rattle.ct_sorts.specs.Declarations.{Selector}
-use Rattle.ct_sorts.specs.Kept.{sel_of}
-use Rattle.ct_sorts.proofs.KeptLemmas.{part_at}
+use Rattle.ct_sorts.specs.Stored.{sel_of}
+use Rattle.ct_sorts.proofs.StoredLemmas.{part_at}
 use Rattle.ct_sorts.proofs.signature.Signature.sel_place.Goals as goal
 
 pub returns : goal.returns

@@ -1,7 +1,7 @@
 use Rattle.std.proofs.Common.{subst, refl, arith}
 use Rattle.std.proofs.lemmas.List.{length-map}
 use Rattle.ct_sorts.specs.Declarations.{start}
-use Rattle.ct_sorts.specs.Kept.{sort_of}
+use Rattle.ct_sorts.specs.Stored.{sort_of_entry}
 use Rattle.ct_sorts.proofs.ConsistentLemmas.{begins}
 use Rattle.ct_sorts.specs.Consistent.{IsConsistent}
 use Rattle.ct_sorts.proofs.signature.Signature.sorts.Goals as goal
@@ -10,4 +10,4 @@ pub returns-clause-consistent : goal.returns-clause-consistent
 returns-clause-consistent c = subst IsConsistent c.self.view_is c.self.invariant
 
 pub returns-clause-has_bool : goal.returns-clause-has_bool
-returns-clause-has_bool c = omega (arith, begins 1 _ start.sorts c.self.invariant.first_sort refl, length-map c.self.inside.sorts sort_of, c.len.ensures.len)
+returns-clause-has_bool c = omega (arith, begins 1 _ start.sorts c.self.invariant.first_sort refl, length-map c.self.inside.sorts sort_of_entry, c.len.ensures.len)

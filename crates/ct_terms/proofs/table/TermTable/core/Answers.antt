@@ -1,6 +1,6 @@
 use Rattle.std.proofs.Common.{length, sym, arith}
-use Rattle.ct_terms.specs.Table.{Has, HasChildrenBelow}
-use Rattle.ct_terms.proofs.SortLemmas.{HasChildrenBelow-more}
+use Rattle.ct_terms.specs.Terms.{Has, HasArgumentsBelow}
+use Rattle.ct_terms.proofs.SortLemmas.{HasArgumentsBelow-more}
 use Rattle.ct_terms.proofs.table.TermTable.core.Goals as goal
 use Rattle.ct_terms.proofs.table.TermTable.core.Goals.{In-Some}
 
@@ -11,7 +11,7 @@ there c =
     (c.in-Some.field-0-1.now, sym at)
 
 -- so the terms under it have smaller numbers
-below : (c : In-Some) → HasChildrenBelow c.args.t.0 c.in-Some.core.now
+below : (c : In-Some) → HasArgumentsBelow c.args.t.0 c.in-Some.core.now
 below c = c.self.invariant.ordered c.args.t.0 c.in-Some.core.now (there c)
 
 pub returns-clause-value : goal.returns-clause-value
@@ -22,4 +22,4 @@ returns-clause-below c = below (goal.at.returns-clause-below c).In-Some
 
 pub returns-clause-inside : goal.returns-clause-inside
 returns-clause-inside c =
-    HasChildrenBelow-more c.args.t.0 (length c.args.self.now) c.in-Some.core.now (omega (arith, c.requires)) (below (goal.at.returns-clause-inside c).In-Some)
+    HasArgumentsBelow-more c.args.t.0 (length c.args.self.now) c.in-Some.core.now (omega (arith, c.requires)) (below (goal.at.returns-clause-inside c).In-Some)

@@ -1,12 +1,12 @@
 use Rattle.std.proofs.Common.{◌≡◌, ◌∙◌, take, ap, sym, subst}
-use Rattle.ct_terms.specs.Table.{IsTable, AreSorted}
+use Rattle.ct_terms.specs.Terms.{IsTermTable, AreSorted}
 use Rattle.ct_terms.proofs.SortLemmas.{AreSorted-take}
-use Rattle.ct_terms.proofs.TableLemmas.{IsTable-take}
+use Rattle.ct_terms.proofs.TableLemmas.{IsTermTable-take}
 use Rattle.ct_terms.proofs.table.TermTable.cut_to.Goals as goal
 
 pub invariant_of-self : goal.invariant_of-self
 invariant_of-self c =
-    subst IsTable (sym c.truncate.ensures.entries) (IsTable-take c.self.inside.terms.entries c.args.len c.requires.truths c.self.invariant)
+    subst IsTermTable (sym c.truncate.ensures.entries) (IsTermTable-take c.self.inside.terms.entries c.args.len c.requires.truths c.self.invariant)
 
 pub returns-clause-sorted : goal.returns-clause-sorted
 returns-clause-sorted c =

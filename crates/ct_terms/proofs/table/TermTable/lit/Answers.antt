@@ -1,4 +1,4 @@
-use Rattle.ct_terms.specs.Table.{Has}
+use Rattle.ct_terms.specs.Terms.{Has}
 use Rattle.ct_terms.specs.Literal.{IsStripped}
 use Rattle.ct_terms.specs.declared.term.Core.TheVariants.{Not}
 use Rattle.ct_terms.proofs.TableLemmas.{Has-same}

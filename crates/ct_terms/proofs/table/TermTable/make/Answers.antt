@@ -1,8 +1,8 @@
 use Rattle.std.proofs.Common.{[], ◌∷◌, ◌++◌, ◌≡◌, ◌<◌, ◌∙◌, Some, length, ap, inl, inr, refl, arith}
-use Rattle.ct_terms.specs.Table.{HasSort, most_terms}
+use Rattle.ct_terms.specs.Terms.{HasSort, most_terms}
 use Rattle.ct_terms.proofs.ListLemmas.{slice_get-last}
 use Rattle.ct_terms.proofs.SortLemmas.{HasSort-same, IsOfSort-append}
-use Rattle.ct_terms.proofs.TableLemmas.{IsTable-push, IsOfSort-sorted, AreSorted-push, StandsSorted-made, insert_entry-absent}
+use Rattle.ct_terms.proofs.TableLemmas.{IsTermTable-push, IsOfSort-sorted, AreSorted-push, StandsSorted-made, insert_entry-absent}
 use Rattle.ct_terms.proofs.table.TermTable.make.Goals as goal
 
 -- the sort that is stored is the term's
@@ -23,7 +23,7 @@ pub invariant_of-self-2 : goal.invariant_of-self-2
 invariant_of-self-2 c =
     let room : length c.args.self.now < most_terms = omega (arith, number c) in
     rw (grown c)
-    (IsTable-push c.args.sig.now c.args.self.now c.args.core c.sort_of-sort.result (rw c.self.view_is at c.self.invariant) room c.in_default.ensures.absent (stored c))
+    (IsTermTable-push c.args.sig.now c.args.self.now c.args.core c.sort_of-sort.result (rw c.self.view_is at c.self.invariant) room c.in_default.ensures.absent (stored c))
 
 pub returns-in-Some-clause-full : goal.returns-in-Some-clause-full
 returns-in-Some-clause-full c = (λ e. cc, λ h. absurd (h.0 c.in-Some.term.0 c.in-Some.ensures.found))

@@ -1,7 +1,7 @@
 use Rattle.std.proofs.Common.{◌≡◌, sym, subst, arith}
 use Rattle.std.proofs.lemmas.Grind.{common_steps}
 use Rattle.ct_sorts.specs.Declarations.{start}
-use Rattle.ct_terms.specs.Table.{AreSorted, truths}
+use Rattle.ct_terms.specs.Terms.{AreSorted, truths}
 use Rattle.ct_terms.proofs.TableLemmas.{AreSorted-truths}
 use Rattle.ct_terms.proofs.SortLemmas.{Extends-same}
 use Rattle.ct_terms.proofs.table.TermTable.new.Goals as goal

@@ -6,8 +6,8 @@ use Rattle.ct_values.proofs.GraphLemmas.{All-at}
 use Rattle.ct_values.proofs.graph.Graph.children.Goals as goal
 
 -- what is read at a number within a graph stands there
-stands : (kept g : Nodes) (i : ℕ) (x y : Node) → kept ≡ g → i < length g → x ≡ get_or kept i x → x ≡ y → slice_get g i ≡ Some y
-stands kept g i x y same within read is =
+stands : (stored g : Nodes) (i : ℕ) (x y : Node) → stored ≡ g → i < length g → x ≡ get_or stored i x → x ≡ y → slice_get g i ≡ Some y
+stands stored g i x y same within read is =
     let here : x ≡ get_or g i x = subst (λ (l : Nodes). x ≡ get_or l i x) same read in
     slice_get_read g (length g) i x refl within here ∙ ap Some is
 

@@ -17,7 +17,7 @@ within_ends : (heads : List Head) (ends : List ℕ) (children : List NodeId) (al
 within_ends heads ends children all n nodes packed view_is within =
     omega (arith, within_heads heads ends children all n nodes packed view_is within, ends_long 0 heads ends all packed)
 
--- the place that was found in a list that is equal
+-- the index that was found in a list that is equal
 found_in : (list ends : List ℕ) (n start : ℕ) → list ≡ ends → slice_get (0 ∷ list) n ≡ Some start → slice_get (0 ∷ ends) n ≡ Some start
 found_in list ends n start same at = sym (ap (λ es. slice_get (0 ∷ es) n) same) ∙ at
 

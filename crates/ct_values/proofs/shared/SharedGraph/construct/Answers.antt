@@ -9,17 +9,17 @@ use Rattle.ct_values.specs.Value.{node_value}
 use Rattle.ct_values.specs.Agreement.{point}
 use Rattle.ct_values.specs.KeyTest.{same_key}
 use Rattle.ct_values.specs.Partition.{node_key}
-use Rattle.ct_values.specs.Sharing.{IsFirst}
-use Rattle.ct_values.proofs.SharedLemmas.{IsFirst-known}
+use Rattle.ct_values.specs.Sharing.{IsRepresentative}
+use Rattle.ct_values.proofs.SharedLemmas.{IsRepresentative-known}
 use Rattle.ct_values.proofs.shared.SharedGraph.construct.Goals as goal
 
 pub returns-in-Some-clause-first : goal.returns-in-Some-clause-first
 returns-in-Some-clause-first c =
-    let kept = c.self.inside in
-    let g : Nodes = kept.graph in
+    let stored = c.self.inside in
+    let g : Nodes = stored.graph in
     let x : Node = Con c.args.c c.args.children in
     let n = c.in-Some.first in
-    let key : c.in_ok-key.key ≡ node_key kept.classes.items 0 x = rw (c.deref.ensures.value, c.as_slice.ensures.value) at c.in_ok-key.ensures.value in
+    let key : c.in_ok-key.key ≡ node_key stored.classes.items 0 x = rw (c.deref.ensures.value, c.as_slice.ensures.value) at c.in_ok-key.ensures.value in
     let below : AllByRecursion (λ child. child.0 < length g) c.args.children = subst (λ (h : Nodes). AllByRecursion (λ child. child.0 < length h) c.args.children) (sym c.self.view_is) (recursion_from_All (λ child. child.0 < length c.args.self.now) c.args.children c.requires.within) in
-    let first = IsFirst-known g kept.classes.items kept.firsts x c.self.invariant below n.0 (ap (get same_key kept.firsts) (sym key) ∙ c.in-Some.ensures.found) in
-    subst (λ (h : Nodes). IsFirst h (point h (node_value x)) n) c.self.view_is first
+    let first = IsRepresentative-known g stored.classes.items stored.representatives x c.self.invariant below n.0 (ap (get same_key stored.representatives) (sym key) ∙ c.in-Some.ensures.found) in
+    subst (λ (h : Nodes). IsRepresentative h (point h (node_value x)) n) c.self.view_is first

@@ -1,0 +1,111 @@
+ghost use Rattle.std.specs.Prelude.{◌≡◌, ◌↔◌, ℕ, true, ◌<◌, ◌≤◌, ◌⊎◌, List, [], ◌∷◌, ◌++◌, length, Some};
+ghost use Rattle.ct_sexpr.specs.Whitespace.{after_whitespace, line_of_rest};
+ghost use Rattle.ct_sexpr.specs.Expression.{Expression, Expressions, list, nesting};
+ghost use Rattle.ct_sexpr.specs.Token.{left_parenthesis, right_parenthesis, begins_atom};
+ghost use Rattle.ct_sexpr.specs.ErrorNumber.{closes_nothing, ends_inside, nests_too_deep, atom_outside};
+ghost use Rattle.ct_sexpr.specs.Reading.{nesting_limit, BeginsCommand, HasError, HasDefiniteError, IsUnfinished, IsWhitespace, HasNoCommand};
+ghost use Rattle.ct_sexpr.specs.Atom.{Atom};
+ghost use Rattle.ct_sexpr.specs.Written.{written_name, written_atom, written, canonical_atom, canonical};
+ghost use Rattle.ct_sexpr.specs.Readable.{HasForm, IsReadable, name_of_atom};
+ghost use Rattle.ct_sexpr.specs.Text.{Located, Ending, lexical, Reads, EndingSoFar, waiting, refused, ReadsSoFar};
+
+/// The theorems on reading the first command of bytes, for whoever proves something about scripts.
+/// The function does nothing.
+///
+/// Bytes that may go on begin with exactly one command, or are unfinished, or an error in them is
+/// definite, and only one of the three. Where the input ends after unfinished bytes, they are
+/// whitespace and comments alone, or have an error; a definite error is one there, too. Bytes have
+/// one error at most, whose number is 1 to 6 and whose position is an end of them; whitespace and
+/// comments alone have neither a command nor an error. A command is a list, and takes one byte at
+/// least from the start. A command and a definite error stay what they are, at their position,
+/// whatever bytes come after them. Whitespace and comments alone, and bytes with no other error
+/// than that the input ends inside a command, can be completed to one command.
+pub fn one_reading()
+    ensures one_of_three { (bytes : List ℕ) → ((e : Expression) × (rest : List ℕ) × BeginsCommand bytes e rest)
+        ⊎ (IsUnfinished bytes ⊎ ((code : ℕ) × (suffix : List ℕ) × HasDefiniteError bytes code suffix)) }
+    ensures one_command { (bytes : List ℕ) (e f : Expression) (r s : List ℕ) → BeginsCommand bytes e r → BeginsCommand bytes f s → (f ≡ e) × (s ≡ r) }
+    ensures one_error { (bytes : List ℕ) (c d : ℕ) (p q : List ℕ) → HasError bytes c p → HasError bytes d q → (d ≡ c) × (q ≡ p) }
+    ensures unfinished_has_no_command { (bytes : List ℕ) → IsUnfinished bytes → HasNoCommand bytes }
+    ensures error_has_no_command { (bytes : List ℕ) (code : ℕ) (suffix : List ℕ) → HasError bytes code suffix → HasNoCommand bytes }
+    ensures whitespace_has_no_command { (bytes : List ℕ) → IsWhitespace bytes → HasNoCommand bytes }
+    ensures error_is_no_whitespace { (bytes : List ℕ) (code : ℕ) (suffix : List ℕ) → HasError bytes code suffix → IsWhitespace bytes → ⊥ }
+    ensures not_both { (bytes : List ℕ) (code : ℕ) (suffix : List ℕ) → IsUnfinished bytes → HasDefiniteError bytes code suffix → ⊥ }
+    ensures at_end { (bytes : List ℕ) → IsUnfinished bytes → IsWhitespace bytes ⊎ ((code : ℕ) × (suffix : List ℕ) × HasError bytes code suffix) }
+    ensures definite_is_error { (bytes : List ℕ) (code : ℕ) (suffix : List ℕ) → HasDefiniteError bytes code suffix → HasError bytes code suffix }
+    ensures numbers { (bytes : List ℕ) (code : ℕ) (suffix : List ℕ) → HasError bytes code suffix → (1 ≤ code) × (code ≤ 6) }
+    ensures command_is_a_list { (bytes : List ℕ) (e : Expression) (rest : List ℕ) → BeginsCommand bytes e rest → (es : Expressions) × (e ≡ list es) }
+    ensures command_is_a_prefix { (bytes : List ℕ) (e : Expression) (rest : List ℕ) → BeginsCommand bytes e rest
+        → (prefix : List ℕ) × (bytes ≡ prefix ++ rest) × (0 < length prefix) }
+    ensures goes_on { (bytes : List ℕ) → IsWhitespace bytes ⊎ HasError bytes ends_inside [] → (tail : List ℕ) × (e : Expression) × BeginsCommand (bytes ++ tail) e [] }
+    ensures command_stays { (bytes : List ℕ) (e : Expression) (rest tail : List ℕ) → BeginsCommand bytes e rest → BeginsCommand (bytes ++ tail) e (rest ++ tail) }
+    ensures error_stays { (bytes : List ℕ) (code : ℕ) (suffix tail : List ℕ) → HasDefiniteError bytes code suffix → HasDefiniteError (bytes ++ tail) code (suffix ++ tail) }
+    ensures error_is_an_end { (bytes : List ℕ) (code : ℕ) (suffix : List ℕ) → HasError bytes code suffix → (prefix : List ℕ) × (bytes ≡ prefix ++ suffix) }
+    ensures whitespace_is_a_prefix { (bytes : List ℕ) → (prefix : List ℕ) × (bytes ≡ prefix ++ after_whitespace bytes) }
+{}
+
+/// What the number of an error says of its position, for whoever proves something about scripts.
+/// The function does nothing.
+///
+/// A closing parenthesis outside all parentheses and an atom outside them stand at the start of the
+/// bytes, after whitespace and comments; that the input ends inside parentheses stands at its end;
+/// and what nests too deep is an opening parenthesis.
+pub fn error_positions()
+    ensures closing_position { (bytes suffix : List ℕ) → HasError bytes closes_nothing suffix
+        → (remaining : List ℕ) × (suffix ≡ right_parenthesis ∷ remaining) × (after_whitespace bytes ≡ suffix) }
+    ensures ending_position { (bytes suffix : List ℕ) → HasError bytes ends_inside suffix → suffix ≡ [] }
+    ensures opening_position { (bytes suffix : List ℕ) → HasError bytes nests_too_deep suffix → (remaining : List ℕ) × (suffix ≡ left_parenthesis ∷ remaining) }
+    ensures outside_position { (bytes suffix : List ℕ) → HasError bytes atom_outside suffix
+        → (b : ℕ) × (remaining : List ℕ) × (suffix ≡ b ∷ remaining) × (begins_atom b ≡ true) × (after_whitespace bytes ≡ suffix) }
+{}
+
+/// The theorems on reading whole texts, for whoever proves something about scripts. The function
+/// does nothing.
+///
+/// A text has exactly one reading, and a text that may go on has exactly one reading so far. The
+/// pieces in which a text comes do not matter. The command that bytes begin with is the first of
+/// each text that begins with these bytes, on its line, and the commands of what is left follow; a
+/// definite error in bytes ends each such text, on its line. So a text that is refused so far is
+/// read so whatever comes after it, and where a text waits, its commands so far are the first, on
+/// their lines, whatever comes after it, and whether the longer text ends or may go on.
+pub fn one_text()
+    ensures one_text { (line : ℕ) (bytes : List ℕ) (cs ds : List Located) (x y : Ending) → Reads line bytes cs x → Reads line bytes ds y → (ds ≡ cs) × (y ≡ x) }
+    ensures some_text { (line : ℕ) (bytes : List ℕ) → (cs : List Located) × (x : Ending) × Reads line bytes cs x }
+    ensures one_so_far { (line : ℕ) (bytes : List ℕ) (cs ds : List Located) (x y : EndingSoFar) → ReadsSoFar line bytes cs x → ReadsSoFar line bytes ds y → (ds ≡ cs) × (y ≡ x) }
+    ensures some_so_far { (line : ℕ) (bytes : List ℕ) → (cs : List Located) × (x : EndingSoFar) × ReadsSoFar line bytes cs x }
+    ensures first_command { (line : ℕ) (bytes tail : List ℕ) (e : Expression) (rest : List ℕ) (cs : List Located) (x : Ending)
+        → BeginsCommand bytes e rest → Reads (line_of_rest line bytes rest) (rest ++ tail) cs x
+        → Reads line (bytes ++ tail) (record { command = e; line = line_of_rest line bytes (after_whitespace bytes) } ∷ cs) x }
+    ensures first_so_far { (line : ℕ) (bytes tail : List ℕ) (e : Expression) (rest : List ℕ) (cs : List Located) (x : EndingSoFar)
+        → BeginsCommand bytes e rest → ReadsSoFar (line_of_rest line bytes rest) (rest ++ tail) cs x
+        → ReadsSoFar line (bytes ++ tail) (record { command = e; line = line_of_rest line bytes (after_whitespace bytes) } ∷ cs) x }
+    ensures definite_error { (line : ℕ) (bytes tail : List ℕ) (code : ℕ) (suffix : List ℕ)
+        → HasDefiniteError bytes code suffix → Reads line (bytes ++ tail) [] (lexical code (line_of_rest line bytes suffix)) }
+    ensures error_so_far { (line : ℕ) (bytes tail : List ℕ) (code : ℕ) (suffix : List ℕ)
+        → HasDefiniteError bytes code suffix → ReadsSoFar line (bytes ++ tail) [] (refused code (line_of_rest line bytes suffix)) }
+    ensures refused_so_far { (line : ℕ) (bytes tail : List ℕ) (cs : List Located) (code at : ℕ)
+        → ReadsSoFar line bytes cs (refused code at) → Reads line (bytes ++ tail) cs (lexical code at) }
+    ensures refused_goes_on { (line : ℕ) (bytes tail : List ℕ) (cs : List Located) (code at : ℕ)
+        → ReadsSoFar line bytes cs (refused code at) → ReadsSoFar line (bytes ++ tail) cs (refused code at) }
+    ensures waiting_so_far { (line : ℕ) (bytes tail : List ℕ) (cs ds : List Located) (x : Ending)
+        → ReadsSoFar line bytes cs waiting → Reads line (bytes ++ tail) ds x → (es : List Located) × (ds ≡ cs ++ es) }
+    ensures waiting_goes_on { (line : ℕ) (bytes tail : List ℕ) (cs ds : List Located) (y : EndingSoFar)
+        → ReadsSoFar line bytes cs waiting → ReadsSoFar line (bytes ++ tail) ds y → (es : List Located) × (ds ≡ cs ++ es) }
+{}
+
+/// The theorems on what is written, for whoever proves something about texts that are printed and
+/// read back. The function does nothing.
+///
+/// An expression is readable where each atom in it has the form of its kind. The command that bytes
+/// begin with is readable and nests within the limit, and what is written of a readable list that
+/// nests within the limit is that command and nothing else, with symbols quoted only where they
+/// need to be. Two readable expressions have one text exactly where they are the same but for
+/// quoting that is not needed; here nesting does not matter, and atoms are meant, too. Quoting that
+/// is not needed change no name, as `a` and `|a|` are one, and a name has one text, however it was
+/// written.
+pub fn written_texts()
+    ensures command_is_readable { (bytes : List ℕ) (e : Expression) (rest : List ℕ) → BeginsCommand bytes e rest → IsReadable e × (nesting e ≤ nesting_limit) }
+    ensures list_is_read { (es : Expressions) → IsReadable (list es) → nesting (list es) ≤ nesting_limit → BeginsCommand (written (list es)) (canonical (list es)) [] }
+    ensures same_text { (e f : Expression) → IsReadable e → IsReadable f → (written e ≡ written f) ↔ (canonical e ≡ canonical f) }
+    ensures one_name { (a : Atom) → name_of_atom (canonical_atom a) ≡ name_of_atom a }
+    ensures name_text { (a : Atom) (name : List ℕ) → HasForm a → name_of_atom a ≡ Some name → written_atom a ≡ written_name name }
+{}

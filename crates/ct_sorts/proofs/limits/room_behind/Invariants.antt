@@ -1,6 +1,0 @@
-use Rattle.std.proofs.Common.{◌≡◌, ◌+◌, length, take}
-use Rattle.ct_sorts.specs.Block.{all_fields}
-use Rattle.ct_sorts.proofs.limits.room_behind.Given as goal
-
-abbrev pub invariant-loop-ctor : goal.invariant-loop-ctor
-invariant-loop-ctor l = length (all_fields (take l.ctor-index l.ctors)) + l.left ≡ l.fn.room
