@@ -1,0 +1,10 @@
+pub mod SetLemmas
+pub mod AgreeLemmas
+pub mod SaturatedLemmas
+pub mod PointLemmas
+pub mod RefineLemmas
+pub mod RoundLemmas
+pub mod StableLemmas
+pub mod BlockLemmas
+pub mod GroupLemmas
+pub mod WaitingLemmas

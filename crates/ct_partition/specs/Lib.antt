@@ -1,0 +1,9 @@
+pub mod Points
+pub mod Bisimilarity
+pub mod Partition
+pub mod NumberTest
+pub mod KeyTest
+pub mod Sets
+pub mod Refinement
+pub mod Blocks
+pub mod Parents
