@@ -1,0 +1,8 @@
+pub mod ListLemmas
+pub mod UpLemmas
+pub mod TrailLemmas
+pub mod StatusLemmas
+pub mod AnalysisLemmas
+pub mod ClauseLemmas
+pub mod SearchLemmas
+pub mod VariableLemmas

@@ -1,0 +1,9 @@
+pub mod Up
+pub mod State
+pub mod Assigned
+pub mod Trail
+pub mod Status
+pub mod Decision
+pub mod Learning
+pub mod Analysis
+pub mod Stored

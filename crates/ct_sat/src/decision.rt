@@ -1,0 +1,34 @@
+//! What a decision answers, and the variable that is decided next.
+ghost use Rattle.std.specs.Prelude.{◌≡◌, ◌<◌, All, Contains, MatchOption};
+ghost use Rattle.ct_terms.specs.declared.ids.TermId.{TermId};
+ghost use Rattle.ct_sat.specs.Up.{HasValue, IsLowest};
+ghost use Rattle.ct_sat.specs.State.{AreIncreasing};
+
+use crate::trail::Trail;
+use ct_terms::{Lit, TermId};
+
+/// What a decision answers.
+#[derive(Clone, Copy, Debug, PartialEq, Eq)]
+pub enum Decision {
+    /// The literal that was decided.
+    Took(Lit),
+    /// Every variable has a value.
+    All,
+    /// Some variable has none, and the budget of decisions is spent.
+    Spent,
+}
+
+/// The lowest variable without a value.
+pub(crate) fn lowest(trail: &Trail, variables: &[TermId]) -> Option<TermId>
+    requires within { All (λ t. t.0 < trail.now.room) variables.now }
+    requires increasing { AreIncreasing variables.now }
+    ensures lowest { MatchOption result (All (HasValue (Contains trail.now.literals)) variables.now)
+        (IsLowest variables.now (Contains trail.now.literals)) }
+{
+    for variable in variables {
+        if trail.index(*variable).is_none() {
+            return Some(*variable);
+        }
+    }
+    None
+}
