@@ -1,0 +1,9 @@
+pub mod ListLemmas
+pub mod RankLemmas
+pub mod SizeLemmas
+pub mod RuleLemmas
+pub mod UniqueLemmas
+pub mod SingleLemmas
+pub mod FoundingLemmas
+pub mod WellFormedLemmas
+pub mod DefaultLemmas

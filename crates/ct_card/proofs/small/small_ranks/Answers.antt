@@ -1,0 +1,16 @@
+use Rattle.std.proofs.Common.{List, subst}
+use Rattle.ct_card.specs.declared.chain.Rule.{Rule}
+use Rattle.ct_card.specs.Rules.{AreRanks}
+use Rattle.ct_card.proofs.RuleLemmas.{small_from}
+use Rattle.ct_card.proofs.small.small_ranks.Goals as goal
+
+pub returns : goal.returns
+returns c =
+    let d = c.args.sig.now in
+    let s = c.structure.ensures in
+    let consistent = c.sorts.ensures.consistent in
+    let made = c.in_ok-ranks.ensures.ranks in
+    record {
+      small = small_from d consistent (s.own_constructors d consistent) (s.own_selectors d consistent) (s.of_their_sorts d consistent) (s.of_their_constructors d consistent) c.args.several.now c.in_ok-rules.rules.items c.in_ok-ranks.ranks.items c.in_ok-rules.ensures.rules
+          (subst (λ n. AreRanks c.in_ok-rules.rules.items c.in_ok-ranks.ranks.items n) c.sorts.ensures.count (subst (λ (l : List Rule). AreRanks l c.in_ok-ranks.ranks.items c.sorts.result) c.deref.ensures.value made));
+    }

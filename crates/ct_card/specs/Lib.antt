@@ -1,0 +1,10 @@
+pub mod Dependence
+pub mod Cardinality
+pub mod Rules
+pub mod Derived
+pub mod Ranked
+pub mod Fields
+pub mod Ruled
+pub mod Founding
+pub mod Defaults
+pub mod Sizes

@@ -1,0 +1,34 @@
+-- The sizes of all sorts of declarations, and how their default values are built.
+use Rattle.std.specs.Prelude.{◌≡◌, ℕ, List, length, Some, slice_get, get_or, if◌then◌else◌, ◌==◌}
+use Rattle.ct_sorts.specs.declared.ids.CtorId.{CtorId}
+use Rattle.ct_sorts.specs.Declarations.{Declarations}
+use Rattle.ct_card.specs.declared.size.Size.{Size}
+use Rattle.ct_card.specs.declared.size.Size.TheVariants.{One, Finite, Infinite}
+use Rattle.ct_card.specs.Cardinality.{HasSize}
+use Rattle.ct_card.specs.Ranked.{AreSeveral}
+use Rattle.ct_card.specs.Defaults.{IsPlan}
+
+-- for each sort: its size, its rank among the sorts of several values (0 for a single one), its rank among the sorts as they
+-- are well founded, and the constructor of its default value; and the sorts in the order of the latter ranks
+pub record Table : Type 0 where
+  pub sizes : List Size
+  pub several : List ℕ
+  pub ranks : List ℕ
+  pub order : List ℕ
+  pub ctors : List CtorId
+
+-- the table is of these declarations: each size is that of the sort
+pub record AreSizes (d : Declarations) (table : Table) : Type 0 where
+  pub long : length table.sizes ≡ length d.sorts
+  pub each : (s : ℕ) (size : Size) → slice_get table.sizes s ≡ Some size → HasSize d s size
+  pub several : AreSeveral d table.several
+  pub plan : IsPlan d table.ranks table.order table.ctors
+
+-- the size of a sort by its ranks among the sorts of several values and among the small ones
+abbrev pub size_by : ℕ → ℕ → Size
+size_by several small = if several == 0 then One else (if small == 0 then Infinite else Finite)
+
+-- each size is that by the ranks at its index
+pub record AreSizesBy (several small : List ℕ) (sizes : List Size) : Type 0 where
+  pub long : length sizes ≡ length several
+  pub each : (s : ℕ) (size : Size) → slice_get sizes s ≡ Some size → size ≡ size_by (get_or several s 0) (get_or small s 0)

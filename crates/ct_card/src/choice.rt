@@ -1,0 +1,90 @@
+//! The constructors of default values.
+ghost use Rattle.std.specs.Prelude.{◌≡◌, ℕ, ◌<◌, ◌↔◌, Some, length, get_or, slice_get, IfOk, IsTrue};
+ghost use Rattle.ct_sorts.specs.Declarations.{Sort, IsSort, IsConstructor};
+ghost use Rattle.ct_card.specs.Founding.{HasLowerFields, HasFounding};
+ghost use Rattle.ct_card.specs.Defaults.{AreChosen, IsChoice, AreLower};
+
+use crate::error::CardError;
+use crate::fields::push_fields;
+use ct_sorts::{CtorId, Signature, SortId};
+use std::alloc::Global;
+
+/// For each sort the constructor of its default value: of a datatype one whose fields have sorts of
+/// lower ranks. For an uninterpreted sort, which has none, any.
+pub(crate) fn choices(
+    alloc: Global,
+    sig: &Signature,
+    ranks: &[usize],
+) -> Result<Vec<CtorId>, CardError>
+    requires founded { HasFounding sig.now ranks.now }
+    ensures chosen { IfOk result (λ ctors. AreChosen sig.now ranks.now ctors.items) }
+{
+    let mut ctors = Vec::with_capacity(alloc, ranks.len())?;
+    for s in 0..sig.sorts() {
+        ctors.push(choice(alloc, sig, ranks, SortId(s))?)?;
+    }
+    Ok(ctors)
+}
+
+// The first constructor of the sort whose fields have sorts of lower ranks, or else the first.
+fn choice(alloc: Global, sig: &Signature, ranks: &[usize], s: SortId) -> Result<CtorId, CardError>
+    requires inside { IsSort sig.now s }
+    requires founded { HasFounding sig.now ranks.now }
+    ensures chosen { IfOk result (λ c. (sort : Sort) → slice_get sig.now.sorts s.0 ≡ Some sort → 0 < length sort.ctors → IsChoice sig.now ranks.now s.0 sort c) }
+{
+    let ctors = sig.ctors(s);
+    for c in ctors {
+        if has_lower_fields(alloc, sig, ranks, s, *c)? {
+            return Ok(*c);
+        }
+    }
+    Ok(first_of(ctors))
+}
+
+// The first constructor of these, or any.
+fn first_of(ctors: &[CtorId]) -> CtorId
+    ensures first { 0 < length ctors.now → slice_get ctors.now 0 ≡ Some result }
+{
+    if ctors.len() == 0 {
+        return CtorId(0);
+    }
+    ctors[0]
+}
+
+// Whether all fields of the constructor have sorts of lower ranks than the sort.
+fn has_lower_fields(
+    alloc: Global,
+    sig: &Signature,
+    ranks: &[usize],
+    s: SortId,
+    c: CtorId,
+) -> Result<bool, CardError>
+    requires inside { IsConstructor sig.now c }
+    ensures lower { IfOk result (λ r. IsTrue r ↔ HasLowerFields sig.now ranks.now s.0 c) }
+{
+    let mut fields = Vec::new(alloc);
+    push_fields(sig, c, &mut fields)?;
+    Ok(are_lower(ranks, &fields, rank_of(ranks, s.0 as usize)))
+}
+
+// Whether all of these have ranks below the bound.
+fn are_lower(ranks: &[usize], fields: &[usize], bound: usize) -> bool
+    ensures lower { IsTrue result ↔ AreLower ranks.now fields.now bound }
+{
+    for t in fields {
+        if rank_of(ranks, *t) >= bound {
+            return false;
+        }
+    }
+    true
+}
+
+// The rank of a number, which is 0 for one past the end.
+fn rank_of(ranks: &[usize], n: usize) -> usize
+    ensures value { result ≡ get_or ranks.now n 0 }
+{
+    if n < ranks.len() {
+        return ranks[n];
+    }
+    0
+}

@@ -1,0 +1,13 @@
+//! The three sizes of sorts.
+
+/// How many values a sort has.
+#[derive(Clone, Copy, Debug, PartialEq, Eq)]
+pub enum Size {
+    /// One value: a datatype or codatatype with one constructor, whose fields are all such
+    /// (Reynolds and Blanchette 2015, on codatatypes with one value).
+    One,
+    /// More than one value, and finitely many.
+    Finite,
+    /// Infinitely many values.
+    Infinite,
+}

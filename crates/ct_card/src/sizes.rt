@@ -1,0 +1,133 @@
+//! The sizes of all sorts of a signature, and makers of values.
+ghost use Rattle.std.specs.Prelude.{◌≡◌, ◌<◌, length, Some, slice_get, IfOk};
+ghost use Rattle.ct_sorts.specs.declared.ids.SortId.{SortId};
+ghost use Rattle.ct_sorts.specs.Declarations.{Declarations, IsSort};
+ghost use Rattle.ct_sorts.specs.Grown.{Begins};
+ghost use Rattle.ct_values.specs.Fitting.{HasNodeSort};
+ghost use Rattle.ct_values.specs.WellFormed.{IsWellFormedGraph};
+ghost use Rattle.ct_card.specs.Cardinality.{HasSize};
+ghost use Rattle.ct_card.specs.Sizes.{AreSizes, AreSizesBy, size_by};
+
+use crate::choice::choices;
+use crate::defaults::{append_defaults, node_of_sort};
+use crate::error::CardError;
+use crate::founded::founding;
+use crate::several::several_ranks;
+use crate::size::Size;
+use crate::small::small_ranks;
+use ct_sorts::{CtorId, Signature, SortId, structure};
+use ct_values::{Graph, NodeId};
+use std::alloc::Global;
+use std::marker::Model;
+
+/// How many values each sort of a signature has: one, finitely many, or infinitely many (Reynolds
+/// and Blanchette 2015). Beside the sizes it keeps by which constructors default values are built.
+#[derive(Debug, Drop)]
+pub struct Sizes {
+    alloc: Global,
+    sizes: Vec<Size>,
+    several: Vec<usize>,
+    ranks: Vec<usize>,
+    order: Vec<usize>,
+    ctors: Vec<CtorId>,
+}
+
+impl Model for Sizes {
+    ghost use Rattle.ct_card.specs.Sizes.{Table};
+
+    ghost Value = { Table };
+
+    ghost view = { λ stored. record { sizes = stored.sizes.items; several = stored.several.items; ranks = stored.ranks.items; order = stored.order.items; ctors = stored.ctors.items } };
+}
+
+impl Sizes {
+    /// The sizes of all sorts of the signature. The time is linear in its sorts, constructors and
+    /// selectors.
+    pub fn new(alloc: Global, sig: &Signature) -> Result<Sizes, CardError>
+        ensures sizes { IfOk result (λ sizes. AreSizes sig.now sizes) }
+    {
+        structure();
+        prove!(sig.sorts() > 0);
+        let several = several_ranks(alloc, sig)?;
+        let small = small_ranks(alloc, sig, &several)?;
+        let sizes = sizes_by(alloc, &several, &small)?;
+        let found = founding(alloc, sig)?;
+        let ctors = choices(alloc, sig, &found.ranks)?;
+        Ok(Sizes {
+            alloc,
+            sizes,
+            several,
+            ranks: found.ranks,
+            order: found.order,
+            ctors,
+        })
+    }
+
+    /// Equal sizes.
+    pub fn copy(&self) -> Result<Sizes, CardError>
+        ensures value { IfOk result (λ copy. copy ≡ self.now) }
+    {
+        Ok(Sizes {
+            alloc: self.alloc,
+            sizes: Vec::from_slice(self.alloc, self.sizes.as_slice())?,
+            several: Vec::from_slice(self.alloc, self.several.as_slice())?,
+            ranks: Vec::from_slice(self.alloc, self.ranks.as_slice())?,
+            order: Vec::from_slice(self.alloc, self.order.as_slice())?,
+            ctors: Vec::from_slice(self.alloc, self.ctors.as_slice())?,
+        })
+    }
+
+    /// The size of a sort. Takes no memory.
+    pub fn size_of(&self, s: SortId) -> Size
+        requires inside { s.0 < length self.now.sizes }
+        ensures value { slice_get self.now.sizes s.0 ≡ Some result }
+        ensures exact { (d : Declarations) → AreSizes d self.now → HasSize d s.0 result }
+    {
+        self.sizes[s.0 as usize]
+    }
+
+    /// A value of the sort: the number of its node, which is put after the graph with default
+    /// values of all sorts. The sizes are those of the signature. Where the answer is an error, the
+    /// graph may have grown.
+    pub fn default_value(
+        &self,
+        sig: &Signature,
+        g: &mut Graph,
+        s: SortId,
+    ) -> Result<NodeId, CardError>
+        requires sizes { AreSizes sig.now self.now }
+        requires inside { IsSort sig.now s }
+        ensures grown { Begins g.old g.new }
+        ensures well_formed { IsWellFormedGraph sig.now g.old → IsWellFormedGraph sig.now g.new }
+        ensures sorted { IfOk result (λ n. HasNodeSort sig.now g.new n s) }
+    {
+        let ranks = self.ranks.as_slice();
+        let base = append_defaults(self.alloc, sig, ranks, &self.order, &self.ctors, g)?;
+        Ok(node_of_sort(ranks, base, s.0 as usize))
+    }
+}
+
+// The sizes of all sorts by their ranks.
+fn sizes_by(alloc: Global, several: &[usize], small: &[usize]) -> Result<Vec<Size>, CardError>
+    requires long { length several.now ≡ length small.now }
+    ensures sizes { IfOk result (λ sizes. AreSizesBy several.now small.now sizes.items) }
+{
+    let mut sizes = Vec::with_capacity(alloc, several.len())?;
+    for s in 0..several.len() {
+        sizes.push(size_by(several[s], small[s]))?;
+    }
+    Ok(sizes)
+}
+
+// The size of a sort by its ranks.
+fn size_by(several: usize, small: usize) -> Size
+    ensures value { result ≡ size_by several small }
+{
+    if several == 0 {
+        Size::One
+    } else if small == 0 {
+        Size::Infinite
+    } else {
+        Size::Finite
+    }
+}

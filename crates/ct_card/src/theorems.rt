@@ -1,0 +1,39 @@
+//! What holds of sizes and of values of sorts. A theorem is the contract of a function that does
+//! nothing.
+ghost use Rattle.std.specs.Prelude.{◌≡◌, ℕ, ◌⊎◌, ◌<◌};
+ghost use Rattle.ct_sorts.specs.declared.ids.SortId.{SortId};
+ghost use Rattle.ct_sorts.specs.Declarations.{Declarations};
+ghost use Rattle.ct_sorts.specs.Consistent.{IsConsistent};
+ghost use Rattle.ct_card.specs.declared.size.Size.{Size};
+ghost use Rattle.ct_card.specs.Cardinality.{HasSize, IsSingle};
+ghost use Rattle.ct_values.specs.Graph.{Nodes};
+ghost use Rattle.ct_values.specs.Value.{Value};
+ghost use Rattle.ct_values.specs.Agreement.{point, AgreeAlways};
+ghost use Rattle.ct_values.specs.Fitting.{FitsGraph};
+ghost use Rattle.ct_values.specs.ValueSort.{HasValueSort};
+
+use ct_sorts::structure;
+use ct_values::{agreement, well_sorted_values};
+
+/// The theorem of sizes. It does nothing: a proof that needs it calls it.
+pub fn unique_sizes()
+    // No sort has two sizes.
+    ensures one { (d : Declarations) (s : ℕ) (a b : Size) → HasSize d s a → HasSize d s b → a ≡ b }
+{}
+
+/// The theorem of sorts with one value. It does nothing: a proof that needs it calls it.
+pub fn single_sorts()
+    // Two values of a single sort, each over its own graph, are the same.
+    ensures same { (d : Declarations) (g h : Nodes) (v w : Value) (s : SortId)
+        → IsConsistent d
+        → FitsGraph d g
+        → FitsGraph d h
+        → IsSingle d s.0
+        → HasValueSort d g v s
+        → HasValueSort d h w s
+        → AgreeAlways (point g v) (point h w) }
+{
+    structure();
+    agreement();
+    well_sorted_values();
+}
