@@ -11,7 +11,8 @@ use Rattle.ct_values.specs.declared.node.Node.{Node}
 use Rattle.ct_values.specs.Graph.{Nodes, node_children}
 use Rattle.ct_values.specs.Fitting.{HasNodeSort}
 use Rattle.ct_eval.specs.declared.interp.Table.{Table}
-use Rattle.ct_eval.specs.Interpretation.{IsData, AreBefore, AreFinite, FitsTable}
+use Rattle.ct_values.specs.WellFormed.{IsData, AreBefore, AreFinite}
+use Rattle.ct_eval.specs.Interpretation.{FitsTable}
 
 -- the table fits the function with this number
 abbrev pub FitsFunction : Declarations → Nodes → ℕ → Table → Type 0

@@ -18,7 +18,7 @@ use Rattle.ct_eval.specs.declared.interp.Interp.{Interp}
 use Rattle.ct_eval.specs.Index.{AreRepresentatives}
 use Rattle.ct_eval.specs.EvaluationStep.{AreValued, Theorems, IsResult, node_under}
 use Rattle.ct_eval.proofs.StepLists.{zip-weaken}
-use Rattle.ct_eval.proofs.StepNodes.{IsFirst-longer, head_of_representative}
+use Rattle.ct_eval.proofs.StepNodes.{IsRepresentative-longer, head_of_representative}
 use Rattle.ct_eval.proofs.StepSorts.{sorted_by_head, FitsGraph-grown, IsLonger-grown}
 use Rattle.ct_eval.proofs.StepTerms.{are_representatives, fields_fit, fields_sorted}
 

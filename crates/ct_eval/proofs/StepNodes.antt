@@ -14,7 +14,7 @@ use Rattle.ct_values.specs.Sharing.{IsRepresentative}
 use Rattle.ct_terms.specs.declared.ids.TermId.{TermId}
 use Rattle.ct_terms.specs.Terms.{Terms}
 use Rattle.ct_eval.specs.declared.interp.Interp.{Interp}
-use Rattle.ct_eval.specs.Evaluation.{is_head, is_built}
+use Rattle.ct_values.specs.TruthValue.{is_head, is_built}
 use Rattle.ct_eval.specs.Valued.{IsLonger}
 use Rattle.ct_eval.specs.EvaluationStep.{HasValue, AreValued, Theorems}
 use Rattle.ct_eval.proofs.ListLemmas.{slice_get-append_left}

@@ -1,7 +1,6 @@
 -- What is known before a step: the terms under the term have nodes.
 use Rattle.std.proofs.Common.{ℕ, ◌<◌, List, map, length, All}
-use Rattle.std.specs.List.{AllByRecursion}
-use Rattle.std.proofs.lemmas.List.Elements.{recursion_from_All, All-from_recursion}
+use Rattle.std.proofs.lemmas.List.Elements.{All-from_recursion}
 use Rattle.ct_sorts.specs.declared.ids.CtorId.{CtorId}
 use Rattle.ct_sorts.specs.declared.ids.SelId.{SelId}
 use Rattle.ct_sorts.specs.Declarations.{Declarations, bool_sort}
@@ -16,49 +15,45 @@ use Rattle.ct_eval.specs.declared.interp.Interp.{Interp}
 use Rattle.ct_eval.specs.EvaluationStep.{AreValued, HasNode, node_under, IsReady}
 use Rattle.ct_eval.proofs.StepTerms.{fields_sorted, booleans_sorted, has_node, have_nodes, are_representatives, first_within}
 
--- numbers below a bound, by recursion
-pub all_below : (n : ℕ) (ts : List TermId) → All (λ t. t.0 < n) ts → AllByRecursion (λ t. t.0 < n) ts
-all_below n ts = recursion_from_All (λ t. t.0 < n) ts
-
 module _ (d : Declarations) (i : Interp) (g : Nodes) (nodes : List NodeId) where
   pub ready_Con : (c : CtorId) (args : List TermId) → IsReady d i g nodes (Con c args) → All (λ n. n.0 < length g) (map (node_under nodes) args)
   ready_Con c args r =
-      first_within i.graph g (map (node_under nodes) args) (map r.value args) (are_representatives d i r.terms g nodes r.value r.valued args (fields_sorted d r.terms args r.sorted.ctor.sels r.sorted.fields) (all_below (length nodes) args r.below))
+      first_within i.graph g (map (node_under nodes) args) (map r.value args) (are_representatives d i r.terms g nodes r.value r.valued args (fields_sorted d r.terms args r.sorted.ctor.sels r.sorted.fields) r.below)
 
   pub ready_Test : (c : CtorId) (t : TermId) → IsReady d i g nodes (Test c t) → HasNode g nodes t
-  ready_Test c t r = has_node d i r.terms g nodes r.value r.valued t r.sorted.ctor.sort r.sorted.sorted r.below
+  ready_Test c t r = has_node d i r.terms g nodes r.value r.valued t r.sorted.ctor.sort r.sorted.sorted r.below.0
 
   pub ready_Sel : (s : SelId) (t : TermId) → IsReady d i g nodes (Sel s t) → HasNode g nodes t
-  ready_Sel s t r = has_node d i r.terms g nodes r.value r.valued t r.sorted.ctor.sort r.sorted.sorted r.below
+  ready_Sel s t r = has_node d i r.terms g nodes r.value r.valued t r.sorted.ctor.sort r.sorted.sorted r.below.0
 
   pub ready_Eq : (a b : TermId) → IsReady d i g nodes (Eq a b) → HasNode g nodes a × HasNode g nodes b
   ready_Eq a b r = (
     has_node d i r.terms g nodes r.value r.valued a r.sorted.side r.sorted.left r.below.0,
-    has_node d i r.terms g nodes r.value r.valued b r.sorted.side r.sorted.right r.below.1,
+    has_node d i r.terms g nodes r.value r.valued b r.sorted.side r.sorted.right r.below.1.0,
   )
 
   pub ready_Not : (t : TermId) → IsReady d i g nodes (Not t) → HasNode g nodes t
-  ready_Not t r = has_node d i r.terms g nodes r.value r.valued t bool_sort r.sorted.0 r.below
+  ready_Not t r = has_node d i r.terms g nodes r.value r.valued t bool_sort r.sorted.0 r.below.0
 
   pub ready_And : (args : List TermId) → IsReady d i g nodes (And args) → All (HasNode g nodes) args
   ready_And args r =
-      All-from_recursion (HasNode g nodes) args (have_nodes d i r.terms g nodes r.value r.valued args (booleans_sorted r.terms args r.sorted.booleans) (all_below (length nodes) args r.below))
+      All-from_recursion (HasNode g nodes) args (have_nodes d i r.terms g nodes r.value r.valued args (booleans_sorted r.terms args r.sorted.booleans) r.below)
 
   pub ready_Or : (args : List TermId) → IsReady d i g nodes (Or args) → All (HasNode g nodes) args
   ready_Or args r =
-      All-from_recursion (HasNode g nodes) args (have_nodes d i r.terms g nodes r.value r.valued args (booleans_sorted r.terms args r.sorted.booleans) (all_below (length nodes) args r.below))
+      All-from_recursion (HasNode g nodes) args (have_nodes d i r.terms g nodes r.value r.valued args (booleans_sorted r.terms args r.sorted.booleans) r.below)
 
   pub ready_Iff : (a b : TermId) → IsReady d i g nodes (Iff a b) → HasNode g nodes a × HasNode g nodes b
   ready_Iff a b r = (
     has_node d i r.terms g nodes r.value r.valued a bool_sort r.sorted.0 r.below.0,
-    has_node d i r.terms g nodes r.value r.valued b bool_sort r.sorted.1 r.below.1,
+    has_node d i r.terms g nodes r.value r.valued b bool_sort r.sorted.1 r.below.1.0,
   )
 
   pub ready_Ite : (c a b : TermId) → IsReady d i g nodes (Ite c a b) → HasNode g nodes c × HasNode g nodes a × HasNode g nodes b
   ready_Ite c a b r = (
     has_node d i r.terms g nodes r.value r.valued c bool_sort r.sorted.0 r.below.0,
-    has_node d i r.terms g nodes r.value r.valued a r.sort r.sorted.1 r.below.1,
-    has_node d i r.terms g nodes r.value r.valued b r.sort r.sorted.2 r.below.2,
+    has_node d i r.terms g nodes r.value r.valued a r.sort r.sorted.1 r.below.1.0,
+    has_node d i r.terms g nodes r.value r.valued b r.sort r.sorted.2 r.below.1.1.0,
   )
 
 -- a term of a well-sorted table is ready where the terms before it have their nodes

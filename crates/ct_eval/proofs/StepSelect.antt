@@ -18,7 +18,8 @@ use Rattle.ct_values.specs.Fitting.{HasNodeSort, IsNodeOfField, IsBuilt, FitsGra
 use Rattle.ct_values.specs.Sharing.{IsRepresentative}
 use Rattle.ct_eval.specs.declared.interp.Interp.{Interp}
 use Rattle.ct_eval.specs.declared.interp.Table.{Table}
-use Rattle.ct_eval.specs.Evaluation.{is_head, is_built, given, select}
+use Rattle.ct_values.specs.TruthValue.{is_head, is_built}
+use Rattle.ct_eval.specs.Evaluation.{given, select}
 use Rattle.ct_eval.specs.LookUp.{look_up}
 use Rattle.ct_eval.specs.EvaluationStep.{HasValue, Theorems}
 use Rattle.ct_eval.proofs.StepLists.{zip-at_right}

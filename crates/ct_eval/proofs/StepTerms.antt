@@ -15,7 +15,7 @@ use Rattle.ct_values.specs.Sharing.{IsRepresentative}
 use Rattle.ct_terms.specs.declared.ids.TermId.{TermId}
 use Rattle.ct_terms.specs.Terms.{Terms, IsOfSort, IsBoolean, IsOfField}
 use Rattle.ct_eval.specs.declared.interp.Interp.{Interp}
-use Rattle.ct_eval.specs.Evaluation.{is_true}
+use Rattle.ct_values.specs.TruthValue.{is_true}
 use Rattle.ct_eval.specs.Index.{AreRepresentatives}
 use Rattle.ct_eval.specs.EvaluationStep.{HasValue, AreValued, Theorems, HasNode, node_under}
 use Rattle.ct_eval.proofs.StepLists.{zip-left, each-weaken}
@@ -61,7 +61,7 @@ module _ (d : Declarations) (i : Interp) (terms : Terms) (g : Nodes) (nodes : Li
   trues_alike theorems (t ∷ ts) sorted below = (true_alike theorems t sorted.0.0 sorted.0.1 below.0, trues_alike theorems ts sorted.1 below.1)
 
   -- nodes of fields have the sorts of the fields
-  pub fields_fit : (ts : List TermId) (ss : List SelId) → AllZip (IsOfField d terms) ts ss → AllByRecursion (λ t. t.0 < length nodes) ts → AllZip (fitting.IsOfField d g) (map (node_under nodes) ts) ss
+  pub fields_fit : (ts : List TermId) (ss : List SelId) → AllZip (IsOfField d terms) ts ss → AllByRecursion (λ t. t.0 < length nodes) ts → AllZip (fitting.IsNodeOfField d g) (map (node_under nodes) ts) ss
   fields_fit [] [] fields below = tt
   fields_fit [] (s ∷ ss) fields below = fields
   fields_fit (t ∷ ts) [] fields below = fields

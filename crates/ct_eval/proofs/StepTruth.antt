@@ -19,7 +19,8 @@ use Rattle.ct_terms.specs.declared.ids.TermId.{TermId}
 use Rattle.ct_terms.specs.declared.term.Core.{Core}
 use Rattle.ct_terms.specs.Terms.{Terms, HasSort}
 use Rattle.ct_eval.specs.declared.interp.Interp.{Interp}
-use Rattle.ct_eval.specs.Evaluation.{core_value, truth, is_same}
+use Rattle.ct_values.specs.TruthValue.{truth}
+use Rattle.ct_eval.specs.Evaluation.{core_value, is_same}
 use Rattle.ct_eval.specs.EvaluationStep.{HasValue, AreValued, Theorems, IsResult, IsNodeFor}
 use Rattle.ct_eval.proofs.StepConstruct.{constructed}
 

@@ -10,7 +10,8 @@ use Rattle.ct_terms.specs.declared.ids.TermId.{TermId}
 use Rattle.ct_terms.specs.Terms.{Terms}
 use Rattle.ct_eval.specs.declared.interp.Interp.{Interp}
 use Rattle.ct_eval.specs.declared.interp.Valuation.{Valuation}
-use Rattle.ct_eval.specs.Evaluation.{is_head, is_true, value_of}
+use Rattle.ct_values.specs.TruthValue.{is_head, is_true}
+use Rattle.ct_eval.specs.Evaluation.{value_of}
 use Rattle.ct_eval.specs.Truth.{truth_of}
 use Rattle.ct_eval.specs.Valued.{IsValuation}
 

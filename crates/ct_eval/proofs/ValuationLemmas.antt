@@ -104,7 +104,7 @@ module _ (d : Declarations) where
     HaveNodes-start g proper same = record {
       longer = ([], same ∙ sym (append-nil i.graph));
       made = λ n old within. let longs : length g ≡ length i.graph = ap length same in absurd (omega arith);
-      fits = subst (FitsGraph d) (sym same) proper.fits;
+      fits = subst (FitsGraph d) (sym same) proper.graph.fits;
       valued = λ t sort n sorted at. absurd (none-some n at);
     }
 

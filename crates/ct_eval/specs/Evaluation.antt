@@ -1,15 +1,13 @@
 -- What a term means in an interpretation (SMT-LIB 2.7, section 5.3), by recursion on its number: arguments have smaller ones.
-use Rattle.std.specs.Prelude.{ℕ, zero, suc, Bool, true, false, not, ◌==◌, List, [], ◌∷◌, map, Option, Some, None, slice_get, unwrap_or, if◌then◌else◌}
+use Rattle.std.specs.Prelude.{ℕ, zero, suc, Bool, false, not, List, [], ◌∷◌, map, Option, Some, None, slice_get, unwrap_or, if◌then◌else◌}
 use Rattle.std.specs.List.{list_all, list_any}
-use Rattle.ct_sorts.specs.declared.ids.CtorId.{CtorId}
 use Rattle.ct_sorts.specs.declared.ids.SelId.{SelId}
 use Rattle.ct_sorts.specs.declared.ids.SortId.{SortId}
 use Rattle.ct_sorts.specs.Declarations.{Declarations, Selector}
-use Rattle.ct_values.specs.declared.node.Head.{Head}
-use Rattle.ct_values.specs.declared.node.Head.TheVariants as heads
 use Rattle.ct_values.specs.Graph.{Nodes}
-use Rattle.ct_values.specs.Value.{Value, reference, construct, no_values, values_of}
-use Rattle.ct_values.specs.Agreement.{point, same, head_of, children_of}
+use Rattle.ct_values.specs.Value.{Value, reference, construct, values_of}
+use Rattle.ct_values.specs.Agreement.{point, same, children_of}
+use Rattle.ct_values.specs.TruthValue.{truth, is_built, is_true}
 use Rattle.ct_terms.specs.declared.ids.TermId.{TermId}
 use Rattle.ct_terms.specs.declared.term.Core.{Core}
 use Rattle.ct_terms.specs.declared.term.Core.TheVariants.{Con, Sel, Test, Apply, Eq, Not, And, Or, Iff, Ite}
@@ -17,25 +15,6 @@ use Rattle.ct_terms.specs.Terms.{Terms}
 use Rattle.ct_eval.specs.declared.interp.Interp.{Interp}
 use Rattle.ct_eval.specs.declared.interp.Table.{Table}
 use Rattle.ct_eval.specs.LookUp.{look_up}
-
--- `true` is constructor 0 and `false` is constructor 1, without arguments
-abbrev pub truth : Bool → Value
-truth true = construct (record { 0 = 0 }) no_values
-truth false = construct (record { 0 = 1 }) no_values
-
--- the head is this constructor
-abbrev pub is_head : CtorId → Option Head → Bool
-is_head c None = false
-is_head c (Some (heads.Con k)) = k.0 == c.0
-is_head c (Some (heads.Elem s n)) = false
-
--- the value is built by this constructor
-abbrev pub is_built : Nodes → CtorId → Value → Bool
-is_built g c v = is_head c (head_of g v)
-
--- the value is `true`
-abbrev pub is_true : Nodes → Value → Bool
-is_true g v = is_built g (record { 0 = 0 }) v
 
 -- the values are equal
 abbrev pub is_same : Nodes → Value → Value → Bool

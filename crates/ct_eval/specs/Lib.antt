@@ -1,8 +1,11 @@
 pub mod Interpretation
 pub mod LookUp
 pub mod Evaluation
-pub mod ValueSort
+pub mod Congruence
+pub mod Appended
 pub mod Truth
 pub mod Valued
 pub mod Index
 pub mod EvaluationStep
+pub mod TreeValue
+pub mod Meaning

@@ -5,7 +5,8 @@ use Rattle.ct_terms.specs.declared.ids.TermId.{TermId}
 use Rattle.ct_terms.specs.Terms.{Terms}
 use Rattle.ct_terms.specs.Clause.{Clause, HoldsUnder}
 use Rattle.ct_eval.specs.declared.interp.Interp.{Interp}
-use Rattle.ct_eval.specs.Evaluation.{is_true, value_of}
+use Rattle.ct_values.specs.TruthValue.{is_true}
+use Rattle.ct_eval.specs.Evaluation.{value_of}
 
 -- the truth value of a term
 abbrev pub truth_of : Declarations → Interp → Terms → TermId → Bool

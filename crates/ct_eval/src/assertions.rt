@@ -1,3 +1,5 @@
+//! Which assertion of a list is the first that an interpretation does not make true.
+
 ghost use Rattle.std.specs.Prelude.{◌≡◌, ◌<◌, length, All, IfOk, MatchOption};
 ghost use Rattle.ct_sorts.specs.Declarations.{Declarations};
 ghost use Rattle.ct_terms.specs.Terms.{Terms, AreSorted, IsBoolean};

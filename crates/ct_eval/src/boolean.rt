@@ -6,7 +6,7 @@ ghost use Rattle.ct_sorts.specs.Consistent.{IsConsistent};
 ghost use Rattle.ct_values.specs.Value.{reference, construct, no_values};
 ghost use Rattle.ct_values.specs.Fitting.{FitsGraph};
 ghost use Rattle.ct_eval.specs.declared.interp.Interp.{Interp};
-ghost use Rattle.ct_eval.specs.Evaluation.{truth, is_true};
+ghost use Rattle.ct_values.specs.TruthValue.{truth, is_true};
 ghost use Rattle.ct_eval.specs.EvaluationStep.{IsGrown, HasNode, node_under, IsReady, IsResult, IsNodeFor};
 
 use crate::error::EvalError;

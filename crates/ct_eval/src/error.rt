@@ -1,3 +1,5 @@
+//! The error of evaluation: out of memory.
+
 ghost use Rattle.std.specs.Prelude.{⊤};
 
 use ct_values::ValueError;

@@ -1,3 +1,5 @@
+//! What an interpretation is: a graph of values, and tables of functions and selectors.
+
 ghost use Rattle.std.specs.Prelude.{◌≡◌};
 
 use ct_values::{Graph, NodeId, NodeIds};

@@ -6,6 +6,7 @@ mod assertions;
 mod boolean;
 mod error;
 mod fitting;
+mod formula_theorems;
 mod index;
 mod interp;
 mod nodes;
@@ -17,12 +18,8 @@ mod valuation;
 
 pub use assertions::holds;
 pub use error::EvalError;
+pub use formula_theorems::meanings;
 pub use interp::{Interp, Row, Rows, Table, Tables, Valuation};
 pub use proper::is_proper;
-pub use theorems::evaluation;
+pub use theorems::{appended_nodes, congruence, constructor_terms, evaluation, truth_values};
 pub use valuation::evaluate;
-
-#[cfg(test)]
-mod tests;
-#[cfg(test)]
-mod value_tests;

@@ -2,7 +2,7 @@
 ghost use Rattle.std.specs.Prelude.{◌≡◌, ◌<◌, length, map, All, IfOk};
 ghost use Rattle.ct_values.specs.Graph.{IsClosed};
 ghost use Rattle.ct_values.specs.Value.{reference};
-ghost use Rattle.ct_eval.specs.Evaluation.{is_built};
+ghost use Rattle.ct_values.specs.TruthValue.{is_built};
 ghost use Rattle.ct_eval.specs.EvaluationStep.{Theorems, HasNode, node_under};
 
 use crate::error::EvalError;

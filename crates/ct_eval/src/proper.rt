@@ -4,7 +4,8 @@ ghost use Rattle.ct_sorts.specs.Declarations.{Sort};
 ghost use Rattle.ct_sorts.specs.declared.ids.Kind.TheVariants as Kind;
 ghost use Rattle.ct_values.specs.declared.node.Node.{Node};
 ghost use Rattle.ct_values.specs.Graph.{node_children};
-ghost use Rattle.ct_eval.specs.Interpretation.{IsData, AreBefore, AreFinite, FitsRow, FitsTable, HasFunctions, HasSelectors, IsProper};
+ghost use Rattle.ct_values.specs.WellFormed.{IsData, AreBefore, AreFinite};
+ghost use Rattle.ct_eval.specs.Interpretation.{FitsRow, FitsTable, HasFunctions, HasSelectors, IsProper};
 
 use crate::fitting::{are_nodes_of_sorts, kind_of};
 use crate::interp::{Interp, Row, Table};

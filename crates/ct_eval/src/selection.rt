@@ -10,7 +10,7 @@ ghost use Rattle.ct_values.specs.Fitting.{FitsGraph, HasNodeSort};
 ghost use Rattle.ct_values.specs.Sharing.{IsRepresentative};
 ghost use Rattle.ct_eval.specs.declared.interp.Table.{Table};
 ghost use Rattle.ct_eval.specs.Interpretation.{IsProper, FitsTable};
-ghost use Rattle.ct_eval.specs.Evaluation.{is_built};
+ghost use Rattle.ct_values.specs.TruthValue.{is_built};
 ghost use Rattle.ct_eval.specs.LookUp.{look_up};
 ghost use Rattle.ct_eval.specs.Index.{IsIndex};
 ghost use Rattle.ct_eval.specs.Valued.{IsLonger};

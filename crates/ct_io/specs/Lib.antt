@@ -7,3 +7,4 @@ pub mod FileOffset
 pub mod MemoryDesk
 pub mod SteadyDesk
 pub mod MemorySink
+pub mod HostSlots

@@ -1,3 +1,5 @@
+//! The trait of desks, which give the bytes of files.
+
 ghost use Rattle.std.specs.Prelude.{◌≡◌, ◌≢◌, ◌≤◌, ℕ, List, Option, length, OnOk, OnErr, IfOk, IfSome};
 ghost use Rattle.ct_io.specs.Bytes.{remaining, ReadsBytes};
 ghost use Rattle.ct_io.specs.Fault.{HasCause};
@@ -23,7 +25,8 @@ pub enum DeskError {
 /// Where the program's input comes from.
 ///
 /// A desk may tell what it holds under each name and what is left in each slot; clauses on content
-/// hold where it does. Its count of faults never falls.
+/// hold where it does. Its count of faults never falls: it rises with each fault that is answered,
+/// unless it stands at its last value, and every other answer leaves it as it was.
 pub trait Desk {
     ghost use Rattle.ct_io.specs.declared.desk.Slot.{Slot};
 

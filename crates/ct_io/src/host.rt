@@ -3,6 +3,7 @@
 mod desk;
 mod faults;
 mod sink;
+mod sources;
 
 pub use desk::HostDesk;
 pub use sink::HostSink;

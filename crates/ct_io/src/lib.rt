@@ -7,8 +7,6 @@ mod host;
 mod memory;
 mod sink;
 mod status;
-#[cfg(test)]
-mod tests;
 mod text;
 
 pub use desk::{Desk, DeskError, Slot};

@@ -1,3 +1,5 @@
+//! The trait of sinks, which take bytes, and writing a whole piece.
+
 ghost use Rattle.std.specs.Prelude.{◌≡◌, ◌≤◌, ◌<◌, ℕ, List, Option, take, length, OnOk, OnErr, IfOk};
 ghost use Rattle.ct_io.specs.Bytes.{appended, GrewByPart};
 ghost use Rattle.ct_io.specs.Fault.{HasCause};
@@ -35,7 +37,9 @@ impl<T: Drop> From<AllocFailed<T>> for SinkError {
 
 /// Where the program's output goes.
 ///
-/// A sink may tell the bytes that it took so far. Its count of faults never falls.
+/// A sink may tell the bytes that it took so far. Its count of faults never falls: it rises with
+/// each fault that is answered, unless it stands at its last value, and every other answer leaves
+/// it as it was.
 pub trait Sink {
     /// The bytes so far, where the sink tells them.
     ghost written: { Self → Option (List ℕ) };
@@ -53,7 +57,7 @@ pub trait Sink {
 }
 
 /// Writes the whole piece. After a refusal a prefix of the piece was written, and not the whole
-/// piece.
+/// piece. The first refusal ends the call: where it succeeds, no write failed.
 pub fn write_all<K: Sink>(sink: &mut K, piece: &[u8]) -> Result<(), SinkError>
     ensures ok { OnOk result (K.written sink.new ≡ appended piece.now (K.written sink.old)) }
     ensures refused { OnErr result (GrewByPart piece.now (K.written sink.old) (K.written sink.new)) }

@@ -1,3 +1,5 @@
+//! The status with which a run ends, and its code.
+
 ghost use Rattle.std.specs.Prelude.{◌≡◌};
 ghost use Rattle.ct_io.specs.Status.{code_of};
 

@@ -1,3 +1,5 @@
+//! A string of UTF-8 that contracts see as its bytes.
+
 ghost use Rattle.std.specs.Prelude.{◌≡◌, string_bytes};
 
 use std::marker::Model;

@@ -26,4 +26,6 @@ pub mod Spelled
 pub mod Writing
 pub mod Depths
 pub mod ReadBack
+pub mod SpacedTexts
+pub mod Items
 pub mod Names

@@ -20,12 +20,12 @@ use Rattle.ct_sexpr.proofs.Spelled.{IsWord, all_run, symbol_IsWord, keyword_IsWo
 use Rattle.ct_sexpr.proofs.Depths.{nesting-canonical_each, inside_open_each, command_nests}
 
 -- an atom ends before the bytes
-abbrev EndsAtom : List ℕ → Type 0
+abbrev pub EndsAtom : List ℕ → Type 0
 EndsAtom [] = ⊥
 EndsAtom (b ∷ bs) = (is_word_byte b ≡ false) × (eqb b 34 ≡ false)
 
 -- the bytes begin with the token, after whitespace and comments, and the tail follows it
-abbrev Gives : List ℕ → Token → List ℕ → Type 0
+abbrev pub Gives : List ℕ → Token → List ℕ → Type 0
 Gives bytes t tail = lexeme_at (after_whitespace bytes) ≡ token t tail
 
 word_is_solid : (w bs : List ℕ) → BeginsWord w → after_whitespace (w ++ bs) ≡ w ++ bs
@@ -49,7 +49,7 @@ text_is_read : (w tail : List ℕ) → EndsAtom tail → Gives ((34 ∷ (doubled
 text_is_read w [] e = absurd e
 text_is_read w (b ∷ bs) e = ap (λ cs. lexeme_at (34 ∷ cs)) (append_assoc (doubled w) (34 ∷ []) (b ∷ bs)) ∙ lexeme-text w b bs e.1
 
-atom_is_read : (a : Atom) (tail : List ℕ) → HasForm a → EndsAtom tail → Gives (written_atom a ++ tail) (atom (canonical_atom a)) tail
+pub atom_is_read : (a : Atom) (tail : List ℕ) → HasForm a → EndsAtom tail → Gives (written_atom a ++ tail) (atom (canonical_atom a)) tail
 atom_is_read (symbol w) tail s e = word_is_read (symbol w) tail (symbol_IsWord w s) e
 atom_is_read (quoted w) tail s e = name_is_read w tail (is_simple w) refl (all_run is_in_quoted_symbol w s) e
 atom_is_read (keyword w) tail s e = word_is_read (keyword w) tail (keyword_IsWord w s) e

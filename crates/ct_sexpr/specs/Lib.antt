@@ -10,8 +10,10 @@ pub mod Text
 pub mod View
 pub mod Written
 pub mod Readable
+pub mod Spaced
 pub mod Unread
 pub mod Answer
+pub mod Nested
 pub mod Open
 pub mod OpenTokens
 pub mod Scanning

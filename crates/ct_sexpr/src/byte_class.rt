@@ -1,3 +1,5 @@
+//! What a byte may be: whitespace, a byte of a word, a delimiter.
+
 ghost use Rattle.std.specs.Prelude.{◌≡◌};
 ghost use Rattle.ct_sexpr.specs.Whitespace.{is_whitespace, ends_comment};
 ghost use Rattle.ct_sexpr.specs.Atom.{is_word_byte, begins_word};

@@ -1,3 +1,5 @@
+//! A list of bytes that contracts see as a list.
+
 ghost use Rattle.std.specs.Prelude.{◌≡◌};
 
 use std::marker::Model;

@@ -1,3 +1,5 @@
+//! The errors of reading and their numbers.
+
 ghost use Rattle.std.specs.Prelude.{◌≡◌};
 ghost use Rattle.ct_sexpr.specs.declared.error.ReadError.TheVariants.{NoMemory};
 

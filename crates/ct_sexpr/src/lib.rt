@@ -11,13 +11,7 @@ mod reserved;
 mod scan;
 mod scanner;
 mod sexpr;
-#[cfg(test)]
-mod tests;
-#[cfg(test)]
-mod text_tests;
 mod theorems;
-#[cfg(test)]
-mod token_table;
 mod write;
 
 pub use bytes::Bytes;
@@ -25,5 +19,7 @@ pub use error::ReadError;
 pub use reader::{Next, Reader};
 pub use reserved::{is_reserved, is_simple};
 pub use sexpr::Sexpr;
-pub use theorems::{error_positions, one_reading, one_text, written_texts};
+pub use theorems::{
+    error_positions, nested_lists, one_reading, one_text, spaced_texts, written_texts,
+};
 pub use write::sexpr_text;

@@ -1,3 +1,5 @@
+//! The stack of lists whose closing parenthesis was not read yet.
+
 ghost use Rattle.std.specs.Prelude.{◌≡◌, ◌+◌, ◌-◌, ◌<◌, [], ◌∷◌, ◌++◌, OnOk, OnErr, IfErr};
 ghost use Rattle.ct_sexpr.specs.Token.{opening, closing};
 ghost use Rattle.ct_sexpr.specs.Expression.{tokens_of};

@@ -1,6 +1,9 @@
+//! The reader: bytes are fed, and whole commands, errors or the end come out.
+
 ghost use Rattle.std.specs.Prelude.{◌≡◌, ℕ, ◌+◌, ◌^◌, ◌<◌, List, [], ◌++◌, true, false, length, OnOk, OnErr, IfOk, IfErr};
 ghost use Rattle.ct_sexpr.specs.Scanning.{Reached};
 ghost use Rattle.ct_sexpr.specs.Answer.{IsAnswer, ReadsOn};
+ghost use Rattle.ct_sexpr.specs.Nested.{NestsWithinLimit};
 
 use crate::error::ReadError;
 use crate::scan::{Scanned, scan_bytes};
@@ -118,6 +121,7 @@ impl Reader {
     pub fn next(&mut self) -> Result<Next, ReadError>
         ensures answers { IsAnswer self.old self.new result }
         ensures reads { ReadsOn self.old self.new result }
+        ensures nests { IfOk result NestsWithinLimit }
     {
         let unread = &self.buffer[self.scanned..];
         let Scanned { count, outcome } = scan_bytes(&mut self.scanner, unread);

@@ -1,3 +1,5 @@
+//! Reads as many bytes as belong to the next command.
+
 ghost use Rattle.std.specs.Prelude.{◌≡◌, ◌+◌, ◌<◌, ◌≤◌, ◌^◌, length, drop};
 ghost use Rattle.ct_sexpr.specs.Scanning.{Scans};
 

@@ -1,3 +1,5 @@
+//! Reads one byte: where the scanner is, and what the byte does there.
+
 ghost use Rattle.std.specs.Prelude.{◌≡◌, ℕ, ◌+◌, ◌<◌, ◌≤◌, ◌^◌, ◌==◌, true, false, [], ◌∷◌, ◌++◌, Ok, Err, OnOk, OnErr, IfErr, IfSome, IfNone};
 ghost use Rattle.ct_sexpr.specs.Whitespace.{is_whitespace, line_feeds, semicolon};
 ghost use Rattle.ct_sexpr.specs.Atom.{Atom, begins_word, atom_of};

@@ -1,5 +1,7 @@
-ghost use Rattle.std.specs.Prelude.{◌≡◌, ◌≢◌, ℕ, List, IfSome, IfNone};
-ghost use Rattle.ct_sexpr.specs.Expression.{Expressions, word, list};
+//! Expressions as they were read.
+
+ghost use Rattle.std.specs.Prelude.{◌≡◌, ◌≢◌, ◌<◌, ℕ, List, IfSome, IfNone};
+ghost use Rattle.ct_sexpr.specs.Expression.{Expressions, word, list, nesting, nesting_of_each};
 ghost use Rattle.ct_sexpr.specs.View.{expression_of, expressions_of};
 
 use crate::bytes::Bytes;
@@ -46,10 +48,13 @@ impl Sexpr {
         }
     }
 
-    /// The items of a list.
+    /// The items of a list. They nest less than the list: `nested_lists` says more, for a function
+    /// that calls itself on them.
     #[tactic(auto, using(crate::proofs::Rows::expression_of_list))]
     pub fn as_list(&self) -> Option<&[Sexpr]>
         ensures found { IfSome result (λ items. expression_of self.now ≡ list (expressions_of items.now)) }
+        ensures nests_less { IfSome result (λ items.
+            nesting_of_each (expressions_of items.now) < nesting (expression_of self.now)) }
         ensures none { IfNone result ((items : Expressions) → expression_of self.now ≢ list items) }
     {
         match self {

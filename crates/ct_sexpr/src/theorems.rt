@@ -1,12 +1,20 @@
-ghost use Rattle.std.specs.Prelude.{◌≡◌, ◌↔◌, ℕ, true, ◌<◌, ◌≤◌, ◌⊎◌, List, [], ◌∷◌, ◌++◌, length, Some};
+//! Theorems about texts: what is read of one, and of what was written.
+
+ghost use Rattle.std.specs.Prelude.{◌≡◌, ◌↔◌, ℕ, true, ◌<◌, ◌≤◌, ◌⊎◌, List, [], ◌∷◌, ◌++◌, length, drop, slice_get, Some};
 ghost use Rattle.ct_sexpr.specs.Whitespace.{after_whitespace, line_of_rest};
-ghost use Rattle.ct_sexpr.specs.Expression.{Expression, Expressions, list, nesting};
-ghost use Rattle.ct_sexpr.specs.Token.{left_parenthesis, right_parenthesis, begins_atom};
+ghost use Rattle.ct_sexpr.specs.Expression.{Expression, Expressions, list, tokens_of, nesting, nesting_of_each};
+ghost use Rattle.ct_sexpr.specs.Token.{left_parenthesis, right_parenthesis, begins_atom, AreTokens};
 ghost use Rattle.ct_sexpr.specs.ErrorNumber.{closes_nothing, ends_inside, nests_too_deep, atom_outside};
 ghost use Rattle.ct_sexpr.specs.Reading.{nesting_limit, BeginsCommand, HasError, HasDefiniteError, IsUnfinished, IsWhitespace, HasNoCommand};
 ghost use Rattle.ct_sexpr.specs.Atom.{Atom};
 ghost use Rattle.ct_sexpr.specs.Written.{written_name, written_atom, written, canonical_atom, canonical};
 ghost use Rattle.ct_sexpr.specs.Readable.{HasForm, IsReadable, name_of_atom};
+ghost use Rattle.ct_sexpr.specs.Spaced.{is_spacing, IsSpaced};
+ghost use Rattle.ct_sexpr.specs.Nested.{IsItem};
+ghost use Rattle.ct_sexpr.specs.Unread.{Unread};
+ghost use Rattle.ct_sexpr.specs.Answer.{Gives};
+ghost use Rattle.ct_sexpr.specs.View.{expression_of, expressions_of};
+ghost use Rattle.ct_sexpr.specs.declared.sexpr.Sexpr.{Sexpr};
 ghost use Rattle.ct_sexpr.specs.Text.{Located, Ending, lexical, Reads, EndingSoFar, waiting, refused, ReadsSoFar};
 
 /// The theorems on reading the first command of bytes, for whoever proves something about scripts.
@@ -108,4 +116,43 @@ pub fn written_texts()
     ensures same_text { (e f : Expression) → IsReadable e → IsReadable f → (written e ≡ written f) ↔ (canonical e ≡ canonical f) }
     ensures one_name { (a : Atom) → name_of_atom (canonical_atom a) ≡ name_of_atom a }
     ensures name_text { (a : Atom) (name : List ℕ) → HasForm a → name_of_atom a ≡ Some name → written_atom a ≡ written_name name }
+{}
+
+/// The theorems on nesting, for whoever recurses over an expression. The function does nothing.
+///
+/// Each item of a list nests less than the list, also by its index among the items in memory; the
+/// items from an index on nest no deeper than all; and a command that a reader gives nests within
+/// the limit. So `nesting` is a measure, for a function that calls itself on items.
+pub fn nested_lists()
+    ensures item_nests_less { (e : Expression) (es : Expressions) → IsItem e es
+        → nesting e < nesting (list es) }
+    ensures item_in_memory { (items : List Sexpr) (index : ℕ) (item : Sexpr)
+        → slice_get items index ≡ Some item → IsItem (expression_of item) (expressions_of items) }
+    ensures suffix_nests { (items : List Sexpr) (n : ℕ)
+        → nesting_of_each (expressions_of (drop n items)) ≤ nesting_of_each (expressions_of items) }
+    ensures given_nests { (old new : Unread) (e : Expression) (line : ℕ)
+        → Gives old new e line → nesting e ≤ nesting_limit }
+{}
+
+/// The theorems on whitespace and comments between tokens (SMT-LIB 2.7, section 3.1), for whoever
+/// proves something about texts that are read. The function does nothing.
+///
+/// A list is read as a command exactly where its tokens are and it nests within the limit, whatever
+/// whitespace and comments stand between them. Whitespace and whole comments before other bytes
+/// change nothing of how these are read. So a text of a list with any of them between the tokens,
+/// as one whose items stand on lines of their own, is read as the same expression as the text with
+/// single spaces, which is one of these texts.
+pub fn spaced_texts()
+    ensures command_has_tokens { (es : Expressions) (bytes rest : List ℕ)
+        → BeginsCommand bytes (list es) rest
+        ↔ (AreTokens (tokens_of (list es)) bytes rest × (nesting (list es) ≤ nesting_limit)) }
+    ensures spacing_is_passed { (space tail : List ℕ) → is_spacing space ≡ true
+        → after_whitespace (space ++ tail) ≡ after_whitespace tail }
+    ensures spacing_before { (space bytes : List ℕ) (e : Expression) (rest : List ℕ)
+        → is_spacing space ≡ true → BeginsCommand bytes e rest
+        → BeginsCommand (space ++ bytes) e rest }
+    ensures spaced_is_read { (es : Expressions) (text : List ℕ)
+        → IsReadable (list es) → nesting (list es) ≤ nesting_limit → IsSpaced (list es) text
+        → BeginsCommand text (canonical (list es)) [] }
+    ensures written_is_spaced { (e : Expression) → IsSpaced e (written e) }
 {}

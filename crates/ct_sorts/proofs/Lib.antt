@@ -20,3 +20,4 @@ pub mod StartLemmas
 pub mod WordLemmas
 pub mod GroupLemmas
 pub mod StructureLemmas
+pub mod NamingLemmas

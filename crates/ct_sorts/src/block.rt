@@ -1,3 +1,5 @@
+//! What a block of datatypes or codatatypes declares, as it is given.
+
 use crate::items::Items;
 use crate::name::Name;
 

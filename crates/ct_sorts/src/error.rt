@@ -1,3 +1,5 @@
+//! The error of a declaration: refused for a numbered cause, or out of memory.
+
 ghost use Rattle.std.specs.Prelude.{◌≡◌};
 ghost use Rattle.ct_sorts.specs.declared.error.SigError.TheVariants.{NoMemory};
 

@@ -1,3 +1,5 @@
+//! Numbers of sorts, constructors, selectors, functions and definitions.
+
 /// The number of a sort. Bool is 0.
 #[derive(Clone, Copy, Debug, PartialEq, Eq, Hash)]
 pub struct SortId(pub u32);

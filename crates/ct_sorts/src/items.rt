@@ -1,3 +1,5 @@
+//! A list of items that contracts see as a list.
+
 ghost use Rattle.std.specs.Prelude.{◌≡◌, length};
 
 use std::marker::Model;

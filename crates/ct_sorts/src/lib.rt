@@ -28,13 +28,4 @@ pub use items::Items;
 pub use mark::Mark;
 pub use name::Name;
 pub use signature::Signature;
-pub use theorems::{growth, structure};
-
-#[cfg(test)]
-mod mark_tests;
-#[cfg(test)]
-mod refusal_tests;
-#[cfg(test)]
-mod test_declarations;
-#[cfg(test)]
-mod tests;
+pub use theorems::{growth, naming, structure};

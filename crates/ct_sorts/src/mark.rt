@@ -1,3 +1,5 @@
+//! Marks: the lengths to which declarations can be cut back.
+
 ghost use Rattle.std.specs.Prelude.{◌≡◌, ◌≤◌};
 
 use std::marker::Model;

@@ -1,3 +1,5 @@
+//! Names, which contracts see as lists of bytes.
+
 ghost use Rattle.std.specs.Prelude.{◌≡◌, IfOk};
 
 use std::alloc::{AllocError, Global};

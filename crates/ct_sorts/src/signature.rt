@@ -1,3 +1,5 @@
+//! The signature: all declarations, how they grow, are cut back and looked up.
+
 ghost use Rattle.std.specs.Prelude.{◌≡◌, ℕ, ◌+◌, List, ◌<◌, ◌≤◌, ◌⊎◌, ◌↔◌, [], length, Some, None, option_map, slice_get, All, IsTrue, IfSome, MatchOption, OnOk, OnErr, IfOk, IfErr, IsErrOf};
 ghost use Rattle.ct_sorts.specs.Availability.{IsListed, IsUnavailable, IsUnavailableSort, core_words};
 ghost use Rattle.ct_sorts.specs.Declarations.{Declarations, Function, IsSort, IsConstructor, IsSelector, IsFunction, IsDefinition, start, function_names, symbol_names, sort_names, ctor_names, sel_names, most_sorts, most_functions, most_definitions, sort_ids, with_sort, with_function, with_definition};

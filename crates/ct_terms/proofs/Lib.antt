@@ -1,6 +1,13 @@
 pub mod CoreLemmas
 pub mod ListLemmas
 pub mod SortLemmas
+pub mod CoreTreeLemmas
+pub mod CoreSortLemmas
+pub mod SubtreeLemmas
+pub mod CallLemmas
+pub mod FormulaSortLemmas
+pub mod OccurrenceLemmas
+pub mod CompiledReach
 pub mod TableLemmas
 pub mod SortingLemmas
 pub mod LiteralLemmas

@@ -1,6 +1,6 @@
 -- Lists by their indices: one more element at the end, and a search by a test.
-use Rattle.std.proofs.Common.{◌≡◌, ℕ, zero, suc, ◌+◌, ◌<◌, ◌≤◌, ◌⊎◌, Bool, true, false, List, [], ◌∷◌, ◌++◌, length, take, slice_get, get_or, position, All, Some, None, refl, sym, ap, subst, ◌∙◌, inl, inr, arith, add-one}
-use Rattle.std.specs.List.{position_or_len, AllZip}
+use Rattle.std.proofs.Common.{◌≡◌, ℕ, zero, suc, ◌+◌, ◌<◌, ◌≤◌, ◌⊎◌, Bool, true, false, List, [], ◌∷◌, ◌++◌, length, take, slice_get, get_or, position, Some, None, refl, sym, ap, subst, ◌∙◌, inl, inr, arith, add-one}
+use Rattle.std.specs.List.{position_or_len, AllZip, AllByRecursion}
 use Rattle.std.proofs.lemmas.List.{get_or_default}
 use Rattle.std.proofs.lemmas.Option.{none-some, same_Some}
 use Rattle.std.proofs.lemmas.Bool.Decides.{nat_tests}
@@ -16,6 +16,12 @@ module _ {X : Type 0} where
   slice_get-append_left [] ys i x e = absurd (none-some x e)
   slice_get-append_left (z ∷ zs) ys zero x e = e
   slice_get-append_left (z ∷ zs) ys (suc i) x e = slice_get-append_left zs ys i x e
+
+  -- an index of the first list
+  pub slice_get-prefix : (xs ys : List X) (k : ℕ) → k < length xs → slice_get (xs ++ ys) k ≡ slice_get xs k
+  slice_get-prefix [] ys k within = absurd (omega (arith, within))
+  slice_get-prefix (x ∷ xs) ys zero within = refl
+  slice_get-prefix (x ∷ xs) ys (suc k) within = slice_get-prefix xs ys k (omega (arith, within))
 
   -- a new last element stands at the old length
   pub slice_get-last : (xs : List X) (x : X) → slice_get (xs ++ x ∷ []) (length xs) ≡ Some x
@@ -33,11 +39,6 @@ module _ {X : Type 0} where
   -- a search that finds nothing has gone past the end
   pub position-None : (p : X → Bool) (xs : List X) → position p xs ≡ None → length xs ≤ position_or_len p xs
   position-None p xs e = grind (arith, nat_tests)
-
-  -- what holds of the first element and of each later one holds of each
-  pub All-cons : (P : X → Type 0) (x : X) (xs : List X) → P x → All P xs → All P (x ∷ xs)
-  All-cons P x xs first rest zero d within = first
-  All-cons P x xs first rest (suc k) d within = rest k d (omega arith)
 
   -- what stands in the first part stands in the whole
   pub slice_get-take : (n : ℕ) (xs : List X) (i : ℕ) (x : X) → slice_get (take n xs) i ≡ Some x → slice_get xs i ≡ Some x
@@ -70,12 +71,17 @@ module _ {X : Type 0} where
       by (y ∷ ys) (suc j) e = ap (λ (zs : List X). y ∷ zs) (by ys j e)
 
 -- a number that is not past the last is before it, or is it
-last_or_before : (k i : ℕ) → k < i + 1 → (k < i) ⊎ (k ≡ i)
+pub last_or_before : (k i : ℕ) → k < i + 1 → (k < i) ⊎ (k ≡ i)
 last_or_before zero zero h = inr refl
 last_or_before zero (suc i) h = inl (omega arith)
 last_or_before (suc k) zero h = absurd (omega arith)
 last_or_before (suc k) (suc i) h =
     elim (last_or_before k i (omega arith)) [ inl before ↦ inl (omega arith) | inr last ↦ inr (ap suc last) ]
+
+-- what follows for each element
+pub AllByRecursion-weaker : {X : Type 0} (P Q : X → Type 0) → ((x : X) → P x → Q x) → (xs : List X) → AllByRecursion P xs → AllByRecursion Q xs
+AllByRecursion-weaker P Q each [] h = tt
+AllByRecursion-weaker P Q each (x ∷ xs) h = (each x h.0, AllByRecursion-weaker P Q each xs h.1)
 
 -- two lists, element by element
 module _ {X Y : Type 0} (R : X → Y → Type 0) where

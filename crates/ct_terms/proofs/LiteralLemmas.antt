@@ -1,5 +1,5 @@
 -- Literals: the bound of the recursion does not matter in an ordered table, and what a literal means.
-use Rattle.std.proofs.Common.{◌≡◌, ℕ, zero, suc, ◌<◌, Bool, true, false, not, Option, Some, None, slice_get, refl, sym, ap, subst, ◌∙◌, arith}
+use Rattle.std.proofs.Common.{◌≡◌, ℕ, zero, suc, ◌<◌, Bool, true, false, not, ◌++◌, length, Option, Some, None, slice_get, refl, sym, ap, subst, ◌∙◌, arith}
 use Rattle.std.proofs.lemmas.Option.{none-some}
 use Rattle.ct_sorts.specs.declared.ids.SortId.{SortId}
 use Rattle.ct_sorts.specs.Declarations.{bool_sort}
@@ -8,6 +8,7 @@ use Rattle.ct_terms.specs.declared.ids.Lit.{Lit}
 use Rattle.ct_terms.specs.declared.term.Core.{Core}
 use Rattle.ct_terms.specs.declared.term.Core.TheVariants.{Not}
 use Rattle.ct_terms.specs.Terms.{Terms, IsOfSort, Has, AreOrdered, NegatesBooleans}
+use Rattle.ct_terms.proofs.ListLemmas.{slice_get-prefix}
 use Rattle.ct_terms.specs.Literal.{opposite, literal_step, literal_below, literal_of, IsLiteral, IsStripped}
 
 -- one step gives one literal where the two readings agree on the term under a negation
@@ -24,8 +25,22 @@ literal_below-enough table ordered (suc n) zero t h k = absurd (omega arith)
 literal_below-enough table ordered (suc n) (suc m) t h k =
     literal_step-agrees (literal_below n table) (literal_below m table) t (slice_get table t.0)
     (λ a s e.
-    let below : a.0 < t.0 = ordered t.0 (Not a) (s, e) in
+    let below : a.0 < t.0 = (ordered t.0 (Not a) (s, e)).0 in
     literal_below-enough table ordered n m a (omega arith) (omega arith))
+
+-- terms after those of an ordered table change nothing
+literal_below-longer : (table more : Terms) → AreOrdered (table ++ more) → (n : ℕ) (t : TermId) → t.0 < length table → literal_below n (table ++ more) t ≡ literal_below n table t
+unfolding literal_below
+literal_below-longer table more ordered zero t within = refl
+literal_below-longer table more ordered (suc n) t within =
+    literal_step-agrees (literal_below n (table ++ more)) (literal_below n table) t (slice_get (table ++ more) t.0)
+    (λ a s e.
+    let below : a.0 < t.0 = (ordered t.0 (Not a) (s, e)).0 in
+    literal_below-longer table more ordered n a (omega (arith, below, within)))
+    ∙ ap (literal_step (literal_below n table) t) (slice_get-prefix table more t.0 within)
+
+pub literal_of-longer : (table more : Terms) (t : TermId) → AreOrdered (table ++ more) → t.0 < length table → literal_of (table ++ more) t ≡ literal_of table t
+literal_of-longer table more t ordered within = literal_below-longer table more ordered (suc t.0) t within
 
 -- what a step gives is what the literal means, given the literal of the term under a negation
 IsLiteral-step : (table : Terms) (f : TermId → Lit) (t : TermId) (r : Option (Core × SortId)) → literal_of table t ≡ literal_step f t r → ((a : TermId) (s : SortId) → r ≡ Some (Not a, s) → f a ≡ literal_of table a) → IsLiteral table t r
@@ -39,7 +54,7 @@ unfolding literal_below
 IsLiteral-ordered table ordered t =
     IsLiteral-step table (literal_below t.0 table) t (slice_get table t.0) refl
     (λ a s e.
-    let below : a.0 < t.0 = ordered t.0 (Not a) (s, e) in
+    let below : a.0 < t.0 = (ordered t.0 (Not a) (s, e)).0 in
     literal_below-enough table ordered t.0 (suc a.0) a below (omega arith))
 
 -- the literal with the same sign, or the other

@@ -1,8 +1,8 @@
 -- The sort of a term: there is one at most, and it stays where declarations are added and where the terms under it stay.
 use Rattle.std.proofs.Common.{◌≡◌, ℕ, ◌<◌, ◌≤◌, List, [], ◌∷◌, ◌++◌, length, slice_get, take, All, Some, refl, sym, ap, ◌∙◌, arith}
-use Rattle.std.specs.List.{AllZip}
+use Rattle.std.specs.List.{AllZip, AllByRecursion}
 use Rattle.std.proofs.lemmas.List.{append-nil}
-use Rattle.std.proofs.lemmas.List.Elements.{All-head, All-tail, All-weaker}
+use Rattle.std.proofs.lemmas.List.Elements.{recursion_from_All, All-from_recursion, All-weaker}
 use Rattle.std.proofs.lemmas.Option.{same_Some, slice_get_within}
 use Rattle.ct_sorts.specs.declared.ids.SortId.{SortId}
 use Rattle.ct_sorts.specs.declared.ids.SelId.{SelId}
@@ -10,9 +10,10 @@ use Rattle.ct_sorts.specs.Declarations.{Declarations, Function, bool_sort, with_
 use Rattle.ct_terms.specs.declared.ids.TermId.{TermId}
 use Rattle.ct_terms.specs.declared.term.Core.{Core}
 use Rattle.ct_terms.specs.declared.term.Core.TheVariants.{Con, Sel, Test, Apply, Eq, Not, And, Or, Iff, Ite}
-use Rattle.ct_terms.specs.Terms.{Terms, IsOfSort, IsBoolean, IsOfField, Joins, HasSort, AreSorted, HasArgumentsBelow, AreOrdered}
+use Rattle.ct_terms.specs.Children.{core_children, HasArgumentsBelow}
+use Rattle.ct_terms.specs.Terms.{Terms, IsOfSort, IsBoolean, IsOfField, Joins, HasSort, AreSorted, AreOrdered}
 use Rattle.ct_sorts.specs.Grown.{Begins, Extends}
-use Rattle.ct_terms.proofs.ListLemmas.{slice_get-append_left, slice_get-take, slice_get-take_below, take-slice_get, All-cons}
+use Rattle.ct_terms.proofs.ListLemmas.{slice_get-append_left, slice_get-take, slice_get-take_below, take-slice_get, AllByRecursion-weaker}
 
 -- one number has one sort
 IsOfSort-same : (table : Terms) (t : TermId) (r s : SortId) → IsOfSort table t r → IsOfSort table t s → r ≡ s
@@ -36,51 +37,41 @@ pub IsOfSort-below : (table : Terms) (t : TermId) (sort : SortId) → IsOfSort t
 IsOfSort-below table t sort h = slice_get_within table t.0 (h.0, sort) h.1
 
 -- terms that go with something, each one below a number, are all below it
-AllZip-below : {X : Type 0} (R : TermId → X → Type 0) (n : ℕ) → ((t : TermId) (x : X) → R t x → t.0 < n) → (ts : List TermId) (xs : List X) → AllZip R ts xs → All (λ t. t.0 < n) ts
-AllZip-below R n each [] xs h = λ k d l. absurd (omega arith)
+AllZip-below : {X : Type 0} (R : TermId → X → Type 0) (n : ℕ) → ((t : TermId) (x : X) → R t x → t.0 < n) → (ts : List TermId) (xs : List X) → AllZip R ts xs → AllByRecursion (λ t. t.0 < n) ts
+AllZip-below R n each [] xs h = tt
 AllZip-below R n each (t ∷ ts) [] h = absurd h
-AllZip-below R n each (t ∷ ts) (x ∷ xs) h = All-cons (λ t. t.0 < n) t ts (each t x h.0) (AllZip-below R n each ts xs h.1)
+AllZip-below R n each (t ∷ ts) (x ∷ xs) h = (each t x h.0, AllZip-below R n each ts xs h.1)
 
 -- terms that go with something and are below a number go with it in another way, where each such term does
-AllZip-stays : {X : Type 0} (R S : TermId → X → Type 0) (n : ℕ) → ((t : TermId) (x : X) → t.0 < n → R t x → S t x) → (ts : List TermId) (xs : List X) → All (λ t. t.0 < n) ts → AllZip R ts xs → AllZip S ts xs
+AllZip-stays : {X : Type 0} (R S : TermId → X → Type 0) (n : ℕ) → ((t : TermId) (x : X) → t.0 < n → R t x → S t x) → (ts : List TermId) (xs : List X) → AllByRecursion (λ t. t.0 < n) ts → AllZip R ts xs → AllZip S ts xs
 AllZip-stays R S n each [] [] below h = h
 AllZip-stays R S n each [] (x ∷ xs) below h = absurd h
 AllZip-stays R S n each (t ∷ ts) [] below h = absurd h
-AllZip-stays R S n each (t ∷ ts) (x ∷ xs) below h =
-    (each t x (All-head (λ t. t.0 < n) t ts below) h.0, AllZip-stays R S n each ts xs (All-tail (λ t. t.0 < n) t ts below) h.1)
+AllZip-stays R S n each (t ∷ ts) (x ∷ xs) below h = (each t x below.0 h.0, AllZip-stays R S n each ts xs below.1 h.1)
 
 -- Boolean terms have their numbers below the length
-AreBoolean-below : (table : Terms) (ts : List TermId) → All (IsBoolean table) ts → All (λ t. t.0 < length table) ts
-AreBoolean-below table ts h = All-weaker (IsBoolean table) (λ t. t.0 < length table) (λ t boolean. IsOfSort-below table t bool_sort boolean) ts h
+AreBoolean-below : (table : Terms) (ts : List TermId) → All (IsBoolean table) ts → AllByRecursion (λ t. t.0 < length table) ts
+AreBoolean-below table ts h = recursion_from_All (λ t. t.0 < length table) ts (All-weaker (IsBoolean table) (λ t. t.0 < length table) (λ t boolean. IsOfSort-below table t bool_sort boolean) ts h)
 
 -- the terms under a well-sorted term have their numbers below the length
 pub HasSort-below : (d : Declarations) (table : Terms) (core : Core) (sort : SortId) → HasSort d table core sort → HasArgumentsBelow (length table) core
 HasSort-below d table (Con c args) sort h = AllZip-below (IsOfField d table) (length table) (λ t s filled. IsOfSort-below table t filled.selector.sort filled.sorted) args h.ctor.sels h.fields
-HasSort-below d table (Sel s t) sort h = IsOfSort-below table t h.ctor.sort h.sorted
-HasSort-below d table (Test c t) sort h = IsOfSort-below table t h.ctor.sort h.sorted
+HasSort-below d table (Sel s t) sort h = (IsOfSort-below table t h.ctor.sort h.sorted, tt)
+HasSort-below d table (Test c t) sort h = (IsOfSort-below table t h.ctor.sort h.sorted, tt)
 HasSort-below d table (Apply f args) sort h = AllZip-below (IsOfSort table) (length table) (IsOfSort-below table) args h.function.args h.sorted
-HasSort-below d table (Eq a b) sort h = (IsOfSort-below table a h.side h.left, IsOfSort-below table b h.side h.right)
-HasSort-below d table (Not t) sort h = IsOfSort-below table t bool_sort h.0
+HasSort-below d table (Eq a b) sort h = (IsOfSort-below table a h.side h.left, (IsOfSort-below table b h.side h.right, tt))
+HasSort-below d table (Not t) sort h = (IsOfSort-below table t bool_sort h.0, tt)
 HasSort-below d table (And args) sort h = AreBoolean-below table args h.booleans
 HasSort-below d table (Or args) sort h = AreBoolean-below table args h.booleans
-HasSort-below d table (Iff a b) sort h = (IsOfSort-below table a bool_sort h.0, IsOfSort-below table b bool_sort h.1)
-HasSort-below d table (Ite c a b) sort h = (IsOfSort-below table c bool_sort h.0, IsOfSort-below table a sort h.1, IsOfSort-below table b sort h.2)
+HasSort-below d table (Iff a b) sort h = (IsOfSort-below table a bool_sort h.0, (IsOfSort-below table b bool_sort h.1, tt))
+HasSort-below d table (Ite c a b) sort h = (IsOfSort-below table c bool_sort h.0, (IsOfSort-below table a sort h.1, (IsOfSort-below table b sort h.2, tt)))
 
 -- a bound on the terms right under a term can be raised
 pub HasArgumentsBelow-more : (n m : ℕ) (core : Core) → n ≤ m → HasArgumentsBelow n core → HasArgumentsBelow m core
-HasArgumentsBelow-more n m (Con c args) more h = λ k d l. let below = h k d l in omega arith
-HasArgumentsBelow-more n m (Sel s t) more h = omega arith
-HasArgumentsBelow-more n m (Test c t) more h = omega arith
-HasArgumentsBelow-more n m (Apply f args) more h = λ k d l. let below = h k d l in omega arith
-HasArgumentsBelow-more n m (Eq a b) more h = (omega (arith, h.0), omega (arith, h.1))
-HasArgumentsBelow-more n m (Not t) more h = omega arith
-HasArgumentsBelow-more n m (And args) more h = λ k d l. let below = h k d l in omega arith
-HasArgumentsBelow-more n m (Or args) more h = λ k d l. let below = h k d l in omega arith
-HasArgumentsBelow-more n m (Iff a b) more h = (omega (arith, h.0), omega (arith, h.1))
-HasArgumentsBelow-more n m (Ite c a b) more h = (omega (arith, h.0), omega (arith, h.1), omega (arith, h.2))
+HasArgumentsBelow-more n m core more h = AllByRecursion-weaker (λ (t : TermId). t.0 < n) (λ t. t.0 < m) (λ t below. omega (arith, more)) (core_children core) h
 
 -- what stands at an index stays there in a list that begins with the list
-slice_get-longer : {X : Type 0} (longer shorter : List X) (i : ℕ) (x : X) → Begins shorter longer → slice_get shorter i ≡ Some x → slice_get longer i ≡ Some x
+pub slice_get-longer : {X : Type 0} (longer shorter : List X) (i : ℕ) (x : X) → Begins shorter longer → slice_get shorter i ≡ Some x → slice_get longer i ≡ Some x
 slice_get-longer {X} longer shorter i x begins at = ap (λ (xs : List X). slice_get xs i) begins.1 ∙ slice_get-append_left shorter begins.0 i x at
 
 -- more is declared, and the terms below a number have the sorts in the new table that they had in the old one
@@ -92,10 +83,10 @@ module _ (later earlier : Declarations) (new old : Terms) (n : ℕ) (extends : E
     sorted = stay t h.selector.sort below h.sorted;
   }
 
-  AreBoolean-stay : (ts : List TermId) → All (λ t. t.0 < n) ts → All (IsBoolean old) ts → All (IsBoolean new) ts
-  AreBoolean-stay ts below h k d l = stay _ bool_sort (below k d l) (h k d l)
+  AreBoolean-stay : (ts : List TermId) → AllByRecursion (λ t. t.0 < n) ts → All (IsBoolean old) ts → All (IsBoolean new) ts
+  AreBoolean-stay ts below h k d l = stay _ bool_sort (All-from_recursion (λ t. t.0 < n) ts below k d l) (h k d l)
 
-  Joins-stays : (args : List TermId) (sort : SortId) → All (λ t. t.0 < n) args → Joins old args sort → Joins new args sort
+  Joins-stays : (args : List TermId) (sort : SortId) → AllByRecursion (λ t. t.0 < n) args → Joins old args sort → Joins new args sort
   Joins-stays args sort below h = record { some = h.some; booleans = AreBoolean-stay args below h.booleans; result = h.result }
 
   pub HasSort-stays : (core : Core) (sort : SortId) → HasArgumentsBelow n core → HasSort earlier old core sort → HasSort later new core sort
@@ -110,13 +101,13 @@ module _ (later earlier : Declarations) (new old : Terms) (n : ℕ) (extends : E
     ctor = h.ctor;
     declared = slice_get-longer later.sels earlier.sels s.0 h.selector extends.sels h.declared;
     constructor = slice_get-longer later.ctors earlier.ctors h.selector.ctor.0 h.ctor extends.ctors h.constructor;
-    sorted = stay t h.ctor.sort below h.sorted;
+    sorted = stay t h.ctor.sort below.0 h.sorted;
     result = h.result;
   }
   HasSort-stays (Test c t) sort below h = record {
     ctor = h.ctor;
     declared = slice_get-longer later.ctors earlier.ctors c.0 h.ctor extends.ctors h.declared;
-    sorted = stay t h.ctor.sort below h.sorted;
+    sorted = stay t h.ctor.sort below.0 h.sorted;
     result = h.result;
   }
   HasSort-stays (Apply f args) sort below h = record {
@@ -128,15 +119,15 @@ module _ (later earlier : Declarations) (new old : Terms) (n : ℕ) (extends : E
   HasSort-stays (Eq a b) sort below h = record {
     side = h.side;
     left = stay a h.side below.0 h.left;
-    right = stay b h.side below.1 h.right;
+    right = stay b h.side below.1.0 h.right;
     other = h.other;
     result = h.result;
   }
-  HasSort-stays (Not t) sort below h = (stay t bool_sort below h.0, h.1)
+  HasSort-stays (Not t) sort below h = (stay t bool_sort below.0 h.0, h.1)
   HasSort-stays (And args) sort below h = Joins-stays args sort below h
   HasSort-stays (Or args) sort below h = Joins-stays args sort below h
-  HasSort-stays (Iff a b) sort below h = (stay a bool_sort below.0 h.0, stay b bool_sort below.1 h.1, h.2)
-  HasSort-stays (Ite c a b) sort below h = (stay c bool_sort below.0 h.0, stay a sort below.1 h.1, stay b sort below.2 h.2)
+  HasSort-stays (Iff a b) sort below h = (stay a bool_sort below.0 h.0, stay b bool_sort below.1.0 h.1, h.2)
+  HasSort-stays (Ite c a b) sort below h = (stay c bool_sort below.0 h.0, stay a sort below.1.0 h.1, stay b sort below.1.1.0 h.2)
 
 -- a list begins with itself
 Begins-same : {X : Type 0} (xs : List X) → Begins xs xs

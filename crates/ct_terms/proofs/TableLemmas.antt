@@ -147,7 +147,7 @@ IsTermTable-take table n two old =
       single = λ i j core at_i at_j. old.single i j core (has core i at_i) (has core j at_j);
       negates = λ t a h.
           let within : t < n = slice_get-take_below n table t (Not a, h.0) h.1 in
-          let below : a.0 < t = old.ordered t (Not a) (has (Not a) t h) in
+          let below : a.0 < t = (old.ordered t (Not a) (has (Not a) t h)).0 in
           let boolean = old.negates t a (has (Not a) t h) in
           (boolean.0, take-slice_get n table a.0 (boolean.0, bool_sort) (omega arith) boolean.1);
     }

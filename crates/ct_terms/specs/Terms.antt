@@ -7,6 +7,7 @@ use Rattle.ct_sorts.specs.Declarations.{Declarations, Constructor, Selector, Fun
 use Rattle.ct_terms.specs.declared.ids.TermId.{TermId}
 use Rattle.ct_terms.specs.declared.term.Core.{Core}
 use Rattle.ct_terms.specs.declared.term.Core.TheVariants.{Con, Sel, Test, Apply, Eq, Not, And, Or, Iff, Ite}
+pub use Rattle.ct_terms.specs.Children.{HasArgumentsBelow}
 
 -- the terms and their sorts, in the order of their numbers
 abbrev pub Terms : Type 0
@@ -115,19 +116,6 @@ truths = (Con (record { 0 = 0 }) [], bool_sort) ∷ ((Con (record { 0 = 1 }) [],
 -- `true` and `false` stand first
 abbrev pub BeginsWithTruths : Terms → Type 0
 BeginsWithTruths table = take 2 table ≡ truths
-
--- the terms right under this one have numbers below the bound
-abbrev pub HasArgumentsBelow : ℕ → Core → Type 0
-HasArgumentsBelow n (Con c args) = All (λ t. t.0 < n) args
-HasArgumentsBelow n (Sel s t) = t.0 < n
-HasArgumentsBelow n (Test c t) = t.0 < n
-HasArgumentsBelow n (Apply f args) = All (λ t. t.0 < n) args
-HasArgumentsBelow n (Eq a b) = (a.0 < n) × (b.0 < n)
-HasArgumentsBelow n (Not t) = t.0 < n
-HasArgumentsBelow n (And args) = All (λ t. t.0 < n) args
-HasArgumentsBelow n (Or args) = All (λ t. t.0 < n) args
-HasArgumentsBelow n (Iff a b) = (a.0 < n) × (b.0 < n)
-HasArgumentsBelow n (Ite c a b) = (c.0 < n) × (a.0 < n) × (b.0 < n)
 
 -- every term comes after the terms under it
 abbrev pub AreOrdered : Terms → Type 0

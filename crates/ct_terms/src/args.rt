@@ -1,3 +1,5 @@
+//! The arguments of a term, which contracts see as a list.
+
 ghost use Rattle.std.specs.Prelude.{◌≡◌, [], ◌∷◌, ◌++◌, OnOk, OnErr, IfOk};
 ghost use Rattle.std.specs.Cmp.{partial_equiv_from_equiv};
 ghost use Rattle.ct_terms.specs.Args.{same_ids, same_ids_equiv, hashed_ids, hashed_ids_alike};

@@ -1,3 +1,5 @@
+//! The errors of making terms: the table is full, or out of memory.
+
 ghost use Rattle.std.specs.Prelude.{◌≡◌};
 ghost use Rattle.ct_terms.specs.declared.error.TermError.TheVariants.{NoMemory};
 

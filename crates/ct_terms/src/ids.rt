@@ -1,3 +1,5 @@
+//! Numbers of terms, and literals over them.
+
 /// The number of a term in its table. `true` is 0, the default, and `false` is 1.
 #[derive(Clone, Copy, Debug, Default, PartialEq, Eq, Hash)]
 pub struct TermId(pub u32);

@@ -7,9 +7,9 @@ mod ids;
 mod sorting;
 mod table;
 mod term;
-#[cfg(test)]
-mod tests;
 mod theorems;
+mod tree;
+mod tree_theorems;
 
 pub use args::Args;
 pub use error::TermError;
@@ -18,3 +18,5 @@ pub use sorting::is_well_sorted;
 pub use table::TermTable;
 pub use term::Core;
 pub use theorems::{one_lasting_sort, propagation_is_sound};
+pub use tree::{Case, Pattern, Tree};
+pub use tree_theorems::{core_trees, formulas};

@@ -1,3 +1,5 @@
+//! The table of terms, in which equal terms have one number.
+
 ghost use Rattle.std.specs.Prelude.{◌≡◌, ℕ, ◌<◌, ◌≤◌, ◌↔◌, length, take, slice_get, OnErr, IsOk, IfOk, IfErr, IfSome, IfNone, IsErrOf};
 ghost use Rattle.ct_sorts.specs.declared.ids.SortId.{SortId};
 ghost use Rattle.ct_sorts.specs.Declarations.{Declarations, start, bool_sort};
@@ -84,7 +86,7 @@ impl TermTable {
     /// The number of the term: of the equal one that is there, or of a new one at the end. `Full` comes
     /// exactly where the table holds 400,000 terms and this one is not among them. An error changes nothing.
     pub fn make(&mut self, sig: &Signature, core: Core) -> Result<TermId, TermError>
-        requires { IsWellSorted sig.now self.old core }
+        requires well_sorted { IsWellSorted sig.now self.old core }
         ensures made { IfOk result (λ t. Makes sig.now self.old self.new core t.0) }
         ensures full { IsErrOf result TermError.Full ↔ (IsAbsent self.old core × (most_terms ≤ length self.old)) }
         ensures refused { OnErr result (self.new ≡ self.old) }
@@ -129,7 +131,7 @@ impl TermTable {
 
     /// The term with this number. The terms right under it have smaller numbers.
     pub fn core(&self, t: TermId) -> &Core
-        requires { t.0 < length self.now }
+        requires within { t.0 < length self.now }
         ensures value { Has self.now result.now t.0 }
         ensures below { HasArgumentsBelow t.0 result.now }
         ensures inside { HasArgumentsBelow (length self.now) result.now }
@@ -142,7 +144,7 @@ impl TermTable {
 
     /// The sort of the term with this number.
     pub fn sort(&self, t: TermId) -> SortId
-        requires { t.0 < length self.now }
+        requires within { t.0 < length self.now }
         ensures value { IsOfSort self.now t result }
     {
         self.terms[t.0 as usize]
@@ -150,7 +152,7 @@ impl TermTable {
 
     /// The term without the negations around it, and the sign that they leave.
     pub fn lit(&self, t: TermId) -> Lit
-        requires { IsOfSort self.now t bool_sort }
+        requires boolean { IsOfSort self.now t bool_sort }
         ensures value { result ≡ literal_of self.now t }
         ensures stripped { IsStripped self.now result.term }
         ensures means { (u : TermId) → IsLiteral self.now u (slice_get self.now u.0) }
@@ -178,8 +180,8 @@ impl TermTable {
 
     // The sort of a term that is well sorted over this table.
     fn sort_of(&self, sig: &Signature, core: &Core) -> SortId
-        requires { IsWellSorted sig.now self.now core.now }
-        ensures { HasSort sig.now self.now core.now result }
+        requires well_sorted { IsWellSorted sig.now self.now core.now }
+        ensures sort { HasSort sig.now self.now core.now result }
     {
         match core {
             Core::Con(c, _) => sig.ctor_sort(*c),

@@ -1,3 +1,5 @@
+//! Core terms: one variant a kind of term.
+
 ghost use Rattle.std.specs.Prelude.{◌≡◌, IfOk};
 
 use crate::args::Args;

@@ -4,6 +4,7 @@ use Rattle.std.specs.List.{AllByRecursion}
 use Rattle.std.specs.Option.{option_eq}
 use Rattle.std.proofs.lemmas.List.Elements.{recursion_from_All}
 use Rattle.std.specs.Cmp.Lexicographic.{pointwise}
+use Rattle.std.proofs.lemmas.List.{length-append}
 use Rattle.std.proofs.lemmas.Option.{none-some, same_Some, slice_get_within, get_or_from_slice_get}
 use Rattle.ct_values.specs.declared.node.NodeId.{NodeId}
 use Rattle.ct_values.specs.declared.node.Node.{Node}
@@ -57,16 +58,28 @@ grown_at [] more n h = absurd (omega arith)
 grown_at (x ∷ xs) more zero h = refl
 grown_at (x ∷ xs) more (suc n) h = grown_at xs more n (omega arith)
 
-head_of-grown : (g more : Nodes) (v : Value) → IsOver g v → head_of (g ++ more) v ≡ head_of g v
+-- a value keeps its head and its children
+pub head_of-grown : (g more : Nodes) (v : Value) → IsOver g v → head_of (g ++ more) v ≡ head_of g v
 head_of-grown g more (reference n) h = ap (option_map node_head) (grown_at g more n.0 h)
 head_of-grown g more (element s n) h = refl
 head_of-grown g more (construct c vs) h = refl
 
-children_of-grown : (g more : Nodes) (v : Value) → IsOver g v → children_of (g ++ more) v ≡ children_of g v
+pub children_of-grown : (g more : Nodes) (v : Value) → IsOver g v → children_of (g ++ more) v ≡ children_of g v
 children_of-grown g more (reference n) h =
     ap (λ found. map reference (unwrap_or (option_map node_children found) [])) (grown_at g more n.0 h)
 children_of-grown g more (element s n) h = refl
 children_of-grown g more (construct c vs) h = refl
+
+mutual
+  -- it is over the longer graph
+  pub over-grown : (g more : Nodes) (v : Value) → IsOver g v → IsOver (g ++ more) v
+  over-grown g more (reference n) h = omega (arith, h, length-append g more)
+  over-grown g more (element s n) h = tt
+  over-grown g more (construct c vs) h = all_over-grown g more vs h
+
+  all_over-grown : (g more : Nodes) (vs : Values) → AreOver g vs → AreOver (g ++ more) vs
+  all_over-grown g more no_values h = tt
+  all_over-grown g more (with_value v vs) h = (over-grown g more v h.0, all_over-grown g more vs h.1)
 
 -- a test that does not see the nodes after a graph gives one answer over lists of values
 all-grown : (test : Point → Point → Bool) (g more : Nodes) → ((v : Value) (q : Point) → IsOver g v → test (point (g ++ more) v) q ≡ test (point g v) q) → (vs : List Value) (qs : List Point) → AllByRecursion (IsOver g) vs → pointwise test (map (point (g ++ more)) vs) qs ≡ pointwise test (map (point g) vs) qs

@@ -20,6 +20,11 @@ pub mod SharedLemmas
 pub mod FitTestLemmas
 pub mod NumeralLemmas
 pub mod FittingLemmas
+pub mod PathLemmas
+pub mod SortedLemmas
+pub mod ChainLemmas
+pub mod BooleanLemmas
+pub mod LastingLemmas
 pub mod FitNameLemmas
 pub mod PlainLemmas
 pub mod StandLemmas

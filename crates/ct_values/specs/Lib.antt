@@ -14,6 +14,10 @@ pub mod Shape
 pub mod Postorder
 pub mod Settled
 pub mod Fitting
+pub mod ValueSort
+pub mod WellFormed
+pub mod Inversion
+pub mod TruthValue
 pub mod Numeral
 pub mod ValueText
 pub mod Sharing

@@ -1,4 +1,5 @@
--- The representative of a value in a graph: its representative that is bisimilar to the value. Two nodes are bisimilar exactly where they have one representative.
+-- The representative of a value in a graph: the node of the least number that is bisimilar to it. Two nodes are
+-- bisimilar exactly where they have one representative.
 use Rattle.std.specs.Prelude.{◌≡◌, ℕ, ◌<◌, ◌≤◌, List, length, Some, slice_get}
 use Rattle.indexmap.specs.IndexMap.{IndexMap, get}
 use Rattle.ct_values.specs.declared.node.NodeId.{NodeId}
@@ -9,7 +10,8 @@ use Rattle.ct_values.specs.Agreement.{Point, node_point, AgreeAlways}
 use Rattle.ct_values.specs.Partition.{class_at, node_key}
 use Rattle.ct_values.specs.KeyTest.{same_key}
 
--- the node is the representative of this value, which may be over another graph: the representative of the graph that is bisimilar to it
+-- the node is the representative of this value, which may be over another graph: the node of the least number that is
+-- bisimilar to it
 pub record IsRepresentative (g : Nodes) (p : Point) (n : NodeId) : Type 0 where
   pub within : n.0 < length g
   pub same : AgreeAlways (node_point g n) p

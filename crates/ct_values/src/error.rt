@@ -1,3 +1,5 @@
+//! The error of values: out of memory.
+
 ghost use Rattle.std.specs.Prelude.{⊤};
 
 use std::alloc::{AllocError, AllocFailed};

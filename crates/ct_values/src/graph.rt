@@ -1,3 +1,5 @@
+//! Graphs of values: lists of nodes whose children are nodes of the list.
+
 ghost use Rattle.std.specs.Prelude.{◌≡◌, ℕ, ◌+◌, ◌<◌, ◌⊎◌, ◌↔◌, [], ◌∷◌, ◌++◌, length, slice_get, option_map, Some, None, All, OnOk, OnErr, IfOk, IsTrue};
 ghost use Rattle.indexmap.specs.IndexMap.{get};
 ghost use Rattle.ct_values.specs.declared.key.Key.{Key};
@@ -133,8 +135,8 @@ pub fn are_closed(nodes: &[Node]) -> bool
     have_children_below(nodes, nodes.len() as u64)
 }
 
-/// Whether the children of all these nodes have numbers below the bound.
-pub(crate) fn have_children_below(nodes: &[Node], bound: u64) -> bool
+/// Whether the children of all these nodes have numbers below the bound, which `Graph::append` asks for.
+pub fn have_children_below(nodes: &[Node], bound: u64) -> bool
     ensures value { IsTrue result ↔ All (HasChildrenBelow bound) nodes.now }
 {
     for node in nodes {
@@ -145,8 +147,8 @@ pub(crate) fn have_children_below(nodes: &[Node], bound: u64) -> bool
     true
 }
 
-/// Whether the children of the node have numbers below the bound.
-pub(crate) fn has_children_below(node: &Node, bound: u64) -> bool
+/// Whether the children of the node have numbers below the bound, which `Graph::push` asks for.
+pub fn has_children_below(node: &Node, bound: u64) -> bool
     ensures value { IsTrue result ↔ HasChildrenBelow bound node.now }
 {
     match node {
@@ -155,8 +157,8 @@ pub(crate) fn has_children_below(node: &Node, bound: u64) -> bool
     }
 }
 
-/// Whether these nodes have numbers below the bound.
-pub(crate) fn are_below(nodes: &[NodeId], bound: u64) -> bool
+/// Whether these nodes have numbers below the bound, which `SharedGraph::construct` asks for.
+pub fn are_below(nodes: &[NodeId], bound: u64) -> bool
     ensures value { IsTrue result ↔ All (λ n. n.0 < bound) nodes.now }
 {
     for n in nodes {

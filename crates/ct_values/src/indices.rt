@@ -1,3 +1,5 @@
+//! Lists of numbers, which contracts see as lists.
+
 ghost use Rattle.std.specs.Prelude.{◌≡◌};
 ghost use Rattle.std.specs.Cmp.{partial_equiv_from_equiv};
 ghost use Rattle.ct_values.specs.Indices.{same_indices, same_indices_equiv, hashed_indices, hashed_indices_alike};

@@ -1,3 +1,5 @@
+//! The key of a node in a round of refinement: its head over the classes of its children.
+
 ghost use Rattle.std.specs.Prelude.{◌≡◌, ◌<◌, length, Some, IfOk, All, map};
 ghost use Rattle.ct_values.specs.Partition.{class_at, key_of};
 

@@ -30,22 +30,14 @@ mod writing;
 pub use equality::same;
 pub use error::ValueError;
 pub use fitting::{fits, has_sort, sort_of};
-pub use graph::{Graph, are_closed};
+pub use graph::{Graph, are_below, are_closed, has_children_below, have_children_below};
 pub use minimal::minimise;
 pub use node::{Head, Node, NodeId};
 pub use node_ids::NodeIds;
 pub use shared::SharedGraph;
-pub use theorems::{agreement, minimal_graph, representative_nodes, value_texts};
+pub use theorems::{
+    agreement, boolean_values, finite_values, fitting_graphs, longer_graphs, minimal_graph,
+    representative_nodes, value_texts, well_sorted_values,
+};
 pub use value::Value;
 pub use writing::value_text;
-
-#[cfg(test)]
-mod fitting_tests;
-#[cfg(test)]
-mod test_graphs;
-#[cfg(test)]
-mod test_sorts;
-#[cfg(test)]
-mod tests;
-#[cfg(test)]
-mod text_tests;

@@ -1,3 +1,5 @@
+//! Nodes of a graph, and their heads.
+
 use crate::node_ids::NodeIds;
 use ct_sorts::{CtorId, SortId};
 

@@ -1,3 +1,5 @@
+//! Lists of numbers of nodes, which contracts see as lists.
+
 ghost use Rattle.std.specs.Prelude.{◌≡◌, IfOk};
 ghost use Rattle.std.specs.Cmp.{partial_equiv_from_equiv};
 ghost use Rattle.ct_values.specs.NodeIdTest.{same_nodes, same_nodes_equiv, hashed_nodes, hashed_nodes_alike};

@@ -1,3 +1,5 @@
+//! What a value is, for whoever reads the code.
+
 use crate::node::NodeId;
 use ct_sorts::{CtorId, SortId};
 

@@ -13,6 +13,3 @@ pub use words::{
     COMMANDS, DERIVATION_WORDS, ERROR_TEXTS, OPTIONS, commands, derivation_words, error_texts,
     options,
 };
-
-#[cfg(test)]
-mod tests;

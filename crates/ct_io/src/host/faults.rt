@@ -1,3 +1,5 @@
+//! Counts the errors that the operating system answers.
+
 ghost use Rattle.std.specs.Prelude.{◌≡◌, ◌≤◌, ◌+◌, Ok, Err, min, IfOk, OnErr, OnOk};
 ghost use Rattle.ct_io.specs.Fault.{Rose, last_count};
 
@@ -27,7 +29,6 @@ impl FaultCount {
     }
 
     /// How many faults there were.
-    #[cfg(test)]
     pub(super) fn get(&self) -> u64
         ensures value { result ≡ self.now }
     {

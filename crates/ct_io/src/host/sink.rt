@@ -1,4 +1,6 @@
-ghost use Rattle.std.specs.Prelude.{◌≡◌, ◌≤◌, ◌<◌, ◌+◌, ℕ, None, length, min, IfErr, IfOk, OnErr, OnOk};
+//! The sink of the host: standard output.
+
+ghost use Rattle.std.specs.Prelude.{◌≡◌, ◌≤◌, ◌<◌, ◌+◌, ◌⊎◌, ℕ, None, Ok, length, min, IfErr, IfOk, OnErr, OnOk};
 ghost use Rattle.ct_io.specs.Fault.{HasCause, last_count};
 
 use super::faults::FaultCount;
@@ -37,21 +39,28 @@ impl<P: Print> HostSink<P> {
     }
 
     /// How often the host failed.
-    #[cfg(test)]
-    pub(crate) fn faults(&self) -> u64
+    pub fn faults(&self) -> u64
         ensures value { result ≡ self.now }
     {
         self.faults.get()
     }
 
-    /// Writes a prefix of the piece. To take nothing of a piece is an error.
-    fn write_prefix(&self, piece: &[u8]) -> io::Result<usize>
-        ensures bound { IfOk result (λ n. n ≤ length piece.now) }
+    /// What the host answered to a write of the piece, where each of its errors is counted and
+    /// becomes a fault. To have taken nothing of a piece is an error.
+    fn settle(&mut self, answer: io::Result<usize>, piece: &[u8]) -> Result<usize, SinkError>
+        ensures count { IfOk result (λ n. answer ≡ Ok n) }
+        ensures passed { IfOk answer (λ n. (length piece.now ≡ 0) ⊎ (0 < n) → result ≡ Ok n) }
         ensures progress { IfOk result (λ n. 0 < length piece.now → 0 < n) }
+        ensures cause { HasCause SinkError.Fault self.old self.new result }
+        ensures counted { OnErr result (self.new ≡ min (self.old + 1) last_count) }
+        ensures only_faults { IfErr result (λ e. e ≡ SinkError.Fault) }
     {
-        match self.output.write_some(piece)? {
-            0 if !piece.is_empty() => Err(io::Error::from(io::ErrorKind::WriteZero)),
-            count => Ok(count),
+        match answer {
+            Ok(0) if !piece.is_empty() => {
+                let nothing = io::Error::from(io::ErrorKind::WriteZero);
+                self.faults.settle(Err(nothing), SinkError::Fault)
+            }
+            answer => self.faults.settle(answer, SinkError::Fault),
         }
     }
 }
@@ -71,7 +80,7 @@ impl<P: Print> Sink for HostSink<P> {
         ensures uncounted { OnOk result (self.new ≡ self.old) }
         ensures only_faults { IfErr result (λ e. e ≡ SinkError.Fault) }
     {
-        let written = self.write_prefix(piece);
-        self.faults.settle(written, SinkError::Fault)
+        let answer = self.output.write_some(piece);
+        self.settle(answer, piece)
     }
 }

@@ -1,3 +1,5 @@
+//! Numbers calls, of which chosen ones fail.
+
 ghost use Rattle.std.specs.Prelude.{◌≡◌, ◌≤◌, ◌↔◌, IsTrue};
 ghost use Rattle.ct_io.specs.Calls.{no_calls, call_count, IsToFail, with_call, with_fault};
 ghost use Rattle.ct_io.specs.Fault.{Rose};

@@ -1,3 +1,5 @@
+//! A desk in memory, of which chosen calls fail.
+
 ghost use Rattle.std.specs.Prelude.{◌≡◌, ◌≢◌, ◌≤◌, ◌<◌, ◌↔◌, ℕ, List, length, drop, min, IfErr, IfOk, IsErrOf, IsSomeAnd, OnErr, OnOk};
 ghost use Rattle.ct_io.specs.Bytes.{remaining, ReadsBytes};
 ghost use Rattle.ct_io.specs.Calls.{no_calls, call_count, IsToFail, with_fault};

@@ -1,3 +1,5 @@
+//! A sink in memory, of which chosen writes fail.
+
 ghost use Rattle.std.specs.Prelude.{◌≡◌, ◌≤◌, ◌<◌, ◌↔◌, [], length, take, min, IfOk, IsErrOf, OnErr};
 ghost use Rattle.ct_io.specs.Bytes.{appended};
 ghost use Rattle.ct_io.specs.Calls.{no_calls, IsToFail, with_fault};

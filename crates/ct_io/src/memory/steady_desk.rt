@@ -1,3 +1,5 @@
+//! A desk in memory that never fails.
+
 ghost use Rattle.std.specs.Prelude.{◌≡◌, ◌≢◌, ◌≤◌, ℕ, List, length, drop, min, IfOk, IsOk, IsOkAnd, OnErr, OnOk};
 ghost use Rattle.ct_io.specs.Bytes.{remaining, ReadsBytes};
 ghost use Rattle.ct_io.specs.Fault.{HasCause};

@@ -1,3 +1,5 @@
+//! A sink in memory that never fails.
+
 ghost use Rattle.std.specs.Prelude.{◌≡◌, ◌≤◌, ◌<◌, [], ◌++◌, Some, length, take, IfErr, IfOk, OnErr};
 ghost use Rattle.ct_io.specs.Bytes.{appended};
 ghost use Rattle.ct_io.specs.Fault.{HasCause};

@@ -1,3 +1,5 @@
+//! Files in memory, and what is left of each slot.
+
 ghost use Rattle.std.specs.Prelude.{[], ◌≡◌, ◌+◌, ◌^◌, ◌<◌, min, length, take, drop, ◌++◌, position, bytes_eq, Some, option_map, IfSome, IfNone, is_some};
 ghost use Rattle.ct_io.specs.FileStore.{contents, unopened, file_named, left_in, with_left};
 ghost use Rattle.ct_io.specs.FileOffset.{left_at};

@@ -1,9 +1,8 @@
-use Rattle.std.proofs.Common.{List, length, map, subst, sym, ◌∙◌}
+use Rattle.std.proofs.Common.{List, map, subst, sym, ◌∙◌}
 use Rattle.ct_values.specs.declared.node.NodeId.{NodeId}
 use Rattle.ct_eval.specs.Index.{AreRepresentatives}
 use Rattle.ct_eval.proofs.StepTerms.{are_representatives, sorts_sorted}
 use Rattle.ct_eval.proofs.StepTables.{function_table, given_is}
-use Rattle.ct_eval.proofs.StepReady.{all_below}
 use Rattle.ct_eval.proofs.application.apply.Goals as goal
 
 pub given-requires : goal.given-requires
@@ -15,7 +14,7 @@ given-requires c =
     let nodes = c.args.nodes.now in
     let args = c.args.args.now in
     let table = function_table d i c.args.f.0 r.sorted.function c.requires.ready.1 r.sorted.declared in
-    let first = are_representatives d i r.terms g nodes r.value r.valued args (sorts_sorted r.terms args r.sorted.function.args r.sorted.sorted) (all_below (length nodes) args r.below) in
+    let first = are_representatives d i r.terms g nodes r.value r.valued args (sorts_sorted r.terms args r.sorted.function.args r.sorted.sorted) r.below in
     record {
       fits = (
         i.graph,
@@ -40,7 +39,7 @@ returns c = record {
       let nodes = c.args.nodes.now in
       let args = c.args.args.now in
       let table = function_table d i c.args.f.0 sorted.function proper sorted.declared in
-      let first = are_representatives d i terms g nodes value valued args (sorts_sorted terms args sorted.function.args sorted.sorted) (all_below (length nodes) args c.requires.ready.2.below) in
+      let first = are_representatives d i terms g nodes value valued args (sorts_sorted terms args sorted.function.args sorted.sorted) c.requires.ready.2.below in
       let reported = c.given.ensures.value i.graph d sorted.function.args sorted.function.result table.0 (map value args) c.requires.funs table.1 c.requires.longer table.2
       (subst (λ (ns : List NodeId). AreRepresentatives i.graph g ns (map value args)) (sym (c.new-args.ensures.value ∙ c.in_ok-nodes_of.ensures.value)) first)
       c.closed.ensures.closed in

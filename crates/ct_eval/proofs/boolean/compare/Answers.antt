@@ -1,7 +1,7 @@
 use Rattle.std.proofs.Common.{◌≡◌, Bool, not, if◌then◌else◌, ap, ◌∙◌}
 use Rattle.ct_sorts.specs.Declarations.{bool_sort}
 use Rattle.ct_terms.specs.declared.term.Core.TheVariants.{Iff}
-use Rattle.ct_eval.specs.Evaluation.{truth, is_true}
+use Rattle.ct_values.specs.TruthValue.{truth, is_true}
 use Rattle.ct_eval.proofs.StepTerms.{true_alike}
 use Rattle.ct_eval.proofs.StepReady.{ready_Iff}
 use Rattle.ct_eval.proofs.StepTruth.{answered}
@@ -28,6 +28,6 @@ returns-clause-value c = λ d i consistent fits.
     let below = c.requires.ready.2.below in
     answered d i g c.truth.new.shared nodes (Iff c.args.a c.args.b) c.is_one_value-answer.result c.truth.result (c.truth.ensures.value d i consistent fits) (λ terms value sort valued sorted.
     let left = c.is_true.ensures.value ∙ true_alike d i terms g nodes value valued c.theorems.ensures.theorems c.args.a bool_sort sorted.0 below.0 in
-    let right = c.is_true-2.ensures.value ∙ true_alike d i terms g nodes value valued c.theorems.ensures.theorems c.args.b bool_sort sorted.1 below.1 in
+    let right = c.is_true-2.ensures.value ∙ true_alike d i terms g nodes value valued c.theorems.ensures.theorems c.args.b bool_sort sorted.1 below.1.0 in
     let same = c.is_one_value-answer.ensures.value ∙ alike c.is_true.result c.is_true-2.result (is_true i.graph (value c.args.a)) (is_true i.graph (value c.args.b)) left right in
     (ap truth same, sorted.2))

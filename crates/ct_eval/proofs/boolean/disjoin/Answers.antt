@@ -1,11 +1,11 @@
-use Rattle.std.proofs.Common.{length, ap, ◌∙◌}
+use Rattle.std.proofs.Common.{ap, ◌∙◌}
 use Rattle.ct_values.specs.Value.{reference}
 use Rattle.ct_terms.specs.declared.term.Core.TheVariants.{Or}
-use Rattle.ct_eval.specs.Evaluation.{truth, is_true}
+use Rattle.ct_values.specs.TruthValue.{truth, is_true}
 use Rattle.ct_eval.specs.EvaluationStep.{node_under}
 use Rattle.ct_eval.proofs.StepLists.{list_any-alike}
 use Rattle.ct_eval.proofs.StepTerms.{booleans_sorted, trues_alike}
-use Rattle.ct_eval.proofs.StepReady.{ready_Or, all_below}
+use Rattle.ct_eval.proofs.StepReady.{ready_Or}
 use Rattle.ct_eval.proofs.StepTruth.{answered}
 use Rattle.ct_eval.proofs.boolean.disjoin.Goals as goal
 
@@ -20,5 +20,5 @@ returns-clause-value c = λ d i consistent fits.
     let nodes = c.args.nodes.now in
     let args = c.args.args.now in
     answered d i g c.truth.new.shared nodes (Or args) c.is_one_true-answer.result c.truth.result (c.truth.ensures.value d i consistent fits) (λ terms value sort valued sorted.
-    let same = c.is_one_true-answer.ensures.value ∙ list_any-alike (λ t. is_true g (reference (node_under nodes t))) (λ t. is_true i.graph (value t)) args (trues_alike d i terms g nodes value valued c.theorems.ensures.theorems args (booleans_sorted terms args sorted.booleans) (all_below (length nodes) args c.requires.ready.2.below)) in
+    let same = c.is_one_true-answer.ensures.value ∙ list_any-alike (λ t. is_true g (reference (node_under nodes t))) (λ t. is_true i.graph (value t)) args (trues_alike d i terms g nodes value valued c.theorems.ensures.theorems args (booleans_sorted terms args sorted.booleans) c.requires.ready.2.below) in
     (ap truth same, sorted.result))

@@ -2,7 +2,7 @@ use Rattle.std.proofs.Common.{◌≡◌, ◌↔◌, ℕ, Bool, IsTrue, nat_eq, a
 use Rattle.std.proofs.lemmas.Bool.Decides.{Decides-eqb}
 use Rattle.ct_values.specs.declared.node.NodeId.{NodeId}
 use Rattle.ct_terms.specs.declared.term.Core.TheVariants.{Eq}
-use Rattle.ct_eval.specs.Evaluation.{truth}
+use Rattle.ct_values.specs.TruthValue.{truth}
 use Rattle.ct_eval.specs.EvaluationStep.{node_under}
 use Rattle.ct_eval.proofs.StepTerms.{valued_under}
 use Rattle.ct_eval.proofs.StepReady.{ready_Eq}
@@ -36,6 +36,6 @@ returns-clause-value c = λ d consistent fits.
     let is : c.eq-answer.result ≡ nat_eq m.0 n.0 = c.eq-answer.ensures ∙ ap (λ (k : NodeId). nat_eq k.0 c.node_at-2.result.0) c.node_at.ensures.value ∙ ap (λ (k : NodeId). nat_eq m.0 k.0) c.node_at-2.ensures.value in
     answered d i g c.truth.new.shared nodes (Eq c.args.a c.args.b) c.eq-answer.result c.truth.result (c.truth.ensures.value d i consistent fits) (λ terms value sort valued sorted.
     let left = valued_under d i terms g nodes value valued c.args.a sorted.side sorted.left below.0 in
-    let right = valued_under d i terms g nodes value valued c.args.b sorted.side sorted.right below.1 in
+    let right = valued_under d i terms g nodes value valued c.args.b sorted.side sorted.right below.1.0 in
     let same = same_value c.theorems.ensures.theorems d i g (value c.args.a) (value c.args.b) sorted.side sorted.side m n c.eq-answer.result c.closed.ensures.closed left right (reported m n c.eq-answer.result is) in
     (ap truth same, sorted.result))

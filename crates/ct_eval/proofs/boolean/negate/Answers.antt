@@ -1,7 +1,7 @@
 use Rattle.std.proofs.Common.{not, ap, ◌∙◌}
 use Rattle.ct_sorts.specs.Declarations.{bool_sort}
 use Rattle.ct_terms.specs.declared.term.Core.TheVariants.{Not}
-use Rattle.ct_eval.specs.Evaluation.{truth}
+use Rattle.ct_values.specs.TruthValue.{truth}
 use Rattle.ct_eval.proofs.StepTerms.{true_alike}
 use Rattle.ct_eval.proofs.StepReady.{ready_Not}
 use Rattle.ct_eval.proofs.StepTruth.{answered}
@@ -17,5 +17,5 @@ returns-clause-value c = λ d i consistent fits.
     let g = c.args.shared.now in
     let nodes = c.args.nodes.now in
     answered d i g c.truth.new.shared nodes (Not c.args.t) (not c.is_true-answer.result) c.truth.result (c.truth.ensures.value d i consistent fits) (λ terms value sort valued sorted.
-    let same = c.is_true-answer.ensures.value ∙ true_alike d i terms g nodes value valued c.theorems.ensures.theorems c.args.t bool_sort sorted.0 c.requires.ready.2.below in
+    let same = c.is_true-answer.ensures.value ∙ true_alike d i terms g nodes value valued c.theorems.ensures.theorems c.args.t bool_sort sorted.0 c.requires.ready.2.below.0 in
     (ap (λ b. truth (not b)) same, sorted.1))

@@ -1,7 +1,7 @@
 use Rattle.std.proofs.Common.{ap, ◌∙◌}
 use Rattle.ct_values.specs.Value.{reference}
 use Rattle.ct_terms.specs.declared.term.Core.TheVariants.{Test}
-use Rattle.ct_eval.specs.Evaluation.{truth, is_built}
+use Rattle.ct_values.specs.TruthValue.{truth, is_built}
 use Rattle.ct_eval.specs.EvaluationStep.{node_under}
 use Rattle.ct_eval.proofs.StepNodes.{built_alike}
 use Rattle.ct_eval.proofs.StepTerms.{valued_under}
@@ -19,5 +19,5 @@ returns-clause-value c = λ d i consistent fits.
     let g = c.args.shared.now in
     let nodes = c.args.nodes.now in
     answered d i g c.truth.new.shared nodes (Test c.args.c c.args.t) c.is_built-answer.result c.truth.result (c.truth.ensures.value d i consistent fits) (λ terms value sort valued sorted.
-    let same = c.is_built-answer.ensures.value ∙ ap (λ h. is_built h c.args.c (reference c.node_at.result)) c.graph.ensures.value ∙ ap (λ n. is_built g c.args.c (reference n)) c.node_at.ensures.value ∙ built_alike c.theorems.ensures.theorems g i.graph c.args.c (value c.args.t) (node_under nodes c.args.t) (valued_under d i terms g nodes value valued c.args.t sorted.ctor.sort sorted.sorted c.requires.ready.2.below).first in
+    let same = c.is_built-answer.ensures.value ∙ ap (λ h. is_built h c.args.c (reference c.node_at.result)) c.graph.ensures.value ∙ ap (λ n. is_built g c.args.c (reference n)) c.node_at.ensures.value ∙ built_alike c.theorems.ensures.theorems g i.graph c.args.c (value c.args.t) (node_under nodes c.args.t) (valued_under d i terms g nodes value valued c.args.t sorted.ctor.sort sorted.sorted c.requires.ready.2.below.0).first in
     (ap truth same, sorted.result))

@@ -1,7 +1,7 @@
 use Rattle.std.proofs.Common.{refl, subst, ◌<◌}
 use Rattle.std.proofs.lemmas.List.{take_all}
 use Rattle.std.proofs.lemmas.List.Elements.{All-more}
-use Rattle.ct_eval.specs.Interpretation.{IsData, AreBefore}
+use Rattle.ct_values.specs.WellFormed.{IsData, AreBefore}
 use Rattle.ct_eval.proofs.proper.are_before.Goals as goal
 
 pub loop-n-preserved : goal.loop-n-preserved

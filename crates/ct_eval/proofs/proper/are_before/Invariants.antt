@@ -1,5 +1,5 @@
 use Rattle.std.proofs.Common.{take}
-use Rattle.ct_eval.specs.Interpretation.{AreBefore}
+use Rattle.ct_values.specs.WellFormed.{AreBefore}
 use Rattle.ct_eval.proofs.proper.are_before.Given as goal
 
 -- the nodes so far are before the bound

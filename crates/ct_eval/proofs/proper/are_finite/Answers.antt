@@ -1,6 +1,6 @@
 use Rattle.std.proofs.Common.{sym, refl, ◌∙◌, arith}
 use Rattle.ct_values.specs.Graph.{node_children}
-use Rattle.ct_eval.specs.Interpretation.{IsData, AreBefore}
+use Rattle.ct_values.specs.WellFormed.{IsData, AreBefore}
 use Rattle.ct_eval.proofs.ListLemmas.{stands, EachBelow-all}
 use Rattle.ct_eval.proofs.FittingLemmas.{AreFinite-from, AreFinite-at}
 use Rattle.ct_eval.proofs.proper.are_finite.Goals as goal

@@ -1,5 +1,5 @@
 use Rattle.ct_values.specs.Graph.{node_children}
-use Rattle.ct_eval.specs.Interpretation.{IsData, AreBefore}
+use Rattle.ct_values.specs.WellFormed.{IsData, AreBefore}
 use Rattle.ct_eval.proofs.ListLemmas.{EachBelow}
 use Rattle.ct_eval.proofs.proper.are_finite.Given as goal
 

@@ -9,8 +9,7 @@ returns c =
       proper = (
         λ yes.
             record {
-              fits = c.fits.ensures.value.0 c.if-not-fits.false;
-              finite = c.are_finite.ensures.finite.0 c.if-not-are_finite.false;
+              graph = record { fits = c.fits.ensures.value.0 c.if-not-fits.false; finite = c.are_finite.ensures.finite.0 c.if-not-are_finite.false };
               functions = subst (HasFunctions c.args.sig.now graph) c.as_slice.ensures.value (c.has_functions.ensures.functions.0 c.if-not-has_functions.false);
               selectors = subst (HasSelectors c.args.sig.now graph) c.as_slice-2.ensures.value (c.has_selectors.ensures.selectors.0 yes);
             },

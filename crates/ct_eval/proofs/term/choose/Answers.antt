@@ -5,7 +5,7 @@ use Rattle.ct_values.specs.declared.node.NodeId.{NodeId}
 use Rattle.ct_values.specs.Graph.{Nodes}
 use Rattle.ct_values.specs.Value.{Value}
 use Rattle.ct_eval.specs.declared.interp.Interp.{Interp}
-use Rattle.ct_eval.specs.Evaluation.{is_true}
+use Rattle.ct_values.specs.TruthValue.{is_true}
 use Rattle.ct_eval.specs.EvaluationStep.{HasValue, node_under}
 use Rattle.ct_eval.proofs.StepTerms.{true_alike, valued_under}
 use Rattle.ct_eval.proofs.StepReady.{ready_Ite}
@@ -41,7 +41,7 @@ returns-then-is_true c = record {
       let nodes = c.args.nodes.now in
       let below = c.requires.ready.2.below in
       let test : true ≡ is_true i.graph (value c.args.c) = sym c.if-is_true.true ∙ c.is_true.ensures.value ∙ true_alike d i terms g nodes value valued c.theorems.ensures.theorems c.args.c bool_sort sorted.0 below.0 in
-      (fits, chosen d i g (value c.args.a) sort (node_under nodes c.args.a) c.node_at.result (choice true (value c.args.a) (value c.args.b) (is_true i.graph (value c.args.c)) test) c.node_at.ensures.value (valued_under d i terms g nodes value valued c.args.a sort sorted.1 below.1));
+      (fits, chosen d i g (value c.args.a) sort (node_under nodes c.args.a) c.node_at.result (choice true (value c.args.a) (value c.args.b) (is_true i.graph (value c.args.c)) test) c.node_at.ensures.value (valued_under d i terms g nodes value valued c.args.a sort sorted.1 below.1.0));
 }
 
 pub returns : goal.returns
@@ -51,5 +51,5 @@ returns c = record {
       let nodes = c.args.nodes.now in
       let below = c.requires.ready.2.below in
       let test : false ≡ is_true i.graph (value c.args.c) = sym c.if-is_true.false ∙ c.is_true.ensures.value ∙ true_alike d i terms g nodes value valued c.theorems.ensures.theorems c.args.c bool_sort sorted.0 below.0 in
-      (fits, chosen d i g (value c.args.b) sort (node_under nodes c.args.b) c.node_at-2.result (choice false (value c.args.a) (value c.args.b) (is_true i.graph (value c.args.c)) test) c.node_at-2.ensures.value (valued_under d i terms g nodes value valued c.args.b sort sorted.2 below.2));
+      (fits, chosen d i g (value c.args.b) sort (node_under nodes c.args.b) c.node_at-2.result (choice false (value c.args.a) (value c.args.b) (is_true i.graph (value c.args.c)) test) c.node_at-2.ensures.value (valued_under d i terms g nodes value valued c.args.b sort sorted.2 below.1.1.0));
 }

@@ -3,7 +3,7 @@ use Rattle.ct_values.specs.declared.node.NodeId.{NodeId}
 use Rattle.ct_values.specs.declared.node.Node.TheVariants.{Con}
 use Rattle.ct_eval.proofs.StepSorts.{IsGrown-constructed}
 use Rattle.ct_eval.proofs.StepConstruct.{constructs}
-use Rattle.ct_eval.proofs.StepReady.{ready_Con, all_below}
+use Rattle.ct_eval.proofs.StepReady.{ready_Con}
 use Rattle.ct_eval.proofs.term.construct.Goals as goal
 
 pub construct-requires : goal.construct-requires
@@ -21,6 +21,6 @@ returns-clause-grown c =
 pub returns-clause-value : goal.returns-clause-value
 returns-clause-value c = λ d i fits terms value sort valued made.
     constructs c.theorems.ensures.theorems d i terms c.args.shared.now c.construct.new.self c.args.nodes.now value c.args.c c.args.args.now sort c.new.result c.in_ok-construct.field-0 (c.new.ensures.value ∙ c.in_ok-children.ensures.value) c.theorems.ensures.closed fits valued made
-    (all_below (length c.args.nodes.now) c.args.args.now c.requires.ready.2.below)
+    c.requires.ready.2.below
     c.in_ok-construct.ensures.grown
     c.in_ok-construct.ensures.first

@@ -1,4 +1,4 @@
-use Rattle.std.proofs.Common.{rules, ◌<◌, length, ◌++◌, take, arith}
+use Rattle.std.proofs.Common.{rules, ◌<◌, length, ◌++◌, take, ◌∙◌, arith}
 use Rattle.std.proofs.lemmas.List.{take_rest}
 use Rattle.ct_io.proofs.Prefixes.{written_part, written_more}
 use Rattle.ct_io.proofs.sink.write_all.Goals as goal
@@ -11,5 +11,5 @@ returns-in_err-n-clause-refused g c =
 pub loop-rest-preserved : goal.loop-rest-preserved
 loop-rest-preserved g c = record {
   written = (c.loop-rest.invariant.written.0 ++ take c.in_ok-n.n c.loop-rest.rest.now, rw (take_rest c.loop-rest.rest.now c.in_ok-n.n) (written_more c.in_ok-n.n _ c.loop-rest.invariant.written.1 c.in_ok-n.ensures.taken));
-  later = omega (arith, c.loop-rest.invariant.later, c.in_ok-n.ensures.cause.later);
+  same = c.in_ok-n.ensures.cause.uncounted ∙ c.loop-rest.invariant.same;
 }

@@ -1,4 +1,5 @@
 use Rattle.ct_sorts.proofs.GrowthLemmas.{extends_itself, extends_further, extends_sort, extends_block, extends_function, extends_definition, can_cut_to_earlier, cut_to_earlier}
+use Rattle.ct_sorts.proofs.NamingLemmas.{extends_start}
 use Rattle.ct_sorts.proofs.theorems.growth.Goals as goal
 
 pub returns-clause-itself : goal.returns-clause-itself
@@ -24,3 +25,6 @@ returns-clause-can_cut c = can_cut_to_earlier
 
 pub returns-clause-cut : goal.returns-clause-cut
 returns-clause-cut c = cut_to_earlier
+
+pub returns-clause-from_start : goal.returns-clause-from_start
+returns-clause-from_start c = extends_start

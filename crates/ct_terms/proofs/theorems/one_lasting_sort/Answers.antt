@@ -1,4 +1,5 @@
 use Rattle.ct_terms.proofs.SortLemmas.{HasSort-same, HasSort-append, HasSort-extends, AreSorted-extends, AreSorted-declared}
+use Rattle.ct_terms.proofs.LiteralLemmas.{literal_of-longer}
 use Rattle.ct_terms.proofs.theorems.one_lasting_sort.Goals as goal
 
 pub returns-clause-one : goal.returns-clause-one
@@ -15,3 +16,6 @@ returns-clause-declared c = AreSorted-declared
 
 pub returns-clause-longer : goal.returns-clause-longer
 returns-clause-longer c = HasSort-append
+
+pub returns-clause-literal : goal.returns-clause-literal
+returns-clause-literal c = literal_of-longer

@@ -3,7 +3,7 @@ use Rattle.ct_values.specs.Partition.{class_at}
 use Rattle.ct_values.proofs.RefineLemmas.{class_read}
 use Rattle.ct_values.proofs.QuotientLemmas.{CountsUp-few, AreNumberedTo-new, AreNumberedTo-old}
 use Rattle.ct_values.proofs.minimal.numbered.Goals as goal
-use Rattle.ct_values.proofs.minimal.numbered.Goals.{then-class-place+in_ok-push, else-class-place+in_ok-push-2}
+use Rattle.ct_values.proofs.minimal.numbered.Goals.{then-class-index+in_ok-push, else-class-index+in_ok-push-2}
 
 pub overflow_add-count : goal.overflow_add-count
 overflow_add-count c =

@@ -8,7 +8,7 @@ use Rattle.ct_values.specs.Quotient.{numbered_node}
 use Rattle.ct_values.proofs.RenumberLemmas.{stands_within}
 use Rattle.ct_values.proofs.QuotientLemmas.{IsStored, IsStored-new, IsStored-old, numbered_at}
 use Rattle.ct_values.proofs.minimal.stored.Goals as goal
-use Rattle.ct_values.proofs.minimal.stored.Goals.{then-numbers-place+in_ok-children+in_ok-push, else-numbers-index}
+use Rattle.ct_values.proofs.minimal.stored.Goals.{then-numbers-index+in_ok-children+in_ok-push, else-numbers-index}
 
 pub loop-index-preserved : goal.loop-index-preserved
 loop-index-preserved c =

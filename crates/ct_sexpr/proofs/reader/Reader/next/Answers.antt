@@ -10,6 +10,7 @@ use Rattle.ct_sexpr.specs.declared.error.ReadError.TheVariants.{NoMemory}
 use Rattle.ct_sexpr.proofs.Buffers.{buffered-give, fresh_again, reached_now, scanned_failed, scanned_all, scanned_wrong, scanned_command}
 use Rattle.ct_sexpr.proofs.Decided.{definite_is_error}
 use Rattle.ct_sexpr.proofs.Given.{unread, line_fits, gives, refuses}
+use Rattle.ct_sexpr.proofs.Items.{given_nests, answer_nests}
 use Rattle.ct_sexpr.proofs.WholeTexts.{given_is_first, refused_is_last, reads_on}
 use Rattle.ct_sexpr.proofs.reader.Reader.next.Goals as goal
 use Rattle.ct_sexpr.proofs.reader.Reader.next.Goals.{After-scan_bytes-count}
@@ -117,6 +118,7 @@ returns-in-Going c =
     record {
       answers = rw (← c.self.view_is) answers;
       reads = rw (← c.self.view_is) (reads_on before before c.next_at_end.result answers);
+      nests = answer_nests before before c.next_at_end.result answers;
     }
 
 pub returns-in-Wrong : goal.returns-in-Wrong
@@ -128,6 +130,7 @@ returns-in-Wrong c =
     record {
       answers = rw (c.lexical.ensures.error, c.lines_read.ensures.lines, ← c.self.view_is) answers;
       reads = rw (c.lexical.ensures.error, c.lines_read.ensures.lines, ← c.self.view_is) (refused_is_last before before c.in-Wrong.code _ answers);
+      nests = tt;
     }
 
 pub returns-in-Command : goal.returns-in-Command
@@ -138,4 +141,5 @@ returns-in-Command c =
     record {
       answers = rw (← c.self.view_is, c.begun.ensures.lines, c.take_line_feeds.ensures.count) answers;
       reads = rw (← c.self.view_is, c.begun.ensures.lines, c.take_line_feeds.ensures.count) (given_is_first _ _ _ _ answers);
+      nests = given_nests _ _ _ _ answers;
     }

@@ -22,4 +22,4 @@ returns-clause-below c = below (goal.at.returns-clause-below c).In-Some
 
 pub returns-clause-inside : goal.returns-clause-inside
 returns-clause-inside c =
-    HasArgumentsBelow-more c.args.t.0 (length c.args.self.now) c.in-Some.core.now (omega (arith, c.requires)) (below (goal.at.returns-clause-inside c).In-Some)
+    HasArgumentsBelow-more c.args.t.0 (length c.args.self.now) c.in-Some.core.now (omega (arith, c.requires.within)) (below (goal.at.returns-clause-inside c).In-Some)

@@ -9,3 +9,6 @@ returns-clause-negates c = rw (← c.self.view_is) c.self.invariant.negates
 
 pub returns-clause-lasting : goal.returns-clause-lasting
 returns-clause-lasting c = λ later earlier extends all. AreSorted-extends later earlier c.args.self.now extends all
+
+pub returns-clause-ordered : goal.returns-clause-ordered
+returns-clause-ordered c = rw (← c.self.view_is) c.self.invariant.ordered

@@ -7,7 +7,7 @@ use Rattle.ct_terms.proofs.table.TermTable.make.Goals as goal
 
 -- the sort that is stored is the term's
 stored : (c : goal.In_ok-insert) → HasSort c.args.sig.now c.args.self.now c.args.core c.sort_of-sort.result
-stored c = c.sort_of-sort.ensures
+stored c = c.sort_of-sort.ensures.sort
 
 -- the table has grown by the term
 grown : (c : goal.In_ok-insert) → c.insert.new.self.entries ≡ c.args.self.now ++ (c.args.core, c.sort_of-sort.result) ∷ []

@@ -1,5 +1,0 @@
-use Rattle.std.proofs.Common.{◌≡◌, false}
-use Rattle.ct_sexpr.proofs.tests.read_bytewise.Given as goal
-
-abbrev pub invariant-loop-byte : goal.invariant-loop-byte
-invariant-loop-byte l = (l.reader.ended ≡ false) × (l.reader.fed ≡ l.byte-index)
