@@ -1,0 +1,17 @@
+//! Cases of the test programs: what stands in a line, declarations that it names, and bytes as
+//! they are shown.
+#![tactic(auto)]
+
+mod bytes;
+mod case;
+mod declarations;
+mod error;
+
+pub use bytes::{bytes_of, show_bytes, string_of};
+pub use case::{
+    is_word, items_of, number_of, read_case, size_of, split_named, split_word, word_of,
+};
+pub use declarations::{
+    declare, declare_all, extends_start, name_of, sort_of, sorts_of, symbol_of,
+};
+pub use error::CaseError;

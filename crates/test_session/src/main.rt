@@ -1,0 +1,38 @@
+//! Tests of whole runs of the solver, over a desk and a sink in memory. Each line of standard
+//! input is a case, and its answer is one line: `(NAME run SCRIPT SETTING ..)` runs the script
+//! under the name `s`, `(NAME words (WORD ..) SCRIPT SETTING ..)` under these arguments, and
+//! shows the status, the number of verdicts, the last verdict, the errors, and what was written;
+//! where a call of the desk fails, also how often it was called. A setting is
+//! `(desk-fails CALL)`, `(sink-fails CALL)` or `(piece COUNT)`, for the most bytes that a call
+//! takes. A line that is no case is answered `BAD`.
+#![tactic(auto)]
+
+mod answer;
+mod script;
+mod setting;
+
+use ct_cases::{CaseError, items_of, read_case, split_named};
+use std::io;
+
+fn main(rt: HostRuntime) -> io::Result<()> {
+    for line in rt.lines(rt.alloc()) {
+        let mut out = String::new(rt.alloc());
+        let answered = answer_line(&rt, line?.as_str(), &mut out);
+        match answered {
+            Ok(()) => println!(rt; "{out}")?,
+            Err(CaseError::Bad) => println!(rt; "BAD")?,
+            Err(CaseError::NoMemory) => println!(rt; "out of memory")?,
+        }
+    }
+    Ok(())
+}
+
+/// Writes the name of the case on the line, and its answer.
+fn answer_line(rt: &HostRuntime, line: &str, out: &mut String) -> Result<(), CaseError> {
+    let case = read_case(rt.alloc(), line)?;
+    let (name, parts) = split_named(items_of(&case)?)?;
+    out.push_str(name)?;
+    out.push(':')?;
+    let (kind, parts) = split_named(parts)?;
+    answer::answer(rt.alloc(), kind, parts, out)
+}
