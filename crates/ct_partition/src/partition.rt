@@ -1,10 +1,12 @@
 //! The coarsest stable partition of labelled points with ordered children.
 //!
-//! First all points are one block and wait to be looked at. Each round puts the waiting points into groups by their labels,
-//! their blocks and the blocks of their children, and splits blocks by these groups; then the parents of all points with
-//! new numbers wait. The largest part of a block that is split keeps its number (`splitting.rt`). So with n points that
-//! have e children in all, the time is near (n + e) log n. That points which cannot be told apart stay together is proved
-//! of this; that the partition is stable in the end is seen by rounds over all points (`rounds.rt`).
+//! First all points are one block and wait to be looked at. Each round puts the waiting points into
+//! groups by their labels, their blocks and the blocks of their children, and splits blocks by these
+//! groups; then the parents of all points with new numbers wait. The largest part of a block that is
+//! split keeps its number (`splitting.rt`). So with n points that have e children in all, and no
+//! more than w each, the time is near (n + w e) log n. That points which cannot be told apart stay
+//! together is proved of this; that the partition is stable in the end is seen by rounds over all
+//! points (`rounds.rt`).
 ghost use Rattle.std.specs.Prelude.{◌≡◌, ℕ, ◌<◌, ◌↔◌, length, nat_lt, IfOk, All};
 ghost use Rattle.ct_partition.specs.Points.{Points, points, ArePoints};
 ghost use Rattle.ct_partition.specs.Bisimilarity.{AgreeAlways, AreBisimilar};
@@ -22,12 +24,14 @@ use crate::splitting::{Blocks, split};
 use crate::waiting::parents_of;
 use std::alloc::Global;
 
-/// For each point the number of its block in the coarsest stable partition: points are in one block exactly where they
-/// cannot be told apart by their labels and, one for one, by those of their children, the children of these, and so on.
-/// The number of a block is that of its least point. A point that is to be told from all others has a label of its own.
+/// For each point the number of its block in the coarsest stable partition: points are in one block
+/// exactly where they cannot be told apart by their labels and, one for one, by those of their
+/// children, the children of these, and so on. The number of a block is that of its least point. A
+/// point that is to be told from all others has a label of its own.
 ///
-/// Point i has the label `labels[i]` and the children `children[starts[i]..starts[i + 1]]`, in order (`are_points`). With
-/// n points that have e children in all, the time is near (n + e) log n. Nothing recurses. The only error is out of memory.
+/// Point i has the label `labels[i]` and the children `children[starts[i]..starts[i + 1]]`, in order
+/// (`are_points`). With n points that have e children in all, and no more than w each, the time is
+/// near (n + w e) log n. Nothing recurses. The only error is out of memory.
 pub fn coarsest(
     alloc: Global,
     labels: &[u64],
