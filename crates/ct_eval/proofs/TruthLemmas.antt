@@ -1,6 +1,7 @@
--- The truth of a term from its node.
-use Rattle.std.proofs.Common.{◌≡◌, ℕ, ◌<◌, List, length, Some, slice_get, get_or, sym, ap, subst, ◌↔◌}
-use Rattle.std.specs.List.{AllZip}
+-- The truth of a term from its node, and tests that two lists pass together.
+use Rattle.std.proofs.Common.{◌≡◌, ℕ, ◌<◌, Bool, true, List, [], ◌∷◌, All, length, Some, slice_get, get_or, sym, ap, subst, ◌∙◌, ◌↔◌}
+use Rattle.std.specs.List.{AllZip, AllByRecursion}
+use Rattle.std.proofs.lemmas.List.Elements.{recursion_from_All, All-from_recursion}
 use Rattle.std.proofs.lemmas.Option.{slice_get-get_or}
 use Rattle.ct_sorts.specs.Declarations.{Declarations}
 use Rattle.ct_values.specs.declared.node.NodeId.{NodeId}
@@ -23,3 +24,21 @@ truth_of-node always d i terms v t valued node at =
 -- what an index reads of a list under another name
 pub slice_get-read : {X : Type 0} (xs ys : List X) → ys ≡ xs → (k : ℕ) (d : X) → k < length xs → slice_get xs k ≡ Some (get_or ys k d)
 slice_get-read {X = X} xs ys e k d within = subst (λ (zs : List X). slice_get xs k ≡ Some (get_or zs k d)) (sym e) (slice_get-get_or xs k d within)
+
+-- tests of two lists that are the same element by element, where the elements of the second have a property
+module _ {X Y : Type 0} (R : X → Y → Type 0) (S : Y → Type 0) (p : X → Bool) (q : Y → Bool) (same : (x : X) (y : Y) → R x y → S y → p x ≡ q y) where
+  each_pass : (xs : List X) (ys : List Y) → AllZip R xs ys → AllByRecursion S ys → AllByRecursion (λ x. p x ≡ true) xs ↔ AllByRecursion (λ y. q y ≡ true) ys
+  each_pass [] [] h k = (λ a. tt, λ a. tt)
+  each_pass [] (y ∷ ys) h k = absurd h
+  each_pass (x ∷ xs) [] h k = absurd h
+  each_pass (x ∷ xs) (y ∷ ys) h k =
+      let e = same x y h.0 k.0 in
+      let rest = each_pass xs ys h.1 k.1 in
+      (λ a. (sym e ∙ a.0, rest.0 a.1), λ a. (e ∙ a.0, rest.1 a.1))
+
+  pub all_pass : (xs : List X) (ys : List Y) → AllZip R xs ys → All S ys → All (λ x. p x ≡ true) xs ↔ All (λ y. q y ≡ true) ys
+  all_pass xs ys h k =
+      let both = each_pass xs ys h (recursion_from_All S ys k) in (
+        λ a. All-from_recursion (λ y. q y ≡ true) ys (both.0 (recursion_from_All (λ x. p x ≡ true) xs a)),
+        λ a. All-from_recursion (λ x. p x ≡ true) xs (both.1 (recursion_from_All (λ y. q y ≡ true) ys a)),
+      )

@@ -1,9 +1,9 @@
 //! What holds of the meaning of formulas, and of their core terms. A theorem is the contract of a
 //! function that does nothing.
-ghost use Rattle.std.specs.Prelude.{◌≡◌, ◌++◌, List};
+ghost use Rattle.std.specs.Prelude.{◌≡◌, ◌↔◌, ◌++◌, List, [], All};
 ghost use Rattle.std.specs.List.{AllZip};
 ghost use Rattle.ct_sorts.specs.declared.ids.SortId.{SortId};
-ghost use Rattle.ct_sorts.specs.Declarations.{Declarations};
+ghost use Rattle.ct_sorts.specs.Declarations.{Declarations, bool_sort};
 ghost use Rattle.ct_sorts.specs.Consistent.{IsConsistent};
 ghost use Rattle.ct_sorts.specs.Grown.{Extends};
 ghost use Rattle.ct_values.specs.Value.{Value};
@@ -21,6 +21,7 @@ ghost use Rattle.ct_values.specs.TruthValue.{is_true};
 ghost use Rattle.ct_eval.specs.Evaluation.{value_of};
 ghost use Rattle.ct_eval.specs.TreeValue.{tree_value};
 ghost use Rattle.ct_eval.specs.Meaning.{eval, Agree, Means};
+ghost use Rattle.ct_eval.specs.Truth.{Holds, AllTrue};
 ghost use Rattle.ct_eval.specs.EvaluationStep.{Theorems};
 
 use ct_sorts::structure;
@@ -95,6 +96,17 @@ pub fn meanings()
         → AllZip (Means d i) terms env
         → IsSorted d sorts t sort
         → Means d i (core_of d bodies terms t) (eval d i bodies env t) }
+
+    // So core terms that stand in a table are true in an interpretation where the assertions are
+    // whose core terms they are, one for one.
+    ensures assertions { (d : Declarations) (i : Interp) (bodies : List Formula) (terms : Terms)
+        (ids : List TermId) (asserts : List Formula)
+        → IsConsistent d
+        → IsProper d i
+        → AreSound d bodies
+        → All (λ t. IsSorted d [] t bool_sort) asserts
+        → AllZip (λ a t. term_at terms a ≡ core_of d bodies [] t) ids asserts
+        → Holds d i terms ids ↔ AllTrue d i bodies asserts }
 {
     structure();
     core_trees();

@@ -6,7 +6,9 @@ pub mod CoreSortLemmas
 pub mod SubtreeLemmas
 pub mod CallLemmas
 pub mod FormulaSortLemmas
+pub mod ScopeLemmas
 pub mod OccurrenceLemmas
+pub mod OccurringSubterms
 pub mod CompiledReach
 pub mod TableLemmas
 pub mod SortingLemmas

@@ -43,7 +43,7 @@ bound_weaker p q less (t ∷ ts) [] h = h
 bound_weaker p q less (t ∷ ts) (u ∷ us) h = (λ e. h.0 (less (length ts) e), bound_weaker p q less ts us h.1)
 
 -- the fields of a term where one of them occurs
-count_fields : (t : CoreTree) (sels : List SelId) → length (map (λ s. sel s t) sels) ≡ length sels
+pub count_fields : (t : CoreTree) (sels : List SelId) → length (map (λ s. sel s t) sels) ≡ length sels
 count_fields t [] = refl
 count_fields t (s ∷ sels) = ap suc (count_fields t sels)
 

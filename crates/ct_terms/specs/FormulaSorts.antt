@@ -1,5 +1,5 @@
 -- Which formulas are well sorted, and when definitions with bodies are sound (SMT-LIB 2.7, sections 3.6, 4.2.3 and 5.3).
-use Rattle.std.specs.Prelude.{◌≡◌, ℕ, ◌⊎◌, List, [], ◌∷◌, length, Some, slice_get}
+use Rattle.std.specs.Prelude.{◌≡◌, ℕ, ◌⊎◌, List, [], ◌∷◌, length, take, Some, slice_get}
 use Rattle.ct_sorts.specs.declared.ids.CtorId.{CtorId}
 use Rattle.ct_sorts.specs.declared.ids.SortId.{SortId}
 use Rattle.ct_sorts.specs.declared.ids.Kind.TheVariants.{Data, Codata}
@@ -85,3 +85,7 @@ pub record AreSound (d : Declarations) (bodies : List Formula) : Type 0 where
   pub one_each : length bodies ≡ length d.definitions
   pub sorted : (k : ℕ) (definition : Function) (body : Formula) → slice_get d.definitions k ≡ Some definition → slice_get bodies k ≡ Some body → IsSorted d (bind definition.args []) body definition.result
   pub earlier : (k : ℕ) (body : Formula) → slice_get bodies k ≡ Some body → MentionsBelow k body
+
+-- the declarations with their first definitions alone
+abbrev pub cut_definitions : Declarations → ℕ → Declarations
+cut_definitions d n = record d { definitions = take n d.definitions }

@@ -1,11 +1,11 @@
 -- Which variables occur in the core term of a formula. What is bound to the others needs no core term.
-use Rattle.std.specs.Prelude.{◌≡◌, ℕ, zero, suc, ◌+◌, Bool, true, false, not, ◌&&◌, ◌||◌, ◌==◌, List, [], ◌∷◌, length, Option, Some, None, option_map, unwrap_or, slice_get, if◌then◌else◌}
+use Rattle.std.specs.Prelude.{◌≡◌, ℕ, zero, suc, ◌+◌, Bool, true, false, not, ◌&&◌, ◌||◌, ◌==◌, List, [], ◌∷◌, length, Contains, Option, Some, None, option_map, unwrap_or, slice_get, if◌then◌else◌}
 use Rattle.ct_sorts.specs.declared.ids.CtorId.{CtorId}
 use Rattle.ct_sorts.specs.declared.ids.DefId.{DefId}
 use Rattle.ct_sorts.specs.Declarations.{Declarations, Constructor}
 use Rattle.ct_terms.specs.declared.tree.Pattern.TheVariants.{Ctor, Any}
-use Rattle.ct_terms.specs.CoreTree.{CoreTree}
-use Rattle.ct_terms.specs.Formula.{Formula, Formulas, Cases, Var, Con, Sel, Test, Apply, Def, Not, And, Or, Xor, Implies, Equal, Distinct, Ite, Let, Match, no_formulas, with_formula, no_cases, with_case}
+use Rattle.ct_terms.specs.CoreTree.{CoreTree, subtrees}
+use Rattle.ct_terms.specs.Formula.{Formula, Formulas, Cases, Var, Con, Sel, Test, Apply, Def, Not, And, Or, Xor, Implies, Equal, Distinct, Ite, Let, Match, no_formulas, with_formula, no_cases, with_case, bind}
 use Rattle.ct_terms.specs.Compiled.{surely_fits, are_none}
 
 -- how many formulas there are
@@ -92,3 +92,7 @@ AreBoundSame p (t ∷ ts) (u ∷ us) = (p (length ts) ≡ true → t ≡ u) × A
 -- each definition gives one term for arguments that are the same where they occur in its body
 abbrev pub UseSame : (DefId → ℕ → Bool) → (DefId → List CoreTree → CoreTree) → Type 0
 UseSame uses call = (k : DefId) (ts us : List CoreTree) → AreBoundSame (uses k) ts us → call k ts ≡ call k us
+
+-- each definition gives a term that has as subterms the arguments which occur in its body
+abbrev pub GiveUsed : (DefId → ℕ → Bool) → (DefId → List CoreTree → CoreTree) → Type 0
+GiveUsed uses call = (k : DefId) (args : List CoreTree) (i : ℕ) (u : CoreTree) → uses k i ≡ true → slice_get (bind args []) i ≡ Some u → Contains (subtrees (call k args)) u

@@ -19,4 +19,4 @@ pub use table::TermTable;
 pub use term::Core;
 pub use theorems::{one_lasting_sort, propagation_is_sound};
 pub use tree::{Case, Pattern, Tree};
-pub use tree_theorems::{core_trees, formulas};
+pub use tree_theorems::{core_trees, formulas, scopes};

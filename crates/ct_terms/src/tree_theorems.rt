@@ -1,10 +1,10 @@
 //! What holds of terms as trees, and of formulas and their core terms.
-ghost use Rattle.std.specs.Prelude.{◌≡◌, ◌<◌, ◌≤◌, ℕ, Bool, List, ◌∷◌, ◌++◌, Contains, length, map, Some, slice_get};
+ghost use Rattle.std.specs.Prelude.{◌≡◌, ◌<◌, ◌≤◌, ℕ, Bool, true, List, [], ◌∷◌, ◌++◌, Contains, length, map, take, Some, slice_get};
 ghost use Rattle.std.specs.List.{AllZip, flat_map};
 ghost use Rattle.ct_sorts.specs.declared.ids.CtorId.{CtorId};
 ghost use Rattle.ct_sorts.specs.declared.ids.DefId.{DefId};
 ghost use Rattle.ct_sorts.specs.declared.ids.SortId.{SortId};
-ghost use Rattle.ct_sorts.specs.Declarations.{Declarations, Constructor};
+ghost use Rattle.ct_sorts.specs.Declarations.{Declarations, Constructor, Function, with_definition};
 ghost use Rattle.ct_sorts.specs.Consistent.{IsConsistent};
 ghost use Rattle.ct_sorts.specs.Grown.{Extends};
 ghost use Rattle.ct_terms.specs.declared.ids.TermId.{TermId};
@@ -13,11 +13,11 @@ ghost use Rattle.ct_terms.specs.Children.{core_head, core_children};
 ghost use Rattle.ct_terms.specs.Terms.{Terms, IsOfSort, AreSorted as AreSortedTerms, AreOrdered, AreSingle};
 ghost use Rattle.ct_terms.specs.CoreTree.{CoreTree, tree_head, tree_children, subtrees, tree_layer, no_term, term_at};
 ghost use Rattle.ct_terms.specs.CoreSorts.{AreFieldSorts, HasTreeSort, tree_sort};
-ghost use Rattle.ct_terms.specs.Formula.{Formula, MentionsBelow};
-ghost use Rattle.ct_terms.specs.FormulaSorts.{IsSorted, AreSound};
+ghost use Rattle.ct_terms.specs.Formula.{Formula, MentionsBelow, bind};
+ghost use Rattle.ct_terms.specs.FormulaSorts.{IsSorted, AreSound, cut_definitions};
 ghost use Rattle.ct_terms.specs.Calls.{calls_below};
 ghost use Rattle.ct_terms.specs.Compiled.{fields_of, compiled, core_of, GiveSorted};
-ghost use Rattle.ct_terms.specs.Occurrence.{occurs, uses_below, occurs_in, AreSameAt, UseSame};
+ghost use Rattle.ct_terms.specs.Occurrence.{occurs, uses_below, occurs_in, AreSameAt, UseSame, GiveUsed};
 
 use ct_sorts::structure;
 
@@ -59,6 +59,16 @@ pub fn core_trees()
         → t.0 < length table
         → Contains (subtrees (term_at table t)) s
         → (u : TermId) × (u.0 ≤ t.0) × (term_at table u ≡ s) }
+
+    // The subterms of a subterm are subterms, and those of a well-sorted tree are well sorted.
+    ensures subterms_of_subterms { (t s u : CoreTree)
+        → Contains (subtrees t) s
+        → Contains (subtrees s) u
+        → Contains (subtrees t) u }
+    ensures subterms_sorted { (d : Declarations) (t : CoreTree) (sort : SortId) (s : CoreTree)
+        → HasTreeSort d t sort
+        → Contains (subtrees t) s
+        → (r : SortId) × HasTreeSort d s r }
 
     // A tree has one sort at most, the one read off it; it keeps the sort with more declarations.
     ensures read { (d : Declarations) (t : CoreTree) (sort : SortId)
@@ -145,6 +155,66 @@ pub fn formulas()
         (env others : List CoreTree)
         → AreSameAt (occurs_in d bodies t) env others
         → core_of d bodies env t ≡ core_of d bodies others t }
+
+    // And the core term has as subterms the terms of all variables that occur in it; so does what
+    // definitions give.
+    ensures occurring_subterm { (d : Declarations) (uses : DefId → ℕ → Bool)
+        (call : DefId → List CoreTree → CoreTree) (env : List CoreTree) (sorts : List SortId)
+        (t : Formula) (sort : SortId) (i : ℕ) (u : CoreTree)
+        → GiveUsed uses call
+        → IsSorted d sorts t sort
+        → occurs d uses t i ≡ true
+        → slice_get env i ≡ Some u
+        → Contains (subtrees (compiled d call env t)) u }
+    ensures used_subterm { (d : Declarations) (bodies : List Formula) (n : ℕ)
+        → AreSound d bodies
+        → GiveUsed (uses_below d bodies n) (calls_below (compiled d) no_term bodies n) }
+    ensures occurs { (d : Declarations) (bodies : List Formula) (env : List CoreTree)
+        (sorts : List SortId) (t : Formula) (sort : SortId) (i : ℕ) (u : CoreTree)
+        → AreSound d bodies
+        → IsSorted d sorts t sort
+        → occurs_in d bodies t i ≡ true
+        → slice_get env i ≡ Some u
+        → Contains (subtrees (core_of d bodies env t)) u }
+{
+    structure();
+}
+
+/// The theorems on scopes, declarations with a body for each definition, that grow and are cut
+/// back. The function does nothing.
+pub fn scopes()
+    // A formula that names definitions below a number names them below each greater one.
+    ensures mentions_more { (m n : ℕ) (t : Formula)
+        → m ≤ n
+        → MentionsBelow m t
+        → MentionsBelow n t }
+
+    // A well-sorted formula stays so with more declarations, and definitions stay sound. Where one
+    // `match` has a case for each constructor, no constructor is added to the sort.
+    ensures sorted_lasting { (later earlier : Declarations) (env : List SortId) (t : Formula)
+        (sort : SortId)
+        → IsConsistent later
+        → IsConsistent earlier
+        → Extends later earlier
+        → IsSorted earlier env t sort
+        → IsSorted later env t sort }
+    ensures sound_lasting { (later earlier : Declarations) (bodies : List Formula)
+        → IsConsistent later
+        → IsConsistent earlier
+        → Extends later earlier
+        → later.definitions ≡ earlier.definitions
+        → AreSound earlier bodies
+        → AreSound later bodies }
+
+    // Definitions stay sound with one more, whose body is of its result over its parameters; and
+    // so do the first of them alone.
+    ensures sound_with { (d : Declarations) (f : Function) (bodies : List Formula) (body : Formula)
+        → AreSound d bodies
+        → IsSorted d (bind f.args []) body f.result
+        → AreSound (with_definition d f) (bodies ++ body ∷ []) }
+    ensures sound_cut { (d : Declarations) (n : ℕ) (bodies : List Formula)
+        → AreSound d bodies
+        → AreSound (cut_definitions d n) (take n bodies) }
 {
     structure();
 }

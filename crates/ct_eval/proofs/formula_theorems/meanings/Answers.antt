@@ -1,13 +1,18 @@
-use Rattle.std.proofs.Common.{sym, subst}
-use Rattle.ct_sorts.specs.Declarations.{Declarations}
+use Rattle.std.proofs.Common.{◌≡◌, [], sym, ap, subst, ◌∙◌}
+use Rattle.ct_sorts.specs.Declarations.{Declarations, bool_sort}
 use Rattle.ct_sorts.specs.Consistent.{IsConsistent}
 use Rattle.ct_values.specs.TruthValue.{is_true}
-use Rattle.ct_terms.specs.CoreTree.{no_term}
+use Rattle.ct_terms.specs.CoreTree.{no_term, term_at}
 use Rattle.ct_terms.specs.Formula.{MentionsBelow}
+use Rattle.ct_terms.specs.FormulaSorts.{IsSorted}
 use Rattle.ct_terms.specs.Calls.{calls_below}
-use Rattle.ct_terms.specs.Compiled.{compiled}
+use Rattle.ct_terms.specs.Compiled.{compiled, core_of}
 use Rattle.ct_eval.specs.declared.interp.Interp.{Interp}
 use Rattle.ct_eval.specs.Interpretation.{IsProper}
+use Rattle.ct_eval.specs.TreeValue.{tree_value}
+use Rattle.ct_eval.specs.Meaning.{eval}
+use Rattle.ct_eval.specs.Truth.{truth_of}
+use Rattle.ct_eval.proofs.TruthLemmas.{all_pass}
 use Rattle.ct_eval.proofs.ValueLemmas.{SortTheorems}
 use Rattle.ct_eval.proofs.FactLemmas.{facts_of}
 use Rattle.ct_eval.proofs.MeaningSorted.{eval_sorted}
@@ -68,3 +73,12 @@ returns-clause-tree_lasting c = λ later earlier i t sort extends h. tree_value-
 pub returns-clause-truth : goal.returns-clause-truth
 returns-clause-truth c = λ d i v w consistent proper h.
     true_agrees d i (facts c d i consistent proper) v w h
+
+pub returns-clause-assertions : goal.returns-clause-assertions
+returns-clause-assertions c = λ d i bodies terms ids asserts consistent proper sound sorted terms_of.
+    all_pass (λ a t. term_at terms a ≡ core_of d bodies [] t) (λ t. IsSorted d [] t bool_sort) (truth_of d i terms) (λ t. is_true i.graph (eval d i bodies [] t))
+    (λ a t is of.
+    ap (is_true i.graph) (value_of-tree d i terms a ∙ ap (tree_value d i) is)
+    ∙ true_agrees d i (facts c d i consistent proper) (tree_value d i (core_of d bodies [] t)) (eval d i bodies [] t)
+    (returns-clause-compiled c d i bodies [] [] [] t bool_sort consistent proper sound tt tt tt of))
+    ids asserts terms_of sorted

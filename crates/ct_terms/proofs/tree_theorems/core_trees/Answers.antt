@@ -1,6 +1,6 @@
 use Rattle.ct_terms.proofs.CoreTreeLemmas.{term_at-unfolds, head_of_layer, children_of_layer, term_at-one, term_at-longer}
 use Rattle.ct_terms.proofs.CoreSortLemmas.{HasTreeSort-read, HasTreeSort-one, HasTreeSort-extends, term_at-sorted}
-use Rattle.ct_terms.proofs.SubtreeLemmas.{subtrees-unfold, subterm_stands}
+use Rattle.ct_terms.proofs.SubtreeLemmas.{subtrees-unfold, subterm_stands, subtrees-further, subtrees-sorted}
 use Rattle.ct_terms.proofs.tree_theorems.core_trees.Goals as goal
 
 pub returns-clause-unfolds : goal.returns-clause-unfolds
@@ -35,3 +35,9 @@ returns-clause-subterms c = subtrees-unfold
 
 pub returns-clause-subterms_stand : goal.returns-clause-subterms_stand
 returns-clause-subterms_stand c = λ table t s ordered within h. subterm_stands table ordered t s within h
+
+pub returns-clause-subterms_of_subterms : goal.returns-clause-subterms_of_subterms
+returns-clause-subterms_of_subterms c = subtrees-further
+
+pub returns-clause-subterms_sorted : goal.returns-clause-subterms_sorted
+returns-clause-subterms_sorted c = subtrees-sorted

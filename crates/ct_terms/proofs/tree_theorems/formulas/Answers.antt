@@ -1,5 +1,6 @@
 use Rattle.ct_terms.proofs.FormulaSortLemmas.{sorted_mentions, fields_of_sorted, compiled_sorted, given_sorted, core_of_sorted}
 use Rattle.ct_terms.proofs.OccurrenceLemmas.{compiled_same, definitions_same, core_of_same}
+use Rattle.ct_terms.proofs.OccurringSubterms.{occurring_under, calls_give_used, core_of_under}
 use Rattle.ct_terms.proofs.CompiledReach.{core_of_reaches}
 use Rattle.ct_terms.proofs.tree_theorems.formulas.Goals as goal
 
@@ -33,3 +34,12 @@ returns-clause-same c = λ d bodies t env others h. core_of_same d bodies t env 
 pub returns-clause-longer : goal.returns-clause-longer
 returns-clause-longer c = λ later earlier bodies more env sorts t sort consistent extends sound fit h.
     core_of_reaches later earlier extends (c.structure.ensures.own_selectors earlier consistent) (c.structure.ensures.of_their_sorts earlier consistent) bodies more sound t env sorts sort fit h
+
+pub returns-clause-occurs : goal.returns-clause-occurs
+returns-clause-occurs c = λ d bodies env sorts t sort i u sound h o at. core_of_under d bodies sound t env sorts sort i u h o at
+
+pub returns-clause-occurring_subterm : goal.returns-clause-occurring_subterm
+returns-clause-occurring_subterm c = λ d uses call env sorts t sort i u give h o at. occurring_under d uses call give t env sorts sort i u h o at
+
+pub returns-clause-used_subterm : goal.returns-clause-used_subterm
+returns-clause-used_subterm c = λ d bodies n sound. calls_give_used d bodies sound n
