@@ -7,7 +7,7 @@ use Rattle.ct_terms.specs.declared.ids.TermId.{TermId}
 use Rattle.ct_terms.specs.declared.term.Core.{Core}
 use Rattle.ct_terms.specs.declared.term.Core.TheVariants.{Con, Sel, Test, Apply, Eq, Not, And, Or, Iff, Ite}
 use Rattle.ct_terms.specs.Children.{CoreHead, con_head, sel_head, test_head, apply_head, eq_head, not_head, and_head, or_head, iff_head, ite_head, core_head, core_children, HasArgumentsBelow}
-use Rattle.ct_terms.specs.Terms.{Terms, AreOrdered, AreSingle}
+use Rattle.ct_terms.specs.Terms.{Terms, Has, AreOrdered, AreSingle}
 use Rattle.ct_terms.specs.CoreTree.{CoreTree, con, sel, test, apply, equation, negation, conjunction, disjunction, equivalence, choice, list_of_trees, trees_of, tree_head, tree_children, tree_layer, tree_of_entry, tree_below, term_at}
 use Rattle.ct_terms.proofs.ListLemmas.{slice_get-prefix}
 
@@ -176,3 +176,17 @@ one_number table ordered single (suc n) s t bound in_s in_t same =
 
 pub term_at-one : (table : Terms) (s t : TermId) → AreOrdered table → AreSingle table → s.0 < length table → t.0 < length table → term_at table s ≡ term_at table t → s ≡ t
 term_at-one table s t ordered single = one_number table ordered single (suc s.0) s t (omega arith)
+
+-- a term whose tree is one layer over trees of the table is the term of that layer
+pub term_at-stands : (table : Terms) (t : TermId) (core : Core) → AreOrdered table → AreSingle table → t.0 < length table → HasArgumentsBelow (length table) core → term_at table t ≡ tree_layer (term_at table) core → Has table core t.0
+term_at-stands table t core ordered single within below same =
+    let a = entry_at table t within in
+    let tree = term_at table in
+    let layers : tree_layer tree a.0.0 ≡ tree_layer tree core = sym (term_at-unfolds table t a.0.0 a.0.1 ordered a.1) ∙ same in
+    let heads : core_head a.0.0 ≡ core_head core = sym (head_of_layer tree a.0.0) ∙ ap tree_head layers ∙ head_of_layer tree core in
+    let under : map tree (core_children a.0.0) ≡ map tree (core_children core) = sym (children_of_layer tree a.0.0) ∙ ap tree_children layers ∙ children_of_layer tree core in
+    let children : core_children a.0.0 ≡ core_children core =
+    same_terms tree t.0 (length table) (λ u v below_u below_v e. term_at-one table u v ordered single (omega (arith, within, below_u)) below_v e)
+    (core_children a.0.0) (core_children core) (ordered t.0 a.0.0 (a.0.1, a.1)) below under in
+    let is : a.0.0 ≡ core = one_core a.0.0 core heads children in
+    (a.0.1, a.1 ∙ ap (λ (c : Core). Some (c, a.0.1)) is)

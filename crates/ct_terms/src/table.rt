@@ -167,8 +167,8 @@ impl TermTable {
         Lit { term, positive }
     }
 
-    // The number of the term, where it is in the table.
-    fn find(&self, core: &Core) -> Option<TermId>
+    /// The number of the term, where it is in the table.
+    pub fn find(&self, core: &Core) -> Option<TermId>
         ensures found { IfSome result (λ t. Has self.now core.now t.0) }
         ensures absent { IfNone result (IsAbsent self.now core.now) }
     {

@@ -9,8 +9,8 @@ ghost use Rattle.ct_sorts.specs.Consistent.{IsConsistent};
 ghost use Rattle.ct_sorts.specs.Grown.{Extends};
 ghost use Rattle.ct_terms.specs.declared.ids.TermId.{TermId};
 ghost use Rattle.ct_terms.specs.declared.term.Core.{Core};
-ghost use Rattle.ct_terms.specs.Children.{core_head, core_children};
-ghost use Rattle.ct_terms.specs.Terms.{Terms, IsOfSort, AreSorted as AreSortedTerms, AreOrdered, AreSingle};
+ghost use Rattle.ct_terms.specs.Children.{HasArgumentsBelow, core_head, core_children};
+ghost use Rattle.ct_terms.specs.Terms.{Terms, IsOfSort, Has, AreSorted as AreSortedTerms, AreOrdered, AreSingle};
 ghost use Rattle.ct_terms.specs.CoreTree.{CoreTree, tree_head, tree_children, subtrees, tree_layer, no_term, term_at};
 ghost use Rattle.ct_terms.specs.CoreSorts.{AreFieldSorts, HasTreeSort, tree_sort};
 ghost use Rattle.ct_terms.specs.Formula.{Formula, MentionsBelow, bind};
@@ -44,6 +44,15 @@ pub fn core_trees()
         → t.0 < length table
         → term_at table s ≡ term_at table t
         → s ≡ t }
+
+    // A term whose tree is one layer over trees of the table is the term of that layer.
+    ensures stands { (table : Terms) (t : TermId) (core : Core)
+        → AreOrdered table
+        → AreSingle table
+        → t.0 < length table
+        → HasArgumentsBelow (length table) core
+        → term_at table t ≡ tree_layer (term_at table) core
+        → Has table core t.0 }
 
     // A tree stays as the table grows.
     ensures longer { (table more : Terms) (t : TermId)

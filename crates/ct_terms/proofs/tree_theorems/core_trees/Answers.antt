@@ -1,4 +1,4 @@
-use Rattle.ct_terms.proofs.CoreTreeLemmas.{term_at-unfolds, head_of_layer, children_of_layer, term_at-one, term_at-longer}
+use Rattle.ct_terms.proofs.CoreTreeLemmas.{term_at-unfolds, head_of_layer, children_of_layer, term_at-one, term_at-longer, term_at-stands}
 use Rattle.ct_terms.proofs.CoreSortLemmas.{HasTreeSort-read, HasTreeSort-one, HasTreeSort-extends, term_at-sorted}
 use Rattle.ct_terms.proofs.SubtreeLemmas.{subtrees-unfold, subterm_stands, subtrees-further, subtrees-sorted}
 use Rattle.ct_terms.proofs.tree_theorems.core_trees.Goals as goal
@@ -14,6 +14,9 @@ returns-clause-children c = children_of_layer
 
 pub returns-clause-one : goal.returns-clause-one
 returns-clause-one c = term_at-one
+
+pub returns-clause-stands : goal.returns-clause-stands
+returns-clause-stands c = term_at-stands
 
 pub returns-clause-longer : goal.returns-clause-longer
 returns-clause-longer c = term_at-longer
