@@ -7,3 +7,10 @@ pub mod SingleLemmas
 pub mod FoundingLemmas
 pub mod WellFormedLemmas
 pub mod DefaultLemmas
+pub mod PathLemmas
+pub mod NthLemmas
+pub mod BuiltLemmas
+pub mod EndLemmas
+pub mod SignLemmas
+pub mod DepartureLemmas
+pub mod LayerLemmas

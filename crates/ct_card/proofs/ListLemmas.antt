@@ -1,6 +1,7 @@
 -- Elements of lists by their indices.
-use Rattle.std.proofs.Common.{◌≡◌, ℕ, zero, suc, ◌+◌, ◌⊎◌, List, [], ◌∷◌, ◌++◌, length, map, get_or, slice_get, Some, All, refl, sym, subst, ap, inl, inr, arith}
+use Rattle.std.proofs.Common.{◌≡◌, ℕ, zero, suc, ◌+◌, ◌⊎◌, List, [], ◌∷◌, ◌++◌, length, map, get_or, slice_get, Some, All, append_assoc, refl, sym, ◌∙◌, subst, ap, inl, inr, arith}
 use Rattle.std.specs.List.{flat_map}
+use Rattle.ct_sorts.specs.Grown.{Begins}
 use Rattle.std.proofs.lemmas.Option.{none-some, same_Some, slice_get-get_or}
 
 -- what stands in a list with one more at its end
@@ -73,3 +74,11 @@ append_after (z ∷ xs) ys k = let e : suc (length xs) + k ≡ suc (length xs + 
 -- what holds of each element by its index holds of all
 pub all_from : {X : Type 0} (P : X → Type 0) (xs : List X) → ((k : ℕ) (x : X) → slice_get xs k ≡ Some x → P x) → All P xs
 all_from P xs h = λ k d within. h k (get_or xs k d) (slice_get-get_or xs k d within)
+
+-- what begins with a list that begins with another begins with that
+pub begins_further : {X : Type 0} (first second third : List X) → Begins first second → Begins second third → Begins first third
+begins_further first second third (more, is) (further, is_too) =
+    (more ++ further, is_too ∙ ap (λ l. l ++ further) is ∙ append_assoc first more further)
+
+pub begins_pushed : {X : Type 0} (first second : List X) (x : X) → Begins first second → Begins first (second ++ x ∷ [])
+begins_pushed first second x begins = begins_further first second (second ++ x ∷ []) begins (x ∷ [], refl)

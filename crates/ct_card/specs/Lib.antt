@@ -7,4 +7,10 @@ pub mod Fields
 pub mod Ruled
 pub mod Founding
 pub mod Defaults
+pub mod Departures
 pub mod Sizes
+pub mod Paths
+pub mod Built
+pub mod Signs
+pub mod Nth
+pub mod Descent

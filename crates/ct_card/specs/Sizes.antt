@@ -5,24 +5,35 @@ use Rattle.ct_sorts.specs.Declarations.{Declarations}
 use Rattle.ct_card.specs.declared.size.Size.{Size}
 use Rattle.ct_card.specs.declared.size.Size.TheVariants.{One, Finite, Infinite}
 use Rattle.ct_card.specs.Cardinality.{HasSize}
+use Rattle.ct_card.specs.declared.departure.Departure.{Departure}
+use Rattle.ct_card.specs.declared.departure.Layer.{Layer}
 use Rattle.ct_card.specs.Ranked.{AreSeveral}
+use Rattle.ct_card.specs.Rules.{IsOrder}
 use Rattle.ct_card.specs.Defaults.{IsPlan}
+use Rattle.ct_card.specs.Departures.{AreSeconds, AreLayers}
 
 -- for each sort: its size, its rank among the sorts of several values (0 for a single one), its rank among the sorts as they
--- are well founded, and the constructor of its default value; and the sorts in the order of the latter ranks
+-- are well founded, the constructor of its default value, how its second value departs from that, and the layer by which
+-- its values are built where it is infinite; and the sorts in the order of the one and of the other ranks
 pub record Table : Type 0 where
   pub sizes : List Size
   pub several : List ℕ
+  pub queue : List ℕ
   pub ranks : List ℕ
   pub order : List ℕ
   pub ctors : List CtorId
+  pub seconds : List Departure
+  pub layers : List Layer
 
 -- the table is of these declarations: each size is that of the sort
 pub record AreSizes (d : Declarations) (table : Table) : Type 0 where
   pub long : length table.sizes ≡ length d.sorts
   pub each : (s : ℕ) (size : Size) → slice_get table.sizes s ≡ Some size → HasSize d s size
   pub several : AreSeveral d table.several
+  pub queued : IsOrder table.several table.queue
   pub plan : IsPlan d table.ranks table.order table.ctors
+  pub departures : AreSeconds d table.several table.ctors table.seconds
+  pub layered : AreLayers d table.several table.layers
 
 -- the size of a sort by its ranks among the sorts of several values and among the small ones
 abbrev pub size_by : ℕ → ℕ → Size

@@ -79,8 +79,8 @@ fn are_lower(ranks: &[usize], fields: &[usize], bound: usize) -> bool
     true
 }
 
-// The rank of a number, which is 0 for one past the end.
-fn rank_of(ranks: &[usize], n: usize) -> usize
+/// The rank of a number, which is 0 for one past the end.
+pub(crate) fn rank_of(ranks: &[usize], n: usize) -> usize
     ensures value { result ≡ get_or ranks.now n 0 }
 {
     if n < ranks.len() {

@@ -89,8 +89,8 @@ fn default_node(
     Ok(Node::Con(c, NodeIds::new(children)))
 }
 
-// The nodes of the default values of a constructor's fields.
-fn default_children(
+/// The nodes of the default values of a constructor's fields.
+pub(crate) fn default_children(
     alloc: Global,
     sig: &Signature,
     ranks: &[usize],

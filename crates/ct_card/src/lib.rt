@@ -1,12 +1,18 @@
 //! How many values sorts have, and makers of values.
 #![tactic(auto)]
 
+mod built;
 mod chain;
 mod choice;
 mod defaults;
+mod departure;
+mod descent;
 mod error;
 mod fields;
 mod founded;
+mod layers;
+mod nth;
+mod second_values;
 mod several;
 mod size;
 mod sizes;
@@ -16,4 +22,4 @@ mod theorems;
 pub use error::CardError;
 pub use size::Size;
 pub use sizes::Sizes;
-pub use theorems::{single_sorts, unique_sizes};
+pub use theorems::{different_values, single_sorts, unique_sizes};

@@ -2,24 +2,26 @@
 //! that have a field of such a sort. All others are single.
 ghost use Rattle.std.specs.Prelude.{◌≡◌, ℕ, ◌+◌, ◌<◌, ◌++◌, [], ◌∷◌, List, Some, length, slice_get, if◌then◌else◌, IfOk, OnOk};
 ghost use Rattle.ct_card.specs.declared.chain.Rule.{Rule};
+ghost use Rattle.ct_card.specs.Rules.{IsOrder};
 ghost use Rattle.ct_card.specs.Ranked.{AreSeveral};
 ghost use Rattle.ct_card.specs.Ruled.{AreSeveralRules, IsCountRule, IsFieldRule};
 ghost use Rattle.ct_sorts.specs.Declarations.{IsSelector};
 ghost use Rattle.ct_card.specs.Derived.{AreHeadsBelow};
 
-use crate::chain::{Rule, ranks_of};
+use crate::chain::{Derived, Rule, derive};
 use crate::error::CardError;
 use ct_sorts::{SelId, Signature, SortId, structure};
 use std::alloc::Global;
 
 /// The ranks of the sorts of more than one value.
-pub(crate) fn several_ranks(alloc: Global, sig: &Signature) -> Result<Vec<usize>, CardError>
-    ensures several { IfOk result (λ ranks. AreSeveral sig.now ranks.items) }
+pub(crate) fn several_ranks(alloc: Global, sig: &Signature) -> Result<Derived, CardError>
+    ensures several { IfOk result (λ all. AreSeveral sig.now all.ranks.items) }
+    ensures order { IfOk result (λ all. IsOrder all.ranks.items all.order.items) }
 {
     structure();
     let rules = several_rules(alloc, sig)?;
-    let ranks = ranks_of(alloc, sig.sorts() as usize, &rules)?;
-    Ok(ranks)
+    let all = derive(alloc, sig.sorts() as usize, &rules)?;
+    Ok(all)
 }
 
 // The rules of all sorts and of all selectors.

@@ -1,17 +1,24 @@
 //! The sizes of all sorts of a signature, and makers of values.
-ghost use Rattle.std.specs.Prelude.{◌≡◌, ◌<◌, length, Some, slice_get, IfOk};
+ghost use Rattle.std.specs.Prelude.{◌≡◌, ◌<◌, ◌↔◌, length, Some, None, slice_get, IfOk, IfSome};
 ghost use Rattle.ct_sorts.specs.declared.ids.SortId.{SortId};
 ghost use Rattle.ct_sorts.specs.Declarations.{Declarations, IsSort};
 ghost use Rattle.ct_sorts.specs.Grown.{Begins};
 ghost use Rattle.ct_values.specs.Fitting.{HasNodeSort};
 ghost use Rattle.ct_values.specs.WellFormed.{IsWellFormedGraph};
-ghost use Rattle.ct_card.specs.Cardinality.{HasSize};
+ghost use Rattle.ct_values.specs.Agreement.{node_point, AgreeAlways};
+ghost use Rattle.ct_card.specs.Cardinality.{HasSize, IsSingle};
+ghost use Rattle.ct_card.specs.Nth.{IsNth};
 ghost use Rattle.ct_card.specs.Sizes.{AreSizes, AreSizesBy, size_by};
 
+use crate::built::second_node;
 use crate::choice::choices;
 use crate::defaults::{append_defaults, node_of_sort};
+use crate::departure::{Departure, Layer};
 use crate::error::CardError;
 use crate::founded::founding;
+use crate::layers::{layers, seconds};
+use crate::nth::append_nth;
+use crate::second_values::append_seconds;
 use crate::several::several_ranks;
 use crate::size::Size;
 use crate::small::small_ranks;
@@ -27,9 +34,12 @@ pub struct Sizes {
     alloc: Global,
     sizes: Vec<Size>,
     several: Vec<usize>,
+    queue: Vec<usize>,
     ranks: Vec<usize>,
     order: Vec<usize>,
     ctors: Vec<CtorId>,
+    seconds: Vec<Departure>,
+    layers: Vec<Layer>,
 }
 
 impl Model for Sizes {
@@ -37,7 +47,7 @@ impl Model for Sizes {
 
     ghost Value = { Table };
 
-    ghost view = { λ stored. record { sizes = stored.sizes.items; several = stored.several.items; ranks = stored.ranks.items; order = stored.order.items; ctors = stored.ctors.items } };
+    ghost view = { λ stored. record { sizes = stored.sizes.items; several = stored.several.items; queue = stored.queue.items; ranks = stored.ranks.items; order = stored.order.items; ctors = stored.ctors.items; seconds = stored.seconds.items; layers = stored.layers.items } };
 }
 
 impl Sizes {
@@ -48,18 +58,24 @@ impl Sizes {
     {
         structure();
         prove!(sig.sorts() > 0);
-        let several = several_ranks(alloc, sig)?;
+        let all = several_ranks(alloc, sig)?;
+        let several = all.ranks;
         let small = small_ranks(alloc, sig, &several)?;
         let sizes = sizes_by(alloc, &several, &small)?;
         let found = founding(alloc, sig)?;
         let ctors = choices(alloc, sig, &found.ranks)?;
+        let seconds = seconds(alloc, sig, &several, &ctors)?;
+        let layers = layers(alloc, sig, &several, &small)?;
         Ok(Sizes {
             alloc,
             sizes,
             several,
+            queue: all.order,
             ranks: found.ranks,
             order: found.order,
             ctors,
+            seconds,
+            layers,
         })
     }
 
@@ -71,9 +87,12 @@ impl Sizes {
             alloc: self.alloc,
             sizes: Vec::from_slice(self.alloc, self.sizes.as_slice())?,
             several: Vec::from_slice(self.alloc, self.several.as_slice())?,
+            queue: Vec::from_slice(self.alloc, self.queue.as_slice())?,
             ranks: Vec::from_slice(self.alloc, self.ranks.as_slice())?,
             order: Vec::from_slice(self.alloc, self.order.as_slice())?,
             ctors: Vec::from_slice(self.alloc, self.ctors.as_slice())?,
+            seconds: Vec::from_slice(self.alloc, self.seconds.as_slice())?,
+            layers: Vec::from_slice(self.alloc, self.layers.as_slice())?,
         })
     }
 
@@ -104,6 +123,96 @@ impl Sizes {
         let ranks = self.ranks.as_slice();
         let base = append_defaults(self.alloc, sig, ranks, &self.order, &self.ctors, g)?;
         Ok(node_of_sort(ranks, base, s.0 as usize))
+    }
+
+    /// Two values of the sort that are not the same, or `None` exactly where the sort has one value: the numbers of their
+    /// nodes, which are put after the graph with other values that they need. The sizes are those of the signature. Where
+    /// the answer is an error, the graph may have grown.
+    pub fn two_values(
+        &self,
+        sig: &Signature,
+        g: &mut Graph,
+        s: SortId,
+    ) -> Result<Option<(NodeId, NodeId)>, CardError>
+        requires sizes { AreSizes sig.now self.now }
+        requires inside { IsSort sig.now s }
+        ensures grown { Begins g.old g.new }
+        ensures well_formed { IsWellFormedGraph sig.now g.old → IsWellFormedGraph sig.now g.new }
+        ensures none { IfOk result (λ two. (two ≡ None) ↔ IsSingle sig.now s.0) }
+        ensures sorted { IfOk result (λ two. IfSome two (λ p. HasNodeSort sig.now g.new p.0 s × HasNodeSort sig.now g.new p.1 s)) }
+        ensures differ { IfOk result (λ two. IfSome two (λ p. AgreeAlways (node_point g.new p.0) (node_point g.new p.1) → ⊥)) }
+    {
+        structure();
+        prove!(sig.sorts() > 0);
+        let several = self.several.as_slice();
+        if several[s.0 as usize] == 0 {
+            return Ok(None);
+        }
+        let ranks = self.ranks.as_slice();
+        let base = append_defaults(self.alloc, sig, ranks, &self.order, &self.ctors, g)?;
+        let second = append_seconds(
+            self.alloc,
+            sig,
+            several,
+            &self.queue,
+            ranks,
+            &self.ctors,
+            &self.seconds,
+            base,
+            g,
+        )?;
+        let first = node_of_sort(ranks, base, s.0 as usize);
+        Ok(Some((first, second_node(several, second, s.0 as usize))))
+    }
+
+    /// The n-th value of an infinite sort: the number of its node, which is put after the graph with
+    /// other values that it needs. The sizes are those of the signature. Values for different n are
+    /// not the same, over any graphs (`different_values`). Where the answer is an error, the graph
+    /// may have grown. The time is linear in what is appended: default values and second values of
+    /// all sorts, and a node for each layer of the value.
+    pub fn nth(
+        &self,
+        sig: &Signature,
+        g: &mut Graph,
+        s: SortId,
+        n: u64,
+    ) -> Result<NodeId, CardError>
+        requires sizes { AreSizes sig.now self.now }
+        requires inside { IsSort sig.now s }
+        requires infinite { HasSize sig.now s.0 Size.Infinite }
+        ensures grown { Begins g.old g.new }
+        ensures well_formed { IsWellFormedGraph sig.now g.old → IsWellFormedGraph sig.now g.new }
+        ensures sorted { IfOk result (λ k. HasNodeSort sig.now g.new k s) }
+        ensures nth { IfOk result (λ k. IsNth sig.now self.now s.0 n (node_point g.new k)) }
+    {
+        let several = self.several.as_slice();
+        let ranks = self.ranks.as_slice();
+        let layers = self.layers.as_slice();
+        let base = append_defaults(self.alloc, sig, ranks, &self.order, &self.ctors, g)?;
+        let second = append_seconds(
+            self.alloc,
+            sig,
+            several,
+            &self.queue,
+            ranks,
+            &self.ctors,
+            &self.seconds,
+            base,
+            g,
+        )?;
+        let k = append_nth(
+            self.alloc,
+            sig,
+            several,
+            ranks,
+            layers,
+            base,
+            second,
+            g,
+            s.0 as usize,
+            n,
+        )?;
+        Ok(k)
     }
 }
 

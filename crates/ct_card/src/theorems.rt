@@ -5,10 +5,12 @@ ghost use Rattle.ct_sorts.specs.declared.ids.SortId.{SortId};
 ghost use Rattle.ct_sorts.specs.Declarations.{Declarations};
 ghost use Rattle.ct_sorts.specs.Consistent.{IsConsistent};
 ghost use Rattle.ct_card.specs.declared.size.Size.{Size};
-ghost use Rattle.ct_card.specs.Cardinality.{HasSize, IsSingle};
+ghost use Rattle.ct_card.specs.Cardinality.{HasSize, IsSingle, IsInfinite};
+ghost use Rattle.ct_card.specs.Sizes.{Table};
+ghost use Rattle.ct_card.specs.Nth.{IsNth};
 ghost use Rattle.ct_values.specs.Graph.{Nodes};
 ghost use Rattle.ct_values.specs.Value.{Value};
-ghost use Rattle.ct_values.specs.Agreement.{point, AgreeAlways};
+ghost use Rattle.ct_values.specs.Agreement.{Point, point, AgreeAlways};
 ghost use Rattle.ct_values.specs.Fitting.{FitsGraph};
 ghost use Rattle.ct_values.specs.ValueSort.{HasValueSort};
 
@@ -36,4 +38,25 @@ pub fn single_sorts()
     structure();
     agreement();
     well_sorted_values();
+}
+
+/// The theorem of n-th values. It does nothing: a proof that needs it calls it.
+pub fn different_values()
+    // Values of a sort for different numbers are not the same, each over its own graph.
+    ensures different { (d : Declarations) (table : Table) (s m n : ℕ) (p q : Point)
+        → IsNth d table s m p
+        → IsNth d table s n q
+        → AgreeAlways p q
+        → m ≡ n }
+
+    // What is the same as the n-th value is the n-th value, as it is in a longer graph.
+    ensures same { (d : Declarations) (table : Table) (s n : ℕ) (p q : Point)
+        → IsNth d table s n p
+        → AgreeAlways p q
+        → IsNth d table s n q }
+
+    // No infinite sort has one value.
+    ensures several { (d : Declarations) (s : ℕ) → IsInfinite d s → IsSingle d s → ⊥ }
+{
+    agreement();
 }

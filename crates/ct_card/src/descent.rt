@@ -1,0 +1,89 @@
+//! Ways down through layers: to an uninterpreted sort, or until so many layers were met at which a value could depart.
+ghost use Rattle.std.specs.Prelude.{◌≡◌, ℕ, ◌+◌, ◌<◌, ◌≤◌, ◌⊎◌, [], ◌∷◌, ◌++◌, true, false, length, get_or, slice_get, Some, IfOk, OnOk, OnErr, IsTrue};
+ghost use Rattle.std.specs.Bool.{OnTrue, OnFalse};
+ghost use Rattle.ct_card.specs.declared.departure.Layer.{Layer};
+ghost use Rattle.ct_card.specs.Cardinality.{IsInfinite};
+ghost use Rattle.ct_card.specs.Defaults.{is_free_sort};
+ghost use Rattle.ct_card.specs.Departures.{AreLayers};
+ghost use Rattle.ct_card.specs.Nth.{layer_count};
+ghost use Rattle.ct_card.specs.Descent.{LeadsDown, HasComeDown, IsStepDown};
+
+use crate::defaults::is_free;
+use crate::departure::{Departure, Layer};
+use crate::error::CardError;
+use ct_sorts::{Signature, SortId, structure};
+use std::alloc::Global;
+
+/// A way down: the sorts that were passed, the sort that was come to, and the number that is left there.
+#[derive(Debug, Drop)]
+pub(crate) struct Descent {
+    pub(crate) way: Vec<usize>,
+    pub(crate) sort: usize,
+    pub(crate) left: u64,
+}
+
+/// The way down from an infinite sort with this number.
+pub(crate) fn descend(
+    alloc: Global,
+    sig: &Signature,
+    several: &[usize],
+    layers: &[Layer],
+    s: usize,
+    n: u64,
+) -> Result<Descent, CardError>
+    requires inside { s < length sig.now.sorts }
+    requires infinite { IsInfinite sig.now s }
+    requires layered { AreLayers sig.now several.now layers.now }
+    ensures down { IfOk result (λ down. LeadsDown sig.now layers.now s n down.way.items down.sort down.left) }
+    ensures inside { IfOk result (λ down. down.sort < length sig.now.sorts) }
+    ensures infinite { IfOk result (λ down. IsInfinite sig.now down.sort) }
+    ensures end { IfOk result (λ down. HasComeDown sig.now layers.now down.sort down.left) }
+{
+    let mut down = Descent {
+        way: Vec::new(alloc),
+        sort: s,
+        left: n,
+    };
+    while go_down(sig, several, layers, &mut down)? {}
+    Ok(down)
+}
+
+// Goes one layer further down, if the end is not reached. Whether it did.
+fn go_down(
+    sig: &Signature,
+    several: &[usize],
+    layers: &[Layer],
+    down: &mut Descent,
+) -> Result<bool, CardError>
+    requires inside { down.old.sort < length sig.now.sorts }
+    requires infinite { IsInfinite sig.now down.old.sort }
+    requires layered { AreLayers sig.now several.now layers.now }
+    ensures further { IfOk result (λ further. IsTrue further → IsStepDown sig.now several.now layers.now down.old.way.items down.old.sort down.old.left down.new.way.items down.new.sort down.new.left) }
+    ensures same { IfOk result (λ further. OnFalse further (down.new ≡ down.old)) }
+    ensures end { IfOk result (λ further. OnFalse further (HasComeDown sig.now layers.now down.old.sort down.old.left)) }
+{
+    structure();
+    prove!(down.sort < sig.sorts() as usize);
+    if is_free(sig.kind(SortId(down.sort as u32))) {
+        return Ok(false);
+    }
+    let layer = layers[down.sort];
+    let count = layer_count(layer.departure);
+    if down.left < count {
+        return Ok(false);
+    }
+    down.way.push(down.sort)?;
+    down.sort = layer.step.next;
+    down.left -= count;
+    Ok(true)
+}
+
+// What a layer counts: nothing where no value can depart.
+fn layer_count(departure: Departure) -> u64
+    ensures value { result ≡ layer_count departure }
+{
+    match departure {
+        Departure::Nowhere => 0,
+        _ => 1,
+    }
+}

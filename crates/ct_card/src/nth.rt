@@ -1,0 +1,82 @@
+//! The n-th value of an infinite sort: its layers, from the innermost one outward.
+ghost use Rattle.std.specs.Prelude.{◌≡◌, ℕ, ◌+◌, ◌<◌, ◌^◌, List, length, get_or, IfOk};
+ghost use Rattle.ct_sorts.specs.declared.ids.CtorId.{CtorId};
+ghost use Rattle.ct_sorts.specs.Grown.{Begins};
+ghost use Rattle.ct_values.specs.Agreement.{node_point};
+ghost use Rattle.ct_values.specs.Fitting.{HasNodeSort};
+ghost use Rattle.ct_values.specs.WellFormed.{IsWellFormedGraph};
+ghost use Rattle.ct_card.specs.declared.departure.Departure.{Departure};
+ghost use Rattle.ct_card.specs.Cardinality.{IsInfinite};
+ghost use Rattle.ct_card.specs.Rules.{IsDerived};
+ghost use Rattle.ct_card.specs.Ranked.{AreSeveral};
+ghost use Rattle.ct_card.specs.Defaults.{AreRanked, node_of_sort};
+ghost use Rattle.ct_card.specs.Departures.{AreSeconds, AreLayers};
+ghost use Rattle.ct_card.specs.Built.{AreSorted};
+ghost use Rattle.ct_card.specs.Signs.{HasAllDefaults, HasAllSeconds};
+ghost use Rattle.ct_card.specs.Nth.{IsNthIn};
+
+use crate::built::{push_end, push_with};
+use crate::departure::{Layer, layer_at};
+use crate::descent::descend;
+use crate::error::CardError;
+use ct_sorts::{Signature, structure};
+use ct_values::{Graph, NodeId, agreement};
+use std::alloc::Global;
+
+/// Puts the n-th value of an infinite sort after the graph, which has the default values of all sorts from the base on, and
+/// the second values of all sorts of several values from the second number on.
+pub(crate) fn append_nth(
+    alloc: Global,
+    sig: &Signature,
+    several: &[usize],
+    ranks: &[usize],
+    layers: &[Layer],
+    base: u64,
+    second: u64,
+    g: &mut Graph,
+    s: usize,
+    n: u64,
+) -> Result<NodeId, CardError>
+    requires inside { s < length sig.now.sorts }
+    requires infinite { IsInfinite sig.now s }
+    requires several { AreSeveral sig.now several.now }
+    requires layered { AreLayers sig.now several.now layers.now }
+    requires long { length ranks.now ≡ length sig.now.sorts }
+    requires ranked { AreRanked ranks.now base }
+    requires sorted { AreSorted sig.now ranks.now base g.old }
+    requires seconds { (t : ℕ) → IsDerived several.now t → HasNodeSort sig.now g.old (node_of_sort second several.now t) (record { 0 = t }) }
+    requires room { (t : ℕ) → IsDerived several.now t → second + get_or several.now t 0 < 2 ^ 64 }
+    ensures grown { Begins g.old g.new }
+    ensures well_formed { IsWellFormedGraph sig.now g.old → IsWellFormedGraph sig.now g.new }
+    ensures sorted { IfOk result (λ k. HasNodeSort sig.now g.new k (record { 0 = s })) }
+    ensures nth { IfOk result (λ k. (ctors : List CtorId) (seconds : List Departure)
+        → AreSeconds sig.now several.now ctors seconds
+        → HasAllDefaults sig.now ranks.now ctors base g.old
+        → HasAllSeconds sig.now several.now ctors seconds second g.old
+        → IsNthIn sig.now ctors seconds layers.now s n (node_point g.new k)) }
+{
+    structure();
+    agreement();
+    prove!(sig.sorts() > 0);
+    let mut down = descend(alloc, sig, several, layers, s, n)?;
+    let last = layer_at(layers, down.sort);
+    prove!(g.len() <= u64::MAX);
+    let mut top = push_end(
+        alloc,
+        sig,
+        several,
+        ranks,
+        base,
+        second,
+        g,
+        down.sort,
+        down.left,
+        last.departure,
+    )?;
+    while let Some(x) = down.way.pop() {
+        prove!(g.len() <= u64::MAX);
+        let layer = layer_at(layers, x);
+        top = push_with(alloc, sig, ranks, base, g, layer.step, top)?;
+    }
+    Ok(top)
+}
