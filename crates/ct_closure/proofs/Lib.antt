@@ -1,0 +1,9 @@
+pub mod ListLemmas
+pub mod TreeLemmas
+pub mod GrowthLemmas
+pub mod CaseLemmas
+pub mod ClosedLemmas
+pub mod LeastLemmas
+pub mod ListingLemmas
+pub mod WayLemmas
+pub mod VariableLemmas

@@ -1,0 +1,5 @@
+pub mod Closed
+pub mod ClosedTable
+pub mod Variables
+pub mod Steps
+pub mod Trees
