@@ -1,0 +1,4 @@
+pub mod Rules
+pub mod Uniqueness
+pub mod Cycle
+pub mod Derivation
