@@ -1,0 +1,13 @@
+mod AcceptedLemmas
+mod DerivationLemmas
+mod EqualLemmas
+mod FollowLemmas
+mod GateLemmas
+mod LastLemmas
+mod ListLemmas
+mod LookLemmas
+mod MarkLemmas
+mod PropagatedLemmas
+mod RestLemmas
+mod StepLemmas
+mod TheoryLemmas

@@ -1,0 +1,10 @@
+pub mod Equations
+pub mod Steps
+pub mod Closing
+pub mod Gates
+pub mod Acceptance
+pub mod Recorded
+pub mod Rooms
+pub mod Look
+pub mod Marks
+pub mod Propagated

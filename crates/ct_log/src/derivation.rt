@@ -1,0 +1,94 @@
+//! Derivations: records whose lines are all accepted.
+ghost use Rattle.std.specs.Prelude.{◌≡◌, [], ◌∷◌, ◌++◌, OnOk, OnErr, IfOk, IfErr};
+ghost use Rattle.ct_log.specs.Acceptance.{IsAccepted, clauses_of};
+ghost use Rattle.ct_log.specs.Recorded.{AreJudges, IsDerivation};
+
+use crate::error::LogError;
+use crate::line::Line;
+use crate::lines::Record;
+use ct_card::Sizes;
+use ct_sorts::Signature;
+use ct_terms::{TermId, TermTable};
+use std::alloc::Global;
+use std::marker::Model;
+
+/// A record over a signature, its sizes and assertions, every line of which is accepted after those before it.
+#[derive(Drop)]
+pub struct Derivation {
+    sig: Signature,
+    sizes: Sizes,
+    rec: Record,
+    asserts: Vec<TermId>,
+}
+
+impl Model for Derivation {
+    ghost use Rattle.ct_log.specs.Recorded.{Derived, IsDerivation};
+
+    ghost Value = { Derived };
+
+    ghost view = { λ stored. record { declarations = stored.sig; sizes = stored.sizes; rec = stored.rec; asserts = stored.asserts.items } };
+
+    ghost invariant = { λ stored. IsDerivation (record { declarations = stored.sig; sizes = stored.sizes; rec = stored.rec; asserts = stored.asserts.items }) };
+}
+
+impl Derivation {
+    /// A derivation without lines, over copies of the signature and the sizes. Its only error is out of memory.
+    pub fn new(
+        alloc: Global,
+        sig: &Signature,
+        sizes: &Sizes,
+        table: TermTable,
+        asserts: Vec<TermId>,
+    ) -> Result<Derivation, LogError>
+        requires judges { AreJudges sig.now sizes.now table asserts.items }
+        ensures begun { IfOk result (λ derivation. derivation ≡ record { declarations = sig.now; sizes = sizes.now; rec = record { terms = table; lines = [] }; asserts = asserts.items }) }
+        ensures err { IfErr result (λ e. e ≡ LogError.NoMemory) }
+    {
+        let sizes = sizes.copy()?;
+        let sig = copy_of(sig)?;
+        Ok(Derivation {
+            sig,
+            sizes,
+            rec: Record::new(table, Vec::new(alloc)),
+            asserts,
+        })
+    }
+
+    /// One more line at the end, which is accepted after the others. Its only error is out of memory, which changes nothing.
+    pub fn push(&mut self, line: Line) -> Result<(), LogError>
+        requires accepted { IsAccepted self.old.declarations self.old.rec.terms self.old.asserts (clauses_of self.old.rec.lines) line }
+        ensures ok { OnOk result (self.new ≡ record self.old { rec = record self.old.rec { lines = self.old.rec.lines ++ line ∷ [] } }) }
+        ensures err { IfErr result (λ e. e ≡ LogError.NoMemory) }
+        ensures refused { OnErr result (self.new ≡ self.old) }
+    {
+        self.rec.push(line)?;
+        Ok(())
+    }
+
+    /// The terms and the lines. Every line is accepted after those before it.
+    pub fn rec(&self) -> &Record
+        ensures value { result.now ≡ self.now.rec }
+        ensures derivation { IsDerivation self.now }
+    {
+        &self.rec
+    }
+
+    /// The assertions.
+    pub fn asserts(&self) -> &[TermId]
+        ensures value { result.now ≡ self.now.asserts }
+        ensures derivation { IsDerivation self.now }
+    {
+        self.asserts.as_slice()
+    }
+}
+
+// An equal signature.
+fn copy_of(sig: &Signature) -> Result<Signature, LogError>
+    ensures value { IfOk result (λ copy. copy ≡ sig.now) }
+    ensures err { IfErr result (λ e. e ≡ LogError.NoMemory) }
+{
+    match sig.copy() {
+        Ok(copy) => Ok(copy),
+        Err(_) => Err(LogError::NoMemory),
+    }
+}

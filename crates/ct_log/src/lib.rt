@@ -1,0 +1,31 @@
+//! Derivations: lines with clauses, and when a line is accepted after those before it.
+#![tactic(auto)]
+
+mod acceptance;
+mod closing;
+mod congruence;
+mod derivation;
+mod error;
+mod exhaust;
+mod gate;
+mod head;
+mod line;
+mod lines;
+mod look;
+mod marks;
+mod propagation;
+mod room;
+mod rules;
+mod steps;
+mod theorems;
+mod theory;
+mod unique;
+
+pub use acceptance::{accepted, accepted_at};
+pub use derivation::Derivation;
+pub use error::LogError;
+pub use line::{Line, Step};
+pub use lines::Record;
+pub use room::Room;
+pub use rules::{Close, Entry, EqStep, Gate, Hop, Pair};
+pub use theorems::{lasting_acceptance, steps_follow};
