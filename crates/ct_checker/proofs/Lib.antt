@@ -1,0 +1,15 @@
+pub mod ListLemmas
+pub mod Setting
+pub mod ValueLemmas
+pub mod CongruenceRules
+pub mod ConstructorRules
+pub mod EquationRules
+pub mod RuleLemmas
+pub mod UniquenessLemmas
+pub mod CycleLemmas
+pub mod StepLemmas
+pub mod RefutationLemmas
+pub mod GateLemmas
+pub mod LineLemmas
+pub mod RecordLemmas
+pub mod RejectionLemmas
