@@ -1,9 +1,9 @@
 //! Interpretations that a case names: `((NODE ..) (TABLE ..) (TABLE ..))` with the nodes of the
 //! graph, a table for each function, and one for each selector off its constructor. A node is
-//! `(CONSTRUCTOR CHILD ..)`, and a table `(DEFAULT (RESULT ARGUMENT ..) ..)`, over the numbers of
+//! `(CONSTRUCTOR CHILD ..)` or `(elem SORT NUMBER)`, and a table `(DEFAULT (RESULT ARGUMENT ..) ..)`, over the numbers of
 //! nodes.
 use crate::cores::ctor_of;
-use ct_cases::{CaseError, items_of, number_of};
+use ct_cases::{CaseError, is_word, items_of, number_of, sort_of};
 use ct_eval::{Interp, Row, Rows, Table, Tables};
 use ct_sexpr::Sexpr;
 use ct_sorts::Signature;
@@ -35,10 +35,13 @@ fn graph_of(alloc: Global, sig: &Signature, part: &Sexpr) -> Result<Graph, CaseE
     Ok(Graph::from_nodes(nodes))
 }
 
-/// A constructor over nodes.
+/// A constructor over nodes, or an element.
 fn node_of(alloc: Global, sig: &Signature, part: &Sexpr) -> Result<Node, CaseError> {
     match items_of(part)? {
         [] => Err(CaseError::Bad),
+        [word, sort, number] if is_word(word, "elem") => {
+            Ok(Node::Elem(sort_of(alloc, sig, sort)?, number_of(number)?))
+        }
         [ctor, children @ ..] => {
             let ctor = ctor_of(alloc, sig, ctor)?;
             Ok(Node::Con(ctor, ids_of(alloc, children)?))

@@ -1,4 +1,5 @@
-//! Tests of terms and their values: numbers and sorts of terms, interpretations, and evaluation.
+//! Tests of terms and their values: numbers and sorts of terms, interpretations, evaluation, and the
+//! texts of models.
 //! Each line of standard input is a case `(NAME KIND PART ..)`, and its answer is one line. A
 //! line that is no case is answered `BAD`. A case `(NAME declare STEP ..)` begins anew, and
 //! declares for the lines after it.
@@ -8,10 +9,12 @@ mod cores;
 mod evaluate;
 mod interpretation;
 mod make;
+mod model;
 mod show;
 mod table;
 
 use ct_cases::{CaseError, declare_all, items_of, read_case, split_named};
+use ct_sexpr::Sexpr;
 use ct_sorts::{SigError, Signature};
 use std::alloc::Global;
 use std::io;
@@ -59,11 +62,25 @@ fn answer(
         declare_all(alloc, sig, parts)?;
         return Ok(out.push_str(" ok")?);
     }
-    if make::answer(alloc, sig, kind, parts, out)? {
-        return Ok(());
-    }
-    if evaluate::answer(alloc, sig, kind, parts, out)? {
+    if answer_kind(alloc, sig, kind, parts, out)? {
         return Ok(());
     }
     Err(CaseError::Bad)
+}
+
+/// Answers a case that declares nothing; whether the kind is one of them.
+fn answer_kind(
+    alloc: Global,
+    sig: &Signature,
+    kind: &str,
+    parts: &[Sexpr],
+    out: &mut String,
+) -> Result<bool, CaseError> {
+    if make::answer(alloc, sig, kind, parts, out)? {
+        return Ok(true);
+    }
+    if evaluate::answer(alloc, sig, kind, parts, out)? {
+        return Ok(true);
+    }
+    model::answer(alloc, sig, kind, parts, out)
 }

@@ -1,0 +1,52 @@
+-- The cases of a `match` by what the program holds of them.
+use Rattle.std.proofs.Common.{◌≡◌, ℕ, suc, ◌<◌, List, [], ◌∷◌, ◌++◌, length, get_or, map, Option, None, Ok, Err, Vec, Global, refl, sym, ◌∙◌, ap, arith}
+use Rattle.std.specs.Borrow.{Bor}
+use Rattle.ct_sexpr.specs.declared.sexpr.Sexpr.{Sexpr, List as list_in_memory}
+use Rattle.ct_sexpr.specs.View.{expression_of, expressions_of}
+use Rattle.ct_sorts.specs.declared.ids.SortId.{SortId}
+use Rattle.ct_sorts.specs.Declarations.{Declarations}
+use Rattle.ct_terms.specs.declared.tree.Pattern.{Pattern}
+use Rattle.ct_terms.specs.Formula.{Formula, bind}
+use Rattle.ct_check.specs.declared.error.CheckError.{CheckError}
+use Rattle.ct_check.specs.declared.error.CheckError.TheVariants.{Refused, NoMemory}
+use Rattle.ct_check.specs.declared.variables.Bound.{Bound}
+use Rattle.ct_check.specs.Answer.{Answers}
+use Rattle.ct_check.specs.Bounds.{scope_of, variable_of, held_name, held_binding}
+use Rattle.ct_check.specs.Trees.{sorted_of, checked_of}
+use Rattle.ct_check.specs.Variables.{Variable, variables}
+use Rattle.ct_check.specs.Patterns.{Binding, pattern}
+use Rattle.ct_check.specs.Elaboration.{part_of, parts_of, meaning, checked_cases}
+use Rattle.ct_check.proofs.BindingLemmas.{IsBinding}
+use Rattle.ct_check.proofs.BinderLemmas.{pair_form, two_of}
+use Rattle.ct_check.proofs.CaseLemmas.{IsAt, at_pattern_error, at_term_error}
+
+-- a case in memory is `(p t)`
+pub case_form : (d : Declarations) (c : Sexpr) (items : Vec Sexpr Global) (slice : List Sexpr) (x t : Sexpr) → c ≡ list_in_memory items → slice ≡ items.items → length slice ≡ 2 → x ≡ get_or slice 0 x → t ≡ get_or slice 1 t → IsBinding d c x t
+case_form d c items slice x t is same long ex et = pair_form d c items slice x t is same (two_of slice x t long ex et)
+
+-- the scope of a case, and of the body of a `let`
+pub case-scope : (outer inner inner_slice all all_slice : List Bound) → inner_slice ≡ inner → scope_of all ≡ bind (map variable_of inner_slice) (scope_of outer) → all_slice ≡ all → scope_of all_slice ≡ bind (map variable_of inner) (scope_of outer)
+case-scope outer inner inner_slice all all_slice ei is ea = ap scope_of ea ∙ is ∙ ap (λ (xs : List Bound). bind (map variable_of xs) (scope_of outer)) ei
+
+pub inner-scope : (outer : List Bound) (names names_slice : List (Option (Bor (List ℕ)))) (sorts sorts_slice : List SortId) (inner inner_slice all all_slice : List Bound) → names_slice ≡ names → sorts_slice ≡ sorts → map variable_of inner ≡ variables (map held_name names_slice) sorts_slice → inner_slice ≡ inner → scope_of all ≡ bind (map variable_of inner_slice) (scope_of outer) → all_slice ≡ all → scope_of all_slice ≡ bind (variables (map held_name names) sorts) (scope_of outer)
+inner-scope outer names names_slice sorts sorts_slice inner inner_slice all all_slice en es is ei whole ea =
+    case-scope outer inner inner_slice all all_slice ei whole ea
+    ∙ ap (λ (vs : List Variable). bind vs (scope_of outer)) (is ∙ ap (λ (ns : List (Option (Bor (List ℕ)))). variables (map held_name ns) sorts_slice) en ∙ ap (λ (ss : List SortId). variables (map held_name names) ss) es)
+
+-- one more of each
+pub one_more_each : {X Y : Type 0} (xs : List X) (ys : List Y) (x : X) (y : Y) → length xs ≡ length ys → length (xs ++ x ∷ []) ≡ length (ys ++ y ∷ [])
+one_more_each [] [] x y e = refl
+one_more_each [] (b ∷ ys) x y e = absurd (omega (arith, e))
+one_more_each (a ∷ xs) [] x y e = absurd (omega (arith, e))
+one_more_each (a ∷ xs) (b ∷ ys) x y e = ap suc (one_more_each xs ys x y (omega (arith, e)))
+
+module _ (d : Declarations) (scope : List Variable) (side : SortId) (cases : List Sexpr) (i : ℕ) (sort : Option SortId) (cs : List (Pattern × Formula)) (ps : List Pattern) (at : IsAt d scope side cases i sort cs ps) where
+  -- the pattern of a case has an error
+  pub case_pattern_error : (c p body : Sexpr) (e : CheckError) → i < length cases → c ≡ get_or cases i c → IsBinding d c p body → Answers held_binding (pattern d side (part_of d (expression_of p))) (Err e) → Answers checked_of (checked_cases d scope side None (parts_of d (expressions_of cases))) (Err e)
+  case_pattern_error c p body (Refused n) ic ec form fails = at_pattern_error d scope side cases i sort cs ps at c p body n ic ec form fails
+  case_pattern_error c p body NoMemory ic ec form fails = tt
+
+  -- the term of a case has an error
+  pub case_term_error : (c p body : Sexpr) (binding : Binding) (inner : List Variable) (e : CheckError) → i < length cases → c ≡ get_or cases i c → IsBinding d c p body → pattern d side (part_of d (expression_of p)) ≡ Ok binding → inner ≡ bind binding.1 scope → Answers sorted_of (meaning d inner (part_of d (expression_of body))) (Err e) → Answers checked_of (checked_cases d scope side None (parts_of d (expressions_of cases))) (Err e)
+  case_term_error c p body binding inner (Refused n) ic ec form fits same fails = at_term_error d scope side cases i sort cs ps at c p body binding n ic ec form fits (ap (λ sc. meaning d sc (part_of d (expression_of body))) (sym same) ∙ fails)
+  case_term_error c p body binding inner NoMemory ic ec form fits same fails = tt

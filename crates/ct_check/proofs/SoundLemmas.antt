@@ -1,0 +1,133 @@
+-- A formula that elaboration gives is well sorted.
+use Rattle.std.proofs.Common.{◌≡◌, ℕ, suc, ◌+◌, ◌≤◌, Bool, true, false, ◌==◌, List, [], ◌∷◌, length, Option, Some, None, slice_get, Ok, refl, sym, ◌∙◌, ap, subst, arith}
+use Rattle.std.proofs.lemmas.Bool.Decides.{nat_tests}
+use Rattle.ct_sorts.specs.declared.ids.SortId.{SortId}
+use Rattle.ct_sorts.specs.declared.ids.Symbol.{Symbol}
+use Rattle.ct_sorts.specs.Declarations.{Declarations}
+use Rattle.ct_sorts.specs.Lookup.{ResolvesTo, IsSymbol}
+use Rattle.ct_sexpr.specs.Readable.{name_of_atom}
+use Rattle.ct_terms.specs.Formula as formula
+use Rattle.ct_terms.specs.Formula.{Formula, Formulas, no_formulas, with_formula, bind}
+use Rattle.ct_terms.specs.FormulaSorts.{IsSorted, AreSorted, AreOfSort, HasFormula, AreSeveral}
+use Rattle.ct_check.specs.declared.operator.Operator.{Operator}
+use Rattle.ct_check.specs.Refusals.{wrong_count}
+use Rattle.ct_check.specs.Outcome.{Outcome, Sorted, and_then, of_sort}
+use Rattle.ct_check.specs.Symbols.{symbol_of, operator_of, argument_sorts, result_sort, applied}
+use Rattle.ct_check.specs.Variables.{Variable, is_named, find_from, find, variable_sorts}
+use Rattle.ct_check.specs.Parts.{Part, Parts, atom_part, list_part, no_parts, with_part, count}
+use Rattle.ct_check.specs.Elaboration.{lone, lone_name, lone_global, lone_symbol, lone_operator, meaning, arguments, all_of_sort}
+use Rattle.ct_check.proofs.Inversions.{and_then-inverse, unless-inverse, same_value, of_sort-inverse}
+use Rattle.ct_check.proofs.SymbolSorts.{Laws, applied_sorted}
+use Rattle.ct_check.proofs.SymbolLemmas.{resolves}
+
+-- what a list means is well sorted, at every scope
+abbrev pub IsSoundMeaning : Declarations → (List Variable → Outcome Sorted) → Type 0
+IsSoundMeaning d m = (scope : List Variable) (t : Sorted) → m scope ≡ Ok t → IsSorted d (variable_sorts scope) t.0 t.1
+
+-- so is what each list inside means
+abbrev mutual
+  pub IsSoundPart : Declarations → Part → Type 0
+  IsSoundPart d (atom_part a) = Unit {0}
+  IsSoundPart d (list_part ps m) = AreSoundParts d ps × IsSoundMeaning d m
+
+  pub AreSoundParts : Declarations → Parts → Type 0
+  AreSoundParts d no_parts = Unit {0}
+  AreSoundParts d (with_part p ps) = IsSoundPart d p × AreSoundParts d ps
+
+-- a value that is well sorted, and another that is the same
+abbrev pub HasOwnSort : Declarations → List SortId → Sorted → Type 0
+HasOwnSort d env t = IsSorted d env t.0 t.1
+
+pub carried : (d : Declarations) (env : List SortId) (t u : Sorted) → (let o : Outcome Sorted = Ok t in o) ≡ Ok u → HasOwnSort d env t → HasOwnSort d env u
+carried d env t u e h = subst (λ (x : Sorted). HasOwnSort d env x) (same_value t u e) h
+
+-- a variable that is found has its sort at its number
+pub record StandsAt (n : ℕ) (scope : List Variable) (v : ℕ × SortId) : Type 0 where
+  pub index : ℕ
+  pub number : v.0 ≡ n + index
+  pub sort : slice_get (variable_sorts scope) index ≡ Some v.1
+
+find_sorted : (n : ℕ) (scope : List Variable) (name : List ℕ) (v : ℕ × SortId) → find_from n scope name ≡ Some v → StandsAt n scope v
+find_sorted n [] name v e = absurd cc
+find_sorted n (x ∷ scope) name v e = by (is_named name x.name) refl (find_sorted (suc n) scope name v)
+  where
+    by : (b : Bool) → is_named name x.name ≡ b → (find_from (suc n) scope name ≡ Some v → StandsAt (suc n) scope v) → StandsAt n (x ∷ scope) v
+    by true is further =
+        let here : (let o : Option (ℕ × SortId) = Some (n, x.sort) in o) ≡ Some v = rw is at e in
+        let same : (let w : ℕ × SortId = (n, x.sort) in w) ≡ v = cc in
+        let number : n ≡ v.0 = ap (λ (w : ℕ × SortId). w.0) same in
+        record { index = 0; number = omega (arith, number); sort = ap (λ (w : ℕ × SortId). Some w.1) same }
+    by false is further =
+        let there : find_from (suc n) scope name ≡ Some v = rw is at e in
+        let at = further there in
+        record { index = suc at.index; number = omega (arith, at.number); sort = at.sort }
+
+pub empty_from : (xs : List SortId) → (length xs == 0) ≡ true → xs ≡ []
+empty_from [] e = refl
+empty_from (x ∷ xs) e = absurd (grind (arith, nat_tests))
+
+module _ (d : Declarations) (laws : Laws d) where
+  pub lone_symbol_sound : (env : List SortId) (s : Symbol) → IsSymbol d s → (t : Sorted) → lone_symbol d s ≡ Ok t → HasOwnSort d env t
+  lone_symbol_sound env s inside t e =
+      let step = unless-inverse (length (argument_sorts d s) == 0) wrong_count (Ok (applied s no_formulas, result_sort d s)) t e in
+      let none = empty_from (argument_sorts d s) step.0 in
+      carried d env (applied s no_formulas, result_sort d s) t step.1
+      (applied_sorted d laws env s inside no_formulas (subst (λ (sorts : List SortId). AreSorted d env no_formulas sorts) (sym none) tt))
+
+  operator_refused : (o : Option Operator) (t : Sorted) → lone_operator o ≡ Ok t → ⊥
+  operator_refused None t e = cc
+  operator_refused (Some o) t e = cc
+
+  lone_global_sound : (env : List SortId) (name : List ℕ) (s : Option Symbol) → symbol_of d name ≡ s → (t : Sorted) → lone_global d name s ≡ Ok t → HasOwnSort d env t
+  lone_global_sound env name None is t e = absurd (operator_refused (operator_of name) t e)
+  lone_global_sound env name (Some s) is t e = lone_symbol_sound env s (laws.symbol_inside name s (subst (λ (o : Option Symbol). ResolvesTo d name o) is (resolves d name))) t e
+
+  lone_name_sound : (scope : List Variable) (name : List ℕ) (v : Option (ℕ × SortId)) → find scope name ≡ v → (t : Sorted) → lone_name d name v ≡ Ok t → HasOwnSort d (variable_sorts scope) t
+  lone_name_sound scope name (Some v) is t e =
+      let at = find_sorted 0 scope name v is in
+      let number : v.0 ≡ at.index = omega (arith, at.number) in
+      carried d (variable_sorts scope) (formula.Var v.0, v.1) t e (ap (λ (n : ℕ). slice_get (variable_sorts scope) n) number ∙ at.sort)
+  lone_name_sound scope name None is t e = lone_global_sound (variable_sorts scope) name (symbol_of d name) refl t e
+
+  pub lone_sound : (scope : List Variable) (name : Option (List ℕ)) (t : Sorted) → lone d scope name ≡ Ok t → HasOwnSort d (variable_sorts scope) t
+  lone_sound scope None t e = absurd cc
+  lone_sound scope (Some name) t e = lone_name_sound scope name (find scope name) refl t e
+
+  pub meaning_sound : (scope : List Variable) (p : Part) → IsSoundPart d p → (t : Sorted) → meaning d scope p ≡ Ok t → HasOwnSort d (variable_sorts scope) t
+  meaning_sound scope (atom_part a) sound t e = lone_sound scope (name_of_atom a) t e
+  meaning_sound scope (list_part ps m) sound t e = sound.1 scope t e
+
+  -- arguments of stated sorts
+  pub arguments_sound : (scope : List Variable) (sorts : List SortId) (ps : Parts) → AreSoundParts d ps → (ts : Formulas) → arguments d scope sorts ps ≡ Ok ts → AreSorted d (variable_sorts scope) ts sorts
+  arguments_sound scope [] no_parts sound ts e = subst (λ (us : Formulas). AreSorted d (variable_sorts scope) us []) (same_value no_formulas ts e) tt
+  arguments_sound scope [] (with_part p ps) sound ts e = absurd cc
+  arguments_sound scope (s ∷ sorts) no_parts sound ts e = absurd cc
+  arguments_sound scope (s ∷ sorts) (with_part p ps) sound ts e =
+      let one = and_then-inverse (of_sort s (meaning d scope p)) (λ t. and_then (arguments d scope sorts ps) (λ us. Ok (with_formula t us))) ts e in
+      let rest = and_then-inverse (arguments d scope sorts ps) (λ us. Ok (with_formula one.0 us)) ts one.2 in
+      subst (λ (us : Formulas). AreSorted d (variable_sorts scope) us (s ∷ sorts)) (same_value (with_formula one.0 rest.0) ts rest.2)
+      (meaning_sound scope p sound.0 (one.0, s) (of_sort-inverse s (meaning d scope p) one.0 one.1), arguments_sound scope sorts ps sound.1 rest.0 rest.1)
+
+  -- arguments of one sort
+  pub all_sound : (scope : List Variable) (s : SortId) (ps : Parts) → AreSoundParts d ps → (ts : Formulas) → all_of_sort d scope s ps ≡ Ok ts → AreOfSort d (variable_sorts scope) ts s
+  all_sound scope s no_parts sound ts e = subst (λ (us : Formulas). AreOfSort d (variable_sorts scope) us s) (same_value no_formulas ts e) tt
+  all_sound scope s (with_part p ps) sound ts e =
+      let one = and_then-inverse (of_sort s (meaning d scope p)) (λ t. and_then (all_of_sort d scope s ps) (λ us. Ok (with_formula t us))) ts e in
+      let rest = and_then-inverse (all_of_sort d scope s ps) (λ us. Ok (with_formula one.0 us)) ts one.2 in
+      subst (λ (us : Formulas). AreOfSort d (variable_sorts scope) us s) (same_value (with_formula one.0 rest.0) ts rest.2)
+      (meaning_sound scope p sound.0 (one.0, s) (of_sort-inverse s (meaning d scope p) one.0 one.1), all_sound scope s ps sound.1 rest.0 rest.1)
+
+  -- as many as there are parts
+  pub all_some : (scope : List Variable) (s : SortId) (ps : Parts) (ts : Formulas) → all_of_sort d scope s ps ≡ Ok ts → 1 ≤ count ps → HasFormula ts
+  all_some scope s no_parts ts e h = absurd (omega arith)
+  all_some scope s (with_part p ps) ts e h =
+      let one = and_then-inverse (of_sort s (meaning d scope p)) (λ t. and_then (all_of_sort d scope s ps) (λ us. Ok (with_formula t us))) ts e in
+      let rest = and_then-inverse (all_of_sort d scope s ps) (λ us. Ok (with_formula one.0 us)) ts one.2 in
+      subst (λ (us : Formulas). HasFormula us) (same_value (with_formula one.0 rest.0) ts rest.2) tt
+
+  pub all_several : (scope : List Variable) (s : SortId) (ps : Parts) (ts : Formulas) → all_of_sort d scope s ps ≡ Ok ts → 2 ≤ count ps → AreSeveral ts
+  all_several scope s no_parts ts e h = absurd (omega arith)
+  all_several scope s (with_part p ps) ts e h =
+      let one = and_then-inverse (of_sort s (meaning d scope p)) (λ t. and_then (all_of_sort d scope s ps) (λ us. Ok (with_formula t us))) ts e in
+      let rest = and_then-inverse (all_of_sort d scope s ps) (λ us. Ok (with_formula one.0 us)) ts one.2 in
+      subst (λ (us : Formulas). AreSeveral us) (same_value (with_formula one.0 rest.0) ts rest.2) (all_some scope s ps rest.0 rest.1 (omega arith))

@@ -1,0 +1,10 @@
+use Rattle.std.proofs.Common.{◌≡◌, map, length}
+use Rattle.ct_check.specs.Variables.{names_in, has_repeated}
+use Rattle.ct_check.specs.Bounds.{held_name}
+use Rattle.ct_check.proofs.patterns.has_repeated.Given as goal
+
+abbrev pub invariant-loop-left : goal.invariant-loop-left
+invariant-loop-left l = has_repeated (names_in (map held_name l.left)) ≡ has_repeated (names_in (map held_name l.names))
+
+abbrev pub decreases-loop-left : goal.decreases-loop-left
+decreases-loop-left l = length l.left

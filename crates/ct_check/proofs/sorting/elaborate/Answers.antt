@@ -1,0 +1,37 @@
+use Rattle.std.proofs.Common.{◌≡◌, ℕ, [], Result, IfOk, Ok, Err, sym, ap, ◌∙◌}
+use Rattle.ct_sexpr.specs.View.{expression_of}
+use Rattle.ct_terms.specs.Formula.{bind}
+use Rattle.ct_check.specs.declared.error.CheckError.{CheckError}
+use Rattle.ct_check.specs.declared.error.CheckError.TheVariants.{Refused, NoMemory}
+use Rattle.ct_check.specs.Answer.{Answers}
+use Rattle.ct_check.specs.Bounds.{scope_of, parameters}
+use Rattle.ct_check.specs.Elaboration.{elaborated}
+use Rattle.ct_check.specs.Outcome.{Outcome}
+use Rattle.ct_check.specs.Trees.{sorted_of}
+use Rattle.ct_check.proofs.AnswerLemmas.{answers_along}
+use Rattle.ct_check.proofs.sorting.elaborate.Goals as goal
+
+answered : {X Y : Type 0} (view : X → Y) (whole : Outcome Y) (r : Result X CheckError) → Answers view whole r → IfOk r (λ x. whole ≡ Ok (view x))
+answered view whole (Ok x) h = h
+answered view whole (Err e) h = tt
+
+refused_by : {X Y : Type 0} (view : X → Y) (whole : Outcome Y) (r : Result X CheckError) → Answers view whole r → (n : ℕ) → r ≡ Err (Refused n) → whole ≡ Err n
+refused_by view whole (Ok x) h n e = absurd cc
+refused_by view whole (Err (Refused k)) h n e =
+    let same : k ≡ n = cc in
+    h ∙ ap (λ (m : ℕ). Err m) same
+refused_by view whole (Err NoMemory) h n e = absurd cc
+
+pub returns : goal.returns
+returns c =
+    let d = c.args.scope.now.sig in
+    let e = expression_of c.args.expr.now in
+    let held : scope_of c.as_slice.result.now ≡ parameters c.args.params.now =
+    ap scope_of c.as_slice.ensures.value ∙ ap (λ vs. bind vs []) c.in_ok-variables.ensures.ok in
+    let whole = elaborated d (parameters c.args.params.now) e in
+    let means : Answers sorted_of (elaborated d (parameters c.args.params.now) e) c.term.result =
+    answers_along sorted_of whole (elaborated d (scope_of c.as_slice.result.now) e) c.term.result (ap (λ sc. elaborated d sc e) (sym held)) c.term.ensures.value in
+    record {
+      ok = answered sorted_of whole c.term.result means;
+      refused = refused_by sorted_of whole c.term.result means;
+    }

@@ -1,0 +1,16 @@
+-- What bindings come to once their names were looked at.
+use Rattle.std.specs.Prelude.{ℕ, List, Option, Ok}
+use Rattle.ct_sorts.specs.Declarations.{Declarations}
+use Rattle.ct_terms.specs.Formula as formula
+use Rattle.ct_terms.specs.Formula.{bind}
+use Rattle.ct_check.specs.Outcome.{Outcome, Sorted, and_then}
+use Rattle.ct_check.specs.Variables.{Variable, variables}
+use Rattle.ct_check.specs.Parts.{Part, Parts}
+use Rattle.ct_check.specs.Elaboration.{meaning, bound_terms, formulas_of, sorts_of}
+
+-- bindings of these names, and a body
+abbrev pub bound_by : Declarations → List Variable → List (Option (List ℕ)) → Parts → Part → Outcome Sorted
+bound_by d scope names bindings body =
+    and_then (bound_terms d scope bindings) (λ ts.
+    and_then (meaning d (bind (variables names (sorts_of ts)) scope) body) (λ u.
+    Ok (formula.Let (formulas_of ts) u.0, u.1)))

@@ -1,0 +1,122 @@
+//! What `let` and `match` do before and after their terms.
+ghost use Rattle.std.specs.Prelude.{◌≡◌, ◌++◌, ◌∷◌, [], Some, List, map, IfOk, IfErr, OnOk};
+ghost use Rattle.ct_sexpr.specs.View.{expressions_of};
+ghost use Rattle.ct_sorts.specs.Declarations.{Declarations};
+ghost use Rattle.ct_terms.specs.Formula.{Let};
+ghost use Rattle.ct_terms.specs.TreeFormula.{formula_of, formulas_of_trees};
+ghost use Rattle.ct_check.specs.Answer.{Answers, Leads};
+ghost use Rattle.ct_check.specs.Binders.{bound_by};
+ghost use Rattle.ct_check.specs.Bounds.{held_name};
+ghost use Rattle.ct_check.specs.Elaboration.{parts_of, bound, exhausted, goes_with};
+ghost use Rattle.ct_check.specs.Parts.{Part};
+ghost use Rattle.ct_check.specs.Trees.{sorted_of, checked_of, case_of};
+ghost use Rattle.ct_check.specs.Variables.{Variable};
+
+use crate::callees::is_sort;
+use crate::error::CheckError;
+use crate::forms::are_bindings;
+use crate::patterns::{are_exhaustive, bound_names, has_repeated};
+use crate::refusals::{NOT_EXHAUSTIVE, OUT_OF_SCOPE, REPEATED_VARIABLE};
+use ct_sexpr::Sexpr;
+use ct_sorts::{Signature, SortId};
+use ct_terms::{Case, Pattern, Tree};
+use std::alloc::Global;
+
+/// The cases of a `match`, with their patterns and their common sort, none where there is no case.
+#[derive(Drop)]
+pub(crate) struct Checked {
+    pub(crate) cases: Vec<Case>,
+    pub(crate) patterns: Vec<Pattern>,
+    pub(crate) sort: Option<SortId>,
+}
+
+/// The names that bindings bind: there is one or more, and none stands twice.
+pub(crate) fn binding_names<'e>(
+    alloc: Global,
+    bindings: &'e [Sexpr],
+) -> Result<Vec<Option<&'e [u8]>>, CheckError>
+    ensures value { (d : Declarations) (scope : List Variable) (body : Part) → Leads (bound d scope
+        (parts_of d (expressions_of bindings.now)) body)
+        (λ names. bound_by d scope (map held_name names.items) (parts_of d
+        (expressions_of bindings.now)) body) result }
+{
+    if bindings.is_empty() {
+        return Err(CheckError::Refused(OUT_OF_SCOPE));
+    }
+    if !are_bindings(bindings) {
+        return Err(CheckError::Refused(OUT_OF_SCOPE));
+    }
+    let names = bound_names(alloc, bindings)?;
+    if has_repeated(names.as_slice()) {
+        return Err(CheckError::Refused(REPEATED_VARIABLE));
+    }
+    Ok(names)
+}
+
+/// The `let` of these terms with a body.
+pub(crate) fn let_tree(alloc: Global, trees: Vec<Tree>, body: Tree) -> Result<Tree, CheckError>
+    ensures ok { IfOk result (λ t. formula_of t ≡ Let (formulas_of_trees trees.items)
+        (formula_of body)) }
+    ensures err { IfErr result (λ e. e ≡ CheckError.NoMemory) }
+{
+    Ok(Tree::Let(trees, Box::new(alloc, body)?))
+}
+
+/// The `match` of a subject of this sort, where its cases are exhaustive.
+pub(crate) fn match_tree(
+    alloc: Global,
+    sig: &Signature,
+    subject: Tree,
+    side: SortId,
+    checked: Checked,
+) -> Result<(Tree, SortId), CheckError>
+    ensures value { Answers sorted_of (exhausted sig.now (formula_of subject, side)
+        (checked_of checked)) result }
+{
+    if !are_exhaustive(sig, side, checked.patterns.as_slice()) {
+        return Err(CheckError::Refused(NOT_EXHAUSTIVE));
+    }
+    match checked.sort {
+        Some(sort) => {
+            let subject = Box::new(alloc, subject)?;
+            Ok((Tree::Match(subject, checked.cases), sort))
+        }
+        None => Err(CheckError::Refused(NOT_EXHAUSTIVE)),
+    }
+}
+
+/// Whether the sort is the one that earlier cases had, where there are any.
+pub(crate) fn goes_with(first: Option<SortId>, sort: SortId) -> bool
+    ensures value { result ≡ goes_with first sort }
+{
+    match first {
+        Some(earlier) => is_sort(sort, earlier),
+        None => true,
+    }
+}
+
+/// One more case, whose term has this sort.
+#[tactic(auto, using(crate::proofs::CasePushes::pushed_case))]
+pub(crate) fn add_case(
+    checked: &mut Checked,
+    fitted: Pattern,
+    body: Tree,
+    sort: SortId,
+) -> Result<(), CheckError>
+    ensures cases { OnOk result (map case_of checked.new.cases.items ≡ map case_of checked.old.cases.items ++ (fitted, formula_of body) ∷ []) }
+    ensures patterns { OnOk result (checked.new.patterns.items ≡ checked.old.patterns.items ++ fitted ∷ []) }
+    ensures sort { OnOk result (checked.new.sort ≡ Some sort) }
+    ensures err { IfErr result (λ e. e ≡ CheckError.NoMemory) }
+{
+    checked.cases.push(case(fitted, body))?;
+    checked.patterns.push(fitted)?;
+    checked.sort = Some(sort);
+    Ok(())
+}
+
+// The case of this pattern.
+fn case(pattern: Pattern, body: Tree) -> Case
+    ensures value { case_of result ≡ (pattern, formula_of body) }
+{
+    Case { pattern, body }
+}

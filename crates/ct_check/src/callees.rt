@@ -1,0 +1,90 @@
+//! What takes arguments of stated sorts: symbols, testers and connectives.
+ghost use Rattle.std.specs.Prelude.{◌≡◌, ◌∷◌, [], ◌==◌, length, replicate, IfOk, IfErr};
+ghost use Rattle.ct_sorts.specs.Declarations.{bool_sort};
+ghost use Rattle.ct_sorts.specs.Lookup.{IsSymbol};
+ghost use Rattle.ct_terms.specs.TreeFormula.{formula_of, formulas_of_trees};
+ghost use Rattle.ct_check.specs.Symbols.{argument_sorts};
+ghost use Rattle.ct_check.specs.Elaboration.{takes};
+ghost use Rattle.ct_check.specs.Outcome.{is_sort};
+ghost use Rattle.ct_check.specs.Callees.{callee_sorts, callee_result, callee_formula, IsCallee};
+
+use crate::error::CheckError;
+use crate::operator::Operator;
+use crate::symbols::{argument_sorts, result_sort};
+use ct_sorts::{CtorId, Signature, SortId, Symbol};
+use ct_terms::Tree;
+use std::alloc::Global;
+
+/// The sort Bool.
+pub(crate) const BOOL: SortId = SortId(0);
+
+/// What takes arguments of stated sorts.
+#[derive(Clone, Copy)]
+pub(crate) enum Callee {
+    /// A symbol.
+    Symbol(Symbol),
+    /// `(_ is C)`.
+    Tester(CtorId),
+    /// A connective: an operator that takes Boolean arguments alone.
+    Connective(Operator),
+}
+
+/// Whether the two sorts are one.
+pub(crate) fn is_sort(s: SortId, t: SortId) -> bool
+    ensures value { result ≡ is_sort s t }
+{
+    s.0 == t.0
+}
+
+/// Whether the operator takes so many arguments.
+pub(crate) fn takes(operator: Operator, count: usize) -> bool
+    ensures value { result ≡ takes operator count }
+{
+    match operator {
+        Operator::Not => count == 1,
+        Operator::And | Operator::Or => 1 <= count,
+        Operator::Xor | Operator::Implies | Operator::Equal | Operator::Distinct => 2 <= count,
+        Operator::Ite => count == 3,
+    }
+}
+
+/// The sorts of the arguments, where there are so many.
+pub(crate) fn callee_sorts(
+    alloc: Global,
+    sig: &Signature,
+    callee: Callee,
+    count: usize,
+) -> Result<Vec<SortId>, CheckError>
+    requires inside { IsCallee sig.now callee }
+    ensures ok { IfOk result (λ sorts. sorts.items ≡ callee_sorts sig.now callee count) }
+    ensures err { IfErr result (λ e. e ≡ CheckError.NoMemory) }
+{
+    match callee {
+        Callee::Symbol(symbol) => argument_sorts(alloc, sig, symbol),
+        Callee::Tester(c) => repeated(alloc, sig.ctor_sort(c), 1),
+        Callee::Connective(_) => repeated(alloc, BOOL, count),
+    }
+}
+
+/// One sort, so many times.
+pub(crate) fn repeated(alloc: Global, sort: SortId, count: usize) -> Result<Vec<SortId>, CheckError>
+    ensures ok { IfOk result (λ sorts. sorts.items ≡ replicate count sort) }
+    ensures err { IfErr result (λ e. e ≡ CheckError.NoMemory) }
+{
+    let mut sorts = Vec::with_capacity(alloc, count)?;
+    for _ in 0..count {
+        sorts.push(sort)?;
+    }
+    Ok(sorts)
+}
+
+/// The sort of what is given.
+pub(crate) fn callee_result(sig: &Signature, callee: Callee) -> SortId
+    requires inside { IsCallee sig.now callee }
+    ensures value { result ≡ callee_result sig.now callee }
+{
+    match callee {
+        Callee::Symbol(symbol) => result_sort(sig, symbol),
+        Callee::Tester(_) | Callee::Connective(_) => BOOL,
+    }
+}

@@ -1,0 +1,70 @@
+//! Names that stand alone.
+ghost use Rattle.std.specs.Prelude.{◌≡◌};
+ghost use Rattle.ct_sexpr.specs.View.{expression_of};
+ghost use Rattle.ct_sorts.specs.Lookup.{IsSymbol};
+ghost use Rattle.ct_check.specs.Answer.{Answers};
+ghost use Rattle.ct_check.specs.Bounds.{scope_of};
+ghost use Rattle.ct_check.specs.Parts.{name_of};
+ghost use Rattle.ct_check.specs.Symbols.{symbol_of};
+ghost use Rattle.ct_check.specs.Elaboration.{part_of, lone, lone_global, lone_symbol};
+ghost use Rattle.ct_check.specs.Trees.{sorted_of};
+
+use crate::atoms::name_of;
+use crate::error::CheckError;
+use crate::refusals::{OUT_OF_SCOPE, UNKNOWN_SYMBOL, WRONG_COUNT};
+use crate::symbols::{argument_count, operator_of, result_sort, symbol_named};
+use crate::trees::symbol_tree;
+use crate::variables::{Bound, find};
+use ct_sexpr::Sexpr;
+use ct_sorts::{Signature, SortId, Symbol};
+use ct_terms::Tree;
+use std::alloc::Global;
+
+/// An expression that is no list: a name.
+pub(crate) fn lone(
+    alloc: Global,
+    sig: &Signature,
+    variables: &[Bound],
+    expr: &Sexpr,
+) -> Result<(Tree, SortId), CheckError>
+    ensures value { Answers sorted_of (lone sig.now (scope_of variables.now) (name_of
+        (part_of sig.now (expression_of expr.now)))) result }
+{
+    let Some(name) = name_of(expr) else {
+        return Err(CheckError::Refused(OUT_OF_SCOPE));
+    };
+    match find(variables, name) {
+        Some(found) => Ok((Tree::Var(found.number), found.sort)),
+        None => lone_global(alloc, sig, name),
+    }
+}
+
+// A name that is no variable.
+fn lone_global(alloc: Global, sig: &Signature, name: &[u8]) -> Result<(Tree, SortId), CheckError>
+    ensures value { Answers sorted_of (lone_global sig.now name.now (symbol_of sig.now name.now))
+        result }
+{
+    match symbol_named(sig, name) {
+        Some(symbol) => lone_symbol(alloc, sig, symbol),
+        None => match operator_of(name) {
+            Some(_) => Err(CheckError::Refused(WRONG_COUNT)),
+            None => Err(CheckError::Refused(UNKNOWN_SYMBOL)),
+        },
+    }
+}
+
+/// A symbol without arguments.
+pub(crate) fn lone_symbol(
+    alloc: Global,
+    sig: &Signature,
+    symbol: Symbol,
+) -> Result<(Tree, SortId), CheckError>
+    requires inside { IsSymbol sig.now symbol }
+    ensures value { Answers sorted_of (lone_symbol sig.now symbol) result }
+{
+    if argument_count(sig, symbol) != 0 {
+        return Err(CheckError::Refused(WRONG_COUNT));
+    }
+    let sort = result_sort(sig, symbol);
+    Ok((symbol_tree(alloc, symbol, Vec::new(alloc))?, sort))
+}

@@ -1,0 +1,54 @@
+//! The sort that an expression names, and the formula that it writes.
+ghost use Rattle.std.specs.Prelude.{◌≡◌, ℕ, Ok, Err, IfOk, IfErr, IsErrOf};
+ghost use Rattle.ct_sexpr.specs.View.{expression_of};
+ghost use Rattle.ct_terms.specs.TreeFormula.{formula_of};
+ghost use Rattle.ct_check.specs.Bounds.{parameters};
+ghost use Rattle.ct_check.specs.Elaboration.{elaborated, sort_of};
+
+use crate::atoms::named_sort;
+use crate::error::CheckError;
+use crate::scope::{Param, Scope};
+use crate::terms::term;
+use crate::variables::parameters;
+use ct_sexpr::Sexpr;
+use ct_sorts::SortId;
+use ct_terms::Tree;
+use std::alloc::Global;
+
+/// The sort that an expression names (SMT-LIB 2.7, section 3.5). It is refused with 28 where the
+/// expression is no name, and with 12 where no sort has the name. It takes no memory.
+pub fn sort_of(scope: &Scope, expr: &Sexpr) -> Result<SortId, CheckError>
+    ensures ok { IfOk result (λ s. sort_of scope.now.sig (expression_of expr.now) ≡ Ok s) }
+    ensures refused { (n : ℕ) → IsErrOf result (CheckError.Refused n)
+        → sort_of scope.now.sig (expression_of expr.now) ≡ Err n }
+    ensures memory { IfErr result (λ e. e ≡ CheckError.NoMemory → ⊥) }
+{
+    named_sort(&scope.sig, expr)
+}
+
+/// The tree of an expression under parameters, with its sort (SMT-LIB 2.7, section 3.6; the details
+/// of `match` and of `as` are this project's own).
+///
+/// It is refused with the number of its first error, from left to right: 12 unknown sort, 21
+/// unknown symbol, 22 wrong number of arguments, 23 wrong sort, 25 pattern of another sort, 26
+/// `match` not exhaustive, 27 variable repeated, 28 form out of scope. Or memory runs out.
+///
+/// The time is linear in the expression but for its names and its cases: a name is looked for among
+/// the variables in scope from the innermost outwards, each `let` and each case copies the list of
+/// these, the names that one of them binds are compared with one another, and each constructor of
+/// the sort of a `match` is looked for among its patterns.
+pub fn elaborate(
+    alloc: Global,
+    scope: &Scope,
+    params: &[Param],
+    expr: &Sexpr,
+) -> Result<(Tree, SortId), CheckError>
+    ensures ok { IfOk result (λ t.
+        elaborated scope.now.sig (parameters params.now) (expression_of expr.now) ≡ Ok
+        (formula_of t.0, t.1)) }
+    ensures refused { (n : ℕ) → IsErrOf result (CheckError.Refused n)
+        → elaborated scope.now.sig (parameters params.now) (expression_of expr.now) ≡ Err n }
+{
+    let variables = parameters(alloc, params)?;
+    term(alloc, &scope.sig, variables.as_slice(), expr)
+}

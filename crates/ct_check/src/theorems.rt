@@ -1,0 +1,43 @@
+//! What follows from the definition of elaboration.
+ghost use Rattle.std.specs.Prelude.{◌≡◌, List, [], map, length, Ok};
+ghost use Rattle.ct_sexpr.specs.Expression.{Expression};
+ghost use Rattle.ct_sorts.specs.declared.ids.SortId.{SortId};
+ghost use Rattle.ct_sorts.specs.Consistent.{IsConsistent};
+ghost use Rattle.ct_sorts.specs.Declarations.{Declarations};
+ghost use Rattle.ct_terms.specs.Formula.{Formula, MentionsBelow, bind};
+ghost use Rattle.ct_terms.specs.FormulaSorts.{IsSorted};
+ghost use Rattle.ct_check.specs.declared.scope.Param.{Param};
+ghost use Rattle.ct_check.specs.Bounds.{parameters};
+ghost use Rattle.ct_check.specs.Elaboration.{elaborated};
+ghost use Rattle.ct_check.specs.Variables.{Variable, variable_sorts};
+
+use ct_sorts::{naming, structure};
+use ct_terms::formulas;
+
+/// The theorems on elaboration, for whoever speaks of its formulas. The function does nothing.
+///
+/// Over consistent declarations the formula of an expression is well sorted where its variables have
+/// their sorts, and so it names declared definitions alone.
+pub fn elaboration()
+    ensures sorted { (d : Declarations) (scope : List Variable) (e : Expression) (t : Formula)
+        (sort : SortId)
+        → IsConsistent d
+        → elaborated d scope e ≡ Ok (t, sort)
+        → IsSorted d (variable_sorts scope) t sort }
+    ensures mentions { (d : Declarations) (scope : List Variable) (e : Expression) (t : Formula)
+        (sort : SortId)
+        → IsConsistent d
+        → elaborated d scope e ≡ Ok (t, sort)
+        → MentionsBelow (length d.definitions) t }
+
+    // The formula of an expression under parameters, and of one without variables.
+    ensures body { (d : Declarations) (params : List Param) (e : Expression) (t : Formula)
+        (sort : SortId)
+        → IsConsistent d
+        → elaborated d (parameters params) e ≡ Ok (t, sort)
+        → IsSorted d (bind (map (λ (p : Param). p.sort) params) []) t sort }
+{
+    structure();
+    naming();
+    formulas();
+}

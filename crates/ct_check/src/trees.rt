@@ -1,0 +1,117 @@
+//! Trees of symbols, testers and operators with their arguments.
+ghost use Rattle.std.specs.Prelude.{◌≡◌, ◌∷◌, [], List, MatchOption, IfOk, IfErr};
+ghost use Rattle.ct_terms.specs.declared.tree.Tree.{Tree};
+ghost use Rattle.ct_terms.specs.TreeFormula.{formula_of, formulas_of_trees};
+ghost use Rattle.ct_check.specs.Symbols.{applied};
+ghost use Rattle.ct_check.specs.Elaboration.{connected};
+ghost use Rattle.ct_check.specs.Callees.{callee_formula, test_of};
+
+use crate::callees::Callee;
+use crate::error::CheckError;
+use crate::operator::Operator;
+use ct_sorts::{CtorId, SelId, Symbol};
+use ct_terms::Tree;
+use std::alloc::Global;
+
+/// What takes arguments of stated sorts, with its arguments.
+pub(crate) fn callee_tree(
+    alloc: Global,
+    callee: Callee,
+    args: Vec<Tree>,
+) -> Result<Tree, CheckError>
+    ensures ok { IfOk result (λ t. formula_of t ≡ callee_formula callee
+        (formulas_of_trees args.items)) }
+    ensures err { IfErr result (λ e. e ≡ CheckError.NoMemory) }
+{
+    match callee {
+        Callee::Symbol(symbol) => symbol_tree(alloc, symbol, args),
+        Callee::Tester(c) => test(alloc, c, args),
+        Callee::Connective(operator) => operator_tree(alloc, operator, args),
+    }
+}
+
+/// A symbol with its arguments.
+pub(crate) fn symbol_tree(
+    alloc: Global,
+    symbol: Symbol,
+    args: Vec<Tree>,
+) -> Result<Tree, CheckError>
+    ensures ok { IfOk result (λ t. formula_of t ≡ applied symbol (formulas_of_trees args.items)) }
+    ensures err { IfErr result (λ e. e ≡ CheckError.NoMemory) }
+{
+    match symbol {
+        Symbol::Ctor(c) => Ok(Tree::Con(c, args)),
+        Symbol::Sel(s) => selection(alloc, s, args),
+        Symbol::Fun(f) => Ok(Tree::Apply(f, args)),
+        Symbol::Def(k) => Ok(Tree::Def(k, args)),
+    }
+}
+
+/// An operator with its arguments, but for `ite`.
+pub(crate) fn operator_tree(
+    alloc: Global,
+    operator: Operator,
+    args: Vec<Tree>,
+) -> Result<Tree, CheckError>
+    ensures ok { IfOk result (λ t. formula_of t ≡ connected operator
+        (formulas_of_trees args.items)) }
+    ensures err { IfErr result (λ e. e ≡ CheckError.NoMemory) }
+{
+    match operator {
+        Operator::Not => negation(alloc, args),
+        Operator::And => Ok(Tree::And(args)),
+        Operator::Or => Ok(Tree::Or(args)),
+        Operator::Xor => Ok(Tree::Xor(args)),
+        Operator::Implies => Ok(Tree::Implies(args)),
+        Operator::Equal => Ok(Tree::Equal(args)),
+        Operator::Distinct => Ok(Tree::Distinct(args)),
+        Operator::Ite => Ok(Tree::And(args)),
+    }
+}
+
+// A field of the one argument.
+fn selection(alloc: Global, s: SelId, args: Vec<Tree>) -> Result<Tree, CheckError>
+    ensures ok { IfOk result (λ t. formula_of t ≡ applied (Symbol.Sel s)
+        (formulas_of_trees args.items)) }
+    ensures err { IfErr result (λ e. e ≡ CheckError.NoMemory) }
+{
+    match first_of(args) {
+        Some(t) => Ok(Tree::Sel(s, Box::new(alloc, t)?)),
+        None => Ok(Tree::Con(CtorId(0), Vec::new(alloc))),
+    }
+}
+
+// A test of the one argument.
+fn test(alloc: Global, c: CtorId, args: Vec<Tree>) -> Result<Tree, CheckError>
+    ensures ok { IfOk result (λ t. formula_of t ≡ test_of c (formulas_of_trees args.items)) }
+    ensures err { IfErr result (λ e. e ≡ CheckError.NoMemory) }
+{
+    match first_of(args) {
+        Some(t) => Ok(Tree::Test(c, Box::new(alloc, t)?)),
+        None => Ok(Tree::And(Vec::new(alloc))),
+    }
+}
+
+// A negation of the one argument.
+fn negation(alloc: Global, args: Vec<Tree>) -> Result<Tree, CheckError>
+    ensures ok { IfOk result (λ t. formula_of t ≡ connected Operator.Not
+        (formulas_of_trees args.items)) }
+    ensures err { IfErr result (λ e. e ≡ CheckError.NoMemory) }
+{
+    match first_of(args) {
+        Some(t) => Ok(Tree::Not(Box::new(alloc, t)?)),
+        None => Ok(Tree::And(Vec::new(alloc))),
+    }
+}
+
+// The first of the trees.
+fn first_of(args: Vec<Tree>) -> Option<Tree>
+    ensures first { MatchOption result (args.items ≡ []) (λ t. (rest : List Tree) × (args.items
+        ≡ t ∷ rest)) }
+{
+    let mut args = args;
+    if args.is_empty() {
+        return None;
+    }
+    Some(args.remove(0))
+}

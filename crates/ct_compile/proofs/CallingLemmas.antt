@@ -1,0 +1,186 @@
+-- What is known of calls: it stays true as the table grows, and with one call more.
+use Rattle.std.proofs.Common.{◌≡◌, ◌⊎◌, ℕ, suc, ◌≤◌, Bool, true, false, List, [], ◌∷◌, length, Contains, Result, Ok, Err, Some, slice_get, OnOk, refl, sym, ap, ap₂, subst, ◌∙◌, inl, inr, arith, true≢false}
+use Rattle.std.specs.List.{AllZip}
+use Rattle.std.proofs.lemmas.Option.{none-some, same_Some}
+use Rattle.std.specs.Map.{lookup}
+use Rattle.indexmap.specs.IndexMap.{IndexMap, get}
+use Rattle.ct_sorts.specs.declared.ids.DefId.{DefId}
+use Rattle.ct_sorts.specs.declared.ids.SortId.{SortId}
+use Rattle.ct_sorts.specs.Declarations.{Declarations}
+use Rattle.ct_terms.specs.declared.ids.TermId.{TermId}
+use Rattle.ct_terms.specs.Terms.{Terms}
+use Rattle.ct_terms.specs.CoreTree.{CoreTree, subtrees}
+use Rattle.ct_terms.specs.Formula.{Formula, Formulas, Def}
+use Rattle.ct_terms.specs.FormulaSorts.{AreSound}
+use Rattle.ct_terms.specs.Compiled.{compiled, compiled_all}
+use Rattle.ct_terms.specs.Occurrence.{count_of, uses_below, AreBoundSame}
+use Rattle.ct_compile.specs.declared.bound.Bound.{Bound}
+use Rattle.ct_compile.specs.declared.bound.Bound.TheVariants.{Term, Field, Absent}
+use Rattle.ct_compile.specs.declared.known.Called.{Called}
+use Rattle.ct_compile.specs.Effect.{Stands, IsKept, IsPrefix, Within, Effect}
+use Rattle.ct_compile.specs.Ready.{given, IsBound, IsReady}
+use Rattle.ct_compile.specs.Marks.{listed, HaveRows}
+use Rattle.ct_compile.specs.Binding.{IsBoundAs, Binds}
+use Rattle.ct_compile.specs.Calling.{same_call, terms_of, call_of, IsRecalled, IsState}
+use Rattle.ct_compile.proofs.EffectLemmas.{stands_stays}
+use Rattle.ct_compile.proofs.WithinLemmas.{Contains-first, within_subtrees}
+use Rattle.ct_compile.proofs.ReadyLemmas.{bounds_stay}
+use Rattle.ct_compile.proofs.OperatorLemmas.{stands_as}
+use Rattle.ct_compile.proofs.BindLemmas.{zip_length}
+use Rattle.ct_compile.proofs.DefinitionLemmas.{given_is, fewer_rows}
+use Rattle.ct_compile.proofs.UnderLemmas.{Under, count_sorted, count_terms, call_view}
+
+-- ---- tables that grow
+
+pub recalled_stays : (d : Declarations) (bodies : List Formula) (rows : List (List Bool)) (old new : Terms) (call : Called) (t : TermId) → IsPrefix old new → IsKept d new → IsRecalled d bodies rows old call t → IsRecalled d bodies rows new call t
+recalled_stays d bodies rows old new call t grown kept h = record {
+  bounds = h.bounds;
+  trees = h.trees;
+  row = h.row;
+  args = h.args;
+  at = h.at;
+  flags = h.flags;
+  stand = bounds_stay d old new h.bounds h.trees grown kept h.stand;
+  stands = stands_stays d old new t (given d bodies (suc call.definition.0) call.definition h.trees) grown kept h.stands;
+}
+
+module _ {S : Type 0} (d : Declarations) (bodies : List Formula) (rows : List (List Bool)) where
+  pub state_stays : (n : ℕ) (old new : Terms) (known : IndexMap Called TermId S) → IsPrefix old new → IsKept d new → IsState d bodies n rows old known → IsState d bodies n rows new known
+  state_stays n old new known grown kept h = record {
+    have = h.have;
+    recalls = λ call t at. recalled_stays d bodies rows old new call t grown kept (h.recalls call t at);
+  }
+
+  -- where subterms of a tree are made, or the tree
+  pub state_within : (n : ℕ) (old new : Terms) (known : IndexMap Called TermId S) (full : Type 0) (tree : CoreTree) → ((allowed : List CoreTree) → Within allowed tree → Effect d allowed old new full) → IsState d bodies n rows old known → IsState d bodies n rows new known
+  state_within n old new known full tree effect h = let e = effect (subtrees tree) (within_subtrees tree) in state_stays n old new known e.grown e.kept h
+
+  pub state_made : (n : ℕ) (old new : Terms) (known : IndexMap Called TermId S) (full : Type 0) (tree : CoreTree) → ((allowed : List CoreTree) → Contains allowed tree → Effect d allowed old new full) → IsState d bodies n rows old known → IsState d bodies n rows new known
+  state_made n old new known full tree effect h = let e = effect (tree ∷ []) (Contains-first tree []) in state_stays n old new known e.grown e.kept h
+
+  -- for the definitions below a smaller number
+  pub state_below : (m n : ℕ) (table : Terms) (known : IndexMap Called TermId S) → AreSound d bodies → m ≤ n → IsState d bodies n rows table known → IsState d bodies m rows table known
+  state_below m n table known sound less h = record {
+    have = fewer_rows d bodies m n rows sound less h.have;
+    recalls = h.recalls;
+  }
+
+  -- and back, with the rows that there were
+  pub state_back : (m n : ℕ) (old table : Terms) (before known : IndexMap Called TermId S) → IsState d bodies n rows old before → IsState d bodies m rows table known → IsState d bodies n rows table known
+  state_back m n old table before known h k = record { have = h.have; recalls = k.recalls }
+
+  -- one call more
+  pub state_with : (n : ℕ) (table : Terms) (known more : IndexMap Called TermId S) (call : Called) (t : TermId) → IsState d bodies n rows table known → IsRecalled d bodies rows table call t → ((other : Called) (u : TermId) → get same_call more other ≡ Some u → (get same_call known other ≡ Some u) ⊎ ((other ≡ call) × (u ≡ t))) → IsState d bodies n rows table more
+  state_with n table known more call t h is only = record {
+    have = h.have;
+    recalls = λ other u at. elim (only other u at) [
+      | inl before ↦ h.recalls other u before
+      | inr new ↦ subst (λ (x : Called). IsRecalled d bodies rows table x u) (sym new.0) (subst (IsRecalled d bodies rows table call) (sym new.1) is)
+    ];
+  }
+
+-- ---- what a call is known to give
+
+-- flags and terms say what is bound
+same_bounds : (flags : List Bool) (bs cs : List Bound) → AllZip IsBoundAs flags bs → AllZip IsBoundAs flags cs → terms_of bs ≡ terms_of cs → bs ≡ cs
+same_bounds [] [] [] h k e = refl
+same_bounds [] [] (c ∷ cs) h k e = absurd k
+same_bounds [] (b ∷ bs) cs h k e = absurd h
+same_bounds (f ∷ fs) [] cs h k e = absurd h
+same_bounds (f ∷ fs) (b ∷ bs) [] h k e = absurd k
+same_bounds (true ∷ fs) (Term s ∷ bs) (Term t ∷ cs) h k e =
+    ap₂ (λ (x : TermId) (xs : List Bound). Term x ∷ xs) (first e) (same_bounds fs bs cs h.1 k.1 (rest e))
+  where
+    first : {xs ys : List TermId} → s ∷ xs ≡ t ∷ ys → s ≡ t
+    first e = cc
+
+    rest : {xs ys : List TermId} → s ∷ xs ≡ t ∷ ys → xs ≡ ys
+    rest e = cc
+same_bounds (true ∷ fs) (Term s ∷ bs) (Field r t ∷ cs) h k e = absurd k.0
+same_bounds (true ∷ fs) (Term s ∷ bs) (Absent ∷ cs) h k e = absurd k.0
+same_bounds (true ∷ fs) (Field r s ∷ bs) (c ∷ cs) h k e = absurd h.0
+same_bounds (true ∷ fs) (Absent ∷ bs) (c ∷ cs) h k e = absurd h.0
+same_bounds (false ∷ fs) (Term s ∷ bs) (c ∷ cs) h k e = absurd h.0
+same_bounds (false ∷ fs) (Field r s ∷ bs) (c ∷ cs) h k e = absurd h.0
+same_bounds (false ∷ fs) (Absent ∷ bs) (Term t ∷ cs) h k e = absurd k.0
+same_bounds (false ∷ fs) (Absent ∷ bs) (Field r t ∷ cs) h k e = absurd k.0
+same_bounds (false ∷ fs) (Absent ∷ bs) (Absent ∷ cs) h k e = ap (λ (xs : List Bound). Absent ∷ xs) (same_bounds fs bs cs h.1 k.1 e)
+
+-- what is bound to a variable that occurs has one tree
+one_tree : (table : Terms) (f : Bool) (b : Bound) (x y : CoreTree) → IsBoundAs f b → IsBound table b x → IsBound table b y → f ≡ true → x ≡ y
+one_tree table true (Term t) x y marked_as h k e = sym h.1 ∙ k.1
+one_tree table true (Field s t) x y marked_as h k e = absurd marked_as
+one_tree table true Absent x y marked_as h k e = absurd marked_as
+one_tree table false b x y marked_as h k e = absurd (true≢false (sym e))
+
+bound_same : (table : Terms) (p : ℕ → Bool) (bs : List Bound) (us vs : List CoreTree) → AllZip IsBoundAs (listed p (length bs)) bs → AllZip (IsBound table) bs us → AllZip (IsBound table) bs vs → AreBoundSame p us vs
+bound_same table p [] [] [] marked_as h k = tt
+bound_same table p [] [] (v ∷ vs) marked_as h k = absurd k
+bound_same table p [] (u ∷ us) vs marked_as h k = absurd h
+bound_same table p (b ∷ bs) [] vs marked_as h k = absurd h
+bound_same table p (b ∷ bs) (u ∷ us) [] marked_as h k = absurd k
+bound_same table p (b ∷ bs) (u ∷ us) (v ∷ vs) marked_as h k = (
+  λ e. one_tree table (p (length bs)) b u v marked_as.0 h.0 k.0 (ap p (zip_length (IsBound table) bs us h.1) ∙ e),
+  bound_same table p bs us vs marked_as.1 h.1 k.1,
+)
+
+same_definition : (call : Called) (k : DefId) (bs : List Bound) → call ≡ call_of k bs → call.definition ≡ k
+same_definition call k bs e = ap (λ (c : Called). c.definition) e
+
+module _ (d : Declarations) (bodies : List Formula) (n : ℕ) (rows : List (List Bool)) (old : Terms) (env : List Bound) (k : DefId) (ts : Formulas) (row : List Bool) (at_row : slice_get rows k.0 ≡ Some row) (body : Formula) (at : slice_get bodies k.0 ≡ Some body) (have : HaveRows d (uses_below d bodies n) n rows) where
+  -- the row says which parameters occur
+  pub row_is : (trees : List CoreTree) (sorts : List SortId) (sort : SortId) → IsReady d bodies old n env (Def k ts) trees sorts sort → row ≡ listed (uses_below d bodies n k) (count_of ts)
+  row_is trees sorts sort h =
+      same_Some _ _ (sym at_row ∙ have k h.sorted.0 h.mentions.0 h.sorted.1)
+      ∙ ap (listed (uses_below d bodies n k)) (sym (count_sorted d sorts ts h.sorted.0.args h.sorted.2))
+
+  pub call_under : (trees : List CoreTree) (sorts : List SortId) (sort : SortId) → IsReady d bodies old n env (Def k ts) trees sorts sort → Under d bodies n k.0 old env [] row (Def k ts) ts body trees sorts sort
+  call_under trees sorts sort h = call_view d bodies n old env row k ts body at (row_is trees sorts sort h) trees sorts sort h
+
+  abbrev parts : List CoreTree → List CoreTree
+  parts trees = compiled_all d (given d bodies n) trees ts
+
+  module _ (mid : Terms) (bs : List Bound) (all : Binds d bodies n old mid env row ts (Ok bs)) where
+    -- a known term is that of the call
+    pub known_stands : (t : TermId) → IsRecalled d bodies rows mid (call_of k bs) t → (trees : List CoreTree) (sorts : List SortId) (sort : SortId) → IsReady d bodies old n env (Def k ts) trees sorts sort → Stands mid t (compiled d (given d bodies n) trees (Def k ts))
+    known_stands t is trees sorts sort h =
+        let view = call_under trees sorts sort h in
+        let one_row : is.row ≡ row = same_Some is.row row (sym is.at ∙ at_row) in
+        let flags : AllZip IsBoundAs row is.bounds = subst (λ (xs : List Bool). AllZip IsBoundAs xs is.bounds) one_row is.flags in
+        let one : bs ≡ is.bounds = same_bounds row bs is.bounds all.flagged flags (ap (λ (c : Called). c.args) is.args) in
+        let stand : AllZip (IsBound mid) bs is.trees = subst (λ (xs : List Bound). AllZip (IsBound mid) xs is.trees) (sym one) is.stand in
+        let core = all.core trees sorts view.each view.binding in
+        let count : count_of ts ≡ length bs = sym (count_terms d (given d bodies n) trees ts) ∙ sym (zip_length (IsBound mid) bs (parts trees) core) in
+        let marked_as : AllZip IsBoundAs (listed (uses_below d bodies n k) (length bs)) bs = subst (λ (xs : List Bool). AllZip IsBoundAs xs bs) (row_is trees sorts sort h ∙ ap (listed (uses_below d bodies n k)) count) all.flagged in
+        stands_as mid t _ _
+        (given_is bodies k body at d (suc k.0) is.trees (omega arith)
+        ∙ sym (given_is bodies k body at d n is.trees h.mentions.0)
+        ∙ sym (h.setting.kept.laws.used d bodies n k (parts trees) is.trees (bound_same mid (uses_below d bodies n k) bs (parts trees) is.trees marked_as core stand)))
+        is.stands
+
+    -- the term of the call is put down
+    pub call_recalled : (new : Terms) (t : TermId) → IsPrefix mid new → IsKept d new → (trees : List CoreTree) (sorts : List SortId) (sort : SortId) → IsReady d bodies old n env (Def k ts) trees sorts sort → Stands new t (compiled d (given d bodies n) trees (Def k ts)) → IsRecalled d bodies rows new (call_of k bs) t
+    call_recalled new t grown kept trees sorts sort h stands =
+        let view = call_under trees sorts sort h in
+        record {
+          bounds = bs;
+          trees = parts trees;
+          row = row;
+          args = refl;
+          at = at_row;
+          flags = all.flagged;
+          stand = bounds_stay d mid new bs (parts trees) grown kept (all.core trees sorts view.each view.binding);
+          stands = stands_as new t _ _ (given_is bodies k body at d n (parts trees) h.mentions.0 ∙ sym (given_is bodies k body at d (suc k.0) (parts trees) (omega arith))) stands;
+        }
+
+-- a clause on an answer that is no error
+pub ok_always : {X E : Type 0} (P : Type 0) (r : Result X E) → P → OnOk r P
+ok_always P (Ok x) h = h
+ok_always P (Err e) h = tt
+
+-- nothing is known at first
+pub state_start : {S : Type 0} (d : Declarations) (bodies : List Formula) (n : ℕ) (rows : List (List Bool)) (table : Terms) (known : IndexMap Called TermId S) → known.entries ≡ [] → HaveRows d (uses_below d bodies n) n rows → IsState d bodies n rows table known
+state_start d bodies n rows table known empty have = record {
+  have = have;
+  recalls = λ call t at. absurd (none-some t (sym (ap (lookup (same_call call)) empty) ∙ at));
+}

@@ -1,0 +1,306 @@
+-- Compiling a formula from the formulas under it.
+use Rattle.std.proofs.Common.{◌≡◌, ℕ, ◌<◌, ◌≤◌, Bool, true, false, List, [], ◌∷◌, ◌++◌, length, map, Option, Some, None, Result, Ok, Err, IfOk, IsErrOf, refl, sym, ap, subst, ◌∙◌, arith}
+use Rattle.std.specs.List.{AllByRecursion}
+use Rattle.std.proofs.lemmas.Result.{IfOk-weaker}
+use Rattle.std.proofs.lemmas.List.{append_assoc, append-nil}
+use Rattle.ct_sorts.specs.declared.ids.SortId.{SortId}
+use Rattle.ct_sorts.specs.Declarations.{Declarations}
+use Rattle.ct_terms.specs.declared.ids.TermId.{TermId}
+use Rattle.ct_terms.specs.declared.error.TermError.{TermError}
+use Rattle.ct_terms.specs.declared.error.TermError.TheVariants.{Full, NoMemory}
+use Rattle.ct_terms.specs.Terms.{Terms}
+use Rattle.ct_terms.specs.CoreTree.{CoreTree, subtrees, term_at}
+use Rattle.ct_terms.specs.Formula.{Formula, Formulas, no_formulas, with_formula}
+use Rattle.ct_terms.specs.Compiled.{compiled, compiled_all}
+use Rattle.ct_compile.specs.declared.bound.Bound.{Bound}
+use Rattle.ct_terms.specs.Occurrence.{count_of}
+use Rattle.ct_compile.specs.Effect.{Stands, AllStand, IsKept, Within, AllWithin, IsPrefix, Effect}
+use Rattle.ct_compile.specs.Following.{leading, IsLeading, IsFollowing, MayFollow, Follows}
+use Rattle.ct_compile.specs.declared.operator.Operator.{Operator}
+use Rattle.ct_compile.specs.Forms.{is_plain, children_of, operator_for, combined, AreOperands}
+use Rattle.ct_compile.specs.Weight.{weight, weights, weights_below}
+use Rattle.ct_compile.specs.Ready.{given, IsReady, AreReady, AreUnder, MayCompile, MayCompileAll, Compiles, CompilesAll}
+use Rattle.ct_compile.proofs.EffectLemmas.{stands_stays, all_stay, effect_none, effect_then, effect_because}
+use Rattle.ct_compile.proofs.WithinLemmas.{within_subtrees}
+use Rattle.ct_compile.proofs.OperatorLemmas.{stands_as}
+use Rattle.ct_compile.proofs.ReadyLemmas.{children_ready, compiled_plain, first_ready, rest_ready, all_ready_stay}
+use Rattle.ct_compile.proofs.PlainLemmas.{operands_of, within_plain, all_trees, all_below}
+
+-- one error, of answers of two types
+pub same_error : {X Y : Type 0} (e f : TermError) → IsErrOf {T = X} {E = TermError} (Err e) f → IsErrOf {T = Y} {E = TermError} (Err e) f
+same_error {X} {Y} e f is = ap (λ (y : TermError). Err y) (inner is)
+  where
+    inner : IsErrOf {T = X} {E = TermError} (Err e) f → e ≡ f
+    inner is = cc
+
+-- nothing done, out of memory
+pub compiles_nothing : (d : Declarations) (bodies : List Formula) (n : ℕ) (table : Terms) (env : List Bound) (t : Formula) (e : TermError) → e ≡ NoMemory → Compiles d bodies n table table env t (Err e)
+compiles_nothing d bodies n table env t e is = record {
+  core = λ trees sorts sort h. tt;
+  effect = λ trees sorts sort allowed h w. effect_none d allowed table (IsErrOf (Err e) Full) h.setting.kept (λ x. cc);
+}
+
+-- where a formula is compiled the table grows, and is kept
+pub compiles_grown : (d : Declarations) (bodies : List Formula) (n : ℕ) (old new : Terms) (env : List Bound) (t : Formula) (r : Result TermId TermError) → MayCompile d bodies old n env t → Compiles d bodies n old new env t r → IsPrefix old new × IsKept d new
+compiles_grown d bodies n old new env t r may one =
+    let core = compiled d (given d bodies n) may.0 t in
+    let e = one.effect may.0 may.1 may.2 (subtrees core) may.3 (within_subtrees core) in
+    (e.grown, e.kept)
+
+-- ---- operators
+
+module _ (d : Declarations) (bodies : List Formula) (n : ℕ) (old : Terms) (env : List Bound) (t : Formula) (ts : Formulas) (plain : is_plain t ≡ true) (o : Operator) (is_operator : operator_for t ≡ o) (under : children_of t ≡ ts) where
+  -- the core terms under it, and its own over them
+  abbrev parts : List CoreTree → List CoreTree
+  parts trees = compiled_all d (given d bodies n) trees ts
+
+  operands : (trees : List CoreTree) (sorts : List SortId) (sort : SortId) → IsReady d bodies old n env t trees sorts sort → AreOperands d o (parts trees)
+  operands trees sorts sort h = subst (λ (us : Formulas). AreOperands d o (compiled_all d (given d bodies n) trees us)) under (subst (λ (x : Operator). AreOperands d x (compiled_all d (given d bodies n) trees (children_of t))) is_operator (operands_of d bodies old n env trees sorts t sort plain h))
+
+  are_under : (trees : List CoreTree) (sorts : List SortId) (sort : SortId) → IsReady d bodies old n env t trees sorts sort → (each : List SortId) × AreUnder d bodies old n env o ts trees sorts each
+  are_under trees sorts sort h =
+      let all = children_ready d bodies old n env trees sorts t sort plain h in (
+        all.0,
+        record {
+          ready = subst (λ (us : Formulas). AreReady d bodies old n env us trees sorts all.0) under all.1;
+          operands = operands trees sorts sort h;
+        },
+      )
+
+  pub plain_children : MayCompile d bodies old n env t → MayCompileAll d bodies old n env o ts
+  plain_children may = let under = are_under may.0 may.1 may.2 may.3 in (may.0, may.1, under.0, under.1)
+
+  whole_is : (trees : List CoreTree) → compiled d (given d bodies n) trees t ≡ combined d o (parts trees)
+  whole_is trees = compiled_plain d bodies n trees t plain ∙ ap (λ (x : Operator). combined d x (compiled_all d (given d bodies n) trees (children_of t))) is_operator ∙ ap (λ (us : Formulas). combined d o (compiled_all d (given d bodies n) trees us)) under
+
+  -- where a formula under it fails
+  pub plain_failed : (new : Terms) (e : TermError) → CompilesAll d bodies n old new env o ts (Err e) → Compiles d bodies n old new env t (Err e)
+  plain_failed new e all = record {
+    core = λ trees sorts sort h. tt;
+    effect = λ trees sorts sort allowed h w.
+        let ready = are_under trees sorts sort h in
+        effect_because d allowed old new _ _ (same_error e Full) (all.effect trees sorts ready.0 allowed ready.1 (subst (Within allowed) (whole_is trees) w));
+  }
+
+  module _ (mid : Terms) (args : List TermId) (all : CompilesAll d bodies n old mid env o ts (Ok args)) where
+    effect_of : (trees : List CoreTree) (sorts : List SortId) (sort : SortId) → IsReady d bodies old n env t trees sorts sort → Effect d (subtrees (combined d o (parts trees))) old mid (IsErrOf (Ok args) Full)
+    effect_of trees sorts sort h =
+        let ready = are_under trees sorts sort h in
+        all.effect trees sorts ready.0 (subtrees (combined d o (parts trees))) ready.1 (within_subtrees (combined d o (parts trees)))
+
+    stand : (trees : List CoreTree) (sorts : List SortId) (sort : SortId) → IsReady d bodies old n env t trees sorts sort → AllStand mid args (parts trees)
+    stand trees sorts sort h = let ready = are_under trees sorts sort h in all.core trees sorts ready.0 ready.1
+
+    pub plain_kept : MayCompile d bodies old n env t → IsKept d mid
+    plain_kept may = (effect_of may.0 may.1 may.2 may.3).kept
+
+    pub plain_below : MayCompile d bodies old n env t → AllByRecursion (λ u. u.0 < length mid) args
+    plain_below may = all_below mid args (parts may.0) (stand may.0 may.1 may.2 may.3)
+
+    pub plain_operands : MayCompile d bodies old n env t → AreOperands d o (map (term_at mid) args)
+    plain_operands may = subst (AreOperands d o) (sym (all_trees mid args (parts may.0) (stand may.0 may.1 may.2 may.3))) (operands may.0 may.1 may.2 may.3)
+
+    pub plain_made : (new : Terms) (r : Result TermId TermError) → IfOk r (λ u. Stands new u (combined d o (map (term_at mid) args))) → ((allowed : List CoreTree) → Within allowed (combined d o (map (term_at mid) args)) → Effect d allowed mid new (IsErrOf r Full)) → Compiles d bodies n old new env t r
+    plain_made new r core effect = record {
+      core = λ trees sorts sort h.
+          let is = ap (combined d o) (all_trees mid args (parts trees) (stand trees sorts sort h)) ∙ sym (whole_is trees) in
+          IfOk-weaker r _ (λ u. Stands new u (compiled d (given d bodies n) trees t)) (λ u k. stands_as new u _ _ is k) core;
+      effect = λ trees sorts sort allowed h w.
+          let ready = are_under trees sorts sort h in
+          let is = ap (combined d o) (all_trees mid args (parts trees) (stand trees sorts sort h)) ∙ sym (whole_is trees) in
+          effect_then d allowed old mid new _ _ (all.effect trees sorts ready.0 allowed ready.1 (subst (Within allowed) (whole_is trees) w))
+          (effect allowed (subst (Within allowed) (sym is) w));
+    }
+
+-- ---- the formulas under an operator, as far as they are made
+
+all_within_middle : (allowed xs : List CoreTree) (y : CoreTree) (zs : List CoreTree) → AllWithin allowed (xs ++ y ∷ zs) → Within allowed y
+all_within_middle allowed [] y zs w = w.0
+all_within_middle allowed (x ∷ xs) y zs w = all_within_middle allowed xs y zs w.1
+
+all_stand_push : (table : Terms) (ts : List TermId) (us : List CoreTree) (t : TermId) (u : CoreTree) → AllStand table ts us → Stands table t u → AllStand table (ts ++ t ∷ []) (us ++ u ∷ [])
+all_stand_push table [] [] t u h k = (k, tt)
+all_stand_push table [] (v ∷ vs) t u h k = absurd h
+all_stand_push table (s ∷ ss) [] t u h k = absurd h
+all_stand_push table (s ∷ ss) (v ∷ vs) t u h k = (h.0, all_stand_push table ss vs t u h.1 k)
+
+leads_stay : (d : Declarations) (old new : Terms) (o : Operator) (lead : Option TermId) (us : List CoreTree) → IsPrefix old new → IsKept d new → IsLeading old o lead us → IsLeading new o lead us
+leads_stay d old new o None us grown kept h = h
+leads_stay d old new o (Some t) us grown kept h = (h.0, stands_stays d old new t (leading o us) grown kept h.1)
+
+more_length : (us : List CoreTree) (v : CoreTree) → 0 < length (us ++ v ∷ [])
+more_length [] v = omega arith
+more_length (u ∷ us) v = omega arith
+
+-- for these terms of the variables: what is made, and what is left
+pub record CollectsFor (d : Declarations) (bodies : List Formula) (n : ℕ) (old table : Terms) (env : List Bound) (o : Operator) (all : Formulas) (args : List TermId) (lead : Option TermId) (rest : Formulas) (trees : List CoreTree) (sorts : List SortId) : Type 0 where
+  pub each : List SortId
+  pub ready : AreReady d bodies table n env rest trees sorts each
+  pub made : List CoreTree
+  pub stand : AllStand table args made
+  pub leads : IsLeading table o lead made
+  pub same : made ++ compiled_all d (given d bodies n) trees rest ≡ compiled_all d (given d bodies n) trees all
+  pub operands : AreOperands d o (made ++ compiled_all d (given d bodies n) trees rest)
+  pub effect : (allowed : List CoreTree) → Within allowed (combined d o (compiled_all d (given d bodies n) trees all)) → Effect d allowed old table ⊥
+
+pub record Collects (d : Declarations) (bodies : List Formula) (n : ℕ) (old table : Terms) (env : List Bound) (o : Operator) (all : Formulas) (args : List TermId) (lead : Option TermId) (rest : Formulas) : Type 0 where
+  pub may : MayCompileAll d bodies old n env o all
+  pub for : (trees : List CoreTree) (sorts each : List SortId) → AreUnder d bodies old n env o all trees sorts each → CollectsFor d bodies n old table env o all args lead rest trees sorts
+  pub lighter : weights (weights_below bodies n) rest ≤ weights (weights_below bodies n) all
+
+pub collects_start : (d : Declarations) (bodies : List Formula) (n : ℕ) (old : Terms) (env : List Bound) (o : Operator) (all : Formulas) → MayCompileAll d bodies old n env o all → Collects d bodies n old old env o all [] None all
+collects_start d bodies n old env o all may = record {
+  may = may;
+  for = λ trees sorts each h. record {
+    each = each;
+    ready = h.ready;
+    made = [];
+    stand = tt;
+    leads = refl;
+    same = refl;
+    operands = h.operands;
+    effect = λ allowed w. effect_none d allowed old ⊥ h.ready.setting.kept (λ x. x);
+  };
+  lighter = omega arith;
+}
+
+module _ (d : Declarations) (bodies : List Formula) (n : ℕ) (old table : Terms) (env : List Bound) (o : Operator) (all : Formulas) (args : List TermId) (lead : Option TermId) (t : Formula) (more : Formulas) (h : Collects d bodies n old table env o all args lead (with_formula t more)) where
+  -- the next formula may be compiled
+  pub collects_next : MayCompile d bodies table n env t
+  collects_next =
+      let f = h.for h.may.0 h.may.1 h.may.2 h.may.3 in
+      by f.each f.ready
+    where
+      by : (each : List SortId) → AreReady d bodies table n env (with_formula t more) h.may.0 h.may.1 each → MayCompile d bodies table n env t
+      by [] ready = absurd ready.sorted
+      by (s ∷ each) ready = (h.may.0, h.may.1, s, first_ready d bodies table n env h.may.0 h.may.1 t more s each ready)
+
+  pub collects_lighter : weight (weights_below bodies n) t < weights (weights_below bodies n) all
+  collects_lighter = let k = h.lighter in omega (arith, k)
+
+  -- for these terms of the variables: the next tree, those after it, and that it is ready
+  abbrev tree_for : List CoreTree → CoreTree
+  tree_for trees = compiled d (given d bodies n) trees t
+
+  abbrev later_for : List CoreTree → List CoreTree
+  later_for trees = compiled_all d (given d bodies n) trees more
+
+  split : {trees : List CoreTree} {sorts : List SortId} (each : List SortId) → AreReady d bodies table n env (with_formula t more) trees sorts each → (s : SortId) × (others : List SortId) × IsReady d bodies table n env t trees sorts s × AreReady d bodies table n env more trees sorts others
+  split [] ready = absurd ready.sorted
+  split {trees} {sorts} (s ∷ others) ready = (s, others, first_ready d bodies table n env trees sorts t more s others ready, rest_ready d bodies table n env trees sorts t more s others ready)
+
+  tree_within : (trees : List CoreTree) (sorts each : List SortId) (under : AreUnder d bodies old n env o all trees sorts each) (allowed : List CoreTree) → Within allowed (combined d o (compiled_all d (given d bodies n) trees all)) → Within allowed (tree_for trees)
+  tree_within trees sorts each under allowed w =
+      let f = h.for trees sorts each under in
+      all_within_middle allowed f.made (tree_for trees) (later_for trees) (subst (AllWithin allowed) (sym f.same) (within_plain allowed d o (compiled_all d (given d bodies n) trees all) under.operands w))
+
+  -- it fails
+  pub collects_failed : (new : Terms) (e : TermError) → Compiles d bodies n table new env t (Err e) → CompilesAll d bodies n old new env o all (Err e)
+  collects_failed new e one = record {
+    core = λ trees sorts each under. tt;
+    effect = λ trees sorts each allowed under w.
+        let f = h.for trees sorts each under in
+        let s = split f.each f.ready in
+        effect_because d allowed old new _ _ (same_error e Full) (effect_then d allowed old table new ⊥ _ (f.effect allowed w) (one.effect trees sorts s.0 allowed s.2 (tree_within trees sorts each under allowed w)));
+  }
+
+  -- it is made, and what follows it may be
+  module _ (mid : Terms) (u : TermId) (one : Compiles d bodies n table mid env t (Ok u)) where
+    effect_one : (trees : List CoreTree) (sorts each : List SortId) → AreUnder d bodies old n env o all trees sorts each → Effect d (subtrees (tree_for trees)) table mid (IsErrOf (Ok u) Full)
+    effect_one trees sorts each under =
+        let s = split (h.for trees sorts each under).each (h.for trees sorts each under).ready in
+        one.effect trees sorts s.0 (subtrees (tree_for trees)) s.2 (within_subtrees (tree_for trees))
+
+    core_one : (trees : List CoreTree) (sorts each : List SortId) → AreUnder d bodies old n env o all trees sorts each → Stands mid u (tree_for trees)
+    core_one trees sorts each under =
+        let s = split (h.for trees sorts each under).each (h.for trees sorts each under).ready in
+        one.core trees sorts s.0 s.2
+
+    following : (trees : List CoreTree) (sorts each : List SortId) (under : AreUnder d bodies old n env o all trees sorts each) → IsFollowing d mid o lead u (h.for trees sorts each under).made (later_for trees)
+    following trees sorts each under =
+        let f = h.for trees sorts each under in
+        let e = effect_one trees sorts each under in
+        let c = core_one trees sorts each under in
+        record {
+          kept = e.kept;
+          inside = c.0;
+          leads = leads_stay d table mid o lead f.made e.grown e.kept f.leads;
+          operands = subst (λ (v : CoreTree). AreOperands d o (f.made ++ v ∷ later_for trees)) (sym c.1) f.operands;
+        }
+
+    pub collects_follows : MayFollow d mid o lead u
+    collects_follows = ((h.for h.may.0 h.may.1 h.may.2 h.may.3).made, later_for h.may.0, following h.may.0 h.may.1 h.may.2 h.may.3)
+
+    module _ (ends : Bool) (is_end : ends ≡ false → 0 < count_of more) (new : Terms) (r : Result TermId TermError) (next : Follows d mid new o lead u ends r) where
+      later_length : (trees : List CoreTree) (ts : Formulas) → 0 < count_of ts → 0 < length (compiled_all d (given d bodies n) trees ts)
+      later_length trees no_formulas some = absurd (omega (arith, some))
+      later_length trees (with_formula v vs) some = omega arith
+
+      effect_both : (trees : List CoreTree) (sorts each : List SortId) (under : AreUnder d bodies old n env o all trees sorts each) (allowed : List CoreTree) → Within allowed (combined d o (compiled_all d (given d bodies n) trees all)) → Effect d allowed old new (IsErrOf r Full)
+      effect_both trees sorts each under allowed w =
+          let f = h.for trees sorts each under in
+          let s = split f.each f.ready in
+          let c = core_one trees sorts each under in
+          let is : f.made ++ term_at mid u ∷ later_for trees ≡ compiled_all d (given d bodies n) trees all = ap (λ (v : CoreTree). f.made ++ v ∷ later_for trees) c.1 ∙ f.same in
+          effect_then d allowed old mid new _ _
+          (effect_then d allowed old table mid ⊥ _ (f.effect allowed w) (one.effect trees sorts s.0 allowed s.2 (tree_within trees sorts each under allowed w)))
+          (next.effect f.made (later_for trees) allowed (following trees sorts each under) (λ e. later_length trees more (is_end e)) (subst (λ (us : List CoreTree). Within allowed (combined d o us)) (sym is) w))
+
+      -- what follows it fails
+      pub collects_broken : (e : TermError) → r ≡ Err e → CompilesAll d bodies n old new env o all (Err e)
+      collects_broken e is = record {
+        core = λ trees sorts each under. tt;
+        effect = λ trees sorts each allowed under w.
+            effect_because d allowed old new _ _ (λ x. subst (λ (q : Result TermId TermError). IsErrOf q Full) (sym is) (same_error e Full x)) (effect_both trees sorts each under allowed w);
+      }
+
+      -- the table has grown, and is kept
+      pub collects_grown : IsPrefix mid new × IsKept d new
+      collects_grown =
+          let f = h.for h.may.0 h.may.1 h.may.2 h.may.3 in
+          let whole = combined d o (f.made ++ term_at mid u ∷ later_for h.may.0) in
+          let step = next.effect f.made (later_for h.may.0) (subtrees whole) (following h.may.0 h.may.1 h.may.2 h.may.3) (λ e. later_length h.may.0 more (is_end e)) (within_subtrees whole) in
+          (step.grown, step.kept)
+
+      -- what follows it is made
+      pub collects_more : (v : TermId) → r ≡ Ok v → Collects d bodies n old new env o all (args ++ u ∷ []) (Some v) more
+      collects_more v is = record {
+        may = h.may;
+        for = λ trees sorts each under.
+            let f = h.for trees sorts each under in
+            let s = split f.each f.ready in
+            let c = core_one trees sorts each under in
+            let first = effect_one trees sorts each under in
+            let step = next.effect f.made (later_for trees) (subtrees (combined d o (f.made ++ term_at mid u ∷ later_for trees))) (following trees sorts each under) (λ e. later_length trees more (is_end e)) (within_subtrees (combined d o (f.made ++ term_at mid u ∷ later_for trees))) in
+            record {
+              each = s.1;
+              ready = all_ready_stay d bodies mid new n env more trees sorts s.1 step.grown step.kept (all_ready_stay d bodies table mid n env more trees sorts s.1 first.grown first.kept s.3);
+              made = f.made ++ tree_for trees ∷ [];
+              stand = all_stay d mid new (args ++ u ∷ []) (f.made ++ tree_for trees ∷ []) step.grown step.kept (all_stand_push mid args f.made u (tree_for trees) (all_stay d table mid args f.made first.grown first.kept f.stand) c);
+              leads = (
+                more_length f.made (tree_for trees),
+                subst (λ (w : CoreTree). Stands new v (leading o (f.made ++ w ∷ []))) c.1 (subst (λ (q : Result TermId TermError). IfOk q (λ z. Stands new z (leading o (f.made ++ term_at mid u ∷ [])))) is (next.next f.made (later_for trees) (following trees sorts each under))),
+              );
+              same = append_assoc f.made (tree_for trees ∷ []) (later_for trees) ∙ f.same;
+              operands = subst (AreOperands d o) (sym (append_assoc f.made (tree_for trees ∷ []) (later_for trees))) f.operands;
+              effect = λ allowed w. effect_because d allowed old new _ ⊥ (λ x. absurd x) (effect_both trees sorts each under allowed w);
+            };
+        lighter = let k = h.lighter in omega (arith, k);
+      }
+
+-- nothing is left
+pub collects_end : (d : Declarations) (bodies : List Formula) (n : ℕ) (old table : Terms) (env : List Bound) (o : Operator) (all : Formulas) (args : List TermId) (lead : Option TermId) → Collects d bodies n old table env o all args lead no_formulas → CompilesAll d bodies n old table env o all (Ok args)
+collects_end d bodies n old table env o all args lead h = record {
+  core = λ trees sorts each under.
+      let f = h.for trees sorts each under in
+      subst (AllStand table args) (sym (append-nil f.made) ∙ f.same) f.stand;
+  effect = λ trees sorts each allowed under w.
+      effect_because d allowed old table ⊥ (IsErrOf (Ok args) Full) (λ x. cc) ((h.for trees sorts each under).effect allowed w);
+}
+
+-- there is no memory for one more
+pub collects_out : (d : Declarations) (bodies : List Formula) (n : ℕ) (old table : Terms) (env : List Bound) (o : Operator) (all : Formulas) (args : List TermId) (lead : Option TermId) (rest : Formulas) → Collects d bodies n old table env o all args lead rest → (e : TermError) → e ≡ NoMemory → CompilesAll d bodies n old table env o all (Err e)
+collects_out d bodies n old table env o all args lead rest h e is = record {
+  core = λ trees sorts each under. tt;
+  effect = λ trees sorts each allowed under w. effect_because d allowed old table ⊥ _ (λ x. cc) ((h.for trees sorts each under).effect allowed w);
+}

@@ -1,0 +1,57 @@
+-- A closed formula over a sound scope is ready to be compiled.
+use Rattle.std.proofs.Common.{Bool, ◌≡◌, ◌≤◌, Contains, ℕ, suc, List, [], ◌∷◌, length, map, Some, slice_get, refl, subst, sym, ap, ◌∙◌}
+use Rattle.std.proofs.lemmas.Option.{none-some}
+use Rattle.ct_sorts.specs.declared.ids.SortId.{SortId}
+use Rattle.ct_sorts.specs.Declarations.{Declarations}
+use Rattle.ct_sorts.specs.Consistent.{IsConsistent}
+use Rattle.ct_terms.specs.declared.ids.TermId.{TermId}
+use Rattle.ct_terms.specs.declared.tree.Tree.{Tree}
+use Rattle.ct_terms.specs.Terms.{Terms, AreSorted as AreSortedTerms, AreOrdered, AreSingle}
+use Rattle.ct_terms.specs.CoreTree.{CoreTree, subtrees, term_at}
+use Rattle.ct_terms.specs.Formula.{Formula, MentionsBelow}
+use Rattle.ct_terms.specs.FormulaSorts.{IsSorted, AreSound}
+use Rattle.ct_terms.specs.TreeFormula.{formula_of}
+use Rattle.ct_compile.specs.declared.bound.Bound.{Bound}
+use Rattle.ct_terms.specs.Occurrence.{uses_below}
+use Rattle.ct_compile.specs.Marks.{HaveRows, MayMark}
+use Rattle.ct_compile.specs.Laws.{Laws}
+use Rattle.ct_compile.specs.Effect.{Stands, IsKept}
+use Rattle.ct_compile.specs.Ready.{IsReady}
+
+-- a list of formulas is as long as that of their trees
+map_length : (ts : List Tree) → length (map formula_of ts) ≡ length ts
+map_length [] = refl
+map_length (t ∷ ts) = ap suc (map_length ts)
+
+pub all_below : (ts : List Tree) (n : ℕ) → n ≡ length ts → n ≡ length (map formula_of ts)
+all_below ts n e = e ∙ sym (map_length ts)
+
+pub entry_ready : (laws : Laws) (d : Declarations) (bodies : List Formula) (table : Terms) (n : ℕ) (t : Formula) (sort : SortId) → IsConsistent d → AreSound d bodies → AreSortedTerms d table → AreOrdered table → AreSingle table → n ≡ length bodies → IsSorted d [] t sort → IsReady d bodies table n [] t [] [] sort
+entry_ready laws d bodies table n t sort consistent sound sorted ordered single is h = record {
+  setting = record {
+    consistent = consistent;
+    sound = sound;
+    kept = record { laws = laws; sorted = sorted; ordered = ordered; single = single };
+    bound = tt;
+    fitting = tt;
+  };
+  mentions = subst (λ (m : ℕ). MentionsBelow m t) (sym (is ∙ sound.one_each)) (laws.mentions d [] t sort h);
+  sorted = h;
+  present = λ i b e at. absurd (none_there i b at);
+}
+  where
+    none_there : (i : ℕ) (b : Bound) → slice_get [] i ≡ Some b → ⊥
+    none_there i b at = none-some b at
+
+-- what occurs in a closed formula can be worked out
+pub entry_mark : (laws : Laws) (d : Declarations) (trees : List Tree) (rows : List (List Bool)) (t : Formula) (sort : SortId) → AreSound d (map formula_of trees) → IsSorted d [] t sort → HaveRows d (uses_below d (map formula_of trees) (length trees)) (length trees) rows → MayMark d (uses_below d (map formula_of trees) (length trees)) (length trees) rows t
+entry_mark laws d trees rows t sort sound h have = record {
+  have = have;
+  mentions = subst (λ (m : ℕ). MentionsBelow m t) (sym (all_below trees (length trees) refl ∙ sound.one_each)) (laws.mentions d [] t sort h);
+  sorted = ([], sort, h);
+}
+
+-- where a tree stands its subterms do
+pub subterms_below : (d : Declarations) (table : Terms) (kept : IsKept d table) (core : CoreTree) (t : TermId) → Stands table t core → (s : CoreTree) → Contains (subtrees core) s → (u : TermId) × (u.0 ≤ t.0) × (term_at table u ≡ s)
+subterms_below d table kept core t stands s inside =
+    kept.laws.subterms_stand table t s kept.ordered stands.0 (subst (λ (x : CoreTree). Contains (subtrees x) s) (sym stands.1) inside)

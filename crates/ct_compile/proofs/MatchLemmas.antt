@@ -1,0 +1,431 @@
+-- The cases of a `match`, one after the other.
+use Rattle.std.proofs.Common.{◌≡◌, ℕ, zero, suc, ◌+◌, ◌<◌, ◌≤◌, Bool, true, false, not, ◌&&◌, ◌||◌, List, [], ◌∷◌, length, map, Contains, Option, Some, None, if◌then◌else◌, Result, Ok, Err, slice_get, IfOk, IsErrOf, refl, sym, ap, ap₂, subst, ◌∙◌, ◌⊎◌, inl, inr, arith, true≢false}
+use Rattle.std.specs.List.{AllZip, AllByRecursion}
+use Rattle.std.proofs.lemmas.Option.{none-some, same_Some}
+use Rattle.std.proofs.lemmas.Result.{IfOk-weaker}
+use Rattle.std.proofs.lemmas.Bool.{cases_lt}
+use Rattle.ct_sorts.specs.declared.ids.CtorId.{CtorId}
+use Rattle.ct_sorts.specs.declared.ids.DefId.{DefId}
+use Rattle.ct_sorts.specs.declared.ids.SelId.{SelId}
+use Rattle.ct_sorts.specs.declared.ids.SortId.{SortId}
+use Rattle.ct_sorts.specs.Declarations.{Declarations, bool_sort}
+use Rattle.ct_sorts.specs.Consistent.{IsConsistent}
+use Rattle.ct_terms.specs.declared.ids.TermId.{TermId}
+use Rattle.ct_terms.specs.declared.error.TermError.{TermError}
+use Rattle.ct_terms.specs.declared.error.TermError.TheVariants.{Full, NoMemory}
+use Rattle.ct_terms.specs.declared.tree.Pattern.{Pattern}
+use Rattle.ct_terms.specs.declared.tree.Pattern.TheVariants.{Ctor, Any}
+use Rattle.ct_terms.specs.Terms.{Terms}
+use Rattle.ct_terms.specs.CoreTree.{CoreTree, sel, test, choice, subtrees, term_at}
+use Rattle.ct_terms.specs.CoreSorts.{HasTreeSort}
+use Rattle.ct_terms.specs.Formula.{Formula, Cases, no_cases, with_case, bind}
+use Rattle.ct_terms.specs.FormulaSorts.{BindsSorts, AreSortedCases, HasCase}
+use Rattle.ct_terms.specs.Compiled.{fields_of, surely_fits, are_none, compiled, compiled_cases}
+use Rattle.ct_terms.specs.Occurrence.{any_below, field_count, occurs, matched_occurs, occurs_in_cases, uses_below, GiveUsed}
+use Rattle.ct_compile.specs.declared.bound.Bound.{Bound}
+use Rattle.ct_compile.specs.declared.bound.Bound.TheVariants.{Term, Field, Absent}
+use Rattle.ct_compile.specs.Laws.{Laws}
+use Rattle.ct_compile.specs.Effect.{Stands, IsKept, IsPrefix, Within, Effect}
+use Rattle.ct_compile.specs.Ready.{given, IsBound, IsThere, ArePresent, IsReady, MayCompile, Compiles}
+use Rattle.ct_compile.specs.Marks.{listed}
+use Rattle.ct_compile.specs.Matching.{IsTerm, field_of, sels_of, bound_by, trees_by, tested_by, IsDeclared, AreCases, MayCases, CompilesCases}
+use Rattle.ct_compile.proofs.EffectLemmas.{stands_stays, effect_none, effect_then, effect_because}
+use Rattle.ct_compile.proofs.WithinLemmas.{Contains-rest, within_subtrees, within_itself, within_choice, within_test}
+use Rattle.ct_compile.proofs.ReadyLemmas.{bound_stays, setting_stays, present_less, or_left, or_right}
+use Rattle.ct_compile.proofs.OperatorLemmas.{stands_as}
+use Rattle.ct_compile.proofs.BindLemmas.{bind_zip, bind_first, bind_present}
+
+-- ---- what a case is
+
+test_none : (b : Bool) (c : CtorId) → (if b then None else Some c) ≡ None → b ≡ true
+test_none true c e = refl
+test_none false c e = absurd (none-some c (sym e))
+
+test_some : (b : Bool) (c e : CtorId) → (if b then None else Some c) ≡ Some e → (b ≡ false) × (c ≡ e)
+test_some true c e h = absurd (none-some e h)
+test_some false c e h = (refl, same_Some c e h)
+
+module _ (d : Declarations) (call : DefId → List CoreTree → CoreTree) (env : List CoreTree) (t : CoreTree) (earlier : List CtorId) (body : Formula) (rest : Cases) where
+  -- it ends the cases
+  pub case_none : (p : Pattern) → tested_by d earlier p (are_none rest) ≡ None → compiled_cases d call env t earlier (with_case p body rest) ≡ compiled d call (bind (trees_by d p t) env) body
+  case_none Any e = refl
+  case_none (Ctor c) e =
+      ap (λ (b : Bool). if b then compiled d call (bind (fields_of d c t) env) body else choice (test c t) (compiled d call (bind (fields_of d c t) env) body) (compiled_cases d call env t (c ∷ earlier) rest))
+      (test_none (surely_fits d earlier c || are_none rest) c e)
+
+  -- it has a test
+  pub case_some : (p : Pattern) (c : CtorId) → tested_by d earlier p (are_none rest) ≡ Some c → compiled_cases d call env t earlier (with_case p body rest) ≡ choice (test c t) (compiled d call (bind (trees_by d p t) env) body) (compiled_cases d call env t (c ∷ earlier) rest)
+  case_some Any c e = absurd (none-some c e)
+  case_some (Ctor k) c e =
+      let both = test_some (surely_fits d earlier k || are_none rest) k c e in
+      ap (λ (b : Bool). if b then compiled d call (bind (fields_of d k t) env) body else choice (test k t) (compiled d call (bind (fields_of d k t) env) body) (compiled_cases d call env t (k ∷ earlier) rest)) both.0
+      ∙ ap (λ (x : CtorId). choice (test x t) (compiled d call (bind (fields_of d k t) env) body) (compiled_cases d call env t (x ∷ earlier) rest)) both.1
+
+pub tested_is : (d : Declarations) (earlier : List CtorId) (p : Pattern) (last : Bool) (c : CtorId) → tested_by d earlier p last ≡ Some c → p ≡ Ctor c
+tested_is d earlier Any last c e = absurd (none-some c e)
+tested_is d earlier (Ctor k) last c e = ap Ctor (test_some (surely_fits d earlier k || last) k c e).1
+
+-- ---- what its variables stand for
+
+-- a field that is bound to a term is there
+field_there : (b : Bound) (s : SelId) → IsTerm b → IsThere (field_of b s)
+field_there (Term t) s h = tt
+field_there (Field r t) s h = absurd h
+field_there Absent s h = absurd h
+
+term_there : (b : Bound) → IsTerm b → IsThere b
+term_there (Term t) h = tt
+term_there (Field r t) h = absurd h
+term_there Absent h = absurd h
+
+field_bound : (table : Terms) (b : Bound) (tree : CoreTree) (s : SelId) → IsBound table b tree → IsBound table (field_of b s) (sel s tree)
+field_bound table (Term t) tree s h = (h.0, ap (sel s) h.1)
+field_bound table (Field r t) tree s h = tt
+field_bound table Absent tree s h = tt
+
+fields_bound : (table : Terms) (b : Bound) (tree : CoreTree) → IsBound table b tree → (sels : List SelId) → AllZip (IsBound table) (map (field_of b) sels) (map (λ s. sel s tree) sels)
+fields_bound table b tree h [] = tt
+fields_bound table b tree h (s ∷ sels) = (field_bound table b tree s h, fields_bound table b tree h sels)
+
+pattern_bound : (d : Declarations) (table : Terms) (b : Bound) (tree : CoreTree) (p : Pattern) → IsBound table b tree → AllZip (IsBound table) (bound_by d p b) (trees_by d p tree)
+pattern_bound d table b tree Any h = (h, tt)
+pattern_bound d table b tree (Ctor c) h = fields_bound table b tree h (sels_of d c)
+
+pattern_fits : (laws : Laws) (d : Declarations) (tree : CoreTree) (side : SortId) (p : Pattern) (sorts : List SortId) → IsConsistent d → BindsSorts d side p sorts → HasTreeSort d tree side → AllZip (HasTreeSort d) (trees_by d p tree) sorts
+pattern_fits laws d tree side Any sorts consistent binds h = subst (λ (ss : List SortId). AllZip (HasTreeSort d) (tree ∷ []) ss) (sym binds) (h, tt)
+pattern_fits laws d tree side (Ctor c) sorts consistent binds h = laws.fields d c binds.0 tree sorts consistent binds.1 (subst (HasTreeSort d tree) (sym binds.2) h) binds.3
+
+-- a test that holds below a bound
+below_any : (q : ℕ → Bool) (n j : ℕ) → j < n → q j ≡ true → any_below q n ≡ true
+below_any q zero j less e = absurd (omega (arith, less))
+below_any q (suc n) j less e = by (cases_lt j n) (λ below. below_any q n j below e)
+  where
+    by : (j < n) ⊎ (n ≤ j) → (j < n → any_below q n ≡ true) → any_below q (suc n) ≡ true
+    by (inl below) rest = or_right (q n) (any_below q n) (rest below)
+    by (inr over) rest = or_left (q n) (any_below q n) (ap q (omega (arith, less, over)) ∙ e)
+
+map_length : {X Y : Type 0} (f : X → Y) (xs : List X) → length (map f xs) ≡ length xs
+map_length f [] = refl
+map_length f (x ∷ xs) = ap suc (map_length f xs)
+
+fields_there : (q : ℕ → Bool) (b : Bound) (sels : List SelId) → ((j : ℕ) → j < length sels → q j ≡ true → IsTerm b) → AllZip (λ f x. f ≡ true → IsThere x) (listed q (length (map (field_of b) sels))) (map (field_of b) sels)
+fields_there q b [] h = tt
+fields_there q b (s ∷ sels) h = (
+  λ e. field_there b s (h (length (map (field_of b) sels)) (omega (arith, map_length (field_of b) sels)) e),
+  fields_there q b sels (λ j less e. h j (omega (arith, less)) e),
+)
+
+module _ (d : Declarations) (uses : DefId → ℕ → Bool) (env : List Bound) (b : Bound) (earlier : List CtorId) (body : Formula) (rest : Cases) where
+  -- what occurs in the body is there
+  pub body_present : (p : Pattern) → (matched_occurs d uses earlier (with_case p body rest) ≡ true → IsTerm b) → ArePresent (occurs_in_cases d uses earlier (with_case p body rest)) env → ArePresent (occurs d uses body) (bind (bound_by d p b) env)
+  body_present Any there present =
+      bind_present (occurs d uses body) (b ∷ []) env
+      ((λ e. term_there b (there e)), tt)
+      (present_less (λ i. occurs d uses body (i + 1)) (λ i. occurs d uses body (suc i)) env (λ i e. ap (occurs d uses body) (omega arith) ∙ e) present)
+  body_present (Ctor c) there present =
+      bind_present (occurs d uses body) (map (field_of b) (sels_of d c)) env
+      (fields_there (occurs d uses body) b (sels_of d c) (λ j less e. there (or_right (not (surely_fits d earlier c || are_none rest)) (any_below (occurs d uses body) (field_count d c)) (below_any (occurs d uses body) (field_count d c) j less e))))
+      (present_less (λ i. occurs d uses body (i + length (map (field_of b) (sels_of d c)))) (occurs_in_cases d uses earlier (with_case (Ctor c) body rest)) env
+      (λ i e. or_left (occurs d uses body (i + field_count d c)) (not (surely_fits d earlier c || are_none rest) && occurs_in_cases d uses (c ∷ earlier) rest i) (ap (λ (m : ℕ). occurs d uses body (i + m)) (sym (map_length (field_of b) (sels_of d c))) ∙ e)) present)
+
+  -- what occurs in the later cases is there, and what is matched
+  pub rest_present : (p : Pattern) (c : CtorId) → tested_by d earlier p (are_none rest) ≡ Some c → ArePresent (occurs_in_cases d uses earlier (with_case p body rest)) env → ArePresent (occurs_in_cases d uses (c ∷ earlier) rest) env
+  rest_present Any c e present = absurd (none-some c e)
+  rest_present (Ctor k) c e present =
+      let both = test_some (surely_fits d earlier k || are_none rest) k c e in
+      present_less (occurs_in_cases d uses (c ∷ earlier) rest) (occurs_in_cases d uses earlier (with_case (Ctor k) body rest)) env
+      (λ i o. or_right (occurs d uses body (i + field_count d k)) (not (surely_fits d earlier k || are_none rest) && occurs_in_cases d uses (k ∷ earlier) rest i)
+      (ap (λ (x : Bool). not x && occurs_in_cases d uses (k ∷ earlier) rest i) both.0 ∙ ap (λ (x : CtorId). occurs_in_cases d uses (x ∷ earlier) rest i) both.1 ∙ o)) present
+
+  pub tested_there : (p : Pattern) (c : CtorId) → tested_by d earlier p (are_none rest) ≡ Some c → (matched_occurs d uses earlier (with_case p body rest) ≡ true → IsTerm b) → IsTerm b
+  tested_there Any c e there = absurd (none-some c e)
+  tested_there (Ctor k) c e there =
+      let both = test_some (surely_fits d earlier k || are_none rest) k c e in
+      there (ap (λ (x : Bool). not x || any_below (occurs d uses body) (field_count d k)) both.0)
+
+  pub tested_more : (p : Pattern) (c : CtorId) → tested_by d earlier p (are_none rest) ≡ Some c → HasCase rest
+  tested_more Any c e = absurd (none-some c e)
+  tested_more (Ctor k) c e = some rest (or_right_false (surely_fits d earlier k) (are_none rest) (test_some (surely_fits d earlier k || are_none rest) k c e).0)
+    where
+      or_right_false : (x y : Bool) → (x || y) ≡ false → y ≡ false
+      or_right_false true y h = absurd (true≢false h)
+      or_right_false false y h = h
+
+      some : (cases : Cases) → are_none cases ≡ false → HasCase cases
+      some no_cases h = absurd (true≢false h)
+      some (with_case q f cases) h = tt
+
+-- ---- tables that grow
+
+pub cases_stay : (d : Declarations) (bodies : List Formula) (old new : Terms) (n : ℕ) (env : List Bound) (matched : Bound) (earlier : List CtorId) (cases : Cases) (tree : CoreTree) (side : SortId) (trees : List CoreTree) (sorts : List SortId) (sort : SortId) → IsPrefix old new → IsKept d new → AreCases d bodies old n env matched earlier cases tree side trees sorts sort → AreCases d bodies new n env matched earlier cases tree side trees sorts sort
+cases_stay d bodies old new n env matched earlier cases tree side trees sorts sort grown kept h = record {
+  setting = setting_stays d bodies old new env trees sorts grown kept h.setting;
+  mentions = h.mentions;
+  sorted = h.sorted;
+  some = h.some;
+  bound = bound_stays d old new matched tree grown kept h.bound;
+  fits = h.fits;
+  there = h.there;
+  present = h.present;
+}
+
+-- nothing done, out of memory
+pub cases_nothing : (d : Declarations) (bodies : List Formula) (n : ℕ) (table : Terms) (env : List Bound) (matched : Bound) (earlier : List CtorId) (cases : Cases) (e : TermError) → e ≡ NoMemory → CompilesCases d bodies n table table env matched earlier cases (Err e)
+cases_nothing d bodies n table env matched earlier cases e is = record {
+  core = λ tree side trees sorts sort h. tt;
+  effect = λ tree side trees sorts sort allowed h w. effect_none d allowed table (IsErrOf (Err e) Full) h.setting.kept (λ x. cc);
+}
+
+-- the constructor of a pattern is declared
+pattern_declared : (d : Declarations) (side : SortId) (p : Pattern) (sorts : List SortId) → BindsSorts d side p sorts → IsDeclared d p
+pattern_declared d side Any sorts binds = tt
+pattern_declared d side (Ctor c) sorts binds = (binds.0, binds.1)
+
+test_sorted : (d : Declarations) (side : SortId) (p : Pattern) (c : CtorId) (sorts : List SortId) (tree : CoreTree) → p ≡ Ctor c → BindsSorts d side p sorts → HasTreeSort d tree side → HasTreeSort d (test c tree) bool_sort
+test_sorted d side p c sorts tree is binds h =
+    let b = subst (λ (q : Pattern). BindsSorts d side q sorts) is binds in
+    (b.0, b.1, subst (HasTreeSort d tree) (sym b.2) h, refl)
+
+module _ (d : Declarations) (bodies : List Formula) (n : ℕ) (env : List Bound) (matched : Bound) (earlier : List CtorId) (p : Pattern) (body : Formula) (rest : Cases) where
+  abbrev all : Cases
+  all = with_case p body rest
+
+  abbrev inner : List Bound
+  inner = bind (bound_by d p matched) env
+
+  abbrev whole : CoreTree → List CoreTree → CoreTree
+  whole tree trees = compiled_cases d (given d bodies n) trees tree earlier all
+
+  abbrev core_body : CoreTree → List CoreTree → CoreTree
+  core_body tree trees = compiled d (given d bodies n) (bind (trees_by d p tree) trees) body
+
+  body_ready : (table : Terms) (tree : CoreTree) (side : SortId) (trees : List CoreTree) (sorts : List SortId) (sort : SortId) (h : AreCases d bodies table n env matched earlier all tree side trees sorts sort) → IsReady d bodies table n inner body (bind (trees_by d p tree) trees) (bind h.sorted.0.0 sorts) sort
+  body_ready table tree side trees sorts sort h = record {
+    setting = record {
+      consistent = h.setting.consistent;
+      sound = h.setting.sound;
+      kept = h.setting.kept;
+      bound = bind_zip (IsBound table) (bound_by d p matched) (trees_by d p tree) env trees (pattern_bound d table matched tree p h.bound) h.setting.bound;
+      fitting = bind_zip (HasTreeSort d) (trees_by d p tree) h.sorted.0.0 trees sorts (pattern_fits h.setting.kept.laws d tree side p h.sorted.0.0 h.setting.consistent h.sorted.0.1 h.fits) h.setting.fitting;
+    };
+    mentions = h.mentions.0;
+    sorted = h.sorted.0.2;
+    present = body_present d (uses_below d bodies n) env matched earlier body rest p h.there h.present;
+  }
+
+  pub case_declared : (table : Terms) → MayCases d bodies table n env matched earlier all → IsDeclared d p
+  case_declared table may = let h = may.5 in pattern_declared d may.1 p h.sorted.0.0 h.sorted.0.1
+
+  pub case_body : (table : Terms) → MayCases d bodies table n env matched earlier all → MayCompile d bodies table n inner body
+  case_body table may = let h = may.5 in (bind (trees_by d p may.0) may.2, bind h.sorted.0.0 may.3, may.4, body_ready table may.0 may.1 may.2 may.3 may.4 h)
+
+  -- the case ends the cases
+  pub case_ends : tested_by d earlier p (are_none rest) ≡ None → (old new : Terms) (r : Result TermId TermError) → Compiles d bodies n old new inner body r → CompilesCases d bodies n old new env matched earlier all r
+  case_ends e old new r one = record {
+    core = λ tree side trees sorts sort h.
+        IfOk-weaker r _ (λ u. Stands new u (whole tree trees)) (λ u k. stands_as new u _ _ (sym (case_none d (given d bodies n) trees tree earlier body rest p e)) k)
+        (one.core (bind (trees_by d p tree) trees) (bind h.sorted.0.0 sorts) sort (body_ready old tree side trees sorts sort h));
+    effect = λ tree side trees sorts sort allowed h w.
+        one.effect (bind (trees_by d p tree) trees) (bind h.sorted.0.0 sorts) sort allowed (body_ready old tree side trees sorts sort h) (subst (Within allowed) (case_none d (given d bodies n) trees tree earlier body rest p e) w);
+  }
+
+  -- the case has a test
+  module _ (c : CtorId) (e : tested_by d earlier p (are_none rest) ≡ Some c) (old : Terms) where
+    abbrev core_rest : CoreTree → List CoreTree → CoreTree
+    core_rest tree trees = compiled_cases d (given d bodies n) trees tree (c ∷ earlier) rest
+
+    whole_is : (tree : CoreTree) (trees : List CoreTree) → whole tree trees ≡ choice (test c tree) (core_body tree trees) (core_rest tree trees)
+    whole_is tree trees = case_some d (given d bodies n) trees tree earlier body rest p c e
+
+    within : (tree : CoreTree) (trees allowed : List CoreTree) → Within allowed (whole tree trees) → Within allowed (test c tree) × (Within allowed (core_body tree trees) × Within allowed (core_rest tree trees))
+    within tree trees allowed w = within_choice allowed (test c tree) (core_body tree trees) (core_rest tree trees) (subst (Within allowed) (whole_is tree trees) w)
+
+    rest_cases : (table : Terms) (tree : CoreTree) (side : SortId) (trees : List CoreTree) (sorts : List SortId) (sort : SortId) → AreCases d bodies table n env matched earlier all tree side trees sorts sort → AreCases d bodies table n env matched (c ∷ earlier) rest tree side trees sorts sort
+    rest_cases table tree side trees sorts sort h = record {
+      setting = h.setting;
+      mentions = h.mentions.1;
+      sorted = h.sorted.1;
+      some = tested_more d (uses_below d bodies n) env matched earlier body rest p c e;
+      bound = h.bound;
+      fits = h.fits;
+      there = λ o. tested_there d (uses_below d bodies n) env matched earlier body rest p c e h.there;
+      present = rest_present d (uses_below d bodies n) env matched earlier body rest p c e h.present;
+    }
+
+    pub test_kept : MayCases d bodies old n env matched earlier all → IsKept d old
+    test_kept may = may.5.setting.kept
+
+    pub test_there : MayCases d bodies old n env matched earlier all → IsTerm matched
+    test_there may = tested_there d (uses_below d bodies n) env matched earlier body rest p c e may.5.there
+
+    test_sort : (table : Terms) (tree : CoreTree) (side : SortId) (trees : List CoreTree) (sorts : List SortId) (sort : SortId) → AreCases d bodies table n env matched earlier all tree side trees sorts sort → HasTreeSort d (test c tree) bool_sort
+    test_sort table tree side trees sorts sort h = test_sorted d side p c h.sorted.0.0 tree (tested_is d earlier p (are_none rest) c e) h.sorted.0.1 h.fits
+
+    pub test_bound : MayCases d bodies old n env matched earlier all → (tree : CoreTree) × (sort : SortId) × IsBound old matched tree × HasTreeSort d (test c tree) sort
+    test_bound may = (may.0, bool_sort, may.5.bound, test_sort old may.0 may.1 may.2 may.3 may.4 may.5)
+
+    module _ (m1 : Terms) (full : Type 0) (tests : (tree : CoreTree) (allowed : List CoreTree) → IsBound old matched tree → Contains allowed (test c tree) → Effect d allowed old m1 full) where
+      test_effect : (tree : CoreTree) (side : SortId) (trees : List CoreTree) (sorts : List SortId) (sort : SortId) (allowed : List CoreTree) → AreCases d bodies old n env matched earlier all tree side trees sorts sort → Within allowed (whole tree trees) → Effect d allowed old m1 full
+      test_effect tree side trees sorts sort allowed h w = tests tree allowed h.bound (within_itself h.setting.kept.laws allowed (test c tree) (within tree trees allowed w).0)
+
+      pub test_failed : (x : TermError) → (IsErrOf {T = TermId} {E = TermError} (Err x) Full → full) → CompilesCases d bodies n old m1 env matched earlier all (Err x)
+      test_failed x why = record {
+        core = λ tree side trees sorts sort h. tt;
+        effect = λ tree side trees sorts sort allowed h w. effect_because d allowed old m1 full _ why (test_effect tree side trees sorts sort allowed h w);
+      }
+
+      grown_1 : (tree : CoreTree) (side : SortId) (trees : List CoreTree) (sorts : List SortId) (sort : SortId) → AreCases d bodies old n env matched earlier all tree side trees sorts sort → IsPrefix old m1 × IsKept d m1
+      grown_1 tree side trees sorts sort h = let k = test_effect tree side trees sorts sort (subtrees (whole tree trees)) h (within_subtrees (whole tree trees)) in (k.grown, k.kept)
+
+      cases_1 : (tree : CoreTree) (side : SortId) (trees : List CoreTree) (sorts : List SortId) (sort : SortId) → AreCases d bodies old n env matched earlier all tree side trees sorts sort → AreCases d bodies m1 n env matched earlier all tree side trees sorts sort
+      cases_1 tree side trees sorts sort h = let g = grown_1 tree side trees sorts sort h in cases_stay d bodies old m1 n env matched earlier all tree side trees sorts sort g.0 g.1 h
+
+      pub test_grown : MayCases d bodies old n env matched earlier all → IsPrefix old m1 × IsKept d m1
+      test_grown may = grown_1 may.0 may.1 may.2 may.3 may.4 may.5
+
+      pub first_may : MayCases d bodies old n env matched earlier all → MayCompile d bodies m1 n inner body
+      first_may may = case_body m1 (may.0, may.1, may.2, may.3, may.4, cases_1 may.0 may.1 may.2 may.3 may.4 may.5)
+
+      module _ (m2 : Terms) (r : Result TermId TermError) (first : Compiles d bodies n m1 m2 inner body r) where
+        first_effect : (tree : CoreTree) (side : SortId) (trees : List CoreTree) (sorts : List SortId) (sort : SortId) (allowed : List CoreTree) → AreCases d bodies old n env matched earlier all tree side trees sorts sort → Within allowed (whole tree trees) → Effect d allowed old m2 (IsErrOf r Full)
+        first_effect tree side trees sorts sort allowed h w =
+            let k = cases_1 tree side trees sorts sort h in
+            effect_then d allowed old m1 m2 full _ (test_effect tree side trees sorts sort allowed h w)
+            (first.effect (bind (trees_by d p tree) trees) (bind k.sorted.0.0 sorts) sort allowed (body_ready m1 tree side trees sorts sort k) (within tree trees allowed w).1.0)
+
+        -- it fails, or there is no memory after it
+        pub first_failed : (x : TermError) → (IsErrOf {T = TermId} {E = TermError} (Err x) Full → IsErrOf r Full) → CompilesCases d bodies n old m2 env matched earlier all (Err x)
+        first_failed x why = record {
+          core = λ tree side trees sorts sort h. tt;
+          effect = λ tree side trees sorts sort allowed h w. effect_because d allowed old m2 _ _ why (first_effect tree side trees sorts sort allowed h w);
+        }
+
+        grown_2 : (tree : CoreTree) (side : SortId) (trees : List CoreTree) (sorts : List SortId) (sort : SortId) → AreCases d bodies old n env matched earlier all tree side trees sorts sort → IsPrefix m1 m2 × IsKept d m2
+        grown_2 tree side trees sorts sort h =
+            let k = cases_1 tree side trees sorts sort h in
+            let f = first.effect (bind (trees_by d p tree) trees) (bind k.sorted.0.0 sorts) sort (subtrees (core_body tree trees)) (body_ready m1 tree side trees sorts sort k) (within_subtrees (core_body tree trees)) in
+            (f.grown, f.kept)
+
+        cases_2 : (tree : CoreTree) (side : SortId) (trees : List CoreTree) (sorts : List SortId) (sort : SortId) → AreCases d bodies old n env matched earlier all tree side trees sorts sort → AreCases d bodies m2 n env matched (c ∷ earlier) rest tree side trees sorts sort
+        cases_2 tree side trees sorts sort h =
+            let g = grown_2 tree side trees sorts sort h in
+            rest_cases m2 tree side trees sorts sort (cases_stay d bodies m1 m2 n env matched earlier all tree side trees sorts sort g.0 g.1 (cases_1 tree side trees sorts sort h))
+
+        pub second_may : MayCases d bodies old n env matched earlier all → MayCases d bodies m2 n env matched (c ∷ earlier) rest
+        second_may may = (may.0, may.1, may.2, may.3, may.4, cases_2 may.0 may.1 may.2 may.3 may.4 may.5)
+
+        module _ (m3 : Terms) (q : Result TermId TermError) (second : CompilesCases d bodies n m2 m3 env matched (c ∷ earlier) rest q) where
+          second_effect : (tree : CoreTree) (side : SortId) (trees : List CoreTree) (sorts : List SortId) (sort : SortId) (allowed : List CoreTree) → AreCases d bodies old n env matched earlier all tree side trees sorts sort → Within allowed (whole tree trees) → Effect d allowed old m3 (IsErrOf q Full)
+          second_effect tree side trees sorts sort allowed h w =
+              effect_then d allowed old m2 m3 _ _ (first_effect tree side trees sorts sort allowed h w)
+              (second.effect tree side trees sorts sort allowed (cases_2 tree side trees sorts sort h) (within tree trees allowed w).1.1)
+
+          pub second_failed : (x : TermError) → (IsErrOf {T = TermId} {E = TermError} (Err x) Full → IsErrOf q Full) → CompilesCases d bodies n old m3 env matched earlier all (Err x)
+          second_failed x why = record {
+            core = λ tree side trees sorts sort h. tt;
+            effect = λ tree side trees sorts sort allowed h w. effect_because d allowed old m3 _ _ why (second_effect tree side trees sorts sort allowed h w);
+          }
+
+          grown_3 : (tree : CoreTree) (side : SortId) (trees : List CoreTree) (sorts : List SortId) (sort : SortId) → AreCases d bodies old n env matched earlier all tree side trees sorts sort → IsPrefix m2 m3 × IsKept d m3
+          grown_3 tree side trees sorts sort h =
+              let f = second.effect tree side trees sorts sort (subtrees (core_rest tree trees)) (cases_2 tree side trees sorts sort h) (within_subtrees (core_rest tree trees)) in
+              (f.grown, f.kept)
+
+          -- all three are made
+          module _ (a b v : TermId) (made_test : (tree : CoreTree) → IsBound old matched tree → Stands m1 a (test c tree)) (is_first : r ≡ Ok b) (is_second : q ≡ Ok v) where
+            stand_1 : (tree : CoreTree) (side : SortId) (trees : List CoreTree) (sorts : List SortId) (sort : SortId) → AreCases d bodies old n env matched earlier all tree side trees sorts sort → Stands m3 a (test c tree)
+            stand_1 tree side trees sorts sort h =
+                let f = grown_2 tree side trees sorts sort h in
+                let g = grown_3 tree side trees sorts sort h in
+                stands_stays d m2 m3 a (test c tree) g.0 g.1 (stands_stays d m1 m2 a (test c tree) f.0 f.1 (made_test tree h.bound))
+
+            stand_2 : (tree : CoreTree) (side : SortId) (trees : List CoreTree) (sorts : List SortId) (sort : SortId) → AreCases d bodies old n env matched earlier all tree side trees sorts sort → Stands m3 b (core_body tree trees)
+            stand_2 tree side trees sorts sort h =
+                let g = grown_3 tree side trees sorts sort h in
+                let k = cases_1 tree side trees sorts sort h in
+                stands_stays d m2 m3 b (core_body tree trees) g.0 g.1
+                (subst (λ (z : Result TermId TermError). IfOk z (λ x. Stands m2 x (core_body tree trees))) is_first (first.core (bind (trees_by d p tree) trees) (bind k.sorted.0.0 sorts) sort (body_ready m1 tree side trees sorts sort k)))
+
+            stand_3 : (tree : CoreTree) (side : SortId) (trees : List CoreTree) (sorts : List SortId) (sort : SortId) → AreCases d bodies old n env matched earlier all tree side trees sorts sort → Stands m3 v (core_rest tree trees)
+            stand_3 tree side trees sorts sort h = subst (λ (z : Result TermId TermError). IfOk z (λ x. Stands m3 x (core_rest tree trees))) is_second (second.core tree side trees sorts sort (cases_2 tree side trees sorts sort h))
+
+            layer : (tree : CoreTree) (side : SortId) (trees : List CoreTree) (sorts : List SortId) (sort : SortId) → AreCases d bodies old n env matched earlier all tree side trees sorts sort → choice (term_at m3 a) (term_at m3 b) (term_at m3 v) ≡ whole tree trees
+            layer tree side trees sorts sort h =
+                ap (λ (x : CoreTree). choice x (term_at m3 b) (term_at m3 v)) (stand_1 tree side trees sorts sort h).1
+                ∙ ap₂ (λ (x y : CoreTree). choice (test c tree) x y) (stand_2 tree side trees sorts sort h).1 (stand_3 tree side trees sorts sort h).1
+                ∙ sym (whole_is tree trees)
+
+            pub made_kept : MayCases d bodies old n env matched earlier all → IsKept d m3
+            made_kept may = (grown_3 may.0 may.1 may.2 may.3 may.4 may.5).1
+
+            pub made_below : MayCases d bodies old n env matched earlier all → AllByRecursion (λ x. x.0 < length m3) (a ∷ (b ∷ (v ∷ [])))
+            made_below may = ((stand_1 may.0 may.1 may.2 may.3 may.4 may.5).0, ((stand_2 may.0 may.1 may.2 may.3 may.4 may.5).0, ((stand_3 may.0 may.1 may.2 may.3 may.4 may.5).0, tt)))
+
+            body_sort : (tree : CoreTree) (side : SortId) (trees : List CoreTree) (sorts : List SortId) (sort : SortId) → AreCases d bodies old n env matched earlier all tree side trees sorts sort → HasTreeSort d (core_body tree trees) sort
+            body_sort tree side trees sorts sort h =
+                let k = body_ready old tree side trees sorts sort h in
+                let s = k.setting in
+                s.kept.laws.compiled_sorted d n (given d bodies n) (bind (trees_by d p tree) trees) (bind h.sorted.0.0 sorts) body sort s.consistent (s.kept.laws.calls_sorted d bodies n s.consistent s.sound) s.fitting k.mentions k.sorted
+
+            pub made_sorted : MayCases d bodies old n env matched earlier all → ((tree : CoreTree) (side : SortId) (trees : List CoreTree) (sorts : List SortId) (sort : SortId) → AreCases d bodies m2 n env matched (c ∷ earlier) rest tree side trees sorts sort → HasTreeSort d (core_rest tree trees) sort) → (sort : SortId) × HasTreeSort d (choice (term_at m3 a) (term_at m3 b) (term_at m3 v)) sort
+            made_sorted may later =
+                let h = may.5 in (
+                  may.4,
+                  subst (λ (x : CoreTree). HasTreeSort d x may.4) (sym (layer may.0 may.1 may.2 may.3 may.4 h ∙ whole_is may.0 may.2))
+                      (test_sort old may.0 may.1 may.2 may.3 may.4 h, body_sort may.0 may.1 may.2 may.3 may.4 h, later may.0 may.1 may.2 may.3 may.4 (cases_2 may.0 may.1 may.2 may.3 may.4 h)),
+                )
+
+            pub case_made : (new : Terms) (z : Result TermId TermError) → IfOk z (λ x. Stands new x (choice (term_at m3 a) (term_at m3 b) (term_at m3 v))) → ((allowed : List CoreTree) → Contains allowed (choice (term_at m3 a) (term_at m3 b) (term_at m3 v)) → Effect d allowed m3 new (IsErrOf z Full)) → CompilesCases d bodies n old new env matched earlier all z
+            case_made new z made effect = record {
+              core = λ tree side trees sorts sort h. IfOk-weaker z _ (λ x. Stands new x (whole tree trees)) (λ x k. stands_as new x _ _ (layer tree side trees sorts sort h) k) made;
+              effect = λ tree side trees sorts sort allowed h w.
+                  effect_then d allowed old m3 new _ _ (second_effect tree side trees sorts sort allowed h w)
+                  (effect allowed (subst (Contains allowed) (sym (layer tree side trees sorts sort h)) (within_itself h.setting.kept.laws allowed (whole tree trees) w)));
+            }
+
+-- the core term of cases has the sort of the `match`
+pub cases_sorted : (d : Declarations) (bodies : List Formula) (table : Terms) (n : ℕ) (env : List Bound) (matched : Bound) (cases : Cases) (earlier : List CtorId) (tree : CoreTree) (side : SortId) (trees : List CoreTree) (sorts : List SortId) (sort : SortId) → AreCases d bodies table n env matched earlier cases tree side trees sorts sort → HasTreeSort d (compiled_cases d (given d bodies n) trees tree earlier cases) sort
+cases_sorted d bodies table n env matched no_cases earlier tree side trees sorts sort h = absurd h.some
+cases_sorted d bodies table n env matched (with_case p body rest) earlier tree side trees sorts sort h =
+    by (tested_by d earlier p (are_none rest)) refl (λ c e. cases_sorted d bodies table n env matched rest (c ∷ earlier) tree side trees sorts sort (rest_cases d bodies n env matched earlier p body rest c e table table tree side trees sorts sort h))
+  where
+    body_sort : HasTreeSort d (compiled d (given d bodies n) (bind (trees_by d p tree) trees) body) sort
+    body_sort =
+        let k = body_ready d bodies n env matched earlier p body rest table tree side trees sorts sort h in
+        let s = k.setting in
+        s.kept.laws.compiled_sorted d n (given d bodies n) (bind (trees_by d p tree) trees) (bind h.sorted.0.0 sorts) body sort s.consistent (s.kept.laws.calls_sorted d bodies n s.consistent s.sound) s.fitting k.mentions k.sorted
+
+    by : (o : Option CtorId) → tested_by d earlier p (are_none rest) ≡ o → ((c : CtorId) → tested_by d earlier p (are_none rest) ≡ Some c → HasTreeSort d (compiled_cases d (given d bodies n) trees tree (c ∷ earlier) rest) sort) → HasTreeSort d (compiled_cases d (given d bodies n) trees tree earlier (with_case p body rest)) sort
+    by None e later = subst (λ (x : CoreTree). HasTreeSort d x sort) (sym (case_none d (given d bodies n) trees tree earlier body rest p e)) body_sort
+    by (Some c) e later =
+        subst (λ (x : CoreTree). HasTreeSort d x sort) (sym (case_some d (given d bodies n) trees tree earlier body rest p c e))
+        (test_sorted d side p c h.sorted.0.0 tree (tested_is d earlier p (are_none rest) c e) h.sorted.0.1 h.fits, body_sort, later c e)
+
+-- ---- the matched term
+
+-- the field of an index that occurs
+sel_there : (q : ℕ → Bool) (t : CoreTree) (sels : List SelId) (env : List CoreTree) → any_below q (length sels) ≡ true → (j : ℕ) × (s : SelId) × (q j ≡ true) × (slice_get (bind (map (λ s. sel s t) sels) env) j ≡ Some (sel s t))
+sel_there q t [] env h = absurd (true≢false (sym h))
+sel_there q t (s ∷ sels) env h = by (q (length sels)) refl (λ k. sel_there q t sels (sel s t ∷ env) k)
+  where
+    by : (b : Bool) → q (length sels) ≡ b → (any_below q (length sels) ≡ true → (j : ℕ) × (r : SelId) × (q j ≡ true) × (slice_get (bind (map (λ s. sel s t) sels) (sel s t ∷ env)) j ≡ Some (sel r t))) → (j : ℕ) × (r : SelId) × (q j ≡ true) × (slice_get (bind (map (λ s. sel s t) sels) (sel s t ∷ env)) j ≡ Some (sel r t))
+    by true e rest = (length sels, s, e, ap (slice_get (bind (map (λ s. sel s t) sels) (sel s t ∷ env))) (sym (map_length (λ s. sel s t) sels)) ∙ bind_first (sel s t) (map (λ s. sel s t) sels) env)
+    by false e rest = rest (sym (ap (λ (b : Bool). b || any_below q (length sels)) e) ∙ h)
+
+-- where it occurs in the cases it is a subterm of their core term
+pub matched_under : (laws : Laws) (d : Declarations) (uses : DefId → ℕ → Bool) (call : DefId → List CoreTree → CoreTree) (env : List CoreTree) (sorts : List SortId) (side sort : SortId) (t : CoreTree) (earlier : List CtorId) (cases : Cases) → GiveUsed uses call → AreSortedCases d sorts side cases sort → matched_occurs d uses earlier cases ≡ true → Contains (subtrees (compiled_cases d call env t earlier cases)) t
+matched_under laws d uses call env sorts side sort t earlier no_cases give h o = absurd (true≢false (sym o))
+matched_under laws d uses call env sorts side sort t earlier (with_case Any body rest) give h o =
+    laws.occurring_subterm d uses call (t ∷ env) (bind h.0.0 sorts) body sort 0 t give h.0.2 o refl
+matched_under laws d uses call env sorts side sort t earlier (with_case (Ctor c) body rest) give h o = by (surely_fits d earlier c || are_none rest) refl
+  where
+    by : (x : Bool) → (surely_fits d earlier c || are_none rest) ≡ x → Contains (subtrees (if surely_fits d earlier c || are_none rest then (compiled d call (bind (fields_of d c t) env) body) else choice (test c t) (compiled d call (bind (fields_of d c t) env) body) (compiled_cases d call env t (c ∷ earlier) rest))) t
+    by true e =
+        let f = sel_there (occurs d uses body) t (sels_of d c) env (sym (ap (λ (x : Bool). not x || any_below (occurs d uses body) (field_count d c)) e) ∙ o) in
+        let inside : Contains (subtrees (compiled d call (bind (fields_of d c t) env) body)) (sel f.1 t) = laws.occurring_subterm d uses call (bind (fields_of d c t) env) (bind h.0.0 sorts) body sort f.0 (sel f.1 t) give h.0.2 f.2 f.3 in
+        subst (λ (x : Bool). Contains (subtrees (if x then (compiled d call (bind (fields_of d c t) env) body) else choice (test c t) (compiled d call (bind (fields_of d c t) env) body) (compiled_cases d call env t (c ∷ earlier) rest))) t) (sym e)
+        (laws.subterms_of_subterms (compiled d call (bind (fields_of d c t) env) body) (sel f.1 t) t inside (Contains-rest (sel f.1 t) (subtrees t) t (within_itself laws (subtrees t) t (within_subtrees t))))
+    by false e =
+        let whole = choice (test c t) (compiled d call (bind (fields_of d c t) env) body) (compiled_cases d call env t (c ∷ earlier) rest) in
+        subst (λ (x : Bool). Contains (subtrees (if x then (compiled d call (bind (fields_of d c t) env) body) else choice (test c t) (compiled d call (bind (fields_of d c t) env) body) (compiled_cases d call env t (c ∷ earlier) rest))) t) (sym e)
+        (within_itself laws (subtrees whole) t (within_test (subtrees whole) c t (within_choice (subtrees whole) (test c t) (compiled d call (bind (fields_of d c t) env) body) (compiled_cases d call env t (c ∷ earlier) rest) (within_subtrees whole)).0))

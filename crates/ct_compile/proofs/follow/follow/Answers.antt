@@ -1,0 +1,25 @@
+use Rattle.std.proofs.Common.{◌≡◌, ◌⊎◌, List, [], ◌∷◌, ◌++◌, ap, ◌∙◌, inl, inr}
+use Rattle.ct_sorts.specs.declared.ids.CtorId.{CtorId}
+use Rattle.ct_sorts.specs.declared.ids.FunId.{FunId}
+use Rattle.ct_sorts.specs.declared.ids.SelId.{SelId}
+use Rattle.ct_terms.specs.CoreTree.{CoreTree, term_at}
+use Rattle.ct_compile.specs.declared.operator.Operator.{Operator}
+use Rattle.ct_compile.specs.declared.operator.Operator.TheVariants.{Construct, Select, Inspect, Call, Negation, Conjunction, Disjunction}
+use Rattle.ct_compile.specs.Following.{leading}
+use Rattle.ct_compile.proofs.FollowLemmas.{last_of_push, follows_itself}
+use Rattle.ct_compile.proofs.follow.follow.Goals as goal
+
+-- for the other operators the last term leads
+others_lead : (o : Operator) (us : List CoreTree) (v : CoreTree) → ((x : CtorId) × (o ≡ Construct x)) ⊎ (((x : SelId) × (o ≡ Select x)) ⊎ (((x : CtorId) × (o ≡ Inspect x)) ⊎ (((x : FunId) × (o ≡ Call x)) ⊎ ((o ≡ Negation) ⊎ ((o ≡ Conjunction) ⊎ (o ≡ Disjunction)))))) → leading o (us ++ v ∷ []) ≡ v
+others_lead o us v (inl h) = ap (λ (x : Operator). leading x (us ++ v ∷ [])) h.1 ∙ last_of_push us v
+others_lead o us v (inr (inl h)) = ap (λ (x : Operator). leading x (us ++ v ∷ [])) h.1 ∙ last_of_push us v
+others_lead o us v (inr (inr (inl h))) = ap (λ (x : Operator). leading x (us ++ v ∷ [])) h.1 ∙ last_of_push us v
+others_lead o us v (inr (inr (inr (inl h)))) = ap (λ (x : Operator). leading x (us ++ v ∷ [])) h.1 ∙ last_of_push us v
+others_lead o us v (inr (inr (inr (inr (inl h))))) = ap (λ (x : Operator). leading x (us ++ v ∷ [])) h ∙ last_of_push us v
+others_lead o us v (inr (inr (inr (inr (inr (inl h)))))) = ap (λ (x : Operator). leading x (us ++ v ∷ [])) h ∙ last_of_push us v
+others_lead o us v (inr (inr (inr (inr (inr (inr h)))))) = ap (λ (x : Operator). leading x (us ++ v ∷ [])) h ∙ last_of_push us v
+
+pub returns-in-Construct : goal.returns-in-Construct
+returns-in-Construct c = record {
+  outcome = follows_itself c.args.sig.now c.args.table.now c.args.operator c.args.lead c.args.term c.args.ends (λ us e. others_lead c.args.operator us (term_at c.args.table.now c.args.term) c.in-Construct.is);
+}

@@ -1,0 +1,535 @@
+use Rattle.std.proofs.Common.{◌≡◌, ℕ, ◌+◌, ◌-◌, ◌||◌, ◌&&◌, Bool, true, false, List, [], ◌∷◌, ◌++◌, length, take, drop, reverse, get_or, IfOk, sym, ap, ap₂, subst, ◌∙◌, arith}
+use Rattle.std.proofs.lemmas.List.{reverse-append, append_assoc}
+use Rattle.std.proofs.lemmas.Option.{get_or_from_slice_get}
+use Rattle.std.proofs.lemmas.Result.{IfOk-weaker}
+use Rattle.ct_sorts.specs.declared.ids.CtorId.{CtorId}
+use Rattle.ct_terms.specs.declared.tree.Tree.{Tree}
+use Rattle.ct_terms.specs.declared.tree.Case.{Case}
+use Rattle.ct_terms.specs.declared.tree.Pattern.{Pattern}
+use Rattle.ct_terms.specs.declared.tree.Pattern.TheVariants.{Ctor, Any}
+use Rattle.ct_terms.specs.declared.tree.Tree.TheOpen.{Tree-F}
+use Rattle.ct_terms.specs.declared.tree.Tree.TheFolds.{fold-roll-Tree}
+use Rattle.ct_terms.specs.declared.tree.Tree.TheVariants.{rolls-Def, rolls-Let, rolls-Match}
+use Rattle.ct_terms.specs.TreeFormula.{formula_of, formulas_of_trees, formula_layer, case_layer}
+use Rattle.ct_terms.specs.Formula.{Formula, Cases, Def, Let, Match, with_formula, with_case}
+use Rattle.ct_terms.specs.Compiled.{surely_fits, are_none}
+use Rattle.ct_terms.specs.Occurrence.{count_of, field_count, occurs, occurs_in_bound, matched_occurs, occurs_in_cases}
+use Rattle.ct_compile.specs.declared.notes.Notes.{Notes}
+use Rattle.ct_compile.specs.CaseFormula.{cases_of_trees}
+use Rattle.ct_compile.specs.Weight.{weight, weights}
+use Rattle.ct_compile.specs.Marks.{listed, marked, MayMark, MayMarkCases}
+use Rattle.ct_compile.specs.Noted.{under_of, IsNoted, CasesNoted}
+use Rattle.ct_compile.proofs.RestLemmas.{rest_item, rest_step}
+use Rattle.ct_compile.proofs.CaseLemmas.{cases_split}
+use Rattle.ct_compile.proofs.MarkLemmas.{marked_none}
+use Rattle.ct_compile.proofs.FlagLemmas.{pattern_any}
+use Rattle.ct_compile.proofs.MayLemmas.{may_plain, marks_plain, may_condition, may_then, may_else, marks_choice, may_args, row_there, row_inside, may_body, may_bound, marks_let, may_matched, may_cases, may_case, may_later, case_constructor, marks_match, matched_last, marks_last, matched_more, marks_more, matched_any, marks_any, MarksRest, rest_first, rest_lighter, rest_more, rest_end, MarksBound, bound_first, bound_lighter, bound_more, bound_end, bound_short, under_long, under_take, under_drop, ok_then, nothing_left, counted, heavier_plain}
+use Rattle.ct_compile.proofs.NoteLemmas.{noted_operator, noted_call, noted_choice, noted_let, noted_match, cases_last, cases_more, NotesRest, notes_more, notes_end, NotesBound, notes_bound_more, notes_bound_end}
+use Rattle.ct_compile.proofs.occurrence.+mark.Goals as goal
+
+-- ---- mark
+
+pub mark-mark_all-requires : goal.mark-mark_all-requires
+mark-mark_all-requires t c =
+    let may = c.requires.may in
+    let heavy = heavier_plain (formula_of c.args.tree.now) (formulas_of_trees c.in-Some.trees.now) c.in-Some.ensures.plain c.in-Some.ensures.under in
+    (omega (arith, heavy, c.decreases), (may.0, may.1, may_plain c.args.sig.now may.0 may.1 c.args.rows.now (formula_of c.args.tree.now) (formulas_of_trees c.in-Some.trees.now) c.in-Some.ensures.plain c.in-Some.ensures.under may.2))
+
+pub mark-returns-in-Some-clause-marks : goal.mark-returns-in-Some-clause-marks
+mark-returns-in-Some-clause-marks t c = λ uses n h.
+    c.in_ok-under.ensures.marks uses n (may_plain c.args.sig.now uses n c.args.rows.now (formula_of c.args.tree.now) (formulas_of_trees c.in-Some.trees.now) c.in-Some.ensures.plain c.in-Some.ensures.under h) ∙ marks_plain c.args.sig.now uses n c.args.rows.now (formula_of c.args.tree.now) (formulas_of_trees c.in-Some.trees.now) c.in-Some.ensures.plain c.in-Some.ensures.under c.args.flags.now.items
+
+pub mark-returns-in-Some-clause-noted : goal.mark-returns-in-Some-clause-noted
+mark-returns-in-Some-clause-noted t c = λ uses n h.
+    noted_operator c.args.sig.now uses (formula_of c.args.tree.now) (formulas_of_trees c.in-Some.trees.now) c.plain.result c.in_ok-under.under.items c.in-Some.ensures.plain c.in-Some.ensures.under c.plain.ensures.under (c.in_ok-under.ensures.noted uses n (may_plain c.args.sig.now uses n c.args.rows.now (formula_of c.args.tree.now) (formulas_of_trees c.in-Some.trees.now) c.in-Some.ensures.plain c.in-Some.ensures.under h))
+
+pub mark-bounds-rows-k : goal.mark-bounds-rows-k
+mark-bounds-rows-k t c =
+    let may = c.requires.may in
+    row_inside c.args.sig.now may.0 may.1 c.args.rows.now c.in-Def.k (formulas_of_trees c.in-Def.ts.items) (subst (MayMark c.args.sig.now may.0 may.1 c.args.rows.now) (ap formula_of (c.in-Def.is ∙ sym (rolls-Def c.in-Def.k c.in-Def.ts)) ∙ fold-roll-Tree Formula (Pattern × Formula) formula_layer case_layer (Tree-F.Def c.in-Def.k c.in-Def.ts)) may.2)
+
+pub mark-mark_bound-requires : goal.mark-mark_bound-requires
+mark-mark_bound-requires t c =
+    let may = c.requires.may in
+    let k = c.in-Def.k in
+    let trees = c.as_slice.result.now in
+    let is : formula_of c.args.tree.now ≡ Def k (formulas_of_trees trees) = (ap formula_of (c.in-Def.is ∙ sym (rolls-Def c.in-Def.k c.in-Def.ts)) ∙ fold-roll-Tree Formula (Pattern × Formula) formula_layer case_layer (Tree-F.Def c.in-Def.k c.in-Def.ts)) ∙ ap (λ (us : List Tree). Def k (formulas_of_trees us)) (sym c.as_slice.ensures.value) in
+    let h : MayMark c.args.sig.now may.0 may.1 c.args.rows.now (Def k (formulas_of_trees trees)) = subst (MayMark c.args.sig.now may.0 may.1 c.args.rows.now) is may.2 in
+    let row : c.as_slice-row.result.now ≡ listed (may.0 k) (count_of (formulas_of_trees trees)) =
+    c.as_slice-row.ensures.value ∙ (c.index-rows-k.is ∙ get_or_from_slice_get c.args.rows.now k.0 _ _ (row_there c.args.sig.now may.0 may.1 c.args.rows.now k (formulas_of_trees trees) h)) in
+    let heavy : weight (λ k. 0) (formula_of c.args.tree.now) ≡ 0 + weights (λ k. 0) (formulas_of_trees trees) + 2 = ap (weight (λ k. 0)) is in
+    (omega (arith, heavy, c.decreases), ((may.0, may.1, may_args c.args.sig.now may.0 may.1 c.args.rows.now k (formulas_of_trees trees) h), (may.0 k, row)))
+
+pub mark-returns-in_ok-under-in-Def-clause-marks : goal.mark-returns-in_ok-under-in-Def-clause-marks
+mark-returns-in_ok-under-in-Def-clause-marks t c = λ uses n m.
+    let k = c.in-Def.k in
+    let trees = c.as_slice.result.now in
+    let is : formula_of c.args.tree.now ≡ Def k (formulas_of_trees trees) = (ap formula_of (c.in-Def.is ∙ sym (rolls-Def c.in-Def.k c.in-Def.ts)) ∙ fold-roll-Tree Formula (Pattern × Formula) formula_layer case_layer (Tree-F.Def c.in-Def.k c.in-Def.ts)) ∙ ap (λ (us : List Tree). Def k (formulas_of_trees us)) (sym c.as_slice.ensures.value) in
+    let h : MayMark c.args.sig.now uses n c.args.rows.now (Def k (formulas_of_trees trees)) = subst (MayMark c.args.sig.now uses n c.args.rows.now) is m in
+    let row : c.as_slice-row.result.now ≡ listed (uses k) (count_of (formulas_of_trees trees)) =
+    c.as_slice-row.ensures.value ∙ (c.index-rows-k.is ∙ get_or_from_slice_get c.args.rows.now k.0 _ _ (row_there c.args.sig.now uses n c.args.rows.now k (formulas_of_trees trees) h)) in
+    c.in_ok-under-in-Def.ensures.marks (uses k) uses n (may_args c.args.sig.now uses n c.args.rows.now k (formulas_of_trees trees) h) row ∙ ap (λ (f : Formula). marked (occurs c.args.sig.now uses f) c.args.flags.now.items) (sym is)
+
+pub mark-returns-in_ok-under-in-Def-clause-noted : goal.mark-returns-in_ok-under-in-Def-clause-noted
+mark-returns-in_ok-under-in-Def-clause-noted t c = λ uses n m.
+    let k = c.in-Def.k in
+    let trees = c.as_slice.result.now in
+    let is : formula_of c.args.tree.now ≡ Def k (formulas_of_trees trees) = (ap formula_of (c.in-Def.is ∙ sym (rolls-Def c.in-Def.k c.in-Def.ts)) ∙ fold-roll-Tree Formula (Pattern × Formula) formula_layer case_layer (Tree-F.Def c.in-Def.k c.in-Def.ts)) ∙ ap (λ (us : List Tree). Def k (formulas_of_trees us)) (sym c.as_slice.ensures.value) in
+    let h : MayMark c.args.sig.now uses n c.args.rows.now (Def k (formulas_of_trees trees)) = subst (MayMark c.args.sig.now uses n c.args.rows.now) is m in
+    let row : c.as_slice-row.result.now ≡ listed (uses k) (count_of (formulas_of_trees trees)) =
+    c.as_slice-row.ensures.value ∙ (c.index-rows-k.is ∙ get_or_from_slice_get c.args.rows.now k.0 _ _ (row_there c.args.sig.now uses n c.args.rows.now k (formulas_of_trees trees) h)) in
+    subst (λ (f : Formula). IsNoted c.args.sig.now uses f c.plain-in-Def.result) (sym is) (noted_call c.args.sig.now uses k (formulas_of_trees trees) c.plain-in-Def.result c.in_ok-under-in-Def.under.items c.as_slice-row.result.now row c.plain-in-Def.ensures.under (c.in_ok-under-in-Def.ensures.noted (uses k) uses n (may_args c.args.sig.now uses n c.args.rows.now k (formulas_of_trees trees) h) row))
+
+pub mark-returns-in-Let-clause-marks : goal.mark-returns-in-Let-clause-marks
+mark-returns-in-Let-clause-marks t c = λ uses n m.
+    let trees = c.as_slice-in-Let.result.now in
+    let u = c.deref-in-Let.result.now in
+    let is : formula_of c.args.tree.now ≡ Let (formulas_of_trees trees) (formula_of u) = (ap formula_of (c.in-Let.is ∙ sym (rolls-Let c.in-Let.ts c.in-Let.u)) ∙ fold-roll-Tree Formula (Pattern × Formula) formula_layer case_layer (Tree-F.Let c.in-Let.ts c.in-Let.u)) ∙ ap₂ (λ (us : List Tree) (v : Tree). Let (formulas_of_trees us) (formula_of v)) (sym c.as_slice-in-Let.ensures.value) (sym c.deref-in-Let.ensures) in
+    ok_then c.mark_let.result _ _ _
+    (ap (λ (f : Formula). marked (occurs c.args.sig.now uses f) c.args.flags.now.items) (sym is))
+    (c.mark_let.ensures.marks uses n (subst (MayMark c.args.sig.now uses n c.args.rows.now) is m))
+
+pub mark-returns-in-Let-clause-noted : goal.mark-returns-in-Let-clause-noted
+mark-returns-in-Let-clause-noted t c = λ uses n m.
+    let trees = c.as_slice-in-Let.result.now in
+    let u = c.deref-in-Let.result.now in
+    let is : formula_of c.args.tree.now ≡ Let (formulas_of_trees trees) (formula_of u) = (ap formula_of (c.in-Let.is ∙ sym (rolls-Let c.in-Let.ts c.in-Let.u)) ∙ fold-roll-Tree Formula (Pattern × Formula) formula_layer case_layer (Tree-F.Let c.in-Let.ts c.in-Let.u)) ∙ ap₂ (λ (us : List Tree) (v : Tree). Let (formulas_of_trees us) (formula_of v)) (sym c.as_slice-in-Let.ensures.value) (sym c.deref-in-Let.ensures) in
+    subst (λ (f : Formula). IfOk c.mark_let.result (IsNoted c.args.sig.now uses f)) (sym is) (c.mark_let.ensures.noted uses n (subst (MayMark c.args.sig.now uses n c.args.rows.now) is m))
+
+pub mark-returns-in-Match-clause-marks : goal.mark-returns-in-Match-clause-marks
+mark-returns-in-Match-clause-marks t c = λ uses n m.
+    let cases = c.as_slice-in-Match.result.now in
+    let u = c.deref-in-Match.result.now in
+    let is : formula_of c.args.tree.now ≡ Match (formula_of u) (cases_of_trees cases) = (ap formula_of (c.in-Match.is ∙ sym (rolls-Match c.in-Match.t c.in-Match.cases)) ∙ fold-roll-Tree Formula (Pattern × Formula) formula_layer case_layer (Tree-F.Match c.in-Match.t c.in-Match.cases)) ∙ ap₂ (λ (v : Tree) (cs : List Case). Match (formula_of v) (cases_of_trees cs)) (sym c.deref-in-Match.ensures) (sym c.as_slice-in-Match.ensures.value) in
+    ok_then c.mark_match.result _ _ _
+    (ap (λ (f : Formula). marked (occurs c.args.sig.now uses f) c.args.flags.now.items) (sym is))
+    (c.mark_match.ensures.marks uses n (subst (MayMark c.args.sig.now uses n c.args.rows.now) is m))
+
+pub mark-returns-in-Match-clause-noted : goal.mark-returns-in-Match-clause-noted
+mark-returns-in-Match-clause-noted t c = λ uses n m.
+    let cases = c.as_slice-in-Match.result.now in
+    let u = c.deref-in-Match.result.now in
+    let is : formula_of c.args.tree.now ≡ Match (formula_of u) (cases_of_trees cases) = (ap formula_of (c.in-Match.is ∙ sym (rolls-Match c.in-Match.t c.in-Match.cases)) ∙ fold-roll-Tree Formula (Pattern × Formula) formula_layer case_layer (Tree-F.Match c.in-Match.t c.in-Match.cases)) ∙ ap₂ (λ (v : Tree) (cs : List Case). Match (formula_of v) (cases_of_trees cs)) (sym c.deref-in-Match.ensures) (sym c.as_slice-in-Match.ensures.value) in
+    subst (λ (f : Formula). IfOk c.mark_match.result (IsNoted c.args.sig.now uses f)) (sym is) (c.mark_match.ensures.noted uses n (subst (MayMark c.args.sig.now uses n c.args.rows.now) is m))
+
+-- ---- mark_all
+
+pub mark_all-mark-requires : goal.mark_all-mark-requires
+mark_all-mark-requires t c =
+    let may = c.requires.may in
+    let loop = c.loop-rest in
+    let all = formulas_of_trees c.args.trees.now in
+    let first = c.args.flags.now.items in
+    let more = formulas_of_trees (take (length loop.rest.now - 1) (drop 1 loop.rest.now)) in
+    let split = subst (λ (xs : List Tree). MarksRest c.args.sig.now c.args.rows.now all first (formulas_of_trees xs) loop.flags.items) (rest_item loop.rest.now c.tree-item.result c.in-len1-up.len_at_least c.tree-item.is) loop.invariant.marks in
+    let lighter = rest_lighter c.args.sig.now c.args.rows.now all first (formula_of c.tree-item.result) more loop.flags.items split in
+    (omega (arith, lighter, c.decreases), (may.0, may.1, rest_first c.args.sig.now c.args.rows.now all first (formula_of c.tree-item.result) more loop.flags.items split may.0 may.1 may.2))
+
+pub mark_all-loop-rest-preserved : goal.mark_all-loop-rest-preserved
+mark_all-loop-rest-preserved t c =
+    let loop = c.loop-rest in
+    let all = formulas_of_trees c.args.trees.now in
+    let first = c.args.flags.now.items in
+    let more = formulas_of_trees (take (length loop.rest.now - 1) (drop 1 loop.rest.now)) in
+    let split = subst (λ (xs : List Tree). MarksRest c.args.sig.now c.args.rows.now all first (formulas_of_trees xs) loop.flags.items) (rest_item loop.rest.now c.tree-item.result c.in-len1-up.len_at_least c.tree-item.is) loop.invariant.marks in
+    let notes = subst (λ (xs : List Tree). NotesRest c.args.sig.now c.args.rows.now all (formulas_of_trees xs) loop.all.items) (rest_item loop.rest.now c.tree-item.result c.in-len1-up.len_at_least c.tree-item.is) loop.invariant.notes in
+    record {
+      marks = rest_more c.args.sig.now c.args.rows.now all first (formula_of c.tree-item.result) more loop.flags.items split c.mark.new.flags.items (λ uses n h. c.in_ok-notes.ensures.marks uses n h);
+      notes = subst (λ (ms : List Notes). NotesRest c.args.sig.now c.args.rows.now all more ms) (sym c.in_ok-push.ensures.items) (notes_more c.args.sig.now c.args.rows.now all (formula_of c.tree-item.result) more loop.all.items c.in_ok-notes.notes notes (λ uses n h. c.in_ok-notes.ensures.noted uses n (rest_first c.args.sig.now c.args.rows.now all first (formula_of c.tree-item.result) more loop.flags.items split uses n h)));
+    }
+
+pub mark_all-returns-clause-marks : goal.mark_all-returns-clause-marks
+mark_all-returns-clause-marks t c = λ uses n h.
+    let loop = c.loop-rest in
+    let all = formulas_of_trees c.args.trees.now in
+    let first = c.args.flags.now.items in
+    let none : loop.rest.now ≡ [] = nothing_left loop.rest.now (omega (arith, c.in_default.len_below)) in
+    let end = subst (λ (xs : List Tree). MarksRest c.args.sig.now c.args.rows.now all first (formulas_of_trees xs) loop.flags.items) none loop.invariant.marks in
+    rest_end c.args.sig.now c.args.rows.now all first loop.flags.items uses n end h
+
+pub mark_all-returns-clause-noted : goal.mark_all-returns-clause-noted
+mark_all-returns-clause-noted t c = λ uses n h.
+    let loop = c.loop-rest in
+    let all = formulas_of_trees c.args.trees.now in
+    let first = c.args.flags.now.items in
+    let none : loop.rest.now ≡ [] = nothing_left loop.rest.now (omega (arith, c.in_default.len_below)) in
+    let end = subst (λ (xs : List Tree). NotesRest c.args.sig.now c.args.rows.now all (formulas_of_trees xs) loop.all.items) none loop.invariant.notes in
+    notes_end c.args.sig.now c.args.rows.now all loop.all.items uses n end h
+
+-- ---- mark_bound
+
+pub mark_bound-returns-in_default-left-clause-marks : goal.mark_bound-returns-in_default-left-clause-marks
+mark_bound-returns-in_default-left-clause-marks t c = λ inner uses n h e.
+    let loop = c.loop-rest in
+    let all = formulas_of_trees c.args.trees.now in
+    let first = c.args.flags.now.items in
+    let more = formulas_of_trees (take (length loop.rest.now - 1) (drop 1 loop.rest.now)) in
+    let split = subst (λ (xs : List Tree). MarksBound c.args.sig.now c.args.rows.now c.args.bound.now all first loop.left.now (formulas_of_trees xs) loop.flags.items) (rest_item loop.rest.now c.tree-item.result c.in-len1-up.len_at_least c.tree-item.is) loop.invariant.marks in
+    let none : loop.left.now ≡ [] = nothing_left loop.left.now (omega (arith, c.in_default-left.len_below)) in
+    let short = subst (λ (bs : List Bool). MarksBound c.args.sig.now c.args.rows.now c.args.bound.now all first bs (with_formula (formula_of c.tree-item.result) more) loop.flags.items) none split in
+    absurd (bound_short c.args.sig.now c.args.rows.now c.args.bound.now all first (formula_of c.tree-item.result) more loop.flags.items inner uses n short h e)
+
+pub mark_bound-returns-in_default-left-clause-noted : goal.mark_bound-returns-in_default-left-clause-noted
+mark_bound-returns-in_default-left-clause-noted t c = λ inner uses n h e.
+    let loop = c.loop-rest in
+    let all = formulas_of_trees c.args.trees.now in
+    let first = c.args.flags.now.items in
+    let more = formulas_of_trees (take (length loop.rest.now - 1) (drop 1 loop.rest.now)) in
+    let split = subst (λ (xs : List Tree). MarksBound c.args.sig.now c.args.rows.now c.args.bound.now all first loop.left.now (formulas_of_trees xs) loop.flags.items) (rest_item loop.rest.now c.tree-item.result c.in-len1-up.len_at_least c.tree-item.is) loop.invariant.marks in
+    let none : loop.left.now ≡ [] = nothing_left loop.left.now (omega (arith, c.in_default-left.len_below)) in
+    let short = subst (λ (bs : List Bool). MarksBound c.args.sig.now c.args.rows.now c.args.bound.now all first bs (with_formula (formula_of c.tree-item.result) more) loop.flags.items) none split in
+    absurd (bound_short c.args.sig.now c.args.rows.now c.args.bound.now all first (formula_of c.tree-item.result) more loop.flags.items inner uses n short h e)
+
+pub mark_bound-mark_where-requires : goal.mark_bound-mark_where-requires
+mark_bound-mark_where-requires t c =
+    let may = c.requires.may in
+    let flags = c.requires.flags in
+    let loop = c.loop-rest in
+    let all = formulas_of_trees c.args.trees.now in
+    let first = c.args.flags.now.items in
+    let more = formulas_of_trees (take (length loop.rest.now - 1) (drop 1 loop.rest.now)) in
+    let split = subst (λ (xs : List Tree). MarksBound c.args.sig.now c.args.rows.now c.args.bound.now all first loop.left.now (formulas_of_trees xs) loop.flags.items) (rest_item loop.rest.now c.tree-item.result c.in-len1-up.len_at_least c.tree-item.is) loop.invariant.marks in
+    let b = get_or loop.left.now 0 false in
+    let left = take (length loop.left.now - 1) (drop 1 loop.left.now) in
+    let both = subst (λ (bs : List Bool). MarksBound c.args.sig.now c.args.rows.now c.args.bound.now all first bs (with_formula (formula_of c.tree-item.result) more) loop.flags.items) (rest_step loop.left.now false c.in-len1-up-left.len_at_least) split in
+    let lighter = bound_lighter c.args.sig.now c.args.rows.now c.args.bound.now all first b left (formula_of c.tree-item.result) more loop.flags.items both in
+    (omega (arith, lighter, c.decreases), (may.0, may.1, bound_first c.args.sig.now c.args.rows.now c.args.bound.now all first b left (formula_of c.tree-item.result) more loop.flags.items both flags.0 may.0 may.1 may.2 flags.1))
+
+pub mark_bound-loop-rest-preserved : goal.mark_bound-loop-rest-preserved
+mark_bound-loop-rest-preserved t c =
+    let loop = c.loop-rest in
+    let all = formulas_of_trees c.args.trees.now in
+    let first = c.args.flags.now.items in
+    let more = formulas_of_trees (take (length loop.rest.now - 1) (drop 1 loop.rest.now)) in
+    let split = subst (λ (xs : List Tree). MarksBound c.args.sig.now c.args.rows.now c.args.bound.now all first loop.left.now (formulas_of_trees xs) loop.flags.items) (rest_item loop.rest.now c.tree-item.result c.in-len1-up.len_at_least c.tree-item.is) loop.invariant.marks in
+    let b = get_or loop.left.now 0 false in
+    let left = take (length loop.left.now - 1) (drop 1 loop.left.now) in
+    let both = subst (λ (bs : List Bool). MarksBound c.args.sig.now c.args.rows.now c.args.bound.now all first bs (with_formula (formula_of c.tree-item.result) more) loop.flags.items) (rest_step loop.left.now false c.in-len1-up-left.len_at_least) split in
+    let notes = subst (λ (bs : List Bool). NotesBound c.args.sig.now c.args.rows.now c.args.bound.now all bs (with_formula (formula_of c.tree-item.result) more) loop.all.items) (rest_step loop.left.now false c.in-len1-up-left.len_at_least) (subst (λ (xs : List Tree). NotesBound c.args.sig.now c.args.rows.now c.args.bound.now all loop.left.now (formulas_of_trees xs) loop.all.items) (rest_item loop.rest.now c.tree-item.result c.in-len1-up.len_at_least c.tree-item.is) loop.invariant.notes) in
+    record {
+      marks = bound_more c.args.sig.now c.args.rows.now c.args.bound.now all first b left (formula_of c.tree-item.result) more loop.flags.items both c.mark_where.new.flags.items (λ uses n h. c.in_ok-notes.ensures.marks uses n h);
+      notes = subst (λ (ms : List Notes). NotesBound c.args.sig.now c.args.rows.now c.args.bound.now all left more ms) (sym c.in_ok-push.ensures.items) (notes_bound_more c.args.sig.now c.args.rows.now c.args.bound.now all b left (formula_of c.tree-item.result) more loop.all.items c.in_ok-notes.notes notes (λ inner uses n h e is. c.in_ok-notes.ensures.noted uses n (bound_first c.args.sig.now c.args.rows.now c.args.bound.now all first b left (formula_of c.tree-item.result) more loop.flags.items both inner uses n h e) is));
+    }
+
+pub mark_bound-returns-clause-marks : goal.mark_bound-returns-clause-marks
+mark_bound-returns-clause-marks t c = λ inner uses n h e.
+    let loop = c.loop-rest in
+    let all = formulas_of_trees c.args.trees.now in
+    let first = c.args.flags.now.items in
+    let none : loop.rest.now ≡ [] = nothing_left loop.rest.now (omega (arith, c.in_default.len_below)) in
+    let end = subst (λ (xs : List Tree). MarksBound c.args.sig.now c.args.rows.now c.args.bound.now all first loop.left.now (formulas_of_trees xs) loop.flags.items) none loop.invariant.marks in
+    bound_end c.args.sig.now c.args.rows.now c.args.bound.now all first loop.left.now loop.flags.items inner uses n end h e
+
+pub mark_bound-returns-clause-noted : goal.mark_bound-returns-clause-noted
+mark_bound-returns-clause-noted t c = λ inner uses n h e.
+    let loop = c.loop-rest in
+    let all = formulas_of_trees c.args.trees.now in
+    let first = c.args.flags.now.items in
+    let none : loop.rest.now ≡ [] = nothing_left loop.rest.now (omega (arith, c.in_default.len_below)) in
+    let end = subst (λ (xs : List Tree). NotesBound c.args.sig.now c.args.rows.now c.args.bound.now all loop.left.now (formulas_of_trees xs) loop.all.items) none loop.invariant.notes in
+    notes_bound_end c.args.sig.now c.args.rows.now c.args.bound.now all loop.left.now loop.all.items inner uses n end h e
+
+-- ---- mark_where
+
+pub mark_where-returns-then-counts-clause-marks : goal.mark_where-returns-then-counts-clause-marks
+mark_where-returns-then-counts-clause-marks t c = λ uses n h.
+    ok_then c.mark.result _ _ _
+    (ap (λ (b : Bool). marked (λ i. b && occurs c.args.sig.now uses (formula_of c.args.tree.now) i) c.args.flags.now.items) (sym c.if-counts.true))
+    (c.mark.ensures.marks uses n h)
+
+pub mark_where-returns-clause-marks : goal.mark_where-returns-clause-marks
+mark_where-returns-clause-marks t c = λ uses n h. sym (ap (λ (b : Bool). marked (λ i. b && occurs c.args.sig.now uses (formula_of c.args.tree.now) i) c.args.flags.now.items) c.if-counts.false ∙ marked_none c.args.flags.now.items)
+
+-- ---- mark_under
+
+pub mark_under-split_off-requires : goal.mark_under-split_off-requires
+mark_under-split_off-requires t c =
+    let may = c.requires.may in
+    let long : c.len-outside.result ≡ length c.args.flags.now.items = omega (arith, c.len-outside.ensures, c.args.flags.now.ok.0) in
+    let more = under_long (occurs c.args.sig.now may.0 (formula_of c.args.tree.now)) c.args.count c.args.flags.now.items c.add_flags.new.flags.items c.mark.new.flags.items c.in_ok-add_flags.ensures.more (c.in_ok-notes.ensures.marks may.0 may.1 may.2) in
+    omega (arith, long, more, c.mark.new.flags.ok.0)
+
+pub mark_under-returns-clause-flags : goal.mark_under-returns-clause-flags
+mark_under-returns-clause-flags t c = λ uses n h.
+    let long : c.len-outside.result ≡ length c.args.flags.now.items = omega (arith, c.len-outside.ensures, c.args.flags.now.ok.0) in
+    let tail = under_drop (occurs c.args.sig.now uses (formula_of c.args.tree.now)) c.args.count c.args.flags.now.items c.add_flags.new.flags.items c.mark.new.flags.items c.in_ok-add_flags.ensures.more (c.in_ok-notes.ensures.marks uses n h) c.len-outside.result long in
+    IfOk-weaker c.split_off.result _ _ (λ w e. e ∙ tail) c.split_off.ensures.tail
+
+pub mark_under-returns-clause-marks : goal.mark_under-returns-clause-marks
+mark_under-returns-clause-marks t c = λ uses n h.
+    let long : c.len-outside.result ≡ length c.args.flags.now.items = omega (arith, c.len-outside.ensures, c.args.flags.now.ok.0) in
+    let front = under_take (occurs c.args.sig.now uses (formula_of c.args.tree.now)) c.args.count c.args.flags.now.items c.add_flags.new.flags.items c.mark.new.flags.items c.in_ok-add_flags.ensures.more (c.in_ok-notes.ensures.marks uses n h) c.len-outside.result long in
+    ok_then c.split_off.result _ _ _ front c.split_off.ensures.items
+
+-- ---- mark_choice
+
+pub mark_choice-returns-clause-marks : goal.mark_choice-returns-clause-marks
+mark_choice-returns-clause-marks t c = λ uses n h.
+    let d = c.args.sig.now in
+    let rows = c.args.rows.now in
+    let first = c.args.flags.now.items in
+    let f = formula_of c.args.condition.now in
+    let g = formula_of c.args.first.now in
+    let k = formula_of c.args.second.now in
+    let one : c.mark.new.flags.items ≡ marked (occurs d uses f) first = c.in_ok-c.ensures.marks uses n (may_condition d uses n rows f g k h) in
+    let two : c.mark-2.new.flags.items ≡ marked (occurs d uses g) (marked (occurs d uses f) first) = c.in_ok-t.ensures.marks uses n (may_then d uses n rows f g k h) ∙ ap (marked (occurs d uses g)) one in
+    c.in_ok-u.ensures.marks uses n (may_else d uses n rows f g k h) ∙ (ap (marked (occurs d uses k)) two ∙ marks_choice d uses n rows f g k first)
+
+pub mark_choice-returns-clause-noted : goal.mark_choice-returns-clause-noted
+mark_choice-returns-clause-noted t c = λ uses n h.
+    let d = c.args.sig.now in
+    let rows = c.args.rows.now in
+    let first = c.args.flags.now.items in
+    let f = formula_of c.args.condition.now in
+    let g = formula_of c.args.first.now in
+    let k = formula_of c.args.second.now in
+    let two : c.push-2.new.self.items ≡ c.in_ok-c.c ∷ (c.in_ok-t.t ∷ []) = c.in_ok-push-2.ensures.items ∙ ap (λ (ms : List Notes). ms ++ c.in_ok-t.t ∷ []) (c.in_ok-push.ensures.items ∙ ap (λ (ms : List Notes). ms ++ c.in_ok-c.c ∷ []) c.new-under.ensures.items) in
+    let three : under_of c.plain.result ≡ c.in_ok-c.c ∷ (c.in_ok-t.t ∷ (c.in_ok-u.u ∷ [])) = c.plain.ensures.under ∙ (c.in_ok-push-3.ensures.items ∙ ap (λ (ms : List Notes). ms ++ c.in_ok-u.u ∷ []) two) in
+    noted_choice d uses f g k c.plain.result c.in_ok-c.c c.in_ok-t.t c.in_ok-u.u three (c.in_ok-c.ensures.noted uses n (may_condition d uses n rows f g k h)) (c.in_ok-t.ensures.noted uses n (may_then d uses n rows f g k h)) (c.in_ok-u.ensures.noted uses n (may_else d uses n rows f g k h))
+
+-- ---- mark_let
+
+pub mark_let-mark_bound-requires : goal.mark_let-mark_bound-requires
+mark_let-mark_bound-requires t c =
+    let may = c.requires.may in
+    let d = c.args.sig.now in
+    let rows = c.args.rows.now in
+    let first = c.args.flags.now.items in
+    let ts = formulas_of_trees c.args.trees.now in
+    let u = formula_of c.args.body.now in
+    let count : length c.args.trees.now ≡ count_of ts = sym (counted c.args.trees.now) in
+    let body = may_body d may.0 may.1 rows ts u may.2 in
+    let row : c.as_slice.result.now ≡ listed (occurs d may.0 u) (count_of ts) = c.as_slice.ensures.value ∙ (c.in_ok-bound.ensures.flags may.0 may.1 body ∙ ap (listed (occurs d may.0 u)) count) in
+    (omega (arith, c.decreases), ((may.0, may.1, may_bound d may.0 may.1 rows ts u may.2), (occurs d may.0 u, row)))
+
+pub mark_let-returns-clause-marks : goal.mark_let-returns-clause-marks
+mark_let-returns-clause-marks t c = λ uses n h.
+    let d = c.args.sig.now in
+    let rows = c.args.rows.now in
+    let first = c.args.flags.now.items in
+    let ts = formulas_of_trees c.args.trees.now in
+    let u = formula_of c.args.body.now in
+    let count : length c.args.trees.now ≡ count_of ts = sym (counted c.args.trees.now) in
+    let body = may_body d uses n rows ts u h in
+    let row : c.as_slice.result.now ≡ listed (occurs d uses u) (count_of ts) = c.as_slice.ensures.value ∙ (c.in_ok-bound.ensures.flags uses n body ∙ ap (listed (occurs d uses u)) count) in
+    let under : c.mark_under.new.flags.items ≡ marked (λ i. occurs d uses u (i + count_of ts)) first = c.in_ok-bound.ensures.marks uses n body ∙ ap (λ (k : ℕ). marked (λ i. occurs d uses u (i + k)) first) count in
+    c.in_ok-under.ensures.marks (occurs d uses u) uses n (may_bound d uses n rows ts u h) row ∙ (ap (marked (occurs_in_bound d uses (occurs d uses u) ts)) under ∙ marks_let d uses n rows ts u first)
+
+pub mark_let-returns-clause-noted : goal.mark_let-returns-clause-noted
+mark_let-returns-clause-noted t c = λ uses n h.
+    let d = c.args.sig.now in
+    let rows = c.args.rows.now in
+    let first = c.args.flags.now.items in
+    let ts = formulas_of_trees c.args.trees.now in
+    let u = formula_of c.args.body.now in
+    let count : length c.args.trees.now ≡ count_of ts = sym (counted c.args.trees.now) in
+    let body = may_body d uses n rows ts u h in
+    let row : c.as_slice.result.now ≡ listed (occurs d uses u) (count_of ts) = c.as_slice.ensures.value ∙ (c.in_ok-bound.ensures.flags uses n body ∙ ap (listed (occurs d uses u)) count) in
+    let noted = c.in_ok-bound.ensures.noted uses n body in
+    let inner = c.binder.ensures.inner ∙ (noted.1 ∙ ap (λ (ms : List Notes). ms ++ noted.0 ∷ []) c.new-inner.ensures.items) in
+    noted_let d uses ts u c.binder.result noted.0 c.as_slice.result.now c.in_ok-under.under.items row (c.binder.ensures.bound ∙ sym c.as_slice.ensures.value) c.binder.ensures.under inner (c.in_ok-under.ensures.noted (occurs d uses u) uses n (may_bound d uses n rows ts u h) row) noted.2
+
+-- ---- mark_match
+
+pub mark_match-returns-clause-marks : goal.mark_match-returns-clause-marks
+mark_match-returns-clause-marks t c = λ uses n m.
+    let d = c.args.sig.now in
+    let rows = c.args.rows.now in
+    let first = c.args.flags.now.items in
+    let f = formula_of c.args.matched.now in
+    let cases = cases_of_trees c.args.cases.now in
+    let under = may_cases d uses n rows f cases m in
+    let start : reverse c.new-earlier.result.items ≡ [] = ap reverse c.new-earlier.ensures.items in
+    let counts : c.in_ok-counts.counts ≡ matched_occurs d uses [] cases = c.in_ok-counts.ensures.matched uses n under ∙ ap (λ (e : List CtorId). matched_occurs d uses e cases) start in
+    let bodies : c.mark_cases.new.flags.items ≡ marked (occurs_in_cases d uses [] cases) first = c.in_ok-counts.ensures.marks uses n under ∙ ap (λ (e : List CtorId). marked (occurs_in_cases d uses e cases) first) start in
+    c.in_ok-notes.ensures.marks uses n (may_matched d uses n rows f cases m) ∙ (ap (marked (λ i. c.in_ok-counts.counts && occurs d uses f i)) bodies ∙ marks_match d uses n rows f cases c.in_ok-counts.counts first counts)
+
+pub mark_match-returns-clause-noted : goal.mark_match-returns-clause-noted
+mark_match-returns-clause-noted t c = λ uses n m.
+    let d = c.args.sig.now in
+    let rows = c.args.rows.now in
+    let first = c.args.flags.now.items in
+    let f = formula_of c.args.matched.now in
+    let cases = cases_of_trees c.args.cases.now in
+    let under = may_cases d uses n rows f cases m in
+    let start : reverse c.new-earlier.result.items ≡ [] = ap reverse c.new-earlier.ensures.items in
+    let counts : c.in_ok-counts.counts ≡ matched_occurs d uses [] cases = c.in_ok-counts.ensures.matched uses n under ∙ ap (λ (e : List CtorId). matched_occurs d uses e cases) start in
+    let noted = c.in_ok-counts.ensures.noted uses n under in
+    let inner : c.mark_cases.new.inner.items ≡ noted.0 = noted.1 ∙ ap (λ (ms : List Notes). ms ++ noted.0) c.new-inner.ensures.items in
+    let bound : c.push.new.self.items ≡ c.in_ok-counts.counts ∷ [] = c.in_ok-push.ensures.items ∙ ap (λ (bs : List Bool). bs ++ c.in_ok-counts.counts ∷ []) c.new-bound.ensures.items in
+    let one : c.push-2.new.self.items ≡ c.in_ok-notes.notes ∷ [] = c.in_ok-push-2.ensures.items ∙ ap (λ (ms : List Notes). ms ++ c.in_ok-notes.notes ∷ []) c.new-under.ensures.items in
+    noted_match d uses f cases c.binder.result c.in_ok-notes.notes c.in_ok-counts.counts noted.0 counts (c.binder.ensures.bound ∙ bound) (c.binder.ensures.under ∙ one) (c.binder.ensures.inner ∙ inner) (λ e. c.in_ok-notes.ensures.noted uses n (may_matched d uses n rows f cases m) e) (subst (λ (e : List CtorId). CasesNoted d uses e cases noted.0) start noted.2)
+
+-- ---- mark_cases
+
+pub mark_cases-returns-in_default-clause-marks : goal.mark_cases-returns-in_default-clause-marks
+mark_cases-returns-in_default-clause-marks t c = λ uses n h.
+    let none : c.args.cases.now ≡ [] = nothing_left c.args.cases.now (omega (arith, c.in_default.len_below)) in
+    sym (ap (λ (cs : List Case). marked (occurs_in_cases c.args.sig.now uses (reverse c.args.earlier.now.items) (cases_of_trees cs)) c.args.flags.now.items) none ∙ marked_none c.args.flags.now.items)
+
+pub mark_cases-returns-in_default-pattern-clause-matched : goal.mark_cases-returns-in_default-pattern-clause-matched
+mark_cases-returns-in_default-pattern-clause-matched t c = λ uses n h.
+    let d = c.args.sig.now in
+    let rows = c.args.rows.now in
+    let first = c.args.flags.now.items in
+    let earlier = reverse c.args.earlier.now.items in
+    let body = formula_of c.case-item.result.body in
+    let later = cases_of_trees (take (length c.args.cases.now - 1) (drop 1 c.args.cases.now)) in
+    let is : cases_of_trees c.args.cases.now ≡ with_case Any body later = ap cases_of_trees (rest_item c.args.cases.now c.case-item.result c.in-len1-up.len_at_least c.case-item.is) ∙ (cases_split c.case-item.result (take (length c.args.cases.now - 1) (drop 1 c.args.cases.now)) ∙ ap (λ (p : Pattern). with_case p body later) (pattern_any c.case-item.result.pattern c.in_default-pattern.not-Ctor)) in
+    let may = may_case d uses n rows Any body later (subst (MayMarkCases d uses n rows) is h) in
+    c.has_set.ensures.value ∙ (matched_any d uses n rows earlier body later c.as_slice.result.now (c.as_slice.ensures.value ∙ c.in_ok-bound.ensures.flags uses n may) ∙ ap (matched_occurs d uses earlier) (sym is))
+
+pub mark_cases-returns-in_default-pattern-clause-marks : goal.mark_cases-returns-in_default-pattern-clause-marks
+mark_cases-returns-in_default-pattern-clause-marks t c = λ uses n h.
+    let d = c.args.sig.now in
+    let rows = c.args.rows.now in
+    let first = c.args.flags.now.items in
+    let earlier = reverse c.args.earlier.now.items in
+    let body = formula_of c.case-item.result.body in
+    let later = cases_of_trees (take (length c.args.cases.now - 1) (drop 1 c.args.cases.now)) in
+    let is : cases_of_trees c.args.cases.now ≡ with_case Any body later = ap cases_of_trees (rest_item c.args.cases.now c.case-item.result c.in-len1-up.len_at_least c.case-item.is) ∙ (cases_split c.case-item.result (take (length c.args.cases.now - 1) (drop 1 c.args.cases.now)) ∙ ap (λ (p : Pattern). with_case p body later) (pattern_any c.case-item.result.pattern c.in_default-pattern.not-Ctor)) in
+    let may = may_case d uses n rows Any body later (subst (MayMarkCases d uses n rows) is h) in
+    c.in_ok-bound.ensures.marks uses n may ∙ (marks_any d uses n rows earlier body later first ∙ ap (λ (cs : Cases). marked (occurs_in_cases d uses earlier cs) first) (sym is))
+
+pub mark_cases-returns-in_default-pattern-clause-noted : goal.mark_cases-returns-in_default-pattern-clause-noted
+mark_cases-returns-in_default-pattern-clause-noted t c = λ uses n h.
+    let d = c.args.sig.now in
+    let rows = c.args.rows.now in
+    let first = c.args.flags.now.items in
+    let earlier = reverse c.args.earlier.now.items in
+    let body = formula_of c.case-item.result.body in
+    let later = cases_of_trees (take (length c.args.cases.now - 1) (drop 1 c.args.cases.now)) in
+    let is : cases_of_trees c.args.cases.now ≡ with_case Any body later = ap cases_of_trees (rest_item c.args.cases.now c.case-item.result c.in-len1-up.len_at_least c.case-item.is) ∙ (cases_split c.case-item.result (take (length c.args.cases.now - 1) (drop 1 c.args.cases.now)) ∙ ap (λ (p : Pattern). with_case p body later) (pattern_any c.case-item.result.pattern c.in_default-pattern.not-Ctor)) in
+    let may = may_case d uses n rows Any body later (subst (MayMarkCases d uses n rows) is h) in
+    let noted = c.in_ok-bound.ensures.noted uses n may in
+    (noted.0 ∷ [], noted.1, subst (λ (cs : Cases). CasesNoted d uses earlier cs (noted.0 ∷ [])) (sym is) noted.2)
+
+pub mark_cases-field_count-count-requires : goal.mark_cases-field_count-count-requires
+mark_cases-field_count-count-requires t c =
+    let may = c.requires.may in
+    let d = c.args.sig.now in
+    let rows = c.args.rows.now in
+    let first = c.args.flags.now.items in
+    let earlier = reverse c.args.earlier.now.items in
+    let body = formula_of c.case-item.result.body in
+    let later = cases_of_trees (take (length c.args.cases.now - 1) (drop 1 c.args.cases.now)) in
+    let is : cases_of_trees c.args.cases.now ≡ with_case (Ctor c.in-Ctor.c) body later = ap cases_of_trees (rest_item c.args.cases.now c.case-item.result c.in-len1-up.len_at_least c.case-item.is) ∙ (cases_split c.case-item.result (take (length c.args.cases.now - 1) (drop 1 c.args.cases.now)) ∙ ap (λ (p : Pattern). with_case p body later) c.in-Ctor.is) in
+    record { declared = case_constructor d may.0 may.1 rows c.in-Ctor.c body later (subst (MayMarkCases d may.0 may.1 rows) is may.2) }
+
+pub mark_cases-stands_alone-requires : goal.mark_cases-stands_alone-requires
+mark_cases-stands_alone-requires t c =
+    let may = c.requires.may in
+    let d = c.args.sig.now in
+    let rows = c.args.rows.now in
+    let first = c.args.flags.now.items in
+    let earlier = reverse c.args.earlier.now.items in
+    let body = formula_of c.case-item.result.body in
+    let later = cases_of_trees (take (length c.args.cases.now - 1) (drop 1 c.args.cases.now)) in
+    let is : cases_of_trees c.args.cases.now ≡ with_case (Ctor c.in-Ctor.c) body later = ap cases_of_trees (rest_item c.args.cases.now c.case-item.result c.in-len1-up.len_at_least c.case-item.is) ∙ (cases_split c.case-item.result (take (length c.args.cases.now - 1) (drop 1 c.args.cases.now)) ∙ ap (λ (p : Pattern). with_case p body later) c.in-Ctor.is) in
+    record { declared = case_constructor d may.0 may.1 rows c.in-Ctor.c body later (subst (MayMarkCases d may.0 may.1 rows) is may.2) }
+
+pub mark_cases-returns-then-stands_alone-clause-matched : goal.mark_cases-returns-then-stands_alone-clause-matched
+mark_cases-returns-then-stands_alone-clause-matched t c = λ uses n h.
+    let d = c.args.sig.now in
+    let rows = c.args.rows.now in
+    let first = c.args.flags.now.items in
+    let earlier = reverse c.args.earlier.now.items in
+    let body = formula_of c.case-item.result.body in
+    let later = cases_of_trees (take (length c.args.cases.now - 1) (drop 1 c.args.cases.now)) in
+    let is : cases_of_trees c.args.cases.now ≡ with_case (Ctor c.in-Ctor.c) body later = ap cases_of_trees (rest_item c.args.cases.now c.case-item.result c.in-len1-up.len_at_least c.case-item.is) ∙ (cases_split c.case-item.result (take (length c.args.cases.now - 1) (drop 1 c.args.cases.now)) ∙ ap (λ (p : Pattern). with_case p body later) c.in-Ctor.is) in
+    let k = c.in-Ctor.c in
+    let here = subst (MayMarkCases d uses n rows) is h in
+    let may = may_case d uses n rows (Ctor k) body later here in
+    let fits : (surely_fits d earlier k || are_none later) ≡ true = sym (c.if-stands_alone.ensures.value ∙ ap (λ (e : List CtorId). surely_fits d (reverse e) k || are_none later) c.as_slice-2.ensures.value) in
+    let bound : c.as_slice-then-stands_alone.result.now ≡ listed (occurs d uses body) (field_count d k) =
+    c.as_slice-then-stands_alone.ensures.value ∙ (c.in_ok-bound-2.ensures.flags uses n may ∙ ap (listed (occurs d uses body)) c.field_count-count.ensures.count) in
+    c.has_set-then-stands_alone.ensures.value ∙ (matched_last d uses n rows earlier k body later c.as_slice-then-stands_alone.result.now fits bound ∙ ap (matched_occurs d uses earlier) (sym is))
+
+pub mark_cases-returns-then-stands_alone-clause-marks : goal.mark_cases-returns-then-stands_alone-clause-marks
+mark_cases-returns-then-stands_alone-clause-marks t c = λ uses n h.
+    let d = c.args.sig.now in
+    let rows = c.args.rows.now in
+    let first = c.args.flags.now.items in
+    let earlier = reverse c.args.earlier.now.items in
+    let body = formula_of c.case-item.result.body in
+    let later = cases_of_trees (take (length c.args.cases.now - 1) (drop 1 c.args.cases.now)) in
+    let is : cases_of_trees c.args.cases.now ≡ with_case (Ctor c.in-Ctor.c) body later = ap cases_of_trees (rest_item c.args.cases.now c.case-item.result c.in-len1-up.len_at_least c.case-item.is) ∙ (cases_split c.case-item.result (take (length c.args.cases.now - 1) (drop 1 c.args.cases.now)) ∙ ap (λ (p : Pattern). with_case p body later) c.in-Ctor.is) in
+    let k = c.in-Ctor.c in
+    let here = subst (MayMarkCases d uses n rows) is h in
+    let may = may_case d uses n rows (Ctor k) body later here in
+    let fits : (surely_fits d earlier k || are_none later) ≡ true = sym (c.if-stands_alone.ensures.value ∙ ap (λ (e : List CtorId). surely_fits d (reverse e) k || are_none later) c.as_slice-2.ensures.value) in
+    c.in_ok-bound-2.ensures.marks uses n may
+    ∙ (ap (λ (m : ℕ). marked (λ i. occurs d uses body (i + m)) first) c.field_count-count.ensures.count
+    ∙ (marks_last d uses n rows earlier k body later first fits ∙ ap (λ (cs : Cases). marked (occurs_in_cases d uses earlier cs) first) (sym is)))
+
+pub mark_cases-returns-then-stands_alone-clause-noted : goal.mark_cases-returns-then-stands_alone-clause-noted
+mark_cases-returns-then-stands_alone-clause-noted t c = λ uses n h.
+    let d = c.args.sig.now in
+    let rows = c.args.rows.now in
+    let first = c.args.flags.now.items in
+    let earlier = reverse c.args.earlier.now.items in
+    let body = formula_of c.case-item.result.body in
+    let later = cases_of_trees (take (length c.args.cases.now - 1) (drop 1 c.args.cases.now)) in
+    let is : cases_of_trees c.args.cases.now ≡ with_case (Ctor c.in-Ctor.c) body later = ap cases_of_trees (rest_item c.args.cases.now c.case-item.result c.in-len1-up.len_at_least c.case-item.is) ∙ (cases_split c.case-item.result (take (length c.args.cases.now - 1) (drop 1 c.args.cases.now)) ∙ ap (λ (p : Pattern). with_case p body later) c.in-Ctor.is) in
+    let k = c.in-Ctor.c in
+    let here = subst (MayMarkCases d uses n rows) is h in
+    let may = may_case d uses n rows (Ctor k) body later here in
+    let fits : (surely_fits d earlier k || are_none later) ≡ true = sym (c.if-stands_alone.ensures.value ∙ ap (λ (e : List CtorId). surely_fits d (reverse e) k || are_none later) c.as_slice-2.ensures.value) in
+    let noted = c.in_ok-bound-2.ensures.noted uses n may in
+    (noted.0 ∷ [], noted.1, subst (λ (cs : Cases). CasesNoted d uses earlier cs (noted.0 ∷ [])) (sym is) (cases_last d uses earlier k body later noted.0 fits noted.2))
+
+pub mark_cases-returns-clause-matched : goal.mark_cases-returns-clause-matched
+mark_cases-returns-clause-matched t c = λ uses n h.
+    let d = c.args.sig.now in
+    let rows = c.args.rows.now in
+    let first = c.args.flags.now.items in
+    let earlier = reverse c.args.earlier.now.items in
+    let body = formula_of c.case-item.result.body in
+    let later = cases_of_trees (take (length c.args.cases.now - 1) (drop 1 c.args.cases.now)) in
+    let is : cases_of_trees c.args.cases.now ≡ with_case (Ctor c.in-Ctor.c) body later = ap cases_of_trees (rest_item c.args.cases.now c.case-item.result c.in-len1-up.len_at_least c.case-item.is) ∙ (cases_split c.case-item.result (take (length c.args.cases.now - 1) (drop 1 c.args.cases.now)) ∙ ap (λ (p : Pattern). with_case p body later) c.in-Ctor.is) in
+    let k = c.in-Ctor.c in
+    let here = subst (MayMarkCases d uses n rows) is h in
+    let may = may_case d uses n rows (Ctor k) body later here in
+    let fits : (surely_fits d earlier k || are_none later) ≡ false = sym (c.if-stands_alone.ensures.value ∙ ap (λ (e : List CtorId). surely_fits d (reverse e) k || are_none later) c.as_slice-2.ensures.value) in
+    matched_more d uses n rows earlier k body later fits ∙ ap (matched_occurs d uses earlier) (sym is)
+
+pub mark_cases-returns-clause-marks : goal.mark_cases-returns-clause-marks
+mark_cases-returns-clause-marks t c = λ uses n h.
+    let d = c.args.sig.now in
+    let rows = c.args.rows.now in
+    let first = c.args.flags.now.items in
+    let earlier = reverse c.args.earlier.now.items in
+    let body = formula_of c.case-item.result.body in
+    let later = cases_of_trees (take (length c.args.cases.now - 1) (drop 1 c.args.cases.now)) in
+    let is : cases_of_trees c.args.cases.now ≡ with_case (Ctor c.in-Ctor.c) body later = ap cases_of_trees (rest_item c.args.cases.now c.case-item.result c.in-len1-up.len_at_least c.case-item.is) ∙ (cases_split c.case-item.result (take (length c.args.cases.now - 1) (drop 1 c.args.cases.now)) ∙ ap (λ (p : Pattern). with_case p body later) c.in-Ctor.is) in
+    let k = c.in-Ctor.c in
+    let here = subst (MayMarkCases d uses n rows) is h in
+    let may = may_case d uses n rows (Ctor k) body later here in
+    let fits : (surely_fits d earlier k || are_none later) ≡ false = sym (c.if-stands_alone.ensures.value ∙ ap (λ (e : List CtorId). surely_fits d (reverse e) k || are_none later) c.as_slice-2.ensures.value) in
+    let longer : reverse c.push.new.self.items ≡ k ∷ earlier = ap reverse c.in_ok-push.ensures.items ∙ reverse-append c.args.earlier.now.items (k ∷ []) in
+    let rest_may = may_later d uses n rows (Ctor k) body later here in
+    let under : c.mark_under-2.new.flags.items ≡ marked (λ i. occurs d uses body (i + field_count d k)) first =
+    c.in_ok-bound-2.ensures.marks uses n may ∙ ap (λ (m : ℕ). marked (λ i. occurs d uses body (i + m)) first) c.field_count-count.ensures.count in
+    c.in_ok-mark_cases.ensures.marks uses n rest_may
+    ∙ (ap₂ (λ (e : List CtorId) (bs : List Bool). marked (occurs_in_cases d uses e later) bs) longer under
+    ∙ (marks_more d uses n rows earlier k body later first fits ∙ ap (λ (cs : Cases). marked (occurs_in_cases d uses earlier cs) first) (sym is)))
+
+pub mark_cases-returns-clause-noted : goal.mark_cases-returns-clause-noted
+mark_cases-returns-clause-noted t c = λ uses n h.
+    let d = c.args.sig.now in
+    let rows = c.args.rows.now in
+    let first = c.args.flags.now.items in
+    let earlier = reverse c.args.earlier.now.items in
+    let body = formula_of c.case-item.result.body in
+    let later = cases_of_trees (take (length c.args.cases.now - 1) (drop 1 c.args.cases.now)) in
+    let is : cases_of_trees c.args.cases.now ≡ with_case (Ctor c.in-Ctor.c) body later = ap cases_of_trees (rest_item c.args.cases.now c.case-item.result c.in-len1-up.len_at_least c.case-item.is) ∙ (cases_split c.case-item.result (take (length c.args.cases.now - 1) (drop 1 c.args.cases.now)) ∙ ap (λ (p : Pattern). with_case p body later) c.in-Ctor.is) in
+    let k = c.in-Ctor.c in
+    let here = subst (MayMarkCases d uses n rows) is h in
+    let may = may_case d uses n rows (Ctor k) body later here in
+    let fits : (surely_fits d earlier k || are_none later) ≡ false = sym (c.if-stands_alone.ensures.value ∙ ap (λ (e : List CtorId). surely_fits d (reverse e) k || are_none later) c.as_slice-2.ensures.value) in
+    let longer : reverse c.push.new.self.items ≡ k ∷ earlier = ap reverse c.in_ok-push.ensures.items ∙ reverse-append c.args.earlier.now.items (k ∷ []) in
+    let rest_may = may_later d uses n rows (Ctor k) body later here in
+    let noted = c.in_ok-bound-2.ensures.noted uses n may in
+    let others = c.in_ok-mark_cases.ensures.noted uses n rest_may in
+    let all : c.mark_cases.new.inner.items ≡ c.args.inner.now.items ++ (noted.0 ∷ others.0) = others.1 ∙ (ap (λ (ms : List Notes). ms ++ others.0) noted.1 ∙ append_assoc c.args.inner.now.items (noted.0 ∷ []) others.0) in
+    (noted.0 ∷ others.0, all, subst (λ (cs : Cases). CasesNoted d uses earlier cs (noted.0 ∷ others.0)) (sym is) (cases_more d uses earlier k body later noted.0 others.0 noted.2 (subst (λ (e : List CtorId). CasesNoted d uses e later others.0) longer others.2)))

@@ -1,0 +1,52 @@
+use Rattle.std.proofs.Common.{◌+◌, ◌*◌, length}
+use Rattle.ct_terms.specs.TreeFormula.{formula_of, formulas_of_trees}
+use Rattle.ct_compile.specs.Weight.{weight, weights, case_weights}
+use Rattle.ct_compile.specs.CaseFormula.{cases_of_trees}
+use Rattle.ct_compile.proofs.MayLemmas.{MarksRest, MarksBound}
+use Rattle.ct_compile.proofs.NoteLemmas.{NotesRest, NotesBound}
+use Rattle.ct_compile.proofs.occurrence.+mark.Given as goal
+
+abbrev pub decreases-mark : goal.decreases-mark
+decreases-mark l = 2 * weight (λ k. 0) (formula_of l.tree.now)
+
+abbrev pub decreases-mark_all : goal.decreases-mark_all
+decreases-mark_all l = 2 * weights (λ k. 0) (formulas_of_trees l.trees.now)
+
+abbrev pub decreases-mark_bound : goal.decreases-mark_bound
+decreases-mark_bound l = 2 * weights (λ k. 0) (formulas_of_trees l.trees.now)
+
+abbrev pub decreases-mark_where : goal.decreases-mark_where
+decreases-mark_where l = 2 * weight (λ k. 0) (formula_of l.tree.now) + 1
+
+abbrev pub decreases-mark_under : goal.decreases-mark_under
+decreases-mark_under l = 2 * weight (λ k. 0) (formula_of l.tree.now) + 1
+
+abbrev pub decreases-mark_match : goal.decreases-mark_match
+decreases-mark_match l = 2 * weight (λ k. 0) (formula_of l.matched.now) + 2 * case_weights (λ k. 0) (cases_of_trees l.cases.now) + 2
+
+abbrev pub decreases-mark_cases : goal.decreases-mark_cases
+decreases-mark_cases l = 2 * case_weights (λ k. 0) (cases_of_trees l.cases.now)
+
+abbrev pub invariant-mark_all-loop-rest : goal.invariant-mark_all-loop-rest
+invariant-mark_all-loop-rest l = record {
+  marks : MarksRest l.sig l.rows (formulas_of_trees l.trees) l.initial.flags.items (formulas_of_trees l.rest) l.flags.items;
+  notes : NotesRest l.sig l.rows (formulas_of_trees l.trees) (formulas_of_trees l.rest) l.all.items;
+}
+
+abbrev pub decreases-mark_all-loop-rest : goal.decreases-mark_all-loop-rest
+decreases-mark_all-loop-rest l = length l.rest
+
+abbrev pub invariant-mark_bound-loop-rest : goal.invariant-mark_bound-loop-rest
+invariant-mark_bound-loop-rest l = record {
+  marks : MarksBound l.sig l.rows l.bound (formulas_of_trees l.trees) l.initial.flags.items l.left (formulas_of_trees l.rest) l.flags.items;
+  notes : NotesBound l.sig l.rows l.bound (formulas_of_trees l.trees) l.left (formulas_of_trees l.rest) l.all.items;
+}
+
+abbrev pub decreases-mark_bound-loop-rest : goal.decreases-mark_bound-loop-rest
+decreases-mark_bound-loop-rest l = length l.rest
+
+abbrev pub decreases-mark_choice : goal.decreases-mark_choice
+decreases-mark_choice l = 2 * weight (λ k. 0) (formula_of l.condition.now) + 2 * weight (λ k. 0) (formula_of l.first.now) + 2 * weight (λ k. 0) (formula_of l.second.now) + 1
+
+abbrev pub decreases-mark_let : goal.decreases-mark_let
+decreases-mark_let l = 2 * weights (λ k. 0) (formulas_of_trees l.trees.now) + 2 * weight (λ k. 0) (formula_of l.body.now) + 2

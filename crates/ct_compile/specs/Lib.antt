@@ -1,0 +1,13 @@
+pub mod Laws
+pub mod Effect
+pub mod Forms
+pub mod Weight
+pub mod Ready
+pub mod Pairing
+pub mod Following
+pub mod Marks
+pub mod CaseFormula
+pub mod Binding
+pub mod Calling
+pub mod Matching
+pub mod Noted

@@ -1,0 +1,44 @@
+-- Flags of variables: those of the variables that occur in a core term are set.
+use Rattle.std.specs.Prelude.{◌≡◌, ℕ, zero, suc, ◌<◌, Bool, false, ◌||◌, List, [], ◌∷◌, length, Some, slice_get}
+use Rattle.ct_sorts.specs.declared.ids.DefId.{DefId}
+use Rattle.ct_sorts.specs.declared.ids.SortId.{SortId}
+use Rattle.ct_sorts.specs.Declarations.{Declarations, Function}
+use Rattle.ct_terms.specs.Formula.{Formula, Formulas, Cases, MentionsBelow, AllMentionBelow, CasesMentionBelow}
+use Rattle.ct_terms.specs.FormulaSorts.{IsSorted, AreSorted, AreSortedCases}
+
+-- the test for each number below the bound, the greatest first: the flags of a binder's variables, in the order of binding
+abbrev pub listed : (ℕ → Bool) → ℕ → List Bool
+listed p zero = []
+listed p (suc n) = p n ∷ listed p n
+
+-- flags, that of variable 0 last, with those of the test set
+abbrev pub marked : (ℕ → Bool) → List Bool → List Bool
+marked p [] = []
+marked p (b ∷ bs) = (b || p (length bs)) ∷ marked p bs
+
+-- a flag is set
+abbrev pub has_set : List Bool → Bool
+has_set [] = false
+has_set (b ∷ bs) = b || has_set bs
+
+-- each definition below the number has a row: the flags of its parameters, in order
+abbrev pub HaveRows : Declarations → (DefId → ℕ → Bool) → ℕ → List (List Bool) → Type 0
+HaveRows d uses n rows = (k : DefId) (definition : Function) → k.0 < n → slice_get d.definitions k.0 ≡ Some definition → slice_get rows k.0 ≡ Some (listed (uses k) (length definition.args))
+
+-- what occurs in the formula can be worked out
+pub record MayMark (d : Declarations) (uses : DefId → ℕ → Bool) (n : ℕ) (rows : List (List Bool)) (t : Formula) : Type 0 where
+  pub have : HaveRows d uses n rows
+  pub mentions : MentionsBelow n t
+  pub sorted : (sorts : List SortId) × (sort : SortId) × IsSorted d sorts t sort
+
+-- the same of several formulas
+pub record MayMarkAll (d : Declarations) (uses : DefId → ℕ → Bool) (n : ℕ) (rows : List (List Bool)) (ts : Formulas) : Type 0 where
+  pub have : HaveRows d uses n rows
+  pub mentions : AllMentionBelow n ts
+  pub sorted : (sorts : List SortId) × (each : List SortId) × AreSorted d sorts ts each
+
+-- the same of cases
+pub record MayMarkCases (d : Declarations) (uses : DefId → ℕ → Bool) (n : ℕ) (rows : List (List Bool)) (cases : Cases) : Type 0 where
+  pub have : HaveRows d uses n rows
+  pub mentions : CasesMentionBelow n cases
+  pub sorted : (sorts : List SortId) × (side : SortId) × (sort : SortId) × AreSortedCases d sorts side cases sort

@@ -1,0 +1,83 @@
+//! Environments: what the variables stand for, variable 0 first.
+ghost use Rattle.std.specs.Prelude.{◌≡◌, ◌++◌, [], ◌∷◌, map, IfOk, OnOk};
+ghost use Rattle.ct_terms.specs.Formula.{bind as bound_over};
+ghost use Rattle.ct_compile.specs.Matching.{field_of, bound_by, IsDeclared};
+
+use crate::bound::Bound;
+use ct_sorts::{SelId, Signature};
+use ct_terms::Pattern;
+use std::alloc::{AllocError, Global};
+
+/// The environment under these, which are bound in order.
+pub(crate) fn bind(alloc: Global, bounds: &[Bound], env: &[Bound]) -> Result<Vec<Bound>, AllocError>
+    ensures bound { IfOk result (λ inner. inner.items ≡ bound_over bounds.now env.now) }
+{
+    let mut inner = Vec::new(alloc);
+    let mut rest = bounds;
+    while let [more @ .., last] = rest {
+        inner.push(*last)?;
+        rest = more;
+    }
+    add_all(&mut inner, env)?;
+    Ok(inner)
+}
+
+// These after what there is.
+fn add_all(all: &mut Vec<Bound>, others: &[Bound]) -> Result<(), AllocError>
+    ensures added { OnOk result (all.new.items ≡ all.old.items ++ others.now) }
+{
+    let mut rest = others;
+    while let [bound, more @ ..] = rest {
+        all.push(*bound)?;
+        rest = more;
+    }
+    Ok(())
+}
+
+/// What the variables of a pattern stand for, in order.
+pub(crate) fn pattern_bounds(
+    alloc: Global,
+    sig: &Signature,
+    pattern: Pattern,
+    matched: Bound,
+) -> Result<Vec<Bound>, AllocError>
+    requires declared { IsDeclared sig.now pattern }
+    ensures bounds { IfOk result (λ bounds. bounds.items ≡ bound_by sig.now pattern matched) }
+{
+    match pattern {
+        Pattern::Any => one(alloc, matched),
+        Pattern::Ctor(c) => fields(alloc, matched, sig.ctor_sels(c)),
+    }
+}
+
+// What is matched alone.
+fn one(alloc: Global, matched: Bound) -> Result<Vec<Bound>, AllocError>
+    ensures bounds { IfOk result (λ bounds. bounds.items ≡ matched ∷ []) }
+{
+    let mut bounds = Vec::new(alloc);
+    bounds.push(matched)?;
+    Ok(bounds)
+}
+
+// The fields of what is matched, in order.
+fn fields(alloc: Global, matched: Bound, sels: &[SelId]) -> Result<Vec<Bound>, AllocError>
+    ensures bounds { IfOk result (λ bounds. bounds.items ≡ map (field_of matched) sels.now) }
+{
+    let mut bounds = Vec::new(alloc);
+    let mut rest = sels;
+    while let [sel, others @ ..] = rest {
+        bounds.push(field(matched, *sel))?;
+        rest = others;
+    }
+    Ok(bounds)
+}
+
+// A field of what is matched.
+fn field(matched: Bound, sel: SelId) -> Bound
+    ensures value { result ≡ field_of matched sel }
+{
+    match matched {
+        Bound::Term(t) => Bound::Field(sel, t),
+        Bound::Field(_, _) | Bound::Absent => Bound::Absent,
+    }
+}

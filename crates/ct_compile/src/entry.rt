@@ -1,0 +1,74 @@
+//! The core term of a formula: the call that scripts and checks make.
+ghost use Rattle.std.specs.Prelude.{◌≡◌, ◌<◌, ◌≤◌, ℕ, List, [], length, map, Contains, IfOk, IsErrOf};
+ghost use Rattle.ct_sorts.specs.declared.ids.SortId.{SortId};
+ghost use Rattle.ct_terms.specs.declared.ids.TermId.{TermId};
+ghost use Rattle.ct_terms.specs.Terms.{AreSorted};
+ghost use Rattle.ct_terms.specs.CoreTree.{CoreTree, subtrees, term_at};
+ghost use Rattle.ct_terms.specs.FormulaSorts.{IsSorted, AreSound};
+ghost use Rattle.ct_terms.specs.TreeFormula.{formula_of};
+ghost use Rattle.ct_terms.specs.Compiled.{core_of};
+ghost use Rattle.ct_compile.specs.Effect.{IsPrefix, DoNotFit};
+
+use crate::laws::laws;
+use crate::occurrence::notes_on;
+use crate::rows::rows_of;
+use crate::scope::Scope;
+use crate::terms::compile_tree;
+use ct_terms::{TermError, TermId, TermTable, Tree};
+use indexmap::IndexMap;
+use std::alloc::Global;
+
+/// The number of the core term of a formula: bindings, definitions and `match` are expanded, and
+/// operators over several formulas are brought to the kinds of core terms.
+///
+/// The table grows by subterms of the core term alone, from left to right, each after the terms under it. What is
+/// bound comes before the body, and makes no term where its variable does not occur; so do the arguments of a
+/// definition, and what is matched. A definition is compiled once for each list of arguments. `Full` comes where
+/// the table holds 400,000 terms and does not have one of these. After an error the caller cuts the table back.
+pub fn compile(
+    alloc: Global,
+    scope: &Scope,
+    table: &mut TermTable,
+    tree: &Tree,
+) -> Result<TermId, TermError>
+    requires sound { AreSound scope.now.sig (map formula_of scope.now.bodies) }
+    requires closed { (sort : SortId) × IsSorted scope.now.sig [] (formula_of tree.now) sort }
+    requires table { AreSorted scope.now.sig table.old }
+    ensures grown { IsPrefix table.old table.new }
+    ensures sorted { AreSorted scope.now.sig table.new }
+    ensures core { IfOk result (λ t. (t.0 < length table.new)
+        × (term_at table.new t ≡ core_of scope.now.sig (map formula_of scope.now.bodies) [] (formula_of tree.now))) }
+    ensures nothing_else { (t : TermId) → length table.old ≤ t.0 → t.0 < length table.new
+        → Contains (subtrees (core_of scope.now.sig (map formula_of scope.now.bodies) [] (formula_of tree.now))) (term_at table.new t) }
+
+    // Every subterm of the core term is a term of the new table.
+    ensures complete { IfOk result (λ t. (s : CoreTree)
+        → Contains (subtrees (core_of scope.now.sig (map formula_of scope.now.bodies) [] (formula_of tree.now))) s
+        → (u : TermId) × (u.0 ≤ t.0) × (term_at table.new u ≡ s)) }
+
+    // The subterms of the core term that the table did not have are too many.
+    ensures full { IsErrOf result TermError.Full → (trees : List CoreTree)
+        × DoNotFit (subtrees (core_of scope.now.sig (map formula_of scope.now.bodies) [] (formula_of tree.now))) table.old trees }
+{
+    // These say what a formula needs to be compiled: the theorems, that the declarations agree with
+    // each other, and that terms come after the terms under them.
+    laws();
+    scope.sig.sorts();
+    table.len();
+    let mut definitions = Vec::new(alloc);
+    let rows = rows_of(alloc, scope, &mut definitions)?;
+    let notes = notes_on(alloc, &scope.sig, &rows, tree)?;
+    let mut known = IndexMap::new(alloc);
+    compile_tree(
+        alloc,
+        scope,
+        &rows,
+        definitions.as_slice(),
+        &mut known,
+        table,
+        scope.bodies.len(),
+        &[],
+        tree,
+        notes.alone(),
+    )
+}

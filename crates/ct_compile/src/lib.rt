@@ -1,0 +1,25 @@
+//! Compiling: the core term of a formula, made in a table of terms.
+#![tactic(auto)]
+
+mod bindings;
+mod bound;
+mod chains;
+mod combine;
+mod entry;
+mod fitting;
+mod follow;
+mod forms;
+mod known;
+mod laws;
+mod make;
+mod matching;
+mod notes;
+mod occurrence;
+mod operator;
+mod operators;
+mod rows;
+mod scope;
+mod terms;
+
+pub use entry::compile;
+pub use scope::Scope;

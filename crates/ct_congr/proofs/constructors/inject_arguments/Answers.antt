@@ -1,0 +1,89 @@
+use Rattle.std.proofs.Common.{◌≡◌, ◌<◌, List, get_or, slice_get, length, Some, refl, sym, ap, subst, ◌∙◌, inl, inr, arith}
+use Rattle.std.proofs.lemmas.Option.{same_Some, slice_get-get_or, slice_get_within}
+use Rattle.ct_sorts.specs.declared.ids.SelId.{SelId}
+use Rattle.ct_sorts.specs.Declarations.{Constructor, Selector}
+use Rattle.ct_terms.specs.declared.ids.TermId.{TermId}
+use Rattle.ct_congr.specs.Partition.{InOneClass}
+use Rattle.ct_congr.proofs.ListLemmas.{nat_cases, option_map-source}
+use Rattle.ct_congr.proofs.constructors.inject_arguments.Goals as goal
+use Rattle.ct_congr.proofs.constructors.inject_arguments.Goals.{In_ok-need}
+
+abbrev zeroth : SelId
+zeroth = record { 0 = 0 }
+
+abbrev first : TermId
+first = record { 0 = 0 }
+
+-- the place of the selector is its index, where both lists have an argument
+record IsPlace (c : In_ok-need) : Type 0 where
+  is : c.sel_place-place.result ≡ c.loop-s.s-index
+  left : c.sel_place-place.result < length c.args.xs.now
+  right : c.sel_place-place.result < length c.args.ys.now
+
+place : (c : In_ok-need) → IsPlace c
+place c =
+    let d = c.args.sig.now in
+    let sels = c.ctor_sels-s-items.result.now in
+    let s = get_or sels c.loop-s.s-index zeroth in
+    let ctor = option_map-source (λ (q : Constructor). q.sels) (slice_get d.ctors c.args.c.0) sels c.ctor_sels-s-items.ensures.value in
+    let listed : slice_get ctor.0.sels c.loop-s.s-index ≡ Some s = ap (λ (l : List SelId). slice_get l c.loop-s.s-index) ctor.2 ∙ slice_get-get_or sels c.loop-s.s-index zeroth c.loop-s-test.true in
+    let own = c.structure.ensures.own_selectors d c.sorts.ensures.consistent c.args.c.0 c.loop-s.s-index ctor.0 s ctor.1 listed in
+    let read = option_map-source (λ (q : Selector). q.place) (slice_get d.sels s.0) c.sel_place-place.result c.sel_place-place.ensures.value in
+    let is : c.sel_place-place.result ≡ c.loop-s.s-index = sym read.2 ∙ ap (λ (q : Selector). q.place) (same_Some read.0 own.0 (sym read.1 ∙ own.1)) ∙ own.3 in
+    let long = ap length ctor.2 in
+    record {
+      is = is;
+      left = omega (arith, is, long, c.requires.left ctor.0 ctor.1, c.loop-s-test.true);
+      right = omega (arith, is, long, c.requires.right ctor.0 ctor.1, c.loop-s-test.true);
+    }
+
+pub loop-s-preserved : goal.loop-s-preserved
+loop-s-preserved c =
+    let here = place c in
+    let xs = c.args.xs.now in
+    let ys = c.args.ys.now in
+    let k = c.sel_place-place.result in
+    let x = get_or xs k first in
+    let y = get_or ys k first in
+    record {
+      pairs = λ none j u v below at_u at_v.
+          let both = c.in_ok-need.ensures.none none in
+          elim (nat_cases j c.loop-s.s-index) [
+            | inl e ↦
+                let same : j ≡ k = e ∙ sym here.is in
+                let left : x ≡ u = same_Some x u (sym (slice_get-get_or xs k first here.left) ∙ ap (slice_get xs) (sym same) ∙ at_u) in
+                let right : y ≡ v = same_Some y v (sym (slice_get-get_or ys k first here.right) ∙ ap (slice_get ys) (sym same) ∙ at_v) in
+                subst (λ (q : TermId). InOneClass c.args.reps.now q v) left (subst (InOneClass c.args.reps.now x) right both.1)
+            | inr other ↦ c.loop-s.invariant.pairs both.0 j u v (omega (arith, other, below)) at_u at_v
+          ];
+      before = λ none. c.loop-s.invariant.before (c.in_ok-need.ensures.none none).0;
+      needed = λ terms hyps equal left right old.
+          c.in_ok-need.ensures.needed c.args.sig.now terms hyps (
+            record {
+              left = c.args.sides.0;
+              right = c.args.sides.1;
+              ctor = c.args.c;
+              xs = xs;
+              ys = ys;
+              place = k;
+              equal = equal;
+              left_stands = left;
+              right_stands = right;
+              left_at = slice_get-get_or xs k first here.left;
+              right_at = slice_get-get_or ys k first here.right;
+            },
+            refl,
+            refl,
+            refl,
+          )
+          tt (c.loop-s.invariant.needed terms hyps equal left right old);
+    }
+
+pub returns-clause-closed : goal.returns-clause-closed
+returns-clause-closed c = λ none.
+    let d = c.args.sig.now in
+    let sels = c.ctor_sels-s-items.result.now in
+    let ctor = option_map-source (λ (q : Constructor). q.sels) (slice_get d.ctors c.args.c.0) sels c.ctor_sels-s-items.ensures.value in (
+      c.loop-s.invariant.before none,
+      λ k x y at_x at_y. c.loop-s.invariant.pairs none k x y (omega (arith, slice_get_within c.args.xs.now k x at_x, ap length ctor.2, c.requires.left ctor.0 ctor.1, c.loop-s-test.false)) at_x at_y,
+    )

@@ -1,0 +1,11 @@
+pub mod Partition
+pub mod Reasons
+pub mod Merges
+pub mod Needed
+pub mod Normal
+pub mod Index
+pub mod Rules
+pub mod State
+pub mod Sound
+pub mod Grown
+pub mod Held
