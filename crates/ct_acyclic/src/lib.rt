@@ -1,0 +1,11 @@
+//! Topological orders of the classes of datatype sorts, or cycles through their constructor terms.
+#![tactic(auto)]
+
+mod acyclic;
+mod answer;
+mod classes;
+mod edges;
+mod entries;
+
+pub use acyclic::order;
+pub use answer::{Order, OrderError};

@@ -1,0 +1,9 @@
+mod GrowthLemmas
+mod GateLemmas
+mod ListLemmas
+mod InputLemmas
+mod OrderLemmas
+mod StepLemmas
+mod ClauseLemmas
+mod ExhaustLemmas
+mod MakerLemmas

@@ -1,0 +1,12 @@
+pub mod Each
+pub mod WriteLemmas
+pub mod NumbersBack
+pub mod StepsBack
+pub mod LinesBack
+pub mod SortsBack
+pub mod TermsBack
+pub mod WholeBack
+pub mod ReadLemmas
+pub mod ReadFit
+pub mod SpacedText
+pub mod PlainBack

@@ -1,0 +1,103 @@
+-- Whole derivations that are written are read back.
+use Rattle.std.proofs.Common.{◌≡◌, ℕ, ◌+◌, ◌<◌, ◌≤◌, true, ◌&&◌, nat_lt, List, [], ◌∷◌, ◌++◌, length, map, take, drop, Some, Ok, slice_get, codes, bytes_eq, refl, sym, ap, subst, ◌∙◌, length-append, append_assoc, append-nil, take-append-drop, arith}
+use Rattle.std.specs.List.{list_all}
+use Rattle.ct_sexpr.specs.Expression.{none, more}
+use Rattle.ct_sorts.specs.declared.ids.CtorId.{CtorId}
+use Rattle.ct_sorts.specs.Declarations.{Declarations, Constructor, ctor_names}
+use Rattle.ct_sorts.specs.Consistent.{IsConsistent}
+use Rattle.ct_terms.specs.declared.term.Core.TheVariants.{Con}
+use Rattle.ct_terms.specs.Terms.{Terms, IsTermTable, AreSorted, AreOrdered, AreSingle, most_terms, truths}
+use Rattle.ct_log.specs.declared.line.Line.{Line}
+use Rattle.ct_log.specs.Recorded.{Recorded}
+use Rattle.ct_log_text.specs.Forms.{number_bound}
+use Rattle.ct_log_text.specs.TermLines.{term_line, is_alone}
+use Rattle.ct_log_text.specs.Reading.{Outcome, GivesTerm, read_lines, ReadsTerms, Reads, number_of}
+use Rattle.ct_log_text.specs.Written.{term_item, header_item, end_item, term_items, line_items, expression_of_record}
+use Rattle.ct_log_text.specs.Writable.{is_writable, is_short, are_short, CanBeRead}
+use Rattle.ct_log_text.proofs.NumbersBack.{both_true}
+use Rattle.ct_log_text.proofs.LinesBack.{lines_back, header_back}
+use Rattle.ct_log_text.proofs.TermsBack.{term_line_back, term_back}
+
+module _ (d : Declarations) (terms : Terms) (table : IsTermTable terms) (sorted : AreSorted d terms) (lines : List Line) (m : ℕ) (count : length lines ≡ m) (writable : list_all (is_writable terms) lines ≡ true) where
+  -- where the term lines end
+  at_lines : (place : ℕ) (ls : List Line) (outcome : Outcome) → outcome ≡ read_lines place terms [] (line_items 1 ls (more (end_item m) none)) → ReadsTerms d place terms (line_items 1 ls (more (end_item m) none)) outcome
+  at_lines place [] outcome h = h
+  at_lines place (line ∷ ls) outcome h = h
+
+  -- the terms after others, and the lines
+  pub terms_back : (before : Terms) (n : ℕ) (after : Terms) (place : ℕ) → length before ≡ n → terms ≡ before ++ after
+      → are_short (term_items d n after (line_items 1 lines (more (end_item m) none))) ≡ true
+      → ReadsTerms d place before (term_items d n after (line_items 1 lines (more (end_item m) none))) (Ok (record { terms = terms; lines = lines }))
+  terms_back before n [] place long is short =
+      let all : length lines ≡ m = count in
+      let none_done : 0 + length lines ≡ m = omega (arith, all) in
+      subst (λ ts. ReadsTerms d place ts (line_items 1 lines (more (end_item m) none)) (Ok (record { terms = terms; lines = lines }))) (is ∙ append-nil before)
+      (at_lines place lines (Ok (record { terms = terms; lines = lines })) (sym (lines_back terms table.few place [] 1 lines m refl none_done writable short)))
+  terms_back before n ((core, sort) ∷ after) place long is short =
+      let items = term_items d (n + 1) after (line_items 1 lines (more (end_item m) none)) in
+      let parts = both_true (is_short (term_item d n core)) (are_short items) short in
+      let given = term_back d before after core sort (subst (λ ts. length ts ≤ most_terms) is table.few) (subst AreOrdered is table.ordered) (subst AreSingle is table.single) (subst (AreSorted d) is sorted)
+      (subst (λ k. is_short (term_item d k core) ≡ true) (sym long) parts.0) in
+      let longer : length (before ++ (core, sort) ∷ []) ≡ length before + 1 = length-append before ((core, sort) ∷ []) in
+      let next : length (before ++ (core, sort) ∷ []) ≡ n + 1 = omega (arith, longer, long) in (
+        Ok (before ++ (core, sort) ∷ []),
+        subst (λ k. GivesTerm d before (term_item d k core) (Ok (before ++ (core, sort) ∷ []))) long given,
+        terms_back (before ++ (core, sort) ∷ []) (n + 1) after (place + 1) next (is ∙ sym (append_assoc before ((core, sort) ∷ []) after)) parts.1,
+      )
+
+-- the names of the first two constructors
+first_name : (xs : List Constructor) → slice_get (map (λ x. x.name) xs) 0 ≡ slice_get (map (λ (x : Constructor). x.name) (take 2 xs)) 0
+first_name [] = refl
+first_name (x ∷ xs) = refl
+
+second_name : (xs : List Constructor) → slice_get (map (λ x. x.name) xs) 1 ≡ slice_get (map (λ (x : Constructor). x.name) (take 2 xs)) 1
+second_name [] = refl
+second_name (x ∷ []) = refl
+second_name (x ∷ (y ∷ xs)) = refl
+
+pub true_name : (d : Declarations) → IsConsistent d → slice_get (ctor_names d) 0 ≡ Some (codes "true")
+true_name d consistent = first_name d.ctors ∙ ap (λ (xs : List Constructor). slice_get (map (λ x. x.name) xs) 0) consistent.first_ctors
+
+pub false_name : (d : Declarations) → IsConsistent d → slice_get (ctor_names d) 1 ≡ Some (codes "false")
+false_name d consistent = second_name d.ctors ∙ ap (λ (xs : List Constructor). slice_get (map (λ x. x.name) xs) 1) consistent.first_ctors
+
+-- the line of a constructor alone
+alone_back : (d : Declarations) (n : ℕ) (c : CtorId) (text : List ℕ) → n < most_terms → slice_get (ctor_names d) c.0 ≡ Some text → bytes_eq text text ≡ true → is_short (term_item d n (Con c [])) ≡ true
+    → is_alone text (term_line n (term_item d n (Con c []))) ≡ true
+alone_back d n c text few at same short = rw (term_line_back d n (Con c []) few short) (rw at (rw same refl))
+
+-- the items of a record
+record_back : (d : Declarations) (k : ℕ) (others : Terms) (lines : List Line) → IsConsistent d → 1 ≤ k → IsTermTable (truths ++ others) → AreSorted d (truths ++ others) → list_all (is_writable (truths ++ others)) lines ≡ true
+    → is_short (expression_of_record d k (record { terms = truths ++ others; lines = lines })) ≡ true
+    → Reads d (expression_of_record d k (record { terms = truths ++ others; lines = lines })) (Ok (record { terms = truths ++ others; lines = lines }))
+record_back d k others lines consistent some table sorted writable short =
+    let tail = line_items 1 lines (more (end_item (length lines)) none) in
+    let yes = term_item d 0 (Con (record { 0 = 0 }) []) in
+    let no_line = term_item d 1 (Con (record { 0 = 1 }) []) in
+    let items = term_items d 2 others tail in
+    let first = both_true (is_short (header_item k)) (is_short yes && (is_short no_line && are_short items)) short in
+    let number = both_true (nat_lt k number_bound) true first.0 in
+    let second = both_true (is_short yes) (is_short no_line && are_short items) first.1 in
+    let third = both_true (is_short no_line) (are_short items) second.1 in
+    rw (header_back k some number.0)
+    (rw (alone_back d 0 (record { 0 = 0 }) (codes "true") (omega arith) (true_name d consistent) refl second.0)
+    (rw (alone_back d 1 (record { 0 = 1 }) (codes "false") (omega arith) (false_name d consistent) refl third.0)
+    (terms_back d (truths ++ others) table sorted lines (length lines) refl writable truths 2 others 3 refl refl third.1)))
+
+-- what is written with a number is read back
+pub read_back : (d : Declarations) (k : ℕ) (rec : Recorded) → IsConsistent d → CanBeRead d k rec → Reads d (expression_of_record d k rec) (Ok rec)
+read_back d k rec consistent can =
+    let is : truths ++ drop 2 rec.terms ≡ rec.terms = ap (λ ts. ts ++ drop 2 rec.terms) (sym can.table.begins) ∙ take-append-drop 2 rec.terms in
+    let back = sym is in
+    subst (λ ts. Reads d (expression_of_record d k (record { terms = ts; lines = rec.lines })) (Ok (record { terms = ts; lines = rec.lines }))) is
+    (record_back d k (drop 2 rec.terms) rec.lines consistent can.some (subst IsTermTable back can.table) (subst (AreSorted d) back can.sorted)
+    (subst (λ ts. list_all (is_writable ts) rec.lines ≡ true) back can.lines)
+    (subst (λ ts. is_short (expression_of_record d k (record { terms = ts; lines = rec.lines })) ≡ true) back can.short))
+
+-- and so is the number
+pub number_read_back : (d : Declarations) (k : ℕ) (rec : Recorded) → CanBeRead d k rec → number_of (expression_of_record d k rec) ≡ Some k
+number_read_back d k rec can =
+    let items = term_items d 0 rec.terms (line_items 1 rec.lines (more (end_item (length rec.lines)) none)) in
+    let first = both_true (is_short (header_item k)) (are_short items) can.short in
+    let number = both_true (nat_lt k number_bound) true first.0 in
+    header_back k can.some number.0

@@ -1,0 +1,10 @@
+pub mod Forms
+pub mod TermLines
+pub mod Gates
+pub mod Equalities
+pub mod Lines
+pub mod Fitting
+pub mod Cores
+pub mod Reading
+pub mod Written
+pub mod Writable

@@ -1,0 +1,6 @@
+use Rattle.std.proofs.Common.{take}
+use Rattle.ct_unique.specs.Nodes.{AddsReps}
+use Rattle.ct_unique.proofs.edges.add_reps.Given as goal
+
+abbrev pub invariant-loop-t : goal.invariant-loop-t
+invariant-loop-t l = AddsReps l.classes.reps (take l.t-index l.terms) l.initial.children.items l.children.items

@@ -1,0 +1,3 @@
+pub mod Partition
+pub mod Nodes
+pub mod Found
