@@ -109,7 +109,11 @@ fn show_pairs(
     if exprs.len() != nodes.len() {
         return Err(CaseError::Bad);
     }
-    show(alloc, value_pairs_text(alloc, sig, exprs, &interp.graph, nodes).ok(), out)
+    show(
+        alloc,
+        value_pairs_text(alloc, sig, exprs, &interp.graph, nodes).ok(),
+        out,
+    )
 }
 
 /// Shows the text, where there was memory for it.
