@@ -25,5 +25,5 @@ pub record IsRoomOf (space : Space) (terms : Terms) (lines : List Line) : Type 0
   pub each : (index : ℕ) (line : Line) → slice_get lines index ≡ Some line → HasRoomFor space line.step
 
 -- the size is enough for the equations or hints of the step
-abbrev pub HasSize : ℕ → Step → Type 0
-HasSize size step = HasRoomFor (record { literals = 0; equations = size; others = size }) step
+abbrev pub IsEnoughFor : ℕ → Step → Type 0
+IsEnoughFor size step = HasRoomFor (record { literals = 0; equations = size; others = size }) step

@@ -57,8 +57,9 @@ pub fn accepted(
     Ok(answer)
 }
 
-/// Whether the line of the record at this index is accepted after the lines before it. Its cost is the length of the line
-/// and of the clauses that it names; of an input, the number of assertions. Takes no memory.
+/// Whether the line of the record at this index is accepted after the lines before it. Takes no memory. Its cost is the
+/// length of the line and of the clauses that it names; beside these, an input costs the number of assertions, an
+/// expansion the fields of its constructor, and an argument of a gate the negations over its literal.
 pub fn accepted_at(
     sig: &Signature,
     sizes: &Sizes,

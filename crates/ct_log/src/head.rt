@@ -6,7 +6,7 @@ ghost use Rattle.ct_log.specs.Look.{stored_head};
 use ct_sorts::{CtorId, FunId, SelId};
 use ct_terms::Core;
 
-/// The head of a term. Terms with one head have arguments of the same sorts.
+/// The head of a term.
 #[derive(Clone, Copy, Debug, PartialEq, Eq)]
 pub(crate) enum Head {
     Con(CtorId),

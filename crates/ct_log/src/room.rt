@@ -1,7 +1,7 @@
 //! The working memory with which lines are judged.
 ghost use Rattle.std.specs.Prelude.{◌≡◌, ◌≤◌, ◌*◌, ℕ, Some, IfOk, IfErr, slice_get};
 ghost use Rattle.ct_log.specs.declared.line.Line.{Line};
-ghost use Rattle.ct_log.specs.Rooms.{IsRoomOf, HasSize};
+ghost use Rattle.ct_log.specs.Rooms.{IsRoomOf, IsEnoughFor};
 
 use crate::error::LogError;
 use crate::line::{Line, Step};
@@ -12,7 +12,7 @@ use std::alloc::Global;
 use std::marker::Model;
 
 /// Working memory for the lines of one record: a mark for each literal, and an equation for each step of the longest line
-/// of the theory. A line that is judged with it costs its own length and the lengths of the clauses that it names.
+/// of the theory. Nothing of it is cleared between lines.
 #[derive(Drop)]
 pub struct Room {
     pub(crate) marks: Marks,
@@ -53,7 +53,7 @@ impl Room {
 
 // How many equations or hints the longest of the lines has.
 fn longest(lines: &[Line]) -> usize
-    ensures each { (index : ℕ) (line : Line) → slice_get lines.now index ≡ Some line → HasSize result line.step }
+    ensures each { (index : ℕ) (line : Line) → slice_get lines.now index ≡ Some line → IsEnoughFor result line.step }
 {
     let mut most = 0;
     for line in lines {
@@ -72,7 +72,7 @@ fn larger(a: usize, b: usize) -> usize
 
 /// How many equations or hints the line has.
 pub(crate) fn size_of(line: &Line) -> usize
-    ensures size { HasSize result line.now.step }
+    ensures size { IsEnoughFor result line.now.step }
 {
     match &line.step {
         Step::Input(_) => 0,

@@ -11,7 +11,7 @@ use Rattle.ct_terms.specs.Children.{core_children}
 use Rattle.ct_terms.specs.Terms.{Terms}
 use Rattle.ct_rules.specs.declared.equation.Equation.{Equation}
 use Rattle.ct_rules.specs.Rules.{Equations, Follows, by_reflexivity, by_symmetry, by_transitivity, by_congruence, by_injection, by_selection, by_testing, by_expansion, by_equation_in, by_equation_out, by_negation, by_singleton}
-use Rattle.ct_rules.specs.Derivation.{AreAmong, States, IsHypothesis, IsDerivation, Derives}
+use Rattle.ct_rules.specs.Derivation.{AreAmong, States, IsHypothesis, AreDerived, Derives}
 use Rattle.ct_rules.proofs.ListLemmas.{Contains-from_slice_get, slice_get-from_Contains, slice_get-take, slice_get-take_below, take-slice_get, slice_get-append_left, slice_get-append_right, slice_get-append_cases, AllZip-weaker}
 use Rattle.ct_rules.proofs.FollowsLemmas.{Follows-wider}
 
@@ -39,8 +39,8 @@ module _ (d : Declarations) (terms : Terms) (hyps : List Lit) (given : List Equa
   HasReason-wider known wider each e (inr (inr f)) = inr (inr (Follows-wider d terms known wider each e.left e.right f))
 
   -- a derivation with more equations after it, each with a reason over it and over those before
-  IsDerivation-extend : (es fs : List Equation) → IsDerivation d terms hyps given es → ((k : ℕ) (e : Equation) → slice_get fs k ≡ Some e → HasReason (λ x y. AreAmong es x y ⊎ AreAmong (take k fs) x y) e) → IsDerivation d terms hyps given (es ++ fs)
-  IsDerivation-extend es fs first second index e at =
+  AreDerived-extend : (es fs : List Equation) → AreDerived d terms hyps given es → ((k : ℕ) (e : Equation) → slice_get fs k ≡ Some e → HasReason (λ x y. AreAmong es x y ⊎ AreAmong (take k fs) x y) e) → AreDerived d terms hyps given (es ++ fs)
+  AreDerived-extend es fs first second index e at =
       elim (slice_get-append_cases es fs index e at) [
         | inl h ↦ HasReason-wider (AreAmong (take index es)) (AreAmong (take index (es ++ fs))) early e (first index e h)
         | inr h ↦ HasReason-wider (λ x y. AreAmong es x y ⊎ AreAmong (take h.0 fs) x y) (AreAmong (take index (es ++ fs))) (late h.0 h.1) e (second h.0 e h.2)
@@ -60,18 +60,18 @@ module _ (d : Declarations) (terms : Terms) (hyps : List Lit) (given : List Equa
           among (es ++ fs) index (length es + b.0) x y (omega (arith, b.1, is)) (slice_get-append_right es fs b.0 (equation x y) b.2)
 
   -- two derivations, one after the other
-  IsDerivation-append : (es fs : List Equation) → IsDerivation d terms hyps given es → IsDerivation d terms hyps given fs → IsDerivation d terms hyps given (es ++ fs)
-  IsDerivation-append es fs first second =
-      IsDerivation-extend es fs first (λ k e at. HasReason-wider (AreAmong (take k fs)) (λ x y. AreAmong es x y ⊎ AreAmong (take k fs) x y) (λ x y known. inr known) e (second k e at))
+  AreDerived-append : (es fs : List Equation) → AreDerived d terms hyps given es → AreDerived d terms hyps given fs → AreDerived d terms hyps given (es ++ fs)
+  AreDerived-append es fs first second =
+      AreDerived-extend es fs first (λ k e at. HasReason-wider (AreAmong (take k fs)) (λ x y. AreAmong es x y ⊎ AreAmong (take k fs) x y) (λ x y known. inr known) e (second k e at))
 
-  IsDerivation-none : IsDerivation d terms hyps given []
-  IsDerivation-none index e at = absurd (none-some e at)
+  AreDerived-none : AreDerived d terms hyps given []
+  AreDerived-none index e at = absurd (none-some e at)
 
   -- an equation with a reason over those of a derivation derives
-  Derives-push : (es : List Equation) (e : Equation) → IsDerivation d terms hyps given es → HasReason (AreAmong es) e → Derives d terms hyps given e.left e.right
+  Derives-push : (es : List Equation) (e : Equation) → AreDerived d terms hyps given es → HasReason (AreAmong es) e → Derives d terms hyps given e.left e.right
   Derives-push es e first reason = record {
     equations = es ++ e ∷ [];
-    derived = IsDerivation-extend es (e ∷ []) first last;
+    derived = AreDerived-extend es (e ∷ []) first last;
     stands = Contains-push es e;
   }
     where
@@ -81,19 +81,19 @@ module _ (d : Declarations) (terms : Terms) (hyps : List Lit) (given : List Equa
 
   -- what derives by itself
   pub Derives-hypothesis : (x y : TermId) → IsHypothesis hyps x y → Derives d terms hyps given x y
-  Derives-hypothesis x y h = Derives-push [] (equation x y) IsDerivation-none (inl h)
+  Derives-hypothesis x y h = Derives-push [] (equation x y) AreDerived-none (inl h)
 
   pub Derives-given : (x y : TermId) → AreAmong given x y → Derives d terms hyps given x y
-  Derives-given x y h = Derives-push [] (equation x y) IsDerivation-none (inr (inl h))
+  Derives-given x y h = Derives-push [] (equation x y) AreDerived-none (inr (inl h))
 
   -- one derivation has all these equations
   record HaveOne (xs ys : List TermId) : Type 0 where
     equations : List Equation
-    derived : IsDerivation d terms hyps given equations
+    derived : AreDerived d terms hyps given equations
     stand : AllZip (AreAmong equations) xs ys
 
   HaveOne-all : (xs ys : List TermId) → AllZip (Derives d terms hyps given) xs ys → HaveOne xs ys
-  HaveOne-all [] [] h = record { equations = []; derived = IsDerivation-none; stand = tt }
+  HaveOne-all [] [] h = record { equations = []; derived = AreDerived-none; stand = tt }
   HaveOne-all [] (y ∷ ys) h = absurd h
   HaveOne-all (x ∷ xs) [] h = absurd h
   HaveOne-all (x ∷ xs) (y ∷ ys) h =
@@ -101,7 +101,7 @@ module _ (d : Declarations) (terms : Terms) (hyps : List Lit) (given : List Equa
       let first = h.0 in
       record {
         equations = first.equations ++ rest.equations;
-        derived = IsDerivation-append first.equations rest.equations first.derived rest.derived;
+        derived = AreDerived-append first.equations rest.equations first.derived rest.derived;
         stand = (
           Contains-append_left first.equations rest.equations (equation x y) first.stands,
           AllZip-weaker (AreAmong rest.equations) (AreAmong (first.equations ++ rest.equations)) (λ a b known. Contains-append_right first.equations rest.equations (equation a b) known) xs ys rest.stand,
@@ -109,17 +109,17 @@ module _ (d : Declarations) (terms : Terms) (hyps : List Lit) (given : List Equa
       }
 
   -- what follows by a rule from the equations of one derivation derives
-  by_rule : (es : List Equation) (x y : TermId) → IsDerivation d terms hyps given es → Follows d terms (AreAmong es) x y → Derives d terms hyps given x y
+  by_rule : (es : List Equation) (x y : TermId) → AreDerived d terms hyps given es → Follows d terms (AreAmong es) x y → Derives d terms hyps given x y
   by_rule es x y derived f = Derives-push es (equation x y) derived (inr (inr f))
 
   -- what follows by a rule from equations that derive does
   pub Derives-follows : (x y : TermId) → Follows d terms (Derives d terms hyps given) x y → Derives d terms hyps given x y
-  Derives-follows x y (by_reflexivity r) = by_rule [] x y IsDerivation-none (by_reflexivity r)
+  Derives-follows x y (by_reflexivity r) = by_rule [] x y AreDerived-none (by_reflexivity r)
   Derives-follows x y (by_symmetry r) = by_rule r.equations x y r.derived (by_symmetry r.stands)
   Derives-follows x y (by_transitivity r) =
       let a = r.first in
       let b = r.second in
-      by_rule (a.equations ++ b.equations) x y (IsDerivation-append a.equations b.equations a.derived b.derived) (by_transitivity (record {
+      by_rule (a.equations ++ b.equations) x y (AreDerived-append a.equations b.equations a.derived b.derived) (by_transitivity (record {
         middle = r.middle;
         first = Contains-append_left a.equations b.equations (equation x r.middle) a.stands;
         second = Contains-append_right a.equations b.equations (equation r.middle y) b.stands;
@@ -197,7 +197,7 @@ module _ (d : Declarations) (terms : Terms) (hyps : List Lit) (given : List Equa
     | inl h ↦ by_rule h.0.equations x y h.0.derived (by_negation (record { argument = r.argument; stands = r.stands; answer = inl (h.0.stands, h.1) }))
     | inr h ↦ by_rule h.0.equations x y h.0.derived (by_negation (record { argument = r.argument; stands = r.stands; answer = inr (h.0.stands, h.1) }))
   ]
-  Derives-follows x y (by_singleton r) = by_rule [] x y IsDerivation-none (by_singleton r)
+  Derives-follows x y (by_singleton r) = by_rule [] x y AreDerived-none (by_singleton r)
 
   -- what holds of hypotheses and of what is given, and is closed under the rules, holds of all that derives
   pub Derives-least : (related : Equations) → ((x y : TermId) → IsHypothesis hyps x y → related x y) → ((x y : TermId) → AreAmong given x y → related x y) → ((x y : TermId) → Follows d terms related x y → related x y) → (x y : TermId) → Derives d terms hyps given x y → related x y

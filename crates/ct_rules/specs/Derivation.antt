@@ -20,13 +20,13 @@ abbrev pub IsHypothesis : List Lit → Equations
 IsHypothesis hypotheses x y = (l : Lit) × Contains hypotheses l × States l x y
 
 -- each equation of the list is stated by a hypothesis, is given, or follows from those before it by a rule
-abbrev pub IsDerivation : Declarations → Terms → List Lit → List Equation → List Equation → Type 0
-IsDerivation d terms hypotheses given equations =
+abbrev pub AreDerived : Declarations → Terms → List Lit → List Equation → List Equation → Type 0
+AreDerived d terms hypotheses given equations =
     (index : ℕ) (e : Equation) → slice_get equations index ≡ Some e
     → IsHypothesis hypotheses e.left e.right ⊎ (AreAmong given e.left e.right ⊎ Follows d terms (AreAmong (take index equations)) e.left e.right)
 
 -- the equation stands in such a list
 pub record Derives (d : Declarations) (terms : Terms) (hypotheses : List Lit) (given : List Equation) (x y : TermId) : Type 0 where
   pub equations : List Equation
-  pub derived : IsDerivation d terms hypotheses given equations
+  pub derived : AreDerived d terms hypotheses given equations
   pub stands : AreAmong equations x y

@@ -7,7 +7,7 @@ use Rattle.ct_sexpr.specs.Whitespace.{line_feeds}
 use Rattle.ct_sexpr.specs.Expression.{Expression}
 use Rattle.ct_sexpr.specs.Reading.{BeginsCommand, HasError}
 use Rattle.ct_sexpr.specs.Unread.{Unread}
-use Rattle.ct_sexpr.specs.Answer.{Gives, Ends, HasFault, Refuses}
+use Rattle.ct_sexpr.specs.Answer.{GivesCommand, Ends, HasFault, Refuses}
 use Rattle.ct_run.specs.declared.verdict.FirstVerdict.{FirstVerdict}
 use Rattle.ct_run.specs.Command.{Command, declare, assert, check, State, after, written}
 use Rattle.ct_run.specs.Script.{HasCommands, form_not_built}
@@ -18,7 +18,7 @@ use Rattle.ct_run.specs.Turns.{Took, LeavesOver, LeavesNothing}
 use Rattle.ct_run.proofs.WritingLemmas.{append_nil, appended-nothing, appended-twice, prefix_of_part, prefix-more, BreaksInLine-one, BreaksInLine-verdicts}
 
 -- something broke in a turn
-pub Broke-turn : (old new : Progress) (u v : Unread) (e : Expression) (line : ℕ) → Gives u v e line → (BrokeBefore old new ⊎ BrokeAfter old e new) → Broke old u.bytes new
+pub Broke-turn : (old new : Progress) (u v : Unread) (e : Expression) (line : ℕ) → GivesCommand u v e line → (BrokeBefore old new ⊎ BrokeAfter old e new) → Broke old u.bytes new
 Broke-turn old new u v e line gives (inl before) = record {
   commands = [];
   last = old.state;
@@ -54,7 +54,7 @@ Broke-nothing old bytes = record {
 }
 
 -- a command was answered
-pub Answered-turn : (old new : Progress) (u v : Unread) (e : Expression) (line : ℕ) → u.ended ≡ true → Gives u v e line → AnsweredOne old e new → Answered old u.bytes new v.bytes × Took u v × (length v.bytes < length u.bytes)
+pub Answered-turn : (old new : Progress) (u v : Unread) (e : Expression) (line : ℕ) → u.ended ≡ true → GivesCommand u v e line → AnsweredOne old e new → Answered old u.bytes new v.bytes × Took u v × (length v.bytes < length u.bytes)
 Answered-turn old new u v e line ended gives one = (
   record {
     commands = one.command ∷ [];
@@ -74,7 +74,7 @@ Answered-turn old new u v e line ended gives one = (
 )
 
 -- a command was declined
-pub LeavesOver-declined : (old new : Progress) (u v : Unread) (e : Expression) (line : ℕ) → Gives u v e line → DeclinedOne old e new → LeavesOver old.state u (line, form_not_built)
+pub LeavesOver-declined : (old new : Progress) (u v : Unread) (e : Expression) (line : ℕ) → GivesCommand u v e line → DeclinedOne old e new → LeavesOver old.state u (line, form_not_built)
 LeavesOver-declined old new u v e line gives declined = record {
   stopped = λ c remaining takes. declined.none c (sym (gives.only (written c) remaining takes.begins).0) takes.fits;
   error_is = inl ((e, v.bytes, gives.begins), gives.line_is, refl);

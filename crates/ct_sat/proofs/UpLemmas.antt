@@ -10,7 +10,7 @@ use Rattle.ct_terms.specs.Propagation.{IsFalseIn, AreFalseIn}
 use Rattle.ct_sat.specs.declared.clause.StepClause.{StepClause}
 use Rattle.ct_sat.specs.declared.decided.Decided.{Decided}
 use Rattle.ct_sat.specs.Up.{IsForced, Up, IsContradictory, HasValue, IsLowest, positive_of, negative_of}
-use Rattle.ct_sat.specs.State.{SearchState, clauses_of, literals_of, Follows, IsConsistent, IsSound, IsConflict, IsQuiet}
+use Rattle.ct_sat.specs.State.{SearchState, clauses_of, literals_of, FollowsByUnits, IsConsistent, IsSound, IsConflict, IsQuiet}
 use Rattle.ct_sat.proofs.ListLemmas.{Contains-at, at-Contains, All-from, slice_get-take, slice_get-take_below, take-slice_get, Contains-map, Contains-map_cases, below_same_above}
 
 -- a sign and its opposite differ
@@ -91,7 +91,7 @@ prefix_inside s sound set n holds forces (suc m) i l h k e =
     ]
 
 -- the trail follows
-pub trail_follows : (s : SearchState) (l : Lit) → IsSound s → Contains s.trail l → Follows s l
+pub trail_follows : (s : SearchState) (l : Lit) → IsSound s → Contains s.trail l → FollowsByUnits s l
 trail_follows s l sound inside set closed =
     let at = at-Contains s.trail l inside in
     prefix_inside s sound set (suc at.0)
@@ -120,28 +120,28 @@ prefix_follows s k next l sound at_k inside set closed =
     closed.holds_forced (suc at.0) at.0 l (omega arith) (slice_get-take_below next.index s.trail at.0 l at.1) (slice_get-take next.index s.trail at.0 l at.1)
 
 -- a false clause makes what follows contradictory
-pub conflict_contradicts : (s : SearchState) (step : ℕ) → IsSound s → IsConflict s step → IsContradictory (clauses_of s.clauses) (Follows s)
+pub conflict_contradicts : (s : SearchState) (step : ℕ) → IsSound s → IsConflict s step → IsContradictory (clauses_of s.clauses) (FollowsByUnits s)
 conflict_contradicts s step sound (c, number, listed, false_one) =
-    inr (c.literals, clause_listed s.clauses c listed, All-weaker (IsFalseIn s.trail) (λ l. Follows s (opposite l)) (λ l h. trail_follows s (opposite l) sound h) c.literals false_one)
+    inr (c.literals, clause_listed s.clauses c listed, All-weaker (IsFalseIn s.trail) (λ l. FollowsByUnits s (opposite l)) (λ l h. trail_follows s (opposite l) sound h) c.literals false_one)
 
 -- what follows in a quiet search is not contradictory
-pub quiet_consistent : (s : SearchState) → IsQuiet s → IsContradictory (clauses_of s.clauses) (Follows s) → ⊥
+pub quiet_consistent : (s : SearchState) → IsQuiet s → IsContradictory (clauses_of s.clauses) (FollowsByUnits s) → ⊥
 quiet_consistent s quiet (inl (l, one, other)) =
     opposites_apart s.trail l quiet.consistent (quiet.complete l one) (quiet.complete (opposite l) other)
 quiet_consistent s quiet (inr (clause, listed, all)) =
     let c = Contains-map_cases (λ (d : StepClause). d.literals) s.clauses clause listed in
-    quiet.none_false c.0 c.1 (subst (λ (k : Clause). AreFalseIn s.trail k) (sym c.2) (All-weaker (λ l. Follows s (opposite l)) (IsFalseIn s.trail) (λ l h. quiet.complete (opposite l) h) clause all))
+    quiet.none_false c.0 c.1 (subst (λ (k : Clause). AreFalseIn s.trail k) (sym c.2) (All-weaker (λ l. FollowsByUnits s (opposite l)) (IsFalseIn s.trail) (λ l h. quiet.complete (opposite l) h) clause all))
 
 -- the values of the trail are those of what follows
-pub quiet_values : (s : SearchState) (t : TermId) → IsQuiet s → HasValue (Contains s.trail) t → HasValue (Follows s) t
+pub quiet_values : (s : SearchState) (t : TermId) → IsQuiet s → HasValue (Contains s.trail) t → HasValue (FollowsByUnits s) t
 quiet_values s t quiet (inl h) = inl (quiet.follows (positive_of t) h)
 quiet_values s t quiet (inr h) = inr (quiet.follows (negative_of t) h)
 
-pub quiet_unset : (s : SearchState) (t : TermId) → IsQuiet s → HasValue (Follows s) t → HasValue (Contains s.trail) t
+pub quiet_unset : (s : SearchState) (t : TermId) → IsQuiet s → HasValue (FollowsByUnits s) t → HasValue (Contains s.trail) t
 quiet_unset s t quiet (inl h) = inl (quiet.complete (positive_of t) h)
 quiet_unset s t quiet (inr h) = inr (quiet.complete (negative_of t) h)
 
-pub quiet_lowest : (s : SearchState) (variables : List TermId) (t : TermId) → IsQuiet s → IsLowest variables (Contains s.trail) t → IsLowest variables (Follows s) t
+pub quiet_lowest : (s : SearchState) (variables : List TermId) (t : TermId) → IsQuiet s → IsLowest variables (Contains s.trail) t → IsLowest variables (FollowsByUnits s) t
 quiet_lowest s variables t quiet low = record {
   variable = low.variable;
   unset = λ h. low.unset (quiet_unset s t quiet h);

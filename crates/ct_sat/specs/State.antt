@@ -29,8 +29,8 @@ abbrev pub literals_of : List Decided → List Lit
 literals_of decided = map (λ d. d.literal) decided
 
 -- what follows by units from the clauses and the decided literals of a search
-abbrev pub Follows : SearchState → Lit → Type 0
-Follows search = Up (clauses_of search.clauses) (literals_of search.decided)
+abbrev pub FollowsByUnits : SearchState → Lit → Type 0
+FollowsByUnits search = Up (clauses_of search.clauses) (literals_of search.decided)
 
 -- a search over these variables that has done nothing
 abbrev pub begun : List TermId → ℕ → SearchState
@@ -89,8 +89,8 @@ IsConflict search step = (c : StepClause) × (c.step ≡ step) × Contains searc
 
 -- nothing more follows and no clause is false: the trail is exactly what follows by units
 pub record IsQuiet (search : SearchState) : Type 0 where
-  pub follows : (l : Lit) → Contains search.trail l → Follows search l
-  pub complete : (l : Lit) → Follows search l → Contains search.trail l
+  pub follows : (l : Lit) → Contains search.trail l → FollowsByUnits search l
+  pub complete : (l : Lit) → FollowsByUnits search l → Contains search.trail l
   pub consistent : IsConsistent search.trail
   pub none_false : (c : StepClause) → Contains search.clauses c → AreFalseIn search.trail c.literals → ⊥
 

@@ -2,7 +2,7 @@
 ghost use Rattle.std.specs.Prelude.{◌≡◌, ℕ, ◌↔◌, [], ◌∷◌, ◌++◌, ◌<◌, length, All, Some, slice_get, Contains, MatchBool, OnOk, IfOk, MatchOption};
 ghost use Rattle.ct_terms.specs.declared.ids.TermId.{TermId};
 ghost use Rattle.ct_sat.specs.State.{begun, AreVariables, AreOver, IsFresh, IsSound, IsConflict, IsQuiet, HaveValues, LacksValue};
-ghost use Rattle.ct_sat.specs.State.{Follows, AppendsTo};
+ghost use Rattle.ct_sat.specs.State.{FollowsByUnits, AppendsTo};
 ghost use Rattle.ct_terms.specs.Literal.{IsStripped};
 ghost use Rattle.ct_sat.specs.declared.clause.StepClause.{StepClause};
 ghost use Rattle.ct_sat.specs.Decision.{Leaves};
@@ -148,7 +148,7 @@ impl Search {
     pub fn trail(&self) -> &[Lit]
         ensures value { result.now ≡ self.now.trail }
         ensures sound { IsSound self.now }
-        ensures follows { All (Follows self.now) self.now.trail }
+        ensures follows { All (FollowsByUnits self.now) self.now.trail }
     {
         self.trail.literals()
     }

@@ -8,7 +8,7 @@ ghost use Rattle.ct_terms.specs.Propagation.{Rup};
 ghost use Rattle.ct_sat.specs.declared.clause.StepClause.{StepClause};
 ghost use Rattle.ct_sat.specs.declared.decided.Decided.{Decided};
 ghost use Rattle.ct_sat.specs.Up.{IsClosed, Up, IsContradictory, HasValue, IsLowest};
-ghost use Rattle.ct_sat.specs.State.{SearchState, clauses_of, literals_of, Follows, IsSound, IsConflict, IsQuiet};
+ghost use Rattle.ct_sat.specs.State.{SearchState, clauses_of, literals_of, FollowsByUnits, IsSound, IsConflict, IsQuiet};
 ghost use Rattle.ct_sat.specs.Learning.{FollowsBy, StandAtSteps};
 
 /// Theorems on what follows by units, for whoever proves something about a search. The function does nothing.
@@ -23,14 +23,14 @@ pub fn what_follows_by_units()
         → Contains clause l → All (λ k. (k ≡ l) ⊎ Up clauses decided (opposite k)) clause → Up clauses decided l }
     ensures more_clauses { (clauses more : List Clause) (decided : List Lit) (l : Lit) → Up clauses decided l → Up (clauses ++ more) decided l }
     ensures more_decided { (clauses : List Clause) (decided more : List Lit) (l : Lit) → Up clauses decided l → Up clauses (decided ++ more) l }
-    ensures trail { (s : SearchState) (l : Lit) → IsSound s → Contains s.trail l → Follows s l }
+    ensures trail { (s : SearchState) (l : Lit) → IsSound s → Contains s.trail l → FollowsByUnits s l }
     ensures prefix { (s : SearchState) (k : ℕ) (next : Decided) (l : Lit) → IsSound s → slice_get s.decided k ≡ Some next
         → Contains (take next.index s.trail) l → Up (clauses_of s.clauses) (literals_of (take k s.decided)) l }
-    ensures conflict { (s : SearchState) (step : ℕ) → IsSound s → IsConflict s step → IsContradictory (clauses_of s.clauses) (Follows s) }
-    ensures quiet { (s : SearchState) → IsQuiet s → IsContradictory (clauses_of s.clauses) (Follows s) → ⊥ }
-    ensures values { (s : SearchState) (t : TermId) → IsQuiet s → HasValue (Contains s.trail) t → HasValue (Follows s) t }
-    ensures unset { (s : SearchState) (t : TermId) → IsQuiet s → HasValue (Follows s) t → HasValue (Contains s.trail) t }
-    ensures lowest { (s : SearchState) (variables : List TermId) (t : TermId) → IsQuiet s → IsLowest variables (Contains s.trail) t → IsLowest variables (Follows s) t }
+    ensures conflict { (s : SearchState) (step : ℕ) → IsSound s → IsConflict s step → IsContradictory (clauses_of s.clauses) (FollowsByUnits s) }
+    ensures quiet { (s : SearchState) → IsQuiet s → IsContradictory (clauses_of s.clauses) (FollowsByUnits s) → ⊥ }
+    ensures values { (s : SearchState) (t : TermId) → IsQuiet s → HasValue (Contains s.trail) t → HasValue (FollowsByUnits s) t }
+    ensures unset { (s : SearchState) (t : TermId) → IsQuiet s → HasValue (FollowsByUnits s) t → HasValue (Contains s.trail) t }
+    ensures lowest { (s : SearchState) (variables : List TermId) (t : TermId) → IsQuiet s → IsLowest variables (Contains s.trail) t → IsLowest variables (FollowsByUnits s) t }
 {}
 
 /// The theorem on what a search learns, for whoever checks its clauses. The function does nothing.

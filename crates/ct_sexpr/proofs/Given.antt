@@ -3,7 +3,7 @@ use Rattle.std.proofs.Common.{◌≡◌, ℕ, ◌+◌, ◌<◌, Bool, true, fals
 use Rattle.ct_sexpr.specs.Expression.{Expression}
 use Rattle.ct_sexpr.specs.Reading.{HasError}
 use Rattle.ct_sexpr.specs.Unread.{Unread}
-use Rattle.ct_sexpr.specs.Answer.{Gives, Needs, Ends, Refuses, line_of_start}
+use Rattle.ct_sexpr.specs.Answer.{GivesCommand, Needs, Ends, Refuses, line_of_start}
 use Rattle.ct_sexpr.specs.Scanning.{BeginsAfter, Reached, Completes, Refutes, EndsWrong, EndsAt, IsOnLine}
 use Rattle.ct_sexpr.specs.declared.scanner.Scanner.{Scanner}
 use Rattle.ct_sexpr.proofs.Texts.{one_command, unfinished_has_none, error_has_none}
@@ -23,7 +23,7 @@ line_is lines before whole fed ended b = let e = b.count in omega arith
 
 -- the next command
 pub gives : (s : Scanner) (e : Expression) (whole left : List ℕ) (lines fed : ℕ) (ended : Bool) → Completes s e whole left →
-    Gives (unread whole lines fed ended) (unread left (lines + s.line_feeds) fed ended) e (lines + s.before + 1)
+    GivesCommand (unread whole lines fed ended) (unread left (lines + s.line_feeds) fed ended) e (lines + s.before + 1)
 gives s e whole left lines fed ended c = let taken = command_prefix whole e left c.begins in record {
   begins = c.begins;
   only = λ other rest d. one_command whole e other left rest c.begins d;

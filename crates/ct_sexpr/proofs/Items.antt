@@ -9,7 +9,7 @@ use Rattle.ct_sexpr.specs.declared.reader.Next.{Next}
 use Rattle.ct_sexpr.specs.declared.reader.Next.TheVariants.{Command, Need, End}
 use Rattle.ct_sexpr.specs.declared.error.ReadError.{ReadError}
 use Rattle.ct_sexpr.specs.Unread.{Unread}
-use Rattle.ct_sexpr.specs.Answer.{Gives, IsAnswer}
+use Rattle.ct_sexpr.specs.Answer.{GivesCommand, IsAnswer}
 use Rattle.ct_sexpr.specs.View.{expression_of, expressions_of}
 use Rattle.ct_sexpr.proofs.Depths.{command_nests}
 
@@ -35,7 +35,7 @@ suffix_nests [] (suc n) = omega arith
 suffix_nests (first ∷ others) (suc n) = omega (arith, suffix_nests others n, le-max_right (nesting (expression_of first)) (nesting_of_each (expressions_of others)))
 
 -- a command that is given nests within the limit
-pub given_nests : (old new : Unread) (e : Expression) (line : ℕ) → Gives old new e line → nesting e ≤ nesting_limit
+pub given_nests : (old new : Unread) (e : Expression) (line : ℕ) → GivesCommand old new e line → nesting e ≤ nesting_limit
 given_nests old new e line g = command_nests old.bytes e new.bytes g.begins
 
 -- so each answer does

@@ -25,15 +25,15 @@ EndsAtom [] = ⊥
 EndsAtom (b ∷ bs) = (is_word_byte b ≡ false) × (eqb b 34 ≡ false)
 
 -- the bytes begin with the token, after whitespace and comments, and the tail follows it
-abbrev pub Gives : List ℕ → Token → List ℕ → Type 0
-Gives bytes t tail = lexeme_at (after_whitespace bytes) ≡ token t tail
+abbrev pub GivesCommand : List ℕ → Token → List ℕ → Type 0
+GivesCommand bytes t tail = lexeme_at (after_whitespace bytes) ≡ token t tail
 
 word_is_solid : (w bs : List ℕ) → BeginsWord w → after_whitespace (w ++ bs) ≡ w ++ bs
 word_is_solid [] bs s = absurd s
 word_is_solid (b ∷ w) bs s = after_whitespace-atom b (w ++ bs) (rw s.0 refl)
 
 -- a word is read before each byte that ends an atom
-word_is_read : (a : Atom) (tail : List ℕ) → IsWord a → EndsAtom tail → Gives (written_atom a ++ tail) (atom a) tail
+word_is_read : (a : Atom) (tail : List ℕ) → IsWord a → EndsAtom tail → GivesCommand (written_atom a ++ tail) (atom a) tail
 word_is_read a [] s e = absurd e
 word_is_read a (b ∷ bs) s e =
     let w = written_atom a in
@@ -41,15 +41,15 @@ word_is_read a (b ∷ bs) s e =
 
 -- so are a name, quoted where it needs to be, and a string
 name_is_read : (w tail : List ℕ) (needs_none : Bool) → is_simple w ≡ needs_none → drop_while is_in_quoted_symbol w ≡ [] → EndsAtom tail
-    → Gives (cond needs_none w (124 ∷ (w ++ 124 ∷ [])) ++ tail) (atom (cond needs_none (symbol w) (quoted w))) tail
+    → GivesCommand (cond needs_none w (124 ∷ (w ++ 124 ∷ [])) ++ tail) (atom (cond needs_none (symbol w) (quoted w))) tail
 name_is_read w tail true h s e = word_is_read (symbol w) tail (symbol_IsWord w (both (forms_symbol w) (not (is_reserved w)) h).0) e
 name_is_read w tail false h s e = ap (λ bs. lexeme_at (124 ∷ bs)) (append_assoc w (124 ∷ []) tail) ∙ lexeme-quoted w tail s
 
-text_is_read : (w tail : List ℕ) → EndsAtom tail → Gives ((34 ∷ (doubled w ++ 34 ∷ [])) ++ tail) (atom (text w)) tail
+text_is_read : (w tail : List ℕ) → EndsAtom tail → GivesCommand ((34 ∷ (doubled w ++ 34 ∷ [])) ++ tail) (atom (text w)) tail
 text_is_read w [] e = absurd e
 text_is_read w (b ∷ bs) e = ap (λ cs. lexeme_at (34 ∷ cs)) (append_assoc (doubled w) (34 ∷ []) (b ∷ bs)) ∙ lexeme-text w b bs e.1
 
-pub atom_is_read : (a : Atom) (tail : List ℕ) → HasForm a → EndsAtom tail → Gives (written_atom a ++ tail) (atom (canonical_atom a)) tail
+pub atom_is_read : (a : Atom) (tail : List ℕ) → HasForm a → EndsAtom tail → GivesCommand (written_atom a ++ tail) (atom (canonical_atom a)) tail
 atom_is_read (symbol w) tail s e = word_is_read (symbol w) tail (symbol_IsWord w s) e
 atom_is_read (quoted w) tail s e = name_is_read w tail (is_simple w) refl (all_run is_in_quoted_symbol w s) e
 atom_is_read (keyword w) tail s e = word_is_read (keyword w) tail (keyword_IsWord w s) e

@@ -7,7 +7,7 @@ use Rattle.ct_sexpr.specs.Token.{opening, closing, atom, is_in_quoted_symbol, be
 use Rattle.ct_sexpr.specs.Expression.{Expression, leaf, tokens_of}
 use Rattle.ct_sexpr.specs.Reading.{nesting_limit, error_at}
 use Rattle.ct_sexpr.specs.Open.{Open, none_open}
-use Rattle.ct_sexpr.specs.Scanning.{IsAt, Counts, Reached, Completes, Refutes, Passes, Stays, Steps, lines_before}
+use Rattle.ct_sexpr.specs.Scanning.{IsAt, Counts, Reached, Completes, Refutes, ReadsByte, Stays, Steps, lines_before}
 use Rattle.ct_sexpr.specs.declared.scanner.Mode.{Mode}
 use Rattle.ct_sexpr.specs.declared.scanner.Mode.TheVariants.{Between, Word, Quoted, Text, Mark}
 use Rattle.ct_sexpr.specs.declared.scanner.ScanStep.{ScanStep}
@@ -32,7 +32,7 @@ module _ (old new : Scanner) (b : ℕ) (lists : new.lists ≡ old.lists) (before
   -- a byte that is counted
   moves : (from to : Mode) (word : List ℕ) → old.mode ≡ from →
       ((whole left : List ℕ) → IsAt old.lists from old.word.items whole (b ∷ left) → IsAt old.lists to word whole left) →
-      new.mode ≡ to → new.word.items ≡ word → new.line_feeds ≡ old.line_feeds + line_feeds (b ∷ []) → Passes old new b
+      new.mode ≡ to → new.word.items ≡ word → new.line_feeds ≡ old.line_feeds + line_feeds (b ∷ []) → ReadsByte old new b
   moves from to word mode suffix now is lines whole left r =
       now_at new old.lists to word whole left lists now is (suffix whole left (was_at old from whole (b ∷ left) mode r))
       (rw (lines, before) (count_byte old.lists.depth old.line_feeds old.before b whole left r.lines))
@@ -40,37 +40,37 @@ module _ (old new : Scanner) (b : ℕ) (lists : new.lists ≡ old.lists) (before
   -- a byte that ends no line
   moves_on_line : (from to : Mode) (word : List ℕ) → old.mode ≡ from →
       ((whole left : List ℕ) → IsAt old.lists from old.word.items whole (b ∷ left) → IsAt old.lists to word whole left) →
-      new.mode ≡ to → new.word.items ≡ word → new.line_feeds ≡ old.line_feeds → eqb b 10 ≡ false → Passes old new b
+      new.mode ≡ to → new.word.items ≡ word → new.line_feeds ≡ old.line_feeds → eqb b 10 ≡ false → ReadsByte old new b
   moves_on_line from to word mode suffix now is lines feed whole left r =
       now_at new old.lists to word whole left lists now is (suffix whole left (was_at old from whole (b ∷ left) mode r))
       (rw (lines, before) (count_other old.lists.depth old.line_feeds old.before b whole left feed r.lines))
 
   -- a later byte of a word
-  pub grows_word : old.mode ≡ Word → is_word_byte b ≡ true → new.mode ≡ old.mode → new.word.items ≡ old.word.items ++ b ∷ [] → new.line_feeds ≡ old.line_feeds → Passes old new b
+  pub grows_word : old.mode ≡ Word → is_word_byte b ≡ true → new.mode ≡ old.mode → new.word.items ≡ old.word.items ++ b ∷ [] → new.line_feeds ≡ old.line_feeds → ReadsByte old new b
   grows_word mode further now is lines =
       moves_on_line Word Word (old.word.items ++ b ∷ []) mode (λ whole left. grow_word old.lists old.word.items whole left b further) (now ∙ mode) is lines (distinguished is_word_byte b 10 further refl)
 
   -- a byte of a quoted symbol
   pub grows_quoted : old.mode ≡ Quoted → is_in_quoted_symbol b ≡ true → new.mode ≡ old.mode → new.word.items ≡ old.word.items ++ b ∷ [] →
-      new.line_feeds ≡ old.line_feeds + line_feeds (b ∷ []) → Passes old new b
+      new.line_feeds ≡ old.line_feeds + line_feeds (b ∷ []) → ReadsByte old new b
   grows_quoted mode further now is lines =
       moves Quoted Quoted (old.word.items ++ b ∷ []) mode (λ whole left. grow_quoted old.lists old.word.items whole left b further) (now ∙ mode) is lines
 
   -- a byte that a string says
   pub grows_text : old.mode ≡ Text → eqb b 34 ≡ false → new.mode ≡ old.mode → new.word.items ≡ old.word.items ++ b ∷ [] →
-      new.line_feeds ≡ old.line_feeds + line_feeds (b ∷ []) → Passes old new b
+      new.line_feeds ≡ old.line_feeds + line_feeds (b ∷ []) → ReadsByte old new b
   grows_text mode further now is lines =
       moves Text Text (old.word.items ++ b ∷ []) mode (λ whole left. grow_text old.lists old.word.items whole left b further) (now ∙ mode) is lines
 
   -- a second mark, which the string says
-  pub doubles_mark : old.mode ≡ Mark → b ≡ 34 → new.mode ≡ Text → new.word.items ≡ old.word.items ++ b ∷ [] → new.line_feeds ≡ old.line_feeds → Passes old new b
+  pub doubles_mark : old.mode ≡ Mark → b ≡ 34 → new.mode ≡ Text → new.word.items ≡ old.word.items ++ b ∷ [] → new.line_feeds ≡ old.line_feeds → ReadsByte old new b
   doubles_mark mode mark now is lines =
       moves_on_line Mark Text (old.word.items ++ b ∷ []) mode (λ whole left. double_mark old.lists old.word.items whole left b mark) now is lines (rw mark refl)
 
 -- an opening parenthesis
 pub opens : (old new : Scanner) → old.mode ≡ Between → old.lists.depth < nesting_limit →
     new.lists ≡ record { tokens = old.lists.tokens ++ opening ∷ []; depth = old.lists.depth + 1 } → new.mode ≡ old.mode → new.word.items ≡ old.word.items →
-    new.line_feeds ≡ old.line_feeds → new.before ≡ lines_before old → Passes old new 40
+    new.line_feeds ≡ old.line_feeds → new.before ≡ lines_before old → ReadsByte old new 40
 opens old new mode room lists same word lines before whole left r =
     let at = was_at old Between whole (40 ∷ left) mode r in
     let test : nat_lt old.lists.depth nesting_limit ≡ true = grind (arith, nat_tests) in
@@ -81,7 +81,7 @@ opens old new mode room lists same word lines before whole left r =
 -- a closing parenthesis
 pub closes : (old new : Scanner) → old.mode ≡ Between → 1 < old.lists.depth →
     new.lists ≡ record { tokens = old.lists.tokens ++ closing ∷ []; depth = old.lists.depth - 1 } → new.mode ≡ old.mode → new.word.items ≡ old.word.items →
-    new.line_feeds ≡ old.line_feeds → new.before ≡ old.before → Passes old new 41
+    new.line_feeds ≡ old.line_feeds → new.before ≡ old.before → ReadsByte old new 41
 closes old new mode inner lists same word lines before whole left r =
     let at = was_at old Between whole (41 ∷ left) mode r in
     let test : nat_lt 1 old.lists.depth ≡ true = grind (arith, nat_tests) in
@@ -124,7 +124,7 @@ module _ (old new : Scanner) (e : Expression)
       (end_word old.lists old.word.items whole left b a over is at) (rw (lines, before) r.lines)
 
   -- a quoted symbol ends with its `|`
-  pub ends_quoted : old.mode ≡ Quoted → e ≡ leaf (quoted old.word.items) → Passes old new 124
+  pub ends_quoted : old.mode ≡ Quoted → e ≡ leaf (quoted old.word.items) → ReadsByte old new 124
   ends_quoted mode item whole left r =
       let at = was_at old Quoted whole (124 ∷ left) mode r in
       now_at new (with_atom old.lists (quoted old.word.items)) Between [] whole left (item_added old new e (quoted old.word.items) item (lists at.goes_on.1)) now word

@@ -5,7 +5,7 @@ use Rattle.ct_sexpr.specs.Expression.{Expression}
 use Rattle.ct_sexpr.specs.Reading.{HasError}
 use Rattle.ct_sexpr.specs.Text.{lexical, Reads, refused, ReadsSoFar}
 use Rattle.ct_sexpr.specs.Unread.{Unread}
-use Rattle.ct_sexpr.specs.Answer.{Gives, HasFault, Refuses, IsAnswer, IsFirstCommand, IsDefiniteError, IsLast, ReadsOn}
+use Rattle.ct_sexpr.specs.Answer.{GivesCommand, HasFault, Refuses, IsAnswer, IsFirstCommand, IsDefiniteError, IsLast, ReadsOn}
 use Rattle.ct_sexpr.specs.declared.reader.Next.{Next}
 use Rattle.ct_sexpr.specs.declared.reader.Next.TheVariants.{Command, Need, End}
 use Rattle.ct_sexpr.specs.declared.error.ReadError.{ReadError}
@@ -16,7 +16,7 @@ use Rattle.ct_sexpr.proofs.Decided.{definite_is_error}
 use Rattle.ct_sexpr.proofs.Pieces.{first_command, first_so_far, definite_error, error_so_far}
 
 -- a command that is given is the first of the text
-pub given_is_first : (old new : Unread) (e : Expression) (line : ℕ) → Gives old new e line → IsFirstCommand old new (record { command = e; line = line })
+pub given_is_first : (old new : Unread) (e : Expression) (line : ℕ) → GivesCommand old new e line → IsFirstCommand old new (record { command = e; line = line })
 given_is_first old new e line g = record {
   ended = λ tail cs x r.
       subst (λ n. Reads old.line (old.bytes ++ tail) (record { command = e; line = n } ∷ cs) x) (sym g.line_is)

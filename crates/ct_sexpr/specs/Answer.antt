@@ -16,7 +16,7 @@ abbrev pub line_of_start : Unread → ℕ
 line_of_start u = line_of_rest u.line u.bytes (after_whitespace u.bytes)
 
 -- the command is the one that the bytes begin with, and is taken away; no other command is
-pub record Gives (old new : Unread) (command : Expression) (line : ℕ) : Type 0 where
+pub record GivesCommand (old new : Unread) (command : Expression) (line : ℕ) : Type 0 where
   pub begins : BeginsCommand old.bytes command new.bytes
   pub only : (other : Expression) (rest : List ℕ) → BeginsCommand old.bytes other rest → (other ≡ command) × (rest ≡ new.bytes)
   pub prefix : List ℕ
@@ -55,7 +55,7 @@ pub record Refuses (old new : Unread) (code line : ℕ) : Type 0 where
 
 -- what each answer says of the reader before and after it
 abbrev pub IsAnswer : Unread → Unread → Result Next ReadError → Type 0
-IsAnswer old new (Ok (Command e line)) = Gives old new (expression_of e) line
+IsAnswer old new (Ok (Command e line)) = GivesCommand old new (expression_of e) line
 IsAnswer old new (Ok Need) = Needs old new
 IsAnswer old new (Ok End) = Ends old new
 IsAnswer old new (Err (Lexical code line)) = Refuses old new code line

@@ -93,8 +93,8 @@ EndsAt scanner None = (whole : List ℕ) → Reached scanner whole [] → IsWhit
 EndsAt scanner (Some code) = (whole : List ℕ) → Reached scanner whole [] → EndsWrong scanner code whole
 
 -- one byte of the text is read
-abbrev pub Passes : Scanner → Scanner → ℕ → Type 0
-Passes old new b = (whole left : List ℕ) → Reached old whole (b ∷ left) → Reached new whole left
+abbrev pub ReadsByte : Scanner → Scanner → ℕ → Type 0
+ReadsByte old new b = (whole left : List ℕ) → Reached old whole (b ∷ left) → Reached new whole left
 
 -- the byte that comes next is not read, and the scanner is where it was
 abbrev pub Stays : Scanner → Scanner → ℕ → Type 0
@@ -102,7 +102,7 @@ Stays old new b = (whole left : List ℕ) → Reached old whole (b ∷ left) →
 
 -- what reading one byte does
 abbrev pub Steps : Scanner → Scanner → ℕ → Result ScanStep ReadError → Type 0
-Steps old new b (Ok Going) = Passes old new b
+Steps old new b (Ok Going) = ReadsByte old new b
 Steps old new b (Ok (Command e)) = (whole left : List ℕ) → Reached old whole (b ∷ left) → Completes new (expression_of e) whole left
 Steps old new b (Ok (Wrong code)) = (whole left : List ℕ) → Reached old whole (b ∷ left) → Refutes new code whole (b ∷ left)
 Steps old new b (Err e) = (e ≡ NoMemory) × Stays old new b

@@ -12,7 +12,7 @@ ghost use Rattle.ct_sexpr.specs.Readable.{HasForm, IsReadable, name_of_atom};
 ghost use Rattle.ct_sexpr.specs.Spaced.{is_spacing, IsSpaced};
 ghost use Rattle.ct_sexpr.specs.Nested.{IsItem};
 ghost use Rattle.ct_sexpr.specs.Unread.{Unread};
-ghost use Rattle.ct_sexpr.specs.Answer.{Gives};
+ghost use Rattle.ct_sexpr.specs.Answer.{GivesCommand};
 ghost use Rattle.ct_sexpr.specs.View.{expression_of, expressions_of};
 ghost use Rattle.ct_sexpr.specs.declared.sexpr.Sexpr.{Sexpr};
 ghost use Rattle.ct_sexpr.specs.Text.{Located, Ending, lexical, Reads, EndingSoFar, waiting, refused, ReadsSoFar};
@@ -131,7 +131,7 @@ pub fn nested_lists()
     ensures suffix_nests { (items : List Sexpr) (n : ℕ)
         → nesting_of_each (expressions_of (drop n items)) ≤ nesting_of_each (expressions_of items) }
     ensures given_nests { (old new : Unread) (e : Expression) (line : ℕ)
-        → Gives old new e line → nesting e ≤ nesting_limit }
+        → GivesCommand old new e line → nesting e ≤ nesting_limit }
 {}
 
 /// The theorems on whitespace and comments between tokens (SMT-LIB 2.7, section 3.1), for whoever

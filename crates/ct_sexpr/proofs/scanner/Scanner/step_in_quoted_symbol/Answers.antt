@@ -1,5 +1,5 @@
 use Rattle.std.proofs.Common.{List, ℕ, ◌∷◌, sym, ap, ◌∙◌, subst}
-use Rattle.ct_sexpr.specs.Scanning.{Reached, Refutes, Passes}
+use Rattle.ct_sexpr.specs.Scanning.{Reached, Refutes, ReadsByte}
 use Rattle.ct_sexpr.specs.Atom.{quoted}
 use Rattle.ct_sexpr.specs.Expression.{leaf}
 use Rattle.ct_sexpr.proofs.Stepped.{refutes_backslash, ends_quoted}
@@ -13,5 +13,5 @@ pub returns-in_ok-end_atom-in-124-clause-steps : goal.returns-in_ok-end_atom-in-
 returns-in_ok-end_atom-in-124-clause-steps c =
     let said = c.in_ok-end_atom-in-124.ensures in
     let name = ap (λ w. leaf (quoted w)) (c.in_ok-name-in-124.ensures.ok ∙ c.deref.ensures.value) in
-    subst (Passes c.args.self.now c.end_atom.new.self) (sym c.in-124.is)
+    subst (ReadsByte c.args.self.now c.end_atom.new.self) (sym c.in-124.is)
     (ends_quoted c.args.self.now c.end_atom.new.self _ said.lists said.mode said.word said.lines said.before c.requires.mode name)
