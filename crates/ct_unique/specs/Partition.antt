@@ -22,6 +22,10 @@ pub record AreBisimilar (state : State) (x y : TermId) : Type 0 where
 abbrev pub AreAlike : State → TermId → TermId → Type 0
 AreAlike state x y = AreEqual state x y ⊎ AreBisimilar state x y
 
+-- bisimilar classes are one class: the classes are strongly extensional (Aczel 1988, Non-Well-Founded Sets)
+abbrev pub IsStronglyExtensional : State → Type 0
+IsStronglyExtensional state = (x y : TermId) → AreBisimilar state x y → AreEqual state x y
+
 -- the blocks of the terms: to be in one block is a bisimulation, classes are within blocks, and so are the terms that any
 -- bisimulation relates; the number of a block is that of a term in it
 pub record IsCoarsest (state : State) (blocks : List ℕ) : Type 0 where
