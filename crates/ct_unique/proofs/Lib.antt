@@ -6,3 +6,4 @@ pub mod BlockLemmas
 pub mod RoomLemmas
 pub mod FoundLemmas
 pub mod FollowLemmas
+pub mod ExtensionLemmas

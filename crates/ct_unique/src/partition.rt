@@ -2,7 +2,7 @@
 ghost use Rattle.std.specs.Prelude.{◌≡◌, ◌<◌, ◌↔◌, length, IfSome, IfNone, IsTrue};
 ghost use Rattle.ct_terms.specs.declared.ids.TermId.{TermId};
 ghost use Rattle.ct_congr.specs.State.{AreEqual};
-ghost use Rattle.ct_unique.specs.Partition.{block_of, IsCoarsest, IsApart};
+ghost use Rattle.ct_unique.specs.Partition.{block_of, IsStronglyExtensional, IsCoarsest, IsApart};
 
 use ct_congr::Classes;
 use ct_terms::TermId;
@@ -31,7 +31,8 @@ impl Partition {
         self.blocks[t.0 as usize]
     }
 
-    /// Two constructor terms of different classes in one block, where there are any. Takes no memory; linear.
+    /// Two constructor terms of different classes in one block, where there are any; else bisimilar classes are one. Takes no
+    /// memory; linear.
     pub fn first_pair(&self, classes: &Classes) -> Option<(TermId, TermId)>
         requires made { IsCoarsest classes.now self.now }
         ensures found { IfSome result (λ pair. IsApart classes.now self.now pair.0 pair.1) }
@@ -40,6 +41,7 @@ impl Partition {
             → y.0 < length classes.now.terms
             → block_of self.now x ≡ block_of self.now y
             → AreEqual classes.now x y) }
+        ensures extensional { IfNone result (IsStronglyExtensional classes.now) }
     {
         for t in 0..classes.table().len() {
             let t = TermId(t);

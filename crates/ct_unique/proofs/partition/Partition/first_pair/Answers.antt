@@ -4,6 +4,7 @@ use Rattle.ct_congr.specs.State.{AreEqual}
 use Rattle.ct_unique.specs.Nodes.{term}
 use Rattle.ct_unique.specs.Partition.{block_of}
 use Rattle.ct_unique.proofs.ClassLemmas.{InOneClass-sym, InOneClass-trans}
+use Rattle.ct_unique.proofs.ExtensionLemmas.{IsStronglyExtensional-of}
 use Rattle.ct_unique.proofs.partition.Partition.first_pair.Goals as goal
 
 pub are_equal-requires-clause-left : goal.are_equal-requires-clause-left
@@ -50,3 +51,6 @@ returns-clause-none c = λ x y in_x in_y same.
     let right = c.loop-t.invariant y.0 (omega (arith, in_y, all, c.len-t-end.ensures.count, c.loop-t-test.false)) in
     let there : AreEqual state (term (block_of blocks x)) y = subst (λ n. AreEqual state (term n) y) (sym same) right in
     InOneClass-trans state.reps x (term (block_of blocks x)) y (InOneClass-sym state.reps (term (block_of blocks x)) x left) there
+
+pub returns-clause-extensional : goal.returns-clause-extensional
+returns-clause-extensional c = IsStronglyExtensional-of c.args.classes.now c.args.self.now c.requires.made c.table.ensures.one_sort (returns-clause-none c)

@@ -1,0 +1,11 @@
+mod ListLemmas
+mod WritingLemmas
+mod ReasonLemmas
+mod StepLemmas
+mod PairLemmas
+mod ExplainedLemmas
+mod TreeLemmas
+mod HangLemmas
+mod WayLemmas
+mod RestLemmas
+mod PlantLemmas

@@ -1,0 +1,25 @@
+use Rattle.std.proofs.Common.{◌<◌, length, subst}
+use Rattle.std.proofs.lemmas.Option.{slice_get-get_or}
+use Rattle.ct_explain.proofs.WritingLemmas.{IsGrown-then, AreDone-later}
+use Rattle.ct_explain.proofs.PairLemmas.{ToldEntries-next}
+use Rattle.ct_explain.proofs.uniqueness.write_entries.Goals as goal
+
+pub loop-i-preserved : goal.loop-i-preserved
+loop-i-preserved c =
+    let state = c.args.classes.now in
+    record {
+      grown = IsGrown-then state c.args.writer.now c.loop-i.writer c.write_entry.new.writer c.loop-i.invariant.grown c.in_ok-entry.ensures.grown;
+      done = AreDone-later state c.loop-i.writer c.write_entry.new.writer state.merges c.args.done.now c.in_ok-entry.ensures.grown c.loop-i.invariant.done;
+      told = ToldEntries-next state c.loop-i.writer c.write_entry.new.writer c.args.equations.now c.loop-i.entries.items c.push.new.self.items c.args.xs.now c.args.ys.now c.loop-i.i c.in_ok-entry.entry
+          (record { 0 = 0 }) (record { 0 = 0 }) c.in_ok-entry.ensures.grown c.loop-i-test.true c.requires.long c.in_ok-push.ensures.items c.loop-i.invariant.told c.in_ok-entry.ensures.entry;
+    }
+
+pub write_entry-requires-clause-entry : goal.write_entry-requires-clause-entry
+write_entry-requires-clause-entry c =
+    c.requires.entries c.loop-i.i _ _ (slice_get-get_or c.args.xs.now c.loop-i.i (record { 0 = 0 }) c.loop-i-test.true)
+    (slice_get-get_or c.args.ys.now c.loop-i.i (record { 0 = 0 }) (subst (λ n. c.loop-i.i < n) c.requires.long c.loop-i-test.true))
+
+pub write_entry-requires-clause-paved : goal.write_entry-requires-clause-paved
+write_entry-requires-clause-paved c =
+    c.requires.paved c.loop-i.i _ _ (slice_get-get_or c.args.xs.now c.loop-i.i (record { 0 = 0 }) c.loop-i-test.true)
+    (slice_get-get_or c.args.ys.now c.loop-i.i (record { 0 = 0 }) (subst (λ n. c.loop-i.i < n) c.requires.long c.loop-i-test.true))

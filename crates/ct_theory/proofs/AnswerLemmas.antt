@@ -1,0 +1,79 @@
+-- From the answers of the parts of a turn to that of the turn, and of the whole.
+use Rattle.std.proofs.Common.{◌≡◌, ℕ, ◌<◌, ◌≤◌, List, [], ◌∷◌, ◌++◌, length, Result, Ok, Err, sym, subst, arith}
+use Rattle.std.specs.List.{Contains}
+use Rattle.std.specs.Result.{IfOk}
+use Rattle.std.proofs.lemmas.List.Elements.{Contains-push}
+use Rattle.std.proofs.lemmas.Option.{slice_get_within}
+use Rattle.ct_sorts.specs.Declarations.{Declarations}
+use Rattle.ct_terms.specs.declared.ids.TermId.{TermId}
+use Rattle.ct_terms.specs.declared.ids.Lit.{Lit}
+use Rattle.ct_terms.specs.Literal.{IsStripped}
+use Rattle.ct_terms.specs.Terms.{Terms}
+use Rattle.ct_rules.specs.declared.equation.Equation.{Equation}
+use Rattle.ct_rules.specs.Derivation.{IsHypothesis}
+use Rattle.ct_rules.specs.Uniqueness.{AreAllMatched}
+use Rattle.ct_congr.specs.declared.merge.Merge.{Merge}
+use Rattle.ct_congr.specs.Merges.{AreConnected}
+use Rattle.ct_congr.specs.State.{State, AreEqual, Continues, IsQuiet}
+use Rattle.ct_unique.specs.Partition.{IsApart}
+use Rattle.ct_theory.specs.declared.turn.Turn.{Turn}
+use Rattle.ct_theory.specs.declared.turn.Turn.TheVariants.{Conflict, Saturated, Merged}
+use Rattle.ct_theory.specs.Consulting.{IsUnderWay, IsTurn, unequal}
+use Rattle.ct_theory.proofs.TurnLemmas.{unequal-falls, unequal-less, AreEqual-stays, IsUnderWay-merged}
+
+-- what merges connect, and what is of one class
+pub record HaveMerges (state : State) : Type 0 where
+  pub long : length state.reps ≡ length state.terms
+  pub connected : (x y : TermId) → AreEqual state x y → AreConnected state.merges x y
+  pub equal : (x y : TermId) → x.0 < length state.terms → AreConnected state.merges x y → AreEqual state x y
+  pub states : (x y : TermId) → IsHypothesis state.hypotheses x y → AreEqual state x y
+
+-- more merges connect at least as much, and a merge connects its sides
+pub record Connect : Type 0 where
+  pub more : (merges added : List Merge) (x y : TermId) → AreConnected merges x y → AreConnected (merges ++ added) x y
+  pub sides : (merges : List Merge) (m : Merge) → Contains merges m → AreConnected merges m.left m.right
+
+-- the terms of the hypotheses are no negations
+abbrev pub AreAllStripped : State → Type 0
+AreAllStripped state = (l : Lit) → Contains state.hypotheses l → IsStripped state.terms l.term
+
+pub AreAllStripped-continues : (old new : State) → Continues new old → AreAllStripped old → AreAllStripped new
+AreAllStripped-continues old new later stripped l h =
+    subst (λ (t : Terms). IsStripped t l.term) (sym later.terms) (stripped l (subst (λ (ls : List Lit). Contains ls l) later.hypotheses h))
+
+pub AreAllStripped-under : (d : Declarations) (terms : Terms) (literals : List Lit) (state : State) → IsUnderWay d terms literals state → ((l : Lit) → Contains literals l → IsStripped terms l.term) → AreAllStripped state
+AreAllStripped-under d terms literals state under stripped l h =
+    subst (λ (t : Terms). IsStripped t l.term) (sym under.terms_are) (stripped l (subst (λ (ls : List Lit). Contains ls l) under.hypotheses h))
+
+-- what is said of an answer, where that gives something else
+pub IfOk-via : {A E : Type 0} (r : Result A E) (P Q : A → Type 0) → ((x : A) → P x → Q x) → IfOk r P → IfOk r Q
+IfOk-via (Ok x) P Q step h = step x h
+IfOk-via (Err e) P Q step h = tt
+
+-- a turn since classes of no fewer pairs
+pub IsTurn-since : (d : Declarations) (terms : Terms) (literals : List Lit) (old mid new : State) (t : Turn) → unequal mid ≤ unequal old → IsTurn d terms literals mid new t → IsTurn d terms literals old new t
+IsTurn-since d terms literals old mid new (Conflict c) falls h = h
+IsTurn-since d terms literals old mid new (Saturated order) falls h = h
+IsTurn-since d terms literals old mid new Merged falls h = (h.0, omega (arith, h.1, falls))
+
+-- closing makes no pair of two classes
+pub unequal-continues : (old new : State) → Connect → HaveMerges old → HaveMerges new → Continues new old → unequal new ≤ unequal old
+unequal-continues old new connect before after later =
+    unequal-falls old new later.terms (AreEqual-stays old new later.more before.connected after.equal connect.more before.long later.terms later.merges)
+
+-- making two bisimilar classes one is a turn
+pub IsTurn-merged : (d : Declarations) (terms : Terms) (literals : List Lit) (old new : State) (blocks : List ℕ) (m : Merge) (pairs : List Equation)
+    → Connect → HaveMerges old → HaveMerges new → IsQuiet old → IsApart old blocks m.left m.right
+    → Contains pairs (record { left = m.left; right = m.right }) → AreAllMatched old.terms (AreEqual old) pairs
+    → new.declarations ≡ old.declarations → new.terms ≡ old.terms → new.hypotheses ≡ old.hypotheses
+    → new.given ≡ old.given ++ (record { left = m.left; right = m.right }) ∷ [] → new.merges ≡ old.merges ++ m ∷ []
+    → IsUnderWay d terms literals old → IsTurn d terms literals old new Merged
+IsTurn-merged d terms literals old new blocks m pairs connect before after quiet apart listed matched declarations terms_are hypotheses given merges under =
+    let in_left : m.left.0 < length old.terms = slice_get_within old.terms m.left.0 _ apart.left.2.1 in
+    let in_right : m.right.0 < length old.terms = slice_get_within old.terms m.right.0 _ apart.right.2.1 in
+    let in_new : m.left.0 < length new.terms = subst (λ (t : Terms). m.left.0 < length t) (sym terms_are) in_left in
+    let there : Contains new.merges m = subst (λ (ms : List Merge). Contains ms m) (sym merges) (Contains-push old.merges m) in
+    let one : AreEqual new m.left m.right = after.equal m.left m.right in_new (connect.sides new.merges m there) in (
+      IsUnderWay-merged d terms literals old under quiet before.long before.states new pairs m.left m.right declarations terms_are hypotheses given apart.left apart.right listed matched,
+      unequal-less old new terms_are (AreEqual-stays old new (m ∷ []) before.connected after.equal connect.more before.long terms_are merges) m.left m.right in_left in_right apart.apart one,
+    )

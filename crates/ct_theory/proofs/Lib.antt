@@ -1,0 +1,11 @@
+pub mod ListLemmas
+pub mod FollowsLemmas
+pub mod EntailmentLemmas
+pub mod BisimulationLemmas
+pub mod SaturationLemmas
+pub mod StepLemmas
+pub mod ClauseLemmas
+pub mod CountLemmas
+pub mod TurnLemmas
+pub mod HopLemmas
+pub mod AnswerLemmas

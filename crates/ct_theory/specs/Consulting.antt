@@ -1,0 +1,45 @@
+-- The answers of the theory, and the turns to them.
+use Rattle.std.specs.Prelude.{◌≡◌, ℕ, ◌<◌, Bool, false, List, length, Option, Some, slice_get, nat_eq, Contains}
+use Rattle.ct_sorts.specs.Declarations.{Declarations}
+use Rattle.ct_terms.specs.declared.ids.TermId.{TermId}
+use Rattle.ct_terms.specs.declared.ids.Lit.{Lit}
+use Rattle.ct_terms.specs.Terms.{Terms}
+use Rattle.ct_rules.specs.declared.equation.Equation.{Equation}
+use Rattle.ct_congr.specs.State.{State}
+use Rattle.ct_unique.specs.Found.{missing_pairs}
+use Rattle.ct_theory.specs.declared.asking.Consulted.{Consulted}
+use Rattle.ct_theory.specs.declared.asking.Consulted.TheVariants as consulted
+use Rattle.ct_theory.specs.declared.turn.Turn.{Turn}
+use Rattle.ct_theory.specs.declared.turn.Turn.TheVariants as turn
+use Rattle.ct_theory.specs.Entailment.{Entails, IsSaturation, IsConflictOf}
+
+-- the answer is a conflict of the literals, or classes to which no rule adds under them
+abbrev pub IsConsulted : Declarations → Terms → List Lit → Consulted → Type 0
+IsConsulted d terms literals (consulted.Conflict c) = IsConflictOf d terms literals c.clause c.steps c.close
+IsConsulted d terms literals (consulted.Saturated classes order) = IsSaturation d terms literals classes.value order.reps.items
+
+-- classes of these terms under these literals, to which nothing was given that the literals do not entail
+pub record IsUnderWay (d : Declarations) (terms : Terms) (literals : List Lit) (state : State) : Type 0 where
+  pub declarations : state.declarations ≡ d
+  pub terms_are : state.terms ≡ terms
+  pub hypotheses : state.hypotheses ≡ literals
+  pub given : (e : Equation) → Contains state.given e → Entails d terms literals e.left e.right
+
+-- both are representatives, and one
+abbrev pub are_one : Option TermId → Option TermId → Bool
+are_one (Some r) (Some s) = nat_eq r.0 s.0
+are_one _ _ = false
+
+-- the terms with these numbers are of one class
+abbrev pub in_one_class : List TermId → ℕ → ℕ → Bool
+in_one_class reps x y = are_one (slice_get reps x) (slice_get reps y)
+
+-- how many pairs of terms are of two classes
+unfoldable pub unequal : State → ℕ
+unequal state = missing_pairs (in_one_class state.reps) (length state.terms) (length state.terms)
+
+-- a turn came to an answer, or made two classes one
+abbrev pub IsTurn : Declarations → Terms → List Lit → State → State → Turn → Type 0
+IsTurn d terms literals old new (turn.Conflict c) = IsConflictOf d terms literals c.clause c.steps c.close
+IsTurn d terms literals old new (turn.Saturated order) = IsSaturation d terms literals new order.reps.items
+IsTurn d terms literals old new turn.Merged = IsUnderWay d terms literals new × (unequal new < unequal old)
