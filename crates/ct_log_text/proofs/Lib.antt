@@ -8,5 +8,6 @@ pub mod TermsBack
 pub mod WholeBack
 pub mod ReadLemmas
 pub mod ReadFit
+pub mod OneOutcome
 pub mod SpacedText
 pub mod PlainBack

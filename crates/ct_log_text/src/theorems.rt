@@ -8,11 +8,13 @@ ghost use Rattle.ct_sexpr.specs.Written.{canonical};
 ghost use Rattle.ct_sorts.specs.Declarations.{Declarations};
 ghost use Rattle.ct_sorts.specs.Consistent.{IsConsistent};
 ghost use Rattle.ct_log.specs.Recorded.{Recorded};
-ghost use Rattle.ct_log_text.specs.Reading.{Reads, number_of};
+ghost use Rattle.ct_log_text.specs.Reading.{Outcome, Reads, number_of};
 ghost use Rattle.ct_log_text.specs.Written.{expression_of_record, text_of};
 ghost use Rattle.ct_log_text.specs.Writable.{CanBeRead, is_writable};
 
 use ct_sexpr::spaced_texts;
+use ct_sorts::naming;
+use ct_terms::one_lasting_sort;
 
 /// The theorems on derivations that are written and read back, for whoever proves something about
 /// them. The function does nothing.
@@ -22,6 +24,8 @@ use ct_sexpr::spaced_texts;
 /// literals are over Boolean terms that are no negations, terms and places that are not written are
 /// 0, and numbers are below 2^64. Of a record that was read all but the last holds: its lines can
 /// be written.
+///
+/// A list has one reading: one record, or one first item that is refused with one number of an error.
 pub fn reads_back()
     ensures same_record { (d : Declarations) (k : ℕ) (rec : Recorded) → IsConsistent d → CanBeRead d k rec
         → Reads d (expression_of_record d k rec) (Ok rec) }
@@ -29,7 +33,12 @@ pub fn reads_back()
         → number_of (expression_of_record d k rec) ≡ Some k }
     ensures writable { (d : Declarations) (e : Expression) (rec : Recorded) → Reads d e (Ok rec)
         → list_all (is_writable rec.terms) rec.lines ≡ true }
-{}
+    ensures one_outcome { (d : Declarations) (e : Expression) (one other : Outcome) → IsConsistent d
+        → Reads d e one → Reads d e other → one ≡ other }
+{
+    naming();
+    one_lasting_sort();
+}
 
 /// The theorem on the text of a derivation and a reader, for whoever proves something about texts.
 /// The function does nothing.
