@@ -45,7 +45,7 @@ within_implies : (allowed : List CoreTree) (us : List CoreTree) (v : CoreTree) �
 within_implies allowed [] v w = w
 within_implies allowed (u ∷ us) v w = within_implies allowed us v (within_disjunction allowed (negation u ∷ (implies_all us v ∷ [])) w).1.0
 
-all_before : {X : Type 0} (P : X → Type 0) (xs : List X) (x : X) → AllByRecursion P (xs ++ x ∷ []) → AllByRecursion P xs × P x
+pub all_before : {X : Type 0} (P : X → Type 0) (xs : List X) (x : X) → AllByRecursion P (xs ++ x ∷ []) → AllByRecursion P xs × P x
 all_before P [] x h = (tt, h.0)
 all_before P (y ∷ ys) x h = let k = all_before P ys x h.1 in ((h.0, k.0), k.1)
 

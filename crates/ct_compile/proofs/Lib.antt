@@ -12,6 +12,7 @@ mod FullLemmas
 mod ChainLemmas
 mod PairLemmas
 mod ImplyingLemmas
+mod ChosenLemmas
 mod FollowLemmas
 mod MarkLemmas
 mod BindLemmas
@@ -20,6 +21,7 @@ mod DefinitionLemmas
 mod UnderLemmas
 mod CallingLemmas
 mod MatchLemmas
+mod ChoosesLemmas
 mod StepLemmas
 mod KnownLemmas
 mod FormLemmas
@@ -28,3 +30,4 @@ mod FlagLemmas
 mod RowLemmas
 mod CaseLemmas
 mod NoteLemmas
+mod MarkedCases

@@ -1,6 +1,6 @@
 -- The cases of a `match`, one after the other.
 use Rattle.std.proofs.Common.{◌≡◌, ℕ, zero, suc, ◌+◌, ◌<◌, ◌≤◌, Bool, true, false, not, ◌&&◌, ◌||◌, List, [], ◌∷◌, length, map, Contains, Option, Some, None, if◌then◌else◌, Result, Ok, Err, slice_get, IfOk, IsErrOf, refl, sym, ap, ap₂, subst, ◌∙◌, ◌⊎◌, inl, inr, arith, true≢false}
-use Rattle.std.specs.List.{AllZip, AllByRecursion}
+use Rattle.std.specs.List.{AllZip}
 use Rattle.std.proofs.lemmas.Option.{none-some, same_Some}
 use Rattle.std.proofs.lemmas.Result.{IfOk-weaker}
 use Rattle.std.proofs.lemmas.Bool.{cases_lt}
@@ -29,7 +29,7 @@ use Rattle.ct_compile.specs.Effect.{Stands, IsKept, IsPrefix, Within, Effect}
 use Rattle.ct_compile.specs.Ready.{given, IsBound, IsThere, ArePresent, IsReady, MayCompile, Compiles}
 use Rattle.ct_compile.specs.Marks.{listed}
 use Rattle.ct_compile.specs.Matching.{IsTerm, field_of, sels_of, bound_by, trees_by, tested_by, IsDeclared, AreCases, MayCases, CompilesCases}
-use Rattle.ct_compile.proofs.EffectLemmas.{stands_stays, effect_none, effect_then, effect_because}
+use Rattle.ct_compile.proofs.EffectLemmas.{prefix_trans, stands_stays, effect_none, effect_then, effect_because}
 use Rattle.ct_compile.proofs.WithinLemmas.{Contains-rest, within_subtrees, within_itself, within_choice, within_test}
 use Rattle.ct_compile.proofs.ReadyLemmas.{bound_stays, setting_stays, present_less, or_left, or_right}
 use Rattle.ct_compile.proofs.OperatorLemmas.{stands_as}
@@ -186,6 +186,16 @@ test_sorted d side p c sorts tree is binds h =
     let b = subst (λ (q : Pattern). BindsSorts d side q sorts) is binds in
     (b.0, b.1, subst (HasTreeSort d tree) (sym b.2) h, refl)
 
+-- the test and the body of a case are made, and the cases after it may be compiled
+pub record IsChosen (d : Declarations) (bodies : List Formula) (n : ℕ) (env : List Bound) (matched : Bound) (earlier : List CtorId) (c : CtorId) (all rest : Cases) (old new : Terms) (a b : TermId) (tree : CoreTree) (side : SortId) (trees : List CoreTree) (sorts : List SortId) (sort : SortId) : Type 0 where
+  pub grown : IsPrefix old new
+  pub kept : IsKept d new
+  pub ready : AreCases d bodies new n env matched (c ∷ earlier) rest tree side trees sorts sort
+  pub condition : a.0 < length new
+  pub body : b.0 < length new
+  pub same : compiled_cases d (given d bodies n) trees tree earlier all ≡ choice (term_at new a) (term_at new b) (compiled_cases d (given d bodies n) trees tree (c ∷ earlier) rest)
+  pub effect : (allowed : List CoreTree) → Within allowed (compiled_cases d (given d bodies n) trees tree earlier all) → Effect d allowed old new ⊥
+
 module _ (d : Declarations) (bodies : List Formula) (n : ℕ) (env : List Bound) (matched : Bound) (earlier : List CtorId) (p : Pattern) (body : Formula) (rest : Cases) where
   abbrev all : Cases
   all = with_case p body rest
@@ -311,76 +321,22 @@ module _ (d : Declarations) (bodies : List Formula) (n : ℕ) (env : List Bound)
             let g = grown_2 tree side trees sorts sort h in
             rest_cases m2 tree side trees sorts sort (cases_stay d bodies m1 m2 n env matched earlier all tree side trees sorts sort g.0 g.1 (cases_1 tree side trees sorts sort h))
 
-        pub second_may : MayCases d bodies old n env matched earlier all → MayCases d bodies m2 n env matched (c ∷ earlier) rest
-        second_may may = (may.0, may.1, may.2, may.3, may.4, cases_2 may.0 may.1 may.2 may.3 may.4 may.5)
-
-        module _ (m3 : Terms) (q : Result TermId TermError) (second : CompilesCases d bodies n m2 m3 env matched (c ∷ earlier) rest q) where
-          second_effect : (tree : CoreTree) (side : SortId) (trees : List CoreTree) (sorts : List SortId) (sort : SortId) (allowed : List CoreTree) → AreCases d bodies old n env matched earlier all tree side trees sorts sort → Within allowed (whole tree trees) → Effect d allowed old m3 (IsErrOf q Full)
-          second_effect tree side trees sorts sort allowed h w =
-              effect_then d allowed old m2 m3 _ _ (first_effect tree side trees sorts sort allowed h w)
-              (second.effect tree side trees sorts sort allowed (cases_2 tree side trees sorts sort h) (within tree trees allowed w).1.1)
-
-          pub second_failed : (x : TermError) → (IsErrOf {T = TermId} {E = TermError} (Err x) Full → IsErrOf q Full) → CompilesCases d bodies n old m3 env matched earlier all (Err x)
-          second_failed x why = record {
-            core = λ tree side trees sorts sort h. tt;
-            effect = λ tree side trees sorts sort allowed h w. effect_because d allowed old m3 _ _ why (second_effect tree side trees sorts sort allowed h w);
-          }
-
-          grown_3 : (tree : CoreTree) (side : SortId) (trees : List CoreTree) (sorts : List SortId) (sort : SortId) → AreCases d bodies old n env matched earlier all tree side trees sorts sort → IsPrefix m2 m3 × IsKept d m3
-          grown_3 tree side trees sorts sort h =
-              let f = second.effect tree side trees sorts sort (subtrees (core_rest tree trees)) (cases_2 tree side trees sorts sort h) (within_subtrees (core_rest tree trees)) in
-              (f.grown, f.kept)
-
-          -- all three are made
-          module _ (a b v : TermId) (made_test : (tree : CoreTree) → IsBound old matched tree → Stands m1 a (test c tree)) (is_first : r ≡ Ok b) (is_second : q ≡ Ok v) where
-            stand_1 : (tree : CoreTree) (side : SortId) (trees : List CoreTree) (sorts : List SortId) (sort : SortId) → AreCases d bodies old n env matched earlier all tree side trees sorts sort → Stands m3 a (test c tree)
-            stand_1 tree side trees sorts sort h =
-                let f = grown_2 tree side trees sorts sort h in
-                let g = grown_3 tree side trees sorts sort h in
-                stands_stays d m2 m3 a (test c tree) g.0 g.1 (stands_stays d m1 m2 a (test c tree) f.0 f.1 (made_test tree h.bound))
-
-            stand_2 : (tree : CoreTree) (side : SortId) (trees : List CoreTree) (sorts : List SortId) (sort : SortId) → AreCases d bodies old n env matched earlier all tree side trees sorts sort → Stands m3 b (core_body tree trees)
-            stand_2 tree side trees sorts sort h =
-                let g = grown_3 tree side trees sorts sort h in
-                let k = cases_1 tree side trees sorts sort h in
-                stands_stays d m2 m3 b (core_body tree trees) g.0 g.1
-                (subst (λ (z : Result TermId TermError). IfOk z (λ x. Stands m2 x (core_body tree trees))) is_first (first.core (bind (trees_by d p tree) trees) (bind k.sorted.0.0 sorts) sort (body_ready m1 tree side trees sorts sort k)))
-
-            stand_3 : (tree : CoreTree) (side : SortId) (trees : List CoreTree) (sorts : List SortId) (sort : SortId) → AreCases d bodies old n env matched earlier all tree side trees sorts sort → Stands m3 v (core_rest tree trees)
-            stand_3 tree side trees sorts sort h = subst (λ (z : Result TermId TermError). IfOk z (λ x. Stands m3 x (core_rest tree trees))) is_second (second.core tree side trees sorts sort (cases_2 tree side trees sorts sort h))
-
-            layer : (tree : CoreTree) (side : SortId) (trees : List CoreTree) (sorts : List SortId) (sort : SortId) → AreCases d bodies old n env matched earlier all tree side trees sorts sort → choice (term_at m3 a) (term_at m3 b) (term_at m3 v) ≡ whole tree trees
-            layer tree side trees sorts sort h =
-                ap (λ (x : CoreTree). choice x (term_at m3 b) (term_at m3 v)) (stand_1 tree side trees sorts sort h).1
-                ∙ ap₂ (λ (x y : CoreTree). choice (test c tree) x y) (stand_2 tree side trees sorts sort h).1 (stand_3 tree side trees sorts sort h).1
-                ∙ sym (whole_is tree trees)
-
-            pub made_kept : MayCases d bodies old n env matched earlier all → IsKept d m3
-            made_kept may = (grown_3 may.0 may.1 may.2 may.3 may.4 may.5).1
-
-            pub made_below : MayCases d bodies old n env matched earlier all → AllByRecursion (λ x. x.0 < length m3) (a ∷ (b ∷ (v ∷ [])))
-            made_below may = ((stand_1 may.0 may.1 may.2 may.3 may.4 may.5).0, ((stand_2 may.0 may.1 may.2 may.3 may.4 may.5).0, ((stand_3 may.0 may.1 may.2 may.3 may.4 may.5).0, tt)))
-
-            body_sort : (tree : CoreTree) (side : SortId) (trees : List CoreTree) (sorts : List SortId) (sort : SortId) → AreCases d bodies old n env matched earlier all tree side trees sorts sort → HasTreeSort d (core_body tree trees) sort
-            body_sort tree side trees sorts sort h =
-                let k = body_ready old tree side trees sorts sort h in
-                let s = k.setting in
-                s.kept.laws.compiled_sorted d n (given d bodies n) (bind (trees_by d p tree) trees) (bind h.sorted.0.0 sorts) body sort s.consistent (s.kept.laws.calls_sorted d bodies n s.consistent s.sound) s.fitting k.mentions k.sorted
-
-            pub made_sorted : MayCases d bodies old n env matched earlier all → ((tree : CoreTree) (side : SortId) (trees : List CoreTree) (sorts : List SortId) (sort : SortId) → AreCases d bodies m2 n env matched (c ∷ earlier) rest tree side trees sorts sort → HasTreeSort d (core_rest tree trees) sort) → (sort : SortId) × HasTreeSort d (choice (term_at m3 a) (term_at m3 b) (term_at m3 v)) sort
-            made_sorted may later =
-                let h = may.5 in (
-                  may.4,
-                  subst (λ (x : CoreTree). HasTreeSort d x may.4) (sym (layer may.0 may.1 may.2 may.3 may.4 h ∙ whole_is may.0 may.2))
-                      (test_sort old may.0 may.1 may.2 may.3 may.4 h, body_sort may.0 may.1 may.2 may.3 may.4 h, later may.0 may.1 may.2 may.3 may.4 (cases_2 may.0 may.1 may.2 may.3 may.4 h)),
-                )
-
-            pub case_made : (new : Terms) (z : Result TermId TermError) → IfOk z (λ x. Stands new x (choice (term_at m3 a) (term_at m3 b) (term_at m3 v))) → ((allowed : List CoreTree) → Contains allowed (choice (term_at m3 a) (term_at m3 b) (term_at m3 v)) → Effect d allowed m3 new (IsErrOf z Full)) → CompilesCases d bodies n old new env matched earlier all z
-            case_made new z made effect = record {
-              core = λ tree side trees sorts sort h. IfOk-weaker z _ (λ x. Stands new x (whole tree trees)) (λ x k. stands_as new x _ _ (layer tree side trees sorts sort h) k) made;
-              effect = λ tree side trees sorts sort allowed h w.
-                  effect_then d allowed old m3 new _ _ (second_effect tree side trees sorts sort allowed h w)
-                  (effect allowed (subst (Contains allowed) (sym (layer tree side trees sorts sort h)) (within_itself h.setting.kept.laws allowed (whole tree trees) w)));
+        -- both are made
+        pub case_chosen : (a b : TermId) → ((tree : CoreTree) → IsBound old matched tree → Stands m1 a (test c tree)) → r ≡ Ok b → (tree : CoreTree) (side : SortId) (trees : List CoreTree) (sorts : List SortId) (sort : SortId) → AreCases d bodies old n env matched earlier all tree side trees sorts sort → IsChosen d bodies n env matched earlier c all rest old m2 a b tree side trees sorts sort
+        case_chosen a b made is_first tree side trees sorts sort h =
+            let k = cases_1 tree side trees sorts sort h in
+            let f = first.effect (bind (trees_by d p tree) trees) (bind k.sorted.0.0 sorts) sort (subtrees (core_body tree trees)) (body_ready m1 tree side trees sorts sort k) (within_subtrees (core_body tree trees)) in
+            let g = grown_1 tree side trees sorts sort h in
+            let one : Stands m2 a (test c tree) = stands_stays d m1 m2 a (test c tree) f.grown f.kept (made tree h.bound) in
+            let two : Stands m2 b (core_body tree trees) = subst (λ (z : Result TermId TermError). IfOk z (λ x. Stands m2 x (core_body tree trees))) is_first (first.core (bind (trees_by d p tree) trees) (bind k.sorted.0.0 sorts) sort (body_ready m1 tree side trees sorts sort k)) in
+            record {
+              grown = prefix_trans old m1 m2 g.0 f.grown;
+              kept = f.kept;
+              ready = cases_2 tree side trees sorts sort h;
+              condition = one.0;
+              body = two.0;
+              same = whole_is tree trees ∙ ap₂ (λ (x y : CoreTree). choice x y (core_rest tree trees)) (sym one.1) (sym two.1);
+              effect = λ allowed w. effect_because d allowed old m2 _ ⊥ (λ x. absurd x) (first_effect tree side trees sorts sort allowed h w);
             }
 
 -- the core term of cases has the sort of the `match`

@@ -10,4 +10,5 @@ pub mod CaseFormula
 pub mod Binding
 pub mod Calling
 pub mod Matching
+pub mod Chosen
 pub mod Noted

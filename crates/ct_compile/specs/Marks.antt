@@ -4,6 +4,9 @@ use Rattle.ct_sorts.specs.declared.ids.DefId.{DefId}
 use Rattle.ct_sorts.specs.declared.ids.SortId.{SortId}
 use Rattle.ct_sorts.specs.Declarations.{Declarations, Function}
 use Rattle.ct_terms.specs.Formula.{Formula, Formulas, Cases, MentionsBelow, AllMentionBelow, CasesMentionBelow}
+use Rattle.ct_terms.specs.declared.tree.Pattern.{Pattern}
+use Rattle.ct_terms.specs.declared.tree.Pattern.TheVariants.{Ctor, Any}
+use Rattle.ct_terms.specs.Occurrence.{field_count}
 use Rattle.ct_terms.specs.FormulaSorts.{IsSorted, AreSorted, AreSortedCases}
 
 -- the test for each number below the bound, the greatest first: the flags of a binder's variables, in the order of binding
@@ -20,6 +23,11 @@ marked p (b ∷ bs) = (b || p (length bs)) ∷ marked p bs
 abbrev pub has_set : List Bool → Bool
 has_set [] = false
 has_set (b ∷ bs) = b || has_set bs
+
+-- how many variables a pattern binds
+abbrev pub variable_count : Declarations → Pattern → ℕ
+variable_count d Any = 1
+variable_count d (Ctor c) = field_count d c
 
 -- each definition below the number has a row: the flags of its parameters, in order
 abbrev pub HaveRows : Declarations → (DefId → ℕ → Bool) → ℕ → List (List Bool) → Type 0

@@ -31,7 +31,7 @@ abbrev mutual
   -- that of the cases of a `match`
   pub case_weights : (DefId → ℕ) → Cases → ℕ
   case_weights w no_cases = 0
-  case_weights w (with_case p body cases) = weight w body + case_weights w cases + 1
+  case_weights w (with_case p body cases) = weight w body + case_weights w cases + 2
 
 -- the weight of a body
 abbrev pub body_weight : (DefId → ℕ) → Option Formula → ℕ

@@ -1,24 +1,13 @@
-//! Which case of a `match` stands without a test: its constructor is the only one of its sort that no case before it
-//! has, or no case is after it.
+//! Which case of a `match` surely fits: its constructor is the only one of its sort that no case before it has. How many
+//! variables a case binds.
 ghost use Rattle.std.specs.Prelude.{◌≡◌, ◌<◌, ◌||◌, ◌==◌, length, reverse};
-ghost use Rattle.ct_terms.specs.Compiled.{surely_fits, is_among, are_none};
+ghost use Rattle.ct_terms.specs.Compiled.{surely_fits, is_among};
 ghost use Rattle.ct_terms.specs.Occurrence.{field_count};
-ghost use Rattle.ct_compile.specs.CaseFormula.{cases_of_trees};
+ghost use Rattle.ct_compile.specs.Marks.{variable_count};
+ghost use Rattle.ct_compile.specs.Matching.{IsDeclared};
 
 use ct_sorts::{CtorId, Signature};
-use ct_terms::Case;
-
-/// Whether a case of the constructor stands without a test, after cases of the constructors `earlier`, in order, and
-/// before the cases `later`.
-pub(crate) fn stands_alone(sig: &Signature, earlier: &[CtorId], c: CtorId, later: &[Case]) -> bool
-    requires declared { c.0 < length sig.now.ctors }
-    ensures value { result ≡ (surely_fits sig.now (reverse earlier.now) c || are_none (cases_of_trees later.now)) }
-{
-    match later {
-        [] => true,
-        [_, ..] => surely_fits(sig, earlier, c),
-    }
-}
+use ct_terms::Pattern;
 
 /// Whether a case of the constructor fits all that the cases before it, of the constructors `earlier` in order, do not.
 pub(crate) fn surely_fits(sig: &Signature, earlier: &[CtorId], c: CtorId) -> bool
@@ -60,8 +49,19 @@ fn is_among(ctors: &[CtorId], c: CtorId) -> bool
     false
 }
 
-/// How many fields a constructor has.
-pub(crate) fn field_count(sig: &Signature, c: CtorId) -> usize
+/// How many variables a pattern binds.
+pub(crate) fn variable_count(sig: &Signature, pattern: Pattern) -> usize
+    requires declared { IsDeclared sig.now pattern }
+    ensures count { result ≡ variable_count sig.now pattern }
+{
+    match pattern {
+        Pattern::Any => 1,
+        Pattern::Ctor(c) => field_count(sig, c),
+    }
+}
+
+// How many fields a constructor has.
+fn field_count(sig: &Signature, c: CtorId) -> usize
     requires declared { c.0 < length sig.now.ctors }
     ensures count { result ≡ field_count sig.now c }
 {

@@ -3,7 +3,9 @@
 
 mod bindings;
 mod bound;
+mod cases;
 mod chains;
+mod choices;
 mod combine;
 mod entry;
 mod fitting;

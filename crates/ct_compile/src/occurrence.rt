@@ -1,5 +1,5 @@
 //! Which variables occur in the core term of a formula: what is bound to the others makes no term.
-ghost use Rattle.std.specs.Prelude.{◌≡◌, ℕ, ◌+◌, ◌++◌, Bool, true, false, ◌&&◌, ◌==◌, List, [], length, reverse, replicate, IfOk, OnOk};
+ghost use Rattle.std.specs.Prelude.{◌≡◌, ℕ, ◌+◌, ◌++◌, Bool, true, false, ◌&&◌, ◌||◌, ◌==◌, List, [], length, replicate, IfOk, OnOk};
 ghost use Rattle.std.specs.List.{list_any};
 ghost use Rattle.ct_sorts.specs.declared.ids.DefId.{DefId};
 ghost use Rattle.ct_sorts.specs.Declarations.{IsConstructor};
@@ -10,11 +10,13 @@ ghost use Rattle.ct_compile.specs.CaseFormula.{cases_of_trees};
 ghost use Rattle.ct_compile.specs.Noted.{IsNoted, AreNoted, AreNotedWhere, CasesNoted, AddsNotes, AddsAllNotes};
 ghost use Rattle.ct_compile.specs.Marks.{listed, marked, has_set, MayMark, MayMarkAll, MayMarkCases};
 
-use crate::fitting::{field_count, stands_alone};
+use crate::cases::{body_of, pattern_of};
+use crate::fitting::variable_count;
 use crate::forms::operands;
+use crate::matching::tested;
 use crate::notes::Notes;
-use ct_sorts::{CtorId, Items, Signature};
-use ct_terms::{Case, Pattern, Tree};
+use ct_sorts::{Items, Signature};
+use ct_terms::{Case, Tree};
 use std::alloc::{AllocError, Global};
 
 /// Flags of the variables that a binder binds over a formula, in order: those that occur are set. The notes on
@@ -273,9 +275,8 @@ fn mark_match(
     ensures noted { (uses : DefId → ℕ → Bool) (n : ℕ) → MayMark sig.now uses n rows.now (Match (formula_of matched.now) (cases_of_trees cases.now))
         → IfOk result (IsNoted sig.now uses (Match (formula_of matched.now) (cases_of_trees cases.now))) }
 {
-    let mut earlier = Vec::new(alloc);
     let mut inner = Vec::new(alloc);
-    let counts = mark_cases(alloc, sig, rows, flags, &mut earlier, cases, &mut inner)?;
+    let counts = mark_cases(alloc, sig, rows, flags, cases, &mut inner)?;
     let notes = mark_where(alloc, sig, rows, flags, counts, matched)?;
     let mut bound = Vec::new(alloc);
     bound.push(counts)?;
@@ -284,7 +285,7 @@ fn mark_match(
     Ok(Notes::binder(bound, under, inner))
 }
 
-// The same of the cases that the core term has, after cases of some constructors. The answer is whether the
+// The same of the cases that the core term has: up to one that surely fits or is the last. The answer is whether the
 // core term has the matched term.
 #[cycle(mark)]
 fn mark_cases(
@@ -292,33 +293,33 @@ fn mark_cases(
     sig: &Signature,
     rows: &[Items<bool>],
     flags: &mut Vec<bool>,
-    earlier: &mut Vec<CtorId>,
     cases: &[Case],
     inner: &mut Vec<Notes>,
 ) -> Result<bool, AllocError>
     requires may { (uses : DefId → ℕ → Bool) × (n : ℕ) × MayMarkCases sig.now uses n rows.now (cases_of_trees cases.now) }
     ensures matched { (uses : DefId → ℕ → Bool) (n : ℕ) → MayMarkCases sig.now uses n rows.now (cases_of_trees cases.now)
-        → IfOk result (λ occurs. occurs ≡ matched_occurs sig.now uses (reverse earlier.old.items) (cases_of_trees cases.now)) }
+        → IfOk result (λ occurs. occurs ≡ matched_occurs sig.now uses [] (cases_of_trees cases.now)) }
     ensures marks { (uses : DefId → ℕ → Bool) (n : ℕ) → MayMarkCases sig.now uses n rows.now (cases_of_trees cases.now)
-        → OnOk result (flags.new.items ≡ marked (occurs_in_cases sig.now uses (reverse earlier.old.items) (cases_of_trees cases.now)) flags.old.items) }
+        → OnOk result (flags.new.items ≡ marked (occurs_in_cases sig.now uses [] (cases_of_trees cases.now)) flags.old.items) }
     ensures noted { (uses : DefId → ℕ → Bool) (n : ℕ) → MayMarkCases sig.now uses n rows.now (cases_of_trees cases.now)
-        → OnOk result (AddsAllNotes (CasesNoted sig.now uses (reverse earlier.old.items) (cases_of_trees cases.now)) inner.old.items inner.new.items) }
+        → OnOk result (AddsAllNotes (CasesNoted sig.now uses [] (cases_of_trees cases.now)) inner.old.items inner.new.items) }
 {
-    let [case, rest @ ..] = cases else {
-        return Ok(false);
-    };
-    let Pattern::Ctor(c) = case.pattern else {
-        let bound = mark_under(alloc, sig, rows, flags, 1, &case.body, inner)?;
-        return Ok(has_set(bound.as_slice()));
-    };
-    let count = field_count(sig, c);
-    let bound = mark_under(alloc, sig, rows, flags, count, &case.body, inner)?;
-    if stands_alone(sig, earlier.as_slice(), c, rest) {
-        return Ok(has_set(bound.as_slice()));
+    let mut earlier = Vec::new(alloc);
+    let mut tests = false;
+    let mut rest = cases;
+    while let [case, others @ ..] = rest {
+        let pattern = pattern_of(case);
+        let body = body_of(case);
+        let count = variable_count(sig, pattern);
+        let bound = mark_under(alloc, sig, rows, flags, count, body, inner)?;
+        let Some(c) = tested(sig, earlier.as_slice(), pattern, others.is_empty()) else {
+            return Ok(has_set_or(tests, bound.as_slice()));
+        };
+        earlier.push(c)?;
+        tests = true;
+        rest = others;
     }
-    earlier.push(c)?;
-    mark_cases(alloc, sig, rows, flags, earlier, rest, inner)?;
-    Ok(true)
+    Ok(tests)
 }
 
 // Sets the flag of a variable.
@@ -341,6 +342,16 @@ fn add_flags(flags: &mut Vec<bool>, count: usize) -> Result<(), AllocError>
         left -= 1;
     }
     Ok(())
+}
+
+// Whether it is so, or a flag is set.
+fn has_set_or(already: bool, flags: &[bool]) -> bool
+    ensures value { result ≡ (already || has_set flags.now) }
+{
+    if already {
+        return true;
+    }
+    has_set(flags)
 }
 
 // Whether a flag is set.

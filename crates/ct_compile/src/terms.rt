@@ -1,15 +1,15 @@
 //! The core term of a formula, by recursion on the formula and on the definitions that it names.
-ghost use Rattle.std.specs.Prelude.{◌≡◌, ◌<◌, true, map, length, List, [], ◌∷◌, drop, reverse, Contains, Some, slice_get, IfOk, OnOk, IsErrOf};
+ghost use Rattle.std.specs.Prelude.{◌≡◌, ◌<◌, true, map, length, List, [], ◌∷◌, drop, Contains, Some, slice_get, IfOk, OnOk, IsErrOf};
 ghost use Rattle.ct_sorts.specs.declared.ids.SortId.{SortId};
 ghost use Rattle.ct_terms.specs.CoreTree.{CoreTree};
 ghost use Rattle.ct_terms.specs.CoreSorts.{HasTreeSort};
 ghost use Rattle.ct_compile.specs.Effect.{Stands, IsKept, IsPrefix, Effect};
-ghost use Rattle.ct_terms.specs.Formula.{Var, Ite, Def, Let, Match, no_formulas, with_formula};
+ghost use Rattle.ct_terms.specs.Formula.{Var, Ite, Def, Let, Match, no_formulas, with_formula, bind as bound_over};
 ghost use Rattle.ct_terms.specs.TreeFormula.{formula_of, formulas_of_trees};
 ghost use Rattle.ct_compile.specs.Binding.{MayBind, Binds};
 ghost use Rattle.ct_compile.specs.Calling.{IsState};
 ghost use Rattle.ct_compile.specs.CaseFormula.{case_of, cases_of_trees};
-ghost use Rattle.ct_compile.specs.Matching.{MayCases, CompilesCases};
+ghost use Rattle.ct_compile.specs.Matching.{bound_by, IsDeclared, MayCases, CompilesCases};
 ghost use Rattle.ct_terms.specs.Occurrence.{uses_below};
 ghost use Rattle.ct_compile.specs.declared.notes.Notes.{Notes};
 ghost use Rattle.ct_compile.specs.Noted.{IsOfFirst, IsNoted, AreNoted, AreNotedWhere, CasesNoted, HaveNotes};
@@ -18,6 +18,8 @@ ghost use Rattle.ct_compile.specs.Ready.{MayCompile, MayCompileAll, Compiles, Co
 
 use crate::bindings::{bind, pattern_bounds};
 use crate::bound::Bound;
+use crate::cases::{body_of, pattern_of};
+use crate::choices::{Guarded, choices};
 use crate::combine::combine;
 use crate::follow::follow;
 use crate::forms::operands;
@@ -27,7 +29,7 @@ use crate::matching::{make_test, tested};
 use crate::notes::Notes;
 use crate::operator::Operator;
 use crate::scope::Scope;
-use ct_sorts::{CtorId, DefId, Items, Signature};
+use ct_sorts::{DefId, Items, Signature};
 use ct_terms::{Args, Case, Core, Pattern, TermError, TermId, TermTable, Tree};
 use std::alloc::Global;
 use std::slice;
@@ -508,7 +510,6 @@ fn compile_match(
         note.under(),
     )?;
     let matched = bound_at(bounds.as_slice(), 0);
-    let mut earlier = Vec::new(alloc);
     compile_cases(
         alloc,
         scope,
@@ -519,13 +520,13 @@ fn compile_match(
         below,
         env,
         matched,
-        &mut earlier,
         cases,
         note.inner(),
     )
 }
 
-// The term of the cases of a `match`, after cases of some constructors.
+// The term of the cases of a `match`: each case has its test and its body's term, up to one that surely fits or is the
+// last, which has its body's term alone. The choices come after all of them.
 #[cycle(compile)]
 fn compile_cases(
     alloc: Global,
@@ -537,25 +538,42 @@ fn compile_cases(
     below: usize,
     env: &[Bound],
     matched: Bound,
-    earlier: &mut Vec<CtorId>,
     cases: &[Case],
     notes: &[Notes],
 ) -> Result<TermId, TermError>
     requires state { IsState scope.now.sig (map formula_of scope.now.bodies) below rows.now table.old known.old }
-    requires ready { MayCases scope.now.sig (map formula_of scope.now.bodies) table.old below env.now matched (reverse earlier.old.items) (cases_of_trees cases.now) }
-    requires noted { HaveNotes scope.now.sig (map formula_of scope.now.bodies) definitions.now × CasesNoted scope.now.sig (uses_below scope.now.sig (map formula_of scope.now.bodies) below) (reverse earlier.old.items) (cases_of_trees cases.now) notes.now }
-    ensures outcome { CompilesCases scope.now.sig (map formula_of scope.now.bodies) below table.old table.new env.now matched (reverse earlier.old.items) (cases_of_trees cases.now) result }
+    requires ready { MayCases scope.now.sig (map formula_of scope.now.bodies) table.old below env.now matched [] (cases_of_trees cases.now) }
+    requires noted { HaveNotes scope.now.sig (map formula_of scope.now.bodies) definitions.now × CasesNoted scope.now.sig (uses_below scope.now.sig (map formula_of scope.now.bodies) below) [] (cases_of_trees cases.now) notes.now }
+    ensures outcome { CompilesCases scope.now.sig (map formula_of scope.now.bodies) below table.old table.new env.now matched [] (cases_of_trees cases.now) result }
     ensures state { OnOk result (IsState scope.now.sig (map formula_of scope.now.bodies) below rows.now table.new known.new) }
 {
-    let [case, rest @ ..] = cases else {
-        unreachable!();
-    };
-    let pattern = pattern_of(case);
-    let body = body_of(case);
-    let bounds = pattern_bounds(alloc, &scope.sig, pattern, matched)?;
-    let inner = bind(alloc, &bounds, env)?;
-    let Some(c) = tested(&scope.sig, earlier.as_slice(), pattern, rest.is_empty()) else {
-        return compile_tree(
+    let mut earlier = Vec::new(alloc);
+    let mut made = Vec::new(alloc);
+    let mut left = notes;
+    let mut rest = cases;
+    while let [case, others @ ..] = rest {
+        let pattern = pattern_of(case);
+        let body = body_of(case);
+        let here = left;
+        let Some(c) = tested(&scope.sig, earlier.as_slice(), pattern, others.is_empty()) else {
+            let last = compile_case(
+                alloc,
+                scope,
+                rows,
+                definitions,
+                known,
+                table,
+                below,
+                env,
+                matched,
+                pattern,
+                body,
+                here,
+            )?;
+            return choices(&scope.sig, table, made.as_slice(), last);
+        };
+        let condition = make_test(&scope.sig, table, c, matched)?;
+        let term = compile_case(
             alloc,
             scope,
             rows,
@@ -563,13 +581,49 @@ fn compile_cases(
             known,
             table,
             below,
-            &inner,
+            env,
+            matched,
+            pattern,
             body,
-            notes,
-        );
-    };
-    let condition = make_test(&scope.sig, table, c, matched)?;
-    let first = compile_tree(
+            here,
+        )?;
+        made.push(Guarded {
+            condition,
+            body: term,
+        })?;
+        earlier.push(c)?;
+        left = later_notes(here);
+        rest = others;
+    }
+    unreachable!()
+}
+
+// The term of the body of a case.
+#[cycle(compile)]
+fn compile_case(
+    alloc: Global,
+    scope: &Scope,
+    rows: &[Items<bool>],
+    definitions: &[Notes],
+    known: &mut Known,
+    table: &mut TermTable,
+    below: usize,
+    env: &[Bound],
+    matched: Bound,
+    pattern: Pattern,
+    body: &Tree,
+    notes: &[Notes],
+) -> Result<TermId, TermError>
+    requires state { IsState scope.now.sig (map formula_of scope.now.bodies) below rows.now table.old known.old }
+    requires declared { IsDeclared scope.now.sig pattern }
+    requires ready { MayCompile scope.now.sig (map formula_of scope.now.bodies) table.old below (bound_over (bound_by scope.now.sig pattern matched) env.now) (formula_of body.now) }
+    requires noted { HaveNotes scope.now.sig (map formula_of scope.now.bodies) definitions.now × IsOfFirst (IsNoted scope.now.sig (uses_below scope.now.sig (map formula_of scope.now.bodies) below) (formula_of body.now)) notes.now }
+    ensures outcome { Compiles scope.now.sig (map formula_of scope.now.bodies) below table.old table.new (bound_over (bound_by scope.now.sig pattern matched) env.now) (formula_of body.now) result }
+    ensures state { OnOk result (IsState scope.now.sig (map formula_of scope.now.bodies) below rows.now table.new known.new) }
+{
+    let bounds = pattern_bounds(alloc, &scope.sig, pattern, matched)?;
+    let inner = bind(alloc, &bounds, env)?;
+    compile_tree(
         alloc,
         scope,
         rows,
@@ -580,23 +634,7 @@ fn compile_cases(
         &inner,
         body,
         notes,
-    )?;
-    earlier.push(c)?;
-    let second = compile_cases(
-        alloc,
-        scope,
-        rows,
-        definitions,
-        known,
-        table,
-        below,
-        env,
-        matched,
-        earlier,
-        rest,
-        later_notes(notes),
-    )?;
-    make(&scope.sig, table, Core::Ite(condition, first, second))
+    )
 }
 
 // The first of the notes.
@@ -637,20 +675,6 @@ fn one_tree(tree: &Tree) -> &[Tree]
     ensures value { formulas_of_trees result.now ≡ with_formula (formula_of tree.now) no_formulas }
 {
     slice::from_ref(tree)
-}
-
-// What a case fits.
-fn pattern_of(case: &Case) -> Pattern
-    ensures value { result ≡ (case_of case.now).0 }
-{
-    case.pattern
-}
-
-// The body of a case.
-fn body_of(case: &Case) -> &Tree
-    ensures value { formula_of result.now ≡ (case_of case.now).1 }
-{
-    &case.body
 }
 
 // The first of the flags.

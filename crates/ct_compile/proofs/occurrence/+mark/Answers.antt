@@ -1,30 +1,30 @@
-use Rattle.std.proofs.Common.{◌≡◌, ℕ, ◌+◌, ◌-◌, ◌||◌, ◌&&◌, Bool, true, false, List, [], ◌∷◌, ◌++◌, length, take, drop, reverse, get_or, IfOk, sym, ap, ap₂, subst, ◌∙◌, arith}
-use Rattle.std.proofs.lemmas.List.{reverse-append, append_assoc}
+use Rattle.std.proofs.Common.{◌≡◌, ℕ, ◌+◌, ◌-◌, ◌&&◌, Bool, true, false, List, [], ◌∷◌, ◌++◌, length, take, drop, reverse, get_or, None, Some, IfOk, sym, ap, ap₂, subst, ◌∙◌, arith}
+use Rattle.std.proofs.lemmas.List.{reverse-append}
 use Rattle.std.proofs.lemmas.Option.{get_or_from_slice_get}
 use Rattle.std.proofs.lemmas.Result.{IfOk-weaker}
 use Rattle.ct_sorts.specs.declared.ids.CtorId.{CtorId}
 use Rattle.ct_terms.specs.declared.tree.Tree.{Tree}
 use Rattle.ct_terms.specs.declared.tree.Case.{Case}
 use Rattle.ct_terms.specs.declared.tree.Pattern.{Pattern}
-use Rattle.ct_terms.specs.declared.tree.Pattern.TheVariants.{Ctor, Any}
 use Rattle.ct_terms.specs.declared.tree.Tree.TheOpen.{Tree-F}
 use Rattle.ct_terms.specs.declared.tree.Tree.TheFolds.{fold-roll-Tree}
 use Rattle.ct_terms.specs.declared.tree.Tree.TheVariants.{rolls-Def, rolls-Let, rolls-Match}
 use Rattle.ct_terms.specs.TreeFormula.{formula_of, formulas_of_trees, formula_layer, case_layer}
 use Rattle.ct_terms.specs.Formula.{Formula, Cases, Def, Let, Match, with_formula, with_case}
-use Rattle.ct_terms.specs.Compiled.{surely_fits, are_none}
-use Rattle.ct_terms.specs.Occurrence.{count_of, field_count, occurs, occurs_in_bound, matched_occurs, occurs_in_cases}
+use Rattle.ct_terms.specs.Compiled.{are_none}
+use Rattle.ct_terms.specs.Occurrence.{count_of, occurs, occurs_in_bound, matched_occurs, occurs_in_cases}
 use Rattle.ct_compile.specs.declared.notes.Notes.{Notes}
 use Rattle.ct_compile.specs.CaseFormula.{cases_of_trees}
 use Rattle.ct_compile.specs.Weight.{weight, weights}
-use Rattle.ct_compile.specs.Marks.{listed, marked, MayMark, MayMarkCases}
-use Rattle.ct_compile.specs.Noted.{under_of, IsNoted, CasesNoted}
+use Rattle.ct_compile.specs.Marks.{listed, marked, variable_count, MayMark}
+use Rattle.ct_compile.specs.Noted.{under_of, IsNoted}
 use Rattle.ct_compile.proofs.RestLemmas.{rest_item, rest_step}
-use Rattle.ct_compile.proofs.CaseLemmas.{cases_split}
 use Rattle.ct_compile.proofs.MarkLemmas.{marked_none}
-use Rattle.ct_compile.proofs.FlagLemmas.{pattern_any}
-use Rattle.ct_compile.proofs.MayLemmas.{may_plain, marks_plain, may_condition, may_then, may_else, marks_choice, may_args, row_there, row_inside, may_body, may_bound, marks_let, may_matched, may_cases, may_case, may_later, case_constructor, marks_match, matched_last, marks_last, matched_more, marks_more, matched_any, marks_any, MarksRest, rest_first, rest_lighter, rest_more, rest_end, MarksBound, bound_first, bound_lighter, bound_more, bound_end, bound_short, under_long, under_take, under_drop, ok_then, nothing_left, counted, heavier_plain}
-use Rattle.ct_compile.proofs.NoteLemmas.{noted_operator, noted_call, noted_choice, noted_let, noted_match, cases_last, cases_more, NotesRest, notes_more, notes_end, NotesBound, notes_bound_more, notes_bound_end}
+use Rattle.ct_compile.proofs.MayLemmas.{may_plain, marks_plain, may_condition, may_then, may_else, marks_choice, may_args, row_there, row_inside, may_body, may_bound, marks_let, may_matched, may_cases, marks_match, MarksRest, rest_first, rest_lighter, rest_more, rest_end, MarksBound, bound_first, bound_lighter, bound_more, bound_end, bound_short, under_long, under_take, under_drop, ok_then, nothing_left, counted, heavier_plain}
+use Rattle.ct_compile.proofs.NoteLemmas.{noted_operator, noted_call, noted_choice, noted_let, noted_match, NotesRest, notes_more, notes_end, NotesBound, notes_bound_more, notes_bound_end}
+use Rattle.ct_compile.specs.Matching.{tested_by}
+use Rattle.ct_compile.proofs.FormLemmas.{cases_is, none_is}
+use Rattle.ct_compile.proofs.MarkedCases.{MarksCases, cases_first, cases_declared, cases_lighter, ends_matched, ends_marks, ends_noted, cases_next, none_matched, none_marks, none_noted}
 use Rattle.ct_compile.proofs.occurrence.+mark.Goals as goal
 
 -- ---- mark
@@ -339,9 +339,8 @@ mark_match-returns-clause-marks t c = λ uses n m.
     let f = formula_of c.args.matched.now in
     let cases = cases_of_trees c.args.cases.now in
     let under = may_cases d uses n rows f cases m in
-    let start : reverse c.new-earlier.result.items ≡ [] = ap reverse c.new-earlier.ensures.items in
-    let counts : c.in_ok-counts.counts ≡ matched_occurs d uses [] cases = c.in_ok-counts.ensures.matched uses n under ∙ ap (λ (e : List CtorId). matched_occurs d uses e cases) start in
-    let bodies : c.mark_cases.new.flags.items ≡ marked (occurs_in_cases d uses [] cases) first = c.in_ok-counts.ensures.marks uses n under ∙ ap (λ (e : List CtorId). marked (occurs_in_cases d uses e cases) first) start in
+    let counts : c.in_ok-counts.counts ≡ matched_occurs d uses [] cases = c.in_ok-counts.ensures.matched uses n under in
+    let bodies : c.mark_cases.new.flags.items ≡ marked (occurs_in_cases d uses [] cases) first = c.in_ok-counts.ensures.marks uses n under in
     c.in_ok-notes.ensures.marks uses n (may_matched d uses n rows f cases m) ∙ (ap (marked (λ i. c.in_ok-counts.counts && occurs d uses f i)) bodies ∙ marks_match d uses n rows f cases c.in_ok-counts.counts first counts)
 
 pub mark_match-returns-clause-noted : goal.mark_match-returns-clause-noted
@@ -352,184 +351,184 @@ mark_match-returns-clause-noted t c = λ uses n m.
     let f = formula_of c.args.matched.now in
     let cases = cases_of_trees c.args.cases.now in
     let under = may_cases d uses n rows f cases m in
-    let start : reverse c.new-earlier.result.items ≡ [] = ap reverse c.new-earlier.ensures.items in
-    let counts : c.in_ok-counts.counts ≡ matched_occurs d uses [] cases = c.in_ok-counts.ensures.matched uses n under ∙ ap (λ (e : List CtorId). matched_occurs d uses e cases) start in
+    let counts : c.in_ok-counts.counts ≡ matched_occurs d uses [] cases = c.in_ok-counts.ensures.matched uses n under in
     let noted = c.in_ok-counts.ensures.noted uses n under in
     let inner : c.mark_cases.new.inner.items ≡ noted.0 = noted.1 ∙ ap (λ (ms : List Notes). ms ++ noted.0) c.new-inner.ensures.items in
     let bound : c.push.new.self.items ≡ c.in_ok-counts.counts ∷ [] = c.in_ok-push.ensures.items ∙ ap (λ (bs : List Bool). bs ++ c.in_ok-counts.counts ∷ []) c.new-bound.ensures.items in
     let one : c.push-2.new.self.items ≡ c.in_ok-notes.notes ∷ [] = c.in_ok-push-2.ensures.items ∙ ap (λ (ms : List Notes). ms ++ c.in_ok-notes.notes ∷ []) c.new-under.ensures.items in
-    noted_match d uses f cases c.binder.result c.in_ok-notes.notes c.in_ok-counts.counts noted.0 counts (c.binder.ensures.bound ∙ bound) (c.binder.ensures.under ∙ one) (c.binder.ensures.inner ∙ inner) (λ e. c.in_ok-notes.ensures.noted uses n (may_matched d uses n rows f cases m) e) (subst (λ (e : List CtorId). CasesNoted d uses e cases noted.0) start noted.2)
+    noted_match d uses f cases c.binder.result c.in_ok-notes.notes c.in_ok-counts.counts noted.0 counts (c.binder.ensures.bound ∙ bound) (c.binder.ensures.under ∙ one) (c.binder.ensures.inner ∙ inner) (λ e. c.in_ok-notes.ensures.noted uses n (may_matched d uses n rows f cases m) e) noted.2
 
 -- ---- mark_cases
 
-pub mark_cases-returns-in_default-clause-marks : goal.mark_cases-returns-in_default-clause-marks
-mark_cases-returns-in_default-clause-marks t c = λ uses n h.
-    let none : c.args.cases.now ≡ [] = nothing_left c.args.cases.now (omega (arith, c.in_default.len_below)) in
-    sym (ap (λ (cs : List Case). marked (occurs_in_cases c.args.sig.now uses (reverse c.args.earlier.now.items) (cases_of_trees cs)) c.args.flags.now.items) none ∙ marked_none c.args.flags.now.items)
-
-pub mark_cases-returns-in_default-pattern-clause-matched : goal.mark_cases-returns-in_default-pattern-clause-matched
-mark_cases-returns-in_default-pattern-clause-matched t c = λ uses n h.
+pub mark_cases-variable_count-count-requires : goal.mark_cases-variable_count-count-requires
+mark_cases-variable_count-count-requires t c =
     let d = c.args.sig.now in
     let rows = c.args.rows.now in
+    let all = cases_of_trees c.args.cases.now in
     let first = c.args.flags.now.items in
-    let earlier = reverse c.args.earlier.now.items in
-    let body = formula_of c.case-item.result.body in
-    let later = cases_of_trees (take (length c.args.cases.now - 1) (drop 1 c.args.cases.now)) in
-    let is : cases_of_trees c.args.cases.now ≡ with_case Any body later = ap cases_of_trees (rest_item c.args.cases.now c.case-item.result c.in-len1-up.len_at_least c.case-item.is) ∙ (cases_split c.case-item.result (take (length c.args.cases.now - 1) (drop 1 c.args.cases.now)) ∙ ap (λ (p : Pattern). with_case p body later) (pattern_any c.case-item.result.pattern c.in_default-pattern.not-Ctor)) in
-    let may = may_case d uses n rows Any body later (subst (MayMarkCases d uses n rows) is h) in
-    c.has_set.ensures.value ∙ (matched_any d uses n rows earlier body later c.as_slice.result.now (c.as_slice.ensures.value ∙ c.in_ok-bound.ensures.flags uses n may) ∙ ap (matched_occurs d uses earlier) (sym is))
-
-pub mark_cases-returns-in_default-pattern-clause-marks : goal.mark_cases-returns-in_default-pattern-clause-marks
-mark_cases-returns-in_default-pattern-clause-marks t c = λ uses n h.
-    let d = c.args.sig.now in
-    let rows = c.args.rows.now in
-    let first = c.args.flags.now.items in
-    let earlier = reverse c.args.earlier.now.items in
-    let body = formula_of c.case-item.result.body in
-    let later = cases_of_trees (take (length c.args.cases.now - 1) (drop 1 c.args.cases.now)) in
-    let is : cases_of_trees c.args.cases.now ≡ with_case Any body later = ap cases_of_trees (rest_item c.args.cases.now c.case-item.result c.in-len1-up.len_at_least c.case-item.is) ∙ (cases_split c.case-item.result (take (length c.args.cases.now - 1) (drop 1 c.args.cases.now)) ∙ ap (λ (p : Pattern). with_case p body later) (pattern_any c.case-item.result.pattern c.in_default-pattern.not-Ctor)) in
-    let may = may_case d uses n rows Any body later (subst (MayMarkCases d uses n rows) is h) in
-    c.in_ok-bound.ensures.marks uses n may ∙ (marks_any d uses n rows earlier body later first ∙ ap (λ (cs : Cases). marked (occurs_in_cases d uses earlier cs) first) (sym is))
-
-pub mark_cases-returns-in_default-pattern-clause-noted : goal.mark_cases-returns-in_default-pattern-clause-noted
-mark_cases-returns-in_default-pattern-clause-noted t c = λ uses n h.
-    let d = c.args.sig.now in
-    let rows = c.args.rows.now in
-    let first = c.args.flags.now.items in
-    let earlier = reverse c.args.earlier.now.items in
-    let body = formula_of c.case-item.result.body in
-    let later = cases_of_trees (take (length c.args.cases.now - 1) (drop 1 c.args.cases.now)) in
-    let is : cases_of_trees c.args.cases.now ≡ with_case Any body later = ap cases_of_trees (rest_item c.args.cases.now c.case-item.result c.in-len1-up.len_at_least c.case-item.is) ∙ (cases_split c.case-item.result (take (length c.args.cases.now - 1) (drop 1 c.args.cases.now)) ∙ ap (λ (p : Pattern). with_case p body later) (pattern_any c.case-item.result.pattern c.in_default-pattern.not-Ctor)) in
-    let may = may_case d uses n rows Any body later (subst (MayMarkCases d uses n rows) is h) in
-    let noted = c.in_ok-bound.ensures.noted uses n may in
-    (noted.0 ∷ [], noted.1, subst (λ (cs : Cases). CasesNoted d uses earlier cs (noted.0 ∷ [])) (sym is) noted.2)
-
-pub mark_cases-field_count-count-requires : goal.mark_cases-field_count-count-requires
-mark_cases-field_count-count-requires t c =
+    let before = c.args.inner.now.items in
+    let loop = c.loop-rest in
+    let earlier = reverse loop.earlier.items in
+    let p = c.pattern_of-pattern.result in
+    let body = formula_of c.body_of-body.result.now in
+    let others = take (length loop.rest.now - 1) (drop 1 loop.rest.now) in
+    let later = cases_of_trees others in
+    let whole : cases_of_trees loop.rest.now ≡ with_case p body later = cases_is loop.rest.now others c.case-item.result p body (rest_item loop.rest.now c.case-item.result c.in-len1-up.len_at_least c.case-item.is) c.pattern_of-pattern.ensures.value c.body_of-body.ensures.value in
+    let split = subst (λ (cs : Cases). MarksCases d rows all first before earlier loop.tests cs loop.flags.items loop.inner.items) whole loop.invariant in
     let may = c.requires.may in
+    record { declared = cases_declared d rows all first before earlier loop.tests p body later loop.flags.items loop.inner.items split may.0 may.1 may.2 }
+
+pub mark_cases-mark_under-requires : goal.mark_cases-mark_under-requires
+mark_cases-mark_under-requires t c =
     let d = c.args.sig.now in
     let rows = c.args.rows.now in
+    let all = cases_of_trees c.args.cases.now in
     let first = c.args.flags.now.items in
-    let earlier = reverse c.args.earlier.now.items in
-    let body = formula_of c.case-item.result.body in
-    let later = cases_of_trees (take (length c.args.cases.now - 1) (drop 1 c.args.cases.now)) in
-    let is : cases_of_trees c.args.cases.now ≡ with_case (Ctor c.in-Ctor.c) body later = ap cases_of_trees (rest_item c.args.cases.now c.case-item.result c.in-len1-up.len_at_least c.case-item.is) ∙ (cases_split c.case-item.result (take (length c.args.cases.now - 1) (drop 1 c.args.cases.now)) ∙ ap (λ (p : Pattern). with_case p body later) c.in-Ctor.is) in
-    record { declared = case_constructor d may.0 may.1 rows c.in-Ctor.c body later (subst (MayMarkCases d may.0 may.1 rows) is may.2) }
-
-pub mark_cases-stands_alone-requires : goal.mark_cases-stands_alone-requires
-mark_cases-stands_alone-requires t c =
+    let before = c.args.inner.now.items in
+    let loop = c.loop-rest in
+    let earlier = reverse loop.earlier.items in
+    let p = c.pattern_of-pattern.result in
+    let body = formula_of c.body_of-body.result.now in
+    let others = take (length loop.rest.now - 1) (drop 1 loop.rest.now) in
+    let later = cases_of_trees others in
+    let whole : cases_of_trees loop.rest.now ≡ with_case p body later = cases_is loop.rest.now others c.case-item.result p body (rest_item loop.rest.now c.case-item.result c.in-len1-up.len_at_least c.case-item.is) c.pattern_of-pattern.ensures.value c.body_of-body.ensures.value in
+    let split = subst (λ (cs : Cases). MarksCases d rows all first before earlier loop.tests cs loop.flags.items loop.inner.items) whole loop.invariant in
     let may = c.requires.may in
-    let d = c.args.sig.now in
-    let rows = c.args.rows.now in
-    let first = c.args.flags.now.items in
-    let earlier = reverse c.args.earlier.now.items in
-    let body = formula_of c.case-item.result.body in
-    let later = cases_of_trees (take (length c.args.cases.now - 1) (drop 1 c.args.cases.now)) in
-    let is : cases_of_trees c.args.cases.now ≡ with_case (Ctor c.in-Ctor.c) body later = ap cases_of_trees (rest_item c.args.cases.now c.case-item.result c.in-len1-up.len_at_least c.case-item.is) ∙ (cases_split c.case-item.result (take (length c.args.cases.now - 1) (drop 1 c.args.cases.now)) ∙ ap (λ (p : Pattern). with_case p body later) c.in-Ctor.is) in
-    record { declared = case_constructor d may.0 may.1 rows c.in-Ctor.c body later (subst (MayMarkCases d may.0 may.1 rows) is may.2) }
+    let lighter = cases_lighter d rows all first before earlier loop.tests p body later loop.flags.items loop.inner.items split in
+    (omega (arith, lighter, c.decreases), (may.0, may.1, cases_first d rows all first before earlier loop.tests p body later loop.flags.items loop.inner.items split may.0 may.1 may.2))
 
-pub mark_cases-returns-then-stands_alone-clause-matched : goal.mark_cases-returns-then-stands_alone-clause-matched
-mark_cases-returns-then-stands_alone-clause-matched t c = λ uses n h.
+pub mark_cases-tested-requires : goal.mark_cases-tested-requires
+mark_cases-tested-requires t c =
     let d = c.args.sig.now in
     let rows = c.args.rows.now in
+    let all = cases_of_trees c.args.cases.now in
     let first = c.args.flags.now.items in
-    let earlier = reverse c.args.earlier.now.items in
-    let body = formula_of c.case-item.result.body in
-    let later = cases_of_trees (take (length c.args.cases.now - 1) (drop 1 c.args.cases.now)) in
-    let is : cases_of_trees c.args.cases.now ≡ with_case (Ctor c.in-Ctor.c) body later = ap cases_of_trees (rest_item c.args.cases.now c.case-item.result c.in-len1-up.len_at_least c.case-item.is) ∙ (cases_split c.case-item.result (take (length c.args.cases.now - 1) (drop 1 c.args.cases.now)) ∙ ap (λ (p : Pattern). with_case p body later) c.in-Ctor.is) in
-    let k = c.in-Ctor.c in
-    let here = subst (MayMarkCases d uses n rows) is h in
-    let may = may_case d uses n rows (Ctor k) body later here in
-    let fits : (surely_fits d earlier k || are_none later) ≡ true = sym (c.if-stands_alone.ensures.value ∙ ap (λ (e : List CtorId). surely_fits d (reverse e) k || are_none later) c.as_slice-2.ensures.value) in
-    let bound : c.as_slice-then-stands_alone.result.now ≡ listed (occurs d uses body) (field_count d k) =
-    c.as_slice-then-stands_alone.ensures.value ∙ (c.in_ok-bound-2.ensures.flags uses n may ∙ ap (listed (occurs d uses body)) c.field_count-count.ensures.count) in
-    c.has_set-then-stands_alone.ensures.value ∙ (matched_last d uses n rows earlier k body later c.as_slice-then-stands_alone.result.now fits bound ∙ ap (matched_occurs d uses earlier) (sym is))
+    let before = c.args.inner.now.items in
+    let loop = c.loop-rest in
+    let earlier = reverse loop.earlier.items in
+    let p = c.pattern_of-pattern.result in
+    let body = formula_of c.body_of-body.result.now in
+    let others = take (length loop.rest.now - 1) (drop 1 loop.rest.now) in
+    let later = cases_of_trees others in
+    let whole : cases_of_trees loop.rest.now ≡ with_case p body later = cases_is loop.rest.now others c.case-item.result p body (rest_item loop.rest.now c.case-item.result c.in-len1-up.len_at_least c.case-item.is) c.pattern_of-pattern.ensures.value c.body_of-body.ensures.value in
+    let split = subst (λ (cs : Cases). MarksCases d rows all first before earlier loop.tests cs loop.flags.items loop.inner.items) whole loop.invariant in
+    let may = c.requires.may in
+    record { declared = cases_declared d rows all first before earlier loop.tests p body later loop.flags.items loop.inner.items split may.0 may.1 may.2 }
 
-pub mark_cases-returns-then-stands_alone-clause-marks : goal.mark_cases-returns-then-stands_alone-clause-marks
-mark_cases-returns-then-stands_alone-clause-marks t c = λ uses n h.
+pub mark_cases-returns-in_default-tested-clause-matched : goal.mark_cases-returns-in_default-tested-clause-matched
+mark_cases-returns-in_default-tested-clause-matched t c = λ uses n may.
     let d = c.args.sig.now in
     let rows = c.args.rows.now in
+    let all = cases_of_trees c.args.cases.now in
     let first = c.args.flags.now.items in
-    let earlier = reverse c.args.earlier.now.items in
-    let body = formula_of c.case-item.result.body in
-    let later = cases_of_trees (take (length c.args.cases.now - 1) (drop 1 c.args.cases.now)) in
-    let is : cases_of_trees c.args.cases.now ≡ with_case (Ctor c.in-Ctor.c) body later = ap cases_of_trees (rest_item c.args.cases.now c.case-item.result c.in-len1-up.len_at_least c.case-item.is) ∙ (cases_split c.case-item.result (take (length c.args.cases.now - 1) (drop 1 c.args.cases.now)) ∙ ap (λ (p : Pattern). with_case p body later) c.in-Ctor.is) in
-    let k = c.in-Ctor.c in
-    let here = subst (MayMarkCases d uses n rows) is h in
-    let may = may_case d uses n rows (Ctor k) body later here in
-    let fits : (surely_fits d earlier k || are_none later) ≡ true = sym (c.if-stands_alone.ensures.value ∙ ap (λ (e : List CtorId). surely_fits d (reverse e) k || are_none later) c.as_slice-2.ensures.value) in
-    c.in_ok-bound-2.ensures.marks uses n may
-    ∙ (ap (λ (m : ℕ). marked (λ i. occurs d uses body (i + m)) first) c.field_count-count.ensures.count
-    ∙ (marks_last d uses n rows earlier k body later first fits ∙ ap (λ (cs : Cases). marked (occurs_in_cases d uses earlier cs) first) (sym is)))
+    let before = c.args.inner.now.items in
+    let loop = c.loop-rest in
+    let earlier = reverse loop.earlier.items in
+    let p = c.pattern_of-pattern.result in
+    let body = formula_of c.body_of-body.result.now in
+    let others = take (length loop.rest.now - 1) (drop 1 loop.rest.now) in
+    let later = cases_of_trees others in
+    let whole : cases_of_trees loop.rest.now ≡ with_case p body later = cases_is loop.rest.now others c.case-item.result p body (rest_item loop.rest.now c.case-item.result c.in-len1-up.len_at_least c.case-item.is) c.pattern_of-pattern.ensures.value c.body_of-body.ensures.value in
+    let split = subst (λ (cs : Cases). MarksCases d rows all first before earlier loop.tests cs loop.flags.items loop.inner.items) whole loop.invariant in
+    let test : c.tested.result ≡ tested_by d earlier p (are_none later) = c.tested.ensures.value ∙ (ap (λ (xs : List CtorId). tested_by d (reverse xs) p c.is_empty.result) c.as_slice.ensures.value ∙ ap (tested_by d earlier p) (c.is_empty.ensures ∙ none_is others)) in
+    let end : tested_by d earlier p (are_none later) ≡ None = sym test ∙ c.in_default-tested.is in
+    let bound : c.as_slice-in_default-tested.result.now ≡ listed (occurs d uses body) (variable_count d p) = c.as_slice-in_default-tested.ensures.value ∙ (c.in_ok-bound.ensures.flags uses n (cases_first d rows all first before earlier loop.tests p body later loop.flags.items loop.inner.items split uses n may) ∙ ap (listed (occurs d uses body)) c.variable_count-count.ensures.count) in
+    c.has_set_or.ensures.value ∙ ends_matched d rows all first before earlier loop.tests p body later loop.flags.items loop.inner.items split uses n may end c.as_slice-in_default-tested.result.now bound
 
-pub mark_cases-returns-then-stands_alone-clause-noted : goal.mark_cases-returns-then-stands_alone-clause-noted
-mark_cases-returns-then-stands_alone-clause-noted t c = λ uses n h.
+pub mark_cases-returns-in_default-tested-clause-marks : goal.mark_cases-returns-in_default-tested-clause-marks
+mark_cases-returns-in_default-tested-clause-marks t c = λ uses n may.
     let d = c.args.sig.now in
     let rows = c.args.rows.now in
+    let all = cases_of_trees c.args.cases.now in
     let first = c.args.flags.now.items in
-    let earlier = reverse c.args.earlier.now.items in
-    let body = formula_of c.case-item.result.body in
-    let later = cases_of_trees (take (length c.args.cases.now - 1) (drop 1 c.args.cases.now)) in
-    let is : cases_of_trees c.args.cases.now ≡ with_case (Ctor c.in-Ctor.c) body later = ap cases_of_trees (rest_item c.args.cases.now c.case-item.result c.in-len1-up.len_at_least c.case-item.is) ∙ (cases_split c.case-item.result (take (length c.args.cases.now - 1) (drop 1 c.args.cases.now)) ∙ ap (λ (p : Pattern). with_case p body later) c.in-Ctor.is) in
-    let k = c.in-Ctor.c in
-    let here = subst (MayMarkCases d uses n rows) is h in
-    let may = may_case d uses n rows (Ctor k) body later here in
-    let fits : (surely_fits d earlier k || are_none later) ≡ true = sym (c.if-stands_alone.ensures.value ∙ ap (λ (e : List CtorId). surely_fits d (reverse e) k || are_none later) c.as_slice-2.ensures.value) in
-    let noted = c.in_ok-bound-2.ensures.noted uses n may in
-    (noted.0 ∷ [], noted.1, subst (λ (cs : Cases). CasesNoted d uses earlier cs (noted.0 ∷ [])) (sym is) (cases_last d uses earlier k body later noted.0 fits noted.2))
+    let before = c.args.inner.now.items in
+    let loop = c.loop-rest in
+    let earlier = reverse loop.earlier.items in
+    let p = c.pattern_of-pattern.result in
+    let body = formula_of c.body_of-body.result.now in
+    let others = take (length loop.rest.now - 1) (drop 1 loop.rest.now) in
+    let later = cases_of_trees others in
+    let whole : cases_of_trees loop.rest.now ≡ with_case p body later = cases_is loop.rest.now others c.case-item.result p body (rest_item loop.rest.now c.case-item.result c.in-len1-up.len_at_least c.case-item.is) c.pattern_of-pattern.ensures.value c.body_of-body.ensures.value in
+    let split = subst (λ (cs : Cases). MarksCases d rows all first before earlier loop.tests cs loop.flags.items loop.inner.items) whole loop.invariant in
+    let test : c.tested.result ≡ tested_by d earlier p (are_none later) = c.tested.ensures.value ∙ (ap (λ (xs : List CtorId). tested_by d (reverse xs) p c.is_empty.result) c.as_slice.ensures.value ∙ ap (tested_by d earlier p) (c.is_empty.ensures ∙ none_is others)) in
+    let end : tested_by d earlier p (are_none later) ≡ None = sym test ∙ c.in_default-tested.is in
+    let under : c.mark_under.new.flags.items ≡ marked (λ i. occurs d uses body (i + variable_count d p)) loop.flags.items = c.in_ok-bound.ensures.marks uses n (cases_first d rows all first before earlier loop.tests p body later loop.flags.items loop.inner.items split uses n may) ∙ ap (λ (m : ℕ). marked (λ i. occurs d uses body (i + m)) loop.flags.items) c.variable_count-count.ensures.count in
+    ends_marks d rows all first before earlier loop.tests p body later loop.flags.items loop.inner.items split uses n may end c.mark_under.new.flags.items under
+
+pub mark_cases-returns-in_default-tested-clause-noted : goal.mark_cases-returns-in_default-tested-clause-noted
+mark_cases-returns-in_default-tested-clause-noted t c = λ uses n may.
+    let d = c.args.sig.now in
+    let rows = c.args.rows.now in
+    let all = cases_of_trees c.args.cases.now in
+    let first = c.args.flags.now.items in
+    let before = c.args.inner.now.items in
+    let loop = c.loop-rest in
+    let earlier = reverse loop.earlier.items in
+    let p = c.pattern_of-pattern.result in
+    let body = formula_of c.body_of-body.result.now in
+    let others = take (length loop.rest.now - 1) (drop 1 loop.rest.now) in
+    let later = cases_of_trees others in
+    let whole : cases_of_trees loop.rest.now ≡ with_case p body later = cases_is loop.rest.now others c.case-item.result p body (rest_item loop.rest.now c.case-item.result c.in-len1-up.len_at_least c.case-item.is) c.pattern_of-pattern.ensures.value c.body_of-body.ensures.value in
+    let split = subst (λ (cs : Cases). MarksCases d rows all first before earlier loop.tests cs loop.flags.items loop.inner.items) whole loop.invariant in
+    let test : c.tested.result ≡ tested_by d earlier p (are_none later) = c.tested.ensures.value ∙ (ap (λ (xs : List CtorId). tested_by d (reverse xs) p c.is_empty.result) c.as_slice.ensures.value ∙ ap (tested_by d earlier p) (c.is_empty.ensures ∙ none_is others)) in
+    let end : tested_by d earlier p (are_none later) ≡ None = sym test ∙ c.in_default-tested.is in
+    ends_noted d rows all first before earlier loop.tests p body later loop.flags.items loop.inner.items split uses n may end c.mark_under.new.inner.items (c.in_ok-bound.ensures.noted uses n (cases_first d rows all first before earlier loop.tests p body later loop.flags.items loop.inner.items split uses n may))
+
+pub mark_cases-loop-rest-preserved : goal.mark_cases-loop-rest-preserved
+mark_cases-loop-rest-preserved t c =
+    let d = c.args.sig.now in
+    let rows = c.args.rows.now in
+    let all = cases_of_trees c.args.cases.now in
+    let first = c.args.flags.now.items in
+    let before = c.args.inner.now.items in
+    let loop = c.loop-rest in
+    let earlier = reverse loop.earlier.items in
+    let p = c.pattern_of-pattern.result in
+    let body = formula_of c.body_of-body.result.now in
+    let others = take (length loop.rest.now - 1) (drop 1 loop.rest.now) in
+    let later = cases_of_trees others in
+    let whole : cases_of_trees loop.rest.now ≡ with_case p body later = cases_is loop.rest.now others c.case-item.result p body (rest_item loop.rest.now c.case-item.result c.in-len1-up.len_at_least c.case-item.is) c.pattern_of-pattern.ensures.value c.body_of-body.ensures.value in
+    let split = subst (λ (cs : Cases). MarksCases d rows all first before earlier loop.tests cs loop.flags.items loop.inner.items) whole loop.invariant in
+    let test : c.tested.result ≡ tested_by d earlier p (are_none later) = c.tested.ensures.value ∙ (ap (λ (xs : List CtorId). tested_by d (reverse xs) p c.is_empty.result) c.as_slice.ensures.value ∙ ap (tested_by d earlier p) (c.is_empty.ensures ∙ none_is others)) in
+    let more : tested_by d earlier p (are_none later) ≡ Some c.in-Some.c = sym test ∙ c.in-Some.is in
+    let longer : reverse c.push.new.self.items ≡ c.in-Some.c ∷ earlier = ap reverse c.in_ok-push.ensures.items ∙ reverse-append loop.earlier.items (c.in-Some.c ∷ []) in
+    subst (λ (e : List CtorId). MarksCases d rows all first before e true later c.mark_under.new.flags.items c.mark_under.new.inner.items) (sym longer)
+    (cases_next d rows all first before earlier loop.tests p body later loop.flags.items loop.inner.items split c.in-Some.c more c.mark_under.new.flags.items c.mark_under.new.inner.items
+    (λ uses n may. c.in_ok-bound.ensures.marks uses n may ∙ ap (λ (m : ℕ). marked (λ i. occurs d uses body (i + m)) loop.flags.items) c.variable_count-count.ensures.count)
+    (λ uses n may. c.in_ok-bound.ensures.noted uses n may))
 
 pub mark_cases-returns-clause-matched : goal.mark_cases-returns-clause-matched
-mark_cases-returns-clause-matched t c = λ uses n h.
+mark_cases-returns-clause-matched t c = λ uses n may.
     let d = c.args.sig.now in
     let rows = c.args.rows.now in
+    let all = cases_of_trees c.args.cases.now in
     let first = c.args.flags.now.items in
-    let earlier = reverse c.args.earlier.now.items in
-    let body = formula_of c.case-item.result.body in
-    let later = cases_of_trees (take (length c.args.cases.now - 1) (drop 1 c.args.cases.now)) in
-    let is : cases_of_trees c.args.cases.now ≡ with_case (Ctor c.in-Ctor.c) body later = ap cases_of_trees (rest_item c.args.cases.now c.case-item.result c.in-len1-up.len_at_least c.case-item.is) ∙ (cases_split c.case-item.result (take (length c.args.cases.now - 1) (drop 1 c.args.cases.now)) ∙ ap (λ (p : Pattern). with_case p body later) c.in-Ctor.is) in
-    let k = c.in-Ctor.c in
-    let here = subst (MayMarkCases d uses n rows) is h in
-    let may = may_case d uses n rows (Ctor k) body later here in
-    let fits : (surely_fits d earlier k || are_none later) ≡ false = sym (c.if-stands_alone.ensures.value ∙ ap (λ (e : List CtorId). surely_fits d (reverse e) k || are_none later) c.as_slice-2.ensures.value) in
-    matched_more d uses n rows earlier k body later fits ∙ ap (matched_occurs d uses earlier) (sym is)
+    let before = c.args.inner.now.items in
+    let loop = c.loop-rest in
+    let none = nothing_left loop.rest.now (omega (arith, c.in_default.len_below)) in
+    let end = subst (λ (cs : List Case). MarksCases d rows all first before (reverse loop.earlier.items) loop.tests (cases_of_trees cs) loop.flags.items loop.inner.items) none loop.invariant in
+    none_matched d rows all first before (reverse loop.earlier.items) loop.tests loop.flags.items loop.inner.items end uses n may
 
 pub mark_cases-returns-clause-marks : goal.mark_cases-returns-clause-marks
-mark_cases-returns-clause-marks t c = λ uses n h.
+mark_cases-returns-clause-marks t c = λ uses n may.
     let d = c.args.sig.now in
     let rows = c.args.rows.now in
+    let all = cases_of_trees c.args.cases.now in
     let first = c.args.flags.now.items in
-    let earlier = reverse c.args.earlier.now.items in
-    let body = formula_of c.case-item.result.body in
-    let later = cases_of_trees (take (length c.args.cases.now - 1) (drop 1 c.args.cases.now)) in
-    let is : cases_of_trees c.args.cases.now ≡ with_case (Ctor c.in-Ctor.c) body later = ap cases_of_trees (rest_item c.args.cases.now c.case-item.result c.in-len1-up.len_at_least c.case-item.is) ∙ (cases_split c.case-item.result (take (length c.args.cases.now - 1) (drop 1 c.args.cases.now)) ∙ ap (λ (p : Pattern). with_case p body later) c.in-Ctor.is) in
-    let k = c.in-Ctor.c in
-    let here = subst (MayMarkCases d uses n rows) is h in
-    let may = may_case d uses n rows (Ctor k) body later here in
-    let fits : (surely_fits d earlier k || are_none later) ≡ false = sym (c.if-stands_alone.ensures.value ∙ ap (λ (e : List CtorId). surely_fits d (reverse e) k || are_none later) c.as_slice-2.ensures.value) in
-    let longer : reverse c.push.new.self.items ≡ k ∷ earlier = ap reverse c.in_ok-push.ensures.items ∙ reverse-append c.args.earlier.now.items (k ∷ []) in
-    let rest_may = may_later d uses n rows (Ctor k) body later here in
-    let under : c.mark_under-2.new.flags.items ≡ marked (λ i. occurs d uses body (i + field_count d k)) first =
-    c.in_ok-bound-2.ensures.marks uses n may ∙ ap (λ (m : ℕ). marked (λ i. occurs d uses body (i + m)) first) c.field_count-count.ensures.count in
-    c.in_ok-mark_cases.ensures.marks uses n rest_may
-    ∙ (ap₂ (λ (e : List CtorId) (bs : List Bool). marked (occurs_in_cases d uses e later) bs) longer under
-    ∙ (marks_more d uses n rows earlier k body later first fits ∙ ap (λ (cs : Cases). marked (occurs_in_cases d uses earlier cs) first) (sym is)))
+    let before = c.args.inner.now.items in
+    let loop = c.loop-rest in
+    let none = nothing_left loop.rest.now (omega (arith, c.in_default.len_below)) in
+    let end = subst (λ (cs : List Case). MarksCases d rows all first before (reverse loop.earlier.items) loop.tests (cases_of_trees cs) loop.flags.items loop.inner.items) none loop.invariant in
+    none_marks d rows all first before (reverse loop.earlier.items) loop.tests loop.flags.items loop.inner.items end uses n may
 
 pub mark_cases-returns-clause-noted : goal.mark_cases-returns-clause-noted
-mark_cases-returns-clause-noted t c = λ uses n h.
+mark_cases-returns-clause-noted t c = λ uses n may.
     let d = c.args.sig.now in
     let rows = c.args.rows.now in
+    let all = cases_of_trees c.args.cases.now in
     let first = c.args.flags.now.items in
-    let earlier = reverse c.args.earlier.now.items in
-    let body = formula_of c.case-item.result.body in
-    let later = cases_of_trees (take (length c.args.cases.now - 1) (drop 1 c.args.cases.now)) in
-    let is : cases_of_trees c.args.cases.now ≡ with_case (Ctor c.in-Ctor.c) body later = ap cases_of_trees (rest_item c.args.cases.now c.case-item.result c.in-len1-up.len_at_least c.case-item.is) ∙ (cases_split c.case-item.result (take (length c.args.cases.now - 1) (drop 1 c.args.cases.now)) ∙ ap (λ (p : Pattern). with_case p body later) c.in-Ctor.is) in
-    let k = c.in-Ctor.c in
-    let here = subst (MayMarkCases d uses n rows) is h in
-    let may = may_case d uses n rows (Ctor k) body later here in
-    let fits : (surely_fits d earlier k || are_none later) ≡ false = sym (c.if-stands_alone.ensures.value ∙ ap (λ (e : List CtorId). surely_fits d (reverse e) k || are_none later) c.as_slice-2.ensures.value) in
-    let longer : reverse c.push.new.self.items ≡ k ∷ earlier = ap reverse c.in_ok-push.ensures.items ∙ reverse-append c.args.earlier.now.items (k ∷ []) in
-    let rest_may = may_later d uses n rows (Ctor k) body later here in
-    let noted = c.in_ok-bound-2.ensures.noted uses n may in
-    let others = c.in_ok-mark_cases.ensures.noted uses n rest_may in
-    let all : c.mark_cases.new.inner.items ≡ c.args.inner.now.items ++ (noted.0 ∷ others.0) = others.1 ∙ (ap (λ (ms : List Notes). ms ++ others.0) noted.1 ∙ append_assoc c.args.inner.now.items (noted.0 ∷ []) others.0) in
-    (noted.0 ∷ others.0, all, subst (λ (cs : Cases). CasesNoted d uses earlier cs (noted.0 ∷ others.0)) (sym is) (cases_more d uses earlier k body later noted.0 others.0 noted.2 (subst (λ (e : List CtorId). CasesNoted d uses e later others.0) longer others.2)))
+    let before = c.args.inner.now.items in
+    let loop = c.loop-rest in
+    let none = nothing_left loop.rest.now (omega (arith, c.in_default.len_below)) in
+    let end = subst (λ (cs : List Case). MarksCases d rows all first before (reverse loop.earlier.items) loop.tests (cases_of_trees cs) loop.flags.items loop.inner.items) none loop.invariant in
+    none_noted d rows all first before (reverse loop.earlier.items) loop.tests loop.flags.items loop.inner.items end uses n may

@@ -1,9 +1,10 @@
-use Rattle.std.proofs.Common.{◌+◌, ◌*◌, length}
+use Rattle.std.proofs.Common.{◌+◌, ◌*◌, length, reverse}
 use Rattle.ct_terms.specs.TreeFormula.{formula_of, formulas_of_trees}
 use Rattle.ct_compile.specs.Weight.{weight, weights, case_weights}
 use Rattle.ct_compile.specs.CaseFormula.{cases_of_trees}
 use Rattle.ct_compile.proofs.MayLemmas.{MarksRest, MarksBound}
 use Rattle.ct_compile.proofs.NoteLemmas.{NotesRest, NotesBound}
+use Rattle.ct_compile.proofs.MarkedCases.{MarksCases}
 use Rattle.ct_compile.proofs.occurrence.+mark.Given as goal
 
 abbrev pub decreases-mark : goal.decreases-mark
@@ -26,6 +27,12 @@ decreases-mark_match l = 2 * weight (λ k. 0) (formula_of l.matched.now) + 2 * c
 
 abbrev pub decreases-mark_cases : goal.decreases-mark_cases
 decreases-mark_cases l = 2 * case_weights (λ k. 0) (cases_of_trees l.cases.now)
+
+abbrev pub invariant-mark_cases-loop-rest : goal.invariant-mark_cases-loop-rest
+invariant-mark_cases-loop-rest l = MarksCases l.sig l.rows (cases_of_trees l.cases) l.initial.flags.items l.initial.inner.items (reverse l.earlier.items) l.tests (cases_of_trees l.rest) l.flags.items l.inner.items
+
+abbrev pub decreases-mark_cases-loop-rest : goal.decreases-mark_cases-loop-rest
+decreases-mark_cases-loop-rest l = length l.rest
 
 abbrev pub invariant-mark_all-loop-rest : goal.invariant-mark_all-loop-rest
 invariant-mark_all-loop-rest l = record {

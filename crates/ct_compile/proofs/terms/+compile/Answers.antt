@@ -1,10 +1,18 @@
-use Rattle.std.proofs.Common.{◌≡◌, ◌-◌, ◌<◌, ◌==◌, Bool, true, false, List, ◌∷◌, [], length, take, drop, map, reverse, Some, None, Ok, Err, slice_get, refl, ap, subst, sym, ◌∙◌, arith, true≢false}
+use Rattle.std.proofs.Common.{◌≡◌, ◌-◌, ◌<◌, ◌==◌, Bool, true, false, List, ◌∷◌, [], ◌++◌, length, take, drop, map, reverse, IfOk, IsErrOf, Some, None, Ok, Err, slice_get, refl, ap, subst, sym, ◌∙◌, arith, true≢false}
 use Rattle.std.proofs.lemmas.List.{reverse-append}
 use Rattle.std.proofs.lemmas.Result.{err_from_is_err_and}
 use Rattle.ct_sorts.specs.declared.ids.CtorId.{CtorId}
 use Rattle.ct_terms.specs.declared.ids.TermId.{TermId}
 use Rattle.ct_terms.specs.declared.tree.Tree.{Tree}
-use Rattle.ct_terms.specs.CoreTree.{choice, term_at}
+use Rattle.ct_terms.specs.declared.tree.Case.{Case}
+use Rattle.std.specs.List.{AllByRecursion}
+use Rattle.ct_sorts.specs.declared.ids.SortId.{SortId}
+use Rattle.ct_terms.specs.declared.error.TermError.TheVariants.{Full}
+use Rattle.ct_terms.specs.CoreTree.{CoreTree, choice, term_at}
+use Rattle.ct_terms.specs.CoreSorts.{HasTreeSort}
+use Rattle.ct_compile.specs.declared.choices.Guarded.{Guarded}
+use Rattle.ct_compile.specs.Effect.{Stands, Within, Effect}
+use Rattle.ct_compile.specs.Chosen.{chosen_from, IsGuardedIn}
 use Rattle.ct_terms.specs.Formula.{Cases, Def, Ite, Let, Match, with_case, bind}
 use Rattle.ct_terms.specs.Compiled.{are_none}
 use Rattle.ct_terms.specs.Occurrence.{count_of, occurs, uses_below}
@@ -16,20 +24,21 @@ use Rattle.ct_compile.specs.Calling.{call_of, IsRecalled}
 use Rattle.ct_compile.specs.CaseFormula.{cases_of_trees}
 use Rattle.ct_compile.specs.Forms.{combined}
 use Rattle.ct_compile.specs.Marks.{listed}
-use Rattle.ct_compile.specs.Matching.{bound_by, tested_by, MayCases, CompilesCases}
+use Rattle.ct_compile.specs.Matching.{bound_by, tested_by}
 use Rattle.ct_compile.specs.Ready.{MayCompile, Compiles}
 use Rattle.ct_compile.specs.Noted.{IsOfFirst, IsNoted, AreNoted, CasesNoted}
-use Rattle.ct_compile.specs.Weight.{case_weights, weights_below}
+use Rattle.ct_compile.specs.Weight.{weights_below}
 use Rattle.std.proofs.lemmas.Option.{slice_get_within}
 use Rattle.ct_compile.proofs.RestLemmas.{rest_item}
 use Rattle.ct_compile.proofs.NoteLemmas.{first_inside, plain_notes, condition_notes, then_notes, else_notes, let_flags, let_under, let_inner, call_notes, match_inside, match_flag, match_under, match_inner, case_notes, later_cases, where_split}
-use Rattle.ct_compile.proofs.CycleLemmas.{compiles_grown, plain_children, plain_failed, plain_kept, plain_below, plain_operands, plain_made, Collects, collects_start, collects_next, collects_lighter, collects_failed, collects_follows, collects_broken, collects_out, collects_grown, collects_more, collects_end}
+use Rattle.ct_compile.proofs.CycleLemmas.{compiles_nothing, compiles_grown, plain_children, plain_failed, plain_kept, plain_below, plain_operands, plain_made, Collects, collects_start, collects_next, collects_lighter, collects_failed, collects_follows, collects_broken, collects_out, collects_grown, collects_more, collects_end}
 use Rattle.ct_compile.proofs.ChoiceLemmas.{choice_condition, choice_then, choice_else, choice_failed_1, choice_failed_2, choice_failed_3, choice_kept, choice_below, choice_sorted, choice_made}
 use Rattle.ct_compile.proofs.BindingLemmas.{Completes, completes_start, completes_flag, completes_split, completes_all, completes_out, completes_absent, completes_lighter, completes_next, completes_failed, completes_term, flags_split}
 use Rattle.ct_compile.proofs.DefinitionLemmas.{weights_is}
 use Rattle.ct_compile.proofs.UnderLemmas.{under_may, under_failed, under_out, under_known, under_body, under_made, under_lost, let_view}
 use Rattle.ct_compile.proofs.CallingLemmas.{state_stays, state_within, state_made, state_below, state_back, state_with, ok_always, row_is, call_under, known_stands, call_recalled}
-use Rattle.ct_compile.proofs.MatchLemmas.{cases_nothing, case_declared, case_body, case_ends, test_kept, test_there, test_bound, test_failed, test_grown, first_may, first_failed, second_may, second_failed, made_kept, made_below, made_sorted, case_made, cases_sorted}
+use Rattle.ct_compile.proofs.MatchLemmas.{case_declared, case_body, case_ends, test_kept, test_there, test_bound, test_failed, test_grown, first_may, first_failed, case_chosen}
+use Rattle.ct_compile.proofs.ChoosesLemmas.{Chooses, chooses_start, chooses_may, chooses_failed, last_kept, last_below, last_inside, last_sorted, chooses_end, chooses_lighter, chooses_more, chooses_none}
 use Rattle.ct_compile.proofs.FormLemmas.{match_may, match_failed, match_some, match_cases, match_made, may_bind_as, binds_as, one_weight, cases_is, none_is, not_full}
 use Rattle.ct_compile.proofs.terms.+compile.Goals as goal
 
@@ -378,188 +387,203 @@ pub compile_match-compile_cases-requires : goal.compile_match-compile_cases-requ
 compile_match-compile_cases-requires t c =
     let is = match_flag c.args.scope.now.sig (uses_below c.args.scope.now.sig (map formula_of c.args.scope.now.bodies) c.args.below) c.args.notes.now c.first_note-note.result.now c.first_note-note.ensures.value (formula_of c.args.tree.now) (cases_of_trees c.args.cases.now) c.bound.result.now c.first_flag-occurs.result c.bound.ensures.value c.first_flag-occurs.ensures.value c.requires.noted.1 in
     let at : slice_get c.in_ok-bounds.bounds 0 ≡ Some c.bound_at-matched.result = ap (λ (xs : List Bound). slice_get xs 0) (sym c.as_slice.ensures.value) ∙ c.bound_at-matched.ensures.value in
-    (omega (arith, c.decreases), (c.in_ok-bounds.ensures.state, (subst (λ (xs : List CtorId). MayCases c.args.scope.now.sig (map formula_of c.args.scope.now.bodies) c.compile_bound.new.table c.args.below c.args.env.now c.bound_at-matched.result (reverse xs) (cases_of_trees c.args.cases.now)) (sym c.new-earlier.ensures.items) (match_cases c.args.scope.now.sig (map formula_of c.args.scope.now.bodies) c.args.below c.args.table.now c.args.env.now (formula_of c.args.tree.now) (cases_of_trees c.args.cases.now) c.first_flag-occurs.result is c.compile_bound.new.table c.in_ok-bounds.bounds (binds_as c.args.scope.now.sig (map formula_of c.args.scope.now.bodies) c.args.below c.args.table.now c.compile_bound.new.table c.args.env.now c.one_flag-flags.result.now _ (formulas_of_trees c.one_tree-trees.result.now) _ _ c.one_flag-flags.ensures.value c.one_tree-trees.ensures.value c.in_ok-bounds.ensures.outcome) c.bound_at-matched.result at c.requires.ready), (c.requires.noted.0, match_inner c.args.scope.now.sig (uses_below c.args.scope.now.sig (map formula_of c.args.scope.now.bodies) c.args.below) c.args.notes.now c.first_note-note.result.now c.first_note-note.ensures.value (formula_of c.args.tree.now) (cases_of_trees c.args.cases.now) (reverse c.new-earlier.result.items) c.inner.result.now (ap reverse c.new-earlier.ensures.items) c.inner.ensures.value c.requires.noted.1))))
+    (omega (arith, c.decreases), (c.in_ok-bounds.ensures.state, ((match_cases c.args.scope.now.sig (map formula_of c.args.scope.now.bodies) c.args.below c.args.table.now c.args.env.now (formula_of c.args.tree.now) (cases_of_trees c.args.cases.now) c.first_flag-occurs.result is c.compile_bound.new.table c.in_ok-bounds.bounds (binds_as c.args.scope.now.sig (map formula_of c.args.scope.now.bodies) c.args.below c.args.table.now c.compile_bound.new.table c.args.env.now c.one_flag-flags.result.now _ (formulas_of_trees c.one_tree-trees.result.now) _ _ c.one_flag-flags.ensures.value c.one_tree-trees.ensures.value c.in_ok-bounds.ensures.outcome) c.bound_at-matched.result at c.requires.ready), (c.requires.noted.0, match_inner c.args.scope.now.sig (uses_below c.args.scope.now.sig (map formula_of c.args.scope.now.bodies) c.args.below) c.args.notes.now c.first_note-note.result.now c.first_note-note.ensures.value (formula_of c.args.tree.now) (cases_of_trees c.args.cases.now) [] c.inner.result.now refl c.inner.ensures.value c.requires.noted.1))))
 
 pub compile_match-returns-clause-outcome : goal.compile_match-returns-clause-outcome
 compile_match-returns-clause-outcome t c =
     let is = match_flag c.args.scope.now.sig (uses_below c.args.scope.now.sig (map formula_of c.args.scope.now.bodies) c.args.below) c.args.notes.now c.first_note-note.result.now c.first_note-note.ensures.value (formula_of c.args.tree.now) (cases_of_trees c.args.cases.now) c.bound.result.now c.first_flag-occurs.result c.bound.ensures.value c.first_flag-occurs.ensures.value c.requires.noted.1 in
     let at : slice_get c.in_ok-bounds.bounds 0 ≡ Some c.bound_at-matched.result = ap (λ (xs : List Bound). slice_get xs 0) (sym c.as_slice.ensures.value) ∙ c.bound_at-matched.ensures.value in
-    match_made c.args.scope.now.sig (map formula_of c.args.scope.now.bodies) c.args.below c.args.table.now c.args.env.now (formula_of c.args.tree.now) (cases_of_trees c.args.cases.now) c.first_flag-occurs.result is c.compile_bound.new.table c.in_ok-bounds.bounds (binds_as c.args.scope.now.sig (map formula_of c.args.scope.now.bodies) c.args.below c.args.table.now c.compile_bound.new.table c.args.env.now c.one_flag-flags.result.now _ (formulas_of_trees c.one_tree-trees.result.now) _ _ c.one_flag-flags.ensures.value c.one_tree-trees.ensures.value c.in_ok-bounds.ensures.outcome) c.bound_at-matched.result at c.compile_cases.new.table c.compile_cases.result (subst (λ (xs : List CtorId). CompilesCases c.args.scope.now.sig (map formula_of c.args.scope.now.bodies) c.args.below c.compile_bound.new.table c.compile_cases.new.table c.args.env.now c.bound_at-matched.result (reverse xs) (cases_of_trees c.args.cases.now) c.compile_cases.result) c.new-earlier.ensures.items c.compile_cases.ensures.outcome)
+    match_made c.args.scope.now.sig (map formula_of c.args.scope.now.bodies) c.args.below c.args.table.now c.args.env.now (formula_of c.args.tree.now) (cases_of_trees c.args.cases.now) c.first_flag-occurs.result is c.compile_bound.new.table c.in_ok-bounds.bounds (binds_as c.args.scope.now.sig (map formula_of c.args.scope.now.bodies) c.args.below c.args.table.now c.compile_bound.new.table c.args.env.now c.one_flag-flags.result.now _ (formulas_of_trees c.one_tree-trees.result.now) _ _ c.one_flag-flags.ensures.value c.one_tree-trees.ensures.value c.in_ok-bounds.ensures.outcome) c.bound_at-matched.result at c.compile_cases.new.table c.compile_cases.result c.compile_cases.ensures.outcome
 
-pub compile_cases-pattern_bounds-requires : goal.compile_cases-pattern_bounds-requires
-compile_cases-pattern_bounds-requires t c =
-    let rest = take (length c.args.cases.now - 1) (drop 1 c.args.cases.now) in
-    let whole = cases_is c.args.cases.now rest c.case-item.result c.pattern_of-pattern.result (formula_of c.body_of-body.result.now) (rest_item c.args.cases.now c.case-item.result c.in-len1-up.len_at_least c.case-item.is) c.pattern_of-pattern.ensures.value c.body_of-body.ensures.value in
-    let may = subst (MayCases c.args.scope.now.sig (map formula_of c.args.scope.now.bodies) c.args.table.now c.args.below c.args.env.now c.args.matched (reverse c.args.earlier.now.items)) whole c.requires.ready in
-    record { declared = case_declared c.args.scope.now.sig (map formula_of c.args.scope.now.bodies) c.args.below c.args.env.now c.args.matched (reverse c.args.earlier.now.items) c.pattern_of-pattern.result (formula_of c.body_of-body.result.now) (cases_of_trees rest) c.args.table.now may }
+pub compile_cases-loop-rest-init : goal.compile_cases-loop-rest-init
+compile_cases-loop-rest-init t c =
+    (subst (λ (gs : List Guarded). Chooses c.args.scope.now.sig (map formula_of c.args.scope.now.bodies) c.args.below c.args.table.now c.args.table.now c.args.env.now c.args.matched (cases_of_trees c.args.cases.now) gs (reverse c.new-earlier.result.items) (cases_of_trees c.args.cases.now)) (sym c.new-made.ensures.items) (subst (λ (cs : List CtorId). Chooses c.args.scope.now.sig (map formula_of c.args.scope.now.bodies) c.args.below c.args.table.now c.args.table.now c.args.env.now c.args.matched (cases_of_trees c.args.cases.now) [] (reverse cs) (cases_of_trees c.args.cases.now)) (sym c.new-earlier.ensures.items) (chooses_start c.args.scope.now.sig (map formula_of c.args.scope.now.bodies) c.args.below c.args.table.now c.args.env.now c.args.matched (cases_of_trees c.args.cases.now) c.requires.ready)), c.requires.state, subst (λ (cs : List CtorId). CasesNoted c.args.scope.now.sig (uses_below c.args.scope.now.sig (map formula_of c.args.scope.now.bodies) c.args.below) (reverse cs) (cases_of_trees c.args.cases.now) c.args.notes.now) (sym c.new-earlier.ensures.items) c.requires.noted.1)
 
 pub compile_cases-tested-requires : goal.compile_cases-tested-requires
 compile_cases-tested-requires t c =
-    let rest = take (length c.args.cases.now - 1) (drop 1 c.args.cases.now) in
-    let whole = cases_is c.args.cases.now rest c.case-item.result c.pattern_of-pattern.result (formula_of c.body_of-body.result.now) (rest_item c.args.cases.now c.case-item.result c.in-len1-up.len_at_least c.case-item.is) c.pattern_of-pattern.ensures.value c.body_of-body.ensures.value in
-    let may = subst (MayCases c.args.scope.now.sig (map formula_of c.args.scope.now.bodies) c.args.table.now c.args.below c.args.env.now c.args.matched (reverse c.args.earlier.now.items)) whole c.requires.ready in
-    record { declared = case_declared c.args.scope.now.sig (map formula_of c.args.scope.now.bodies) c.args.below c.args.env.now c.args.matched (reverse c.args.earlier.now.items) c.pattern_of-pattern.result (formula_of c.body_of-body.result.now) (cases_of_trees rest) c.args.table.now may }
+    let rest = take (length c.loop-rest.rest.now - 1) (drop 1 c.loop-rest.rest.now) in
+    let whole = cases_is c.loop-rest.rest.now rest c.case-item.result c.pattern_of-pattern.result (formula_of c.body_of-body.result.now) (rest_item c.loop-rest.rest.now c.case-item.result c.in-len1-up.len_at_least c.case-item.is) c.pattern_of-pattern.ensures.value c.body_of-body.ensures.value in
+    let split = subst (λ (cs : Cases). Chooses c.args.scope.now.sig (map formula_of c.args.scope.now.bodies) c.args.below c.args.table.now c.loop-rest.table c.args.env.now c.args.matched (cases_of_trees c.args.cases.now) c.loop-rest.made.items (reverse c.loop-rest.earlier.items) cs) whole c.loop-rest.invariant.0 in
+    let may = chooses_may c.args.scope.now.sig (map formula_of c.args.scope.now.bodies) c.args.below c.args.table.now c.loop-rest.table c.args.env.now c.args.matched (cases_of_trees c.args.cases.now) c.loop-rest.made.items (reverse c.loop-rest.earlier.items) (with_case c.pattern_of-pattern.result (formula_of c.body_of-body.result.now) (cases_of_trees rest)) split in
+    record { declared = case_declared c.args.scope.now.sig (map formula_of c.args.scope.now.bodies) c.args.below c.args.env.now c.args.matched (reverse c.loop-rest.earlier.items) c.pattern_of-pattern.result (formula_of c.body_of-body.result.now) (cases_of_trees rest) c.loop-rest.table may }
 
-pub compile_cases-returns-in_err-bounds-clause-outcome : goal.compile_cases-returns-in_err-bounds-clause-outcome
-compile_cases-returns-in_err-bounds-clause-outcome t c =
+pub compile_cases-compile_case-requires : goal.compile_cases-compile_case-requires
+compile_cases-compile_case-requires t c =
+    let rest = take (length c.loop-rest.rest.now - 1) (drop 1 c.loop-rest.rest.now) in
+    let whole = cases_is c.loop-rest.rest.now rest c.case-item.result c.pattern_of-pattern.result (formula_of c.body_of-body.result.now) (rest_item c.loop-rest.rest.now c.case-item.result c.in-len1-up.len_at_least c.case-item.is) c.pattern_of-pattern.ensures.value c.body_of-body.ensures.value in
+    let split = subst (λ (cs : Cases). Chooses c.args.scope.now.sig (map formula_of c.args.scope.now.bodies) c.args.below c.args.table.now c.loop-rest.table c.args.env.now c.args.matched (cases_of_trees c.args.cases.now) c.loop-rest.made.items (reverse c.loop-rest.earlier.items) cs) whole c.loop-rest.invariant.0 in
+    let may = chooses_may c.args.scope.now.sig (map formula_of c.args.scope.now.bodies) c.args.below c.args.table.now c.loop-rest.table c.args.env.now c.args.matched (cases_of_trees c.args.cases.now) c.loop-rest.made.items (reverse c.loop-rest.earlier.items) (with_case c.pattern_of-pattern.result (formula_of c.body_of-body.result.now) (cases_of_trees rest)) split in
+    let lighter = chooses_lighter c.args.scope.now.sig (map formula_of c.args.scope.now.bodies) c.args.below c.args.table.now c.loop-rest.table c.args.env.now c.args.matched (cases_of_trees c.args.cases.now) c.loop-rest.made.items (reverse c.loop-rest.earlier.items) c.pattern_of-pattern.result (formula_of c.body_of-body.result.now) (cases_of_trees rest) split in
+    let noted = subst (λ (cs : Cases). CasesNoted c.args.scope.now.sig (uses_below c.args.scope.now.sig (map formula_of c.args.scope.now.bodies) c.args.below) (reverse c.loop-rest.earlier.items) cs c.loop-rest.left.now) whole c.loop-rest.invariant.2 in
+    (omega (arith, lighter, c.decreases), (c.loop-rest.invariant.1, (case_declared c.args.scope.now.sig (map formula_of c.args.scope.now.bodies) c.args.below c.args.env.now c.args.matched (reverse c.loop-rest.earlier.items) c.pattern_of-pattern.result (formula_of c.body_of-body.result.now) (cases_of_trees rest) c.loop-rest.table may, (case_body c.args.scope.now.sig (map formula_of c.args.scope.now.bodies) c.args.below c.args.env.now c.args.matched (reverse c.loop-rest.earlier.items) c.pattern_of-pattern.result (formula_of c.body_of-body.result.now) (cases_of_trees rest) c.loop-rest.table may, (c.requires.noted.0, case_notes c.args.scope.now.sig (uses_below c.args.scope.now.sig (map formula_of c.args.scope.now.bodies) c.args.below) (reverse c.loop-rest.earlier.items) c.pattern_of-pattern.result (formula_of c.body_of-body.result.now) (cases_of_trees rest) c.loop-rest.left.now noted)))))
+
+pub compile_cases-returns-in_err-last-clause-outcome : goal.compile_cases-returns-in_err-last-clause-outcome
+compile_cases-returns-in_err-last-clause-outcome t c =
+    let rest = take (length c.loop-rest.rest.now - 1) (drop 1 c.loop-rest.rest.now) in
+    let whole = cases_is c.loop-rest.rest.now rest c.case-item.result c.pattern_of-pattern.result (formula_of c.body_of-body.result.now) (rest_item c.loop-rest.rest.now c.case-item.result c.in-len1-up.len_at_least c.case-item.is) c.pattern_of-pattern.ensures.value c.body_of-body.ensures.value in
+    let split = subst (λ (cs : Cases). Chooses c.args.scope.now.sig (map formula_of c.args.scope.now.bodies) c.args.below c.args.table.now c.loop-rest.table c.args.env.now c.args.matched (cases_of_trees c.args.cases.now) c.loop-rest.made.items (reverse c.loop-rest.earlier.items) cs) whole c.loop-rest.invariant.0 in
+    let test_is : c.tested.result ≡ tested_by c.args.scope.now.sig (reverse c.loop-rest.earlier.items) c.pattern_of-pattern.result (are_none (cases_of_trees rest)) = c.tested.ensures.value ∙ ap (λ (xs : List CtorId). tested_by c.args.scope.now.sig (reverse xs) c.pattern_of-pattern.result c.is_empty.result) c.as_slice.ensures.value ∙ ap (tested_by c.args.scope.now.sig (reverse c.loop-rest.earlier.items) c.pattern_of-pattern.result) (c.is_empty.ensures ∙ none_is rest) in
     let p = err_from_is_err_and c.from_residual.result c.from_residual.ensures.1 in
-    rw p.1 (cases_nothing c.args.scope.now.sig (map formula_of c.args.scope.now.bodies) c.args.below c.args.table.now c.args.env.now c.args.matched (reverse c.args.earlier.now.items) (cases_of_trees c.args.cases.now) p.0 p.2)
+    rw (p.1, p.2) (chooses_failed c.args.scope.now.sig (map formula_of c.args.scope.now.bodies) c.args.below c.args.table.now c.loop-rest.table c.args.env.now c.args.matched (cases_of_trees c.args.cases.now) c.loop-rest.made.items (reverse c.loop-rest.earlier.items) (with_case c.pattern_of-pattern.result (formula_of c.body_of-body.result.now) (cases_of_trees rest)) split c.compile_case.new.table c.in_err-last.field-0.0 (case_ends c.args.scope.now.sig (map formula_of c.args.scope.now.bodies) c.args.below c.args.env.now c.args.matched (reverse c.loop-rest.earlier.items) c.pattern_of-pattern.result (formula_of c.body_of-body.result.now) (cases_of_trees rest) (sym test_is ∙ c.in_default-tested.is) c.loop-rest.table c.compile_case.new.table (Err c.in_err-last.field-0.0) c.in_err-last.ensures.outcome))
 
-pub compile_cases-returns-in_err-inner-clause-outcome : goal.compile_cases-returns-in_err-inner-clause-outcome
-compile_cases-returns-in_err-inner-clause-outcome t c =
-    let p = err_from_is_err_and c.from_residual-in_err-inner.result c.from_residual-in_err-inner.ensures.1 in
-    rw p.1 (cases_nothing c.args.scope.now.sig (map formula_of c.args.scope.now.bodies) c.args.below c.args.table.now c.args.env.now c.args.matched (reverse c.args.earlier.now.items) (cases_of_trees c.args.cases.now) p.0 p.2)
+pub compile_cases-choices-requires-clause-kept : goal.compile_cases-choices-requires-clause-kept
+compile_cases-choices-requires-clause-kept t c =
+    let rest = take (length c.loop-rest.rest.now - 1) (drop 1 c.loop-rest.rest.now) in
+    let whole = cases_is c.loop-rest.rest.now rest c.case-item.result c.pattern_of-pattern.result (formula_of c.body_of-body.result.now) (rest_item c.loop-rest.rest.now c.case-item.result c.in-len1-up.len_at_least c.case-item.is) c.pattern_of-pattern.ensures.value c.body_of-body.ensures.value in
+    let split = subst (λ (cs : Cases). Chooses c.args.scope.now.sig (map formula_of c.args.scope.now.bodies) c.args.below c.args.table.now c.loop-rest.table c.args.env.now c.args.matched (cases_of_trees c.args.cases.now) c.loop-rest.made.items (reverse c.loop-rest.earlier.items) cs) whole c.loop-rest.invariant.0 in
+    let test_is : c.tested.result ≡ tested_by c.args.scope.now.sig (reverse c.loop-rest.earlier.items) c.pattern_of-pattern.result (are_none (cases_of_trees rest)) = c.tested.ensures.value ∙ ap (λ (xs : List CtorId). tested_by c.args.scope.now.sig (reverse xs) c.pattern_of-pattern.result c.is_empty.result) c.as_slice.ensures.value ∙ ap (tested_by c.args.scope.now.sig (reverse c.loop-rest.earlier.items) c.pattern_of-pattern.result) (c.is_empty.ensures ∙ none_is rest) in
+    let one = case_ends c.args.scope.now.sig (map formula_of c.args.scope.now.bodies) c.args.below c.args.env.now c.args.matched (reverse c.loop-rest.earlier.items) c.pattern_of-pattern.result (formula_of c.body_of-body.result.now) (cases_of_trees rest) (sym test_is ∙ c.in_default-tested.is) c.loop-rest.table c.compile_case.new.table (Ok c.in_ok-last.last) c.in_ok-last.ensures.outcome in
+    last_kept c.args.scope.now.sig (map formula_of c.args.scope.now.bodies) c.args.below c.args.table.now c.loop-rest.table c.args.env.now c.args.matched (cases_of_trees c.args.cases.now) c.loop-rest.made.items (reverse c.loop-rest.earlier.items) (with_case c.pattern_of-pattern.result (formula_of c.body_of-body.result.now) (cases_of_trees rest)) split c.compile_case.new.table c.in_ok-last.last one
 
-pub compile_cases-compile_tree-requires : goal.compile_cases-compile_tree-requires
-compile_cases-compile_tree-requires t c =
-    let rest = take (length c.args.cases.now - 1) (drop 1 c.args.cases.now) in
-    let whole = cases_is c.args.cases.now rest c.case-item.result c.pattern_of-pattern.result (formula_of c.body_of-body.result.now) (rest_item c.args.cases.now c.case-item.result c.in-len1-up.len_at_least c.case-item.is) c.pattern_of-pattern.ensures.value c.body_of-body.ensures.value in
-    let may = subst (MayCases c.args.scope.now.sig (map formula_of c.args.scope.now.bodies) c.args.table.now c.args.below c.args.env.now c.args.matched (reverse c.args.earlier.now.items)) whole c.requires.ready in
-    let heavy : case_weights (weights_below (map formula_of c.args.scope.now.bodies) c.args.below) (cases_of_trees c.args.cases.now) ≡ case_weights (weights_below (map formula_of c.args.scope.now.bodies) c.args.below) (with_case c.pattern_of-pattern.result (formula_of c.body_of-body.result.now) (cases_of_trees rest)) = ap (case_weights (weights_below (map formula_of c.args.scope.now.bodies) c.args.below)) whole in
-    let inner_is : c.deref-in_default-tested.result.now ≡ bind (bound_by c.args.scope.now.sig c.pattern_of-pattern.result c.args.matched) c.args.env.now = c.deref-in_default-tested.ensures.value ∙ c.in_ok-inner.ensures.bound ∙ ap (λ (xs : List Bound). bind xs c.args.env.now) (c.deref.ensures.value ∙ c.in_ok-bounds.ensures.bounds) in
-    (omega (arith, c.decreases, heavy), (c.requires.state, (subst (λ (xs : List Bound). MayCompile c.args.scope.now.sig (map formula_of c.args.scope.now.bodies) c.args.table.now c.args.below xs (formula_of c.body_of-body.result.now)) (sym inner_is) (case_body c.args.scope.now.sig (map formula_of c.args.scope.now.bodies) c.args.below c.args.env.now c.args.matched (reverse c.args.earlier.now.items) c.pattern_of-pattern.result (formula_of c.body_of-body.result.now) (cases_of_trees rest) c.args.table.now may), (c.requires.noted.0, case_notes c.args.scope.now.sig (uses_below c.args.scope.now.sig (map formula_of c.args.scope.now.bodies) c.args.below) (reverse c.args.earlier.now.items) c.pattern_of-pattern.result (formula_of c.body_of-body.result.now) (cases_of_trees rest) c.args.notes.now (subst (λ (cs : Cases). CasesNoted c.args.scope.now.sig (uses_below c.args.scope.now.sig (map formula_of c.args.scope.now.bodies) c.args.below) (reverse c.args.earlier.now.items) cs c.args.notes.now) whole c.requires.noted.1)))))
+pub compile_cases-choices-requires-clause-below : goal.compile_cases-choices-requires-clause-below
+compile_cases-choices-requires-clause-below t c =
+    let rest = take (length c.loop-rest.rest.now - 1) (drop 1 c.loop-rest.rest.now) in
+    let whole = cases_is c.loop-rest.rest.now rest c.case-item.result c.pattern_of-pattern.result (formula_of c.body_of-body.result.now) (rest_item c.loop-rest.rest.now c.case-item.result c.in-len1-up.len_at_least c.case-item.is) c.pattern_of-pattern.ensures.value c.body_of-body.ensures.value in
+    let split = subst (λ (cs : Cases). Chooses c.args.scope.now.sig (map formula_of c.args.scope.now.bodies) c.args.below c.args.table.now c.loop-rest.table c.args.env.now c.args.matched (cases_of_trees c.args.cases.now) c.loop-rest.made.items (reverse c.loop-rest.earlier.items) cs) whole c.loop-rest.invariant.0 in
+    let test_is : c.tested.result ≡ tested_by c.args.scope.now.sig (reverse c.loop-rest.earlier.items) c.pattern_of-pattern.result (are_none (cases_of_trees rest)) = c.tested.ensures.value ∙ ap (λ (xs : List CtorId). tested_by c.args.scope.now.sig (reverse xs) c.pattern_of-pattern.result c.is_empty.result) c.as_slice.ensures.value ∙ ap (tested_by c.args.scope.now.sig (reverse c.loop-rest.earlier.items) c.pattern_of-pattern.result) (c.is_empty.ensures ∙ none_is rest) in
+    let one = case_ends c.args.scope.now.sig (map formula_of c.args.scope.now.bodies) c.args.below c.args.env.now c.args.matched (reverse c.loop-rest.earlier.items) c.pattern_of-pattern.result (formula_of c.body_of-body.result.now) (cases_of_trees rest) (sym test_is ∙ c.in_default-tested.is) c.loop-rest.table c.compile_case.new.table (Ok c.in_ok-last.last) c.in_ok-last.ensures.outcome in
+    subst (λ (gs : List Guarded). AllByRecursion (IsGuardedIn c.compile_case.new.table) gs) (sym c.as_slice-in_default-tested.ensures.value) (last_below c.args.scope.now.sig (map formula_of c.args.scope.now.bodies) c.args.below c.args.table.now c.loop-rest.table c.args.env.now c.args.matched (cases_of_trees c.args.cases.now) c.loop-rest.made.items (reverse c.loop-rest.earlier.items) (with_case c.pattern_of-pattern.result (formula_of c.body_of-body.result.now) (cases_of_trees rest)) split c.compile_case.new.table c.in_ok-last.last one)
+
+pub compile_cases-choices-requires-clause-inside : goal.compile_cases-choices-requires-clause-inside
+compile_cases-choices-requires-clause-inside t c =
+    let rest = take (length c.loop-rest.rest.now - 1) (drop 1 c.loop-rest.rest.now) in
+    let whole = cases_is c.loop-rest.rest.now rest c.case-item.result c.pattern_of-pattern.result (formula_of c.body_of-body.result.now) (rest_item c.loop-rest.rest.now c.case-item.result c.in-len1-up.len_at_least c.case-item.is) c.pattern_of-pattern.ensures.value c.body_of-body.ensures.value in
+    let split = subst (λ (cs : Cases). Chooses c.args.scope.now.sig (map formula_of c.args.scope.now.bodies) c.args.below c.args.table.now c.loop-rest.table c.args.env.now c.args.matched (cases_of_trees c.args.cases.now) c.loop-rest.made.items (reverse c.loop-rest.earlier.items) cs) whole c.loop-rest.invariant.0 in
+    let test_is : c.tested.result ≡ tested_by c.args.scope.now.sig (reverse c.loop-rest.earlier.items) c.pattern_of-pattern.result (are_none (cases_of_trees rest)) = c.tested.ensures.value ∙ ap (λ (xs : List CtorId). tested_by c.args.scope.now.sig (reverse xs) c.pattern_of-pattern.result c.is_empty.result) c.as_slice.ensures.value ∙ ap (tested_by c.args.scope.now.sig (reverse c.loop-rest.earlier.items) c.pattern_of-pattern.result) (c.is_empty.ensures ∙ none_is rest) in
+    let one = case_ends c.args.scope.now.sig (map formula_of c.args.scope.now.bodies) c.args.below c.args.env.now c.args.matched (reverse c.loop-rest.earlier.items) c.pattern_of-pattern.result (formula_of c.body_of-body.result.now) (cases_of_trees rest) (sym test_is ∙ c.in_default-tested.is) c.loop-rest.table c.compile_case.new.table (Ok c.in_ok-last.last) c.in_ok-last.ensures.outcome in
+    last_inside c.args.scope.now.sig (map formula_of c.args.scope.now.bodies) c.args.below c.args.table.now c.loop-rest.table c.args.env.now c.args.matched (cases_of_trees c.args.cases.now) c.loop-rest.made.items (reverse c.loop-rest.earlier.items) (with_case c.pattern_of-pattern.result (formula_of c.body_of-body.result.now) (cases_of_trees rest)) split c.compile_case.new.table c.in_ok-last.last one
+
+pub compile_cases-choices-requires-clause-sorted : goal.compile_cases-choices-requires-clause-sorted
+compile_cases-choices-requires-clause-sorted t c =
+    let rest = take (length c.loop-rest.rest.now - 1) (drop 1 c.loop-rest.rest.now) in
+    let whole = cases_is c.loop-rest.rest.now rest c.case-item.result c.pattern_of-pattern.result (formula_of c.body_of-body.result.now) (rest_item c.loop-rest.rest.now c.case-item.result c.in-len1-up.len_at_least c.case-item.is) c.pattern_of-pattern.ensures.value c.body_of-body.ensures.value in
+    let split = subst (λ (cs : Cases). Chooses c.args.scope.now.sig (map formula_of c.args.scope.now.bodies) c.args.below c.args.table.now c.loop-rest.table c.args.env.now c.args.matched (cases_of_trees c.args.cases.now) c.loop-rest.made.items (reverse c.loop-rest.earlier.items) cs) whole c.loop-rest.invariant.0 in
+    let test_is : c.tested.result ≡ tested_by c.args.scope.now.sig (reverse c.loop-rest.earlier.items) c.pattern_of-pattern.result (are_none (cases_of_trees rest)) = c.tested.ensures.value ∙ ap (λ (xs : List CtorId). tested_by c.args.scope.now.sig (reverse xs) c.pattern_of-pattern.result c.is_empty.result) c.as_slice.ensures.value ∙ ap (tested_by c.args.scope.now.sig (reverse c.loop-rest.earlier.items) c.pattern_of-pattern.result) (c.is_empty.ensures ∙ none_is rest) in
+    let one = case_ends c.args.scope.now.sig (map formula_of c.args.scope.now.bodies) c.args.below c.args.env.now c.args.matched (reverse c.loop-rest.earlier.items) c.pattern_of-pattern.result (formula_of c.body_of-body.result.now) (cases_of_trees rest) (sym test_is ∙ c.in_default-tested.is) c.loop-rest.table c.compile_case.new.table (Ok c.in_ok-last.last) c.in_ok-last.ensures.outcome in
+    subst (λ (gs : List Guarded). (sort : SortId) × HasTreeSort c.args.scope.now.sig (chosen_from (term_at c.compile_case.new.table) gs (term_at c.compile_case.new.table c.in_ok-last.last)) sort) (sym c.as_slice-in_default-tested.ensures.value) (last_sorted c.args.scope.now.sig (map formula_of c.args.scope.now.bodies) c.args.below c.args.table.now c.loop-rest.table c.args.env.now c.args.matched (cases_of_trees c.args.cases.now) c.loop-rest.made.items (reverse c.loop-rest.earlier.items) (with_case c.pattern_of-pattern.result (formula_of c.body_of-body.result.now) (cases_of_trees rest)) split c.compile_case.new.table c.in_ok-last.last one)
 
 pub compile_cases-returns-in_default-tested-clause-outcome : goal.compile_cases-returns-in_default-tested-clause-outcome
 compile_cases-returns-in_default-tested-clause-outcome t c =
-    let rest = take (length c.args.cases.now - 1) (drop 1 c.args.cases.now) in
-    let whole = cases_is c.args.cases.now rest c.case-item.result c.pattern_of-pattern.result (formula_of c.body_of-body.result.now) (rest_item c.args.cases.now c.case-item.result c.in-len1-up.len_at_least c.case-item.is) c.pattern_of-pattern.ensures.value c.body_of-body.ensures.value in
-    let may = subst (MayCases c.args.scope.now.sig (map formula_of c.args.scope.now.bodies) c.args.table.now c.args.below c.args.env.now c.args.matched (reverse c.args.earlier.now.items)) whole c.requires.ready in
-    let inner_is : c.deref-in_default-tested.result.now ≡ bind (bound_by c.args.scope.now.sig c.pattern_of-pattern.result c.args.matched) c.args.env.now = c.deref-in_default-tested.ensures.value ∙ c.in_ok-inner.ensures.bound ∙ ap (λ (xs : List Bound). bind xs c.args.env.now) (c.deref.ensures.value ∙ c.in_ok-bounds.ensures.bounds) in
-    let test_is : c.tested.result ≡ tested_by c.args.scope.now.sig (reverse c.args.earlier.now.items) c.pattern_of-pattern.result (are_none (cases_of_trees rest)) = c.tested.ensures.value ∙ ap (λ (xs : List CtorId). tested_by c.args.scope.now.sig (reverse xs) c.pattern_of-pattern.result c.is_empty.result) c.as_slice.ensures.value ∙ ap (tested_by c.args.scope.now.sig (reverse c.args.earlier.now.items) c.pattern_of-pattern.result) (c.is_empty.ensures ∙ none_is rest) in
-    subst (λ (cs : Cases). CompilesCases c.args.scope.now.sig (map formula_of c.args.scope.now.bodies) c.args.below c.args.table.now c.compile_tree.new.table c.args.env.now c.args.matched (reverse c.args.earlier.now.items) cs c.compile_tree.result) (sym whole) (case_ends c.args.scope.now.sig (map formula_of c.args.scope.now.bodies) c.args.below c.args.env.now c.args.matched (reverse c.args.earlier.now.items) c.pattern_of-pattern.result (formula_of c.body_of-body.result.now) (cases_of_trees rest) (sym test_is ∙ c.in_default-tested.is) c.args.table.now c.compile_tree.new.table c.compile_tree.result (subst (λ (xs : List Bound). Compiles c.args.scope.now.sig (map formula_of c.args.scope.now.bodies) c.args.below c.args.table.now c.compile_tree.new.table xs (formula_of c.body_of-body.result.now) c.compile_tree.result) inner_is c.compile_tree.ensures.outcome))
+    let rest = take (length c.loop-rest.rest.now - 1) (drop 1 c.loop-rest.rest.now) in
+    let whole = cases_is c.loop-rest.rest.now rest c.case-item.result c.pattern_of-pattern.result (formula_of c.body_of-body.result.now) (rest_item c.loop-rest.rest.now c.case-item.result c.in-len1-up.len_at_least c.case-item.is) c.pattern_of-pattern.ensures.value c.body_of-body.ensures.value in
+    let split = subst (λ (cs : Cases). Chooses c.args.scope.now.sig (map formula_of c.args.scope.now.bodies) c.args.below c.args.table.now c.loop-rest.table c.args.env.now c.args.matched (cases_of_trees c.args.cases.now) c.loop-rest.made.items (reverse c.loop-rest.earlier.items) cs) whole c.loop-rest.invariant.0 in
+    let test_is : c.tested.result ≡ tested_by c.args.scope.now.sig (reverse c.loop-rest.earlier.items) c.pattern_of-pattern.result (are_none (cases_of_trees rest)) = c.tested.ensures.value ∙ ap (λ (xs : List CtorId). tested_by c.args.scope.now.sig (reverse xs) c.pattern_of-pattern.result c.is_empty.result) c.as_slice.ensures.value ∙ ap (tested_by c.args.scope.now.sig (reverse c.loop-rest.earlier.items) c.pattern_of-pattern.result) (c.is_empty.ensures ∙ none_is rest) in
+    let one = case_ends c.args.scope.now.sig (map formula_of c.args.scope.now.bodies) c.args.below c.args.env.now c.args.matched (reverse c.loop-rest.earlier.items) c.pattern_of-pattern.result (formula_of c.body_of-body.result.now) (cases_of_trees rest) (sym test_is ∙ c.in_default-tested.is) c.loop-rest.table c.compile_case.new.table (Ok c.in_ok-last.last) c.in_ok-last.ensures.outcome in
+    chooses_end c.args.scope.now.sig (map formula_of c.args.scope.now.bodies) c.args.below c.args.table.now c.loop-rest.table c.args.env.now c.args.matched (cases_of_trees c.args.cases.now) c.loop-rest.made.items (reverse c.loop-rest.earlier.items) (with_case c.pattern_of-pattern.result (formula_of c.body_of-body.result.now) (cases_of_trees rest)) split c.compile_case.new.table c.in_ok-last.last one c.choices.new.table c.choices.result (subst (λ (gs : List Guarded). IfOk c.choices.result (λ x. Stands c.choices.new.table x (chosen_from (term_at c.compile_case.new.table) gs (term_at c.compile_case.new.table c.in_ok-last.last)))) c.as_slice-in_default-tested.ensures.value c.choices.ensures.core) (subst (λ (gs : List Guarded). (allowed : List CoreTree) → Within allowed (chosen_from (term_at c.compile_case.new.table) gs (term_at c.compile_case.new.table c.in_ok-last.last)) → Effect c.args.scope.now.sig allowed c.compile_case.new.table c.choices.new.table (IsErrOf c.choices.result Full)) c.as_slice-in_default-tested.ensures.value c.choices.ensures.effect)
+
+pub compile_cases-returns-in_default-tested-clause-state : goal.compile_cases-returns-in_default-tested-clause-state
+compile_cases-returns-in_default-tested-clause-state t c =
+    ok_always _ c.choices.result (state_within c.args.scope.now.sig (map formula_of c.args.scope.now.bodies) c.args.rows.now c.args.below c.compile_case.new.table c.choices.new.table c.compile_case.new.known _ _ c.choices.ensures.effect c.in_ok-last.ensures.state)
 
 pub compile_cases-make_test-requires-clause-kept : goal.compile_cases-make_test-requires-clause-kept
 compile_cases-make_test-requires-clause-kept t c =
-    let rest = take (length c.args.cases.now - 1) (drop 1 c.args.cases.now) in
-    let whole = cases_is c.args.cases.now rest c.case-item.result c.pattern_of-pattern.result (formula_of c.body_of-body.result.now) (rest_item c.args.cases.now c.case-item.result c.in-len1-up.len_at_least c.case-item.is) c.pattern_of-pattern.ensures.value c.body_of-body.ensures.value in
-    let may = subst (MayCases c.args.scope.now.sig (map formula_of c.args.scope.now.bodies) c.args.table.now c.args.below c.args.env.now c.args.matched (reverse c.args.earlier.now.items)) whole c.requires.ready in
-    let test_is : c.tested.result ≡ tested_by c.args.scope.now.sig (reverse c.args.earlier.now.items) c.pattern_of-pattern.result (are_none (cases_of_trees rest)) = c.tested.ensures.value ∙ ap (λ (xs : List CtorId). tested_by c.args.scope.now.sig (reverse xs) c.pattern_of-pattern.result c.is_empty.result) c.as_slice.ensures.value ∙ ap (tested_by c.args.scope.now.sig (reverse c.args.earlier.now.items) c.pattern_of-pattern.result) (c.is_empty.ensures ∙ none_is rest) in
-    test_kept c.args.scope.now.sig (map formula_of c.args.scope.now.bodies) c.args.below c.args.env.now c.args.matched (reverse c.args.earlier.now.items) c.pattern_of-pattern.result (formula_of c.body_of-body.result.now) (cases_of_trees rest) c.in-Some.c (sym test_is ∙ c.in-Some.is) c.args.table.now may
+    let rest = take (length c.loop-rest.rest.now - 1) (drop 1 c.loop-rest.rest.now) in
+    let whole = cases_is c.loop-rest.rest.now rest c.case-item.result c.pattern_of-pattern.result (formula_of c.body_of-body.result.now) (rest_item c.loop-rest.rest.now c.case-item.result c.in-len1-up.len_at_least c.case-item.is) c.pattern_of-pattern.ensures.value c.body_of-body.ensures.value in
+    let split = subst (λ (cs : Cases). Chooses c.args.scope.now.sig (map formula_of c.args.scope.now.bodies) c.args.below c.args.table.now c.loop-rest.table c.args.env.now c.args.matched (cases_of_trees c.args.cases.now) c.loop-rest.made.items (reverse c.loop-rest.earlier.items) cs) whole c.loop-rest.invariant.0 in
+    let may = chooses_may c.args.scope.now.sig (map formula_of c.args.scope.now.bodies) c.args.below c.args.table.now c.loop-rest.table c.args.env.now c.args.matched (cases_of_trees c.args.cases.now) c.loop-rest.made.items (reverse c.loop-rest.earlier.items) (with_case c.pattern_of-pattern.result (formula_of c.body_of-body.result.now) (cases_of_trees rest)) split in
+    let test_is : c.tested.result ≡ tested_by c.args.scope.now.sig (reverse c.loop-rest.earlier.items) c.pattern_of-pattern.result (are_none (cases_of_trees rest)) = c.tested.ensures.value ∙ ap (λ (xs : List CtorId). tested_by c.args.scope.now.sig (reverse xs) c.pattern_of-pattern.result c.is_empty.result) c.as_slice.ensures.value ∙ ap (tested_by c.args.scope.now.sig (reverse c.loop-rest.earlier.items) c.pattern_of-pattern.result) (c.is_empty.ensures ∙ none_is rest) in
+    test_kept c.args.scope.now.sig (map formula_of c.args.scope.now.bodies) c.args.below c.args.env.now c.args.matched (reverse c.loop-rest.earlier.items) c.pattern_of-pattern.result (formula_of c.body_of-body.result.now) (cases_of_trees rest) c.in-Some.c (sym test_is ∙ c.in-Some.is) c.loop-rest.table may
 
 pub compile_cases-make_test-requires-clause-there : goal.compile_cases-make_test-requires-clause-there
 compile_cases-make_test-requires-clause-there t c =
-    let rest = take (length c.args.cases.now - 1) (drop 1 c.args.cases.now) in
-    let whole = cases_is c.args.cases.now rest c.case-item.result c.pattern_of-pattern.result (formula_of c.body_of-body.result.now) (rest_item c.args.cases.now c.case-item.result c.in-len1-up.len_at_least c.case-item.is) c.pattern_of-pattern.ensures.value c.body_of-body.ensures.value in
-    let may = subst (MayCases c.args.scope.now.sig (map formula_of c.args.scope.now.bodies) c.args.table.now c.args.below c.args.env.now c.args.matched (reverse c.args.earlier.now.items)) whole c.requires.ready in
-    let test_is : c.tested.result ≡ tested_by c.args.scope.now.sig (reverse c.args.earlier.now.items) c.pattern_of-pattern.result (are_none (cases_of_trees rest)) = c.tested.ensures.value ∙ ap (λ (xs : List CtorId). tested_by c.args.scope.now.sig (reverse xs) c.pattern_of-pattern.result c.is_empty.result) c.as_slice.ensures.value ∙ ap (tested_by c.args.scope.now.sig (reverse c.args.earlier.now.items) c.pattern_of-pattern.result) (c.is_empty.ensures ∙ none_is rest) in
-    test_there c.args.scope.now.sig (map formula_of c.args.scope.now.bodies) c.args.below c.args.env.now c.args.matched (reverse c.args.earlier.now.items) c.pattern_of-pattern.result (formula_of c.body_of-body.result.now) (cases_of_trees rest) c.in-Some.c (sym test_is ∙ c.in-Some.is) c.args.table.now may
+    let rest = take (length c.loop-rest.rest.now - 1) (drop 1 c.loop-rest.rest.now) in
+    let whole = cases_is c.loop-rest.rest.now rest c.case-item.result c.pattern_of-pattern.result (formula_of c.body_of-body.result.now) (rest_item c.loop-rest.rest.now c.case-item.result c.in-len1-up.len_at_least c.case-item.is) c.pattern_of-pattern.ensures.value c.body_of-body.ensures.value in
+    let split = subst (λ (cs : Cases). Chooses c.args.scope.now.sig (map formula_of c.args.scope.now.bodies) c.args.below c.args.table.now c.loop-rest.table c.args.env.now c.args.matched (cases_of_trees c.args.cases.now) c.loop-rest.made.items (reverse c.loop-rest.earlier.items) cs) whole c.loop-rest.invariant.0 in
+    let may = chooses_may c.args.scope.now.sig (map formula_of c.args.scope.now.bodies) c.args.below c.args.table.now c.loop-rest.table c.args.env.now c.args.matched (cases_of_trees c.args.cases.now) c.loop-rest.made.items (reverse c.loop-rest.earlier.items) (with_case c.pattern_of-pattern.result (formula_of c.body_of-body.result.now) (cases_of_trees rest)) split in
+    let test_is : c.tested.result ≡ tested_by c.args.scope.now.sig (reverse c.loop-rest.earlier.items) c.pattern_of-pattern.result (are_none (cases_of_trees rest)) = c.tested.ensures.value ∙ ap (λ (xs : List CtorId). tested_by c.args.scope.now.sig (reverse xs) c.pattern_of-pattern.result c.is_empty.result) c.as_slice.ensures.value ∙ ap (tested_by c.args.scope.now.sig (reverse c.loop-rest.earlier.items) c.pattern_of-pattern.result) (c.is_empty.ensures ∙ none_is rest) in
+    test_there c.args.scope.now.sig (map formula_of c.args.scope.now.bodies) c.args.below c.args.env.now c.args.matched (reverse c.loop-rest.earlier.items) c.pattern_of-pattern.result (formula_of c.body_of-body.result.now) (cases_of_trees rest) c.in-Some.c (sym test_is ∙ c.in-Some.is) c.loop-rest.table may
 
 pub compile_cases-make_test-requires-clause-bound : goal.compile_cases-make_test-requires-clause-bound
 compile_cases-make_test-requires-clause-bound t c =
-    let rest = take (length c.args.cases.now - 1) (drop 1 c.args.cases.now) in
-    let whole = cases_is c.args.cases.now rest c.case-item.result c.pattern_of-pattern.result (formula_of c.body_of-body.result.now) (rest_item c.args.cases.now c.case-item.result c.in-len1-up.len_at_least c.case-item.is) c.pattern_of-pattern.ensures.value c.body_of-body.ensures.value in
-    let may = subst (MayCases c.args.scope.now.sig (map formula_of c.args.scope.now.bodies) c.args.table.now c.args.below c.args.env.now c.args.matched (reverse c.args.earlier.now.items)) whole c.requires.ready in
-    let test_is : c.tested.result ≡ tested_by c.args.scope.now.sig (reverse c.args.earlier.now.items) c.pattern_of-pattern.result (are_none (cases_of_trees rest)) = c.tested.ensures.value ∙ ap (λ (xs : List CtorId). tested_by c.args.scope.now.sig (reverse xs) c.pattern_of-pattern.result c.is_empty.result) c.as_slice.ensures.value ∙ ap (tested_by c.args.scope.now.sig (reverse c.args.earlier.now.items) c.pattern_of-pattern.result) (c.is_empty.ensures ∙ none_is rest) in
-    test_bound c.args.scope.now.sig (map formula_of c.args.scope.now.bodies) c.args.below c.args.env.now c.args.matched (reverse c.args.earlier.now.items) c.pattern_of-pattern.result (formula_of c.body_of-body.result.now) (cases_of_trees rest) c.in-Some.c (sym test_is ∙ c.in-Some.is) c.args.table.now may
+    let rest = take (length c.loop-rest.rest.now - 1) (drop 1 c.loop-rest.rest.now) in
+    let whole = cases_is c.loop-rest.rest.now rest c.case-item.result c.pattern_of-pattern.result (formula_of c.body_of-body.result.now) (rest_item c.loop-rest.rest.now c.case-item.result c.in-len1-up.len_at_least c.case-item.is) c.pattern_of-pattern.ensures.value c.body_of-body.ensures.value in
+    let split = subst (λ (cs : Cases). Chooses c.args.scope.now.sig (map formula_of c.args.scope.now.bodies) c.args.below c.args.table.now c.loop-rest.table c.args.env.now c.args.matched (cases_of_trees c.args.cases.now) c.loop-rest.made.items (reverse c.loop-rest.earlier.items) cs) whole c.loop-rest.invariant.0 in
+    let may = chooses_may c.args.scope.now.sig (map formula_of c.args.scope.now.bodies) c.args.below c.args.table.now c.loop-rest.table c.args.env.now c.args.matched (cases_of_trees c.args.cases.now) c.loop-rest.made.items (reverse c.loop-rest.earlier.items) (with_case c.pattern_of-pattern.result (formula_of c.body_of-body.result.now) (cases_of_trees rest)) split in
+    let test_is : c.tested.result ≡ tested_by c.args.scope.now.sig (reverse c.loop-rest.earlier.items) c.pattern_of-pattern.result (are_none (cases_of_trees rest)) = c.tested.ensures.value ∙ ap (λ (xs : List CtorId). tested_by c.args.scope.now.sig (reverse xs) c.pattern_of-pattern.result c.is_empty.result) c.as_slice.ensures.value ∙ ap (tested_by c.args.scope.now.sig (reverse c.loop-rest.earlier.items) c.pattern_of-pattern.result) (c.is_empty.ensures ∙ none_is rest) in
+    test_bound c.args.scope.now.sig (map formula_of c.args.scope.now.bodies) c.args.below c.args.env.now c.args.matched (reverse c.loop-rest.earlier.items) c.pattern_of-pattern.result (formula_of c.body_of-body.result.now) (cases_of_trees rest) c.in-Some.c (sym test_is ∙ c.in-Some.is) c.loop-rest.table may
 
 pub compile_cases-returns-in_err-condition-clause-outcome : goal.compile_cases-returns-in_err-condition-clause-outcome
 compile_cases-returns-in_err-condition-clause-outcome t c =
-    let rest = take (length c.args.cases.now - 1) (drop 1 c.args.cases.now) in
-    let whole = cases_is c.args.cases.now rest c.case-item.result c.pattern_of-pattern.result (formula_of c.body_of-body.result.now) (rest_item c.args.cases.now c.case-item.result c.in-len1-up.len_at_least c.case-item.is) c.pattern_of-pattern.ensures.value c.body_of-body.ensures.value in
-    let may = subst (MayCases c.args.scope.now.sig (map formula_of c.args.scope.now.bodies) c.args.table.now c.args.below c.args.env.now c.args.matched (reverse c.args.earlier.now.items)) whole c.requires.ready in
-    let test_is : c.tested.result ≡ tested_by c.args.scope.now.sig (reverse c.args.earlier.now.items) c.pattern_of-pattern.result (are_none (cases_of_trees rest)) = c.tested.ensures.value ∙ ap (λ (xs : List CtorId). tested_by c.args.scope.now.sig (reverse xs) c.pattern_of-pattern.result c.is_empty.result) c.as_slice.ensures.value ∙ ap (tested_by c.args.scope.now.sig (reverse c.args.earlier.now.items) c.pattern_of-pattern.result) (c.is_empty.ensures ∙ none_is rest) in
+    let rest = take (length c.loop-rest.rest.now - 1) (drop 1 c.loop-rest.rest.now) in
+    let whole = cases_is c.loop-rest.rest.now rest c.case-item.result c.pattern_of-pattern.result (formula_of c.body_of-body.result.now) (rest_item c.loop-rest.rest.now c.case-item.result c.in-len1-up.len_at_least c.case-item.is) c.pattern_of-pattern.ensures.value c.body_of-body.ensures.value in
+    let split = subst (λ (cs : Cases). Chooses c.args.scope.now.sig (map formula_of c.args.scope.now.bodies) c.args.below c.args.table.now c.loop-rest.table c.args.env.now c.args.matched (cases_of_trees c.args.cases.now) c.loop-rest.made.items (reverse c.loop-rest.earlier.items) cs) whole c.loop-rest.invariant.0 in
+    let test_is : c.tested.result ≡ tested_by c.args.scope.now.sig (reverse c.loop-rest.earlier.items) c.pattern_of-pattern.result (are_none (cases_of_trees rest)) = c.tested.ensures.value ∙ ap (λ (xs : List CtorId). tested_by c.args.scope.now.sig (reverse xs) c.pattern_of-pattern.result c.is_empty.result) c.as_slice.ensures.value ∙ ap (tested_by c.args.scope.now.sig (reverse c.loop-rest.earlier.items) c.pattern_of-pattern.result) (c.is_empty.ensures ∙ none_is rest) in
     let p = err_from_is_err_and c.from_residual-in_err-condition.result c.from_residual-in_err-condition.ensures.1 in
-    rw (p.1, p.2) (
-    subst (λ (cs : Cases). CompilesCases c.args.scope.now.sig (map formula_of c.args.scope.now.bodies) c.args.below c.args.table.now c.make_test.new.table c.args.env.now c.args.matched (reverse c.args.earlier.now.items) cs (Err c.in_err-condition.field-0.0)) (sym whole) (test_failed c.args.scope.now.sig (map formula_of c.args.scope.now.bodies) c.args.below c.args.env.now c.args.matched (reverse c.args.earlier.now.items) c.pattern_of-pattern.result (formula_of c.body_of-body.result.now) (cases_of_trees rest) c.in-Some.c (sym test_is ∙ c.in-Some.is) c.args.table.now c.make_test.new.table _ c.in_err-condition.ensures.effect c.in_err-condition.field-0.0 (λ x. x)))
+    rw (p.1, p.2) (chooses_failed c.args.scope.now.sig (map formula_of c.args.scope.now.bodies) c.args.below c.args.table.now c.loop-rest.table c.args.env.now c.args.matched (cases_of_trees c.args.cases.now) c.loop-rest.made.items (reverse c.loop-rest.earlier.items) (with_case c.pattern_of-pattern.result (formula_of c.body_of-body.result.now) (cases_of_trees rest)) split c.make_test.new.table c.in_err-condition.field-0.0 (test_failed c.args.scope.now.sig (map formula_of c.args.scope.now.bodies) c.args.below c.args.env.now c.args.matched (reverse c.loop-rest.earlier.items) c.pattern_of-pattern.result (formula_of c.body_of-body.result.now) (cases_of_trees rest) c.in-Some.c (sym test_is ∙ c.in-Some.is) c.loop-rest.table c.make_test.new.table _ c.in_err-condition.ensures.effect c.in_err-condition.field-0.0 (λ x. x)))
 
-pub compile_cases-compile_tree-requires-2 : goal.compile_cases-compile_tree-requires-2
-compile_cases-compile_tree-requires-2 t c =
-    let rest = take (length c.args.cases.now - 1) (drop 1 c.args.cases.now) in
-    let whole = cases_is c.args.cases.now rest c.case-item.result c.pattern_of-pattern.result (formula_of c.body_of-body.result.now) (rest_item c.args.cases.now c.case-item.result c.in-len1-up.len_at_least c.case-item.is) c.pattern_of-pattern.ensures.value c.body_of-body.ensures.value in
-    let may = subst (MayCases c.args.scope.now.sig (map formula_of c.args.scope.now.bodies) c.args.table.now c.args.below c.args.env.now c.args.matched (reverse c.args.earlier.now.items)) whole c.requires.ready in
-    let heavy : case_weights (weights_below (map formula_of c.args.scope.now.bodies) c.args.below) (cases_of_trees c.args.cases.now) ≡ case_weights (weights_below (map formula_of c.args.scope.now.bodies) c.args.below) (with_case c.pattern_of-pattern.result (formula_of c.body_of-body.result.now) (cases_of_trees rest)) = ap (case_weights (weights_below (map formula_of c.args.scope.now.bodies) c.args.below)) whole in
-    let inner_is : c.deref-2.result.now ≡ bind (bound_by c.args.scope.now.sig c.pattern_of-pattern.result c.args.matched) c.args.env.now = c.deref-2.ensures.value ∙ c.in_ok-inner.ensures.bound ∙ ap (λ (xs : List Bound). bind xs c.args.env.now) (c.deref.ensures.value ∙ c.in_ok-bounds.ensures.bounds) in
-    let test_is : c.tested.result ≡ tested_by c.args.scope.now.sig (reverse c.args.earlier.now.items) c.pattern_of-pattern.result (are_none (cases_of_trees rest)) = c.tested.ensures.value ∙ ap (λ (xs : List CtorId). tested_by c.args.scope.now.sig (reverse xs) c.pattern_of-pattern.result c.is_empty.result) c.as_slice.ensures.value ∙ ap (tested_by c.args.scope.now.sig (reverse c.args.earlier.now.items) c.pattern_of-pattern.result) (c.is_empty.ensures ∙ none_is rest) in
-    (omega (arith, c.decreases, heavy), ((state_stays c.args.scope.now.sig (map formula_of c.args.scope.now.bodies) c.args.rows.now c.args.below c.args.table.now c.make_test.new.table c.args.known.now (test_grown c.args.scope.now.sig (map formula_of c.args.scope.now.bodies) c.args.below c.args.env.now c.args.matched (reverse c.args.earlier.now.items) c.pattern_of-pattern.result (formula_of c.body_of-body.result.now) (cases_of_trees rest) c.in-Some.c (sym test_is ∙ c.in-Some.is) c.args.table.now c.make_test.new.table _ c.in_ok-condition.ensures.effect may).0 (test_grown c.args.scope.now.sig (map formula_of c.args.scope.now.bodies) c.args.below c.args.env.now c.args.matched (reverse c.args.earlier.now.items) c.pattern_of-pattern.result (formula_of c.body_of-body.result.now) (cases_of_trees rest) c.in-Some.c (sym test_is ∙ c.in-Some.is) c.args.table.now c.make_test.new.table _ c.in_ok-condition.ensures.effect may).1 c.requires.state), (subst (λ (xs : List Bound). MayCompile c.args.scope.now.sig (map formula_of c.args.scope.now.bodies) c.make_test.new.table c.args.below xs (formula_of c.body_of-body.result.now)) (sym inner_is) (first_may c.args.scope.now.sig (map formula_of c.args.scope.now.bodies) c.args.below c.args.env.now c.args.matched (reverse c.args.earlier.now.items) c.pattern_of-pattern.result (formula_of c.body_of-body.result.now) (cases_of_trees rest) c.in-Some.c (sym test_is ∙ c.in-Some.is) c.args.table.now c.make_test.new.table _ c.in_ok-condition.ensures.effect may), (c.requires.noted.0, case_notes c.args.scope.now.sig (uses_below c.args.scope.now.sig (map formula_of c.args.scope.now.bodies) c.args.below) (reverse c.args.earlier.now.items) c.pattern_of-pattern.result (formula_of c.body_of-body.result.now) (cases_of_trees rest) c.args.notes.now (subst (λ (cs : Cases). CasesNoted c.args.scope.now.sig (uses_below c.args.scope.now.sig (map formula_of c.args.scope.now.bodies) c.args.below) (reverse c.args.earlier.now.items) cs c.args.notes.now) whole c.requires.noted.1)))))
+pub compile_cases-compile_case-requires-in-len1-up : goal.compile_cases-compile_case-requires-in-len1-up
+compile_cases-compile_case-requires-in-len1-up t c =
+    let rest = take (length c.loop-rest.rest.now - 1) (drop 1 c.loop-rest.rest.now) in
+    let whole = cases_is c.loop-rest.rest.now rest c.case-item.result c.pattern_of-pattern.result (formula_of c.body_of-body.result.now) (rest_item c.loop-rest.rest.now c.case-item.result c.in-len1-up.len_at_least c.case-item.is) c.pattern_of-pattern.ensures.value c.body_of-body.ensures.value in
+    let split = subst (λ (cs : Cases). Chooses c.args.scope.now.sig (map formula_of c.args.scope.now.bodies) c.args.below c.args.table.now c.loop-rest.table c.args.env.now c.args.matched (cases_of_trees c.args.cases.now) c.loop-rest.made.items (reverse c.loop-rest.earlier.items) cs) whole c.loop-rest.invariant.0 in
+    let may = chooses_may c.args.scope.now.sig (map formula_of c.args.scope.now.bodies) c.args.below c.args.table.now c.loop-rest.table c.args.env.now c.args.matched (cases_of_trees c.args.cases.now) c.loop-rest.made.items (reverse c.loop-rest.earlier.items) (with_case c.pattern_of-pattern.result (formula_of c.body_of-body.result.now) (cases_of_trees rest)) split in
+    let test_is : c.tested.result ≡ tested_by c.args.scope.now.sig (reverse c.loop-rest.earlier.items) c.pattern_of-pattern.result (are_none (cases_of_trees rest)) = c.tested.ensures.value ∙ ap (λ (xs : List CtorId). tested_by c.args.scope.now.sig (reverse xs) c.pattern_of-pattern.result c.is_empty.result) c.as_slice.ensures.value ∙ ap (tested_by c.args.scope.now.sig (reverse c.loop-rest.earlier.items) c.pattern_of-pattern.result) (c.is_empty.ensures ∙ none_is rest) in
+    let lighter = chooses_lighter c.args.scope.now.sig (map formula_of c.args.scope.now.bodies) c.args.below c.args.table.now c.loop-rest.table c.args.env.now c.args.matched (cases_of_trees c.args.cases.now) c.loop-rest.made.items (reverse c.loop-rest.earlier.items) c.pattern_of-pattern.result (formula_of c.body_of-body.result.now) (cases_of_trees rest) split in
+    let noted = subst (λ (cs : Cases). CasesNoted c.args.scope.now.sig (uses_below c.args.scope.now.sig (map formula_of c.args.scope.now.bodies) c.args.below) (reverse c.loop-rest.earlier.items) cs c.loop-rest.left.now) whole c.loop-rest.invariant.2 in
+    let grown = test_grown c.args.scope.now.sig (map formula_of c.args.scope.now.bodies) c.args.below c.args.env.now c.args.matched (reverse c.loop-rest.earlier.items) c.pattern_of-pattern.result (formula_of c.body_of-body.result.now) (cases_of_trees rest) c.in-Some.c (sym test_is ∙ c.in-Some.is) c.loop-rest.table c.make_test.new.table _ c.in_ok-condition.ensures.effect may in
+    (omega (arith, lighter, c.decreases), (state_stays c.args.scope.now.sig (map formula_of c.args.scope.now.bodies) c.args.rows.now c.args.below c.loop-rest.table c.make_test.new.table c.loop-rest.known grown.0 grown.1 c.loop-rest.invariant.1, (case_declared c.args.scope.now.sig (map formula_of c.args.scope.now.bodies) c.args.below c.args.env.now c.args.matched (reverse c.loop-rest.earlier.items) c.pattern_of-pattern.result (formula_of c.body_of-body.result.now) (cases_of_trees rest) c.loop-rest.table may, (first_may c.args.scope.now.sig (map formula_of c.args.scope.now.bodies) c.args.below c.args.env.now c.args.matched (reverse c.loop-rest.earlier.items) c.pattern_of-pattern.result (formula_of c.body_of-body.result.now) (cases_of_trees rest) c.in-Some.c (sym test_is ∙ c.in-Some.is) c.loop-rest.table c.make_test.new.table _ c.in_ok-condition.ensures.effect may, (c.requires.noted.0, case_notes c.args.scope.now.sig (uses_below c.args.scope.now.sig (map formula_of c.args.scope.now.bodies) c.args.below) (reverse c.loop-rest.earlier.items) c.pattern_of-pattern.result (formula_of c.body_of-body.result.now) (cases_of_trees rest) c.loop-rest.left.now noted)))))
 
-pub compile_cases-returns-in_err-first-clause-outcome : goal.compile_cases-returns-in_err-first-clause-outcome
-compile_cases-returns-in_err-first-clause-outcome t c =
-    let rest = take (length c.args.cases.now - 1) (drop 1 c.args.cases.now) in
-    let whole = cases_is c.args.cases.now rest c.case-item.result c.pattern_of-pattern.result (formula_of c.body_of-body.result.now) (rest_item c.args.cases.now c.case-item.result c.in-len1-up.len_at_least c.case-item.is) c.pattern_of-pattern.ensures.value c.body_of-body.ensures.value in
-    let may = subst (MayCases c.args.scope.now.sig (map formula_of c.args.scope.now.bodies) c.args.table.now c.args.below c.args.env.now c.args.matched (reverse c.args.earlier.now.items)) whole c.requires.ready in
-    let inner_is : c.deref-2.result.now ≡ bind (bound_by c.args.scope.now.sig c.pattern_of-pattern.result c.args.matched) c.args.env.now = c.deref-2.ensures.value ∙ c.in_ok-inner.ensures.bound ∙ ap (λ (xs : List Bound). bind xs c.args.env.now) (c.deref.ensures.value ∙ c.in_ok-bounds.ensures.bounds) in
-    let test_is : c.tested.result ≡ tested_by c.args.scope.now.sig (reverse c.args.earlier.now.items) c.pattern_of-pattern.result (are_none (cases_of_trees rest)) = c.tested.ensures.value ∙ ap (λ (xs : List CtorId). tested_by c.args.scope.now.sig (reverse xs) c.pattern_of-pattern.result c.is_empty.result) c.as_slice.ensures.value ∙ ap (tested_by c.args.scope.now.sig (reverse c.args.earlier.now.items) c.pattern_of-pattern.result) (c.is_empty.ensures ∙ none_is rest) in
-    let p = err_from_is_err_and c.from_residual-in_err-first.result c.from_residual-in_err-first.ensures.1 in
-    rw (p.1, p.2) (
-    subst (λ (cs : Cases). CompilesCases c.args.scope.now.sig (map formula_of c.args.scope.now.bodies) c.args.below c.args.table.now c.compile_tree-2.new.table c.args.env.now c.args.matched (reverse c.args.earlier.now.items) cs (Err c.in_err-first.field-0.0)) (sym whole) (first_failed c.args.scope.now.sig (map formula_of c.args.scope.now.bodies) c.args.below c.args.env.now c.args.matched (reverse c.args.earlier.now.items) c.pattern_of-pattern.result (formula_of c.body_of-body.result.now) (cases_of_trees rest) c.in-Some.c (sym test_is ∙ c.in-Some.is) c.args.table.now c.make_test.new.table _ c.in_ok-condition.ensures.effect c.compile_tree-2.new.table (Err c.in_err-first.field-0.0) (subst (λ (xs : List Bound). Compiles c.args.scope.now.sig (map formula_of c.args.scope.now.bodies) c.args.below c.make_test.new.table c.compile_tree-2.new.table xs (formula_of c.body_of-body.result.now) (Err c.in_err-first.field-0.0)) inner_is c.in_err-first.ensures.outcome) c.in_err-first.field-0.0 (λ x. x)))
+pub compile_cases-returns-in_err-term-clause-outcome : goal.compile_cases-returns-in_err-term-clause-outcome
+compile_cases-returns-in_err-term-clause-outcome t c =
+    let rest = take (length c.loop-rest.rest.now - 1) (drop 1 c.loop-rest.rest.now) in
+    let whole = cases_is c.loop-rest.rest.now rest c.case-item.result c.pattern_of-pattern.result (formula_of c.body_of-body.result.now) (rest_item c.loop-rest.rest.now c.case-item.result c.in-len1-up.len_at_least c.case-item.is) c.pattern_of-pattern.ensures.value c.body_of-body.ensures.value in
+    let split = subst (λ (cs : Cases). Chooses c.args.scope.now.sig (map formula_of c.args.scope.now.bodies) c.args.below c.args.table.now c.loop-rest.table c.args.env.now c.args.matched (cases_of_trees c.args.cases.now) c.loop-rest.made.items (reverse c.loop-rest.earlier.items) cs) whole c.loop-rest.invariant.0 in
+    let test_is : c.tested.result ≡ tested_by c.args.scope.now.sig (reverse c.loop-rest.earlier.items) c.pattern_of-pattern.result (are_none (cases_of_trees rest)) = c.tested.ensures.value ∙ ap (λ (xs : List CtorId). tested_by c.args.scope.now.sig (reverse xs) c.pattern_of-pattern.result c.is_empty.result) c.as_slice.ensures.value ∙ ap (tested_by c.args.scope.now.sig (reverse c.loop-rest.earlier.items) c.pattern_of-pattern.result) (c.is_empty.ensures ∙ none_is rest) in
+    let p = err_from_is_err_and c.from_residual-in_err-term.result c.from_residual-in_err-term.ensures.1 in
+    rw (p.1, p.2) (chooses_failed c.args.scope.now.sig (map formula_of c.args.scope.now.bodies) c.args.below c.args.table.now c.loop-rest.table c.args.env.now c.args.matched (cases_of_trees c.args.cases.now) c.loop-rest.made.items (reverse c.loop-rest.earlier.items) (with_case c.pattern_of-pattern.result (formula_of c.body_of-body.result.now) (cases_of_trees rest)) split c.compile_case-in-len1-up.new.table c.in_err-term.field-0.0 (first_failed c.args.scope.now.sig (map formula_of c.args.scope.now.bodies) c.args.below c.args.env.now c.args.matched (reverse c.loop-rest.earlier.items) c.pattern_of-pattern.result (formula_of c.body_of-body.result.now) (cases_of_trees rest) c.in-Some.c (sym test_is ∙ c.in-Some.is) c.loop-rest.table c.make_test.new.table _ c.in_ok-condition.ensures.effect c.compile_case-in-len1-up.new.table (Err c.in_err-term.field-0.0) c.in_err-term.ensures.outcome c.in_err-term.field-0.0 (λ x. x)))
 
 pub compile_cases-returns-in_err-push-clause-outcome : goal.compile_cases-returns-in_err-push-clause-outcome
 compile_cases-returns-in_err-push-clause-outcome t c =
-    let rest = take (length c.args.cases.now - 1) (drop 1 c.args.cases.now) in
-    let whole = cases_is c.args.cases.now rest c.case-item.result c.pattern_of-pattern.result (formula_of c.body_of-body.result.now) (rest_item c.args.cases.now c.case-item.result c.in-len1-up.len_at_least c.case-item.is) c.pattern_of-pattern.ensures.value c.body_of-body.ensures.value in
-    let may = subst (MayCases c.args.scope.now.sig (map formula_of c.args.scope.now.bodies) c.args.table.now c.args.below c.args.env.now c.args.matched (reverse c.args.earlier.now.items)) whole c.requires.ready in
-    let inner_is : c.deref-2.result.now ≡ bind (bound_by c.args.scope.now.sig c.pattern_of-pattern.result c.args.matched) c.args.env.now = c.deref-2.ensures.value ∙ c.in_ok-inner.ensures.bound ∙ ap (λ (xs : List Bound). bind xs c.args.env.now) (c.deref.ensures.value ∙ c.in_ok-bounds.ensures.bounds) in
-    let test_is : c.tested.result ≡ tested_by c.args.scope.now.sig (reverse c.args.earlier.now.items) c.pattern_of-pattern.result (are_none (cases_of_trees rest)) = c.tested.ensures.value ∙ ap (λ (xs : List CtorId). tested_by c.args.scope.now.sig (reverse xs) c.pattern_of-pattern.result c.is_empty.result) c.as_slice.ensures.value ∙ ap (tested_by c.args.scope.now.sig (reverse c.args.earlier.now.items) c.pattern_of-pattern.result) (c.is_empty.ensures ∙ none_is rest) in
+    let rest = take (length c.loop-rest.rest.now - 1) (drop 1 c.loop-rest.rest.now) in
+    let whole = cases_is c.loop-rest.rest.now rest c.case-item.result c.pattern_of-pattern.result (formula_of c.body_of-body.result.now) (rest_item c.loop-rest.rest.now c.case-item.result c.in-len1-up.len_at_least c.case-item.is) c.pattern_of-pattern.ensures.value c.body_of-body.ensures.value in
+    let split = subst (λ (cs : Cases). Chooses c.args.scope.now.sig (map formula_of c.args.scope.now.bodies) c.args.below c.args.table.now c.loop-rest.table c.args.env.now c.args.matched (cases_of_trees c.args.cases.now) c.loop-rest.made.items (reverse c.loop-rest.earlier.items) cs) whole c.loop-rest.invariant.0 in
+    let test_is : c.tested.result ≡ tested_by c.args.scope.now.sig (reverse c.loop-rest.earlier.items) c.pattern_of-pattern.result (are_none (cases_of_trees rest)) = c.tested.ensures.value ∙ ap (λ (xs : List CtorId). tested_by c.args.scope.now.sig (reverse xs) c.pattern_of-pattern.result c.is_empty.result) c.as_slice.ensures.value ∙ ap (tested_by c.args.scope.now.sig (reverse c.loop-rest.earlier.items) c.pattern_of-pattern.result) (c.is_empty.ensures ∙ none_is rest) in
     let p = err_from_is_err_and c.from_residual-in_err-push.result c.from_residual-in_err-push.ensures.1 in
-    rw p.1 (
-    subst (λ (cs : Cases). CompilesCases c.args.scope.now.sig (map formula_of c.args.scope.now.bodies) c.args.below c.args.table.now c.compile_tree-2.new.table c.args.env.now c.args.matched (reverse c.args.earlier.now.items) cs (Err p.0)) (sym whole) (first_failed c.args.scope.now.sig (map formula_of c.args.scope.now.bodies) c.args.below c.args.env.now c.args.matched (reverse c.args.earlier.now.items) c.pattern_of-pattern.result (formula_of c.body_of-body.result.now) (cases_of_trees rest) c.in-Some.c (sym test_is ∙ c.in-Some.is) c.args.table.now c.make_test.new.table _ c.in_ok-condition.ensures.effect c.compile_tree-2.new.table (Ok c.in_ok-first.first) (subst (λ (xs : List Bound). Compiles c.args.scope.now.sig (map formula_of c.args.scope.now.bodies) c.args.below c.make_test.new.table c.compile_tree-2.new.table xs (formula_of c.body_of-body.result.now) (Ok c.in_ok-first.first)) inner_is c.in_ok-first.ensures.outcome) p.0 (λ x. absurd (not_full p.0 p.2 x))))
+    rw p.1 (chooses_failed c.args.scope.now.sig (map formula_of c.args.scope.now.bodies) c.args.below c.args.table.now c.loop-rest.table c.args.env.now c.args.matched (cases_of_trees c.args.cases.now) c.loop-rest.made.items (reverse c.loop-rest.earlier.items) (with_case c.pattern_of-pattern.result (formula_of c.body_of-body.result.now) (cases_of_trees rest)) split c.compile_case-in-len1-up.new.table p.0 (first_failed c.args.scope.now.sig (map formula_of c.args.scope.now.bodies) c.args.below c.args.env.now c.args.matched (reverse c.loop-rest.earlier.items) c.pattern_of-pattern.result (formula_of c.body_of-body.result.now) (cases_of_trees rest) c.in-Some.c (sym test_is ∙ c.in-Some.is) c.loop-rest.table c.make_test.new.table _ c.in_ok-condition.ensures.effect c.compile_case-in-len1-up.new.table (Ok c.in_ok-term.term) c.in_ok-term.ensures.outcome p.0 (λ x. absurd (not_full p.0 p.2 x))))
 
-pub compile_cases-compile_cases-requires : goal.compile_cases-compile_cases-requires
-compile_cases-compile_cases-requires t c =
-    let rest = take (length c.args.cases.now - 1) (drop 1 c.args.cases.now) in
-    let whole = cases_is c.args.cases.now rest c.case-item.result c.pattern_of-pattern.result (formula_of c.body_of-body.result.now) (rest_item c.args.cases.now c.case-item.result c.in-len1-up.len_at_least c.case-item.is) c.pattern_of-pattern.ensures.value c.body_of-body.ensures.value in
-    let may = subst (MayCases c.args.scope.now.sig (map formula_of c.args.scope.now.bodies) c.args.table.now c.args.below c.args.env.now c.args.matched (reverse c.args.earlier.now.items)) whole c.requires.ready in
-    let heavy : case_weights (weights_below (map formula_of c.args.scope.now.bodies) c.args.below) (cases_of_trees c.args.cases.now) ≡ case_weights (weights_below (map formula_of c.args.scope.now.bodies) c.args.below) (with_case c.pattern_of-pattern.result (formula_of c.body_of-body.result.now) (cases_of_trees rest)) = ap (case_weights (weights_below (map formula_of c.args.scope.now.bodies) c.args.below)) whole in
-    let inner_is : c.deref-2.result.now ≡ bind (bound_by c.args.scope.now.sig c.pattern_of-pattern.result c.args.matched) c.args.env.now = c.deref-2.ensures.value ∙ c.in_ok-inner.ensures.bound ∙ ap (λ (xs : List Bound). bind xs c.args.env.now) (c.deref.ensures.value ∙ c.in_ok-bounds.ensures.bounds) in
-    let test_is : c.tested.result ≡ tested_by c.args.scope.now.sig (reverse c.args.earlier.now.items) c.pattern_of-pattern.result (are_none (cases_of_trees rest)) = c.tested.ensures.value ∙ ap (λ (xs : List CtorId). tested_by c.args.scope.now.sig (reverse xs) c.pattern_of-pattern.result c.is_empty.result) c.as_slice.ensures.value ∙ ap (tested_by c.args.scope.now.sig (reverse c.args.earlier.now.items) c.pattern_of-pattern.result) (c.is_empty.ensures ∙ none_is rest) in
-    let later_is : reverse c.push.new.self.items ≡ c.in-Some.c ∷ (reverse c.args.earlier.now.items) = ap (λ (xs : List CtorId). reverse xs) c.in_ok-push.ensures.items ∙ reverse-append c.args.earlier.now.items (c.in-Some.c ∷ []) in
-    (omega (arith, c.decreases, heavy), (c.in_ok-first.ensures.state, (subst (λ (xs : List CtorId). MayCases c.args.scope.now.sig (map formula_of c.args.scope.now.bodies) c.compile_tree-2.new.table c.args.below c.args.env.now c.args.matched xs (cases_of_trees rest)) (sym later_is) (second_may c.args.scope.now.sig (map formula_of c.args.scope.now.bodies) c.args.below c.args.env.now c.args.matched (reverse c.args.earlier.now.items) c.pattern_of-pattern.result (formula_of c.body_of-body.result.now) (cases_of_trees rest) c.in-Some.c (sym test_is ∙ c.in-Some.is) c.args.table.now c.make_test.new.table _ c.in_ok-condition.ensures.effect c.compile_tree-2.new.table (Ok c.in_ok-first.first) (subst (λ (xs : List Bound). Compiles c.args.scope.now.sig (map formula_of c.args.scope.now.bodies) c.args.below c.make_test.new.table c.compile_tree-2.new.table xs (formula_of c.body_of-body.result.now) (Ok c.in_ok-first.first)) inner_is c.in_ok-first.ensures.outcome) may), (c.requires.noted.0, subst (λ (xs : List CtorId). CasesNoted c.args.scope.now.sig (uses_below c.args.scope.now.sig (map formula_of c.args.scope.now.bodies) c.args.below) xs (cases_of_trees rest) c.later_notes.result.now) (sym later_is) (subst (CasesNoted c.args.scope.now.sig (uses_below c.args.scope.now.sig (map formula_of c.args.scope.now.bodies) c.args.below) (c.in-Some.c ∷ reverse c.args.earlier.now.items) (cases_of_trees rest)) (sym c.later_notes.ensures.value) (later_cases c.args.scope.now.sig (uses_below c.args.scope.now.sig (map formula_of c.args.scope.now.bodies) c.args.below) (reverse c.args.earlier.now.items) c.pattern_of-pattern.result c.in-Some.c (formula_of c.body_of-body.result.now) (cases_of_trees rest) c.args.notes.now (sym test_is ∙ c.in-Some.is) (subst (λ (cs : Cases). CasesNoted c.args.scope.now.sig (uses_below c.args.scope.now.sig (map formula_of c.args.scope.now.bodies) c.args.below) (reverse c.args.earlier.now.items) cs c.args.notes.now) whole c.requires.noted.1)))))))
+pub compile_cases-returns-in_err-push-2-clause-outcome : goal.compile_cases-returns-in_err-push-2-clause-outcome
+compile_cases-returns-in_err-push-2-clause-outcome t c =
+    let rest = take (length c.loop-rest.rest.now - 1) (drop 1 c.loop-rest.rest.now) in
+    let whole = cases_is c.loop-rest.rest.now rest c.case-item.result c.pattern_of-pattern.result (formula_of c.body_of-body.result.now) (rest_item c.loop-rest.rest.now c.case-item.result c.in-len1-up.len_at_least c.case-item.is) c.pattern_of-pattern.ensures.value c.body_of-body.ensures.value in
+    let split = subst (λ (cs : Cases). Chooses c.args.scope.now.sig (map formula_of c.args.scope.now.bodies) c.args.below c.args.table.now c.loop-rest.table c.args.env.now c.args.matched (cases_of_trees c.args.cases.now) c.loop-rest.made.items (reverse c.loop-rest.earlier.items) cs) whole c.loop-rest.invariant.0 in
+    let test_is : c.tested.result ≡ tested_by c.args.scope.now.sig (reverse c.loop-rest.earlier.items) c.pattern_of-pattern.result (are_none (cases_of_trees rest)) = c.tested.ensures.value ∙ ap (λ (xs : List CtorId). tested_by c.args.scope.now.sig (reverse xs) c.pattern_of-pattern.result c.is_empty.result) c.as_slice.ensures.value ∙ ap (tested_by c.args.scope.now.sig (reverse c.loop-rest.earlier.items) c.pattern_of-pattern.result) (c.is_empty.ensures ∙ none_is rest) in
+    let p = err_from_is_err_and c.from_residual-in_err-push-2.result c.from_residual-in_err-push-2.ensures.1 in
+    rw p.1 (chooses_failed c.args.scope.now.sig (map formula_of c.args.scope.now.bodies) c.args.below c.args.table.now c.loop-rest.table c.args.env.now c.args.matched (cases_of_trees c.args.cases.now) c.loop-rest.made.items (reverse c.loop-rest.earlier.items) (with_case c.pattern_of-pattern.result (formula_of c.body_of-body.result.now) (cases_of_trees rest)) split c.compile_case-in-len1-up.new.table p.0 (first_failed c.args.scope.now.sig (map formula_of c.args.scope.now.bodies) c.args.below c.args.env.now c.args.matched (reverse c.loop-rest.earlier.items) c.pattern_of-pattern.result (formula_of c.body_of-body.result.now) (cases_of_trees rest) c.in-Some.c (sym test_is ∙ c.in-Some.is) c.loop-rest.table c.make_test.new.table _ c.in_ok-condition.ensures.effect c.compile_case-in-len1-up.new.table (Ok c.in_ok-term.term) c.in_ok-term.ensures.outcome p.0 (λ x. absurd (not_full p.0 p.2 x))))
 
-pub compile_cases-returns-in_err-second-clause-outcome : goal.compile_cases-returns-in_err-second-clause-outcome
-compile_cases-returns-in_err-second-clause-outcome t c =
-    let rest = take (length c.args.cases.now - 1) (drop 1 c.args.cases.now) in
-    let whole = cases_is c.args.cases.now rest c.case-item.result c.pattern_of-pattern.result (formula_of c.body_of-body.result.now) (rest_item c.args.cases.now c.case-item.result c.in-len1-up.len_at_least c.case-item.is) c.pattern_of-pattern.ensures.value c.body_of-body.ensures.value in
-    let may = subst (MayCases c.args.scope.now.sig (map formula_of c.args.scope.now.bodies) c.args.table.now c.args.below c.args.env.now c.args.matched (reverse c.args.earlier.now.items)) whole c.requires.ready in
-    let inner_is : c.deref-2.result.now ≡ bind (bound_by c.args.scope.now.sig c.pattern_of-pattern.result c.args.matched) c.args.env.now = c.deref-2.ensures.value ∙ c.in_ok-inner.ensures.bound ∙ ap (λ (xs : List Bound). bind xs c.args.env.now) (c.deref.ensures.value ∙ c.in_ok-bounds.ensures.bounds) in
-    let test_is : c.tested.result ≡ tested_by c.args.scope.now.sig (reverse c.args.earlier.now.items) c.pattern_of-pattern.result (are_none (cases_of_trees rest)) = c.tested.ensures.value ∙ ap (λ (xs : List CtorId). tested_by c.args.scope.now.sig (reverse xs) c.pattern_of-pattern.result c.is_empty.result) c.as_slice.ensures.value ∙ ap (tested_by c.args.scope.now.sig (reverse c.args.earlier.now.items) c.pattern_of-pattern.result) (c.is_empty.ensures ∙ none_is rest) in
-    let later_is : reverse c.push.new.self.items ≡ c.in-Some.c ∷ (reverse c.args.earlier.now.items) = ap (λ (xs : List CtorId). reverse xs) c.in_ok-push.ensures.items ∙ reverse-append c.args.earlier.now.items (c.in-Some.c ∷ []) in
-    let p = err_from_is_err_and c.from_residual-in_err-second.result c.from_residual-in_err-second.ensures.1 in
-    rw (p.1, p.2) (
-    subst (λ (cs : Cases). CompilesCases c.args.scope.now.sig (map formula_of c.args.scope.now.bodies) c.args.below c.args.table.now c.compile_cases.new.table c.args.env.now c.args.matched (reverse c.args.earlier.now.items) cs (Err c.in_err-second.field-0.0)) (sym whole) (second_failed c.args.scope.now.sig (map formula_of c.args.scope.now.bodies) c.args.below c.args.env.now c.args.matched (reverse c.args.earlier.now.items) c.pattern_of-pattern.result (formula_of c.body_of-body.result.now) (cases_of_trees rest) c.in-Some.c (sym test_is ∙ c.in-Some.is) c.args.table.now c.make_test.new.table _ c.in_ok-condition.ensures.effect c.compile_tree-2.new.table (Ok c.in_ok-first.first) (subst (λ (xs : List Bound). Compiles c.args.scope.now.sig (map formula_of c.args.scope.now.bodies) c.args.below c.make_test.new.table c.compile_tree-2.new.table xs (formula_of c.body_of-body.result.now) (Ok c.in_ok-first.first)) inner_is c.in_ok-first.ensures.outcome) c.compile_cases.new.table (Err c.in_err-second.field-0.0) (subst (λ (xs : List CtorId). CompilesCases c.args.scope.now.sig (map formula_of c.args.scope.now.bodies) c.args.below c.compile_tree-2.new.table c.compile_cases.new.table c.args.env.now c.args.matched xs (cases_of_trees rest) (Err c.in_err-second.field-0.0)) later_is c.in_err-second.ensures.outcome) c.in_err-second.field-0.0 (λ x. x)))
+pub compile_cases-loop-rest-preserved : goal.compile_cases-loop-rest-preserved
+compile_cases-loop-rest-preserved t c =
+    let rest = take (length c.loop-rest.rest.now - 1) (drop 1 c.loop-rest.rest.now) in
+    let whole = cases_is c.loop-rest.rest.now rest c.case-item.result c.pattern_of-pattern.result (formula_of c.body_of-body.result.now) (rest_item c.loop-rest.rest.now c.case-item.result c.in-len1-up.len_at_least c.case-item.is) c.pattern_of-pattern.ensures.value c.body_of-body.ensures.value in
+    let split = subst (λ (cs : Cases). Chooses c.args.scope.now.sig (map formula_of c.args.scope.now.bodies) c.args.below c.args.table.now c.loop-rest.table c.args.env.now c.args.matched (cases_of_trees c.args.cases.now) c.loop-rest.made.items (reverse c.loop-rest.earlier.items) cs) whole c.loop-rest.invariant.0 in
+    let test_is : c.tested.result ≡ tested_by c.args.scope.now.sig (reverse c.loop-rest.earlier.items) c.pattern_of-pattern.result (are_none (cases_of_trees rest)) = c.tested.ensures.value ∙ ap (λ (xs : List CtorId). tested_by c.args.scope.now.sig (reverse xs) c.pattern_of-pattern.result c.is_empty.result) c.as_slice.ensures.value ∙ ap (tested_by c.args.scope.now.sig (reverse c.loop-rest.earlier.items) c.pattern_of-pattern.result) (c.is_empty.ensures ∙ none_is rest) in
+    let noted = subst (λ (cs : Cases). CasesNoted c.args.scope.now.sig (uses_below c.args.scope.now.sig (map formula_of c.args.scope.now.bodies) c.args.below) (reverse c.loop-rest.earlier.items) cs c.loop-rest.left.now) whole c.loop-rest.invariant.2 in
+    let longer : (reverse c.push-in-len1-up.new.self.items) ≡ c.in-Some.c ∷ (reverse c.loop-rest.earlier.items) = ap (λ (xs : List CtorId). reverse xs) c.in_ok-push-2.ensures.items ∙ reverse-append c.loop-rest.earlier.items (c.in-Some.c ∷ []) in
+    let next = chooses_more c.args.scope.now.sig (map formula_of c.args.scope.now.bodies) c.args.below c.args.table.now c.loop-rest.table c.args.env.now c.args.matched (cases_of_trees c.args.cases.now) c.loop-rest.made.items (reverse c.loop-rest.earlier.items) c.pattern_of-pattern.result (formula_of c.body_of-body.result.now) (cases_of_trees rest) split c.compile_case-in-len1-up.new.table c.in-Some.c (record { condition = c.in_ok-condition.condition; body = c.in_ok-term.term }) (case_chosen c.args.scope.now.sig (map formula_of c.args.scope.now.bodies) c.args.below c.args.env.now c.args.matched (reverse c.loop-rest.earlier.items) c.pattern_of-pattern.result (formula_of c.body_of-body.result.now) (cases_of_trees rest) c.in-Some.c (sym test_is ∙ c.in-Some.is) c.loop-rest.table c.make_test.new.table _ c.in_ok-condition.ensures.effect c.compile_case-in-len1-up.new.table (Ok c.in_ok-term.term) c.in_ok-term.ensures.outcome c.in_ok-condition.condition c.in_ok-term.term c.in_ok-condition.ensures.core refl) in
+    (subst (λ (gs : List Guarded). Chooses c.args.scope.now.sig (map formula_of c.args.scope.now.bodies) c.args.below c.args.table.now c.compile_case-in-len1-up.new.table c.args.env.now c.args.matched (cases_of_trees c.args.cases.now) gs (reverse c.push-in-len1-up.new.self.items) (cases_of_trees rest)) (sym c.in_ok-push.ensures.items) (subst (λ (e : List CtorId). Chooses c.args.scope.now.sig (map formula_of c.args.scope.now.bodies) c.args.below c.args.table.now c.compile_case-in-len1-up.new.table c.args.env.now c.args.matched (cases_of_trees c.args.cases.now) (c.loop-rest.made.items ++ (record { condition = c.in_ok-condition.condition; body = c.in_ok-term.term }) ∷ []) e (cases_of_trees rest)) (sym longer) next), c.in_ok-term.ensures.state, subst (λ (e : List CtorId). CasesNoted c.args.scope.now.sig (uses_below c.args.scope.now.sig (map formula_of c.args.scope.now.bodies) c.args.below) e (cases_of_trees rest) c.later_notes-left.result.now) (sym longer) (subst (CasesNoted c.args.scope.now.sig (uses_below c.args.scope.now.sig (map formula_of c.args.scope.now.bodies) c.args.below) (c.in-Some.c ∷ (reverse c.loop-rest.earlier.items)) (cases_of_trees rest)) (sym c.later_notes-left.ensures.value) (later_cases c.args.scope.now.sig (uses_below c.args.scope.now.sig (map formula_of c.args.scope.now.bodies) c.args.below) (reverse c.loop-rest.earlier.items) c.pattern_of-pattern.result c.in-Some.c (formula_of c.body_of-body.result.now) (cases_of_trees rest) c.loop-rest.left.now (sym test_is ∙ c.in-Some.is) noted)))
 
-pub compile_cases-make-requires-clause-kept : goal.compile_cases-make-requires-clause-kept
-compile_cases-make-requires-clause-kept t c =
-    let rest = take (length c.args.cases.now - 1) (drop 1 c.args.cases.now) in
-    let whole = cases_is c.args.cases.now rest c.case-item.result c.pattern_of-pattern.result (formula_of c.body_of-body.result.now) (rest_item c.args.cases.now c.case-item.result c.in-len1-up.len_at_least c.case-item.is) c.pattern_of-pattern.ensures.value c.body_of-body.ensures.value in
-    let may = subst (MayCases c.args.scope.now.sig (map formula_of c.args.scope.now.bodies) c.args.table.now c.args.below c.args.env.now c.args.matched (reverse c.args.earlier.now.items)) whole c.requires.ready in
-    let inner_is : c.deref-2.result.now ≡ bind (bound_by c.args.scope.now.sig c.pattern_of-pattern.result c.args.matched) c.args.env.now = c.deref-2.ensures.value ∙ c.in_ok-inner.ensures.bound ∙ ap (λ (xs : List Bound). bind xs c.args.env.now) (c.deref.ensures.value ∙ c.in_ok-bounds.ensures.bounds) in
-    let test_is : c.tested.result ≡ tested_by c.args.scope.now.sig (reverse c.args.earlier.now.items) c.pattern_of-pattern.result (are_none (cases_of_trees rest)) = c.tested.ensures.value ∙ ap (λ (xs : List CtorId). tested_by c.args.scope.now.sig (reverse xs) c.pattern_of-pattern.result c.is_empty.result) c.as_slice.ensures.value ∙ ap (tested_by c.args.scope.now.sig (reverse c.args.earlier.now.items) c.pattern_of-pattern.result) (c.is_empty.ensures ∙ none_is rest) in
-    let later_is : reverse c.push.new.self.items ≡ c.in-Some.c ∷ (reverse c.args.earlier.now.items) = ap (λ (xs : List CtorId). reverse xs) c.in_ok-push.ensures.items ∙ reverse-append c.args.earlier.now.items (c.in-Some.c ∷ []) in
-    made_kept c.args.scope.now.sig (map formula_of c.args.scope.now.bodies) c.args.below c.args.env.now c.args.matched (reverse c.args.earlier.now.items) c.pattern_of-pattern.result (formula_of c.body_of-body.result.now) (cases_of_trees rest) c.in-Some.c (sym test_is ∙ c.in-Some.is) c.args.table.now c.make_test.new.table _ c.in_ok-condition.ensures.effect c.compile_tree-2.new.table (Ok c.in_ok-first.first) (subst (λ (xs : List Bound). Compiles c.args.scope.now.sig (map formula_of c.args.scope.now.bodies) c.args.below c.make_test.new.table c.compile_tree-2.new.table xs (formula_of c.body_of-body.result.now) (Ok c.in_ok-first.first)) inner_is c.in_ok-first.ensures.outcome) c.compile_cases.new.table (Ok c.in_ok-second.second) (subst (λ (xs : List CtorId). CompilesCases c.args.scope.now.sig (map formula_of c.args.scope.now.bodies) c.args.below c.compile_tree-2.new.table c.compile_cases.new.table c.args.env.now c.args.matched xs (cases_of_trees rest) (Ok c.in_ok-second.second)) later_is c.in_ok-second.ensures.outcome) c.in_ok-condition.condition c.in_ok-first.first c.in_ok-second.second c.in_ok-condition.ensures.core refl refl may
+pub compile_cases-unreachable-requires : goal.compile_cases-unreachable-requires
+compile_cases-unreachable-requires t c =
+    chooses_none c.args.scope.now.sig (map formula_of c.args.scope.now.bodies) c.args.below c.args.table.now c.loop-rest.table c.args.env.now c.args.matched (cases_of_trees c.args.cases.now) c.loop-rest.made.items (reverse c.loop-rest.earlier.items) (subst (λ (cs : List Case). Chooses c.args.scope.now.sig (map formula_of c.args.scope.now.bodies) c.args.below c.args.table.now c.loop-rest.table c.args.env.now c.args.matched (cases_of_trees c.args.cases.now) c.loop-rest.made.items (reverse c.loop-rest.earlier.items) (cases_of_trees cs)) (nothing_left c.loop-rest.rest.now (omega (arith, c.in_default.len_below))) c.loop-rest.invariant.0)
 
-pub compile_cases-make-requires-clause-below : goal.compile_cases-make-requires-clause-below
-compile_cases-make-requires-clause-below t c =
-    let rest = take (length c.args.cases.now - 1) (drop 1 c.args.cases.now) in
-    let whole = cases_is c.args.cases.now rest c.case-item.result c.pattern_of-pattern.result (formula_of c.body_of-body.result.now) (rest_item c.args.cases.now c.case-item.result c.in-len1-up.len_at_least c.case-item.is) c.pattern_of-pattern.ensures.value c.body_of-body.ensures.value in
-    let may = subst (MayCases c.args.scope.now.sig (map formula_of c.args.scope.now.bodies) c.args.table.now c.args.below c.args.env.now c.args.matched (reverse c.args.earlier.now.items)) whole c.requires.ready in
-    let inner_is : c.deref-2.result.now ≡ bind (bound_by c.args.scope.now.sig c.pattern_of-pattern.result c.args.matched) c.args.env.now = c.deref-2.ensures.value ∙ c.in_ok-inner.ensures.bound ∙ ap (λ (xs : List Bound). bind xs c.args.env.now) (c.deref.ensures.value ∙ c.in_ok-bounds.ensures.bounds) in
-    let test_is : c.tested.result ≡ tested_by c.args.scope.now.sig (reverse c.args.earlier.now.items) c.pattern_of-pattern.result (are_none (cases_of_trees rest)) = c.tested.ensures.value ∙ ap (λ (xs : List CtorId). tested_by c.args.scope.now.sig (reverse xs) c.pattern_of-pattern.result c.is_empty.result) c.as_slice.ensures.value ∙ ap (tested_by c.args.scope.now.sig (reverse c.args.earlier.now.items) c.pattern_of-pattern.result) (c.is_empty.ensures ∙ none_is rest) in
-    let later_is : reverse c.push.new.self.items ≡ c.in-Some.c ∷ (reverse c.args.earlier.now.items) = ap (λ (xs : List CtorId). reverse xs) c.in_ok-push.ensures.items ∙ reverse-append c.args.earlier.now.items (c.in-Some.c ∷ []) in
-    made_below c.args.scope.now.sig (map formula_of c.args.scope.now.bodies) c.args.below c.args.env.now c.args.matched (reverse c.args.earlier.now.items) c.pattern_of-pattern.result (formula_of c.body_of-body.result.now) (cases_of_trees rest) c.in-Some.c (sym test_is ∙ c.in-Some.is) c.args.table.now c.make_test.new.table _ c.in_ok-condition.ensures.effect c.compile_tree-2.new.table (Ok c.in_ok-first.first) (subst (λ (xs : List Bound). Compiles c.args.scope.now.sig (map formula_of c.args.scope.now.bodies) c.args.below c.make_test.new.table c.compile_tree-2.new.table xs (formula_of c.body_of-body.result.now) (Ok c.in_ok-first.first)) inner_is c.in_ok-first.ensures.outcome) c.compile_cases.new.table (Ok c.in_ok-second.second) (subst (λ (xs : List CtorId). CompilesCases c.args.scope.now.sig (map formula_of c.args.scope.now.bodies) c.args.below c.compile_tree-2.new.table c.compile_cases.new.table c.args.env.now c.args.matched xs (cases_of_trees rest) (Ok c.in_ok-second.second)) later_is c.in_ok-second.ensures.outcome) c.in_ok-condition.condition c.in_ok-first.first c.in_ok-second.second c.in_ok-condition.ensures.core refl refl may
+pub compile_case-returns-in_err-bounds-clause-outcome : goal.compile_case-returns-in_err-bounds-clause-outcome
+compile_case-returns-in_err-bounds-clause-outcome t c =
+    let p = err_from_is_err_and c.from_residual.result c.from_residual.ensures.1 in
+    rw p.1 (compiles_nothing c.args.scope.now.sig (map formula_of c.args.scope.now.bodies) c.args.below c.args.table.now (bind (bound_by c.args.scope.now.sig c.args.pattern c.args.matched) c.args.env.now) (formula_of c.args.body.now) p.0 p.2)
 
-pub compile_cases-make-requires-clause-sorted : goal.compile_cases-make-requires-clause-sorted
-compile_cases-make-requires-clause-sorted t c =
-    let rest = take (length c.args.cases.now - 1) (drop 1 c.args.cases.now) in
-    let whole = cases_is c.args.cases.now rest c.case-item.result c.pattern_of-pattern.result (formula_of c.body_of-body.result.now) (rest_item c.args.cases.now c.case-item.result c.in-len1-up.len_at_least c.case-item.is) c.pattern_of-pattern.ensures.value c.body_of-body.ensures.value in
-    let may = subst (MayCases c.args.scope.now.sig (map formula_of c.args.scope.now.bodies) c.args.table.now c.args.below c.args.env.now c.args.matched (reverse c.args.earlier.now.items)) whole c.requires.ready in
-    let inner_is : c.deref-2.result.now ≡ bind (bound_by c.args.scope.now.sig c.pattern_of-pattern.result c.args.matched) c.args.env.now = c.deref-2.ensures.value ∙ c.in_ok-inner.ensures.bound ∙ ap (λ (xs : List Bound). bind xs c.args.env.now) (c.deref.ensures.value ∙ c.in_ok-bounds.ensures.bounds) in
-    let test_is : c.tested.result ≡ tested_by c.args.scope.now.sig (reverse c.args.earlier.now.items) c.pattern_of-pattern.result (are_none (cases_of_trees rest)) = c.tested.ensures.value ∙ ap (λ (xs : List CtorId). tested_by c.args.scope.now.sig (reverse xs) c.pattern_of-pattern.result c.is_empty.result) c.as_slice.ensures.value ∙ ap (tested_by c.args.scope.now.sig (reverse c.args.earlier.now.items) c.pattern_of-pattern.result) (c.is_empty.ensures ∙ none_is rest) in
-    let later_is : reverse c.push.new.self.items ≡ c.in-Some.c ∷ (reverse c.args.earlier.now.items) = ap (λ (xs : List CtorId). reverse xs) c.in_ok-push.ensures.items ∙ reverse-append c.args.earlier.now.items (c.in-Some.c ∷ []) in
-    made_sorted c.args.scope.now.sig (map formula_of c.args.scope.now.bodies) c.args.below c.args.env.now c.args.matched (reverse c.args.earlier.now.items) c.pattern_of-pattern.result (formula_of c.body_of-body.result.now) (cases_of_trees rest) c.in-Some.c (sym test_is ∙ c.in-Some.is) c.args.table.now c.make_test.new.table _ c.in_ok-condition.ensures.effect c.compile_tree-2.new.table (Ok c.in_ok-first.first) (subst (λ (xs : List Bound). Compiles c.args.scope.now.sig (map formula_of c.args.scope.now.bodies) c.args.below c.make_test.new.table c.compile_tree-2.new.table xs (formula_of c.body_of-body.result.now) (Ok c.in_ok-first.first)) inner_is c.in_ok-first.ensures.outcome) c.compile_cases.new.table (Ok c.in_ok-second.second) (subst (λ (xs : List CtorId). CompilesCases c.args.scope.now.sig (map formula_of c.args.scope.now.bodies) c.args.below c.compile_tree-2.new.table c.compile_cases.new.table c.args.env.now c.args.matched xs (cases_of_trees rest) (Ok c.in_ok-second.second)) later_is c.in_ok-second.ensures.outcome) c.in_ok-condition.condition c.in_ok-first.first c.in_ok-second.second c.in_ok-condition.ensures.core refl refl may (λ tree side trees sorts sort h. cases_sorted c.args.scope.now.sig (map formula_of c.args.scope.now.bodies) c.compile_tree-2.new.table c.args.below c.args.env.now c.args.matched (cases_of_trees rest) (c.in-Some.c ∷ (reverse c.args.earlier.now.items)) tree side trees sorts sort h)
+pub compile_case-returns-in_err-inner-clause-outcome : goal.compile_case-returns-in_err-inner-clause-outcome
+compile_case-returns-in_err-inner-clause-outcome t c =
+    let p = err_from_is_err_and c.from_residual-in_err-inner.result c.from_residual-in_err-inner.ensures.1 in
+    rw p.1 (compiles_nothing c.args.scope.now.sig (map formula_of c.args.scope.now.bodies) c.args.below c.args.table.now (bind (bound_by c.args.scope.now.sig c.args.pattern c.args.matched) c.args.env.now) (formula_of c.args.body.now) p.0 p.2)
 
-pub compile_cases-returns-clause-outcome : goal.compile_cases-returns-clause-outcome
-compile_cases-returns-clause-outcome t c =
-    let rest = take (length c.args.cases.now - 1) (drop 1 c.args.cases.now) in
-    let whole = cases_is c.args.cases.now rest c.case-item.result c.pattern_of-pattern.result (formula_of c.body_of-body.result.now) (rest_item c.args.cases.now c.case-item.result c.in-len1-up.len_at_least c.case-item.is) c.pattern_of-pattern.ensures.value c.body_of-body.ensures.value in
-    let may = subst (MayCases c.args.scope.now.sig (map formula_of c.args.scope.now.bodies) c.args.table.now c.args.below c.args.env.now c.args.matched (reverse c.args.earlier.now.items)) whole c.requires.ready in
-    let inner_is : c.deref-2.result.now ≡ bind (bound_by c.args.scope.now.sig c.pattern_of-pattern.result c.args.matched) c.args.env.now = c.deref-2.ensures.value ∙ c.in_ok-inner.ensures.bound ∙ ap (λ (xs : List Bound). bind xs c.args.env.now) (c.deref.ensures.value ∙ c.in_ok-bounds.ensures.bounds) in
-    let test_is : c.tested.result ≡ tested_by c.args.scope.now.sig (reverse c.args.earlier.now.items) c.pattern_of-pattern.result (are_none (cases_of_trees rest)) = c.tested.ensures.value ∙ ap (λ (xs : List CtorId). tested_by c.args.scope.now.sig (reverse xs) c.pattern_of-pattern.result c.is_empty.result) c.as_slice.ensures.value ∙ ap (tested_by c.args.scope.now.sig (reverse c.args.earlier.now.items) c.pattern_of-pattern.result) (c.is_empty.ensures ∙ none_is rest) in
-    let later_is : reverse c.push.new.self.items ≡ c.in-Some.c ∷ (reverse c.args.earlier.now.items) = ap (λ (xs : List CtorId). reverse xs) c.in_ok-push.ensures.items ∙ reverse-append c.args.earlier.now.items (c.in-Some.c ∷ []) in
-    subst (λ (cs : Cases). CompilesCases c.args.scope.now.sig (map formula_of c.args.scope.now.bodies) c.args.below c.args.table.now c.make.new.table c.args.env.now c.args.matched (reverse c.args.earlier.now.items) cs c.make.result) (sym whole) (case_made c.args.scope.now.sig (map formula_of c.args.scope.now.bodies) c.args.below c.args.env.now c.args.matched (reverse c.args.earlier.now.items) c.pattern_of-pattern.result (formula_of c.body_of-body.result.now) (cases_of_trees rest) c.in-Some.c (sym test_is ∙ c.in-Some.is) c.args.table.now c.make_test.new.table _ c.in_ok-condition.ensures.effect c.compile_tree-2.new.table (Ok c.in_ok-first.first) (subst (λ (xs : List Bound). Compiles c.args.scope.now.sig (map formula_of c.args.scope.now.bodies) c.args.below c.make_test.new.table c.compile_tree-2.new.table xs (formula_of c.body_of-body.result.now) (Ok c.in_ok-first.first)) inner_is c.in_ok-first.ensures.outcome) c.compile_cases.new.table (Ok c.in_ok-second.second) (subst (λ (xs : List CtorId). CompilesCases c.args.scope.now.sig (map formula_of c.args.scope.now.bodies) c.args.below c.compile_tree-2.new.table c.compile_cases.new.table c.args.env.now c.args.matched xs (cases_of_trees rest) (Ok c.in_ok-second.second)) later_is c.in_ok-second.ensures.outcome) c.in_ok-condition.condition c.in_ok-first.first c.in_ok-second.second c.in_ok-condition.ensures.core refl refl c.make.new.table c.make.result c.make.ensures.core c.make.ensures.effect)
+pub compile_case-compile_tree-requires : goal.compile_case-compile_tree-requires
+compile_case-compile_tree-requires t c =
+    let inner_is : c.deref-2.result.now ≡ bind (bound_by c.args.scope.now.sig c.args.pattern c.args.matched) c.args.env.now = c.deref-2.ensures.value ∙ c.in_ok-inner.ensures.bound ∙ ap (λ (xs : List Bound). bind xs c.args.env.now) (c.deref.ensures.value ∙ c.in_ok-bounds.ensures.bounds) in
+    (omega (arith, c.decreases), (c.requires.state, (subst (λ (xs : List Bound). MayCompile c.args.scope.now.sig (map formula_of c.args.scope.now.bodies) c.args.table.now c.args.below xs (formula_of c.args.body.now)) (sym inner_is) c.requires.ready, c.requires.noted)))
 
-pub compile_cases-returns-clause-state : goal.compile_cases-returns-clause-state
-compile_cases-returns-clause-state t c =
-    ok_always _ c.make.result (state_made c.args.scope.now.sig (map formula_of c.args.scope.now.bodies) c.args.rows.now c.args.below c.compile_cases.new.table c.make.new.table c.compile_cases.new.known _ (choice (term_at c.compile_cases.new.table c.in_ok-condition.condition) (term_at c.compile_cases.new.table c.in_ok-first.first) (term_at c.compile_cases.new.table c.in_ok-second.second)) c.make.ensures.effect c.in_ok-second.ensures.state)
+pub compile_case-returns-clause-outcome : goal.compile_case-returns-clause-outcome
+compile_case-returns-clause-outcome t c =
+    let inner_is : c.deref-2.result.now ≡ bind (bound_by c.args.scope.now.sig c.args.pattern c.args.matched) c.args.env.now = c.deref-2.ensures.value ∙ c.in_ok-inner.ensures.bound ∙ ap (λ (xs : List Bound). bind xs c.args.env.now) (c.deref.ensures.value ∙ c.in_ok-bounds.ensures.bounds) in
+    subst (λ (xs : List Bound). Compiles c.args.scope.now.sig (map formula_of c.args.scope.now.bodies) c.args.below c.args.table.now c.compile_tree.new.table xs (formula_of c.args.body.now) c.compile_tree.result) inner_is c.compile_tree.ensures.outcome
 
 pub compile_plain-first_note-note-requires : goal.compile_plain-first_note-note-requires
 compile_plain-first_note-note-requires t c = record { some = first_inside (IsNoted c.args.scope.now.sig (uses_below c.args.scope.now.sig (map formula_of c.args.scope.now.bodies) c.args.below) (formula_of c.args.tree.now)) c.args.notes.now c.requires.noted.1 }

@@ -1,12 +1,13 @@
-use Rattle.std.proofs.Common.{◌+◌, map, length}
+use Rattle.std.proofs.Common.{◌+◌, map, length, reverse}
 use Rattle.ct_terms.specs.TreeFormula.{formula_of, formulas_of_trees}
 use Rattle.ct_terms.specs.Occurrence.{uses_below}
-use Rattle.ct_compile.specs.Noted.{AreNoted, AreNotedWhere}
+use Rattle.ct_compile.specs.Noted.{AreNoted, AreNotedWhere, CasesNoted}
 use Rattle.ct_compile.specs.Calling.{IsState}
 use Rattle.ct_compile.specs.CaseFormula.{cases_of_trees}
 use Rattle.ct_compile.specs.Weight.{weight, weights, case_weights, weights_below}
 use Rattle.ct_compile.proofs.BindingLemmas.{Completes}
 use Rattle.ct_compile.proofs.CycleLemmas.{Collects}
+use Rattle.ct_compile.proofs.ChoosesLemmas.{Chooses}
 use Rattle.ct_compile.proofs.terms.+compile.Given as goal
 
 abbrev pub decreases-compile_tree : goal.decreases-compile_tree
@@ -47,3 +48,12 @@ invariant-compile_bound-loop-rest l = Completes l.scope.sig (map formula_of l.sc
 
 abbrev pub decreases-compile_bound-loop-rest : goal.decreases-compile_bound-loop-rest
 decreases-compile_bound-loop-rest l = length l.rest
+
+abbrev pub decreases-compile_case : goal.decreases-compile_case
+decreases-compile_case l = weight (weights_below (map formula_of l.scope.now.bodies) l.below) (formula_of l.body.now) + 1
+
+abbrev pub invariant-compile_cases-loop-rest : goal.invariant-compile_cases-loop-rest
+invariant-compile_cases-loop-rest l = Chooses l.scope.sig (map formula_of l.scope.bodies) l.below l.initial.table l.table l.env l.matched (cases_of_trees l.cases) l.made.items (reverse l.earlier.items) (cases_of_trees l.rest) × IsState l.scope.sig (map formula_of l.scope.bodies) l.below l.rows l.table l.known × CasesNoted l.scope.sig (uses_below l.scope.sig (map formula_of l.scope.bodies) l.below) (reverse l.earlier.items) (cases_of_trees l.rest) l.left
+
+abbrev pub decreases-compile_cases-loop-rest : goal.decreases-compile_cases-loop-rest
+decreases-compile_cases-loop-rest l = length l.rest

@@ -1,0 +1,141 @@
+-- The cases of a `match`, as far as their tests and bodies are made.
+use Rattle.std.proofs.Common.{◌≡◌, ℕ, ◌+◌, ◌<◌, ◌≤◌, List, [], ◌∷◌, ◌++◌, length, Result, Ok, Err, IfOk, IsErrOf, refl, sym, ap, subst, ◌∙◌, arith}
+use Rattle.std.specs.List.{AllByRecursion}
+use Rattle.std.proofs.lemmas.Result.{IfOk-weaker}
+use Rattle.ct_sorts.specs.declared.ids.CtorId.{CtorId}
+use Rattle.ct_sorts.specs.declared.ids.SortId.{SortId}
+use Rattle.ct_sorts.specs.Declarations.{Declarations}
+use Rattle.ct_terms.specs.declared.ids.TermId.{TermId}
+use Rattle.ct_terms.specs.declared.error.TermError.{TermError}
+use Rattle.ct_terms.specs.declared.error.TermError.TheVariants.{Full}
+use Rattle.ct_terms.specs.declared.tree.Pattern.{Pattern}
+use Rattle.ct_terms.specs.Terms.{Terms}
+use Rattle.ct_terms.specs.CoreTree.{CoreTree, subtrees, term_at}
+use Rattle.ct_terms.specs.CoreSorts.{HasTreeSort}
+use Rattle.ct_terms.specs.Formula.{Formula, Cases, no_cases, with_case}
+use Rattle.ct_terms.specs.Compiled.{compiled_cases}
+use Rattle.ct_compile.specs.declared.bound.Bound.{Bound}
+use Rattle.ct_compile.specs.declared.choices.Guarded.{Guarded}
+use Rattle.ct_compile.specs.Effect.{Stands, IsKept, Within, Effect}
+use Rattle.ct_compile.specs.Ready.{given}
+use Rattle.ct_compile.specs.Chosen.{chosen_from, IsGuardedIn}
+use Rattle.ct_compile.specs.Matching.{AreCases, MayCases, CompilesCases}
+use Rattle.ct_compile.specs.Weight.{weight, case_weights, weights_below}
+use Rattle.ct_compile.proofs.EffectLemmas.{effect_none, effect_then}
+use Rattle.ct_compile.proofs.WithinLemmas.{within_subtrees}
+use Rattle.ct_compile.proofs.OperatorLemmas.{stands_as}
+use Rattle.ct_compile.proofs.MatchLemmas.{IsChosen, cases_sorted}
+use Rattle.ct_compile.proofs.ChosenLemmas.{chosen_last, within_chosen, guarded_stay, same_chosen, all_after}
+
+-- for these terms of the variables: the choices that are made, before what the cases that are left give, are the whole
+pub record ChoosesFor (d : Declarations) (bodies : List Formula) (n : ℕ) (old table : Terms) (env : List Bound) (matched : Bound) (all : Cases) (made : List Guarded) (earlier : List CtorId) (rest : Cases) (tree : CoreTree) (side : SortId) (trees : List CoreTree) (sorts : List SortId) (sort : SortId) : Type 0 where
+  pub ready : AreCases d bodies table n env matched earlier rest tree side trees sorts sort
+  pub below : AllByRecursion (IsGuardedIn table) made
+  pub same : chosen_from (term_at table) made (compiled_cases d (given d bodies n) trees tree earlier rest) ≡ compiled_cases d (given d bodies n) trees tree [] all
+  pub effect : (allowed : List CoreTree) → Within allowed (compiled_cases d (given d bodies n) trees tree [] all) → Effect d allowed old table ⊥
+
+pub record Chooses (d : Declarations) (bodies : List Formula) (n : ℕ) (old table : Terms) (env : List Bound) (matched : Bound) (all : Cases) (made : List Guarded) (earlier : List CtorId) (rest : Cases) : Type 0 where
+  pub may : MayCases d bodies old n env matched [] all
+  pub for : (tree : CoreTree) (side : SortId) (trees : List CoreTree) (sorts : List SortId) (sort : SortId) → AreCases d bodies old n env matched [] all tree side trees sorts sort → ChoosesFor d bodies n old table env matched all made earlier rest tree side trees sorts sort
+  pub lighter : case_weights (weights_below bodies n) rest ≤ case_weights (weights_below bodies n) all
+
+pub chooses_start : (d : Declarations) (bodies : List Formula) (n : ℕ) (old : Terms) (env : List Bound) (matched : Bound) (all : Cases) → MayCases d bodies old n env matched [] all → Chooses d bodies n old old env matched all [] [] all
+chooses_start d bodies n old env matched all may = record {
+  may = may;
+  for = λ tree side trees sorts sort h. record {
+    ready = h;
+    below = tt;
+    same = refl;
+    effect = λ allowed w. effect_none d allowed old ⊥ h.setting.kept (λ x. x);
+  };
+  lighter = omega arith;
+}
+
+module _ (d : Declarations) (bodies : List Formula) (n : ℕ) (old table : Terms) (env : List Bound) (matched : Bound) (all : Cases) (made : List Guarded) (earlier : List CtorId) (rest : Cases) (h : Chooses d bodies n old table env matched all made earlier rest) where
+  abbrev whole : CoreTree → List CoreTree → CoreTree
+  whole tree trees = compiled_cases d (given d bodies n) trees tree [] all
+
+  abbrev later : CoreTree → List CoreTree → CoreTree
+  later tree trees = compiled_cases d (given d bodies n) trees tree earlier rest
+
+  -- the cases that are left may be compiled
+  pub chooses_may : MayCases d bodies table n env matched earlier rest
+  chooses_may = (h.may.0, h.may.1, h.may.2, h.may.3, h.may.4, (h.for h.may.0 h.may.1 h.may.2 h.may.3 h.may.4 h.may.5).ready)
+
+  later_effect : (new : Terms) (r : Result TermId TermError) → CompilesCases d bodies n table new env matched earlier rest r → (tree : CoreTree) (side : SortId) (trees : List CoreTree) (sorts : List SortId) (sort : SortId) (allowed : List CoreTree) → AreCases d bodies old n env matched [] all tree side trees sorts sort → Within allowed (whole tree trees) → Effect d allowed old new (IsErrOf r Full)
+  later_effect new r one tree side trees sorts sort allowed k w =
+      let f = h.for tree side trees sorts sort k in
+      effect_then d allowed old table new ⊥ _ (f.effect allowed w)
+      (one.effect tree side trees sorts sort allowed f.ready (within_chosen allowed (term_at table) made (later tree trees) (subst (Within allowed) (sym f.same) w)))
+
+  -- they fail
+  pub chooses_failed : (new : Terms) (e : TermError) → CompilesCases d bodies n table new env matched earlier rest (Err e) → CompilesCases d bodies n old new env matched [] all (Err e)
+  chooses_failed new e one = record {
+    core = λ tree side trees sorts sort k. tt;
+    effect = λ tree side trees sorts sort allowed k w. later_effect new (Err e) one tree side trees sorts sort allowed k w;
+  }
+
+  -- the body of the last is made
+  module _ (mid : Terms) (v : TermId) (one : CompilesCases d bodies n table mid env matched earlier rest (Ok v)) where
+    last_effect : (tree : CoreTree) (side : SortId) (trees : List CoreTree) (sorts : List SortId) (sort : SortId) → AreCases d bodies old n env matched [] all tree side trees sorts sort → Effect d (subtrees (later tree trees)) table mid (IsErrOf (Ok v) Full)
+    last_effect tree side trees sorts sort k = one.effect tree side trees sorts sort (subtrees (later tree trees)) (h.for tree side trees sorts sort k).ready (within_subtrees (later tree trees))
+
+    layer : (tree : CoreTree) (side : SortId) (trees : List CoreTree) (sorts : List SortId) (sort : SortId) → AreCases d bodies old n env matched [] all tree side trees sorts sort → chosen_from (term_at mid) made (term_at mid v) ≡ whole tree trees
+    layer tree side trees sorts sort k =
+        let f = h.for tree side trees sorts sort k in
+        let e = last_effect tree side trees sorts sort k in
+        let s : Stands mid v (later tree trees) = one.core tree side trees sorts sort f.ready in
+        ap (chosen_from (term_at mid) made) s.1 ∙ same_chosen d table mid made (later tree trees) e.grown e.kept f.below ∙ f.same
+
+    pub last_kept : IsKept d mid
+    last_kept = (last_effect h.may.0 h.may.1 h.may.2 h.may.3 h.may.4 h.may.5).kept
+
+    pub last_below : AllByRecursion (IsGuardedIn mid) made
+    last_below = guarded_stay table mid made (last_effect h.may.0 h.may.1 h.may.2 h.may.3 h.may.4 h.may.5).grown (h.for h.may.0 h.may.1 h.may.2 h.may.3 h.may.4 h.may.5).below
+
+    pub last_inside : v.0 < length mid
+    last_inside =
+        let s : Stands mid v (later h.may.0 h.may.2) = one.core h.may.0 h.may.1 h.may.2 h.may.3 h.may.4 (h.for h.may.0 h.may.1 h.may.2 h.may.3 h.may.4 h.may.5).ready in
+        s.0
+
+    pub last_sorted : (sort : SortId) × HasTreeSort d (chosen_from (term_at mid) made (term_at mid v)) sort
+    last_sorted = (h.may.4, subst (λ (x : CoreTree). HasTreeSort d x h.may.4) (sym (layer h.may.0 h.may.1 h.may.2 h.may.3 h.may.4 h.may.5)) (cases_sorted d bodies old n env matched all [] h.may.0 h.may.1 h.may.2 h.may.3 h.may.4 h.may.5))
+
+    -- the choices are made
+    pub chooses_end : (new : Terms) (r : Result TermId TermError) → IfOk r (λ x. Stands new x (chosen_from (term_at mid) made (term_at mid v))) → ((allowed : List CoreTree) → Within allowed (chosen_from (term_at mid) made (term_at mid v)) → Effect d allowed mid new (IsErrOf r Full)) → CompilesCases d bodies n old new env matched [] all r
+    chooses_end new r core effect = record {
+      core = λ tree side trees sorts sort k. IfOk-weaker r _ (λ x. Stands new x (whole tree trees)) (λ x s. stands_as new x _ _ (layer tree side trees sorts sort k) s) core;
+      effect = λ tree side trees sorts sort allowed k w.
+          effect_then d allowed old mid new _ _ (later_effect mid (Ok v) one tree side trees sorts sort allowed k w)
+          (effect allowed (subst (Within allowed) (sym (layer tree side trees sorts sort k)) w));
+    }
+
+-- one more case is made
+module _ (d : Declarations) (bodies : List Formula) (n : ℕ) (old table : Terms) (env : List Bound) (matched : Bound) (all : Cases) (made : List Guarded) (earlier : List CtorId) (p : Pattern) (body : Formula) (rest : Cases) (h : Chooses d bodies n old table env matched all made earlier (with_case p body rest)) where
+  pub chooses_lighter : weight (weights_below bodies n) body + 1 < case_weights (weights_below bodies n) all
+  chooses_lighter = let k = h.lighter in omega (arith, k)
+
+  pub chooses_more : (new : Terms) (c : CtorId) (g : Guarded) → ((tree : CoreTree) (side : SortId) (trees : List CoreTree) (sorts : List SortId) (sort : SortId) → AreCases d bodies table n env matched earlier (with_case p body rest) tree side trees sorts sort → IsChosen d bodies n env matched earlier c (with_case p body rest) rest table new g.condition g.body tree side trees sorts sort) → Chooses d bodies n old new env matched all (made ++ g ∷ []) (c ∷ earlier) rest
+  chooses_more new c g chosen = record {
+    may = h.may;
+    for = λ tree side trees sorts sort k.
+        let f = h.for tree side trees sorts sort k in
+        let s = chosen tree side trees sorts sort f.ready in
+        let now = compiled_cases d (given d bodies n) trees tree earlier (with_case p body rest) in
+        let later = compiled_cases d (given d bodies n) trees tree (c ∷ earlier) rest in
+        record {
+          ready = s.ready;
+          below = all_after (IsGuardedIn new) made g (guarded_stay table new made s.grown f.below) (s.condition, s.body);
+          same =
+              chosen_last (term_at new) made g later
+              ∙ ap (chosen_from (term_at new) made) (sym s.same)
+              ∙ same_chosen d table new made now s.grown s.kept f.below
+              ∙ f.same;
+          effect = λ allowed w. effect_then d allowed old table new ⊥ ⊥ (f.effect allowed w) (s.effect allowed (within_chosen allowed (term_at table) made now (subst (Within allowed) (sym f.same) w)));
+        };
+    lighter = let k = h.lighter in omega (arith, k);
+  }
+
+-- no case is left
+pub chooses_none : (d : Declarations) (bodies : List Formula) (n : ℕ) (old table : Terms) (env : List Bound) (matched : Bound) (all : Cases) (made : List Guarded) (earlier : List CtorId) → Chooses d bodies n old table env matched all made earlier no_cases → ⊥
+chooses_none d bodies n old table env matched all made earlier h = (h.for h.may.0 h.may.1 h.may.2 h.may.3 h.may.4 h.may.5).ready.some
