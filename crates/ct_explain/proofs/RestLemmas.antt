@@ -3,7 +3,6 @@ use Rattle.std.proofs.Common.{◌≡◌, ℕ, zero, suc, ◌+◌, ◌-◌, ◌<�
 use Rattle.std.specs.Bool.{OnTrue, OnFalse}
 use Rattle.std.specs.List.{AllZip, AllByRecursion, Contains}
 use Rattle.std.proofs.lemmas.Option.{none-some, same_Some, slice_get-get_or, slice_get_within}
-use Rattle.ct_sorts.specs.declared.ids.CtorId.{CtorId}
 use Rattle.ct_sorts.specs.Declarations.{Declarations}
 use Rattle.ct_terms.specs.declared.ids.TermId.{TermId}
 use Rattle.ct_terms.specs.declared.ids.Lit.{Lit}
@@ -12,7 +11,7 @@ use Rattle.ct_terms.specs.declared.term.Core.TheVariants as core
 use Rattle.ct_terms.specs.Children.{core_children, HasArgumentsBelow}
 use Rattle.ct_terms.specs.Terms.{Terms, Has, AreOrdered}
 use Rattle.ct_rules.specs.declared.equation.Equation.{Equation}
-use Rattle.ct_rules.specs.Rules.{Equations, truth_term}
+use Rattle.ct_rules.specs.Rules.{Equations}
 use Rattle.ct_rules.specs.Uniqueness.{AreMatched, IsPairMatched, AreAllMatched}
 use Rattle.ct_congr.specs.declared.merge.Reason.{Reason}
 use Rattle.ct_congr.specs.declared.merge.Reason.TheVariants.{Hyp, Cong, Inject, Sel, Test, Expand, EqualIn, EqualOut, Neg, Single, Unique}
@@ -23,7 +22,7 @@ use Rattle.ct_congr.specs.State.{State}
 use Rattle.ct_explain.specs.declared.forest.Link.{Link}
 use Rattle.ct_explain.specs.Trees.{HasRoot, IsForestOf, IsForestOfClasses, IsWay, IsRoute}
 use Rattle.ct_explain.specs.Premises.{IsOver, HasNoPremise}
-use Rattle.ct_explain.specs.Resting.{IsPaved, IsFirstMatch, IsDetour, IsMatching, IsPavedBy, IsEntryPaved, AreEntriesPaved, AreArgumentsPaved, IsEntry, AreEntries, AreArgumentsMatched, IsLone, Rests, IsMarked, IsMarkedBelow, AreMarkedMore, HasNumber, IsReady}
+use Rattle.ct_explain.specs.Resting.{IsPaved, IsDetour, IsMatching, IsPavedBy, IsEntryPaved, AreEntriesPaved, AreArgumentsPaved, IsEntry, AreEntries, AreArgumentsMatched, IsLone, Rests, IsMarked, IsMarkedBelow, AreMarkedMore, HasNumber, IsReady}
 use Rattle.ct_explain.proofs.ListLemmas.{nat_cases, slice_get-from_Contains, Contains-from_slice_get, slice_get-set_same, slice_get-set_other}
 use Rattle.ct_explain.proofs.ReasonLemmas.{one_under}
 use Rattle.ct_explain.proofs.StepLemmas.{Has-same}

@@ -1,4 +1,4 @@
-use Rattle.std.proofs.Common.{ℕ, ◌<◌, ◌∙◌, Bool, List, Option, arith, ap, sym, subst, length, take}
+use Rattle.std.proofs.Common.{ℕ, ◌<◌, Bool, List, Option, arith, ap, sym, subst, length, take}
 use Rattle.std.specs.List.{Contains}
 use Rattle.std.proofs.lemmas.Option.{slice_get_within}
 use Rattle.ct_congr.specs.declared.merge.Merge.{Merge}

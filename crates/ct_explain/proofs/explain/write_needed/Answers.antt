@@ -1,4 +1,4 @@
-use Rattle.std.proofs.Common.{◌∙◌, ◌<◌, ap, arith, length, None}
+use Rattle.std.proofs.Common.{◌∙◌, ap, arith, length, None}
 use Rattle.std.proofs.lemmas.List.{length-replicate}
 use Rattle.ct_explain.proofs.WritingLemmas.{IsGrown-none, IsGrown-then}
 use Rattle.ct_explain.proofs.ExplainedLemmas.{AreDone-none}

@@ -5,8 +5,6 @@ use Rattle.ct_explain.proofs.WritingLemmas.{IsGrown-then}
 use Rattle.ct_explain.proofs.StepLemmas.{lone_step}
 use Rattle.ct_terms.specs.Terms.{AreOrdered}
 use Rattle.ct_congr.specs.Merges.{AreConnected}
-use Rattle.ct_congr.specs.Reasons.{IsReason}
-use Rattle.ct_terms.specs.declared.ids.TermId.{TermId}
 use Rattle.ct_explain.specs.Premises.{IsConnectedPremise}
 use Rattle.ct_explain.specs.Resting.{IsLone}
 use Rattle.ct_explain.proofs.RestLemmas.{lone_inside}

@@ -1,4 +1,4 @@
-use Rattle.std.proofs.Common.{◌<◌, length, subst}
+use Rattle.std.proofs.Common.{◌<◌, subst}
 use Rattle.std.proofs.lemmas.Option.{slice_get-get_or}
 use Rattle.ct_explain.proofs.WritingLemmas.{IsGrown-then, AreDone-later}
 use Rattle.ct_explain.proofs.PairLemmas.{ToldEntries-next}

@@ -1,0 +1,235 @@
+//! Answers over the table of these terms, which begins with `true` and `false`, and under these
+//! hypotheses, literals `n` or `(not n)`. `(classes (TERM ..) (LITERAL ..))` closes the classes, and
+//! shows `quiet` or `clash` and each class of two or more terms. With the same parts `order` shows
+//! whether the classes of datatypes have an order or a `cycle`, or that they `clash`; `explain`
+//! explains all classes and shows the number of steps and how many equations are accepted; and
+//! `conflict` shows the number of steps to the `clash` or the `cycle`, and whether the line that
+//! they make is accepted. `(why (TERM ..) (LITERAL ..) A B)` explains one equation.
+ghost use Rattle.ct_card.specs.Sizes.{AreSizes};
+ghost use Rattle.ct_terms.specs.Terms.{AreSorted};
+ghost use Rattle.ct_congr.specs.State.{IsAnswer};
+
+use crate::conflict::{clash, cycle};
+use crate::explain::{Explained, contradict, explain, explain_all, forest_of, state_all};
+use crate::judge::{clause_of, is_accepted};
+use crate::numbers::term_of;
+use crate::prepare::{Prepared, prepare};
+use crate::show::show_classes;
+use ct_acyclic::{OrderError, order};
+use ct_cases::CaseError;
+use ct_congr::{Classes, Closed};
+use ct_explain::EqProof;
+use ct_log::Close;
+use ct_sexpr::Sexpr;
+use ct_sorts::Signature;
+use ct_terms::TermId;
+use std::alloc::Global;
+
+/// Answers a case.
+pub fn answer(
+    alloc: Global,
+    sig: &Signature,
+    kind: &str,
+    parts: &[Sexpr],
+    out: &mut String,
+) -> Result<(), CaseError> {
+    match parts {
+        [terms, hyps, rest @ ..] => {
+            let prepared = prepare(alloc, sig, terms, hyps)?;
+            respond(alloc, sig, &prepared, kind, rest, out)
+        }
+        _ => Err(CaseError::Bad),
+    }
+}
+
+/// Answers a case over these classes.
+fn respond(
+    alloc: Global,
+    sig: &Signature,
+    prepared: &Prepared,
+    kind: &str,
+    parts: &[Sexpr],
+    out: &mut String,
+) -> Result<(), CaseError>
+    requires sizes { AreSizes sig.now prepared.now.sizes.value }
+    requires sorted { AreSorted sig.now prepared.now.table.value }
+    requires answer { IsAnswer prepared.now.classes.value prepared.now.closed }
+{
+    match (kind, parts) {
+        ("classes", []) => show_classes(alloc, &prepared.classes, prepared.closed, out),
+        ("order", []) => show_order(alloc, &prepared.classes, prepared.closed, out),
+        ("explain", []) => explain_classes(alloc, sig, prepared, out),
+        ("why", [a, b]) => explain_terms(alloc, sig, prepared, term_of(a)?, term_of(b)?, out),
+        ("conflict", []) => show_conflict(alloc, sig, prepared, out),
+        _ => Err(CaseError::Bad),
+    }
+}
+
+/// Shows whether the classes of datatypes have an order.
+fn show_order(
+    alloc: Global,
+    classes: &Classes,
+    closed: Closed,
+    out: &mut String,
+) -> Result<(), CaseError>
+    requires answer { IsAnswer classes.now closed }
+{
+    match closed {
+        Closed::Clash(_, _) => Ok(out.push_str("clash")?),
+        Closed::Quiet => match order(alloc, classes) {
+            Ok(_) => Ok(out.push_str("order yes")?),
+            Err(OrderError::Cycle(_)) => Ok(out.push_str("order cycle")?),
+            Err(OrderError::NoMemory) => Err(CaseError::NoMemory),
+        },
+    }
+}
+
+/// Explains all classes.
+fn explain_classes(
+    alloc: Global,
+    sig: &Signature,
+    prepared: &Prepared,
+    out: &mut String,
+) -> Result<(), CaseError>
+    requires sizes { AreSizes sig.now prepared.now.sizes.value }
+    requires sorted { AreSorted sig.now prepared.now.table.value }
+{
+    let forest = forest_of(alloc, &prepared.classes)?;
+    let mut proof = EqProof {
+        steps: Vec::new(alloc),
+    };
+    let all = explain_all(alloc, &prepared.classes, &forest, &mut proof)?;
+    show_explained(alloc, sig, prepared, &all, proof, out)
+}
+
+/// Explains the equation of two terms.
+fn explain_terms(
+    alloc: Global,
+    sig: &Signature,
+    prepared: &Prepared,
+    left: TermId,
+    right: TermId,
+    out: &mut String,
+) -> Result<(), CaseError>
+    requires sizes { AreSizes sig.now prepared.now.sizes.value }
+    requires sorted { AreSorted sig.now prepared.now.table.value }
+{
+    let forest = forest_of(alloc, &prepared.classes)?;
+    let mut proof = EqProof {
+        steps: Vec::new(alloc),
+    };
+    let step = explain(&prepared.classes, &forest, left, right, &mut proof)?;
+    let all = [Explained { left, right, step }];
+    show_explained(alloc, sig, prepared, &all, proof, out)
+}
+
+/// Shows how many steps the explanations have, and how many equations are accepted.
+fn show_explained(
+    alloc: Global,
+    sig: &Signature,
+    prepared: &Prepared,
+    all: &[Explained],
+    proof: EqProof,
+    out: &mut String,
+) -> Result<(), CaseError>
+    requires sizes { AreSizes sig.now prepared.now.sizes.value }
+    requires sorted { AreSorted sig.now prepared.now.table.value }
+{
+    let steps = proof.steps.len();
+    let count = all.len();
+    if are_accepted(alloc, sig, prepared, all, proof)? {
+        out.push_str(format!(in alloc; "explained {steps} accepted {count}")?.as_str())?;
+    } else {
+        out.push_str(format!(in alloc; "explained {steps} refused {count}")?.as_str())?;
+    }
+    Ok(())
+}
+
+/// Whether the line is accepted that has these explanations.
+fn are_accepted(
+    alloc: Global,
+    sig: &Signature,
+    prepared: &Prepared,
+    all: &[Explained],
+    mut proof: EqProof,
+) -> Result<bool, CaseError>
+    requires sizes { AreSizes sig.now prepared.now.sizes.value }
+    requires sorted { AreSorted sig.now prepared.now.table.value }
+{
+    state_all(all, &mut proof)?;
+    let close = contradict(&mut proof)?;
+    let clause = clause_of(alloc, &prepared.hyps, Some(TermId(0)))?;
+    is_accepted(
+        alloc,
+        sig,
+        &prepared.sizes,
+        &prepared.table,
+        clause,
+        proof,
+        close,
+    )
+}
+
+/// Shows the steps to a contradiction of the classes, and whether their line is accepted.
+fn show_conflict(
+    alloc: Global,
+    sig: &Signature,
+    prepared: &Prepared,
+    out: &mut String,
+) -> Result<(), CaseError>
+    requires sizes { AreSizes sig.now prepared.now.sizes.value }
+    requires sorted { AreSorted sig.now prepared.now.table.value }
+    requires answer { IsAnswer prepared.now.classes.value prepared.now.closed }
+{
+    let mut proof = EqProof {
+        steps: Vec::new(alloc),
+    };
+    match conflict_of(alloc, &prepared.classes, prepared.closed, &mut proof, out)? {
+        Some(close) => {
+            let steps = proof.steps.len();
+            out.push_str(format!(in alloc; " {steps} ")?.as_str())?;
+            let clause = clause_of(alloc, &prepared.hyps, None)?;
+            let answer = is_accepted(
+                alloc,
+                sig,
+                &prepared.sizes,
+                &prepared.table,
+                clause,
+                proof,
+                close,
+            )?;
+            Ok(out.push_str(if answer { "accepted" } else { "refused" })?)
+        }
+        None => Ok(()),
+    }
+}
+
+/// Explains what contradicts itself, and shows what it is.
+fn conflict_of(
+    alloc: Global,
+    classes: &Classes,
+    closed: Closed,
+    proof: &mut EqProof,
+    out: &mut String,
+) -> Result<Option<Close>, CaseError>
+    requires answer { IsAnswer classes.now closed }
+{
+    let forest = forest_of(alloc, classes)?;
+    match closed {
+        Closed::Clash(a, b) => {
+            out.push_str("clash")?;
+            Ok(Some(clash(classes, &forest, a, b, proof)?))
+        }
+        Closed::Quiet => match order(alloc, classes) {
+            Ok(_) => {
+                out.push_str("none")?;
+                Ok(None)
+            }
+            Err(OrderError::Cycle(hops)) => {
+                out.push_str("cycle")?;
+                Ok(Some(cycle(alloc, classes, &forest, &hops, proof)?))
+            }
+            Err(OrderError::NoMemory) => Err(CaseError::NoMemory),
+        },
+    }
+}
