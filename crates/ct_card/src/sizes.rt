@@ -27,7 +27,7 @@ use ct_values::{Graph, NodeId};
 use std::alloc::Global;
 use std::marker::Model;
 
-/// How many values each sort of a signature has: one, finitely many, or infinitely many (Reynolds
+/// The size of each sort of a signature by its declarations: one value, finite, or infinite (Reynolds
 /// and Blanchette 2015). Beside the sizes it keeps by which constructors default values are built.
 #[derive(Debug, Drop)]
 pub struct Sizes {

@@ -1,5 +1,5 @@
-//! Which sorts have finitely many values: the single ones, and the least set that has each sort
-//! with constructors all of whose fields have sorts of the set. All others are infinite.
+//! Which sorts are not infinite: the single ones, and the least set that has each sort with
+//! constructors all of whose fields have sorts of the set.
 ghost use Rattle.std.specs.Prelude.{◌≡◌, length, IfOk};
 ghost use Rattle.ct_sorts.specs.Declarations.{IsSort};
 ghost use Rattle.ct_card.specs.Ranked.{AreSmall};
@@ -12,7 +12,7 @@ use crate::several::fact;
 use ct_sorts::{Signature, SortId, structure};
 use std::alloc::Global;
 
-/// The ranks of the sorts of finitely many values, by those of the sorts of more than one.
+/// The ranks of the sorts that are not infinite, by those of the sorts of more than one value.
 pub(crate) fn small_ranks(
     alloc: Global,
     sig: &Signature,

@@ -53,7 +53,7 @@ impl Model for Classes {
 }
 
 impl Classes {
-    /// The classes of the terms of the table in which the hypotheses hold, and nothing else is merged.
+    /// The classes of the terms of the table in which the hypotheses hold.
     /// The classes hold copies of the signature and of the table.
     pub fn new(
         alloc: Global,

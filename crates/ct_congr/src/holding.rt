@@ -22,7 +22,7 @@ use ct_rules::{Equation, derivations};
 use ct_terms::{Lit, TermId, TermTable};
 use std::alloc::Global;
 
-/// The classes of the terms of the table in which the hypotheses hold, and nothing else is merged.
+/// The classes of the terms of the table in which the hypotheses hold.
 pub(crate) fn hypothetical(
     alloc: Global,
     table: &TermTable,

@@ -17,7 +17,7 @@ use Rattle.ct_congr.specs.declared.merge.Reason.TheVariants as reason
 use Rattle.ct_congr.specs.declared.merge.Merge.{Merge}
 use Rattle.ct_congr.specs.Merges.{AreConnected}
 use Rattle.ct_explain.specs.declared.premises.Rule.TheVariants.{Sel, Test, EqualIn, Neg}
-use Rattle.ct_explain.specs.Premises.{IsOver, HasArgument, HasReason, HasNoPremise, IsPremiseIn, IsNegationPremise, IsConnectedPremise}
+use Rattle.ct_explain.specs.Premises.{IsOver, HasArguments, HasReason, HasNoPremise, IsPremiseIn, IsNegationPremise, IsConnectedPremise}
 
 -- an equation that a step gave is that of equal sides
 pub Gave-same : (given : List Equation) (i : ℕ) (x y u v : TermId) → u ≡ x → v ≡ y → Gave given i x y → Gave given i u v
@@ -99,7 +99,7 @@ IfNone-by P Q None p f = f p
 IfNone-by P Q (Some x) p f = tt
 
 -- a term with no argument
-pub no_argument : (node : Core) → ((s : SelId) (u : TermId) → node ≡ core.Sel s u → ⊥) → ((c : CtorId) (u : TermId) → node ≡ core.Test c u → ⊥) → ((u : TermId) → node ≡ core.Not u → ⊥) → HasArgument node → ⊥
+pub no_argument : (node : Core) → ((s : SelId) (u : TermId) → node ≡ core.Sel s u → ⊥) → ((c : CtorId) (u : TermId) → node ≡ core.Test c u → ⊥) → ((u : TermId) → node ≡ core.Not u → ⊥) → HasArguments node → ⊥
 no_argument (core.Sel s u) sel test neg h = sel s u refl
 no_argument (core.Test c u) sel test neg h = test c u refl
 no_argument (core.Not u) sel test neg h = neg u refl

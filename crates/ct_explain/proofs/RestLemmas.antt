@@ -20,7 +20,7 @@ use Rattle.ct_congr.specs.Merges.{AreConnected}
 use Rattle.ct_congr.specs.Reasons.{IsReason}
 use Rattle.ct_congr.specs.State.{State}
 use Rattle.ct_explain.specs.declared.forest.Link.{Link}
-use Rattle.ct_explain.specs.Trees.{HasRoot, IsForestOf, IsForestOfClasses, IsWay, IsRoute}
+use Rattle.ct_explain.specs.Trees.{HasRoot, IsForestOf, IsForestOfClasses, IsForestPath, IsRoute}
 use Rattle.ct_explain.specs.Premises.{IsOver, HasNoPremise}
 use Rattle.ct_explain.specs.Resting.{IsPaved, IsDetour, IsMatching, IsPavedBy, IsEntryPaved, AreEntriesPaved, AreArgumentsPaved, IsEntry, AreEntries, AreArgumentsMatched, IsLone, Rests, IsMarked, IsMarkedBelow, AreMarkedMore, HasNumber, IsReady}
 use Rattle.ct_explain.proofs.ListLemmas.{nat_cases, slice_get-from_Contains, Contains-from_slice_get, slice_get-set_same, slice_get-set_other}
@@ -298,7 +298,7 @@ way_more old new slice path bound long stays only same below = record {
 }
 
 pub way_paved : (links : List (Option Link)) (old new : List Bool) (slice path : List ℕ) (bound : ℕ) (x y : TermId)
-    → ((r s : TermId) → HasRoot links x r → HasRoot links y s → IsWay links x y path) → ((k : ℕ) → Contains path k → k < bound) → slice ≡ path
+    → ((r s : TermId) → HasRoot links x r → HasRoot links y s → IsForestPath links x y path) → ((k : ℕ) → Contains path k → k < bound) → slice ≡ path
     → ((k : ℕ) → Contains slice k → k < length old → IsMarked new k) → bound ≤ length old → IsPaved links (IsMarkedBelow new bound) x y
 way_paved links old new slice path bound x y ways below same marked within = λ other way k inside.
     let mine = ways way.root way.root (_, way.rises) (_, way.falls) in
@@ -475,12 +475,12 @@ rests_numbered terms links known marks done k right why before p = rests_more li
 
 -- the way of a ready premise is a route of merges with the property
 pub ready_route : (state : State) (links : List (Option Link)) (b : ℕ) (has : ℕ → Type 0) (x y : TermId) (slice path : List ℕ) → IsForestOfClasses state links
-    → IsReady state.terms links (AreConnected (take b state.merges)) has x y → ((r s : TermId) → HasRoot links x r → HasRoot links y s → IsWay links x y path) → slice ≡ path → IsRoute state.merges x slice y
+    → IsReady state.terms links (AreConnected (take b state.merges)) has x y → ((r s : TermId) → HasRoot links x r → HasRoot links y s → IsForestPath links x y path) → slice ≡ path → IsRoute state.merges x slice y
 ready_route state links b has x y slice path forest ready ways same =
     subst (λ (l : List ℕ). IsRoute state.merges x l y) (sym same) (route_of_path state links b x y path forest ready.inside ready.equal ways).1
 
 pub ready_paved : (state : State) (links : List (Option Link)) (b : ℕ) (has : ℕ → Type 0) (x y : TermId) (slice path : List ℕ) → IsForestOfClasses state links
-    → IsReady state.terms links (AreConnected (take b state.merges)) has x y → ((r s : TermId) → HasRoot links x r → HasRoot links y s → IsWay links x y path) → slice ≡ path
+    → IsReady state.terms links (AreConnected (take b state.merges)) has x y → ((r s : TermId) → HasRoot links x r → HasRoot links y s → IsForestPath links x y path) → slice ≡ path
     → (k : ℕ) → Contains slice k → has k
 ready_paved state links b has x y slice path forest ready ways same k inside =
     ready.paved path (route_of_path state links b x y path forest ready.inside ready.equal ways).0 k (subst (λ (l : List ℕ). Contains l k) same inside)

@@ -26,11 +26,11 @@ abbrev pub IsOver : Terms → TermId → List TermId → Type 0
 IsOver terms t under = (core : Core) → Has terms core t.0 → core_children core ≡ under
 
 -- the term is a selector, a test or a negation, of one term
-abbrev pub HasArgument : Core → Type 0
-HasArgument (core.Sel s u) = Unit {0}
-HasArgument (core.Test c u) = Unit {0}
-HasArgument (core.Not u) = Unit {0}
-HasArgument _ = ⊥
+abbrev pub HasArguments : Core → Type 0
+HasArguments (core.Sel s u) = Unit {0}
+HasArguments (core.Test c u) = Unit {0}
+HasArguments (core.Not u) = Unit {0}
+HasArguments _ = ⊥
 
 -- the rule of the reason has none or many premises
 abbrev pub HasNoPremise : Reason → Type 0

@@ -14,12 +14,12 @@ use Rattle.ct_congr.specs.declared.merge.Merge.{Merge}
 use Rattle.ct_congr.specs.Merges.{AreConnected}
 use Rattle.ct_congr.specs.State.{State}
 use Rattle.ct_explain.specs.declared.forest.Link.{Link}
-use Rattle.ct_explain.specs.Trees.{IsForestOf, IsWay}
+use Rattle.ct_explain.specs.Trees.{IsForestOf, IsForestPath}
 use Rattle.ct_explain.specs.Premises.{IsOver}
 
 -- each merge on the way between the two terms has the property
 abbrev pub IsPaved : List (Option Link) → (ℕ → Type 0) → TermId → TermId → Type 0
-IsPaved links has x y = (path : List ℕ) → IsWay links x y path → (k : ℕ) → Contains path k → has k
+IsPaved links has x y = (path : List ℕ) → IsForestPath links x y path → (k : ℕ) → Contains path k → has k
 
 -- this one, at this place, is the first of the equations whose sides the two terms equal
 pub record IsFirstMatch (known : Equations) (equations : List Equation) (x y : TermId) (place : ℕ) (e : Equation) : Type 0 where

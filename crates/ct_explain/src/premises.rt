@@ -11,7 +11,7 @@ ghost use Rattle.ct_terms.specs.declared.ids.TermId.{TermId};
 ghost use Rattle.ct_terms.specs.Children.{core_children};
 ghost use Rattle.ct_rules.specs.Rules.{truth_term};
 ghost use Rattle.ct_congr.specs.declared.merge.Reason.TheVariants as reason;
-ghost use Rattle.ct_explain.specs.Premises.{IsOver, HasArgument, HasReason, HasNoPremise, IsPremise, IsPremiseIn, IsPremiseOf, IsNegationPremise, IsConnectedPremise, step_by};
+ghost use Rattle.ct_explain.specs.Premises.{IsOver, HasArguments, HasReason, HasNoPremise, IsPremise, IsPremiseIn, IsPremiseOf, IsNegationPremise, IsConnectedPremise, step_by};
 ghost use Rattle.ct_explain.specs.Resting.{IsLone};
 
 use crate::error::ExplainError;
@@ -213,7 +213,7 @@ fn other_truth(value: TermId) -> TermId
 // The one term under a selector, a test or a negation.
 fn argument(table: &TermTable, t: TermId) -> Option<TermId>
     ensures under { IfSome result (λ u. IsOver table.now t (u ∷ [])) }
-    ensures none { IfNone result ((node : Core) → Has table.now node t.0 → HasArgument node → ⊥) }
+    ensures none { IfNone result ((node : Core) → Has table.now node t.0 → HasArguments node → ⊥) }
 {
     if t.0 >= table.len() {
         return None;
