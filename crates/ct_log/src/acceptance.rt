@@ -1,5 +1,5 @@
 //! Whether a line is accepted after others.
-ghost use Rattle.std.specs.Prelude.{◌≡◌, ◌↔◌, ◌<◌, ◌≤◌, ◌+◌, ◌*◌, [], ◌∷◌, length, take, All, Contains, Some, slice_get, IfOk, IfErr, IsTrue};
+ghost use Rattle.std.specs.Prelude.{◌≡◌, ◌↔◌, ◌<◌, ◌≤◌, ◌+◌, ◌*◌, [], ◌∷◌, length, take, All, Contains, Some, slice_get, IfOk, IfErr, IfSome, IfNone, IsTrue};
 ghost use Rattle.ct_terms.specs.Literal.{literal_of, IsStripped};
 ghost use Rattle.ct_terms.specs.Clause.{opposites};
 ghost use Rattle.ct_terms.specs.Terms.{IsBoolean};
@@ -58,8 +58,9 @@ pub fn accepted(
 }
 
 /// Whether the line of the record at this index is accepted after the lines before it. Takes no memory. Its cost is the
-/// length of the line and of the clauses that it names; beside these, an input costs the number of assertions, an
-/// expansion the fields of its constructor, and an argument of a gate the negations over its literal.
+/// length of the line and of the clauses that it names; beside these, an input costs the assertions between that of the
+/// last input and its own, an expansion the fields of its constructor, and an argument of a gate the negations over its
+/// literal.
 pub fn accepted_at(
     sig: &Signature,
     sizes: &Sizes,
@@ -109,7 +110,7 @@ fn is_accepted(
         return false;
     }
     match &line.step {
-        Step::Input(t) => is_input(table, asserts, *t, clause),
+        Step::Input(t) => { is_input(table, asserts, *t, clause, &mut room.asserted) }
         Step::Gate(gate, t, place) => is_gate_clause(table, *gate, *t, *place, clause),
         Step::Exhaust(t) => is_exhaustion(sig, table, *t, clause),
         Step::Theory(steps, close) => {
@@ -184,11 +185,17 @@ fn is_stripped(table: &TermTable, t: TermId) -> bool
 }
 
 // Whether the clause is the literal of the assertion.
-fn is_input(table: &TermTable, asserts: &[TermId], t: TermId, clause: &[Lit]) -> bool
+fn is_input(
+    table: &TermTable,
+    asserts: &[TermId],
+    t: TermId,
+    clause: &[Lit],
+    last: &mut usize,
+) -> bool
     requires booleans { All (IsBoolean table.now) asserts.now }
     ensures input { IsTrue result ↔ (Contains asserts.now t × (clause.now ≡ literal_of table.now t ∷ [])) }
 {
-    if !is_among(asserts, t) {
+    if !is_found(asserts, t, last) {
         return false;
     }
     match clause {
@@ -196,6 +203,32 @@ fn is_input(table: &TermTable, asserts: &[TermId], t: TermId, clause: &[Lit]) ->
         [] => false,
         [_, _, ..] => false,
     }
+}
+
+// Whether the term is one of these. The search begins where the last one was found, and ends there.
+fn is_found(terms: &[TermId], t: TermId, last: &mut usize) -> bool
+    ensures found { IsTrue result ↔ Contains terms.now t }
+{
+    let from = if *last < terms.len() { *last } else { 0 };
+    if let Some(place) = place_of(&terms[from..], t) {
+        *last = from + place;
+        return true;
+    }
+    is_among(&terms[..from], t)
+}
+
+// The first index at which the term stands.
+fn place_of(terms: &[TermId], t: TermId) -> Option<usize>
+    ensures within { IfSome result (λ index. index < length terms.now) }
+    ensures stands { IfSome result (λ index. slice_get terms.now index ≡ Some t) }
+    ensures none { IfNone result (Contains terms.now t → ⊥) }
+{
+    for index in 0..terms.len() {
+        if terms[index] == t {
+            return Some(index);
+        }
+    }
+    None
 }
 
 // Whether the term is one of these.

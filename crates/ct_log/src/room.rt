@@ -12,11 +12,13 @@ use std::alloc::Global;
 use std::marker::Model;
 
 /// Working memory for the lines of one record: a mark for each literal, and an equation for each step of the longest line
-/// of the theory. Nothing of it is cleared between lines.
+/// of the theory. Nothing of it is cleared between lines. It also knows where the last input's assertion stood, so that
+/// inputs in the order of their assertions are found at once.
 #[derive(Drop)]
 pub struct Room {
     pub(crate) marks: Marks,
     pub(crate) given: Vec<Equation>,
+    pub(crate) asserted: usize,
 }
 
 impl Model for Room {
@@ -47,6 +49,7 @@ impl Room {
         Ok(Room {
             marks: Marks::new(alloc, terms, size)?,
             given: Vec::with_capacity(alloc, size)?,
+            asserted: 0,
         })
     }
 }
