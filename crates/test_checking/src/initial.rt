@@ -1,12 +1,14 @@
 //! Initial lines: `(clauses EXPRESSION ..)` compiles formulas into one table and closes it, makes the
 //! lines that a derivation begins with, and shows the text of a derivation of check 1 that has no
 //! others.
-ghost use Rattle.std.specs.Prelude.{◌≡◌, [], IfOk};
+ghost use Rattle.std.specs.Prelude.{◌≡◌, [], IfOk, OnOk};
+ghost use Rattle.ct_card.specs.Sizes.{AreSizes};
 ghost use Rattle.ct_terms.specs.Terms.{AreSorted};
 ghost use Rattle.ct_closure.specs.ClosedTable.{IsClosedTable, AreRising};
 ghost use Rattle.ct_log.specs.Recorded.{AreJudges};
 ghost use Rattle.ct_clauses.specs.Initial.{AreSplitTerms};
 ghost use Rattle.test_checking.specs.Scopes.{IsSound};
+ghost use Rattle.test_checking.specs.Asserted.{IsAsserted};
 
 use crate::close::{assert_all, sizes_of};
 use ct_card::Sizes;
@@ -31,11 +33,28 @@ pub fn show_initial(
 {
     let (mut table, asserts) = assert_all(alloc, scope, exprs)?;
     let sizes = sizes_of(alloc, scope)?;
-    match close(alloc, &scope.sig, &sizes, &mut table, &asserts) {
-        Ok(closure) => {
-            let derivation = derivation_of(alloc, scope, &sizes, table, asserts)?;
-            show_lines(alloc, scope, &closure, derivation, out)
-        }
+    let closure = closure_of(alloc, scope, &sizes, &mut table, asserts.as_slice())?;
+    let mut derivation = derivation_of(alloc, scope, &sizes, table, asserts)?;
+    show_lines(alloc, scope, &closure, &mut derivation, out)
+}
+
+/// The closure of the formulas, which is put into their table.
+fn closure_of(
+    alloc: Global,
+    scope: &Scope,
+    sizes: &Sizes,
+    table: &mut TermTable,
+    asserts: &[TermId],
+) -> Result<Closure, CaseError>
+    requires sizes { AreSizes scope.now.sig sizes.now }
+    requires asserted { IsAsserted scope.now.sig table.old asserts.now }
+    ensures judges { OnOk result (AreJudges scope.now.sig sizes.now table.new asserts.now) }
+    ensures closed { OnOk result (IsClosedTable scope.now.sig table.new) }
+    ensures split { IfOk result (λ closure. AreSplitTerms scope.now.sig table.new closure.split) }
+    ensures rising { IfOk result (λ closure. AreRising closure.split) }
+{
+    match close(alloc, &scope.sig, sizes, table, asserts) {
+        Ok(closure) => Ok(closure),
         Err(CloseError::TooLarge) => Err(CaseError::Bad),
         Err(CloseError::NoMemory) => Err(CaseError::NoMemory),
     }
@@ -65,17 +84,16 @@ fn show_lines(
     alloc: Global,
     scope: &Scope,
     closure: &Closure,
-    derivation: Box<Derivation>,
+    derivation: &mut Derivation,
     out: &mut String,
 ) -> Result<(), CaseError>
-    requires signature { derivation.value.declarations ≡ scope.now.sig }
-    requires begun { derivation.value.rec.lines ≡ [] }
-    requires closed { IsClosedTable scope.now.sig derivation.value.rec.terms }
-    requires split { AreSplitTerms scope.now.sig derivation.value.rec.terms closure.now.split }
+    requires signature { derivation.old.declarations ≡ scope.now.sig }
+    requires begun { derivation.old.rec.lines ≡ [] }
+    requires closed { IsClosedTable scope.now.sig derivation.old.rec.terms }
+    requires split { AreSplitTerms scope.now.sig derivation.old.rec.terms closure.now.split }
     requires rising { AreRising closure.now.split }
 {
-    let mut derivation = derivation;
-    match clauses(alloc, &scope.sig, closure, &mut derivation) {
+    match clauses(alloc, &scope.sig, closure, derivation) {
         Ok(()) => show_text(alloc, scope, derivation.rec(), out),
         Err(_) => Err(CaseError::NoMemory),
     }
