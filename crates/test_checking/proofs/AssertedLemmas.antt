@@ -1,11 +1,12 @@
 -- Tables of asserted formulas: the first one, and one with one more formula.
-use Rattle.std.proofs.Common.{◌≡◌, Bool, true, false, not, nat_eq, true≢false, ℕ, zero, suc, ◌<◌, ◌≤◌, ◌⊎◌, List, [], ◌∷◌, ◌++◌, length, map, Contains, slice_get, slice_index_or, Some, refl, sym, ap, subst, ◌∙◌, inl, inr, arith}
+use Rattle.std.proofs.Common.{◌≡◌, Bool, true, false, not, nat_eq, true≢false, ℕ, zero, suc, ◌<◌, ◌≤◌, ◌⊎◌, List, [], ◌∷◌, ◌++◌, length, map, All, Contains, slice_get, slice_index_or, Some, refl, sym, ap, subst, ◌∙◌, inl, inr, arith}
 use Rattle.std.specs.List.{flat_map}
 use Rattle.std.proofs.lemmas.List.Elements.{All-nil, All-append, All-contains, All-weaker, All-cons, Contains-append_cases, Contains-append_left, Contains-append_right}
 use Rattle.std.proofs.lemmas.Bool.Decides.{Decides-eqb}
 use Rattle.std.proofs.lemmas.Option.{slice_get_within, none-some}
 use Rattle.ct_sorts.specs.declared.ids.SortId.{SortId}
 use Rattle.ct_sorts.specs.Declarations.{Declarations, bool_sort}
+use Rattle.ct_sorts.specs.Grown.{Begins}
 use Rattle.ct_terms.specs.declared.ids.TermId.{TermId}
 use Rattle.ct_terms.specs.declared.term.Core.{Core}
 use Rattle.ct_terms.specs.declared.term.Core.TheVariants.{Con}
@@ -59,6 +60,13 @@ slice_get-append_left : {X : Type 0} (xs ys : List X) (i : ℕ) (x : X) → slic
 slice_get-append_left [] ys i x e = absurd (none-some x e)
 slice_get-append_left (z ∷ zs) ys zero x e = e
 slice_get-append_left (z ∷ zs) ys (suc i) x e = slice_get-append_left zs ys i x e
+
+-- terms that are Boolean stay so in a longer table
+pub booleans_stay : (old new : Terms) (asserts : List TermId) → Begins old new → All (IsBoolean old) asserts → All (IsBoolean new) asserts
+booleans_stay old new asserts grown booleans =
+    All-weaker (IsBoolean old) (IsBoolean new)
+    (λ u b. (b.0, subst (λ (table : Terms). slice_get table u.0 ≡ Some (b.0, bool_sort)) (sym grown.1) (slice_get-append_left old grown.0 u.0 (b.0, bool_sort) b.1)))
+    asserts booleans
 
 -- something stands at each index
 entry_at : {X : Type 0} (xs : List X) (k : ℕ) → k < length xs → (x : X) × (slice_get xs k ≡ Some x)

@@ -26,11 +26,7 @@ pub fn show_closed(
 ) -> Result<(), CaseError>
     requires sound { IsSound scope.now }
 {
-    let mut table = new_table(alloc, &scope.sig)?;
-    let mut asserts = Vec::new(alloc);
-    for expr in exprs {
-        assert_formula(alloc, scope, &mut table, &mut asserts, expr)?;
-    }
+    let (mut table, asserts) = assert_all(alloc, scope, exprs)?;
     let sizes = sizes_of(alloc, scope)?;
     let closed = close(alloc, &scope.sig, &sizes, &mut table, &asserts);
     match closed {
@@ -38,6 +34,23 @@ pub fn show_closed(
         Err(CloseError::TooLarge) => Ok(out.push_str(" TooLarge")?),
         Err(CloseError::NoMemory) => Err(CaseError::NoMemory),
     }
+}
+
+/// The table of formulas and their subterms, and the formulas.
+pub fn assert_all(
+    alloc: Global,
+    scope: &Scope,
+    exprs: &[Sexpr],
+) -> Result<(Box<TermTable>, Vec<TermId>), CaseError>
+    requires sound { IsSound scope.now }
+    ensures asserted { IfOk result (λ made. IsAsserted scope.now.sig made.0.value made.1.items) }
+{
+    let mut table = new_table(alloc, &scope.sig)?;
+    let mut asserts = Vec::new(alloc);
+    for expr in exprs {
+        assert_formula(alloc, scope, &mut table, &mut asserts, expr)?;
+    }
+    Ok((table, asserts))
 }
 
 /// Makes the core term of a formula, and adds it to those that are asserted.
@@ -70,7 +83,7 @@ fn assert_formula(
 }
 
 /// The sizes of all sorts.
-fn sizes_of(alloc: Global, scope: &Scope) -> Result<Box<Sizes>, CaseError>
+pub fn sizes_of(alloc: Global, scope: &Scope) -> Result<Box<Sizes>, CaseError>
     ensures sizes { IfOk result (λ sizes. AreSizes scope.now.sig sizes.value) }
 {
     match Sizes::new(alloc, &scope.sig) {

@@ -1,4 +1,4 @@
-//! Tests of sort checking, compiling and closures. Each line of standard input is a case
+//! Tests of sort checking, compiling, closures and initial lines. Each line of standard input is a case
 //! `(NAME KIND PART ..)`, and its answer is one line. A line that is no case is answered `BAD`. A
 //! case `(NAME declare STEP ..)` begins anew, and declares for the lines after it; the steps
 //! `(define NAME (PARAMETER ..) SORT EXPRESSION)` come after all others.
@@ -10,6 +10,7 @@ mod close;
 mod compile;
 mod define;
 mod elaborate;
+mod initial;
 mod show;
 
 use crate::define::{declare, new_scope};
@@ -85,6 +86,7 @@ fn answer_kind(
         ),
         ("compile", [expr]) => compile::show_compiled(alloc, scope, expr, out),
         ("close", exprs) => close::show_closed(alloc, scope, exprs, out),
+        ("clauses", exprs) => initial::show_initial(alloc, scope, exprs, out),
         _ => Err(CaseError::Bad),
     }
 }

@@ -10,6 +10,9 @@ use ct_log::{Close, EqStep};
 use ct_terms::{Lit, TermId};
 use std::alloc::Global;
 
+/// With how many terms after it in the list of its class each term is explained to be equal.
+const SOON: usize = 16;
+
 /// An explained equation, and the number of the step that states it.
 #[derive(Clone, Copy, Debug)]
 pub struct Explained {
@@ -50,7 +53,8 @@ pub fn explain(
     }
 }
 
-/// Explains the equations of neighbours in the lists of all classes. All equations follow from these.
+/// Explains the equations of all pairs of terms in each class of up to seventeen, and in larger ones enough that all equations
+/// follow from these.
 pub fn explain_all(
     alloc: Global,
     classes: &Classes,
@@ -63,14 +67,14 @@ pub fn explain_all(
     for t in 0..classes.table().len() {
         let t = TermId(t);
         if classes.rep(t) == t {
-            explain_neighbours(classes, forest, classes.class(t), proof, &mut all)?;
+            explain_class(classes, forest, classes.class(t), proof, &mut all)?;
         }
     }
     Ok(all)
 }
 
-/// Explains the equations of neighbours in this list of terms of one class.
-fn explain_neighbours(
+/// Explains that each term of this list of one class is equal to those that come soon after it.
+fn explain_class(
     classes: &Classes,
     forest: &Forest,
     members: &[TermId],
@@ -79,9 +83,25 @@ fn explain_neighbours(
 ) -> Result<(), CaseError>
     requires forest { IsForestOfClasses classes.now forest.now }
 {
-    for k in 1..members.len() {
-        let left = members[k - 1];
-        let right = members[k];
+    for k in 0..members.len() {
+        explain_equal(classes, forest, members[k], &members[k + 1..], proof, all)?;
+    }
+    Ok(())
+}
+
+/// Explains that the term is equal to the first of these terms of its class.
+fn explain_equal(
+    classes: &Classes,
+    forest: &Forest,
+    left: TermId,
+    others: &[TermId],
+    proof: &mut EqProof,
+    all: &mut Vec<Explained>,
+) -> Result<(), CaseError>
+    requires forest { IsForestOfClasses classes.now forest.now }
+{
+    for k in 0..others.len().min(SOON) {
+        let right = others[k];
         let step = explain(classes, forest, left, right, proof)?;
         all.push(Explained { left, right, step })?;
     }

@@ -2,14 +2,20 @@
 //! hypotheses, literals `n` or `(not n)`. `(classes (TERM ..) (LITERAL ..))` closes the classes, and
 //! shows `quiet` or `clash` and each class of two or more terms. With the same parts `order` shows
 //! whether the classes of datatypes have an order or a `cycle`, or that they `clash`; `explain`
-//! explains all classes and shows the number of steps and how many equations are accepted; and
-//! `conflict` shows the number of steps to the `clash` or the `cycle`, and whether the line that
-//! they make is accepted. `(why (TERM ..) (LITERAL ..) A B)` explains one equation.
+//! explains the equations of all classes and shows how many are accepted; and `conflict` shows
+//! whether the line is accepted that the `clash` or the `cycle` makes. `consult` asks the theory, and
+//! shows the classes that are `saturated`, or the `clash` or the `cycle`, how many of the hypotheses
+//! its line names, and whether it is accepted. `(why (TERM ..) (LITERAL ..) A B)` explains one
+//! equation, and shows the number of steps.
+ghost use Rattle.std.specs.Prelude.{All};
 ghost use Rattle.ct_card.specs.Sizes.{AreSizes};
+ghost use Rattle.ct_terms.specs.declared.ids.Lit.{Lit};
+ghost use Rattle.ct_terms.specs.Literal.{IsStripped};
 ghost use Rattle.ct_terms.specs.Terms.{AreSorted};
 ghost use Rattle.ct_congr.specs.State.{IsAnswer};
 
 use crate::conflict::{clash, cycle};
+use crate::consult::show_consulted;
 use crate::explain::{Explained, contradict, explain, explain_all, forest_of, state_all};
 use crate::judge::{clause_of, is_accepted};
 use crate::numbers::term_of;
@@ -53,6 +59,7 @@ fn respond(
 ) -> Result<(), CaseError>
     requires sizes { AreSizes sig.now prepared.now.sizes.value }
     requires sorted { AreSorted sig.now prepared.now.table.value }
+    requires stripped { All (λ (l : Lit). IsStripped prepared.now.table.value l.term) prepared.now.hyps.items }
     requires answer { IsAnswer prepared.now.classes.value prepared.now.closed }
 {
     match (kind, parts) {
@@ -61,6 +68,7 @@ fn respond(
         ("explain", []) => explain_classes(alloc, sig, prepared, out),
         ("why", [a, b]) => explain_terms(alloc, sig, prepared, term_of(a)?, term_of(b)?, out),
         ("conflict", []) => show_conflict(alloc, sig, prepared, out),
+        ("consult", []) => show_consulted(alloc, sig, prepared, out),
         _ => Err(CaseError::Bad),
     }
 }
@@ -99,7 +107,7 @@ fn explain_classes(
         steps: Vec::new(alloc),
     };
     let all = explain_all(alloc, &prepared.classes, &forest, &mut proof)?;
-    show_explained(alloc, sig, prepared, &all, proof, out)
+    show_accepted(alloc, sig, prepared, &all, proof, out)
 }
 
 /// Explains the equation of two terms.
@@ -119,12 +127,14 @@ fn explain_terms(
         steps: Vec::new(alloc),
     };
     let step = explain(&prepared.classes, &forest, left, right, &mut proof)?;
+    let steps = proof.steps.len();
+    out.push_str(format!(in alloc; "explained {steps} ")?.as_str())?;
     let all = [Explained { left, right, step }];
-    show_explained(alloc, sig, prepared, &all, proof, out)
+    show_accepted(alloc, sig, prepared, &all, proof, out)
 }
 
-/// Shows how many steps the explanations have, and how many equations are accepted.
-fn show_explained(
+/// Shows how many equations the explanations have, and whether they are accepted.
+fn show_accepted(
     alloc: Global,
     sig: &Signature,
     prepared: &Prepared,
@@ -135,12 +145,11 @@ fn show_explained(
     requires sizes { AreSizes sig.now prepared.now.sizes.value }
     requires sorted { AreSorted sig.now prepared.now.table.value }
 {
-    let steps = proof.steps.len();
     let count = all.len();
     if are_accepted(alloc, sig, prepared, all, proof)? {
-        out.push_str(format!(in alloc; "explained {steps} accepted {count}")?.as_str())?;
+        out.push_str(format!(in alloc; "accepted {count}")?.as_str())?;
     } else {
-        out.push_str(format!(in alloc; "explained {steps} refused {count}")?.as_str())?;
+        out.push_str(format!(in alloc; "refused {count}")?.as_str())?;
     }
     Ok(())
 }
@@ -170,7 +179,7 @@ fn are_accepted(
     )
 }
 
-/// Shows the steps to a contradiction of the classes, and whether their line is accepted.
+/// Shows what contradicts itself in the classes, and whether its line is accepted.
 fn show_conflict(
     alloc: Global,
     sig: &Signature,
@@ -186,8 +195,6 @@ fn show_conflict(
     };
     match conflict_of(alloc, &prepared.classes, prepared.closed, &mut proof, out)? {
         Some(close) => {
-            let steps = proof.steps.len();
-            out.push_str(format!(in alloc; " {steps} ")?.as_str())?;
             let clause = clause_of(alloc, &prepared.hyps, None)?;
             let answer = is_accepted(
                 alloc,
@@ -198,7 +205,7 @@ fn show_conflict(
                 proof,
                 close,
             )?;
-            Ok(out.push_str(if answer { "accepted" } else { "refused" })?)
+            Ok(out.push_str(if answer { " accepted" } else { " refused" })?)
         }
         None => Ok(()),
     }

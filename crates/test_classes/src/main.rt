@@ -5,6 +5,7 @@
 #![tactic(auto)]
 
 mod conflict;
+mod consult;
 mod cores;
 mod explain;
 mod hypotheses;

@@ -40,6 +40,7 @@ pub fn prepare(
 ) -> Result<Prepared, CaseError>
     ensures sizes { IfOk result (λ prepared. AreSizes sig.now prepared.sizes.value) }
     ensures sorted { IfOk result (λ prepared. AreSorted sig.now prepared.table.value) }
+    ensures stripped { IfOk result (λ prepared. All (λ (l : Lit). IsStripped prepared.table.value l.term) prepared.hyps.items) }
     ensures answer { IfOk result (λ prepared. IsAnswer prepared.classes.value prepared.closed) }
 {
     let sizes = sizes_of(alloc, sig)?;
@@ -66,7 +67,7 @@ fn sizes_of(alloc: Global, sig: &Signature) -> Result<Box<Sizes>, CaseError>
     }
 }
 
-/// The classes in which the hypotheses hold, and nothing else is merged.
+/// The classes in which the hypotheses hold.
 fn classes_of(
     alloc: Global,
     sig: &Signature,

@@ -16,6 +16,11 @@ pub fn show_classes(
         Closed::Quiet => out.push_str("quiet")?,
         Closed::Clash(_, _) => out.push_str("clash")?,
     }
+    show_members(alloc, classes, out)
+}
+
+/// Shows the classes of two or more terms, by their least members.
+pub fn show_members(alloc: Global, classes: &Classes, out: &mut String) -> Result<(), CaseError> {
     let mut shown = HashSet::new(alloc);
     for t in 0..classes.table().len() {
         if shown.insert(classes.rep(TermId(t)).0)? {

@@ -11,6 +11,7 @@ ghost use Rattle.ct_log.specs.Rooms.{IsRoomOf};
 use crate::derive::derive;
 use crate::lines::lines_of;
 use crate::table::{asserts_of, table_of};
+use crate::text::{audit, show_read, show_written};
 use ct_card::{CardError, Sizes};
 use ct_cases::{CaseError, items_of};
 use ct_checker::{Checker, Reject};
@@ -33,6 +34,9 @@ pub fn answer(
         ("accepted", [terms, asserts, lines]) => accept(alloc, sig, terms, asserts, lines, out),
         ("each", [terms, asserts, lines]) => each(alloc, sig, terms, asserts, lines, out),
         ("derive", [terms, asserts, lines]) => derive(alloc, sig, terms, asserts, lines, out),
+        ("read", [expr]) => show_read(alloc, sig, expr, out),
+        ("audit", [asserts, expr]) => audit(alloc, sig, asserts, expr, out),
+        ("write", [expr]) => show_written(alloc, sig, expr, out),
         _ => Err(CaseError::Bad),
     }
 }
@@ -132,7 +136,7 @@ fn room_of(alloc: Global, rec: &Record) -> Result<Box<Room>, CaseError>
 }
 
 /// Shows whether the record passes, or where it does not.
-fn show_verdict(
+pub fn show_verdict(
     alloc: Global,
     sig: &Signature,
     sizes: &Sizes,

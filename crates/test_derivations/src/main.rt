@@ -1,4 +1,4 @@
-//! Tests of derivations: when a line is accepted, and the check of whole records. Each line of
+//! Tests of derivations: when a line is accepted, the check of whole records, and their text. Each line of
 //! standard input is a case `(NAME KIND PART ..)`, and its answer is one line. A line that is no
 //! case is answered `BAD`. A case `(NAME declare STEP ..)` begins anew, and declares for the
 //! lines after it.
@@ -11,6 +11,7 @@ mod judge;
 mod lines;
 mod numbers;
 mod table;
+mod text;
 
 use ct_cases::{CaseError, declare_all, items_of, read_case, split_named};
 use ct_sorts::{SigError, Signature};
