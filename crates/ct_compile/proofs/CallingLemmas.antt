@@ -19,7 +19,7 @@ use Rattle.ct_compile.specs.declared.bound.Bound.TheVariants.{Term, Field, Absen
 use Rattle.ct_compile.specs.declared.known.Called.{Called}
 use Rattle.ct_compile.specs.Effect.{Stands, IsKept, IsPrefix, Within, Effect}
 use Rattle.ct_compile.specs.Ready.{given, IsBound, IsReady}
-use Rattle.ct_compile.specs.Marks.{listed, HaveRows}
+use Rattle.ct_compile.specs.Marks.{listed, Rows, row_in, HaveRows}
 use Rattle.ct_compile.specs.Binding.{IsBoundAs, Binds}
 use Rattle.ct_compile.specs.Calling.{same_call, terms_of, call_of, IsRecalled, IsState}
 use Rattle.ct_compile.proofs.EffectLemmas.{stands_stays}
@@ -32,7 +32,7 @@ use Rattle.ct_compile.proofs.UnderLemmas.{Under, count_sorted, count_terms, call
 
 -- ---- tables that grow
 
-pub recalled_stays : (d : Declarations) (bodies : List Formula) (rows : List (List Bool)) (old new : Terms) (call : Called) (t : TermId) → IsPrefix old new → IsKept d new → IsRecalled d bodies rows old call t → IsRecalled d bodies rows new call t
+pub recalled_stays : (d : Declarations) (bodies : List Formula) (rows : Rows) (old new : Terms) (call : Called) (t : TermId) → IsPrefix old new → IsKept d new → IsRecalled d bodies rows old call t → IsRecalled d bodies rows new call t
 recalled_stays d bodies rows old new call t grown kept h = record {
   bounds = h.bounds;
   trees = h.trees;
@@ -44,7 +44,7 @@ recalled_stays d bodies rows old new call t grown kept h = record {
   stands = stands_stays d old new t (given d bodies (suc call.definition.0) call.definition h.trees) grown kept h.stands;
 }
 
-module _ {S : Type 0} (d : Declarations) (bodies : List Formula) (rows : List (List Bool)) where
+module _ {S : Type 0} (d : Declarations) (bodies : List Formula) (rows : Rows) where
   pub state_stays : (n : ℕ) (old new : Terms) (known : IndexMap Called TermId S) → IsPrefix old new → IsKept d new → IsState d bodies n rows old known → IsState d bodies n rows new known
   state_stays n old new known grown kept h = record {
     have = h.have;
@@ -127,11 +127,11 @@ bound_same table p (b ∷ bs) (u ∷ us) (v ∷ vs) marked_as h k = (
 same_definition : (call : Called) (k : DefId) (bs : List Bound) → call ≡ call_of k bs → call.definition ≡ k
 same_definition call k bs e = ap (λ (c : Called). c.definition) e
 
-module _ (d : Declarations) (bodies : List Formula) (n : ℕ) (rows : List (List Bool)) (old : Terms) (env : List Bound) (k : DefId) (ts : Formulas) (row : List Bool) (at_row : slice_get rows k.0 ≡ Some row) (body : Formula) (at : slice_get bodies k.0 ≡ Some body) (have : HaveRows d (uses_below d bodies n) n rows) where
+module _ (d : Declarations) (bodies : List Formula) (n : ℕ) (rows : Rows) (old : Terms) (env : List Bound) (k : DefId) (ts : Formulas) (row : List Bool) (at_row : row_in rows k ≡ Some row) (body : Formula) (at : slice_get bodies k.0 ≡ Some body) (have : HaveRows d (uses_below d bodies n) n rows) where
   -- the row says which parameters occur
   pub row_is : (trees : List CoreTree) (sorts : List SortId) (sort : SortId) → IsReady d bodies old n env (Def k ts) trees sorts sort → row ≡ listed (uses_below d bodies n k) (count_of ts)
   row_is trees sorts sort h =
-      same_Some _ _ (sym at_row ∙ have k h.sorted.0 h.mentions.0 h.sorted.1)
+      have k h.sorted.0 row h.mentions.0 h.sorted.1 at_row
       ∙ ap (listed (uses_below d bodies n k)) (sym (count_sorted d sorts ts h.sorted.0.args h.sorted.2))
 
   pub call_under : (trees : List CoreTree) (sorts : List SortId) (sort : SortId) → IsReady d bodies old n env (Def k ts) trees sorts sort → Under d bodies n k.0 old env [] row (Def k ts) ts body trees sorts sort
@@ -178,8 +178,12 @@ pub ok_always : {X E : Type 0} (P : Type 0) (r : Result X E) → P → OnOk r P
 ok_always P (Ok x) h = h
 ok_always P (Err e) h = tt
 
+pub ok_so : {X E : Type 0} (r : Result X E) (P Q : Type 0) → (P → Q) → OnOk r P → OnOk r Q
+ok_so (Ok x) P Q f h = f h
+ok_so (Err e) P Q f h = tt
+
 -- nothing is known at first
-pub state_start : {S : Type 0} (d : Declarations) (bodies : List Formula) (n : ℕ) (rows : List (List Bool)) (table : Terms) (known : IndexMap Called TermId S) → known.entries ≡ [] → HaveRows d (uses_below d bodies n) n rows → IsState d bodies n rows table known
+pub state_start : {S : Type 0} (d : Declarations) (bodies : List Formula) (n : ℕ) (rows : Rows) (table : Terms) (known : IndexMap Called TermId S) → known.entries ≡ [] → HaveRows d (uses_below d bodies n) n rows → IsState d bodies n rows table known
 state_start d bodies n rows table known empty have = record {
   have = have;
   recalls = λ call t at. absurd (none-some t (sym (ap (lookup (same_call call)) empty) ∙ at));

@@ -12,7 +12,7 @@ use Rattle.ct_terms.specs.Compiled.{compiled}
 use Rattle.ct_terms.specs.Occurrence.{occurs, body_uses, uses_below}
 use Rattle.ct_compile.specs.Weight.{weight, body_weight, weights_below}
 use Rattle.ct_compile.specs.Ready.{given}
-use Rattle.ct_compile.specs.Marks.{listed, HaveRows}
+use Rattle.ct_compile.specs.Marks.{listed, Rows, HaveRows}
 
 -- a test of two numbers that are the same
 same_number : (k n : ℕ) → (k == n) ≡ true → k ≡ n
@@ -87,8 +87,8 @@ pub body_there : (d : Declarations) (bodies : List Formula) (k : ℕ) (definitio
 body_there d bodies k definition sound at = slice_there bodies k (let h = slice_length d.definitions k definition at in omega (arith, h, sound.one_each))
 
 -- the rows below a number are those below a smaller one
-pub fewer_rows : (d : Declarations) (bodies : List Formula) (m n : ℕ) (rows : List (List Bool)) → AreSound d bodies → m ≤ n → HaveRows d (uses_below d bodies n) n rows → HaveRows d (uses_below d bodies m) m rows
-fewer_rows d bodies m n rows sound less have k definition below at =
+pub fewer_rows : (d : Declarations) (bodies : List Formula) (m n : ℕ) (rows : Rows) → AreSound d bodies → m ≤ n → HaveRows d (uses_below d bodies n) n rows → HaveRows d (uses_below d bodies m) m rows
+fewer_rows d bodies m n rows sound less have k definition row below at found =
     let body = body_there d bodies k.0 definition sound at in
-    have k definition (omega (arith, below, less)) at
-    ∙ ap Some (listed_same (uses_below d bodies n k) (uses_below d bodies m k) (length definition.args) (λ i. uses_is bodies k body.0 body.1 d n i (omega (arith, below, less)) ∙ sym (uses_is bodies k body.0 body.1 d m i below)))
+    have k definition row (omega (arith, below, less)) at found
+    ∙ listed_same (uses_below d bodies n k) (uses_below d bodies m k) (length definition.args) (λ i. uses_is bodies k body.0 body.1 d n i (omega (arith, below, less)) ∙ sym (uses_is bodies k body.0 body.1 d m i below))

@@ -1,5 +1,5 @@
 -- A closed formula over a sound scope is ready to be compiled.
-use Rattle.std.proofs.Common.{Bool, ◌≡◌, ◌≤◌, Contains, ℕ, suc, List, [], ◌∷◌, length, map, Some, slice_get, refl, subst, sym, ap, ◌∙◌}
+use Rattle.std.proofs.Common.{◌≡◌, ◌≤◌, Contains, ℕ, suc, List, [], ◌∷◌, length, map, Some, slice_get, refl, subst, sym, ap, ◌∙◌}
 use Rattle.std.proofs.lemmas.Option.{none-some}
 use Rattle.ct_sorts.specs.declared.ids.SortId.{SortId}
 use Rattle.ct_sorts.specs.Declarations.{Declarations}
@@ -13,7 +13,9 @@ use Rattle.ct_terms.specs.FormulaSorts.{IsSorted, AreSound}
 use Rattle.ct_terms.specs.TreeFormula.{formula_of}
 use Rattle.ct_compile.specs.declared.bound.Bound.{Bound}
 use Rattle.ct_terms.specs.Occurrence.{uses_below}
-use Rattle.ct_compile.specs.Marks.{HaveRows, MayMark}
+use Rattle.ct_compile.specs.Calls.{CallsAre}
+use Rattle.ct_compile.specs.Marks.{Rows, IsKnown, HaveRows, MayMark}
+use Rattle.ct_compile.specs.Working.{AreRight}
 use Rattle.ct_compile.specs.Laws.{Laws}
 use Rattle.ct_compile.specs.Effect.{Stands, IsKept}
 use Rattle.ct_compile.specs.Ready.{IsReady}
@@ -43,10 +45,15 @@ entry_ready laws d bodies table n t sort consistent sound sorted ordered single 
     none_there : (i : ℕ) (b : Bound) → slice_get [] i ≡ Some b → ⊥
     none_there i b at = none-some b at
 
+-- the rows of all definitions
+pub rows_all : (d : Declarations) (trees : List Tree) (rows : Rows) → AreRight d (map formula_of trees) rows → HaveRows d (uses_below d (map formula_of trees) (length trees)) (length trees) rows
+rows_all d trees rows right = subst (λ (n : ℕ). HaveRows d (uses_below d (map formula_of trees) n) n rows) (map_length trees) right.have
+
 -- what occurs in a closed formula can be worked out
-pub entry_mark : (laws : Laws) (d : Declarations) (trees : List Tree) (rows : List (List Bool)) (t : Formula) (sort : SortId) → AreSound d (map formula_of trees) → IsSorted d [] t sort → HaveRows d (uses_below d (map formula_of trees) (length trees)) (length trees) rows → MayMark d (uses_below d (map formula_of trees) (length trees)) (length trees) rows t
-entry_mark laws d trees rows t sort sound h have = record {
+pub entry_mark : (laws : Laws) (d : Declarations) (trees : List Tree) (rows : Rows) (t : Formula) (sort : SortId) → AreSound d (map formula_of trees) → IsSorted d [] t sort → HaveRows d (uses_below d (map formula_of trees) (length trees)) (length trees) rows → CallsAre (IsKnown rows) t → MayMark d (uses_below d (map formula_of trees) (length trees)) (length trees) rows t
+entry_mark laws d trees rows t sort sound h have known = record {
   have = have;
+  known = known;
   mentions = subst (λ (m : ℕ). MentionsBelow m t) (sym (all_below trees (length trees) refl ∙ sound.one_each)) (laws.mentions d [] t sort h);
   sorted = ([], sort, h);
 }

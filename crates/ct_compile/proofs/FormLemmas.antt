@@ -14,7 +14,7 @@ use Rattle.ct_terms.specs.declared.tree.Case.{Case}
 use Rattle.ct_terms.specs.declared.tree.Tree.{Tree}
 use Rattle.ct_terms.specs.Terms.{Terms}
 use Rattle.ct_terms.specs.CoreTree.{CoreTree}
-use Rattle.ct_terms.specs.Formula.{Formula, Formulas, Cases, Let, Match, no_formulas, with_formula, with_case, bind}
+use Rattle.ct_terms.specs.Formula.{Formula, Formulas, Cases, Match, no_formulas, with_formula, with_case}
 use Rattle.ct_terms.specs.TreeFormula.{formula_of, formulas_of_trees}
 use Rattle.ct_terms.specs.Compiled.{are_none, compiled}
 use Rattle.ct_terms.specs.Occurrence.{count_of, occurs, matched_occurs, occurs_in_cases, uses_below}
@@ -22,7 +22,6 @@ use Rattle.ct_compile.specs.declared.bound.Bound.{Bound}
 use Rattle.ct_compile.specs.declared.bound.Bound.TheVariants.{Term, Field, Absent}
 use Rattle.ct_compile.specs.Effect.{Within}
 use Rattle.ct_compile.specs.Ready.{given, IsBound, IsReady, MayCompile, Compiles}
-use Rattle.ct_compile.specs.Marks.{HaveRows, MayMark, MayMarkCases}
 use Rattle.ct_compile.specs.Binding.{IsBoundAs, occurs_where, WithinWhere, AreBinding, MayBind, Binds}
 use Rattle.ct_compile.specs.CaseFormula.{case_of, cases_of_trees}
 use Rattle.ct_compile.specs.Matching.{IsTerm, AreCases, MayCases, CompilesCases}
@@ -55,21 +54,6 @@ none_is (c ∷ cases) = by (suc (length cases) == 0) refl
     by : (b : Bool) → (suc (length cases) == 0) ≡ b → b ≡ false
     by true e = absurd (omega (arith, (Decides-eqb (suc (length cases)) 0).0 e))
     by false e = refl
-
--- ---- a `let`
-
--- what occurs in the body can be worked out
-pub let_mark : (d : Declarations) (bodies : List Formula) (n : ℕ) (table : Terms) (env : List Bound) (rows : List (List Bool)) (ts : Formulas) (body : Formula) → HaveRows d (uses_below d bodies n) n rows → MayCompile d bodies table n env (Let ts body) → MayMark d (uses_below d bodies n) n rows body
-let_mark d bodies n table env rows ts body have may =
-    let h = may.3 in
-    record { have = have; mentions = h.mentions.1; sorted = (bind h.sorted.0 may.1, may.2, h.sorted.3) }
-
--- ---- a `match`
-
-pub match_mark : (d : Declarations) (bodies : List Formula) (n : ℕ) (table : Terms) (env : List Bound) (rows : List (List Bool)) (t : Formula) (cases : Cases) → HaveRows d (uses_below d bodies n) n rows → MayCompile d bodies table n env (Match t cases) → MayMarkCases d (uses_below d bodies n) n rows cases
-match_mark d bodies n table env rows t cases have may =
-    let h = may.3 in
-    record { have = have; mentions = h.mentions.1; sorted = (may.1, h.sorted.0, may.2, h.sorted.4) }
 
 -- the same flags and formulas
 pub may_bind_as : (d : Declarations) (bodies : List Formula) (table : Terms) (n : ℕ) (env : List Bound) (flags others : List Bool) (ts us : Formulas) → flags ≡ others → ts ≡ us → MayBind d bodies table n env flags ts → MayBind d bodies table n env others us

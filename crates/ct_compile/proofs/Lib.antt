@@ -27,7 +27,8 @@ mod KnownLemmas
 mod FormLemmas
 mod MayLemmas
 mod FlagLemmas
-mod RowLemmas
+mod NameLemmas
+mod WorkingLemmas
 mod CaseLemmas
 mod NoteLemmas
 mod MarkedCases

@@ -1,5 +1,5 @@
 -- Marking a formula from the formulas under it.
-use Rattle.std.proofs.Common.{◌≡◌, ℕ, zero, suc, ◌+◌, ◌<◌, ◌≤◌, Bool, true, false, not, ◌&&◌, ◌||◌, List, [], ◌∷◌, ◌++◌, length, take, drop, replicate, Some, slice_get, Result, Ok, Err, OnOk, refl, sym, ap, ap₂, subst, ◌∙◌, arith}
+use Rattle.std.proofs.Common.{◌≡◌, ℕ, zero, suc, ◌+◌, ◌<◌, ◌≤◌, Bool, true, false, not, ◌&&◌, ◌||◌, List, [], ◌∷◌, ◌++◌, length, take, drop, replicate, Some, Result, Ok, Err, OnOk, refl, sym, ap, ap₂, subst, ◌∙◌, arith}
 use Rattle.std.proofs.lemmas.Option.{slice_get_within}
 use Rattle.ct_sorts.specs.declared.ids.CtorId.{CtorId}
 use Rattle.ct_sorts.specs.declared.ids.DefId.{DefId}
@@ -13,7 +13,8 @@ use Rattle.ct_terms.specs.Compiled.{surely_fits, are_none}
 use Rattle.ct_terms.specs.Occurrence.{count_of, field_count, any_below, occurs, occurs_in_some, occurs_in_bound, matched_occurs, occurs_in_cases}
 use Rattle.ct_compile.specs.Forms.{is_plain, children_of}
 use Rattle.ct_compile.specs.Weight.{weight, weights}
-use Rattle.ct_compile.specs.Marks.{listed, marked, has_set, MayMark, MayMarkAll, MayMarkCases}
+use Rattle.ct_compile.specs.Calls.{CallsAre, AllCallsAre}
+use Rattle.ct_compile.specs.Marks.{listed, marked, has_set, Rows, row_in, IsKnown, MayMark, MayMarkAll, MayMarkCases}
 use Rattle.ct_compile.proofs.ReadyLemmas.{plain_sorted, plain_mentions}
 use Rattle.ct_terms.specs.declared.tree.Tree.{Tree}
 use Rattle.ct_terms.specs.TreeFormula.{formulas_of_trees}
@@ -41,6 +42,24 @@ plain_heavier w (Ite c t u) plain = cc
 plain_heavier w (Let ts u) plain = cc
 plain_heavier w (Match t cases) plain = cc
 
+pub plain_calls : (P : DefId → Type 0) (t : Formula) → is_plain t ≡ true → CallsAre P t → AllCallsAre P (children_of t)
+plain_calls P (Con c ts) plain h = h
+plain_calls P (Sel s t) plain h = (h, tt)
+plain_calls P (Test c t) plain h = (h, tt)
+plain_calls P (Apply f ts) plain h = h
+plain_calls P (Not t) plain h = (h, tt)
+plain_calls P (And ts) plain h = h
+plain_calls P (Or ts) plain h = h
+plain_calls P (Xor ts) plain h = h
+plain_calls P (Implies ts) plain h = h
+plain_calls P (Equal ts) plain h = h
+plain_calls P (Distinct ts) plain h = h
+plain_calls P (Var i) plain h = cc
+plain_calls P (Def k ts) plain h = cc
+plain_calls P (Ite c t u) plain h = cc
+plain_calls P (Let ts u) plain h = cc
+plain_calls P (Match t cases) plain h = cc
+
 -- formulas of as many sorts
 pub sorted_count : (d : Declarations) (sorts : List SortId) (ts : Formulas) (each : List SortId) → AreSorted d sorts ts each → count_of ts ≡ length each
 sorted_count d sorts no_formulas [] h = refl
@@ -61,7 +80,7 @@ set_of_one : (b : Bool) → has_set (b ∷ []) ≡ b
 set_of_one true = refl
 set_of_one false = refl
 
-module _ (d : Declarations) (uses : DefId → ℕ → Bool) (n : ℕ) (rows : List (List Bool)) where
+module _ (d : Declarations) (uses : DefId → ℕ → Bool) (n : ℕ) (rows : Rows) where
   -- ---- operators
 
   pub may_plain : (t : Formula) (ts : Formulas) → is_plain t ≡ true → children_of t ≡ ts → MayMark d uses n rows t → MayMarkAll d uses n rows ts
@@ -70,6 +89,7 @@ module _ (d : Declarations) (uses : DefId → ℕ → Bool) (n : ℕ) (rows : Li
       subst (MayMarkAll d uses n rows) under record {
         have = h.have;
         mentions = plain_mentions d [] [] n [] [] h.sorted.0 t plain h.mentions;
+        known = plain_calls (IsKnown rows) t plain h.known;
         sorted = (h.sorted.0, each.0, each.1);
       }
 
@@ -80,14 +100,14 @@ module _ (d : Declarations) (uses : DefId → ℕ → Bool) (n : ℕ) (rows : Li
   -- ---- several formulas
 
   pub may_first : (t : Formula) (ts : Formulas) → MayMarkAll d uses n rows (with_formula t ts) → MayMark d uses n rows t
-  may_first t ts h = record { have = h.have; mentions = h.mentions.0; sorted = of h.sorted.1 h.sorted.2 }
+  may_first t ts h = record { have = h.have; mentions = h.mentions.0; known = h.known.0; sorted = of h.sorted.1 h.sorted.2 }
     where
       of : (each : List SortId) → AreSorted d h.sorted.0 (with_formula t ts) each → (sorts : List SortId) × (sort : SortId) × IsSorted d sorts t sort
       of [] k = absurd k
       of (s ∷ each) k = (h.sorted.0, s, k.0)
 
   pub may_rest : (t : Formula) (ts : Formulas) → MayMarkAll d uses n rows (with_formula t ts) → MayMarkAll d uses n rows ts
-  may_rest t ts h = record { have = h.have; mentions = h.mentions.1; sorted = of h.sorted.1 h.sorted.2 }
+  may_rest t ts h = record { have = h.have; mentions = h.mentions.1; known = h.known.1; sorted = of h.sorted.1 h.sorted.2 }
     where
       of : (each : List SortId) → AreSorted d h.sorted.0 (with_formula t ts) each → (sorts : List SortId) × (each : List SortId) × AreSorted d sorts ts each
       of [] k = absurd k
@@ -96,13 +116,13 @@ module _ (d : Declarations) (uses : DefId → ℕ → Bool) (n : ℕ) (rows : Li
   -- ---- a choice
 
   pub may_condition : (c t u : Formula) → MayMark d uses n rows (Ite c t u) → MayMark d uses n rows c
-  may_condition c t u h = record { have = h.have; mentions = h.mentions.0; sorted = (h.sorted.0, bool_sort, h.sorted.2.0) }
+  may_condition c t u h = record { have = h.have; mentions = h.mentions.0; known = h.known.0; sorted = (h.sorted.0, bool_sort, h.sorted.2.0) }
 
   pub may_then : (c t u : Formula) → MayMark d uses n rows (Ite c t u) → MayMark d uses n rows t
-  may_then c t u h = record { have = h.have; mentions = h.mentions.1; sorted = (h.sorted.0, h.sorted.1, h.sorted.2.1) }
+  may_then c t u h = record { have = h.have; mentions = h.mentions.1; known = h.known.1; sorted = (h.sorted.0, h.sorted.1, h.sorted.2.1) }
 
   pub may_else : (c t u : Formula) → MayMark d uses n rows (Ite c t u) → MayMark d uses n rows u
-  may_else c t u h = record { have = h.have; mentions = h.mentions.2; sorted = (h.sorted.0, h.sorted.1, h.sorted.2.2) }
+  may_else c t u h = record { have = h.have; mentions = h.mentions.2; known = h.known.2; sorted = (h.sorted.0, h.sorted.1, h.sorted.2.2) }
 
   pub marks_choice : (c t u : Formula) (bs : List Bool) → marked (occurs d uses u) (marked (occurs d uses t) (marked (occurs d uses c) bs)) ≡ marked (occurs d uses (Ite c t u)) bs
   marks_choice c t u bs =
@@ -111,22 +131,19 @@ module _ (d : Declarations) (uses : DefId → ℕ → Bool) (n : ℕ) (rows : Li
   -- ---- a definition with its arguments
 
   pub may_args : (k : DefId) (ts : Formulas) → MayMark d uses n rows (Def k ts) → MayMarkAll d uses n rows ts
-  may_args k ts h = record { have = h.have; mentions = h.mentions.1; sorted = (h.sorted.0, h.sorted.2.0.args, h.sorted.2.2) }
+  may_args k ts h = record { have = h.have; mentions = h.mentions.1; known = h.known.1; sorted = (h.sorted.0, h.sorted.2.0.args, h.sorted.2.2) }
 
-  pub row_there : (k : DefId) (ts : Formulas) → MayMark d uses n rows (Def k ts) → slice_get rows k.0 ≡ Some (listed (uses k) (count_of ts))
-  row_there k ts h =
-      h.have k h.sorted.2.0 h.mentions.0 h.sorted.2.1 ∙ ap (λ (m : ℕ). Some (listed (uses k) m)) (sym (sorted_count d h.sorted.0 ts h.sorted.2.0.args h.sorted.2.2))
-
-  pub row_inside : (k : DefId) (ts : Formulas) → MayMark d uses n rows (Def k ts) → k.0 < length rows
-  row_inside k ts h = slice_get_within rows k.0 (listed (uses k) (count_of ts)) (row_there k ts h)
+  pub row_there : (k : DefId) (ts : Formulas) → MayMark d uses n rows (Def k ts) → (row : List Bool) → row_in rows k ≡ Some row → row ≡ listed (uses k) (count_of ts)
+  row_there k ts h row at =
+      h.have k h.sorted.2.0 row h.mentions.0 h.sorted.2.1 at ∙ ap (listed (uses k)) (sym (sorted_count d h.sorted.0 ts h.sorted.2.0.args h.sorted.2.2))
 
   -- ---- bindings
 
   pub may_body : (ts : Formulas) (u : Formula) → MayMark d uses n rows (Let ts u) → MayMark d uses n rows u
-  may_body ts u h = record { have = h.have; mentions = h.mentions.1; sorted = (bind h.sorted.2.0 h.sorted.0, h.sorted.1, h.sorted.2.3) }
+  may_body ts u h = record { have = h.have; mentions = h.mentions.1; known = h.known.1; sorted = (bind h.sorted.2.0 h.sorted.0, h.sorted.1, h.sorted.2.3) }
 
   pub may_bound : (ts : Formulas) (u : Formula) → MayMark d uses n rows (Let ts u) → MayMarkAll d uses n rows ts
-  may_bound ts u h = record { have = h.have; mentions = h.mentions.0; sorted = (h.sorted.0, h.sorted.2.0, h.sorted.2.2) }
+  may_bound ts u h = record { have = h.have; mentions = h.mentions.0; known = h.known.0; sorted = (h.sorted.0, h.sorted.2.0, h.sorted.2.2) }
 
   pub marks_let : (ts : Formulas) (u : Formula) (bs : List Bool) → marked (occurs_in_bound d uses (occurs d uses u) ts) (marked (λ i. occurs d uses u (i + count_of ts)) bs) ≡ marked (occurs d uses (Let ts u)) bs
   marks_let ts u bs =
@@ -135,16 +152,16 @@ module _ (d : Declarations) (uses : DefId → ℕ → Bool) (n : ℕ) (rows : Li
   -- ---- cases
 
   pub may_matched : (t : Formula) (cases : Cases) → MayMark d uses n rows (Match t cases) → MayMark d uses n rows t
-  may_matched t cases h = record { have = h.have; mentions = h.mentions.0; sorted = (h.sorted.0, h.sorted.2.0, h.sorted.2.1) }
+  may_matched t cases h = record { have = h.have; mentions = h.mentions.0; known = h.known.0; sorted = (h.sorted.0, h.sorted.2.0, h.sorted.2.1) }
 
   pub may_cases : (t : Formula) (cases : Cases) → MayMark d uses n rows (Match t cases) → MayMarkCases d uses n rows cases
-  may_cases t cases h = record { have = h.have; mentions = h.mentions.1; sorted = (h.sorted.0, h.sorted.2.0, h.sorted.1, h.sorted.2.4) }
+  may_cases t cases h = record { have = h.have; mentions = h.mentions.1; known = h.known.1; sorted = (h.sorted.0, h.sorted.2.0, h.sorted.1, h.sorted.2.4) }
 
   pub may_case : (p : Pattern) (body : Formula) (cases : Cases) → MayMarkCases d uses n rows (with_case p body cases) → MayMark d uses n rows body
-  may_case p body cases h = record { have = h.have; mentions = h.mentions.0; sorted = (bind h.sorted.3.0.0 h.sorted.0, h.sorted.2, h.sorted.3.0.2) }
+  may_case p body cases h = record { have = h.have; mentions = h.mentions.0; known = h.known.0; sorted = (bind h.sorted.3.0.0 h.sorted.0, h.sorted.2, h.sorted.3.0.2) }
 
   pub may_later : (p : Pattern) (body : Formula) (cases : Cases) → MayMarkCases d uses n rows (with_case p body cases) → MayMarkCases d uses n rows cases
-  may_later p body cases h = record { have = h.have; mentions = h.mentions.1; sorted = (h.sorted.0, h.sorted.1, h.sorted.2, h.sorted.3.1) }
+  may_later p body cases h = record { have = h.have; mentions = h.mentions.1; known = h.known.1; sorted = (h.sorted.0, h.sorted.1, h.sorted.2, h.sorted.3.1) }
 
   pub case_constructor : (c : CtorId) (body : Formula) (cases : Cases) → MayMarkCases d uses n rows (with_case (Ctor c) body cases) → IsConstructor d c
   case_constructor c body cases h = slice_get_within d.ctors c.0 h.sorted.3.0.1.0 h.sorted.3.0.1.1
@@ -194,14 +211,14 @@ module _ (d : Declarations) (uses : DefId → ℕ → Bool) (n : ℕ) (rows : Li
 
 -- ---- the loop over several formulas
 
-pub record MarksRest (d : Declarations) (rows : List (List Bool)) (all : Formulas) (first : List Bool) (rest : Formulas) (flags : List Bool) : Type 0 where
+pub record MarksRest (d : Declarations) (rows : Rows) (all : Formulas) (first : List Bool) (rest : Formulas) (flags : List Bool) : Type 0 where
   pub step : (uses : DefId → ℕ → Bool) (n : ℕ) → MayMarkAll d uses n rows all → MayMarkAll d uses n rows rest × (marked (occurs_in_some d uses rest) flags ≡ marked (occurs_in_some d uses all) first)
   pub lighter : weights (λ k. 0) rest ≤ weights (λ k. 0) all
 
-pub rest_start : (d : Declarations) (rows : List (List Bool)) (all : Formulas) (first : List Bool) → MarksRest d rows all first all first
+pub rest_start : (d : Declarations) (rows : Rows) (all : Formulas) (first : List Bool) → MarksRest d rows all first all first
 rest_start d rows all first = record { step = λ uses n h. (h, refl); lighter = omega arith }
 
-module _ (d : Declarations) (rows : List (List Bool)) (all : Formulas) (first : List Bool) (t : Formula) (ts : Formulas) (flags : List Bool) (h : MarksRest d rows all first (with_formula t ts) flags) where
+module _ (d : Declarations) (rows : Rows) (all : Formulas) (first : List Bool) (t : Formula) (ts : Formulas) (flags : List Bool) (h : MarksRest d rows all first (with_formula t ts) flags) where
   pub rest_first : (uses : DefId → ℕ → Bool) (n : ℕ) → MayMarkAll d uses n rows all → MayMark d uses n rows t
   rest_first uses n may = may_first d uses n rows t ts (h.step uses n may).0
 
@@ -218,19 +235,19 @@ module _ (d : Declarations) (rows : List (List Bool)) (all : Formulas) (first : 
     lighter = let k = h.lighter in omega arith;
   }
 
-pub rest_end : (d : Declarations) (rows : List (List Bool)) (all : Formulas) (first flags : List Bool) (uses : DefId → ℕ → Bool) (n : ℕ) → MarksRest d rows all first no_formulas flags → MayMarkAll d uses n rows all → flags ≡ marked (occurs_in_some d uses all) first
+pub rest_end : (d : Declarations) (rows : Rows) (all : Formulas) (first flags : List Bool) (uses : DefId → ℕ → Bool) (n : ℕ) → MarksRest d rows all first no_formulas flags → MayMarkAll d uses n rows all → flags ≡ marked (occurs_in_some d uses all) first
 rest_end d rows all first flags uses n h may = sym (marked_none flags) ∙ (h.step uses n may).1
 
 -- ---- the loop over formulas that are bound
 
-pub record MarksBound (d : Declarations) (rows : List (List Bool)) (bound : List Bool) (all : Formulas) (first : List Bool) (left : List Bool) (rest : Formulas) (flags : List Bool) : Type 0 where
+pub record MarksBound (d : Declarations) (rows : Rows) (bound : List Bool) (all : Formulas) (first : List Bool) (left : List Bool) (rest : Formulas) (flags : List Bool) : Type 0 where
   pub step : (inner : ℕ → Bool) (uses : DefId → ℕ → Bool) (n : ℕ) → MayMarkAll d uses n rows all → bound ≡ listed inner (count_of all) → MayMarkAll d uses n rows rest × ((left ≡ listed inner (count_of rest)) × (marked (occurs_in_bound d uses inner rest) flags ≡ marked (occurs_in_bound d uses inner all) first))
   pub lighter : weights (λ k. 0) rest ≤ weights (λ k. 0) all
 
-pub bound_start : (d : Declarations) (rows : List (List Bool)) (bound : List Bool) (all : Formulas) (first : List Bool) → MarksBound d rows bound all first bound all first
+pub bound_start : (d : Declarations) (rows : Rows) (bound : List Bool) (all : Formulas) (first : List Bool) → MarksBound d rows bound all first bound all first
 bound_start d rows bound all first = record { step = λ inner uses n h e. (h, (e, refl)); lighter = omega arith }
 
-module _ (d : Declarations) (rows : List (List Bool)) (bound : List Bool) (all : Formulas) (first : List Bool) (b : Bool) (left : List Bool) (t : Formula) (ts : Formulas) (flags : List Bool) (h : MarksBound d rows bound all first (b ∷ left) (with_formula t ts) flags) where
+module _ (d : Declarations) (rows : Rows) (bound : List Bool) (all : Formulas) (first : List Bool) (b : Bool) (left : List Bool) (t : Formula) (ts : Formulas) (flags : List Bool) (h : MarksBound d rows bound all first (b ∷ left) (with_formula t ts) flags) where
   pub bound_first : (inner : ℕ → Bool) (uses : DefId → ℕ → Bool) (n : ℕ) → MayMarkAll d uses n rows all → bound ≡ listed inner (count_of all) → MayMark d uses n rows t
   bound_first inner uses n may e = may_first d uses n rows t ts (h.step inner uses n may e).0
 
@@ -256,11 +273,11 @@ module _ (d : Declarations) (rows : List (List Bool)) (bound : List Bool) (all :
       heads : (x : Bool) (xs : List Bool) (y : Bool) (ys : List Bool) → x ∷ xs ≡ y ∷ ys → (x ≡ y) × (xs ≡ ys)
       heads x xs y ys e = (cc, cc)
 
-pub bound_end : (d : Declarations) (rows : List (List Bool)) (bound : List Bool) (all : Formulas) (first left flags : List Bool) (inner : ℕ → Bool) (uses : DefId → ℕ → Bool) (n : ℕ) → MarksBound d rows bound all first left no_formulas flags → MayMarkAll d uses n rows all → bound ≡ listed inner (count_of all) → flags ≡ marked (occurs_in_bound d uses inner all) first
+pub bound_end : (d : Declarations) (rows : Rows) (bound : List Bool) (all : Formulas) (first left flags : List Bool) (inner : ℕ → Bool) (uses : DefId → ℕ → Bool) (n : ℕ) → MarksBound d rows bound all first left no_formulas flags → MayMarkAll d uses n rows all → bound ≡ listed inner (count_of all) → flags ≡ marked (occurs_in_bound d uses inner all) first
 bound_end d rows bound all first left flags inner uses n h may e = sym (marked_none flags) ∙ (h.step inner uses n may e).1.1
 
 -- the flags do not end before the formulas
-pub bound_short : (d : Declarations) (rows : List (List Bool)) (bound : List Bool) (all : Formulas) (first : List Bool) (t : Formula) (ts : Formulas) (flags : List Bool) (inner : ℕ → Bool) (uses : DefId → ℕ → Bool) (n : ℕ) → MarksBound d rows bound all first [] (with_formula t ts) flags → MayMarkAll d uses n rows all → bound ≡ listed inner (count_of all) → ⊥
+pub bound_short : (d : Declarations) (rows : Rows) (bound : List Bool) (all : Formulas) (first : List Bool) (t : Formula) (ts : Formulas) (flags : List Bool) (inner : ℕ → Bool) (uses : DefId → ℕ → Bool) (n : ℕ) → MarksBound d rows bound all first [] (with_formula t ts) flags → MayMarkAll d uses n rows all → bound ≡ listed inner (count_of all) → ⊥
 bound_short d rows bound all first t ts flags inner uses n h may e = differ (inner (count_of ts)) (listed inner (count_of ts)) (h.step inner uses n may e).1.0
   where
     differ : (x : Bool) (xs : List Bool) → [] ≡ x ∷ xs → ⊥

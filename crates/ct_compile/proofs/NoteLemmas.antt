@@ -12,111 +12,111 @@ use Rattle.ct_terms.specs.Compiled.{surely_fits, are_none}
 use Rattle.ct_terms.specs.Occurrence.{count_of, occurs, matched_occurs}
 use Rattle.ct_compile.specs.declared.notes.Notes.{Notes}
 use Rattle.ct_compile.specs.Forms.{is_plain, children_of}
-use Rattle.ct_compile.specs.Marks.{listed, MayMarkAll}
+use Rattle.ct_compile.specs.Marks.{listed, Rows, IsKnown, MayMarkAll}
 use Rattle.ct_compile.specs.Matching.{tested_by}
 use Rattle.ct_compile.specs.Noted.{bound_of, under_of, inner_of, IsOfFirst, IsNoted, AreNoted, AreNotedWhere, CasesNoted}
 
 -- an operator, from what is under it
-pub noted_plain : (d : Declarations) (uses : DefId → ℕ → Bool) (t : Formula) (m : Notes) → is_plain t ≡ true → AreNoted d uses (children_of t) (under_of m) → IsNoted d uses t m
-noted_plain d uses (Con c ts) m plain h = h
-noted_plain d uses (Sel s t) m plain h = h.0
-noted_plain d uses (Test c t) m plain h = h.0
-noted_plain d uses (Apply f ts) m plain h = h
-noted_plain d uses (Not t) m plain h = h.0
-noted_plain d uses (And ts) m plain h = h
-noted_plain d uses (Or ts) m plain h = h
-noted_plain d uses (Xor ts) m plain h = h
-noted_plain d uses (Implies ts) m plain h = h
-noted_plain d uses (Equal ts) m plain h = h
-noted_plain d uses (Distinct ts) m plain h = h
-noted_plain d uses (Var i) m plain h = absurd (true≢false (sym plain))
-noted_plain d uses (Def k ts) m plain h = absurd (true≢false (sym plain))
-noted_plain d uses (Ite c t u) m plain h = absurd (true≢false (sym plain))
-noted_plain d uses (Let ts u) m plain h = absurd (true≢false (sym plain))
-noted_plain d uses (Match t cases) m plain h = absurd (true≢false (sym plain))
+pub noted_plain : (d : Declarations) (rows : Rows) (uses : DefId → ℕ → Bool) (t : Formula) (m : Notes) → is_plain t ≡ true → AreNoted d rows uses (children_of t) (under_of m) → IsNoted d rows uses t m
+noted_plain d rows uses (Con c ts) m plain h = h
+noted_plain d rows uses (Sel s t) m plain h = h.0
+noted_plain d rows uses (Test c t) m plain h = h.0
+noted_plain d rows uses (Apply f ts) m plain h = h
+noted_plain d rows uses (Not t) m plain h = h.0
+noted_plain d rows uses (And ts) m plain h = h
+noted_plain d rows uses (Or ts) m plain h = h
+noted_plain d rows uses (Xor ts) m plain h = h
+noted_plain d rows uses (Implies ts) m plain h = h
+noted_plain d rows uses (Equal ts) m plain h = h
+noted_plain d rows uses (Distinct ts) m plain h = h
+noted_plain d rows uses (Var i) m plain h = absurd (true≢false (sym plain))
+noted_plain d rows uses (Def k ts) m plain h = absurd (true≢false (sym plain))
+noted_plain d rows uses (Ite c t u) m plain h = absurd (true≢false (sym plain))
+noted_plain d rows uses (Let ts u) m plain h = absurd (true≢false (sym plain))
+noted_plain d rows uses (Match t cases) m plain h = absurd (true≢false (sym plain))
 
-pub noted_operator : (d : Declarations) (uses : DefId → ℕ → Bool) (t : Formula) (ts : Formulas) (m : Notes) (ms : List Notes) → is_plain t ≡ true → children_of t ≡ ts → under_of m ≡ ms → AreNoted d uses ts ms → IsNoted d uses t m
-noted_operator d uses t ts m ms plain under is h =
-    noted_plain d uses t m plain (subst (λ (us : Formulas). AreNoted d uses us (under_of m)) (sym under) (subst (AreNoted d uses ts) (sym is) h))
+pub noted_operator : (d : Declarations) (rows : Rows) (uses : DefId → ℕ → Bool) (t : Formula) (ts : Formulas) (m : Notes) (ms : List Notes) → is_plain t ≡ true → children_of t ≡ ts → under_of m ≡ ms → AreNoted d rows uses ts ms → IsNoted d rows uses t m
+noted_operator d rows uses t ts m ms plain under is h =
+    noted_plain d rows uses t m plain (subst (λ (us : Formulas). AreNoted d rows uses us (under_of m)) (sym under) (subst (AreNoted d rows uses ts) (sym is) h))
 
 -- what is under an operator, from the operator
-pub noted_children : (d : Declarations) (uses : DefId → ℕ → Bool) (t : Formula) (m : Notes) → is_plain t ≡ true → IsNoted d uses t m → AreNoted d uses (children_of t) (under_of m)
-noted_children d uses (Con c ts) m plain h = h
-noted_children d uses (Sel s t) m plain h = (h, tt)
-noted_children d uses (Test c t) m plain h = (h, tt)
-noted_children d uses (Apply f ts) m plain h = h
-noted_children d uses (Not t) m plain h = (h, tt)
-noted_children d uses (And ts) m plain h = h
-noted_children d uses (Or ts) m plain h = h
-noted_children d uses (Xor ts) m plain h = h
-noted_children d uses (Implies ts) m plain h = h
-noted_children d uses (Equal ts) m plain h = h
-noted_children d uses (Distinct ts) m plain h = h
-noted_children d uses (Var i) m plain h = absurd (true≢false (sym plain))
-noted_children d uses (Def k ts) m plain h = absurd (true≢false (sym plain))
-noted_children d uses (Ite c t u) m plain h = absurd (true≢false (sym plain))
-noted_children d uses (Let ts u) m plain h = absurd (true≢false (sym plain))
-noted_children d uses (Match t cases) m plain h = absurd (true≢false (sym plain))
+pub noted_children : (d : Declarations) (rows : Rows) (uses : DefId → ℕ → Bool) (t : Formula) (m : Notes) → is_plain t ≡ true → IsNoted d rows uses t m → AreNoted d rows uses (children_of t) (under_of m)
+noted_children d rows uses (Con c ts) m plain h = h
+noted_children d rows uses (Sel s t) m plain h = (h, tt)
+noted_children d rows uses (Test c t) m plain h = (h, tt)
+noted_children d rows uses (Apply f ts) m plain h = h
+noted_children d rows uses (Not t) m plain h = (h, tt)
+noted_children d rows uses (And ts) m plain h = h
+noted_children d rows uses (Or ts) m plain h = h
+noted_children d rows uses (Xor ts) m plain h = h
+noted_children d rows uses (Implies ts) m plain h = h
+noted_children d rows uses (Equal ts) m plain h = h
+noted_children d rows uses (Distinct ts) m plain h = h
+noted_children d rows uses (Var i) m plain h = absurd (true≢false (sym plain))
+noted_children d rows uses (Def k ts) m plain h = absurd (true≢false (sym plain))
+noted_children d rows uses (Ite c t u) m plain h = absurd (true≢false (sym plain))
+noted_children d rows uses (Let ts u) m plain h = absurd (true≢false (sym plain))
+noted_children d rows uses (Match t cases) m plain h = absurd (true≢false (sym plain))
 
-module _ (d : Declarations) (uses : DefId → ℕ → Bool) where
-  pub noted_call : (k : DefId) (ts : Formulas) (m : Notes) (ms : List Notes) (row : List Bool) → row ≡ listed (uses k) (count_of ts) → under_of m ≡ ms → AreNotedWhere d uses row ts ms → IsNoted d uses (Def k ts) m
-  noted_call k ts m ms row is under h = subst (AreNotedWhere d uses (listed (uses k) (count_of ts)) ts) (sym under) (subst (λ (bs : List Bool). AreNotedWhere d uses bs ts ms) is h)
+module _ (d : Declarations) (rows : Rows) (uses : DefId → ℕ → Bool) where
+  pub noted_call : (k : DefId) (ts : Formulas) (m : Notes) (ms : List Notes) (row : List Bool) → row ≡ listed (uses k) (count_of ts) → under_of m ≡ ms → IsKnown rows k → AreNotedWhere d rows uses row ts ms → IsNoted d rows uses (Def k ts) m
+  noted_call k ts m ms row is under known h = (known, subst (AreNotedWhere d rows uses (listed (uses k) (count_of ts)) ts) (sym under) (subst (λ (bs : List Bool). AreNotedWhere d rows uses bs ts ms) is h))
 
-  pub noted_choice : (c t u : Formula) (m x y z : Notes) → under_of m ≡ x ∷ (y ∷ (z ∷ [])) → IsNoted d uses c x → IsNoted d uses t y → IsNoted d uses u z → IsNoted d uses (Ite c t u) m
+  pub noted_choice : (c t u : Formula) (m x y z : Notes) → under_of m ≡ x ∷ (y ∷ (z ∷ [])) → IsNoted d rows uses c x → IsNoted d rows uses t y → IsNoted d rows uses u z → IsNoted d rows uses (Ite c t u) m
   noted_choice c t u m x y z under f g h =
-      subst (λ (ms : List Notes). IsOfFirst (IsNoted d uses c) ms × IsOfFirst (IsNoted d uses t) (drop 1 ms) × IsOfFirst (IsNoted d uses u) (drop 1 (drop 1 ms))) (sym under) (f, g, h)
+      subst (λ (ms : List Notes). IsOfFirst (IsNoted d rows uses c) ms × IsOfFirst (IsNoted d rows uses t) (drop 1 ms) × IsOfFirst (IsNoted d rows uses u) (drop 1 (drop 1 ms))) (sym under) (f, g, h)
 
-  pub noted_let : (ts : Formulas) (u : Formula) (m x : Notes) (bound : List Bool) (ms : List Notes) → bound ≡ listed (occurs d uses u) (count_of ts) → bound_of m ≡ bound → under_of m ≡ ms → inner_of m ≡ x ∷ [] → AreNotedWhere d uses bound ts ms → IsNoted d uses u x → IsNoted d uses (Let ts u) m
+  pub noted_let : (ts : Formulas) (u : Formula) (m x : Notes) (bound : List Bool) (ms : List Notes) → bound ≡ listed (occurs d uses u) (count_of ts) → bound_of m ≡ bound → under_of m ≡ ms → inner_of m ≡ x ∷ [] → AreNotedWhere d rows uses bound ts ms → IsNoted d rows uses u x → IsNoted d rows uses (Let ts u) m
   noted_let ts u m x bound ms is flags under inner h k = (
     flags ∙ is,
-    subst (AreNotedWhere d uses (listed (occurs d uses u) (count_of ts)) ts) (sym under) (subst (λ (bs : List Bool). AreNotedWhere d uses bs ts ms) is h),
-    subst (IsOfFirst (IsNoted d uses u)) (sym inner) k,
+    subst (AreNotedWhere d rows uses (listed (occurs d uses u) (count_of ts)) ts) (sym under) (subst (λ (bs : List Bool). AreNotedWhere d rows uses bs ts ms) is h),
+    subst (IsOfFirst (IsNoted d rows uses u)) (sym inner) k,
   )
 
-  pub noted_match : (t : Formula) (cases : Cases) (m x : Notes) (b : Bool) (ms : List Notes) → b ≡ matched_occurs d uses [] cases → bound_of m ≡ b ∷ [] → under_of m ≡ x ∷ [] → inner_of m ≡ ms → (b ≡ true → IsNoted d uses t x) → CasesNoted d uses [] cases ms → IsNoted d uses (Match t cases) m
+  pub noted_match : (t : Formula) (cases : Cases) (m x : Notes) (b : Bool) (ms : List Notes) → b ≡ matched_occurs d uses [] cases → bound_of m ≡ b ∷ [] → under_of m ≡ x ∷ [] → inner_of m ≡ ms → (b ≡ true → IsNoted d rows uses t x) → CasesNoted d rows uses [] cases ms → IsNoted d rows uses (Match t cases) m
   noted_match t cases m x b ms is flags under inner h k = (
     flags ∙ ap (λ (c : Bool). c ∷ []) is,
-    λ e. subst (IsOfFirst (IsNoted d uses t)) (sym under) (h (is ∙ e)),
-    subst (CasesNoted d uses [] cases) (sym inner) k,
+    λ e. subst (IsOfFirst (IsNoted d rows uses t)) (sym under) (h (is ∙ e)),
+    subst (CasesNoted d rows uses [] cases) (sym inner) k,
   )
 
-  pub cases_last : (earlier : List CtorId) (c : CtorId) (body : Formula) (cases : Cases) (m : Notes) → (surely_fits d earlier c || are_none cases) ≡ true → IsNoted d uses body m → CasesNoted d uses earlier (with_case (Ctor c) body cases) (m ∷ [])
+  pub cases_last : (earlier : List CtorId) (c : CtorId) (body : Formula) (cases : Cases) (m : Notes) → (surely_fits d earlier c || are_none cases) ≡ true → IsNoted d rows uses body m → CasesNoted d rows uses earlier (with_case (Ctor c) body cases) (m ∷ [])
   cases_last earlier c body cases m fits h = (h, λ e. absurd (true≢false (sym fits ∙ e)))
 
-  pub cases_more : (earlier : List CtorId) (c : CtorId) (body : Formula) (cases : Cases) (m : Notes) (ms : List Notes) → IsNoted d uses body m → CasesNoted d uses (c ∷ earlier) cases ms → CasesNoted d uses earlier (with_case (Ctor c) body cases) (m ∷ ms)
+  pub cases_more : (earlier : List CtorId) (c : CtorId) (body : Formula) (cases : Cases) (m : Notes) (ms : List Notes) → IsNoted d rows uses body m → CasesNoted d rows uses (c ∷ earlier) cases ms → CasesNoted d rows uses earlier (with_case (Ctor c) body cases) (m ∷ ms)
   cases_more earlier c body cases m ms h k = (h, λ e. k)
 
 -- ---- the loop over several formulas
 
-pub record NotesRest (d : Declarations) (rows : List (List Bool)) (all rest : Formulas) (done : List Notes) : Type 0 where
-  pub step : (uses : DefId → ℕ → Bool) (n : ℕ) → MayMarkAll d uses n rows all → (more : List Notes) → AreNoted d uses rest more → AreNoted d uses all (done ++ more)
+pub record NotesRest (d : Declarations) (rows : Rows) (all rest : Formulas) (done : List Notes) : Type 0 where
+  pub step : (uses : DefId → ℕ → Bool) (n : ℕ) → MayMarkAll d uses n rows all → (more : List Notes) → AreNoted d rows uses rest more → AreNoted d rows uses all (done ++ more)
 
-pub notes_start : (d : Declarations) (rows : List (List Bool)) (all : Formulas) → NotesRest d rows all all []
+pub notes_start : (d : Declarations) (rows : Rows) (all : Formulas) → NotesRest d rows all all []
 notes_start d rows all = record { step = λ uses n may more h. h }
 
-pub notes_more : (d : Declarations) (rows : List (List Bool)) (all : Formulas) (t : Formula) (ts : Formulas) (done : List Notes) (m : Notes) → NotesRest d rows all (with_formula t ts) done → ((uses : DefId → ℕ → Bool) (n : ℕ) → MayMarkAll d uses n rows all → IsNoted d uses t m) → NotesRest d rows all ts (done ++ m ∷ [])
+pub notes_more : (d : Declarations) (rows : Rows) (all : Formulas) (t : Formula) (ts : Formulas) (done : List Notes) (m : Notes) → NotesRest d rows all (with_formula t ts) done → ((uses : DefId → ℕ → Bool) (n : ℕ) → MayMarkAll d uses n rows all → IsNoted d rows uses t m) → NotesRest d rows all ts (done ++ m ∷ [])
 notes_more d rows all t ts done m h first = record {
-  step = λ uses n may more k. subst (AreNoted d uses all) (sym (append_assoc done (m ∷ []) more)) (h.step uses n may (m ∷ more) (first uses n may, k));
+  step = λ uses n may more k. subst (AreNoted d rows uses all) (sym (append_assoc done (m ∷ []) more)) (h.step uses n may (m ∷ more) (first uses n may, k));
 }
 
-pub notes_end : (d : Declarations) (rows : List (List Bool)) (all : Formulas) (done : List Notes) (uses : DefId → ℕ → Bool) (n : ℕ) → NotesRest d rows all no_formulas done → MayMarkAll d uses n rows all → AreNoted d uses all done
-notes_end d rows all done uses n h may = subst (AreNoted d uses all) (append-nil done) (h.step uses n may [] tt)
+pub notes_end : (d : Declarations) (rows : Rows) (all : Formulas) (done : List Notes) (uses : DefId → ℕ → Bool) (n : ℕ) → NotesRest d rows all no_formulas done → MayMarkAll d uses n rows all → AreNoted d rows uses all done
+notes_end d rows all done uses n h may = subst (AreNoted d rows uses all) (append-nil done) (h.step uses n may [] tt)
 
 -- ---- the loop over formulas that are bound
 
-pub record NotesBound (d : Declarations) (rows : List (List Bool)) (bound : List Bool) (all : Formulas) (left : List Bool) (rest : Formulas) (done : List Notes) : Type 0 where
-  pub step : (inner : ℕ → Bool) (uses : DefId → ℕ → Bool) (n : ℕ) → MayMarkAll d uses n rows all → bound ≡ listed inner (count_of all) → (more : List Notes) → AreNotedWhere d uses left rest more → AreNotedWhere d uses bound all (done ++ more)
+pub record NotesBound (d : Declarations) (rows : Rows) (bound : List Bool) (all : Formulas) (left : List Bool) (rest : Formulas) (done : List Notes) : Type 0 where
+  pub step : (inner : ℕ → Bool) (uses : DefId → ℕ → Bool) (n : ℕ) → MayMarkAll d uses n rows all → bound ≡ listed inner (count_of all) → (more : List Notes) → AreNotedWhere d rows uses left rest more → AreNotedWhere d rows uses bound all (done ++ more)
 
-pub notes_bound_start : (d : Declarations) (rows : List (List Bool)) (bound : List Bool) (all : Formulas) → NotesBound d rows bound all bound all []
+pub notes_bound_start : (d : Declarations) (rows : Rows) (bound : List Bool) (all : Formulas) → NotesBound d rows bound all bound all []
 notes_bound_start d rows bound all = record { step = λ inner uses n may e more h. h }
 
-pub notes_bound_more : (d : Declarations) (rows : List (List Bool)) (bound : List Bool) (all : Formulas) (b : Bool) (left : List Bool) (t : Formula) (ts : Formulas) (done : List Notes) (m : Notes) → NotesBound d rows bound all (b ∷ left) (with_formula t ts) done → ((inner : ℕ → Bool) (uses : DefId → ℕ → Bool) (n : ℕ) → MayMarkAll d uses n rows all → bound ≡ listed inner (count_of all) → b ≡ true → IsNoted d uses t m) → NotesBound d rows bound all left ts (done ++ m ∷ [])
+pub notes_bound_more : (d : Declarations) (rows : Rows) (bound : List Bool) (all : Formulas) (b : Bool) (left : List Bool) (t : Formula) (ts : Formulas) (done : List Notes) (m : Notes) → NotesBound d rows bound all (b ∷ left) (with_formula t ts) done → ((inner : ℕ → Bool) (uses : DefId → ℕ → Bool) (n : ℕ) → MayMarkAll d uses n rows all → bound ≡ listed inner (count_of all) → b ≡ true → IsNoted d rows uses t m) → NotesBound d rows bound all left ts (done ++ m ∷ [])
 notes_bound_more d rows bound all b left t ts done m h first = record {
-  step = λ inner uses n may e more k. subst (AreNotedWhere d uses bound all) (sym (append_assoc done (m ∷ []) more)) (h.step inner uses n may e (m ∷ more) (first inner uses n may e, k));
+  step = λ inner uses n may e more k. subst (AreNotedWhere d rows uses bound all) (sym (append_assoc done (m ∷ []) more)) (h.step inner uses n may e (m ∷ more) (first inner uses n may e, k));
 }
 
-pub notes_bound_end : (d : Declarations) (rows : List (List Bool)) (bound : List Bool) (all : Formulas) (left : List Bool) (done : List Notes) (inner : ℕ → Bool) (uses : DefId → ℕ → Bool) (n : ℕ) → NotesBound d rows bound all left no_formulas done → MayMarkAll d uses n rows all → bound ≡ listed inner (count_of all) → AreNotedWhere d uses bound all done
-notes_bound_end d rows bound all left done inner uses n h may e = subst (AreNotedWhere d uses bound all) (append-nil done) (h.step inner uses n may e [] tt)
+pub notes_bound_end : (d : Declarations) (rows : Rows) (bound : List Bool) (all : Formulas) (left : List Bool) (done : List Notes) (inner : ℕ → Bool) (uses : DefId → ℕ → Bool) (n : ℕ) → NotesBound d rows bound all left no_formulas done → MayMarkAll d uses n rows all → bound ≡ listed inner (count_of all) → AreNotedWhere d rows uses bound all done
+notes_bound_end d rows bound all left done inner uses n h may e = subst (AreNotedWhere d rows uses bound all) (append-nil done) (h.step inner uses n may e [] tt)
 
 -- ---- the notes on what is under a formula
 
@@ -128,70 +128,75 @@ pub first_noted : (P : Notes → Type 0) (ms : List Notes) (m : Notes) → IsOfF
 first_noted P [] m h at = absurd h
 first_noted P (k ∷ ms) m h at = subst P (same_Some k m at) h
 
-module _ (d : Declarations) (uses : DefId → ℕ → Bool) (ms : List Notes) (m : Notes) (at : slice_get ms 0 ≡ Some m) where
-  pub plain_notes : (t : Formula) (ts : Formulas) (under : List Notes) → is_plain t ≡ true → children_of t ≡ ts → under ≡ under_of m → IsOfFirst (IsNoted d uses t) ms → AreNoted d uses ts under
-  plain_notes t ts under plain is same h = subst (AreNoted d uses ts) (sym same) (subst (λ (us : Formulas). AreNoted d uses us (under_of m)) is (noted_children d uses t m plain (first_noted (IsNoted d uses t) ms m h at)))
+module _ (d : Declarations) (rows : Rows) (uses : DefId → ℕ → Bool) (ms : List Notes) (m : Notes) (at : slice_get ms 0 ≡ Some m) where
+  pub plain_notes : (t : Formula) (ts : Formulas) (under : List Notes) → is_plain t ≡ true → children_of t ≡ ts → under ≡ under_of m → IsOfFirst (IsNoted d rows uses t) ms → AreNoted d rows uses ts under
+  plain_notes t ts under plain is same h = subst (AreNoted d rows uses ts) (sym same) (subst (λ (us : Formulas). AreNoted d rows uses us (under_of m)) is (noted_children d rows uses t m plain (first_noted (IsNoted d rows uses t) ms m h at)))
 
-  choice_noted : (c t u : Formula) → IsOfFirst (IsNoted d uses (Ite c t u)) ms → IsNoted d uses (Ite c t u) m
-  choice_noted c t u h = first_noted (IsNoted d uses (Ite c t u)) ms m h at
+  choice_noted : (c t u : Formula) → IsOfFirst (IsNoted d rows uses (Ite c t u)) ms → IsNoted d rows uses (Ite c t u) m
+  choice_noted c t u h = first_noted (IsNoted d rows uses (Ite c t u)) ms m h at
 
-  pub condition_notes : (c t u : Formula) (under : List Notes) → under ≡ under_of m → IsOfFirst (IsNoted d uses (Ite c t u)) ms → IsOfFirst (IsNoted d uses c) under
-  condition_notes c t u under same h = subst (IsOfFirst (IsNoted d uses c)) (sym same) (choice_noted c t u h).0
+  pub condition_notes : (c t u : Formula) (under : List Notes) → under ≡ under_of m → IsOfFirst (IsNoted d rows uses (Ite c t u)) ms → IsOfFirst (IsNoted d rows uses c) under
+  condition_notes c t u under same h = subst (IsOfFirst (IsNoted d rows uses c)) (sym same) (choice_noted c t u h).0
 
-  pub then_notes : (c t u : Formula) (under second : List Notes) → under ≡ under_of m → second ≡ drop 1 under → IsOfFirst (IsNoted d uses (Ite c t u)) ms → IsOfFirst (IsNoted d uses t) second
-  then_notes c t u under second same next h = subst (IsOfFirst (IsNoted d uses t)) (sym (next ∙ ap (drop 1) same)) (choice_noted c t u h).1
+  pub then_notes : (c t u : Formula) (under second : List Notes) → under ≡ under_of m → second ≡ drop 1 under → IsOfFirst (IsNoted d rows uses (Ite c t u)) ms → IsOfFirst (IsNoted d rows uses t) second
+  then_notes c t u under second same next h = subst (IsOfFirst (IsNoted d rows uses t)) (sym (next ∙ ap (drop 1) same)) (choice_noted c t u h).1
 
-  pub else_notes : (c t u : Formula) (under second third : List Notes) → under ≡ under_of m → second ≡ drop 1 under → third ≡ drop 1 second → IsOfFirst (IsNoted d uses (Ite c t u)) ms → IsOfFirst (IsNoted d uses u) third
-  else_notes c t u under second third same next last h = subst (IsOfFirst (IsNoted d uses u)) (sym (last ∙ ap (drop 1) (next ∙ ap (drop 1) same))) (choice_noted c t u h).2
+  pub else_notes : (c t u : Formula) (under second third : List Notes) → under ≡ under_of m → second ≡ drop 1 under → third ≡ drop 1 second → IsOfFirst (IsNoted d rows uses (Ite c t u)) ms → IsOfFirst (IsNoted d rows uses u) third
+  else_notes c t u under second third same next last h = subst (IsOfFirst (IsNoted d rows uses u)) (sym (last ∙ ap (drop 1) (next ∙ ap (drop 1) same))) (choice_noted c t u h).2
 
-  let_noted : (ts : Formulas) (u : Formula) → IsOfFirst (IsNoted d uses (Let ts u)) ms → IsNoted d uses (Let ts u) m
-  let_noted ts u h = first_noted (IsNoted d uses (Let ts u)) ms m h at
+  let_noted : (ts : Formulas) (u : Formula) → IsOfFirst (IsNoted d rows uses (Let ts u)) ms → IsNoted d rows uses (Let ts u) m
+  let_noted ts u h = first_noted (IsNoted d rows uses (Let ts u)) ms m h at
 
-  pub let_flags : (ts : Formulas) (u : Formula) (bound : List Bool) → bound ≡ bound_of m → IsOfFirst (IsNoted d uses (Let ts u)) ms → bound ≡ listed (occurs d uses u) (count_of ts)
+  pub let_flags : (ts : Formulas) (u : Formula) (bound : List Bool) → bound ≡ bound_of m → IsOfFirst (IsNoted d rows uses (Let ts u)) ms → bound ≡ listed (occurs d uses u) (count_of ts)
   let_flags ts u bound same h = same ∙ (let_noted ts u h).0
 
-  pub let_under : (ts : Formulas) (u : Formula) (bound : List Bool) (under : List Notes) → bound ≡ bound_of m → under ≡ under_of m → IsOfFirst (IsNoted d uses (Let ts u)) ms → AreNotedWhere d uses bound ts under
-  let_under ts u bound under flags same h = subst (AreNotedWhere d uses bound ts) (sym same) (subst (λ (bs : List Bool). AreNotedWhere d uses bs ts (under_of m)) (sym (let_flags ts u bound flags h)) (let_noted ts u h).1)
+  pub let_under : (ts : Formulas) (u : Formula) (bound : List Bool) (under : List Notes) → bound ≡ bound_of m → under ≡ under_of m → IsOfFirst (IsNoted d rows uses (Let ts u)) ms → AreNotedWhere d rows uses bound ts under
+  let_under ts u bound under flags same h = subst (AreNotedWhere d rows uses bound ts) (sym same) (subst (λ (bs : List Bool). AreNotedWhere d rows uses bs ts (under_of m)) (sym (let_flags ts u bound flags h)) (let_noted ts u h).1)
 
-  pub let_inner : (ts : Formulas) (u : Formula) (inner : List Notes) → inner ≡ inner_of m → IsOfFirst (IsNoted d uses (Let ts u)) ms → IsOfFirst (IsNoted d uses u) inner
-  let_inner ts u inner same h = subst (IsOfFirst (IsNoted d uses u)) (sym same) (let_noted ts u h).2
+  pub let_inner : (ts : Formulas) (u : Formula) (inner : List Notes) → inner ≡ inner_of m → IsOfFirst (IsNoted d rows uses (Let ts u)) ms → IsOfFirst (IsNoted d rows uses u) inner
+  let_inner ts u inner same h = subst (IsOfFirst (IsNoted d rows uses u)) (sym same) (let_noted ts u h).2
 
-  pub call_notes : (k : DefId) (ts : Formulas) (row : List Bool) (under : List Notes) → row ≡ listed (uses k) (count_of ts) → under ≡ under_of m → IsOfFirst (IsNoted d uses (Def k ts)) ms → AreNotedWhere d uses row ts under
-  call_notes k ts row under is same h = subst (AreNotedWhere d uses row ts) (sym same) (subst (λ (bs : List Bool). AreNotedWhere d uses bs ts (under_of m)) (sym is) (first_noted (IsNoted d uses (Def k ts)) ms m h at))
+  pub call_notes : (k : DefId) (ts : Formulas) (row : List Bool) (under : List Notes) → row ≡ listed (uses k) (count_of ts) → under ≡ under_of m → IsOfFirst (IsNoted d rows uses (Def k ts)) ms → AreNotedWhere d rows uses row ts under
+  call_notes k ts row under is same h = subst (AreNotedWhere d rows uses row ts) (sym same) (subst (λ (bs : List Bool). AreNotedWhere d rows uses bs ts (under_of m)) (sym is) (first_noted (IsNoted d rows uses (Def k ts)) ms m h at).1)
 
-  match_noted : (t : Formula) (cases : Cases) → IsOfFirst (IsNoted d uses (Match t cases)) ms → IsNoted d uses (Match t cases) m
-  match_noted t cases h = first_noted (IsNoted d uses (Match t cases)) ms m h at
+  match_noted : (t : Formula) (cases : Cases) → IsOfFirst (IsNoted d rows uses (Match t cases)) ms → IsNoted d rows uses (Match t cases) m
+  match_noted t cases h = first_noted (IsNoted d rows uses (Match t cases)) ms m h at
 
-  pub match_inside : (t : Formula) (cases : Cases) (bound : List Bool) → bound ≡ bound_of m → IsOfFirst (IsNoted d uses (Match t cases)) ms → 0 < length bound
+  pub match_inside : (t : Formula) (cases : Cases) (bound : List Bool) → bound ≡ bound_of m → IsOfFirst (IsNoted d rows uses (Match t cases)) ms → 0 < length bound
   match_inside t cases bound same h = subst (λ (bs : List Bool). 0 < length bs) (sym (same ∙ (match_noted t cases h).0)) one
     where
       one : 0 < length (matched_occurs d uses [] cases ∷ [])
       one = omega arith
 
-  pub match_flag : (t : Formula) (cases : Cases) (bound : List Bool) (b : Bool) → bound ≡ bound_of m → slice_get bound 0 ≡ Some b → IsOfFirst (IsNoted d uses (Match t cases)) ms → b ≡ matched_occurs d uses [] cases
+  pub match_flag : (t : Formula) (cases : Cases) (bound : List Bool) (b : Bool) → bound ≡ bound_of m → slice_get bound 0 ≡ Some b → IsOfFirst (IsNoted d rows uses (Match t cases)) ms → b ≡ matched_occurs d uses [] cases
   match_flag t cases bound b same first h = same_Some b (matched_occurs d uses [] cases) (sym first ∙ ap (λ (bs : List Bool). slice_get bs 0) (same ∙ (match_noted t cases h).0))
 
-  pub match_under : (t : Formula) (cases : Cases) (b : Bool) (flags : List Bool) (ts : Formulas) (under : List Notes) → b ≡ matched_occurs d uses [] cases → flags ≡ b ∷ [] → ts ≡ with_formula t no_formulas → under ≡ under_of m → IsOfFirst (IsNoted d uses (Match t cases)) ms → AreNotedWhere d uses flags ts under
+  pub match_under : (t : Formula) (cases : Cases) (b : Bool) (flags : List Bool) (ts : Formulas) (under : List Notes) → b ≡ matched_occurs d uses [] cases → flags ≡ b ∷ [] → ts ≡ with_formula t no_formulas → under ≡ under_of m → IsOfFirst (IsNoted d rows uses (Match t cases)) ms → AreNotedWhere d rows uses flags ts under
   match_under t cases b flags ts under is one tree same h =
-      subst (λ (bs : List Bool). AreNotedWhere d uses bs ts under) (sym one) (subst (λ (us : Formulas). AreNotedWhere d uses (b ∷ []) us under) (sym tree) (λ e. subst (IsOfFirst (IsNoted d uses t)) (sym same) ((match_noted t cases h).1 (sym is ∙ e)), tt))
+      subst (λ (bs : List Bool). AreNotedWhere d rows uses bs ts under) (sym one) (subst (λ (us : Formulas). AreNotedWhere d rows uses (b ∷ []) us under) (sym tree) (λ e. subst (IsOfFirst (IsNoted d rows uses t)) (sym same) ((match_noted t cases h).1 (sym is ∙ e)), tt))
 
-  pub match_inner : (t : Formula) (cases : Cases) (earlier : List CtorId) (inner : List Notes) → earlier ≡ [] → inner ≡ inner_of m → IsOfFirst (IsNoted d uses (Match t cases)) ms → CasesNoted d uses earlier cases inner
-  match_inner t cases earlier inner none same h = subst (λ (e : List CtorId). CasesNoted d uses e cases inner) (sym none) (subst (CasesNoted d uses [] cases) (sym same) (match_noted t cases h).2)
+  pub match_inner : (t : Formula) (cases : Cases) (earlier : List CtorId) (inner : List Notes) → earlier ≡ [] → inner ≡ inner_of m → IsOfFirst (IsNoted d rows uses (Match t cases)) ms → CasesNoted d rows uses earlier cases inner
+  match_inner t cases earlier inner none same h = subst (λ (e : List CtorId). CasesNoted d rows uses e cases inner) (sym none) (subst (CasesNoted d rows uses [] cases) (sym same) (match_noted t cases h).2)
 
-pub case_notes : (d : Declarations) (uses : DefId → ℕ → Bool) (earlier : List CtorId) (p : Pattern) (body : Formula) (cases : Cases) (ms : List Notes) → CasesNoted d uses earlier (with_case p body cases) ms → IsOfFirst (IsNoted d uses body) ms
-case_notes d uses earlier Any body cases ms h = h
-case_notes d uses earlier (Ctor c) body cases ms h = h.0
+pub case_notes : (d : Declarations) (rows : Rows) (uses : DefId → ℕ → Bool) (earlier : List CtorId) (p : Pattern) (body : Formula) (cases : Cases) (ms : List Notes) → CasesNoted d rows uses earlier (with_case p body cases) ms → IsOfFirst (IsNoted d rows uses body) ms
+case_notes d rows uses earlier Any body cases ms h = h
+case_notes d rows uses earlier (Ctor c) body cases ms h = h.0
 
-pub later_cases : (d : Declarations) (uses : DefId → ℕ → Bool) (earlier : List CtorId) (p : Pattern) (c : CtorId) (body : Formula) (cases : Cases) (ms : List Notes) → tested_by d earlier p (are_none cases) ≡ Some c → CasesNoted d uses earlier (with_case p body cases) ms → CasesNoted d uses (c ∷ earlier) cases (drop 1 ms)
-later_cases d uses earlier Any c body cases ms e h = absurd (none-some c e)
-later_cases d uses earlier (Ctor k) c body cases ms e h = of (surely_fits d earlier k || are_none cases) e h.1
+pub later_cases : (d : Declarations) (rows : Rows) (uses : DefId → ℕ → Bool) (earlier : List CtorId) (p : Pattern) (c : CtorId) (body : Formula) (cases : Cases) (ms : List Notes) → tested_by d earlier p (are_none cases) ≡ Some c → CasesNoted d rows uses earlier (with_case p body cases) ms → CasesNoted d rows uses (c ∷ earlier) cases (drop 1 ms)
+later_cases d rows uses earlier Any c body cases ms e h = absurd (none-some c e)
+later_cases d rows uses earlier (Ctor k) c body cases ms e h = of (surely_fits d earlier k || are_none cases) e h.1
   where
-    of : (b : Bool) → (if b then None else Some k) ≡ Some c → (b ≡ false → CasesNoted d uses (k ∷ earlier) cases (drop 1 ms)) → CasesNoted d uses (c ∷ earlier) cases (drop 1 ms)
+    of : (b : Bool) → (if b then None else Some k) ≡ Some c → (b ≡ false → CasesNoted d rows uses (k ∷ earlier) cases (drop 1 ms)) → CasesNoted d rows uses (c ∷ earlier) cases (drop 1 ms)
     of true x f = absurd (none-some c x)
-    of false x f = subst (λ (j : CtorId). CasesNoted d uses (j ∷ earlier) cases (drop 1 ms)) (same_Some k c x) (f refl)
+    of false x f = subst (λ (j : CtorId). CasesNoted d rows uses (j ∷ earlier) cases (drop 1 ms)) (same_Some k c x) (f refl)
+
+-- a definition that is called is worked out
+pub call_known : (d : Declarations) (rows : Rows) (uses : DefId → ℕ → Bool) (k : DefId) (ts : Formulas) (ms : List Notes) → IsOfFirst (IsNoted d rows uses (Def k ts)) ms → IsKnown rows k
+call_known d rows uses k ts [] h = absurd h
+call_known d rows uses k ts (m ∷ ms) h = h.0
 
 -- the first of the flags and of the formulas, and the others
-pub where_split : (d : Declarations) (uses : DefId → ℕ → Bool) (flags later : List Bool) (b : Bool) (ts : Formulas) (t : Formula) (others : Formulas) (ms next : List Notes) → flags ≡ b ∷ later → ts ≡ with_formula t others → next ≡ drop 1 ms → AreNotedWhere d uses flags ts ms → (b ≡ true → IsOfFirst (IsNoted d uses t) ms) × AreNotedWhere d uses later others next
-where_split d uses flags later b ts t others ms next f e n h =
-    let k = subst (λ (us : Formulas). AreNotedWhere d uses (b ∷ later) us ms) e (subst (λ (bs : List Bool). AreNotedWhere d uses bs ts ms) f h) in
-    (k.0, subst (AreNotedWhere d uses later others) (sym n) k.1)
+pub where_split : (d : Declarations) (rows : Rows) (uses : DefId → ℕ → Bool) (flags later : List Bool) (b : Bool) (ts : Formulas) (t : Formula) (others : Formulas) (ms next : List Notes) → flags ≡ b ∷ later → ts ≡ with_formula t others → next ≡ drop 1 ms → AreNotedWhere d rows uses flags ts ms → (b ≡ true → IsOfFirst (IsNoted d rows uses t) ms) × AreNotedWhere d rows uses later others next
+where_split d rows uses flags later b ts t others ms next f e n h =
+    let k = subst (λ (us : Formulas). AreNotedWhere d rows uses (b ∷ later) us ms) e (subst (λ (bs : List Bool). AreNotedWhere d rows uses bs ts ms) f h) in
+    (k.0, subst (AreNotedWhere d rows uses later others) (sym n) k.1)

@@ -1,5 +1,5 @@
 -- Calls of definitions that are compiled already, each with its term.
-use Rattle.std.specs.Prelude.{◌≡◌, ℕ, suc, Bool, List, [], ◌∷◌, Some, slice_get}
+use Rattle.std.specs.Prelude.{◌≡◌, ℕ, suc, Bool, List, [], ◌∷◌, Some}
 use Rattle.std.specs.List.{AllZip}
 use Rattle.indexmap.specs.IndexMap.{IndexMap, get}
 use Rattle.ct_sorts.specs.declared.ids.DefId.{DefId}
@@ -16,7 +16,7 @@ use Rattle.ct_compile.specs.contracts.known.CalledPartialEq.TheImpl as derived
 use Rattle.ct_compile.specs.Effect.{Stands}
 use Rattle.ct_compile.specs.Ready.{given, IsBound}
 use Rattle.ct_compile.specs.Binding.{IsBoundAs}
-use Rattle.ct_compile.specs.Marks.{HaveRows}
+use Rattle.ct_compile.specs.Marks.{Rows, row_in, HaveRows}
 
 -- the derived test of two calls
 abbrev pub same_call : Called → Called → Bool
@@ -34,17 +34,17 @@ abbrev pub call_of : DefId → List Bound → Called
 call_of k bs = record { definition = k; args = terms_of bs }
 
 -- the term is what the definition gives for trees that stand at the arguments
-pub record IsRecalled (d : Declarations) (bodies : List Formula) (rows : List (List Bool)) (table : Terms) (call : Called) (t : TermId) : Type 0 where
+pub record IsRecalled (d : Declarations) (bodies : List Formula) (rows : Rows) (table : Terms) (call : Called) (t : TermId) : Type 0 where
   pub bounds : List Bound
   pub trees : List CoreTree
   pub row : List Bool
   pub args : call ≡ call_of call.definition bounds
-  pub at : slice_get rows call.definition.0 ≡ Some row
+  pub at : row_in rows call.definition ≡ Some row
   pub flags : AllZip IsBoundAs row bounds
   pub stand : AllZip (IsBound table) bounds trees
   pub stands : Stands table t (given d bodies (suc call.definition.0) call.definition trees)
 
 -- the rows say which parameters occur, and what is known of calls is true
-pub record IsState {S : Type 0} (d : Declarations) (bodies : List Formula) (n : ℕ) (rows : List (List Bool)) (table : Terms) (known : IndexMap Called TermId S) : Type 0 where
+pub record IsState {S : Type 0} (d : Declarations) (bodies : List Formula) (n : ℕ) (rows : Rows) (table : Terms) (known : IndexMap Called TermId S) : Type 0 where
   pub have : HaveRows d (uses_below d bodies n) n rows
   pub recalls : (call : Called) (t : TermId) → get same_call known call ≡ Some t → IsRecalled d bodies rows table call t

@@ -5,6 +5,7 @@ pub mod Weight
 pub mod Ready
 pub mod Pairing
 pub mod Following
+pub mod Calls
 pub mod Marks
 pub mod CaseFormula
 pub mod Binding
@@ -12,3 +13,4 @@ pub mod Calling
 pub mod Matching
 pub mod Chosen
 pub mod Noted
+pub mod Working

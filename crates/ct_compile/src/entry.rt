@@ -10,8 +10,8 @@ ghost use Rattle.ct_terms.specs.Compiled.{core_of};
 ghost use Rattle.ct_compile.specs.Effect.{IsPrefix, DoNotFit};
 
 use crate::laws::laws;
+use crate::needed::work_out_named;
 use crate::occurrence::notes_on;
-use crate::rows::rows_of;
 use crate::scope::Scope;
 use crate::terms::compile_tree;
 use ct_terms::{TermError, TermId, TermTable, Tree};
@@ -55,18 +55,18 @@ pub fn compile(
     laws();
     scope.sig.sorts();
     table.len();
-    let mut definitions = Vec::new(alloc);
-    let rows = rows_of(alloc, scope, &mut definitions)?;
-    let notes = notes_on(alloc, &scope.sig, &rows, tree)?;
+    let below = scope.bodies.len();
+    let mut definitions = IndexMap::new(alloc);
+    work_out_named(alloc, scope, &mut definitions, below, tree)?;
+    let notes = notes_on(alloc, &scope.sig, &definitions, tree)?;
     let mut known = IndexMap::new(alloc);
     compile_tree(
         alloc,
         scope,
-        &rows,
-        definitions.as_slice(),
+        &definitions,
         &mut known,
         table,
-        scope.bodies.len(),
+        below,
         &[],
         tree,
         notes.alone(),

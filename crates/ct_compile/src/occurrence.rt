@@ -7,51 +7,53 @@ ghost use Rattle.ct_terms.specs.TreeFormula.{formula_of, formulas_of_trees};
 ghost use Rattle.ct_terms.specs.Formula.{Ite, Let, Match};
 ghost use Rattle.ct_terms.specs.Occurrence.{count_of, field_count, occurs, occurs_in_some, occurs_in_bound, matched_occurs, occurs_in_cases};
 ghost use Rattle.ct_compile.specs.CaseFormula.{cases_of_trees};
-ghost use Rattle.ct_compile.specs.Noted.{IsNoted, AreNoted, AreNotedWhere, CasesNoted, AddsNotes, AddsAllNotes};
-ghost use Rattle.ct_compile.specs.Marks.{listed, marked, has_set, MayMark, MayMarkAll, MayMarkCases};
+ghost use Rattle.ct_compile.specs.Noted.{IsOfFirst, IsNoted, AreNoted, AreNotedWhere, CasesNoted, AddsNotes, AddsAllNotes};
+ghost use Rattle.ct_compile.specs.Marks.{worked_in, listed, marked, has_set, MayMark, MayMarkAll, MayMarkCases};
 
 use crate::cases::{body_of, pattern_of};
+use crate::definitions::{Definitions, Worked, row_at};
 use crate::fitting::variable_count;
 use crate::forms::operands;
 use crate::matching::tested;
 use crate::notes::Notes;
-use ct_sorts::{Items, Signature};
+use ct_sorts::Signature;
 use ct_terms::{Case, Tree};
 use std::alloc::{AllocError, Global};
 
-/// Flags of the variables that a binder binds over a formula, in order: those that occur are set. The notes on
-/// the formula come after those that there are.
+/// What is worked out of a definition with so many parameters: the flags of those that occur in its body, and the
+/// notes on the body.
 pub(crate) fn occurring(
     alloc: Global,
     sig: &Signature,
-    rows: &[Items<bool>],
+    definitions: &Definitions,
     count: usize,
     tree: &Tree,
-    notes: &mut Vec<Notes>,
-) -> Result<Vec<bool>, AllocError>
-    requires may { (uses : DefId → ℕ → Bool) × (n : ℕ) × MayMark sig.now uses n rows.now (formula_of tree.now) }
-    ensures flags { (uses : DefId → ℕ → Bool) (n : ℕ) → MayMark sig.now uses n rows.now (formula_of tree.now)
-        → IfOk result (λ flags. flags.items ≡ listed (occurs sig.now uses (formula_of tree.now)) count) }
-    ensures noted { (uses : DefId → ℕ → Bool) (n : ℕ) → MayMark sig.now uses n rows.now (formula_of tree.now)
-        → OnOk result (AddsNotes (IsNoted sig.now uses (formula_of tree.now)) notes.old.items notes.new.items) }
+) -> Result<Worked, AllocError>
+    requires may { (uses : DefId → ℕ → Bool) × (n : ℕ) × MayMark sig.now uses n (worked_in definitions.now) (formula_of tree.now) }
+    ensures flags { (uses : DefId → ℕ → Bool) (n : ℕ) → MayMark sig.now uses n (worked_in definitions.now) (formula_of tree.now)
+        → IfOk result (λ worked. worked.flags.items ≡ listed (occurs sig.now uses (formula_of tree.now)) count) }
+    ensures noted { (uses : DefId → ℕ → Bool) (n : ℕ) → MayMark sig.now uses n (worked_in definitions.now) (formula_of tree.now)
+        → IfOk result (λ worked. IsOfFirst (IsNoted sig.now (worked_in definitions.now) uses (formula_of tree.now)) worked.notes.items) }
 {
     let mut outer = Vec::new(alloc);
-    mark_under(alloc, sig, rows, &mut outer, count, tree, notes)
+    let mut notes = Vec::new(alloc);
+    let flags = mark_under(alloc, sig, definitions, &mut outer, count, tree, &mut notes)?;
+    Ok(Worked { flags, notes })
 }
 
 /// The notes on a formula.
 pub(crate) fn notes_on(
     alloc: Global,
     sig: &Signature,
-    rows: &[Items<bool>],
+    definitions: &Definitions,
     tree: &Tree,
 ) -> Result<Notes, AllocError>
-    requires may { (uses : DefId → ℕ → Bool) × (n : ℕ) × MayMark sig.now uses n rows.now (formula_of tree.now) }
-    ensures noted { (uses : DefId → ℕ → Bool) (n : ℕ) → MayMark sig.now uses n rows.now (formula_of tree.now)
-        → IfOk result (IsNoted sig.now uses (formula_of tree.now)) }
+    requires may { (uses : DefId → ℕ → Bool) × (n : ℕ) × MayMark sig.now uses n (worked_in definitions.now) (formula_of tree.now) }
+    ensures noted { (uses : DefId → ℕ → Bool) (n : ℕ) → MayMark sig.now uses n (worked_in definitions.now) (formula_of tree.now)
+        → IfOk result (IsNoted sig.now (worked_in definitions.now) uses (formula_of tree.now)) }
 {
     let mut outer = Vec::new(alloc);
-    mark(alloc, sig, rows, &mut outer, tree)
+    mark(alloc, sig, definitions, &mut outer, tree)
 }
 
 // Sets the flags of the variables that occur. There is one flag a variable, that of variable 0 last. The answer
@@ -60,18 +62,18 @@ pub(crate) fn notes_on(
 fn mark(
     alloc: Global,
     sig: &Signature,
-    rows: &[Items<bool>],
+    definitions: &Definitions,
     flags: &mut Vec<bool>,
     tree: &Tree,
 ) -> Result<Notes, AllocError>
-    requires may { (uses : DefId → ℕ → Bool) × (n : ℕ) × MayMark sig.now uses n rows.now (formula_of tree.now) }
-    ensures marks { (uses : DefId → ℕ → Bool) (n : ℕ) → MayMark sig.now uses n rows.now (formula_of tree.now)
+    requires may { (uses : DefId → ℕ → Bool) × (n : ℕ) × MayMark sig.now uses n (worked_in definitions.now) (formula_of tree.now) }
+    ensures marks { (uses : DefId → ℕ → Bool) (n : ℕ) → MayMark sig.now uses n (worked_in definitions.now) (formula_of tree.now)
         → OnOk result (flags.new.items ≡ marked (occurs sig.now uses (formula_of tree.now)) flags.old.items) }
-    ensures noted { (uses : DefId → ℕ → Bool) (n : ℕ) → MayMark sig.now uses n rows.now (formula_of tree.now)
-        → IfOk result (IsNoted sig.now uses (formula_of tree.now)) }
+    ensures noted { (uses : DefId → ℕ → Bool) (n : ℕ) → MayMark sig.now uses n (worked_in definitions.now) (formula_of tree.now)
+        → IfOk result (IsNoted sig.now (worked_in definitions.now) uses (formula_of tree.now)) }
 {
     if let Some((_, trees)) = operands(tree) {
-        let under = mark_all(alloc, sig, rows, flags, trees)?;
+        let under = mark_all(alloc, sig, definitions, flags, trees)?;
         return Ok(Notes::plain(alloc, under));
     }
     match tree {
@@ -79,14 +81,14 @@ fn mark(
             set_flag(flags, *i);
             Ok(Notes::none(alloc))
         }
-        Tree::Ite(c, t, u) => mark_choice(alloc, sig, rows, flags, c, t, u),
+        Tree::Ite(c, t, u) => mark_choice(alloc, sig, definitions, flags, c, t, u),
         Tree::Def(k, ts) => {
-            let row = rows[k.0 as usize].as_slice();
-            let under = mark_bound(alloc, sig, rows, flags, row, ts.as_slice())?;
+            let row = row_at(definitions, *k);
+            let under = mark_bound(alloc, sig, definitions, flags, row, ts.as_slice())?;
             Ok(Notes::plain(alloc, under))
         }
-        Tree::Let(ts, u) => mark_let(alloc, sig, rows, flags, ts.as_slice(), u),
-        Tree::Match(t, cases) => mark_match(alloc, sig, rows, flags, t, cases.as_slice()),
+        Tree::Let(ts, u) => mark_let(alloc, sig, definitions, flags, ts.as_slice(), u),
+        Tree::Match(t, cases) => mark_match(alloc, sig, definitions, flags, t, cases.as_slice()),
         Tree::Con(_, _)
         | Tree::Sel(_, _)
         | Tree::Test(_, _)
@@ -106,20 +108,20 @@ fn mark(
 fn mark_all(
     alloc: Global,
     sig: &Signature,
-    rows: &[Items<bool>],
+    definitions: &Definitions,
     flags: &mut Vec<bool>,
     trees: &[Tree],
 ) -> Result<Vec<Notes>, AllocError>
-    requires may { (uses : DefId → ℕ → Bool) × (n : ℕ) × MayMarkAll sig.now uses n rows.now (formulas_of_trees trees.now) }
-    ensures marks { (uses : DefId → ℕ → Bool) (n : ℕ) → MayMarkAll sig.now uses n rows.now (formulas_of_trees trees.now)
+    requires may { (uses : DefId → ℕ → Bool) × (n : ℕ) × MayMarkAll sig.now uses n (worked_in definitions.now) (formulas_of_trees trees.now) }
+    ensures marks { (uses : DefId → ℕ → Bool) (n : ℕ) → MayMarkAll sig.now uses n (worked_in definitions.now) (formulas_of_trees trees.now)
         → OnOk result (flags.new.items ≡ marked (occurs_in_some sig.now uses (formulas_of_trees trees.now)) flags.old.items) }
-    ensures noted { (uses : DefId → ℕ → Bool) (n : ℕ) → MayMarkAll sig.now uses n rows.now (formulas_of_trees trees.now)
-        → IfOk result (λ all. AreNoted sig.now uses (formulas_of_trees trees.now) all.items) }
+    ensures noted { (uses : DefId → ℕ → Bool) (n : ℕ) → MayMarkAll sig.now uses n (worked_in definitions.now) (formulas_of_trees trees.now)
+        → IfOk result (λ all. AreNoted sig.now (worked_in definitions.now) uses (formulas_of_trees trees.now) all.items) }
 {
     let mut all = Vec::new(alloc);
     let mut rest = trees;
     while let [tree, others @ ..] = rest {
-        let notes = mark(alloc, sig, rows, flags, tree)?;
+        let notes = mark(alloc, sig, definitions, flags, tree)?;
         all.push(notes)?;
         rest = others;
     }
@@ -131,21 +133,21 @@ fn mark_all(
 fn mark_choice(
     alloc: Global,
     sig: &Signature,
-    rows: &[Items<bool>],
+    definitions: &Definitions,
     flags: &mut Vec<bool>,
     condition: &Tree,
     first: &Tree,
     second: &Tree,
 ) -> Result<Notes, AllocError>
-    requires may { (uses : DefId → ℕ → Bool) × (n : ℕ) × MayMark sig.now uses n rows.now (Ite (formula_of condition.now) (formula_of first.now) (formula_of second.now)) }
-    ensures marks { (uses : DefId → ℕ → Bool) (n : ℕ) → MayMark sig.now uses n rows.now (Ite (formula_of condition.now) (formula_of first.now) (formula_of second.now))
+    requires may { (uses : DefId → ℕ → Bool) × (n : ℕ) × MayMark sig.now uses n (worked_in definitions.now) (Ite (formula_of condition.now) (formula_of first.now) (formula_of second.now)) }
+    ensures marks { (uses : DefId → ℕ → Bool) (n : ℕ) → MayMark sig.now uses n (worked_in definitions.now) (Ite (formula_of condition.now) (formula_of first.now) (formula_of second.now))
         → OnOk result (flags.new.items ≡ marked (occurs sig.now uses (Ite (formula_of condition.now) (formula_of first.now) (formula_of second.now))) flags.old.items) }
-    ensures noted { (uses : DefId → ℕ → Bool) (n : ℕ) → MayMark sig.now uses n rows.now (Ite (formula_of condition.now) (formula_of first.now) (formula_of second.now))
-        → IfOk result (IsNoted sig.now uses (Ite (formula_of condition.now) (formula_of first.now) (formula_of second.now))) }
+    ensures noted { (uses : DefId → ℕ → Bool) (n : ℕ) → MayMark sig.now uses n (worked_in definitions.now) (Ite (formula_of condition.now) (formula_of first.now) (formula_of second.now))
+        → IfOk result (IsNoted sig.now (worked_in definitions.now) uses (Ite (formula_of condition.now) (formula_of first.now) (formula_of second.now))) }
 {
-    let c = mark(alloc, sig, rows, flags, condition)?;
-    let t = mark(alloc, sig, rows, flags, first)?;
-    let u = mark(alloc, sig, rows, flags, second)?;
+    let c = mark(alloc, sig, definitions, flags, condition)?;
+    let t = mark(alloc, sig, definitions, flags, first)?;
+    let u = mark(alloc, sig, definitions, flags, second)?;
     let mut under = Vec::new(alloc);
     under.push(c)?;
     under.push(t)?;
@@ -158,19 +160,19 @@ fn mark_choice(
 fn mark_bound(
     alloc: Global,
     sig: &Signature,
-    rows: &[Items<bool>],
+    definitions: &Definitions,
     flags: &mut Vec<bool>,
     bound: &[bool],
     trees: &[Tree],
 ) -> Result<Vec<Notes>, AllocError>
-    requires may { (uses : DefId → ℕ → Bool) × (n : ℕ) × MayMarkAll sig.now uses n rows.now (formulas_of_trees trees.now) }
+    requires may { (uses : DefId → ℕ → Bool) × (n : ℕ) × MayMarkAll sig.now uses n (worked_in definitions.now) (formulas_of_trees trees.now) }
     requires flags { (inner : ℕ → Bool) × (bound.now ≡ listed inner (count_of (formulas_of_trees trees.now))) }
-    ensures marks { (inner : ℕ → Bool) (uses : DefId → ℕ → Bool) (n : ℕ) → MayMarkAll sig.now uses n rows.now (formulas_of_trees trees.now)
+    ensures marks { (inner : ℕ → Bool) (uses : DefId → ℕ → Bool) (n : ℕ) → MayMarkAll sig.now uses n (worked_in definitions.now) (formulas_of_trees trees.now)
         → bound.now ≡ listed inner (count_of (formulas_of_trees trees.now))
         → OnOk result (flags.new.items ≡ marked (occurs_in_bound sig.now uses inner (formulas_of_trees trees.now)) flags.old.items) }
-    ensures noted { (inner : ℕ → Bool) (uses : DefId → ℕ → Bool) (n : ℕ) → MayMarkAll sig.now uses n rows.now (formulas_of_trees trees.now)
+    ensures noted { (inner : ℕ → Bool) (uses : DefId → ℕ → Bool) (n : ℕ) → MayMarkAll sig.now uses n (worked_in definitions.now) (formulas_of_trees trees.now)
         → bound.now ≡ listed inner (count_of (formulas_of_trees trees.now))
-        → IfOk result (λ all. AreNotedWhere sig.now uses bound.now (formulas_of_trees trees.now) all.items) }
+        → IfOk result (λ all. AreNotedWhere sig.now (worked_in definitions.now) uses bound.now (formulas_of_trees trees.now) all.items) }
 {
     let mut all = Vec::new(alloc);
     let mut left = bound;
@@ -179,7 +181,7 @@ fn mark_bound(
         let [set, more @ ..] = left else {
             return Ok(all);
         };
-        let notes = mark_where(alloc, sig, rows, flags, *set, tree)?;
+        let notes = mark_where(alloc, sig, definitions, flags, *set, tree)?;
         all.push(notes)?;
         left = more;
         rest = others;
@@ -192,20 +194,20 @@ fn mark_bound(
 fn mark_where(
     alloc: Global,
     sig: &Signature,
-    rows: &[Items<bool>],
+    definitions: &Definitions,
     flags: &mut Vec<bool>,
     counts: bool,
     tree: &Tree,
 ) -> Result<Notes, AllocError>
-    requires may { (uses : DefId → ℕ → Bool) × (n : ℕ) × MayMark sig.now uses n rows.now (formula_of tree.now) }
-    ensures marks { (uses : DefId → ℕ → Bool) (n : ℕ) → MayMark sig.now uses n rows.now (formula_of tree.now)
+    requires may { (uses : DefId → ℕ → Bool) × (n : ℕ) × MayMark sig.now uses n (worked_in definitions.now) (formula_of tree.now) }
+    ensures marks { (uses : DefId → ℕ → Bool) (n : ℕ) → MayMark sig.now uses n (worked_in definitions.now) (formula_of tree.now)
         → OnOk result (flags.new.items ≡ marked (λ i. counts && occurs sig.now uses (formula_of tree.now) i) flags.old.items) }
-    ensures noted { (uses : DefId → ℕ → Bool) (n : ℕ) → MayMark sig.now uses n rows.now (formula_of tree.now)
+    ensures noted { (uses : DefId → ℕ → Bool) (n : ℕ) → MayMark sig.now uses n (worked_in definitions.now) (formula_of tree.now)
         → counts ≡ true
-        → IfOk result (IsNoted sig.now uses (formula_of tree.now)) }
+        → IfOk result (IsNoted sig.now (worked_in definitions.now) uses (formula_of tree.now)) }
 {
     if counts {
-        return mark(alloc, sig, rows, flags, tree);
+        return mark(alloc, sig, definitions, flags, tree);
     }
     Ok(Notes::none(alloc))
 }
@@ -216,23 +218,23 @@ fn mark_where(
 fn mark_under(
     alloc: Global,
     sig: &Signature,
-    rows: &[Items<bool>],
+    definitions: &Definitions,
     flags: &mut Vec<bool>,
     count: usize,
     tree: &Tree,
     inner: &mut Vec<Notes>,
 ) -> Result<Vec<bool>, AllocError>
-    requires may { (uses : DefId → ℕ → Bool) × (n : ℕ) × MayMark sig.now uses n rows.now (formula_of tree.now) }
-    ensures flags { (uses : DefId → ℕ → Bool) (n : ℕ) → MayMark sig.now uses n rows.now (formula_of tree.now)
+    requires may { (uses : DefId → ℕ → Bool) × (n : ℕ) × MayMark sig.now uses n (worked_in definitions.now) (formula_of tree.now) }
+    ensures flags { (uses : DefId → ℕ → Bool) (n : ℕ) → MayMark sig.now uses n (worked_in definitions.now) (formula_of tree.now)
         → IfOk result (λ bound. bound.items ≡ listed (occurs sig.now uses (formula_of tree.now)) count) }
-    ensures marks { (uses : DefId → ℕ → Bool) (n : ℕ) → MayMark sig.now uses n rows.now (formula_of tree.now)
+    ensures marks { (uses : DefId → ℕ → Bool) (n : ℕ) → MayMark sig.now uses n (worked_in definitions.now) (formula_of tree.now)
         → OnOk result (flags.new.items ≡ marked (λ i. occurs sig.now uses (formula_of tree.now) (i + count)) flags.old.items) }
-    ensures noted { (uses : DefId → ℕ → Bool) (n : ℕ) → MayMark sig.now uses n rows.now (formula_of tree.now)
-        → OnOk result (AddsNotes (IsNoted sig.now uses (formula_of tree.now)) inner.old.items inner.new.items) }
+    ensures noted { (uses : DefId → ℕ → Bool) (n : ℕ) → MayMark sig.now uses n (worked_in definitions.now) (formula_of tree.now)
+        → OnOk result (AddsNotes (IsNoted sig.now (worked_in definitions.now) uses (formula_of tree.now)) inner.old.items inner.new.items) }
 {
     let outside = flags.len();
     add_flags(flags, count)?;
-    let notes = mark(alloc, sig, rows, flags, tree)?;
+    let notes = mark(alloc, sig, definitions, flags, tree)?;
     inner.push(notes)?;
     flags.split_off(outside)
 }
@@ -242,20 +244,28 @@ fn mark_under(
 fn mark_let(
     alloc: Global,
     sig: &Signature,
-    rows: &[Items<bool>],
+    definitions: &Definitions,
     flags: &mut Vec<bool>,
     trees: &[Tree],
     body: &Tree,
 ) -> Result<Notes, AllocError>
-    requires may { (uses : DefId → ℕ → Bool) × (n : ℕ) × MayMark sig.now uses n rows.now (Let (formulas_of_trees trees.now) (formula_of body.now)) }
-    ensures marks { (uses : DefId → ℕ → Bool) (n : ℕ) → MayMark sig.now uses n rows.now (Let (formulas_of_trees trees.now) (formula_of body.now))
+    requires may { (uses : DefId → ℕ → Bool) × (n : ℕ) × MayMark sig.now uses n (worked_in definitions.now) (Let (formulas_of_trees trees.now) (formula_of body.now)) }
+    ensures marks { (uses : DefId → ℕ → Bool) (n : ℕ) → MayMark sig.now uses n (worked_in definitions.now) (Let (formulas_of_trees trees.now) (formula_of body.now))
         → OnOk result (flags.new.items ≡ marked (occurs sig.now uses (Let (formulas_of_trees trees.now) (formula_of body.now))) flags.old.items) }
-    ensures noted { (uses : DefId → ℕ → Bool) (n : ℕ) → MayMark sig.now uses n rows.now (Let (formulas_of_trees trees.now) (formula_of body.now))
-        → IfOk result (IsNoted sig.now uses (Let (formulas_of_trees trees.now) (formula_of body.now))) }
+    ensures noted { (uses : DefId → ℕ → Bool) (n : ℕ) → MayMark sig.now uses n (worked_in definitions.now) (Let (formulas_of_trees trees.now) (formula_of body.now))
+        → IfOk result (IsNoted sig.now (worked_in definitions.now) uses (Let (formulas_of_trees trees.now) (formula_of body.now))) }
 {
     let mut inner = Vec::new(alloc);
-    let bound = mark_under(alloc, sig, rows, flags, trees.len(), body, &mut inner)?;
-    let under = mark_bound(alloc, sig, rows, flags, bound.as_slice(), trees)?;
+    let bound = mark_under(
+        alloc,
+        sig,
+        definitions,
+        flags,
+        trees.len(),
+        body,
+        &mut inner,
+    )?;
+    let under = mark_bound(alloc, sig, definitions, flags, bound.as_slice(), trees)?;
     Ok(Notes::binder(bound, under, inner))
 }
 
@@ -264,20 +274,20 @@ fn mark_let(
 fn mark_match(
     alloc: Global,
     sig: &Signature,
-    rows: &[Items<bool>],
+    definitions: &Definitions,
     flags: &mut Vec<bool>,
     matched: &Tree,
     cases: &[Case],
 ) -> Result<Notes, AllocError>
-    requires may { (uses : DefId → ℕ → Bool) × (n : ℕ) × MayMark sig.now uses n rows.now (Match (formula_of matched.now) (cases_of_trees cases.now)) }
-    ensures marks { (uses : DefId → ℕ → Bool) (n : ℕ) → MayMark sig.now uses n rows.now (Match (formula_of matched.now) (cases_of_trees cases.now))
+    requires may { (uses : DefId → ℕ → Bool) × (n : ℕ) × MayMark sig.now uses n (worked_in definitions.now) (Match (formula_of matched.now) (cases_of_trees cases.now)) }
+    ensures marks { (uses : DefId → ℕ → Bool) (n : ℕ) → MayMark sig.now uses n (worked_in definitions.now) (Match (formula_of matched.now) (cases_of_trees cases.now))
         → OnOk result (flags.new.items ≡ marked (occurs sig.now uses (Match (formula_of matched.now) (cases_of_trees cases.now))) flags.old.items) }
-    ensures noted { (uses : DefId → ℕ → Bool) (n : ℕ) → MayMark sig.now uses n rows.now (Match (formula_of matched.now) (cases_of_trees cases.now))
-        → IfOk result (IsNoted sig.now uses (Match (formula_of matched.now) (cases_of_trees cases.now))) }
+    ensures noted { (uses : DefId → ℕ → Bool) (n : ℕ) → MayMark sig.now uses n (worked_in definitions.now) (Match (formula_of matched.now) (cases_of_trees cases.now))
+        → IfOk result (IsNoted sig.now (worked_in definitions.now) uses (Match (formula_of matched.now) (cases_of_trees cases.now))) }
 {
     let mut inner = Vec::new(alloc);
-    let counts = mark_cases(alloc, sig, rows, flags, cases, &mut inner)?;
-    let notes = mark_where(alloc, sig, rows, flags, counts, matched)?;
+    let counts = mark_cases(alloc, sig, definitions, flags, cases, &mut inner)?;
+    let notes = mark_where(alloc, sig, definitions, flags, counts, matched)?;
     let mut bound = Vec::new(alloc);
     bound.push(counts)?;
     let mut under = Vec::new(alloc);
@@ -291,18 +301,18 @@ fn mark_match(
 fn mark_cases(
     alloc: Global,
     sig: &Signature,
-    rows: &[Items<bool>],
+    definitions: &Definitions,
     flags: &mut Vec<bool>,
     cases: &[Case],
     inner: &mut Vec<Notes>,
 ) -> Result<bool, AllocError>
-    requires may { (uses : DefId → ℕ → Bool) × (n : ℕ) × MayMarkCases sig.now uses n rows.now (cases_of_trees cases.now) }
-    ensures matched { (uses : DefId → ℕ → Bool) (n : ℕ) → MayMarkCases sig.now uses n rows.now (cases_of_trees cases.now)
+    requires may { (uses : DefId → ℕ → Bool) × (n : ℕ) × MayMarkCases sig.now uses n (worked_in definitions.now) (cases_of_trees cases.now) }
+    ensures matched { (uses : DefId → ℕ → Bool) (n : ℕ) → MayMarkCases sig.now uses n (worked_in definitions.now) (cases_of_trees cases.now)
         → IfOk result (λ occurs. occurs ≡ matched_occurs sig.now uses [] (cases_of_trees cases.now)) }
-    ensures marks { (uses : DefId → ℕ → Bool) (n : ℕ) → MayMarkCases sig.now uses n rows.now (cases_of_trees cases.now)
+    ensures marks { (uses : DefId → ℕ → Bool) (n : ℕ) → MayMarkCases sig.now uses n (worked_in definitions.now) (cases_of_trees cases.now)
         → OnOk result (flags.new.items ≡ marked (occurs_in_cases sig.now uses [] (cases_of_trees cases.now)) flags.old.items) }
-    ensures noted { (uses : DefId → ℕ → Bool) (n : ℕ) → MayMarkCases sig.now uses n rows.now (cases_of_trees cases.now)
-        → OnOk result (AddsAllNotes (CasesNoted sig.now uses [] (cases_of_trees cases.now)) inner.old.items inner.new.items) }
+    ensures noted { (uses : DefId → ℕ → Bool) (n : ℕ) → MayMarkCases sig.now uses n (worked_in definitions.now) (cases_of_trees cases.now)
+        → OnOk result (AddsAllNotes (CasesNoted sig.now (worked_in definitions.now) uses [] (cases_of_trees cases.now)) inner.old.items inner.new.items) }
 {
     let mut earlier = Vec::new(alloc);
     let mut tests = false;
@@ -311,7 +321,7 @@ fn mark_cases(
         let pattern = pattern_of(case);
         let body = body_of(case);
         let count = variable_count(sig, pattern);
-        let bound = mark_under(alloc, sig, rows, flags, count, body, inner)?;
+        let bound = mark_under(alloc, sig, definitions, flags, count, body, inner)?;
         let Some(c) = tested(sig, earlier.as_slice(), pattern, others.is_empty()) else {
             return Ok(has_set_or(tests, bound.as_slice()));
         };

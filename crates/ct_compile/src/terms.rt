@@ -12,6 +12,7 @@ ghost use Rattle.ct_compile.specs.CaseFormula.{case_of, cases_of_trees};
 ghost use Rattle.ct_compile.specs.Matching.{bound_by, IsDeclared, MayCases, CompilesCases};
 ghost use Rattle.ct_terms.specs.Occurrence.{uses_below};
 ghost use Rattle.ct_compile.specs.declared.notes.Notes.{Notes};
+ghost use Rattle.ct_compile.specs.Marks.{worked_in};
 ghost use Rattle.ct_compile.specs.Noted.{IsOfFirst, IsNoted, AreNoted, AreNotedWhere, CasesNoted, HaveNotes};
 ghost use Rattle.ct_compile.specs.Forms.{is_plain, children_of, operator_for};
 ghost use Rattle.ct_compile.specs.Ready.{MayCompile, MayCompileAll, Compiles, CompilesAll, IsBound, IsThere};
@@ -21,6 +22,7 @@ use crate::bound::Bound;
 use crate::cases::{body_of, pattern_of};
 use crate::choices::{Guarded, choices};
 use crate::combine::combine;
+use crate::definitions::{Definitions, body_at, notes_at, row_at};
 use crate::follow::follow;
 use crate::forms::operands;
 use crate::known::{Known, call_with, known_term, remember};
@@ -39,8 +41,7 @@ use std::slice;
 pub(crate) fn compile_tree(
     alloc: Global,
     scope: &Scope,
-    rows: &[Items<bool>],
-    definitions: &[Notes],
+    definitions: &Definitions,
     known: &mut Known,
     table: &mut TermTable,
     below: usize,
@@ -48,17 +49,16 @@ pub(crate) fn compile_tree(
     tree: &Tree,
     notes: &[Notes],
 ) -> Result<TermId, TermError>
-    requires state { IsState scope.now.sig (map formula_of scope.now.bodies) below rows.now table.old known.old }
+    requires state { IsState scope.now.sig (map formula_of scope.now.bodies) below (worked_in definitions.now) table.old known.old }
     requires ready { MayCompile scope.now.sig (map formula_of scope.now.bodies) table.old below env.now (formula_of tree.now) }
-    requires noted { HaveNotes scope.now.sig (map formula_of scope.now.bodies) definitions.now × IsOfFirst (IsNoted scope.now.sig (uses_below scope.now.sig (map formula_of scope.now.bodies) below) (formula_of tree.now)) notes.now }
+    requires noted { HaveNotes scope.now.sig (map formula_of scope.now.bodies) (worked_in definitions.now) × IsOfFirst (IsNoted scope.now.sig (worked_in definitions.now) (uses_below scope.now.sig (map formula_of scope.now.bodies) below) (formula_of tree.now)) notes.now }
     ensures outcome { Compiles scope.now.sig (map formula_of scope.now.bodies) below table.old table.new env.now (formula_of tree.now) result }
-    ensures state { OnOk result (IsState scope.now.sig (map formula_of scope.now.bodies) below rows.now table.new known.new) }
+    ensures state { OnOk result (IsState scope.now.sig (map formula_of scope.now.bodies) below (worked_in definitions.now) table.new known.new) }
 {
     if let Some((operator, trees)) = operands(tree) {
         return compile_plain(
             alloc,
             scope,
-            rows,
             definitions,
             known,
             table,
@@ -75,7 +75,6 @@ pub(crate) fn compile_tree(
         Tree::Ite(c, t, u) => compile_choice(
             alloc,
             scope,
-            rows,
             definitions,
             known,
             table,
@@ -89,7 +88,6 @@ pub(crate) fn compile_tree(
         Tree::Def(k, ts) => compile_call(
             alloc,
             scope,
-            rows,
             definitions,
             known,
             table,
@@ -102,7 +100,6 @@ pub(crate) fn compile_tree(
         Tree::Let(ts, u) => compile_let(
             alloc,
             scope,
-            rows,
             definitions,
             known,
             table,
@@ -115,7 +112,6 @@ pub(crate) fn compile_tree(
         Tree::Match(t, cases) => compile_match(
             alloc,
             scope,
-            rows,
             definitions,
             known,
             table,
@@ -144,8 +140,7 @@ pub(crate) fn compile_tree(
 fn compile_plain(
     alloc: Global,
     scope: &Scope,
-    rows: &[Items<bool>],
-    definitions: &[Notes],
+    definitions: &Definitions,
     known: &mut Known,
     table: &mut TermTable,
     below: usize,
@@ -158,17 +153,16 @@ fn compile_plain(
     requires operator { operator_for (formula_of tree.now) ≡ operator }
     requires plain { is_plain (formula_of tree.now) ≡ true }
     requires under { children_of (formula_of tree.now) ≡ formulas_of_trees trees.now }
-    requires state { IsState scope.now.sig (map formula_of scope.now.bodies) below rows.now table.old known.old }
+    requires state { IsState scope.now.sig (map formula_of scope.now.bodies) below (worked_in definitions.now) table.old known.old }
     requires ready { MayCompile scope.now.sig (map formula_of scope.now.bodies) table.old below env.now (formula_of tree.now) }
-    requires noted { HaveNotes scope.now.sig (map formula_of scope.now.bodies) definitions.now × IsOfFirst (IsNoted scope.now.sig (uses_below scope.now.sig (map formula_of scope.now.bodies) below) (formula_of tree.now)) notes.now }
+    requires noted { HaveNotes scope.now.sig (map formula_of scope.now.bodies) (worked_in definitions.now) × IsOfFirst (IsNoted scope.now.sig (worked_in definitions.now) (uses_below scope.now.sig (map formula_of scope.now.bodies) below) (formula_of tree.now)) notes.now }
     ensures outcome { Compiles scope.now.sig (map formula_of scope.now.bodies) below table.old table.new env.now (formula_of tree.now) result }
-    ensures state { OnOk result (IsState scope.now.sig (map formula_of scope.now.bodies) below rows.now table.new known.new) }
+    ensures state { OnOk result (IsState scope.now.sig (map formula_of scope.now.bodies) below (worked_in definitions.now) table.new known.new) }
 {
     let note = first_note(notes);
     let args = compile_all(
         alloc,
         scope,
-        rows,
         definitions,
         known,
         table,
@@ -186,8 +180,7 @@ fn compile_plain(
 fn compile_all(
     alloc: Global,
     scope: &Scope,
-    rows: &[Items<bool>],
-    definitions: &[Notes],
+    definitions: &Definitions,
     known: &mut Known,
     table: &mut TermTable,
     below: usize,
@@ -196,11 +189,11 @@ fn compile_all(
     trees: &[Tree],
     notes: &[Notes],
 ) -> Result<Args, TermError>
-    requires state { IsState scope.now.sig (map formula_of scope.now.bodies) below rows.now table.old known.old }
+    requires state { IsState scope.now.sig (map formula_of scope.now.bodies) below (worked_in definitions.now) table.old known.old }
     requires ready { MayCompileAll scope.now.sig (map formula_of scope.now.bodies) table.old below env.now operator (formulas_of_trees trees.now) }
-    requires noted { HaveNotes scope.now.sig (map formula_of scope.now.bodies) definitions.now × AreNoted scope.now.sig (uses_below scope.now.sig (map formula_of scope.now.bodies) below) (formulas_of_trees trees.now) notes.now }
+    requires noted { HaveNotes scope.now.sig (map formula_of scope.now.bodies) (worked_in definitions.now) × AreNoted scope.now.sig (worked_in definitions.now) (uses_below scope.now.sig (map formula_of scope.now.bodies) below) (formulas_of_trees trees.now) notes.now }
     ensures outcome { CompilesAll scope.now.sig (map formula_of scope.now.bodies) below table.old table.new env.now operator (formulas_of_trees trees.now) result }
-    ensures state { OnOk result (IsState scope.now.sig (map formula_of scope.now.bodies) below rows.now table.new known.new) }
+    ensures state { OnOk result (IsState scope.now.sig (map formula_of scope.now.bodies) below (worked_in definitions.now) table.new known.new) }
 {
     let mut args = Args::new(alloc);
     let mut lead = None;
@@ -210,7 +203,6 @@ fn compile_all(
         let term = compile_tree(
             alloc,
             scope,
-            rows,
             definitions,
             known,
             table,
@@ -233,8 +225,7 @@ fn compile_all(
 fn compile_choice(
     alloc: Global,
     scope: &Scope,
-    rows: &[Items<bool>],
-    definitions: &[Notes],
+    definitions: &Definitions,
     known: &mut Known,
     table: &mut TermTable,
     below: usize,
@@ -244,11 +235,11 @@ fn compile_choice(
     second: &Tree,
     notes: &[Notes],
 ) -> Result<TermId, TermError>
-    requires state { IsState scope.now.sig (map formula_of scope.now.bodies) below rows.now table.old known.old }
+    requires state { IsState scope.now.sig (map formula_of scope.now.bodies) below (worked_in definitions.now) table.old known.old }
     requires ready { MayCompile scope.now.sig (map formula_of scope.now.bodies) table.old below env.now (Ite (formula_of condition.now) (formula_of first.now) (formula_of second.now)) }
-    requires noted { HaveNotes scope.now.sig (map formula_of scope.now.bodies) definitions.now × IsOfFirst (IsNoted scope.now.sig (uses_below scope.now.sig (map formula_of scope.now.bodies) below) (Ite (formula_of condition.now) (formula_of first.now) (formula_of second.now))) notes.now }
+    requires noted { HaveNotes scope.now.sig (map formula_of scope.now.bodies) (worked_in definitions.now) × IsOfFirst (IsNoted scope.now.sig (worked_in definitions.now) (uses_below scope.now.sig (map formula_of scope.now.bodies) below) (Ite (formula_of condition.now) (formula_of first.now) (formula_of second.now))) notes.now }
     ensures outcome { Compiles scope.now.sig (map formula_of scope.now.bodies) below table.old table.new env.now (Ite (formula_of condition.now) (formula_of first.now) (formula_of second.now)) result }
-    ensures state { OnOk result (IsState scope.now.sig (map formula_of scope.now.bodies) below rows.now table.new known.new) }
+    ensures state { OnOk result (IsState scope.now.sig (map formula_of scope.now.bodies) below (worked_in definitions.now) table.new known.new) }
 {
     let note = first_note(notes);
     let of_condition = note.under();
@@ -257,7 +248,6 @@ fn compile_choice(
     let c = compile_tree(
         alloc,
         scope,
-        rows,
         definitions,
         known,
         table,
@@ -269,7 +259,6 @@ fn compile_choice(
     let a = compile_tree(
         alloc,
         scope,
-        rows,
         definitions,
         known,
         table,
@@ -281,7 +270,6 @@ fn compile_choice(
     let b = compile_tree(
         alloc,
         scope,
-        rows,
         definitions,
         known,
         table,
@@ -314,8 +302,7 @@ fn variable(
 fn compile_let(
     alloc: Global,
     scope: &Scope,
-    rows: &[Items<bool>],
-    definitions: &[Notes],
+    definitions: &Definitions,
     known: &mut Known,
     table: &mut TermTable,
     below: usize,
@@ -324,18 +311,17 @@ fn compile_let(
     body: &Tree,
     notes: &[Notes],
 ) -> Result<TermId, TermError>
-    requires state { IsState scope.now.sig (map formula_of scope.now.bodies) below rows.now table.old known.old }
+    requires state { IsState scope.now.sig (map formula_of scope.now.bodies) below (worked_in definitions.now) table.old known.old }
     requires ready { MayCompile scope.now.sig (map formula_of scope.now.bodies) table.old below env.now (Let (formulas_of_trees trees.now) (formula_of body.now)) }
-    requires noted { HaveNotes scope.now.sig (map formula_of scope.now.bodies) definitions.now × IsOfFirst (IsNoted scope.now.sig (uses_below scope.now.sig (map formula_of scope.now.bodies) below) (Let (formulas_of_trees trees.now) (formula_of body.now))) notes.now }
+    requires noted { HaveNotes scope.now.sig (map formula_of scope.now.bodies) (worked_in definitions.now) × IsOfFirst (IsNoted scope.now.sig (worked_in definitions.now) (uses_below scope.now.sig (map formula_of scope.now.bodies) below) (Let (formulas_of_trees trees.now) (formula_of body.now))) notes.now }
     ensures outcome { Compiles scope.now.sig (map formula_of scope.now.bodies) below table.old table.new env.now (Let (formulas_of_trees trees.now) (formula_of body.now)) result }
-    ensures state { OnOk result (IsState scope.now.sig (map formula_of scope.now.bodies) below rows.now table.new known.new) }
+    ensures state { OnOk result (IsState scope.now.sig (map formula_of scope.now.bodies) below (worked_in definitions.now) table.new known.new) }
 {
     let note = first_note(notes);
     let flags = note.bound();
     let bounds = compile_bound(
         alloc,
         scope,
-        rows,
         definitions,
         known,
         table,
@@ -349,7 +335,6 @@ fn compile_let(
     compile_tree(
         alloc,
         scope,
-        rows,
         definitions,
         known,
         table,
@@ -365,8 +350,7 @@ fn compile_let(
 fn compile_call(
     alloc: Global,
     scope: &Scope,
-    rows: &[Items<bool>],
-    definitions: &[Notes],
+    definitions: &Definitions,
     known: &mut Known,
     table: &mut TermTable,
     below: usize,
@@ -375,19 +359,18 @@ fn compile_call(
     trees: &[Tree],
     notes: &[Notes],
 ) -> Result<TermId, TermError>
-    requires state { IsState scope.now.sig (map formula_of scope.now.bodies) below rows.now table.old known.old }
+    requires state { IsState scope.now.sig (map formula_of scope.now.bodies) below (worked_in definitions.now) table.old known.old }
     requires ready { MayCompile scope.now.sig (map formula_of scope.now.bodies) table.old below env.now (Def k (formulas_of_trees trees.now)) }
-    requires noted { HaveNotes scope.now.sig (map formula_of scope.now.bodies) definitions.now × IsOfFirst (IsNoted scope.now.sig (uses_below scope.now.sig (map formula_of scope.now.bodies) below) (Def k (formulas_of_trees trees.now))) notes.now }
+    requires noted { HaveNotes scope.now.sig (map formula_of scope.now.bodies) (worked_in definitions.now) × IsOfFirst (IsNoted scope.now.sig (worked_in definitions.now) (uses_below scope.now.sig (map formula_of scope.now.bodies) below) (Def k (formulas_of_trees trees.now))) notes.now }
     ensures outcome { Compiles scope.now.sig (map formula_of scope.now.bodies) below table.old table.new env.now (Def k (formulas_of_trees trees.now)) result }
-    ensures state { OnOk result (IsState scope.now.sig (map formula_of scope.now.bodies) below rows.now table.new known.new) }
+    ensures state { OnOk result (IsState scope.now.sig (map formula_of scope.now.bodies) below (worked_in definitions.now) table.new known.new) }
 {
-    let row = row_at(rows, k);
+    let row = row_at(definitions, k);
     let body = body_at(scope, k);
     let note = first_note(notes);
     let bounds = compile_bound(
         alloc,
         scope,
-        rows,
         definitions,
         known,
         table,
@@ -406,7 +389,6 @@ fn compile_call(
     let term = compile_tree(
         alloc,
         scope,
-        rows,
         definitions,
         known,
         table,
@@ -424,8 +406,7 @@ fn compile_call(
 fn compile_bound(
     alloc: Global,
     scope: &Scope,
-    rows: &[Items<bool>],
-    definitions: &[Notes],
+    definitions: &Definitions,
     known: &mut Known,
     table: &mut TermTable,
     below: usize,
@@ -434,11 +415,11 @@ fn compile_bound(
     trees: &[Tree],
     notes: &[Notes],
 ) -> Result<Items<Bound>, TermError>
-    requires state { IsState scope.now.sig (map formula_of scope.now.bodies) below rows.now table.old known.old }
+    requires state { IsState scope.now.sig (map formula_of scope.now.bodies) below (worked_in definitions.now) table.old known.old }
     requires ready { MayBind scope.now.sig (map formula_of scope.now.bodies) table.old below env.now flags.now (formulas_of_trees trees.now) }
-    requires noted { HaveNotes scope.now.sig (map formula_of scope.now.bodies) definitions.now × AreNotedWhere scope.now.sig (uses_below scope.now.sig (map formula_of scope.now.bodies) below) flags.now (formulas_of_trees trees.now) notes.now }
+    requires noted { HaveNotes scope.now.sig (map formula_of scope.now.bodies) (worked_in definitions.now) × AreNotedWhere scope.now.sig (worked_in definitions.now) (uses_below scope.now.sig (map formula_of scope.now.bodies) below) flags.now (formulas_of_trees trees.now) notes.now }
     ensures outcome { Binds scope.now.sig (map formula_of scope.now.bodies) below table.old table.new env.now flags.now (formulas_of_trees trees.now) result }
-    ensures state { OnOk result (IsState scope.now.sig (map formula_of scope.now.bodies) below rows.now table.new known.new) }
+    ensures state { OnOk result (IsState scope.now.sig (map formula_of scope.now.bodies) below (worked_in definitions.now) table.new known.new) }
 {
     let mut bounds = Vec::new(alloc);
     let mut left = flags;
@@ -457,7 +438,6 @@ fn compile_bound(
         let term = compile_tree(
             alloc,
             scope,
-            rows,
             definitions,
             known,
             table,
@@ -476,8 +456,7 @@ fn compile_bound(
 fn compile_match(
     alloc: Global,
     scope: &Scope,
-    rows: &[Items<bool>],
-    definitions: &[Notes],
+    definitions: &Definitions,
     known: &mut Known,
     table: &mut TermTable,
     below: usize,
@@ -486,11 +465,11 @@ fn compile_match(
     cases: &[Case],
     notes: &[Notes],
 ) -> Result<TermId, TermError>
-    requires state { IsState scope.now.sig (map formula_of scope.now.bodies) below rows.now table.old known.old }
+    requires state { IsState scope.now.sig (map formula_of scope.now.bodies) below (worked_in definitions.now) table.old known.old }
     requires ready { MayCompile scope.now.sig (map formula_of scope.now.bodies) table.old below env.now (Match (formula_of tree.now) (cases_of_trees cases.now)) }
-    requires noted { HaveNotes scope.now.sig (map formula_of scope.now.bodies) definitions.now × IsOfFirst (IsNoted scope.now.sig (uses_below scope.now.sig (map formula_of scope.now.bodies) below) (Match (formula_of tree.now) (cases_of_trees cases.now))) notes.now }
+    requires noted { HaveNotes scope.now.sig (map formula_of scope.now.bodies) (worked_in definitions.now) × IsOfFirst (IsNoted scope.now.sig (worked_in definitions.now) (uses_below scope.now.sig (map formula_of scope.now.bodies) below) (Match (formula_of tree.now) (cases_of_trees cases.now))) notes.now }
     ensures outcome { Compiles scope.now.sig (map formula_of scope.now.bodies) below table.old table.new env.now (Match (formula_of tree.now) (cases_of_trees cases.now)) result }
-    ensures state { OnOk result (IsState scope.now.sig (map formula_of scope.now.bodies) below rows.now table.new known.new) }
+    ensures state { OnOk result (IsState scope.now.sig (map formula_of scope.now.bodies) below (worked_in definitions.now) table.new known.new) }
 {
     let note = first_note(notes);
     let occurs = first_flag(note.bound());
@@ -499,7 +478,6 @@ fn compile_match(
     let bounds = compile_bound(
         alloc,
         scope,
-        rows,
         definitions,
         known,
         table,
@@ -513,7 +491,6 @@ fn compile_match(
     compile_cases(
         alloc,
         scope,
-        rows,
         definitions,
         known,
         table,
@@ -531,8 +508,7 @@ fn compile_match(
 fn compile_cases(
     alloc: Global,
     scope: &Scope,
-    rows: &[Items<bool>],
-    definitions: &[Notes],
+    definitions: &Definitions,
     known: &mut Known,
     table: &mut TermTable,
     below: usize,
@@ -541,11 +517,11 @@ fn compile_cases(
     cases: &[Case],
     notes: &[Notes],
 ) -> Result<TermId, TermError>
-    requires state { IsState scope.now.sig (map formula_of scope.now.bodies) below rows.now table.old known.old }
+    requires state { IsState scope.now.sig (map formula_of scope.now.bodies) below (worked_in definitions.now) table.old known.old }
     requires ready { MayCases scope.now.sig (map formula_of scope.now.bodies) table.old below env.now matched [] (cases_of_trees cases.now) }
-    requires noted { HaveNotes scope.now.sig (map formula_of scope.now.bodies) definitions.now × CasesNoted scope.now.sig (uses_below scope.now.sig (map formula_of scope.now.bodies) below) [] (cases_of_trees cases.now) notes.now }
+    requires noted { HaveNotes scope.now.sig (map formula_of scope.now.bodies) (worked_in definitions.now) × CasesNoted scope.now.sig (worked_in definitions.now) (uses_below scope.now.sig (map formula_of scope.now.bodies) below) [] (cases_of_trees cases.now) notes.now }
     ensures outcome { CompilesCases scope.now.sig (map formula_of scope.now.bodies) below table.old table.new env.now matched [] (cases_of_trees cases.now) result }
-    ensures state { OnOk result (IsState scope.now.sig (map formula_of scope.now.bodies) below rows.now table.new known.new) }
+    ensures state { OnOk result (IsState scope.now.sig (map formula_of scope.now.bodies) below (worked_in definitions.now) table.new known.new) }
 {
     let mut earlier = Vec::new(alloc);
     let mut made = Vec::new(alloc);
@@ -559,7 +535,6 @@ fn compile_cases(
             let last = compile_case(
                 alloc,
                 scope,
-                rows,
                 definitions,
                 known,
                 table,
@@ -576,7 +551,6 @@ fn compile_cases(
         let term = compile_case(
             alloc,
             scope,
-            rows,
             definitions,
             known,
             table,
@@ -603,8 +577,7 @@ fn compile_cases(
 fn compile_case(
     alloc: Global,
     scope: &Scope,
-    rows: &[Items<bool>],
-    definitions: &[Notes],
+    definitions: &Definitions,
     known: &mut Known,
     table: &mut TermTable,
     below: usize,
@@ -614,19 +587,18 @@ fn compile_case(
     body: &Tree,
     notes: &[Notes],
 ) -> Result<TermId, TermError>
-    requires state { IsState scope.now.sig (map formula_of scope.now.bodies) below rows.now table.old known.old }
+    requires state { IsState scope.now.sig (map formula_of scope.now.bodies) below (worked_in definitions.now) table.old known.old }
     requires declared { IsDeclared scope.now.sig pattern }
     requires ready { MayCompile scope.now.sig (map formula_of scope.now.bodies) table.old below (bound_over (bound_by scope.now.sig pattern matched) env.now) (formula_of body.now) }
-    requires noted { HaveNotes scope.now.sig (map formula_of scope.now.bodies) definitions.now × IsOfFirst (IsNoted scope.now.sig (uses_below scope.now.sig (map formula_of scope.now.bodies) below) (formula_of body.now)) notes.now }
+    requires noted { HaveNotes scope.now.sig (map formula_of scope.now.bodies) (worked_in definitions.now) × IsOfFirst (IsNoted scope.now.sig (worked_in definitions.now) (uses_below scope.now.sig (map formula_of scope.now.bodies) below) (formula_of body.now)) notes.now }
     ensures outcome { Compiles scope.now.sig (map formula_of scope.now.bodies) below table.old table.new (bound_over (bound_by scope.now.sig pattern matched) env.now) (formula_of body.now) result }
-    ensures state { OnOk result (IsState scope.now.sig (map formula_of scope.now.bodies) below rows.now table.new known.new) }
+    ensures state { OnOk result (IsState scope.now.sig (map formula_of scope.now.bodies) below (worked_in definitions.now) table.new known.new) }
 {
     let bounds = pattern_bounds(alloc, &scope.sig, pattern, matched)?;
     let inner = bind(alloc, &bounds, env)?;
     compile_tree(
         alloc,
         scope,
-        rows,
         definitions,
         known,
         table,
@@ -653,14 +625,6 @@ fn later_notes(notes: &[Notes]) -> &[Notes]
         [] => notes,
         [_, others @ ..] => others,
     }
-}
-
-// The notes on the body of a definition.
-fn notes_at(definitions: &[Notes], k: DefId) -> &[Notes]
-    requires inside { k.0 < length definitions.now }
-    ensures value { (m : Notes) → slice_get definitions.now k.0 ≡ Some m → result.now ≡ m ∷ [] }
-{
-    slice::from_ref(&definitions[k.0 as usize])
 }
 
 // A flag alone.
@@ -691,22 +655,6 @@ fn later_flags(flags: &[bool]) -> &[bool]
     ensures value { result.now ≡ drop 1 flags.now }
 {
     &flags[1..]
-}
-
-// The flags of a definition's parameters.
-fn row_at(rows: &[Items<bool>], k: DefId) -> &[bool]
-    requires inside { k.0 < length rows.now }
-    ensures value { slice_get rows.now k.0 ≡ Some result.now }
-{
-    rows[k.0 as usize].as_slice()
-}
-
-// The body of a definition.
-fn body_at(scope: &Scope, k: DefId) -> &Tree
-    requires inside { k.0 < length scope.now.bodies }
-    ensures value { slice_get (map formula_of scope.now.bodies) k.0 ≡ Some (formula_of result.now) }
-{
-    &scope.bodies.as_slice()[k.0 as usize]
 }
 
 // What stands at an index.

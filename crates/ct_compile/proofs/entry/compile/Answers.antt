@@ -1,39 +1,53 @@
-use Rattle.std.proofs.Common.{◌≡◌, ◌≤◌, ℕ, List, [], length, map, Contains, sym, subst, ap}
+use Rattle.std.proofs.Common.{◌≡◌, ◌≤◌, ℕ, List, [], length, map, Contains, sym, subst, ap, ◌∙◌, arith}
 use Rattle.std.proofs.lemmas.Result.{IfOk-weaker}
 use Rattle.ct_terms.specs.declared.ids.TermId.{TermId}
 use Rattle.ct_terms.specs.CoreTree.{CoreTree, subtrees, term_at}
+use Rattle.ct_terms.specs.Formula.{MentionsBelow}
 use Rattle.ct_terms.specs.TreeFormula.{formula_of}
 use Rattle.ct_terms.specs.Compiled.{compiled, core_of}
 use Rattle.ct_compile.specs.Effect.{Stands, DoNotFit}
 use Rattle.ct_terms.specs.Occurrence.{uses_below}
-use Rattle.ct_compile.specs.Marks.{HaveRows}
+use Rattle.ct_compile.specs.Marks.{worked_in, HaveRows}
 use Rattle.ct_compile.specs.Ready.{given}
 use Rattle.ct_compile.proofs.CallingLemmas.{state_start}
 use Rattle.ct_compile.proofs.WithinLemmas.{within_subtrees}
 use Rattle.ct_compile.proofs.OperatorLemmas.{stands_as}
 use Rattle.ct_compile.proofs.FullLemmas.{do_not_fit}
-use Rattle.ct_compile.specs.Noted.{IsOfFirst, IsNoted, HaveNotes}
-use Rattle.ct_compile.proofs.EntryLemmas.{all_below, entry_ready, entry_mark, subterms_below}
+use Rattle.ct_compile.specs.Noted.{IsOfFirst, IsNoted}
+use Rattle.ct_compile.proofs.EntryLemmas.{all_below, entry_ready, entry_mark, rows_all, subterms_below}
+use Rattle.ct_compile.proofs.WorkingLemmas.{right_start}
 use Rattle.ct_compile.proofs.entry.compile.Goals as goal
 
 pub compile_tree-requires-clause-ready : goal.compile_tree-requires-clause-ready
-compile_tree-requires-clause-ready c = ([], [], c.requires.closed.0, (entry_ready c.laws.ensures.hold c.args.scope.now.sig (map formula_of c.args.scope.now.bodies) c.args.table.now c.len-2.result (formula_of c.args.tree.now) c.requires.closed.0 c.sorts.ensures.consistent c.requires.sound c.requires.table c.len.ensures.ordered c.len.ensures.single (all_below c.args.scope.now.bodies c.len-2.result c.len-2.ensures.len) c.requires.closed.1))
+compile_tree-requires-clause-ready c = ([], [], c.requires.closed.0, (entry_ready c.laws.ensures.hold c.args.scope.now.sig (map formula_of c.args.scope.now.bodies) c.args.table.now c.len-below.result (formula_of c.args.tree.now) c.requires.closed.0 c.sorts.ensures.consistent c.requires.sound c.requires.table c.len.ensures.ordered c.len.ensures.single (all_below c.args.scope.now.bodies c.len-below.result c.len-below.ensures.len) c.requires.closed.1))
 
-pub compile_tree-requires-clause-state : goal.compile_tree-requires-clause-state
-compile_tree-requires-clause-state c =
+pub work_out_named-requires-clause-within : goal.work_out_named-requires-clause-within
+work_out_named-requires-clause-within c = let n = c.len-below.ensures.len in omega (arith, n)
+
+pub work_out_named-requires-clause-mentions : goal.work_out_named-requires-clause-mentions
+work_out_named-requires-clause-mentions c =
     let d = c.args.scope.now.sig in
-    let bodies = map formula_of c.args.scope.now.bodies in
-    let rows = subst (λ (n : ℕ). HaveRows d (uses_below d bodies n) n c.in_ok-rows.rows.items) (sym c.len-2.ensures.len) c.in_ok-rows.ensures.rows in
-    state_start d bodies c.len-2.result c.deref-2.result.now c.args.table.now c.new-known.result c.new-known.ensures.empty
-    (subst (HaveRows d (uses_below d bodies c.len-2.result) c.len-2.result) (sym c.deref-2.ensures.value) rows)
+    let f = formula_of c.args.tree.now in
+    subst (λ (m : ℕ). MentionsBelow m f) (sym (all_below c.args.scope.now.bodies c.len-below.result c.len-below.ensures.len ∙ c.requires.sound.one_each)) (c.laws.ensures.hold.mentions d [] f c.requires.closed.0 c.requires.closed.1)
+
+pub work_out_named-requires-clause-right : goal.work_out_named-requires-clause-right
+work_out_named-requires-clause-right c = right_start c.new-definitions.result c.new-definitions.ensures.empty c.args.scope.now.sig (map formula_of c.args.scope.now.bodies)
 
 pub notes_on-requires : goal.notes_on-requires
 notes_on-requires c =
     let d = c.args.scope.now.sig in
     let trees = c.args.scope.now.bodies in
     let n = length trees in
-    let rows = subst (HaveRows d (uses_below d (map formula_of trees) n) n) (sym c.deref.ensures.value) c.in_ok-rows.ensures.rows in
-    record { may = (uses_below d (map formula_of trees) n, n, entry_mark c.laws.ensures.hold d trees c.deref.result.now (formula_of c.args.tree.now) c.requires.closed.0 c.requires.sound c.requires.closed.1 rows) }
+    let right = c.in_ok-work_out_named.ensures.right in
+    record { may = (uses_below d (map formula_of trees) n, n, entry_mark c.laws.ensures.hold d trees (worked_in c.work_out_named.new.definitions) (formula_of c.args.tree.now) c.requires.closed.0 c.requires.sound c.requires.closed.1 (rows_all d trees (worked_in c.work_out_named.new.definitions) right) c.in_ok-work_out_named.ensures.known) }
+
+pub compile_tree-requires-clause-state : goal.compile_tree-requires-clause-state
+compile_tree-requires-clause-state c =
+    let d = c.args.scope.now.sig in
+    let trees = c.args.scope.now.bodies in
+    let bodies = map formula_of trees in
+    state_start d bodies c.len-below.result (worked_in c.work_out_named.new.definitions) c.args.table.now c.new-known.result c.new-known.ensures.empty
+    (subst (λ (n : ℕ). HaveRows d (uses_below d bodies n) n (worked_in c.work_out_named.new.definitions)) (sym c.len-below.ensures.len) (rows_all d trees (worked_in c.work_out_named.new.definitions) c.in_ok-work_out_named.ensures.right))
 
 pub compile_tree-requires-clause-noted : goal.compile_tree-requires-clause-noted
 compile_tree-requires-clause-noted c =
@@ -42,32 +56,33 @@ compile_tree-requires-clause-noted c =
     let bodies = map formula_of trees in
     let n = length trees in
     let f = formula_of c.args.tree.now in
-    let rows = subst (HaveRows d (uses_below d bodies n) n) (sym c.deref.ensures.value) c.in_ok-rows.ensures.rows in
-    let noted = c.in_ok-notes.ensures.noted (uses_below d bodies n) n (entry_mark c.laws.ensures.hold d trees c.deref.result.now f c.requires.closed.0 c.requires.sound c.requires.closed.1 rows) in
-    let below = subst (λ (m : ℕ). IsNoted d (uses_below d bodies m) f c.in_ok-notes.notes) (sym c.len-2.ensures.len) noted in
-    (subst (HaveNotes d bodies) (sym c.as_slice.ensures.value) c.in_ok-rows.ensures.notes, subst (IsOfFirst (IsNoted d (uses_below d bodies c.len-2.result) f)) (sym c.alone.ensures.value) below)
+    let rows = worked_in c.work_out_named.new.definitions in
+    let right = c.in_ok-work_out_named.ensures.right in
+    let noted = c.in_ok-notes.ensures.noted (uses_below d bodies n) n (entry_mark c.laws.ensures.hold d trees rows f c.requires.closed.0 c.requires.sound c.requires.closed.1 (rows_all d trees rows right) c.in_ok-work_out_named.ensures.known) in
+    let below = subst (λ (m : ℕ). IsNoted d rows (uses_below d bodies m) f c.in_ok-notes.notes) (sym c.len-below.ensures.len) noted in
+    (right.notes, subst (IsOfFirst (IsNoted d rows (uses_below d bodies c.len-below.result) f)) (sym c.alone.ensures.value) below)
 
 pub returns-clause-grown : goal.returns-clause-grown
-returns-clause-grown c = (c.compile_tree.ensures.outcome.effect [] [] c.requires.closed.0 (subtrees (compiled c.args.scope.now.sig (given c.args.scope.now.sig (map formula_of c.args.scope.now.bodies) c.len-2.result) [] (formula_of c.args.tree.now))) (entry_ready c.laws.ensures.hold c.args.scope.now.sig (map formula_of c.args.scope.now.bodies) c.args.table.now c.len-2.result (formula_of c.args.tree.now) c.requires.closed.0 c.sorts.ensures.consistent c.requires.sound c.requires.table c.len.ensures.ordered c.len.ensures.single (all_below c.args.scope.now.bodies c.len-2.result c.len-2.ensures.len) c.requires.closed.1) (within_subtrees (compiled c.args.scope.now.sig (given c.args.scope.now.sig (map formula_of c.args.scope.now.bodies) c.len-2.result) [] (formula_of c.args.tree.now)))).grown
+returns-clause-grown c = (c.compile_tree.ensures.outcome.effect [] [] c.requires.closed.0 (subtrees (compiled c.args.scope.now.sig (given c.args.scope.now.sig (map formula_of c.args.scope.now.bodies) c.len-below.result) [] (formula_of c.args.tree.now))) (entry_ready c.laws.ensures.hold c.args.scope.now.sig (map formula_of c.args.scope.now.bodies) c.args.table.now c.len-below.result (formula_of c.args.tree.now) c.requires.closed.0 c.sorts.ensures.consistent c.requires.sound c.requires.table c.len.ensures.ordered c.len.ensures.single (all_below c.args.scope.now.bodies c.len-below.result c.len-below.ensures.len) c.requires.closed.1) (within_subtrees (compiled c.args.scope.now.sig (given c.args.scope.now.sig (map formula_of c.args.scope.now.bodies) c.len-below.result) [] (formula_of c.args.tree.now)))).grown
 
 pub returns-clause-sorted : goal.returns-clause-sorted
-returns-clause-sorted c = (c.compile_tree.ensures.outcome.effect [] [] c.requires.closed.0 (subtrees (compiled c.args.scope.now.sig (given c.args.scope.now.sig (map formula_of c.args.scope.now.bodies) c.len-2.result) [] (formula_of c.args.tree.now))) (entry_ready c.laws.ensures.hold c.args.scope.now.sig (map formula_of c.args.scope.now.bodies) c.args.table.now c.len-2.result (formula_of c.args.tree.now) c.requires.closed.0 c.sorts.ensures.consistent c.requires.sound c.requires.table c.len.ensures.ordered c.len.ensures.single (all_below c.args.scope.now.bodies c.len-2.result c.len-2.ensures.len) c.requires.closed.1) (within_subtrees (compiled c.args.scope.now.sig (given c.args.scope.now.sig (map formula_of c.args.scope.now.bodies) c.len-2.result) [] (formula_of c.args.tree.now)))).kept.sorted
+returns-clause-sorted c = (c.compile_tree.ensures.outcome.effect [] [] c.requires.closed.0 (subtrees (compiled c.args.scope.now.sig (given c.args.scope.now.sig (map formula_of c.args.scope.now.bodies) c.len-below.result) [] (formula_of c.args.tree.now))) (entry_ready c.laws.ensures.hold c.args.scope.now.sig (map formula_of c.args.scope.now.bodies) c.args.table.now c.len-below.result (formula_of c.args.tree.now) c.requires.closed.0 c.sorts.ensures.consistent c.requires.sound c.requires.table c.len.ensures.ordered c.len.ensures.single (all_below c.args.scope.now.bodies c.len-below.result c.len-below.ensures.len) c.requires.closed.1) (within_subtrees (compiled c.args.scope.now.sig (given c.args.scope.now.sig (map formula_of c.args.scope.now.bodies) c.len-below.result) [] (formula_of c.args.tree.now)))).kept.sorted
 
 pub returns-clause-core : goal.returns-clause-core
 returns-clause-core c =
-    IfOk-weaker c.compile_tree.result _ (λ t. Stands c.compile_tree.new.table t (core_of c.args.scope.now.sig (map formula_of c.args.scope.now.bodies) [] (formula_of c.args.tree.now))) (λ t h. stands_as c.compile_tree.new.table t _ _ (ap (λ (n : ℕ). compiled c.args.scope.now.sig (given c.args.scope.now.sig (map formula_of c.args.scope.now.bodies) n) [] (formula_of c.args.tree.now)) (all_below c.args.scope.now.bodies c.len-2.result c.len-2.ensures.len)) h)
-    (c.compile_tree.ensures.outcome.core [] [] c.requires.closed.0 (entry_ready c.laws.ensures.hold c.args.scope.now.sig (map formula_of c.args.scope.now.bodies) c.args.table.now c.len-2.result (formula_of c.args.tree.now) c.requires.closed.0 c.sorts.ensures.consistent c.requires.sound c.requires.table c.len.ensures.ordered c.len.ensures.single (all_below c.args.scope.now.bodies c.len-2.result c.len-2.ensures.len) c.requires.closed.1))
+    IfOk-weaker c.compile_tree.result _ (λ t. Stands c.compile_tree.new.table t (core_of c.args.scope.now.sig (map formula_of c.args.scope.now.bodies) [] (formula_of c.args.tree.now))) (λ t h. stands_as c.compile_tree.new.table t _ _ (ap (λ (n : ℕ). compiled c.args.scope.now.sig (given c.args.scope.now.sig (map formula_of c.args.scope.now.bodies) n) [] (formula_of c.args.tree.now)) (all_below c.args.scope.now.bodies c.len-below.result c.len-below.ensures.len)) h)
+    (c.compile_tree.ensures.outcome.core [] [] c.requires.closed.0 (entry_ready c.laws.ensures.hold c.args.scope.now.sig (map formula_of c.args.scope.now.bodies) c.args.table.now c.len-below.result (formula_of c.args.tree.now) c.requires.closed.0 c.sorts.ensures.consistent c.requires.sound c.requires.table c.len.ensures.ordered c.len.ensures.single (all_below c.args.scope.now.bodies c.len-below.result c.len-below.ensures.len) c.requires.closed.1))
 
 pub returns-clause-nothing_else : goal.returns-clause-nothing_else
-returns-clause-nothing_else c = λ t from below. subst (λ (u : CoreTree). Contains (subtrees u) (term_at c.compile_tree.new.table t)) (ap (λ (n : ℕ). compiled c.args.scope.now.sig (given c.args.scope.now.sig (map formula_of c.args.scope.now.bodies) n) [] (formula_of c.args.tree.now)) (all_below c.args.scope.now.bodies c.len-2.result c.len-2.ensures.len)) ((c.compile_tree.ensures.outcome.effect [] [] c.requires.closed.0 (subtrees (compiled c.args.scope.now.sig (given c.args.scope.now.sig (map formula_of c.args.scope.now.bodies) c.len-2.result) [] (formula_of c.args.tree.now))) (entry_ready c.laws.ensures.hold c.args.scope.now.sig (map formula_of c.args.scope.now.bodies) c.args.table.now c.len-2.result (formula_of c.args.tree.now) c.requires.closed.0 c.sorts.ensures.consistent c.requires.sound c.requires.table c.len.ensures.ordered c.len.ensures.single (all_below c.args.scope.now.bodies c.len-2.result c.len-2.ensures.len) c.requires.closed.1) (within_subtrees (compiled c.args.scope.now.sig (given c.args.scope.now.sig (map formula_of c.args.scope.now.bodies) c.len-2.result) [] (formula_of c.args.tree.now)))).adds t from below)
+returns-clause-nothing_else c = λ t from below. subst (λ (u : CoreTree). Contains (subtrees u) (term_at c.compile_tree.new.table t)) (ap (λ (n : ℕ). compiled c.args.scope.now.sig (given c.args.scope.now.sig (map formula_of c.args.scope.now.bodies) n) [] (formula_of c.args.tree.now)) (all_below c.args.scope.now.bodies c.len-below.result c.len-below.ensures.len)) ((c.compile_tree.ensures.outcome.effect [] [] c.requires.closed.0 (subtrees (compiled c.args.scope.now.sig (given c.args.scope.now.sig (map formula_of c.args.scope.now.bodies) c.len-below.result) [] (formula_of c.args.tree.now))) (entry_ready c.laws.ensures.hold c.args.scope.now.sig (map formula_of c.args.scope.now.bodies) c.args.table.now c.len-below.result (formula_of c.args.tree.now) c.requires.closed.0 c.sorts.ensures.consistent c.requires.sound c.requires.table c.len.ensures.ordered c.len.ensures.single (all_below c.args.scope.now.bodies c.len-below.result c.len-below.ensures.len) c.requires.closed.1) (within_subtrees (compiled c.args.scope.now.sig (given c.args.scope.now.sig (map formula_of c.args.scope.now.bodies) c.len-below.result) [] (formula_of c.args.tree.now)))).adds t from below)
 
 pub returns-clause-full : goal.returns-clause-full
 returns-clause-full c = λ full.
-    let h = (c.compile_tree.ensures.outcome.effect [] [] c.requires.closed.0 (subtrees (compiled c.args.scope.now.sig (given c.args.scope.now.sig (map formula_of c.args.scope.now.bodies) c.len-2.result) [] (formula_of c.args.tree.now))) (entry_ready c.laws.ensures.hold c.args.scope.now.sig (map formula_of c.args.scope.now.bodies) c.args.table.now c.len-2.result (formula_of c.args.tree.now) c.requires.closed.0 c.sorts.ensures.consistent c.requires.sound c.requires.table c.len.ensures.ordered c.len.ensures.single (all_below c.args.scope.now.bodies c.len-2.result c.len-2.ensures.len) c.requires.closed.1) (within_subtrees (compiled c.args.scope.now.sig (given c.args.scope.now.sig (map formula_of c.args.scope.now.bodies) c.len-2.result) [] (formula_of c.args.tree.now)))) in
-    subst (λ (u : CoreTree). (trees : List CoreTree) × DoNotFit (subtrees u) c.args.table.now trees) (ap (λ (n : ℕ). compiled c.args.scope.now.sig (given c.args.scope.now.sig (map formula_of c.args.scope.now.bodies) n) [] (formula_of c.args.tree.now)) (all_below c.args.scope.now.bodies c.len-2.result c.len-2.ensures.len))
+    let h = (c.compile_tree.ensures.outcome.effect [] [] c.requires.closed.0 (subtrees (compiled c.args.scope.now.sig (given c.args.scope.now.sig (map formula_of c.args.scope.now.bodies) c.len-below.result) [] (formula_of c.args.tree.now))) (entry_ready c.laws.ensures.hold c.args.scope.now.sig (map formula_of c.args.scope.now.bodies) c.args.table.now c.len-below.result (formula_of c.args.tree.now) c.requires.closed.0 c.sorts.ensures.consistent c.requires.sound c.requires.table c.len.ensures.ordered c.len.ensures.single (all_below c.args.scope.now.bodies c.len-below.result c.len-below.ensures.len) c.requires.closed.1) (within_subtrees (compiled c.args.scope.now.sig (given c.args.scope.now.sig (map formula_of c.args.scope.now.bodies) c.len-below.result) [] (formula_of c.args.tree.now)))) in
+    subst (λ (u : CoreTree). (trees : List CoreTree) × DoNotFit (subtrees u) c.args.table.now trees) (ap (λ (n : ℕ). compiled c.args.scope.now.sig (given c.args.scope.now.sig (map formula_of c.args.scope.now.bodies) n) [] (formula_of c.args.tree.now)) (all_below c.args.scope.now.bodies c.len-below.result c.len-below.ensures.len))
     (do_not_fit c.args.scope.now.sig _ c.args.table.now c.compile_tree.new.table h.grown h.kept h.adds (h.lacks full))
 
 pub returns-clause-complete : goal.returns-clause-complete
 returns-clause-complete c =
-    let kept = (c.compile_tree.ensures.outcome.effect [] [] c.requires.closed.0 (subtrees (compiled c.args.scope.now.sig (given c.args.scope.now.sig (map formula_of c.args.scope.now.bodies) c.len-2.result) [] (formula_of c.args.tree.now))) (entry_ready c.laws.ensures.hold c.args.scope.now.sig (map formula_of c.args.scope.now.bodies) c.args.table.now c.len-2.result (formula_of c.args.tree.now) c.requires.closed.0 c.sorts.ensures.consistent c.requires.sound c.requires.table c.len.ensures.ordered c.len.ensures.single (all_below c.args.scope.now.bodies c.len-2.result c.len-2.ensures.len) c.requires.closed.1) (within_subtrees (compiled c.args.scope.now.sig (given c.args.scope.now.sig (map formula_of c.args.scope.now.bodies) c.len-2.result) [] (formula_of c.args.tree.now)))).kept in
+    let kept = (c.compile_tree.ensures.outcome.effect [] [] c.requires.closed.0 (subtrees (compiled c.args.scope.now.sig (given c.args.scope.now.sig (map formula_of c.args.scope.now.bodies) c.len-below.result) [] (formula_of c.args.tree.now))) (entry_ready c.laws.ensures.hold c.args.scope.now.sig (map formula_of c.args.scope.now.bodies) c.args.table.now c.len-below.result (formula_of c.args.tree.now) c.requires.closed.0 c.sorts.ensures.consistent c.requires.sound c.requires.table c.len.ensures.ordered c.len.ensures.single (all_below c.args.scope.now.bodies c.len-below.result c.len-below.ensures.len) c.requires.closed.1) (within_subtrees (compiled c.args.scope.now.sig (given c.args.scope.now.sig (map formula_of c.args.scope.now.bodies) c.len-below.result) [] (formula_of c.args.tree.now)))).kept in
     IfOk-weaker c.compile_tree.result _ (λ t. (s : CoreTree) → Contains (subtrees (core_of c.args.scope.now.sig (map formula_of c.args.scope.now.bodies) [] (formula_of c.args.tree.now))) s → (u : TermId) × (u.0 ≤ t.0) × (term_at c.compile_tree.new.table u ≡ s)) (λ t h. subterms_below c.args.scope.now.sig c.compile_tree.new.table kept (core_of c.args.scope.now.sig (map formula_of c.args.scope.now.bodies) [] (formula_of c.args.tree.now)) t h) (returns-clause-core c)

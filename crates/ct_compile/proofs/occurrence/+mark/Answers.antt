@@ -1,6 +1,5 @@
 use Rattle.std.proofs.Common.{◌≡◌, ℕ, ◌+◌, ◌-◌, ◌&&◌, Bool, true, false, List, [], ◌∷◌, ◌++◌, length, take, drop, reverse, get_or, None, Some, IfOk, sym, ap, ap₂, subst, ◌∙◌, arith}
 use Rattle.std.proofs.lemmas.List.{reverse-append}
-use Rattle.std.proofs.lemmas.Option.{get_or_from_slice_get}
 use Rattle.std.proofs.lemmas.Result.{IfOk-weaker}
 use Rattle.ct_sorts.specs.declared.ids.CtorId.{CtorId}
 use Rattle.ct_terms.specs.declared.tree.Tree.{Tree}
@@ -16,11 +15,11 @@ use Rattle.ct_terms.specs.Occurrence.{count_of, occurs, occurs_in_bound, matched
 use Rattle.ct_compile.specs.declared.notes.Notes.{Notes}
 use Rattle.ct_compile.specs.CaseFormula.{cases_of_trees}
 use Rattle.ct_compile.specs.Weight.{weight, weights}
-use Rattle.ct_compile.specs.Marks.{listed, marked, variable_count, MayMark}
+use Rattle.ct_compile.specs.Marks.{worked_in, listed, marked, variable_count, MayMark}
 use Rattle.ct_compile.specs.Noted.{under_of, IsNoted}
 use Rattle.ct_compile.proofs.RestLemmas.{rest_item, rest_step}
 use Rattle.ct_compile.proofs.MarkLemmas.{marked_none}
-use Rattle.ct_compile.proofs.MayLemmas.{may_plain, marks_plain, may_condition, may_then, may_else, marks_choice, may_args, row_there, row_inside, may_body, may_bound, marks_let, may_matched, may_cases, marks_match, MarksRest, rest_first, rest_lighter, rest_more, rest_end, MarksBound, bound_first, bound_lighter, bound_more, bound_end, bound_short, under_long, under_take, under_drop, ok_then, nothing_left, counted, heavier_plain}
+use Rattle.ct_compile.proofs.MayLemmas.{may_plain, marks_plain, may_condition, may_then, may_else, marks_choice, may_args, row_there, may_body, may_bound, marks_let, may_matched, may_cases, marks_match, MarksRest, rest_first, rest_lighter, rest_more, rest_end, MarksBound, bound_first, bound_lighter, bound_more, bound_end, bound_short, under_long, under_take, under_drop, ok_then, nothing_left, counted, heavier_plain}
 use Rattle.ct_compile.proofs.NoteLemmas.{noted_operator, noted_call, noted_choice, noted_let, noted_match, NotesRest, notes_more, notes_end, NotesBound, notes_bound_more, notes_bound_end}
 use Rattle.ct_compile.specs.Matching.{tested_by}
 use Rattle.ct_compile.proofs.FormLemmas.{cases_is, none_is}
@@ -33,20 +32,21 @@ pub mark-mark_all-requires : goal.mark-mark_all-requires
 mark-mark_all-requires t c =
     let may = c.requires.may in
     let heavy = heavier_plain (formula_of c.args.tree.now) (formulas_of_trees c.in-Some.trees.now) c.in-Some.ensures.plain c.in-Some.ensures.under in
-    (omega (arith, heavy, c.decreases), (may.0, may.1, may_plain c.args.sig.now may.0 may.1 c.args.rows.now (formula_of c.args.tree.now) (formulas_of_trees c.in-Some.trees.now) c.in-Some.ensures.plain c.in-Some.ensures.under may.2))
+    (omega (arith, heavy, c.decreases), (may.0, may.1, may_plain c.args.sig.now may.0 may.1 (worked_in c.args.definitions.now) (formula_of c.args.tree.now) (formulas_of_trees c.in-Some.trees.now) c.in-Some.ensures.plain c.in-Some.ensures.under may.2))
 
 pub mark-returns-in-Some-clause-marks : goal.mark-returns-in-Some-clause-marks
 mark-returns-in-Some-clause-marks t c = λ uses n h.
-    c.in_ok-under.ensures.marks uses n (may_plain c.args.sig.now uses n c.args.rows.now (formula_of c.args.tree.now) (formulas_of_trees c.in-Some.trees.now) c.in-Some.ensures.plain c.in-Some.ensures.under h) ∙ marks_plain c.args.sig.now uses n c.args.rows.now (formula_of c.args.tree.now) (formulas_of_trees c.in-Some.trees.now) c.in-Some.ensures.plain c.in-Some.ensures.under c.args.flags.now.items
+    c.in_ok-under.ensures.marks uses n (may_plain c.args.sig.now uses n (worked_in c.args.definitions.now) (formula_of c.args.tree.now) (formulas_of_trees c.in-Some.trees.now) c.in-Some.ensures.plain c.in-Some.ensures.under h) ∙ marks_plain c.args.sig.now uses n (worked_in c.args.definitions.now) (formula_of c.args.tree.now) (formulas_of_trees c.in-Some.trees.now) c.in-Some.ensures.plain c.in-Some.ensures.under c.args.flags.now.items
 
 pub mark-returns-in-Some-clause-noted : goal.mark-returns-in-Some-clause-noted
 mark-returns-in-Some-clause-noted t c = λ uses n h.
-    noted_operator c.args.sig.now uses (formula_of c.args.tree.now) (formulas_of_trees c.in-Some.trees.now) c.plain.result c.in_ok-under.under.items c.in-Some.ensures.plain c.in-Some.ensures.under c.plain.ensures.under (c.in_ok-under.ensures.noted uses n (may_plain c.args.sig.now uses n c.args.rows.now (formula_of c.args.tree.now) (formulas_of_trees c.in-Some.trees.now) c.in-Some.ensures.plain c.in-Some.ensures.under h))
+    noted_operator c.args.sig.now (worked_in c.args.definitions.now) uses (formula_of c.args.tree.now) (formulas_of_trees c.in-Some.trees.now) c.plain.result c.in_ok-under.under.items c.in-Some.ensures.plain c.in-Some.ensures.under c.plain.ensures.under (c.in_ok-under.ensures.noted uses n (may_plain c.args.sig.now uses n (worked_in c.args.definitions.now) (formula_of c.args.tree.now) (formulas_of_trees c.in-Some.trees.now) c.in-Some.ensures.plain c.in-Some.ensures.under h))
 
-pub mark-bounds-rows-k : goal.mark-bounds-rows-k
-mark-bounds-rows-k t c =
+pub mark-row_at-row-requires : goal.mark-row_at-row-requires
+mark-row_at-row-requires t c =
     let may = c.requires.may in
-    row_inside c.args.sig.now may.0 may.1 c.args.rows.now c.in-Def.k (formulas_of_trees c.in-Def.ts.items) (subst (MayMark c.args.sig.now may.0 may.1 c.args.rows.now) (ap formula_of (c.in-Def.is ∙ sym (rolls-Def c.in-Def.k c.in-Def.ts)) ∙ fold-roll-Tree Formula (Pattern × Formula) formula_layer case_layer (Tree-F.Def c.in-Def.k c.in-Def.ts)) may.2)
+    let h = subst (MayMark c.args.sig.now may.0 may.1 (worked_in c.args.definitions.now)) (ap formula_of (c.in-Def.is ∙ sym (rolls-Def c.in-Def.k c.in-Def.ts)) ∙ fold-roll-Tree Formula (Pattern × Formula) formula_layer case_layer (Tree-F.Def c.in-Def.k c.in-Def.ts)) may.2 in
+    record { known = h.known.0 }
 
 pub mark-mark_bound-requires : goal.mark-mark_bound-requires
 mark-mark_bound-requires t c =
@@ -54,31 +54,28 @@ mark-mark_bound-requires t c =
     let k = c.in-Def.k in
     let trees = c.as_slice.result.now in
     let is : formula_of c.args.tree.now ≡ Def k (formulas_of_trees trees) = (ap formula_of (c.in-Def.is ∙ sym (rolls-Def c.in-Def.k c.in-Def.ts)) ∙ fold-roll-Tree Formula (Pattern × Formula) formula_layer case_layer (Tree-F.Def c.in-Def.k c.in-Def.ts)) ∙ ap (λ (us : List Tree). Def k (formulas_of_trees us)) (sym c.as_slice.ensures.value) in
-    let h : MayMark c.args.sig.now may.0 may.1 c.args.rows.now (Def k (formulas_of_trees trees)) = subst (MayMark c.args.sig.now may.0 may.1 c.args.rows.now) is may.2 in
-    let row : c.as_slice-row.result.now ≡ listed (may.0 k) (count_of (formulas_of_trees trees)) =
-    c.as_slice-row.ensures.value ∙ (c.index-rows-k.is ∙ get_or_from_slice_get c.args.rows.now k.0 _ _ (row_there c.args.sig.now may.0 may.1 c.args.rows.now k (formulas_of_trees trees) h)) in
+    let h : MayMark c.args.sig.now may.0 may.1 (worked_in c.args.definitions.now) (Def k (formulas_of_trees trees)) = subst (MayMark c.args.sig.now may.0 may.1 (worked_in c.args.definitions.now)) is may.2 in
+    let row : c.row_at-row.result.now ≡ listed (may.0 k) (count_of (formulas_of_trees trees)) = row_there c.args.sig.now may.0 may.1 (worked_in c.args.definitions.now) k (formulas_of_trees trees) h c.row_at-row.result.now c.row_at-row.ensures.value in
     let heavy : weight (λ k. 0) (formula_of c.args.tree.now) ≡ 0 + weights (λ k. 0) (formulas_of_trees trees) + 2 = ap (weight (λ k. 0)) is in
-    (omega (arith, heavy, c.decreases), ((may.0, may.1, may_args c.args.sig.now may.0 may.1 c.args.rows.now k (formulas_of_trees trees) h), (may.0 k, row)))
+    (omega (arith, heavy, c.decreases), ((may.0, may.1, may_args c.args.sig.now may.0 may.1 (worked_in c.args.definitions.now) k (formulas_of_trees trees) h), (may.0 k, row)))
 
 pub mark-returns-in_ok-under-in-Def-clause-marks : goal.mark-returns-in_ok-under-in-Def-clause-marks
 mark-returns-in_ok-under-in-Def-clause-marks t c = λ uses n m.
     let k = c.in-Def.k in
     let trees = c.as_slice.result.now in
     let is : formula_of c.args.tree.now ≡ Def k (formulas_of_trees trees) = (ap formula_of (c.in-Def.is ∙ sym (rolls-Def c.in-Def.k c.in-Def.ts)) ∙ fold-roll-Tree Formula (Pattern × Formula) formula_layer case_layer (Tree-F.Def c.in-Def.k c.in-Def.ts)) ∙ ap (λ (us : List Tree). Def k (formulas_of_trees us)) (sym c.as_slice.ensures.value) in
-    let h : MayMark c.args.sig.now uses n c.args.rows.now (Def k (formulas_of_trees trees)) = subst (MayMark c.args.sig.now uses n c.args.rows.now) is m in
-    let row : c.as_slice-row.result.now ≡ listed (uses k) (count_of (formulas_of_trees trees)) =
-    c.as_slice-row.ensures.value ∙ (c.index-rows-k.is ∙ get_or_from_slice_get c.args.rows.now k.0 _ _ (row_there c.args.sig.now uses n c.args.rows.now k (formulas_of_trees trees) h)) in
-    c.in_ok-under-in-Def.ensures.marks (uses k) uses n (may_args c.args.sig.now uses n c.args.rows.now k (formulas_of_trees trees) h) row ∙ ap (λ (f : Formula). marked (occurs c.args.sig.now uses f) c.args.flags.now.items) (sym is)
+    let h : MayMark c.args.sig.now uses n (worked_in c.args.definitions.now) (Def k (formulas_of_trees trees)) = subst (MayMark c.args.sig.now uses n (worked_in c.args.definitions.now)) is m in
+    let row : c.row_at-row.result.now ≡ listed (uses k) (count_of (formulas_of_trees trees)) = row_there c.args.sig.now uses n (worked_in c.args.definitions.now) k (formulas_of_trees trees) h c.row_at-row.result.now c.row_at-row.ensures.value in
+    c.in_ok-under-in-Def.ensures.marks (uses k) uses n (may_args c.args.sig.now uses n (worked_in c.args.definitions.now) k (formulas_of_trees trees) h) row ∙ ap (λ (f : Formula). marked (occurs c.args.sig.now uses f) c.args.flags.now.items) (sym is)
 
 pub mark-returns-in_ok-under-in-Def-clause-noted : goal.mark-returns-in_ok-under-in-Def-clause-noted
 mark-returns-in_ok-under-in-Def-clause-noted t c = λ uses n m.
     let k = c.in-Def.k in
     let trees = c.as_slice.result.now in
     let is : formula_of c.args.tree.now ≡ Def k (formulas_of_trees trees) = (ap formula_of (c.in-Def.is ∙ sym (rolls-Def c.in-Def.k c.in-Def.ts)) ∙ fold-roll-Tree Formula (Pattern × Formula) formula_layer case_layer (Tree-F.Def c.in-Def.k c.in-Def.ts)) ∙ ap (λ (us : List Tree). Def k (formulas_of_trees us)) (sym c.as_slice.ensures.value) in
-    let h : MayMark c.args.sig.now uses n c.args.rows.now (Def k (formulas_of_trees trees)) = subst (MayMark c.args.sig.now uses n c.args.rows.now) is m in
-    let row : c.as_slice-row.result.now ≡ listed (uses k) (count_of (formulas_of_trees trees)) =
-    c.as_slice-row.ensures.value ∙ (c.index-rows-k.is ∙ get_or_from_slice_get c.args.rows.now k.0 _ _ (row_there c.args.sig.now uses n c.args.rows.now k (formulas_of_trees trees) h)) in
-    subst (λ (f : Formula). IsNoted c.args.sig.now uses f c.plain-in-Def.result) (sym is) (noted_call c.args.sig.now uses k (formulas_of_trees trees) c.plain-in-Def.result c.in_ok-under-in-Def.under.items c.as_slice-row.result.now row c.plain-in-Def.ensures.under (c.in_ok-under-in-Def.ensures.noted (uses k) uses n (may_args c.args.sig.now uses n c.args.rows.now k (formulas_of_trees trees) h) row))
+    let h : MayMark c.args.sig.now uses n (worked_in c.args.definitions.now) (Def k (formulas_of_trees trees)) = subst (MayMark c.args.sig.now uses n (worked_in c.args.definitions.now)) is m in
+    let row : c.row_at-row.result.now ≡ listed (uses k) (count_of (formulas_of_trees trees)) = row_there c.args.sig.now uses n (worked_in c.args.definitions.now) k (formulas_of_trees trees) h c.row_at-row.result.now c.row_at-row.ensures.value in
+    subst (λ (f : Formula). IsNoted c.args.sig.now (worked_in c.args.definitions.now) uses f c.plain-in-Def.result) (sym is) (noted_call c.args.sig.now (worked_in c.args.definitions.now) uses k (formulas_of_trees trees) c.plain-in-Def.result c.in_ok-under-in-Def.under.items c.row_at-row.result.now row c.plain-in-Def.ensures.under h.known.0 (c.in_ok-under-in-Def.ensures.noted (uses k) uses n (may_args c.args.sig.now uses n (worked_in c.args.definitions.now) k (formulas_of_trees trees) h) row))
 
 pub mark-returns-in-Let-clause-marks : goal.mark-returns-in-Let-clause-marks
 mark-returns-in-Let-clause-marks t c = λ uses n m.
@@ -87,14 +84,14 @@ mark-returns-in-Let-clause-marks t c = λ uses n m.
     let is : formula_of c.args.tree.now ≡ Let (formulas_of_trees trees) (formula_of u) = (ap formula_of (c.in-Let.is ∙ sym (rolls-Let c.in-Let.ts c.in-Let.u)) ∙ fold-roll-Tree Formula (Pattern × Formula) formula_layer case_layer (Tree-F.Let c.in-Let.ts c.in-Let.u)) ∙ ap₂ (λ (us : List Tree) (v : Tree). Let (formulas_of_trees us) (formula_of v)) (sym c.as_slice-in-Let.ensures.value) (sym c.deref-in-Let.ensures) in
     ok_then c.mark_let.result _ _ _
     (ap (λ (f : Formula). marked (occurs c.args.sig.now uses f) c.args.flags.now.items) (sym is))
-    (c.mark_let.ensures.marks uses n (subst (MayMark c.args.sig.now uses n c.args.rows.now) is m))
+    (c.mark_let.ensures.marks uses n (subst (MayMark c.args.sig.now uses n (worked_in c.args.definitions.now)) is m))
 
 pub mark-returns-in-Let-clause-noted : goal.mark-returns-in-Let-clause-noted
 mark-returns-in-Let-clause-noted t c = λ uses n m.
     let trees = c.as_slice-in-Let.result.now in
     let u = c.deref-in-Let.result.now in
     let is : formula_of c.args.tree.now ≡ Let (formulas_of_trees trees) (formula_of u) = (ap formula_of (c.in-Let.is ∙ sym (rolls-Let c.in-Let.ts c.in-Let.u)) ∙ fold-roll-Tree Formula (Pattern × Formula) formula_layer case_layer (Tree-F.Let c.in-Let.ts c.in-Let.u)) ∙ ap₂ (λ (us : List Tree) (v : Tree). Let (formulas_of_trees us) (formula_of v)) (sym c.as_slice-in-Let.ensures.value) (sym c.deref-in-Let.ensures) in
-    subst (λ (f : Formula). IfOk c.mark_let.result (IsNoted c.args.sig.now uses f)) (sym is) (c.mark_let.ensures.noted uses n (subst (MayMark c.args.sig.now uses n c.args.rows.now) is m))
+    subst (λ (f : Formula). IfOk c.mark_let.result (IsNoted c.args.sig.now (worked_in c.args.definitions.now) uses f)) (sym is) (c.mark_let.ensures.noted uses n (subst (MayMark c.args.sig.now uses n (worked_in c.args.definitions.now)) is m))
 
 pub mark-returns-in-Match-clause-marks : goal.mark-returns-in-Match-clause-marks
 mark-returns-in-Match-clause-marks t c = λ uses n m.
@@ -103,14 +100,14 @@ mark-returns-in-Match-clause-marks t c = λ uses n m.
     let is : formula_of c.args.tree.now ≡ Match (formula_of u) (cases_of_trees cases) = (ap formula_of (c.in-Match.is ∙ sym (rolls-Match c.in-Match.t c.in-Match.cases)) ∙ fold-roll-Tree Formula (Pattern × Formula) formula_layer case_layer (Tree-F.Match c.in-Match.t c.in-Match.cases)) ∙ ap₂ (λ (v : Tree) (cs : List Case). Match (formula_of v) (cases_of_trees cs)) (sym c.deref-in-Match.ensures) (sym c.as_slice-in-Match.ensures.value) in
     ok_then c.mark_match.result _ _ _
     (ap (λ (f : Formula). marked (occurs c.args.sig.now uses f) c.args.flags.now.items) (sym is))
-    (c.mark_match.ensures.marks uses n (subst (MayMark c.args.sig.now uses n c.args.rows.now) is m))
+    (c.mark_match.ensures.marks uses n (subst (MayMark c.args.sig.now uses n (worked_in c.args.definitions.now)) is m))
 
 pub mark-returns-in-Match-clause-noted : goal.mark-returns-in-Match-clause-noted
 mark-returns-in-Match-clause-noted t c = λ uses n m.
     let cases = c.as_slice-in-Match.result.now in
     let u = c.deref-in-Match.result.now in
     let is : formula_of c.args.tree.now ≡ Match (formula_of u) (cases_of_trees cases) = (ap formula_of (c.in-Match.is ∙ sym (rolls-Match c.in-Match.t c.in-Match.cases)) ∙ fold-roll-Tree Formula (Pattern × Formula) formula_layer case_layer (Tree-F.Match c.in-Match.t c.in-Match.cases)) ∙ ap₂ (λ (v : Tree) (cs : List Case). Match (formula_of v) (cases_of_trees cs)) (sym c.deref-in-Match.ensures) (sym c.as_slice-in-Match.ensures.value) in
-    subst (λ (f : Formula). IfOk c.mark_match.result (IsNoted c.args.sig.now uses f)) (sym is) (c.mark_match.ensures.noted uses n (subst (MayMark c.args.sig.now uses n c.args.rows.now) is m))
+    subst (λ (f : Formula). IfOk c.mark_match.result (IsNoted c.args.sig.now (worked_in c.args.definitions.now) uses f)) (sym is) (c.mark_match.ensures.noted uses n (subst (MayMark c.args.sig.now uses n (worked_in c.args.definitions.now)) is m))
 
 -- ---- mark_all
 
@@ -121,9 +118,9 @@ mark_all-mark-requires t c =
     let all = formulas_of_trees c.args.trees.now in
     let first = c.args.flags.now.items in
     let more = formulas_of_trees (take (length loop.rest.now - 1) (drop 1 loop.rest.now)) in
-    let split = subst (λ (xs : List Tree). MarksRest c.args.sig.now c.args.rows.now all first (formulas_of_trees xs) loop.flags.items) (rest_item loop.rest.now c.tree-item.result c.in-len1-up.len_at_least c.tree-item.is) loop.invariant.marks in
-    let lighter = rest_lighter c.args.sig.now c.args.rows.now all first (formula_of c.tree-item.result) more loop.flags.items split in
-    (omega (arith, lighter, c.decreases), (may.0, may.1, rest_first c.args.sig.now c.args.rows.now all first (formula_of c.tree-item.result) more loop.flags.items split may.0 may.1 may.2))
+    let split = subst (λ (xs : List Tree). MarksRest c.args.sig.now (worked_in c.args.definitions.now) all first (formulas_of_trees xs) loop.flags.items) (rest_item loop.rest.now c.tree-item.result c.in-len1-up.len_at_least c.tree-item.is) loop.invariant.marks in
+    let lighter = rest_lighter c.args.sig.now (worked_in c.args.definitions.now) all first (formula_of c.tree-item.result) more loop.flags.items split in
+    (omega (arith, lighter, c.decreases), (may.0, may.1, rest_first c.args.sig.now (worked_in c.args.definitions.now) all first (formula_of c.tree-item.result) more loop.flags.items split may.0 may.1 may.2))
 
 pub mark_all-loop-rest-preserved : goal.mark_all-loop-rest-preserved
 mark_all-loop-rest-preserved t c =
@@ -131,11 +128,11 @@ mark_all-loop-rest-preserved t c =
     let all = formulas_of_trees c.args.trees.now in
     let first = c.args.flags.now.items in
     let more = formulas_of_trees (take (length loop.rest.now - 1) (drop 1 loop.rest.now)) in
-    let split = subst (λ (xs : List Tree). MarksRest c.args.sig.now c.args.rows.now all first (formulas_of_trees xs) loop.flags.items) (rest_item loop.rest.now c.tree-item.result c.in-len1-up.len_at_least c.tree-item.is) loop.invariant.marks in
-    let notes = subst (λ (xs : List Tree). NotesRest c.args.sig.now c.args.rows.now all (formulas_of_trees xs) loop.all.items) (rest_item loop.rest.now c.tree-item.result c.in-len1-up.len_at_least c.tree-item.is) loop.invariant.notes in
+    let split = subst (λ (xs : List Tree). MarksRest c.args.sig.now (worked_in c.args.definitions.now) all first (formulas_of_trees xs) loop.flags.items) (rest_item loop.rest.now c.tree-item.result c.in-len1-up.len_at_least c.tree-item.is) loop.invariant.marks in
+    let notes = subst (λ (xs : List Tree). NotesRest c.args.sig.now (worked_in c.args.definitions.now) all (formulas_of_trees xs) loop.all.items) (rest_item loop.rest.now c.tree-item.result c.in-len1-up.len_at_least c.tree-item.is) loop.invariant.notes in
     record {
-      marks = rest_more c.args.sig.now c.args.rows.now all first (formula_of c.tree-item.result) more loop.flags.items split c.mark.new.flags.items (λ uses n h. c.in_ok-notes.ensures.marks uses n h);
-      notes = subst (λ (ms : List Notes). NotesRest c.args.sig.now c.args.rows.now all more ms) (sym c.in_ok-push.ensures.items) (notes_more c.args.sig.now c.args.rows.now all (formula_of c.tree-item.result) more loop.all.items c.in_ok-notes.notes notes (λ uses n h. c.in_ok-notes.ensures.noted uses n (rest_first c.args.sig.now c.args.rows.now all first (formula_of c.tree-item.result) more loop.flags.items split uses n h)));
+      marks = rest_more c.args.sig.now (worked_in c.args.definitions.now) all first (formula_of c.tree-item.result) more loop.flags.items split c.mark.new.flags.items (λ uses n h. c.in_ok-notes.ensures.marks uses n h);
+      notes = subst (λ (ms : List Notes). NotesRest c.args.sig.now (worked_in c.args.definitions.now) all more ms) (sym c.in_ok-push.ensures.items) (notes_more c.args.sig.now (worked_in c.args.definitions.now) all (formula_of c.tree-item.result) more loop.all.items c.in_ok-notes.notes notes (λ uses n h. c.in_ok-notes.ensures.noted uses n (rest_first c.args.sig.now (worked_in c.args.definitions.now) all first (formula_of c.tree-item.result) more loop.flags.items split uses n h)));
     }
 
 pub mark_all-returns-clause-marks : goal.mark_all-returns-clause-marks
@@ -144,8 +141,8 @@ mark_all-returns-clause-marks t c = λ uses n h.
     let all = formulas_of_trees c.args.trees.now in
     let first = c.args.flags.now.items in
     let none : loop.rest.now ≡ [] = nothing_left loop.rest.now (omega (arith, c.in_default.len_below)) in
-    let end = subst (λ (xs : List Tree). MarksRest c.args.sig.now c.args.rows.now all first (formulas_of_trees xs) loop.flags.items) none loop.invariant.marks in
-    rest_end c.args.sig.now c.args.rows.now all first loop.flags.items uses n end h
+    let end = subst (λ (xs : List Tree). MarksRest c.args.sig.now (worked_in c.args.definitions.now) all first (formulas_of_trees xs) loop.flags.items) none loop.invariant.marks in
+    rest_end c.args.sig.now (worked_in c.args.definitions.now) all first loop.flags.items uses n end h
 
 pub mark_all-returns-clause-noted : goal.mark_all-returns-clause-noted
 mark_all-returns-clause-noted t c = λ uses n h.
@@ -153,8 +150,8 @@ mark_all-returns-clause-noted t c = λ uses n h.
     let all = formulas_of_trees c.args.trees.now in
     let first = c.args.flags.now.items in
     let none : loop.rest.now ≡ [] = nothing_left loop.rest.now (omega (arith, c.in_default.len_below)) in
-    let end = subst (λ (xs : List Tree). NotesRest c.args.sig.now c.args.rows.now all (formulas_of_trees xs) loop.all.items) none loop.invariant.notes in
-    notes_end c.args.sig.now c.args.rows.now all loop.all.items uses n end h
+    let end = subst (λ (xs : List Tree). NotesRest c.args.sig.now (worked_in c.args.definitions.now) all (formulas_of_trees xs) loop.all.items) none loop.invariant.notes in
+    notes_end c.args.sig.now (worked_in c.args.definitions.now) all loop.all.items uses n end h
 
 -- ---- mark_bound
 
@@ -164,10 +161,10 @@ mark_bound-returns-in_default-left-clause-marks t c = λ inner uses n h e.
     let all = formulas_of_trees c.args.trees.now in
     let first = c.args.flags.now.items in
     let more = formulas_of_trees (take (length loop.rest.now - 1) (drop 1 loop.rest.now)) in
-    let split = subst (λ (xs : List Tree). MarksBound c.args.sig.now c.args.rows.now c.args.bound.now all first loop.left.now (formulas_of_trees xs) loop.flags.items) (rest_item loop.rest.now c.tree-item.result c.in-len1-up.len_at_least c.tree-item.is) loop.invariant.marks in
+    let split = subst (λ (xs : List Tree). MarksBound c.args.sig.now (worked_in c.args.definitions.now) c.args.bound.now all first loop.left.now (formulas_of_trees xs) loop.flags.items) (rest_item loop.rest.now c.tree-item.result c.in-len1-up.len_at_least c.tree-item.is) loop.invariant.marks in
     let none : loop.left.now ≡ [] = nothing_left loop.left.now (omega (arith, c.in_default-left.len_below)) in
-    let short = subst (λ (bs : List Bool). MarksBound c.args.sig.now c.args.rows.now c.args.bound.now all first bs (with_formula (formula_of c.tree-item.result) more) loop.flags.items) none split in
-    absurd (bound_short c.args.sig.now c.args.rows.now c.args.bound.now all first (formula_of c.tree-item.result) more loop.flags.items inner uses n short h e)
+    let short = subst (λ (bs : List Bool). MarksBound c.args.sig.now (worked_in c.args.definitions.now) c.args.bound.now all first bs (with_formula (formula_of c.tree-item.result) more) loop.flags.items) none split in
+    absurd (bound_short c.args.sig.now (worked_in c.args.definitions.now) c.args.bound.now all first (formula_of c.tree-item.result) more loop.flags.items inner uses n short h e)
 
 pub mark_bound-returns-in_default-left-clause-noted : goal.mark_bound-returns-in_default-left-clause-noted
 mark_bound-returns-in_default-left-clause-noted t c = λ inner uses n h e.
@@ -175,10 +172,10 @@ mark_bound-returns-in_default-left-clause-noted t c = λ inner uses n h e.
     let all = formulas_of_trees c.args.trees.now in
     let first = c.args.flags.now.items in
     let more = formulas_of_trees (take (length loop.rest.now - 1) (drop 1 loop.rest.now)) in
-    let split = subst (λ (xs : List Tree). MarksBound c.args.sig.now c.args.rows.now c.args.bound.now all first loop.left.now (formulas_of_trees xs) loop.flags.items) (rest_item loop.rest.now c.tree-item.result c.in-len1-up.len_at_least c.tree-item.is) loop.invariant.marks in
+    let split = subst (λ (xs : List Tree). MarksBound c.args.sig.now (worked_in c.args.definitions.now) c.args.bound.now all first loop.left.now (formulas_of_trees xs) loop.flags.items) (rest_item loop.rest.now c.tree-item.result c.in-len1-up.len_at_least c.tree-item.is) loop.invariant.marks in
     let none : loop.left.now ≡ [] = nothing_left loop.left.now (omega (arith, c.in_default-left.len_below)) in
-    let short = subst (λ (bs : List Bool). MarksBound c.args.sig.now c.args.rows.now c.args.bound.now all first bs (with_formula (formula_of c.tree-item.result) more) loop.flags.items) none split in
-    absurd (bound_short c.args.sig.now c.args.rows.now c.args.bound.now all first (formula_of c.tree-item.result) more loop.flags.items inner uses n short h e)
+    let short = subst (λ (bs : List Bool). MarksBound c.args.sig.now (worked_in c.args.definitions.now) c.args.bound.now all first bs (with_formula (formula_of c.tree-item.result) more) loop.flags.items) none split in
+    absurd (bound_short c.args.sig.now (worked_in c.args.definitions.now) c.args.bound.now all first (formula_of c.tree-item.result) more loop.flags.items inner uses n short h e)
 
 pub mark_bound-mark_where-requires : goal.mark_bound-mark_where-requires
 mark_bound-mark_where-requires t c =
@@ -188,12 +185,12 @@ mark_bound-mark_where-requires t c =
     let all = formulas_of_trees c.args.trees.now in
     let first = c.args.flags.now.items in
     let more = formulas_of_trees (take (length loop.rest.now - 1) (drop 1 loop.rest.now)) in
-    let split = subst (λ (xs : List Tree). MarksBound c.args.sig.now c.args.rows.now c.args.bound.now all first loop.left.now (formulas_of_trees xs) loop.flags.items) (rest_item loop.rest.now c.tree-item.result c.in-len1-up.len_at_least c.tree-item.is) loop.invariant.marks in
+    let split = subst (λ (xs : List Tree). MarksBound c.args.sig.now (worked_in c.args.definitions.now) c.args.bound.now all first loop.left.now (formulas_of_trees xs) loop.flags.items) (rest_item loop.rest.now c.tree-item.result c.in-len1-up.len_at_least c.tree-item.is) loop.invariant.marks in
     let b = get_or loop.left.now 0 false in
     let left = take (length loop.left.now - 1) (drop 1 loop.left.now) in
-    let both = subst (λ (bs : List Bool). MarksBound c.args.sig.now c.args.rows.now c.args.bound.now all first bs (with_formula (formula_of c.tree-item.result) more) loop.flags.items) (rest_step loop.left.now false c.in-len1-up-left.len_at_least) split in
-    let lighter = bound_lighter c.args.sig.now c.args.rows.now c.args.bound.now all first b left (formula_of c.tree-item.result) more loop.flags.items both in
-    (omega (arith, lighter, c.decreases), (may.0, may.1, bound_first c.args.sig.now c.args.rows.now c.args.bound.now all first b left (formula_of c.tree-item.result) more loop.flags.items both flags.0 may.0 may.1 may.2 flags.1))
+    let both = subst (λ (bs : List Bool). MarksBound c.args.sig.now (worked_in c.args.definitions.now) c.args.bound.now all first bs (with_formula (formula_of c.tree-item.result) more) loop.flags.items) (rest_step loop.left.now false c.in-len1-up-left.len_at_least) split in
+    let lighter = bound_lighter c.args.sig.now (worked_in c.args.definitions.now) c.args.bound.now all first b left (formula_of c.tree-item.result) more loop.flags.items both in
+    (omega (arith, lighter, c.decreases), (may.0, may.1, bound_first c.args.sig.now (worked_in c.args.definitions.now) c.args.bound.now all first b left (formula_of c.tree-item.result) more loop.flags.items both flags.0 may.0 may.1 may.2 flags.1))
 
 pub mark_bound-loop-rest-preserved : goal.mark_bound-loop-rest-preserved
 mark_bound-loop-rest-preserved t c =
@@ -201,14 +198,14 @@ mark_bound-loop-rest-preserved t c =
     let all = formulas_of_trees c.args.trees.now in
     let first = c.args.flags.now.items in
     let more = formulas_of_trees (take (length loop.rest.now - 1) (drop 1 loop.rest.now)) in
-    let split = subst (λ (xs : List Tree). MarksBound c.args.sig.now c.args.rows.now c.args.bound.now all first loop.left.now (formulas_of_trees xs) loop.flags.items) (rest_item loop.rest.now c.tree-item.result c.in-len1-up.len_at_least c.tree-item.is) loop.invariant.marks in
+    let split = subst (λ (xs : List Tree). MarksBound c.args.sig.now (worked_in c.args.definitions.now) c.args.bound.now all first loop.left.now (formulas_of_trees xs) loop.flags.items) (rest_item loop.rest.now c.tree-item.result c.in-len1-up.len_at_least c.tree-item.is) loop.invariant.marks in
     let b = get_or loop.left.now 0 false in
     let left = take (length loop.left.now - 1) (drop 1 loop.left.now) in
-    let both = subst (λ (bs : List Bool). MarksBound c.args.sig.now c.args.rows.now c.args.bound.now all first bs (with_formula (formula_of c.tree-item.result) more) loop.flags.items) (rest_step loop.left.now false c.in-len1-up-left.len_at_least) split in
-    let notes = subst (λ (bs : List Bool). NotesBound c.args.sig.now c.args.rows.now c.args.bound.now all bs (with_formula (formula_of c.tree-item.result) more) loop.all.items) (rest_step loop.left.now false c.in-len1-up-left.len_at_least) (subst (λ (xs : List Tree). NotesBound c.args.sig.now c.args.rows.now c.args.bound.now all loop.left.now (formulas_of_trees xs) loop.all.items) (rest_item loop.rest.now c.tree-item.result c.in-len1-up.len_at_least c.tree-item.is) loop.invariant.notes) in
+    let both = subst (λ (bs : List Bool). MarksBound c.args.sig.now (worked_in c.args.definitions.now) c.args.bound.now all first bs (with_formula (formula_of c.tree-item.result) more) loop.flags.items) (rest_step loop.left.now false c.in-len1-up-left.len_at_least) split in
+    let notes = subst (λ (bs : List Bool). NotesBound c.args.sig.now (worked_in c.args.definitions.now) c.args.bound.now all bs (with_formula (formula_of c.tree-item.result) more) loop.all.items) (rest_step loop.left.now false c.in-len1-up-left.len_at_least) (subst (λ (xs : List Tree). NotesBound c.args.sig.now (worked_in c.args.definitions.now) c.args.bound.now all loop.left.now (formulas_of_trees xs) loop.all.items) (rest_item loop.rest.now c.tree-item.result c.in-len1-up.len_at_least c.tree-item.is) loop.invariant.notes) in
     record {
-      marks = bound_more c.args.sig.now c.args.rows.now c.args.bound.now all first b left (formula_of c.tree-item.result) more loop.flags.items both c.mark_where.new.flags.items (λ uses n h. c.in_ok-notes.ensures.marks uses n h);
-      notes = subst (λ (ms : List Notes). NotesBound c.args.sig.now c.args.rows.now c.args.bound.now all left more ms) (sym c.in_ok-push.ensures.items) (notes_bound_more c.args.sig.now c.args.rows.now c.args.bound.now all b left (formula_of c.tree-item.result) more loop.all.items c.in_ok-notes.notes notes (λ inner uses n h e is. c.in_ok-notes.ensures.noted uses n (bound_first c.args.sig.now c.args.rows.now c.args.bound.now all first b left (formula_of c.tree-item.result) more loop.flags.items both inner uses n h e) is));
+      marks = bound_more c.args.sig.now (worked_in c.args.definitions.now) c.args.bound.now all first b left (formula_of c.tree-item.result) more loop.flags.items both c.mark_where.new.flags.items (λ uses n h. c.in_ok-notes.ensures.marks uses n h);
+      notes = subst (λ (ms : List Notes). NotesBound c.args.sig.now (worked_in c.args.definitions.now) c.args.bound.now all left more ms) (sym c.in_ok-push.ensures.items) (notes_bound_more c.args.sig.now (worked_in c.args.definitions.now) c.args.bound.now all b left (formula_of c.tree-item.result) more loop.all.items c.in_ok-notes.notes notes (λ inner uses n h e is. c.in_ok-notes.ensures.noted uses n (bound_first c.args.sig.now (worked_in c.args.definitions.now) c.args.bound.now all first b left (formula_of c.tree-item.result) more loop.flags.items both inner uses n h e) is));
     }
 
 pub mark_bound-returns-clause-marks : goal.mark_bound-returns-clause-marks
@@ -217,8 +214,8 @@ mark_bound-returns-clause-marks t c = λ inner uses n h e.
     let all = formulas_of_trees c.args.trees.now in
     let first = c.args.flags.now.items in
     let none : loop.rest.now ≡ [] = nothing_left loop.rest.now (omega (arith, c.in_default.len_below)) in
-    let end = subst (λ (xs : List Tree). MarksBound c.args.sig.now c.args.rows.now c.args.bound.now all first loop.left.now (formulas_of_trees xs) loop.flags.items) none loop.invariant.marks in
-    bound_end c.args.sig.now c.args.rows.now c.args.bound.now all first loop.left.now loop.flags.items inner uses n end h e
+    let end = subst (λ (xs : List Tree). MarksBound c.args.sig.now (worked_in c.args.definitions.now) c.args.bound.now all first loop.left.now (formulas_of_trees xs) loop.flags.items) none loop.invariant.marks in
+    bound_end c.args.sig.now (worked_in c.args.definitions.now) c.args.bound.now all first loop.left.now loop.flags.items inner uses n end h e
 
 pub mark_bound-returns-clause-noted : goal.mark_bound-returns-clause-noted
 mark_bound-returns-clause-noted t c = λ inner uses n h e.
@@ -226,8 +223,8 @@ mark_bound-returns-clause-noted t c = λ inner uses n h e.
     let all = formulas_of_trees c.args.trees.now in
     let first = c.args.flags.now.items in
     let none : loop.rest.now ≡ [] = nothing_left loop.rest.now (omega (arith, c.in_default.len_below)) in
-    let end = subst (λ (xs : List Tree). NotesBound c.args.sig.now c.args.rows.now c.args.bound.now all loop.left.now (formulas_of_trees xs) loop.all.items) none loop.invariant.notes in
-    notes_bound_end c.args.sig.now c.args.rows.now c.args.bound.now all loop.left.now loop.all.items inner uses n end h e
+    let end = subst (λ (xs : List Tree). NotesBound c.args.sig.now (worked_in c.args.definitions.now) c.args.bound.now all loop.left.now (formulas_of_trees xs) loop.all.items) none loop.invariant.notes in
+    notes_bound_end c.args.sig.now (worked_in c.args.definitions.now) c.args.bound.now all loop.left.now loop.all.items inner uses n end h e
 
 -- ---- mark_where
 
@@ -266,7 +263,7 @@ mark_under-returns-clause-marks t c = λ uses n h.
 pub mark_choice-returns-clause-marks : goal.mark_choice-returns-clause-marks
 mark_choice-returns-clause-marks t c = λ uses n h.
     let d = c.args.sig.now in
-    let rows = c.args.rows.now in
+    let rows = (worked_in c.args.definitions.now) in
     let first = c.args.flags.now.items in
     let f = formula_of c.args.condition.now in
     let g = formula_of c.args.first.now in
@@ -278,14 +275,14 @@ mark_choice-returns-clause-marks t c = λ uses n h.
 pub mark_choice-returns-clause-noted : goal.mark_choice-returns-clause-noted
 mark_choice-returns-clause-noted t c = λ uses n h.
     let d = c.args.sig.now in
-    let rows = c.args.rows.now in
+    let rows = (worked_in c.args.definitions.now) in
     let first = c.args.flags.now.items in
     let f = formula_of c.args.condition.now in
     let g = formula_of c.args.first.now in
     let k = formula_of c.args.second.now in
     let two : c.push-2.new.self.items ≡ c.in_ok-c.c ∷ (c.in_ok-t.t ∷ []) = c.in_ok-push-2.ensures.items ∙ ap (λ (ms : List Notes). ms ++ c.in_ok-t.t ∷ []) (c.in_ok-push.ensures.items ∙ ap (λ (ms : List Notes). ms ++ c.in_ok-c.c ∷ []) c.new-under.ensures.items) in
     let three : under_of c.plain.result ≡ c.in_ok-c.c ∷ (c.in_ok-t.t ∷ (c.in_ok-u.u ∷ [])) = c.plain.ensures.under ∙ (c.in_ok-push-3.ensures.items ∙ ap (λ (ms : List Notes). ms ++ c.in_ok-u.u ∷ []) two) in
-    noted_choice d uses f g k c.plain.result c.in_ok-c.c c.in_ok-t.t c.in_ok-u.u three (c.in_ok-c.ensures.noted uses n (may_condition d uses n rows f g k h)) (c.in_ok-t.ensures.noted uses n (may_then d uses n rows f g k h)) (c.in_ok-u.ensures.noted uses n (may_else d uses n rows f g k h))
+    noted_choice d rows uses f g k c.plain.result c.in_ok-c.c c.in_ok-t.t c.in_ok-u.u three (c.in_ok-c.ensures.noted uses n (may_condition d uses n rows f g k h)) (c.in_ok-t.ensures.noted uses n (may_then d uses n rows f g k h)) (c.in_ok-u.ensures.noted uses n (may_else d uses n rows f g k h))
 
 -- ---- mark_let
 
@@ -293,7 +290,7 @@ pub mark_let-mark_bound-requires : goal.mark_let-mark_bound-requires
 mark_let-mark_bound-requires t c =
     let may = c.requires.may in
     let d = c.args.sig.now in
-    let rows = c.args.rows.now in
+    let rows = (worked_in c.args.definitions.now) in
     let first = c.args.flags.now.items in
     let ts = formulas_of_trees c.args.trees.now in
     let u = formula_of c.args.body.now in
@@ -305,7 +302,7 @@ mark_let-mark_bound-requires t c =
 pub mark_let-returns-clause-marks : goal.mark_let-returns-clause-marks
 mark_let-returns-clause-marks t c = λ uses n h.
     let d = c.args.sig.now in
-    let rows = c.args.rows.now in
+    let rows = (worked_in c.args.definitions.now) in
     let first = c.args.flags.now.items in
     let ts = formulas_of_trees c.args.trees.now in
     let u = formula_of c.args.body.now in
@@ -318,7 +315,7 @@ mark_let-returns-clause-marks t c = λ uses n h.
 pub mark_let-returns-clause-noted : goal.mark_let-returns-clause-noted
 mark_let-returns-clause-noted t c = λ uses n h.
     let d = c.args.sig.now in
-    let rows = c.args.rows.now in
+    let rows = (worked_in c.args.definitions.now) in
     let first = c.args.flags.now.items in
     let ts = formulas_of_trees c.args.trees.now in
     let u = formula_of c.args.body.now in
@@ -327,14 +324,14 @@ mark_let-returns-clause-noted t c = λ uses n h.
     let row : c.as_slice.result.now ≡ listed (occurs d uses u) (count_of ts) = c.as_slice.ensures.value ∙ (c.in_ok-bound.ensures.flags uses n body ∙ ap (listed (occurs d uses u)) count) in
     let noted = c.in_ok-bound.ensures.noted uses n body in
     let inner = c.binder.ensures.inner ∙ (noted.1 ∙ ap (λ (ms : List Notes). ms ++ noted.0 ∷ []) c.new-inner.ensures.items) in
-    noted_let d uses ts u c.binder.result noted.0 c.as_slice.result.now c.in_ok-under.under.items row (c.binder.ensures.bound ∙ sym c.as_slice.ensures.value) c.binder.ensures.under inner (c.in_ok-under.ensures.noted (occurs d uses u) uses n (may_bound d uses n rows ts u h) row) noted.2
+    noted_let d rows uses ts u c.binder.result noted.0 c.as_slice.result.now c.in_ok-under.under.items row (c.binder.ensures.bound ∙ sym c.as_slice.ensures.value) c.binder.ensures.under inner (c.in_ok-under.ensures.noted (occurs d uses u) uses n (may_bound d uses n rows ts u h) row) noted.2
 
 -- ---- mark_match
 
 pub mark_match-returns-clause-marks : goal.mark_match-returns-clause-marks
 mark_match-returns-clause-marks t c = λ uses n m.
     let d = c.args.sig.now in
-    let rows = c.args.rows.now in
+    let rows = (worked_in c.args.definitions.now) in
     let first = c.args.flags.now.items in
     let f = formula_of c.args.matched.now in
     let cases = cases_of_trees c.args.cases.now in
@@ -346,7 +343,7 @@ mark_match-returns-clause-marks t c = λ uses n m.
 pub mark_match-returns-clause-noted : goal.mark_match-returns-clause-noted
 mark_match-returns-clause-noted t c = λ uses n m.
     let d = c.args.sig.now in
-    let rows = c.args.rows.now in
+    let rows = (worked_in c.args.definitions.now) in
     let first = c.args.flags.now.items in
     let f = formula_of c.args.matched.now in
     let cases = cases_of_trees c.args.cases.now in
@@ -356,14 +353,14 @@ mark_match-returns-clause-noted t c = λ uses n m.
     let inner : c.mark_cases.new.inner.items ≡ noted.0 = noted.1 ∙ ap (λ (ms : List Notes). ms ++ noted.0) c.new-inner.ensures.items in
     let bound : c.push.new.self.items ≡ c.in_ok-counts.counts ∷ [] = c.in_ok-push.ensures.items ∙ ap (λ (bs : List Bool). bs ++ c.in_ok-counts.counts ∷ []) c.new-bound.ensures.items in
     let one : c.push-2.new.self.items ≡ c.in_ok-notes.notes ∷ [] = c.in_ok-push-2.ensures.items ∙ ap (λ (ms : List Notes). ms ++ c.in_ok-notes.notes ∷ []) c.new-under.ensures.items in
-    noted_match d uses f cases c.binder.result c.in_ok-notes.notes c.in_ok-counts.counts noted.0 counts (c.binder.ensures.bound ∙ bound) (c.binder.ensures.under ∙ one) (c.binder.ensures.inner ∙ inner) (λ e. c.in_ok-notes.ensures.noted uses n (may_matched d uses n rows f cases m) e) noted.2
+    noted_match d rows uses f cases c.binder.result c.in_ok-notes.notes c.in_ok-counts.counts noted.0 counts (c.binder.ensures.bound ∙ bound) (c.binder.ensures.under ∙ one) (c.binder.ensures.inner ∙ inner) (λ e. c.in_ok-notes.ensures.noted uses n (may_matched d uses n rows f cases m) e) noted.2
 
 -- ---- mark_cases
 
 pub mark_cases-variable_count-count-requires : goal.mark_cases-variable_count-count-requires
 mark_cases-variable_count-count-requires t c =
     let d = c.args.sig.now in
-    let rows = c.args.rows.now in
+    let rows = (worked_in c.args.definitions.now) in
     let all = cases_of_trees c.args.cases.now in
     let first = c.args.flags.now.items in
     let before = c.args.inner.now.items in
@@ -381,7 +378,7 @@ mark_cases-variable_count-count-requires t c =
 pub mark_cases-mark_under-requires : goal.mark_cases-mark_under-requires
 mark_cases-mark_under-requires t c =
     let d = c.args.sig.now in
-    let rows = c.args.rows.now in
+    let rows = (worked_in c.args.definitions.now) in
     let all = cases_of_trees c.args.cases.now in
     let first = c.args.flags.now.items in
     let before = c.args.inner.now.items in
@@ -400,7 +397,7 @@ mark_cases-mark_under-requires t c =
 pub mark_cases-tested-requires : goal.mark_cases-tested-requires
 mark_cases-tested-requires t c =
     let d = c.args.sig.now in
-    let rows = c.args.rows.now in
+    let rows = (worked_in c.args.definitions.now) in
     let all = cases_of_trees c.args.cases.now in
     let first = c.args.flags.now.items in
     let before = c.args.inner.now.items in
@@ -418,7 +415,7 @@ mark_cases-tested-requires t c =
 pub mark_cases-returns-in_default-tested-clause-matched : goal.mark_cases-returns-in_default-tested-clause-matched
 mark_cases-returns-in_default-tested-clause-matched t c = λ uses n may.
     let d = c.args.sig.now in
-    let rows = c.args.rows.now in
+    let rows = (worked_in c.args.definitions.now) in
     let all = cases_of_trees c.args.cases.now in
     let first = c.args.flags.now.items in
     let before = c.args.inner.now.items in
@@ -438,7 +435,7 @@ mark_cases-returns-in_default-tested-clause-matched t c = λ uses n may.
 pub mark_cases-returns-in_default-tested-clause-marks : goal.mark_cases-returns-in_default-tested-clause-marks
 mark_cases-returns-in_default-tested-clause-marks t c = λ uses n may.
     let d = c.args.sig.now in
-    let rows = c.args.rows.now in
+    let rows = (worked_in c.args.definitions.now) in
     let all = cases_of_trees c.args.cases.now in
     let first = c.args.flags.now.items in
     let before = c.args.inner.now.items in
@@ -458,7 +455,7 @@ mark_cases-returns-in_default-tested-clause-marks t c = λ uses n may.
 pub mark_cases-returns-in_default-tested-clause-noted : goal.mark_cases-returns-in_default-tested-clause-noted
 mark_cases-returns-in_default-tested-clause-noted t c = λ uses n may.
     let d = c.args.sig.now in
-    let rows = c.args.rows.now in
+    let rows = (worked_in c.args.definitions.now) in
     let all = cases_of_trees c.args.cases.now in
     let first = c.args.flags.now.items in
     let before = c.args.inner.now.items in
@@ -477,7 +474,7 @@ mark_cases-returns-in_default-tested-clause-noted t c = λ uses n may.
 pub mark_cases-loop-rest-preserved : goal.mark_cases-loop-rest-preserved
 mark_cases-loop-rest-preserved t c =
     let d = c.args.sig.now in
-    let rows = c.args.rows.now in
+    let rows = (worked_in c.args.definitions.now) in
     let all = cases_of_trees c.args.cases.now in
     let first = c.args.flags.now.items in
     let before = c.args.inner.now.items in
@@ -500,7 +497,7 @@ mark_cases-loop-rest-preserved t c =
 pub mark_cases-returns-clause-matched : goal.mark_cases-returns-clause-matched
 mark_cases-returns-clause-matched t c = λ uses n may.
     let d = c.args.sig.now in
-    let rows = c.args.rows.now in
+    let rows = (worked_in c.args.definitions.now) in
     let all = cases_of_trees c.args.cases.now in
     let first = c.args.flags.now.items in
     let before = c.args.inner.now.items in
@@ -512,7 +509,7 @@ mark_cases-returns-clause-matched t c = λ uses n may.
 pub mark_cases-returns-clause-marks : goal.mark_cases-returns-clause-marks
 mark_cases-returns-clause-marks t c = λ uses n may.
     let d = c.args.sig.now in
-    let rows = c.args.rows.now in
+    let rows = (worked_in c.args.definitions.now) in
     let all = cases_of_trees c.args.cases.now in
     let first = c.args.flags.now.items in
     let before = c.args.inner.now.items in
@@ -524,7 +521,7 @@ mark_cases-returns-clause-marks t c = λ uses n may.
 pub mark_cases-returns-clause-noted : goal.mark_cases-returns-clause-noted
 mark_cases-returns-clause-noted t c = λ uses n may.
     let d = c.args.sig.now in
-    let rows = c.args.rows.now in
+    let rows = (worked_in c.args.definitions.now) in
     let all = cases_of_trees c.args.cases.now in
     let first = c.args.flags.now.items in
     let before = c.args.inner.now.items in

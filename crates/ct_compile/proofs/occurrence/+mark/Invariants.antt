@@ -1,6 +1,7 @@
 use Rattle.std.proofs.Common.{◌+◌, ◌*◌, length, reverse}
 use Rattle.ct_terms.specs.TreeFormula.{formula_of, formulas_of_trees}
 use Rattle.ct_compile.specs.Weight.{weight, weights, case_weights}
+use Rattle.ct_compile.specs.Marks.{worked_in}
 use Rattle.ct_compile.specs.CaseFormula.{cases_of_trees}
 use Rattle.ct_compile.proofs.MayLemmas.{MarksRest, MarksBound}
 use Rattle.ct_compile.proofs.NoteLemmas.{NotesRest, NotesBound}
@@ -29,15 +30,15 @@ abbrev pub decreases-mark_cases : goal.decreases-mark_cases
 decreases-mark_cases l = 2 * case_weights (λ k. 0) (cases_of_trees l.cases.now)
 
 abbrev pub invariant-mark_cases-loop-rest : goal.invariant-mark_cases-loop-rest
-invariant-mark_cases-loop-rest l = MarksCases l.sig l.rows (cases_of_trees l.cases) l.initial.flags.items l.initial.inner.items (reverse l.earlier.items) l.tests (cases_of_trees l.rest) l.flags.items l.inner.items
+invariant-mark_cases-loop-rest l = MarksCases l.sig (worked_in l.definitions) (cases_of_trees l.cases) l.initial.flags.items l.initial.inner.items (reverse l.earlier.items) l.tests (cases_of_trees l.rest) l.flags.items l.inner.items
 
 abbrev pub decreases-mark_cases-loop-rest : goal.decreases-mark_cases-loop-rest
 decreases-mark_cases-loop-rest l = length l.rest
 
 abbrev pub invariant-mark_all-loop-rest : goal.invariant-mark_all-loop-rest
 invariant-mark_all-loop-rest l = record {
-  marks : MarksRest l.sig l.rows (formulas_of_trees l.trees) l.initial.flags.items (formulas_of_trees l.rest) l.flags.items;
-  notes : NotesRest l.sig l.rows (formulas_of_trees l.trees) (formulas_of_trees l.rest) l.all.items;
+  marks : MarksRest l.sig (worked_in l.definitions) (formulas_of_trees l.trees) l.initial.flags.items (formulas_of_trees l.rest) l.flags.items;
+  notes : NotesRest l.sig (worked_in l.definitions) (formulas_of_trees l.trees) (formulas_of_trees l.rest) l.all.items;
 }
 
 abbrev pub decreases-mark_all-loop-rest : goal.decreases-mark_all-loop-rest
@@ -45,8 +46,8 @@ decreases-mark_all-loop-rest l = length l.rest
 
 abbrev pub invariant-mark_bound-loop-rest : goal.invariant-mark_bound-loop-rest
 invariant-mark_bound-loop-rest l = record {
-  marks : MarksBound l.sig l.rows l.bound (formulas_of_trees l.trees) l.initial.flags.items l.left (formulas_of_trees l.rest) l.flags.items;
-  notes : NotesBound l.sig l.rows l.bound (formulas_of_trees l.trees) l.left (formulas_of_trees l.rest) l.all.items;
+  marks : MarksBound l.sig (worked_in l.definitions) l.bound (formulas_of_trees l.trees) l.initial.flags.items l.left (formulas_of_trees l.rest) l.flags.items;
+  notes : NotesBound l.sig (worked_in l.definitions) l.bound (formulas_of_trees l.trees) l.left (formulas_of_trees l.rest) l.all.items;
 }
 
 abbrev pub decreases-mark_bound-loop-rest : goal.decreases-mark_bound-loop-rest

@@ -23,14 +23,13 @@ use Rattle.ct_compile.specs.Binding.{Binds}
 use Rattle.ct_compile.specs.Calling.{call_of, IsRecalled}
 use Rattle.ct_compile.specs.CaseFormula.{cases_of_trees}
 use Rattle.ct_compile.specs.Forms.{combined}
-use Rattle.ct_compile.specs.Marks.{listed}
+use Rattle.ct_compile.specs.Marks.{worked_in, listed}
 use Rattle.ct_compile.specs.Matching.{bound_by, tested_by}
 use Rattle.ct_compile.specs.Ready.{MayCompile, Compiles}
 use Rattle.ct_compile.specs.Noted.{IsOfFirst, IsNoted, AreNoted, CasesNoted}
 use Rattle.ct_compile.specs.Weight.{weights_below}
-use Rattle.std.proofs.lemmas.Option.{slice_get_within}
 use Rattle.ct_compile.proofs.RestLemmas.{rest_item}
-use Rattle.ct_compile.proofs.NoteLemmas.{first_inside, plain_notes, condition_notes, then_notes, else_notes, let_flags, let_under, let_inner, call_notes, match_inside, match_flag, match_under, match_inner, case_notes, later_cases, where_split}
+use Rattle.ct_compile.proofs.NoteLemmas.{first_inside, call_known, plain_notes, condition_notes, then_notes, else_notes, let_flags, let_under, let_inner, call_notes, match_inside, match_flag, match_under, match_inner, case_notes, later_cases, where_split}
 use Rattle.ct_compile.proofs.CycleLemmas.{compiles_nothing, compiles_grown, plain_children, plain_failed, plain_kept, plain_below, plain_operands, plain_made, Collects, collects_start, collects_next, collects_lighter, collects_failed, collects_follows, collects_broken, collects_out, collects_grown, collects_more, collects_end}
 use Rattle.ct_compile.proofs.ChoiceLemmas.{choice_condition, choice_then, choice_else, choice_failed_1, choice_failed_2, choice_failed_3, choice_kept, choice_below, choice_sorted, choice_made}
 use Rattle.ct_compile.proofs.BindingLemmas.{Completes, completes_start, completes_flag, completes_split, completes_all, completes_out, completes_absent, completes_lighter, completes_next, completes_failed, completes_term, flags_split}
@@ -62,7 +61,7 @@ compile_all-compile_tree-requires t c =
     let more = formulas_of_trees (take (length loop.rest.now - 1) (drop 1 loop.rest.now)) in
     let split = subst (λ (xs : List Tree). Collects c.args.scope.now.sig (map formula_of c.args.scope.now.bodies) c.args.below c.args.table.now loop.table c.args.env.now c.args.operator (formulas_of_trees c.args.trees.now) loop.args loop.lead (formulas_of_trees xs)) (rest_item loop.rest.now c.tree-item.result c.in-len1-up.len_at_least c.tree-item.is) loop.invariant.0 in
     let lighter = collects_lighter c.args.scope.now.sig (map formula_of c.args.scope.now.bodies) c.args.below c.args.table.now loop.table c.args.env.now c.args.operator (formulas_of_trees c.args.trees.now) loop.args loop.lead (formula_of c.tree-item.result) more split in
-    (omega (arith, lighter, c.decreases), (loop.invariant.1, (collects_next c.args.scope.now.sig (map formula_of c.args.scope.now.bodies) c.args.below c.args.table.now loop.table c.args.env.now c.args.operator (formulas_of_trees c.args.trees.now) loop.args loop.lead (formula_of c.tree-item.result) more split, (c.requires.noted.0, (subst (λ (xs : List Tree). AreNoted c.args.scope.now.sig (uses_below c.args.scope.now.sig (map formula_of c.args.scope.now.bodies) c.args.below) (formulas_of_trees xs) loop.left.now) (rest_item loop.rest.now c.tree-item.result c.in-len1-up.len_at_least c.tree-item.is) loop.invariant.2).0))))
+    (omega (arith, lighter, c.decreases), (loop.invariant.1, (collects_next c.args.scope.now.sig (map formula_of c.args.scope.now.bodies) c.args.below c.args.table.now loop.table c.args.env.now c.args.operator (formulas_of_trees c.args.trees.now) loop.args loop.lead (formula_of c.tree-item.result) more split, (c.requires.noted.0, (subst (λ (xs : List Tree). AreNoted c.args.scope.now.sig (worked_in c.args.definitions.now) (uses_below c.args.scope.now.sig (map formula_of c.args.scope.now.bodies) c.args.below) (formulas_of_trees xs) loop.left.now) (rest_item loop.rest.now c.tree-item.result c.in-len1-up.len_at_least c.tree-item.is) loop.invariant.2).0))))
 
 pub compile_all-returns-in_err-term-clause-outcome : goal.compile_all-returns-in_err-term-clause-outcome
 compile_all-returns-in_err-term-clause-outcome t c =
@@ -107,8 +106,8 @@ compile_all-loop-rest-preserved t c =
     let next = collects_more c.args.scope.now.sig (map formula_of c.args.scope.now.bodies) c.args.below c.args.table.now loop.table c.args.env.now c.args.operator (formulas_of_trees c.args.trees.now) loop.args loop.lead (formula_of c.tree-item.result) more split c.compile_tree.new.table c.in_ok-term.term c.in_ok-term.ensures.outcome c.is_empty.result is_end c.follow.new.table _ c.in_ok-next.ensures.outcome c.in_ok-next.next refl in
     let g = collects_grown c.args.scope.now.sig (map formula_of c.args.scope.now.bodies) c.args.below c.args.table.now loop.table c.args.env.now c.args.operator (formulas_of_trees c.args.trees.now) loop.args loop.lead (formula_of c.tree-item.result) more split c.compile_tree.new.table c.in_ok-term.term c.in_ok-term.ensures.outcome c.is_empty.result is_end c.follow.new.table _ c.in_ok-next.ensures.outcome in (
       subst (λ (args : List TermId). Collects c.args.scope.now.sig (map formula_of c.args.scope.now.bodies) c.args.below c.args.table.now c.follow.new.table c.args.env.now c.args.operator (formulas_of_trees c.args.trees.now) args (Some c.in_ok-next.next) more) (sym c.in_ok-push.ensures.ok) next,
-      state_stays c.args.scope.now.sig (map formula_of c.args.scope.now.bodies) c.args.rows.now c.args.below c.compile_tree.new.table c.follow.new.table c.compile_tree.new.known g.0 g.1 c.in_ok-term.ensures.state,
-      subst (AreNoted c.args.scope.now.sig (uses_below c.args.scope.now.sig (map formula_of c.args.scope.now.bodies) c.args.below) more) (sym c.later_notes-left.ensures.value) (subst (λ (xs : List Tree). AreNoted c.args.scope.now.sig (uses_below c.args.scope.now.sig (map formula_of c.args.scope.now.bodies) c.args.below) (formulas_of_trees xs) loop.left.now) (rest_item loop.rest.now c.tree-item.result c.in-len1-up.len_at_least c.tree-item.is) loop.invariant.2).1,
+      state_stays c.args.scope.now.sig (map formula_of c.args.scope.now.bodies) (worked_in c.args.definitions.now) c.args.below c.compile_tree.new.table c.follow.new.table c.compile_tree.new.known g.0 g.1 c.in_ok-term.ensures.state,
+      subst (AreNoted c.args.scope.now.sig (worked_in c.args.definitions.now) (uses_below c.args.scope.now.sig (map formula_of c.args.scope.now.bodies) c.args.below) more) (sym c.later_notes-left.ensures.value) (subst (λ (xs : List Tree). AreNoted c.args.scope.now.sig (worked_in c.args.definitions.now) (uses_below c.args.scope.now.sig (map formula_of c.args.scope.now.bodies) c.args.below) (formulas_of_trees xs) loop.left.now) (rest_item loop.rest.now c.tree-item.result c.in-len1-up.len_at_least c.tree-item.is) loop.invariant.2).1,
     )
 
 pub compile_all-returns-clause-outcome : goal.compile_all-returns-clause-outcome
@@ -120,7 +119,7 @@ compile_all-returns-clause-outcome t c =
 
 pub compile_plain-compile_all-requires : goal.compile_plain-compile_all-requires
 compile_plain-compile_all-requires t c =
-    (omega (arith, c.decreases), (c.requires.state, (plain_children c.args.scope.now.sig (map formula_of c.args.scope.now.bodies) c.args.below c.args.table.now c.args.env.now (formula_of c.args.tree.now) (formulas_of_trees c.args.trees.now) c.requires.plain c.args.operator c.requires.operator c.requires.under c.requires.ready, (c.requires.noted.0, plain_notes c.args.scope.now.sig (uses_below c.args.scope.now.sig (map formula_of c.args.scope.now.bodies) c.args.below) c.args.notes.now c.first_note-note.result.now c.first_note-note.ensures.value (formula_of c.args.tree.now) (formulas_of_trees c.args.trees.now) c.under.result.now c.requires.plain c.requires.under c.under.ensures.value c.requires.noted.1))))
+    (omega (arith, c.decreases), (c.requires.state, (plain_children c.args.scope.now.sig (map formula_of c.args.scope.now.bodies) c.args.below c.args.table.now c.args.env.now (formula_of c.args.tree.now) (formulas_of_trees c.args.trees.now) c.requires.plain c.args.operator c.requires.operator c.requires.under c.requires.ready, (c.requires.noted.0, plain_notes c.args.scope.now.sig (worked_in c.args.definitions.now) (uses_below c.args.scope.now.sig (map formula_of c.args.scope.now.bodies) c.args.below) c.args.notes.now c.first_note-note.result.now c.first_note-note.ensures.value (formula_of c.args.tree.now) (formulas_of_trees c.args.trees.now) c.under.result.now c.requires.plain c.requires.under c.under.ensures.value c.requires.noted.1))))
 
 pub compile_plain-returns-in_err-args-clause-outcome : goal.compile_plain-returns-in_err-args-clause-outcome
 compile_plain-returns-in_err-args-clause-outcome t c =
@@ -145,11 +144,11 @@ compile_plain-returns-clause-outcome t c =
 
 pub compile_plain-returns-clause-state : goal.compile_plain-returns-clause-state
 compile_plain-returns-clause-state t c =
-    ok_always _ c.combine.result (state_within c.args.scope.now.sig (map formula_of c.args.scope.now.bodies) c.args.rows.now c.args.below c.compile_all.new.table c.combine.new.table c.compile_all.new.known _ (combined c.args.scope.now.sig c.args.operator (map (term_at c.compile_all.new.table) c.in_ok-args.args)) c.combine.ensures.effect c.in_ok-args.ensures.state)
+    ok_always _ c.combine.result (state_within c.args.scope.now.sig (map formula_of c.args.scope.now.bodies) (worked_in c.args.definitions.now) c.args.below c.compile_all.new.table c.combine.new.table c.compile_all.new.known _ (combined c.args.scope.now.sig c.args.operator (map (term_at c.compile_all.new.table) c.in_ok-args.args)) c.combine.ensures.effect c.in_ok-args.ensures.state)
 
 pub compile_choice-compile_tree-requires : goal.compile_choice-compile_tree-requires
 compile_choice-compile_tree-requires t c =
-    (omega (arith, c.decreases), (c.requires.state, (choice_condition c.args.scope.now.sig (map formula_of c.args.scope.now.bodies) c.args.below c.args.env.now (formula_of c.args.condition.now) (formula_of c.args.first.now) (formula_of c.args.second.now) c.args.table.now c.requires.ready, (c.requires.noted.0, condition_notes c.args.scope.now.sig (uses_below c.args.scope.now.sig (map formula_of c.args.scope.now.bodies) c.args.below) c.args.notes.now c.first_note-note.result.now c.first_note-note.ensures.value (formula_of c.args.condition.now) (formula_of c.args.first.now) (formula_of c.args.second.now) c.under-of_condition.result.now c.under-of_condition.ensures.value c.requires.noted.1))))
+    (omega (arith, c.decreases), (c.requires.state, (choice_condition c.args.scope.now.sig (map formula_of c.args.scope.now.bodies) c.args.below c.args.env.now (formula_of c.args.condition.now) (formula_of c.args.first.now) (formula_of c.args.second.now) c.args.table.now c.requires.ready, (c.requires.noted.0, condition_notes c.args.scope.now.sig (worked_in c.args.definitions.now) (uses_below c.args.scope.now.sig (map formula_of c.args.scope.now.bodies) c.args.below) c.args.notes.now c.first_note-note.result.now c.first_note-note.ensures.value (formula_of c.args.condition.now) (formula_of c.args.first.now) (formula_of c.args.second.now) c.under-of_condition.result.now c.under-of_condition.ensures.value c.requires.noted.1))))
 
 pub compile_choice-returns-in_err-c-clause-outcome : goal.compile_choice-returns-in_err-c-clause-outcome
 compile_choice-returns-in_err-c-clause-outcome t c =
@@ -158,7 +157,7 @@ compile_choice-returns-in_err-c-clause-outcome t c =
 
 pub compile_choice-compile_tree-requires-2 : goal.compile_choice-compile_tree-requires-2
 compile_choice-compile_tree-requires-2 t c =
-    (omega (arith, c.decreases), (c.in_ok-c.ensures.state, (choice_then c.args.scope.now.sig (map formula_of c.args.scope.now.bodies) c.args.below c.args.env.now (formula_of c.args.condition.now) (formula_of c.args.first.now) (formula_of c.args.second.now) c.args.table.now c.compile_tree.new.table c.in_ok-c.c c.in_ok-c.ensures.outcome c.requires.ready, (c.requires.noted.0, then_notes c.args.scope.now.sig (uses_below c.args.scope.now.sig (map formula_of c.args.scope.now.bodies) c.args.below) c.args.notes.now c.first_note-note.result.now c.first_note-note.ensures.value (formula_of c.args.condition.now) (formula_of c.args.first.now) (formula_of c.args.second.now) c.under-of_condition.result.now c.later_notes-of_first.result.now c.under-of_condition.ensures.value c.later_notes-of_first.ensures.value c.requires.noted.1))))
+    (omega (arith, c.decreases), (c.in_ok-c.ensures.state, (choice_then c.args.scope.now.sig (map formula_of c.args.scope.now.bodies) c.args.below c.args.env.now (formula_of c.args.condition.now) (formula_of c.args.first.now) (formula_of c.args.second.now) c.args.table.now c.compile_tree.new.table c.in_ok-c.c c.in_ok-c.ensures.outcome c.requires.ready, (c.requires.noted.0, then_notes c.args.scope.now.sig (worked_in c.args.definitions.now) (uses_below c.args.scope.now.sig (map formula_of c.args.scope.now.bodies) c.args.below) c.args.notes.now c.first_note-note.result.now c.first_note-note.ensures.value (formula_of c.args.condition.now) (formula_of c.args.first.now) (formula_of c.args.second.now) c.under-of_condition.result.now c.later_notes-of_first.result.now c.under-of_condition.ensures.value c.later_notes-of_first.ensures.value c.requires.noted.1))))
 
 pub compile_choice-returns-in_err-a-clause-outcome : goal.compile_choice-returns-in_err-a-clause-outcome
 compile_choice-returns-in_err-a-clause-outcome t c =
@@ -167,7 +166,7 @@ compile_choice-returns-in_err-a-clause-outcome t c =
 
 pub compile_choice-compile_tree-requires-3 : goal.compile_choice-compile_tree-requires-3
 compile_choice-compile_tree-requires-3 t c =
-    (omega (arith, c.decreases), (c.in_ok-a.ensures.state, (choice_else c.args.scope.now.sig (map formula_of c.args.scope.now.bodies) c.args.below c.args.env.now (formula_of c.args.condition.now) (formula_of c.args.first.now) (formula_of c.args.second.now) c.args.table.now c.compile_tree.new.table c.in_ok-c.c c.in_ok-c.ensures.outcome c.compile_tree-2.new.table c.in_ok-a.a c.in_ok-a.ensures.outcome c.requires.ready, (c.requires.noted.0, else_notes c.args.scope.now.sig (uses_below c.args.scope.now.sig (map formula_of c.args.scope.now.bodies) c.args.below) c.args.notes.now c.first_note-note.result.now c.first_note-note.ensures.value (formula_of c.args.condition.now) (formula_of c.args.first.now) (formula_of c.args.second.now) c.under-of_condition.result.now c.later_notes-of_first.result.now c.later_notes-of_second.result.now c.under-of_condition.ensures.value c.later_notes-of_first.ensures.value c.later_notes-of_second.ensures.value c.requires.noted.1))))
+    (omega (arith, c.decreases), (c.in_ok-a.ensures.state, (choice_else c.args.scope.now.sig (map formula_of c.args.scope.now.bodies) c.args.below c.args.env.now (formula_of c.args.condition.now) (formula_of c.args.first.now) (formula_of c.args.second.now) c.args.table.now c.compile_tree.new.table c.in_ok-c.c c.in_ok-c.ensures.outcome c.compile_tree-2.new.table c.in_ok-a.a c.in_ok-a.ensures.outcome c.requires.ready, (c.requires.noted.0, else_notes c.args.scope.now.sig (worked_in c.args.definitions.now) (uses_below c.args.scope.now.sig (map formula_of c.args.scope.now.bodies) c.args.below) c.args.notes.now c.first_note-note.result.now c.first_note-note.ensures.value (formula_of c.args.condition.now) (formula_of c.args.first.now) (formula_of c.args.second.now) c.under-of_condition.result.now c.later_notes-of_first.result.now c.later_notes-of_second.result.now c.under-of_condition.ensures.value c.later_notes-of_first.ensures.value c.later_notes-of_second.ensures.value c.requires.noted.1))))
 
 pub compile_choice-returns-in_err-b-clause-outcome : goal.compile_choice-returns-in_err-b-clause-outcome
 compile_choice-returns-in_err-b-clause-outcome t c =
@@ -192,103 +191,104 @@ compile_choice-returns-clause-outcome t c =
 
 pub compile_choice-returns-clause-state : goal.compile_choice-returns-clause-state
 compile_choice-returns-clause-state t c =
-    ok_always _ c.make.result (state_made c.args.scope.now.sig (map formula_of c.args.scope.now.bodies) c.args.rows.now c.args.below c.compile_tree-3.new.table c.make.new.table c.compile_tree-3.new.known _ (choice (term_at c.compile_tree-3.new.table c.in_ok-c.c) (term_at c.compile_tree-3.new.table c.in_ok-a.a) (term_at c.compile_tree-3.new.table c.in_ok-b.b)) c.make.ensures.effect c.in_ok-b.ensures.state)
+    ok_always _ c.make.result (state_made c.args.scope.now.sig (map formula_of c.args.scope.now.bodies) (worked_in c.args.definitions.now) c.args.below c.compile_tree-3.new.table c.make.new.table c.compile_tree-3.new.known _ (choice (term_at c.compile_tree-3.new.table c.in_ok-c.c) (term_at c.compile_tree-3.new.table c.in_ok-a.a) (term_at c.compile_tree-3.new.table c.in_ok-b.b)) c.make.ensures.effect c.in_ok-b.ensures.state)
 
 pub compile_tree-returns-in-Var-clause-state : goal.compile_tree-returns-in-Var-clause-state
 compile_tree-returns-in-Var-clause-state t c =
     let g = c.variable.ensures.grown in
-    ok_always _ c.variable.result (state_stays c.args.scope.now.sig (map formula_of c.args.scope.now.bodies) c.args.rows.now c.args.below c.args.table.now c.variable.new.table c.args.known.now g.0 g.1 c.requires.state)
+    ok_always _ c.variable.result (state_stays c.args.scope.now.sig (map formula_of c.args.scope.now.bodies) (worked_in c.args.definitions.now) c.args.below c.args.table.now c.variable.new.table c.args.known.now g.0 g.1 c.requires.state)
 
 pub compile_let-compile_bound-requires : goal.compile_let-compile_bound-requires
 compile_let-compile_bound-requires t c =
-    let flags_are : c.bound-flags.result.now ≡ listed (occurs c.args.scope.now.sig (uses_below c.args.scope.now.sig (map formula_of c.args.scope.now.bodies) c.args.below) (formula_of c.args.body.now)) (count_of (formulas_of_trees c.args.trees.now)) = let_flags c.args.scope.now.sig (uses_below c.args.scope.now.sig (map formula_of c.args.scope.now.bodies) c.args.below) c.args.notes.now c.first_note-note.result.now c.first_note-note.ensures.value (formulas_of_trees c.args.trees.now) (formula_of c.args.body.now) c.bound-flags.result.now c.bound-flags.ensures.value c.requires.noted.1 in
-    (omega (arith, c.decreases), (c.requires.state, (under_may c.args.scope.now.sig (map formula_of c.args.scope.now.bodies) c.args.below c.args.below c.args.table.now c.args.env.now c.args.env.now c.bound-flags.result.now (Let (formulas_of_trees c.args.trees.now) (formula_of c.args.body.now)) (formulas_of_trees c.args.trees.now) (formula_of c.args.body.now) (let_view c.args.scope.now.sig (map formula_of c.args.scope.now.bodies) c.args.below c.args.table.now c.args.env.now c.bound-flags.result.now (formulas_of_trees c.args.trees.now) (formula_of c.args.body.now) flags_are) c.requires.ready, (c.requires.noted.0, let_under c.args.scope.now.sig (uses_below c.args.scope.now.sig (map formula_of c.args.scope.now.bodies) c.args.below) c.args.notes.now c.first_note-note.result.now c.first_note-note.ensures.value (formulas_of_trees c.args.trees.now) (formula_of c.args.body.now) c.bound-flags.result.now c.under.result.now c.bound-flags.ensures.value c.under.ensures.value c.requires.noted.1))))
+    let flags_are : c.bound-flags.result.now ≡ listed (occurs c.args.scope.now.sig (uses_below c.args.scope.now.sig (map formula_of c.args.scope.now.bodies) c.args.below) (formula_of c.args.body.now)) (count_of (formulas_of_trees c.args.trees.now)) = let_flags c.args.scope.now.sig (worked_in c.args.definitions.now) (uses_below c.args.scope.now.sig (map formula_of c.args.scope.now.bodies) c.args.below) c.args.notes.now c.first_note-note.result.now c.first_note-note.ensures.value (formulas_of_trees c.args.trees.now) (formula_of c.args.body.now) c.bound-flags.result.now c.bound-flags.ensures.value c.requires.noted.1 in
+    (omega (arith, c.decreases), (c.requires.state, (under_may c.args.scope.now.sig (map formula_of c.args.scope.now.bodies) c.args.below c.args.below c.args.table.now c.args.env.now c.args.env.now c.bound-flags.result.now (Let (formulas_of_trees c.args.trees.now) (formula_of c.args.body.now)) (formulas_of_trees c.args.trees.now) (formula_of c.args.body.now) (let_view c.args.scope.now.sig (map formula_of c.args.scope.now.bodies) c.args.below c.args.table.now c.args.env.now c.bound-flags.result.now (formulas_of_trees c.args.trees.now) (formula_of c.args.body.now) flags_are) c.requires.ready, (c.requires.noted.0, let_under c.args.scope.now.sig (worked_in c.args.definitions.now) (uses_below c.args.scope.now.sig (map formula_of c.args.scope.now.bodies) c.args.below) c.args.notes.now c.first_note-note.result.now c.first_note-note.ensures.value (formulas_of_trees c.args.trees.now) (formula_of c.args.body.now) c.bound-flags.result.now c.under.result.now c.bound-flags.ensures.value c.under.ensures.value c.requires.noted.1))))
 
 pub compile_let-returns-in_err-bounds-clause-outcome : goal.compile_let-returns-in_err-bounds-clause-outcome
 compile_let-returns-in_err-bounds-clause-outcome t c =
-    let flags_are : c.bound-flags.result.now ≡ listed (occurs c.args.scope.now.sig (uses_below c.args.scope.now.sig (map formula_of c.args.scope.now.bodies) c.args.below) (formula_of c.args.body.now)) (count_of (formulas_of_trees c.args.trees.now)) = let_flags c.args.scope.now.sig (uses_below c.args.scope.now.sig (map formula_of c.args.scope.now.bodies) c.args.below) c.args.notes.now c.first_note-note.result.now c.first_note-note.ensures.value (formulas_of_trees c.args.trees.now) (formula_of c.args.body.now) c.bound-flags.result.now c.bound-flags.ensures.value c.requires.noted.1 in
+    let flags_are : c.bound-flags.result.now ≡ listed (occurs c.args.scope.now.sig (uses_below c.args.scope.now.sig (map formula_of c.args.scope.now.bodies) c.args.below) (formula_of c.args.body.now)) (count_of (formulas_of_trees c.args.trees.now)) = let_flags c.args.scope.now.sig (worked_in c.args.definitions.now) (uses_below c.args.scope.now.sig (map formula_of c.args.scope.now.bodies) c.args.below) c.args.notes.now c.first_note-note.result.now c.first_note-note.ensures.value (formulas_of_trees c.args.trees.now) (formula_of c.args.body.now) c.bound-flags.result.now c.bound-flags.ensures.value c.requires.noted.1 in
     let p = err_from_is_err_and c.from_residual.result c.from_residual.ensures.1 in
     rw (p.1, p.2) (under_failed c.args.scope.now.sig (map formula_of c.args.scope.now.bodies) c.args.below c.args.below c.args.table.now c.args.env.now c.args.env.now c.bound-flags.result.now (Let (formulas_of_trees c.args.trees.now) (formula_of c.args.body.now)) (formulas_of_trees c.args.trees.now) (formula_of c.args.body.now) (let_view c.args.scope.now.sig (map formula_of c.args.scope.now.bodies) c.args.below c.args.table.now c.args.env.now c.bound-flags.result.now (formulas_of_trees c.args.trees.now) (formula_of c.args.body.now) flags_are) c.compile_bound.new.table _ c.in_err-bounds.ensures.outcome)
 
 pub compile_let-returns-in_err-inner-clause-outcome : goal.compile_let-returns-in_err-inner-clause-outcome
 compile_let-returns-in_err-inner-clause-outcome t c =
-    let flags_are : c.bound-flags.result.now ≡ listed (occurs c.args.scope.now.sig (uses_below c.args.scope.now.sig (map formula_of c.args.scope.now.bodies) c.args.below) (formula_of c.args.body.now)) (count_of (formulas_of_trees c.args.trees.now)) = let_flags c.args.scope.now.sig (uses_below c.args.scope.now.sig (map formula_of c.args.scope.now.bodies) c.args.below) c.args.notes.now c.first_note-note.result.now c.first_note-note.ensures.value (formulas_of_trees c.args.trees.now) (formula_of c.args.body.now) c.bound-flags.result.now c.bound-flags.ensures.value c.requires.noted.1 in
+    let flags_are : c.bound-flags.result.now ≡ listed (occurs c.args.scope.now.sig (uses_below c.args.scope.now.sig (map formula_of c.args.scope.now.bodies) c.args.below) (formula_of c.args.body.now)) (count_of (formulas_of_trees c.args.trees.now)) = let_flags c.args.scope.now.sig (worked_in c.args.definitions.now) (uses_below c.args.scope.now.sig (map formula_of c.args.scope.now.bodies) c.args.below) c.args.notes.now c.first_note-note.result.now c.first_note-note.ensures.value (formulas_of_trees c.args.trees.now) (formula_of c.args.body.now) c.bound-flags.result.now c.bound-flags.ensures.value c.requires.noted.1 in
     let p = err_from_is_err_and c.from_residual-in_err-inner.result c.from_residual-in_err-inner.ensures.1 in
     rw p.1 (under_out c.args.scope.now.sig (map formula_of c.args.scope.now.bodies) c.args.below c.args.below c.args.table.now c.args.env.now c.args.env.now c.bound-flags.result.now (Let (formulas_of_trees c.args.trees.now) (formula_of c.args.body.now)) (formulas_of_trees c.args.trees.now) (formula_of c.args.body.now) (let_view c.args.scope.now.sig (map formula_of c.args.scope.now.bodies) c.args.below c.args.table.now c.args.env.now c.bound-flags.result.now (formulas_of_trees c.args.trees.now) (formula_of c.args.body.now) flags_are) c.compile_bound.new.table c.in_ok-bounds.bounds c.in_ok-bounds.ensures.outcome p.0 p.2)
 
 pub compile_let-compile_tree-requires : goal.compile_let-compile_tree-requires
 compile_let-compile_tree-requires t c =
-    let flags_are : c.bound-flags.result.now ≡ listed (occurs c.args.scope.now.sig (uses_below c.args.scope.now.sig (map formula_of c.args.scope.now.bodies) c.args.below) (formula_of c.args.body.now)) (count_of (formulas_of_trees c.args.trees.now)) = let_flags c.args.scope.now.sig (uses_below c.args.scope.now.sig (map formula_of c.args.scope.now.bodies) c.args.below) c.args.notes.now c.first_note-note.result.now c.first_note-note.ensures.value (formulas_of_trees c.args.trees.now) (formula_of c.args.body.now) c.bound-flags.result.now c.bound-flags.ensures.value c.requires.noted.1 in
+    let flags_are : c.bound-flags.result.now ≡ listed (occurs c.args.scope.now.sig (uses_below c.args.scope.now.sig (map formula_of c.args.scope.now.bodies) c.args.below) (formula_of c.args.body.now)) (count_of (formulas_of_trees c.args.trees.now)) = let_flags c.args.scope.now.sig (worked_in c.args.definitions.now) (uses_below c.args.scope.now.sig (map formula_of c.args.scope.now.bodies) c.args.below) c.args.notes.now c.first_note-note.result.now c.first_note-note.ensures.value (formulas_of_trees c.args.trees.now) (formula_of c.args.body.now) c.bound-flags.result.now c.bound-flags.ensures.value c.requires.noted.1 in
     let inner_is : c.deref.result.now ≡ bind c.in_ok-bounds.bounds c.args.env.now = c.deref.ensures.value ∙ c.in_ok-inner.ensures.bound ∙ ap (λ (xs : List Bound). bind xs c.args.env.now) c.as_slice.ensures.value in
-    (omega (arith, c.decreases), (c.in_ok-bounds.ensures.state, (subst (λ (xs : List Bound). MayCompile c.args.scope.now.sig (map formula_of c.args.scope.now.bodies) c.compile_bound.new.table c.args.below xs (formula_of c.args.body.now)) (sym inner_is) (under_body c.args.scope.now.sig (map formula_of c.args.scope.now.bodies) c.args.below c.args.below c.args.table.now c.args.env.now c.args.env.now c.bound-flags.result.now (Let (formulas_of_trees c.args.trees.now) (formula_of c.args.body.now)) (formulas_of_trees c.args.trees.now) (formula_of c.args.body.now) (let_view c.args.scope.now.sig (map formula_of c.args.scope.now.bodies) c.args.below c.args.table.now c.args.env.now c.bound-flags.result.now (formulas_of_trees c.args.trees.now) (formula_of c.args.body.now) flags_are) c.compile_bound.new.table c.in_ok-bounds.bounds c.in_ok-bounds.ensures.outcome c.requires.ready), (c.requires.noted.0, let_inner c.args.scope.now.sig (uses_below c.args.scope.now.sig (map formula_of c.args.scope.now.bodies) c.args.below) c.args.notes.now c.first_note-note.result.now c.first_note-note.ensures.value (formulas_of_trees c.args.trees.now) (formula_of c.args.body.now) c.inner.result.now c.inner.ensures.value c.requires.noted.1))))
+    (omega (arith, c.decreases), (c.in_ok-bounds.ensures.state, (subst (λ (xs : List Bound). MayCompile c.args.scope.now.sig (map formula_of c.args.scope.now.bodies) c.compile_bound.new.table c.args.below xs (formula_of c.args.body.now)) (sym inner_is) (under_body c.args.scope.now.sig (map formula_of c.args.scope.now.bodies) c.args.below c.args.below c.args.table.now c.args.env.now c.args.env.now c.bound-flags.result.now (Let (formulas_of_trees c.args.trees.now) (formula_of c.args.body.now)) (formulas_of_trees c.args.trees.now) (formula_of c.args.body.now) (let_view c.args.scope.now.sig (map formula_of c.args.scope.now.bodies) c.args.below c.args.table.now c.args.env.now c.bound-flags.result.now (formulas_of_trees c.args.trees.now) (formula_of c.args.body.now) flags_are) c.compile_bound.new.table c.in_ok-bounds.bounds c.in_ok-bounds.ensures.outcome c.requires.ready), (c.requires.noted.0, let_inner c.args.scope.now.sig (worked_in c.args.definitions.now) (uses_below c.args.scope.now.sig (map formula_of c.args.scope.now.bodies) c.args.below) c.args.notes.now c.first_note-note.result.now c.first_note-note.ensures.value (formulas_of_trees c.args.trees.now) (formula_of c.args.body.now) c.inner.result.now c.inner.ensures.value c.requires.noted.1))))
 
 pub compile_let-returns-clause-outcome : goal.compile_let-returns-clause-outcome
 compile_let-returns-clause-outcome t c =
-    let flags_are : c.bound-flags.result.now ≡ listed (occurs c.args.scope.now.sig (uses_below c.args.scope.now.sig (map formula_of c.args.scope.now.bodies) c.args.below) (formula_of c.args.body.now)) (count_of (formulas_of_trees c.args.trees.now)) = let_flags c.args.scope.now.sig (uses_below c.args.scope.now.sig (map formula_of c.args.scope.now.bodies) c.args.below) c.args.notes.now c.first_note-note.result.now c.first_note-note.ensures.value (formulas_of_trees c.args.trees.now) (formula_of c.args.body.now) c.bound-flags.result.now c.bound-flags.ensures.value c.requires.noted.1 in
+    let flags_are : c.bound-flags.result.now ≡ listed (occurs c.args.scope.now.sig (uses_below c.args.scope.now.sig (map formula_of c.args.scope.now.bodies) c.args.below) (formula_of c.args.body.now)) (count_of (formulas_of_trees c.args.trees.now)) = let_flags c.args.scope.now.sig (worked_in c.args.definitions.now) (uses_below c.args.scope.now.sig (map formula_of c.args.scope.now.bodies) c.args.below) c.args.notes.now c.first_note-note.result.now c.first_note-note.ensures.value (formulas_of_trees c.args.trees.now) (formula_of c.args.body.now) c.bound-flags.result.now c.bound-flags.ensures.value c.requires.noted.1 in
     let inner_is : c.deref.result.now ≡ bind c.in_ok-bounds.bounds c.args.env.now = c.deref.ensures.value ∙ c.in_ok-inner.ensures.bound ∙ ap (λ (xs : List Bound). bind xs c.args.env.now) c.as_slice.ensures.value in
     under_made c.args.scope.now.sig (map formula_of c.args.scope.now.bodies) c.args.below c.args.below c.args.table.now c.args.env.now c.args.env.now c.bound-flags.result.now (Let (formulas_of_trees c.args.trees.now) (formula_of c.args.body.now)) (formulas_of_trees c.args.trees.now) (formula_of c.args.body.now) (let_view c.args.scope.now.sig (map formula_of c.args.scope.now.bodies) c.args.below c.args.table.now c.args.env.now c.bound-flags.result.now (formulas_of_trees c.args.trees.now) (formula_of c.args.body.now) flags_are) c.compile_bound.new.table c.in_ok-bounds.bounds c.in_ok-bounds.ensures.outcome c.compile_tree.new.table c.compile_tree.result (subst (λ (xs : List Bound). Compiles c.args.scope.now.sig (map formula_of c.args.scope.now.bodies) c.args.below c.compile_bound.new.table c.compile_tree.new.table xs (formula_of c.args.body.now) c.compile_tree.result) inner_is c.compile_tree.ensures.outcome)
 
 pub compile_call-compile_bound-requires : goal.compile_call-compile_bound-requires
 compile_call-compile_bound-requires t c =
-    (omega (arith, c.decreases), (c.requires.state, (under_may c.args.scope.now.sig (map formula_of c.args.scope.now.bodies) c.args.below c.args.k.0 c.args.table.now c.args.env.now [] c.row_at-row.result.now (Def c.args.k (formulas_of_trees c.args.trees.now)) (formulas_of_trees c.args.trees.now) (formula_of c.body_at-body.result.now) (call_under c.args.scope.now.sig (map formula_of c.args.scope.now.bodies) c.args.below c.args.rows.now c.args.table.now c.args.env.now c.args.k (formulas_of_trees c.args.trees.now) c.row_at-row.result.now c.row_at-row.ensures.value (formula_of c.body_at-body.result.now) c.body_at-body.ensures.value c.requires.state.have) c.requires.ready, (c.requires.noted.0, call_notes c.args.scope.now.sig (uses_below c.args.scope.now.sig (map formula_of c.args.scope.now.bodies) c.args.below) c.args.notes.now c.first_note-note.result.now c.first_note-note.ensures.value c.args.k (formulas_of_trees c.args.trees.now) c.row_at-row.result.now c.under.result.now (row_is c.args.scope.now.sig (map formula_of c.args.scope.now.bodies) c.args.below c.args.rows.now c.args.table.now c.args.env.now c.args.k (formulas_of_trees c.args.trees.now) c.row_at-row.result.now c.row_at-row.ensures.value (formula_of c.body_at-body.result.now) c.body_at-body.ensures.value c.requires.state.have c.requires.ready.0 c.requires.ready.1 c.requires.ready.2 c.requires.ready.3) c.under.ensures.value c.requires.noted.1))))
+    (omega (arith, c.decreases), (c.requires.state, (under_may c.args.scope.now.sig (map formula_of c.args.scope.now.bodies) c.args.below c.args.k.0 c.args.table.now c.args.env.now [] c.row_at-row.result.now (Def c.args.k (formulas_of_trees c.args.trees.now)) (formulas_of_trees c.args.trees.now) (formula_of c.body_at-body.result.now) (call_under c.args.scope.now.sig (map formula_of c.args.scope.now.bodies) c.args.below (worked_in c.args.definitions.now) c.args.table.now c.args.env.now c.args.k (formulas_of_trees c.args.trees.now) c.row_at-row.result.now c.row_at-row.ensures.value (formula_of c.body_at-body.result.now) c.body_at-body.ensures.value c.requires.state.have) c.requires.ready, (c.requires.noted.0, call_notes c.args.scope.now.sig (worked_in c.args.definitions.now) (uses_below c.args.scope.now.sig (map formula_of c.args.scope.now.bodies) c.args.below) c.args.notes.now c.first_note-note.result.now c.first_note-note.ensures.value c.args.k (formulas_of_trees c.args.trees.now) c.row_at-row.result.now c.under.result.now (row_is c.args.scope.now.sig (map formula_of c.args.scope.now.bodies) c.args.below (worked_in c.args.definitions.now) c.args.table.now c.args.env.now c.args.k (formulas_of_trees c.args.trees.now) c.row_at-row.result.now c.row_at-row.ensures.value (formula_of c.body_at-body.result.now) c.body_at-body.ensures.value c.requires.state.have c.requires.ready.0 c.requires.ready.1 c.requires.ready.2 c.requires.ready.3) c.under.ensures.value c.requires.noted.1))))
 
 pub compile_call-returns-in_err-bounds-clause-outcome : goal.compile_call-returns-in_err-bounds-clause-outcome
 compile_call-returns-in_err-bounds-clause-outcome t c =
     let p = err_from_is_err_and c.from_residual.result c.from_residual.ensures.1 in
-    rw (p.1, p.2) (under_failed c.args.scope.now.sig (map formula_of c.args.scope.now.bodies) c.args.below c.args.k.0 c.args.table.now c.args.env.now [] c.row_at-row.result.now (Def c.args.k (formulas_of_trees c.args.trees.now)) (formulas_of_trees c.args.trees.now) (formula_of c.body_at-body.result.now) (call_under c.args.scope.now.sig (map formula_of c.args.scope.now.bodies) c.args.below c.args.rows.now c.args.table.now c.args.env.now c.args.k (formulas_of_trees c.args.trees.now) c.row_at-row.result.now c.row_at-row.ensures.value (formula_of c.body_at-body.result.now) c.body_at-body.ensures.value c.requires.state.have) c.compile_bound.new.table _ c.in_err-bounds.ensures.outcome)
+    rw (p.1, p.2) (under_failed c.args.scope.now.sig (map formula_of c.args.scope.now.bodies) c.args.below c.args.k.0 c.args.table.now c.args.env.now [] c.row_at-row.result.now (Def c.args.k (formulas_of_trees c.args.trees.now)) (formulas_of_trees c.args.trees.now) (formula_of c.body_at-body.result.now) (call_under c.args.scope.now.sig (map formula_of c.args.scope.now.bodies) c.args.below (worked_in c.args.definitions.now) c.args.table.now c.args.env.now c.args.k (formulas_of_trees c.args.trees.now) c.row_at-row.result.now c.row_at-row.ensures.value (formula_of c.body_at-body.result.now) c.body_at-body.ensures.value c.requires.state.have) c.compile_bound.new.table _ c.in_err-bounds.ensures.outcome)
 
 pub compile_call-returns-in_err-call-clause-outcome : goal.compile_call-returns-in_err-call-clause-outcome
 compile_call-returns-in_err-call-clause-outcome t c =
     let p = err_from_is_err_and c.from_residual-in_err-call.result c.from_residual-in_err-call.ensures.1 in
-    rw p.1 (under_out c.args.scope.now.sig (map formula_of c.args.scope.now.bodies) c.args.below c.args.k.0 c.args.table.now c.args.env.now [] c.row_at-row.result.now (Def c.args.k (formulas_of_trees c.args.trees.now)) (formulas_of_trees c.args.trees.now) (formula_of c.body_at-body.result.now) (call_under c.args.scope.now.sig (map formula_of c.args.scope.now.bodies) c.args.below c.args.rows.now c.args.table.now c.args.env.now c.args.k (formulas_of_trees c.args.trees.now) c.row_at-row.result.now c.row_at-row.ensures.value (formula_of c.body_at-body.result.now) c.body_at-body.ensures.value c.requires.state.have) c.compile_bound.new.table c.in_ok-bounds.bounds c.in_ok-bounds.ensures.outcome p.0 p.2)
+    rw p.1 (under_out c.args.scope.now.sig (map formula_of c.args.scope.now.bodies) c.args.below c.args.k.0 c.args.table.now c.args.env.now [] c.row_at-row.result.now (Def c.args.k (formulas_of_trees c.args.trees.now)) (formulas_of_trees c.args.trees.now) (formula_of c.body_at-body.result.now) (call_under c.args.scope.now.sig (map formula_of c.args.scope.now.bodies) c.args.below (worked_in c.args.definitions.now) c.args.table.now c.args.env.now c.args.k (formulas_of_trees c.args.trees.now) c.row_at-row.result.now c.row_at-row.ensures.value (formula_of c.body_at-body.result.now) c.body_at-body.ensures.value c.requires.state.have) c.compile_bound.new.table c.in_ok-bounds.bounds c.in_ok-bounds.ensures.outcome p.0 p.2)
 
 pub compile_call-returns-in-Some-clause-outcome : goal.compile_call-returns-in-Some-clause-outcome
 compile_call-returns-in-Some-clause-outcome t c =
     let call_is : c.in_ok-call.call ≡ call_of c.args.k c.in_ok-bounds.bounds = c.in_ok-call.ensures.call ∙ ap (call_of c.args.k) c.as_slice.ensures.value in
-    let known : IsRecalled c.args.scope.now.sig (map formula_of c.args.scope.now.bodies) c.args.rows.now c.compile_bound.new.table (call_of c.args.k c.in_ok-bounds.bounds) c.in-Some.term = subst (λ (x : Called). IsRecalled c.args.scope.now.sig (map formula_of c.args.scope.now.bodies) c.args.rows.now c.compile_bound.new.table x c.in-Some.term) call_is (c.in_ok-bounds.ensures.state.recalls c.in_ok-call.call c.in-Some.term (sym c.known_term.ensures.value ∙ c.in-Some.is)) in
-    under_known c.args.scope.now.sig (map formula_of c.args.scope.now.bodies) c.args.below c.args.k.0 c.args.table.now c.args.env.now [] c.row_at-row.result.now (Def c.args.k (formulas_of_trees c.args.trees.now)) (formulas_of_trees c.args.trees.now) (formula_of c.body_at-body.result.now) (call_under c.args.scope.now.sig (map formula_of c.args.scope.now.bodies) c.args.below c.args.rows.now c.args.table.now c.args.env.now c.args.k (formulas_of_trees c.args.trees.now) c.row_at-row.result.now c.row_at-row.ensures.value (formula_of c.body_at-body.result.now) c.body_at-body.ensures.value c.requires.state.have) c.compile_bound.new.table c.in_ok-bounds.bounds c.in_ok-bounds.ensures.outcome c.in-Some.term (known_stands c.args.scope.now.sig (map formula_of c.args.scope.now.bodies) c.args.below c.args.rows.now c.args.table.now c.args.env.now c.args.k (formulas_of_trees c.args.trees.now) c.row_at-row.result.now c.row_at-row.ensures.value (formula_of c.body_at-body.result.now) c.body_at-body.ensures.value c.requires.state.have c.compile_bound.new.table c.in_ok-bounds.bounds c.in_ok-bounds.ensures.outcome c.in-Some.term known)
+    let known : IsRecalled c.args.scope.now.sig (map formula_of c.args.scope.now.bodies) (worked_in c.args.definitions.now) c.compile_bound.new.table (call_of c.args.k c.in_ok-bounds.bounds) c.in-Some.term = subst (λ (x : Called). IsRecalled c.args.scope.now.sig (map formula_of c.args.scope.now.bodies) (worked_in c.args.definitions.now) c.compile_bound.new.table x c.in-Some.term) call_is (c.in_ok-bounds.ensures.state.recalls c.in_ok-call.call c.in-Some.term (sym c.known_term.ensures.value ∙ c.in-Some.is)) in
+    under_known c.args.scope.now.sig (map formula_of c.args.scope.now.bodies) c.args.below c.args.k.0 c.args.table.now c.args.env.now [] c.row_at-row.result.now (Def c.args.k (formulas_of_trees c.args.trees.now)) (formulas_of_trees c.args.trees.now) (formula_of c.body_at-body.result.now) (call_under c.args.scope.now.sig (map formula_of c.args.scope.now.bodies) c.args.below (worked_in c.args.definitions.now) c.args.table.now c.args.env.now c.args.k (formulas_of_trees c.args.trees.now) c.row_at-row.result.now c.row_at-row.ensures.value (formula_of c.body_at-body.result.now) c.body_at-body.ensures.value c.requires.state.have) c.compile_bound.new.table c.in_ok-bounds.bounds c.in_ok-bounds.ensures.outcome c.in-Some.term (known_stands c.args.scope.now.sig (map formula_of c.args.scope.now.bodies) c.args.below (worked_in c.args.definitions.now) c.args.table.now c.args.env.now c.args.k (formulas_of_trees c.args.trees.now) c.row_at-row.result.now c.row_at-row.ensures.value (formula_of c.body_at-body.result.now) c.body_at-body.ensures.value c.requires.state.have c.compile_bound.new.table c.in_ok-bounds.bounds c.in_ok-bounds.ensures.outcome c.in-Some.term known)
 
 pub compile_call-returns-in_err-inner-clause-outcome : goal.compile_call-returns-in_err-inner-clause-outcome
 compile_call-returns-in_err-inner-clause-outcome t c =
     let p = err_from_is_err_and c.from_residual-in_err-inner.result c.from_residual-in_err-inner.ensures.1 in
-    rw p.1 (under_out c.args.scope.now.sig (map formula_of c.args.scope.now.bodies) c.args.below c.args.k.0 c.args.table.now c.args.env.now [] c.row_at-row.result.now (Def c.args.k (formulas_of_trees c.args.trees.now)) (formulas_of_trees c.args.trees.now) (formula_of c.body_at-body.result.now) (call_under c.args.scope.now.sig (map formula_of c.args.scope.now.bodies) c.args.below c.args.rows.now c.args.table.now c.args.env.now c.args.k (formulas_of_trees c.args.trees.now) c.row_at-row.result.now c.row_at-row.ensures.value (formula_of c.body_at-body.result.now) c.body_at-body.ensures.value c.requires.state.have) c.compile_bound.new.table c.in_ok-bounds.bounds c.in_ok-bounds.ensures.outcome p.0 p.2)
+    rw p.1 (under_out c.args.scope.now.sig (map formula_of c.args.scope.now.bodies) c.args.below c.args.k.0 c.args.table.now c.args.env.now [] c.row_at-row.result.now (Def c.args.k (formulas_of_trees c.args.trees.now)) (formulas_of_trees c.args.trees.now) (formula_of c.body_at-body.result.now) (call_under c.args.scope.now.sig (map formula_of c.args.scope.now.bodies) c.args.below (worked_in c.args.definitions.now) c.args.table.now c.args.env.now c.args.k (formulas_of_trees c.args.trees.now) c.row_at-row.result.now c.row_at-row.ensures.value (formula_of c.body_at-body.result.now) c.body_at-body.ensures.value c.requires.state.have) c.compile_bound.new.table c.in_ok-bounds.bounds c.in_ok-bounds.ensures.outcome p.0 p.2)
 
 pub compile_call-compile_tree-requires : goal.compile_call-compile_tree-requires
 compile_call-compile_tree-requires t c =
     let inner_is : c.deref.result.now ≡ bind c.in_ok-bounds.bounds [] = c.deref.ensures.value ∙ c.in_ok-inner.ensures.bound ∙ ap (λ (xs : List Bound). bind xs []) c.as_slice-2.ensures.value in
     let below = c.requires.ready.3.mentions.0 in
-    let noted = c.requires.noted.0 c.args.k.0 (formula_of c.body_at-body.result.now) c.body_at-body.ensures.value in
-    (omega (arith, c.decreases, weights_is (map formula_of c.args.scope.now.bodies) c.args.k (formula_of c.body_at-body.result.now) c.body_at-body.ensures.value c.args.below below), (state_below c.args.scope.now.sig (map formula_of c.args.scope.now.bodies) c.args.rows.now c.args.k.0 c.args.below c.compile_bound.new.table c.compile_bound.new.known c.requires.ready.3.setting.sound (omega (arith, below)) c.in_ok-bounds.ensures.state, (subst (λ (xs : List Bound). MayCompile c.args.scope.now.sig (map formula_of c.args.scope.now.bodies) c.compile_bound.new.table c.args.k.0 xs (formula_of c.body_at-body.result.now)) (sym inner_is) (under_body c.args.scope.now.sig (map formula_of c.args.scope.now.bodies) c.args.below c.args.k.0 c.args.table.now c.args.env.now [] c.row_at-row.result.now (Def c.args.k (formulas_of_trees c.args.trees.now)) (formulas_of_trees c.args.trees.now) (formula_of c.body_at-body.result.now) (call_under c.args.scope.now.sig (map formula_of c.args.scope.now.bodies) c.args.below c.args.rows.now c.args.table.now c.args.env.now c.args.k (formulas_of_trees c.args.trees.now) c.row_at-row.result.now c.row_at-row.ensures.value (formula_of c.body_at-body.result.now) c.body_at-body.ensures.value c.requires.state.have) c.compile_bound.new.table c.in_ok-bounds.bounds c.in_ok-bounds.ensures.outcome c.requires.ready), (c.requires.noted.0, subst (IsOfFirst (IsNoted c.args.scope.now.sig (uses_below c.args.scope.now.sig (map formula_of c.args.scope.now.bodies) c.args.k.0) (formula_of c.body_at-body.result.now))) (sym (c.notes_at-body_notes.ensures.value noted.0 noted.1)) noted.2))))
+    let known = call_known c.args.scope.now.sig (worked_in c.args.definitions.now) (uses_below c.args.scope.now.sig (map formula_of c.args.scope.now.bodies) c.args.below) c.args.k (formulas_of_trees c.args.trees.now) c.args.notes.now c.requires.noted.1 in
+    let noted = c.requires.noted.0 c.args.k (formula_of c.body_at-body.result.now) known.0 c.body_at-body.ensures.value known.1 in
+    (omega (arith, c.decreases, weights_is (map formula_of c.args.scope.now.bodies) c.args.k (formula_of c.body_at-body.result.now) c.body_at-body.ensures.value c.args.below below), (state_below c.args.scope.now.sig (map formula_of c.args.scope.now.bodies) (worked_in c.args.definitions.now) c.args.k.0 c.args.below c.compile_bound.new.table c.compile_bound.new.known c.requires.ready.3.setting.sound (omega (arith, below)) c.in_ok-bounds.ensures.state, (subst (λ (xs : List Bound). MayCompile c.args.scope.now.sig (map formula_of c.args.scope.now.bodies) c.compile_bound.new.table c.args.k.0 xs (formula_of c.body_at-body.result.now)) (sym inner_is) (under_body c.args.scope.now.sig (map formula_of c.args.scope.now.bodies) c.args.below c.args.k.0 c.args.table.now c.args.env.now [] c.row_at-row.result.now (Def c.args.k (formulas_of_trees c.args.trees.now)) (formulas_of_trees c.args.trees.now) (formula_of c.body_at-body.result.now) (call_under c.args.scope.now.sig (map formula_of c.args.scope.now.bodies) c.args.below (worked_in c.args.definitions.now) c.args.table.now c.args.env.now c.args.k (formulas_of_trees c.args.trees.now) c.row_at-row.result.now c.row_at-row.ensures.value (formula_of c.body_at-body.result.now) c.body_at-body.ensures.value c.requires.state.have) c.compile_bound.new.table c.in_ok-bounds.bounds c.in_ok-bounds.ensures.outcome c.requires.ready), (c.requires.noted.0, subst (IsOfFirst (IsNoted c.args.scope.now.sig (worked_in c.args.definitions.now) (uses_below c.args.scope.now.sig (map formula_of c.args.scope.now.bodies) c.args.k.0) (formula_of c.body_at-body.result.now))) (sym (c.notes_at-body_notes.ensures.value known.0 known.1)) noted))))
 
 pub compile_call-returns-in_err-term-clause-outcome : goal.compile_call-returns-in_err-term-clause-outcome
 compile_call-returns-in_err-term-clause-outcome t c =
     let inner_is : c.deref.result.now ≡ bind c.in_ok-bounds.bounds [] = c.deref.ensures.value ∙ c.in_ok-inner.ensures.bound ∙ ap (λ (xs : List Bound). bind xs []) c.as_slice-2.ensures.value in
     let p = err_from_is_err_and c.from_residual-in_err-term.result c.from_residual-in_err-term.ensures.1 in
-    rw (p.1, p.2) (under_made c.args.scope.now.sig (map formula_of c.args.scope.now.bodies) c.args.below c.args.k.0 c.args.table.now c.args.env.now [] c.row_at-row.result.now (Def c.args.k (formulas_of_trees c.args.trees.now)) (formulas_of_trees c.args.trees.now) (formula_of c.body_at-body.result.now) (call_under c.args.scope.now.sig (map formula_of c.args.scope.now.bodies) c.args.below c.args.rows.now c.args.table.now c.args.env.now c.args.k (formulas_of_trees c.args.trees.now) c.row_at-row.result.now c.row_at-row.ensures.value (formula_of c.body_at-body.result.now) c.body_at-body.ensures.value c.requires.state.have) c.compile_bound.new.table c.in_ok-bounds.bounds c.in_ok-bounds.ensures.outcome c.compile_tree.new.table _ (subst (λ (xs : List Bound). Compiles c.args.scope.now.sig (map formula_of c.args.scope.now.bodies) c.args.k.0 c.compile_bound.new.table c.compile_tree.new.table xs (formula_of c.body_at-body.result.now) (Err c.in_err-term.field-0.0)) inner_is c.in_err-term.ensures.outcome))
+    rw (p.1, p.2) (under_made c.args.scope.now.sig (map formula_of c.args.scope.now.bodies) c.args.below c.args.k.0 c.args.table.now c.args.env.now [] c.row_at-row.result.now (Def c.args.k (formulas_of_trees c.args.trees.now)) (formulas_of_trees c.args.trees.now) (formula_of c.body_at-body.result.now) (call_under c.args.scope.now.sig (map formula_of c.args.scope.now.bodies) c.args.below (worked_in c.args.definitions.now) c.args.table.now c.args.env.now c.args.k (formulas_of_trees c.args.trees.now) c.row_at-row.result.now c.row_at-row.ensures.value (formula_of c.body_at-body.result.now) c.body_at-body.ensures.value c.requires.state.have) c.compile_bound.new.table c.in_ok-bounds.bounds c.in_ok-bounds.ensures.outcome c.compile_tree.new.table _ (subst (λ (xs : List Bound). Compiles c.args.scope.now.sig (map formula_of c.args.scope.now.bodies) c.args.k.0 c.compile_bound.new.table c.compile_tree.new.table xs (formula_of c.body_at-body.result.now) (Err c.in_err-term.field-0.0)) inner_is c.in_err-term.ensures.outcome))
 
 pub compile_call-returns-in_err-remember-clause-outcome : goal.compile_call-returns-in_err-remember-clause-outcome
 compile_call-returns-in_err-remember-clause-outcome t c =
     let inner_is : c.deref.result.now ≡ bind c.in_ok-bounds.bounds [] = c.deref.ensures.value ∙ c.in_ok-inner.ensures.bound ∙ ap (λ (xs : List Bound). bind xs []) c.as_slice-2.ensures.value in
     let p = err_from_is_err_and c.from_residual-in_err-remember.result c.from_residual-in_err-remember.ensures.1 in
-    rw (p.1, p.2) (under_lost c.args.scope.now.sig (map formula_of c.args.scope.now.bodies) c.args.below c.args.k.0 c.args.table.now c.args.env.now [] c.row_at-row.result.now (Def c.args.k (formulas_of_trees c.args.trees.now)) (formulas_of_trees c.args.trees.now) (formula_of c.body_at-body.result.now) (call_under c.args.scope.now.sig (map formula_of c.args.scope.now.bodies) c.args.below c.args.rows.now c.args.table.now c.args.env.now c.args.k (formulas_of_trees c.args.trees.now) c.row_at-row.result.now c.row_at-row.ensures.value (formula_of c.body_at-body.result.now) c.body_at-body.ensures.value c.requires.state.have) c.compile_bound.new.table c.in_ok-bounds.bounds c.in_ok-bounds.ensures.outcome c.compile_tree.new.table c.in_ok-term.term _ c.in_err-remember.ensures.err (subst (λ (xs : List Bound). Compiles c.args.scope.now.sig (map formula_of c.args.scope.now.bodies) c.args.k.0 c.compile_bound.new.table c.compile_tree.new.table xs (formula_of c.body_at-body.result.now) (Ok c.in_ok-term.term)) inner_is c.in_ok-term.ensures.outcome))
+    rw (p.1, p.2) (under_lost c.args.scope.now.sig (map formula_of c.args.scope.now.bodies) c.args.below c.args.k.0 c.args.table.now c.args.env.now [] c.row_at-row.result.now (Def c.args.k (formulas_of_trees c.args.trees.now)) (formulas_of_trees c.args.trees.now) (formula_of c.body_at-body.result.now) (call_under c.args.scope.now.sig (map formula_of c.args.scope.now.bodies) c.args.below (worked_in c.args.definitions.now) c.args.table.now c.args.env.now c.args.k (formulas_of_trees c.args.trees.now) c.row_at-row.result.now c.row_at-row.ensures.value (formula_of c.body_at-body.result.now) c.body_at-body.ensures.value c.requires.state.have) c.compile_bound.new.table c.in_ok-bounds.bounds c.in_ok-bounds.ensures.outcome c.compile_tree.new.table c.in_ok-term.term _ c.in_err-remember.ensures.err (subst (λ (xs : List Bound). Compiles c.args.scope.now.sig (map formula_of c.args.scope.now.bodies) c.args.k.0 c.compile_bound.new.table c.compile_tree.new.table xs (formula_of c.body_at-body.result.now) (Ok c.in_ok-term.term)) inner_is c.in_ok-term.ensures.outcome))
 
 pub compile_call-returns-clause-outcome : goal.compile_call-returns-clause-outcome
 compile_call-returns-clause-outcome t c =
     let inner_is : c.deref.result.now ≡ bind c.in_ok-bounds.bounds [] = c.deref.ensures.value ∙ c.in_ok-inner.ensures.bound ∙ ap (λ (xs : List Bound). bind xs []) c.as_slice-2.ensures.value in
-    under_made c.args.scope.now.sig (map formula_of c.args.scope.now.bodies) c.args.below c.args.k.0 c.args.table.now c.args.env.now [] c.row_at-row.result.now (Def c.args.k (formulas_of_trees c.args.trees.now)) (formulas_of_trees c.args.trees.now) (formula_of c.body_at-body.result.now) (call_under c.args.scope.now.sig (map formula_of c.args.scope.now.bodies) c.args.below c.args.rows.now c.args.table.now c.args.env.now c.args.k (formulas_of_trees c.args.trees.now) c.row_at-row.result.now c.row_at-row.ensures.value (formula_of c.body_at-body.result.now) c.body_at-body.ensures.value c.requires.state.have) c.compile_bound.new.table c.in_ok-bounds.bounds c.in_ok-bounds.ensures.outcome c.compile_tree.new.table (Ok c.in_ok-term.term) (subst (λ (xs : List Bound). Compiles c.args.scope.now.sig (map formula_of c.args.scope.now.bodies) c.args.k.0 c.compile_bound.new.table c.compile_tree.new.table xs (formula_of c.body_at-body.result.now) (Ok c.in_ok-term.term)) inner_is c.in_ok-term.ensures.outcome)
+    under_made c.args.scope.now.sig (map formula_of c.args.scope.now.bodies) c.args.below c.args.k.0 c.args.table.now c.args.env.now [] c.row_at-row.result.now (Def c.args.k (formulas_of_trees c.args.trees.now)) (formulas_of_trees c.args.trees.now) (formula_of c.body_at-body.result.now) (call_under c.args.scope.now.sig (map formula_of c.args.scope.now.bodies) c.args.below (worked_in c.args.definitions.now) c.args.table.now c.args.env.now c.args.k (formulas_of_trees c.args.trees.now) c.row_at-row.result.now c.row_at-row.ensures.value (formula_of c.body_at-body.result.now) c.body_at-body.ensures.value c.requires.state.have) c.compile_bound.new.table c.in_ok-bounds.bounds c.in_ok-bounds.ensures.outcome c.compile_tree.new.table (Ok c.in_ok-term.term) (subst (λ (xs : List Bound). Compiles c.args.scope.now.sig (map formula_of c.args.scope.now.bodies) c.args.k.0 c.compile_bound.new.table c.compile_tree.new.table xs (formula_of c.body_at-body.result.now) (Ok c.in_ok-term.term)) inner_is c.in_ok-term.ensures.outcome)
 
 pub compile_call-returns-clause-state : goal.compile_call-returns-clause-state
 compile_call-returns-clause-state t c =
     let inner_is : c.deref.result.now ≡ bind c.in_ok-bounds.bounds [] = c.deref.ensures.value ∙ c.in_ok-inner.ensures.bound ∙ ap (λ (xs : List Bound). bind xs []) c.as_slice-2.ensures.value in
     let call_is : c.in_ok-call.call ≡ call_of c.args.k c.in_ok-bounds.bounds = c.in_ok-call.ensures.call ∙ ap (call_of c.args.k) c.as_slice.ensures.value in
     let one = (subst (λ (xs : List Bound). Compiles c.args.scope.now.sig (map formula_of c.args.scope.now.bodies) c.args.k.0 c.compile_bound.new.table c.compile_tree.new.table xs (formula_of c.body_at-body.result.now) (Ok c.in_ok-term.term)) inner_is c.in_ok-term.ensures.outcome) in
-    let whole = under_made c.args.scope.now.sig (map formula_of c.args.scope.now.bodies) c.args.below c.args.k.0 c.args.table.now c.args.env.now [] c.row_at-row.result.now (Def c.args.k (formulas_of_trees c.args.trees.now)) (formulas_of_trees c.args.trees.now) (formula_of c.body_at-body.result.now) (call_under c.args.scope.now.sig (map formula_of c.args.scope.now.bodies) c.args.below c.args.rows.now c.args.table.now c.args.env.now c.args.k (formulas_of_trees c.args.trees.now) c.row_at-row.result.now c.row_at-row.ensures.value (formula_of c.body_at-body.result.now) c.body_at-body.ensures.value c.requires.state.have) c.compile_bound.new.table c.in_ok-bounds.bounds c.in_ok-bounds.ensures.outcome c.compile_tree.new.table (Ok c.in_ok-term.term) one in
-    let g = compiles_grown c.args.scope.now.sig (map formula_of c.args.scope.now.bodies) c.args.k.0 c.compile_bound.new.table c.compile_tree.new.table _ _ (Ok c.in_ok-term.term) (under_body c.args.scope.now.sig (map formula_of c.args.scope.now.bodies) c.args.below c.args.k.0 c.args.table.now c.args.env.now [] c.row_at-row.result.now (Def c.args.k (formulas_of_trees c.args.trees.now)) (formulas_of_trees c.args.trees.now) (formula_of c.body_at-body.result.now) (call_under c.args.scope.now.sig (map formula_of c.args.scope.now.bodies) c.args.below c.args.rows.now c.args.table.now c.args.env.now c.args.k (formulas_of_trees c.args.trees.now) c.row_at-row.result.now c.row_at-row.ensures.value (formula_of c.body_at-body.result.now) c.body_at-body.ensures.value c.requires.state.have) c.compile_bound.new.table c.in_ok-bounds.bounds c.in_ok-bounds.ensures.outcome c.requires.ready) one in
+    let whole = under_made c.args.scope.now.sig (map formula_of c.args.scope.now.bodies) c.args.below c.args.k.0 c.args.table.now c.args.env.now [] c.row_at-row.result.now (Def c.args.k (formulas_of_trees c.args.trees.now)) (formulas_of_trees c.args.trees.now) (formula_of c.body_at-body.result.now) (call_under c.args.scope.now.sig (map formula_of c.args.scope.now.bodies) c.args.below (worked_in c.args.definitions.now) c.args.table.now c.args.env.now c.args.k (formulas_of_trees c.args.trees.now) c.row_at-row.result.now c.row_at-row.ensures.value (formula_of c.body_at-body.result.now) c.body_at-body.ensures.value c.requires.state.have) c.compile_bound.new.table c.in_ok-bounds.bounds c.in_ok-bounds.ensures.outcome c.compile_tree.new.table (Ok c.in_ok-term.term) one in
+    let g = compiles_grown c.args.scope.now.sig (map formula_of c.args.scope.now.bodies) c.args.k.0 c.compile_bound.new.table c.compile_tree.new.table _ _ (Ok c.in_ok-term.term) (under_body c.args.scope.now.sig (map formula_of c.args.scope.now.bodies) c.args.below c.args.k.0 c.args.table.now c.args.env.now [] c.row_at-row.result.now (Def c.args.k (formulas_of_trees c.args.trees.now)) (formulas_of_trees c.args.trees.now) (formula_of c.body_at-body.result.now) (call_under c.args.scope.now.sig (map formula_of c.args.scope.now.bodies) c.args.below (worked_in c.args.definitions.now) c.args.table.now c.args.env.now c.args.k (formulas_of_trees c.args.trees.now) c.row_at-row.result.now c.row_at-row.ensures.value (formula_of c.body_at-body.result.now) c.body_at-body.ensures.value c.requires.state.have) c.compile_bound.new.table c.in_ok-bounds.bounds c.in_ok-bounds.ensures.outcome c.requires.ready) one in
     let may = c.requires.ready in
-    let recalled = call_recalled c.args.scope.now.sig (map formula_of c.args.scope.now.bodies) c.args.below c.args.rows.now c.args.table.now c.args.env.now c.args.k (formulas_of_trees c.args.trees.now) c.row_at-row.result.now c.row_at-row.ensures.value (formula_of c.body_at-body.result.now) c.body_at-body.ensures.value c.requires.state.have c.compile_bound.new.table c.in_ok-bounds.bounds c.in_ok-bounds.ensures.outcome c.compile_tree.new.table c.in_ok-term.term g.0 g.1 may.0 may.1 may.2 may.3 (whole.core may.0 may.1 may.2 may.3) in
-    state_with c.args.scope.now.sig (map formula_of c.args.scope.now.bodies) c.args.rows.now c.args.below c.compile_tree.new.table c.compile_tree.new.known c.remember.new.known c.in_ok-call.call c.in_ok-term.term
-    (state_back c.args.scope.now.sig (map formula_of c.args.scope.now.bodies) c.args.rows.now c.args.k.0 c.args.below c.compile_bound.new.table c.compile_tree.new.table c.compile_bound.new.known c.compile_tree.new.known c.in_ok-bounds.ensures.state c.in_ok-term.ensures.state)
-    (subst (λ (x : Called). IsRecalled c.args.scope.now.sig (map formula_of c.args.scope.now.bodies) c.args.rows.now c.compile_tree.new.table x c.in_ok-term.term) (sym call_is) recalled)
+    let recalled = call_recalled c.args.scope.now.sig (map formula_of c.args.scope.now.bodies) c.args.below (worked_in c.args.definitions.now) c.args.table.now c.args.env.now c.args.k (formulas_of_trees c.args.trees.now) c.row_at-row.result.now c.row_at-row.ensures.value (formula_of c.body_at-body.result.now) c.body_at-body.ensures.value c.requires.state.have c.compile_bound.new.table c.in_ok-bounds.bounds c.in_ok-bounds.ensures.outcome c.compile_tree.new.table c.in_ok-term.term g.0 g.1 may.0 may.1 may.2 may.3 (whole.core may.0 may.1 may.2 may.3) in
+    state_with c.args.scope.now.sig (map formula_of c.args.scope.now.bodies) (worked_in c.args.definitions.now) c.args.below c.compile_tree.new.table c.compile_tree.new.known c.remember.new.known c.in_ok-call.call c.in_ok-term.term
+    (state_back c.args.scope.now.sig (map formula_of c.args.scope.now.bodies) (worked_in c.args.definitions.now) c.args.k.0 c.args.below c.compile_bound.new.table c.compile_tree.new.table c.compile_bound.new.known c.compile_tree.new.known c.in_ok-bounds.ensures.state c.in_ok-term.ensures.state)
+    (subst (λ (x : Called). IsRecalled c.args.scope.now.sig (map formula_of c.args.scope.now.bodies) (worked_in c.args.definitions.now) c.compile_tree.new.table x c.in_ok-term.term) (sym call_is) recalled)
     c.in_ok-remember.ensures.only
 
 pub compile_bound-loop-rest-init : goal.compile_bound-loop-rest-init
@@ -324,7 +324,7 @@ compile_bound-loop-rest-preserved-then-not-occurs t c =
     let others = take (length loop.rest.now - 1) (drop 1 loop.rest.now) in
     let item = rest_item loop.rest.now c.tree-item.result c.in-len1-up.len_at_least c.tree-item.is in
     let split = completes_split c.args.scope.now.sig (map formula_of c.args.scope.now.bodies) c.args.below c.args.table.now loop.table c.args.env.now c.args.flags.now (formulas_of_trees c.args.trees.now) loop.bounds.items loop.left.now c.later_flags-left.result.now loop.rest.now others c.tree-item.result c.first_flag-occurs.result false (flags_split loop.left.now c.later_flags-left.result.now c.first_flag-occurs.result c.first_flag-occurs.ensures.value c.later_flags-left.ensures.value) item c.if-not-occurs.true loop.invariant.0 in
-    (subst (λ (xs : List Bound). Completes c.args.scope.now.sig (map formula_of c.args.scope.now.bodies) c.args.below c.args.table.now loop.table c.args.env.now c.args.flags.now (formulas_of_trees c.args.trees.now) xs c.later_flags-left.result.now (formulas_of_trees others)) (sym c.in_ok-push.ensures.items) (completes_absent c.args.scope.now.sig (map formula_of c.args.scope.now.bodies) c.args.below c.args.table.now loop.table c.args.env.now c.args.flags.now (formulas_of_trees c.args.trees.now) loop.bounds.items c.later_flags-left.result.now (formula_of c.tree-item.result) (formulas_of_trees others) split), loop.invariant.1, (where_split c.args.scope.now.sig (uses_below c.args.scope.now.sig (map formula_of c.args.scope.now.bodies) c.args.below) loop.left.now c.later_flags-left.result.now c.first_flag-occurs.result (formulas_of_trees loop.rest.now) (formula_of c.tree-item.result) (formulas_of_trees others) loop.noted.now c.later_notes-noted.result.now (flags_split loop.left.now c.later_flags-left.result.now c.first_flag-occurs.result c.first_flag-occurs.ensures.value c.later_flags-left.ensures.value) (ap formulas_of_trees item) c.later_notes-noted.ensures.value loop.invariant.2).1)
+    (subst (λ (xs : List Bound). Completes c.args.scope.now.sig (map formula_of c.args.scope.now.bodies) c.args.below c.args.table.now loop.table c.args.env.now c.args.flags.now (formulas_of_trees c.args.trees.now) xs c.later_flags-left.result.now (formulas_of_trees others)) (sym c.in_ok-push.ensures.items) (completes_absent c.args.scope.now.sig (map formula_of c.args.scope.now.bodies) c.args.below c.args.table.now loop.table c.args.env.now c.args.flags.now (formulas_of_trees c.args.trees.now) loop.bounds.items c.later_flags-left.result.now (formula_of c.tree-item.result) (formulas_of_trees others) split), loop.invariant.1, (where_split c.args.scope.now.sig (worked_in c.args.definitions.now) (uses_below c.args.scope.now.sig (map formula_of c.args.scope.now.bodies) c.args.below) loop.left.now c.later_flags-left.result.now c.first_flag-occurs.result (formulas_of_trees loop.rest.now) (formula_of c.tree-item.result) (formulas_of_trees others) loop.noted.now c.later_notes-noted.result.now (flags_split loop.left.now c.later_flags-left.result.now c.first_flag-occurs.result c.first_flag-occurs.ensures.value c.later_flags-left.ensures.value) (ap formulas_of_trees item) c.later_notes-noted.ensures.value loop.invariant.2).1)
 
 pub compile_bound-compile_tree-requires : goal.compile_bound-compile_tree-requires
 compile_bound-compile_tree-requires t c =
@@ -333,7 +333,7 @@ compile_bound-compile_tree-requires t c =
     let item = rest_item loop.rest.now c.tree-item.result c.in-len1-up.len_at_least c.tree-item.is in
     let split = completes_split c.args.scope.now.sig (map formula_of c.args.scope.now.bodies) c.args.below c.args.table.now loop.table c.args.env.now c.args.flags.now (formulas_of_trees c.args.trees.now) loop.bounds.items loop.left.now c.later_flags-left.result.now loop.rest.now others c.tree-item.result c.first_flag-occurs.result true (flags_split loop.left.now c.later_flags-left.result.now c.first_flag-occurs.result c.first_flag-occurs.ensures.value c.later_flags-left.ensures.value) item c.if-not-occurs.false loop.invariant.0 in
     let lighter = completes_lighter c.args.scope.now.sig (map formula_of c.args.scope.now.bodies) c.args.below c.args.table.now loop.table c.args.env.now c.args.flags.now (formulas_of_trees c.args.trees.now) loop.bounds.items c.later_flags-left.result.now (formula_of c.tree-item.result) (formulas_of_trees others) split in
-    (omega (arith, lighter, c.decreases), (loop.invariant.1, (completes_next c.args.scope.now.sig (map formula_of c.args.scope.now.bodies) c.args.below c.args.table.now loop.table c.args.env.now c.args.flags.now (formulas_of_trees c.args.trees.now) loop.bounds.items c.later_flags-left.result.now (formula_of c.tree-item.result) (formulas_of_trees others) split, (c.requires.noted.0, (where_split c.args.scope.now.sig (uses_below c.args.scope.now.sig (map formula_of c.args.scope.now.bodies) c.args.below) loop.left.now c.later_flags-left.result.now c.first_flag-occurs.result (formulas_of_trees loop.rest.now) (formula_of c.tree-item.result) (formulas_of_trees others) loop.noted.now c.later_notes-noted.result.now (flags_split loop.left.now c.later_flags-left.result.now c.first_flag-occurs.result c.first_flag-occurs.ensures.value c.later_flags-left.ensures.value) (ap formulas_of_trees item) c.later_notes-noted.ensures.value loop.invariant.2).0 c.if-not-occurs.false))))
+    (omega (arith, lighter, c.decreases), (loop.invariant.1, (completes_next c.args.scope.now.sig (map formula_of c.args.scope.now.bodies) c.args.below c.args.table.now loop.table c.args.env.now c.args.flags.now (formulas_of_trees c.args.trees.now) loop.bounds.items c.later_flags-left.result.now (formula_of c.tree-item.result) (formulas_of_trees others) split, (c.requires.noted.0, (where_split c.args.scope.now.sig (worked_in c.args.definitions.now) (uses_below c.args.scope.now.sig (map formula_of c.args.scope.now.bodies) c.args.below) loop.left.now c.later_flags-left.result.now c.first_flag-occurs.result (formulas_of_trees loop.rest.now) (formula_of c.tree-item.result) (formulas_of_trees others) loop.noted.now c.later_notes-noted.result.now (flags_split loop.left.now c.later_flags-left.result.now c.first_flag-occurs.result c.first_flag-occurs.ensures.value c.later_flags-left.ensures.value) (ap formulas_of_trees item) c.later_notes-noted.ensures.value loop.invariant.2).0 c.if-not-occurs.false))))
 
 pub compile_bound-returns-in_err-term-clause-outcome : goal.compile_bound-returns-in_err-term-clause-outcome
 compile_bound-returns-in_err-term-clause-outcome t c =
@@ -359,7 +359,7 @@ compile_bound-loop-rest-preserved t c =
     let others = take (length loop.rest.now - 1) (drop 1 loop.rest.now) in
     let item = rest_item loop.rest.now c.tree-item.result c.in-len1-up.len_at_least c.tree-item.is in
     let split = completes_split c.args.scope.now.sig (map formula_of c.args.scope.now.bodies) c.args.below c.args.table.now loop.table c.args.env.now c.args.flags.now (formulas_of_trees c.args.trees.now) loop.bounds.items loop.left.now c.later_flags-left.result.now loop.rest.now others c.tree-item.result c.first_flag-occurs.result true (flags_split loop.left.now c.later_flags-left.result.now c.first_flag-occurs.result c.first_flag-occurs.ensures.value c.later_flags-left.ensures.value) item c.if-not-occurs.false loop.invariant.0 in
-    (subst (λ (xs : List Bound). Completes c.args.scope.now.sig (map formula_of c.args.scope.now.bodies) c.args.below c.args.table.now c.compile_tree.new.table c.args.env.now c.args.flags.now (formulas_of_trees c.args.trees.now) xs c.later_flags-left.result.now (formulas_of_trees others)) (sym c.in_ok-push-2.ensures.items) (completes_term c.args.scope.now.sig (map formula_of c.args.scope.now.bodies) c.args.below c.args.table.now loop.table c.args.env.now c.args.flags.now (formulas_of_trees c.args.trees.now) loop.bounds.items c.later_flags-left.result.now (formula_of c.tree-item.result) (formulas_of_trees others) split c.compile_tree.new.table c.in_ok-term.term c.in_ok-term.ensures.outcome), c.in_ok-term.ensures.state, (where_split c.args.scope.now.sig (uses_below c.args.scope.now.sig (map formula_of c.args.scope.now.bodies) c.args.below) loop.left.now c.later_flags-left.result.now c.first_flag-occurs.result (formulas_of_trees loop.rest.now) (formula_of c.tree-item.result) (formulas_of_trees others) loop.noted.now c.later_notes-noted.result.now (flags_split loop.left.now c.later_flags-left.result.now c.first_flag-occurs.result c.first_flag-occurs.ensures.value c.later_flags-left.ensures.value) (ap formulas_of_trees item) c.later_notes-noted.ensures.value loop.invariant.2).1)
+    (subst (λ (xs : List Bound). Completes c.args.scope.now.sig (map formula_of c.args.scope.now.bodies) c.args.below c.args.table.now c.compile_tree.new.table c.args.env.now c.args.flags.now (formulas_of_trees c.args.trees.now) xs c.later_flags-left.result.now (formulas_of_trees others)) (sym c.in_ok-push-2.ensures.items) (completes_term c.args.scope.now.sig (map formula_of c.args.scope.now.bodies) c.args.below c.args.table.now loop.table c.args.env.now c.args.flags.now (formulas_of_trees c.args.trees.now) loop.bounds.items c.later_flags-left.result.now (formula_of c.tree-item.result) (formulas_of_trees others) split c.compile_tree.new.table c.in_ok-term.term c.in_ok-term.ensures.outcome), c.in_ok-term.ensures.state, (where_split c.args.scope.now.sig (worked_in c.args.definitions.now) (uses_below c.args.scope.now.sig (map formula_of c.args.scope.now.bodies) c.args.below) loop.left.now c.later_flags-left.result.now c.first_flag-occurs.result (formulas_of_trees loop.rest.now) (formula_of c.tree-item.result) (formulas_of_trees others) loop.noted.now c.later_notes-noted.result.now (flags_split loop.left.now c.later_flags-left.result.now c.first_flag-occurs.result c.first_flag-occurs.ensures.value c.later_flags-left.ensures.value) (ap formulas_of_trees item) c.later_notes-noted.ensures.value loop.invariant.2).1)
 
 pub compile_bound-returns-clause-outcome : goal.compile_bound-returns-clause-outcome
 compile_bound-returns-clause-outcome t c =
@@ -369,35 +369,35 @@ compile_bound-returns-clause-outcome t c =
 
 pub compile_match-compile_bound-requires : goal.compile_match-compile_bound-requires
 compile_match-compile_bound-requires t c =
-    let is = match_flag c.args.scope.now.sig (uses_below c.args.scope.now.sig (map formula_of c.args.scope.now.bodies) c.args.below) c.args.notes.now c.first_note-note.result.now c.first_note-note.ensures.value (formula_of c.args.tree.now) (cases_of_trees c.args.cases.now) c.bound.result.now c.first_flag-occurs.result c.bound.ensures.value c.first_flag-occurs.ensures.value c.requires.noted.1 in
-    (omega (arith, c.decreases, one_weight (weights_below (map formula_of c.args.scope.now.bodies) c.args.below) c.args.tree.now c.one_tree-trees.result.now c.one_tree-trees.ensures.value), (c.requires.state, (may_bind_as c.args.scope.now.sig (map formula_of c.args.scope.now.bodies) c.args.table.now c.args.below c.args.env.now _ c.one_flag-flags.result.now _ (formulas_of_trees c.one_tree-trees.result.now) (sym c.one_flag-flags.ensures.value) (sym c.one_tree-trees.ensures.value) (match_may c.args.scope.now.sig (map formula_of c.args.scope.now.bodies) c.args.below c.args.table.now c.args.env.now (formula_of c.args.tree.now) (cases_of_trees c.args.cases.now) c.first_flag-occurs.result is c.requires.ready), (c.requires.noted.0, match_under c.args.scope.now.sig (uses_below c.args.scope.now.sig (map formula_of c.args.scope.now.bodies) c.args.below) c.args.notes.now c.first_note-note.result.now c.first_note-note.ensures.value (formula_of c.args.tree.now) (cases_of_trees c.args.cases.now) c.first_flag-occurs.result c.one_flag-flags.result.now (formulas_of_trees c.one_tree-trees.result.now) c.under.result.now is c.one_flag-flags.ensures.value c.one_tree-trees.ensures.value c.under.ensures.value c.requires.noted.1))))
+    let is = match_flag c.args.scope.now.sig (worked_in c.args.definitions.now) (uses_below c.args.scope.now.sig (map formula_of c.args.scope.now.bodies) c.args.below) c.args.notes.now c.first_note-note.result.now c.first_note-note.ensures.value (formula_of c.args.tree.now) (cases_of_trees c.args.cases.now) c.bound.result.now c.first_flag-occurs.result c.bound.ensures.value c.first_flag-occurs.ensures.value c.requires.noted.1 in
+    (omega (arith, c.decreases, one_weight (weights_below (map formula_of c.args.scope.now.bodies) c.args.below) c.args.tree.now c.one_tree-trees.result.now c.one_tree-trees.ensures.value), (c.requires.state, (may_bind_as c.args.scope.now.sig (map formula_of c.args.scope.now.bodies) c.args.table.now c.args.below c.args.env.now _ c.one_flag-flags.result.now _ (formulas_of_trees c.one_tree-trees.result.now) (sym c.one_flag-flags.ensures.value) (sym c.one_tree-trees.ensures.value) (match_may c.args.scope.now.sig (map formula_of c.args.scope.now.bodies) c.args.below c.args.table.now c.args.env.now (formula_of c.args.tree.now) (cases_of_trees c.args.cases.now) c.first_flag-occurs.result is c.requires.ready), (c.requires.noted.0, match_under c.args.scope.now.sig (worked_in c.args.definitions.now) (uses_below c.args.scope.now.sig (map formula_of c.args.scope.now.bodies) c.args.below) c.args.notes.now c.first_note-note.result.now c.first_note-note.ensures.value (formula_of c.args.tree.now) (cases_of_trees c.args.cases.now) c.first_flag-occurs.result c.one_flag-flags.result.now (formulas_of_trees c.one_tree-trees.result.now) c.under.result.now is c.one_flag-flags.ensures.value c.one_tree-trees.ensures.value c.under.ensures.value c.requires.noted.1))))
 
 pub compile_match-returns-in_err-bounds-clause-outcome : goal.compile_match-returns-in_err-bounds-clause-outcome
 compile_match-returns-in_err-bounds-clause-outcome t c =
-    let is = match_flag c.args.scope.now.sig (uses_below c.args.scope.now.sig (map formula_of c.args.scope.now.bodies) c.args.below) c.args.notes.now c.first_note-note.result.now c.first_note-note.ensures.value (formula_of c.args.tree.now) (cases_of_trees c.args.cases.now) c.bound.result.now c.first_flag-occurs.result c.bound.ensures.value c.first_flag-occurs.ensures.value c.requires.noted.1 in
+    let is = match_flag c.args.scope.now.sig (worked_in c.args.definitions.now) (uses_below c.args.scope.now.sig (map formula_of c.args.scope.now.bodies) c.args.below) c.args.notes.now c.first_note-note.result.now c.first_note-note.ensures.value (formula_of c.args.tree.now) (cases_of_trees c.args.cases.now) c.bound.result.now c.first_flag-occurs.result c.bound.ensures.value c.first_flag-occurs.ensures.value c.requires.noted.1 in
     let p = err_from_is_err_and c.from_residual.result c.from_residual.ensures.1 in
     rw (p.1, p.2) (match_failed c.args.scope.now.sig (map formula_of c.args.scope.now.bodies) c.args.below c.args.table.now c.args.env.now (formula_of c.args.tree.now) (cases_of_trees c.args.cases.now) c.first_flag-occurs.result is c.compile_bound.new.table _ (binds_as c.args.scope.now.sig (map formula_of c.args.scope.now.bodies) c.args.below c.args.table.now c.compile_bound.new.table c.args.env.now c.one_flag-flags.result.now _ (formulas_of_trees c.one_tree-trees.result.now) _ _ c.one_flag-flags.ensures.value c.one_tree-trees.ensures.value c.in_err-bounds.ensures.outcome))
 
 pub compile_match-bound_at-matched-requires : goal.compile_match-bound_at-matched-requires
 compile_match-bound_at-matched-requires t c =
-    let is = match_flag c.args.scope.now.sig (uses_below c.args.scope.now.sig (map formula_of c.args.scope.now.bodies) c.args.below) c.args.notes.now c.first_note-note.result.now c.first_note-note.ensures.value (formula_of c.args.tree.now) (cases_of_trees c.args.cases.now) c.bound.result.now c.first_flag-occurs.result c.bound.ensures.value c.first_flag-occurs.ensures.value c.requires.noted.1 in
+    let is = match_flag c.args.scope.now.sig (worked_in c.args.definitions.now) (uses_below c.args.scope.now.sig (map formula_of c.args.scope.now.bodies) c.args.below) c.args.notes.now c.first_note-note.result.now c.first_note-note.ensures.value (formula_of c.args.tree.now) (cases_of_trees c.args.cases.now) c.bound.result.now c.first_flag-occurs.result c.bound.ensures.value c.first_flag-occurs.ensures.value c.requires.noted.1 in
     record { inside = subst (λ (xs : List Bound). 0 < length xs) (sym c.as_slice.ensures.value) (match_some c.args.scope.now.sig (map formula_of c.args.scope.now.bodies) c.args.below c.args.table.now c.args.env.now (formula_of c.args.tree.now) (cases_of_trees c.args.cases.now) c.first_flag-occurs.result is c.compile_bound.new.table c.in_ok-bounds.bounds (binds_as c.args.scope.now.sig (map formula_of c.args.scope.now.bodies) c.args.below c.args.table.now c.compile_bound.new.table c.args.env.now c.one_flag-flags.result.now _ (formulas_of_trees c.one_tree-trees.result.now) _ _ c.one_flag-flags.ensures.value c.one_tree-trees.ensures.value c.in_ok-bounds.ensures.outcome) c.requires.ready) }
 
 pub compile_match-compile_cases-requires : goal.compile_match-compile_cases-requires
 compile_match-compile_cases-requires t c =
-    let is = match_flag c.args.scope.now.sig (uses_below c.args.scope.now.sig (map formula_of c.args.scope.now.bodies) c.args.below) c.args.notes.now c.first_note-note.result.now c.first_note-note.ensures.value (formula_of c.args.tree.now) (cases_of_trees c.args.cases.now) c.bound.result.now c.first_flag-occurs.result c.bound.ensures.value c.first_flag-occurs.ensures.value c.requires.noted.1 in
+    let is = match_flag c.args.scope.now.sig (worked_in c.args.definitions.now) (uses_below c.args.scope.now.sig (map formula_of c.args.scope.now.bodies) c.args.below) c.args.notes.now c.first_note-note.result.now c.first_note-note.ensures.value (formula_of c.args.tree.now) (cases_of_trees c.args.cases.now) c.bound.result.now c.first_flag-occurs.result c.bound.ensures.value c.first_flag-occurs.ensures.value c.requires.noted.1 in
     let at : slice_get c.in_ok-bounds.bounds 0 ≡ Some c.bound_at-matched.result = ap (λ (xs : List Bound). slice_get xs 0) (sym c.as_slice.ensures.value) ∙ c.bound_at-matched.ensures.value in
-    (omega (arith, c.decreases), (c.in_ok-bounds.ensures.state, ((match_cases c.args.scope.now.sig (map formula_of c.args.scope.now.bodies) c.args.below c.args.table.now c.args.env.now (formula_of c.args.tree.now) (cases_of_trees c.args.cases.now) c.first_flag-occurs.result is c.compile_bound.new.table c.in_ok-bounds.bounds (binds_as c.args.scope.now.sig (map formula_of c.args.scope.now.bodies) c.args.below c.args.table.now c.compile_bound.new.table c.args.env.now c.one_flag-flags.result.now _ (formulas_of_trees c.one_tree-trees.result.now) _ _ c.one_flag-flags.ensures.value c.one_tree-trees.ensures.value c.in_ok-bounds.ensures.outcome) c.bound_at-matched.result at c.requires.ready), (c.requires.noted.0, match_inner c.args.scope.now.sig (uses_below c.args.scope.now.sig (map formula_of c.args.scope.now.bodies) c.args.below) c.args.notes.now c.first_note-note.result.now c.first_note-note.ensures.value (formula_of c.args.tree.now) (cases_of_trees c.args.cases.now) [] c.inner.result.now refl c.inner.ensures.value c.requires.noted.1))))
+    (omega (arith, c.decreases), (c.in_ok-bounds.ensures.state, ((match_cases c.args.scope.now.sig (map formula_of c.args.scope.now.bodies) c.args.below c.args.table.now c.args.env.now (formula_of c.args.tree.now) (cases_of_trees c.args.cases.now) c.first_flag-occurs.result is c.compile_bound.new.table c.in_ok-bounds.bounds (binds_as c.args.scope.now.sig (map formula_of c.args.scope.now.bodies) c.args.below c.args.table.now c.compile_bound.new.table c.args.env.now c.one_flag-flags.result.now _ (formulas_of_trees c.one_tree-trees.result.now) _ _ c.one_flag-flags.ensures.value c.one_tree-trees.ensures.value c.in_ok-bounds.ensures.outcome) c.bound_at-matched.result at c.requires.ready), (c.requires.noted.0, match_inner c.args.scope.now.sig (worked_in c.args.definitions.now) (uses_below c.args.scope.now.sig (map formula_of c.args.scope.now.bodies) c.args.below) c.args.notes.now c.first_note-note.result.now c.first_note-note.ensures.value (formula_of c.args.tree.now) (cases_of_trees c.args.cases.now) [] c.inner.result.now refl c.inner.ensures.value c.requires.noted.1))))
 
 pub compile_match-returns-clause-outcome : goal.compile_match-returns-clause-outcome
 compile_match-returns-clause-outcome t c =
-    let is = match_flag c.args.scope.now.sig (uses_below c.args.scope.now.sig (map formula_of c.args.scope.now.bodies) c.args.below) c.args.notes.now c.first_note-note.result.now c.first_note-note.ensures.value (formula_of c.args.tree.now) (cases_of_trees c.args.cases.now) c.bound.result.now c.first_flag-occurs.result c.bound.ensures.value c.first_flag-occurs.ensures.value c.requires.noted.1 in
+    let is = match_flag c.args.scope.now.sig (worked_in c.args.definitions.now) (uses_below c.args.scope.now.sig (map formula_of c.args.scope.now.bodies) c.args.below) c.args.notes.now c.first_note-note.result.now c.first_note-note.ensures.value (formula_of c.args.tree.now) (cases_of_trees c.args.cases.now) c.bound.result.now c.first_flag-occurs.result c.bound.ensures.value c.first_flag-occurs.ensures.value c.requires.noted.1 in
     let at : slice_get c.in_ok-bounds.bounds 0 ≡ Some c.bound_at-matched.result = ap (λ (xs : List Bound). slice_get xs 0) (sym c.as_slice.ensures.value) ∙ c.bound_at-matched.ensures.value in
     match_made c.args.scope.now.sig (map formula_of c.args.scope.now.bodies) c.args.below c.args.table.now c.args.env.now (formula_of c.args.tree.now) (cases_of_trees c.args.cases.now) c.first_flag-occurs.result is c.compile_bound.new.table c.in_ok-bounds.bounds (binds_as c.args.scope.now.sig (map formula_of c.args.scope.now.bodies) c.args.below c.args.table.now c.compile_bound.new.table c.args.env.now c.one_flag-flags.result.now _ (formulas_of_trees c.one_tree-trees.result.now) _ _ c.one_flag-flags.ensures.value c.one_tree-trees.ensures.value c.in_ok-bounds.ensures.outcome) c.bound_at-matched.result at c.compile_cases.new.table c.compile_cases.result c.compile_cases.ensures.outcome
 
 pub compile_cases-loop-rest-init : goal.compile_cases-loop-rest-init
 compile_cases-loop-rest-init t c =
-    (subst (λ (gs : List Guarded). Chooses c.args.scope.now.sig (map formula_of c.args.scope.now.bodies) c.args.below c.args.table.now c.args.table.now c.args.env.now c.args.matched (cases_of_trees c.args.cases.now) gs (reverse c.new-earlier.result.items) (cases_of_trees c.args.cases.now)) (sym c.new-made.ensures.items) (subst (λ (cs : List CtorId). Chooses c.args.scope.now.sig (map formula_of c.args.scope.now.bodies) c.args.below c.args.table.now c.args.table.now c.args.env.now c.args.matched (cases_of_trees c.args.cases.now) [] (reverse cs) (cases_of_trees c.args.cases.now)) (sym c.new-earlier.ensures.items) (chooses_start c.args.scope.now.sig (map formula_of c.args.scope.now.bodies) c.args.below c.args.table.now c.args.env.now c.args.matched (cases_of_trees c.args.cases.now) c.requires.ready)), c.requires.state, subst (λ (cs : List CtorId). CasesNoted c.args.scope.now.sig (uses_below c.args.scope.now.sig (map formula_of c.args.scope.now.bodies) c.args.below) (reverse cs) (cases_of_trees c.args.cases.now) c.args.notes.now) (sym c.new-earlier.ensures.items) c.requires.noted.1)
+    (subst (λ (gs : List Guarded). Chooses c.args.scope.now.sig (map formula_of c.args.scope.now.bodies) c.args.below c.args.table.now c.args.table.now c.args.env.now c.args.matched (cases_of_trees c.args.cases.now) gs (reverse c.new-earlier.result.items) (cases_of_trees c.args.cases.now)) (sym c.new-made.ensures.items) (subst (λ (cs : List CtorId). Chooses c.args.scope.now.sig (map formula_of c.args.scope.now.bodies) c.args.below c.args.table.now c.args.table.now c.args.env.now c.args.matched (cases_of_trees c.args.cases.now) [] (reverse cs) (cases_of_trees c.args.cases.now)) (sym c.new-earlier.ensures.items) (chooses_start c.args.scope.now.sig (map formula_of c.args.scope.now.bodies) c.args.below c.args.table.now c.args.env.now c.args.matched (cases_of_trees c.args.cases.now) c.requires.ready)), c.requires.state, subst (λ (cs : List CtorId). CasesNoted c.args.scope.now.sig (worked_in c.args.definitions.now) (uses_below c.args.scope.now.sig (map formula_of c.args.scope.now.bodies) c.args.below) (reverse cs) (cases_of_trees c.args.cases.now) c.args.notes.now) (sym c.new-earlier.ensures.items) c.requires.noted.1)
 
 pub compile_cases-tested-requires : goal.compile_cases-tested-requires
 compile_cases-tested-requires t c =
@@ -414,8 +414,8 @@ compile_cases-compile_case-requires t c =
     let split = subst (λ (cs : Cases). Chooses c.args.scope.now.sig (map formula_of c.args.scope.now.bodies) c.args.below c.args.table.now c.loop-rest.table c.args.env.now c.args.matched (cases_of_trees c.args.cases.now) c.loop-rest.made.items (reverse c.loop-rest.earlier.items) cs) whole c.loop-rest.invariant.0 in
     let may = chooses_may c.args.scope.now.sig (map formula_of c.args.scope.now.bodies) c.args.below c.args.table.now c.loop-rest.table c.args.env.now c.args.matched (cases_of_trees c.args.cases.now) c.loop-rest.made.items (reverse c.loop-rest.earlier.items) (with_case c.pattern_of-pattern.result (formula_of c.body_of-body.result.now) (cases_of_trees rest)) split in
     let lighter = chooses_lighter c.args.scope.now.sig (map formula_of c.args.scope.now.bodies) c.args.below c.args.table.now c.loop-rest.table c.args.env.now c.args.matched (cases_of_trees c.args.cases.now) c.loop-rest.made.items (reverse c.loop-rest.earlier.items) c.pattern_of-pattern.result (formula_of c.body_of-body.result.now) (cases_of_trees rest) split in
-    let noted = subst (λ (cs : Cases). CasesNoted c.args.scope.now.sig (uses_below c.args.scope.now.sig (map formula_of c.args.scope.now.bodies) c.args.below) (reverse c.loop-rest.earlier.items) cs c.loop-rest.left.now) whole c.loop-rest.invariant.2 in
-    (omega (arith, lighter, c.decreases), (c.loop-rest.invariant.1, (case_declared c.args.scope.now.sig (map formula_of c.args.scope.now.bodies) c.args.below c.args.env.now c.args.matched (reverse c.loop-rest.earlier.items) c.pattern_of-pattern.result (formula_of c.body_of-body.result.now) (cases_of_trees rest) c.loop-rest.table may, (case_body c.args.scope.now.sig (map formula_of c.args.scope.now.bodies) c.args.below c.args.env.now c.args.matched (reverse c.loop-rest.earlier.items) c.pattern_of-pattern.result (formula_of c.body_of-body.result.now) (cases_of_trees rest) c.loop-rest.table may, (c.requires.noted.0, case_notes c.args.scope.now.sig (uses_below c.args.scope.now.sig (map formula_of c.args.scope.now.bodies) c.args.below) (reverse c.loop-rest.earlier.items) c.pattern_of-pattern.result (formula_of c.body_of-body.result.now) (cases_of_trees rest) c.loop-rest.left.now noted)))))
+    let noted = subst (λ (cs : Cases). CasesNoted c.args.scope.now.sig (worked_in c.args.definitions.now) (uses_below c.args.scope.now.sig (map formula_of c.args.scope.now.bodies) c.args.below) (reverse c.loop-rest.earlier.items) cs c.loop-rest.left.now) whole c.loop-rest.invariant.2 in
+    (omega (arith, lighter, c.decreases), (c.loop-rest.invariant.1, (case_declared c.args.scope.now.sig (map formula_of c.args.scope.now.bodies) c.args.below c.args.env.now c.args.matched (reverse c.loop-rest.earlier.items) c.pattern_of-pattern.result (formula_of c.body_of-body.result.now) (cases_of_trees rest) c.loop-rest.table may, (case_body c.args.scope.now.sig (map formula_of c.args.scope.now.bodies) c.args.below c.args.env.now c.args.matched (reverse c.loop-rest.earlier.items) c.pattern_of-pattern.result (formula_of c.body_of-body.result.now) (cases_of_trees rest) c.loop-rest.table may, (c.requires.noted.0, case_notes c.args.scope.now.sig (worked_in c.args.definitions.now) (uses_below c.args.scope.now.sig (map formula_of c.args.scope.now.bodies) c.args.below) (reverse c.loop-rest.earlier.items) c.pattern_of-pattern.result (formula_of c.body_of-body.result.now) (cases_of_trees rest) c.loop-rest.left.now noted)))))
 
 pub compile_cases-returns-in_err-last-clause-outcome : goal.compile_cases-returns-in_err-last-clause-outcome
 compile_cases-returns-in_err-last-clause-outcome t c =
@@ -473,7 +473,7 @@ compile_cases-returns-in_default-tested-clause-outcome t c =
 
 pub compile_cases-returns-in_default-tested-clause-state : goal.compile_cases-returns-in_default-tested-clause-state
 compile_cases-returns-in_default-tested-clause-state t c =
-    ok_always _ c.choices.result (state_within c.args.scope.now.sig (map formula_of c.args.scope.now.bodies) c.args.rows.now c.args.below c.compile_case.new.table c.choices.new.table c.compile_case.new.known _ _ c.choices.ensures.effect c.in_ok-last.ensures.state)
+    ok_always _ c.choices.result (state_within c.args.scope.now.sig (map formula_of c.args.scope.now.bodies) (worked_in c.args.definitions.now) c.args.below c.compile_case.new.table c.choices.new.table c.compile_case.new.known _ _ c.choices.ensures.effect c.in_ok-last.ensures.state)
 
 pub compile_cases-make_test-requires-clause-kept : goal.compile_cases-make_test-requires-clause-kept
 compile_cases-make_test-requires-clause-kept t c =
@@ -519,9 +519,9 @@ compile_cases-compile_case-requires-in-len1-up t c =
     let may = chooses_may c.args.scope.now.sig (map formula_of c.args.scope.now.bodies) c.args.below c.args.table.now c.loop-rest.table c.args.env.now c.args.matched (cases_of_trees c.args.cases.now) c.loop-rest.made.items (reverse c.loop-rest.earlier.items) (with_case c.pattern_of-pattern.result (formula_of c.body_of-body.result.now) (cases_of_trees rest)) split in
     let test_is : c.tested.result ≡ tested_by c.args.scope.now.sig (reverse c.loop-rest.earlier.items) c.pattern_of-pattern.result (are_none (cases_of_trees rest)) = c.tested.ensures.value ∙ ap (λ (xs : List CtorId). tested_by c.args.scope.now.sig (reverse xs) c.pattern_of-pattern.result c.is_empty.result) c.as_slice.ensures.value ∙ ap (tested_by c.args.scope.now.sig (reverse c.loop-rest.earlier.items) c.pattern_of-pattern.result) (c.is_empty.ensures ∙ none_is rest) in
     let lighter = chooses_lighter c.args.scope.now.sig (map formula_of c.args.scope.now.bodies) c.args.below c.args.table.now c.loop-rest.table c.args.env.now c.args.matched (cases_of_trees c.args.cases.now) c.loop-rest.made.items (reverse c.loop-rest.earlier.items) c.pattern_of-pattern.result (formula_of c.body_of-body.result.now) (cases_of_trees rest) split in
-    let noted = subst (λ (cs : Cases). CasesNoted c.args.scope.now.sig (uses_below c.args.scope.now.sig (map formula_of c.args.scope.now.bodies) c.args.below) (reverse c.loop-rest.earlier.items) cs c.loop-rest.left.now) whole c.loop-rest.invariant.2 in
+    let noted = subst (λ (cs : Cases). CasesNoted c.args.scope.now.sig (worked_in c.args.definitions.now) (uses_below c.args.scope.now.sig (map formula_of c.args.scope.now.bodies) c.args.below) (reverse c.loop-rest.earlier.items) cs c.loop-rest.left.now) whole c.loop-rest.invariant.2 in
     let grown = test_grown c.args.scope.now.sig (map formula_of c.args.scope.now.bodies) c.args.below c.args.env.now c.args.matched (reverse c.loop-rest.earlier.items) c.pattern_of-pattern.result (formula_of c.body_of-body.result.now) (cases_of_trees rest) c.in-Some.c (sym test_is ∙ c.in-Some.is) c.loop-rest.table c.make_test.new.table _ c.in_ok-condition.ensures.effect may in
-    (omega (arith, lighter, c.decreases), (state_stays c.args.scope.now.sig (map formula_of c.args.scope.now.bodies) c.args.rows.now c.args.below c.loop-rest.table c.make_test.new.table c.loop-rest.known grown.0 grown.1 c.loop-rest.invariant.1, (case_declared c.args.scope.now.sig (map formula_of c.args.scope.now.bodies) c.args.below c.args.env.now c.args.matched (reverse c.loop-rest.earlier.items) c.pattern_of-pattern.result (formula_of c.body_of-body.result.now) (cases_of_trees rest) c.loop-rest.table may, (first_may c.args.scope.now.sig (map formula_of c.args.scope.now.bodies) c.args.below c.args.env.now c.args.matched (reverse c.loop-rest.earlier.items) c.pattern_of-pattern.result (formula_of c.body_of-body.result.now) (cases_of_trees rest) c.in-Some.c (sym test_is ∙ c.in-Some.is) c.loop-rest.table c.make_test.new.table _ c.in_ok-condition.ensures.effect may, (c.requires.noted.0, case_notes c.args.scope.now.sig (uses_below c.args.scope.now.sig (map formula_of c.args.scope.now.bodies) c.args.below) (reverse c.loop-rest.earlier.items) c.pattern_of-pattern.result (formula_of c.body_of-body.result.now) (cases_of_trees rest) c.loop-rest.left.now noted)))))
+    (omega (arith, lighter, c.decreases), (state_stays c.args.scope.now.sig (map formula_of c.args.scope.now.bodies) (worked_in c.args.definitions.now) c.args.below c.loop-rest.table c.make_test.new.table c.loop-rest.known grown.0 grown.1 c.loop-rest.invariant.1, (case_declared c.args.scope.now.sig (map formula_of c.args.scope.now.bodies) c.args.below c.args.env.now c.args.matched (reverse c.loop-rest.earlier.items) c.pattern_of-pattern.result (formula_of c.body_of-body.result.now) (cases_of_trees rest) c.loop-rest.table may, (first_may c.args.scope.now.sig (map formula_of c.args.scope.now.bodies) c.args.below c.args.env.now c.args.matched (reverse c.loop-rest.earlier.items) c.pattern_of-pattern.result (formula_of c.body_of-body.result.now) (cases_of_trees rest) c.in-Some.c (sym test_is ∙ c.in-Some.is) c.loop-rest.table c.make_test.new.table _ c.in_ok-condition.ensures.effect may, (c.requires.noted.0, case_notes c.args.scope.now.sig (worked_in c.args.definitions.now) (uses_below c.args.scope.now.sig (map formula_of c.args.scope.now.bodies) c.args.below) (reverse c.loop-rest.earlier.items) c.pattern_of-pattern.result (formula_of c.body_of-body.result.now) (cases_of_trees rest) c.loop-rest.left.now noted)))))
 
 pub compile_cases-returns-in_err-term-clause-outcome : goal.compile_cases-returns-in_err-term-clause-outcome
 compile_cases-returns-in_err-term-clause-outcome t c =
@@ -556,10 +556,10 @@ compile_cases-loop-rest-preserved t c =
     let whole = cases_is c.loop-rest.rest.now rest c.case-item.result c.pattern_of-pattern.result (formula_of c.body_of-body.result.now) (rest_item c.loop-rest.rest.now c.case-item.result c.in-len1-up.len_at_least c.case-item.is) c.pattern_of-pattern.ensures.value c.body_of-body.ensures.value in
     let split = subst (λ (cs : Cases). Chooses c.args.scope.now.sig (map formula_of c.args.scope.now.bodies) c.args.below c.args.table.now c.loop-rest.table c.args.env.now c.args.matched (cases_of_trees c.args.cases.now) c.loop-rest.made.items (reverse c.loop-rest.earlier.items) cs) whole c.loop-rest.invariant.0 in
     let test_is : c.tested.result ≡ tested_by c.args.scope.now.sig (reverse c.loop-rest.earlier.items) c.pattern_of-pattern.result (are_none (cases_of_trees rest)) = c.tested.ensures.value ∙ ap (λ (xs : List CtorId). tested_by c.args.scope.now.sig (reverse xs) c.pattern_of-pattern.result c.is_empty.result) c.as_slice.ensures.value ∙ ap (tested_by c.args.scope.now.sig (reverse c.loop-rest.earlier.items) c.pattern_of-pattern.result) (c.is_empty.ensures ∙ none_is rest) in
-    let noted = subst (λ (cs : Cases). CasesNoted c.args.scope.now.sig (uses_below c.args.scope.now.sig (map formula_of c.args.scope.now.bodies) c.args.below) (reverse c.loop-rest.earlier.items) cs c.loop-rest.left.now) whole c.loop-rest.invariant.2 in
+    let noted = subst (λ (cs : Cases). CasesNoted c.args.scope.now.sig (worked_in c.args.definitions.now) (uses_below c.args.scope.now.sig (map formula_of c.args.scope.now.bodies) c.args.below) (reverse c.loop-rest.earlier.items) cs c.loop-rest.left.now) whole c.loop-rest.invariant.2 in
     let longer : (reverse c.push-in-len1-up.new.self.items) ≡ c.in-Some.c ∷ (reverse c.loop-rest.earlier.items) = ap (λ (xs : List CtorId). reverse xs) c.in_ok-push-2.ensures.items ∙ reverse-append c.loop-rest.earlier.items (c.in-Some.c ∷ []) in
     let next = chooses_more c.args.scope.now.sig (map formula_of c.args.scope.now.bodies) c.args.below c.args.table.now c.loop-rest.table c.args.env.now c.args.matched (cases_of_trees c.args.cases.now) c.loop-rest.made.items (reverse c.loop-rest.earlier.items) c.pattern_of-pattern.result (formula_of c.body_of-body.result.now) (cases_of_trees rest) split c.compile_case-in-len1-up.new.table c.in-Some.c (record { condition = c.in_ok-condition.condition; body = c.in_ok-term.term }) (case_chosen c.args.scope.now.sig (map formula_of c.args.scope.now.bodies) c.args.below c.args.env.now c.args.matched (reverse c.loop-rest.earlier.items) c.pattern_of-pattern.result (formula_of c.body_of-body.result.now) (cases_of_trees rest) c.in-Some.c (sym test_is ∙ c.in-Some.is) c.loop-rest.table c.make_test.new.table _ c.in_ok-condition.ensures.effect c.compile_case-in-len1-up.new.table (Ok c.in_ok-term.term) c.in_ok-term.ensures.outcome c.in_ok-condition.condition c.in_ok-term.term c.in_ok-condition.ensures.core refl) in
-    (subst (λ (gs : List Guarded). Chooses c.args.scope.now.sig (map formula_of c.args.scope.now.bodies) c.args.below c.args.table.now c.compile_case-in-len1-up.new.table c.args.env.now c.args.matched (cases_of_trees c.args.cases.now) gs (reverse c.push-in-len1-up.new.self.items) (cases_of_trees rest)) (sym c.in_ok-push.ensures.items) (subst (λ (e : List CtorId). Chooses c.args.scope.now.sig (map formula_of c.args.scope.now.bodies) c.args.below c.args.table.now c.compile_case-in-len1-up.new.table c.args.env.now c.args.matched (cases_of_trees c.args.cases.now) (c.loop-rest.made.items ++ (record { condition = c.in_ok-condition.condition; body = c.in_ok-term.term }) ∷ []) e (cases_of_trees rest)) (sym longer) next), c.in_ok-term.ensures.state, subst (λ (e : List CtorId). CasesNoted c.args.scope.now.sig (uses_below c.args.scope.now.sig (map formula_of c.args.scope.now.bodies) c.args.below) e (cases_of_trees rest) c.later_notes-left.result.now) (sym longer) (subst (CasesNoted c.args.scope.now.sig (uses_below c.args.scope.now.sig (map formula_of c.args.scope.now.bodies) c.args.below) (c.in-Some.c ∷ (reverse c.loop-rest.earlier.items)) (cases_of_trees rest)) (sym c.later_notes-left.ensures.value) (later_cases c.args.scope.now.sig (uses_below c.args.scope.now.sig (map formula_of c.args.scope.now.bodies) c.args.below) (reverse c.loop-rest.earlier.items) c.pattern_of-pattern.result c.in-Some.c (formula_of c.body_of-body.result.now) (cases_of_trees rest) c.loop-rest.left.now (sym test_is ∙ c.in-Some.is) noted)))
+    (subst (λ (gs : List Guarded). Chooses c.args.scope.now.sig (map formula_of c.args.scope.now.bodies) c.args.below c.args.table.now c.compile_case-in-len1-up.new.table c.args.env.now c.args.matched (cases_of_trees c.args.cases.now) gs (reverse c.push-in-len1-up.new.self.items) (cases_of_trees rest)) (sym c.in_ok-push.ensures.items) (subst (λ (e : List CtorId). Chooses c.args.scope.now.sig (map formula_of c.args.scope.now.bodies) c.args.below c.args.table.now c.compile_case-in-len1-up.new.table c.args.env.now c.args.matched (cases_of_trees c.args.cases.now) (c.loop-rest.made.items ++ (record { condition = c.in_ok-condition.condition; body = c.in_ok-term.term }) ∷ []) e (cases_of_trees rest)) (sym longer) next), c.in_ok-term.ensures.state, subst (λ (e : List CtorId). CasesNoted c.args.scope.now.sig (worked_in c.args.definitions.now) (uses_below c.args.scope.now.sig (map formula_of c.args.scope.now.bodies) c.args.below) e (cases_of_trees rest) c.later_notes-left.result.now) (sym longer) (subst (CasesNoted c.args.scope.now.sig (worked_in c.args.definitions.now) (uses_below c.args.scope.now.sig (map formula_of c.args.scope.now.bodies) c.args.below) (c.in-Some.c ∷ (reverse c.loop-rest.earlier.items)) (cases_of_trees rest)) (sym c.later_notes-left.ensures.value) (later_cases c.args.scope.now.sig (worked_in c.args.definitions.now) (uses_below c.args.scope.now.sig (map formula_of c.args.scope.now.bodies) c.args.below) (reverse c.loop-rest.earlier.items) c.pattern_of-pattern.result c.in-Some.c (formula_of c.body_of-body.result.now) (cases_of_trees rest) c.loop-rest.left.now (sym test_is ∙ c.in-Some.is) noted)))
 
 pub compile_cases-unreachable-requires : goal.compile_cases-unreachable-requires
 compile_cases-unreachable-requires t c =
@@ -586,24 +586,25 @@ compile_case-returns-clause-outcome t c =
     subst (λ (xs : List Bound). Compiles c.args.scope.now.sig (map formula_of c.args.scope.now.bodies) c.args.below c.args.table.now c.compile_tree.new.table xs (formula_of c.args.body.now) c.compile_tree.result) inner_is c.compile_tree.ensures.outcome
 
 pub compile_plain-first_note-note-requires : goal.compile_plain-first_note-note-requires
-compile_plain-first_note-note-requires t c = record { some = first_inside (IsNoted c.args.scope.now.sig (uses_below c.args.scope.now.sig (map formula_of c.args.scope.now.bodies) c.args.below) (formula_of c.args.tree.now)) c.args.notes.now c.requires.noted.1 }
+compile_plain-first_note-note-requires t c = record { some = first_inside (IsNoted c.args.scope.now.sig (worked_in c.args.definitions.now) (uses_below c.args.scope.now.sig (map formula_of c.args.scope.now.bodies) c.args.below) (formula_of c.args.tree.now)) c.args.notes.now c.requires.noted.1 }
 
 pub compile_choice-first_note-note-requires : goal.compile_choice-first_note-note-requires
-compile_choice-first_note-note-requires t c = record { some = first_inside (IsNoted c.args.scope.now.sig (uses_below c.args.scope.now.sig (map formula_of c.args.scope.now.bodies) c.args.below) (Ite (formula_of c.args.condition.now) (formula_of c.args.first.now) (formula_of c.args.second.now))) c.args.notes.now c.requires.noted.1 }
+compile_choice-first_note-note-requires t c = record { some = first_inside (IsNoted c.args.scope.now.sig (worked_in c.args.definitions.now) (uses_below c.args.scope.now.sig (map formula_of c.args.scope.now.bodies) c.args.below) (Ite (formula_of c.args.condition.now) (formula_of c.args.first.now) (formula_of c.args.second.now))) c.args.notes.now c.requires.noted.1 }
 
 pub compile_let-first_note-note-requires : goal.compile_let-first_note-note-requires
-compile_let-first_note-note-requires t c = record { some = first_inside (IsNoted c.args.scope.now.sig (uses_below c.args.scope.now.sig (map formula_of c.args.scope.now.bodies) c.args.below) (Let (formulas_of_trees c.args.trees.now) (formula_of c.args.body.now))) c.args.notes.now c.requires.noted.1 }
+compile_let-first_note-note-requires t c = record { some = first_inside (IsNoted c.args.scope.now.sig (worked_in c.args.definitions.now) (uses_below c.args.scope.now.sig (map formula_of c.args.scope.now.bodies) c.args.below) (Let (formulas_of_trees c.args.trees.now) (formula_of c.args.body.now))) c.args.notes.now c.requires.noted.1 }
 
 pub compile_call-first_note-note-requires : goal.compile_call-first_note-note-requires
-compile_call-first_note-note-requires t c = record { some = first_inside (IsNoted c.args.scope.now.sig (uses_below c.args.scope.now.sig (map formula_of c.args.scope.now.bodies) c.args.below) (Def c.args.k (formulas_of_trees c.args.trees.now))) c.args.notes.now c.requires.noted.1 }
+compile_call-first_note-note-requires t c = record { some = first_inside (IsNoted c.args.scope.now.sig (worked_in c.args.definitions.now) (uses_below c.args.scope.now.sig (map formula_of c.args.scope.now.bodies) c.args.below) (Def c.args.k (formulas_of_trees c.args.trees.now))) c.args.notes.now c.requires.noted.1 }
 
 pub compile_match-first_note-note-requires : goal.compile_match-first_note-note-requires
-compile_match-first_note-note-requires t c = record { some = first_inside (IsNoted c.args.scope.now.sig (uses_below c.args.scope.now.sig (map formula_of c.args.scope.now.bodies) c.args.below) (Match (formula_of c.args.tree.now) (cases_of_trees c.args.cases.now))) c.args.notes.now c.requires.noted.1 }
+compile_match-first_note-note-requires t c = record { some = first_inside (IsNoted c.args.scope.now.sig (worked_in c.args.definitions.now) (uses_below c.args.scope.now.sig (map formula_of c.args.scope.now.bodies) c.args.below) (Match (formula_of c.args.tree.now) (cases_of_trees c.args.cases.now))) c.args.notes.now c.requires.noted.1 }
 
 pub compile_match-first_flag-occurs-requires : goal.compile_match-first_flag-occurs-requires
-compile_match-first_flag-occurs-requires t c = record { some = match_inside c.args.scope.now.sig (uses_below c.args.scope.now.sig (map formula_of c.args.scope.now.bodies) c.args.below) c.args.notes.now c.first_note-note.result.now c.first_note-note.ensures.value (formula_of c.args.tree.now) (cases_of_trees c.args.cases.now) c.bound.result.now c.bound.ensures.value c.requires.noted.1 }
+compile_match-first_flag-occurs-requires t c = record { some = match_inside c.args.scope.now.sig (worked_in c.args.definitions.now) (uses_below c.args.scope.now.sig (map formula_of c.args.scope.now.bodies) c.args.below) c.args.notes.now c.first_note-note.result.now c.first_note-note.ensures.value (formula_of c.args.tree.now) (cases_of_trees c.args.cases.now) c.bound.result.now c.bound.ensures.value c.requires.noted.1 }
 
 pub compile_call-notes_at-body_notes-requires : goal.compile_call-notes_at-body_notes-requires
-compile_call-notes_at-body_notes-requires t c =
-    let noted = c.requires.noted.0 c.args.k.0 (formula_of c.body_at-body.result.now) c.body_at-body.ensures.value in
-    record { inside = slice_get_within c.args.definitions.now c.args.k.0 noted.0 noted.1 }
+compile_call-notes_at-body_notes-requires t c = record { known = call_known c.args.scope.now.sig (worked_in c.args.definitions.now) (uses_below c.args.scope.now.sig (map formula_of c.args.scope.now.bodies) c.args.below) c.args.k (formulas_of_trees c.args.trees.now) c.args.notes.now c.requires.noted.1 }
+
+pub compile_call-row_at-row-requires : goal.compile_call-row_at-row-requires
+compile_call-row_at-row-requires t c = record { known = call_known c.args.scope.now.sig (worked_in c.args.definitions.now) (uses_below c.args.scope.now.sig (map formula_of c.args.scope.now.bodies) c.args.below) c.args.k (formulas_of_trees c.args.trees.now) c.args.notes.now c.requires.noted.1 }

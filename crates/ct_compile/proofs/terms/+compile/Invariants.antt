@@ -3,6 +3,7 @@ use Rattle.ct_terms.specs.TreeFormula.{formula_of, formulas_of_trees}
 use Rattle.ct_terms.specs.Occurrence.{uses_below}
 use Rattle.ct_compile.specs.Noted.{AreNoted, AreNotedWhere, CasesNoted}
 use Rattle.ct_compile.specs.Calling.{IsState}
+use Rattle.ct_compile.specs.Marks.{worked_in}
 use Rattle.ct_compile.specs.CaseFormula.{cases_of_trees}
 use Rattle.ct_compile.specs.Weight.{weight, weights, case_weights, weights_below}
 use Rattle.ct_compile.proofs.BindingLemmas.{Completes}
@@ -38,13 +39,13 @@ abbrev pub decreases-compile_cases : goal.decreases-compile_cases
 decreases-compile_cases l = case_weights (weights_below (map formula_of l.scope.now.bodies) l.below) (cases_of_trees l.cases.now)
 
 abbrev pub invariant-compile_all-loop-rest : goal.invariant-compile_all-loop-rest
-invariant-compile_all-loop-rest l = Collects l.scope.sig (map formula_of l.scope.bodies) l.below l.initial.table l.table l.env l.operator (formulas_of_trees l.trees) l.args l.lead (formulas_of_trees l.rest) × IsState l.scope.sig (map formula_of l.scope.bodies) l.below l.rows l.table l.known × AreNoted l.scope.sig (uses_below l.scope.sig (map formula_of l.scope.bodies) l.below) (formulas_of_trees l.rest) l.left
+invariant-compile_all-loop-rest l = Collects l.scope.sig (map formula_of l.scope.bodies) l.below l.initial.table l.table l.env l.operator (formulas_of_trees l.trees) l.args l.lead (formulas_of_trees l.rest) × IsState l.scope.sig (map formula_of l.scope.bodies) l.below (worked_in l.definitions) l.table l.known × AreNoted l.scope.sig (worked_in l.definitions) (uses_below l.scope.sig (map formula_of l.scope.bodies) l.below) (formulas_of_trees l.rest) l.left
 
 abbrev pub decreases-compile_all-loop-rest : goal.decreases-compile_all-loop-rest
 decreases-compile_all-loop-rest l = length l.rest
 
 abbrev pub invariant-compile_bound-loop-rest : goal.invariant-compile_bound-loop-rest
-invariant-compile_bound-loop-rest l = Completes l.scope.sig (map formula_of l.scope.bodies) l.below l.initial.table l.table l.env l.flags (formulas_of_trees l.trees) l.bounds.items l.left (formulas_of_trees l.rest) × IsState l.scope.sig (map formula_of l.scope.bodies) l.below l.rows l.table l.known × AreNotedWhere l.scope.sig (uses_below l.scope.sig (map formula_of l.scope.bodies) l.below) l.left (formulas_of_trees l.rest) l.noted
+invariant-compile_bound-loop-rest l = Completes l.scope.sig (map formula_of l.scope.bodies) l.below l.initial.table l.table l.env l.flags (formulas_of_trees l.trees) l.bounds.items l.left (formulas_of_trees l.rest) × IsState l.scope.sig (map formula_of l.scope.bodies) l.below (worked_in l.definitions) l.table l.known × AreNotedWhere l.scope.sig (worked_in l.definitions) (uses_below l.scope.sig (map formula_of l.scope.bodies) l.below) l.left (formulas_of_trees l.rest) l.noted
 
 abbrev pub decreases-compile_bound-loop-rest : goal.decreases-compile_bound-loop-rest
 decreases-compile_bound-loop-rest l = length l.rest
@@ -53,7 +54,7 @@ abbrev pub decreases-compile_case : goal.decreases-compile_case
 decreases-compile_case l = weight (weights_below (map formula_of l.scope.now.bodies) l.below) (formula_of l.body.now) + 1
 
 abbrev pub invariant-compile_cases-loop-rest : goal.invariant-compile_cases-loop-rest
-invariant-compile_cases-loop-rest l = Chooses l.scope.sig (map formula_of l.scope.bodies) l.below l.initial.table l.table l.env l.matched (cases_of_trees l.cases) l.made.items (reverse l.earlier.items) (cases_of_trees l.rest) × IsState l.scope.sig (map formula_of l.scope.bodies) l.below l.rows l.table l.known × CasesNoted l.scope.sig (uses_below l.scope.sig (map formula_of l.scope.bodies) l.below) (reverse l.earlier.items) (cases_of_trees l.rest) l.left
+invariant-compile_cases-loop-rest l = Chooses l.scope.sig (map formula_of l.scope.bodies) l.below l.initial.table l.table l.env l.matched (cases_of_trees l.cases) l.made.items (reverse l.earlier.items) (cases_of_trees l.rest) × IsState l.scope.sig (map formula_of l.scope.bodies) l.below (worked_in l.definitions) l.table l.known × CasesNoted l.scope.sig (worked_in l.definitions) (uses_below l.scope.sig (map formula_of l.scope.bodies) l.below) (reverse l.earlier.items) (cases_of_trees l.rest) l.left
 
 abbrev pub decreases-compile_cases-loop-rest : goal.decreases-compile_cases-loop-rest
 decreases-compile_cases-loop-rest l = length l.rest
