@@ -1,0 +1,9 @@
+pub mod ListLemmas
+pub mod GraphLemmas
+pub mod TermLemmas
+pub mod ClassLemmas
+pub mod DefaultLemmas
+pub mod ValueLemmas
+pub mod TableLemmas
+pub mod PointLemmas
+pub mod ListedLemmas

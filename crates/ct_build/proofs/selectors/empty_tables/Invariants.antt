@@ -1,0 +1,11 @@
+use Rattle.std.proofs.Common.{◌≡◌, length}
+use Rattle.ct_values.specs.Graph.{Nodes}
+use Rattle.ct_build.specs.Nodes.{AreOfAllSorts}
+use Rattle.ct_build.proofs.TableLemmas.{HasFirstSelectors}
+use Rattle.ct_build.proofs.selectors.empty_tables.Given as goal
+
+abbrev pub invariant-loop-s : goal.invariant-loop-s
+invariant-loop-s l = record {
+  many : length l.tables.items ≡ l.s;
+  selectors : (g : Nodes) → AreOfAllSorts l.sig g l.defaults → HasFirstSelectors l.sig g l.s l.tables.items;
+}

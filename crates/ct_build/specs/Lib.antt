@@ -1,0 +1,3 @@
+pub mod Assignment
+pub mod Nodes
+pub mod Tables

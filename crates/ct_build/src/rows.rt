@@ -1,0 +1,59 @@
+//! Tables, row by row.
+ghost use Rattle.std.specs.Prelude.{◌≡◌, ◌<◌, length, Some, slice_get, slice_set, OnOk};
+ghost use Rattle.ct_eval.specs.declared.interp.Table.{Table};
+ghost use Rattle.ct_build.specs.Tables.{with_row, AddsFirst};
+
+use crate::error::BuildError;
+use ct_eval::{Row, Rows, Table};
+use ct_values::{NodeId, NodeIds};
+use indexmap::IndexSet;
+use std::alloc::Global;
+use std::mem;
+
+/// The table of a row, and its arguments.
+#[derive(Debug, Drop, PartialEq, Eq, Hash)]
+pub(crate) struct RowKey {
+    table: u32,
+    args: NodeIds,
+}
+
+/// Puts the row at the end of the table with this number, unless there was one for its arguments.
+pub(crate) fn add_first(
+    alloc: Global,
+    seen: &mut IndexSet<RowKey>,
+    tables: &mut Vec<Table>,
+    number: u32,
+    row: Row,
+) -> Result<(), BuildError>
+    requires within { number < length tables.old.items }
+    ensures added { OnOk result (AddsFirst tables.old.items tables.new.items number row) }
+{
+    let args = NodeIds::from_slice(alloc, row.args.as_slice())?;
+    let (_, new) = seen.insert_full(RowKey {
+        table: number,
+        args,
+    })?;
+    if new {
+        add_row(alloc, tables, number, row)?;
+    }
+    Ok(())
+}
+
+// Puts the row at the end of the table with this number.
+fn add_row(alloc: Global, tables: &mut Vec<Table>, number: u32, row: Row) -> Result<(), BuildError>
+    requires within { number < length tables.old.items }
+    ensures added { OnOk result ((table : Table) × (slice_get tables.old.items number ≡ Some table) × (tables.new.items ≡ slice_set tables.old.items number (with_row table row))) }
+{
+    let empty = Table {
+        rows: Rows::new(Vec::new(alloc)),
+        default: NodeId(0),
+    };
+    let table = mem::replace(&mut tables[number as usize], empty);
+    let mut rows = table.rows.into_vec();
+    rows.push(row)?;
+    tables[number as usize] = Table {
+        rows: Rows::new(rows),
+        default: table.default,
+    };
+    Ok(())
+}
