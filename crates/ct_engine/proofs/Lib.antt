@@ -1,0 +1,15 @@
+pub mod ListLemmas
+pub mod ValuedLemmas
+pub mod MoveLemmas
+pub mod ReplayLemmas
+pub mod AccountLemmas
+pub mod AnswerLemmas
+pub mod ModelLemmas
+pub mod CountLemmas
+pub mod TaskLemmas
+pub mod LineLemmas
+pub mod LearnLemmas
+pub mod OutcomeLemmas
+pub mod ResolveLemmas
+pub mod PrepareLemmas
+pub mod TruthLemmas

@@ -1,0 +1,36 @@
+use Rattle.ct_engine.proofs.answer.conclude.Goals as goal
+
+pub refutation_of-requires-clause-ends : goal.refutation_of-requires-clause-ends
+refutation_of-requires-clause-ends c = rw c.in-Refuted.is at c.requires.ended
+
+pub spending_of-requires-clause-under_way : goal.spending_of-requires-clause-under_way
+spending_of-requires-clause-under_way c = let h = rw c.in-Spent.is at c.requires.ended in h.0
+
+pub spending_of-requires-clause-quiet : goal.spending_of-requires-clause-quiet
+spending_of-requires-clause-quiet c = let h = rw c.in-Spent.is at c.requires.ended in h.1
+
+pub spending_of-requires-clause-lacking : goal.spending_of-requires-clause-lacking
+spending_of-requires-clause-lacking c = let h = rw c.in-Spent.is at c.requires.ended in h.2
+
+pub spending_of-requires-clause-spent : goal.spending_of-requires-clause-spent
+spending_of-requires-clause-spent c = let h = rw c.in-Spent.is at c.requires.ended in h.3
+
+pub candidate_of-requires-clause-under_way : goal.candidate_of-requires-clause-under_way
+candidate_of-requires-clause-under_way c = let h = rw c.in-Saturated.is at c.requires.ended in h.0
+
+pub candidate_of-requires-clause-quiet : goal.candidate_of-requires-clause-quiet
+candidate_of-requires-clause-quiet c = let h = rw c.in-Saturated.is at c.requires.ended in h.1
+
+pub candidate_of-requires-clause-all : goal.candidate_of-requires-clause-all
+candidate_of-requires-clause-all c = let h = rw c.in-Saturated.is at c.requires.ended in h.2
+
+pub candidate_of-requires-clause-saturation : goal.candidate_of-requires-clause-saturation
+candidate_of-requires-clause-saturation c = let h = rw c.in-Saturated.is at c.requires.ended in h.3
+
+pub returns-in-Spent-clause-outcome : goal.returns-in-Spent-clause-outcome
+returns-in-Spent-clause-outcome c =
+    c.spending_of.ensures.spending c.args.sig.now c.args.table.now c.args.asserts.now c.requires.task
+
+pub returns-in_ok-candidate-in-Saturated-clause-outcome : goal.returns-in_ok-candidate-in-Saturated-clause-outcome
+returns-in_ok-candidate-in-Saturated-clause-outcome c =
+    c.in_ok-candidate-in-Saturated.ensures.candidate c.args.sig.now c.args.table.now c.args.asserts.now c.args.budget c.requires.task

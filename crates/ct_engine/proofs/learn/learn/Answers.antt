@@ -1,0 +1,74 @@
+use Rattle.std.proofs.Common.{◌≡◌, [], refl, sym, ap, subst, ◌∙◌}
+use Rattle.ct_log.specs.declared.line.Line.{Line}
+use Rattle.ct_log.specs.declared.line.Step.TheVariants as step
+use Rattle.ct_log.specs.Recorded.{Derived}
+use Rattle.ct_sat.specs.State.{SearchState}
+use Rattle.ct_engine.specs.declared.course.Course.{Course}
+use Rattle.ct_engine.specs.Progress.{TakesBack}
+use Rattle.ct_engine.proofs.MoveLemmas.{fresh_line}
+use Rattle.ct_engine.proofs.LineLemmas.{accepted_empty}
+use Rattle.ct_engine.proofs.LearnLemmas.{takes_back, learned_task}
+use Rattle.ct_engine.proofs.learn.learn.Goals as goal
+
+pub learn-requires-clause-fresh : goal.learn-requires-clause-fresh
+learn-requires-clause-fresh c =
+    let course = c.args.course.now in
+    fresh_line course.search.clauses course.derivation.rec.lines c.next_number-number.result c.next_number-number.ensures.number c.requires.under_way.numbered
+
+pub record_learned-requires-clause-learned : goal.record_learned-requires-clause-learned
+record_learned-requires-clause-learned c =
+    let course = c.args.course.now in
+    let learned = rw c.in-Clause.is at c.in_ok-lits.ensures.learned in
+    (course.search, c.requires.under_way, c.trail-trail.ensures.sound, c.args.conflict, c.requires.conflict, learned)
+
+pub push-requires : goal.push-requires
+push-requires c =
+    let course = c.args.course.now in
+    let learned = rw c.in-Empty.is at c.in_ok-lits.ensures.learned in
+    let empty : c.new-clause.result ≡ [] = cc in
+    record { accepted = rw empty (accepted_empty c.learned_clauses_follow.ensures.listed course.search course.derivation course.moves.items c.in-Empty.hints c.requires.under_way learned.follows) }
+
+pub returns-in_ok-record_learned-in-Clause-clause-same : goal.returns-in_ok-record_learned-in-Clause-clause-same
+returns-in_ok-record_learned-in-Clause-clause-same c =
+    let course = c.args.course.now in
+    let learned = rw c.in-Clause.is at c.in_ok-lits.ensures.learned in
+    let second : Course = record course { search = c.learn.new.self } in
+    learned_task course second c.record_learned.new.course c.next_number-number.result c.in-Clause.lits c.in-Clause.hints c.in-Clause.keep learned refl refl c.in_ok-record_learned-in-Clause.ensures.same
+
+pub returns-in_ok-record_learned-in-Clause-clause-learned : goal.returns-in_ok-record_learned-in-Clause-clause-learned
+returns-in_ok-record_learned-in-Clause-clause-learned c =
+    let course = c.args.course.now in
+    let learned = rw c.in-Clause.is at c.in_ok-lits.ensures.learned in
+    let back = takes_back course.search c.learn.new.self c.next_number-number.result c.in-Clause.lits c.in-Clause.hints c.in-Clause.keep learned in (
+      c.in_ok-record_learned-in-Clause.ensures.under_way,
+      subst (λ (s : SearchState). TakesBack course.search s) (sym c.in_ok-record_learned-in-Clause.ensures.search) back,
+    )
+
+pub returns-in_ok-record_learned-in-Clause-clause-counted : goal.returns-in_ok-record_learned-in-Clause-clause-counted
+returns-in_ok-record_learned-in-Clause-clause-counted c =
+    let learned = rw c.in-Clause.is at c.in_ok-lits.ensures.learned in
+    ap (λ (s : SearchState). s.count) c.in_ok-record_learned-in-Clause.ensures.search ∙ ap (λ (s : SearchState). s.count) learned.after
+
+pub returns-in_ok-push-in-Empty-clause-same : goal.returns-in_ok-push-in-Empty-clause-same
+returns-in_ok-push-in-Empty-clause-same c =
+    let learned = rw c.in-Empty.is at c.in_ok-lits.ensures.learned in
+    record {
+      declarations = ap (λ (x : Derived). x.declarations) c.in_ok-push-in-Empty.ensures.ok;
+      terms = ap (λ (x : Derived). x.rec.terms) c.in_ok-push-in-Empty.ensures.ok;
+      asserts = ap (λ (x : Derived). x.asserts) c.in_ok-push-in-Empty.ensures.ok;
+      over = ap (λ (s : SearchState). s.variables) learned.after;
+      budget = ap (λ (s : SearchState). s.budget) learned.after;
+      variables = refl;
+    }
+
+pub returns-in_ok-push-in-Empty-clause-learned : goal.returns-in_ok-push-in-Empty-clause-learned
+returns-in_ok-push-in-Empty-clause-learned c =
+    let course = c.args.course.now in
+    let line : Line = record { clause = c.new-clause.result; step = step.Learn c.in-Empty.hints } in
+    let empty : c.new-clause.result ≡ [] = cc in
+    (course.derivation.rec.lines, line, ap (λ (x : Derived). x.rec.lines) c.in_ok-push-in-Empty.ensures.ok, empty)
+
+pub returns-in_ok-push-in-Empty-clause-counted : goal.returns-in_ok-push-in-Empty-clause-counted
+returns-in_ok-push-in-Empty-clause-counted c =
+    let learned = rw c.in-Empty.is at c.in_ok-lits.ensures.learned in
+    ap (λ (s : SearchState). s.count) learned.after

@@ -1,0 +1,5 @@
+pub mod Moves
+pub mod Saturated
+pub mod Verdict
+pub mod Progress
+pub mod Theorems

@@ -1,0 +1,142 @@
+-- A search under way: how its clauses, its derivation and the record of its moves belong together, and how it ends.
+use Rattle.std.specs.Prelude.{◌≡◌, ◌↔◌, ℕ, ◌+◌, ◌<◌, ◌≤◌, List, ◌++◌, length, take, All, Contains, Some, slice_get, count_by}
+use Rattle.ct_sorts.specs.Declarations.{Declarations}
+use Rattle.ct_sorts.specs.Grown.{Begins}
+use Rattle.ct_terms.specs.declared.ids.TermId.{TermId}
+use Rattle.ct_terms.specs.Clause.{Clause}
+use Rattle.ct_terms.specs.Terms.{Terms, AreSorted}
+use Rattle.ct_terms.specs.CoreTree.{CoreTree}
+use Rattle.ct_closure.specs.Closed.{InClosure, HasVariables}
+use Rattle.ct_closure.specs.ClosedTable.{Stands, IsClosedTable, AreRising, ClosureValue, terms_at}
+use Rattle.ct_log.specs.declared.line.Line.{Line}
+use Rattle.ct_log.specs.Acceptance.{clauses_of}
+use Rattle.ct_log.specs.Recorded.{Derived}
+use Rattle.ct_sat.specs.declared.decided.Decided.{Decided}
+use Rattle.ct_sat.specs.State.{SearchState, clauses_of as clauses_in, literals_of, begun, AreVariables, IsQuiet, HaveValues, LacksValue}
+use Rattle.ct_sat.specs.Learning.{StandAtSteps}
+use Rattle.ct_checker.specs.Rejection.{EndsEmpty}
+use Rattle.ct_clauses.specs.Initial.{AreInitialLines, AreSplitTerms}
+use Rattle.ct_theory.specs.Entailment.{IsSaturation}
+use Rattle.ct_engine.specs.declared.verdict.Move.{Move}
+use Rattle.ct_engine.specs.declared.course.Course.{Course}
+use Rattle.ct_engine.specs.declared.outcome.Settled.{Settled}
+use Rattle.ct_engine.specs.declared.outcome.Settled.TheVariants as settled
+use Rattle.ct_engine.specs.declared.outcome.Ending.{Ending}
+use Rattle.ct_engine.specs.declared.outcome.Ending.TheVariants as ending
+use Rattle.ct_engine.specs.declared.outcome.Candidate.{Candidate}
+use Rattle.ct_engine.specs.declared.outcome.Outcome.{Outcome}
+use Rattle.ct_engine.specs.declared.outcome.Outcome.TheVariants as outcome
+use Rattle.ct_engine.specs.Moves.{Choice, Replay, AreValued, IsTaught, AreLegal, first_state, is_decision, decisions_of}
+use Rattle.ct_engine.specs.Saturated.{IsSaturated}
+use Rattle.ct_engine.specs.Verdict.{IsRefutation, IsSpending}
+
+-- the state is that of the search: it has its clauses and decisions, and beside each decision the variables with a value in the
+-- part of the trail before it
+pub record IsReplayOf (search : SearchState) (replay : Replay) : Type 0 where
+  pub clauses : replay.clauses ≡ clauses_in search.clauses
+  pub decided : decisions_of replay.decided ≡ literals_of search.decided
+  pub valued : (k : ℕ) (choice : Choice) (d : Decided) → slice_get replay.decided k ≡ Some choice → slice_get search.decided k ≡ Some d
+      → AreValued search.variables (Contains (take d.index search.trail)) choice.valued
+
+-- the lines are the initial lines and then those of clauses that were added, each clause of the search has the number of its
+-- line, and the moves are legal and led to the state of the search
+pub record IsAccounted (search : SearchState) (derived : Derived) (moves : List Move) : Type 0 where
+  pub variables : AreVariables derived.rec.terms search.variables
+  pub initial : List Line
+  pub taught : List Line
+  pub in_order : derived.rec.lines ≡ initial ++ taught
+  pub are_initial : AreInitialLines derived.declarations derived.rec.terms derived.asserts initial
+  pub are_taught : All (λ line. IsTaught line.step) taught
+  pub numbered : StandAtSteps search.clauses (clauses_of derived.rec.lines)
+  pub stored : (clause : Clause) → Contains (clauses_of initial) clause → Contains (clauses_in search.clauses) clause
+  pub replay : Replay
+  pub replays : IsReplayOf search replay
+  pub legal : AreLegal search.variables derived.rec.lines (first_state initial) moves replay
+  pub counted : count_by is_decision moves ≡ search.count
+
+abbrev pub IsUnderWay : Course → Type 0
+IsUnderWay course = IsAccounted course.search course.derivation course.moves.items
+
+-- both are of the same declarations, terms, assertions, variables and budget
+pub record IsOfOneTask (old new : Course) : Type 0 where
+  pub declarations : new.derivation.declarations ≡ old.derivation.declarations
+  pub terms : new.derivation.rec.terms ≡ old.derivation.rec.terms
+  pub asserts : new.derivation.asserts ≡ old.derivation.asserts
+  pub over : new.search.variables ≡ old.search.variables
+  pub budget : new.search.budget ≡ old.search.budget
+  pub variables : new.variables ≡ old.variables
+
+-- a conflict took back some decision, and none was made
+pub record TakesBack (old new : SearchState) : Type 0 where
+  pub counted : new.count ≡ old.count
+  pub fewer : length new.decided < length old.decided
+
+-- one decision more was made, of those that are allowed
+pub record IsCounted (old new : SearchState) : Type 0 where
+  pub counted : new.count ≡ old.count + 1
+  pub allowed : new.count ≤ new.budget
+
+-- how a search stands once its conflicts are resolved
+abbrev pub IsSettled : Course → Settled → Type 0
+IsSettled course settled.Refuted = EndsEmpty course.derivation.rec.lines
+IsSettled course (settled.Saturated classes order) =
+    IsUnderWay course × IsQuiet course.search
+    × IsSaturation course.derivation.declarations course.derivation.rec.terms course.search.trail classes.value order.reps.items
+
+-- how a search ends
+abbrev pub IsEnded : Course → Ending → Type 0
+IsEnded course ending.Refuted = EndsEmpty course.derivation.rec.lines
+IsEnded course ending.Spent = IsUnderWay course × IsQuiet course.search × LacksValue course.search × (course.search.count ≡ course.search.budget)
+IsEnded course (ending.Saturated classes order) =
+    IsUnderWay course × IsQuiet course.search × HaveValues course.search
+    × IsSaturation course.derivation.declarations course.derivation.rec.terms course.search.trail classes.value order.reps.items
+
+-- the derivation is over these declarations, its terms are exactly the closure of the assertions, which it has, and so many of
+-- them are variables; they are well sorted and closed
+pub record IsTaskOf (d : Declarations) (table : Terms) (asserts : List TermId) (budget : ℕ) (course : Course) : Type 0 where
+  pub declarations : course.derivation.declarations ≡ d
+  pub asserted : terms_at course.derivation.rec.terms course.derivation.asserts ≡ terms_at table asserts
+  pub closure : (t : CoreTree) → Stands course.derivation.rec.terms t ↔ InClosure d (terms_at table asserts) t
+  pub variables : HasVariables d (terms_at table asserts) course.variables
+  pub budget_is : course.search.budget ≡ budget
+  pub sorted : AreSorted d course.derivation.rec.terms
+  pub is_closed : IsClosedTable d course.derivation.rec.terms
+
+-- the table holds exactly the closure of the assertions of the old one, and these are what is known of it beside
+pub record IsClosureOf (d : Declarations) (table : Terms) (asserts : List TermId) (closed : Terms) (closure : ClosureValue) : Type 0 where
+  pub grown : Begins table closed
+  pub sorted : AreSorted d closed
+  pub exact : (t : CoreTree) → Stands closed t ↔ InClosure d (terms_at table asserts) t
+  pub is_closed : IsClosedTable d closed
+  pub split : AreSplitTerms d closed closure.split
+  pub rising : AreRising closure.split
+  pub variables : HasVariables d (terms_at table asserts) closure.variables
+
+-- the derivation is over these declarations, terms and assertions, and has exactly the initial lines
+pub record IsBegunOver (d : Declarations) (terms : Terms) (asserts : List TermId) (derived : Derived) : Type 0 where
+  pub declarations : derived.declarations ≡ d
+  pub terms_are : derived.rec.terms ≡ terms
+  pub asserts_are : derived.asserts ≡ asserts
+  pub lines : AreInitialLines d terms asserts derived.rec.lines
+
+-- the search has the clauses of the lines, each with the number of its line, and has done nothing
+pub record IsSearchOver (derived : Derived) (budget : ℕ) (search : SearchState) : Type 0 where
+  pub variables : AreVariables derived.rec.terms search.variables
+  pub clauses : clauses_in search.clauses ≡ clauses_of derived.rec.lines
+  pub numbered : StandAtSteps search.clauses (clauses_of derived.rec.lines)
+  pub only_begun : search ≡ record (begun search.variables budget) { clauses = search.clauses }
+
+-- the table holds exactly the closure of the assertions of the old one, the literals decide it, and the classes are exactly
+-- what they entail
+pub record IsCandidate (d : Declarations) (table : Terms) (asserts : List TermId) (candidate : Candidate) : Type 0 where
+  pub numbers : List TermId
+  pub saturated : IsSaturated d (terms_at table asserts) candidate.table numbers candidate.literals
+  pub sorted : AreSorted d candidate.table
+  pub is_closed : IsClosedTable d candidate.table
+  pub saturation : IsSaturation d candidate.table candidate.literals candidate.classes.value candidate.order.reps.items
+
+-- what each outcome says
+abbrev pub IsOutcome : Declarations → Terms → List TermId → ℕ → Outcome → Type 0
+IsOutcome d table asserts budget (outcome.Unsat derived) = IsRefutation d table asserts derived
+IsOutcome d table asserts budget (outcome.Unknown spent) = IsSpending d table asserts budget spent
+IsOutcome d table asserts budget (outcome.Candidate candidate) = IsCandidate d table asserts candidate

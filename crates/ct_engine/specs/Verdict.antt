@@ -1,0 +1,57 @@
+-- What each verdict on assertions says, which are terms of a table.
+use Rattle.std.specs.Prelude.{◌≡◌, ◌↔◌, ℕ, false, List, Some, slice_get}
+use Rattle.ct_sorts.specs.Declarations.{Declarations}
+use Rattle.ct_terms.specs.declared.ids.TermId.{TermId}
+use Rattle.ct_terms.specs.declared.ids.Lit.{Lit}
+use Rattle.ct_terms.specs.Terms.{Terms}
+use Rattle.ct_terms.specs.CoreTree.{CoreTree}
+use Rattle.ct_closure.specs.Closed.{InClosure, HasVariables}
+use Rattle.ct_closure.specs.ClosedTable.{Stands, terms_at}
+use Rattle.ct_eval.specs.declared.interp.Interp.{Interp}
+use Rattle.ct_eval.specs.Interpretation.{IsProper}
+use Rattle.ct_eval.specs.Truth.{Holds, truth_of}
+use Rattle.ct_log.specs.Acceptance.{Passes}
+use Rattle.ct_log.specs.Recorded.{Derived}
+use Rattle.ct_engine.specs.declared.verdict.Spent.{Spent}
+use Rattle.ct_engine.specs.declared.verdict.Verdict.{Verdict}
+use Rattle.ct_engine.specs.declared.verdict.Verdict.TheVariants.{Sat, Unsat, Unknown, Stuck}
+use Rattle.ct_engine.specs.Moves.{IsSpentRecord}
+use Rattle.ct_engine.specs.Saturated.{IsSaturated}
+
+-- the assertions hold in a proper interpretation
+pub record IsModel (d : Declarations) (table : Terms) (asserts : List TermId) (i : Interp) : Type 0 where
+  pub proper : IsProper d i
+  pub holds : Holds d i table asserts
+
+-- the derivation is over these declarations and the same assertions, in order, and passes; and the assertions hold in no
+-- proper interpretation
+pub record IsRefutation (d : Declarations) (table : Terms) (asserts : List TermId) (derived : Derived) : Type 0 where
+  pub declarations : derived.declarations ≡ d
+  pub asserted : terms_at derived.rec.terms derived.asserts ≡ terms_at table asserts
+  pub passes : Passes d derived.rec.terms derived.asserts derived.rec.lines
+  pub no_model : (i : Interp) → IsProper d i → Holds d i table asserts → ⊥
+
+-- the derivation is over these declarations and the same assertions, in order; its terms are exactly their closure, with so many
+-- variables; and the record is that of a search which spent the budget
+pub record IsSpending (d : Declarations) (table : Terms) (asserts : List TermId) (budget : ℕ) (spent : Spent) : Type 0 where
+  pub declarations : spent.derivation.declarations ≡ d
+  pub asserted : terms_at spent.derivation.rec.terms spent.derivation.asserts ≡ terms_at table asserts
+  pub closure : (t : CoreTree) → Stands spent.derivation.rec.terms t ↔ InClosure d (terms_at table asserts) t
+  pub variables : HasVariables d (terms_at table asserts) spent.variables
+  pub allowed : spent.budget ≡ budget
+  pub recorded : IsSpentRecord d spent.derivation.rec.terms spent.derivation.asserts spent.derivation.rec.lines spent.moves budget
+
+-- no rule contradicts the literals, and the assertion at the index is false in a proper interpretation
+pub record IsStuck (d : Declarations) (table : Terms) (asserts : List TermId) (terms : Terms) (literals : List Lit) (i : Interp) (index : ℕ) : Type 0 where
+  pub numbers : List TermId
+  pub saturated : IsSaturated d (terms_at table asserts) terms numbers literals
+  pub proper : IsProper d i
+  pub assert : TermId
+  pub stands : slice_get asserts index ≡ Some assert
+  pub untrue : truth_of d i table assert ≡ false
+
+abbrev pub IsVerdict : Declarations → Terms → List TermId → ℕ → Verdict → Type 0
+IsVerdict d table asserts budget (Sat i) = IsModel d table asserts i
+IsVerdict d table asserts budget (Unsat derived) = IsRefutation d table asserts derived
+IsVerdict d table asserts budget (Unknown spent) = IsSpending d table asserts budget spent
+IsVerdict d table asserts budget (Stuck terms literals i index) = IsStuck d table asserts terms literals i index

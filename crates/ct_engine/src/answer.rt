@@ -1,0 +1,180 @@
+//! What a search that has ended found.
+ghost use Rattle.std.specs.Prelude.{◌≡◌, ℕ, List, All, IfOk, IsErrOf};
+ghost use Rattle.ct_sorts.specs.Declarations.{Declarations};
+ghost use Rattle.ct_terms.specs.declared.ids.TermId.{TermId};
+ghost use Rattle.ct_terms.specs.Terms.{Terms, AreSorted, IsBoolean};
+ghost use Rattle.ct_checker.specs.Rejection.{EndsEmpty};
+ghost use Rattle.ct_sat.specs.State.{IsQuiet, HaveValues, LacksValue};
+ghost use Rattle.ct_theory.specs.Entailment.{IsSaturation};
+ghost use Rattle.ct_engine.specs.Moves.{IsSpentRecord};
+ghost use Rattle.ct_engine.specs.Saturated.{AreDecided};
+ghost use Rattle.ct_engine.specs.Verdict.{IsRefutation, IsSpending};
+ghost use Rattle.ct_engine.specs.Progress.{IsUnderWay, IsTaskOf, IsEnded, IsCandidate, IsOutcome};
+
+use crate::course::Course;
+use crate::error::SolveError;
+use crate::facts;
+use crate::outcome::{Candidate, Ending, Outcome};
+use crate::verdict::Spent;
+use ct_acyclic::Order;
+use ct_congr::Classes;
+use ct_log::Derivation;
+use ct_sorts::{Items, Signature};
+use ct_terms::{Lit, TermId, TermTable};
+use std::alloc::Global;
+
+/// What the search found, which ended so.
+pub(crate) fn conclude(
+    alloc: Global,
+    sig: &Signature,
+    table: &TermTable,
+    asserts: &[TermId],
+    budget: u64,
+    course: Box<Course>,
+    ending: Ending,
+) -> Result<Outcome, SolveError>
+    requires sorted { AreSorted sig.now table.now }
+    requires asserts { All (IsBoolean table.now) asserts.now }
+    requires task { IsTaskOf sig.now table.now asserts.now budget course.value }
+    requires ended { IsEnded course.value ending }
+    ensures outcome { IfOk result (IsOutcome sig.now table.now asserts.now budget) }
+    ensures err { IsErrOf result SolveError.TooLarge → ⊥ }
+{
+    match ending {
+        Ending::Refuted => Ok(Outcome::Unsat(refutation_of(sig, table, asserts, budget, course))),
+        Ending::Spent => Ok(Outcome::Unknown(spending_of(course, budget))),
+        Ending::Saturated { classes, order } => {
+            let candidate = candidate_of(alloc, course, classes, order)?;
+            Ok(Outcome::Candidate(candidate))
+        }
+    }
+}
+
+// The derivation of a search that refuted the assertions.
+fn refutation_of(
+    sig: &Signature,
+    table: &TermTable,
+    asserts: &[TermId],
+    budget: u64,
+    course: Box<Course>,
+) -> Derivation
+    requires sorted { AreSorted sig.now table.now }
+    requires asserts { All (IsBoolean table.now) asserts.now }
+    requires task { IsTaskOf sig.now table.now asserts.now budget course.value }
+    requires ends { EndsEmpty course.value.derivation.rec.lines }
+    ensures refutation { IsRefutation sig.now table.now asserts.now result }
+{
+    refuted(sig, table, asserts, budget, &course);
+    let Course {
+        search,
+        derivation,
+        moves,
+        variables: _,
+    } = Box::into_inner(course);
+    drop(search);
+    drop(moves);
+    derivation
+}
+
+// The record of a search that spent this budget.
+fn spending_of(course: Box<Course>, budget: u64) -> Spent
+    requires under_way { IsUnderWay course.value }
+    requires quiet { IsQuiet course.value.search }
+    requires lacking { LacksValue course.value.search }
+    requires spent { course.value.search.count ≡ course.value.search.budget }
+    ensures spending { (d : Declarations) (table : Terms) (asserts : List TermId) → IsTaskOf d table asserts budget course.value → IsSpending d table asserts budget result }
+{
+    spent(&course);
+    let Course {
+        search,
+        derivation,
+        moves,
+        variables,
+    } = Box::into_inner(course);
+    drop(search);
+    Spent {
+        variables,
+        budget,
+        derivation,
+        moves: Items::new(moves),
+    }
+}
+
+// The closure and the literals of a search that found them saturated.
+fn candidate_of(
+    alloc: Global,
+    course: Box<Course>,
+    classes: Box<Classes>,
+    order: Order,
+) -> Result<Candidate, SolveError>
+    requires under_way { IsUnderWay course.value }
+    requires quiet { IsQuiet course.value.search }
+    requires all { HaveValues course.value.search }
+    requires saturation { IsSaturation course.value.derivation.declarations course.value.derivation.rec.terms course.value.search.trail classes.value order.reps.items }
+    ensures candidate { IfOk result (λ candidate. (d : Declarations) (table : Terms) (asserts : List TermId) (budget : ℕ) → IsTaskOf d table asserts budget course.value → IsCandidate d table asserts candidate) }
+    ensures err { IsErrOf result SolveError.TooLarge → ⊥ }
+{
+    saturated(&course, &classes, order.reps.as_slice());
+    let literals = literals_of(alloc, &course)?;
+    let table = table_of(&course)?;
+    Ok(Candidate {
+        table,
+        literals,
+        classes,
+        order,
+    })
+}
+
+// The derivation refutes the assertions.
+fn refuted(sig: &Signature, table: &TermTable, asserts: &[TermId], budget: u64, course: &Course)
+    requires sorted { AreSorted sig.now table.now }
+    requires asserts { All (IsBoolean table.now) asserts.now }
+    requires task { IsTaskOf sig.now table.now asserts.now budget course.now }
+    requires ends { EndsEmpty course.now.derivation.rec.lines }
+    ensures refutation { IsRefutation sig.now table.now asserts.now course.now.derivation }
+{
+    facts::models();
+    let _sorts = sig.sorts();
+    let _terms = course.derivation.rec().table().len();
+}
+
+// The moves are the record of a search that spent its budget.
+fn spent(course: &Course)
+    requires under_way { IsUnderWay course.now }
+    requires quiet { IsQuiet course.now.search }
+    requires lacking { LacksValue course.now.search }
+    requires budget { course.now.search.count ≡ course.now.search.budget }
+    ensures recorded { IsSpentRecord course.now.derivation.declarations course.now.derivation.rec.terms course.now.derivation.asserts course.now.derivation.rec.lines course.now.moves.items course.now.search.budget }
+{
+    facts::units();
+}
+
+// The literals of the trail are saturated.
+fn saturated(course: &Course, classes: &Classes, order: &[TermId])
+    requires under_way { IsUnderWay course.now }
+    requires quiet { IsQuiet course.now.search }
+    requires all { HaveValues course.now.search }
+    requires saturation { IsSaturation course.now.derivation.declarations course.now.derivation.rec.terms course.now.search.trail classes.now order.now }
+    ensures decided { AreDecided course.now.derivation.declarations course.now.derivation.rec.terms course.now.derivation.asserts course.now.search.trail }
+{
+    facts::classes();
+    let _merges = classes.merges();
+    let _trail = course.search.trail();
+}
+
+// The literals of the trail.
+fn literals_of(alloc: Global, course: &Course) -> Result<Items<Lit>, SolveError>
+    ensures literals { IfOk result (λ literals. literals ≡ course.now.search.trail) }
+    ensures err { IsErrOf result SolveError.TooLarge → ⊥ }
+{
+    Ok(Items::new(Vec::from_slice(alloc, course.search.trail())?))
+}
+
+// The closure.
+fn table_of(course: &Course) -> Result<TermTable, SolveError>
+    ensures table { IfOk result (λ table. table ≡ course.now.derivation.rec.terms) }
+    ensures err { IsErrOf result SolveError.TooLarge → ⊥ }
+{
+    let table = course.derivation.rec().table().copy()?;
+    Ok(table)
+}

@@ -1,0 +1,37 @@
+//! The theorems of lower crates that the contracts of this one rest on.
+ghost use Rattle.ct_engine.specs.Theorems.{UnitTheorems, ClassTheorems, ClosureTheorems, ModelTheorems};
+
+use ct_checker::accepted_lines;
+use ct_closure::closed_tables;
+use ct_congr::classes_of_merges;
+use ct_eval::meanings;
+use ct_sat::what_follows_by_units;
+
+/// The theorems on what follows by units.
+pub(crate) fn units()
+    ensures units { UnitTheorems }
+{
+    what_follows_by_units();
+}
+
+/// The theorems on classes.
+pub(crate) fn classes()
+    ensures classes { ClassTheorems }
+{
+    classes_of_merges();
+}
+
+/// The theorems on closed tables.
+pub(crate) fn closures()
+    ensures closures { ClosureTheorems }
+{
+    closed_tables();
+}
+
+/// The theorems on models.
+pub(crate) fn models()
+    ensures models { ModelTheorems }
+{
+    accepted_lines();
+    meanings();
+}

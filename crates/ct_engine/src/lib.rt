@@ -1,0 +1,21 @@
+//! One check of assertions: a search over their clauses that asks the theory before each decision, with an interpretation, a
+//! derivation or a record for each answer.
+#![tactic(auto)]
+
+mod answer;
+mod course;
+mod decide;
+mod error;
+mod facts;
+mod initial;
+mod judge;
+mod learn;
+mod outcome;
+mod prepare;
+mod settle;
+mod solving;
+mod verdict;
+
+pub use error::SolveError;
+pub use solving::solve;
+pub use verdict::{Move, Spent, Verdict};
