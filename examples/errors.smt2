@@ -1,0 +1,13 @@
+; A command with an error changes nothing, and the script goes on.
+(declare-datatype Color ((red) (green)))
+(declare-const c Color)
+(assert (= c blue))
+(assert (= c red c))
+(assert c)
+(declare-const c Bool)
+(get-value (c))
+(check-sat)
+(get-value (c))
+(declare-datatype Loop ((again (next Loop))))
+(set-color c)
+(exit)

@@ -1,0 +1,11 @@
+; A model has a definition for each constant and each function.
+(declare-datatype Color ((red) (green)))
+(declare-datatype Pair ((pair (left Color) (right Color))))
+(declare-const p Pair)
+(declare-fun paint (Color) Color)
+(assert (= (left p) red))
+(assert (= (right p) (paint red)))
+(assert (distinct (left p) (right p)))
+(check-sat)
+(get-value (p (paint (left p)) (let ((x (right p))) (pair x x))))
+(get-model)
