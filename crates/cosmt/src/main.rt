@@ -29,9 +29,8 @@ fn main(rt: HostRuntime) -> ExitCode {
 /// Runs the program on the arguments of its command line, without its own name.
 ///
 /// No argument, or an empty one, names standard input, and an argument that does not begin with `-`
-/// names a file. The script there is answered command by command; what is left over where no
-/// command of the accepted form follows is reported in one error line. All other arguments are
-/// answered with the line of usage.
+/// names a file. The script there is answered command by command, up to its end, to `exit` or to an
+/// error of its text. All other arguments are answered with the line of usage.
 pub fn run<D: Desk, K: Sink>(alloc: Global, words: &[Text], desk: &mut D, out: &mut K) -> Report
     // Where the desk tells what it holds under the script's name, the report and what was written are its answers.
     ensures solved { (name bytes : List ℕ) → NamesFile words.now name → D.held desk.old name ≡ Some bytes

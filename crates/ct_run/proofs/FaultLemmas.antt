@@ -1,5 +1,5 @@
 -- Causes of faults, through calls one after another.
-use Rattle.std.proofs.Common.{◌≡◌, ℕ, Result, Ok, Err, ap, subst, arith}
+use Rattle.std.proofs.Common.{◌≡◌, ℕ, Result, Ok, Err, OnErr, IfErr, ap, subst, arith}
 use Rattle.ct_io.specs.Fault.{HasCause}
 
 -- an error that is passed on has the cause that it had
@@ -23,3 +23,8 @@ HasCause-ok fault before now x same = record {
 -- a cause is a cause since the start, where the count stood still until then
 pub HasCause-since : {T E : Type 0} (fault : E) (start before now : ℕ) (r : Result T E) → before ≡ start → HasCause fault before now r → HasCause fault start now r
 HasCause-since fault start before now r same h = subst (λ (n : ℕ). HasCause fault n now r) same h
+
+-- what holds at each error
+pub if_err : {T E : Type 0} {P : Type 0} (Q : E → Type 0) (r : Result T E) → OnErr r P → ((e : E) → P → Q e) → IfErr r Q
+if_err Q (Ok x) p f = tt
+if_err Q (Err e) p f = f e p

@@ -1,13 +1,7 @@
-pub mod IndexLemmas
-pub mod Lists
-pub mod LiteralLemmas
-pub mod Counts
-pub mod SignatureLemmas
-pub mod SessionLemmas
 pub mod WritingLemmas
+pub mod AnswerLemmas
 pub mod TurnLemmas
 pub mod InputLemmas
 pub mod FaultLemmas
-pub mod ScriptLemmas
 pub mod ReportLemmas
 pub mod RunLemmas

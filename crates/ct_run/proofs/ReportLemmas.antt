@@ -1,23 +1,23 @@
 -- What a run reports is true of its script.
-use Rattle.std.proofs.Common.{◌≡◌, ℕ, ◌≤◌, ◌⊎◌, inl, inr, List, [], ◌∷◌, ◌++◌, length, map, Option, Some, None, refl, ap, sym, ◌∙◌, subst, arith}
-use Rattle.std.proofs.Math.Seq.{take-length}
-use Rattle.ct_io.specs.Bytes.{appended, GrewByPrefix, GrewByPart}
+use Rattle.std.specs.List.{concat}
+use Rattle.std.proofs.Common.{◌≡◌, ℕ, ◌≤◌, ◌⊎◌, inl, inr, List, [], ◌∷◌, ◌++◌, length, Option, refl, ap, sym, ◌∙◌, subst}
+use Rattle.ct_io.specs.Bytes.{GrewByPrefix}
 use Rattle.ct_io.specs.declared.status.Status.{Status}
 use Rattle.ct_io.specs.declared.status.Status.TheVariants as status
 use Rattle.ct_io.specs.declared.sink.SinkError.{SinkError}
 use Rattle.ct_io.specs.declared.sink.SinkError.TheVariants as sink
+use Rattle.ct_sexpr.specs.Text.{Located, Ending, clean, lexical, Reads}
 use Rattle.ct_sexpr.specs.Unread.{Unread}
-use Rattle.ct_run.specs.declared.verdict.FirstVerdict.{FirstVerdict}
-use Rattle.ct_run.specs.Command.{Command, State, start}
-use Rattle.ct_run.specs.Script.{HasCommands, IsStopped, AreErrors}
-use Rattle.ct_run.specs.Verdict.{AreVerdicts}
-use Rattle.ct_run.specs.Output.{line_of, lines_of, error_line, all_lines, text_of, BreaksInLine}
-use Rattle.ct_run.specs.Progress.{Progress, stored, Answered, Broke, BrokeInLine}
-use Rattle.ct_run.specs.Turns.{RanTo}
-use Rattle.ct_run.specs.Refusal.{status_of_error, Refused}
-use Rattle.ct_run.specs.Run.{most_bytes, Answers, AnswersSoFar, StopsEarly, Solves}
-use Rattle.ct_run.proofs.WritingLemmas.{append_nil, appended-twice, prefix_of_part, prefix-more, text_of_lines, text_of_error, BreaksInLine-one, BreaksInLine-verdicts}
-use Rattle.ct_run.proofs.ScriptLemmas.{Theorems, text_prefix, text_whole, errors_reported}
+use Rattle.ct_engine.specs.declared.verdict.Verdict.{Verdict}
+use Rattle.ct_script.specs.State.{first_state}
+use Rattle.ct_script.specs.Session.{Course}
+use Rattle.ct_script.specs.Answers.{Answers}
+use Rattle.ct_run.specs.Output.{wrote, BreaksInLine, IsLeft}
+use Rattle.ct_run.specs.Progress.{Progress, progress, Adds, WentOn, CameToEnd, EndsWith, BrokeOff}
+use Rattle.ct_run.specs.Refusal.{status_of_error, status_of_script, refusal_line, IsRefused}
+use Rattle.ct_run.specs.Run.{most_bytes, IsAnswered, IsAnsweredSoFar, Finishes, StopsEarly, StopsInLine, Solves}
+use Rattle.ct_run.proofs.WritingLemmas.{append_nil, all_written, wrote-later, IsLeft-later}
+use Rattle.ct_run.proofs.AnswerLemmas.{Answers-after, Answers-none, Answers-lexical}
 
 -- a sink's error ends a run with OutputFault where it is a fault, and never with InputFault
 pub output_fault : (e : SinkError) → status_of_error e ≡ status.OutputFault → e ≡ sink.Fault
@@ -33,172 +33,137 @@ pub no_output_fault : (e : SinkError) → (status_of_error e ≡ status.OutputFa
 no_output_fault sink.Fault h is = h refl
 no_output_fault sink.NoMemory h is = cc
 
--- the sink failed while the line of the error was written
-pub Refused-broke : (error : ℕ × ℕ) (e : SinkError) (errors : List (ℕ × ℕ)) (old new : Option (List ℕ)) → errors ≡ error ∷ [] → GrewByPart (error_line error) old new → Refused error (status_of_error e) errors old new
-Refused-broke error sink.Fault errors old new reported grew = (reported, grew)
-Refused-broke error sink.NoMemory errors old new reported grew = inl (reported, grew)
+-- the status of a script that came to its end is neither of the two
+pub script_status : (errors : List (ℕ × ℕ)) (s : Status) → status_of_script errors ≡ s → (s ≡ status.Done) ⊎ (s ≡ status.Refused)
+script_status [] s e = inl (sym e)
+script_status (x ∷ errors) s e = inr (sym e)
 
--- a whole piece is a prefix
-all_written : (text : List ℕ) (old new : Option (List ℕ)) → new ≡ appended text old → GrewByPrefix text old new
-all_written text old new grown = record {
-  count = length text;
-  within = omega arith;
-  grown = grown ∙ ap (λ (xs : List ℕ). appended xs old) (sym (take-length text));
-}
+-- a list with something at its end is not empty
+not_empty : {X : Type 0} (xs : List X) (x : X) → xs ++ x ∷ [] ≡ [] → ⊥
+not_empty [] x h = cc
+not_empty (y ∷ xs) x h = cc
 
--- the lines of a whole answer begin with those of the first commands, and so does its text
-lines_begin : (theorems : Theorems) (bytes : List ℕ) (cs : List Command) (mid : State) (rest : List ℕ) (verdicts : List FirstVerdict) → HasCommands start bytes cs mid rest → AreVerdicts start cs verdicts → (vs : List FirstVerdict) (es : List (ℕ × ℕ)) → Answers bytes vs es → (more : List ℕ) × (text_of vs es ≡ text_of verdicts [] ++ more)
-lines_begin theorems bytes cs mid rest verdicts begins are vs es answers =
-    let prefix = text_prefix theorems bytes cs mid rest verdicts begins are vs es answers in
-    (prefix.0, prefix.1 ∙ ap (λ (xs : List ℕ). xs ++ prefix.0) (text_of_lines verdicts))
+-- what a session has come to at the start
+abbrev pub first_course : Course
+first_course = record { state = first_state; number = 0; verdicts = []; errors = [] }
 
-module _ (theorems : Theorems) (bytes : List ℕ) (short : length bytes ≤ most_bytes) where
-  -- the run broke in the midst of the commands
-  stops : (verdicts : List FirstVerdict) (state : State) (old new : Option (List ℕ)) → Broke (stored start [] old) bytes (stored state verdicts new) → StopsEarly bytes verdicts [] old new
-  stops verdicts state old new broke =
-      let are = subst (AreVerdicts start broke.commands) (sym broke.verdicts) broke.are in
+-- a run that answered a script to its end, by its errors
+finishes : (bytes : List ℕ) (verdicts : List Verdict) (errors : List (ℕ × ℕ)) (old new : Option (List ℕ)) → Finishes bytes verdicts errors old new → Solves bytes (status_of_script errors) verdicts errors old new
+finishes bytes verdicts [] old new f = (f, refl)
+finishes bytes verdicts (e ∷ errors) old new f = (f, λ h. cc)
+
+module _ (u : Unread) (first : u.line ≡ 1) (short : length u.bytes ≤ most_bytes) (old : Option (List ℕ)) where
+  abbrev start : Progress
+  start = progress first_course u old
+
+  from_first : (cs : List Located) (x : Ending) → Reads u.line u.bytes cs x → Reads 1 u.bytes cs x
+  from_first cs x reads = subst (λ (line : ℕ). Reads line u.bytes cs x) first reads
+
+  -- the script came to its end
+  pub Solves-ended : (now : Progress) → CameToEnd start now → Solves u.bytes (status_of_script now.course.errors) now.course.verdicts now.course.errors old now.written
+  Solves-ended now ended = finishes u.bytes now.course.verdicts now.course.errors old now.written (record {
+    short = short;
+    lines = ended.lines;
+    answers = record {
+      commands = ended.commands;
+      ending = ended.ending;
+      read = from_first ended.commands ended.ending ended.read;
+      answered = subst (λ (vs : List Verdict). Answers first_state 0 ended.commands ended.ending vs now.course.errors ended.lines) (sym ended.adds.verdicts_are)
+          (subst (λ (es : List (ℕ × ℕ)). Answers first_state 0 ended.commands ended.ending ended.verdicts es ended.lines) (sym ended.adds.errors_are) ended.answered);
+    };
+    written = ended.written;
+  })
+
+  -- the run stopped at an error of the sink
+  stops : (e : SinkError) (lines : List (List ℕ)) (verdicts : List Verdict) (errors : List (ℕ × ℕ)) (new : Option (List ℕ)) → (IsAnswered u.bytes verdicts errors lines ⊎ IsAnsweredSoFar u.bytes verdicts errors lines) → IsLeft e lines old new → Solves u.bytes (status_of_error e) verdicts errors old new
+  stops sink.Fault lines verdicts errors new answers left = record { short = short; lines = lines; answers = answers; written = left }
+  stops sink.NoMemory lines verdicts errors new answers left = inl (record { short = short; lines = lines; answers = answers; written = left })
+
+  pub Solves-broke : (e : SinkError) (now : Progress) → BrokeOff e start now → Solves u.bytes (status_of_error e) now.course.verdicts now.course.errors old now.written
+  Solves-broke e now broke = stops e broke.lines now.course.verdicts now.course.errors now.written
+      (inr (record {
+        commands = broke.commands;
+        rest = broke.rest;
+        ending = broke.ending;
+        read = from_first (broke.commands ++ broke.rest) broke.ending broke.read;
+        answered = subst (λ (vs : List Verdict). Answers first_state 0 broke.commands clean vs now.course.errors broke.lines) (sym broke.adds.verdicts_are)
+            (subst (λ (es : List (ℕ × ℕ)). Answers first_state 0 broke.commands clean broke.verdicts es broke.lines) (sym broke.adds.errors_are) broke.answered);
+      }))
+      broke.left
+
+  -- the script ends with an error of its text
+  module _ (now : Progress) (error : ℕ × ℕ) (went : WentOn start now) (ends : Reads now.unread.line now.unread.bytes [] (lexical error.1 error.0)) where
+    reported : (errors : List (ℕ × ℕ)) → errors ≡ now.course.errors ++ error ∷ [] → IsAnswered u.bytes now.course.verdicts errors (went.lines ++ refusal_line error)
+    reported errors is = record {
+      commands = went.commands ++ [];
+      ending = lexical error.1 error.0;
+      read = from_first (went.commands ++ []) (lexical error.1 error.0) (went.read [] (lexical error.1 error.0) ends);
+      answered =
+          subst (λ (vs : List Verdict). Answers first_state 0 (went.commands ++ []) (lexical error.1 error.0) vs errors (went.lines ++ refusal_line error)) (append_nil went.verdicts ∙ sym went.adds.verdicts_are)
+          (subst (λ (es : List (ℕ × ℕ)). Answers first_state 0 (went.commands ++ []) (lexical error.1 error.0) (went.verdicts ++ []) es (went.lines ++ refusal_line error)) (ap (λ (es : List (ℕ × ℕ)). es ++ error ∷ []) (sym went.adds.errors_are) ∙ sym is)
+          (Answers-after first_state now.course.state 0 now.course.number went.commands [] (lexical error.1 error.0) went.verdicts [] went.errors (error ∷ []) went.lines (refusal_line error) went.answered
+          (Answers-lexical now.course.state now.course.number error.1 error.0)));
+    }
+
+    unreported : IsAnsweredSoFar u.bytes now.course.verdicts now.course.errors went.lines
+    unreported = record {
+      commands = went.commands;
+      rest = [];
+      ending = lexical error.1 error.0;
+      read = from_first (went.commands ++ []) (lexical error.1 error.0) (went.read [] (lexical error.1 error.0) ends);
+      answered =
+          subst (λ (cs : List Located). Answers first_state 0 cs clean now.course.verdicts now.course.errors went.lines) (append_nil went.commands)
+          (subst (λ (vs : List Verdict). Answers first_state 0 (went.commands ++ []) clean vs now.course.errors went.lines) (append_nil went.verdicts ∙ sym went.adds.verdicts_are)
+          (subst (λ (es : List (ℕ × ℕ)). Answers first_state 0 (went.commands ++ []) clean (went.verdicts ++ []) es went.lines) (append_nil went.errors ∙ sym went.adds.errors_are)
+          (subst (λ (ls : List (List ℕ)). Answers first_state 0 (went.commands ++ []) clean (went.verdicts ++ []) (went.errors ++ []) ls) (append_nil went.lines)
+          (Answers-after first_state now.course.state 0 now.course.number went.commands [] clean went.verdicts [] went.errors [] went.lines [] went.answered
+          (Answers-none now.course.state now.course.number)))));
+    }
+
+    left_with_it : (e : SinkError) (new : Option (List ℕ)) → IsLeft e (refusal_line error) now.written new → IsLeft e (went.lines ++ refusal_line error) old new
+    left_with_it e new left = IsLeft-later e went.lines (refusal_line error) old now.written new went.written left
+
+    pub Solves-refused : (s : Status) (errors : List (ℕ × ℕ)) (new : Option (List ℕ)) → IsRefused error s now.course.errors errors now.written new → Solves u.bytes s now.course.verdicts errors old new
+    Solves-refused status.Refused errors new refused = (
       record {
         short = short;
-        answers = record {
-          commands = broke.commands;
-          last = broke.last;
-          rest = broke.rest;
-          begins = broke.begins;
-          verdicts_are = are;
-          errors_are = inl refl;
-        };
-        writes = record {
-          written = subst (λ (text : List ℕ). GrewByPrefix text old new) (ap lines_of (sym broke.verdicts) ∙ text_of_lines verdicts) broke.prefix;
-          begins = lines_begin theorems bytes broke.commands broke.last broke.rest verdicts broke.begins are;
-        };
-      }
-
-  -- the sink failed inside the line of the last verdict
-  breaks_in_line : (verdicts : List FirstVerdict) (old new : Option (List ℕ)) → BrokeInLine [] old verdicts new → BreaksInLine (all_lines verdicts []) old new
-  breaks_in_line verdicts old new broke =
-      subst (λ (lines : List (List ℕ)). BreaksInLine lines old new) (ap (map line_of) (sym broke.verdicts) ∙ sym (append_nil (map line_of verdicts))) broke.breaks
-
-  broke_from : (e : SinkError) (verdicts : List FirstVerdict) (state : State) (old new : Option (List ℕ)) → Broke (stored start [] old) bytes (stored state verdicts new) → (e ≡ sink.Fault → BrokeInLine [] old verdicts new) → Solves bytes (status_of_error e) verdicts [] old new
-  broke_from sink.Fault verdicts state old new broke in_line = (stops verdicts state old new broke, breaks_in_line verdicts old new (in_line refl))
-  broke_from sink.NoMemory verdicts state old new broke in_line = inl (stops verdicts state old new broke)
-
--- every command was answered
-module _ (theorems : Theorems) (u : Unread) (first : u.line ≡ 1) (short : length u.bytes ≤ most_bytes) (old mid : Option (List ℕ)) (verdicts : List FirstVerdict) (state : State) where
-  module _ (last : Unread) (answered : Answered (stored start [] old) u.bytes (stored state verdicts mid) last.bytes) (stopped : IsStopped state last.bytes) where
-    are : AreVerdicts start answered.commands verdicts
-    are = subst (AreVerdicts start answered.commands) (sym answered.verdicts) answered.are
-
-    answers : (errors : List (ℕ × ℕ)) → AreErrors u.bytes last.bytes errors → Answers u.bytes verdicts errors
-    answers errors reported = record {
-      short = short;
-      commands = answered.commands;
-      last = state;
-      rest = last.bytes;
-      script = record { begins = answered.begins; stopped = stopped };
-      verdicts_are = are;
-      errors_are = reported;
-    }
-
-    lines : mid ≡ appended (lines_of verdicts) old
-    lines = answered.written ∙ ap (λ (vs : List FirstVerdict). appended (lines_of vs) old) (sym answered.verdicts)
-
-    answers_so_far : (errors : List (ℕ × ℕ)) → (errors ≡ []) ⊎ (IsStopped state last.bytes × (AreErrors u.bytes last.bytes errors)) → AnswersSoFar u.bytes verdicts errors
-    answers_so_far errors reported = record {
-      commands = answered.commands;
-      last = state;
-      rest = last.bytes;
-      begins = answered.begins;
-      verdicts_are = are;
-      errors_are = reported;
-    }
-
-    -- the lines of the verdicts were written, and nothing else
-    without_error : StopsEarly u.bytes verdicts [] old mid
-    without_error = record {
-      short = short;
-      answers = answers_so_far [] (inl refl);
-      writes = record {
-        written = all_written (text_of verdicts []) old mid (lines ∙ ap (λ (text : List ℕ). appended text old) (text_of_lines verdicts));
-        begins = lines_begin theorems u.bytes answered.commands state last.bytes verdicts answered.begins are;
-      };
-    }
-
-    -- the lines of the verdicts were written, and a part of the error's
-    with_error : (error : ℕ × ℕ) (errors : List (ℕ × ℕ)) (new : Option (List ℕ)) → AreErrors u.bytes last.bytes errors → errors ≡ error ∷ [] → GrewByPart (error_line error) mid new → StopsEarly u.bytes verdicts errors old new
-    with_error error errors new reported is part =
-        let prefix = prefix_of_part (error_line error) mid new part in
-        let text : lines_of verdicts ++ error_line error ≡ text_of verdicts errors = text_of_error verdicts error ∙ ap (text_of verdicts) (sym is) in
-        record {
-          short = short;
-          answers = answers_so_far errors (inr (stopped, reported));
-          writes = record {
-            written = subst (λ (text : List ℕ). GrewByPrefix text old new) text (prefix-more (lines_of verdicts) (error_line error) old mid new lines prefix);
-            begins = λ vs es whole. (
-              [],
-              text_whole theorems u.bytes answered.commands state last.bytes verdicts answered.begins are stopped errors reported vs es whole ∙ sym (append_nil (text_of verdicts errors)),
-            );
-          };
-        }
-
-    -- the line of the error is the last
-    in_error_line : (error : ℕ × ℕ) (errors : List (ℕ × ℕ)) (new : Option (List ℕ)) → errors ≡ error ∷ [] → GrewByPart (error_line error) mid new → BreaksInLine (all_lines verdicts errors) old new
-    in_error_line error errors new is part =
-        subst (λ (es : List (ℕ × ℕ)). BreaksInLine (all_lines verdicts es) old new) (sym is)
-        (BreaksInLine-verdicts verdicts (error_line error ∷ []) old mid new lines (BreaksInLine-one (error_line error) mid new part))
-
-    Solves-stopped : (error : ℕ × ℕ) (s : Status) (errors : List (ℕ × ℕ)) (new : Option (List ℕ)) → AreErrors u.bytes last.bytes (error ∷ []) → Refused error s errors mid new → Solves u.bytes s verdicts errors old new
-    Solves-stopped error status.Refused errors new reported refused = (
-      answers errors (subst (AreErrors u.bytes last.bytes) (sym refused.0) reported),
-      (λ empty. cc),
-      refused.1 ∙ ap (appended (error_line error)) lines ∙ appended-twice (lines_of verdicts) (error_line error) old
-          ∙ ap (λ (text : List ℕ). appended text old) (text_of_error verdicts error)
-          ∙ ap (λ (es : List (ℕ × ℕ)). appended (text_of verdicts es) old) (sym refused.0),
+        lines = went.lines ++ refusal_line error;
+        answers = reported errors refused.0;
+        written = wrote-later went.lines (refusal_line error) old now.written new went.written refused.1;
+      },
+      (λ none. not_empty now.course.errors error (sym refused.0 ∙ none)),
     )
-    Solves-stopped error status.OutputFault errors new reported refused = (
-      with_error error errors new (subst (AreErrors u.bytes last.bytes) (sym refused.0) reported) refused.0 refused.1,
-      in_error_line error errors new refused.0 refused.1,
-    )
-    Solves-stopped error status.NoMemory errors new reported (inl refused) = inl (with_error error errors new (subst (AreErrors u.bytes last.bytes) (sym refused.0) reported) refused.0 refused.1)
-    Solves-stopped error status.NoMemory errors new reported (inr refused) =
-        inl (subst (λ (es : List (ℕ × ℕ)). StopsEarly u.bytes verdicts es old new) (sym refused.0)
-        (subst (λ (any : Option (List ℕ)). StopsEarly u.bytes verdicts [] old any) (sym refused.1) without_error))
-    Solves-stopped error status.Done errors new reported refused = absurd refused
-    Solves-stopped error status.Usage errors new reported refused = absurd refused
-    Solves-stopped error status.InputFault errors new reported refused = absurd refused
-    Solves-stopped error status.Rejected errors new reported refused = absurd refused
-    Solves-stopped error status.TooLong errors new reported refused = absurd refused
+    Solves-refused status.OutputFault errors new refused = stops sink.Fault (went.lines ++ refusal_line error) now.course.verdicts errors new (inl (reported errors refused.0)) (left_with_it sink.Fault new refused.1)
+    Solves-refused status.NoMemory errors new (inl refused) = stops sink.NoMemory (went.lines ++ refusal_line error) now.course.verdicts errors new (inl (reported errors refused.0)) (left_with_it sink.NoMemory new refused.1)
+    Solves-refused status.NoMemory errors new (inr refused) =
+        subst (λ (es : List (ℕ × ℕ)). Solves u.bytes status.NoMemory now.course.verdicts es old new) (sym refused.0)
+        (stops sink.NoMemory went.lines now.course.verdicts now.course.errors new (inr unreported) (all_written (concat went.lines) old new (refused.1 ∙ went.written)))
+    Solves-refused status.Done errors new refused = absurd refused
+    Solves-refused status.Usage errors new refused = absurd refused
+    Solves-refused status.InputFault errors new refused = absurd refused
+    Solves-refused status.Rejected errors new refused = absurd refused
+    Solves-refused status.TooLong errors new refused = absurd refused
 
-  -- nothing is left over
-  done_from : (errors : List (ℕ × ℕ)) → errors ≡ [] → RanTo u None (stored start [] old) (stored state verdicts mid) → Solves u.bytes status.Done verdicts errors old mid
-  done_from errors empty ran =
-      let reported : AreErrors u.bytes ran.last.bytes errors = subst (AreErrors u.bytes ran.last.bytes) (sym empty) ran.leaves.whitespace in (
-        answers ran.last ran.answered ran.leaves.stopped errors reported,
-        empty,
-        lines ran.last ran.answered ran.leaves.stopped
-            ∙ ap (λ (text : List ℕ). appended text old) (text_of_lines verdicts)
-            ∙ ap (λ (es : List (ℕ × ℕ)). appended (text_of verdicts es) old) (sym empty),
-      )
+-- a run over a session that was just begun
+module _ (u : Unread) (first : u.line ≡ 1) (short : length u.bytes ≤ most_bytes) (old : Option (List ℕ)) (session : Course) (fresh : session ≡ first_course) where
+  same_report : (s s' : Status) (vs vs' : List Verdict) (es es' : List (ℕ × ℕ)) (new : Option (List ℕ)) → s' ≡ s → vs' ≡ vs → es' ≡ es → Solves u.bytes s vs es old new → Solves u.bytes s' vs' es' old new
+  same_report s s' vs vs' es es' new e f g solves =
+      subst (λ (x : Status). Solves u.bytes x vs' es' old new) (sym e)
+      (subst (λ (x : List Verdict). Solves u.bytes s x es' old new) (sym f)
+      (subst (λ (x : List (ℕ × ℕ)). Solves u.bytes s vs x old new) (sym g) solves))
 
-  -- something is left over
-  refused_from : (error : ℕ × ℕ) (s : Status) (errors : List (ℕ × ℕ)) (new : Option (List ℕ)) → RanTo u (Some error) (stored start [] old) (stored state verdicts mid) → Refused error s errors mid new → Solves u.bytes s verdicts errors old new
-  refused_from error s errors new ran refused =
-      Solves-stopped ran.last ran.answered ran.leaves.stopped error s errors new
-      (errors_reported theorems u ran.last state error first ran.took ran.leaves) refused
+  pub report_ended : (now : Progress) (s : Status) (vs : List Verdict) (es : List (ℕ × ℕ)) → s ≡ status_of_script es → vs ≡ now.course.verdicts → es ≡ now.course.errors → CameToEnd (progress session u old) now → Solves u.bytes s vs es old now.written
+  report_ended now s vs es is same_verdicts same_errors ended =
+      same_report (status_of_script now.course.errors) s now.course.verdicts vs now.course.errors es now.written (is ∙ ap status_of_script same_errors) same_verdicts same_errors
+      (Solves-ended u first short old now (subst (λ (c : Course). CameToEnd (progress c u old) now) fresh ended))
 
--- a run begins with nothing declared, asserted or answered
-module _ (theorems : Theorems) (u : Unread) (short : length u.bytes ≤ most_bytes) (state state' : State) (verdicts verdicts' : List FirstVerdict) (old new : Option (List ℕ)) (fresh : state ≡ start) (none_yet : verdicts ≡ []) where
-  from_start : (P : Progress → Type 0) → P (stored state verdicts old) → P (stored start [] old)
-  from_start P h = subst (λ (s : State). P (stored s [] old)) fresh (subst (λ (vs : List FirstVerdict). P (stored state vs old)) none_yet h)
+  pub report_broke : (now : Progress) (e : SinkError) (s : Status) (vs : List Verdict) (es : List (ℕ × ℕ)) → s ≡ status_of_error e → vs ≡ now.course.verdicts → es ≡ now.course.errors → BrokeOff e (progress session u old) now → Solves u.bytes s vs es old now.written
+  report_broke now e s vs es is same_verdicts same_errors broke =
+      same_report (status_of_error e) s now.course.verdicts vs now.course.errors es now.written is same_verdicts same_errors
+      (Solves-broke u first short old e now (subst (λ (c : Course). BrokeOff e (progress c u old) now) fresh broke))
 
-  pub Solves-broke : (e : SinkError) → Broke (stored state verdicts old) u.bytes (stored state' verdicts' new) → (e ≡ sink.Fault → BrokeInLine verdicts old verdicts' new) → Solves u.bytes (status_of_error e) verdicts' [] old new
-  Solves-broke e broke in_line =
-      broke_from theorems u.bytes short e verdicts' state' old new (from_start (λ (first : Progress). Broke first u.bytes (stored state' verdicts' new)) broke)
-      (λ is. subst (λ (vs : List FirstVerdict). BrokeInLine vs old verdicts' new) none_yet (in_line is))
-
-  module _ (first : u.line ≡ 1) where
-    pub Solves-done : (errors : List (ℕ × ℕ)) → errors ≡ [] → RanTo u None (stored state verdicts old) (stored state' verdicts' new) → Solves u.bytes status.Done verdicts' errors old new
-    Solves-done errors empty ran = done_from theorems u first short old new verdicts' state' errors empty (from_start (λ (first : Progress). RanTo u None first (stored state' verdicts' new)) ran)
-
-    pub Solves-refused : (error : ℕ × ℕ) (s : Status) (errors : List (ℕ × ℕ)) (end : Option (List ℕ)) → RanTo u (Some error) (stored state verdicts old) (stored state' verdicts' new) → Refused error s errors new end → Solves u.bytes s verdicts' errors old end
-    Solves-refused error s errors end ran refused =
-        refused_from theorems u first short old new verdicts' state' error s errors end (from_start (λ (first : Progress). RanTo u (Some error) first (stored state' verdicts' new)) ran) refused
+  pub report_refused : (now : Progress) (error : ℕ × ℕ) (s : Status) (vs : List Verdict) (stored es : List (ℕ × ℕ)) (new : Option (List ℕ)) → vs ≡ now.course.verdicts → stored ≡ now.course.errors → IsRefused error s stored es now.written new → WentOn (progress session u old) now × Reads now.unread.line now.unread.bytes [] (lexical error.1 error.0) → Solves u.bytes s vs es old new
+  report_refused now error s vs stored es new same_verdicts same_errors refused ends =
+      same_report s s now.course.verdicts vs es es new refl same_verdicts refl
+      (Solves-refused u first short old now error (subst (λ (c : Course). WentOn (progress c u old) now) fresh ends.0) ends.1 s es new
+      (subst (λ (errors : List (ℕ × ℕ)). IsRefused error s errors es now.written new) same_errors refused))

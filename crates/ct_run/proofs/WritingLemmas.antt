@@ -1,12 +1,13 @@
 -- Lines that are written one after another, whole and in part.
 use Rattle.std.specs.List.{concat}
-use Rattle.std.proofs.Common.{◌≡◌, ℕ, ◌+◌, List, [], ◌∷◌, ◌++◌, length, map, take, Option, Some, None, refl, ap, sym, ◌∙◌, subst, arith, append_assoc, length-append}
-use Rattle.std.proofs.Math.Seq.{take-append-add}
-use Rattle.std.proofs.lemmas.List.Concat.{concat_is}
-use Rattle.std.proofs.lemmas.List.Folds.{concat-append, flat_map-map}
+use Rattle.std.proofs.Common.{◌≡◌, ℕ, ◌+◌, List, [], ◌∷◌, ◌++◌, length, take, Option, Some, None, refl, ap, sym, ◌∙◌, subst, arith, append_assoc, length-append}
+use Rattle.std.proofs.Math.Seq.{take-append-add, take-length}
+use Rattle.std.proofs.lemmas.List.Folds.{concat-append}
 use Rattle.ct_io.specs.Bytes.{appended, GrewByPrefix, GrewByPart}
-use Rattle.ct_run.specs.declared.verdict.FirstVerdict.{FirstVerdict}
-use Rattle.ct_run.specs.Output.{line_of, lines_of, error_line, text_of, BreaksInLine}
+use Rattle.ct_io.specs.declared.sink.SinkError.{SinkError}
+use Rattle.ct_io.specs.declared.sink.SinkError.TheVariants.{Fault, NoMemory}
+use Rattle.ct_script.specs.Answers.{lines_of}
+use Rattle.ct_run.specs.Output.{wrote, BreaksInLine, IsLeft}
 
 pub append_nil : {X : Type 0} (xs : List X) → xs ++ [] ≡ xs
 append_nil [] = refl
@@ -35,22 +36,6 @@ prefix-more first second old mid new begun prefix = record {
       ∙ ap (λ (text : List ℕ). appended text old) (sym (take-append-add first second prefix.count));
 }
 
--- the lines of verdicts, one after another
-pub lines_joined : (verdicts : List FirstVerdict) → concat (map line_of verdicts) ≡ lines_of verdicts
-lines_joined verdicts = concat_is (map line_of verdicts) ∙ flat_map-map (λ (line : List ℕ). line) line_of verdicts
-
--- a text is the lines of the verdicts, and then those of the errors
-pub text_split : (verdicts : List FirstVerdict) (errors : List (ℕ × ℕ)) → text_of verdicts errors ≡ lines_of verdicts ++ concat (map error_line errors)
-text_split verdicts errors = concat-append (map line_of verdicts) (map error_line errors) ∙ ap (λ (text : List ℕ). text ++ concat (map error_line errors)) (lines_joined verdicts)
-
--- without an error the text is the lines of the verdicts
-pub text_of_lines : (verdicts : List FirstVerdict) → lines_of verdicts ≡ text_of verdicts []
-text_of_lines verdicts = sym (text_split verdicts [] ∙ append_nil (lines_of verdicts))
-
--- with one error its line follows
-pub text_of_error : (verdicts : List FirstVerdict) (error : ℕ × ℕ) → lines_of verdicts ++ error_line error ≡ text_of verdicts (error ∷ [])
-text_of_error verdicts error = ap (λ (text : List ℕ). lines_of verdicts ++ text) (sym (append_nil (error_line error))) ∙ sym (text_split verdicts (error ∷ []))
-
 -- a part of one line was written
 pub BreaksInLine-one : (line : List ℕ) (old new : Option (List ℕ)) → GrewByPart line old new → BreaksInLine (line ∷ []) old new
 BreaksInLine-one line old new part = record {
@@ -71,7 +56,49 @@ BreaksInLine-later first lines old mid new begun breaks = record {
       breaks.part;
 }
 
--- the lines of these verdicts were written whole, and then others up to a part of the last
-pub BreaksInLine-verdicts : (verdicts : List FirstVerdict) (lines : List (List ℕ)) (old mid new : Option (List ℕ)) → mid ≡ appended (lines_of verdicts) old → BreaksInLine lines mid new → BreaksInLine (map line_of verdicts ++ lines) old new
-BreaksInLine-verdicts verdicts lines old mid new begun breaks =
-    BreaksInLine-later (map line_of verdicts) lines old mid new (begun ∙ ap (λ (text : List ℕ). appended text old) (sym (lines_joined verdicts))) breaks
+-- a whole piece is a prefix
+pub all_written : (text : List ℕ) (old new : Option (List ℕ)) → new ≡ appended text old → GrewByPrefix text old new
+all_written text old new grown = record {
+  count = length text;
+  within = omega arith;
+  grown = grown ∙ ap (λ (xs : List ℕ). appended xs old) (sym (take-length text));
+}
+
+-- nothing was written
+pub nothing_written : (text : List ℕ) (old new : Option (List ℕ)) → new ≡ old → GrewByPrefix text old new
+nothing_written text old new same = record { count = 0; within = omega arith; grown = same ∙ sym (appended-nothing old) }
+
+-- lines after lines
+pub wrote-twice : (first lines : List (List ℕ)) (old : Option (List ℕ)) → wrote lines (wrote first old) ≡ wrote (first ++ lines) old
+wrote-twice first lines old = appended-twice (concat first) (concat lines) old ∙ ap (λ (text : List ℕ). appended text old) (sym (concat-append first lines))
+
+pub wrote-later : (first lines : List (List ℕ)) (old mid new : Option (List ℕ)) → mid ≡ wrote first old → new ≡ wrote lines mid → new ≡ wrote (first ++ lines) old
+wrote-later first lines old mid new begun more = more ∙ ap (wrote lines) begun ∙ wrote-twice first lines old
+
+-- lines were written whole, and then others up to an error
+pub IsLeft-later : (e : SinkError) (first lines : List (List ℕ)) (old mid new : Option (List ℕ)) → mid ≡ wrote first old → IsLeft e lines mid new → IsLeft e (first ++ lines) old new
+IsLeft-later Fault first lines old mid new begun left = BreaksInLine-later first lines old mid new begun left
+IsLeft-later NoMemory first lines old mid new begun left =
+    subst (λ (text : List ℕ). GrewByPrefix text old new) (sym (concat-append first lines)) (prefix-more (concat first) (concat lines) old mid new begun left)
+
+-- one line up to an error
+pub IsLeft-one : (e : SinkError) (line : List ℕ) (old new : Option (List ℕ)) → GrewByPart line old new → IsLeft e (line ∷ []) old new
+IsLeft-one Fault line old new part = BreaksInLine-one line old new part
+IsLeft-one NoMemory line old new part = subst (λ (text : List ℕ). GrewByPrefix text old new) (sym (append_nil line)) (prefix_of_part line old new part)
+
+-- the line of a text
+pub line_of_some : (text : List ℕ) → (text ≡ [] → ⊥) → lines_of text ≡ (text ++ 10 ∷ []) ∷ []
+line_of_some [] some = absurd (some refl)
+line_of_some (b ∷ bs) some = refl
+
+-- a text is written whole, or up to an error
+pub line_written : (text piece : List ℕ) (old new : Option (List ℕ)) → (text ≡ [] → ⊥) → piece ≡ text ++ 10 ∷ [] → new ≡ appended piece old → new ≡ wrote (lines_of text) old
+line_written text piece old new some is grown =
+    grown
+    ∙ ap (λ (xs : List ℕ). appended xs old) (is ∙ sym (append_nil (text ++ 10 ∷ [])))
+    ∙ ap (λ (lines : List (List ℕ)). wrote lines old) (sym (line_of_some text some))
+
+pub line_left : (e : SinkError) (text piece : List ℕ) (old new : Option (List ℕ)) → (text ≡ [] → ⊥) → piece ≡ text ++ 10 ∷ [] → GrewByPart piece old new → IsLeft e (lines_of text) old new
+line_left e text piece old new some is part =
+    subst (λ (lines : List (List ℕ)). IsLeft e lines old new) (sym (line_of_some text some))
+    (IsLeft-one e (text ++ 10 ∷ []) old new (subst (λ (xs : List ℕ). GrewByPart xs old new) is part))

@@ -1,14 +1,5 @@
-pub mod Command
-pub mod Script
-pub mod Verdict
-pub mod Output
-pub mod Run
-pub mod FirstIndices
-pub mod Literals
-pub mod Form
-pub mod Progress
-pub mod Session
-pub mod Constants
-pub mod Turns
 pub mod Fresh
+pub mod Output
 pub mod Refusal
+pub mod Progress
+pub mod Run

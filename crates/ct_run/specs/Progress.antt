@@ -1,89 +1,86 @@
--- How far a run has come.
-use Rattle.std.specs.Prelude.{◌≡◌, ℕ, List, [], ◌∷◌, ◌++◌, map, Option}
-use Rattle.ct_io.specs.Bytes.{appended, GrewByPrefix, GrewByPart}
+-- How far a script is answered.
+use Rattle.std.specs.Prelude.{◌≡◌, ℕ, ◌⊎◌, List, [], ◌∷◌, ◌++◌, Option}
+use Rattle.ct_io.specs.declared.sink.SinkError.{SinkError}
+use Rattle.ct_io.specs.declared.sink.SinkError.TheVariants as sink
 use Rattle.ct_sexpr.specs.Expression.{Expression}
-use Rattle.ct_run.specs.Command.{Command, State, Fits, after, written}
-use Rattle.ct_run.specs.Script.{HasCommands}
-use Rattle.ct_run.specs.Verdict.{Meets, AreVerdicts}
-use Rattle.ct_run.specs.Output.{line_of, lines_of, BreaksInLine}
-use Rattle.ct_run.specs.declared.verdict.FirstVerdict.{FirstVerdict}
+use Rattle.ct_sexpr.specs.Text.{Located, Ending, clean, lexical, Reads}
+use Rattle.ct_sexpr.specs.Unread.{Unread}
+use Rattle.ct_engine.specs.declared.verdict.Verdict.{Verdict}
+use Rattle.ct_script.specs.Step.{Effect, Step}
+use Rattle.ct_script.specs.Session.{Course, after}
+use Rattle.ct_script.specs.Answers.{Answers, Leads, lines_of}
+use Rattle.ct_run.specs.declared.turn.Ending.{Ending as Ended}
+use Rattle.ct_run.specs.declared.turn.Ending.TheVariants as ended
+use Rattle.ct_run.specs.Output.{wrote, IsLeft}
 
--- what a run has stored and written: its state, its verdicts, and the bytes of its sink
+-- what a session has come to, what is left of the script, and what was written
 pub record Progress : Type 0 where
-  pub state : State
-  pub verdicts : List FirstVerdict
+  pub course : Course
+  pub unread : Unread
   pub written : Option (List ℕ)
 
-abbrev pub stored : State → List FirstVerdict → Option (List ℕ) → Progress
-stored state verdicts written = record { state = state; verdicts = verdicts; written = written }
+abbrev pub progress : Course → Unread → Option (List ℕ) → Progress
+progress course unread written = record { course = course; unread = unread; written = written }
 
--- the first commands of the bytes were answered, and the rest is to come
-pub record Answered (old : Progress) (bytes : List ℕ) (new : Progress) (rest : List ℕ) : Type 0 where
-  pub commands : List Command
-  pub begins : HasCommands old.state bytes commands new.state rest
-  pub added : List FirstVerdict
-  pub are : AreVerdicts old.state commands added
-  pub verdicts : new.verdicts ≡ old.verdicts ++ added
-  pub written : new.written ≡ appended (lines_of added) old.written
+-- the session answered an expression on this line with this effect
+pub record AnsweredWith (old new : Course) (line : ℕ) (e : Expression) (effect : Effect) : Type 0 where
+  pub step : Step old.state old.number line e effect
+  pub course : new ≡ after old line e effect
 
--- the first commands of the bytes were answered, and a prefix of the answers was written
-pub record Broke (old : Progress) (bytes : List ℕ) (new : Progress) : Type 0 where
-  pub commands : List Command
-  pub last : State
-  pub rest : List ℕ
-  pub begins : HasCommands old.state bytes commands last rest
-  pub added : List FirstVerdict
-  pub are : AreVerdicts old.state commands added
-  pub verdicts : new.verdicts ≡ old.verdicts ++ added
-  pub prefix : GrewByPrefix (lines_of added) old.written new.written
-
--- the expression is a command of the form that may stand here, and it was answered
-pub record AnsweredOne (old : Progress) (expression : Expression) (new : Progress) : Type 0 where
-  pub command : Command
-  pub is : expression ≡ written command
-  pub fits : Fits old.state command
-  pub state : new.state ≡ after old.state command
-  pub added : List FirstVerdict
-  pub are : AreVerdicts old.state (command ∷ []) added
-  pub verdicts : new.verdicts ≡ old.verdicts ++ added
-  pub output : new.written ≡ appended (lines_of added) old.written
-
--- the expression is no command of the form that may stand here, and nothing was done
-pub record DeclinedOne (old : Progress) (expression : Expression) (new : Progress) : Type 0 where
-  pub none : (command : Command) → expression ≡ written command → Fits old.state command → ⊥
+-- memory ran out, and so nothing was answered
+pub record IsUnanswered (error : SinkError) (old new : Course) (before now : Option (List ℕ)) : Type 0 where
+  pub no_memory : error ≡ sink.NoMemory
   pub same : new ≡ old
+  pub unwritten : now ≡ before
 
--- something broke before the expression was answered
-pub record BrokeBefore (old new : Progress) : Type 0 where
-  pub verdicts : new.verdicts ≡ old.verdicts
-  pub written : new.written ≡ old.written
+-- an expression was answered, with this effect, but its line was not written whole
+pub record IsCutOff (error : SinkError) (old new : Course) (line : ℕ) (e : Expression) (before now : Option (List ℕ)) : Type 0 where
+  pub effect : Effect
+  pub answered : AnsweredWith old new line e effect
+  pub left : IsLeft error (lines_of effect.text) before now
 
--- something broke after the expression was answered, and a part of the answer was written
-pub record BrokeAfter (old : Progress) (expression : Expression) (new : Progress) : Type 0 where
-  pub command : Command
-  pub is : expression ≡ written command
-  pub fits : Fits old.state command
-  pub added : List FirstVerdict
-  pub are : AreVerdicts old.state (command ∷ []) added
-  pub verdicts : new.verdicts ≡ old.verdicts ++ added
-  pub part : GrewByPart (lines_of added) old.written new.written
+-- what was answered of the one to the other: these verdicts and errors
+pub record Adds (old new : Course) (verdicts : List Verdict) (errors : List (ℕ × ℕ)) : Type 0 where
+  pub verdicts_are : new.verdicts ≡ old.verdicts ++ verdicts
+  pub errors_are : new.errors ≡ old.errors ++ errors
 
--- something broke while a check was answered, and a part of the answer was written
-pub record BrokeCheck (old new : Progress) : Type 0 where
-  pub verdict : FirstVerdict
-  pub meets : Meets old.state verdict
-  pub verdicts : new.verdicts ≡ old.verdicts ++ verdict ∷ []
-  pub part : GrewByPart (line_of verdict) old.written new.written
+-- these commands were read, answered and written, none of which ends the script
+pub record WentOn (old new : Progress) : Type 0 where
+  pub commands : List Located
+  pub verdicts : List Verdict
+  pub errors : List (ℕ × ℕ)
+  pub lines : List (List ℕ)
+  pub read : (cs : List Located) (x : Ending) → Reads new.unread.line new.unread.bytes cs x → Reads old.unread.line old.unread.bytes (commands ++ cs) x
+  pub answered : Leads old.course.state old.course.number commands new.course.state new.course.number verdicts errors lines
+  pub adds : Adds old.course new.course verdicts errors
+  pub written : new.written ≡ wrote lines old.written
 
--- a check was answered
-pub record Checked (old new : Progress) : Type 0 where
-  pub verdict : FirstVerdict
-  pub meets : Meets old.state verdict
-  pub verdicts : new.verdicts ≡ old.verdicts ++ verdict ∷ []
-  pub written : new.written ≡ appended (line_of verdict) old.written
+-- the script was read, answered and written to its end
+pub record CameToEnd (old new : Progress) : Type 0 where
+  pub commands : List Located
+  pub ending : Ending
+  pub verdicts : List Verdict
+  pub errors : List (ℕ × ℕ)
+  pub lines : List (List ℕ)
+  pub read : Reads old.unread.line old.unread.bytes commands ending
+  pub answered : Answers old.course.state old.course.number commands ending verdicts errors lines
+  pub adds : Adds old.course new.course verdicts errors
+  pub written : new.written ≡ wrote lines old.written
 
--- verdicts were stored, and the sink failed inside the line of the last of them
-pub record BrokeInLine (old : List FirstVerdict) (before : Option (List ℕ)) (new : List FirstVerdict) (now : Option (List ℕ)) : Type 0 where
-  pub added : List FirstVerdict
-  pub verdicts : new ≡ old ++ added
-  pub breaks : BreaksInLine (map line_of added) before now
+-- nothing is left to answer, or an error of the text alone
+abbrev pub EndsWith : Progress → Progress → Ended → Type 0
+EndsWith old new ended.Clean = CameToEnd old new
+EndsWith old new (ended.Lexical error) = WentOn old new × Reads new.unread.line new.unread.bytes [] (lexical error.1 error.0)
+
+-- an error of the sink ended the script after these commands
+pub record BrokeOff (error : SinkError) (old new : Progress) : Type 0 where
+  pub commands : List Located
+  pub rest : List Located
+  pub ending : Ending
+  pub verdicts : List Verdict
+  pub errors : List (ℕ × ℕ)
+  pub lines : List (List ℕ)
+  pub read : Reads old.unread.line old.unread.bytes (commands ++ rest) ending
+  pub answered : Answers old.course.state old.course.number commands clean verdicts errors lines
+  pub adds : Adds old.course new.course verdicts errors
+  pub left : IsLeft error lines old.written new.written

@@ -1,79 +1,50 @@
-//! Commands are answered one after another.
-
-ghost use Rattle.std.specs.Prelude.{◌≡◌, ◌⊎◌, IfOk, OnOk, OnErr, IsErrOf};
-ghost use Rattle.std.specs.Bool.{MatchBool};
+//! Answers are written, each on a line of its own.
+ghost use Rattle.std.specs.Prelude.{◌≡◌, ◌⊎◌, IfOk, OnOk, IfErr};
 ghost use Rattle.ct_io.specs.Fault.{HasCause};
 ghost use Rattle.ct_sexpr.specs.View.{expression_of};
-ghost use Rattle.ct_run.specs.Output.{line_of};
-ghost use Rattle.ct_run.specs.Progress.{stored, AnsweredOne, DeclinedOne, BrokeBefore, BrokeAfter, BrokeCheck, BrokeInLine, Checked};
+ghost use Rattle.ct_script.specs.Answers.{lines_of};
+ghost use Rattle.ct_script.specs.Step.{Effect};
+ghost use Rattle.ct_run.specs.Output.{wrote, IsLeft};
+ghost use Rattle.ct_run.specs.Progress.{AnsweredWith, IsUnanswered, IsCutOff};
 
-use crate::command::{FirstCommand, first_command};
-use crate::session::Session;
-use crate::verdict::FirstVerdict;
 use ct_io::{Sink, SinkError, write_all};
+use ct_script::Session;
 use ct_sexpr::Sexpr;
-use std::alloc::Global;
 
-/// Answers a command of the form. `false` where the expression is none that may stand here, and then nothing is done.
+/// Answers a command that begins on this line. Whether the script ends with it.
 pub fn answer<K: Sink>(
-    alloc: Global,
     session: &mut Session,
-    verdicts: &mut Vec<FirstVerdict>,
+    line: u64,
     expr: &Sexpr,
     out: &mut K,
 ) -> Result<bool, SinkError>
-    ensures answered { IfOk result (λ yes. MatchBool yes
-        (AnsweredOne (stored session.old verdicts.old.items (K.written out.old)) (expression_of expr.now) (stored session.new verdicts.new.items (K.written out.new)))
-        (DeclinedOne (stored session.old verdicts.old.items (K.written out.old)) (expression_of expr.now) (stored session.new verdicts.new.items (K.written out.new)))) }
-    ensures broke { OnErr result
-        (BrokeBefore (stored session.old verdicts.old.items (K.written out.old)) (stored session.new verdicts.new.items (K.written out.new))
-        ⊎ BrokeAfter (stored session.old verdicts.old.items (K.written out.old)) (expression_of expr.now) (stored session.new verdicts.new.items (K.written out.new))) }
-    ensures fault { IsErrOf result SinkError.Fault
-        → BrokeInLine verdicts.old.items (K.written out.old) verdicts.new.items (K.written out.new) }
+    ensures answered { IfOk result (λ stop. (e : Effect) × AnsweredWith session.old session.new line (expression_of expr.now) e
+        × (stop ≡ e.stop) × (K.written out.new ≡ wrote (lines_of e.text) (K.written out.old))) }
+    ensures broke { IfErr result (λ error. IsUnanswered error session.old session.new (K.written out.old) (K.written out.new)
+        ⊎ IsCutOff error session.old session.new line (expression_of expr.now) (K.written out.old) (K.written out.new)) }
     ensures cause { HasCause SinkError.Fault (K.faults out.old) (K.faults out.new) result }
 {
-    let Some(command) = first_command(expr) else {
-        return Ok(false);
-    };
-    if !session.accept(alloc, command)? {
-        return Ok(false);
+    match session.command(line, expr) {
+        Ok(answer) => {
+            write_line(answer.text, out)?;
+            Ok(answer.stop)
+        }
+        Err(_) => Err(SinkError::NoMemory),
     }
-    if let FirstCommand::CheckSat = command {
-        check(alloc, session, verdicts, out)?;
-    }
-    Ok(true)
 }
 
-/// Keeps a verdict on the assertions in force, and writes its line.
-#[tactic(auto, using(crate::proofs::TurnLemmas::broke_in_its_line))]
-fn check<K: Sink>(
-    alloc: Global,
-    session: &Session,
-    verdicts: &mut Vec<FirstVerdict>,
-    out: &mut K,
-) -> Result<(), SinkError>
-    ensures checked { OnOk result
-        (Checked (stored session.now verdicts.old.items (K.written out.old)) (stored session.now verdicts.new.items (K.written out.new))) }
-    ensures broke { OnErr result
-        (BrokeBefore (stored session.now verdicts.old.items (K.written out.old)) (stored session.now verdicts.new.items (K.written out.new))
-        ⊎ BrokeCheck (stored session.now verdicts.old.items (K.written out.old)) (stored session.now verdicts.new.items (K.written out.new))) }
-    ensures fault { IsErrOf result SinkError.Fault
-        → BrokeInLine verdicts.old.items (K.written out.old) verdicts.new.items (K.written out.new) }
+/// Writes a text that is not empty, and ends its line.
+pub fn write_line<K: Sink>(text: Vec<u8>, out: &mut K) -> Result<(), SinkError>
+    ensures ok { OnOk result (K.written out.new ≡ wrote (lines_of text.items) (K.written out.old)) }
+    ensures broke { IfErr result (λ error. IsLeft error (lines_of text.items) (K.written out.old) (K.written out.new)) }
     ensures cause { HasCause SinkError.Fault (K.faults out.old) (K.faults out.new) result }
 {
-    let verdict = session.check(alloc)?;
-    let line = line(&verdict);
-    verdicts.push(verdict)?;
-    write_all(out, line)?;
-    Ok(())
-}
-
-/// The line of a verdict.
-fn line(verdict: &FirstVerdict) -> &'static [u8]
-    ensures value { result.now ≡ line_of verdict.now }
-{
-    match verdict {
-        FirstVerdict::Sat(_) => b"sat\n",
-        FirstVerdict::Unsat(_, _) => b"unsat\n",
+    if text.is_empty() {
+        return Ok(());
     }
+    let mut text = text;
+    if text.push(b'\n').is_err() {
+        return Err(SinkError::NoMemory);
+    }
+    write_all(out, text.as_slice())
 }

@@ -1,9 +1,8 @@
 //! What a run of the program tells its caller.
-
 ghost use Rattle.std.specs.Prelude.{◌≡◌, []};
 ghost use Rattle.ct_run.specs.Refusal.{status_of_error};
 
-use crate::verdict::FirstVerdict;
+use ct_engine::Verdict;
 use ct_io::{SinkError, Status};
 use std::alloc::Global;
 
@@ -11,12 +10,12 @@ use std::alloc::Global;
 pub type ScriptError = (u64, u16);
 
 /// How a run ended, with the verdicts and the errors of the commands that were answered.
-#[derive(Debug, Drop)]
+#[derive(Drop)]
 pub struct Report {
     /// How the run ended.
     pub status: Status,
-    /// A verdict for each check, in order.
-    pub verdicts: Vec<FirstVerdict>,
+    /// The verdicts, in order.
+    pub verdicts: Vec<Verdict>,
     /// The errors in order.
     pub errors: Vec<ScriptError>,
 }

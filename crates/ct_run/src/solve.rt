@@ -1,20 +1,20 @@
 //! A script is answered from its first command to its end.
-
-ghost use Rattle.std.specs.Prelude.{◌≡◌, ◌≢◌, ℕ, List, [], ◌∷◌, true, length, Some, IfOk, ◌≤◌};
-ghost use Rattle.ct_io.specs.Fault.{Rose};
+ghost use Rattle.std.specs.Prelude.{◌≡◌, ◌≢◌, ℕ, List, [], true, length, Some, OnOk, IfErr, ◌≤◌};
+ghost use Rattle.ct_io.specs.Fault.{HasCause, Rose};
 ghost use Rattle.ct_io.specs.declared.status.Status.TheVariants as status;
+ghost use Rattle.ct_run.specs.Output.{wrote, IsLeft};
+ghost use Rattle.ct_run.specs.Refusal.{IsRefused, status_of_script, refusal_line};
 ghost use Rattle.ct_run.specs.Run.{most_bytes, Solves};
-ghost use Rattle.ct_run.specs.Refusal.{Refused};
 
-use crate::error_line::write_error;
+use crate::answer::write_line;
 use crate::input::{InputError, read_script};
 use crate::report::{Report, ScriptError, status_of, unanswered};
-use crate::session::Session;
-use crate::turn::answer_all;
-use crate::verdict::FirstVerdict;
-use ct_io::{Desk, Sink, Status};
+use crate::turn::{Ending, answer_all};
+use ct_engine::Verdict;
+use ct_io::{Desk, Sink, SinkError, Status};
+use ct_script::{Session, refusal_text};
 use ct_sexpr::Reader;
-use std::alloc::{AllocError, Global};
+use std::alloc::Global;
 
 /// Reads the script under the name and answers it.
 pub fn solve<D: Desk, K: Sink>(alloc: Global, name: &str, desk: &mut D, out: &mut K) -> Report
@@ -42,7 +42,7 @@ pub fn solve<D: Desk, K: Sink>(alloc: Global, name: &str, desk: &mut D, out: &mu
     }
 }
 
-/// Answers the script that the reader was fed.
+// Answers the script that the reader was fed.
 fn answer_script<K: Sink>(alloc: Global, reader: &mut Reader, out: &mut K) -> Report
     requires ended { reader.old.ended ≡ true }
     requires line { reader.old.line ≡ 1 }
@@ -53,43 +53,63 @@ fn answer_script<K: Sink>(alloc: Global, reader: &mut Reader, out: &mut K) -> Re
     ensures count { K.faults out.old ≤ K.faults out.new }
     ensures uncounted { result.status ≢ status.OutputFault → K.faults out.new ≡ K.faults out.old }
 {
-    ct_sexpr::one_reading();
     let Ok(mut session) = Session::new(alloc) else {
         return unanswered(alloc, Status::NoMemory);
     };
-    let mut verdicts = Vec::new(alloc);
-    match answer_all(alloc, reader, &mut session, &mut verdicts, out) {
-        Ok(None) => Report {
-            status: Status::Done,
-            verdicts,
-            errors: Vec::new(alloc),
-        },
-        Ok(Some(error)) => refuse(alloc, verdicts, error, out),
+    let ending = answer_all(reader, &mut session, out);
+    let (verdicts, errors) = session.finish();
+    match ending {
+        Ok(Ending::Clean) => finished(verdicts, errors),
+        Ok(Ending::Lexical(error)) => refuse(alloc, verdicts, errors, error, out),
         Err(error) => Report {
             status: status_of(error),
             verdicts,
-            errors: Vec::new(alloc),
+            errors,
         },
     }
 }
 
-/// Keeps and writes the error of what is left over.
+// The report of a script that came to its end.
+fn finished(verdicts: Vec<Verdict>, errors: Vec<ScriptError>) -> Report
+    ensures status { result.status ≡ status_of_script errors.items }
+    ensures verdicts { result.verdicts.items ≡ verdicts.items }
+    ensures errors { result.errors.items ≡ errors.items }
+{
+    let status = if errors.is_empty() {
+        Status::Done
+    } else {
+        Status::Refused
+    };
+    Report {
+        status,
+        verdicts,
+        errors,
+    }
+}
+
+// The report of a script that ends with an error of its text, which is written.
 fn refuse<K: Sink>(
     alloc: Global,
-    verdicts: Vec<FirstVerdict>,
+    verdicts: Vec<Verdict>,
+    errors: Vec<ScriptError>,
     error: ScriptError,
     out: &mut K,
 ) -> Report
+    ensures refused { IsRefused error result.status errors.items result.errors.items (K.written out.old) (K.written out.new) }
     ensures verdicts { result.verdicts.items ≡ verdicts.items }
-    ensures refused { Refused error result.status result.errors.items (K.written out.old) (K.written out.new) }
     ensures output { result.status ≡ status.OutputFault → Rose (K.faults out.old) (K.faults out.new) }
     ensures count { K.faults out.old ≤ K.faults out.new }
     ensures uncounted { result.status ≢ status.OutputFault → K.faults out.new ≡ K.faults out.old }
 {
-    let Ok(errors) = only(alloc, error) else {
-        return unfinished(alloc, verdicts);
-    };
-    let status = match write_error(alloc, error, out) {
+    let mut errors = errors;
+    if errors.push(error).is_err() {
+        return Report {
+            status: Status::NoMemory,
+            verdicts,
+            errors,
+        };
+    }
+    let status = match write_refusal(alloc, error, out) {
         Ok(()) => Status::Refused,
         Err(error) => status_of(error),
     };
@@ -100,24 +120,14 @@ fn refuse<K: Sink>(
     }
 }
 
-/// The report of a run that found no memory for its error. Takes none.
-fn unfinished(alloc: Global, verdicts: Vec<FirstVerdict>) -> Report
-    ensures status { result.status ≡ status.NoMemory }
-    ensures verdicts { result.verdicts.items ≡ verdicts.items }
-    ensures errors { result.errors.items ≡ [] }
+// Writes the text of an error.
+fn write_refusal<K: Sink>(alloc: Global, error: ScriptError, out: &mut K) -> Result<(), SinkError>
+    ensures ok { OnOk result (K.written out.new ≡ wrote (refusal_line error) (K.written out.old)) }
+    ensures broke { IfErr result (λ e. IsLeft e (refusal_line error) (K.written out.old) (K.written out.new)) }
+    ensures cause { HasCause SinkError.Fault (K.faults out.old) (K.faults out.new) result }
 {
-    Report {
-        status: Status::NoMemory,
-        verdicts,
-        errors: Vec::new(alloc),
+    match refusal_text(alloc, error.0, error.1) {
+        Ok(text) => write_line(text, out),
+        Err(_) => Err(SinkError::NoMemory),
     }
-}
-
-/// The list of one error.
-fn only(alloc: Global, error: ScriptError) -> Result<Vec<ScriptError>, AllocError>
-    ensures only { IfOk result (λ errors. errors.items ≡ error ∷ []) }
-{
-    let mut errors = Vec::new(alloc);
-    errors.push(error)?;
-    Ok(errors)
 }

@@ -16,9 +16,8 @@ const USAGE: &str = "usage: cosmt [FILE | --audit PROOF FILE | --gen N]\n";
 /// Runs the program on the words of its command line, without its own name.
 ///
 /// No word, or an empty one, names standard input, and a word that does not begin with `-` names a
-/// file. The script there is answered command by command; what is left over where no command of the
-/// accepted form follows is reported in one error line. All other words are answered with the line
-/// of usage.
+/// file. The script there is answered command by command, up to its end, to `exit` or to an error of
+/// its text. All other words are answered with the line of usage.
 pub fn run<D: Desk, K: Sink>(alloc: Global, words: &[Text], desk: &mut D, out: &mut K) -> Report
     // Where the desk tells what it holds under the script's name, the report and what was written are its answers.
     ensures solved { (name bytes : List ℕ) → NamesFile words.now name → D.held desk.old name ≡ Some bytes

@@ -2,8 +2,9 @@
 use crate::script::script_of;
 use crate::setting::{Setting, desk_of, setting_of, sink_of};
 use ct_cases::{CaseError, items_of, show_bytes, string_of};
+use ct_engine::Verdict;
 use ct_io::Text;
-use ct_run::{FirstVerdict, Report, run};
+use ct_run::{Report, run};
 use ct_sexpr::Sexpr;
 use std::alloc::Global;
 
@@ -60,13 +61,12 @@ fn show_run(
     Ok(())
 }
 
-/// Shows the status, the number of verdicts, the last verdict, and the errors, each with its line
-/// and its number.
+/// Shows the status, the verdicts, and the errors, each with its line and its number.
 fn show_report(alloc: Global, report: &Report, out: &mut String) -> Result<(), CaseError> {
-    let count = report.verdicts.len();
-    out.push_str(format!(in alloc; " {:?} {count}", report.status)?.as_str())?;
-    if let Some(verdict) = report.verdicts.last() {
-        show_verdict(alloc, verdict, out)?;
+    out.push_str(format!(in alloc; " {:?}", report.status)?.as_str())?;
+    for verdict in &report.verdicts {
+        out.push(' ')?;
+        out.push_str(word_of(verdict))?;
     }
     for (line, code) in &report.errors {
         out.push_str(format!(in alloc; " line-{line}-E{code}")?.as_str())?;
@@ -74,22 +74,12 @@ fn show_report(alloc: Global, report: &Report, out: &mut String) -> Result<(), C
     Ok(())
 }
 
-/// Shows a verdict: the two assertions that contradict each other, or the number of constants and
-/// which are true.
-fn show_verdict(alloc: Global, verdict: &FirstVerdict, out: &mut String) -> Result<(), CaseError> {
+/// The word of a verdict: `stuck` is one of those that are printed as `unknown`.
+fn word_of(verdict: &Verdict) -> &'static str {
     match verdict {
-        FirstVerdict::Unsat(first, second) => {
-            out.push_str(format!(in alloc; " unsat({first} {second})")?.as_str())?;
-        }
-        FirstVerdict::Sat(values) => {
-            out.push_str(format!(in alloc; " sat({}", values.len())?.as_str())?;
-            for (index, value) in values.iter().enumerate() {
-                if *value {
-                    out.push_str(format!(in alloc; " {index}")?.as_str())?;
-                }
-            }
-            out.push(')')?;
-        }
+        Verdict::Sat(_) => "sat",
+        Verdict::Unsat(_) => "unsat",
+        Verdict::Unknown(_) => "unknown",
+        Verdict::Stuck { .. } => "stuck",
     }
-    Ok(())
 }

@@ -1,8 +1,8 @@
 //! Tests of whole runs of the solver, over a desk and a sink in memory. Each line of standard
 //! input is a case, and its answer is one line: `(NAME run SCRIPT SETTING ..)` runs the script
 //! under the name `s`, `(NAME words (WORD ..) SCRIPT SETTING ..)` under these arguments, and
-//! shows the status, the number of verdicts, the last verdict, the errors, and what was written;
-//! where a call of the desk fails, also how often it was called. A setting is
+//! shows the status, the verdicts, the errors, and what was written; where a call of the desk
+//! fails, also how often it was called. A setting is
 //! `(desk-fails CALL)`, `(sink-fails CALL)` or `(piece COUNT)`, for the most bytes that a call
 //! takes. A line that is no case is answered `BAD`.
 #![tactic(auto)]

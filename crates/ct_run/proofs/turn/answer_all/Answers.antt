@@ -1,37 +1,49 @@
-use Rattle.std.proofs.Common.{rules, refl, ◌∙◌}
-use Rattle.ct_run.specs.Progress.{Progress, stored}
-use Rattle.ct_run.proofs.TurnLemmas.{at_err, Answered-start, Answered-more, Broke-later, BrokeInLine-later, Took-start, Took-more}
+use Rattle.std.proofs.Common.{◌≡◌, [], refl, sym, ◌∙◌}
+use Rattle.std.proofs.lemmas.Result.{err_from_is_err_and}
+use Rattle.ct_sexpr.specs.Text.{Located, clean, Reads}
+use Rattle.ct_sexpr.specs.View.{expression_of}
+use Rattle.ct_sexpr.specs.Answer.{GivesCommand, IsFirstCommand}
+use Rattle.ct_run.specs.Progress.{Progress, progress}
+use Rattle.ct_run.proofs.TurnLemmas.{WentOn-start, goes_on, ends_there, breaks_before, breaks}
 use Rattle.ct_run.proofs.turn.answer_all.Goals as goal
 
-pub loop-error-init : goal.loop-error-init
-loop-error-init g c = record {
-  answered = Answered-start _ _;
-  took = Took-start _ c.requires.ended;
-  same = refl;
-}
+pub loop-expr-init : goal.loop-expr-init
+loop-expr-init g c = record { went = WentOn-start _; ended = c.requires.ended; same = refl }
 
-pub returns-in_err-take_turn-clause-broke : goal.returns-in_err-take_turn-clause-broke
-returns-in_err-take_turn-clause-broke g c =
-    let old : Progress = stored c.args.session.now c.args.verdicts.now.items (g.K.Sink.written c.args.out.now) in
-    let mid : Progress = stored c.loop-error.session c.loop-error.verdicts.items (g.K.Sink.written c.loop-error.out) in
-    let new : Progress = stored c.take_turn.new.session c.take_turn.new.verdicts.items (g.K.Sink.written c.take_turn.new.out) in
-    at_err c.from_residual.result (Broke-later old mid new c.args.reader.now.bytes c.loop-error.reader.bytes c.loop-error.invariant.answered c.in_err-take_turn.ensures.broke)
+pub returns-in_err-answer-in-Ok-Command-clause-broke : goal.returns-in_err-answer-in-Ok-Command-clause-broke
+returns-in_err-answer-in-Ok-Command-clause-broke g c =
+    let old : Progress = progress c.args.session.now c.args.reader.now (g.K.Sink.written c.args.out.now) in
+    let mid : Progress = progress c.loop-expr.session c.loop-expr.reader (g.K.Sink.written c.loop-expr.out) in
+    let new : Progress = progress c.answer.new.session c.next.new.self (g.K.Sink.written c.answer.new.out) in
+    let first : Located = record { command = expression_of c.in-Ok-Command.expr; line = c.in-Ok-Command.line } in
+    let is : IsFirstCommand c.loop-expr.reader c.next.new.self first = rw c.in-Ok-Command.field-0-is at c.in-Ok-Command.ensures.reads in
+    let p = err_from_is_err_and c.from_residual.result c.from_residual.ensures.1 in
+    rw (p.1, p.2) (breaks old mid c.loop-expr.invariant.went new first is c.one_text.ensures.some_text _ c.in_err-answer-in-Ok-Command.ensures.broke)
 
-pub returns-in_err-take_turn-clause-fault : goal.returns-in_err-take_turn-clause-fault
-returns-in_err-take_turn-clause-fault g c =
-    let old : Progress = stored c.args.session.now c.args.verdicts.now.items (g.K.Sink.written c.args.out.now) in
-    let mid : Progress = stored c.loop-error.session c.loop-error.verdicts.items (g.K.Sink.written c.loop-error.out) in
-    let later = BrokeInLine-later old mid c.args.reader.now.bytes c.loop-error.reader.bytes c.take_turn.new.verdicts.items (g.K.Sink.written c.take_turn.new.out) c.loop-error.invariant.answered in
-    search (rules, later)
-
-pub loop-error-preserved : goal.loop-error-preserved
-loop-error-preserved g c =
-    let old : Progress = stored c.args.session.now c.args.verdicts.now.items (g.K.Sink.written c.args.out.now) in
-    let mid : Progress = stored c.loop-error.session c.loop-error.verdicts.items (g.K.Sink.written c.loop-error.out) in
-    let new : Progress = stored c.take_turn.new.session c.take_turn.new.verdicts.items (g.K.Sink.written c.take_turn.new.out) in
-    let turned = rw c.in-Answered.is at c.in_ok-take_turn.ensures.turned in
+pub loop-expr-preserved-else-branch-8 : goal.loop-expr-preserved-else-branch-8
+loop-expr-preserved-else-branch-8 g c =
+    let old : Progress = progress c.args.session.now c.args.reader.now (g.K.Sink.written c.args.out.now) in
+    let mid : Progress = progress c.loop-expr.session c.loop-expr.reader (g.K.Sink.written c.loop-expr.out) in
+    let new : Progress = progress c.answer.new.session c.next.new.self (g.K.Sink.written c.answer.new.out) in
+    let first : Located = record { command = expression_of c.in-Ok-Command.expr; line = c.in-Ok-Command.line } in
+    let is : IsFirstCommand c.loop-expr.reader c.next.new.self first = rw c.in-Ok-Command.field-0-is at c.in-Ok-Command.ensures.reads in
+    let gives : GivesCommand c.loop-expr.reader c.next.new.self first.command first.line = rw c.in-Ok-Command.field-0-is at c.in-Ok-Command.ensures.answers in
+    let a = c.in_ok-answer-in-Ok-Command.ensures.answered in
     record {
-      answered = Answered-more old mid new c.args.reader.now.bytes c.loop-error.reader.bytes c.take_turn.new.reader.bytes c.loop-error.invariant.answered turned.0;
-      took = Took-more c.args.reader.now c.loop-error.reader c.take_turn.new.reader c.loop-error.invariant.took turned.1;
-      same = c.in_ok-take_turn.ensures.cause.uncounted ∙ c.loop-error.invariant.same;
+      went = goes_on old mid c.loop-expr.invariant.went new first is a.0 a.1 (sym a.2 ∙ c.if-branch.false) a.3;
+      ended = gives.ended ∙ c.loop-expr.invariant.ended;
+      same = c.in_ok-answer-in-Ok-Command.ensures.cause.uncounted ∙ c.loop-expr.invariant.same;
     }
+
+pub returns-in-Ok-End-clause-ends : goal.returns-in-Ok-End-clause-ends
+returns-in-Ok-End-clause-ends g c =
+    let old : Progress = progress c.args.session.now c.args.reader.now (g.K.Sink.written c.args.out.now) in
+    let mid : Progress = progress c.loop-expr.session c.loop-expr.reader (g.K.Sink.written c.loop-expr.out) in
+    let reads : Reads c.loop-expr.reader.line c.loop-expr.reader.bytes [] clean = rw c.in-Ok-End.field-0-is at c.in-Ok-End.ensures.reads in
+    ends_there old mid c.loop-expr.invariant.went c.loop-expr.session refl reads c.next.new.self
+
+pub returns-in-Err-NoMemory-clause-broke : goal.returns-in-Err-NoMemory-clause-broke
+returns-in-Err-NoMemory-clause-broke g c =
+    let old : Progress = progress c.args.session.now c.args.reader.now (g.K.Sink.written c.args.out.now) in
+    let mid : Progress = progress c.loop-expr.session c.loop-expr.reader (g.K.Sink.written c.loop-expr.out) in
+    breaks_before old mid c.loop-expr.invariant.went c.one_text.ensures.some_text c.loop-expr.session c.next.new.self (g.K.Sink.written c.loop-expr.out) refl refl

@@ -1,14 +1,13 @@
-use Rattle.std.proofs.Common.{◌≡◌, length}
-use Rattle.ct_run.specs.Progress.{stored, Answered}
-use Rattle.ct_run.specs.Turns.{Took}
+use Rattle.std.proofs.Common.{◌≡◌, length, true}
+use Rattle.ct_run.specs.Progress.{progress, WentOn}
 use Rattle.ct_run.proofs.turn.answer_all.Given as goal
 
-abbrev pub invariant-loop-error : goal.invariant-loop-error
-invariant-loop-error g l = record {
-  answered : Answered (stored l.initial.session l.initial.verdicts.items (g.K.Sink.written l.initial.out)) l.initial.reader.bytes (stored l.session l.verdicts.items (g.K.Sink.written l.out)) l.reader.bytes;
-  took : Took l.initial.reader l.reader;
+abbrev pub invariant-loop-expr : goal.invariant-loop-expr
+invariant-loop-expr g l = record {
+  went : WentOn (progress l.initial.session l.initial.reader (g.K.Sink.written l.initial.out)) (progress l.session l.reader (g.K.Sink.written l.out));
+  ended : l.reader.ended ≡ true;
   same : g.K.Sink.faults l.out ≡ g.K.Sink.faults l.initial.out;
 }
 
-abbrev pub decreases-loop-error : goal.decreases-loop-error
-decreases-loop-error g l = length l.reader.bytes
+abbrev pub decreases-loop-expr : goal.decreases-loop-expr
+decreases-loop-expr g l = length l.reader.bytes

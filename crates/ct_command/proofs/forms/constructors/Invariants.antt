@@ -1,0 +1,12 @@
+use Rattle.std.proofs.Common.{length}
+use Rattle.ct_command.specs.Items.{each}
+use Rattle.ct_command.specs.Forms.{constructor}
+use Rattle.ct_command.specs.Seen.{all_seen, constructor_seen}
+use Rattle.ct_command.proofs.EachLemmas.{Completes}
+use Rattle.ct_command.proofs.forms.constructors.Given as goal
+
+abbrev pub invariant-loop-left : goal.invariant-loop-left
+invariant-loop-left l = Completes constructor constructor_seen (each constructor (all_seen l.exprs)) l.read.items (all_seen l.left)
+
+abbrev pub decreases-loop-left : goal.decreases-loop-left
+decreases-loop-left l = length l.left

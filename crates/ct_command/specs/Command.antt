@@ -1,0 +1,37 @@
+-- What a command says (SMT-LIB 2.7, section 3.9; cvc5 for codatatypes), before any name in it is looked up.
+use Rattle.std.specs.Prelude.{ℕ, List}
+use Rattle.ct_sexpr.specs.Expression.{Expression}
+use Rattle.ct_command.specs.declared.command.Family.{Family}
+
+-- a name and the sort beside it: a field of a constructor, or a parameter of a definition
+pub record Named : Type 0 where
+  pub name : List ℕ
+  pub sort : Expression
+
+-- a sort of a block by its name and its number of arguments
+pub record SortHead : Type 0 where
+  pub name : List ℕ
+  pub arity : ℕ
+
+-- a constructor with its fields
+pub record Constructor : Type 0 where
+  pub name : List ℕ
+  pub fields : List Named
+
+-- what is declared of one sort of a block: constructors over type parameters, or constructors
+pub data Body : Type 0 where
+  parametric : Body
+  constructors : List Constructor → Body
+
+pub data Command : Type 0 where
+  declare_sort : SortHead → Command
+  declare_block : Family → List SortHead → List Body → Command
+  -- a function with the sorts of its arguments and its result; a constant has no arguments
+  declare_fun : List ℕ → List Expression → Expression → Command
+  -- a definition with its parameters, the sort of its result, and its body
+  define_fun : List ℕ → List Named → Expression → Expression → Command
+  assert : Expression → Command
+  check_sat : Command
+  get_model : Command
+  get_value : List Expression → Command
+  exit : Command

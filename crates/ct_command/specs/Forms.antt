@@ -1,0 +1,126 @@
+-- The forms of commands (SMT-LIB 2.7, section 3.9; cvc5 for codatatypes): what expressions after the word of a command say.
+use Rattle.std.specs.Prelude.{ℕ, Bool, false, List, [], ◌∷◌, Option, Some, None, option_map, option_and_then, codes, if◌then◌else◌}
+use Rattle.std.specs.Str.{bytes_eq}
+use Rattle.ct_sexpr.specs.Expression.{Expression}
+use Rattle.ct_command.specs.declared.command.Family.{Family}
+use Rattle.ct_command.specs.Command.{Named, SortHead, Constructor, Body, parametric, constructors, Command, declare_sort, declare_block, declare_fun, define_fun, assert, get_value}
+use Rattle.ct_command.specs.Items.{name_of, numeral_of, word_of, items_of, each}
+
+-- `(x S)`
+abbrev pub named_by : List Expression → Option Named
+named_by (x ∷ (sort ∷ [])) = option_map (λ name. record { name = name; sort = sort }) (name_of x)
+named_by es = None
+
+abbrev pub named : Expression → Option Named
+named e = option_and_then named_by (items_of e)
+
+-- a name and a numeral
+abbrev pub head_of : Expression → Expression → Option SortHead
+head_of n arity = option_and_then (λ name. option_map (λ k. record { name = name; arity = k }) (numeral_of arity)) (name_of n)
+
+-- `(N n)`
+abbrev pub head_by : List Expression → Option SortHead
+head_by (n ∷ (arity ∷ [])) = head_of n arity
+head_by es = None
+
+abbrev pub sort_head : Expression → Option SortHead
+sort_head e = option_and_then head_by (items_of e)
+
+-- `(C (s S) ..)`
+abbrev pub constructor_by : List Expression → Option Constructor
+constructor_by [] = None
+constructor_by (c ∷ fields) = option_and_then (λ name. option_map (λ read. record { name = name; fields = read }) (each named fields)) (name_of c)
+
+abbrev pub constructor : Expression → Option Constructor
+constructor e = option_and_then constructor_by (items_of e)
+
+-- the word is `par`
+abbrev pub is_par : Option (List ℕ) → Bool
+is_par None = false
+is_par (Some word) = bytes_eq word (codes "par")
+
+-- the expressions begin with `par`
+abbrev pub begins_par : List Expression → Bool
+begins_par [] = false
+begins_par (e ∷ es) = is_par (word_of e)
+
+-- `((C (s S) ..) ..)`, or `(par ..)`
+abbrev pub body_by : List Expression → Option Body
+body_by es = if begins_par es then Some parametric else option_map constructors (each constructor es)
+
+abbrev pub body : Expression → Option Body
+body e = option_and_then body_by (items_of e)
+
+-- `N n`
+abbrev pub declared_sort : List Expression → Option Command
+declared_sort es = option_map declare_sort (head_by es)
+
+-- a block of one sort without arguments
+abbrev pub block_of_one : Family → List ℕ → Body → Command
+block_of_one family name b = declare_block family (record { name = name; arity = 0 } ∷ []) (b ∷ [])
+
+-- `N dec`
+abbrev pub declared_type : Family → List Expression → Option Command
+declared_type family (n ∷ (dec ∷ [])) = option_and_then (λ name. option_map (block_of_one family name) (body dec)) (name_of n)
+declared_type family es = None
+
+-- `((N n) ..)`, with one sort at least
+abbrev pub sort_heads_by : List Expression → Option (List SortHead)
+sort_heads_by [] = None
+sort_heads_by (e ∷ es) = each sort_head (e ∷ es)
+
+abbrev pub sort_heads : Expression → Option (List SortHead)
+sort_heads e = option_and_then sort_heads_by (items_of e)
+
+-- `(dec ..)`
+abbrev pub bodies : Expression → Option (List Body)
+bodies e = option_and_then (each body) (items_of e)
+
+-- `((N n) ..) (dec ..)`
+abbrev pub declared_types : Family → List Expression → Option Command
+declared_types family (heads ∷ (decs ∷ [])) = option_and_then (λ ns. option_map (declare_block family ns) (bodies decs)) (sort_heads heads)
+declared_types family es = None
+
+-- `N S`
+abbrev pub declared_const : List Expression → Option Command
+declared_const (n ∷ (sort ∷ [])) = option_map (λ name. declare_fun name [] sort) (name_of n)
+declared_const es = None
+
+-- `N (S ..) S`
+abbrev pub declared_fun : List Expression → Option Command
+declared_fun (n ∷ (args ∷ (sort ∷ []))) = option_and_then (λ name. option_map (λ sorts. declare_fun name sorts sort) (items_of args)) (name_of n)
+declared_fun es = None
+
+-- `((x S) ..)`
+abbrev pub parameters : Expression → Option (List Named)
+parameters e = option_and_then (each named) (items_of e)
+
+-- `N ((x S) ..) S t`
+abbrev pub defined_fun : List Expression → Option Command
+defined_fun (n ∷ (params ∷ (sort ∷ (t ∷ [])))) = option_and_then (λ name. option_map (λ read. define_fun name read sort t) (parameters params)) (name_of n)
+defined_fun es = None
+
+-- `N S t`
+abbrev pub defined_const : List Expression → Option Command
+defined_const (n ∷ (sort ∷ (t ∷ []))) = option_map (λ name. define_fun name [] sort t) (name_of n)
+defined_const es = None
+
+-- `t`
+abbrev pub asserted : List Expression → Option Command
+asserted (t ∷ []) = Some (assert t)
+asserted es = None
+
+-- nothing after the word
+abbrev pub alone : Command → List Expression → Option Command
+alone c [] = Some c
+alone c (e ∷ es) = None
+
+-- one term or more
+abbrev pub some_terms : List Expression → Option Command
+some_terms [] = None
+some_terms (t ∷ ts) = Some (get_value (t ∷ ts))
+
+-- `(t ..)`, with one term at least
+abbrev pub valued : List Expression → Option Command
+valued (ts ∷ []) = option_and_then some_terms (items_of ts)
+valued es = None

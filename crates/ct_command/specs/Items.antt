@@ -1,0 +1,56 @@
+-- Expressions by their parts: names, numerals, and lists with so many items.
+use Rattle.std.specs.Prelude.{ℕ, List, [], ◌∷◌, Option, Some, None, option_map, option_and_then}
+use Rattle.ct_sexpr.specs.Atom.{Atom, symbol, quoted, keyword, text, numeral, decimal, binary, hexadecimal}
+use Rattle.ct_sexpr.specs.Expression.{Expression, leaf, list, Expressions, none, more}
+use Rattle.ct_sexpr.specs.Readable.{name_of_atom}
+
+-- the name that the expression is: a symbol that is no reserved word
+abbrev pub name_of : Expression → Option (List ℕ)
+name_of (leaf a) = name_of_atom a
+name_of (list es) = None
+
+-- the number that an atom is
+abbrev pub numeral_of_atom : Atom → Option ℕ
+numeral_of_atom (symbol w) = None
+numeral_of_atom (quoted w) = None
+numeral_of_atom (keyword w) = None
+numeral_of_atom (text w) = None
+numeral_of_atom (numeral n) = Some n
+numeral_of_atom (decimal w) = None
+numeral_of_atom (binary w) = None
+numeral_of_atom (hexadecimal w) = None
+
+-- the number that the expression is
+abbrev pub numeral_of : Expression → Option ℕ
+numeral_of (leaf a) = numeral_of_atom a
+numeral_of (list es) = None
+
+-- the word that an atom is, written as a simple symbol
+abbrev pub word_of_atom : Atom → Option (List ℕ)
+word_of_atom (symbol w) = Some w
+word_of_atom (quoted w) = None
+word_of_atom (keyword w) = None
+word_of_atom (text w) = None
+word_of_atom (numeral n) = None
+word_of_atom (decimal w) = None
+word_of_atom (binary w) = None
+word_of_atom (hexadecimal w) = None
+
+abbrev pub word_of : Expression → Option (List ℕ)
+word_of (leaf a) = word_of_atom a
+word_of (list es) = None
+
+-- expressions in a row, as a list
+abbrev pub listed : Expressions → List Expression
+listed none = []
+listed (more e es) = e ∷ listed es
+
+-- the items of a list
+abbrev pub items_of : Expression → Option (List Expression)
+items_of (leaf a) = None
+items_of (list es) = Some (listed es)
+
+-- what each of the expressions forms, where each forms something
+abbrev pub each : {X : Type 0} → (Expression → Option X) → List Expression → Option (List X)
+each form [] = Some []
+each form (e ∷ es) = option_and_then (λ x. option_map (λ xs. x ∷ xs) (each form es)) (form e)

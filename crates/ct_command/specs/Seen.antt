@@ -1,0 +1,64 @@
+-- What the commands of the program stand for.
+use Rattle.std.specs.Prelude.{ℕ, List, map, Option, option_map}
+use Rattle.std.specs.Borrow.{Bor}
+use Rattle.std.specs.Global.{Vec}
+use Rattle.ct_sexpr.specs.declared.sexpr.Sexpr.{Sexpr}
+use Rattle.ct_sexpr.specs.Expression.{Expression}
+use Rattle.ct_sexpr.specs.View.{expression_of}
+use Rattle.ct_command.specs.declared.command.Named.{Named as ReadNamed}
+use Rattle.ct_command.specs.declared.command.SortHead.{SortHead as ReadHead}
+use Rattle.ct_command.specs.declared.command.Constructor.{Constructor as ReadConstructor}
+use Rattle.ct_command.specs.declared.command.Body.{Body as ReadBody}
+use Rattle.ct_command.specs.declared.command.Body.TheVariants as body
+use Rattle.ct_command.specs.declared.command.Command.{Command as ReadCommand}
+use Rattle.ct_command.specs.declared.command.Command.TheVariants as command
+use Rattle.ct_command.specs.Command.{Named, SortHead, Constructor, Body, parametric, constructors, Command, declare_sort, declare_block, declare_fun, define_fun, assert, check_sat, get_model, get_value, exit}
+
+-- the bytes, where there are any
+abbrev pub bytes_seen : Option (Bor (List ℕ)) → Option (List ℕ)
+bytes_seen o = option_map (λ (b : Bor (List ℕ)). b.now) o
+
+-- the expressions in memory
+abbrev pub all_seen : List Sexpr → List Expression
+all_seen es = map expression_of es
+
+-- the items, where there are any
+abbrev pub items_seen : Option (Bor (List Sexpr)) → Option (List Expression)
+items_seen o = option_map (λ (es : Bor (List Sexpr)). all_seen es.now) o
+
+abbrev pub named_seen : ReadNamed → Named
+named_seen n = record { name = n.name.now; sort = expression_of n.sort.now }
+
+abbrev pub head_seen : ReadHead → SortHead
+head_seen h = record { name = h.name.now; arity = h.arity }
+
+abbrev pub constructor_seen : ReadConstructor → Constructor
+constructor_seen c = record { name = c.name.now; fields = map named_seen c.fields.items }
+
+abbrev pub body_seen : ReadBody → Body
+body_seen body.Parametric = parametric
+body_seen (body.Constructors cs) = constructors (map constructor_seen cs.items)
+
+-- lists of these
+abbrev pub nameds_seen : Vec ReadNamed → List Named
+nameds_seen ns = map named_seen ns.items
+
+abbrev pub heads_seen : Vec ReadHead → List SortHead
+heads_seen hs = map head_seen hs.items
+
+abbrev pub constructors_seen : Vec ReadConstructor → List Constructor
+constructors_seen cs = map constructor_seen cs.items
+
+abbrev pub bodies_seen : Vec ReadBody → List Body
+bodies_seen bs = map body_seen bs.items
+
+abbrev pub command_seen : ReadCommand → Command
+command_seen (command.DeclareSort h) = declare_sort (head_seen h)
+command_seen (command.DeclareBlock family hs bs) = declare_block family (heads_seen hs) (bodies_seen bs)
+command_seen (command.DeclareFun name args sort) = declare_fun name.now (all_seen args.now) (expression_of sort.now)
+command_seen (command.DefineFun name params sort t) = define_fun name.now (nameds_seen params) (expression_of sort.now) (expression_of t.now)
+command_seen (command.Assert t) = assert (expression_of t.now)
+command_seen command.CheckSat = check_sat
+command_seen command.GetModel = get_model
+command_seen (command.GetValue ts) = get_value (all_seen ts.now)
+command_seen command.Exit = exit

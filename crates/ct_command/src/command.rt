@@ -1,0 +1,71 @@
+//! What a command says, with names and expressions still as they were read.
+
+use ct_sexpr::Sexpr;
+
+/// Whether a block declares datatypes, whose values are finite, or codatatypes.
+#[derive(Clone, Copy, Debug, PartialEq, Eq)]
+pub enum Family {
+    /// Datatypes (SMT-LIB 2.7, section 4.2.3).
+    Data,
+    /// Codatatypes (cvc5, `declare-codatatypes`).
+    Codata,
+}
+
+/// A name and the sort beside it: a field of a constructor, or a parameter of a definition.
+#[derive(Clone, Copy, Debug)]
+pub struct Named<'a> {
+    /// The name.
+    pub name: &'a [u8],
+    /// The expression of the sort.
+    pub sort: &'a Sexpr,
+}
+
+/// A sort of a block by its name and its number of arguments.
+#[derive(Clone, Copy, Debug)]
+pub struct SortHead<'a> {
+    /// The name.
+    pub name: &'a [u8],
+    /// How many arguments the sort takes.
+    pub arity: u128,
+}
+
+/// A constructor with its fields (SMT-LIB 2.7, section 3.9, `constructor_dec`).
+#[derive(Debug, Drop)]
+pub struct Constructor<'a> {
+    /// The name.
+    pub name: &'a [u8],
+    /// The selectors, each with the sort of its field.
+    pub fields: Vec<Named<'a>>,
+}
+
+/// What is declared of one sort of a block (SMT-LIB 2.7, section 3.9, `datatype_dec`).
+#[derive(Debug, Drop)]
+pub enum Body<'a> {
+    /// Constructors over type parameters, `(par (X ..) ..)`.
+    Parametric,
+    /// The constructors, in order.
+    Constructors(Vec<Constructor<'a>>),
+}
+
+/// A command (SMT-LIB 2.7, section 3.9; cvc5 for codatatypes).
+#[derive(Debug, Drop)]
+pub enum Command<'a> {
+    /// `declare-sort`: an uninterpreted sort.
+    DeclareSort(SortHead<'a>),
+    /// `declare-datatypes`, `declare-codatatypes`, and the forms of one sort.
+    DeclareBlock(Family, Vec<SortHead<'a>>, Vec<Body<'a>>),
+    /// `declare-fun` with the sorts of arguments and result; `declare-const` without arguments.
+    DeclareFun(&'a [u8], &'a [Sexpr], &'a Sexpr),
+    /// `define-fun` with parameters, the sort of the result, and the body; `define-const` without parameters.
+    DefineFun(&'a [u8], Vec<Named<'a>>, &'a Sexpr, &'a Sexpr),
+    /// `assert`.
+    Assert(&'a Sexpr),
+    /// `check-sat`.
+    CheckSat,
+    /// `get-model`.
+    GetModel,
+    /// `get-value`, with one term at least.
+    GetValue(&'a [Sexpr]),
+    /// `exit`.
+    Exit,
+}

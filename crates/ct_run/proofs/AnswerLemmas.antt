@@ -1,0 +1,100 @@
+-- Commands that are answered after others.
+use Rattle.std.proofs.Common.{◌≡◌, ℕ, Bool, true, false, List, [], ◌∷◌, ◌++◌, refl, ap, sym, ◌∙◌, subst, append_assoc}
+use Rattle.std.specs.Bool.{MatchBool}
+use Rattle.ct_sexpr.specs.Text.{Located, Ending, clean, lexical}
+use Rattle.ct_engine.specs.declared.verdict.Verdict.{Verdict}
+use Rattle.ct_script.specs.State.{State}
+use Rattle.ct_script.specs.Step.{Effect, Step, counted, refusal_text}
+use Rattle.ct_script.specs.Answers.{Answers, Leads, IsSilent, IsFollowed, IsEnding, lines_of, errors_of}
+use Rattle.ct_run.proofs.WritingLemmas.{append_nil}
+
+pub silence : IsSilent [] [] []
+silence = record { no_verdict = refl; no_error = refl; no_line = refl }
+
+-- what follows an effect, and more after that
+followed_on : (line : ℕ) (e : Effect) (vs vs' more_vs : List Verdict) (es es' more_es : List (ℕ × ℕ)) (ls ls' more_ls : List (List ℕ)) → IsFollowed line e vs vs' es es' ls ls' → IsFollowed line e (vs ++ more_vs) (vs' ++ more_vs) (es ++ more_es) (es' ++ more_es) (ls ++ more_ls) (ls' ++ more_ls)
+followed_on line e vs vs' more_vs es es' more_es ls ls' more_ls f = record {
+  verdicts_are = ap (λ (xs : List Verdict). xs ++ more_vs) f.verdicts_are ∙ append_assoc e.verdicts vs' more_vs;
+  errors_are = ap (λ (xs : List (ℕ × ℕ)). xs ++ more_es) f.errors_are ∙ append_assoc (errors_of line e.error) es' more_es;
+  lines_are = ap (λ (xs : List (List ℕ)). xs ++ more_ls) f.lines_are ∙ append_assoc (lines_of e.text) ls' more_ls;
+}
+
+-- an effect that nothing follows
+followed_by_nothing : (line : ℕ) (e : Effect) → IsFollowed line e e.verdicts [] (errors_of line e.error) [] (lines_of e.text) []
+followed_by_nothing line e = record {
+  verdicts_are = sym (append_nil e.verdicts);
+  errors_are = sym (append_nil (errors_of line e.error));
+  lines_are = sym (append_nil (lines_of e.text));
+}
+
+-- silence before more
+silent_before : (P : List Verdict → List (ℕ × ℕ) → List (List ℕ) → Type 0) (vs ws : List Verdict) (es fs : List (ℕ × ℕ)) (ls ms : List (List ℕ)) → IsSilent vs es ls → P ws fs ms → P (vs ++ ws) (es ++ fs) (ls ++ ms)
+silent_before P vs ws es fs ls ms silent p =
+    subst (λ (xs : List Verdict). P (xs ++ ws) (es ++ fs) (ls ++ ms)) (sym silent.no_verdict)
+    (subst (λ (xs : List (ℕ × ℕ)). P ws (xs ++ fs) (ls ++ ms)) (sym silent.no_error)
+    (subst (λ (xs : List (List ℕ)). P ws fs (xs ++ ms)) (sym silent.no_line) p))
+
+-- commands that are answered after commands that do not end the script
+pub Answers-after : (s mid : State) (n k : ℕ) (cs ds : List Located) (x : Ending) (vs ws : List Verdict) (es fs : List (ℕ × ℕ)) (ls ms : List (List ℕ)) → Leads s n cs mid k vs es ls → Answers mid k ds x ws fs ms → Answers s n (cs ++ ds) x (vs ++ ws) (es ++ fs) (ls ++ ms)
+Answers-after s mid n k [] ds x vs ws es fs ls ms leads answers =
+    silent_before (λ (vs : List Verdict) (es : List (ℕ × ℕ)) (ls : List (List ℕ)). Answers s n ds x vs es ls) vs ws es fs ls ms leads.2
+    (subst (λ (t : State). Answers t n ds x ws fs ms) leads.0 (subst (λ (m : ℕ). Answers mid m ds x ws fs ms) leads.1 answers))
+Answers-after s mid n k (c ∷ cs) ds x vs ws es fs ls ms (e, vs', es', ls', step, followed, goes_on, leads) answers =
+    let later = Answers-after e.state mid (counted n c.command) k cs ds x vs' ws es' fs ls' ms leads answers in
+    (
+      e,
+      vs' ++ ws,
+      es' ++ fs,
+      ls' ++ ms,
+      step,
+      followed_on c.line e vs vs' ws es es' fs ls ls' ms followed,
+      subst (λ (b : Bool). MatchBool b (IsSilent (vs' ++ ws) (es' ++ fs) (ls' ++ ms)) (Answers e.state (counted n c.command) (cs ++ ds) x (vs' ++ ws) (es' ++ fs) (ls' ++ ms))) (sym goes_on) later,
+    )
+
+-- and that do not end it either
+pub Leads-after : (s mid last : State) (n k m : ℕ) (cs ds : List Located) (vs ws : List Verdict) (es fs : List (ℕ × ℕ)) (ls ms : List (List ℕ)) → Leads s n cs mid k vs es ls → Leads mid k ds last m ws fs ms → Leads s n (cs ++ ds) last m (vs ++ ws) (es ++ fs) (ls ++ ms)
+Leads-after s mid last n k m [] ds vs ws es fs ls ms leads more =
+    silent_before (λ (vs : List Verdict) (es : List (ℕ × ℕ)) (ls : List (List ℕ)). Leads s n ds last m vs es ls) vs ws es fs ls ms leads.2
+    (subst (λ (t : State). Leads t n ds last m ws fs ms) leads.0 (subst (λ (i : ℕ). Leads mid i ds last m ws fs ms) leads.1 more))
+Leads-after s mid last n k m (c ∷ cs) ds vs ws es fs ls ms (e, vs', es', ls', step, followed, goes_on, leads) more = (
+  e,
+  vs' ++ ws,
+  es' ++ fs,
+  ls' ++ ms,
+  step,
+  followed_on c.line e vs vs' ws es es' fs ls ls' ms followed,
+  goes_on,
+  Leads-after e.state mid last (counted n c.command) k m cs ds vs' ws es' fs ls' ms leads more,
+)
+
+-- one command leads to the state after it
+pub Leads-one : (s : State) (n : ℕ) (c : Located) (e : Effect) → Step s n c.line c.command e → e.stop ≡ false → Leads s n (c ∷ []) e.state (counted n c.command) e.verdicts (errors_of c.line e.error) (lines_of e.text)
+Leads-one s n c e step goes_on = (e, [], [], [], step, followed_by_nothing c.line e, goes_on, (refl, refl, silence))
+
+silent_after : (stop : Bool) (rest : Type 0) → rest → MatchBool stop (IsSilent [] [] []) rest
+silent_after true rest r = silence
+silent_after false rest r = r
+
+-- one command is answered, after which there is no other
+pub Answers-one : (s : State) (n : ℕ) (c : Located) (e : Effect) → Step s n c.line c.command e → Answers s n (c ∷ []) clean e.verdicts (errors_of c.line e.error) (lines_of e.text)
+Answers-one s n c e step = (e, [], [], [], step, followed_by_nothing c.line e, silent_after e.stop (IsSilent [] [] []) silence)
+
+-- a command is answered that ends the script, whatever follows
+pub Answers-last : (s : State) (n : ℕ) (c : Located) (cs : List Located) (x : Ending) (e : Effect) → Step s n c.line c.command e → e.stop ≡ true → Answers s n (c ∷ cs) x e.verdicts (errors_of c.line e.error) (lines_of e.text)
+Answers-last s n c cs x e step stops = (
+  e,
+  [],
+  [],
+  [],
+  step,
+  followed_by_nothing c.line e,
+  subst (λ (b : Bool). MatchBool b (IsSilent [] [] []) (Answers e.state (counted n c.command) cs x [] [] [])) (sym stops) silence,
+)
+
+-- nothing is answered of no command
+pub Answers-none : (s : State) (n : ℕ) → Answers s n [] clean [] [] []
+Answers-none s n = silence
+
+-- an error of the text
+pub Answers-lexical : (s : State) (n code line : ℕ) → Answers s n [] (lexical code line) [] ((line, code) ∷ []) (lines_of (refusal_text line code))
+Answers-lexical s n code line = (refl, refl, refl)

@@ -1,0 +1,15 @@
+use Rattle.ct_sexpr.specs.View.{expression_of}
+use Rattle.ct_command.specs.Seen.{command_seen}
+use Rattle.ct_script.specs.Session.{state_of}
+use Rattle.ct_script.proofs.CourseLemmas.{stepped, unread}
+use Rattle.ct_script.proofs.session.Session.command.Goals as goal
+
+pub returns-in-Ok-clause-stepped : goal.returns-in-Ok-clause-stepped
+returns-in-Ok-clause-stepped c =
+    stepped c.perform.result c.args.self.now c.args.line (expression_of c.args.expr.now) (command_seen c.in-Ok.command) c.perform.new.self c.in-Ok.ensures.value c.perform.ensures.stepped
+
+pub returns-in_ok-refused-in-Err-Refused-clause-stepped : goal.returns-in_ok-refused-in-Err-Refused-clause-stepped
+returns-in_ok-refused-in-Err-Refused-clause-stepped c =
+    let s = c.self.inside in
+    let read = rw c.in-Err-Refused.field-0-is at c.in-Err-Refused.ensures.value in
+    unread s.stack s.verdicts.items s.kept s.number s.errors.items c.args.self.now c.self.view_is c.args.line (expression_of c.args.expr.now) c.in-Err-Refused.code c.in_ok-refused-in-Err-Refused.field-0 c.refused.new.errors.items read c.in_ok-refused-in-Err-Refused.ensures.stored (c.in_ok-refused-in-Err-Refused.ensures.answer (state_of s.stack s.verdicts.items s.kept))

@@ -1,0 +1,13 @@
+use Rattle.std.proofs.Common.{◌∙◌}
+use Rattle.ct_script.proofs.StackLemmas.{first_stack_held, first_stack_is}
+use Rattle.ct_script.proofs.stack.AssertionStack.new.Goals as goal
+
+pub invariant_of-result : goal.invariant_of-result
+invariant_of-result c =
+    first_stack_held c.laws.ensures.hold (record { sig = c.in-Ok.sig; bodies = c.new-4.result }) c.new-5.result.items c.in-Ok-new.table c.new-6.result.items c.in-Ok.ensures.ok (c.new-4.ensures.value ∙ c.new-3.ensures.items) c.new-5.ensures.items c.new-6.ensures.items c.in-Ok-new.ensures.ok c.len.ensures.ordered c.in-Ok-new.ensures.at_start
+
+pub returns : goal.returns
+returns c =
+    record {
+      empty = first_stack_is c.laws.ensures.hold (record { sig = c.in-Ok.sig; bodies = c.new-4.result }) c.new-5.result.items c.in-Ok-new.table c.new-6.result.items c.in-Ok.ensures.ok (c.new-4.ensures.value ∙ c.new-3.ensures.items) c.new-5.ensures.items;
+    }
