@@ -8,12 +8,14 @@ use Rattle.ct_command.specs.Command.{Command, declare_sort, declare_block, decla
 use Rattle.ct_command.specs.Reading.{Read, command}
 use Rattle.ct_engine.specs.declared.verdict.Verdict.{Verdict}
 use Rattle.ct_script.specs.declared.answer.Answer.{Answer}
-use Rattle.ct_script.specs.State.{Stack, State, declared, context_of}
+use Rattle.ct_sorts.specs.Declarations.{with_function}
+use Rattle.ct_script.specs.Elaborations.{declared_function, defined_function, asserted_formula}
+use Rattle.ct_script.specs.State.{Stack, State, declared, context_of, changed, declaring, in_context, asserting}
 use Rattle.ct_script.specs.Outcomes.{Gives}
 use Rattle.ct_model.specs.ModelText.{IsModelText}
 use Rattle.ct_script.specs.Values.{AreValues}
 use Rattle.ct_script.specs.Refusal.{IsRefusal, model_kept}
-use Rattle.ct_script.specs.Step.{Effect, OfModel, Does, Steps, Step, refused, said, counted_by}
+use Rattle.ct_script.specs.Step.{Effect, OfModel, Does, Steps, Step, refused, said, quiet, defined_in, counted_by}
 use Rattle.ct_script.specs.Answers.{errors_of}
 use Rattle.ct_script.specs.Session.{Course, IsAnswer, Performs, state_of, reached, after}
 
@@ -29,9 +31,9 @@ only_of None P Q more h = absurd h
 no_error : (s : State) (number : ℕ) (c : Command) (e : Effect) → Does s number c e → e.error ≡ None
 no_error s number (declare_sort head) e is = ap (λ (x : Effect). x.error) is
 no_error s number (declare_block family heads bodies) e is = ap (λ (x : Effect). x.error) is
-no_error s number (declare_fun name args sort) e is = only _ _ (e.error ≡ None) (λ f h. ap (λ (x : Effect). x.error) h) is
-no_error s number (define_fun name params sort t) e is = only _ _ (e.error ≡ None) (λ f h. ap (λ (x : Effect). x.error) h) is
-no_error s number (assert t) e is = only _ _ (e.error ≡ None) (λ f h. ap (λ (x : Effect). x.error) h) is
+no_error s number (declare_fun name args sort) e is = only (declared_function (declared s) name args sort) (λ f. e ≡ quiet (changed s (declaring s.stack (with_function (declared s) f)))) (e.error ≡ None) (λ f h. ap (λ (x : Effect). x.error) h) is
+no_error s number (define_fun name params sort t) e is = only (defined_function (declared s) name params sort t) (λ f. e ≡ quiet (changed s (in_context s.stack (defined_in (context_of s) f)))) (e.error ≡ None) (λ f h. ap (λ (x : Effect). x.error) h) is
+no_error s number (assert t) e is = only (asserted_formula (declared s) t) (λ formula. e ≡ quiet (changed s (asserting s.stack formula))) (e.error ≡ None) (λ f h. ap (λ (x : Effect). x.error) h) is
 no_error s number check_sat e is = ap (λ (x : Effect). x.error) is.2
 no_error s number get_model e is = only_of (model_kept s.kept) (λ i. (text : List ℕ) × IsModelText (declared s) i text × (e ≡ said s text)) (e.error ≡ None) (λ i h. ap (λ (x : Effect). x.error) h.2) is
 no_error s number (get_value ts) e is = only_of (model_kept s.kept) (λ i. (text : List ℕ) × AreValues (context_of s) i ts text × (e ≡ said s text)) (e.error ≡ None) (λ i h. ap (λ (x : Effect). x.error) h.2) is

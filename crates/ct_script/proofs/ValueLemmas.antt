@@ -207,8 +207,8 @@ module _ (c : Context) (all : List Formula) (first : Terms) where
           whole = way.whole ∙ sym (append_assoc way.so_far (core c f ∷ []) (cores c left));
           stand = AllZip-push (Stands new) numbers way.so_far t (core c f) (all_stand_on longer table new numbers way.so_far grown ordered way.stand) stands;
           exact = λ roots of.
-            subst (λ (rs : List CoreTree). IsTableOf c.declarations rs new) (append_assoc roots way.so_far (core c f ∷ []))
-            (made (roots ++ way.so_far) (way.exact roots of));
+              subst (λ (rs : List CoreTree). IsTableOf c.declarations rs new) (append_assoc roots way.so_far (core c f ∷ []))
+              (made (roots ++ way.so_far) (way.exact roots of));
           grown = prefix_of_prefix first table new way.grown grown;
           sorted = sorted;
           few = few;

@@ -109,13 +109,7 @@ fn compiled_values(
         return Err(CommandError::NoMemory);
     };
     let nodes = nodes_of(alloc, &valuation, numbers.as_slice())?;
-    let text = pairs_text(
-        alloc,
-        &scope.sig,
-        exprs,
-        &valuation.graph,
-        nodes.as_slice(),
-    )?;
+    let text = pairs_text(alloc, &scope.sig, exprs, &valuation.graph, nodes.as_slice())?;
     Ok(text)
 }
 

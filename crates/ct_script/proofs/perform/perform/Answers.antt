@@ -8,9 +8,11 @@ use Rattle.ct_command.specs.declared.command.Body.{Body as ReadBody}
 use Rattle.ct_command.specs.Command.{declare_sort, declare_block, declare_fun, define_fun, assert}
 use Rattle.ct_command.specs.Seen.{command_seen, head_seen, body_seen, named_seen, all_seen}
 use Rattle.ct_script.specs.Refusal.{IsRefusal}
-use Rattle.ct_script.specs.Session.{Performs, state_of}
+use Rattle.ct_engine.specs.declared.verdict.Verdict.{Verdict}
+use Rattle.ct_script.specs.State.{Stack}
+use Rattle.ct_script.specs.Session.{Performs, HasProperModel, state_of, kept_of}
 use Rattle.ct_script.proofs.PerformLemmas.{change_done, change_refused, change_unchanged, change_proper}
-use Rattle.ct_script.proofs.ChangeLemmas.{does_sort, does_block, does_function, does_definition, does_assert}
+use Rattle.ct_script.proofs.ChangeLemmas.{does_sort, does_block, does_function, does_definition, does_assert, exit_done, proper_either}
 use Rattle.ct_script.proofs.perform.perform.Goals as goal
 
 pub returns-in-DeclareSort-clause-done : goal.returns-in-DeclareSort-clause-done
@@ -108,3 +110,22 @@ returns-in-Assert-clause-unchanged c =
 pub returns-in-Assert-clause-proper : goal.returns-in-Assert-clause-proper
 returns-in-Assert-clause-proper c =
     change_proper c.args.stack.now c.assert-done.new.self c.args.verdicts.now.items c.args.kept.now c.changed-in-Assert.new.kept c.args.number (assert (expression_of c.in-Assert.term.now)) c.assert-done.result c.changed-in-Assert.result c.changed-in-Assert.ensures.answered c.assert-done.ensures.unchanged c.requires.proper
+
+pub model-requires : goal.model-requires
+model-requires c = record { proper = subst (λ (vs : List Verdict). HasProperModel c.args.stack.now.top.context.declarations (kept_of vs c.args.kept.now)) (sym c.as_slice-in-GetModel.ensures.value) c.requires.proper }
+
+pub values-requires : goal.values-requires
+values-requires c = record { proper = subst (λ (vs : List Verdict). HasProperModel c.args.stack.now.top.context.declarations (kept_of vs c.args.kept.now)) (sym c.as_slice-in-GetValue.ensures.value) c.requires.proper }
+
+pub returns-in-CheckSat-clause-proper : goal.returns-in-CheckSat-clause-proper
+returns-in-CheckSat-clause-proper c =
+    proper_either c.check.result c.args.stack.now.top.context.declarations c.args.verdicts.now.items c.check.new.verdicts.items c.args.kept.now c.check.new.kept c.check.ensures.proper c.check.ensures.unchanged c.requires.proper
+
+pub returns-in-GetValue-clause-proper : goal.returns-in-GetValue-clause-proper
+returns-in-GetValue-clause-proper c =
+    subst (λ (s : Stack). HasProperModel s.top.context.declarations (kept_of c.args.verdicts.now.items c.args.kept.now)) (sym c.values.ensures.unchanged) c.requires.proper
+
+pub returns-in-Exit-clause-done : goal.returns-in-Exit-clause-done
+returns-in-Exit-clause-done c =
+    subst (λ (x : ReadCommand). Performs (state_of c.args.stack.now c.args.verdicts.now.items c.args.kept.now) c.args.verdicts.now.items c.args.number (command_seen x) (state_of c.args.stack.now c.args.verdicts.now.items c.args.kept.now) c.args.verdicts.now.items c.quiet.result) (sym c.in-Exit.is)
+    (exit_done c.args.stack.now c.args.verdicts.now.items c.args.kept.now c.args.number c.quiet.result c.quiet.ensures.text c.quiet.ensures.error c.quiet.ensures.stop)

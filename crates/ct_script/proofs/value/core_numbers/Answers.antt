@@ -54,8 +54,8 @@ returns-in_err-number-clause-refused c =
     let p = err_from_is_err_and c.from_residual-in_err-number.result c.from_residual-in_err-number.ensures.1 in
     rw (p.1, p.2)
     (λ n e.
-      let said = c.in_err-number.ensures.refused n (same_refusal _ n e) in
-      (said.0, λ roots of. too_many_by_one context all c.args.table.now (formula_of c.first-item.result) (map formula_of others) loop.table loop.numbers.items way roots (said.1 (roots ++ way.so_far) (way.exact roots of))))
+    let said = c.in_err-number.ensures.refused n (same_refusal _ n e) in
+    (said.0, λ roots of. too_many_by_one context all c.args.table.now (formula_of c.first-item.result) (map formula_of others) loop.table loop.numbers.items way roots (said.1 (roots ++ way.so_far) (way.exact roots of))))
 
 pub returns-in_err-push-clause-sorted : goal.returns-in_err-push-clause-sorted
 returns-in_err-push-clause-sorted c = c.in_ok-number.ensures.sorted
@@ -71,9 +71,10 @@ loop-left-preserved c =
     let left = loop.left.now in
     let others = take (length left - 1) (drop 1 left) in
     let split : left ≡ c.first-item.result ∷ others = rest_item left c.first-item.result c.in-len1-up.len_at_least c.first-item.is in
-    let way = subst (λ (ts : List Tree). IsUnderWay context all (map formula_of ts) c.args.table.now loop.table loop.numbers.items) split loop.invariant.0 in
-    (rw c.in_ok-push.ensures.items (one_number_more context all c.args.table.now (formula_of c.first-item.result) (map formula_of others) loop.table loop.numbers.items way c.core_trees.ensures.longer c.core_number.new.table c.in_ok-number.number c.in_ok-number.ensures.grown c.len-in-len1-up.ensures.ordered c.in_ok-number.ensures.sorted c.in_ok-number.ensures.few c.in_ok-number.ensures.stands c.in_ok-number.ensures.made),
-    All-tail (HasSomeSort c.args.scope.now.sig) c.first-item.result others (subst (All (HasSomeSort c.args.scope.now.sig)) split loop.invariant.1))
+    let way = subst (λ (ts : List Tree). IsUnderWay context all (map formula_of ts) c.args.table.now loop.table loop.numbers.items) split loop.invariant.0 in (
+      rw c.in_ok-push.ensures.items (one_number_more context all c.args.table.now (formula_of c.first-item.result) (map formula_of others) loop.table loop.numbers.items way c.core_trees.ensures.longer c.core_number.new.table c.in_ok-number.number c.in_ok-number.ensures.grown c.len-in-len1-up.ensures.ordered c.in_ok-number.ensures.sorted c.in_ok-number.ensures.few c.in_ok-number.ensures.stands c.in_ok-number.ensures.made),
+      All-tail (HasSomeSort c.args.scope.now.sig) c.first-item.result others (subst (All (HasSomeSort c.args.scope.now.sig)) split loop.invariant.1),
+    )
 
 pub returns-clause-numbers : goal.returns-clause-numbers
 returns-clause-numbers c =

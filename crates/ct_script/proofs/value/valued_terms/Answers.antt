@@ -47,10 +47,11 @@ loop-left-preserved c =
     let t = c.in_ok-tree.tree in
     let s = c.in_ok-tree.sort in
     let taken : step x ≡ Ok (formula_of t, s) = c.in_ok-tree.ensures.value in
-    rw (c.in_ok-push.ensures.items, c.in_ok-push-2.ensures.items)
-    (subst (λ (out : List Sorted). Completes step whole out (all_seen others)) (sym (sorted_trees-push trees sorts t s (AreSortedTerms-long d trees sorts c.loop-left.invariant.1)))
-    (one_more step whole (sorted_trees trees sorts) x (formula_of t, s) (all_seen others) taken completes),
-    AllZip-push (λ t sort. IsSorted d [] (formula_of t) sort) trees sorts t s c.loop-left.invariant.1 (c.elaboration.ensures.sorted d [] x (formula_of t) s c.sorts.ensures.consistent taken))
+    rw (c.in_ok-push.ensures.items, c.in_ok-push-2.ensures.items) (
+      subst (λ (out : List Sorted). Completes step whole out (all_seen others)) (sym (sorted_trees-push trees sorts t s (AreSortedTerms-long d trees sorts c.loop-left.invariant.1)))
+          (one_more step whole (sorted_trees trees sorts) x (formula_of t, s) (all_seen others) taken completes),
+      AllZip-push (λ t sort. IsSorted d [] (formula_of t) sort) trees sorts t s c.loop-left.invariant.1 (c.elaboration.ensures.sorted d [] x (formula_of t) s c.sorts.ensures.consistent taken),
+    )
 
 pub returns-clause-value : goal.returns-clause-value
 returns-clause-value c =

@@ -18,8 +18,8 @@ returns-in_err-terms-clause-refused c =
     let p = err_from_is_err_and c.from_residual.result c.from_residual.ensures.1 in
     rw (p.1, p.2)
     (λ n e roots of.
-      terms_refused (context_in c.args.scope.now) roots (all_seen c.args.exprs.now) n
-      (refusal_of terms_seen (each_of (elaborated c.args.scope.now.sig []) (all_seen c.args.exprs.now)) _ n e c.in_err-terms.ensures.value))
+    terms_refused (context_in c.args.scope.now) roots (all_seen c.args.exprs.now) n
+    (refusal_of terms_seen (each_of (elaborated c.args.scope.now.sig []) (all_seen c.args.exprs.now)) _ n e c.in_err-terms.ensures.value))
 
 pub compiled_values-text-requires-clause-sorted : goal.compiled_values-text-requires-clause-sorted
 compiled_values-text-requires-clause-sorted c =
