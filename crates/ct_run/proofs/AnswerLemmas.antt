@@ -5,7 +5,7 @@ use Rattle.ct_sexpr.specs.Text.{Located, Ending, clean, lexical}
 use Rattle.ct_engine.specs.declared.verdict.Verdict.{Verdict}
 use Rattle.ct_script.specs.State.{State}
 use Rattle.ct_script.specs.Step.{Effect, Step, counted, refusal_text}
-use Rattle.ct_script.specs.Answers.{Answers, Leads, IsSilent, IsFollowed, IsEnding, lines_of, errors_of}
+use Rattle.ct_script.specs.Answers.{Answers, Leads, IsSilent, IsFollowed, lines_of, errors_of}
 use Rattle.ct_run.proofs.WritingLemmas.{append_nil}
 
 pub silence : IsSilent [] [] []
@@ -40,8 +40,7 @@ Answers-after s mid n k [] ds x vs ws es fs ls ms leads answers =
     silent_before (λ (vs : List Verdict) (es : List (ℕ × ℕ)) (ls : List (List ℕ)). Answers s n ds x vs es ls) vs ws es fs ls ms leads.2
     (subst (λ (t : State). Answers t n ds x ws fs ms) leads.0 (subst (λ (m : ℕ). Answers mid m ds x ws fs ms) leads.1 answers))
 Answers-after s mid n k (c ∷ cs) ds x vs ws es fs ls ms (e, vs', es', ls', step, followed, goes_on, leads) answers =
-    let later = Answers-after e.state mid (counted n c.command) k cs ds x vs' ws es' fs ls' ms leads answers in
-    (
+    let later = Answers-after e.state mid (counted n c.command) k cs ds x vs' ws es' fs ls' ms leads answers in (
       e,
       vs' ++ ws,
       es' ++ fs,

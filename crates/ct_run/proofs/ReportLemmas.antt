@@ -1,7 +1,6 @@
 -- What a run reports is true of its script.
 use Rattle.std.specs.List.{concat}
 use Rattle.std.proofs.Common.{◌≡◌, ℕ, ◌≤◌, ◌⊎◌, inl, inr, List, [], ◌∷◌, ◌++◌, length, Option, refl, ap, sym, ◌∙◌, subst}
-use Rattle.ct_io.specs.Bytes.{GrewByPrefix}
 use Rattle.ct_io.specs.declared.status.Status.{Status}
 use Rattle.ct_io.specs.declared.status.Status.TheVariants as status
 use Rattle.ct_io.specs.declared.sink.SinkError.{SinkError}
@@ -12,10 +11,12 @@ use Rattle.ct_engine.specs.declared.verdict.Verdict.{Verdict}
 use Rattle.ct_script.specs.State.{first_state}
 use Rattle.ct_script.specs.Session.{Course}
 use Rattle.ct_script.specs.Answers.{Answers}
-use Rattle.ct_run.specs.Output.{wrote, BreaksInLine, IsLeft}
-use Rattle.ct_run.specs.Progress.{Progress, progress, Adds, WentOn, CameToEnd, EndsWith, BrokeOff}
-use Rattle.ct_run.specs.Refusal.{status_of_error, status_of_script, refusal_line, IsRefused}
-use Rattle.ct_run.specs.Run.{most_bytes, IsAnswered, IsAnsweredSoFar, Finishes, StopsEarly, StopsInLine, Solves}
+use Rattle.ct_run.specs.declared.turn.Ending.{Ending as Ended}
+use Rattle.ct_run.specs.declared.turn.Ending.TheVariants as ended
+use Rattle.ct_run.specs.Output.{IsLeft}
+use Rattle.ct_run.specs.Progress.{Progress, progress, WentOn, CameToEnd, EndsWith, BrokeOff}
+use Rattle.ct_run.specs.Refusal.{status_of_error, status_of_script, refusal_line, IsRefused, IsConcluded}
+use Rattle.ct_run.specs.Run.{most_bytes, IsAnswered, IsAnsweredSoFar, Finishes, Solves}
 use Rattle.ct_run.proofs.WritingLemmas.{append_nil, all_written, wrote-later, IsLeft-later}
 use Rattle.ct_run.proofs.AnswerLemmas.{Answers-after, Answers-none, Answers-lexical}
 
@@ -152,9 +153,9 @@ module _ (u : Unread) (first : u.line ≡ 1) (short : length u.bytes ≤ most_by
       (subst (λ (x : List Verdict). Solves u.bytes s x es' old new) (sym f)
       (subst (λ (x : List (ℕ × ℕ)). Solves u.bytes s vs x old new) (sym g) solves))
 
-  pub report_ended : (now : Progress) (s : Status) (vs : List Verdict) (es : List (ℕ × ℕ)) → s ≡ status_of_script es → vs ≡ now.course.verdicts → es ≡ now.course.errors → CameToEnd (progress session u old) now → Solves u.bytes s vs es old now.written
+  pub report_ended : (now : Progress) (s : Status) (vs : List Verdict) (es : List (ℕ × ℕ)) → s ≡ status_of_script now.course.errors → vs ≡ now.course.verdicts → es ≡ now.course.errors → CameToEnd (progress session u old) now → Solves u.bytes s vs es old now.written
   report_ended now s vs es is same_verdicts same_errors ended =
-      same_report (status_of_script now.course.errors) s now.course.verdicts vs now.course.errors es now.written (is ∙ ap status_of_script same_errors) same_verdicts same_errors
+      same_report (status_of_script now.course.errors) s now.course.verdicts vs now.course.errors es now.written is same_verdicts same_errors
       (Solves-ended u first short old now (subst (λ (c : Course). CameToEnd (progress c u old) now) fresh ended))
 
   pub report_broke : (now : Progress) (e : SinkError) (s : Status) (vs : List Verdict) (es : List (ℕ × ℕ)) → s ≡ status_of_error e → vs ≡ now.course.verdicts → es ≡ now.course.errors → BrokeOff e (progress session u old) now → Solves u.bytes s vs es old now.written
@@ -167,3 +168,10 @@ module _ (u : Unread) (first : u.line ≡ 1) (short : length u.bytes ≤ most_by
       same_report s s now.course.verdicts vs es es new refl same_verdicts refl
       (Solves-refused u first short old now error (subst (λ (c : Course). WentOn (progress c u old) now) fresh ends.0) ends.1 s es new
       (subst (λ (errors : List (ℕ × ℕ)). IsRefused error s errors es now.written new) same_errors refused))
+
+  pub report_concluded : (now : Progress) (ending : Ended) (s : Status) (vs : List Verdict) (stored es : List (ℕ × ℕ)) (new : Option (List ℕ)) → vs ≡ now.course.verdicts → stored ≡ now.course.errors → IsConcluded ending s stored es now.written new → EndsWith (progress session u old) now ending → Solves u.bytes s vs es old new
+  report_concluded now ended.Clean s vs stored es new same_verdicts same_errors concluded ends =
+      subst (λ (w : Option (List ℕ)). Solves u.bytes s vs es old w) (sym concluded.2)
+      (report_ended now s vs es (concluded.0 ∙ ap status_of_script same_errors) same_verdicts (concluded.1 ∙ same_errors) ends)
+  report_concluded now (ended.Lexical error) s vs stored es new same_verdicts same_errors concluded ends =
+      report_refused now error s vs stored es new same_verdicts same_errors concluded ends

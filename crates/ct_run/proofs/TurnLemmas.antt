@@ -3,14 +3,13 @@ use Rattle.std.proofs.Common.{◌≡◌, ℕ, ◌⊎◌, inl, inr, true, false, 
 use Rattle.ct_io.specs.declared.sink.SinkError.{SinkError}
 use Rattle.ct_io.specs.declared.sink.SinkError.TheVariants as sink
 use Rattle.ct_sexpr.specs.Expression.{Expression}
-use Rattle.ct_sexpr.specs.Text.{Located, Ending, clean, lexical, Reads}
+use Rattle.ct_sexpr.specs.Text.{Located, Ending, clean, Reads}
 use Rattle.ct_sexpr.specs.Unread.{Unread}
 use Rattle.ct_sexpr.specs.Answer.{IsFirstCommand}
 use Rattle.ct_engine.specs.declared.verdict.Verdict.{Verdict}
-use Rattle.ct_script.specs.State.{State}
-use Rattle.ct_script.specs.Step.{Effect, counted}
-use Rattle.ct_script.specs.Session.{Course, after}
-use Rattle.ct_script.specs.Answers.{Answers, Leads, lines_of, errors_of}
+use Rattle.ct_script.specs.Step.{Effect}
+use Rattle.ct_script.specs.Session.{Course}
+use Rattle.ct_script.specs.Answers.{Leads, lines_of, errors_of}
 use Rattle.ct_run.specs.Output.{wrote, IsLeft}
 use Rattle.ct_run.specs.Progress.{Progress, AnsweredWith, IsUnanswered, IsCutOff, Adds, WentOn, CameToEnd, BrokeOff}
 use Rattle.ct_run.proofs.WritingLemmas.{append_nil, appended-nothing, nothing_written, wrote-later, IsLeft-later}

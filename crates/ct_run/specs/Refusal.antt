@@ -6,6 +6,8 @@ use Rattle.ct_io.specs.declared.status.Status.{Status}
 use Rattle.ct_io.specs.declared.status.Status.TheVariants as status
 use Rattle.ct_script.specs.Answers.{lines_of}
 use Rattle.ct_script.specs.Step.{refusal_text}
+use Rattle.ct_run.specs.declared.turn.Ending.{Ending}
+use Rattle.ct_run.specs.declared.turn.Ending.TheVariants as ended
 use Rattle.ct_run.specs.Output.{wrote, IsLeft}
 
 -- the status with which a sink's error ends a run
@@ -37,3 +39,8 @@ IsRefused error status.Usage errors reported old new = ⊥
 IsRefused error status.InputFault errors reported old new = ⊥
 IsRefused error status.Rejected errors reported old new = ⊥
 IsRefused error status.TooLong errors reported old new = ⊥
+
+-- how a run ends whose script was answered
+abbrev pub IsConcluded : Ending → Status → List (ℕ × ℕ) → List (ℕ × ℕ) → Option (List ℕ) → Option (List ℕ) → Type 0
+IsConcluded ended.Clean s errors reported old new = (s ≡ status_of_script errors) × (reported ≡ errors) × (new ≡ old)
+IsConcluded (ended.Lexical error) s errors reported old new = IsRefused error s errors reported old new

@@ -3,7 +3,7 @@ ghost use Rattle.std.specs.Prelude.{◌≡◌, ◌≢◌, ℕ, List, [], true, l
 ghost use Rattle.ct_io.specs.Fault.{HasCause, Rose};
 ghost use Rattle.ct_io.specs.declared.status.Status.TheVariants as status;
 ghost use Rattle.ct_run.specs.Output.{wrote, IsLeft};
-ghost use Rattle.ct_run.specs.Refusal.{IsRefused, status_of_script, refusal_line};
+ghost use Rattle.ct_run.specs.Refusal.{IsConcluded, IsRefused, status_of_script, refusal_line};
 ghost use Rattle.ct_run.specs.Run.{most_bytes, Solves};
 
 use crate::answer::write_line;
@@ -59,8 +59,7 @@ fn answer_script<K: Sink>(alloc: Global, reader: &mut Reader, out: &mut K) -> Re
     let ending = answer_all(reader, &mut session, out);
     let (verdicts, errors) = session.finish();
     match ending {
-        Ok(Ending::Clean) => finished(verdicts, errors),
-        Ok(Ending::Lexical(error)) => refuse(alloc, verdicts, errors, error, out),
+        Ok(ending) => conclude(alloc, verdicts, errors, ending, out),
         Err(error) => Report {
             status: status_of(error),
             verdicts,
@@ -69,11 +68,34 @@ fn answer_script<K: Sink>(alloc: Global, reader: &mut Reader, out: &mut K) -> Re
     }
 }
 
+// The report of a script that was answered, by how it ends.
+fn conclude<K: Sink>(
+    alloc: Global,
+    verdicts: Vec<Verdict>,
+    errors: Vec<ScriptError>,
+    ending: Ending,
+    out: &mut K,
+) -> Report
+    ensures concluded { IsConcluded ending result.status errors.items result.errors.items (K.written out.old) (K.written out.new) }
+    ensures verdicts { result.verdicts.items ≡ verdicts.items }
+    ensures output { result.status ≡ status.OutputFault → Rose (K.faults out.old) (K.faults out.new) }
+    ensures input { result.status ≢ status.InputFault }
+    ensures count { K.faults out.old ≤ K.faults out.new }
+    ensures uncounted { result.status ≢ status.OutputFault → K.faults out.new ≡ K.faults out.old }
+{
+    match ending {
+        Ending::Clean => finished(verdicts, errors),
+        Ending::Lexical(error) => refuse(alloc, verdicts, errors, error, out),
+    }
+}
+
 // The report of a script that came to its end.
 fn finished(verdicts: Vec<Verdict>, errors: Vec<ScriptError>) -> Report
     ensures status { result.status ≡ status_of_script errors.items }
     ensures verdicts { result.verdicts.items ≡ verdicts.items }
     ensures errors { result.errors.items ≡ errors.items }
+    ensures output { result.status ≢ status.OutputFault }
+    ensures input { result.status ≢ status.InputFault }
 {
     let status = if errors.is_empty() {
         Status::Done
@@ -97,6 +119,7 @@ fn refuse<K: Sink>(
 ) -> Report
     ensures refused { IsRefused error result.status errors.items result.errors.items (K.written out.old) (K.written out.new) }
     ensures verdicts { result.verdicts.items ≡ verdicts.items }
+    ensures input { result.status ≢ status.InputFault }
     ensures output { result.status ≡ status.OutputFault → Rose (K.faults out.old) (K.faults out.new) }
     ensures count { K.faults out.old ≤ K.faults out.new }
     ensures uncounted { result.status ≢ status.OutputFault → K.faults out.new ≡ K.faults out.old }

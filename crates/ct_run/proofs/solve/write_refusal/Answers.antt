@@ -1,4 +1,4 @@
-use Rattle.std.proofs.Common.{◌≡◌, ℕ, List, OnOk, IfErr}
+use Rattle.std.proofs.Common.{◌≡◌, ℕ, List, OnOk, IfErr, subst}
 use Rattle.ct_script.specs.Answers.{lines_of}
 use Rattle.ct_run.specs.Output.{wrote, IsLeft}
 use Rattle.ct_run.proofs.solve.write_refusal.Goals as goal

@@ -1,10 +1,10 @@
-use Rattle.std.proofs.Common.{◌≡◌, [], refl, sym, ◌∙◌}
+use Rattle.std.proofs.Common.{[], refl, sym, ◌∙◌}
 use Rattle.std.proofs.lemmas.Result.{err_from_is_err_and}
 use Rattle.ct_sexpr.specs.Text.{Located, clean, Reads}
 use Rattle.ct_sexpr.specs.View.{expression_of}
 use Rattle.ct_sexpr.specs.Answer.{GivesCommand, IsFirstCommand}
 use Rattle.ct_run.specs.Progress.{Progress, progress}
-use Rattle.ct_run.proofs.TurnLemmas.{WentOn-start, goes_on, ends_there, breaks_before, breaks}
+use Rattle.ct_run.proofs.TurnLemmas.{WentOn-start, goes_on, ends_with_it, ends_there, breaks_before, breaks}
 use Rattle.ct_run.proofs.turn.answer_all.Goals as goal
 
 pub loop-expr-init : goal.loop-expr-init
@@ -47,3 +47,13 @@ returns-in-Err-NoMemory-clause-broke g c =
     let old : Progress = progress c.args.session.now c.args.reader.now (g.K.Sink.written c.args.out.now) in
     let mid : Progress = progress c.loop-expr.session c.loop-expr.reader (g.K.Sink.written c.loop-expr.out) in
     breaks_before old mid c.loop-expr.invariant.went c.one_text.ensures.some_text c.loop-expr.session c.next.new.self (g.K.Sink.written c.loop-expr.out) refl refl
+
+pub returns-then-branch-clause-ends : goal.returns-then-branch-clause-ends
+returns-then-branch-clause-ends g c =
+    let old : Progress = progress c.args.session.now c.args.reader.now (g.K.Sink.written c.args.out.now) in
+    let mid : Progress = progress c.loop-expr.session c.loop-expr.reader (g.K.Sink.written c.loop-expr.out) in
+    let new : Progress = progress c.answer.new.session c.next.new.self (g.K.Sink.written c.answer.new.out) in
+    let first : Located = record { command = expression_of c.in-Ok-Command.expr; line = c.in-Ok-Command.line } in
+    let is : IsFirstCommand c.loop-expr.reader c.next.new.self first = rw c.in-Ok-Command.field-0-is at c.in-Ok-Command.ensures.reads in
+    let a = c.in_ok-answer-in-Ok-Command.ensures.answered in
+    ends_with_it old mid c.loop-expr.invariant.went new first is a.0 a.1 c.one_text.ensures.some_text (sym a.2 ∙ c.if-branch.true) a.3
