@@ -1,0 +1,2 @@
+pub mod AssertedLemmas
+pub mod ScopeLemmas
