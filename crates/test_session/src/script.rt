@@ -6,7 +6,8 @@ use ct_sexpr::Sexpr;
 use std::alloc::Global;
 
 /// What is declared before the part of `lists`, on eight lines.
-const LISTS: &str = "(declare-datatypes ((E 0) (List 0)) (((a) (b)) ((nil) (cons (head E) (tail List)))))
+const LISTS: &str =
+    "(declare-datatypes ((E 0) (List 0)) (((a) (b)) ((nil) (cons (head E) (tail List)))))
 (declare-codatatypes ((Stream 0)) (((scons (shead E) (stail Stream)))))
 (declare-const l List)
 (declare-const p Bool)

@@ -1,2 +1,0 @@
-pub mod AssertedLemmas
-pub mod ScopeLemmas
