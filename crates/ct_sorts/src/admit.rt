@@ -156,7 +156,7 @@ fn admit_symbol(
         → (n ≡ name_taken) × IsUnavailable (symbol_names sig.now ++ names_of seen.old) name.now }
 {
     let text = name.as_slice();
-    if sig.is_unavailable(name) {
+    if sig.is_unavailable_name(name) {
         return Err(SigError::Refused(NAME_TAKEN));
     }
     if seen.has(text) {

@@ -261,7 +261,7 @@ impl Signature {
         ensures codes { (n : ℕ) → IsErrOf result (SigError.Refused n) → (n ≡ symbol_taken) ⊎ (n ≡ too_many) }
         ensures refused { OnErr result (self.new ≡ self.old) }
     {
-        if self.is_unavailable(&name) {
+        if self.is_unavailable_name(&name) {
             return Err(SigError::Refused(SYMBOL_TAKEN));
         }
         let count = self.functions.len();
@@ -292,7 +292,7 @@ impl Signature {
         ensures codes { (n : ℕ) → IsErrOf result (SigError.Refused n) → (n ≡ symbol_taken) ⊎ (n ≡ too_many) }
         ensures refused { OnErr result (self.new ≡ self.old) }
     {
-        if self.is_unavailable(&name) {
+        if self.is_unavailable_name(&name) {
             return Err(SigError::Refused(SYMBOL_TAKEN));
         }
         let count = self.definitions.len();
@@ -545,12 +545,19 @@ impl Signature {
         self.lookup(name).is_some()
     }
 
-    /// Whether the name cannot be declared as a symbol here.
-    pub(crate) fn is_unavailable(&self, name: &Name) -> bool
+    /// Whether the name cannot be declared as a symbol here: a symbol has it, it is a word of the core theory, or it
+    /// is the solver's own.
+    pub fn is_unavailable(&self, name: &[u8]) -> bool
         ensures unavailable { IsTrue result ↔ IsUnavailable (symbol_names self.now) name.now }
     {
-        let text = name.as_slice();
-        self.is_symbol(text) || is_core_word(text) || is_unfit(text)
+        self.is_symbol(name) || is_core_word(name) || is_unfit(name)
+    }
+
+    // The same of a name.
+    pub(crate) fn is_unavailable_name(&self, name: &Name) -> bool
+        ensures unavailable { IsTrue result ↔ IsUnavailable (symbol_names self.now) name.now }
+    {
+        self.is_unavailable(name.as_slice())
     }
 
     /// Whether the name cannot be declared as a sort here.

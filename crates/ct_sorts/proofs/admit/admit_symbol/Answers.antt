@@ -9,9 +9,9 @@ use Rattle.ct_sorts.proofs.LookupLemmas.{IsListed-right}
 use Rattle.ct_sorts.proofs.AdmitLemmas.{IsUnavailable-either, IsUnavailable-left}
 use Rattle.ct_sorts.proofs.admit.admit_symbol.Goals as goal
 
-pub returns-then-is_unavailable-clause-refused : goal.returns-then-is_unavailable-clause-refused
-returns-then-is_unavailable-clause-refused c =
-    λ n e. (cc, IsUnavailable-left (symbol_names c.args.sig.now) (names_of c.args.seen.now) c.args.name.now (c.if-is_unavailable.ensures.unavailable.0 refl))
+pub returns-then-is_unavailable_name-clause-refused : goal.returns-then-is_unavailable_name-clause-refused
+returns-then-is_unavailable_name-clause-refused c =
+    λ n e. (cc, IsUnavailable-left (symbol_names c.args.sig.now) (names_of c.args.seen.now) c.args.name.now (c.if-is_unavailable_name.ensures.unavailable.0 refl))
 
 pub returns-then-has-clause-refused : goal.returns-then-has-clause-refused
 returns-then-has-clause-refused c =
@@ -23,7 +23,7 @@ returns-clause-ok c =
     let before = names_of c.args.seen.now in
     on_ok_weaker c.push.result
     (λ e. (
-      λ h. ⊎_elim (λ u. true≢false (sym (c.if-is_unavailable.ensures.unavailable.1 u))) (λ l. true≢false (sym (c.if-has.ensures.listed.1 (subst (IsListed before) (sym c.as_slice-text.ensures.value) l)))) (IsUnavailable-either declared before c.args.name.now h),
+      λ h. ⊎_elim (λ u. true≢false (sym (c.if-is_unavailable_name.ensures.unavailable.1 u))) (λ l. true≢false (sym (c.if-has.ensures.listed.1 (subst (IsListed before) (sym c.as_slice-text.ensures.value) l)))) (IsUnavailable-either declared before c.args.name.now h),
       ap names_of e ∙ map-append (λ e. e.0) c.args.seen.now _ ∙ ap (λ (name : List ℕ). before ++ name ∷ []) (c.in_ok-copied.ensures.ok ∙ c.as_slice-text.ensures.value),
     ))
     c.push.ensures.ok

@@ -17,12 +17,12 @@ symbol d name h = IsListed-right (ctor_names d) _ name (IsListed-right (sel_name
 
 pub push-requires : goal.push-requires
 push-requires c =
-    let fresh : IsListed (function_names c.args.self.now) c.args.name → ⊥ = λ h. true≢false (sym (c.if-is_unavailable.ensures.unavailable.1 (inl (symbol c.args.self.now c.args.name h)))) in
+    let fresh : IsListed (function_names c.args.self.now) c.args.name → ⊥ = λ h. true≢false (sym (c.if-is_unavailable_name.ensures.unavailable.1 (inl (symbol c.args.self.now c.args.name h)))) in
     record { fresh = subst (λ xs. IsListed xs c.args.name → ⊥) (names_at function_of (λ (f : Function). f.name) c.self.inside.functions (λ _. refl)) (subst (λ d. IsListed (function_names d) c.args.name → ⊥) (sym c.self.view_is) fresh) }
 
 -- the name may be declared
 available : (c : goal.In_ok-push) → IsUnavailable (symbol_names c.args.self.now) c.args.name → ⊥
-available c h = true≢false (sym (c.if-is_unavailable.ensures.unavailable.1 h))
+available c h = true≢false (sym (c.if-is_unavailable_name.ensures.unavailable.1 h))
 
 -- what is declared
 abbrev function : goal.In_ok-push → Function
