@@ -18,6 +18,7 @@ use crate::line::{Line, Step};
 use crate::lines::Record;
 use crate::look::signed;
 use crate::marks::Marks;
+use crate::places::Places;
 use crate::propagation::follows;
 use crate::room::{Room, size_of};
 use crate::rules::{Close, EqStep};
@@ -58,9 +59,8 @@ pub fn accepted(
 }
 
 /// Whether the line of the record at this index is accepted after the lines before it. Takes no memory. Its cost is the
-/// length of the line and of the clauses that it names; beside these, an input costs the assertions between that of the
-/// last input and its own, an expansion the fields of its constructor, and an argument of a gate the negations over its
-/// literal.
+/// length of the line and of the clauses that it names; beside these, each assertion is gone over once in all, an
+/// expansion costs the fields of its constructor, and an argument of a gate the negations over its literal.
 pub fn accepted_at(
     sig: &Signature,
     sizes: &Sizes,
@@ -190,12 +190,12 @@ fn is_input(
     asserts: &[TermId],
     t: TermId,
     clause: &[Lit],
-    last: &mut usize,
+    places: &mut Places,
 ) -> bool
     requires booleans { All (IsBoolean table.now) asserts.now }
     ensures input { IsTrue result ↔ (Contains asserts.now t × (clause.now ≡ literal_of table.now t ∷ [])) }
 {
-    if !is_found(asserts, t, last) {
+    if !places.is_found(asserts, t) {
         return false;
     }
     match clause {
@@ -203,44 +203,6 @@ fn is_input(
         [] => false,
         [_, _, ..] => false,
     }
-}
-
-// Whether the term is one of these. The search begins where the last one was found, and ends there.
-fn is_found(terms: &[TermId], t: TermId, last: &mut usize) -> bool
-    ensures found { IsTrue result ↔ Contains terms.now t }
-{
-    let from = if *last < terms.len() { *last } else { 0 };
-    if let Some(place) = place_of(&terms[from..], t) {
-        *last = from + place;
-        return true;
-    }
-    is_among(&terms[..from], t)
-}
-
-// The first index at which the term stands.
-fn place_of(terms: &[TermId], t: TermId) -> Option<usize>
-    ensures within { IfSome result (λ index. index < length terms.now) }
-    ensures stands { IfSome result (λ index. slice_get terms.now index ≡ Some t) }
-    ensures none { IfNone result (Contains terms.now t → ⊥) }
-{
-    for index in 0..terms.len() {
-        if terms[index] == t {
-            return Some(index);
-        }
-    }
-    None
-}
-
-// Whether the term is one of these.
-fn is_among(terms: &[TermId], t: TermId) -> bool
-    ensures among { IsTrue result ↔ Contains terms.now t }
-{
-    for u in terms {
-        if *u == t {
-            return true;
-        }
-    }
-    false
 }
 
 // Marks the opposites of the clause's literals, and nothing else.

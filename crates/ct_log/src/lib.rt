@@ -13,6 +13,7 @@ mod line;
 mod lines;
 mod look;
 mod marks;
+mod places;
 mod propagation;
 mod room;
 mod rules;

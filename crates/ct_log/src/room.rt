@@ -7,18 +7,19 @@ use crate::error::LogError;
 use crate::line::{Line, Step};
 use crate::lines::Record;
 use crate::marks::Marks;
+use crate::places::Places;
 use ct_rules::Equation;
 use std::alloc::Global;
 use std::marker::Model;
 
 /// Working memory for the lines of one record: a mark for each literal, and an equation for each step of the longest line
-/// of the theory. Nothing of it is cleared between lines. It also knows where the last input's assertion stood, so that
-/// inputs in the order of their assertions are found at once.
+/// of the theory. Nothing of it is cleared between lines. It also knows where assertions stand, so that each of them is gone
+/// over once, in whatever order the inputs come.
 #[derive(Drop)]
 pub struct Room {
     pub(crate) marks: Marks,
     pub(crate) given: Vec<Equation>,
-    pub(crate) asserted: usize,
+    pub(crate) asserted: Places,
 }
 
 impl Model for Room {
@@ -49,7 +50,7 @@ impl Room {
         Ok(Room {
             marks: Marks::new(alloc, terms, size)?,
             given: Vec::with_capacity(alloc, size)?,
-            asserted: 0,
+            asserted: Places::new(alloc, terms)?,
         })
     }
 }

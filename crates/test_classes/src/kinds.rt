@@ -1,7 +1,10 @@
 //! Answers over the table of these terms, which begins with `true` and `false`, and under these
 //! hypotheses, literals `n` or `(not n)`. `(classes (TERM ..) (LITERAL ..))` closes the classes, and
 //! shows `quiet` or `clash` and each class of two or more terms. With the same parts `order` shows
-//! whether the classes of datatypes have an order or a `cycle`, or that they `clash`; `explain`
+//! whether the classes of datatypes have an order or a `cycle`, or that they `clash`; `hops`
+//! shows the constructor terms of the cycle, each with the index of the argument that leads on; `blocks` shows
+//! the blocks of two or more classes in the coarsest partition, and whether there is a first `pair`;
+//! `pairs` shows how many pairs this one needs; `explain`
 //! explains the equations of all classes and shows how many are accepted; and `conflict` shows
 //! whether the line is accepted that the `clash` or the `cycle` makes. `consult` asks the theory, and
 //! shows the classes that are `saturated`, or the `clash` or the `cycle`, how many of the hypotheses
@@ -14,9 +17,11 @@ ghost use Rattle.ct_terms.specs.Literal.{IsStripped};
 ghost use Rattle.ct_terms.specs.Terms.{AreSorted};
 ghost use Rattle.ct_congr.specs.State.{IsAnswer};
 
+use crate::blocks::{show_blocks, show_pairs};
 use crate::conflict::{clash, cycle};
 use crate::consult::show_consulted;
 use crate::explain::{Explained, contradict, explain, explain_all, forest_of, state_all};
+use crate::hops::show_hops;
 use crate::judge::{clause_of, is_accepted};
 use crate::numbers::term_of;
 use crate::prepare::{Prepared, prepare};
@@ -65,6 +70,9 @@ fn respond(
     match (kind, parts) {
         ("classes", []) => show_classes(alloc, &prepared.classes, prepared.closed, out),
         ("order", []) => show_order(alloc, &prepared.classes, prepared.closed, out),
+        ("hops", []) => show_hops(alloc, &prepared.classes, prepared.closed, out),
+        ("blocks", []) => show_blocks(alloc, &prepared.classes, prepared.closed, out),
+        ("pairs", []) => show_pairs(alloc, &prepared.classes, prepared.closed, out),
         ("explain", []) => explain_classes(alloc, sig, prepared, out),
         ("why", [a, b]) => explain_terms(alloc, sig, prepared, term_of(a)?, term_of(b)?, out),
         ("conflict", []) => show_conflict(alloc, sig, prepared, out),

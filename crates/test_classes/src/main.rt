@@ -4,10 +4,12 @@
 //! lines after it.
 #![tactic(auto)]
 
+mod blocks;
 mod conflict;
 mod consult;
 mod cores;
 mod explain;
+mod hops;
 mod hypotheses;
 mod judge;
 mod kinds;

@@ -50,7 +50,7 @@ fn sorted_numbers(alloc: Global, terms: &[TermId]) -> Result<Vec<u32>, CaseError
 }
 
 /// Shows a list of numbers.
-fn show_numbers(alloc: Global, numbers: &[u32], out: &mut String) -> Result<(), CaseError> {
+pub fn show_numbers(alloc: Global, numbers: &[u32], out: &mut String) -> Result<(), CaseError> {
     let mut gap = " (";
     for number in numbers {
         out.push_str(gap)?;

@@ -1,7 +1,7 @@
 use Rattle.std.proofs.Common.{◌≡◌, All, refl, subst}
 use Rattle.std.proofs.lemmas.List.{take_all}
 use Rattle.std.proofs.lemmas.List.Elements.{All-contains}
-use Rattle.ct_log.proofs.acceptance.is_among.Goals as goal
+use Rattle.ct_log.proofs.places.is_among.Goals as goal
 
 pub returns : goal.returns
 returns c = record {
