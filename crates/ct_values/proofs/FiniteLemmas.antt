@@ -159,7 +159,7 @@ same_children g classes h (m ∷ ms) (n ∷ ns) each ms_in ns_in trees settled p
     (ap₂ (λ (x : ℕ) (xs : List ℕ). x ∷ xs) here rest.0, (subst (λ x. 0 < x) here settled.0, rest.1))
 
 -- a settled number is one more than some number
-positive : (n : ℕ) → 0 < n → (m : ℕ) × (n ≡ suc m)
+pub positive : (n : ℕ) → 0 < n → (m : ℕ) × (n ≡ suc m)
 positive zero h = absurd (omega arith)
 positive (suc m) h = (m, refl)
 
@@ -196,17 +196,18 @@ KeepsTogether-settled g classes steps closed settling tried = record {
         sym (tree_class g classes steps closed settling tried tree.0 (id j) (id i) j_in i_in tree.1 yes_j (AgreeAlways-sym (node_point g (id i)) (node_point g (id j)) alike))
 
 -- settled nodes of one class have one head, and children of the same classes
-one_key : {S : Type 0} (g : Nodes) (classes : List ℕ) (steps : IndexSet ShapeStep S) → IsSettling g classes steps → (i j : ℕ) (x y : Node) → slice_get g i ≡ Some x → slice_get g j ≡ Some y → 0 < class_at classes i → class_at classes i ≡ class_at classes j → node_key classes 0 x ≡ node_key classes 0 y
+one_key : {S : Type 0} (g : Nodes) (classes : List ℕ) (steps : IndexSet ShapeStep S) → IsSettling g classes steps → (i j : ℕ) (x y : Node) → slice_get g i ≡ Some x → slice_get g j ≡ Some y → 0 < class_at classes i → class_at classes i ≡ class_at classes j → node_key classes x ≡ node_key classes y
 one_key g classes steps settling i j x y at_i at_j settled one =
     let c = positive (class_at classes i) settled in
     let parts = Spells-one steps.keys c.0 (node_head x) (node_head y) (child_classes classes (node_children x)) (child_classes classes (node_children y)) (settling.known i c.0 x at_i c.1) (settling.known j c.0 y at_j (sym one ∙ c.1)) in
-    λ t. record { head = parts.0 t; class = 0; children = parts.1 t }
+    λ t. record { head = parts.0 t; children = parts.1 t }
 
 -- where every node was tried, the classes tell the finite trees
 pub TellsTrees-settled : {S : Type 0} (g : Nodes) (classes : List ℕ) (steps : IndexSet ShapeStep S) → IsClosed g → IsSettling g classes steps → AreTried g classes → TellsTrees g classes
 TellsTrees-settled g classes steps closed settling tried = record {
   keeps = KeepsTogether-settled g classes steps closed settling tried;
   parts = settling.parts;
+  tried = tried;
   keys = one_key g classes steps settling;
 }
 

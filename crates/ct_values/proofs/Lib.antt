@@ -4,8 +4,7 @@ pub mod SettleLemmas
 pub mod DepthLemmas
 pub mod NodeLemmas
 pub mod RenumberLemmas
-pub mod RefineLemmas
-pub mod RoundLemmas
+pub mod PointLemmas
 pub mod ShapeLemmas
 pub mod FiniteLemmas
 pub mod CountLemmas
@@ -13,9 +12,10 @@ pub mod NumberedLemmas
 pub mod MinimalLemmas
 pub mod PackedLemmas
 pub mod PostorderLemmas
-pub mod NamedLemmas
 pub mod QuotientLemmas
 pub mod RepresentativeLemmas
+pub mod ClassLemmas
+pub mod BisimilarityLemmas
 pub mod SharedLemmas
 pub mod FitTestLemmas
 pub mod NumeralLemmas

@@ -15,7 +15,8 @@ use Rattle.ct_values.specs.Graph.{Nodes, IsClosed, HasChildrenBelow, node_head, 
 use Rattle.ct_values.specs.Agreement.{Point, node_point, agree, AgreeAlways}
 use Rattle.ct_values.specs.Minimal.{child_numbers, IsBreadthFirst, IsMinimal}
 use Rattle.ct_values.specs.Numbering.{CountsUp, IsInOrder}
-use Rattle.ct_values.specs.Partition.{class_at, Alike, KeepsTogether, IsStable}
+use Rattle.ct_values.specs.Partition.{class_at, Alike}
+use Rattle.ct_values.specs.Sharing.{AreClasses}
 use Rattle.ct_values.specs.Renumbering.{IsPart}
 use Rattle.ct_values.specs.Packed.{node_of}
 use Rattle.ct_values.specs.Quotient.{numbered_child, numbered_node, quotient_from, quotient, NumbersClasses, AreNumbered}
@@ -23,7 +24,7 @@ use Rattle.ct_values.proofs.AgreeLemmas.{agree-zero, AgreeAlways-across, AgreeAl
 use Rattle.ct_values.proofs.GraphLemmas.{closed_children}
 use Rattle.ct_values.proofs.NodeLemmas.{id, node_points, agree-nodes, AgreeAlways-nodes}
 use Rattle.ct_values.proofs.RenumberLemmas.{stands_within, IsClosed-renumbered, AgreeAlways-renumbered}
-use Rattle.ct_values.proofs.RefineLemmas.{AgreeAlways-stable}
+use Rattle.ct_values.proofs.ClassLemmas.{alike_of_one, stored_together}
 use Rattle.ct_values.proofs.CountLemmas.{CountsUp-rises, CountsUp-below, CountsUp-append}
 use Rattle.ct_values.proofs.NumberedLemmas.{IsBreadthFirst-numbered, numbered-IsBreadthFirst, IsBreadthFirst-positive}
 
@@ -450,16 +451,16 @@ numbered_at numbers g index x top children at heads kids =
     let children_is : children ≡ node_children x = same_Some children (node_children x) (sym kids ∙ ap (option_map node_children) at) in
     ap₂ (λ (h : Head) (ns : List NodeId). node_of h (map (numbered_child numbers) ns)) head_is children_is
 
--- ---- numbers of the classes of a stable partition
+-- ---- numbers of classes
 
--- the numbers of the classes of a partition that a round does not change are those of nodes that agree at every depth
-pub AreNumbered-stable : (g : Nodes) (classes numbers : List ℕ) → IsClosed g → KeepsTogether g classes → IsStable g classes → NumbersClasses classes numbers → AreNumbered g numbers
-AreNumbered-stable g classes numbers closed keeps stable of = record {
-  long = of.long ∙ keeps.long;
+-- the numbers of the classes of nodes that agree at every depth are those of the nodes
+pub AreNumbered-classes : (g : Nodes) (classes numbers : List ℕ) → AreClasses g classes → NumbersClasses classes numbers → AreNumbered g numbers
+AreNumbered-classes g classes numbers are of = record {
+  long = of.long ∙ are.long;
   same = λ i j i_in j_in.
-      let same = of.same i j (omega (arith, keeps.long)) (omega (arith, keeps.long)) in (
-        λ e. AgreeAlways-stable g classes closed keeps.long stable (id i) (id j) i_in j_in (same.0 e),
-        λ alike. same.1 (keeps.together i j i_in j_in alike),
+      let same = of.same i j (omega (arith, are.long)) (omega (arith, are.long)) in (
+        λ e. alike_of_one g classes are (id i) (id j) i_in j_in (same.0 e),
+        λ alike. same.1 ((stored_together g classes are).together i j i_in j_in alike),
       );
   count = of.count;
   in_order = of.in_order;

@@ -1,4 +1,4 @@
--- Shared graphs: what the classes of a stable partition tell, and the map of keys as it is made and as it grows.
+-- Shared graphs: the map of keys as it is made and as it grows.
 use Rattle.std.proofs.Common.{◌≡◌, ℕ, suc, ◌+◌, ◌<◌, ◌≤◌, ◌⊎◌, List, [], ◌∷◌, ◌++◌, length, map, Some, None, option_map, slice_get, get_or, refl, sym, ap, ap₂, subst, ◌∙◌, inl, inr, arith, length-append, eq-or-lt_of_le}
 use Rattle.std.specs.List.{AllZip, AllByRecursion}
 use Rattle.std.proofs.lemmas.Bool.{cases_lt}
@@ -13,16 +13,15 @@ use Rattle.ct_values.specs.declared.key.Key.{Key}
 use Rattle.ct_values.specs.Graph.{Nodes, IsClosed, HasChildrenBelow, node_head, node_children}
 use Rattle.ct_values.specs.Value.{Value, reference, IsOver, AreOver, values_of, list_of, node_value}
 use Rattle.ct_values.specs.Agreement.{Point, point, node_point, head, children, AgreeAlways}
-use Rattle.ct_values.specs.Partition.{class_at, node_key, KeepsTogether, IsStable}
+use Rattle.ct_values.specs.Partition.{class_at, node_key}
 use Rattle.ct_values.specs.KeyTest.{same_key}
 use Rattle.ct_values.specs.Sharing.{IsRepresentative, AreClasses, IsKeyed, IsShared}
 use Rattle.ct_values.proofs.AgreeLemmas.{AgreeAlways-parts, AgreeAlways-refl, AgreeAlways-sym, AgreeAlways-trans, AgreeAlways-meet}
 use Rattle.ct_values.proofs.GraphLemmas.{closed_children, slice_get-append_left}
 use Rattle.ct_values.proofs.NodeLemmas.{id, node_points, head_at, children_at}
-use Rattle.ct_values.proofs.RefineLemmas.{classes_together, together_agree, AgreeAlways-stable, first_is_own}
-use Rattle.ct_values.proofs.RoundLemmas.{class_at-before, class_at-last}
+use Rattle.ct_values.proofs.ClassLemmas.{class_at-before, class_at-last, classes_together, together_agree, alike_of_one, stored_together, class_low, class_own}
 use Rattle.ct_values.proofs.RenumberLemmas.{stands_within, slice_get-push_cases}
-use Rattle.ct_values.proofs.RepresentativeLemmas.{AgreeAlways-grown, IsRepresentative-same, IsRepresentative-grown, one_first}
+use Rattle.ct_values.proofs.RepresentativeLemmas.{AgreeAlways-grown, IsRepresentative-same, IsRepresentative-grown}
 
 -- all children are nodes of the graph
 abbrev AreWithin : Nodes → List NodeId → Type 0
@@ -77,60 +76,21 @@ AgreeAlways-value g n x at =
 
 -- ---- classes
 
--- the classes of a stable partition that keeps together what agrees
-pub AreClasses-stable : (g : Nodes) (classes : List ℕ) → IsClosed g → KeepsTogether g classes → IsStable g classes → AreClasses g classes
-AreClasses-stable g classes closed together stable = record {
-  closed = closed;
-  long = together.long;
-  named = λ n within.
-      let low : class_at classes n.0 ≤ n.0 = stable.early n.0 in
-      let first_in : class_at classes n.0 < length g = omega arith in
-      record {
-        within = first_in;
-        same = AgreeAlways-stable g classes closed together.long stable (id (class_at classes n.0)) n first_in within (first_is_own g classes together.long stable n.0 within);
-        first = λ m m_in alike.
-            let one : class_at classes m.0 ≡ class_at classes n.0 = together.together m.0 n.0 m_in within alike in
-            let early : class_at classes m.0 ≤ m.0 = stable.early m.0 in
-            omega arith;
-      };
-}
-
 module _ (g : Nodes) (classes : List ℕ) (are : AreClasses g classes) where
-  -- nodes of one class agree at every depth
-  alike_of_one : (m n : NodeId) → m.0 < length g → n.0 < length g → class_at classes m.0 ≡ class_at classes n.0 → AgreeAlways (node_point g m) (node_point g n)
-  alike_of_one m n m_in n_in one =
-      (one_first g (node_point g m) (node_point g n) (id (class_at classes m.0)) (id (class_at classes n.0)) (are.named m m_in) (are.named n n_in)).0 (λ i. id (one i))
-
-  -- and the other way
-  stored_together : KeepsTogether g classes
-  stored_together = record {
-    long = are.long;
-    together = λ i j i_in j_in alike. ap (λ n. n.0) ((one_first g (node_point g (id i)) (node_point g (id j)) (id (class_at classes i)) (id (class_at classes j)) (are.named (id i) i_in) (are.named (id j) j_in)).1 alike);
-  }
-
-  -- a class is no greater than its nodes, and is its own
-  class_low : (n : ℕ) → n < length g → class_at classes n ≤ n
-  class_low n within = (are.named (id n) within).first (id n) within (AgreeAlways-refl (node_point g (id n)))
-
-  class_own : (n : ℕ) → n < length g → class_at classes (class_at classes n) ≡ class_at classes n
-  class_own n within =
-      let named = are.named (id n) within in
-      stored_together.together (class_at classes n) n named.within within named.same
-
   -- a node with the key of a value is equal to it
-  alike_by_key : (n : NodeId) (y x : Node) → slice_get g n.0 ≡ Some y → AreWithin g (node_children x) → node_key classes 0 y ≡ node_key classes 0 x → AgreeAlways (node_point g n) (point g (node_value x))
+  alike_by_key : (n : NodeId) (y x : Node) → slice_get g n.0 ≡ Some y → AreWithin g (node_children x) → node_key classes y ≡ node_key classes x → AgreeAlways (node_point g n) (point g (node_value x))
   alike_by_key n y x at within keys =
       node_and_value g n y x at (
         ap (λ key. key.head) keys,
-        together_agree AgreeAlways g classes (node_children y) (node_children x) alike_of_one (closed_children g n.0 y are.closed at) within (ap (λ key. key.children) keys),
+        together_agree AgreeAlways g classes (node_children y) (node_children x) (alike_of_one g classes are) (closed_children g n.0 y are.closed at) within (ap (λ key. key.children) keys),
       )
 
   -- and the other way
-  key_by_alike : (n : NodeId) (y x : Node) → slice_get g n.0 ≡ Some y → AreWithin g (node_children x) → AgreeAlways (node_point g n) (point g (node_value x)) → node_key classes 0 y ≡ node_key classes 0 x
+  key_by_alike : (n : NodeId) (y x : Node) → slice_get g n.0 ≡ Some y → AreWithin g (node_children x) → AgreeAlways (node_point g n) (point g (node_value x)) → node_key classes y ≡ node_key classes x
   key_by_alike n y x at within alike =
       let parts = parts_of_value g n y x at alike in
-      let each = classes_together g classes (node_children y) (node_children x) stored_together (closed_children g n.0 y are.closed at) within parts.1 in
-      λ t. record { head = parts.0 t; class = 0; children = each t }
+      let each = classes_together g classes (node_children y) (node_children x) (stored_together g classes are) (closed_children g n.0 y are.closed at) within parts.1 in
+      λ t. record { head = parts.0 t; children = each t }
 
 -- ---- the map, as it is made
 
@@ -142,7 +102,7 @@ IsKeyed-none g classes representatives empty = record {
 }
 
 -- one more node
-pub IsKeyed-step : {S : Type 0} (g : Nodes) (classes : List ℕ) (representatives more : IndexMap Key ℕ S) (index first : ℕ) (x : Node) → AreClasses g classes → IsKeyed g classes representatives index → slice_get g index ≡ Some x → get same_key more (node_key classes 0 x) ≡ Some first → ((k : Key) (m : ℕ) → get same_key representatives k ≡ Some m → get same_key more k ≡ Some m) → ((k : Key) (m : ℕ) → get same_key more k ≡ Some m → (get same_key representatives k ≡ Some m) ⊎ ((k ≡ node_key classes 0 x) × (m ≡ index))) → IsKeyed g classes more (index + 1)
+pub IsKeyed-step : {S : Type 0} (g : Nodes) (classes : List ℕ) (representatives more : IndexMap Key ℕ S) (index first : ℕ) (x : Node) → AreClasses g classes → IsKeyed g classes representatives index → slice_get g index ≡ Some x → get same_key more (node_key classes x) ≡ Some first → ((k : Key) (m : ℕ) → get same_key representatives k ≡ Some m → get same_key more k ≡ Some m) → ((k : Key) (m : ℕ) → get same_key more k ≡ Some m → (get same_key representatives k ≡ Some m) ⊎ ((k ≡ node_key classes x) × (m ≡ index))) → IsKeyed g classes more (index + 1)
 IsKeyed-step g classes representatives more index first x are keyed at found stay only = record {
   known = λ n node below at_n. known_at n node at_n (eq-or-lt_of_le (at_most n below));
   only = λ k m e. elim (only k m e) [
@@ -164,11 +124,11 @@ IsKeyed-step g classes representatives more index first x are keyed at found sta
         let y = stands_within g (class_at classes index) named.within in
         let value = AgreeAlways-trans (node_point g (id (class_at classes index))) (node_point g (id index)) (point g (node_value x)) named.same (AgreeAlways-value g (id index) x at) in
         let keys = key_by_alike g classes are (id (class_at classes index)) y.0 x y.1 (closed_children g index x are.closed at) value in
-        let before = stay (node_key classes 0 y.0) (class_at classes (class_at classes index)) (keyed.known (class_at classes index) y.0 less y.1) in
+        let before = stay (node_key classes y.0) (class_at classes (class_at classes index)) (keyed.known (class_at classes index) y.0 less y.1) in
         same_Some first (class_at classes index) (sym found ∙ ap (get same_key more) (sym keys) ∙ before ∙ ap Some (class_own g classes are index within))
-    class_is (inl own) = elim (only (node_key classes 0 x) first found) [
+    class_is (inl own) = elim (only (node_key classes x) first found) [
       | inl had ↦
-          let before = keyed.only (node_key classes 0 x) first had in
+          let before = keyed.only (node_key classes x) first had in
           let value = alike_by_key g classes are (id first) before.1.0 x before.1.1 (closed_children g index x are.closed at) (sym before.1.2) in
           let alike = AgreeAlways-meet (node_point g (id first)) (node_point g (id index)) (point g (node_value x)) value (AgreeAlways-value g (id index) x at) in
           let early = (are.named (id index) within).first (id first) (slice_get_within g first before.1.0 before.1.1) alike in
@@ -176,32 +136,32 @@ IsKeyed-step g classes representatives more index first x are keyed at found sta
       | inr new ↦ new.1 ∙ sym own
     ]
 
-    known_at : (n : ℕ) (node : Node) → slice_get g n ≡ Some node → (n ≡ index) ⊎ (n < index) → get same_key more (node_key classes 0 node) ≡ Some (class_at classes n)
+    known_at : (n : ℕ) (node : Node) → slice_get g n ≡ Some node → (n ≡ index) ⊎ (n < index) → get same_key more (node_key classes node) ≡ Some (class_at classes n)
     known_at n node at_n (inl here) =
         let same : x ≡ node = same_Some x node (sym at ∙ ap (slice_get g) (sym here) ∙ at_n) in
-        ap (λ (y : Node). get same_key more (node_key classes 0 y)) (sym same) ∙ found ∙ ap Some (class_is (eq-or-lt_of_le (class_low g classes are index within))) ∙ ap (λ i. Some (class_at classes i)) (sym here)
-    known_at n node at_n (inr less) = stay (node_key classes 0 node) (class_at classes n) (keyed.known n node less at_n)
+        ap (λ (y : Node). get same_key more (node_key classes y)) (sym same) ∙ found ∙ ap Some (class_is (eq-or-lt_of_le (class_low g classes are index within))) ∙ ap (λ i. Some (class_at classes i)) (sym here)
+    known_at n node at_n (inr less) = stay (node_key classes node) (class_at classes n) (keyed.known n node less at_n)
 
 -- the key that is made of what stands at a node
-pub key_of_parts : (g : Nodes) (classes : List ℕ) (n : ℕ) (x : Node) (h : Head) (ids : List NodeId) (key : Key) → slice_get g n ≡ Some x → option_map node_head (slice_get g n) ≡ Some h → option_map node_children (slice_get g n) ≡ Some ids → key ≡ record { head = h; class = 0; children = map (λ child. class_at classes child.0) ids } → key ≡ node_key classes 0 x
+pub key_of_parts : (g : Nodes) (classes : List ℕ) (n : ℕ) (x : Node) (h : Head) (ids : List NodeId) (key : Key) → slice_get g n ≡ Some x → option_map node_head (slice_get g n) ≡ Some h → option_map node_children (slice_get g n) ≡ Some ids → key ≡ record { head = h; children = map (λ child. class_at classes child.0) ids } → key ≡ node_key classes x
 key_of_parts g classes n x h ids key at at_head at_children is =
     let its_head : h ≡ node_head x = same_Some h (node_head x) (sym at_head ∙ ap (option_map node_head) at) in
     let its_ids : ids ≡ node_children x = same_Some ids (node_children x) (sym at_children ∙ ap (option_map node_children) at) in
-    is ∙ (λ t. record { head = its_head t; class = 0; children = map (λ child. class_at classes child.0) (its_ids t) })
+    is ∙ (λ t. record { head = its_head t; children = map (λ child. class_at classes child.0) (its_ids t) })
 
 -- ---- the representative of a value
 
 module _ {S : Type 0} (g : Nodes) (classes : List ℕ) (representatives : IndexMap Key ℕ S) (x : Node) (shared : IsShared g classes representatives) (below : AreWithin g (node_children x)) where
   -- a node that is the value has its key with its class
-  known_value : (m : NodeId) → m.0 < length g → AgreeAlways (node_point g m) (point g (node_value x)) → get same_key representatives (node_key classes 0 x) ≡ Some (class_at classes m.0)
+  known_value : (m : NodeId) → m.0 < length g → AgreeAlways (node_point g m) (point g (node_value x)) → get same_key representatives (node_key classes x) ≡ Some (class_at classes m.0)
   known_value m m_in alike =
       let y = stands_within g m.0 m_in in
       ap (get same_key representatives) (sym (key_by_alike g classes shared.are_classes m y.0 x y.1 below alike)) ∙ shared.keyed.known m.0 y.0 m_in y.1
 
   -- what the map has for the key of a value is the representative of the value
-  pub IsRepresentative-known : (n : ℕ) → get same_key representatives (node_key classes 0 x) ≡ Some n → IsRepresentative g (point g (node_value x)) (id n)
+  pub IsRepresentative-known : (n : ℕ) → get same_key representatives (node_key classes x) ≡ Some n → IsRepresentative g (point g (node_value x)) (id n)
   IsRepresentative-known n found =
-      let has = shared.keyed.only (node_key classes 0 x) n found in
+      let has = shared.keyed.only (node_key classes x) n found in
       record {
         within = has.0;
         same = alike_by_key g classes shared.are_classes (id n) has.1.0 x has.1.1 below (sym has.1.2);
@@ -233,7 +193,7 @@ module _ {S : Type 0} (g : Nodes) (classes : List ℕ) (representatives : IndexM
   same_node m m_in = AgreeAlways-grown g (x ∷ []) (reference m) shared.are_classes.closed m_in
 
   -- a new node is the first that is the value, where the map has nothing for its key
-  pub IsRepresentative-new : get same_key representatives (node_key classes 0 x) ≡ None → IsRepresentative grown (point grown (node_value x)) (id (length g))
+  pub IsRepresentative-new : get same_key representatives (node_key classes x) ≡ None → IsRepresentative grown (point grown (node_value x)) (id (length g))
   IsRepresentative-new none = record {
     within = omega (arith, longer);
     same = new_value;
@@ -252,9 +212,9 @@ module _ {S : Type 0} (g : Nodes) (classes : List ℕ) (representatives : IndexM
   same_classes c (n ∷ ns) within =
       ap₂ (λ (k : ℕ) (ks : List ℕ). k ∷ ks) (class_at-before classes c n.0 (omega (arith, within.0, shared.are_classes.long))) (same_classes c ns within.1)
 
-  same_key_of : (c : ℕ) (y : Node) → AreWithin g (node_children y) → node_key (classes ++ c ∷ []) 0 y ≡ node_key classes 0 y
+  same_key_of : (c : ℕ) (y : Node) → AreWithin g (node_children y) → node_key (classes ++ c ∷ []) y ≡ node_key classes y
   same_key_of c y within =
-      ap (λ (ks : List ℕ). let key : Key = record { head = node_head y; class = 0; children = ks } in key) (same_classes c (node_children y) within)
+      ap (λ (ks : List ℕ). let key : Key = record { head = node_head y; children = ks } in key) (same_classes c (node_children y) within)
 
   -- with the new node as a class of its own
   abbrev more_classes : List ℕ
@@ -266,7 +226,7 @@ module _ {S : Type 0} (g : Nodes) (classes : List ℕ) (representatives : IndexM
   old_class : (n : ℕ) → n < length g → class_at more_classes n ≡ class_at classes n
   old_class n within = class_at-before classes (length g) n (omega (arith, within, shared.are_classes.long))
 
-  AreClasses-grown : IsClosed grown → get same_key representatives (node_key classes 0 x) ≡ None → AreClasses grown more_classes
+  AreClasses-grown : IsClosed grown → get same_key representatives (node_key classes x) ≡ None → AreClasses grown more_classes
   AreClasses-grown closed none = record {
     closed = closed;
     long = omega (arith, longer, length-append classes (length g ∷ []), shared.are_classes.long);
@@ -284,7 +244,7 @@ module _ {S : Type 0} (g : Nodes) (classes : List ℕ) (representatives : IndexM
           subst (λ k. IsRepresentative grown (node_point grown (id k)) (id (class_at more_classes k))) here (subst (λ c. IsRepresentative grown (node_point grown (id (length g))) (id c)) (sym last_class) now)
 
   -- the graph is shared with the new node, whose key the map now has
-  pub IsShared-grown : (more : IndexMap Key ℕ S) → IsClosed grown → get same_key representatives (node_key classes 0 x) ≡ None → get same_key more (node_key classes 0 x) ≡ Some (length g) → ((k : Key) (m : ℕ) → get same_key representatives k ≡ Some m → get same_key more k ≡ Some m) → ((k : Key) (m : ℕ) → get same_key more k ≡ Some m → (get same_key representatives k ≡ Some m) ⊎ ((k ≡ node_key classes 0 x) × (m ≡ length g))) → IsShared grown more_classes more
+  pub IsShared-grown : (more : IndexMap Key ℕ S) → IsClosed grown → get same_key representatives (node_key classes x) ≡ None → get same_key more (node_key classes x) ≡ Some (length g) → ((k : Key) (m : ℕ) → get same_key representatives k ≡ Some m → get same_key more k ≡ Some m) → ((k : Key) (m : ℕ) → get same_key more k ≡ Some m → (get same_key representatives k ≡ Some m) ⊎ ((k ≡ node_key classes x) × (m ≡ length g))) → IsShared grown more_classes more
   IsShared-grown more closed none found stay only = record {
     are_classes = AreClasses-grown closed none;
     keyed = record {
@@ -293,19 +253,19 @@ module _ {S : Type 0} (g : Nodes) (classes : List ℕ) (representatives : IndexM
     };
   }
     where
-      known_at : (n : ℕ) (node : Node) → (slice_get g n ≡ Some node) ⊎ ((n ≡ length g) × (x ≡ node)) → get same_key more (node_key more_classes 0 node) ≡ Some (class_at more_classes n)
+      known_at : (n : ℕ) (node : Node) → (slice_get g n ≡ Some node) ⊎ ((n ≡ length g) × (x ≡ node)) → get same_key more (node_key more_classes node) ≡ Some (class_at more_classes n)
       known_at n node (inl at) =
           let n_in = slice_get_within g n node at in
           ap (get same_key more) (same_key_of (length g) node (closed_children g n node shared.are_classes.closed at))
-          ∙ stay (node_key classes 0 node) (class_at classes n) (shared.keyed.known n node n_in at)
+          ∙ stay (node_key classes node) (class_at classes n) (shared.keyed.known n node n_in at)
           ∙ ap Some (sym (old_class n n_in))
       known_at n node (inr new) =
-          ap (λ (y : Node). get same_key more (node_key more_classes 0 y)) (sym new.1)
+          ap (λ (y : Node). get same_key more (node_key more_classes y)) (sym new.1)
           ∙ ap (get same_key more) (same_key_of (length g) x below)
           ∙ found
           ∙ ap Some (sym last_class ∙ ap (class_at more_classes) (sym new.0))
 
-      only_at : (k : Key) (m : ℕ) → (get same_key representatives k ≡ Some m) ⊎ ((k ≡ node_key classes 0 x) × (m ≡ length g)) → (m < length grown) × ((node : Node) × (slice_get grown m ≡ Some node) × (k ≡ node_key more_classes 0 node))
+      only_at : (k : Key) (m : ℕ) → (get same_key representatives k ≡ Some m) ⊎ ((k ≡ node_key classes x) × (m ≡ length g)) → (m < length grown) × ((node : Node) × (slice_get grown m ≡ Some node) × (k ≡ node_key more_classes node))
       only_at k m (inl had) =
           let before = shared.keyed.only k m had in
           let node = before.1.0 in (
@@ -326,7 +286,7 @@ IsClosed-push g x closed below =
     wide y h i d within = omega (arith, h i d within, length-append g (x ∷ []))
 
 -- the same, as a program knows it
-pub IsShared-added : {S : Type 0} (g new : Nodes) (classes new_classes : List ℕ) (representatives more : IndexMap Key ℕ S) (key : Key) (x : Node) (n : ℕ) → IsShared g classes representatives → HasChildrenBelow (length g) x → key ≡ node_key classes 0 x → get same_key representatives key ≡ None → get same_key more key ≡ Some (length g) → ((k : Key) (m : ℕ) → get same_key representatives k ≡ Some m → get same_key more k ≡ Some m) → ((k : Key) (m : ℕ) → get same_key more k ≡ Some m → (get same_key representatives k ≡ Some m) ⊎ ((k ≡ key) × (m ≡ length g))) → n ≡ length g → new ≡ g ++ x ∷ [] → new_classes ≡ classes ++ n ∷ [] → IsShared new new_classes more
+pub IsShared-added : {S : Type 0} (g new : Nodes) (classes new_classes : List ℕ) (representatives more : IndexMap Key ℕ S) (key : Key) (x : Node) (n : ℕ) → IsShared g classes representatives → HasChildrenBelow (length g) x → key ≡ node_key classes x → get same_key representatives key ≡ None → get same_key more key ≡ Some (length g) → ((k : Key) (m : ℕ) → get same_key representatives k ≡ Some m → get same_key more k ≡ Some m) → ((k : Key) (m : ℕ) → get same_key more k ≡ Some m → (get same_key representatives k ≡ Some m) ⊎ ((k ≡ key) × (m ≡ length g))) → n ≡ length g → new ≡ g ++ x ∷ [] → new_classes ≡ classes ++ n ∷ [] → IsShared new new_classes more
 IsShared-added {S} g new classes new_classes representatives more key x n shared below is absent found stay only count graph_is classes_are =
     let within = recursion_from_All (λ child. child.0 < length g) (node_children x) below in
     let added = IsShared-grown g classes representatives x shared within more
@@ -338,7 +298,7 @@ IsShared-added {S} g new classes new_classes representatives more key x n shared
     let all : new_classes ≡ classes ++ length g ∷ [] = classes_are ∙ ap (λ k. classes ++ k ∷ []) count in
     subst (λ (h : Nodes). IsShared h new_classes more) (sym graph_is) (subst (λ (cs : List ℕ). IsShared (g ++ x ∷ []) cs more) (sym all) added)
 
-pub IsRepresentative-added : {S : Type 0} (g new : Nodes) (classes : List ℕ) (representatives : IndexMap Key ℕ S) (key : Key) (x : Node) (n : NodeId) → IsShared g classes representatives → HasChildrenBelow (length g) x → key ≡ node_key classes 0 x → get same_key representatives key ≡ None → n.0 ≡ length g → new ≡ g ++ x ∷ [] → IsRepresentative new (point new (node_value x)) n
+pub IsRepresentative-added : {S : Type 0} (g new : Nodes) (classes : List ℕ) (representatives : IndexMap Key ℕ S) (key : Key) (x : Node) (n : NodeId) → IsShared g classes representatives → HasChildrenBelow (length g) x → key ≡ node_key classes x → get same_key representatives key ≡ None → n.0 ≡ length g → new ≡ g ++ x ∷ [] → IsRepresentative new (point new (node_value x)) n
 IsRepresentative-added g new classes representatives key x n shared below is absent count graph_is =
     let within = recursion_from_All (λ child. child.0 < length g) (node_children x) below in
     let first = IsRepresentative-new g classes representatives x shared within (ap (get same_key representatives) (sym is) ∙ absent) in

@@ -13,6 +13,7 @@ pub mod Quotient
 pub mod Shape
 pub mod Postorder
 pub mod Settled
+pub mod NodePoints
 pub mod Fitting
 pub mod ValueSort
 pub mod WellFormed

@@ -40,9 +40,10 @@ IsTried g classes i = (node : Node) → slice_get g i ≡ Some node → AreSettl
 abbrev pub AreTried : Nodes → List ℕ → Type 0
 AreTried g classes = (i : ℕ) → IsTried g classes i
 
--- the classes tell the finite trees: nodes that agree at every depth have one class; the children of settled nodes are settled;
--- and settled nodes of one class have one head, and children of the same classes
+-- the classes tell the finite trees: nodes that agree at every depth have one class; a node is settled exactly where its
+-- children are; and settled nodes of one class have one head, and children of the same classes
 pub record TellsTrees (g : Nodes) (classes : List ℕ) : Type 0 where
   pub keeps : KeepsTogether g classes
   pub parts : (i : ℕ) (node : Node) → slice_get g i ≡ Some node → 0 < class_at classes i → AreSettled classes (node_children node)
-  pub keys : (i j : ℕ) (x y : Node) → slice_get g i ≡ Some x → slice_get g j ≡ Some y → 0 < class_at classes i → class_at classes i ≡ class_at classes j → node_key classes 0 x ≡ node_key classes 0 y
+  pub tried : AreTried g classes
+  pub keys : (i j : ℕ) (x y : Node) → slice_get g i ≡ Some x → slice_get g j ≡ Some y → 0 < class_at classes i → class_at classes i ≡ class_at classes j → node_key classes x ≡ node_key classes y

@@ -25,8 +25,8 @@ pub record AreClasses (g : Nodes) (classes : List ℕ) : Type 0 where
 
 -- the map has the key of each node before this number with its class, and no other
 pub record IsKeyed {S : Type 0} (g : Nodes) (classes : List ℕ) (representatives : IndexMap Key ℕ S) (count : ℕ) : Type 0 where
-  pub known : (n : ℕ) (node : Node) → n < count → slice_get g n ≡ Some node → get same_key representatives (node_key classes 0 node) ≡ Some (class_at classes n)
-  pub only : (key : Key) (n : ℕ) → get same_key representatives key ≡ Some n → (n < count) × ((node : Node) × (slice_get g n ≡ Some node) × (key ≡ node_key classes 0 node))
+  pub known : (n : ℕ) (node : Node) → n < count → slice_get g n ≡ Some node → get same_key representatives (node_key classes node) ≡ Some (class_at classes n)
+  pub only : (key : Key) (n : ℕ) → get same_key representatives key ≡ Some n → (n < count) × ((node : Node) × (slice_get g n ≡ Some node) × (key ≡ node_key classes node))
 
 -- these are the classes, and the map has the key of each node with its class, and no other
 pub record IsShared {S : Type 0} (g : Nodes) (classes : List ℕ) (representatives : IndexMap Key ℕ S) : Type 0 where

@@ -1,19 +1,19 @@
 //! Whether two nodes of a graph are equal values: whether they agree at every depth.
 //!
-//! The part of the graph that the two nodes reach is copied. A pass over it, children before
-//! parents, gives its finite trees their classes (`finite.rt`). The others are refined by rounds
-//! (`rounds.rt`), until a round changes nothing or the two nodes fall apart. Where no cycle is
-//! reached one round is enough, and else there are at most as many as there are nodes that reach
-//! one. Nothing outside the part is looked at, and nothing recurses.
+//! The part of the graph that the two nodes reach is copied, and its nodes are put into classes
+//! (`bisimilarity.rt`): its finite trees children before parents, and the others by partition
+//! refinement. So the time is near n log n in the nodes of that part and their children, and
+//! near-linear where no cycle is reached. Nothing outside the part is looked at, and nothing
+//! recurses.
 ghost use Rattle.std.specs.Prelude.{◌≡◌, ◌↔◌, ◌<◌, length, IfOk, IsTrue};
 ghost use Rattle.ct_values.specs.Agreement.{node_point, AgreeAlways};
 
+use crate::bisimilarity::classes;
 use crate::error::ValueError;
 use crate::graph::Graph;
 use crate::node::NodeId;
 use crate::packed::PackedGraph;
 use crate::reach::reached;
-use crate::rounds::refined;
 use std::alloc::Global;
 
 /// Whether the two nodes are equal values.
@@ -32,7 +32,6 @@ fn decide(alloc: Global, graph: &PackedGraph, a: NodeId, b: NodeId) -> Result<bo
     requires b_within { b.0 < length graph.now }
     ensures value { IfOk result (λ r. IsTrue r ↔ AgreeAlways (node_point graph.now a) (node_point graph.now b)) }
 {
-    prove!(a.0 < graph.len());
-    let classes = refined(alloc, graph, a, b)?;
+    let classes = classes(alloc, graph)?;
     Ok(classes[a.0 as usize] == classes[b.0 as usize])
 }

@@ -2,6 +2,7 @@
 
 ghost use Rattle.std.specs.Prelude.{⊤};
 
+use ct_partition::OutOfMemory;
 use std::alloc::{AllocError, AllocFailed};
 
 /// Memory ran out. Nothing else goes wrong in this crate.
@@ -20,6 +21,14 @@ impl<T: Drop> From<AllocFailed<T>> for ValueError {
     ghost from_gives = { λ _ e. ⊤ };
 
     fn from(_error: AllocFailed<T>) -> ValueError {
+        ValueError
+    }
+}
+
+impl From<OutOfMemory> for ValueError {
+    ghost from_gives = { λ _ e. ⊤ };
+
+    fn from(_error: OutOfMemory) -> ValueError {
         ValueError
     }
 }

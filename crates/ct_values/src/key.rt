@@ -1,38 +1,18 @@
-//! The key of a node in a round of refinement: its head over the classes of its children.
+//! The key of a node: its head over the classes of its children.
 
-ghost use Rattle.std.specs.Prelude.{◌≡◌, ◌<◌, length, Some, IfOk, All, map};
-ghost use Rattle.ct_values.specs.Partition.{class_at, key_of};
+ghost use Rattle.std.specs.Prelude.{◌≡◌, ◌<◌, length, IfOk, All, map};
+ghost use Rattle.ct_values.specs.Partition.{class_at};
 
 use crate::error::ValueError;
 use crate::indices::Indices;
 use crate::node::{Head, NodeId};
-use crate::packed::PackedGraph;
 use std::alloc::Global;
 
-/// What a round of refinement compares of a node: its head, its class, and the classes of its children.
+/// What tells a node's value where the classes tell those of its children: its head, and the classes of its children.
 #[derive(Debug, Drop, PartialEq, Eq, Hash)]
 pub(crate) struct Key {
     pub(crate) head: Head,
-    pub(crate) class: usize,
     pub(crate) children: Indices,
-}
-
-/// The key of a node.
-pub(crate) fn node_key(
-    alloc: Global,
-    graph: &PackedGraph,
-    classes: &[usize],
-    n: NodeId,
-) -> Result<Key, ValueError>
-    requires within { n.0 < length graph.now }
-    requires long { length classes.now ≡ length graph.now }
-    ensures value { IfOk result (λ key. key_of graph.now classes.now n.0 ≡ Some key) }
-{
-    Ok(Key {
-        head: graph.head(n),
-        class: classes[n.0 as usize],
-        children: Indices::new(classes_of(alloc, classes, graph.children(n))?),
-    })
 }
 
 /// The classes of these nodes.

@@ -2,6 +2,7 @@
 //! value is written.
 #![tactic(auto)]
 
+mod bisimilarity;
 mod equality;
 mod error;
 mod finite;
@@ -11,14 +12,12 @@ mod graph_text;
 mod indices;
 mod key;
 mod minimal;
-mod named;
 mod node;
 mod node_ids;
 mod packed;
+mod points;
 mod postorder;
 mod reach;
-mod refine;
-mod rounds;
 mod shape;
 mod shared;
 mod text;

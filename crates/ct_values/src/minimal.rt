@@ -3,19 +3,19 @@
 //! The part of the graph that the node reaches is copied, numbered breadth first, and its nodes are
 //! put into classes of those that agree at every depth, as for equality. Of each class the
 //! representative is stored, over the indices of its children's classes among the stored nodes. So
-//! what is stored is numbered breadth first as well. Beyond the rounds the time is near-linear in
-//! the part, and nothing recurses.
+//! what is stored is numbered breadth first as well. The time is that of equality, near n log n in
+//! the nodes of the part and their children, and nothing recurses.
 ghost use Rattle.std.specs.Prelude.{◌≡◌, ℕ, ◌<◌, ◌≤◌, length, map, IfOk, All};
 ghost use Rattle.ct_values.specs.Partition.{class_at};
 ghost use Rattle.ct_values.specs.Quotient.{NumbersClasses, AreNumbered, numbered_child, quotient};
 ghost use Rattle.ct_values.specs.Minimal.{IsMinimal};
 
+use crate::bisimilarity::classes;
 use crate::error::ValueError;
 use crate::graph::Graph;
 use crate::node::NodeId;
 use crate::packed::{PackedGraph, PackedNodes, unpacked};
 use crate::reach::reached_from;
-use crate::rounds::refined;
 use std::alloc::Global;
 
 /// The minimal graph of the tree at the root, with the number that the root has in it, which is 0.
@@ -44,11 +44,9 @@ pub(crate) fn minimal(alloc: Global, g: &Graph, root: NodeId) -> Result<PackedGr
 
 // For each node of the part the number of its class.
 fn class_numbers(alloc: Global, part: &PackedGraph) -> Result<Vec<usize>, ValueError>
-    requires positive { 0 < length part.now }
     ensures numbers { IfOk result (λ numbers. AreNumbered part.now numbers.items) }
 {
-    prove!(part.len() > 0);
-    let classes = refined(alloc, part, NodeId(0), NodeId(0))?;
+    let classes = classes(alloc, part)?;
     numbered(alloc, &classes)
 }
 

@@ -1,10 +1,9 @@
 //! A graph with the representative of each value at hand.
 //!
-//! Its nodes are put into classes of those that agree at every depth, once, by the passes and
-//! rounds of equality. From then on a map from heads and classes of children to representatives
+//! Its nodes are put into classes of those that agree at every depth, once, as for equality. From then on a map from heads and classes of children to representatives
 //! tells the representative of a constructor over nodes, so that a new node costs a look-up
 //! (hash-consing; Filliâtre and Conchon 2006).
-ghost use Rattle.std.specs.Prelude.{◌≡◌, ◌<◌, ◌⊎◌, [], ◌∷◌, ◌++◌, length, map, All, Some, None, OnErr, OnOk, IfOk, IfSome, IfNone};
+ghost use Rattle.std.specs.Prelude.{◌≡◌, ℕ, ◌<◌, ◌⊎◌, [], ◌∷◌, ◌++◌, length, map, All, Some, None, OnErr, OnOk, IfOk, IfSome, IfNone};
 ghost use Rattle.indexmap.specs.IndexMap.{get};
 ghost use Rattle.ct_values.specs.declared.node.Node.TheVariants as nodes;
 ghost use Rattle.ct_values.specs.Graph.{IsClosed, HasChildrenBelow};
@@ -14,6 +13,7 @@ ghost use Rattle.ct_values.specs.KeyTest.{same_key};
 ghost use Rattle.ct_values.specs.Partition.{class_at, node_key};
 ghost use Rattle.ct_values.specs.Sharing.{IsRepresentative, AreClasses, IsShared};
 
+use crate::bisimilarity::classes;
 use crate::error::ValueError;
 use crate::graph::Graph;
 use crate::indices::Indices;
@@ -21,8 +21,6 @@ use crate::key::{Key, classes_of};
 use crate::node::{Head, Node, NodeId};
 use crate::node_ids::NodeIds;
 use crate::packed::packed;
-use crate::refine::first_with;
-use crate::rounds::refined;
 use ct_sorts::CtorId;
 use indexmap::IndexMap;
 use std::alloc::Global;
@@ -130,7 +128,7 @@ fn add(
 ) -> Result<NodeId, ValueError>
     requires shared { IsShared graph.old classes.old.items representatives.old }
     requires below { HasChildrenBelow (length graph.old) node }
-    requires key { key ≡ node_key classes.old.items 0 node }
+    requires key { key ≡ node_key classes.old.items node }
     requires absent { get same_key representatives.old key ≡ None }
     ensures shared { IsShared graph.new classes.new.items representatives.new }
     ensures first { IfOk result (IsRepresentative graph.new (point graph.new (node_value node))) }
@@ -148,11 +146,8 @@ fn add(
 fn stable_classes(alloc: Global, graph: &Graph) -> Result<Vec<usize>, ValueError>
     ensures classes { IfOk result (λ classes. AreClasses graph.now classes.items) }
 {
-    if graph.len() == 0 {
-        return Ok(Vec::new(alloc));
-    }
     let packed = packed(alloc, graph)?;
-    let classes = refined(alloc, &packed, NodeId(0), NodeId(0))?;
+    let classes = classes(alloc, &packed)?;
     Ok(classes)
 }
 
@@ -164,11 +159,10 @@ fn key_over(
     children: &[NodeId],
 ) -> Result<Key, ValueError>
     requires within { All (λ child. child.0 < length classes.now) children.now }
-    ensures value { IfOk result (λ key. key ≡ record { head = head; class = 0; children = map (λ child. class_at classes.now child.0) children.now }) }
+    ensures value { IfOk result (λ key. key ≡ record { head = head; children = map (λ child. class_at classes.now child.0) children.now }) }
 {
     Ok(Key {
         head,
-        class: 0,
         children: Indices::new(classes_of(alloc, classes, children)?),
     })
 }
@@ -189,4 +183,26 @@ fn keyed(
         first_with(&mut representatives, key, index)?;
     }
     Ok(representatives)
+}
+
+// The first index that has the key: the one that is stored for it, or this one, which is then
+// stored.
+fn first_with(
+    representatives: &mut IndexMap<Key, usize>,
+    key: Key,
+    index: usize,
+) -> Result<usize, ValueError>
+    ensures found { IfOk result (λ first. get same_key representatives.new key ≡ Some first) }
+    ensures stay { IfOk result (λ first. (k : Key) (n : ℕ)
+        → get same_key representatives.old k ≡ Some n
+        → get same_key representatives.new k ≡ Some n) }
+    ensures only { IfOk result (λ first. (k : Key) (n : ℕ)
+        → get same_key representatives.new k ≡ Some n
+        → (get same_key representatives.old k ≡ Some n) ⊎ ((k ≡ key) × (n ≡ index))) }
+{
+    if let Some(first) = representatives.get(&key) {
+        return Ok(*first);
+    }
+    representatives.insert(key, index)?;
+    Ok(index)
 }

@@ -1,6 +1,6 @@
 use Rattle.std.proofs.Common.{◌<◌, refl, ap, arith}
 use Rattle.ct_values.specs.Partition.{class_at}
-use Rattle.ct_values.proofs.RefineLemmas.{class_read}
+use Rattle.ct_values.proofs.ClassLemmas.{class_read}
 use Rattle.ct_values.proofs.QuotientLemmas.{CountsUp-few, AreNumberedTo-new, AreNumberedTo-old}
 use Rattle.ct_values.proofs.minimal.numbered.Goals as goal
 use Rattle.ct_values.proofs.minimal.numbered.Goals.{then-class-index+in_ok-push, else-class-index+in_ok-push-2}

@@ -19,7 +19,7 @@ returns-in-Some-clause-first c =
     let g : Nodes = stored.graph in
     let x : Node = Con c.args.c c.args.children in
     let n = c.in-Some.first in
-    let key : c.in_ok-key.key ≡ node_key stored.classes.items 0 x = rw (c.deref.ensures.value, c.as_slice.ensures.value) at c.in_ok-key.ensures.value in
+    let key : c.in_ok-key.key ≡ node_key stored.classes.items x = rw (c.deref.ensures.value, c.as_slice.ensures.value) at c.in_ok-key.ensures.value in
     let below : AllByRecursion (λ child. child.0 < length g) c.args.children = subst (λ (h : Nodes). AllByRecursion (λ child. child.0 < length h) c.args.children) (sym c.self.view_is) (recursion_from_All (λ child. child.0 < length c.args.self.now) c.args.children c.requires.within) in
     let first = IsRepresentative-known g stored.classes.items stored.representatives x c.self.invariant below n.0 (ap (get same_key stored.representatives) (sym key) ∙ c.in-Some.ensures.found) in
     subst (λ (h : Nodes). IsRepresentative h (point h (node_value x)) n) c.self.view_is first
