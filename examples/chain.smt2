@@ -1,0 +1,16 @@
+; Look-ups in a row, as a verifier writes them: each goes on with what the last one found, or finds nothing.
+(declare-sort Key 0)
+(declare-datatype Option ((none) (some (value Key))))
+(declare-fun parent (Key) Option)
+(define-fun then ((o Option)) Option (match o ((none none) ((some k) (parent k)))))
+(declare-const k Key)
+(define-const third Option (then (then (parent k))))
+(assert ((_ is some) third))
+(check-sat)
+(get-value (((_ is some) (parent k)) ((_ is some) (then (parent k))) (= third (parent (value (then (parent k)))))))
+; Where the parent of k is k, every look-up finds it.
+(assert (= (parent k) (some k)))
+(check-sat)
+(get-value ((= third (some k))))
+(assert (= third none))
+(check-sat)
