@@ -20,9 +20,11 @@ use Rattle.ct_compile.specs.declared.bound.Bound.TheVariants.{Term, Absent}
 use Rattle.ct_compile.specs.Effect.{IsKept, IsPrefix, Effect}
 use Rattle.ct_compile.specs.Ready.{given, IsReady, MayCompile, Compiles}
 use Rattle.ct_compile.specs.Weight.{weight, weights, weights_below}
-use Rattle.ct_compile.specs.Binding.{occurs_where, WithinWhere, AreBinding, MayBind, Binds}
+use Rattle.ct_compile.specs.Making.{making, defined}
+use Rattle.ct_compile.specs.Binding.{occurs_where, WithinWhere, making_where, AreBinding, MayBind, Binds}
 use Rattle.ct_compile.proofs.EffectLemmas.{prefix_itself, prefix_trans, effect_none, effect_then, effect_because}
 use Rattle.ct_compile.proofs.WithinLemmas.{within_subtrees}
+use Rattle.ct_compile.proofs.MakesLemmas.{makes_then}
 use Rattle.ct_compile.proofs.ReadyLemmas.{bound_stays, setting_stays, present_less, or_left, or_right}
 use Rattle.ct_compile.proofs.CycleLemmas.{same_error}
 
@@ -33,6 +35,7 @@ binds_none d bodies n table env = record {
   flagged = tt;
   grown = λ trees sorts each h. (prefix_itself table, h.setting.kept);
   effect = λ trees sorts each allowed h w. effect_none d allowed table _ h.setting.kept (λ x. cc);
+  order = λ trees sorts each h. refl;
 }
 
 -- there is no memory
@@ -42,6 +45,7 @@ binds_out d bodies n table env flags ts e is = record {
   flagged = tt;
   grown = λ trees sorts each h. (prefix_itself table, h.setting.kept);
   effect = λ trees sorts each allowed h w. effect_none d allowed table _ h.setting.kept (λ x. cc);
+  order = λ trees sorts each h. tt;
 }
 
 module _ (d : Declarations) (bodies : List Formula) (n : ℕ) (env : List Bound) (flags : List Bool) (t : Formula) (ts : Formulas) where
@@ -73,6 +77,7 @@ module _ (d : Declarations) (bodies : List Formula) (n : ℕ) (env : List Bound)
       effect = λ trees sorts each allowed h w.
           let k = absent_binding trees sorts each h in
           effect_because d allowed table new _ _ (λ x. cc) (rest.effect trees sorts k.0 allowed k.1 w.1);
+      order = λ trees sorts each h. let k = absent_binding trees sorts each h in rest.order trees sorts k.0 k.1;
     }
 
     pub absent_failed : (e : TermError) → Binds d bodies n table new env flags ts (Err e) → Binds d bodies n table new env (false ∷ flags) (with_formula t ts) (Err e)
@@ -83,6 +88,7 @@ module _ (d : Declarations) (bodies : List Formula) (n : ℕ) (env : List Bound)
       effect = λ trees sorts each allowed h w.
           let k = absent_binding trees sorts each h in
           rest.effect trees sorts k.0 allowed k.1 w.1;
+      order = λ trees sorts each h. tt;
     }
 
   -- ---- it occurs
@@ -125,6 +131,7 @@ module _ (d : Declarations) (bodies : List Formula) (n : ℕ) (env : List Bound)
     effect = λ trees sorts each allowed h w.
         let k = split table trees sorts each h in
         effect_because d allowed table new _ _ (same_error e Full) (one.effect trees sorts k.0 allowed k.2 (w.0 refl));
+    order = λ trees sorts each h. tt;
   }
 
   module _ (table mid : Terms) (u : TermId) (one : Compiles d bodies n table mid env t (Ok u)) where
@@ -173,6 +180,9 @@ module _ (d : Declarations) (bodies : List Formula) (n : ℕ) (env : List Bound)
         flagged = (tt, rest.flagged);
         grown = grown_both (Ok bs) rest;
         effect = effect_both _ (Ok bs) rest (λ x. cc);
+        order = λ trees sorts each h.
+            let k = split table trees sorts each h in
+            makes_then (making d (defined d bodies n) trees t) (making_where d (defined d bodies n) trees flags ts) table mid new (one.order trees sorts k.0 k.2) (rest.order trees sorts k.1 (rest_after trees sorts k.1 k.0 k.2 k.3));
       }
 
       pub term_broken : (e : TermError) → Binds d bodies n mid new env flags ts (Err e) → Binds d bodies n table new env (true ∷ flags) (with_formula t ts) (Err e)
@@ -181,6 +191,7 @@ module _ (d : Declarations) (bodies : List Formula) (n : ℕ) (env : List Bound)
         flagged = tt;
         grown = grown_both (Err e) rest;
         effect = effect_both _ (Err e) rest (λ x. x);
+        order = λ trees sorts each h. tt;
       }
 
 -- ---- the loop: what completes the rest completes the whole

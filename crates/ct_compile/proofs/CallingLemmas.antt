@@ -10,13 +10,14 @@ use Rattle.ct_sorts.specs.Declarations.{Declarations}
 use Rattle.ct_terms.specs.declared.ids.TermId.{TermId}
 use Rattle.ct_terms.specs.Terms.{Terms}
 use Rattle.ct_terms.specs.CoreTree.{CoreTree, subtrees}
-use Rattle.ct_terms.specs.Formula.{Formula, Formulas, Def}
+use Rattle.ct_terms.specs.Formula.{Formula, Formulas, Def, bind}
 use Rattle.ct_terms.specs.FormulaSorts.{AreSound}
 use Rattle.ct_terms.specs.Compiled.{compiled, compiled_all}
 use Rattle.ct_terms.specs.Occurrence.{count_of, uses_below, AreBoundSame}
 use Rattle.ct_compile.specs.declared.bound.Bound.{Bound}
 use Rattle.ct_compile.specs.declared.bound.Bound.TheVariants.{Term, Field, Absent}
 use Rattle.ct_compile.specs.declared.known.Called.{Called}
+use Rattle.ct_compile.specs.Making.{HasTrees, making, makes_below, defined}
 use Rattle.ct_compile.specs.Effect.{Stands, IsKept, IsPrefix, Within, Effect}
 use Rattle.ct_compile.specs.Ready.{given, IsBound, IsReady}
 use Rattle.ct_compile.specs.Marks.{listed, Rows, row_in, HaveRows}
@@ -26,6 +27,8 @@ use Rattle.ct_compile.proofs.EffectLemmas.{stands_stays}
 use Rattle.ct_compile.proofs.WithinLemmas.{Contains-first, within_subtrees}
 use Rattle.ct_compile.proofs.ReadyLemmas.{bounds_stay}
 use Rattle.ct_compile.proofs.OperatorLemmas.{stands_as}
+use Rattle.ct_compile.proofs.MakesLemmas.{have_stay}
+use Rattle.ct_compile.proofs.MakingLemmas.{makes_is, makes_same_below}
 use Rattle.ct_compile.proofs.BindLemmas.{zip_length}
 use Rattle.ct_compile.proofs.DefinitionLemmas.{given_is, fewer_rows}
 use Rattle.ct_compile.proofs.UnderLemmas.{Under, count_sorted, count_terms, call_view}
@@ -42,6 +45,7 @@ recalled_stays d bodies rows old new call t grown kept h = record {
   flags = h.flags;
   stand = bounds_stay d old new h.bounds h.trees grown kept h.stand;
   stands = stands_stays d old new t (given d bodies (suc call.definition.0) call.definition h.trees) grown kept h.stands;
+  made = have_stay kept.laws old new (makes_below d bodies (suc call.definition.0) call.definition h.trees) grown kept.ordered h.made;
 }
 
 module _ {S : Type 0} (d : Declarations) (bodies : List Formula) (rows : Rows) where
@@ -124,6 +128,10 @@ bound_same table p (b ∷ bs) (u ∷ us) (v ∷ vs) marked_as h k = (
   bound_same table p bs us vs marked_as.1 h.1 k.1,
 )
 
+zip_none : {X Y : Type 0} (R : X → Y → Type 0) (ys : List Y) → AllZip R [] ys → ys ≡ []
+zip_none R [] h = refl
+zip_none R (y ∷ ys) h = absurd h
+
 same_definition : (call : Called) (k : DefId) (bs : List Bound) → call ≡ call_of k bs → call.definition ≡ k
 same_definition call k bs e = ap (λ (c : Called). c.definition) e
 
@@ -158,9 +166,28 @@ module _ (d : Declarations) (bodies : List Formula) (n : ℕ) (rows : Rows) (old
         ∙ sym (h.setting.kept.laws.used d bodies n k (parts trees) is.trees (bound_same mid (uses_below d bodies n k) bs (parts trees) is.trees marked_as core stand)))
         is.stands
 
+    -- what is made for a known term is there
+    pub known_made : (t : TermId) → IsRecalled d bodies rows mid (call_of k bs) t → (trees : List CoreTree) (sorts : List SortId) (sort : SortId) → (h : IsReady d bodies old n env (Def k ts) trees sorts sort) → HasTrees mid (making d (defined d bodies k.0) (bind (parts trees) (call_under trees sorts sort h).others) body)
+    known_made t is trees sorts sort h =
+        let view = call_under trees sorts sort h in
+        let one_row : is.row ≡ row = same_Some is.row row (sym is.at ∙ at_row) in
+        let flags : AllZip IsBoundAs row is.bounds = subst (λ (xs : List Bool). AllZip IsBoundAs xs is.bounds) one_row is.flags in
+        let one : bs ≡ is.bounds = same_bounds row bs is.bounds all.flagged flags (ap (λ (c : Called). c.args) is.args) in
+        let stand : AllZip (IsBound mid) bs is.trees = subst (λ (xs : List Bound). AllZip (IsBound mid) xs is.trees) (sym one) is.stand in
+        let core = all.core trees sorts view.each view.binding in
+        let count : count_of ts ≡ length bs = sym (count_terms d (given d bodies n) trees ts) ∙ sym (zip_length (IsBound mid) bs (parts trees) core) in
+        let marked_as : AllZip IsBoundAs (listed (uses_below d bodies n k) (length bs)) bs = subst (λ (xs : List Bool). AllZip IsBoundAs xs bs) (row_is trees sorts sort h ∙ ap (listed (uses_below d bodies n k)) count) all.flagged in
+        subst (HasTrees mid)
+        (makes_is bodies k body at d (suc k.0) is.trees (omega arith)
+        ∙ sym (makes_is bodies k body at d n is.trees h.mentions.0)
+        ∙ sym (makes_same_below h.setting.kept.laws d bodies n k (parts trees) is.trees (bound_same mid (uses_below d bodies n k) bs (parts trees) is.trees marked_as core stand))
+        ∙ makes_is bodies k body at d n (parts trees) h.mentions.0
+        ∙ ap (λ (us : List CoreTree). making d (defined d bodies k.0) (bind (parts trees) us) body) (sym (zip_none (IsBound old) view.others view.bound)))
+        is.made
+
     -- the term of the call is put down
-    pub call_recalled : (new : Terms) (t : TermId) → IsPrefix mid new → IsKept d new → (trees : List CoreTree) (sorts : List SortId) (sort : SortId) → IsReady d bodies old n env (Def k ts) trees sorts sort → Stands new t (compiled d (given d bodies n) trees (Def k ts)) → IsRecalled d bodies rows new (call_of k bs) t
-    call_recalled new t grown kept trees sorts sort h stands =
+    pub call_recalled : (new : Terms) (t : TermId) → IsPrefix mid new → IsKept d new → (trees : List CoreTree) (sorts : List SortId) (sort : SortId) → (h : IsReady d bodies old n env (Def k ts) trees sorts sort) → Stands new t (compiled d (given d bodies n) trees (Def k ts)) → HasTrees new (making d (defined d bodies k.0) (bind (parts trees) (call_under trees sorts sort h).others) body) → IsRecalled d bodies rows new (call_of k bs) t
+    call_recalled new t grown kept trees sorts sort h stands made =
         let view = call_under trees sorts sort h in
         record {
           bounds = bs;
@@ -171,6 +198,7 @@ module _ (d : Declarations) (bodies : List Formula) (n : ℕ) (rows : Rows) (old
           flags = all.flagged;
           stand = bounds_stay d mid new bs (parts trees) grown kept (all.core trees sorts view.each view.binding);
           stands = stands_as new t _ _ (given_is bodies k body at d n (parts trees) h.mentions.0 ∙ sym (given_is bodies k body at d (suc k.0) (parts trees) (omega arith))) stands;
+          made = subst (HasTrees new) (ap (λ (us : List CoreTree). making d (defined d bodies k.0) (bind (parts trees) us) body) (zip_none (IsBound old) view.others view.bound) ∙ sym (makes_is bodies k body at d (suc k.0) (parts trees) (omega arith))) made;
         }
 
 -- a clause on an answer that is no error

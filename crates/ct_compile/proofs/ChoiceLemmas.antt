@@ -1,5 +1,5 @@
 -- Compiling a variable, and a choice between two formulas.
-use Rattle.std.proofs.Common.{◌≡◌, ℕ, zero, suc, ◌<◌, Bool, ◌||◌, List, [], ◌∷◌, length, Contains, Result, Ok, Err, IfOk, IsErrOf, Option, Some, unwrap_or, slice_get, refl, sym, ap, ap₂, subst, ◌∙◌, arith}
+use Rattle.std.proofs.Common.{◌≡◌, ℕ, zero, suc, ◌<◌, Bool, ◌||◌, List, [], ◌∷◌, ◌++◌, length, Contains, Result, Ok, Err, IfOk, IsErrOf, Option, Some, unwrap_or, slice_get, refl, sym, ap, ap₂, subst, ◌∙◌, arith}
 use Rattle.std.specs.List.{AllZip, AllByRecursion}
 use Rattle.std.proofs.lemmas.Option.{none-some, same_Some}
 use Rattle.std.proofs.lemmas.Bool.Decides.{Decides-eqb}
@@ -10,17 +10,20 @@ use Rattle.ct_terms.specs.declared.ids.TermId.{TermId}
 use Rattle.ct_terms.specs.declared.error.TermError.{TermError}
 use Rattle.ct_terms.specs.declared.error.TermError.TheVariants.{Full}
 use Rattle.ct_terms.specs.Terms.{Terms}
-use Rattle.ct_terms.specs.CoreTree.{CoreTree, choice, subtrees, no_term, term_at}
+use Rattle.ct_terms.specs.CoreTree.{CoreTree, choice, tree_children, subtrees, no_term, term_at}
 use Rattle.ct_terms.specs.CoreSorts.{HasTreeSort}
 use Rattle.ct_terms.specs.Formula.{Formula, Var, Ite}
 use Rattle.ct_terms.specs.Compiled.{compiled}
 use Rattle.ct_terms.specs.Occurrence.{occurs, uses_below}
 use Rattle.ct_compile.specs.declared.bound.Bound.{Bound}
+use Rattle.ct_compile.specs.declared.bound.Bound.TheVariants.{Term, Field, Absent}
+use Rattle.ct_compile.specs.Making.{HasTree, HasTrees, Makes, making, defined}
 use Rattle.ct_compile.specs.Effect.{Stands, IsKept, Effect}
 use Rattle.ct_compile.specs.Ready.{given, IsBound, IsThere, IsReady, MayCompile, Compiles}
 use Rattle.ct_compile.proofs.EffectLemmas.{stands_stays, effect_then}
 use Rattle.ct_compile.proofs.WithinLemmas.{within_subtrees, within_itself, within_choice}
 use Rattle.ct_compile.proofs.OperatorLemmas.{stands_as}
+use Rattle.ct_compile.proofs.MakesLemmas.{makes_then, makes_none, makes_one, makes_same}
 use Rattle.ct_compile.proofs.ReadyLemmas.{ready_stays, present_less, or_left, or_right}
 use Rattle.ct_compile.proofs.PlainLemmas.{whole_sorted}
 
@@ -38,6 +41,14 @@ slice_below (y ∷ ys) zero x e = omega arith
 slice_below (y ∷ ys) (suc k) x e = let h = slice_below ys k x e in omega arith
 
 -- ---- a variable
+
+-- what is bound is there, or is a field of what is there
+bound_made : (d : Declarations) (table new : Terms) (b : Bound) (tree : CoreTree) (full : Type 0) → IsThere b → IsBound table b tree → Effect d (subtrees tree) table new full → HasTree new tree → Makes table (tree ∷ []) new
+bound_made d table new (Term t) tree full there h effect made =
+    subst (λ (ts : Terms). Makes table (tree ∷ []) ts) (sym (makes_same d table new tree full effect (t, h))) (makes_none (tree ∷ []) table ((t, h), tt))
+bound_made d table new (Field s t) tree full there h effect made =
+    makes_one d table new tree full effect (subst (λ (x : CoreTree). HasTrees table (tree_children x)) h.1 ((t, (h.0, refl)), tt)) made
+bound_made d table new Absent tree full there h effect made = absurd there
 
 module _ (d : Declarations) (bodies : List Formula) (n : ℕ) (table : Terms) (env : List Bound) (i : ℕ) where
   -- what the variable stands for, and its tree
@@ -78,6 +89,14 @@ module _ (d : Declarations) (bodies : List Formula) (n : ℕ) (table : Terms) (e
           let s = stood trees sorts sort h in
           let is : compiled d (given d bodies n) trees (Var i) ≡ s.tree = ap (λ (o : Option CoreTree). unwrap_or o no_term) s.is in
           effect s.tree allowed (same trees sort s) (subst (Contains allowed) is (within_itself h.setting.kept.laws allowed _ w));
+      order = λ trees sorts sort h.
+          let s = stood trees sorts sort h in
+          let is : compiled d (given d bodies n) trees (Var i) ≡ s.tree = ap (λ (o : Option CoreTree). unwrap_or o no_term) s.is in
+          let e = effect s.tree (subtrees s.tree) (same trees sort s) (within_itself h.setting.kept.laws (subtrees s.tree) s.tree (within_subtrees s.tree)) in
+          subst (λ (x : CoreTree). IfOk r (λ t. Makes table (x ∷ []) new)) (sym is)
+          (IfOk-weaker r (λ t. Stands new t s.tree) (λ t. Makes table (s.tree ∷ []) new)
+          (λ t stands. bound_made d table new b s.tree _ (h.present i b ((Decides-eqb i i).1 refl) at) (same trees sort s) e (t, stands))
+          (core s.tree (same trees sort s)));
     }
 
 -- ---- a choice
@@ -121,6 +140,7 @@ module _ (d : Declarations) (bodies : List Formula) (n : ℕ) (env : List Bound)
   choice_failed_1 old new e one = record {
     core = λ trees sorts sort h. tt;
     effect = λ trees sorts sort allowed h w. one.effect trees sorts bool_sort allowed (condition_ready old trees sorts sort h) (within_choice allowed (core trees c) (core trees t) (core trees u) w).0;
+    order = λ trees sorts sort h. tt;
   }
 
   module _ (old m1 : Terms) (a : TermId) (first : Compiles d bodies n old m1 env c (Ok a)) where
@@ -140,6 +160,7 @@ module _ (d : Declarations) (bodies : List Formula) (n : ℕ) (env : List Bound)
           let parts = within_choice allowed (core trees c) (core trees t) (core trees u) w in
           effect_then d allowed old m1 new _ _ (first.effect trees sorts bool_sort allowed (condition_ready old trees sorts sort h) parts.0)
           (one.effect trees sorts sort allowed (then_ready m1 trees sorts sort (ready_1 trees sorts sort h)) parts.1.0);
+      order = λ trees sorts sort h. tt;
     }
 
     module _ (m2 : Terms) (b : TermId) (second : Compiles d bodies n m1 m2 env t (Ok b)) where
@@ -161,6 +182,7 @@ module _ (d : Declarations) (bodies : List Formula) (n : ℕ) (env : List Bound)
             (effect_then d allowed old m1 m2 _ _ (first.effect trees sorts bool_sort allowed (condition_ready old trees sorts sort h) parts.0)
             (second.effect trees sorts sort allowed (then_ready m1 trees sorts sort (ready_1 trees sorts sort h)) parts.1.0))
             (one.effect trees sorts sort allowed (else_ready m2 trees sorts sort (ready_2 trees sorts sort h)) parts.1.1);
+        order = λ trees sorts sort h. tt;
       }
 
       module _ (m3 : Terms) (v : TermId) (third : Compiles d bodies n m2 m3 env u (Ok v)) where
@@ -205,4 +227,15 @@ module _ (d : Declarations) (bodies : List Formula) (n : ℕ) (env : List Bound)
               (second.effect trees sorts sort allowed (then_ready m1 trees sorts sort (ready_1 trees sorts sort h)) parts.1.0))
               (third.effect trees sorts sort allowed (else_ready m2 trees sorts sort (ready_2 trees sorts sort h)) parts.1.1))
               (effect allowed (subst (Contains allowed) (sym (layer trees sorts sort h)) (within_itself h.setting.kept.laws allowed _ w)));
+          order = λ trees sorts sort h.
+              let defs = defined d bodies n in
+              let whole = core trees (Ite c t u) in
+              IfOk-weaker r (λ x. Stands new x (choice (term_at m3 a) (term_at m3 b) (term_at m3 v))) (λ x. Makes old (making d defs trees (Ite c t u)) new)
+              (λ x k.
+              let e = effect (subtrees (choice (term_at m3 a) (term_at m3 b) (term_at m3 v))) (within_itself h.setting.kept.laws _ _ (within_subtrees (choice (term_at m3 a) (term_at m3 b) (term_at m3 v)))) in
+              let last = makes_one d m3 new whole _ (subst (λ (y : CoreTree). Effect d (subtrees y) m3 new (IsErrOf r Full)) (layer trees sorts sort h) e) ((a, stand_1 trees sorts sort h), ((b, stand_2 trees sorts sort h), ((v, stand_3 trees sorts sort h), tt))) (x, stands_as new x _ _ (layer trees sorts sort h) k) in
+              makes_then (making d defs trees c) (making d defs trees t ++ (making d defs trees u ++ whole ∷ [])) old m1 new (first.order trees sorts bool_sort (condition_ready old trees sorts sort h))
+              (makes_then (making d defs trees t) (making d defs trees u ++ whole ∷ []) m1 m2 new (second.order trees sorts sort (then_ready m1 trees sorts sort (ready_1 trees sorts sort h)))
+              (makes_then (making d defs trees u) (whole ∷ []) m2 m3 new (third.order trees sorts sort (else_ready m2 trees sorts sort (ready_2 trees sorts sort h))) last)))
+              made;
         }

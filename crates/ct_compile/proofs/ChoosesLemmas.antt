@@ -1,7 +1,8 @@
 -- The cases of a `match`, as far as their tests and bodies are made.
-use Rattle.std.proofs.Common.{◌≡◌, ℕ, ◌+◌, ◌<◌, ◌≤◌, List, [], ◌∷◌, ◌++◌, length, Result, Ok, Err, IfOk, IsErrOf, refl, sym, ap, subst, ◌∙◌, arith}
+use Rattle.std.proofs.Common.{◌≡◌, ℕ, ◌+◌, ◌<◌, ◌≤◌, List, [], ◌∷◌, ◌++◌, length, Result, Ok, Err, IfOk, IsErrOf, refl, sym, ap, subst, ◌∙◌, arith, ◌⊎◌, Contains, inl, inr}
 use Rattle.std.specs.List.{AllByRecursion}
 use Rattle.std.proofs.lemmas.Result.{IfOk-weaker}
+use Rattle.std.proofs.lemmas.List.{append-nil, append_assoc}
 use Rattle.ct_sorts.specs.declared.ids.CtorId.{CtorId}
 use Rattle.ct_sorts.specs.declared.ids.SortId.{SortId}
 use Rattle.ct_sorts.specs.Declarations.{Declarations}
@@ -9,20 +10,23 @@ use Rattle.ct_terms.specs.declared.ids.TermId.{TermId}
 use Rattle.ct_terms.specs.declared.error.TermError.{TermError}
 use Rattle.ct_terms.specs.declared.error.TermError.TheVariants.{Full}
 use Rattle.ct_terms.specs.declared.tree.Pattern.{Pattern}
-use Rattle.ct_terms.specs.Terms.{Terms}
-use Rattle.ct_terms.specs.CoreTree.{CoreTree, subtrees, term_at}
+use Rattle.ct_terms.specs.Terms.{Terms, AreOrdered}
+use Rattle.ct_terms.specs.CoreTree.{CoreTree, choice, tree_children, subtrees, term_at}
 use Rattle.ct_terms.specs.CoreSorts.{HasTreeSort}
 use Rattle.ct_terms.specs.Formula.{Formula, Cases, no_cases, with_case}
 use Rattle.ct_terms.specs.Compiled.{compiled_cases}
 use Rattle.ct_compile.specs.declared.bound.Bound.{Bound}
 use Rattle.ct_compile.specs.declared.choices.Guarded.{Guarded}
+use Rattle.ct_compile.specs.Laws.{Laws}
+use Rattle.ct_compile.specs.Making.{HasTree, Makes, making_cases, defined}
 use Rattle.ct_compile.specs.Effect.{Stands, IsKept, Within, Effect}
 use Rattle.ct_compile.specs.Ready.{given}
 use Rattle.ct_compile.specs.Chosen.{chosen_from, IsGuardedIn}
 use Rattle.ct_compile.specs.Matching.{AreCases, MayCases, CompilesCases}
 use Rattle.ct_compile.specs.Weight.{weight, case_weights, weights_below}
 use Rattle.ct_compile.proofs.EffectLemmas.{effect_none, effect_then}
-use Rattle.ct_compile.proofs.WithinLemmas.{within_subtrees}
+use Rattle.ct_compile.proofs.WithinLemmas.{within_subtrees, within_itself, within_choice}
+use Rattle.ct_compile.proofs.MakesLemmas.{makes_then, Contains-cons, Contains-none, has_subterm, subterm_cases, Rises, rises_stay, makes_rising}
 use Rattle.ct_compile.proofs.OperatorLemmas.{stands_as}
 use Rattle.ct_compile.proofs.MatchLemmas.{IsChosen, cases_sorted}
 use Rattle.ct_compile.proofs.ChosenLemmas.{chosen_last, within_chosen, guarded_stay, same_chosen, all_after}
@@ -33,6 +37,11 @@ pub record ChoosesFor (d : Declarations) (bodies : List Formula) (n : ℕ) (old 
   pub below : AllByRecursion (IsGuardedIn table) made
   pub same : chosen_from (term_at table) made (compiled_cases d (given d bodies n) trees tree earlier rest) ≡ compiled_cases d (given d bodies n) trees tree [] all
   pub effect : (allowed : List CoreTree) → Within allowed (compiled_cases d (given d bodies n) trees tree [] all) → Effect d allowed old table ⊥
+  pub begun : List CoreTree
+  pub ends : List CoreTree
+  pub makes : making_cases d (defined d bodies n) trees tree [] all ≡ begun ++ (making_cases d (defined d bodies n) trees tree earlier rest ++ ends)
+  pub order : Makes old begun table
+  pub rises : Rises table (compiled_cases d (given d bodies n) trees tree earlier rest) ends (compiled_cases d (given d bodies n) trees tree [] all)
 
 pub record Chooses (d : Declarations) (bodies : List Formula) (n : ℕ) (old table : Terms) (env : List Bound) (matched : Bound) (all : Cases) (made : List Guarded) (earlier : List CtorId) (rest : Cases) : Type 0 where
   pub may : MayCases d bodies old n env matched [] all
@@ -47,6 +56,11 @@ chooses_start d bodies n old env matched all may = record {
     below = tt;
     same = refl;
     effect = λ allowed w. effect_none d allowed old ⊥ h.setting.kept (λ x. x);
+    begun = [];
+    ends = [];
+    makes = sym (append-nil (making_cases d (defined d bodies n) trees tree [] all));
+    order = refl;
+    rises = refl;
   };
   lighter = omega arith;
 }
@@ -73,6 +87,7 @@ module _ (d : Declarations) (bodies : List Formula) (n : ℕ) (old table : Terms
   chooses_failed new e one = record {
     core = λ tree side trees sorts sort k. tt;
     effect = λ tree side trees sorts sort allowed k w. later_effect new (Err e) one tree side trees sorts sort allowed k w;
+    order = λ tree side trees sorts sort k. tt;
   }
 
   -- the body of the last is made
@@ -108,7 +123,55 @@ module _ (d : Declarations) (bodies : List Formula) (n : ℕ) (old table : Terms
       effect = λ tree side trees sorts sort allowed k w.
           effect_then d allowed old mid new _ _ (later_effect mid (Ok v) one tree side trees sorts sort allowed k w)
           (effect allowed (subst (Within allowed) (sym (layer tree side trees sorts sort k)) w));
+      order = λ tree side trees sorts sort k.
+          let f = h.for tree side trees sorts sort k in
+          let g = last_effect tree side trees sorts sort k in
+          let is = layer tree side trees sorts sort k in
+          let top = chosen_from (term_at mid) made (term_at mid v) in
+          let rest_made = making_cases d (defined d bodies n) trees tree earlier rest in
+          IfOk-weaker r (λ x. Stands new x top) (λ x. Makes old (making_cases d (defined d bodies n) trees tree [] all) new)
+          (λ x s.
+          let e = subst (λ (y : CoreTree). Effect d (subtrees y) mid new (IsErrOf r Full)) is (effect (subtrees top) (within_subtrees top)) in
+          let rises = rises_stay g.kept.laws table mid (later tree trees) f.ends (whole tree trees) g.grown g.kept.ordered f.rises in
+          let last = makes_rising d mid new (later tree trees) f.ends (whole tree trees) (IsErrOf r Full) e rises (v, one.core tree side trees sorts sort f.ready) (x, stands_as new x _ _ is s) in
+          subst (λ (xs : List CoreTree). Makes old xs new) (sym f.makes)
+          (makes_then f.begun (rest_made ++ f.ends) old table new f.order (makes_then rest_made f.ends table mid new (one.order tree side trees sorts sort f.ready) last)))
+          core;
     }
+
+-- what was made, and what is to come
+regroup : (xs ys zs : List CoreTree) (w : CoreTree) (ws : List CoreTree) → xs ++ ((ys ++ (zs ++ w ∷ [])) ++ ws) ≡ (xs ++ ys) ++ (zs ++ w ∷ ws)
+regroup xs ys zs w ws =
+    ap (λ (vs : List CoreTree). xs ++ vs) (append_assoc ys (zs ++ w ∷ []) ws ∙ ap (λ (vs : List CoreTree). ys ++ vs) (append_assoc zs (w ∷ []) ws))
+    ∙ sym (append_assoc xs ys (zs ++ w ∷ ws))
+
+-- a choice is over what comes after it, and over its test and body
+choice_rises : (laws : Laws) (table : Terms) (a b : TermId) (now later : CoreTree) (ends : List CoreTree) (whole : CoreTree) → AreOrdered table → a.0 < length table → b.0 < length table → now ≡ choice (term_at table a) (term_at table b) later → Rises table now ends whole → Rises table later (now ∷ ends) whole
+choice_rises laws table a b now later ends whole ordered a_in b_in is r =
+    let up = choice (term_at table a) (term_at table b) later in
+    let under : Contains (subtrees up) later = within_itself laws (subtrees up) later (within_choice (subtrees up) (term_at table a) (term_at table b) later (within_subtrees up)).1.1 in
+    (
+      subst (λ (x : CoreTree). Contains (subtrees x) later) (sym is) under,
+      (
+        λ s c. elim (subterm_cases laws now s c) [
+          | inl e ↦ inl e
+          | inr deeper ↦ inr (by s deeper.0 (subst (λ (x : CoreTree). Contains (tree_children x) deeper.0) is deeper.1.0) deeper.1.1)
+        ],
+        r,
+      ),
+    )
+  where
+    by : (s u : CoreTree) → Contains (term_at table a ∷ (term_at table b ∷ (later ∷ []))) u → Contains (subtrees u) s → Contains (subtrees later) s ⊎ HasTree table s
+    by s u inside c = elim (Contains-cons (term_at table a) (term_at table b ∷ (later ∷ [])) u inside) [
+      | inl e ↦ inr (has_subterm laws table (term_at table a) s ordered (a, (a_in, refl)) (subst (λ (x : CoreTree). Contains (subtrees x) s) (sym e) c))
+      | inr second ↦ elim (Contains-cons (term_at table b) (later ∷ []) u second) [
+        | inl e ↦ inr (has_subterm laws table (term_at table b) s ordered (b, (b_in, refl)) (subst (λ (x : CoreTree). Contains (subtrees x) s) (sym e) c))
+        | inr third ↦ elim (Contains-cons later [] u third) [
+          | inl e ↦ inl (subst (λ (x : CoreTree). Contains (subtrees x) s) (sym e) c)
+          | inr none ↦ absurd (Contains-none u none)
+        ]
+      ]
+    ]
 
 -- one more case is made
 module _ (d : Declarations) (bodies : List Formula) (n : ℕ) (old table : Terms) (env : List Bound) (matched : Bound) (all : Cases) (made : List Guarded) (earlier : List CtorId) (p : Pattern) (body : Formula) (rest : Cases) (h : Chooses d bodies n old table env matched all made earlier (with_case p body rest)) where
@@ -132,6 +195,14 @@ module _ (d : Declarations) (bodies : List Formula) (n : ℕ) (old table : Terms
               ∙ same_chosen d table new made now s.grown s.kept f.below
               ∙ f.same;
           effect = λ allowed w. effect_then d allowed old table new ⊥ ⊥ (f.effect allowed w) (s.effect allowed (within_chosen allowed (term_at table) made now (subst (Within allowed) (sym f.same) w)));
+          begun = f.begun ++ s.begun;
+          ends = now ∷ f.ends;
+          makes =
+              f.makes
+              ∙ ap (λ (xs : List CoreTree). f.begun ++ (xs ++ f.ends)) s.makes
+              ∙ regroup f.begun s.begun (making_cases d (defined d bodies n) trees tree (c ∷ earlier) rest) now f.ends;
+          order = makes_then f.begun s.begun old table new f.order s.order;
+          rises = choice_rises s.kept.laws new g.condition g.body now later f.ends (compiled_cases d (given d bodies n) trees tree [] all) s.kept.ordered s.condition s.body s.same (rises_stay s.kept.laws table new now f.ends (compiled_cases d (given d bodies n) trees tree [] all) s.grown s.kept.ordered f.rises);
         };
     lighter = let k = h.lighter in omega (arith, k);
   }

@@ -15,13 +15,18 @@ use Rattle.ct_terms.specs.Compiled.{compiled, compiled_all}
 use Rattle.ct_compile.specs.declared.bound.Bound.{Bound}
 use Rattle.ct_terms.specs.Occurrence.{count_of}
 use Rattle.ct_compile.specs.Effect.{Stands, AllStand, IsKept, Within, AllWithin, IsPrefix, Effect}
-use Rattle.ct_compile.specs.Following.{leading, IsLeading, IsFollowing, MayFollow, Follows}
+use Rattle.ct_compile.specs.Making.{HasTree, HasTrees, Makes, Made, leaf, terms, made_by, making, made_each, defined}
+use Rattle.ct_compile.specs.Following.{leading, between, woven, IsLeading, IsFollowing, MayFollow, Follows}
 use Rattle.ct_compile.specs.declared.operator.Operator.{Operator}
+use Rattle.ct_compile.specs.declared.operator.Operator.TheVariants.{Inequality}
 use Rattle.ct_compile.specs.Forms.{is_plain, children_of, operator_for, combined, AreOperands}
 use Rattle.ct_compile.specs.Weight.{weight, weights, weights_below}
 use Rattle.ct_compile.specs.Ready.{given, IsReady, AreReady, AreUnder, MayCompile, MayCompileAll, Compiles, CompilesAll}
 use Rattle.ct_compile.proofs.EffectLemmas.{stands_stays, all_stay, effect_none, effect_then, effect_because}
 use Rattle.ct_compile.proofs.WithinLemmas.{within_subtrees}
+use Rattle.ct_compile.proofs.MakesLemmas.{makes_then}
+use Rattle.ct_compile.proofs.WovenLemmas.{operator_made}
+use Rattle.ct_compile.proofs.MakingLemmas.{terms_each, making_plain}
 use Rattle.ct_compile.proofs.OperatorLemmas.{stands_as}
 use Rattle.ct_compile.proofs.ReadyLemmas.{children_ready, compiled_plain, first_ready, rest_ready, all_ready_stay}
 use Rattle.ct_compile.proofs.PlainLemmas.{operands_of, within_plain, all_trees, all_below}
@@ -38,6 +43,7 @@ pub compiles_nothing : (d : Declarations) (bodies : List Formula) (n : ℕ) (tab
 compiles_nothing d bodies n table env t e is = record {
   core = λ trees sorts sort h. tt;
   effect = λ trees sorts sort allowed h w. effect_none d allowed table (IsErrOf (Err e) Full) h.setting.kept (λ x. cc);
+  order = λ trees sorts sort h. tt;
 }
 
 -- where a formula is compiled the table grows, and is kept
@@ -48,6 +54,17 @@ compiles_grown d bodies n old new env t r may one =
     (e.grown, e.kept)
 
 -- ---- operators
+
+-- terms that stand are there
+trees_stand : (table : Terms) (ts : List TermId) (us : List CoreTree) → AllStand table ts us → HasTrees table us
+trees_stand table [] [] h = tt
+trees_stand table [] (u ∷ us) h = absurd h
+trees_stand table (t ∷ ts) [] h = absurd h
+trees_stand table (t ∷ ts) (u ∷ us) h = ((t, h.0), trees_stand table ts us h.1)
+
+ok_with : (r : Result TermId TermError) (P Q : TermId → Type 0) (A : Type 0) → IfOk r P → (A → IfOk r Q) → IfOk r (λ u. P u × (A → Q u))
+ok_with (Ok u) P Q A h k = (h, k)
+ok_with (Err e) P Q A h k = tt
 
 module _ (d : Declarations) (bodies : List Formula) (n : ℕ) (old : Terms) (env : List Bound) (t : Formula) (ts : Formulas) (plain : is_plain t ≡ true) (o : Operator) (is_operator : operator_for t ≡ o) (under : children_of t ≡ ts) where
   -- the core terms under it, and its own over them
@@ -80,6 +97,7 @@ module _ (d : Declarations) (bodies : List Formula) (n : ℕ) (old : Terms) (env
     effect = λ trees sorts sort allowed h w.
         let ready = are_under trees sorts sort h in
         effect_because d allowed old new _ _ (same_error e Full) (all.effect trees sorts ready.0 allowed ready.1 (subst (Within allowed) (whole_is trees) w));
+    order = λ trees sorts sort h. tt;
   }
 
   module _ (mid : Terms) (args : List TermId) (all : CompilesAll d bodies n old mid env o ts (Ok args)) where
@@ -100,8 +118,8 @@ module _ (d : Declarations) (bodies : List Formula) (n : ℕ) (old : Terms) (env
     pub plain_operands : MayCompile d bodies old n env t → AreOperands d o (map (term_at mid) args)
     plain_operands may = subst (AreOperands d o) (sym (all_trees mid args (parts may.0) (stand may.0 may.1 may.2 may.3))) (operands may.0 may.1 may.2 may.3)
 
-    pub plain_made : (new : Terms) (r : Result TermId TermError) → IfOk r (λ u. Stands new u (combined d o (map (term_at mid) args))) → ((allowed : List CoreTree) → Within allowed (combined d o (map (term_at mid) args)) → Effect d allowed mid new (IsErrOf r Full)) → Compiles d bodies n old new env t r
-    plain_made new r core effect = record {
+    pub plain_made : (new : Terms) (r : Result TermId TermError) → IfOk r (λ u. Stands new u (combined d o (map (term_at mid) args))) → ((allowed : List CoreTree) → Within allowed (combined d o (map (term_at mid) args)) → Effect d allowed mid new (IsErrOf r Full)) → (o ≡ Inequality → IfOk r (λ u. Makes mid (made_by d Inequality (map leaf (map (term_at mid) args))).making new)) → Compiles d bodies n old new env t r
+    plain_made new r core effect compared = record {
       core = λ trees sorts sort h.
           let is = ap (combined d o) (all_trees mid args (parts trees) (stand trees sorts sort h)) ∙ sym (whole_is trees) in
           IfOk-weaker r _ (λ u. Stands new u (compiled d (given d bodies n) trees t)) (λ u k. stands_as new u _ _ is k) core;
@@ -110,7 +128,32 @@ module _ (d : Declarations) (bodies : List Formula) (n : ℕ) (old : Terms) (env
           let is = ap (combined d o) (all_trees mid args (parts trees) (stand trees sorts sort h)) ∙ sym (whole_is trees) in
           effect_then d allowed old mid new _ _ (all.effect trees sorts ready.0 allowed ready.1 (subst (Within allowed) (whole_is trees) w))
           (effect allowed (subst (Within allowed) (sym is) w));
+      order = λ trees sorts sort h.
+          IfOk-weaker r (λ u. Stands new u (combined d o (map (term_at mid) args)) × (o ≡ Inequality → Makes mid (made_by d Inequality (map leaf (map (term_at mid) args))).making new)) (λ u. Makes old (making d (defined d bodies n) trees t) new)
+          (λ u k. in_order trees sorts sort h (IsErrOf r Full) (effect (subtrees (combined d o (map (term_at mid) args))) (within_subtrees (combined d o (map (term_at mid) args)))) (u, k.0) k.1)
+          (ok_with r (λ u. Stands new u (combined d o (map (term_at mid) args))) (λ u. Makes mid (made_by d Inequality (map leaf (map (term_at mid) args))).making new) (o ≡ Inequality) core compared);
     }
+      where
+        in_order : (trees : List CoreTree) (sorts : List SortId) (sort : SortId) → IsReady d bodies old n env t trees sorts sort → (full : Type 0) → Effect d (subtrees (combined d o (map (term_at mid) args))) mid new full → HasTree new (combined d o (map (term_at mid) args)) → (o ≡ Inequality → Makes mid (made_by d Inequality (map leaf (map (term_at mid) args))).making new) → Makes old (making d (defined d bodies n) trees t) new
+        in_order trees sorts sort h full e there pairs_made =
+            let ready = are_under trees sorts sort h in
+            let defs = defined d bodies n in
+            let ps = made_each d defs trees ts in
+            let terms_are : terms ps ≡ parts trees = terms_each d defs trees ts in
+            let all_is : map (term_at mid) args ≡ terms ps = all_trees mid args (parts trees) (stand trees sorts sort h) ∙ sym terms_are in
+            let making_is : making d defs trees t ≡ (made_by d o ps).making =
+            making_plain d defs trees t plain
+            ∙ ap (λ (x : Operator). (made_by d x (made_each d defs trees (children_of t))).making) is_operator
+            ∙ ap (λ (us : Formulas). (made_by d o (made_each d defs trees us)).making) under in
+            subst (λ (xs : List CoreTree). Makes old xs new) (sym making_is)
+            (operator_made d old mid new o ps full
+            (subst (AreOperands d o) (sym terms_are) (operands trees sorts sort h))
+            (subst (HasTrees mid) (sym terms_are) (trees_stand mid args (parts trees) (stand trees sorts sort h)))
+            (effect_of trees sorts sort h).kept.ordered
+            (subst (λ (us : List CoreTree). Effect d (subtrees (combined d o us)) mid new full) all_is e)
+            (subst (λ (us : List CoreTree). HasTree new (combined d o us)) all_is there)
+            (λ is. subst (λ (us : List CoreTree). Makes mid (made_by d Inequality (map leaf us)).making new) all_is (pairs_made is))
+            (all.order trees sorts ready.0 ready.1))
 
 -- ---- the formulas under an operator, as far as they are made
 
@@ -142,6 +185,9 @@ pub record CollectsFor (d : Declarations) (bodies : List Formula) (n : ℕ) (old
   pub same : made ++ compiled_all d (given d bodies n) trees rest ≡ compiled_all d (given d bodies n) trees all
   pub operands : AreOperands d o (made ++ compiled_all d (given d bodies n) trees rest)
   pub effect : (allowed : List CoreTree) → Within allowed (combined d o (compiled_all d (given d bodies n) trees all)) → Effect d allowed old table ⊥
+  pub begun : List CoreTree
+  pub begins : woven d o [] (made_each d (defined d bodies n) trees all) ≡ begun ++ woven d o made (made_each d (defined d bodies n) trees rest)
+  pub order : Makes old begun table
 
 pub record Collects (d : Declarations) (bodies : List Formula) (n : ℕ) (old table : Terms) (env : List Bound) (o : Operator) (all : Formulas) (args : List TermId) (lead : Option TermId) (rest : Formulas) : Type 0 where
   pub may : MayCompileAll d bodies old n env o all
@@ -160,6 +206,9 @@ collects_start d bodies n old env o all may = record {
     same = refl;
     operands = h.operands;
     effect = λ allowed w. effect_none d allowed old ⊥ h.ready.setting.kept (λ x. x);
+    begun = [];
+    begins = refl;
+    order = refl;
   };
   lighter = omega arith;
 }
@@ -202,6 +251,7 @@ module _ (d : Declarations) (bodies : List Formula) (n : ℕ) (old table : Terms
         let f = h.for trees sorts each under in
         let s = split f.each f.ready in
         effect_because d allowed old new _ _ (same_error e Full) (effect_then d allowed old table new ⊥ _ (f.effect allowed w) (one.effect trees sorts s.0 allowed s.2 (tree_within trees sorts each under allowed w)));
+    order = λ trees sorts each under. tt;
   }
 
   -- it is made, and what follows it may be
@@ -231,10 +281,24 @@ module _ (d : Declarations) (bodies : List Formula) (n : ℕ) (old table : Terms
     pub collects_follows : MayFollow d mid o lead u
     collects_follows = ((h.for h.may.0 h.may.1 h.may.2 h.may.3).made, later_for h.may.0, following h.may.0 h.may.1 h.may.2 h.may.3)
 
-    module _ (ends : Bool) (is_end : ends ≡ false → 0 < count_of more) (new : Terms) (r : Result TermId TermError) (next : Follows d mid new o lead u ends r) where
+    module _ (ends : Bool) (is_end : ends ≡ false → 0 < count_of more) (is_last : ends ≡ true → count_of more ≡ 0) (new : Terms) (r : Result TermId TermError) (next : Follows d mid new o lead u ends r) where
       later_length : (trees : List CoreTree) (ts : Formulas) → 0 < count_of ts → 0 < length (compiled_all d (given d bodies n) trees ts)
       later_length trees no_formulas some = absurd (omega (arith, some))
       later_length trees (with_formula v vs) some = omega arith
+
+      none_later : (trees : List CoreTree) (ts : Formulas) → count_of ts ≡ 0 → compiled_all d (given d bodies n) trees ts ≡ []
+      none_later trees no_formulas none = refl
+      none_later trees (with_formula v vs) none = absurd (omega (arith, none))
+
+      -- what is between it and the later ones is made
+      between_made : (trees : List CoreTree) (sorts each : List SortId) (under : AreUnder d bodies old n env o all trees sorts each) (v : TermId) → r ≡ Ok v → Makes mid (between d o (h.for trees sorts each under).made (tree_for trees) (terms (made_each d (defined d bodies n) trees more))) new
+      between_made trees sorts each under v is =
+          let f = h.for trees sorts each under in
+          let c = core_one trees sorts each under in
+          let step : Makes mid (between d o f.made (term_at mid u) (later_for trees)) new = subst (λ (q : Result TermId TermError). IfOk q (λ z. Makes mid (between d o f.made (term_at mid u) (later_for trees)) new)) is
+          (next.order f.made (later_for trees) (following trees sorts each under) (λ e. later_length trees more (is_end e)) (λ e. none_later trees more (is_last e))) in
+          subst (λ (us : List CoreTree). Makes mid (between d o f.made (tree_for trees) us) new) (sym (terms_each d (defined d bodies n) trees more))
+          (subst (λ (w : CoreTree). Makes mid (between d o f.made w (later_for trees)) new) c.1 step)
 
       effect_both : (trees : List CoreTree) (sorts each : List SortId) (under : AreUnder d bodies old n env o all trees sorts each) (allowed : List CoreTree) → Within allowed (combined d o (compiled_all d (given d bodies n) trees all)) → Effect d allowed old new (IsErrOf r Full)
       effect_both trees sorts each under allowed w =
@@ -252,6 +316,7 @@ module _ (d : Declarations) (bodies : List Formula) (n : ℕ) (old table : Terms
         core = λ trees sorts each under. tt;
         effect = λ trees sorts each allowed under w.
             effect_because d allowed old new _ _ (λ x. subst (λ (q : Result TermId TermError). IsErrOf q Full) (sym is) (same_error e Full x)) (effect_both trees sorts each under allowed w);
+        order = λ trees sorts each under. tt;
       }
 
       -- the table has grown, and is kept
@@ -284,6 +349,14 @@ module _ (d : Declarations) (bodies : List Formula) (n : ℕ) (old table : Terms
               same = append_assoc f.made (tree_for trees ∷ []) (later_for trees) ∙ f.same;
               operands = subst (AreOperands d o) (sym (append_assoc f.made (tree_for trees ∷ []) (later_for trees))) f.operands;
               effect = λ allowed w. effect_because d allowed old new _ ⊥ (λ x. absurd x) (effect_both trees sorts each under allowed w);
+              begun = f.begun ++ (making d (defined d bodies n) trees t ++ between d o f.made (tree_for trees) (terms (made_each d (defined d bodies n) trees more)));
+              begins =
+                  f.begins
+                  ∙ ap (λ (xs : List CoreTree). f.begun ++ xs) (sym (append_assoc (making d (defined d bodies n) trees t) (between d o f.made (tree_for trees) (terms (made_each d (defined d bodies n) trees more))) (woven d o (f.made ++ tree_for trees ∷ []) (made_each d (defined d bodies n) trees more))))
+                  ∙ sym (append_assoc f.begun (making d (defined d bodies n) trees t ++ between d o f.made (tree_for trees) (terms (made_each d (defined d bodies n) trees more))) (woven d o (f.made ++ tree_for trees ∷ []) (made_each d (defined d bodies n) trees more)));
+              order =
+                  makes_then f.begun (making d (defined d bodies n) trees t ++ between d o f.made (tree_for trees) (terms (made_each d (defined d bodies n) trees more))) old table new f.order
+                  (makes_then (making d (defined d bodies n) trees t) (between d o f.made (tree_for trees) (terms (made_each d (defined d bodies n) trees more))) table mid new (one.order trees sorts s.0 s.2) (between_made trees sorts each under v is));
             };
         lighter = let k = h.lighter in omega (arith, k);
       }
@@ -296,6 +369,9 @@ collects_end d bodies n old table env o all args lead h = record {
       subst (AllStand table args) (sym (append-nil f.made) ∙ f.same) f.stand;
   effect = λ trees sorts each allowed under w.
       effect_because d allowed old table ⊥ (IsErrOf (Ok args) Full) (λ x. cc) ((h.for trees sorts each under).effect allowed w);
+  order = λ trees sorts each under.
+      let f = h.for trees sorts each under in
+      subst (λ (xs : List CoreTree). Makes old xs table) (sym (f.begins ∙ append-nil f.begun)) f.order;
 }
 
 -- there is no memory for one more
@@ -303,4 +379,5 @@ pub collects_out : (d : Declarations) (bodies : List Formula) (n : ℕ) (old tab
 collects_out d bodies n old table env o all args lead rest h e is = record {
   core = λ trees sorts each under. tt;
   effect = λ trees sorts each allowed under w. effect_because d allowed old table ⊥ _ (λ x. cc) ((h.for trees sorts each under).effect allowed w);
+  order = λ trees sorts each under. tt;
 }

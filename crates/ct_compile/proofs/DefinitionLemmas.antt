@@ -22,7 +22,7 @@ other_number : (k n : ℕ) → (k == n) ≡ false → k ≡ n → ⊥
 other_number k n e same = true≢false (sym ((Decides-eqb k n).1 same) ∙ e)
 
 -- by the number of the last definition
-by_last : {X : Type 0} (k n : ℕ) (x y z : X) → k < suc n → (k ≡ n → x ≡ z) → (k < n → y ≡ z) → (if k == n then x else y) ≡ z
+pub by_last : {X : Type 0} (k n : ℕ) (x y z : X) → k < suc n → (k ≡ n → x ≡ z) → (k < n → y ≡ z) → (if k == n then x else y) ≡ z
 by_last {X} k n x y z below last before = by (k == n) refl
   where
     by : (b : Bool) → (k == n) ≡ b → (if b then x else y) ≡ z

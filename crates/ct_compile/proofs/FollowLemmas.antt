@@ -1,22 +1,25 @@
 -- What is made after a term of an operator is a subterm of the operator's core term.
-use Rattle.std.proofs.Common.{◌≡◌, ◌<◌, Bool, false, List, [], ◌∷◌, ◌++◌, length, map, Contains, Option, Some, None, Result, Ok, Err, IfOk, IsErrOf, refl, sym, ap, subst, ◌∙◌, arith}
+use Rattle.std.proofs.Common.{◌≡◌, ◌<◌, ◌==◌, Bool, true, false, if◌then◌else◌, List, [], ◌∷◌, ◌++◌, length, map, Contains, Option, Some, None, Result, Ok, Err, IfOk, IsErrOf, refl, sym, ap, subst, ◌∙◌, arith}
 use Rattle.std.specs.List.{AllByRecursion, fold}
+use Rattle.std.proofs.lemmas.Result.{IfOk-weaker}
 use Rattle.ct_sorts.specs.declared.ids.SortId.{SortId}
 use Rattle.ct_sorts.specs.Declarations.{Declarations, bool_sort}
 use Rattle.ct_terms.specs.declared.ids.TermId.{TermId}
 use Rattle.ct_terms.specs.declared.error.TermError.{TermError}
 use Rattle.ct_terms.specs.declared.error.TermError.TheVariants.{Full}
 use Rattle.ct_terms.specs.Terms.{Terms}
-use Rattle.ct_terms.specs.CoreTree.{CoreTree, negation, subtrees, term_at}
-use Rattle.ct_terms.specs.CoreSorts.{HasTreeSort}
+use Rattle.ct_terms.specs.CoreTree.{CoreTree, negation, equivalence, equation, tree_children, subtrees, term_at}
+use Rattle.ct_terms.specs.CoreSorts.{HasTreeSort, tree_sort}
 use Rattle.ct_terms.specs.Pairs.{neighbours_from, neighbours, pairs}
 use Rattle.ct_terms.specs.Compiled.{exclusive, exclusive_of, implied_from, implication_of, equality, inequality}
 use Rattle.ct_compile.specs.declared.operator.Operator.{Operator}
 use Rattle.ct_compile.specs.declared.operator.Operator.TheVariants.{Exclusion, Implication, Equality, Inequality}
 use Rattle.ct_compile.specs.Effect.{Stands, Within, AllWithin, Effect}
+use Rattle.ct_compile.specs.Making.{HasTree, HasTrees, Makes}
 use Rattle.ct_compile.specs.Forms.{first_of, combined, AllHaveSort}
-use Rattle.ct_compile.specs.Following.{last_from, last_of, leading, IsLeading, IsFollowing, MayFollow, Follows}
+use Rattle.ct_compile.specs.Following.{last_from, last_of, leading, between, IsLeading, IsFollowing, MayFollow, Follows}
 use Rattle.ct_compile.proofs.EffectLemmas.{stands_stays, effect_none, effect_because}
+use Rattle.ct_compile.proofs.MakesLemmas.{makes_one, makes_two}
 use Rattle.ct_compile.proofs.WithinLemmas.{within_itself, within_subtrees, within_disjunction}
 use Rattle.ct_compile.proofs.OperatorLemmas.{stands_as, within_fold}
 use Rattle.ct_compile.proofs.PlainLemmas.{within_all_of}
@@ -69,7 +72,7 @@ fold_more : (x : CoreTree) (us : List CoreTree) (v : CoreTree) (later : List Cor
 fold_more x [] v later = refl
 fold_more x (u ∷ us) v later = fold_more (exclusive x u) us v later
 
-exclusive_more : (us : List CoreTree) (v : CoreTree) (later : List CoreTree) → 0 < length us → exclusive_of (us ++ v ∷ later) ≡ fold exclusive (exclusive (exclusive_of us) v) later
+pub exclusive_more : (us : List CoreTree) (v : CoreTree) (later : List CoreTree) → 0 < length us → exclusive_of (us ++ v ∷ later) ≡ fold exclusive (exclusive (exclusive_of us) v) later
 exclusive_more [] v later some = absurd (omega (arith, some))
 exclusive_more (u ∷ us) v later some = fold_more u us v later
 
@@ -107,26 +110,53 @@ module _ (allowed : List CoreTree) where
   implication_within [] v later some w = refuted_within v later some w
   implication_within (u ∷ us) v later some w = refuted_within v later some (implied_within u us v later w)
 
+-- ---- what is between a term and the later ones
+
+between_equality : (d : Declarations) (us : List CoreTree) (u : CoreTree) (later : List CoreTree) → 0 < length us → between d Equality us u later ≡ equality d (last_of us) u ∷ []
+between_equality d [] u later some = absurd (omega (arith, some))
+between_equality d (v ∷ us) u later some = refl
+
+between_inequality : (d : Declarations) (us : List CoreTree) (u : CoreTree) (later : List CoreTree) → 0 < length us → between d Inequality us u later ≡ equality d (first_of us) u ∷ (inequality d (first_of us) u ∷ [])
+between_inequality d [] u later some = absurd (omega (arith, some))
+between_inequality d (v ∷ us) u later some = refl
+
+between_exclusion : (d : Declarations) (us : List CoreTree) (u : CoreTree) (later : List CoreTree) → 0 < length us → between d Exclusion us u later ≡ equivalence (exclusive_of us) u ∷ (exclusive (exclusive_of us) u ∷ [])
+between_exclusion d [] u later some = absurd (omega (arith, some))
+between_exclusion d (v ∷ us) u later some = refl
+
+between_implication : (d : Declarations) (us : List CoreTree) (u : CoreTree) (later : List CoreTree) → 0 < length later → between d Implication us u later ≡ negation u ∷ []
+between_implication d us u [] some = absurd (omega (arith, some))
+between_implication d us u (w ∷ later) some = refl
+
+-- the terms under an equality
+pub equality_under : (d : Declarations) (table : Terms) (a b : CoreTree) → HasTree table a → HasTree table b → HasTrees table (tree_children (equality d a b))
+equality_under d table a b h k = by ((tree_sort d a).0 == 0)
+  where
+    by : (x : Bool) → HasTrees table (tree_children (if x then equivalence a b else equation a b))
+    by true = (h, (k, tt))
+    by false = (h, (k, tt))
+
 -- ---- nothing is made
 
 -- the term itself leads the next
-pub follows_itself : (d : Declarations) (table : Terms) (o : Operator) (lead : Option TermId) (term : TermId) (ends : Bool) → ((us : List CoreTree) → IsLeading table o lead us → leading o (us ++ term_at table term ∷ []) ≡ term_at table term) → Follows d table table o lead term ends (Ok term)
-follows_itself d table o lead term ends is = record {
+pub follows_itself : (d : Declarations) (table : Terms) (o : Operator) (lead : Option TermId) (term : TermId) (ends : Bool) → ((us : List CoreTree) → IsLeading table o lead us → leading o (us ++ term_at table term ∷ []) ≡ term_at table term) → ((us later : List CoreTree) → IsLeading table o lead us → (ends ≡ true → later ≡ []) → between d o us (term_at table term) later ≡ []) → Follows d table table o lead term ends (Ok term)
+follows_itself d table o lead term ends is none = record {
   next = λ us later h. (h.inside, sym (is us h.leads));
   effect = λ us later allowed h more w. effect_none d allowed table (IsErrOf (Ok term) Full) h.kept (λ x. cc);
+  order = λ us later h more last. subst (λ (xs : List CoreTree). Makes table xs table) (sym (none us later h.leads last)) refl;
 }
 
 pub equality_first : (d : Declarations) (table : Terms) (term : TermId) (ends : Bool) → Follows d table table Equality None term ends (Ok term)
-equality_first d table term ends = follows_itself d table Equality None term ends (λ us e. last_of_push us (term_at table term))
+equality_first d table term ends = follows_itself d table Equality None term ends (λ us e. last_of_push us (term_at table term)) (λ us later e last. ap (λ (ws : List CoreTree). between d Equality ws (term_at table term) later) e)
 
 pub inequality_first : (d : Declarations) (table : Terms) (term : TermId) (ends : Bool) → Follows d table table Inequality None term ends (Ok term)
-inequality_first d table term ends = follows_itself d table Inequality None term ends (λ us e. ap (λ (ws : List CoreTree). first_of (ws ++ term_at table term ∷ [])) e)
+inequality_first d table term ends = follows_itself d table Inequality None term ends (λ us e. ap (λ (ws : List CoreTree). first_of (ws ++ term_at table term ∷ [])) e) (λ us later e last. ap (λ (ws : List CoreTree). between d Inequality ws (term_at table term) later) e)
 
 pub exclusion_first : (d : Declarations) (table : Terms) (term : TermId) (ends : Bool) → Follows d table table Exclusion None term ends (Ok term)
-exclusion_first d table term ends = follows_itself d table Exclusion None term ends (λ us e. ap (λ (ws : List CoreTree). exclusive_of (ws ++ term_at table term ∷ [])) e)
+exclusion_first d table term ends = follows_itself d table Exclusion None term ends (λ us e. ap (λ (ws : List CoreTree). exclusive_of (ws ++ term_at table term ∷ [])) e) (λ us later e last. ap (λ (ws : List CoreTree). between d Exclusion ws (term_at table term) later) e)
 
-pub implication_last : (d : Declarations) (table : Terms) (lead : Option TermId) (term : TermId) (ends : Bool) → Follows d table table Implication lead term ends (Ok term)
-implication_last d table lead term ends = follows_itself d table Implication lead term ends (λ us e. last_of_push us (term_at table term))
+pub implication_last : (d : Declarations) (table : Terms) (lead : Option TermId) (term : TermId) (ends : Bool) → ends ≡ true → Follows d table table Implication lead term ends (Ok term)
+implication_last d table lead term ends is_last = follows_itself d table Implication lead term ends (λ us e. last_of_push us (term_at table term)) (λ us later e last. ap (between d Implication us (term_at table term)) (last is_last))
 
 -- ---- equality
 
@@ -160,14 +190,20 @@ module _ (d : Declarations) (old : Terms) (before term : TermId) where
     equality_failed e ends why = record {
       next = λ us later h. tt;
       effect = λ us later allowed h more w. effect_because d allowed old new full _ why (equality_effect us later allowed h w);
+      order = λ us later h more last. tt;
     }
 
-    pub equality_done : (ends : Bool) → Follows d old new Equality (Some before) term ends (Ok term)
-    equality_done ends = record {
+    pub equality_done : (ends : Bool) → HasTree new (equality d (term_at old before) (term_at old term)) → Follows d old new Equality (Some before) term ends (Ok term)
+    equality_done ends made = record {
       next = λ us later h.
           let e = effect (equality d (term_at old before) (term_at old term) ∷ []) (one_tree (equality d (term_at old before) (term_at old term))) in
           stands_as new term _ _ (sym (last_of_push us (term_at old term))) (stands_stays d old new term (term_at old term) e.grown e.kept (h.inside, refl));
       effect = λ us later allowed h more w. effect_because d allowed old new full _ (λ x. cc) (equality_effect us later allowed h w);
+      order = λ us later h more last.
+          let x = equality d (term_at old before) (term_at old term) in
+          let e = effect (subtrees x) (within_itself h.kept.laws (subtrees x) x (within_subtrees x)) in
+          subst (λ (xs : List CoreTree). Makes old xs new) (ap (λ (u : CoreTree). equality d u (term_at old term) ∷ []) h.leads.1.1 ∙ sym (between_equality d us (term_at old term) later h.leads.0))
+          (makes_one d old new x full e (equality_under d old (term_at old before) (term_at old term) (before, (h.leads.1.0, refl)) (term, (h.inside, refl))) made);
     }
 
   -- ---- inequality
@@ -194,14 +230,19 @@ module _ (d : Declarations) (old : Terms) (before term : TermId) where
     inequality_failed e ends why = record {
       next = λ us later h. tt;
       effect = λ us later allowed h more w. effect_because d allowed old new full _ why (inequality_effect us later allowed h w);
+      order = λ us later h more last. tt;
     }
 
-    pub inequality_done : (ends : Bool) → Follows d old new Inequality (Some before) term ends (Ok before)
-    inequality_done ends = record {
+    pub inequality_done : (ends : Bool) → HasTree new (inequality d (term_at old before) (term_at old term)) → Follows d old new Inequality (Some before) term ends (Ok before)
+    inequality_done ends made = record {
       next = λ us later h.
           let e = effect (subtrees (inequality d (term_at old before) (term_at old term))) (within_subtrees (inequality d (term_at old before) (term_at old term))) in
           stands_as new before _ _ (sym (first_of_push us (term_at old term) h.leads.0)) (stands_stays d old new before (first_of us) e.grown e.kept h.leads.1);
       effect = λ us later allowed h more w. effect_because d allowed old new full _ (λ x. cc) (inequality_effect us later allowed h w);
+      order = λ us later h more last.
+          let x = equality d (term_at old before) (term_at old term) in
+          subst (λ (xs : List CoreTree). Makes old xs new) (ap (λ (u : CoreTree). equality d u (term_at old term) ∷ (inequality d u (term_at old term) ∷ [])) h.leads.1.1 ∙ sym (between_inequality d us (term_at old term) later h.leads.0))
+          (makes_two d old new x (negation x) full (effect (subtrees (negation x)) (within_subtrees (negation x))) refl (equality_under d old (term_at old before) (term_at old term) (before, (h.leads.1.0, refl)) (term, (h.inside, refl))) made);
     }
 
   -- ---- exclusive disjunction
@@ -220,6 +261,13 @@ module _ (d : Declarations) (old : Terms) (before term : TermId) where
   exclusion_done new r ends core effect = record {
     next = λ us later h. subst (λ (u : CoreTree). IfOk r (λ t. Stands new t u)) (ap (λ (u : CoreTree). exclusive u (term_at old term)) h.leads.1.1 ∙ sym (exclusive_more us (term_at old term) [] h.leads.0)) core;
     effect = λ us later allowed h more w. effect allowed (subst (λ (u : CoreTree). Within allowed (exclusive u (term_at old term))) (sym h.leads.1.1) (exclusion_within allowed us (term_at old term) later h.leads.0 w));
+    order = λ us later h more last.
+        let x = equivalence (term_at old before) (term_at old term) in
+        IfOk-weaker r (λ t. Stands new t (negation x)) (λ t. Makes old (between d Exclusion us (term_at old term) later) new)
+        (λ t made.
+        subst (λ (xs : List CoreTree). Makes old xs new) (ap (λ (u : CoreTree). equivalence u (term_at old term) ∷ (exclusive u (term_at old term) ∷ [])) h.leads.1.1 ∙ sym (between_exclusion d us (term_at old term) later h.leads.0))
+        (makes_two d old new x (negation x) _ (effect (subtrees (negation x)) (within_subtrees (negation x))) refl ((before, (h.leads.1.0, refl)), ((term, (h.inside, refl)), tt)) (t, made)))
+        core;
   }
 
 -- ---- implication
@@ -233,12 +281,17 @@ module _ (d : Declarations) (old : Terms) (term : TermId) where
     implication_failed lead e why = record {
       next = λ us later h. tt;
       effect = λ us later allowed h more w. effect_because d allowed old new full _ why (effect allowed (within_itself h.kept.laws allowed _ (implication_within allowed us (term_at old term) later (more more_come) w)));
+      order = λ us later h more last. tt;
     }
 
-    pub implication_done : (lead : Option TermId) → Follows d old new Implication lead term ends (Ok term)
-    implication_done lead = record {
+    pub implication_done : (lead : Option TermId) → HasTree new (negation (term_at old term)) → Follows d old new Implication lead term ends (Ok term)
+    implication_done lead made = record {
       next = λ us later h.
           let e = effect (negation (term_at old term) ∷ []) (one_tree (negation (term_at old term))) in
           stands_as new term _ _ (sym (last_of_push us (term_at old term))) (stands_stays d old new term (term_at old term) e.grown e.kept (h.inside, refl));
       effect = λ us later allowed h more w. effect_because d allowed old new full _ (λ x. cc) (effect allowed (within_itself h.kept.laws allowed _ (implication_within allowed us (term_at old term) later (more more_come) w)));
+      order = λ us later h more last.
+          let x = negation (term_at old term) in
+          subst (λ (xs : List CoreTree). Makes old xs new) (sym (between_implication d us (term_at old term) later (more more_come)))
+          (makes_one d old new x full (effect (subtrees x) (within_itself h.kept.laws (subtrees x) x (within_subtrees x))) ((term, (h.inside, refl)), tt) made);
     }

@@ -1,8 +1,10 @@
 -- Compiling a `let`, a call and a `match`: what is needed of the formulas under them, and what they give.
-use Rattle.std.proofs.Common.{◌≡◌, ℕ, suc, ◌+◌, ◌<◌, ◌==◌, Bool, true, false, ◌&&◌, ◌||◌, List, [], ◌∷◌, length, Result, Ok, Err, Some, slice_get, IsErrOf, refl, sym, ap, ap₂, subst, ◌∙◌, arith, true≢false}
+use Rattle.std.proofs.Common.{◌≡◌, ℕ, suc, ◌+◌, ◌<◌, ◌==◌, Bool, true, false, ◌&&◌, ◌||◌, List, [], ◌∷◌, length, Result, Ok, Err, Some, slice_get, IsErrOf, refl, sym, ap, ap₂, subst, ◌∙◌, arith, true≢false, ◌++◌, if◌then◌else◌}
 use Rattle.std.specs.List.{AllZip}
 use Rattle.std.proofs.lemmas.Option.{none-some, same_Some}
 use Rattle.std.proofs.lemmas.Bool.Decides.{Decides-eqb}
+use Rattle.std.proofs.lemmas.List.{append-nil}
+use Rattle.std.proofs.lemmas.Result.{IfOk-weaker}
 use Rattle.ct_sorts.specs.declared.ids.DefId.{DefId}
 use Rattle.ct_sorts.specs.declared.ids.SortId.{SortId}
 use Rattle.ct_sorts.specs.Declarations.{Declarations}
@@ -21,6 +23,7 @@ use Rattle.ct_terms.specs.Occurrence.{count_of, occurs, matched_occurs, occurs_i
 use Rattle.ct_compile.specs.declared.bound.Bound.{Bound}
 use Rattle.ct_compile.specs.declared.bound.Bound.TheVariants.{Term, Field, Absent}
 use Rattle.ct_compile.specs.Effect.{Within}
+use Rattle.ct_compile.specs.Making.{Makes, making, making_cases, defined}
 use Rattle.ct_compile.specs.Ready.{given, IsBound, IsReady, MayCompile, Compiles}
 use Rattle.ct_compile.specs.Binding.{IsBoundAs, occurs_where, WithinWhere, AreBinding, MayBind, Binds}
 use Rattle.ct_compile.specs.CaseFormula.{case_of, cases_of_trees}
@@ -29,6 +32,7 @@ use Rattle.ct_compile.specs.Weight.{weight, weights}
 use Rattle.ct_compile.proofs.EffectLemmas.{effect_then, effect_because}
 use Rattle.ct_compile.proofs.ReadyLemmas.{setting_stays, present_less, or_left, or_right}
 use Rattle.ct_compile.proofs.CycleLemmas.{same_error}
+use Rattle.ct_compile.proofs.MakesLemmas.{makes_then}
 use Rattle.ct_compile.proofs.MatchLemmas.{matched_under}
 
 pub not_full : (e : TermError) → e ≡ NoMemory → IsErrOf {T = TermId} {E = TermError} (Err e) Full → ⊥
@@ -120,6 +124,7 @@ module _ (d : Declarations) (bodies : List Formula) (n : ℕ) (old : Terms) (env
     core = λ trees sorts sort h. tt;
     effect = λ trees sorts sort allowed h w.
         effect_because d allowed old new _ _ (same_error e Full) (all.effect trees sorts (h.sorted.0 ∷ []) allowed (binding trees sorts sort h) (within trees sorts sort h allowed w));
+    order = λ trees sorts sort h. tt;
   }
 
   module _ (mid : Terms) (bs : List Bound) (all : Binds d bodies n old mid env (b ∷ []) ts (Ok bs)) where
@@ -157,4 +162,12 @@ module _ (d : Declarations) (bodies : List Formula) (n : ℕ) (old : Terms) (env
         effect = λ trees sorts sort allowed h w.
             effect_then d allowed old mid new _ _ (all.effect trees sorts (h.sorted.0 ∷ []) allowed (binding trees sorts sort h) (within trees sorts sort h allowed w))
             (one.effect (core trees) h.sorted.0 trees sorts sort allowed (cases_ready trees sorts sort h) w);
+        order = λ trees sorts sort h.
+            let defs = defined d bodies n in
+            let here = if b then making d defs trees t else [] in
+            let rest = making_cases d defs trees (core trees) [] cases in
+            let first : Makes old here mid = subst (λ (xs : List CoreTree). Makes old xs mid) (append-nil here) (all.order trees sorts (h.sorted.0 ∷ []) (binding trees sorts sort h)) in
+            IfOk-weaker r (λ x. Makes mid rest new) (λ x. Makes old (making d defs trees (Match t cases)) new)
+            (λ x k. subst (λ (y : Bool). Makes old ((if y then making d defs trees t else []) ++ rest) new) is (makes_then here rest old mid new first k))
+            (one.order (core trees) h.sorted.0 trees sorts sort (cases_ready trees sorts sort h));
       }

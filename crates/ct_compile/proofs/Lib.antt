@@ -32,3 +32,6 @@ mod WorkingLemmas
 mod CaseLemmas
 mod NoteLemmas
 mod MarkedCases
+mod MakesLemmas
+mod WovenLemmas
+mod MakingLemmas

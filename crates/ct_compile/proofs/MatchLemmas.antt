@@ -1,5 +1,5 @@
 -- The cases of a `match`, one after the other.
-use Rattle.std.proofs.Common.{◌≡◌, ℕ, zero, suc, ◌+◌, ◌<◌, ◌≤◌, Bool, true, false, not, ◌&&◌, ◌||◌, List, [], ◌∷◌, length, map, Contains, Option, Some, None, if◌then◌else◌, Result, Ok, Err, slice_get, IfOk, IsErrOf, refl, sym, ap, ap₂, subst, ◌∙◌, ◌⊎◌, inl, inr, arith, true≢false}
+use Rattle.std.proofs.Common.{◌≡◌, ℕ, zero, suc, ◌+◌, ◌<◌, ◌≤◌, Bool, true, false, not, ◌&&◌, ◌||◌, List, [], ◌∷◌, ◌++◌, length, map, Contains, Option, Some, None, if◌then◌else◌, Result, Ok, Err, slice_get, IfOk, IsErrOf, refl, sym, ap, ap₂, subst, ◌∙◌, ◌⊎◌, inl, inr, arith, true≢false}
 use Rattle.std.specs.List.{AllZip}
 use Rattle.std.proofs.lemmas.Option.{none-some, same_Some}
 use Rattle.std.proofs.lemmas.Result.{IfOk-weaker}
@@ -28,11 +28,13 @@ use Rattle.ct_compile.specs.Laws.{Laws}
 use Rattle.ct_compile.specs.Effect.{Stands, IsKept, IsPrefix, Within, Effect}
 use Rattle.ct_compile.specs.Ready.{given, IsBound, IsThere, ArePresent, IsReady, MayCompile, Compiles}
 use Rattle.ct_compile.specs.Marks.{listed}
+use Rattle.ct_compile.specs.Making.{HasTree, Makes, Defined, making, making_cases, defined}
 use Rattle.ct_compile.specs.Matching.{IsTerm, field_of, sels_of, bound_by, trees_by, tested_by, IsDeclared, AreCases, MayCases, CompilesCases}
 use Rattle.ct_compile.proofs.EffectLemmas.{prefix_trans, stands_stays, effect_none, effect_then, effect_because}
 use Rattle.ct_compile.proofs.WithinLemmas.{Contains-rest, within_subtrees, within_itself, within_choice, within_test}
 use Rattle.ct_compile.proofs.ReadyLemmas.{bound_stays, setting_stays, present_less, or_left, or_right}
 use Rattle.ct_compile.proofs.OperatorLemmas.{stands_as}
+use Rattle.ct_compile.proofs.MakesLemmas.{makes_then, makes_one}
 use Rattle.ct_compile.proofs.BindLemmas.{bind_zip, bind_first, bind_present}
 
 -- ---- what a case is
@@ -60,6 +62,33 @@ module _ (d : Declarations) (call : DefId → List CoreTree → CoreTree) (env :
       let both = test_some (surely_fits d earlier k || are_none rest) k c e in
       ap (λ (b : Bool). if b then compiled d call (bind (fields_of d k t) env) body else choice (test k t) (compiled d call (bind (fields_of d k t) env) body) (compiled_cases d call env t (k ∷ earlier) rest)) both.0
       ∙ ap (λ (x : CtorId). choice (test x t) (compiled d call (bind (fields_of d k t) env) body) (compiled_cases d call env t (x ∷ earlier) rest)) both.1
+
+-- what is made for a case that ends the cases, and for one that has a test
+module _ (d : Declarations) (defs : Defined) (env : List CoreTree) (t : CoreTree) (earlier : List CtorId) (body : Formula) (rest : Cases) where
+  abbrev body_of_case : CtorId → List CoreTree
+  body_of_case c = making d defs (bind (fields_of d c t) env) body
+
+  abbrev made_with : CtorId → Bool → CoreTree → List CoreTree
+  made_with c b x = if b then body_of_case c else test c t ∷ (body_of_case c ++ (making_cases d defs env t (c ∷ earlier) rest ++ x ∷ []))
+
+  pub making_none : (p : Pattern) → tested_by d earlier p (are_none rest) ≡ None → making_cases d defs env t earlier (with_case p body rest) ≡ making d defs (bind (trees_by d p t) env) body
+  making_none Any e = refl
+  making_none (Ctor c) e =
+      ap (λ (b : Bool). made_with c b (choice (test c t) (compiled d defs.gives (bind (fields_of d c t) env) body) (compiled_cases d defs.gives env t (c ∷ earlier) rest))) (test_none (surely_fits d earlier c || are_none rest) c e)
+
+  pub making_some : (p : Pattern) (c : CtorId) → tested_by d earlier p (are_none rest) ≡ Some c → making_cases d defs env t earlier (with_case p body rest) ≡ (test c t ∷ making d defs (bind (trees_by d p t) env) body) ++ (making_cases d defs env t (c ∷ earlier) rest ++ compiled_cases d defs.gives env t earlier (with_case p body rest) ∷ [])
+  making_some Any c e = absurd (none-some c e)
+  making_some (Ctor k) c e =
+      let both = test_some (surely_fits d earlier k || are_none rest) k c e in
+      ap (λ (b : Bool). made_with k b (choice (test k t) (compiled d defs.gives (bind (fields_of d k t) env) body) (compiled_cases d defs.gives env t (k ∷ earlier) rest))) both.0
+      ∙ ap (λ (x : CoreTree). made_with k false x) (sym (case_some d defs.gives env t earlier body rest (Ctor k) k (e ∙ ap Some (sym both.1))))
+      ∙ ap (λ (x : CtorId). test x t ∷ (body_of_case k ++ (making_cases d defs env t (x ∷ earlier) rest ++ compiled_cases d defs.gives env t earlier (with_case (Ctor k) body rest) ∷ []))) both.1
+
+-- what is bound to a term is there
+pub term_tree : (table : Terms) (b : Bound) (tree : CoreTree) → IsTerm b → IsBound table b tree → HasTree table tree
+term_tree table (Term t) tree h k = (t, k)
+term_tree table (Field r t) tree h k = absurd h
+term_tree table Absent tree h k = absurd h
 
 pub tested_is : (d : Declarations) (earlier : List CtorId) (p : Pattern) (last : Bool) (c : CtorId) → tested_by d earlier p last ≡ Some c → p ≡ Ctor c
 tested_is d earlier Any last c e = absurd (none-some c e)
@@ -174,6 +203,7 @@ pub cases_nothing : (d : Declarations) (bodies : List Formula) (n : ℕ) (table 
 cases_nothing d bodies n table env matched earlier cases e is = record {
   core = λ tree side trees sorts sort h. tt;
   effect = λ tree side trees sorts sort allowed h w. effect_none d allowed table (IsErrOf (Err e) Full) h.setting.kept (λ x. cc);
+  order = λ tree side trees sorts sort h. tt;
 }
 
 -- the constructor of a pattern is declared
@@ -195,6 +225,9 @@ pub record IsChosen (d : Declarations) (bodies : List Formula) (n : ℕ) (env : 
   pub body : b.0 < length new
   pub same : compiled_cases d (given d bodies n) trees tree earlier all ≡ choice (term_at new a) (term_at new b) (compiled_cases d (given d bodies n) trees tree (c ∷ earlier) rest)
   pub effect : (allowed : List CoreTree) → Within allowed (compiled_cases d (given d bodies n) trees tree earlier all) → Effect d allowed old new ⊥
+  pub begun : List CoreTree
+  pub makes : making_cases d (defined d bodies n) trees tree earlier all ≡ begun ++ (making_cases d (defined d bodies n) trees tree (c ∷ earlier) rest ++ compiled_cases d (given d bodies n) trees tree earlier all ∷ [])
+  pub order : Makes old begun new
 
 module _ (d : Declarations) (bodies : List Formula) (n : ℕ) (env : List Bound) (matched : Bound) (earlier : List CtorId) (p : Pattern) (body : Formula) (rest : Cases) where
   abbrev all : Cases
@@ -237,6 +270,10 @@ module _ (d : Declarations) (bodies : List Formula) (n : ℕ) (env : List Bound)
         (one.core (bind (trees_by d p tree) trees) (bind h.sorted.0.0 sorts) sort (body_ready old tree side trees sorts sort h));
     effect = λ tree side trees sorts sort allowed h w.
         one.effect (bind (trees_by d p tree) trees) (bind h.sorted.0.0 sorts) sort allowed (body_ready old tree side trees sorts sort h) (subst (Within allowed) (case_none d (given d bodies n) trees tree earlier body rest p e) w);
+    order = λ tree side trees sorts sort h.
+        IfOk-weaker r (λ u. Makes old (making d (defined d bodies n) (bind (trees_by d p tree) trees) body) new) (λ u. Makes old (making_cases d (defined d bodies n) trees tree earlier all) new)
+        (λ u k. subst (λ (xs : List CoreTree). Makes old xs new) (sym (making_none d (defined d bodies n) trees tree earlier body rest p e)) k)
+        (one.order (bind (trees_by d p tree) trees) (bind h.sorted.0.0 sorts) sort (body_ready old tree side trees sorts sort h));
   }
 
   -- the case has a test
@@ -282,6 +319,7 @@ module _ (d : Declarations) (bodies : List Formula) (n : ℕ) (env : List Bound)
       test_failed x why = record {
         core = λ tree side trees sorts sort h. tt;
         effect = λ tree side trees sorts sort allowed h w. effect_because d allowed old m1 full _ why (test_effect tree side trees sorts sort allowed h w);
+        order = λ tree side trees sorts sort h. tt;
       }
 
       grown_1 : (tree : CoreTree) (side : SortId) (trees : List CoreTree) (sorts : List SortId) (sort : SortId) → AreCases d bodies old n env matched earlier all tree side trees sorts sort → IsPrefix old m1 × IsKept d m1
@@ -308,6 +346,7 @@ module _ (d : Declarations) (bodies : List Formula) (n : ℕ) (env : List Bound)
         first_failed x why = record {
           core = λ tree side trees sorts sort h. tt;
           effect = λ tree side trees sorts sort allowed h w. effect_because d allowed old m2 _ _ why (first_effect tree side trees sorts sort allowed h w);
+          order = λ tree side trees sorts sort h. tt;
         }
 
         grown_2 : (tree : CoreTree) (side : SortId) (trees : List CoreTree) (sorts : List SortId) (sort : SortId) → AreCases d bodies old n env matched earlier all tree side trees sorts sort → IsPrefix m1 m2 × IsKept d m2
@@ -337,6 +376,13 @@ module _ (d : Declarations) (bodies : List Formula) (n : ℕ) (env : List Bound)
               body = two.0;
               same = whole_is tree trees ∙ ap₂ (λ (x y : CoreTree). choice x y (core_rest tree trees)) (sym one.1) (sym two.1);
               effect = λ allowed w. effect_because d allowed old m2 _ ⊥ (λ x. absurd x) (first_effect tree side trees sorts sort allowed h w);
+              begun = test c tree ∷ making d (defined d bodies n) (bind (trees_by d p tree) trees) body;
+              makes = making_some d (defined d bodies n) trees tree earlier body rest p c e;
+              order =
+                  makes_then (test c tree ∷ []) (making d (defined d bodies n) (bind (trees_by d p tree) trees) body) old m1 m2
+                  (makes_one d old m1 (test c tree) full (tests tree (subtrees (test c tree)) h.bound (within_itself h.setting.kept.laws (subtrees (test c tree)) (test c tree) (within_subtrees (test c tree))))
+                  (term_tree old matched tree (tested_there d (uses_below d bodies n) env matched earlier body rest p c e h.there) h.bound, tt) (a, made tree h.bound))
+                  (subst (λ (z : Result TermId TermError). IfOk z (λ x. Makes m1 (making d (defined d bodies n) (bind (trees_by d p tree) trees) body) m2)) is_first (first.order (bind (trees_by d p tree) trees) (bind k.sorted.0.0 sorts) sort (body_ready m1 tree side trees sorts sort k)));
             }
 
 -- the core term of cases has the sort of the `match`

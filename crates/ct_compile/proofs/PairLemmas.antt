@@ -6,15 +6,17 @@ use Rattle.ct_sorts.specs.declared.ids.SortId.{SortId}
 use Rattle.ct_sorts.specs.Declarations.{Declarations, bool_sort}
 use Rattle.ct_terms.specs.declared.ids.TermId.{TermId}
 use Rattle.ct_terms.specs.Terms.{Terms}
-use Rattle.ct_terms.specs.CoreTree.{CoreTree, equivalence, equation, term_at}
+use Rattle.ct_terms.specs.CoreTree.{CoreTree, equivalence, equation, subtrees, term_at}
 use Rattle.ct_terms.specs.CoreSorts.{HasTreeSort, tree_sort}
 use Rattle.ct_terms.specs.Pairs.{neighbours_from, neighbours, pairs}
 use Rattle.ct_terms.specs.Compiled.{all_of, equality, inequality}
 use Rattle.ct_compile.specs.Laws.{Laws}
-use Rattle.ct_compile.specs.Effect.{AllStand, IsKept}
+use Rattle.ct_compile.specs.Effect.{Stands, AllStand, IsKept, Effect}
+use Rattle.ct_compile.specs.Making.{HasTrees, Makes, Made, leaf, terms, made_for, made_all, made_inequality}
 use Rattle.ct_compile.specs.Forms.{AllHaveSort}
-use Rattle.ct_compile.specs.Pairing.{both, compared_as, compared_all, IsPair}
+use Rattle.ct_compile.specs.Pairing.{both, compared_as, compared_all, made_compared, made_compared_all, IsPair}
 use Rattle.ct_compile.proofs.PlainLemmas.{all_trees, all_below, conjunction_sorted}
+use Rattle.ct_compile.proofs.WovenLemmas.{conjoined}
 
 -- ---- pairs of a list
 
@@ -117,3 +119,39 @@ neighbours_all_compared d f (t ∷ ts) = neighbours_compared d f t ts
 pub some_all_neighbours : (ts : List TermId) → 1 < length ts → 0 < length (neighbours both ts)
 some_all_neighbours [] h = absurd (omega (arith, h))
 some_all_neighbours (t ∷ ts) h = some_neighbours t ts h
+
+-- ---- the order
+
+terms_compared : (d : Declarations) (different : Bool) (f : TermId → CoreTree) (ps : List (TermId × TermId)) → terms (made_compared_all d different f ps) ≡ compared_all d different f ps
+terms_compared d different f [] = refl
+terms_compared d true f (p ∷ ps) = ap (λ (xs : List CoreTree). inequality d (f p.0) (f p.1) ∷ xs) (terms_compared d true f ps)
+terms_compared d false f (p ∷ ps) = ap (λ (xs : List CoreTree). equality d (f p.0) (f p.1) ∷ xs) (terms_compared d false f ps)
+
+trees_there : (table : Terms) (ts : List TermId) (us : List CoreTree) → AllStand table ts us → HasTrees table us
+trees_there table [] [] h = tt
+trees_there table [] (u ∷ us) h = absurd h
+trees_there table (t ∷ ts) [] h = absurd h
+trees_there table (t ∷ ts) (u ∷ us) h = ((t, h.0), trees_there table ts us h.1)
+
+-- the conjunction is made after what was compared
+pub conjoined_made : (d : Declarations) (different : Bool) (old mid new : Terms) (ps : List (TermId × TermId)) (parts : List TermId) (full : Type 0) (t : TermId) → 0 < length ps → AllStand mid parts (compared_all d different (term_at old) ps) → Makes old (made_for (made_compared_all d different (term_at old) ps)) mid → Effect d (subtrees (all_of (map (term_at mid) parts))) mid new full → Stands new t (all_of (map (term_at mid) parts)) → Makes old (made_all (made_compared_all d different (term_at old) ps)).making new
+conjoined_made d different old mid new ps parts full t some stand order effect stands =
+    let all = made_compared_all d different (term_at old) ps in
+    let terms_are : terms all ≡ compared_all d different (term_at old) ps = terms_compared d different (term_at old) ps in
+    let is : map (term_at mid) parts ≡ terms all = all_trees mid parts (compared_all d different (term_at old) ps) stand ∙ sym terms_are in
+    let count = compared_count d different (term_at old) ps in
+    conjoined d old mid new all full
+    (let long = ap (λ (us : List CoreTree). length us) terms_are in omega (arith, some, count, long))
+    (subst (HasTrees mid) (sym terms_are) (trees_there mid parts (compared_all d different (term_at old) ps) stand))
+    (subst (λ (us : List CoreTree). Effect d (subtrees (all_of us)) mid new full) is effect)
+    (t, subst (λ (us : List CoreTree). Stands new t (all_of us)) is stands) order
+
+first_made : (d : Declarations) (f : TermId → CoreTree) (t : TermId) (ts : List TermId) → made_compared_all d true f (map (both t) ts) ≡ map (made_inequality d (leaf (f t))) (map leaf (map f ts))
+first_made d f t [] = refl
+first_made d f t (u ∷ us) = ap (λ (xs : List Made). made_inequality d (leaf (f t)) (leaf (f u)) ∷ xs) (first_made d f t us)
+
+pub pairs_made : (d : Declarations) (f : TermId → CoreTree) (ts : List TermId) → made_compared_all d true f (pairs both ts) ≡ pairs (made_inequality d) (map leaf (map f ts))
+pairs_made d f [] = refl
+pairs_made d f (t ∷ ts) =
+    map_append (λ (p : TermId × TermId). made_compared d true (leaf (f p.0)) (leaf (f p.1))) (map (both t) ts) (pairs both ts)
+    ∙ ap₂ (λ (xs ys : List Made). xs ++ ys) (first_made d f t ts) (pairs_made d f ts)

@@ -1,5 +1,5 @@
 -- A formula under variables that are bound to others: the body of a `let`, or of a definition that is called.
-use Rattle.std.proofs.Common.{◌≡◌, ℕ, zero, suc, ◌+◌, Bool, ◌&&◌, ◌||◌, List, [], ◌∷◌, length, Contains, Result, Ok, Err, Some, slice_get, refl, sym, ap, subst, ◌∙◌}
+use Rattle.std.proofs.Common.{◌≡◌, ℕ, zero, suc, ◌+◌, Bool, ◌&&◌, ◌||◌, List, [], ◌∷◌, length, Contains, Result, Ok, Err, Some, slice_get, refl, sym, ap, subst, ◌∙◌, ◌++◌, ap₂}
 use Rattle.std.specs.List.{AllZip}
 use Rattle.std.proofs.lemmas.Option.{none-some}
 use Rattle.std.proofs.lemmas.Result.{IfOk-weaker}
@@ -20,10 +20,13 @@ use Rattle.ct_compile.specs.declared.bound.Bound.{Bound}
 use Rattle.ct_compile.specs.Effect.{Stands, IsKept, IsPrefix, Within}
 use Rattle.ct_compile.specs.Ready.{given, IsBound, ArePresent, IsSetting, IsReady, MayCompile, Compiles}
 use Rattle.ct_compile.specs.Marks.{listed}
-use Rattle.ct_compile.specs.Binding.{IsBoundAs, occurs_where, WithinWhere, AreBinding, MayBind, Binds}
+use Rattle.ct_compile.specs.Making.{HasTrees, Makes, making, defined}
+use Rattle.ct_compile.specs.Binding.{IsBoundAs, occurs_where, WithinWhere, making_where, AreBinding, MayBind, Binds}
 use Rattle.ct_compile.proofs.EffectLemmas.{effect_then, effect_because}
 use Rattle.ct_compile.proofs.ReadyLemmas.{bounds_stay, present_less, or_left, or_right}
 use Rattle.ct_compile.proofs.OperatorLemmas.{stands_as}
+use Rattle.ct_compile.proofs.MakesLemmas.{makes_then, makes_none, makes_has}
+use Rattle.ct_compile.proofs.MakingLemmas.{makes_is, making_listed}
 use Rattle.ct_compile.proofs.CycleLemmas.{same_error}
 use Rattle.ct_compile.proofs.BindLemmas.{zip_length, bind_zip, bind_present, all_there, where_within}
 use Rattle.ct_compile.proofs.DefinitionLemmas.{given_is, uses_is, listed_same}
@@ -41,6 +44,7 @@ pub record Under (d : Declarations) (bodies : List Formula) (n m : ℕ) (old : T
   pub present : ArePresent (λ i. occurs d (uses_below d bodies m) body (i + count_of ts)) outer
   pub flags_are : flags ≡ listed (occurs d (uses_below d bodies m) body) (count_of ts)
   pub same : compiled d (given d bodies n) trees t ≡ compiled d (given d bodies m) (bind (compiled_all d (given d bodies n) trees ts) others) body
+  pub makes : making d (defined d bodies n) trees t ≡ making_where d (defined d bodies n) trees flags ts ++ making d (defined d bodies m) (bind (compiled_all d (given d bodies n) trees ts) others) body
 
 pub count_terms : (d : Declarations) (call : DefId → List CoreTree → CoreTree) (env : List CoreTree) (ts : Formulas) → length (compiled_all d call env ts) ≡ count_of ts
 count_terms d call env no_formulas = refl
@@ -85,6 +89,7 @@ module _ (d : Declarations) (bodies : List Formula) (n m : ℕ) (old : Terms) (e
     effect = λ trees sorts sort allowed h w.
         let u = view trees sorts sort h in
         effect_because d allowed old new _ _ (same_error e Full) (all.effect trees sorts u.each allowed u.binding (within_parts trees sorts sort h allowed w));
+    order = λ trees sorts sort h. tt;
   }
 
   module _ (mid : Terms) (bs : List Bound) (all : Binds d bodies n old mid env flags ts (Ok bs)) where
@@ -95,15 +100,21 @@ module _ (d : Declarations) (bodies : List Formula) (n m : ℕ) (old : Terms) (e
       effect = λ trees sorts sort allowed h w.
           let u = view trees sorts sort h in
           effect_because d allowed old mid _ _ (λ x. cc) (all.effect trees sorts u.each allowed u.binding (within_parts trees sorts sort h allowed w));
+      order = λ trees sorts sort h. tt;
     }
 
     -- the term is known already
-    pub under_known : (x : TermId) → ((trees : List CoreTree) (sorts : List SortId) (sort : SortId) → IsReady d bodies old n env t trees sorts sort → Stands mid x (compiled d (given d bodies n) trees t)) → Compiles d bodies n old mid env t (Ok x)
-    under_known x stands = record {
+    pub under_known : (x : TermId) → ((trees : List CoreTree) (sorts : List SortId) (sort : SortId) → IsReady d bodies old n env t trees sorts sort → Stands mid x (compiled d (given d bodies n) trees t)) → ((trees : List CoreTree) (sorts : List SortId) (sort : SortId) (h : IsReady d bodies old n env t trees sorts sort) → HasTrees mid (making d (defined d bodies m) (bind (parts trees) (view trees sorts sort h).others) body)) → Compiles d bodies n old mid env t (Ok x)
+    under_known x stands made = record {
       core = stands;
       effect = λ trees sorts sort allowed h w.
           let u = view trees sorts sort h in
           effect_because d allowed old mid _ _ (λ y. cc) (all.effect trees sorts u.each allowed u.binding (within_parts trees sorts sort h allowed w));
+      order = λ trees sorts sort h.
+          let u = view trees sorts sort h in
+          let inner = making d (defined d bodies m) (bind (parts trees) u.others) body in
+          subst (λ (xs : List CoreTree). Makes old xs mid) (sym u.makes)
+          (makes_then (making_where d (defined d bodies n) trees flags ts) inner old mid mid (all.order trees sorts u.each u.binding) (makes_none inner mid (made trees sorts sort h)));
     }
 
     -- the table has grown, and is kept
@@ -144,13 +155,26 @@ module _ (d : Declarations) (bodies : List Formula) (n m : ℕ) (old : Terms) (e
           let u = view trees sorts sort h in
           effect_then d allowed old mid new _ _ (all.effect trees sorts u.each allowed u.binding (within_parts trees sorts sort h allowed w))
           (one.effect (bind (parts trees) u.others) (bind u.each u.other_sorts) sort allowed (body_ready trees sorts sort h) (subst (Within allowed) u.same w));
+      order = λ trees sorts sort h.
+          let u = view trees sorts sort h in
+          let inner = making d (defined d bodies m) (bind (parts trees) u.others) body in
+          IfOk-weaker r (λ x. Makes mid inner new) (λ x. Makes old (making d (defined d bodies n) trees t) new)
+          (λ x k. subst (λ (xs : List CoreTree). Makes old xs new) (sym u.makes) (makes_then (making_where d (defined d bodies n) trees flags ts) inner old mid new (all.order trees sorts u.each u.binding) k))
+          (one.order (bind (parts trees) u.others) (bind u.each u.other_sorts) sort (body_ready trees sorts sort h));
     }
+
+    -- what is made for the body is there
+    pub under_has : (new : Terms) (x : TermId) → IsKept d new → Compiles d bodies m mid new (bind bs outer) body (Ok x) → (trees : List CoreTree) (sorts : List SortId) (sort : SortId) (h : IsReady d bodies old n env t trees sorts sort) → HasTrees new (making d (defined d bodies m) (bind (parts trees) (view trees sorts sort h).others) body)
+    under_has new x kept one trees sorts sort h =
+        let u = view trees sorts sort h in
+        makes_has kept.laws (making d (defined d bodies m) (bind (parts trees) u.others) body) mid new kept.ordered (one.order (bind (parts trees) u.others) (bind u.each u.other_sorts) sort (body_ready trees sorts sort h))
 
     -- the same, and then there is no memory to put it down
     pub under_lost : (new : Terms) (x : TermId) (e : TermError) → e ≡ NoMemory → Compiles d bodies m mid new (bind bs outer) body (Ok x) → Compiles d bodies n old new env t (Err e)
     under_lost new x e is one = record {
       core = λ trees sorts sort h. tt;
       effect = λ trees sorts sort allowed h w. effect_because d allowed old new _ _ (λ y. cc) ((under_made new (Ok x) one).effect trees sorts sort allowed h w);
+      order = λ trees sorts sort h. tt;
     }
 
 -- ---- flags of variables
@@ -190,6 +214,7 @@ let_view d bodies n old env flags ts body is trees sorts sort h =
           (λ i e. or_right (occurs_in_bound d uses inner ts i) (inner (i + count_of ts)) e) h.present;
       flags_are = is;
       same = refl;
+      makes = ap (λ (xs : List CoreTree). xs ++ making d (defined d bodies n) (bind (compiled_all d (given d bodies n) trees ts) trees) body) (sym (ap (λ (bs : List Bool). making_where d (defined d bodies n) trees bs ts) is ∙ making_listed d (defined d bodies n) trees inner ts));
     }
 
 -- ---- a call
@@ -223,6 +248,9 @@ call_view d bodies n old env flags k ts body at is trees sorts sort h =
       present = λ i b e there. absurd (none_there i b there);
       flags_are = is ∙ listed_same (uses k) (occurs d (uses_below d bodies k.0) body) (count_of ts) (λ i. uses_is bodies k body at d n i h.mentions.0);
       same = given_is bodies k body at d n (compiled_all d (given d bodies n) trees ts) h.mentions.0;
+      makes = ap₂ (λ (xs ys : List CoreTree). xs ++ ys)
+          (sym (ap (λ (bs : List Bool). making_where d (defined d bodies n) trees bs ts) is ∙ making_listed d (defined d bodies n) trees (uses k) ts))
+          (makes_is bodies k body at d n (compiled_all d (given d bodies n) trees ts) h.mentions.0);
     }
   where
     none_there : (i : ℕ) (b : Bound) → slice_get [] i ≡ Some b → ⊥

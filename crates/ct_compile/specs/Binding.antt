@@ -1,5 +1,5 @@
 -- What formulas are bound to variables: the term of each variable that occurs, and nothing for the others.
-use Rattle.std.specs.Prelude.{◌≡◌, ℕ, Bool, true, false, ◌&&◌, ◌||◌, List, [], ◌∷◌, length, Result, IfOk, IsErrOf}
+use Rattle.std.specs.Prelude.{◌≡◌, ℕ, Bool, true, false, ◌&&◌, ◌||◌, List, [], ◌∷◌, ◌++◌, length, if◌then◌else◌, Result, IfOk, IsErrOf}
 use Rattle.std.specs.List.{AllZip}
 use Rattle.ct_sorts.specs.declared.ids.DefId.{DefId}
 use Rattle.ct_sorts.specs.declared.ids.SortId.{SortId}
@@ -14,6 +14,7 @@ use Rattle.ct_terms.specs.Compiled.{compiled_all}
 use Rattle.ct_terms.specs.Occurrence.{count_of, occurs, uses_below}
 use Rattle.ct_compile.specs.declared.bound.Bound.{Bound}
 use Rattle.ct_compile.specs.declared.bound.Bound.TheVariants.{Term, Field, Absent}
+use Rattle.ct_compile.specs.Making.{Makes, Defined, making, defined}
 use Rattle.ct_compile.specs.Effect.{IsKept, IsPrefix, Within, Effect}
 use Rattle.ct_compile.specs.Ready.{given, IsBound, ArePresent, IsSetting}
 
@@ -36,6 +37,12 @@ occurs_where d uses (b ∷ bs) (with_formula t ts) i = (b && occurs d uses t i) 
 abbrev pub WithinWhere : List CoreTree → List Bool → List CoreTree → Type 0
 WithinWhere allowed bs us = AllZip (λ b u. b ≡ true → Within allowed u) bs us
 
+-- what is made for those of these whose flag is set
+abbrev pub making_where : Declarations → Defined → List CoreTree → List Bool → Formulas → List CoreTree
+making_where d defs env [] ts = []
+making_where d defs env (b ∷ bs) no_formulas = []
+making_where d defs env (b ∷ bs) (with_formula t ts) = (if b then making d defs env t else []) ++ making_where d defs env bs ts
+
 -- formulas may be bound, as far as their flags are set
 pub record AreBinding (d : Declarations) (bodies : List Formula) (table : Terms) (n : ℕ) (env : List Bound) (flags : List Bool) (ts : Formulas) (trees : List CoreTree) (sorts : List SortId) (each : List SortId) : Type 0 where
   pub setting : IsSetting d bodies table env trees sorts
@@ -53,3 +60,4 @@ pub record Binds (d : Declarations) (bodies : List Formula) (n : ℕ) (old new :
   pub flagged : IfOk r (λ bs. AllZip IsBoundAs flags bs)
   pub grown : (trees : List CoreTree) (sorts : List SortId) (each : List SortId) → AreBinding d bodies old n env flags ts trees sorts each → IsPrefix old new × IsKept d new
   pub effect : (trees : List CoreTree) (sorts : List SortId) (each : List SortId) (allowed : List CoreTree) → AreBinding d bodies old n env flags ts trees sorts each → WithinWhere allowed flags (compiled_all d (given d bodies n) trees ts) → Effect d allowed old new (IsErrOf r Full)
+  pub order : (trees : List CoreTree) (sorts : List SortId) (each : List SortId) → AreBinding d bodies old n env flags ts trees sorts each → IfOk r (λ bs. Makes old (making_where d (defined d bodies n) trees flags ts) new)

@@ -14,6 +14,7 @@ use Rattle.ct_compile.specs.declared.bound.Bound.TheVariants.{Term, Field, Absen
 use Rattle.ct_compile.specs.declared.known.Called.{Called}
 use Rattle.ct_compile.specs.contracts.known.CalledPartialEq.TheImpl as derived
 use Rattle.ct_compile.specs.Effect.{Stands}
+use Rattle.ct_compile.specs.Making.{HasTrees, makes_below}
 use Rattle.ct_compile.specs.Ready.{given, IsBound}
 use Rattle.ct_compile.specs.Binding.{IsBoundAs}
 use Rattle.ct_compile.specs.Marks.{Rows, row_in, HaveRows}
@@ -33,7 +34,7 @@ terms_of (Absent ∷ bs) = terms_of bs
 abbrev pub call_of : DefId → List Bound → Called
 call_of k bs = record { definition = k; args = terms_of bs }
 
--- the term is what the definition gives for trees that stand at the arguments
+-- the term is what the definition gives for trees that stand at the arguments, and what is made for it is there
 pub record IsRecalled (d : Declarations) (bodies : List Formula) (rows : Rows) (table : Terms) (call : Called) (t : TermId) : Type 0 where
   pub bounds : List Bound
   pub trees : List CoreTree
@@ -43,6 +44,7 @@ pub record IsRecalled (d : Declarations) (bodies : List Formula) (rows : Rows) (
   pub flags : AllZip IsBoundAs row bounds
   pub stand : AllZip (IsBound table) bounds trees
   pub stands : Stands table t (given d bodies (suc call.definition.0) call.definition trees)
+  pub made : HasTrees table (makes_below d bodies (suc call.definition.0) call.definition trees)
 
 -- the rows say which parameters occur, and what is known of calls is true
 pub record IsState {S : Type 0} (d : Declarations) (bodies : List Formula) (n : ℕ) (rows : Rows) (table : Terms) (known : IndexMap Called TermId S) : Type 0 where

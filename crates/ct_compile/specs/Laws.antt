@@ -15,7 +15,7 @@ use Rattle.ct_terms.specs.Formula.{Formula, MentionsBelow}
 use Rattle.ct_terms.specs.FormulaSorts.{IsSorted, AreSound}
 use Rattle.ct_terms.specs.Calls.{calls_below}
 use Rattle.ct_terms.specs.Compiled.{fields_of, compiled, GiveSorted}
-use Rattle.ct_terms.specs.Occurrence.{occurs, uses_below, UseSame, GiveUsed}
+use Rattle.ct_terms.specs.Occurrence.{occurs, uses_below, AreSameAt, UseSame, GiveUsed}
 
 pub record Laws : Type 0 where
   pub unfolds : (table : Terms) (t : TermId) (core : Core) (sort : SortId) → AreOrdered table → slice_get table t.0 ≡ Some (core, sort) → term_at table t ≡ tree_layer (term_at table) core
@@ -29,6 +29,7 @@ pub record Laws : Type 0 where
   pub sorted : (d : Declarations) (table : Terms) (t : TermId) (sort : SortId) → AreOrdered table → AreSortedTerms d table → IsOfSort table t sort → HasTreeSort d (term_at table t) sort
   pub compiled_sorted : (d : Declarations) (n : ℕ) (call : DefId → List CoreTree → CoreTree) (env : List CoreTree) (sorts : List SortId) (t : Formula) (sort : SortId) → IsConsistent d → GiveSorted d n call → AllZip (HasTreeSort d) env sorts → MentionsBelow n t → IsSorted d sorts t sort → HasTreeSort d (compiled d call env t) sort
   pub calls_sorted : (d : Declarations) (bodies : List Formula) (n : ℕ) → IsConsistent d → AreSound d bodies → GiveSorted d n (calls_below (compiled d) no_term bodies n)
+  pub occurring : (d : Declarations) (uses : DefId → ℕ → Bool) (call : DefId → List CoreTree → CoreTree) (t : Formula) (env others : List CoreTree) → UseSame uses call → AreSameAt (occurs d uses t) env others → compiled d call env t ≡ compiled d call others t
   pub used : (d : Declarations) (bodies : List Formula) (n : ℕ) → UseSame (uses_below d bodies n) (calls_below (compiled d) no_term bodies n)
   pub used_subterm : (d : Declarations) (bodies : List Formula) (n : ℕ) → AreSound d bodies → GiveUsed (uses_below d bodies n) (calls_below (compiled d) no_term bodies n)
   pub occurring_subterm : (d : Declarations) (uses : DefId → ℕ → Bool) (call : DefId → List CoreTree → CoreTree) (env : List CoreTree) (sorts : List SortId) (t : Formula) (sort : SortId) (i : ℕ) (u : CoreTree) → GiveUsed uses call → IsSorted d sorts t sort → occurs d uses t i ≡ true → slice_get env i ≡ Some u → Contains (subtrees (compiled d call env t)) u

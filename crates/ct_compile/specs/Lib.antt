@@ -14,3 +14,4 @@ pub mod Matching
 pub mod Chosen
 pub mod Noted
 pub mod Working
+pub mod Making

@@ -18,6 +18,7 @@ use Rattle.ct_terms.specs.Compiled.{fields_of, surely_fits, compiled_cases}
 use Rattle.ct_terms.specs.Occurrence.{matched_occurs, occurs_in_cases, uses_below}
 use Rattle.ct_compile.specs.declared.bound.Bound.{Bound}
 use Rattle.ct_compile.specs.declared.bound.Bound.TheVariants.{Term, Field, Absent}
+use Rattle.ct_compile.specs.Making.{Makes, making_cases, defined}
 use Rattle.ct_compile.specs.Effect.{Stands, Within, Effect}
 use Rattle.ct_compile.specs.Ready.{given, IsBound, ArePresent, IsSetting}
 
@@ -75,3 +76,4 @@ MayCases d bodies table n env matched earlier cases = (tree : CoreTree) × (side
 pub record CompilesCases (d : Declarations) (bodies : List Formula) (n : ℕ) (old new : Terms) (env : List Bound) (matched : Bound) (earlier : List CtorId) (cases : Cases) (r : Result TermId TermError) : Type 0 where
   pub core : (tree : CoreTree) (side : SortId) (trees : List CoreTree) (sorts : List SortId) (sort : SortId) → AreCases d bodies old n env matched earlier cases tree side trees sorts sort → IfOk r (λ u. Stands new u (compiled_cases d (given d bodies n) trees tree earlier cases))
   pub effect : (tree : CoreTree) (side : SortId) (trees : List CoreTree) (sorts : List SortId) (sort : SortId) (allowed : List CoreTree) → AreCases d bodies old n env matched earlier cases tree side trees sorts sort → Within allowed (compiled_cases d (given d bodies n) trees tree earlier cases) → Effect d allowed old new (IsErrOf r Full)
+  pub order : (tree : CoreTree) (side : SortId) (trees : List CoreTree) (sorts : List SortId) (sort : SortId) → AreCases d bodies old n env matched earlier cases tree side trees sorts sort → IfOk r (λ u. Makes old (making_cases d (defined d bodies n) trees tree earlier cases) new)

@@ -7,6 +7,7 @@ use Rattle.ct_terms.specs.Terms.{Terms}
 use Rattle.ct_terms.specs.CoreTree.{CoreTree, term_at}
 use Rattle.ct_terms.specs.CoreSorts.{HasTreeSort}
 use Rattle.ct_terms.specs.Compiled.{equality, inequality}
+use Rattle.ct_compile.specs.Making.{Made, leaf, made_equality, made_inequality}
 
 -- two terms
 abbrev pub both : TermId → TermId → TermId × TermId
@@ -20,6 +21,14 @@ compared_as d false a b = equality d a b
 -- the same of several
 abbrev pub compared_all : Declarations → Bool → (TermId → CoreTree) → List (TermId × TermId) → List CoreTree
 compared_all d different f ps = map (λ p. compared_as d different (f p.0) (f p.1)) ps
+
+-- the same, after what is made for them
+abbrev pub made_compared : Declarations → Bool → Made → Made → Made
+made_compared d true p q = made_inequality d p q
+made_compared d false p q = made_equality d p q
+
+abbrev pub made_compared_all : Declarations → Bool → (TermId → CoreTree) → List (TermId × TermId) → List Made
+made_compared_all d different f ps = map (λ p. made_compared d different (leaf (f p.0)) (leaf (f p.1))) ps
 
 -- the two terms are in the table, and have this sort
 abbrev pub IsPair : Declarations → Terms → SortId → TermId × TermId → Type 0

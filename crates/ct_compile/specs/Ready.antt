@@ -1,5 +1,5 @@
 -- What compiling begins with: an environment of terms for the variables that occur, over a sound scope and a well-sorted table.
-use Rattle.std.specs.Prelude.{◌≡◌, ℕ, ◌<◌, Bool, true, List, length, Some, slice_get, Result, IfOk, IsErrOf}
+use Rattle.std.specs.Prelude.{◌≡◌, ℕ, ◌<◌, Bool, true, List, [], length, Some, slice_get, Result, IfOk, IsErrOf}
 use Rattle.std.specs.List.{AllZip}
 use Rattle.ct_sorts.specs.declared.ids.DefId.{DefId}
 use Rattle.ct_sorts.specs.declared.ids.SortId.{SortId}
@@ -21,6 +21,8 @@ use Rattle.ct_compile.specs.declared.bound.Bound.TheVariants.{Term, Field, Absen
 use Rattle.ct_compile.specs.declared.operator.Operator.{Operator}
 use Rattle.ct_compile.specs.Effect.{Stands, AllStand, IsKept, Within, Effect}
 use Rattle.ct_compile.specs.Forms.{combined, AreOperands}
+use Rattle.ct_compile.specs.Making.{Makes, making, made_each, defined}
+use Rattle.ct_compile.specs.Following.{woven}
 
 -- what the definitions below a number give, and the variables that occur in them
 abbrev pub given : Declarations → List Formula → ℕ → DefId → List CoreTree → CoreTree
@@ -76,12 +78,14 @@ pub record AreUnder (d : Declarations) (bodies : List Formula) (table : Terms) (
 abbrev pub MayCompileAll : Declarations → List Formula → Terms → ℕ → List Bound → Operator → Formulas → Type 0
 MayCompileAll d bodies table n env o ts = (trees : List CoreTree) × (sorts : List SortId) × (each : List SortId) × AreUnder d bodies table n env o ts trees sorts each
 
--- what compiling a formula gives: its core term, and no other terms than the subterms of that
+-- what compiling a formula gives: its core term, and no other terms than the subterms of that, in order
 pub record Compiles (d : Declarations) (bodies : List Formula) (n : ℕ) (old new : Terms) (env : List Bound) (t : Formula) (r : Result TermId TermError) : Type 0 where
   pub core : (trees : List CoreTree) (sorts : List SortId) (sort : SortId) → IsReady d bodies old n env t trees sorts sort → IfOk r (λ u. Stands new u (compiled d (given d bodies n) trees t))
   pub effect : (trees : List CoreTree) (sorts : List SortId) (sort : SortId) (allowed : List CoreTree) → IsReady d bodies old n env t trees sorts sort → Within allowed (compiled d (given d bodies n) trees t) → Effect d allowed old new (IsErrOf r Full)
+  pub order : (trees : List CoreTree) (sorts : List SortId) (sort : SortId) → IsReady d bodies old n env t trees sorts sort → IfOk r (λ u. Makes old (making d (defined d bodies n) trees t) new)
 
 -- what compiling those under an operator gives: no other terms than the subterms of the operator's core term
 pub record CompilesAll (d : Declarations) (bodies : List Formula) (n : ℕ) (old new : Terms) (env : List Bound) (o : Operator) (ts : Formulas) (r : Result (List TermId) TermError) : Type 0 where
   pub core : (trees : List CoreTree) (sorts : List SortId) (each : List SortId) → AreUnder d bodies old n env o ts trees sorts each → IfOk r (λ us. AllStand new us (compiled_all d (given d bodies n) trees ts))
   pub effect : (trees : List CoreTree) (sorts : List SortId) (each : List SortId) (allowed : List CoreTree) → AreUnder d bodies old n env o ts trees sorts each → Within allowed (combined d o (compiled_all d (given d bodies n) trees ts)) → Effect d allowed old new (IsErrOf r Full)
+  pub order : (trees : List CoreTree) (sorts : List SortId) (each : List SortId) → AreUnder d bodies old n env o ts trees sorts each → IfOk r (λ us. Makes old (woven d o [] (made_each d (defined d bodies n) trees ts)) new)

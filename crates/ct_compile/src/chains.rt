@@ -8,7 +8,8 @@ ghost use Rattle.ct_terms.specs.Pairs.{neighbours_from, neighbours, pairs};
 ghost use Rattle.ct_terms.specs.Compiled.{all_of as conjunction_of, equality as equality_of, inequality as inequality_of};
 ghost use Rattle.ct_compile.specs.Effect.{Stands, AllStand, IsKept, Within, AllWithin, Effect};
 ghost use Rattle.ct_compile.specs.Forms.{AllHaveSort};
-ghost use Rattle.ct_compile.specs.Pairing.{both, compared_as, compared_all, IsPair};
+ghost use Rattle.ct_compile.specs.Pairing.{both, compared_as, compared_all, made_compared_all, IsPair};
+ghost use Rattle.ct_compile.specs.Making.{Makes, leaf, made_inequality, made_for, made_all};
 
 use crate::operators::{all_of, equality, inequality};
 use ct_sorts::Signature;
@@ -98,6 +99,7 @@ pub(crate) fn compared(
     ensures effect { (allowed : List CoreTree)
         → AllWithin allowed (compared_all sig.now different (term_at table.old) pairs.now)
         → Effect sig.now allowed table.old table.new (IsErrOf result TermError.Full) }
+    ensures order { IfOk result (λ args. Makes table.old (made_for (made_compared_all sig.now different (term_at table.old) pairs.now)) table.new) }
 {
     let mut args = Args::new(alloc);
     let mut rest = pairs;
@@ -134,6 +136,7 @@ fn conjoin(
     ensures effect { (allowed : List CoreTree)
         → Within allowed (conjunction_of (compared_all sig.now different (term_at table.old) pairs.now))
         → Effect sig.now allowed table.old table.new (IsErrOf result TermError.Full) }
+    ensures order { IfOk result (λ t. Makes table.old (made_all (made_compared_all sig.now different (term_at table.old) pairs.now)).making table.new) }
 {
     let parts = compared(alloc, sig, table, different, pairs)?;
     all_of(sig, table, parts)
@@ -172,6 +175,7 @@ pub(crate) fn distinct_of(
     ensures effect { (allowed : List CoreTree)
         → Within allowed (conjunction_of (pairs (inequality_of sig.now) (map (term_at table.old) args.now)))
         → Effect sig.now allowed table.old table.new (IsErrOf result TermError.Full) }
+    ensures order { IfOk result (λ t. Makes table.old (made_all (pairs (made_inequality sig.now) (map leaf (map (term_at table.old) args.now)))).making table.new) }
 {
     let found = pairs_of(alloc, args)?;
     conjoin(alloc, sig, table, true, &found)

@@ -4,6 +4,7 @@ ghost use Rattle.std.specs.List.{AllByRecursion};
 ghost use Rattle.ct_terms.specs.CoreTree.{CoreTree, term_at};
 ghost use Rattle.ct_compile.specs.Effect.{Stands, IsKept, Within, Effect};
 ghost use Rattle.ct_compile.specs.Forms.{combined, AreOperands};
+ghost use Rattle.ct_compile.specs.Making.{Makes, leaf, made_by};
 
 use crate::chains::{distinct_of, equal_of};
 use crate::make::make;
@@ -28,6 +29,7 @@ pub(crate) fn combine(
     ensures effect { (allowed : List CoreTree)
         → Within allowed (combined sig.now operator (map (term_at table.old) args))
         → Effect sig.now allowed table.old table.new (IsErrOf result TermError.Full) }
+    ensures order { operator ≡ Operator.Inequality → IfOk result (λ t. Makes table.old (made_by sig.now Operator.Inequality (map leaf (map (term_at table.old) args))).making table.new) }
 {
     match operator {
         Operator::Construct(c) => make(sig, table, Core::Con(c, args)),

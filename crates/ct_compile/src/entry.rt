@@ -8,6 +8,7 @@ ghost use Rattle.ct_terms.specs.FormulaSorts.{IsSorted, AreSound};
 ghost use Rattle.ct_terms.specs.TreeFormula.{formula_of};
 ghost use Rattle.ct_terms.specs.Compiled.{core_of};
 ghost use Rattle.ct_compile.specs.Effect.{IsPrefix, DoNotFit};
+ghost use Rattle.ct_compile.specs.Making.{Makes, making_of};
 
 use crate::laws::laws;
 use crate::needed::work_out_named;
@@ -45,6 +46,9 @@ pub fn compile(
     ensures complete { IfOk result (λ t. (s : CoreTree)
         → Contains (subtrees (core_of scope.now.sig (map formula_of scope.now.bodies) [] (formula_of tree.now))) s
         → (u : TermId) × (u.0 ≤ t.0) × (term_at table.new u ≡ s)) }
+
+    // The terms are made in order: what is bound before the body, what stands under a term before the term, from left to right.
+    ensures order { IfOk result (λ t. Makes table.old (making_of scope.now.sig (map formula_of scope.now.bodies) [] (formula_of tree.now)) table.new) }
 
     // The subterms of the core term that the table did not have are too many.
     ensures full { IsErrOf result TermError.Full → (trees : List CoreTree)

@@ -3,7 +3,7 @@ use Rattle.std.proofs.lemmas.Result.{err_from_is_err_and}
 use Rattle.ct_terms.specs.declared.ids.TermId.{TermId}
 use Rattle.ct_compile.proofs.EffectLemmas.{effect_then, effect_because}
 use Rattle.ct_compile.proofs.RestLemmas.{rest_step}
-use Rattle.ct_compile.proofs.ChainLemmas.{Comparing, comparing_start, comparing_pair, comparing_within, comparing_step, comparing_end, nothing_left}
+use Rattle.ct_compile.proofs.ChainLemmas.{Comparing, comparing_start, comparing_pair, comparing_within, comparing_step, comparing_end, comparing_order, nothing_left}
 use Rattle.ct_compile.proofs.chains.compared.Goals as goal
 
 pub loop-rest-init : goal.loop-rest-init
@@ -57,3 +57,10 @@ returns-clause-core c =
 pub returns-clause-effect : goal.returns-clause-effect
 returns-clause-effect c = λ allowed within.
     effect_because c.args.sig.now allowed c.args.table.now c.loop-rest.table _ _ (λ e. cc) (c.loop-rest.invariant.1.effect allowed within)
+
+pub returns-clause-order : goal.returns-clause-order
+returns-clause-order c =
+    let loop = c.loop-rest in
+    let none = nothing_left loop.rest.now (omega (arith, c.in_default.len_below)) in
+    comparing_order c.args.sig.now c.args.different c.args.table.now loop.table loop.invariant.0 c.args.pairs.now loop.args
+    (subst (λ (xs : List (TermId × TermId)). Comparing c.args.sig.now c.args.different c.args.table.now loop.table loop.invariant.0 c.args.pairs.now loop.args xs) none loop.invariant.1)

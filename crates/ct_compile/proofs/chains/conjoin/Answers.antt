@@ -1,17 +1,18 @@
-use Rattle.std.proofs.Common.{subst, sym}
+use Rattle.std.proofs.Common.{map, subst, sym}
 use Rattle.std.proofs.lemmas.Result.{err_from_is_err_and, IfOk-weaker}
 use Rattle.ct_sorts.specs.Declarations.{bool_sort}
 use Rattle.ct_terms.specs.declared.error.TermError.TheVariants.{Full}
-use Rattle.ct_terms.specs.CoreTree.{subtrees_of_all, trees_of, term_at}
+use Rattle.ct_terms.specs.CoreTree.{subtrees, subtrees_of_all, trees_of, term_at}
 use Rattle.ct_terms.specs.Compiled.{all_of}
 use Rattle.ct_compile.specs.Effect.{Stands, Within}
-use Rattle.ct_compile.specs.Pairing.{compared_all}
+use Rattle.ct_compile.specs.Making.{Makes, made_all}
+use Rattle.ct_compile.specs.Pairing.{compared_all, made_compared_all}
 use Rattle.ct_compile.proofs.EffectLemmas.{effect_then, effect_because}
-use Rattle.ct_compile.proofs.WithinLemmas.{within_all}
+use Rattle.ct_compile.proofs.WithinLemmas.{within_all, within_subtrees}
 use Rattle.ct_compile.proofs.OperatorLemmas.{stands_as}
 use Rattle.ct_compile.proofs.PlainLemmas.{within_all_of}
 use Rattle.ct_compile.proofs.CycleLemmas.{same_error}
-use Rattle.ct_compile.proofs.PairLemmas.{parts_below, parts_sorted, parts_are}
+use Rattle.ct_compile.proofs.PairLemmas.{parts_below, parts_sorted, parts_are, conjoined_made}
 use Rattle.ct_compile.proofs.chains.conjoin.Goals as goal
 
 pub returns-in_err-parts-clause-effect : goal.returns-in_err-parts-clause-effect
@@ -45,3 +46,13 @@ returns-clause-effect c = λ allowed within.
     effect_then d allowed c.args.table.now c.compared.new.table c.all_of.new.table _ _
     (c.in_ok-parts.ensures.effect allowed (within_all_of allowed trees within))
     (c.all_of.ensures.effect allowed (subst (Within allowed) (sym (parts_are d c.args.different c.args.table.now c.compared.new.table c.requires.pairs.0 c.args.pairs.now c.in_ok-parts.parts c.requires.kept c.requires.pairs.1 c.in_ok-parts.ensures.core)) within))
+
+pub returns-clause-order : goal.returns-clause-order
+returns-clause-order c =
+    let d = c.args.sig.now in
+    let mid = c.compared.new.table in
+    let parts = c.in_ok-parts.parts in
+    let top = all_of (map (term_at mid) parts) in
+    IfOk-weaker c.all_of.result (λ t. Stands c.all_of.new.table t top) (λ t. Makes c.args.table.now (made_all (made_compared_all d c.args.different (term_at c.args.table.now) c.args.pairs.now)).making c.all_of.new.table)
+    (λ t h. conjoined_made d c.args.different c.args.table.now mid c.all_of.new.table c.args.pairs.now parts _ t c.requires.some c.in_ok-parts.ensures.core c.in_ok-parts.ensures.order (c.all_of.ensures.effect (subtrees top) (within_subtrees top)) h)
+    c.all_of.ensures.core

@@ -6,11 +6,12 @@ use Rattle.ct_terms.specs.CoreTree.{term_at}
 use Rattle.ct_terms.specs.Pairs.{pairs}
 use Rattle.ct_terms.specs.Compiled.{all_of, inequality}
 use Rattle.ct_compile.specs.Effect.{Stands, Within}
-use Rattle.ct_compile.specs.Pairing.{compared_all, IsPair}
+use Rattle.ct_compile.specs.Making.{Makes, Made, leaf, made_inequality, made_all}
+use Rattle.ct_compile.specs.Pairing.{compared_all, made_compared_all, IsPair}
 use Rattle.ct_compile.proofs.EffectLemmas.{effect_none}
 use Rattle.ct_compile.proofs.OperatorLemmas.{stands_as}
 use Rattle.ct_compile.proofs.PlainLemmas.{sorts_of_terms}
-use Rattle.ct_compile.proofs.PairLemmas.{pairs_pairs, pairs_compared, some_pairs}
+use Rattle.ct_compile.proofs.PairLemmas.{pairs_pairs, pairs_compared, pairs_made, some_pairs}
 use Rattle.ct_compile.proofs.chains.distinct_of.Goals as goal
 
 pub returns-in_err-found-clause-effect : goal.returns-in_err-found-clause-effect
@@ -39,3 +40,11 @@ returns-clause-effect c = λ allowed within.
     let d = c.args.sig.now in
     let f = term_at c.args.table.now in
     c.conjoin.ensures.effect allowed (subst (Within allowed) (sym (ap (λ (ps : List (TermId × TermId)). all_of (compared_all d true f ps)) (c.deref.ensures.value ∙ c.in_ok-found.ensures.pairs) ∙ ap all_of (pairs_compared d f c.args.args.now))) within)
+
+pub returns-clause-order : goal.returns-clause-order
+returns-clause-order c =
+    let d = c.args.sig.now in
+    let f = term_at c.args.table.now in
+    IfOk-weaker c.conjoin.result _ (λ t. Makes c.args.table.now (made_all (pairs (made_inequality d) (map leaf (map f c.args.args.now)))).making c.conjoin.new.table)
+    (λ t h. subst (λ (ps : List Made). Makes c.args.table.now (made_all ps).making c.conjoin.new.table) (ap (made_compared_all d true f) (c.deref.ensures.value ∙ c.in_ok-found.ensures.pairs) ∙ pairs_made d f c.args.args.now) h)
+    c.conjoin.ensures.order

@@ -6,6 +6,7 @@ use Rattle.ct_terms.specs.Formula.{MentionsBelow}
 use Rattle.ct_terms.specs.TreeFormula.{formula_of}
 use Rattle.ct_terms.specs.Compiled.{compiled, core_of}
 use Rattle.ct_compile.specs.Effect.{Stands, DoNotFit}
+use Rattle.ct_compile.specs.Making.{Makes, making, defined, making_of}
 use Rattle.ct_terms.specs.Occurrence.{uses_below}
 use Rattle.ct_compile.specs.Marks.{worked_in, HaveRows}
 use Rattle.ct_compile.specs.Ready.{given}
@@ -86,3 +87,13 @@ pub returns-clause-complete : goal.returns-clause-complete
 returns-clause-complete c =
     let kept = (c.compile_tree.ensures.outcome.effect [] [] c.requires.closed.0 (subtrees (compiled c.args.scope.now.sig (given c.args.scope.now.sig (map formula_of c.args.scope.now.bodies) c.len-below.result) [] (formula_of c.args.tree.now))) (entry_ready c.laws.ensures.hold c.args.scope.now.sig (map formula_of c.args.scope.now.bodies) c.args.table.now c.len-below.result (formula_of c.args.tree.now) c.requires.closed.0 c.sorts.ensures.consistent c.requires.sound c.requires.table c.len.ensures.ordered c.len.ensures.single (all_below c.args.scope.now.bodies c.len-below.result c.len-below.ensures.len) c.requires.closed.1) (within_subtrees (compiled c.args.scope.now.sig (given c.args.scope.now.sig (map formula_of c.args.scope.now.bodies) c.len-below.result) [] (formula_of c.args.tree.now)))).kept in
     IfOk-weaker c.compile_tree.result _ (λ t. (s : CoreTree) → Contains (subtrees (core_of c.args.scope.now.sig (map formula_of c.args.scope.now.bodies) [] (formula_of c.args.tree.now))) s → (u : TermId) × (u.0 ≤ t.0) × (term_at c.compile_tree.new.table u ≡ s)) (λ t h. subterms_below c.args.scope.now.sig c.compile_tree.new.table kept (core_of c.args.scope.now.sig (map formula_of c.args.scope.now.bodies) [] (formula_of c.args.tree.now)) t h) (returns-clause-core c)
+
+pub returns-clause-order : goal.returns-clause-order
+returns-clause-order c =
+    let d = c.args.scope.now.sig in
+    let bodies = map formula_of c.args.scope.now.bodies in
+    let f = formula_of c.args.tree.now in
+    let n = c.len-below.result in
+    let is = all_below c.args.scope.now.bodies n c.len-below.ensures.len in
+    IfOk-weaker c.compile_tree.result _ (λ t. Makes c.args.table.now (making_of d bodies [] f) c.compile_tree.new.table) (λ t h. subst (λ (m : ℕ). Makes c.args.table.now (making d (defined d bodies m) [] f) c.compile_tree.new.table) is h)
+    (c.compile_tree.ensures.outcome.order [] [] c.requires.closed.0 (entry_ready c.laws.ensures.hold d bodies c.args.table.now n f c.requires.closed.0 c.sorts.ensures.consistent c.requires.sound c.requires.table c.len.ensures.ordered c.len.ensures.single is c.requires.closed.1))

@@ -19,5 +19,5 @@ returns-in_err-equality c =
 
 pub returns : goal.returns
 returns c = record {
-  outcome = λ ends. subst (λ (lead : Option TermId). Follows c.args.sig.now c.args.table.now c.equality.new.table Equality lead c.args.term ends (Ok c.args.term)) (sym c.in-Some.is) (equality_done c.args.sig.now c.args.table.now c.in-Some.before c.args.term c.equality.new.table _ c.in_ok-equality.ensures.effect ends);
+  outcome = λ ends. subst (λ (lead : Option TermId). Follows c.args.sig.now c.args.table.now c.equality.new.table Equality lead c.args.term ends (Ok c.args.term)) (sym c.in-Some.is) (equality_done c.args.sig.now c.args.table.now c.in-Some.before c.args.term c.equality.new.table _ c.in_ok-equality.ensures.effect ends (_, c.in_ok-equality.ensures.core));
 }

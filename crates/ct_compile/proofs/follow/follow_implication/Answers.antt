@@ -14,8 +14,8 @@ returns-in_err-negated c =
 
 pub returns : goal.returns
 returns c = record {
-  outcome = λ lead. implication_done c.args.sig.now c.args.table.now c.args.term c.args.ends c.if-ends.false c.negated.new.table _ c.in_ok-negated.ensures.effect lead;
+  outcome = λ lead. implication_done c.args.sig.now c.args.table.now c.args.term c.args.ends c.if-ends.false c.negated.new.table _ c.in_ok-negated.ensures.effect lead (_, c.in_ok-negated.ensures.core);
 }
 
 pub returns-then-ends : goal.returns-then-ends
-returns-then-ends c = record { outcome = λ lead. implication_last c.args.sig.now c.args.table.now lead c.args.term c.args.ends }
+returns-then-ends c = record { outcome = λ lead. implication_last c.args.sig.now c.args.table.now lead c.args.term c.args.ends c.if-ends.true }

@@ -19,5 +19,5 @@ returns-in_err-inequality c =
 
 pub returns : goal.returns
 returns c = record {
-  outcome = λ ends. subst (λ (lead : Option TermId). Follows c.args.sig.now c.args.table.now c.inequality.new.table Inequality lead c.args.term ends (Ok c.in-Some.first)) (sym c.in-Some.is) (inequality_done c.args.sig.now c.args.table.now c.in-Some.first c.args.term c.inequality.new.table _ c.in_ok-inequality.ensures.effect ends);
+  outcome = λ ends. subst (λ (lead : Option TermId). Follows c.args.sig.now c.args.table.now c.inequality.new.table Inequality lead c.args.term ends (Ok c.in-Some.first)) (sym c.in-Some.is) (inequality_done c.args.sig.now c.args.table.now c.in-Some.first c.args.term c.inequality.new.table _ c.in_ok-inequality.ensures.effect ends (_, c.in_ok-inequality.ensures.core));
 }

@@ -14,6 +14,7 @@ returns c = record {
     sorted = c.core_trees.ensures.sorted;
     compiled_sorted = c.formulas.ensures.compiled;
     calls_sorted = c.formulas.ensures.calls;
+    occurring = c.formulas.ensures.occurring;
     used = c.formulas.ensures.used;
     used_subterm = c.formulas.ensures.used_subterm;
     occurring_subterm = c.formulas.ensures.occurring_subterm;

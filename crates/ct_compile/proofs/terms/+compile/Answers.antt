@@ -1,5 +1,6 @@
 use Rattle.std.proofs.Common.{◌≡◌, ◌-◌, ◌<◌, ◌==◌, Bool, true, false, List, ◌∷◌, [], ◌++◌, length, take, drop, map, reverse, IfOk, IsErrOf, Some, None, Ok, Err, slice_get, refl, ap, subst, sym, ◌∙◌, arith, true≢false}
 use Rattle.std.proofs.lemmas.List.{reverse-append}
+use Rattle.std.proofs.lemmas.Bool.Decides.{Decides-eqb}
 use Rattle.std.proofs.lemmas.Result.{err_from_is_err_and}
 use Rattle.ct_sorts.specs.declared.ids.CtorId.{CtorId}
 use Rattle.ct_terms.specs.declared.ids.TermId.{TermId}
@@ -34,8 +35,8 @@ use Rattle.ct_compile.proofs.CycleLemmas.{compiles_nothing, compiles_grown, plai
 use Rattle.ct_compile.proofs.ChoiceLemmas.{choice_condition, choice_then, choice_else, choice_failed_1, choice_failed_2, choice_failed_3, choice_kept, choice_below, choice_sorted, choice_made}
 use Rattle.ct_compile.proofs.BindingLemmas.{Completes, completes_start, completes_flag, completes_split, completes_all, completes_out, completes_absent, completes_lighter, completes_next, completes_failed, completes_term, flags_split}
 use Rattle.ct_compile.proofs.DefinitionLemmas.{weights_is}
-use Rattle.ct_compile.proofs.UnderLemmas.{under_may, under_failed, under_out, under_known, under_body, under_made, under_lost, let_view}
-use Rattle.ct_compile.proofs.CallingLemmas.{state_stays, state_within, state_made, state_below, state_back, state_with, ok_always, row_is, call_under, known_stands, call_recalled}
+use Rattle.ct_compile.proofs.UnderLemmas.{under_may, under_failed, under_out, under_known, under_body, under_made, under_has, under_lost, let_view}
+use Rattle.ct_compile.proofs.CallingLemmas.{state_stays, state_within, state_made, state_below, state_back, state_with, ok_always, row_is, call_under, known_stands, known_made, call_recalled}
 use Rattle.ct_compile.proofs.MatchLemmas.{case_declared, case_body, case_ends, test_kept, test_there, test_bound, test_failed, test_grown, first_may, first_failed, case_chosen}
 use Rattle.ct_compile.proofs.ChoosesLemmas.{Chooses, chooses_start, chooses_may, chooses_failed, last_kept, last_below, last_inside, last_sorted, chooses_end, chooses_lighter, chooses_more, chooses_none}
 use Rattle.ct_compile.proofs.FormLemmas.{match_may, match_failed, match_some, match_cases, match_made, may_bind_as, binds_as, one_weight, cases_is, none_is, not_full}
@@ -50,6 +51,10 @@ nothing_left (x ∷ xs) h = absurd (omega (arith, h))
 ends_short : (xs : List Tree) (b : Bool) → b ≡ (length xs == 0) → b ≡ false → 0 < count_of (formulas_of_trees xs)
 ends_short [] b is e = absurd (true≢false (sym is ∙ e))
 ends_short (x ∷ xs) b is e = omega arith
+
+ends_last : (xs : List Tree) (b : Bool) → b ≡ (length xs == 0) → b ≡ true → count_of (formulas_of_trees xs) ≡ 0
+ends_last [] b is e = refl
+ends_last (x ∷ xs) b is e = absurd (omega (arith, (Decides-eqb (length (x ∷ xs)) 0).0 (sym is ∙ e)))
 
 pub compile_all-loop-rest-init : goal.compile_all-loop-rest-init
 compile_all-loop-rest-init t c =
@@ -84,8 +89,9 @@ compile_all-returns-in_err-next-clause-outcome t c =
     let more = formulas_of_trees (take (length loop.rest.now - 1) (drop 1 loop.rest.now)) in
     let split = subst (λ (xs : List Tree). Collects c.args.scope.now.sig (map formula_of c.args.scope.now.bodies) c.args.below c.args.table.now loop.table c.args.env.now c.args.operator (formulas_of_trees c.args.trees.now) loop.args loop.lead (formulas_of_trees xs)) (rest_item loop.rest.now c.tree-item.result c.in-len1-up.len_at_least c.tree-item.is) loop.invariant.0 in
     let is_end : c.is_empty.result ≡ false → 0 < count_of more = λ e. ends_short (take (length loop.rest.now - 1) (drop 1 loop.rest.now)) c.is_empty.result c.is_empty.ensures e in
+    let is_last : c.is_empty.result ≡ true → count_of more ≡ 0 = λ e. ends_last (take (length loop.rest.now - 1) (drop 1 loop.rest.now)) c.is_empty.result c.is_empty.ensures e in
     let p = err_from_is_err_and c.from_residual-in_err-next.result c.from_residual-in_err-next.ensures.1 in
-    rw (p.1, p.2) (collects_broken c.args.scope.now.sig (map formula_of c.args.scope.now.bodies) c.args.below c.args.table.now loop.table c.args.env.now c.args.operator (formulas_of_trees c.args.trees.now) loop.args loop.lead (formula_of c.tree-item.result) more split c.compile_tree.new.table c.in_ok-term.term c.in_ok-term.ensures.outcome c.is_empty.result is_end c.follow.new.table _ c.in_err-next.ensures.outcome _ refl)
+    rw (p.1, p.2) (collects_broken c.args.scope.now.sig (map formula_of c.args.scope.now.bodies) c.args.below c.args.table.now loop.table c.args.env.now c.args.operator (formulas_of_trees c.args.trees.now) loop.args loop.lead (formula_of c.tree-item.result) more split c.compile_tree.new.table c.in_ok-term.term c.in_ok-term.ensures.outcome c.is_empty.result is_end is_last c.follow.new.table _ c.in_err-next.ensures.outcome _ refl)
 
 pub compile_all-returns-in_err-push-clause-outcome : goal.compile_all-returns-in_err-push-clause-outcome
 compile_all-returns-in_err-push-clause-outcome t c =
@@ -93,8 +99,9 @@ compile_all-returns-in_err-push-clause-outcome t c =
     let more = formulas_of_trees (take (length loop.rest.now - 1) (drop 1 loop.rest.now)) in
     let split = subst (λ (xs : List Tree). Collects c.args.scope.now.sig (map formula_of c.args.scope.now.bodies) c.args.below c.args.table.now loop.table c.args.env.now c.args.operator (formulas_of_trees c.args.trees.now) loop.args loop.lead (formulas_of_trees xs)) (rest_item loop.rest.now c.tree-item.result c.in-len1-up.len_at_least c.tree-item.is) loop.invariant.0 in
     let is_end : c.is_empty.result ≡ false → 0 < count_of more = λ e. ends_short (take (length loop.rest.now - 1) (drop 1 loop.rest.now)) c.is_empty.result c.is_empty.ensures e in
+    let is_last : c.is_empty.result ≡ true → count_of more ≡ 0 = λ e. ends_last (take (length loop.rest.now - 1) (drop 1 loop.rest.now)) c.is_empty.result c.is_empty.ensures e in
     let p = err_from_is_err_and c.from_residual-in_err-push.result c.from_residual-in_err-push.ensures.1 in
-    let next = collects_more c.args.scope.now.sig (map formula_of c.args.scope.now.bodies) c.args.below c.args.table.now loop.table c.args.env.now c.args.operator (formulas_of_trees c.args.trees.now) loop.args loop.lead (formula_of c.tree-item.result) more split c.compile_tree.new.table c.in_ok-term.term c.in_ok-term.ensures.outcome c.is_empty.result is_end c.follow.new.table _ c.in_ok-next.ensures.outcome c.in_ok-next.next refl in
+    let next = collects_more c.args.scope.now.sig (map formula_of c.args.scope.now.bodies) c.args.below c.args.table.now loop.table c.args.env.now c.args.operator (formulas_of_trees c.args.trees.now) loop.args loop.lead (formula_of c.tree-item.result) more split c.compile_tree.new.table c.in_ok-term.term c.in_ok-term.ensures.outcome c.is_empty.result is_end is_last c.follow.new.table _ c.in_ok-next.ensures.outcome c.in_ok-next.next refl in
     rw p.1 (collects_out c.args.scope.now.sig (map formula_of c.args.scope.now.bodies) c.args.below c.args.table.now c.follow.new.table c.args.env.now c.args.operator (formulas_of_trees c.args.trees.now) _ _ more next p.0 p.2)
 
 pub compile_all-loop-rest-preserved : goal.compile_all-loop-rest-preserved
@@ -103,8 +110,9 @@ compile_all-loop-rest-preserved t c =
     let more = formulas_of_trees (take (length loop.rest.now - 1) (drop 1 loop.rest.now)) in
     let split = subst (λ (xs : List Tree). Collects c.args.scope.now.sig (map formula_of c.args.scope.now.bodies) c.args.below c.args.table.now loop.table c.args.env.now c.args.operator (formulas_of_trees c.args.trees.now) loop.args loop.lead (formulas_of_trees xs)) (rest_item loop.rest.now c.tree-item.result c.in-len1-up.len_at_least c.tree-item.is) loop.invariant.0 in
     let is_end : c.is_empty.result ≡ false → 0 < count_of more = λ e. ends_short (take (length loop.rest.now - 1) (drop 1 loop.rest.now)) c.is_empty.result c.is_empty.ensures e in
-    let next = collects_more c.args.scope.now.sig (map formula_of c.args.scope.now.bodies) c.args.below c.args.table.now loop.table c.args.env.now c.args.operator (formulas_of_trees c.args.trees.now) loop.args loop.lead (formula_of c.tree-item.result) more split c.compile_tree.new.table c.in_ok-term.term c.in_ok-term.ensures.outcome c.is_empty.result is_end c.follow.new.table _ c.in_ok-next.ensures.outcome c.in_ok-next.next refl in
-    let g = collects_grown c.args.scope.now.sig (map formula_of c.args.scope.now.bodies) c.args.below c.args.table.now loop.table c.args.env.now c.args.operator (formulas_of_trees c.args.trees.now) loop.args loop.lead (formula_of c.tree-item.result) more split c.compile_tree.new.table c.in_ok-term.term c.in_ok-term.ensures.outcome c.is_empty.result is_end c.follow.new.table _ c.in_ok-next.ensures.outcome in (
+    let is_last : c.is_empty.result ≡ true → count_of more ≡ 0 = λ e. ends_last (take (length loop.rest.now - 1) (drop 1 loop.rest.now)) c.is_empty.result c.is_empty.ensures e in
+    let next = collects_more c.args.scope.now.sig (map formula_of c.args.scope.now.bodies) c.args.below c.args.table.now loop.table c.args.env.now c.args.operator (formulas_of_trees c.args.trees.now) loop.args loop.lead (formula_of c.tree-item.result) more split c.compile_tree.new.table c.in_ok-term.term c.in_ok-term.ensures.outcome c.is_empty.result is_end is_last c.follow.new.table _ c.in_ok-next.ensures.outcome c.in_ok-next.next refl in
+    let g = collects_grown c.args.scope.now.sig (map formula_of c.args.scope.now.bodies) c.args.below c.args.table.now loop.table c.args.env.now c.args.operator (formulas_of_trees c.args.trees.now) loop.args loop.lead (formula_of c.tree-item.result) more split c.compile_tree.new.table c.in_ok-term.term c.in_ok-term.ensures.outcome c.is_empty.result is_end is_last c.follow.new.table _ c.in_ok-next.ensures.outcome in (
       subst (λ (args : List TermId). Collects c.args.scope.now.sig (map formula_of c.args.scope.now.bodies) c.args.below c.args.table.now c.follow.new.table c.args.env.now c.args.operator (formulas_of_trees c.args.trees.now) args (Some c.in_ok-next.next) more) (sym c.in_ok-push.ensures.ok) next,
       state_stays c.args.scope.now.sig (map formula_of c.args.scope.now.bodies) (worked_in c.args.definitions.now) c.args.below c.compile_tree.new.table c.follow.new.table c.compile_tree.new.known g.0 g.1 c.in_ok-term.ensures.state,
       subst (AreNoted c.args.scope.now.sig (worked_in c.args.definitions.now) (uses_below c.args.scope.now.sig (map formula_of c.args.scope.now.bodies) c.args.below) more) (sym c.later_notes-left.ensures.value) (subst (λ (xs : List Tree). AreNoted c.args.scope.now.sig (worked_in c.args.definitions.now) (uses_below c.args.scope.now.sig (map formula_of c.args.scope.now.bodies) c.args.below) (formulas_of_trees xs) loop.left.now) (rest_item loop.rest.now c.tree-item.result c.in-len1-up.len_at_least c.tree-item.is) loop.invariant.2).1,
@@ -140,7 +148,7 @@ compile_plain-combine-requires-clause-operands t c =
 
 pub compile_plain-returns-clause-outcome : goal.compile_plain-returns-clause-outcome
 compile_plain-returns-clause-outcome t c =
-    plain_made c.args.scope.now.sig (map formula_of c.args.scope.now.bodies) c.args.below c.args.table.now c.args.env.now (formula_of c.args.tree.now) (formulas_of_trees c.args.trees.now) c.requires.plain c.args.operator c.requires.operator c.requires.under c.compile_all.new.table c.in_ok-args.args c.in_ok-args.ensures.outcome c.combine.new.table c.combine.result c.combine.ensures.core c.combine.ensures.effect
+    plain_made c.args.scope.now.sig (map formula_of c.args.scope.now.bodies) c.args.below c.args.table.now c.args.env.now (formula_of c.args.tree.now) (formulas_of_trees c.args.trees.now) c.requires.plain c.args.operator c.requires.operator c.requires.under c.compile_all.new.table c.in_ok-args.args c.in_ok-args.ensures.outcome c.combine.new.table c.combine.result c.combine.ensures.core c.combine.ensures.effect c.combine.ensures.order
 
 pub compile_plain-returns-clause-state : goal.compile_plain-returns-clause-state
 compile_plain-returns-clause-state t c =
@@ -245,7 +253,7 @@ pub compile_call-returns-in-Some-clause-outcome : goal.compile_call-returns-in-S
 compile_call-returns-in-Some-clause-outcome t c =
     let call_is : c.in_ok-call.call ≡ call_of c.args.k c.in_ok-bounds.bounds = c.in_ok-call.ensures.call ∙ ap (call_of c.args.k) c.as_slice.ensures.value in
     let known : IsRecalled c.args.scope.now.sig (map formula_of c.args.scope.now.bodies) (worked_in c.args.definitions.now) c.compile_bound.new.table (call_of c.args.k c.in_ok-bounds.bounds) c.in-Some.term = subst (λ (x : Called). IsRecalled c.args.scope.now.sig (map formula_of c.args.scope.now.bodies) (worked_in c.args.definitions.now) c.compile_bound.new.table x c.in-Some.term) call_is (c.in_ok-bounds.ensures.state.recalls c.in_ok-call.call c.in-Some.term (sym c.known_term.ensures.value ∙ c.in-Some.is)) in
-    under_known c.args.scope.now.sig (map formula_of c.args.scope.now.bodies) c.args.below c.args.k.0 c.args.table.now c.args.env.now [] c.row_at-row.result.now (Def c.args.k (formulas_of_trees c.args.trees.now)) (formulas_of_trees c.args.trees.now) (formula_of c.body_at-body.result.now) (call_under c.args.scope.now.sig (map formula_of c.args.scope.now.bodies) c.args.below (worked_in c.args.definitions.now) c.args.table.now c.args.env.now c.args.k (formulas_of_trees c.args.trees.now) c.row_at-row.result.now c.row_at-row.ensures.value (formula_of c.body_at-body.result.now) c.body_at-body.ensures.value c.requires.state.have) c.compile_bound.new.table c.in_ok-bounds.bounds c.in_ok-bounds.ensures.outcome c.in-Some.term (known_stands c.args.scope.now.sig (map formula_of c.args.scope.now.bodies) c.args.below (worked_in c.args.definitions.now) c.args.table.now c.args.env.now c.args.k (formulas_of_trees c.args.trees.now) c.row_at-row.result.now c.row_at-row.ensures.value (formula_of c.body_at-body.result.now) c.body_at-body.ensures.value c.requires.state.have c.compile_bound.new.table c.in_ok-bounds.bounds c.in_ok-bounds.ensures.outcome c.in-Some.term known)
+    under_known c.args.scope.now.sig (map formula_of c.args.scope.now.bodies) c.args.below c.args.k.0 c.args.table.now c.args.env.now [] c.row_at-row.result.now (Def c.args.k (formulas_of_trees c.args.trees.now)) (formulas_of_trees c.args.trees.now) (formula_of c.body_at-body.result.now) (call_under c.args.scope.now.sig (map formula_of c.args.scope.now.bodies) c.args.below (worked_in c.args.definitions.now) c.args.table.now c.args.env.now c.args.k (formulas_of_trees c.args.trees.now) c.row_at-row.result.now c.row_at-row.ensures.value (formula_of c.body_at-body.result.now) c.body_at-body.ensures.value c.requires.state.have) c.compile_bound.new.table c.in_ok-bounds.bounds c.in_ok-bounds.ensures.outcome c.in-Some.term (known_stands c.args.scope.now.sig (map formula_of c.args.scope.now.bodies) c.args.below (worked_in c.args.definitions.now) c.args.table.now c.args.env.now c.args.k (formulas_of_trees c.args.trees.now) c.row_at-row.result.now c.row_at-row.ensures.value (formula_of c.body_at-body.result.now) c.body_at-body.ensures.value c.requires.state.have c.compile_bound.new.table c.in_ok-bounds.bounds c.in_ok-bounds.ensures.outcome c.in-Some.term known) (known_made c.args.scope.now.sig (map formula_of c.args.scope.now.bodies) c.args.below (worked_in c.args.definitions.now) c.args.table.now c.args.env.now c.args.k (formulas_of_trees c.args.trees.now) c.row_at-row.result.now c.row_at-row.ensures.value (formula_of c.body_at-body.result.now) c.body_at-body.ensures.value c.requires.state.have c.compile_bound.new.table c.in_ok-bounds.bounds c.in_ok-bounds.ensures.outcome c.in-Some.term known)
 
 pub compile_call-returns-in_err-inner-clause-outcome : goal.compile_call-returns-in_err-inner-clause-outcome
 compile_call-returns-in_err-inner-clause-outcome t c =
@@ -285,7 +293,7 @@ compile_call-returns-clause-state t c =
     let whole = under_made c.args.scope.now.sig (map formula_of c.args.scope.now.bodies) c.args.below c.args.k.0 c.args.table.now c.args.env.now [] c.row_at-row.result.now (Def c.args.k (formulas_of_trees c.args.trees.now)) (formulas_of_trees c.args.trees.now) (formula_of c.body_at-body.result.now) (call_under c.args.scope.now.sig (map formula_of c.args.scope.now.bodies) c.args.below (worked_in c.args.definitions.now) c.args.table.now c.args.env.now c.args.k (formulas_of_trees c.args.trees.now) c.row_at-row.result.now c.row_at-row.ensures.value (formula_of c.body_at-body.result.now) c.body_at-body.ensures.value c.requires.state.have) c.compile_bound.new.table c.in_ok-bounds.bounds c.in_ok-bounds.ensures.outcome c.compile_tree.new.table (Ok c.in_ok-term.term) one in
     let g = compiles_grown c.args.scope.now.sig (map formula_of c.args.scope.now.bodies) c.args.k.0 c.compile_bound.new.table c.compile_tree.new.table _ _ (Ok c.in_ok-term.term) (under_body c.args.scope.now.sig (map formula_of c.args.scope.now.bodies) c.args.below c.args.k.0 c.args.table.now c.args.env.now [] c.row_at-row.result.now (Def c.args.k (formulas_of_trees c.args.trees.now)) (formulas_of_trees c.args.trees.now) (formula_of c.body_at-body.result.now) (call_under c.args.scope.now.sig (map formula_of c.args.scope.now.bodies) c.args.below (worked_in c.args.definitions.now) c.args.table.now c.args.env.now c.args.k (formulas_of_trees c.args.trees.now) c.row_at-row.result.now c.row_at-row.ensures.value (formula_of c.body_at-body.result.now) c.body_at-body.ensures.value c.requires.state.have) c.compile_bound.new.table c.in_ok-bounds.bounds c.in_ok-bounds.ensures.outcome c.requires.ready) one in
     let may = c.requires.ready in
-    let recalled = call_recalled c.args.scope.now.sig (map formula_of c.args.scope.now.bodies) c.args.below (worked_in c.args.definitions.now) c.args.table.now c.args.env.now c.args.k (formulas_of_trees c.args.trees.now) c.row_at-row.result.now c.row_at-row.ensures.value (formula_of c.body_at-body.result.now) c.body_at-body.ensures.value c.requires.state.have c.compile_bound.new.table c.in_ok-bounds.bounds c.in_ok-bounds.ensures.outcome c.compile_tree.new.table c.in_ok-term.term g.0 g.1 may.0 may.1 may.2 may.3 (whole.core may.0 may.1 may.2 may.3) in
+    let recalled = call_recalled c.args.scope.now.sig (map formula_of c.args.scope.now.bodies) c.args.below (worked_in c.args.definitions.now) c.args.table.now c.args.env.now c.args.k (formulas_of_trees c.args.trees.now) c.row_at-row.result.now c.row_at-row.ensures.value (formula_of c.body_at-body.result.now) c.body_at-body.ensures.value c.requires.state.have c.compile_bound.new.table c.in_ok-bounds.bounds c.in_ok-bounds.ensures.outcome c.compile_tree.new.table c.in_ok-term.term g.0 g.1 may.0 may.1 may.2 may.3 (whole.core may.0 may.1 may.2 may.3) (under_has c.args.scope.now.sig (map formula_of c.args.scope.now.bodies) c.args.below c.args.k.0 c.args.table.now c.args.env.now [] c.row_at-row.result.now (Def c.args.k (formulas_of_trees c.args.trees.now)) (formulas_of_trees c.args.trees.now) (formula_of c.body_at-body.result.now) (call_under c.args.scope.now.sig (map formula_of c.args.scope.now.bodies) c.args.below (worked_in c.args.definitions.now) c.args.table.now c.args.env.now c.args.k (formulas_of_trees c.args.trees.now) c.row_at-row.result.now c.row_at-row.ensures.value (formula_of c.body_at-body.result.now) c.body_at-body.ensures.value c.requires.state.have) c.compile_bound.new.table c.in_ok-bounds.bounds c.in_ok-bounds.ensures.outcome c.compile_tree.new.table c.in_ok-term.term g.1 one may.0 may.1 may.2 may.3) in
     state_with c.args.scope.now.sig (map formula_of c.args.scope.now.bodies) (worked_in c.args.definitions.now) c.args.below c.compile_tree.new.table c.compile_tree.new.known c.remember.new.known c.in_ok-call.call c.in_ok-term.term
     (state_back c.args.scope.now.sig (map formula_of c.args.scope.now.bodies) (worked_in c.args.definitions.now) c.args.k.0 c.args.below c.compile_bound.new.table c.compile_tree.new.table c.compile_bound.new.known c.compile_tree.new.known c.in_ok-bounds.ensures.state c.in_ok-term.ensures.state)
     (subst (λ (x : Called). IsRecalled c.args.scope.now.sig (map formula_of c.args.scope.now.bodies) (worked_in c.args.definitions.now) c.compile_tree.new.table x c.in_ok-term.term) (sym call_is) recalled)

@@ -1,0 +1,168 @@
+-- The order in which compiling a formula makes terms. Bindings, arguments of definitions and matched terms that occur come
+-- before the body, in order. Else what stands under a term comes before the term, from left to right.
+use Rattle.std.specs.Prelude.{◌≡◌, ◌⊎◌, ℕ, zero, suc, Bool, ◌||◌, ◌==◌, List, [], ◌∷◌, ◌++◌, length, map, Option, Some, None, slice_get, if◌then◌else◌}
+use Rattle.std.specs.List.{AllByRecursion, fold}
+use Rattle.ct_sorts.specs.declared.ids.CtorId.{CtorId}
+use Rattle.ct_sorts.specs.declared.ids.DefId.{DefId}
+use Rattle.ct_sorts.specs.declared.ids.SortId.{SortId}
+use Rattle.ct_sorts.specs.Declarations.{Declarations}
+use Rattle.ct_terms.specs.declared.ids.TermId.{TermId}
+use Rattle.ct_terms.specs.declared.term.Core.{Core}
+use Rattle.ct_terms.specs.declared.tree.Pattern.TheVariants.{Ctor, Any}
+use Rattle.ct_terms.specs.Terms.{Terms}
+use Rattle.ct_terms.specs.CoreTree.{CoreTree, test, negation, conjunction, disjunction, equivalence, choice, trees_of, no_term}
+use Rattle.ct_terms.specs.Formula.{Formula, Formulas, Cases, Var, Con, Sel, Test, Apply, Def, Not, And, Or, Xor, Implies, Equal, Distinct, Ite, Let, Match, no_formulas, with_formula, no_cases, with_case, bind}
+use Rattle.ct_terms.specs.Pairs.{neighbours, pairs}
+use Rattle.ct_terms.specs.Calls.{calls_below}
+use Rattle.ct_terms.specs.Compiled.{equality, fields_of, surely_fits, are_none, compiled, compiled_all, compiled_cases}
+use Rattle.ct_terms.specs.Occurrence.{count_of, occurs, matched_occurs, uses_below}
+use Rattle.ct_compile.specs.declared.operator.Operator.{Operator}
+use Rattle.ct_compile.specs.declared.operator.Operator.TheVariants.{Construct, Select, Inspect, Call, Negation, Conjunction, Disjunction, Exclusion, Implication, Equality, Inequality}
+use Rattle.ct_compile.specs.Effect.{Stands, IsMissing}
+use Rattle.ct_compile.specs.Forms.{combined}
+
+-- ---- tables
+
+-- the tree is one of the table
+abbrev pub HasTree : Terms → CoreTree → Type 0
+HasTree table t = (u : TermId) × Stands table u t
+
+abbrev pub HasTrees : Terms → List CoreTree → Type 0
+HasTrees table ts = AllByRecursion (HasTree table) ts
+
+-- the table has grown, in order, by those of the trees that it did not have
+abbrev pub Makes : Terms → List CoreTree → Terms → Type 0
+Makes old [] new = new ≡ old
+Makes old (t ∷ ts) new = (HasTree old t × Makes old ts new) ⊎ (IsMissing old t × ((entry : Core × SortId) × Stands (old ++ entry ∷ []) (record { 0 = length old }) t × Makes (old ++ entry ∷ []) ts new))
+
+-- ---- terms over terms
+
+-- a core term, and what is made for it, in order
+pub record Made : Type 0 where
+  pub making : List CoreTree
+  pub term : CoreTree
+
+-- a term that is there
+abbrev pub leaf : CoreTree → Made
+leaf t = record { making = []; term = t }
+
+abbrev pub terms : List Made → List CoreTree
+terms ps = map (λ p. p.term) ps
+
+-- what is made for several, from left to right
+abbrev pub made_for : List Made → List CoreTree
+made_for [] = []
+made_for (p ∷ ps) = p.making ++ made_for ps
+
+-- a term after those under it
+abbrev pub over : List Made → CoreTree → Made
+over ps t = record { making = made_for ps ++ t ∷ []; term = t }
+
+abbrev pub made_negation : Made → Made
+made_negation p = over (p ∷ []) (negation p.term)
+
+abbrev pub made_equality : Declarations → Made → Made → Made
+made_equality d p q = over (p ∷ (q ∷ [])) (equality d p.term q.term)
+
+abbrev pub made_inequality : Declarations → Made → Made → Made
+made_inequality d p q = made_negation (made_equality d p q)
+
+abbrev pub made_exclusive : Made → Made → Made
+made_exclusive p q = made_negation (over (p ∷ (q ∷ [])) (equivalence p.term q.term))
+
+abbrev pub made_implied : Made → List Made → Made
+made_implied p [] = p
+made_implied p (q ∷ qs) = over (made_negation p ∷ (made_implied q qs ∷ [])) (disjunction (trees_of (negation p.term ∷ ((made_implied q qs).term ∷ []))))
+
+-- one term alone is itself
+abbrev pub made_all : List Made → Made
+made_all (p ∷ []) = p
+made_all ps = over ps (conjunction (trees_of (terms ps)))
+
+abbrev pub made_any : List Made → Made
+made_any (p ∷ []) = p
+made_any ps = over ps (disjunction (trees_of (terms ps)))
+
+abbrev pub made_exclusive_of : List Made → Made
+made_exclusive_of [] = over [] no_term
+made_exclusive_of (p ∷ ps) = fold made_exclusive p ps
+
+abbrev pub made_implication_of : List Made → Made
+made_implication_of [] = over [] no_term
+made_implication_of (p ∷ ps) = made_implied p ps
+
+-- the core term of an operator, after those of the formulas under it
+abbrev pub made_by : Declarations → Operator → List Made → Made
+made_by d Conjunction ps = made_all ps
+made_by d Disjunction ps = made_any ps
+made_by d Exclusion ps = made_exclusive_of ps
+made_by d Implication ps = made_implication_of ps
+made_by d Equality ps = made_all (neighbours (made_equality d) ps)
+made_by d Inequality ps = made_all (pairs (made_inequality d) ps)
+made_by d (Construct c) ps = over ps (combined d (Construct c) (terms ps))
+made_by d (Select s) ps = over ps (combined d (Select s) (terms ps))
+made_by d (Inspect c) ps = over ps (combined d (Inspect c) (terms ps))
+made_by d (Call f) ps = over ps (combined d (Call f) (terms ps))
+made_by d Negation ps = over ps (combined d Negation (terms ps))
+
+-- ---- formulas
+
+-- of definitions: the variables that occur in their bodies, and for arguments their core terms and what is made for these
+pub record Defined : Type 0 where
+  pub uses : DefId → ℕ → Bool
+  pub gives : DefId → List CoreTree → CoreTree
+  pub makes : DefId → List CoreTree → List CoreTree
+
+abbrev mutual
+  -- what is made for a formula, where each variable stands for a core term that is there or is a field of one: one line a form
+  pub making : Declarations → Defined → List CoreTree → Formula → List CoreTree
+  making d defs env (Var i) = compiled d defs.gives env (Var i) ∷ []
+  making d defs env (Con c ts) = (made_by d (Construct c) (made_each d defs env ts)).making
+  making d defs env (Sel s t) = (made_by d (Select s) (record { making = making d defs env t; term = compiled d defs.gives env t } ∷ [])).making
+  making d defs env (Test c t) = (made_by d (Inspect c) (record { making = making d defs env t; term = compiled d defs.gives env t } ∷ [])).making
+  making d defs env (Apply f ts) = (made_by d (Call f) (made_each d defs env ts)).making
+  making d defs env (Def k ts) = making_bound d defs env (defs.uses k) ts ++ defs.makes k (compiled_all d defs.gives env ts)
+  making d defs env (Not t) = (made_by d Negation (record { making = making d defs env t; term = compiled d defs.gives env t } ∷ [])).making
+  making d defs env (And ts) = (made_by d Conjunction (made_each d defs env ts)).making
+  making d defs env (Or ts) = (made_by d Disjunction (made_each d defs env ts)).making
+  making d defs env (Xor ts) = (made_by d Exclusion (made_each d defs env ts)).making
+  making d defs env (Implies ts) = (made_by d Implication (made_each d defs env ts)).making
+  making d defs env (Equal ts) = (made_by d Equality (made_each d defs env ts)).making
+  making d defs env (Distinct ts) = (made_by d Inequality (made_each d defs env ts)).making
+  making d defs env (Ite c t u) = making d defs env c ++ (making d defs env t ++ (making d defs env u ++ compiled d defs.gives env (Ite c t u) ∷ []))
+  making d defs env (Let ts u) = making_bound d defs env (occurs d defs.uses u) ts ++ making d defs (bind (compiled_all d defs.gives env ts) env) u
+  making d defs env (Match t cases) = (if matched_occurs d defs.uses [] cases then making d defs env t else []) ++ making_cases d defs env (compiled d defs.gives env t) [] cases
+
+  -- the core terms of several formulas
+  pub made_each : Declarations → Defined → List CoreTree → Formulas → List Made
+  made_each d defs env no_formulas = []
+  made_each d defs env (with_formula t ts) = record { making = making d defs env t; term = compiled d defs.gives env t } ∷ made_each d defs env ts
+
+  -- what is made for those that are bound to variables of the test; the last of them is variable 0
+  pub making_bound : Declarations → Defined → List CoreTree → (ℕ → Bool) → Formulas → List CoreTree
+  making_bound d defs env inner no_formulas = []
+  making_bound d defs env inner (with_formula t ts) = (if inner (count_of ts) then making d defs env t else []) ++ making_bound d defs env inner ts
+
+  -- what is made for the cases of a `match` of this term, after cases of the constructors `earlier`
+  pub making_cases : Declarations → Defined → List CoreTree → CoreTree → List CtorId → Cases → List CoreTree
+  making_cases d defs env t earlier no_cases = []
+  making_cases d defs env t earlier (with_case Any body cases) = making d defs (t ∷ env) body
+  making_cases d defs env t earlier (with_case (Ctor c) body cases) = if surely_fits d earlier c || are_none cases then making d defs (bind (fields_of d c t) env) body else test c t ∷ (making d defs (bind (fields_of d c t) env) body ++ (making_cases d defs env t (c ∷ earlier) cases ++ choice (test c t) (compiled d defs.gives (bind (fields_of d c t) env) body) (compiled_cases d defs.gives env t (c ∷ earlier) cases) ∷ []))
+
+-- what is made for a body with these arguments
+abbrev pub body_makes : Declarations → Defined → Option Formula → List CoreTree → List CoreTree
+body_makes d defs None args = []
+body_makes d defs (Some body) args = making d defs (bind args []) body
+
+-- what is made for the definitions below a number
+unfoldable pub makes_below : Declarations → List Formula → ℕ → DefId → List CoreTree → List CoreTree
+makes_below d bodies zero k args = []
+makes_below d bodies (suc n) k args = if k.0 == n then body_makes d (record { uses = uses_below d bodies n; gives = calls_below (compiled d) no_term bodies n; makes = makes_below d bodies n }) (slice_get bodies n) args else makes_below d bodies n k args
+
+-- the definitions below a number
+abbrev pub defined : Declarations → List Formula → ℕ → Defined
+defined d bodies n = record { uses = uses_below d bodies n; gives = calls_below (compiled d) no_term bodies n; makes = makes_below d bodies n }
+
+-- what is made for a formula over definitions with these bodies
+abbrev pub making_of : Declarations → List Formula → List CoreTree → Formula → List CoreTree
+making_of d bodies env t = making d (defined d bodies (length bodies)) env t
