@@ -232,7 +232,7 @@ module _ (d : Declarations) (bodies : List Formula) (n : ℕ) (env : List Bound)
               let whole = core trees (Ite c t u) in
               IfOk-weaker r (λ x. Stands new x (choice (term_at m3 a) (term_at m3 b) (term_at m3 v))) (λ x. Makes old (making d defs trees (Ite c t u)) new)
               (λ x k.
-              let e = effect (subtrees (choice (term_at m3 a) (term_at m3 b) (term_at m3 v))) (within_itself h.setting.kept.laws _ _ (within_subtrees (choice (term_at m3 a) (term_at m3 b) (term_at m3 v)))) in
+              let e = effect (subtrees (choice (term_at m3 a) (term_at m3 b) (term_at m3 v))) (within_itself h.setting.kept.laws (subtrees (choice (term_at m3 a) (term_at m3 b) (term_at m3 v))) (choice (term_at m3 a) (term_at m3 b) (term_at m3 v)) (within_subtrees (choice (term_at m3 a) (term_at m3 b) (term_at m3 v)))) in
               let last = makes_one d m3 new whole _ (subst (λ (y : CoreTree). Effect d (subtrees y) m3 new (IsErrOf r Full)) (layer trees sorts sort h) e) ((a, stand_1 trees sorts sort h), ((b, stand_2 trees sorts sort h), ((v, stand_3 trees sorts sort h), tt))) (x, stands_as new x _ _ (layer trees sorts sort h) k) in
               makes_then (making d defs trees c) (making d defs trees t ++ (making d defs trees u ++ whole ∷ [])) old m1 new (first.order trees sorts bool_sort (condition_ready old trees sorts sort h))
               (makes_then (making d defs trees t) (making d defs trees u ++ whole ∷ []) m1 m2 new (second.order trees sorts sort (then_ready m1 trees sorts sort (ready_1 trees sorts sort h)))

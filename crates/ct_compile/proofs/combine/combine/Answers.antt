@@ -11,6 +11,7 @@ use Rattle.ct_terms.specs.Compiled.{all_of, exclusive_of, implication_of, equali
 use Rattle.ct_compile.specs.declared.operator.Operator.{Operator}
 use Rattle.ct_compile.specs.declared.operator.Operator.TheVariants.{Construct, Select, Inspect, Call, Negation, Conjunction, Disjunction, Exclusion, Implication, Equality, Inequality}
 use Rattle.ct_compile.specs.Effect.{Stands, Within}
+use Rattle.ct_compile.specs.Making.{Makes, leaf, made_by}
 use Rattle.ct_compile.specs.Forms.{combined, AllHaveSort, AreOperands}
 use Rattle.ct_compile.proofs.WithinLemmas.{within_itself}
 use Rattle.ct_compile.proofs.OperatorLemmas.{stands_as}
@@ -245,3 +246,11 @@ returns-in-Negation-clause-effect c = λ allowed w.
     let us = map f c.args.args in
     let inside : Within allowed (combined d Negation us) = subst (λ (x : Operator). Within allowed (combined d x us)) c.in-Negation.is w in
     c.negated.ensures.effect allowed (subst (λ (u : CoreTree). Contains allowed (negation u)) (first_tree f c.args.args c.first-in-Negation.result _ c.first-in-Negation.ensures.value) (within_itself c.requires.kept.laws allowed _ inside))
+
+pub returns-in-Inequality-clause-order : goal.returns-in-Inequality-clause-order
+returns-in-Inequality-clause-order c = λ e.
+    let d = c.args.sig.now in
+    let f = term_at c.args.table.now in
+    IfOk-weaker c.distinct_of.result _ (λ t. Makes c.args.table.now (made_by d Inequality (map leaf (map f c.args.args))).making c.distinct_of.new.table)
+    (λ t h. subst (λ (ts : List TermId). Makes c.args.table.now (made_by d Inequality (map leaf (map f ts))).making c.distinct_of.new.table) c.as_slice-in-Inequality.ensures.value h)
+    c.distinct_of.ensures.order
