@@ -149,8 +149,7 @@ regroup xs ys zs w ws =
 choice_rises : (laws : Laws) (table : Terms) (a b : TermId) (now later : CoreTree) (ends : List CoreTree) (whole : CoreTree) → AreOrdered table → a.0 < length table → b.0 < length table → now ≡ choice (term_at table a) (term_at table b) later → Rises table now ends whole → Rises table later (now ∷ ends) whole
 choice_rises laws table a b now later ends whole ordered a_in b_in is r =
     let up = choice (term_at table a) (term_at table b) later in
-    let under : Contains (subtrees up) later = within_itself laws (subtrees up) later (within_choice (subtrees up) (term_at table a) (term_at table b) later (within_subtrees up)).1.1 in
-    (
+    let under : Contains (subtrees up) later = within_itself laws (subtrees up) later (within_choice (subtrees up) (term_at table a) (term_at table b) later (within_subtrees up)).1.1 in (
       subst (λ (x : CoreTree). Contains (subtrees x) later) (sym is) under,
       (
         λ s c. elim (subterm_cases laws now s c) [

@@ -15,7 +15,7 @@ use Rattle.ct_terms.specs.Compiled.{compiled, compiled_all}
 use Rattle.ct_compile.specs.declared.bound.Bound.{Bound}
 use Rattle.ct_terms.specs.Occurrence.{count_of}
 use Rattle.ct_compile.specs.Effect.{Stands, AllStand, IsKept, Within, AllWithin, IsPrefix, Effect}
-use Rattle.ct_compile.specs.Making.{HasTree, HasTrees, Makes, Made, leaf, terms, made_by, making, made_each, defined}
+use Rattle.ct_compile.specs.Making.{HasTree, HasTrees, Makes, leaf, terms, made_by, making, made_each, defined}
 use Rattle.ct_compile.specs.Following.{leading, between, woven, IsLeading, IsFollowing, MayFollow, Follows}
 use Rattle.ct_compile.specs.declared.operator.Operator.{Operator}
 use Rattle.ct_compile.specs.declared.operator.Operator.TheVariants.{Inequality}

@@ -12,7 +12,7 @@ use Rattle.ct_terms.specs.declared.term.Core.{Core}
 use Rattle.ct_terms.specs.Terms.{Terms, AreOrdered, AreSingle}
 use Rattle.ct_terms.specs.CoreTree.{CoreTree, tree_children, subtrees, term_at}
 use Rattle.ct_compile.specs.Laws.{Laws}
-use Rattle.ct_compile.specs.Effect.{Stands, IsKept, IsPrefix, IsMissing, Effect}
+use Rattle.ct_compile.specs.Effect.{Stands, IsPrefix, Effect}
 use Rattle.ct_compile.specs.Making.{HasTree, HasTrees, Makes}
 use Rattle.ct_compile.proofs.EffectLemmas.{prefix_length, prefix_trans}
 use Rattle.ct_compile.proofs.WithinLemmas.{Contains-first, Contains-rest}
@@ -144,11 +144,11 @@ module _ (laws : Laws) (new : Terms) (ordered : AreOrdered new) (single : AreSin
         | inl below ↦ inl (
           (u, (below, sym (longer_tree laws old new u grown ordered below) ∙ stands.1)),
           forced xs old grown
-          (λ t from to. elim (Contains-cons x xs (term_at new t) (adds t from to)) [
-            | inl e ↦ absurd (let same = one_number u t stands.0 to (stands.1 ∙ e) in omega (arith, same, below, from))
-            | inr rest ↦ rest
-          ])
-          there.1 climbs.1,
+              (λ t from to. elim (Contains-cons x xs (term_at new t) (adds t from to)) [
+                | inl e ↦ absurd (let same = one_number u t stands.0 to (stands.1 ∙ e) in omega (arith, same, below, from))
+                | inr rest ↦ rest
+              ])
+              there.1 climbs.1,
         )
         | inr over ↦
             let first : u.0 ≤ length old = elim (Contains-cons x xs (term_at new (id (length old))) (adds (id (length old)) (omega arith) (omega (arith, over, stands.0)))) [
@@ -162,14 +162,14 @@ module _ (laws : Laws) (new : Terms) (ordered : AreOrdered new) (single : AreSin
             inr (
               (λ t within e. absurd (let same = one_number u t stands.0 (omega (arith, within, prefix_length old new grown)) (stands.1 ∙ sym e ∙ sym (longer_tree laws old new t grown ordered within)) in omega (arith, same, within, over))),
               next_new x xs old grown.0 u grown.1 over stands first (λ entry longer.
-              forced xs (old ++ entry ∷ []) longer
-              (λ t from to.
-              let past : suc (length old) ≤ t.0 = omega (arith, from, length-append old (entry ∷ [])) in
-              elim (Contains-cons x xs (term_at new t) (adds t (omega (arith, past)) to)) [
-                | inl e ↦ absurd (let same = one_number u t stands.0 to (stands.1 ∙ e) in omega (arith, same, past, first))
-                | inr rest ↦ rest
-              ])
-              there.1 climbs.1),
+                  forced xs (old ++ entry ∷ []) longer
+                  (λ t from to.
+                  let past : suc (length old) ≤ t.0 = omega (arith, from, length-append old (entry ∷ [])) in
+                  elim (Contains-cons x xs (term_at new t) (adds t (omega (arith, past)) to)) [
+                    | inl e ↦ absurd (let same = one_number u t stands.0 to (stands.1 ∙ e) in omega (arith, same, past, first))
+                    | inr rest ↦ rest
+                  ])
+                  there.1 climbs.1),
             )
       ]
 

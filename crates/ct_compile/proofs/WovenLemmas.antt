@@ -1,21 +1,21 @@
 -- Operators: what is made while the terms under one are collected, and then, is what is made for its core term, in order.
-use Rattle.std.proofs.Common.{◌≡◌, ◌⊎◌, ℕ, ◌<◌, List, [], ◌∷◌, ◌++◌, length, map, Contains, refl, sym, ap, ap₂, subst, ◌∙◌, inl, inr, arith}
-use Rattle.std.specs.List.{AllByRecursion, fold}
+use Rattle.std.proofs.Common.{◌≡◌, ◌<◌, List, [], ◌∷◌, ◌++◌, length, map, Contains, refl, sym, ap, ap₂, subst, ◌∙◌, inl, inr, arith}
+use Rattle.std.specs.List.{fold}
 use Rattle.std.proofs.lemmas.List.{append-nil, append_assoc}
 use Rattle.ct_sorts.specs.Declarations.{Declarations}
 use Rattle.ct_terms.specs.Terms.{Terms, AreOrdered}
 use Rattle.ct_terms.specs.CoreTree.{CoreTree, con, apply, sel, test, negation, conjunction, disjunction, equivalence, trees_of, list_of_trees, subtrees}
-use Rattle.ct_terms.specs.Pairs.{neighbours_from, neighbours, pairs}
-use Rattle.ct_terms.specs.Compiled.{all_of, exclusive, exclusive_of, implied_from, equality, inequality}
+use Rattle.ct_terms.specs.Pairs.{neighbours_from, pairs}
+use Rattle.ct_terms.specs.Compiled.{exclusive, exclusive_of, implied_from, equality, inequality}
 use Rattle.ct_compile.specs.declared.operator.Operator.{Operator}
 use Rattle.ct_compile.specs.declared.operator.Operator.TheVariants.{Construct, Select, Inspect, Call, Negation, Conjunction, Disjunction, Exclusion, Implication, Equality, Inequality}
 use Rattle.ct_compile.specs.Laws.{Laws}
-use Rattle.ct_compile.specs.Effect.{Within, Effect}
+use Rattle.ct_compile.specs.Effect.{Effect}
 use Rattle.ct_compile.specs.Forms.{first_of, combined, AreOperands}
 use Rattle.ct_compile.specs.Following.{last_from, last_of, between, woven}
-use Rattle.ct_compile.specs.Making.{HasTree, HasTrees, Makes, Made, leaf, terms, made_for, over, made_negation, made_equality, made_inequality, made_exclusive, made_implied, made_all, made_by}
+use Rattle.ct_compile.specs.Making.{HasTree, HasTrees, Makes, Made, leaf, terms, made_for, over, made_negation, made_equality, made_inequality, made_exclusive, made_implied, made_by}
 use Rattle.ct_compile.proofs.WithinLemmas.{within_itself, within_subtrees, within_disjunction}
-use Rattle.ct_compile.proofs.MakesLemmas.{prefix_ordered, have_stay, has_stays, have_both, have_left, have_right, makes_grown, makes_then, makes_none, makes_nothing, makes_split, makes_has, Contains-cons, Contains-none, has_subterm, subterm_cases, makes_one, makes_same, Rises, makes_rising}
+use Rattle.ct_compile.proofs.MakesLemmas.{prefix_ordered, have_stay, have_both, have_left, have_right, makes_grown, makes_then, makes_none, makes_nothing, makes_split, makes_has, Contains-cons, Contains-none, has_subterm, subterm_cases, makes_one, makes_same, Rises, makes_rising}
 use Rattle.ct_compile.proofs.FollowLemmas.{last_of_push, exclusive_more}
 
 -- the arguments as a list
@@ -235,8 +235,7 @@ row_there d table p [] h = tt
 row_there d table p (q ∷ qs) h =
     let e = equality d p.term q.term in
     let here = have_left table (made_inequality d p q).making (made_for (map (made_inequality d p) qs)) h in
-    let outer = have_left table (made_for (made_equality d p q ∷ [])) (negation e ∷ []) here in
-    (
+    let outer = have_left table (made_for (made_equality d p q ∷ [])) (negation e ∷ []) here in (
       (have_right table (made_for (p ∷ (q ∷ []))) (e ∷ []) (have_left table (made_equality d p q).making [] outer)).0,
       ((have_right table (made_for (made_equality d p q ∷ [])) (negation e ∷ []) here).0, row_there d table p qs (have_right table (made_inequality d p q).making (made_for (map (made_inequality d p) qs)) h)),
     )
