@@ -16,11 +16,22 @@ def lines(crates):
         return [line for line in file if line.split(":")[0] in crates]
 
 
-def built(folder, name, crates, sources, words):
-    """The program `name`, built in the folder over copies of these crates.
+def with_those_below(crates):
+    """These crates of the repository and all that they stand on."""
+    found, left = [], list(crates)
+    while left:
+        crate = left.pop()
+        if crate not in found and os.path.isdir(os.path.join("crates", crate)):
+            found.append(crate)
+            left += [word for line in lines([crate]) for word in line.split(":")[1].split()]
+    return sorted(found)
+
+
+def laid_out(folder, name, crates, sources):
+    """The place of the program `name` in the folder, beside copies of these crates.
 
     Its files lie in bench/`name` under other names, since the gate takes sources in crates alone: `sources` says
-    which is which. It is run once with these words, and must end with status 0.
+    which is which.
     """
     below = os.path.join(folder, "crates")
     for crate in crates:
@@ -34,11 +45,35 @@ def built(folder, name, crates, sources, words):
     with open(os.path.join(folder, "crates.txt"), "w", encoding="ascii") as file:
         file.writelines(lines(crates))
         file.write(f"{name}: {' '.join(crates)}\n")
+    return place
+
+
+def built(folder, name, crates, sources, words):
+    """The program `name`, built in the folder over copies of these crates. It is run once with these words, and must end
+    with status 0."""
+    place = laid_out(folder, name, crates, sources)
     run = subprocess.run(["rt", "run", "--", *words], cwd=place, stdout=subprocess.PIPE, check=False)
     program = os.path.join(place, "out", name)
     if run.returncode != 0 or not os.path.exists(program):
         raise Unexpected("the program was not built")
     return program
+
+
+def tried(folder, name, crates, sources, inputs):
+    """What the program `name` writes, without any proof, on each input of a list of names and texts, by name."""
+    place = laid_out(folder, name, with_those_below(crates), sources)
+    cases = os.path.join(folder, "cases")
+    os.makedirs(cases)
+    for case, text in inputs:
+        with open(os.path.join(cases, case), "w", encoding="ascii") as file:
+            file.write(text)
+    words = ["rt", "try", "--seconds", "600", "--cases", cases]
+    run = subprocess.run(words, cwd=place, stdin=subprocess.DEVNULL, stdout=subprocess.PIPE, stderr=subprocess.STDOUT, check=False)
+    wrote = {}
+    for part in run.stdout.decode("ascii", "replace").split("== ")[1:]:
+        case, *rest = part.splitlines()
+        wrote[case] = next((line for line in rest if not line.startswith("case=")), "")
+    return wrote
 
 
 def seconds(words, want):
