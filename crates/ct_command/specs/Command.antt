@@ -2,6 +2,9 @@
 use Rattle.std.specs.Prelude.{ℕ, List}
 use Rattle.ct_sexpr.specs.Expression.{Expression}
 use Rattle.ct_command.specs.declared.command.Family.{Family}
+use Rattle.ct_command.specs.declared.option.Setting.{Setting}
+use Rattle.ct_command.specs.declared.option.OptionName.{OptionName}
+use Rattle.ct_command.specs.declared.option.Info.{Info}
 
 -- a name and the sort beside it: a field of a constructor, or a parameter of a definition
 pub record Named : Type 0 where
@@ -24,6 +27,12 @@ pub data Body : Type 0 where
   constructors : List Constructor → Body
 
 pub data Command : Type 0 where
+  -- a logic by its name, whether or not there is one of that name
+  set_logic : List ℕ → Command
+  set_option : Setting → Command
+  get_option : OptionName → Command
+  set_info : Command
+  get_info : Info → Command
   declare_sort : SortHead → Command
   declare_block : Family → List SortHead → List Body → Command
   -- a function with the sorts of its arguments and its result; a constant has no arguments
@@ -32,6 +41,16 @@ pub data Command : Type 0 where
   define_fun : List ℕ → List Named → Expression → Expression → Command
   assert : Expression → Command
   check_sat : Command
+  -- so many levels more, and so many fewer
+  push : ℕ → Command
+  pop : ℕ → Command
+  reset_assertions : Command
+  reset : Command
   get_model : Command
   get_value : List Expression → Command
+  get_proof : Command
+  -- a string literal
+  echo : Expression → Command
   exit : Command
+  -- what is answered `unsupported`
+  unsupported : Command

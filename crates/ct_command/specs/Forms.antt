@@ -3,8 +3,8 @@ use Rattle.std.specs.Prelude.{ℕ, Bool, false, List, [], ◌∷◌, Option, Som
 use Rattle.std.specs.Str.{bytes_eq}
 use Rattle.ct_sexpr.specs.Expression.{Expression}
 use Rattle.ct_command.specs.declared.command.Family.{Family}
-use Rattle.ct_command.specs.Command.{Named, SortHead, Constructor, Body, parametric, constructors, Command, declare_sort, declare_block, declare_fun, define_fun, assert, get_value}
-use Rattle.ct_command.specs.Items.{name_of, numeral_of, word_of, items_of, each}
+use Rattle.ct_command.specs.Command.{Named, SortHead, Constructor, Body, parametric, constructors, Command, declare_sort, declare_block, declare_fun, define_fun, assert, get_value, echo}
+use Rattle.ct_command.specs.Items.{name_of, numeral_of, word_of, is_text, items_of, each}
 
 -- `(x S)`
 abbrev pub named_by : List Expression → Option Named
@@ -110,6 +110,12 @@ abbrev pub asserted : List Expression → Option Command
 asserted (t ∷ []) = Some (assert t)
 asserted es = None
 
+-- a number of levels, 1 where none is written
+abbrev pub level_count : List Expression → Option ℕ
+level_count [] = Some 1
+level_count (n ∷ []) = numeral_of n
+level_count es = None
+
 -- nothing after the word
 abbrev pub alone : Command → List Expression → Option Command
 alone c [] = Some c
@@ -124,3 +130,8 @@ some_terms (t ∷ ts) = Some (get_value (t ∷ ts))
 abbrev pub valued : List Expression → Option Command
 valued (ts ∷ []) = option_and_then some_terms (items_of ts)
 valued es = None
+
+-- a string literal
+abbrev pub echoed : List Expression → Option Command
+echoed (s ∷ []) = if is_text s then Some (echo s) else None
+echoed es = None

@@ -1,5 +1,5 @@
--- Expressions by their parts: names, numerals, and lists with so many items.
-use Rattle.std.specs.Prelude.{ℕ, List, [], ◌∷◌, Option, Some, None, option_map, option_and_then}
+-- Expressions by their parts: names, words, keywords, numerals, strings, and lists with so many items.
+use Rattle.std.specs.Prelude.{ℕ, Bool, true, false, List, [], ◌∷◌, Option, Some, None, option_map, option_and_then}
 use Rattle.ct_sexpr.specs.Atom.{Atom, symbol, quoted, keyword, text, numeral, decimal, binary, hexadecimal}
 use Rattle.ct_sexpr.specs.Expression.{Expression, leaf, list, Expressions, none, more}
 use Rattle.ct_sexpr.specs.Readable.{name_of_atom}
@@ -39,6 +39,36 @@ word_of_atom (hexadecimal w) = None
 abbrev pub word_of : Expression → Option (List ℕ)
 word_of (leaf a) = word_of_atom a
 word_of (list es) = None
+
+-- the keyword that an atom is, with its colon
+abbrev pub keyword_of_atom : Atom → Option (List ℕ)
+keyword_of_atom (symbol w) = None
+keyword_of_atom (quoted w) = None
+keyword_of_atom (keyword w) = Some w
+keyword_of_atom (text w) = None
+keyword_of_atom (numeral n) = None
+keyword_of_atom (decimal w) = None
+keyword_of_atom (binary w) = None
+keyword_of_atom (hexadecimal w) = None
+
+abbrev pub keyword_of : Expression → Option (List ℕ)
+keyword_of (leaf a) = keyword_of_atom a
+keyword_of (list es) = None
+
+-- the atom is a string literal
+abbrev pub is_text_atom : Atom → Bool
+is_text_atom (symbol w) = false
+is_text_atom (quoted w) = false
+is_text_atom (keyword w) = false
+is_text_atom (text w) = true
+is_text_atom (numeral n) = false
+is_text_atom (decimal w) = false
+is_text_atom (binary w) = false
+is_text_atom (hexadecimal w) = false
+
+abbrev pub is_text : Expression → Bool
+is_text (leaf a) = is_text_atom a
+is_text (list es) = false
 
 -- expressions in a row, as a list
 abbrev pub listed : Expressions → List Expression

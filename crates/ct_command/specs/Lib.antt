@@ -1,5 +1,7 @@
 pub mod Command
 pub mod Items
 pub mod Forms
+pub mod Tables
+pub mod OptionForms
 pub mod Reading
 pub mod Seen

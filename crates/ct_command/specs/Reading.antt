@@ -1,18 +1,17 @@
 -- Which command an expression is, or the number of its error: an expression that begins with no word has no form, a word that
 -- begins no command is unknown, and a command whose word it begins with may have another form.
-use Rattle.std.specs.Prelude.{◌≡◌, ℕ, Bool, List, [], ◌∷◌, ◌++◌, Option, Some, None, Result, Ok, Err, codes, if◌then◌else◌}
-use Rattle.std.specs.List.{list_any}
-use Rattle.std.specs.Str.{bytes_eq}
+use Rattle.std.specs.Prelude.{◌≡◌, ℕ, List, [], ◌∷◌, ◌++◌, Option, Some, None, option_map, Result, Ok, Err, codes}
 use Rattle.ct_sexpr.specs.Expression.{Expression}
-use Rattle.ct_words.specs.Words.{command_names}
 use Rattle.ct_command.specs.declared.command.Family.TheVariants.{Data, Codata}
 use Rattle.ct_command.specs.declared.error.CommandError.{CommandError}
 use Rattle.ct_command.specs.declared.error.CommandError.TheVariants.{Refused, NoMemory}
 use Rattle.ct_command.specs.declared.words.Word.{Word}
 use Rattle.ct_command.specs.declared.words.Word.TheVariants as w
-use Rattle.ct_command.specs.Command.{Command, check_sat, get_model, exit}
+use Rattle.ct_command.specs.Command.{Command, check_sat, push, pop, reset_assertions, reset, get_model, get_proof, exit, unsupported}
+use Rattle.ct_command.specs.Tables.{beside}
 use Rattle.ct_command.specs.Items.{word_of, items_of}
-use Rattle.ct_command.specs.Forms.{declared_sort, declared_type, declared_types, declared_const, declared_fun, defined_fun, defined_const, asserted, alone, valued}
+use Rattle.ct_command.specs.Forms.{declared_sort, declared_type, declared_types, declared_const, declared_fun, defined_fun, defined_const, asserted, level_count, alone, valued, echoed}
+use Rattle.ct_command.specs.OptionForms.{logic_set, option_set, option_asked, info_set, info_asked}
 
 -- an expression that is no command of its word
 abbrev pub wrong_form : ℕ
@@ -22,9 +21,9 @@ wrong_form = 57
 abbrev pub unknown_command : ℕ
 unknown_command = 56
 
--- a command that is not built yet
-abbrev pub form_not_built : ℕ
-form_not_built = 59
+-- the words that set and ask for options and infos
+abbrev pub setting_words : List (List ℕ × Word)
+setting_words = (codes "set-logic", w.SetLogic) ∷ ((codes "set-option", w.SetOption) ∷ ((codes "get-option", w.GetOption) ∷ ((codes "set-info", w.SetInfo) ∷ ((codes "get-info", w.GetInfo) ∷ []))))
 
 -- the words that declare sorts
 abbrev pub sort_words : List (List ℕ × Word)
@@ -34,21 +33,30 @@ sort_words = (codes "declare-sort", w.DeclareSort) ∷ ((codes "declare-datatype
 abbrev pub function_words : List (List ℕ × Word)
 function_words = (codes "declare-const", w.DeclareConst) ∷ ((codes "declare-fun", w.DeclareFun) ∷ ((codes "define-fun", w.DefineFun) ∷ ((codes "define-const", w.DefineConst) ∷ [])))
 
--- the words that assert and ask
-abbrev pub other_words : List (List ℕ × Word)
-other_words = (codes "assert", w.Assert) ∷ ((codes "check-sat", w.CheckSat) ∷ ((codes "get-model", w.GetModel) ∷ ((codes "get-value", w.GetValue) ∷ ((codes "exit", w.Exit) ∷ []))))
+-- the words that assert and check, and those that change levels
+abbrev pub session_words : List (List ℕ × Word)
+session_words = (codes "assert", w.Assert) ∷ ((codes "check-sat", w.CheckSat) ∷ ((codes "push", w.Push) ∷ ((codes "pop", w.Pop) ∷ ((codes "reset-assertions", w.ResetAssertions) ∷ ((codes "reset", w.Reset) ∷ [])))))
 
--- the words of the commands that are built
+-- the words that ask for an answer, and the last word of a script
+abbrev pub answer_words : List (List ℕ × Word)
+answer_words = (codes "get-model", w.GetModel) ∷ ((codes "get-value", w.GetValue) ∷ ((codes "get-proof", w.GetProof) ∷ ((codes "echo", w.Echo) ∷ ((codes "exit", w.Exit) ∷ []))))
+
+-- the words that are answered `unsupported`, whatever follows
+abbrev pub unsupported_words : List (List ℕ × Word)
+unsupported_words =
+    (codes "define-fun-rec", w.Unsupported) ∷ ((codes "define-funs-rec", w.Unsupported) ∷ ((codes "declare-sort-parameter", w.Unsupported) ∷ ((codes "get-assertions", w.Unsupported) ∷ ((codes "get-assignment", w.Unsupported) ∷ ((codes "define-sort", w.Unsupported) ∷ ((codes "check-sat-assuming", w.Unsupported) ∷ ((codes "get-unsat-core", w.Unsupported) ∷ ((codes "get-unsat-assumptions", w.Unsupported) ∷ []))))))))
+
+-- the words of all commands
 abbrev pub words : List (List ℕ × Word)
-words = sort_words ++ (function_words ++ other_words)
-
--- what stands beside the word in the list
-abbrev pub beside : List (List ℕ × Word) → List ℕ → Option Word
-beside [] word = None
-beside (entry ∷ entries) word = if bytes_eq entry.0 word then Some entry.1 else beside entries word
+words = setting_words ++ (sort_words ++ (function_words ++ (session_words ++ (answer_words ++ unsupported_words))))
 
 -- the command that the expressions after the word say
 abbrev pub said : Word → List Expression → Option Command
+said w.SetLogic es = logic_set es
+said w.SetOption es = option_set es
+said w.GetOption es = option_asked es
+said w.SetInfo es = info_set es
+said w.GetInfo es = info_asked es
 said w.DeclareSort es = declared_sort es
 said w.DeclareDatatype es = declared_type Data es
 said w.DeclareCodatatype es = declared_type Codata es
@@ -60,9 +68,16 @@ said w.DefineFun es = defined_fun es
 said w.DefineConst es = defined_const es
 said w.Assert es = asserted es
 said w.CheckSat es = alone check_sat es
+said w.Push es = option_map push (level_count es)
+said w.Pop es = option_map pop (level_count es)
+said w.ResetAssertions es = alone reset_assertions es
+said w.Reset es = alone reset es
 said w.GetModel es = alone get_model es
 said w.GetValue es = valued es
+said w.GetProof es = alone get_proof es
+said w.Echo es = echoed es
 said w.Exit es = alone exit es
+said w.Unsupported es = Some unsupported
 
 -- a command, or the number of the error
 abbrev pub Read : Type 0
@@ -73,15 +88,8 @@ abbrev pub formed : Option Command → Read
 formed None = Err wrong_form
 formed (Some c) = Ok c
 
--- the error of a word that is not built: whether it begins a command
-abbrev pub answer_to : Bool → Read
-answer_to begins = if begins then Err form_not_built else Err unknown_command
-
-abbrev pub unbuilt : List ℕ → Read
-unbuilt word = answer_to (list_any (bytes_eq word) command_names)
-
 abbrev pub after_word : List ℕ → Option Word → List Expression → Read
-after_word word None es = unbuilt word
+after_word word None es = Err unknown_command
 after_word word (Some known) es = formed (said known es)
 
 abbrev pub after_head : Option (List ℕ) → List Expression → Read

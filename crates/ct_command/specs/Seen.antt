@@ -12,7 +12,7 @@ use Rattle.ct_command.specs.declared.command.Body.{Body as ReadBody}
 use Rattle.ct_command.specs.declared.command.Body.TheVariants as body
 use Rattle.ct_command.specs.declared.command.Command.{Command as ReadCommand}
 use Rattle.ct_command.specs.declared.command.Command.TheVariants as command
-use Rattle.ct_command.specs.Command.{Named, SortHead, Constructor, Body, parametric, constructors, Command, declare_sort, declare_block, declare_fun, define_fun, assert, check_sat, get_model, get_value, exit}
+use Rattle.ct_command.specs.Command.{Named, SortHead, Constructor, Body, parametric, constructors, Command, set_logic, set_option, get_option, set_info, get_info, declare_sort, declare_block, declare_fun, define_fun, assert, check_sat, push, pop, reset_assertions, reset, get_model, get_value, get_proof, echo, exit, unsupported}
 
 -- the bytes, where there are any
 abbrev pub bytes_seen : Option (Bor (List ℕ)) → Option (List ℕ)
@@ -53,12 +53,24 @@ abbrev pub bodies_seen : Vec ReadBody → List Body
 bodies_seen bs = map body_seen bs.items
 
 abbrev pub command_seen : ReadCommand → Command
+command_seen (command.SetLogic name) = set_logic name.now
+command_seen (command.SetOption s) = set_option s
+command_seen (command.GetOption o) = get_option o
+command_seen command.SetInfo = set_info
+command_seen (command.GetInfo i) = get_info i
 command_seen (command.DeclareSort h) = declare_sort (head_seen h)
 command_seen (command.DeclareBlock family hs bs) = declare_block family (heads_seen hs) (bodies_seen bs)
 command_seen (command.DeclareFun name args sort) = declare_fun name.now (all_seen args.now) (expression_of sort.now)
 command_seen (command.DefineFun name params sort t) = define_fun name.now (nameds_seen params) (expression_of sort.now) (expression_of t.now)
 command_seen (command.Assert t) = assert (expression_of t.now)
 command_seen command.CheckSat = check_sat
+command_seen (command.Push n) = push n
+command_seen (command.Pop n) = pop n
+command_seen command.ResetAssertions = reset_assertions
+command_seen command.Reset = reset
 command_seen command.GetModel = get_model
 command_seen (command.GetValue ts) = get_value (all_seen ts.now)
+command_seen command.GetProof = get_proof
+command_seen (command.Echo s) = echo (expression_of s.now)
 command_seen command.Exit = exit
+command_seen command.Unsupported = unsupported

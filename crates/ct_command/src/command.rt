@@ -1,5 +1,6 @@
 //! What a command says, with names and expressions still as they were read.
 
+use crate::option::{Info, OptionName, Setting};
 use ct_sexpr::Sexpr;
 
 /// Whether a block declares datatypes, whose values are finite, or codatatypes.
@@ -50,6 +51,16 @@ pub enum Body<'a> {
 /// A command (SMT-LIB 2.7, section 3.9; cvc5 for codatatypes).
 #[derive(Debug, Drop)]
 pub enum Command<'a> {
+    /// `set-logic`, with the name of the logic, which may be unknown.
+    SetLogic(&'a [u8]),
+    /// `set-option`, with a known option and a value of its kind.
+    SetOption(Setting),
+    /// `get-option`, with a known option.
+    GetOption(OptionName),
+    /// `set-info`.
+    SetInfo,
+    /// `get-info`, with a known info.
+    GetInfo(Info),
     /// `declare-sort`: an uninterpreted sort.
     DeclareSort(SortHead<'a>),
     /// `declare-datatypes`, `declare-codatatypes`, and the forms of one sort.
@@ -62,10 +73,24 @@ pub enum Command<'a> {
     Assert(&'a Sexpr),
     /// `check-sat`.
     CheckSat,
+    /// `push`, with how many levels are added; 1 where no number is written.
+    Push(u128),
+    /// `pop`, with how many levels are removed; 1 where no number is written.
+    Pop(u128),
+    /// `reset-assertions`.
+    ResetAssertions,
+    /// `reset`.
+    Reset,
     /// `get-model`.
     GetModel,
     /// `get-value`, with one term at least.
     GetValue(&'a [Sexpr]),
+    /// `get-proof`.
+    GetProof,
+    /// `echo`, with the string literal as it was read.
+    Echo(&'a Sexpr),
     /// `exit`.
     Exit,
+    /// A command, an option or an info that is answered `unsupported` (SMT-LIB 2.7, section 4.1.1).
+    Unsupported,
 }

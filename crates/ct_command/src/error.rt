@@ -19,9 +19,6 @@ pub const WRONG_FORM: u16 = 57;
 /// The number of the error of a word that begins no command.
 pub const UNKNOWN_COMMAND: u16 = 56;
 
-/// The number of the error of a command that is not built yet.
-pub const FORM_NOT_BUILT: u16 = 59;
-
 impl From<AllocError> for CommandError {
     ghost from_gives = { λ _ e. e ≡ NoMemory };
 

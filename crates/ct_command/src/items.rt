@@ -1,9 +1,9 @@
-//! Names, words, numerals and lists among expressions.
+//! Names, words, keywords, numerals, strings and lists among expressions.
 ghost use Rattle.std.specs.Prelude.{◌≡◌, Option, None, Some, MatchOption};
 ghost use Rattle.ct_sexpr.specs.Atom.{symbol};
 ghost use Rattle.ct_sexpr.specs.Readable.{name_of_atom};
 ghost use Rattle.ct_sexpr.specs.View.{expression_of};
-ghost use Rattle.ct_command.specs.Items.{name_of, word_of, numeral_of, items_of};
+ghost use Rattle.ct_command.specs.Items.{name_of, word_of, numeral_of, keyword_of, is_text, items_of};
 ghost use Rattle.ct_command.specs.Seen.{bytes_seen, items_seen};
 
 use ct_sexpr::{Sexpr, is_reserved};
@@ -66,6 +66,40 @@ pub(crate) fn numeral_of(expr: &Sexpr) -> Option<u128>
         | Sexpr::Binary(_)
         | Sexpr::Hex(_)
         | Sexpr::List(_) => None,
+    }
+}
+
+/// The keyword that an expression is, with its colon.
+pub(crate) fn keyword_of(expr: &Sexpr) -> Option<&[u8]>
+    ensures keyword { keyword_of (expression_of expr.now) ≡ bytes_seen result }
+{
+    match expr {
+        Sexpr::Keyword(word) => Some(word.as_slice()),
+        Sexpr::Symbol(_)
+        | Sexpr::Quoted(_)
+        | Sexpr::Text(_)
+        | Sexpr::Numeral(_)
+        | Sexpr::Decimal(_)
+        | Sexpr::Binary(_)
+        | Sexpr::Hex(_)
+        | Sexpr::List(_) => None,
+    }
+}
+
+/// Whether an expression is a string literal.
+pub(crate) fn is_text(expr: &Sexpr) -> bool
+    ensures text { is_text (expression_of expr.now) ≡ result }
+{
+    match expr {
+        Sexpr::Text(_) => true,
+        Sexpr::Symbol(_)
+        | Sexpr::Quoted(_)
+        | Sexpr::Keyword(_)
+        | Sexpr::Numeral(_)
+        | Sexpr::Decimal(_)
+        | Sexpr::Binary(_)
+        | Sexpr::Hex(_)
+        | Sexpr::List(_) => false,
     }
 }
 

@@ -6,10 +6,15 @@ mod command;
 mod error;
 mod forms;
 mod items;
+mod option;
 mod read;
+mod settings;
+mod theorems;
 mod words;
 
 pub use command::{Body, Command, Constructor, Family, Named, SortHead};
-pub use error::{CommandError, FORM_NOT_BUILT};
+pub use error::CommandError;
 pub use items::name_of;
+pub use option::{BooleanOption, Info, NumeralOption, OptionName, Setting};
 pub use read::command_of;
+pub use theorems::known_words;

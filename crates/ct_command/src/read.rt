@@ -1,22 +1,23 @@
 //! The command that an expression is.
 ghost use Rattle.std.specs.Prelude.{◌≡◌, [], ◌∷◌, Some, None, option_map};
 ghost use Rattle.ct_sexpr.specs.View.{expression_of};
-ghost use Rattle.ct_command.specs.Forms.{declared_sort, declared_const, declared_fun, defined_fun, defined_const, asserted, valued, some_terms, alone};
+ghost use Rattle.ct_command.specs.Forms.{declared_sort, declared_const, declared_fun, defined_fun, defined_const, asserted, level_count, valued, some_terms, alone, echoed};
 ghost use Rattle.ct_command.specs.Reading.{Reads, Gives, command, of_items, after_word, said};
+ghost use Rattle.ct_command.specs.Command.{push, pop};
 ghost use Rattle.ct_command.specs.Seen.{all_seen, command_seen};
 
 use crate::block::{declared_type, declared_types};
 use crate::command::{Command, Family};
-use crate::error::{CommandError, WRONG_FORM};
+use crate::error::{CommandError, UNKNOWN_COMMAND, WRONG_FORM};
 use crate::forms::{head_by, parameters};
-use crate::items::{items_of, name_of, word_of};
-use crate::words::{Word, known_word, unbuilt};
+use crate::items::{is_text, items_of, name_of, numeral_of, word_of};
+use crate::settings::{info_asked, info_set, logic_set, option_asked, option_set};
+use crate::words::{Word, known_word};
 use ct_sexpr::Sexpr;
 use std::alloc::Global;
 
-/// The command that an expression is. It is refused with 57 where the expression is a list that begins with no word, or has
-/// not the form that its word asks for, with 56 where the word begins no command, and with 59 where the command is not
-/// built yet.
+/// The command that an expression is. It is refused with 57 where the expression is no list that begins with a word, or has
+/// not the form that its word asks for, and with 56 where the word begins no command.
 pub fn command_of(alloc: Global, expr: &Sexpr) -> Result<Command<'_>, CommandError>
     ensures value { Gives command_seen (command (expression_of expr.now)) result }
 {
@@ -49,7 +50,7 @@ fn after_head<'a>(
     };
     match known_word(word) {
         Some(known) => said(alloc, known, args),
-        None => Err(CommandError::Refused(unbuilt(word))),
+        None => Err(CommandError::Refused(UNKNOWN_COMMAND)),
     }
 }
 
@@ -58,6 +59,11 @@ fn said<'a>(alloc: Global, word: Word, args: &'a [Sexpr]) -> Result<Command<'a>,
     ensures value { Reads command_seen (said word (all_seen args.now)) result }
 {
     match word {
+        Word::SetLogic => logic_set(args),
+        Word::SetOption => option_set(args),
+        Word::GetOption => option_asked(args),
+        Word::SetInfo => info_set(args),
+        Word::GetInfo => info_asked(args),
         Word::DeclareSort => declared_sort(args),
         Word::DeclareDatatype => declared_type(alloc, Family::Data, args),
         Word::DeclareCodatatype => declared_type(alloc, Family::Codata, args),
@@ -69,9 +75,16 @@ fn said<'a>(alloc: Global, word: Word, args: &'a [Sexpr]) -> Result<Command<'a>,
         Word::DefineConst => defined_const(alloc, args),
         Word::Assert => asserted(args),
         Word::CheckSat => alone(Command::CheckSat, args),
+        Word::Push => pushed(args),
+        Word::Pop => popped(args),
+        Word::ResetAssertions => alone(Command::ResetAssertions, args),
+        Word::Reset => alone(Command::Reset, args),
         Word::GetModel => alone(Command::GetModel, args),
         Word::GetValue => valued(args),
+        Word::GetProof => alone(Command::GetProof, args),
+        Word::Echo => echoed(args),
         Word::Exit => alone(Command::Exit, args),
+        Word::Unsupported => Ok(Command::Unsupported),
     }
 }
 
@@ -150,6 +163,53 @@ fn asserted(args: &[Sexpr]) -> Result<Command<'_>, CommandError>
 {
     match args {
         [term] => Ok(Command::Assert(term)),
+        [] => Err(CommandError::Refused(WRONG_FORM)),
+        [_, _, ..] => Err(CommandError::Refused(WRONG_FORM)),
+    }
+}
+
+// Levels that are added: nothing, or a number.
+fn pushed(args: &[Sexpr]) -> Result<Command<'_>, CommandError>
+    ensures value { Reads command_seen (option_map push (level_count (all_seen args.now))) result }
+{
+    match level_count(args) {
+        Some(count) => Ok(Command::Push(count)),
+        None => Err(CommandError::Refused(WRONG_FORM)),
+    }
+}
+
+// Levels that are removed: nothing, or a number.
+fn popped(args: &[Sexpr]) -> Result<Command<'_>, CommandError>
+    ensures value { Reads command_seen (option_map pop (level_count (all_seen args.now))) result }
+{
+    match level_count(args) {
+        Some(count) => Ok(Command::Pop(count)),
+        None => Err(CommandError::Refused(WRONG_FORM)),
+    }
+}
+
+// A number of levels, 1 where none is written.
+fn level_count(args: &[Sexpr]) -> Option<u128>
+    ensures count { level_count (all_seen args.now) ≡ result }
+{
+    match args {
+        [] => Some(1),
+        [count] => numeral_of(count),
+        [_, _, ..] => None,
+    }
+}
+
+// A string literal.
+fn echoed(args: &[Sexpr]) -> Result<Command<'_>, CommandError>
+    ensures value { Reads command_seen (echoed (all_seen args.now)) result }
+{
+    match args {
+        [text] => {
+            if is_text(text) {
+                return Ok(Command::Echo(text));
+            }
+            Err(CommandError::Refused(WRONG_FORM))
+        }
         [] => Err(CommandError::Refused(WRONG_FORM)),
         [_, _, ..] => Err(CommandError::Refused(WRONG_FORM)),
     }

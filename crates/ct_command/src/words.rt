@@ -1,13 +1,21 @@
-//! The words of the commands that are built.
-ghost use Rattle.std.specs.Prelude.{◌≡◌, Err};
-ghost use Rattle.ct_command.specs.Reading.{beside, words, sort_words, function_words, other_words, unbuilt};
-
-use crate::error::{FORM_NOT_BUILT, UNKNOWN_COMMAND};
-use ct_words::commands;
+//! The words of the commands.
+ghost use Rattle.std.specs.Prelude.{◌≡◌};
+ghost use Rattle.ct_command.specs.Tables.{beside};
+ghost use Rattle.ct_command.specs.Reading.{words, setting_words, sort_words, function_words, session_words, answer_words, unsupported_words};
 
 /// The word of a command.
 #[derive(Clone, Copy, Debug, PartialEq, Eq)]
 pub enum Word {
+    /// `set-logic`.
+    SetLogic,
+    /// `set-option`.
+    SetOption,
+    /// `get-option`.
+    GetOption,
+    /// `set-info`.
+    SetInfo,
+    /// `get-info`.
+    GetInfo,
     /// `declare-sort`.
     DeclareSort,
     /// `declare-datatype`.
@@ -30,25 +38,70 @@ pub enum Word {
     Assert,
     /// `check-sat`.
     CheckSat,
+    /// `push`.
+    Push,
+    /// `pop`.
+    Pop,
+    /// `reset-assertions`.
+    ResetAssertions,
+    /// `reset`.
+    Reset,
     /// `get-model`.
     GetModel,
     /// `get-value`.
     GetValue,
+    /// `get-proof`.
+    GetProof,
+    /// `echo`.
+    Echo,
     /// `exit`.
     Exit,
+    /// A word that is answered `unsupported`, whatever follows.
+    Unsupported,
 }
 
-/// The word of a command that is built.
+/// The command that a word begins.
 pub(crate) fn known_word(word: &[u8]) -> Option<Word>
     ensures value { result ≡ beside words word.now }
 {
+    if let Some(known) = setting_word(word) {
+        return Some(known);
+    }
     if let Some(known) = sort_word(word) {
         return Some(known);
     }
     if let Some(known) = function_word(word) {
         return Some(known);
     }
-    other_word(word)
+    if let Some(known) = session_word(word) {
+        return Some(known);
+    }
+    if let Some(known) = answer_word(word) {
+        return Some(known);
+    }
+    unsupported_word(word)
+}
+
+// A word that sets or asks for options and infos.
+fn setting_word(word: &[u8]) -> Option<Word>
+    ensures value { result ≡ beside setting_words word.now }
+{
+    if b"set-logic".as_slice() == word {
+        return Some(Word::SetLogic);
+    }
+    if b"set-option".as_slice() == word {
+        return Some(Word::SetOption);
+    }
+    if b"get-option".as_slice() == word {
+        return Some(Word::GetOption);
+    }
+    if b"set-info".as_slice() == word {
+        return Some(Word::SetInfo);
+    }
+    if b"get-info".as_slice() == word {
+        return Some(Word::GetInfo);
+    }
+    None
 }
 
 // A word that declares sorts.
@@ -92,9 +145,9 @@ fn function_word(word: &[u8]) -> Option<Word>
     None
 }
 
-// A word that asserts, asks or ends the script.
-fn other_word(word: &[u8]) -> Option<Word>
-    ensures value { result ≡ beside other_words word.now }
+// A word that asserts, checks or changes levels.
+fn session_word(word: &[u8]) -> Option<Word>
+    ensures value { result ≡ beside session_words word.now }
 {
     if b"assert".as_slice() == word {
         return Some(Word::Assert);
@@ -102,11 +155,36 @@ fn other_word(word: &[u8]) -> Option<Word>
     if b"check-sat".as_slice() == word {
         return Some(Word::CheckSat);
     }
+    if b"push".as_slice() == word {
+        return Some(Word::Push);
+    }
+    if b"pop".as_slice() == word {
+        return Some(Word::Pop);
+    }
+    if b"reset-assertions".as_slice() == word {
+        return Some(Word::ResetAssertions);
+    }
+    if b"reset".as_slice() == word {
+        return Some(Word::Reset);
+    }
+    None
+}
+
+// A word that asks for an answer, or ends the script.
+fn answer_word(word: &[u8]) -> Option<Word>
+    ensures value { result ≡ beside answer_words word.now }
+{
     if b"get-model".as_slice() == word {
         return Some(Word::GetModel);
     }
     if b"get-value".as_slice() == word {
         return Some(Word::GetValue);
+    }
+    if b"get-proof".as_slice() == word {
+        return Some(Word::GetProof);
+    }
+    if b"echo".as_slice() == word {
+        return Some(Word::Echo);
     }
     if b"exit".as_slice() == word {
         return Some(Word::Exit);
@@ -114,13 +192,36 @@ fn other_word(word: &[u8]) -> Option<Word>
     None
 }
 
-/// The number of the error of a word that is not built: whether it begins a command.
-pub(crate) fn unbuilt(word: &[u8]) -> u16
-    ensures value { unbuilt word.now ≡ Err result }
+// A word that is answered `unsupported`.
+fn unsupported_word(word: &[u8]) -> Option<Word>
+    ensures value { result ≡ beside unsupported_words word.now }
 {
-    let names = commands();
-    match names.find(word) {
-        Some(_) => FORM_NOT_BUILT,
-        None => UNKNOWN_COMMAND,
+    if b"define-fun-rec".as_slice() == word {
+        return Some(Word::Unsupported);
     }
+    if b"define-funs-rec".as_slice() == word {
+        return Some(Word::Unsupported);
+    }
+    if b"declare-sort-parameter".as_slice() == word {
+        return Some(Word::Unsupported);
+    }
+    if b"get-assertions".as_slice() == word {
+        return Some(Word::Unsupported);
+    }
+    if b"get-assignment".as_slice() == word {
+        return Some(Word::Unsupported);
+    }
+    if b"define-sort".as_slice() == word {
+        return Some(Word::Unsupported);
+    }
+    if b"check-sat-assuming".as_slice() == word {
+        return Some(Word::Unsupported);
+    }
+    if b"get-unsat-core".as_slice() == word {
+        return Some(Word::Unsupported);
+    }
+    if b"get-unsat-assumptions".as_slice() == word {
+        return Some(Word::Unsupported);
+    }
+    None
 }

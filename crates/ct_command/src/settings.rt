@@ -1,0 +1,194 @@
+//! The commands that set and ask for options and infos.
+ghost use Rattle.std.specs.Prelude.{◌≡◌, option_map};
+ghost use Rattle.ct_sexpr.specs.View.{expression_of};
+ghost use Rattle.ct_command.specs.Tables.{beside};
+ghost use Rattle.ct_command.specs.OptionForms.{options, infos, truths, truth_of, setting_of, value_set, logic_set, option_set, option_asked, info_set, info_asked};
+ghost use Rattle.ct_command.specs.Reading.{Reads};
+ghost use Rattle.ct_command.specs.Seen.{all_seen, command_seen};
+
+use crate::command::Command;
+use crate::error::{CommandError, WRONG_FORM};
+use crate::items::{keyword_of, name_of, numeral_of};
+use crate::option::{BooleanOption, Info, NumeralOption, OptionName, Setting};
+use ct_sexpr::Sexpr;
+
+/// A logic by its name: `L`.
+pub(crate) fn logic_set(args: &[Sexpr]) -> Result<Command<'_>, CommandError>
+    ensures value { Reads command_seen (logic_set (all_seen args.now)) result }
+{
+    match args {
+        [logic] => match name_of(logic) {
+            Some(name) => Ok(Command::SetLogic(name)),
+            None => Err(CommandError::Refused(WRONG_FORM)),
+        },
+        [] => Err(CommandError::Refused(WRONG_FORM)),
+        [_, _, ..] => Err(CommandError::Refused(WRONG_FORM)),
+    }
+}
+
+/// An option and its value: `K v`.
+pub(crate) fn option_set(args: &[Sexpr]) -> Result<Command<'_>, CommandError>
+    ensures value { Reads command_seen (option_set (all_seen args.now)) result }
+{
+    match args {
+        [] | [_] => Err(CommandError::Refused(WRONG_FORM)),
+        [keyword, value] => match keyword_of(keyword) {
+            Some(keyword) => value_set(option_of(keyword), value),
+            None => Err(CommandError::Refused(WRONG_FORM)),
+        },
+        [_, _, _, ..] => Err(CommandError::Refused(WRONG_FORM)),
+    }
+}
+
+// The value of what may be no option.
+fn value_set(option: Option<OptionName>, value: &Sexpr) -> Result<Command<'_>, CommandError>
+    ensures value { Reads command_seen (value_set option (expression_of value.now)) result }
+{
+    match option {
+        Some(option) => match setting_of(option, value) {
+            Some(setting) => Ok(Command::SetOption(setting)),
+            None => Err(CommandError::Refused(WRONG_FORM)),
+        },
+        None => Ok(Command::Unsupported),
+    }
+}
+
+// An option with a value of its kind.
+fn setting_of(option: OptionName, value: &Sexpr) -> Option<Setting>
+    ensures setting { setting_of option (expression_of value.now) ≡ result }
+{
+    match option {
+        OptionName::Boolean(option) => Some(Setting::Boolean(option, truth_of(value)?)),
+        OptionName::Numeral(option) => Some(Setting::Numeral(option, numeral_of(value)?)),
+    }
+}
+
+// The Boolean value that an expression is.
+fn truth_of(expr: &Sexpr) -> Option<bool>
+    ensures truth { truth_of (expression_of expr.now) ≡ result }
+{
+    truth_named(name_of(expr)?)
+}
+
+// The Boolean value of this name.
+fn truth_named(name: &[u8]) -> Option<bool>
+    ensures truth { result ≡ beside truths name.now }
+{
+    if b"true".as_slice() == name {
+        return Some(true);
+    }
+    if b"false".as_slice() == name {
+        return Some(false);
+    }
+    None
+}
+
+/// An option that is asked for: `K`.
+pub(crate) fn option_asked(args: &[Sexpr]) -> Result<Command<'_>, CommandError>
+    ensures value { Reads command_seen (option_asked (all_seen args.now)) result }
+{
+    match args {
+        [keyword] => match keyword_of(keyword) {
+            Some(keyword) => match option_of(keyword) {
+                Some(option) => Ok(Command::GetOption(option)),
+                None => Ok(Command::Unsupported),
+            },
+            None => Err(CommandError::Refused(WRONG_FORM)),
+        },
+        [] => Err(CommandError::Refused(WRONG_FORM)),
+        [_, _, ..] => Err(CommandError::Refused(WRONG_FORM)),
+    }
+}
+
+/// A keyword, and a value or none: `K`, or `K v`.
+pub(crate) fn info_set(args: &[Sexpr]) -> Result<Command<'_>, CommandError>
+    ensures value { Reads command_seen (info_set (all_seen args.now)) result }
+{
+    match args {
+        [keyword] | [keyword, _] => match keyword_of(keyword) {
+            Some(_) => Ok(Command::SetInfo),
+            None => Err(CommandError::Refused(WRONG_FORM)),
+        },
+        [] => Err(CommandError::Refused(WRONG_FORM)),
+        [_, _, _, ..] => Err(CommandError::Refused(WRONG_FORM)),
+    }
+}
+
+/// An info that is asked for: `K`.
+pub(crate) fn info_asked(args: &[Sexpr]) -> Result<Command<'_>, CommandError>
+    ensures value { Reads command_seen (info_asked (all_seen args.now)) result }
+{
+    match args {
+        [keyword] => match keyword_of(keyword) {
+            Some(keyword) => match info_of(keyword) {
+                Some(info) => Ok(Command::GetInfo(info)),
+                None => Ok(Command::Unsupported),
+            },
+            None => Err(CommandError::Refused(WRONG_FORM)),
+        },
+        [] => Err(CommandError::Refused(WRONG_FORM)),
+        [_, _, ..] => Err(CommandError::Refused(WRONG_FORM)),
+    }
+}
+
+// The option of this keyword.
+fn option_of(keyword: &[u8]) -> Option<OptionName>
+    ensures value { result ≡ beside options keyword.now }
+{
+    if b":print-success".as_slice() == keyword {
+        return Some(OptionName::Boolean(BooleanOption::PrintSuccess));
+    }
+    if b":global-declarations".as_slice() == keyword {
+        return Some(OptionName::Boolean(BooleanOption::GlobalDeclarations));
+    }
+    if b":reproducible-resource-limit".as_slice() == keyword {
+        return Some(OptionName::Numeral(NumeralOption::ResourceLimit));
+    }
+    if b":produce-models".as_slice() == keyword {
+        return Some(OptionName::Boolean(BooleanOption::ProduceModels));
+    }
+    if b":produce-proofs".as_slice() == keyword {
+        return Some(OptionName::Boolean(BooleanOption::ProduceProofs));
+    }
+    if b":produce-assertions".as_slice() == keyword {
+        return Some(OptionName::Boolean(BooleanOption::ProduceAssertions));
+    }
+    if b":produce-assignments".as_slice() == keyword {
+        return Some(OptionName::Boolean(BooleanOption::ProduceAssignments));
+    }
+    if b":produce-unsat-cores".as_slice() == keyword {
+        return Some(OptionName::Boolean(BooleanOption::ProduceUnsatCores));
+    }
+    if b":produce-unsat-assumptions".as_slice() == keyword {
+        return Some(OptionName::Boolean(BooleanOption::ProduceUnsatAssumptions));
+    }
+    if b":verbosity".as_slice() == keyword {
+        return Some(OptionName::Numeral(NumeralOption::Verbosity));
+    }
+    None
+}
+
+// The info of this keyword.
+fn info_of(keyword: &[u8]) -> Option<Info>
+    ensures value { result ≡ beside infos keyword.now }
+{
+    if b":name".as_slice() == keyword {
+        return Some(Info::Name);
+    }
+    if b":version".as_slice() == keyword {
+        return Some(Info::Version);
+    }
+    if b":authors".as_slice() == keyword {
+        return Some(Info::Authors);
+    }
+    if b":error-behavior".as_slice() == keyword {
+        return Some(Info::ErrorBehavior);
+    }
+    if b":assertion-stack-levels".as_slice() == keyword {
+        return Some(Info::AssertionStackLevels);
+    }
+    if b":reason-unknown".as_slice() == keyword {
+        return Some(Info::ReasonUnknown);
+    }
+    None
+}
