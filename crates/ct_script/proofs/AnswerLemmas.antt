@@ -1,6 +1,10 @@
--- The parts of a text, put together from left to right and as they are defined.
-use Rattle.std.proofs.Common.{◌≡◌, ℕ, List, ◌++◌}
-use Rattle.std.proofs.lemmas.List.{append_assoc}
+-- Answers and their texts.
+use Rattle.std.proofs.Common.{◌≡◌, ℕ, List, subst}
+use Rattle.ct_script.specs.declared.answer.Answer.{Answer}
+use Rattle.ct_script.specs.State.{State}
+use Rattle.ct_script.specs.Step.{said}
+use Rattle.ct_script.specs.Session.{IsAnswer}
 
-pub regrouped : (a b c d e f g : List ℕ) → ((a ++ (b ++ (c ++ (d ++ e)))) ++ f) ++ g ≡ a ++ (b ++ (c ++ (d ++ (e ++ (f ++ g)))))
-regrouped a b c d e f g = simp append_assoc
+-- the answer of a text is that of an equal text
+pub same_text : (s : State) (a : Answer) (text other : List ℕ) → text ≡ other → IsAnswer (said s text) a → IsAnswer (said s other) a
+same_text s a text other same answer = subst (λ (t : List ℕ). IsAnswer (said s t) a) same answer

@@ -1,54 +1,32 @@
--- What the answers of a signature say of the causes for which a declaration is refused.
-use Rattle.std.proofs.Common.{◌≡◌, ◌∙◌, ◌↔◌, ℕ, ◌⊎◌, Result, Ok, Err, refl, ap, subst, inl, inr}
-use Rattle.std.specs.Prelude.{IsErrOf, OnOk}
+-- The causes of a refusal one after the other, and the numbers of errors.
+use Rattle.std.proofs.Common.{◌≡◌, ◌∙◌, ◌↔◌, ℕ, Bool, true, false, true≢false, Err, sym, ap, subst, inl, inr}
+use Rattle.std.specs.Prelude.{IsErrOf, IsTrue}
 use Rattle.ct_sorts.specs.Refusals.{IsFirstCause, IsNone}
-use Rattle.ct_sorts.specs.declared.error.SigError.{SigError}
-use Rattle.ct_sorts.specs.declared.error.SigError.TheVariants as sig
 use Rattle.ct_command.specs.declared.error.CommandError.{CommandError}
-use Rattle.ct_command.specs.declared.error.CommandError.TheVariants as command
-use Rattle.ct_script.proofs.StepLemmas.{no_cause, no_last}
+use Rattle.ct_command.specs.declared.error.CommandError.TheVariants.{Refused}
 
-module _ {T : Type 0} (P : Type 0) where
-  -- what is exactly a cause of an error is not there without the error
-  pub not_caused : (x : T) (e : SigError) → IsErrOf {T = T} {E = SigError} (Ok x) e ↔ P → P → ⊥
-  not_caused x e iff h = let is : IsErrOf {T = T} {E = SigError} (Ok x) e = iff.1 h in absurd cc
+-- the last cause
+pub last_cause : (number : ℕ) (cause : Type 0) (n : ℕ) → n ≡ number → cause → IsFirstCause number cause IsNone n
+last_cause number cause n e h = inl (e, h)
 
-module _ {T : Type 0} (a b : ℕ) (P Q : Type 0) where
-  -- of two causes, the one with the number of the error is the first that applies
-  pub two_causes : (code : ℕ) (f : SigError) → f ≡ sig.Refused code → ((n : ℕ) → IsErrOf {T = T} {E = SigError} (Err f) (sig.Refused n) → (n ≡ a) ⊎ (n ≡ b)) → IsErrOf {T = T} {E = SigError} (Err f) (sig.Refused a) ↔ P → IsErrOf {T = T} {E = SigError} (Err f) (sig.Refused b) ↔ ((P → ⊥) × Q) → IsFirstCause a P (IsFirstCause b Q IsNone) code
-  two_causes code f is codes first second =
-      elim (codes code (ap (λ (g : SigError). Err g) is)) [
-        | inl e ↦ inl (e, first.0 (ap (λ (g : SigError). Err g) is ∙ ap (λ (k : ℕ). Err (sig.Refused k)) e))
-        | inr e ↦ let h = second.0 (ap (λ (g : SigError). Err g) is ∙ ap (λ (k : ℕ). Err (sig.Refused k)) e) in inr (h.0, inl (e, h.1))
-      ]
+pub no_last : (number : ℕ) (cause : Type 0) → (cause → ⊥) → (n : ℕ) → IsFirstCause number cause IsNone n → ⊥
+no_last number cause none n (inl h) = none h.1
+no_last number cause none n (inr h) = h.1
 
-  -- neither applies to what is declared
-  pub no_two : (x : T) → IsErrOf {T = T} {E = SigError} (Ok x) (sig.Refused a) ↔ P → IsErrOf {T = T} {E = SigError} (Ok x) (sig.Refused b) ↔ ((P → ⊥) × Q) → (n : ℕ) → IsFirstCause a P (IsFirstCause b Q IsNone) n → ⊥
-  no_two x first second =
-      let none : P → ⊥ = not_caused P x (sig.Refused a) first in
-      no_cause a P (IsFirstCause b Q IsNone) none (no_last b Q (λ q. not_caused ((P → ⊥) × Q) x (sig.Refused b) second (none, q)))
+-- what holds of the number of an error holds of each number that it has
+pub at_code : {T : Type 0} (X : ℕ → Type 0) (code : ℕ) → X code → (n : ℕ) → IsErrOf {T = T} {E = CommandError} (Err (Refused code)) (Refused n) → X n
+at_code X code h n e =
+    let same : code ≡ n = cc in
+    subst X same h
 
-module _ {T : Type 0} (X : ℕ → Type 0) where
-  -- what holds of the number of an error holds of each number that it has
-  pub at_code : (code : ℕ) → X code → (n : ℕ) → IsErrOf {T = T} {E = CommandError} (Err (command.Refused code)) (command.Refused n) → X n
-  at_code code h n e =
-      let same : code ≡ n = cc in
-      subst X same h
+-- a refusal is the same of any result
+pub same_refusal : {P Q : Type 0} (e : CommandError) (n : ℕ) → IsErrOf {T = P} (Err e) (Refused n) → IsErrOf {T = Q} (Err e) (Refused n)
+same_refusal {P} {Q} e n is =
+    let same : e ≡ Refused n = cc in
+    ap (λ (z : CommandError). Err z) same
 
-  -- no number is that of an error where there is none
-  pub at_ok : (x : T) (n : ℕ) → IsErrOf {T = T} {E = CommandError} (Ok x) (command.Refused n) → X n
-  at_ok x n e = absurd cc
-
-  pub at_memory : (n : ℕ) → IsErrOf {T = T} {E = CommandError} (Err command.NoMemory) (command.Refused n) → X n
-  at_memory n e = absurd cc
-
--- an error that is passed on has its numbers
-pub at_error : {T S : Type 0} (X : ℕ → Type 0) (e : CommandError) → ((n : ℕ) → IsErrOf {T = S} {E = CommandError} (Err e) (command.Refused n) → X n) → (n : ℕ) → IsErrOf {T = T} {E = CommandError} (Err e) (command.Refused n) → X n
-at_error {T} {S} X e holds n is =
-    let same : e ≡ command.Refused n = cc in
-    holds n (ap (λ (f : CommandError). Err f) same)
-
--- two causes that do not apply before a later one, where a call is accepted
-pub accepted_later : {T E : Type 0} (r : Result T E) (a b : ℕ) (P Q : Type 0) (later : ℕ → Type 0) → (P → ⊥) → (Q → ⊥) → OnOk r ((n : ℕ) → later n → ⊥) → OnOk r ((n : ℕ) → IsFirstCause a P (IsFirstCause b Q later) n → ⊥)
-accepted_later (Ok x) a b P Q later no_first no_second h = no_cause a P (IsFirstCause b Q later) no_first (no_cause b Q later no_second h)
-accepted_later (Err e) a b P Q later no_first no_second h = tt
+-- what is tested is not there where the test fails
+pub not_when : (b : Bool) (P : Type 0) → b ≡ false → IsTrue b ↔ P → P → ⊥
+not_when b P is iff p =
+    let yes : b ≡ true = iff.1 p in
+    true≢false (sym yes ∙ is)

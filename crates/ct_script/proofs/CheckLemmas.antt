@@ -1,46 +1,47 @@
 -- What a check of the core terms in a table says of the stack that holds them.
-use Rattle.std.proofs.Common.{◌≡◌, ◌∙◌, ℕ, ◌<◌, List, ◌++◌, length, All, Contains, refl, sym, ap, subst}
+use Rattle.std.proofs.Common.{◌≡◌, ℕ, List, ◌++◌, Contains, refl, sym, subst}
 use Rattle.ct_sorts.specs.Declarations.{Declarations}
 use Rattle.ct_sorts.specs.Consistent.{IsConsistent}
 use Rattle.ct_terms.specs.declared.ids.TermId.{TermId}
-use Rattle.ct_terms.specs.Terms.{Terms, IsBoolean}
+use Rattle.ct_terms.specs.Terms.{Terms, AreSorted}
 use Rattle.ct_terms.specs.CoreTree.{CoreTree, subtrees, term_at}
 use Rattle.ct_closure.specs.Closed.{HasMoreThan, most_closure_terms, truth_trees}
 use Rattle.ct_closure.specs.ClosedTable.{AreSubtermsOf, terms_at}
 use Rattle.ct_engine.specs.declared.verdict.Verdict.{Verdict}
 use Rattle.ct_engine.specs.Verdict.{IsVerdict}
+use Rattle.ct_stack.specs.Stack.{Stack, in_force, cores}
+use Rattle.ct_stack.specs.Held.{IsHeld, as_one}
 use Rattle.ct_script.specs.Numbers.{closure_too_large}
-use Rattle.ct_script.specs.State.{Level, Stack, in_force, cores}
 use Rattle.ct_script.specs.Refusal.{IsCheckRefusal}
-use Rattle.ct_script.specs.Session.{IsHeld, alone}
 use Rattle.ct_script.specs.Verdict.{IsRight}
-use Rattle.ct_script.proofs.StepLemmas.{no_last, last_cause}
+use Rattle.ct_script.proofs.CauseLemmas.{no_last, last_cause}
 use Rattle.ct_script.proofs.VerdictLemmas.{Assertions, right}
 
-module _ (level : Level) (table : Terms) (numbers now : List TermId) (same : now ≡ numbers) (held : IsHeld level table numbers) where
-  pub booleans : All (IsBoolean table) now
-  booleans = subst (λ (ns : List TermId). All (IsBoolean table) ns) (sym same) held.in_table.booleans
+module _ (s : Stack) (d : Declarations) (table : Terms) (numbers : List TermId) (is : d ≡ s.top.context.declarations) (held : IsHeld (as_one s) table numbers) where
+  pub sorted : AreSorted d table
+  sorted = subst (λ (x : Declarations). AreSorted x table) (sym is) held.in_table.exact.sorted
 
-  pub exact : AreSubtermsOf table now
-  exact =
-      subst (λ (ns : List TermId). AreSubtermsOf table ns) (sym same)
-      (λ t within. subst (λ (rs : List CoreTree). (root : CoreTree) × Contains (truth_trees ++ rs) root × Contains (subtrees root) (term_at table t)) (sym held.in_table.stand) (held.in_table.exact.covered t within))
+  pub exact : AreSubtermsOf table numbers
+  exact = λ t within. subst (λ (rs : List CoreTree). (root : CoreTree) × Contains (truth_trees ++ rs) root × Contains (subtrees root) (term_at table t)) (sym held.in_table.stand) (held.in_table.exact.covered t within)
 
-  roots : terms_at table now ≡ cores level.context level.assertions
-  roots = ap (λ (ns : List TermId). terms_at table ns) same ∙ held.in_table.stand
+  -- too many terms of the roots are too many of the core terms of the assertions
+  more : HasMoreThan d (terms_at table numbers) most_closure_terms → HasMoreThan s.top.context.declarations (cores s.top.context (in_force s)) most_closure_terms
+  more h =
+      subst (λ (rs : List CoreTree). HasMoreThan s.top.context.declarations rs most_closure_terms) held.in_table.stand
+      (subst (λ (x : Declarations). HasMoreThan x (terms_at table numbers) most_closure_terms) is h)
 
-  module _ (s : Stack) (is : alone level ≡ s) where
-    pub check_fits : (HasMoreThan level.context.declarations (terms_at table now) most_closure_terms → ⊥) → (n : ℕ) → IsCheckRefusal s n → ⊥
-    check_fits fits =
-        subst (λ (t : Stack). (n : ℕ) → IsCheckRefusal t n → ⊥) is
-        (no_last closure_too_large (HasMoreThan level.context.declarations (cores level.context level.assertions) most_closure_terms) (λ h. fits (subst (λ (rs : List CoreTree). HasMoreThan level.context.declarations rs most_closure_terms) (sym roots) h)))
+  no_more : HasMoreThan s.top.context.declarations (cores s.top.context (in_force s)) most_closure_terms → HasMoreThan d (terms_at table numbers) most_closure_terms
+  no_more h =
+      subst (λ (x : Declarations). HasMoreThan x (terms_at table numbers) most_closure_terms) (sym is)
+      (subst (λ (rs : List CoreTree). HasMoreThan s.top.context.declarations rs most_closure_terms) (sym held.in_table.stand) h)
 
-    pub check_too_large : HasMoreThan level.context.declarations (terms_at table now) most_closure_terms → IsCheckRefusal s closure_too_large
-    check_too_large many =
-        subst (λ (t : Stack). IsCheckRefusal t closure_too_large) is
-        (last_cause closure_too_large (HasMoreThan level.context.declarations (cores level.context level.assertions) most_closure_terms) closure_too_large refl (subst (λ (rs : List CoreTree). HasMoreThan level.context.declarations rs most_closure_terms) roots many))
+  pub check_fits : (HasMoreThan d (terms_at table numbers) most_closure_terms → ⊥) → (n : ℕ) → IsCheckRefusal s n → ⊥
+  check_fits fits = no_last closure_too_large (HasMoreThan s.top.context.declarations (cores s.top.context (in_force s)) most_closure_terms) (λ h. fits (no_more h))
 
-    pub check_right : Assertions → IsConsistent level.context.declarations → (budget : ℕ) (v : Verdict) → IsVerdict level.context.declarations table now budget v → IsRight s.top.context (in_force s) budget v
-    check_right assertions consistent budget v verdict =
-        subst (λ (t : Stack). IsRight t.top.context (in_force t) budget v) is
-        (right assertions level.context level.assertions table numbers consistent held budget v (subst (λ (ns : List TermId). IsVerdict level.context.declarations table ns budget v) same verdict))
+  pub check_too_large : HasMoreThan d (terms_at table numbers) most_closure_terms → IsCheckRefusal s closure_too_large
+  check_too_large many = last_cause closure_too_large (HasMoreThan s.top.context.declarations (cores s.top.context (in_force s)) most_closure_terms) closure_too_large refl (more many)
+
+  pub check_right : Assertions → IsConsistent d → (budget : ℕ) (v : Verdict) → IsVerdict d table numbers budget v → IsRight s.top.context (in_force s) budget v
+  check_right assertions consistent budget v verdict =
+      right assertions s.top.context (in_force s) table numbers (subst IsConsistent is consistent) held budget v
+      (subst (λ (x : Declarations). IsVerdict x table numbers budget v) is verdict)

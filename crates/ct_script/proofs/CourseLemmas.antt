@@ -5,10 +5,12 @@ use Rattle.ct_command.specs.Command.{Command}
 use Rattle.ct_command.specs.Reading.{Read, command}
 use Rattle.ct_engine.specs.declared.verdict.Verdict.{Verdict}
 use Rattle.ct_script.specs.declared.answer.Answer.{Answer}
-use Rattle.ct_script.specs.State.{Stack, State}
+use Rattle.ct_script.specs.declared.state.SessionState.{SessionState}
+use Rattle.ct_script.specs.State.{State}
 use Rattle.ct_script.specs.Refusal.{IsRefusal}
 use Rattle.ct_script.specs.Step.{Effect, Steps, Step, refused, counted_with}
-use Rattle.ct_script.specs.Session.{Course, IsAnswer, Performs, state_of, reached, after}
+use Rattle.ct_script.specs.Session.{Course, IsAnswer, Performs, IsSame, state_of, reached, after}
+use Rattle.ct_script.proofs.SoundLemmas.{same_state}
 use Rattle.ct_script.proofs.SessionLemmas.{course, comes_done, comes_refused, comes_unread, comes_of}
 
 -- a command that is done or refused, as what the expression does
@@ -16,31 +18,30 @@ pub stepped : {E : Type 0} (r : Result Answer E) (old : Course) (line : ℕ) (x 
 stepped (Ok a) old line x c new is h = comes_of old line x (Ok c) new a is h
 stepped (Err f) old line x c new is h = tt
 
-module _ (stack : Stack) (verdicts : List Verdict) (kept : Option ℕ) (number : ℕ) (errors : List (ℕ × ℕ)) (s : Course) (seen : course stack verdicts kept number errors ≡ s) (line : ℕ) where
+module _ (old : SessionState) (number : ℕ) (errors : List (ℕ × ℕ)) (s : Course) (seen : course old number errors ≡ s) (line : ℕ) where
   -- an expression that is no command
-  pub unread : (x : Expression) (code : ℕ) (a : Answer) (new_errors : List (ℕ × ℕ)) → command x ≡ Err code → new_errors ≡ errors ++ (line, code) ∷ [] → IsAnswer (refused (state_of stack verdicts kept) line code) a → (e : Effect) × Step s.state s.number line x e × (course stack verdicts kept number new_errors ≡ after s line x e) × IsAnswer e a
+  pub unread : (x : Expression) (code : ℕ) (a : Answer) (new_errors : List (ℕ × ℕ)) → command x ≡ Err code → new_errors ≡ errors ++ (line, code) ∷ [] → IsAnswer (refused (state_of old) line code) a → (e : Effect) × Step s.state s.number line x e × (course old number new_errors ≡ after s line x e) × IsAnswer e a
   unread x code a new_errors is stored answer =
-      subst (λ (t : Course). (e : Effect) × Step t.state t.number line x e × (course stack verdicts kept number new_errors ≡ after t line x e) × IsAnswer e a) seen
-      (comes_of (course stack verdicts kept number errors) line x (Err code) (course stack verdicts kept number new_errors) a is (comes_unread stack verdicts kept number errors line code a new_errors stored answer))
+      subst (λ (t : Course). (e : Effect) × Step t.state t.number line x e × (course old number new_errors ≡ after t line x e) × IsAnswer e a) seen
+      (comes_of (course old number errors) line x (Err code) (course old number new_errors) a is (comes_unread old number errors line code a new_errors stored answer))
 
-  module _ (new_stack : Stack) (new_verdicts : List Verdict) (new_kept : Option ℕ) (count : ℕ) (c : Command) (counts : count ≡ counted_with number c) where
+  module _ (new : SessionState) (count : ℕ) (c : Command) (counts : count ≡ counted_with number c) where
     -- a command that is done
-    pub done : (a : Answer) → Performs (state_of stack verdicts kept) verdicts count c (state_of new_stack new_verdicts new_kept) new_verdicts a → (e : Effect) × Steps s.state (counted_with s.number c) line (Ok c) e × (course new_stack new_verdicts new_kept count errors ≡ reached s line (counted_with s.number c) e) × IsAnswer e a
+    pub done : (a : Answer) → Performs old count c new a → (e : Effect) × Steps s.state (counted_with s.number c) line (Ok c) e × (course new count errors ≡ reached s line (counted_with s.number c) e) × IsAnswer e a
     done a p =
-        subst (λ (t : Course). (e : Effect) × Steps t.state (counted_with t.number c) line (Ok c) e × (course new_stack new_verdicts new_kept count errors ≡ reached t line (counted_with t.number c) e) × IsAnswer e a) seen
-        (comes_done stack verdicts kept number errors line new_stack new_verdicts new_kept count c counts a p)
+        subst (λ (t : Course). (e : Effect) × Steps t.state (counted_with t.number c) line (Ok c) e × (course new count errors ≡ reached t line (counted_with t.number c) e) × IsAnswer e a) seen
+        (comes_done old number errors line new count c counts a p)
 
     -- a command that is refused
-    pub not_done : (code : ℕ) (a : Answer) (new_errors : List (ℕ × ℕ)) → IsRefusal (state_of stack verdicts kept) c code → (new_stack ≡ stack) × (new_verdicts ≡ verdicts) × (new_kept ≡ kept) → new_errors ≡ errors ++ (line, code) ∷ [] → IsAnswer (refused (state_of stack verdicts kept) line code) a → (e : Effect) × Steps s.state (counted_with s.number c) line (Ok c) e × (course new_stack new_verdicts new_kept count new_errors ≡ reached s line (counted_with s.number c) e) × IsAnswer e a
-    not_done code a new_errors refusal same stored answer =
-        subst (λ (t : Course). (e : Effect) × Steps t.state (counted_with t.number c) line (Ok c) e × (course new_stack new_verdicts new_kept count new_errors ≡ reached t line (counted_with t.number c) e) × IsAnswer e a) seen
-        (comes_refused stack verdicts kept number errors line new_stack new_verdicts new_kept count c counts code a new_errors refusal same.0 same.1 same.2 stored answer)
+    pub not_done : (code : ℕ) (a : Answer) (new_errors : List (ℕ × ℕ)) → IsRefusal (state_of old) c code × IsSame old new → new_errors ≡ errors ++ (line, code) ∷ [] → IsAnswer (refused (state_of old) line code) a → (e : Effect) × Steps s.state (counted_with s.number c) line (Ok c) e × (course new count new_errors ≡ reached s line (counted_with s.number c) e) × IsAnswer e a
+    not_done code a new_errors refusal stored answer =
+        subst (λ (t : Course). (e : Effect) × Steps t.state (counted_with t.number c) line (Ok c) e × (course new count new_errors ≡ reached t line (counted_with t.number c) e) × IsAnswer e a) seen
+        (comes_refused old number errors line new count c counts code a new_errors refusal.0 refusal.1 stored answer)
 
   -- nothing has changed
-  pub unchanged : (new_stack : Stack) (new_verdicts : List Verdict) (new_kept : Option ℕ) (new_errors : List (ℕ × ℕ)) → (new_stack ≡ stack) × (new_verdicts ≡ verdicts) × (new_kept ≡ kept) → new_errors ≡ errors → course new_stack new_verdicts new_kept number new_errors ≡ s
-  unchanged new_stack new_verdicts new_kept new_errors same e =
-      ap (λ (t : Stack). course t new_verdicts new_kept number new_errors) same.0
-      ∙ ap (λ (vs : List Verdict). course stack vs new_kept number new_errors) same.1
-      ∙ ap (λ (k : Option ℕ). course stack verdicts k number new_errors) same.2
-      ∙ ap (λ (es : List (ℕ × ℕ)). course stack verdicts kept number es) e
+  pub unchanged : (new : SessionState) (new_errors : List (ℕ × ℕ)) → IsSame old new → new_errors ≡ errors → course new number new_errors ≡ s
+  unchanged new new_errors same e =
+      ap (λ (t : State). record { state = t; number = number; verdicts = new.verdicts.items; errors = new_errors }) (same_state old new same)
+      ∙ ap (λ (vs : List Verdict). record { state = state_of old; number = number; verdicts = vs; errors = new_errors }) same.verdicts
+      ∙ ap (λ (es : List (ℕ × ℕ)). course old number es) e
       ∙ seen

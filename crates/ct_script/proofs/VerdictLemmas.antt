@@ -22,8 +22,8 @@ use Rattle.ct_engine.specs.declared.verdict.Verdict.{Verdict}
 use Rattle.ct_engine.specs.declared.verdict.Verdict.TheVariants.{Sat, Unsat, Unknown, Stuck}
 use Rattle.ct_engine.specs.Verdict.{IsVerdict}
 use Rattle.ct_engine.specs.Saturated.{IsSaturated}
-use Rattle.ct_script.specs.State.{Context, Level, core, cores}
-use Rattle.ct_script.specs.Session.{IsHeld}
+use Rattle.ct_stack.specs.Stack.{Context, core, cores}
+use Rattle.ct_stack.specs.Held.{IsHeld}
 use Rattle.ct_script.specs.Verdict.{IsRight}
 use Rattle.ct_script.proofs.ListLemmas.{contained}
 

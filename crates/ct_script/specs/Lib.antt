@@ -1,14 +1,10 @@
 pub mod Numbers
-pub mod FormulaCode
+pub mod Options
 pub mod State
-pub mod Outcomes
-pub mod Elaborations
+pub mod Infos
 pub mod Refusal
 pub mod Verdict
-pub mod Values
 pub mod Step
 pub mod Answers
 pub mod Session
-pub mod Changes
-pub mod Laws
-pub mod Sorts
+pub mod Replay

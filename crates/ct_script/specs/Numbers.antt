@@ -1,17 +1,5 @@
--- The numbers of the errors of commands, beside those of sorts and terms.
+-- The numbers of the errors of commands, beside those of sorts, terms and the assertion stack.
 use Rattle.std.specs.Prelude.{ℕ}
-
--- the names and the bodies of a block are not as many
-abbrev pub counts_differ : ℕ
-counts_differ = 15
-
--- too many core terms
-abbrev pub too_many_terms : ℕ
-too_many_terms = 20
-
--- an assertion is not Bool
-abbrev pub not_boolean : ℕ
-not_boolean = 24
 
 -- the closure of the assertions is too large
 abbrev pub closure_too_large : ℕ
@@ -20,3 +8,15 @@ closure_too_large = 30
 -- there is no model
 abbrev pub no_model : ℕ
 no_model = 52
+
+-- there is no derivation
+abbrev pub no_derivation : ℕ
+no_derivation = 53
+
+-- the option cannot be set any more
+abbrev pub not_now : ℕ
+not_now = 54
+
+-- there is no logic of the name
+abbrev pub unknown_logic : ℕ
+unknown_logic = 55

@@ -1,111 +1,70 @@
 -- When a command is refused, and with which error: of the causes of its line, in their order, the first that applies.
-use Rattle.std.specs.Prelude.{◌≡◌, ◌≢◌, ℕ, ◌<◌, ◌≤◌, true, false, List, [], ◌∷◌, ◌++◌, length, map, Option, None, Some, Contains}
+use Rattle.std.specs.Prelude.{◌≡◌, ◌≢◌, ℕ, Bool, true, false, List, [], ◌∷◌, None, codes}
+use Rattle.std.specs.List.{list_any}
+use Rattle.std.specs.Str.{bytes_eq}
 use Rattle.ct_sexpr.specs.Expression.{Expression}
-use Rattle.ct_sorts.specs.Availability.{IsUnavailable, IsUnavailableSort}
-use Rattle.ct_sorts.specs.Block.{IsBlockRefusal}
-use Rattle.ct_sorts.specs.Declarations.{Declarations, sort_names, symbol_names, most_sorts, most_functions, most_definitions}
-use Rattle.ct_sorts.specs.Refusals.{IsFirstCause, IsNone, name_taken, symbol_taken, too_many}
-use Rattle.ct_terms.specs.Terms.{most_terms}
-use Rattle.ct_terms.specs.CoreTree.{CoreTree, subtrees}
-use Rattle.ct_terms.specs.Formula.{Formula}
-use Rattle.ct_closure.specs.Closed.{AreDifferent, HasMoreThan, most_closure_terms, truth_trees}
-use Rattle.ct_eval.specs.declared.interp.Interp.{Interp}
-use Rattle.ct_check.specs.Outcome.{Sorted}
-use Rattle.ct_check.specs.Refusals.{out_of_scope}
-use Rattle.ct_engine.specs.declared.verdict.Verdict.{Verdict}
-use Rattle.ct_engine.specs.declared.verdict.Verdict.TheVariants.{Sat, Unsat, Unknown, Stuck}
-use Rattle.ct_command.specs.declared.command.Family.{Family}
-use Rattle.ct_command.specs.Command.{Named, SortHead, Body, Command, declare_sort, declare_block, declare_fun, define_fun, assert, check_sat, get_model, get_value, exit}
-use Rattle.ct_script.specs.Numbers.{counts_differ, too_many_terms, closure_too_large, no_model}
-use Rattle.ct_script.specs.State.{Context, Stack, Kept, State, context_of, declared, in_force, core, cores}
-use Rattle.ct_script.specs.Outcomes.{IsErrorOr}
-use Rattle.ct_script.specs.Elaborations.{kind_of, is_plain_block, block_of, declared_function, defined_function, asserted_formula, valued_terms}
+use Rattle.ct_sorts.specs.Refusals.{IsFirstCause, IsNone}
+use Rattle.ct_closure.specs.Closed.{HasMoreThan, most_closure_terms}
+use Rattle.ct_command.specs.declared.option.Setting.{Setting}
+use Rattle.ct_command.specs.Command.{Command, set_logic, set_option, get_option, set_info, get_info, declare_sort, declare_block, declare_fun, define_fun, assert, check_sat, push, pop, reset_assertions, reset, get_model, get_value, get_proof, echo, exit, unsupported}
+use Rattle.ct_stack.specs.Stack.{Stack, first_stack, in_force, cores}
+use Rattle.ct_stack.specs.Refusal.{IsSortRefusal, IsTypesRefusal, IsFunctionRefusal, IsDefinitionRefusal, IsAssertionRefusal, IsTermsRefusal, IsPushRefusal, IsPopRefusal}
+use Rattle.ct_script.specs.Numbers.{closure_too_large, no_model, no_derivation, not_now, unknown_logic}
+use Rattle.ct_script.specs.Options.{sets_global}
+use Rattle.ct_script.specs.State.{State, context_of, declared, model_kept, derivation_kept}
 
--- `true`, `false` and all subterms of these core terms are more different terms than there may be
-pub record HasManyTerms (roots : List CoreTree) : Type 0 where
-  pub terms : List CoreTree
-  pub different : AreDifferent terms
-  pub inside : (t : CoreTree) → Contains terms t → (root : CoreTree) × Contains (truth_trees ++ roots) root × Contains (subtrees root) t
-  pub many : most_terms < length terms
+-- the logics whose formulas are all among those of the solver
+abbrev pub logics : List (List ℕ)
+logics = codes "QF_UF" ∷ (codes "QF_DT" ∷ (codes "QF_UFDT" ∷ (codes "ALL" ∷ [])))
 
--- the model of a verdict, where it has one
-abbrev pub model_in : Verdict → Option Interp
-model_in (Sat i) = Some i
-model_in (Unsat derivation) = None
-model_in (Unknown spent) = None
-model_in (Stuck table literals i index) = None
+abbrev pub is_logic : List ℕ → Bool
+is_logic name = list_any (λ logic. bytes_eq logic name) logics
 
--- the model that the last answer left, as long as it stands
-abbrev pub model_kept : Option Kept → Option Interp
-model_kept None = None
-model_kept (Some kept) = model_in kept.verdict
+abbrev pub IsLogicRefusal : List ℕ → ℕ → Type 0
+IsLogicRefusal name = IsFirstCause unknown_logic (is_logic name ≡ false) IsNone
 
--- an uninterpreted sort
-abbrev pub IsSortRefusal : Declarations → SortHead → ℕ → Type 0
-IsSortRefusal d head =
-    IsFirstCause out_of_scope (head.arity ≢ 0)
-    (IsFirstCause name_taken (IsUnavailableSort (sort_names d) head.name)
-    (IsFirstCause too_many (most_sorts ≤ length d.sorts) IsNone))
-
--- a block of datatypes or codatatypes
-abbrev pub IsTypesRefusal : Declarations → Family → List SortHead → List Body → ℕ → Type 0
-IsTypesRefusal d family heads bodies =
-    IsFirstCause out_of_scope (is_plain_block heads bodies ≡ false)
-    (IsFirstCause counts_differ (length heads ≢ length bodies)
-    (IsBlockRefusal d (kind_of family) (block_of heads bodies)))
-
--- a function
-abbrev pub IsFunctionRefusal : Declarations → List ℕ → List Expression → Expression → ℕ → Type 0
-IsFunctionRefusal d name args sort =
-    IsFirstCause symbol_taken (IsUnavailable (symbol_names d) name)
-    (IsErrorOr (declared_function d name args sort) (λ f.
-    IsFirstCause too_many (most_functions ≤ length d.functions) IsNone))
-
--- a definition
-abbrev pub IsDefinitionRefusal : Declarations → List ℕ → List Named → Expression → Expression → ℕ → Type 0
-IsDefinitionRefusal d name params sort t =
-    IsFirstCause symbol_taken (IsUnavailable (symbol_names d) name)
-    (IsErrorOr (defined_function d name params sort t) (λ f.
-    IsFirstCause too_many (most_definitions ≤ length d.definitions) IsNone))
-
--- an assertion, after those in force
-abbrev pub IsAssertionRefusal : Stack → Expression → ℕ → Type 0
-IsAssertionRefusal stack t =
-    IsErrorOr (asserted_formula stack.top.context.declarations t) (λ formula.
-    IsFirstCause too_many_terms (HasManyTerms (cores stack.top.context (in_force stack) ++ core stack.top.context formula ∷ [])) IsNone)
+-- what declarations belong to is settled before anything is declared, defined or asserted, and before a level is added
+abbrev pub IsOptionRefusal : State → Setting → ℕ → Type 0
+IsOptionRefusal s setting = IsFirstCause not_now ((sets_global setting ≡ true) × (s.stack ≢ first_stack)) IsNone
 
 -- a check of the assertions in force
 abbrev pub IsCheckRefusal : Stack → ℕ → Type 0
 IsCheckRefusal stack =
     IsFirstCause closure_too_large (HasMoreThan stack.top.context.declarations (cores stack.top.context (in_force stack)) most_closure_terms) IsNone
 
--- the formulas of terms
-abbrev pub formulas_of : List Sorted → List Formula
-formulas_of terms = map (λ (t : Sorted). t.0) terms
-
 -- what asks for the model
 abbrev pub IsModelRefusal : State → ℕ → Type 0
 IsModelRefusal s = IsFirstCause no_model (model_kept s.kept ≡ None) IsNone
-
--- terms whose values are asked, beside these core terms
-abbrev pub IsTermsRefusal : Context → List CoreTree → List Expression → ℕ → Type 0
-IsTermsRefusal c roots ts =
-    IsErrorOr (valued_terms c.declarations ts) (λ terms.
-    IsFirstCause too_many_terms (HasManyTerms (roots ++ cores c (formulas_of terms))) IsNone)
 
 -- the values of terms in the model
 abbrev pub IsValueRefusal : State → List Expression → ℕ → Type 0
 IsValueRefusal s ts =
     IsFirstCause no_model (model_kept s.kept ≡ None) (IsTermsRefusal (context_of s) (cores (context_of s) (in_force s.stack)) ts)
 
+-- what asks for the derivation
+abbrev pub IsProofRefusal : State → ℕ → Type 0
+IsProofRefusal s = IsFirstCause no_derivation (derivation_kept s.kept ≡ None) IsNone
+
 -- the command is refused with the error of this number
 abbrev pub IsRefusal : State → Command → ℕ → Type 0
+IsRefusal s (set_logic name) = IsLogicRefusal name
+IsRefusal s (set_option setting) = IsOptionRefusal s setting
+IsRefusal s (get_option option) = IsNone
+IsRefusal s set_info = IsNone
+IsRefusal s (get_info info) = IsNone
 IsRefusal s (declare_sort head) = IsSortRefusal (declared s) head
 IsRefusal s (declare_block family heads bodies) = IsTypesRefusal (declared s) family heads bodies
 IsRefusal s (declare_fun name args sort) = IsFunctionRefusal (declared s) name args sort
 IsRefusal s (define_fun name params sort t) = IsDefinitionRefusal (declared s) name params sort t
 IsRefusal s (assert t) = IsAssertionRefusal s.stack t
 IsRefusal s check_sat = IsCheckRefusal s.stack
+IsRefusal s (push n) = IsPushRefusal s.stack n
+IsRefusal s (pop n) = IsPopRefusal s.stack n
+IsRefusal s reset_assertions = IsNone
+IsRefusal s reset = IsNone
 IsRefusal s get_model = IsModelRefusal s
 IsRefusal s (get_value ts) = IsValueRefusal s ts
+IsRefusal s get_proof = IsProofRefusal s
+IsRefusal s (echo e) = IsNone
 IsRefusal s exit = IsNone
+IsRefusal s unsupported = IsNone

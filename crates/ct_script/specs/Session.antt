@@ -1,26 +1,19 @@
 -- What a session keeps, and how it holds it.
-use Rattle.std.specs.Prelude.{◌≡◌, ℕ, ◌<◌, List, [], ◌∷◌, ◌++◌, map, length, All, Contains, Option, None, Some, option_map, slice_get, ◌-◌}
+use Rattle.std.specs.Prelude.{◌≡◌, ℕ, List, ◌++◌, length, Option, None, Some, Result, Ok, Err, option_map, slice_get, ◌-◌}
 use Rattle.std.specs.Borrow.{Bor}
 use Rattle.ct_sexpr.specs.Expression.{Expression}
-use Rattle.ct_sorts.specs.Declarations.{Declarations, bool_sort}
-use Rattle.ct_sorts.specs.Consistent.{IsConsistent}
-use Rattle.ct_terms.specs.declared.ids.TermId.{TermId}
-use Rattle.ct_terms.specs.declared.tree.Tree.{Tree}
-use Rattle.ct_terms.specs.Terms.{Terms, AreSorted, IsBoolean}
-use Rattle.ct_terms.specs.Formula.{Formula}
-use Rattle.ct_terms.specs.FormulaSorts.{IsSorted, AreSound}
-use Rattle.ct_terms.specs.TreeFormula.{formula_of}
-use Rattle.ct_terms.specs.CoreTree.{CoreTree, subtrees, term_at}
-use Rattle.ct_closure.specs.Closed.{truth_trees}
-use Rattle.ct_closure.specs.ClosedTable.{Stands, terms_at}
+use Rattle.ct_sorts.specs.Declarations.{Declarations}
+use Rattle.ct_log.specs.Recorded.{Derived}
 use Rattle.ct_eval.specs.declared.interp.Interp.{Interp}
 use Rattle.ct_eval.specs.Interpretation.{IsProper}
-use Rattle.ct_compile.specs.declared.scope.Scope.{Scope}
 use Rattle.ct_engine.specs.declared.verdict.Verdict.{Verdict}
-use Rattle.ct_script.specs.State.{Context, Level, Stack, State, Kept, cores, first_options, declared}
-use Rattle.ct_script.specs.Refusal.{model_kept}
+use Rattle.ct_command.specs.declared.error.CommandError.{CommandError}
+use Rattle.ct_command.specs.declared.error.CommandError.TheVariants.{Refused, NoMemory}
 use Rattle.ct_command.specs.Command.{Command}
 use Rattle.ct_script.specs.declared.answer.Answer.{Answer}
+use Rattle.ct_script.specs.declared.state.SessionState.{SessionState}
+use Rattle.ct_script.specs.State.{State, Kept, declared, model_kept, derivation_kept}
+use Rattle.ct_script.specs.Refusal.{IsRefusal}
 use Rattle.ct_script.specs.Step.{Effect, IsAccepted, counted}
 use Rattle.ct_script.specs.Answers.{errors_of}
 
@@ -45,40 +38,6 @@ reached c line number effect =
 abbrev pub after : Course → ℕ → Expression → Effect → Course
 after c line e effect = reached c line (counted c.number e) effect
 
--- the context that a scope is
-abbrev pub context_in : Scope → Context
-context_in scope = record { declarations = scope.sig; bodies = map formula_of scope.bodies }
-
--- the level of these assertions
-abbrev pub level_in : Scope → List Tree → Level
-level_in scope asserts = record { context = context_in scope; assertions = map formula_of asserts }
-
--- the stack of one level
-abbrev pub alone : Level → Stack
-alone level = record { top = level; below = [] }
-
--- each definition has a body of its sort, each assertion is Boolean
-pub record IsSoundLevel (level : Level) : Type 0 where
-  pub bodies : AreSound level.context.declarations level.context.bodies
-  pub asserts : All (λ t. IsSorted level.context.declarations [] t bool_sort) level.assertions
-
--- the table holds exactly `true`, `false` and these core terms, with their subterms
-pub record IsTableOf (d : Declarations) (roots : List CoreTree) (table : Terms) : Type 0 where
-  pub sorted : AreSorted d table
-  pub covered : (t : TermId) → t.0 < length table → (root : CoreTree) × Contains (truth_trees ++ roots) root × Contains (subtrees root) (term_at table t)
-  pub complete : (root s : CoreTree) → Contains (truth_trees ++ roots) root → Contains (subtrees root) s → Stands table s
-
--- the table holds exactly the core terms of the assertions, which have these numbers
-pub record AreInTable (level : Level) (table : Terms) (numbers : List TermId) : Type 0 where
-  pub exact : IsTableOf level.context.declarations (cores level.context level.assertions) table
-  pub stand : terms_at table numbers ≡ cores level.context level.assertions
-  pub booleans : All (IsBoolean table) numbers
-
--- what a stack of assertions always holds
-pub record IsHeld (level : Level) (table : Terms) (numbers : List TermId) : Type 0 where
-  pub sound : IsSoundLevel level
-  pub in_table : AreInTable level table numbers
-
 -- the last verdict
 abbrev pub last_of : List Verdict → Option Verdict
 last_of verdicts = slice_get verdicts (length verdicts - 1)
@@ -88,16 +47,25 @@ abbrev pub kept_of : List Verdict → Option ℕ → Option Kept
 kept_of verdicts None = None
 kept_of verdicts (Some number) = option_map (λ v. record { verdict = v; number = number }) (last_of verdicts)
 
-abbrev pub state_of : Stack → List Verdict → Option ℕ → State
-state_of stack verdicts number = record { stack = stack; options = first_options; kept = kept_of verdicts number }
+abbrev pub state_of : SessionState → State
+state_of s = record { stack = s.stack; options = s.options; kept = kept_of s.verdicts.items s.kept }
 
--- the model that is kept is one of what is declared
-abbrev pub HasProperModel : Declarations → Option Kept → Type 0
-HasProperModel d kept = (i : Interp) → model_kept kept ≡ Some i → IsProper d i
+-- what is kept is of what is declared: the model is proper, and the derivation is over the declarations
+pub record KeepsOwn (d : Declarations) (kept : Option Kept) : Type 0 where
+  pub proper : (i : Interp) → model_kept kept ≡ Some i → IsProper d i
+  pub derived : (derivation : ℕ × Derived) → derivation_kept kept ≡ Some derivation → derivation.1.declarations ≡ d
+
+-- what a session always holds
+abbrev pub IsSound : State → Type 0
+IsSound s = KeepsOwn (declared s) s.kept
 
 -- the interpretation that is lent, where there is one
 abbrev pub interp_seen : Option (Bor Interp) → Option Interp
 interp_seen o = option_map (λ (b : Bor Interp). b.now) o
+
+-- the derivation that is lent with the number of its check, where there is one
+abbrev pub derivation_seen : Option (ℕ × Bor Derived) → Option (ℕ × Derived)
+derivation_seen o = option_map (λ (p : ℕ × Bor Derived). (p.0, p.1.now)) o
 
 -- the answer is that of the effect
 pub record IsAnswer (e : Effect) (a : Answer) : Type 0 where
@@ -106,9 +74,23 @@ pub record IsAnswer (e : Effect) (a : Answer) : Type 0 where
   pub stop : a.stop ≡ e.stop
 
 -- the command is accepted, does this, and is answered so
-pub record Performs (old : State) (verdicts : List Verdict) (number : ℕ) (c : Command) (new : State) (later : List Verdict) (a : Answer) : Type 0 where
+pub record Performs (old : SessionState) (number : ℕ) (c : Command) (new : SessionState) (a : Answer) : Type 0 where
   pub effect : Effect
-  pub accepted : IsAccepted old number c effect
-  pub state : new ≡ effect.state
-  pub given : later ≡ verdicts ++ effect.verdicts
+  pub accepted : IsAccepted (state_of old) number c effect
+  pub state : state_of new ≡ effect.state
+  pub given : new.verdicts.items ≡ old.verdicts.items ++ effect.verdicts
   pub answer : IsAnswer effect a
+
+-- nothing has changed
+pub record IsSame (old new : SessionState) : Type 0 where
+  pub stack : new.stack ≡ old.stack
+  pub options : new.options ≡ old.options
+  pub verdicts : new.verdicts.items ≡ old.verdicts.items
+  pub kept : new.kept ≡ old.kept
+
+-- what becomes of a command, which is the check of this number if it is a check: it is done, or it is refused or memory runs out,
+-- and then nothing has changed
+abbrev pub IsDone : SessionState → ℕ → Command → SessionState → Result Answer CommandError → Type 0
+IsDone old number c new (Ok a) = Performs old number c new a
+IsDone old number c new (Err (Refused n)) = IsRefusal (state_of old) c n × IsSame old new
+IsDone old number c new (Err NoMemory) = IsSame old new

@@ -1,6 +1,5 @@
 -- When a verdict is right: what it says of the assertions in force.
 use Rattle.std.specs.Prelude.{◌≡◌, ◌↔◌, ℕ, false, List, [], Some, slice_get}
-use Rattle.ct_sorts.specs.Declarations.{Declarations}
 use Rattle.ct_terms.specs.declared.ids.TermId.{TermId}
 use Rattle.ct_terms.specs.declared.ids.Lit.{Lit}
 use Rattle.ct_terms.specs.Terms.{Terms}
@@ -20,7 +19,7 @@ use Rattle.ct_engine.specs.declared.verdict.Verdict.{Verdict}
 use Rattle.ct_engine.specs.declared.verdict.Verdict.TheVariants.{Sat, Unsat, Unknown, Stuck}
 use Rattle.ct_engine.specs.Moves.{IsSpentRecord}
 use Rattle.ct_engine.specs.Saturated.{IsSaturated}
-use Rattle.ct_script.specs.State.{Context, cores}
+use Rattle.ct_stack.specs.Stack.{Context, cores}
 
 -- the interpretation makes every assertion true
 pub record Satisfies (c : Context) (asserts : List Formula) (i : Interp) : Type 0 where

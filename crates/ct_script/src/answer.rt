@@ -1,11 +1,11 @@
 //! Answers of commands, and their texts.
-ghost use Rattle.std.specs.Prelude.{◌≡◌, string_bytes, codes, [], ◌∷◌, ◌++◌, Some, None, false, IfOk, OnErr};
+ghost use Rattle.std.specs.Prelude.{◌≡◌, string_bytes, codes, ◌∷◌, [], ◌++◌, IfOk, OnErr};
 ghost use Rattle.std.specs.Fmt.{decimal};
 ghost use Rattle.ct_script.specs.State.{State};
 ghost use Rattle.ct_script.specs.Session.{IsAnswer};
-ghost use Rattle.ct_script.specs.Step.{refusal_text, word_of, refused};
+ghost use Rattle.ct_script.specs.Step.{refusal_text, word_of, refused, said, success};
 
-use ct_command::FORM_NOT_BUILT;
+use crate::options::Options;
 use ct_engine::Verdict;
 use ct_words::{error_text, error_texts};
 use std::alloc::{AllocError, Global};
@@ -68,15 +68,13 @@ pub(crate) fn refused(
     Ok(Answer {
         text,
         error: Some(code),
-        stop: code == FORM_NOT_BUILT,
+        stop: false,
     })
 }
 
 /// The answer of a command that prints something.
 pub(crate) fn said(text: Vec<u8>) -> Answer
-    ensures text { result.text.items ≡ text.items }
-    ensures error { result.error ≡ None }
-    ensures stop { result.stop ≡ false }
+    ensures answer { (s : State) → IsAnswer (said s text.items) result }
 {
     Answer {
         text,
@@ -85,15 +83,20 @@ pub(crate) fn said(text: Vec<u8>) -> Answer
     }
 }
 
-/// The answer of a command that prints nothing.
-pub(crate) fn quiet(alloc: Global, stop: bool) -> Answer
-    ensures text { result.text.items ≡ [] }
-    ensures error { result.error ≡ None }
-    ensures stop { result.stop ≡ stop }
+/// The answer of a command without an answer of its own, under these options.
+pub(crate) fn quiet(alloc: Global, options: Options) -> Result<Answer, AllocError>
+    ensures answer { IfOk result (λ a. (s : State) → IsAnswer (said s (success options)) a) }
 {
-    Answer {
-        text: Vec::new(alloc),
-        error: None,
-        stop,
+    let text = success(alloc, options)?;
+    Ok(said(text))
+}
+
+// What is printed of a command without an answer of its own.
+fn success(alloc: Global, options: Options) -> Result<Vec<u8>, AllocError>
+    ensures text { IfOk result (λ text. text.items ≡ success options) }
+{
+    if options.print_success {
+        return Vec::from_slice(alloc, b"success");
     }
+    Ok(Vec::new(alloc))
 }

@@ -2,19 +2,20 @@
 #![tactic(auto)]
 
 mod answer;
-mod block;
-mod define;
+mod ask;
+mod check;
+mod declare;
 mod error;
-mod function;
-mod laws;
-mod names;
+mod infos;
+mod levels;
+mod options;
 mod perform;
+mod replay;
 mod session;
-mod sorts;
-mod stack;
-mod terms;
-mod value;
+mod settings;
+mod state;
 
 pub use answer::{Answer, refusal_text};
 pub use error::SessionError;
+pub use replay::Replayed;
 pub use session::Session;

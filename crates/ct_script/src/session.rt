@@ -2,19 +2,26 @@
 ghost use Rattle.std.specs.Prelude.{◌≡◌, [], map, Ok, IfOk, OnErr};
 ghost use Rattle.ct_sexpr.specs.View.{expression_of};
 ghost use Rattle.ct_terms.specs.TreeFormula.{formula_of};
+ghost use Rattle.ct_command.specs.Reading.{command};
 ghost use Rattle.ct_command.specs.Seen.{command_seen};
-ghost use Rattle.ct_script.specs.State.{first_state, context_of, in_force};
-ghost use Rattle.ct_script.specs.Session.{IsAnswer, after, reached, context_in};
+ghost use Rattle.ct_stack.specs.Stack.{in_force};
+ghost use Rattle.ct_stack.specs.Held.{context_in};
+ghost use Rattle.ct_script.specs.State.{first_state, context_of};
+ghost use Rattle.ct_script.specs.Replay.{Replays, is_check};
+ghost use Rattle.ct_script.specs.Session.{IsAnswer, after, reached};
 ghost use Rattle.ct_script.specs.Step.{Effect, Step, Steps, counted_with, one_more};
 
 use crate::answer::{Answer, refused};
 use crate::error::SessionError;
+use crate::options::Options;
 use crate::perform::perform;
-use crate::stack::AssertionStack;
+use crate::replay::Replayed;
+use crate::state::SessionState;
 use ct_check::Scope;
 use ct_command::{Command, CommandError, command_of};
 use ct_engine::Verdict;
 use ct_sexpr::Sexpr;
+use ct_stack::AssertionStack;
 use ct_terms::Tree;
 use std::alloc::Global;
 use std::marker::Model;
@@ -22,32 +29,29 @@ use std::marker::Model;
 /// An error of a script: its line, counted from 1, and its number.
 pub type ScriptError = (u64, u16);
 
-/// What a script has declared and asserted, and what was answered.
+/// What a script has declared and asserted, its options, and what was answered.
 #[derive(Drop)]
 pub struct Session {
     alloc: Global,
-    stack: AssertionStack,
-    verdicts: Vec<Verdict>,
+    state: SessionState,
     errors: Vec<ScriptError>,
     // How many checks there were.
     number: u64,
-    // The number of the check that gave the last verdict, as long as that verdict stands.
-    kept: Option<u64>,
 }
 
 impl Model for Session {
-    ghost use Rattle.ct_script.specs.Session.{Course, state_of, kept_of, HasProperModel};
+    ghost use Rattle.ct_script.specs.Session.{Course, state_of, IsSound};
 
     ghost Value = { Course };
 
     ghost use Rattle.std.specs.Coded.{codes};
-    ghost use Rattle.ct_script.specs.FormulaCode.{coded_formula};
+    ghost use Rattle.ct_stack.specs.FormulaCode.{coded_formula};
 
     ghost coded = { Prim.hlevel (codes, coded_formula) };
 
-    ghost view = { λ s. record { state = state_of s.stack s.verdicts.items s.kept; number = s.number; verdicts = s.verdicts.items; errors = s.errors.items } };
+    ghost view = { λ s. record { state = state_of s.state; number = s.number; verdicts = s.state.verdicts.items; errors = s.errors.items } };
 
-    ghost invariant = { λ s. HasProperModel s.stack.top.context.declarations (kept_of s.verdicts.items s.kept) };
+    ghost invariant = { λ s. IsSound (state_of s.state) };
 }
 
 impl Session {
@@ -55,13 +59,17 @@ impl Session {
     pub fn new(alloc: Global) -> Result<Session, SessionError>
         ensures empty { IfOk result (λ s. s ≡ record { state = first_state; number = 0; verdicts = []; errors = [] }) }
     {
+        let stack = AssertionStack::new(alloc)?;
         Ok(Session {
             alloc,
-            stack: AssertionStack::new(alloc)?,
-            verdicts: Vec::new(alloc),
+            state: SessionState {
+                stack,
+                options: Options::new(),
+                verdicts: Vec::new(alloc),
+                kept: None,
+            },
             errors: Vec::new(alloc),
             number: 0,
-            kept: None,
         })
     }
 
@@ -81,25 +89,47 @@ impl Session {
         }
     }
 
+    /// Makes the change of declarations, assertions, levels and options that a command on this line makes, without solving and
+    /// without an answer: a check is only counted. A refused command changes nothing but the list of errors. Where memory runs out
+    /// nothing has changed.
+    pub fn replay(&mut self, line: u64, expr: &Sexpr) -> Result<Replayed, SessionError>
+        requires unanswered { self.old.verdicts ≡ [] }
+        ensures replayed { IfOk result (Replays self.old line (command (expression_of expr.now)) self.new) }
+        ensures no_verdict { self.new.verdicts ≡ [] }
+        ensures unchanged { OnErr result (self.new ≡ self.old) }
+    {
+        match command_of(self.alloc, expr) {
+            Ok(command) => self.replay_command(line, command),
+            Err(CommandError::Refused(code)) => {
+                let answer = refused(self.alloc, &mut self.errors, line, code)?;
+                Ok(Replayed {
+                    check: false,
+                    stop: answer.stop,
+                })
+            }
+            Err(CommandError::NoMemory) => Err(SessionError),
+        }
+    }
+
     /// What is declared and defined.
     pub fn scope(&self) -> &Scope
         ensures value { context_in result.now ≡ context_of self.now.state }
     {
-        self.stack.scope()
+        self.state.stack.scope()
     }
 
     /// The assertions in force.
     pub fn assertions(&self) -> &[Tree]
         ensures value { map formula_of result.now ≡ in_force self.now.state.stack }
     {
-        self.stack.assertions()
+        self.state.stack.assertions()
     }
 
     /// The verdicts so far.
     pub fn verdicts(&self) -> &[Verdict]
         ensures value { result.now ≡ self.now.verdicts }
     {
-        self.verdicts.as_slice()
+        self.state.verdicts.as_slice()
     }
 
     /// The verdicts and the errors of the session.
@@ -107,7 +137,28 @@ impl Session {
         ensures verdicts { result.0.items ≡ self.verdicts }
         ensures errors { result.1.items ≡ self.errors }
     {
-        (self.verdicts, self.errors)
+        let state = self.state;
+        (state.verdicts, self.errors)
+    }
+
+    // Counts a check, and does every other command.
+    fn replay_command(&mut self, line: u64, command: Command<'_>) -> Result<Replayed, SessionError>
+        ensures replayed { IfOk result (Replays self.old line (Ok (command_seen command.entry)) self.new) }
+        ensures no_verdict { self.old.verdicts ≡ [] → self.new.verdicts ≡ [] }
+        ensures unchanged { OnErr result (self.new ≡ self.old) }
+    {
+        if is_check(&command) {
+            self.number = next(self.number);
+            return Ok(Replayed {
+                check: true,
+                stop: false,
+            });
+        }
+        let answer = self.perform(line, command)?;
+        Ok(Replayed {
+            check: false,
+            stop: answer.stop,
+        })
     }
 
     // Does a command, or answers why it is refused.
@@ -117,14 +168,7 @@ impl Session {
         ensures unchanged { OnErr result (self.new ≡ self.old) }
     {
         let number = counted(self.number, &command);
-        match perform(
-            self.alloc,
-            &mut self.stack,
-            &mut self.verdicts,
-            &mut self.kept,
-            number,
-            command,
-        ) {
+        match perform(self.alloc, &mut self.state, number, command) {
             Ok(answer) => {
                 self.number = number;
                 Ok(answer)
@@ -143,17 +187,17 @@ impl Session {
 fn counted(number: u64, command: &Command<'_>) -> u64
     ensures value { result ≡ counted_with number (command_seen command.now) }
 {
-    match command {
-        Command::CheckSat => next(number),
-        Command::DeclareSort(_)
-        | Command::DeclareBlock(_, _, _)
-        | Command::DeclareFun(_, _, _)
-        | Command::DefineFun(_, _, _, _)
-        | Command::Assert(_)
-        | Command::GetModel
-        | Command::GetValue(_)
-        | Command::Exit => number,
+    if matches!(command, Command::CheckSat) {
+        return next(number);
     }
+    number
+}
+
+// Whether the command is a check.
+fn is_check(command: &Command<'_>) -> bool
+    ensures value { result ≡ is_check (Ok (command_seen command.now)) }
+{
+    matches!(command, Command::CheckSat)
 }
 
 // One more; the last number stays.

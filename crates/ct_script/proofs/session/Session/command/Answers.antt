@@ -12,4 +12,4 @@ pub returns-in_ok-refused-in-Err-Refused-clause-stepped : goal.returns-in_ok-ref
 returns-in_ok-refused-in-Err-Refused-clause-stepped c =
     let s = c.self.inside in
     let read = rw c.in-Err-Refused.field-0-is at c.in-Err-Refused.ensures.value in
-    unread s.stack s.verdicts.items s.kept s.number s.errors.items c.args.self.now c.self.view_is c.args.line (expression_of c.args.expr.now) c.in-Err-Refused.code c.in_ok-refused-in-Err-Refused.field-0 c.refused.new.errors.items read c.in_ok-refused-in-Err-Refused.ensures.stored (c.in_ok-refused-in-Err-Refused.ensures.answer (state_of s.stack s.verdicts.items s.kept))
+    unread s.state s.number s.errors.items c.args.self.now c.self.view_is c.args.line (expression_of c.args.expr.now) c.in-Err-Refused.code c.in_ok-refused-in-Err-Refused.field-0 c.refused.new.errors.items read c.in_ok-refused-in-Err-Refused.ensures.stored (c.in_ok-refused-in-Err-Refused.ensures.answer (state_of s.state))

@@ -1,0 +1,17 @@
+use Rattle.std.proofs.Common.{◌≡◌, List, Some, sym, subst}
+use Rattle.ct_engine.specs.declared.verdict.Verdict.{Verdict}
+use Rattle.ct_command.specs.Seen.{all_seen}
+use Rattle.ct_script.specs.State.{model_kept}
+use Rattle.ct_script.specs.Session.{kept_of}
+use Rattle.ct_script.proofs.DoneLemmas.{same_stack}
+use Rattle.ct_script.proofs.AskLemmas.{values_answered}
+use Rattle.ct_script.proofs.ask.values.Goals as goal
+
+pub returns : goal.returns
+returns c =
+    let i = c.in-Some.interp.now in
+    let stands : model_kept (kept_of c.args.state.now.verdicts.items c.args.state.now.kept) ≡ Some i = subst (λ (vs : List Verdict). model_kept (kept_of vs c.args.state.now.kept) ≡ Some i) c.as_slice.ensures.value (sym c.in-Some.ensures.value) in
+    record {
+      done = λ number.
+          values_answered c.args.state.now i stands (all_seen c.args.terms.now) (record c.args.state.now { stack = c.values.new.self }) (same_stack c.args.state.now c.values.new.self c.in_ok-text.ensures.unchanged) number c.in_ok-text.text.items c.said.result c.in_ok-text.ensures.accepted c.in_ok-text.ensures.values c.said.ensures.answer;
+    }

@@ -1,0 +1,16 @@
+pub mod ListLemmas
+pub mod TableLemmas
+pub mod HeldLemmas
+pub mod LevelLemmas
+pub mod MarkLemmas
+pub mod OutcomeLemmas
+pub mod ValueLemmas
+pub mod ErrorLemmas
+pub mod RestLemmas
+pub mod StepLemmas
+pub mod SortLemmas
+pub mod CauseLemmas
+pub mod StackLemmas
+pub mod DefineLemmas
+pub mod AssertionLemmas
+pub mod AssertLemmas

@@ -1,0 +1,44 @@
+use Rattle.std.proofs.Common.{◌≡◌, ◌-◌, List, [], length, get_or, take, drop, subst, arith}
+use Rattle.ct_terms.specs.declared.ids.TermId.{TermId}
+use Rattle.ct_values.specs.declared.node.NodeId.{NodeId}
+use Rattle.ct_stack.proofs.RestLemmas.{rest_step, nothing_left, read_at}
+use Rattle.ct_stack.proofs.ValueLemmas.{HaveNodes, no_nodes, one_node_more, first_within, all_nodes}
+use Rattle.ct_stack.proofs.value.nodes_of.Goals as goal
+
+abbrev zeroth : TermId
+zeroth = record { 0 = 0 }
+
+abbrev no_node : NodeId
+no_node = record { 0 = 0 }
+
+pub loop-left-init : goal.loop-left-init
+loop-left-init c = rw c.in_ok-nodes.ensures.items (no_nodes c.args.valuation.now.nodes c.args.numbers.now c.requires.within)
+
+pub bounds-all-first : goal.bounds-all-first
+bounds-all-first c =
+    let found = c.args.valuation.now.nodes in
+    let numbers = c.args.numbers.now in
+    let left = c.loop-left.left.now in
+    let others = take (length left - 1) (drop 1 left) in
+    let split = rest_step left zeroth c.in-len1-up.len_at_least in
+    rw c.as_slice-all.ensures.value (first_within found numbers (get_or left 0 zeroth) others c.loop-left.nodes.items (subst (λ (ts : List TermId). HaveNodes found numbers ts c.loop-left.nodes.items) split c.loop-left.invariant))
+
+pub loop-left-preserved : goal.loop-left-preserved
+loop-left-preserved c =
+    let found = c.args.valuation.now.nodes in
+    let numbers = c.args.numbers.now in
+    let left = c.loop-left.left.now in
+    let others = take (length left - 1) (drop 1 left) in
+    let split = rest_step left zeroth c.in-len1-up.len_at_least in
+    let way = subst (λ (ts : List TermId). HaveNodes found numbers ts c.loop-left.nodes.items) split c.loop-left.invariant in
+    let t = get_or left 0 zeroth in
+    rw c.in_ok-push.ensures.items
+    (one_node_more found numbers t others c.loop-left.nodes.items (get_or c.as_slice-all.result.now t.0 no_node) way
+    (read_at found c.as_slice-all.result.now c.as_slice-all.ensures.value t.0 no_node (first_within found numbers t others c.loop-left.nodes.items way)))
+
+pub returns-clause-nodes : goal.returns-clause-nodes
+returns-clause-nodes c =
+    let found = c.args.valuation.now.nodes in
+    let numbers = c.args.numbers.now in
+    let none : c.loop-left.left.now ≡ [] = nothing_left c.loop-left.left.now (omega (arith, c.in_default.len_below)) in
+    all_nodes found numbers c.loop-left.nodes.items (subst (λ (ts : List TermId). HaveNodes found numbers ts c.loop-left.nodes.items) none c.loop-left.invariant)

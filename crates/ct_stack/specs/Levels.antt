@@ -1,0 +1,28 @@
+-- What levels do to the assertion stack (SMT-LIB 2.7, sections 4.2.1 and 4.2.2).
+use Rattle.std.specs.Prelude.{ℕ, zero, suc, Bool, List, [], ◌∷◌, if◌then◌else◌}
+use Rattle.ct_stack.specs.Stack.{Level, Stack, first_context}
+
+-- one level more, at which the same can be named and nothing is asserted
+abbrev pub pushed : Stack → Stack
+pushed s = record { top = record { context = s.top.context; assertions = [] }; below = s.top ∷ s.below }
+
+abbrev pub pushed_by : ℕ → Stack → Stack
+pushed_by zero s = s
+pushed_by (suc n) s = pushed_by n (pushed s)
+
+-- the innermost level goes, and these are those around it; what was declared at it goes too, but where declarations are global
+abbrev pub without_top : Bool → Stack → List Level → Stack
+without_top global s [] = s
+without_top global s (level ∷ levels) = record { top = if global then record level { context = s.top.context } else level; below = levels }
+
+-- one level fewer; the outermost one stays
+abbrev pub popped : Bool → Stack → Stack
+popped global s = without_top global s s.below
+
+abbrev pub popped_by : Bool → ℕ → Stack → Stack
+popped_by global zero s = s
+popped_by global (suc n) s = popped_by global n (popped global s)
+
+-- no assertion and no level but the outermost one; what is declared goes too, but where declarations are global
+abbrev pub emptied : Bool → Stack → Stack
+emptied global s = record { top = record { context = if global then s.top.context else first_context; assertions = [] }; below = [] }

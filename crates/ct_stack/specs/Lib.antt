@@ -1,0 +1,12 @@
+pub mod Numbers
+pub mod FormulaCode
+pub mod Stack
+pub mod Levels
+pub mod Held
+pub mod Whole
+pub mod Outcomes
+pub mod Elaborations
+pub mod Refusal
+pub mod Values
+pub mod Laws
+pub mod Sorts

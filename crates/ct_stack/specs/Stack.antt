@@ -1,0 +1,61 @@
+-- The assertion stack: what a script has declared, defined and asserted so far, and at which level (SMT-LIB 2.7, sections 4.1.4
+-- and 4.2).
+use Rattle.std.specs.Prelude.{List, [], ◌∷◌, ◌++◌, map, reverse}
+use Rattle.std.specs.List.{flat_map}
+use Rattle.ct_sorts.specs.Declarations.{Declarations, Function, start, with_definition}
+use Rattle.ct_terms.specs.Formula.{Formula}
+use Rattle.ct_terms.specs.CoreTree.{CoreTree}
+use Rattle.ct_terms.specs.Compiled.{core_of}
+
+-- what can be named: what is declared, and a body for each definition
+pub record Context : Type 0 where
+  pub declarations : Declarations
+  pub bodies : List Formula
+
+-- a level: what can be named at it, and what is asserted at it, in order
+pub record Level : Type 0 where
+  pub context : Context
+  pub assertions : List Formula
+
+-- the assertion stack: the innermost level, and those around it, from the inside outwards
+pub record Stack : Type 0 where
+  pub top : Level
+  pub below : List Level
+
+-- nothing is named but Bool, `true` and `false`
+abbrev pub first_context : Context
+first_context = record { declarations = start; bodies = [] }
+
+abbrev pub first_level : Level
+first_level = record { context = first_context; assertions = [] }
+
+abbrev pub first_stack : Stack
+first_stack = record { top = first_level; below = [] }
+
+-- the assertions in force, those of the outermost level first
+abbrev pub in_force : Stack → List Formula
+in_force stack = flat_map (λ level. level.assertions) (reverse stack.below) ++ stack.top.assertions
+
+-- the core term of a formula
+abbrev pub core : Context → Formula → CoreTree
+core context t = core_of context.declarations context.bodies [] t
+
+-- the core terms of formulas
+abbrev pub cores : Context → List Formula → List CoreTree
+cores context formulas = map (λ t. core_of context.declarations context.bodies [] t) formulas
+
+-- with this context at the innermost level
+abbrev pub in_context : Stack → Context → Stack
+in_context stack context = record stack { top = record stack.top { context = context } }
+
+-- with these declarations at the innermost level
+abbrev pub declaring : Stack → Declarations → Stack
+declaring stack d = in_context stack (record stack.top.context { declarations = d })
+
+-- with one definition more
+abbrev pub defined_in : Context → Function × Formula → Context
+defined_in c f = record { declarations = with_definition c.declarations f.0; bodies = c.bodies ++ f.1 ∷ [] }
+
+-- with one assertion more at the innermost level
+abbrev pub asserting : Stack → Formula → Stack
+asserting stack formula = record stack { top = record stack.top { assertions = stack.top.assertions ++ formula ∷ [] } }

@@ -1,0 +1,16 @@
+//! The theorems on terms, formulas and declarations that a session stands on.
+ghost use Rattle.ct_stack.specs.Laws.{Laws};
+
+use ct_sorts::growth;
+use ct_terms::{core_trees, formulas, one_lasting_sort, scopes};
+
+/// The theorems, as one. The function does nothing.
+pub(crate) fn laws()
+    ensures hold { Laws }
+{
+    growth();
+    core_trees();
+    formulas();
+    scopes();
+    one_lasting_sort();
+}

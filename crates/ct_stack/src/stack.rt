@@ -1,0 +1,358 @@
+//! The assertion stack (SMT-LIB 2.7, section 4.1.4): what is declared, defined and asserted.
+ghost use Rattle.std.specs.Prelude.{◌≡◌, ◌↔◌, ℕ, length, IsTrue, [], map, IfOk, OnOk, OnErr, IsErrOf};
+ghost use Rattle.ct_sexpr.specs.View.{expression_of};
+ghost use Rattle.ct_sorts.specs.declared.ids.Kind.TheVariants.{Free};
+ghost use Rattle.ct_sorts.specs.Block.{with_block};
+ghost use Rattle.ct_sorts.specs.Declarations.{with_sort, with_function};
+ghost use Rattle.ct_terms.specs.TreeFormula.{formula_of};
+ghost use Rattle.ct_eval.specs.Interpretation.{IsProper};
+ghost use Rattle.ct_command.specs.Seen.{all_seen, named_seen, head_seen, body_seen};
+ghost use Rattle.ct_stack.specs.Levels.{pushed_by, popped, popped_by, emptied};
+ghost use Rattle.ct_stack.specs.Stack.{first_stack, in_force, cores, declaring, in_context, asserting, defined_in};
+ghost use Rattle.ct_stack.specs.Outcomes.{Gives};
+ghost use Rattle.ct_stack.specs.Elaborations.{kind_of, block_of, declared_function, defined_function, asserted_formula};
+ghost use Rattle.ct_stack.specs.Refusal.{IsSortRefusal, IsTypesRefusal, IsFunctionRefusal, IsDefinitionRefusal, IsAssertionRefusal, IsTermsRefusal, IsPushRefusal, IsPopRefusal};
+ghost use Rattle.ct_stack.specs.Held.{context_in, as_one, IsSoundLevel, IsHeld};
+ghost use Rattle.ct_stack.specs.Values.{AreValues};
+
+use crate::block::{declare_block, declare_sort};
+use crate::define::define_function;
+use crate::function::declare_function;
+use crate::laws::laws;
+use crate::levels::{LevelMark, cut_scope, has_room, is_start, put_marks};
+use crate::terms::{add_assertion, asserted_formula};
+use crate::value::values_text;
+use ct_check::Scope;
+use ct_command::{Body, CommandError, Family, Named, SortHead};
+use ct_eval::Interp;
+use ct_sexpr::Sexpr;
+use ct_sorts::{Items, Mark, Signature, growth};
+use ct_terms::{TermId, TermTable, Tree};
+use std::alloc::{AllocError, Global};
+use std::marker::Model;
+
+/// The number of the error of more levels than may stand.
+const TOO_MANY_LEVELS: u16 = 58;
+
+/// The number of the error of fewer levels than are to go.
+const ABOVE_LEVELS: u16 = 51;
+
+/// What is declared and defined, and the assertions in force, with the table of their core terms; and where each level began.
+#[derive(Drop)]
+pub struct AssertionStack {
+    alloc: Global,
+    scope: Scope,
+    // The assertions in force, of all levels.
+    asserts: Vec<Tree>,
+    // The core terms of the assertions, with their subterms and no others.
+    table: TermTable,
+    numbers: Vec<TermId>,
+    // Where each level within the outermost one began, the innermost level last.
+    levels: Vec<LevelMark>,
+    // How much is declared at the start.
+    first: Mark,
+}
+
+impl Model for AssertionStack {
+    ghost use Rattle.ct_stack.specs.Stack.{Stack};
+
+    ghost Value = { Stack };
+
+    ghost use Rattle.std.specs.Coded.{codes};
+    ghost use Rattle.ct_stack.specs.FormulaCode.{coded_formula};
+
+    ghost coded = { Prim.hlevel (codes, coded_formula) };
+
+    ghost use Rattle.std.specs.Prelude.{reverse};
+    ghost use Rattle.ct_stack.specs.Held.{level_in};
+    ghost use Rattle.ct_stack.specs.Whole.{stack_of, whole_in, IsKept};
+
+    ghost view = { λ s. stack_of (level_in s.scope s.asserts.items) (reverse s.levels.items) };
+
+    ghost invariant = { λ s. IsKept (whole_in s.scope s.asserts.items s.table s.numbers.items) (reverse s.levels.items) s.first };
+}
+
+impl AssertionStack {
+    /// The stack with nothing declared and nothing asserted.
+    pub fn new(alloc: Global) -> Result<AssertionStack, AllocError>
+        ensures empty { IfOk result (λ s. s ≡ first_stack) }
+    {
+        let Ok(sig) = Signature::new(alloc) else {
+            return Err(AllocError);
+        };
+        let Ok(table) = TermTable::new(alloc) else {
+            return Err(AllocError);
+        };
+        laws();
+        table.len();
+        sig.sorts();
+        let first = sig.mark();
+        Ok(AssertionStack {
+            alloc,
+            scope: Scope {
+                sig,
+                bodies: Items::new(Vec::new(alloc)),
+            },
+            asserts: Vec::new(alloc),
+            table,
+            numbers: Vec::new(alloc),
+            levels: Vec::new(alloc),
+            first,
+        })
+    }
+
+    /// What can be named.
+    pub fn scope(&self) -> &Scope
+        ensures value { context_in result.now ≡ self.now.top.context }
+        ensures sound { IsSoundLevel (as_one self.now) }
+    {
+        &self.scope
+    }
+
+    /// The assertions in force, those of the outermost level first.
+    pub fn assertions(&self) -> &[Tree]
+        ensures all { in_force self.now ≡ map formula_of result.now }
+    {
+        self.asserts.as_slice()
+    }
+
+    /// The table of the core terms of the assertions in force, with their subterms and no others, and the numbers of these core
+    /// terms, in order.
+    pub fn core_terms(&self) -> (&TermTable, &[TermId])
+        ensures held { IsHeld (as_one self.now) result.0.now result.1.now }
+    {
+        (&self.table, self.numbers.as_slice())
+    }
+
+    /// Declares an uninterpreted sort.
+    pub fn declare_sort(&mut self, alloc: Global, head: SortHead<'_>) -> Result<(), CommandError>
+        ensures ok { OnOk result (self.new ≡ declaring self.old (with_sort self.old.top.context.declarations (record { name = head.entry.name.now; kind = Free; ctors = [] }))) }
+        ensures accepted { OnOk result ((n : ℕ) → IsSortRefusal self.old.top.context.declarations (head_seen head.entry) n → ⊥) }
+        ensures refused { (n : ℕ) → IsErrOf result (CommandError.Refused n) → IsSortRefusal self.old.top.context.declarations (head_seen head.entry) n }
+        ensures unchanged { OnErr result (self.new ≡ self.old) }
+    {
+        laws();
+        growth();
+        self.scope.sig.sorts();
+        let declared = declare_sort(alloc, &mut self.scope.sig, head);
+        self.scope.sig.sorts();
+        declared
+    }
+
+    /// Declares a block of sorts.
+    pub fn declare_block(
+        &mut self,
+        alloc: Global,
+        family: Family,
+        heads: &[SortHead<'_>],
+        bodies: &[Body<'_>],
+    ) -> Result<(), CommandError>
+        ensures ok { OnOk result (self.new ≡ declaring self.old (with_block self.old.top.context.declarations (kind_of family) (block_of (map head_seen heads.now) (map body_seen bodies.now)))) }
+        ensures accepted { OnOk result ((n : ℕ) → IsTypesRefusal self.old.top.context.declarations family (map head_seen heads.now) (map body_seen bodies.now) n → ⊥) }
+        ensures refused { (n : ℕ) → IsErrOf result (CommandError.Refused n)
+            → IsTypesRefusal self.old.top.context.declarations family (map head_seen heads.now) (map body_seen bodies.now) n }
+        ensures unchanged { OnErr result (self.new ≡ self.old) }
+    {
+        laws();
+        growth();
+        self.scope.sig.sorts();
+        let declared = declare_block(alloc, &mut self.scope.sig, family, heads, bodies);
+        self.scope.sig.sorts();
+        declared
+    }
+
+    /// Declares a function.
+    pub fn declare_function(
+        &mut self,
+        alloc: Global,
+        name: &[u8],
+        args: &[Sexpr],
+        sort: &Sexpr,
+    ) -> Result<(), CommandError>
+        ensures ok { OnOk result (Gives (declared_function self.old.top.context.declarations name.now (all_seen args.now) (expression_of sort.now))
+            (λ f. self.new ≡ declaring self.old (with_function self.old.top.context.declarations f))) }
+        ensures accepted { OnOk result ((n : ℕ) → IsFunctionRefusal self.old.top.context.declarations name.now (all_seen args.now) (expression_of sort.now) n → ⊥) }
+        ensures refused { (n : ℕ) → IsErrOf result (CommandError.Refused n)
+            → IsFunctionRefusal self.old.top.context.declarations name.now (all_seen args.now) (expression_of sort.now) n }
+        ensures unchanged { OnErr result (self.new ≡ self.old) }
+    {
+        laws();
+        growth();
+        self.scope.sig.sorts();
+        let declared = declare_function(alloc, &mut self.scope, name, args, sort);
+        self.scope.sig.sorts();
+        declared
+    }
+
+    /// Adds a definition.
+    pub fn define_function(
+        &mut self,
+        alloc: Global,
+        name: &[u8],
+        params: &[Named<'_>],
+        sort: &Sexpr,
+        term: &Sexpr,
+    ) -> Result<(), CommandError>
+        ensures ok { OnOk result (Gives (defined_function self.old.top.context.declarations name.now (map named_seen params.now) (expression_of sort.now) (expression_of term.now))
+            (λ f. self.new ≡ in_context self.old (defined_in self.old.top.context f))) }
+        ensures accepted { OnOk result ((n : ℕ) → IsDefinitionRefusal self.old.top.context.declarations name.now (map named_seen params.now) (expression_of sort.now) (expression_of term.now) n → ⊥) }
+        ensures refused { (n : ℕ) → IsErrOf result (CommandError.Refused n)
+            → IsDefinitionRefusal self.old.top.context.declarations name.now (map named_seen params.now) (expression_of sort.now) (expression_of term.now) n }
+        ensures unchanged { OnErr result (self.new ≡ self.old) }
+    {
+        laws();
+        growth();
+        self.scope.sig.sorts();
+        let defined = define_function(alloc, &mut self.scope, name, params, sort, term);
+        self.scope.sig.sorts();
+        defined
+    }
+
+    /// Adds an assertion.
+    pub fn assert(&mut self, alloc: Global, expr: &Sexpr) -> Result<(), CommandError>
+        ensures ok { OnOk result (Gives (asserted_formula self.old.top.context.declarations (expression_of expr.now)) (λ formula. self.new ≡ asserting self.old formula)) }
+        ensures accepted { OnOk result ((n : ℕ) → IsAssertionRefusal self.old (expression_of expr.now) n → ⊥) }
+        ensures refused { (n : ℕ) → IsErrOf result (CommandError.Refused n) → IsAssertionRefusal self.old (expression_of expr.now) n }
+        ensures unchanged { OnErr result (self.new ≡ self.old) }
+    {
+        laws();
+        let tree = asserted_formula(alloc, &self.scope, expr)?;
+        add_assertion(
+            alloc,
+            &self.scope,
+            &mut self.table,
+            &mut self.numbers,
+            &mut self.asserts,
+            tree,
+        )
+    }
+
+    /// Each term beside its value in the interpretation.
+    pub fn values(
+        &mut self,
+        alloc: Global,
+        interp: &Interp,
+        exprs: &[Sexpr],
+    ) -> Result<Vec<u8>, CommandError>
+        requires proper { IsProper self.old.top.context.declarations interp.now }
+        ensures values { IfOk result (λ text. AreValues self.old.top.context interp.now (all_seen exprs.now) text.items) }
+        ensures accepted { OnOk result ((n : ℕ) → IsTermsRefusal self.old.top.context (cores self.old.top.context (in_force self.old)) (all_seen exprs.now) n → ⊥) }
+        ensures refused { (n : ℕ) → IsErrOf result (CommandError.Refused n)
+            → IsTermsRefusal self.old.top.context (cores self.old.top.context (in_force self.old)) (all_seen exprs.now) n }
+        ensures unchanged { self.new ≡ self.old }
+    {
+        values_text(alloc, &self.scope, &mut self.table, interp, exprs)
+    }
+
+    /// So many levels more, at which nothing is asserted yet; at most 10,000 stand.
+    pub fn push(&mut self, n: u128) -> Result<(), CommandError>
+        ensures ok { OnOk result (self.new ≡ pushed_by n self.old) }
+        ensures accepted { OnOk result ((k : ℕ) → IsPushRefusal self.old n k → ⊥) }
+        ensures refused { (k : ℕ) → IsErrOf result (CommandError.Refused k) → IsPushRefusal self.old n k }
+        ensures unchanged { OnErr result (self.new ≡ self.old) }
+    {
+        laws();
+        self.scope.sig.sorts();
+        if !has_room(self.levels.len(), n) {
+            return Err(CommandError::Refused(TOO_MANY_LEVELS));
+        }
+        let count = n as usize;
+        self.levels.reserve(count)?;
+        let declared = self.scope.sig.mark();
+        let asserts = self.asserts.len();
+        let terms = self.table.len();
+        put_marks(&mut self.levels, &declared, asserts, terms, count);
+        Ok(())
+    }
+
+    /// So many levels fewer, with all that was asserted at them, and with what was declared and defined at them, but where
+    /// declarations are global. Takes no memory.
+    pub fn pop(&mut self, global: bool, n: u128) -> Result<(), CommandError>
+        ensures ok { OnOk result (self.new ≡ popped_by global n self.old) }
+        ensures accepted { OnOk result ((k : ℕ) → IsPopRefusal self.old n k → ⊥) }
+        ensures refused { (k : ℕ) → IsErrOf result (CommandError.Refused k) → IsPopRefusal self.old n k }
+        ensures unchanged { OnErr result (self.new ≡ self.old) }
+        ensures no_memory { IsErrOf result CommandError.NoMemory → ⊥ }
+    {
+        let levels = self.levels() as u128;
+        if levels < n {
+            return Err(CommandError::Refused(ABOVE_LEVELS));
+        }
+        self.leave(global, n as usize);
+        Ok(())
+    }
+
+    /// Takes all assertions back, and all levels but the outermost one, with what is declared and defined, but where declarations
+    /// are global. Takes no memory.
+    pub fn empty(&mut self, global: bool)
+        ensures emptied { self.new ≡ emptied global self.old }
+    {
+        laws();
+        self.scope.sig.sorts();
+        self.table.len();
+        self.levels.truncate(0);
+        self.asserts.truncate(0);
+        self.numbers.truncate(0);
+        self.table.cut_to(2);
+        self.table.len();
+        if global {
+            return;
+        }
+        cut_scope(self.alloc, &mut self.scope, &self.first);
+    }
+
+    /// All as at the start. Takes no memory.
+    pub fn reset(&mut self)
+        ensures reset { self.new ≡ first_stack }
+    {
+        self.empty(false);
+    }
+
+    /// How many levels there are within the outermost one.
+    pub fn levels(&self) -> usize
+        ensures count { result ≡ length self.now.below }
+    {
+        self.levels.len()
+    }
+
+    /// Whether all is as at the start.
+    pub fn is_first(&self) -> bool
+        ensures first { IsTrue result ↔ (self.now ≡ first_stack) }
+    {
+        laws();
+        self.scope.sig.sorts();
+        let declared = self.scope.sig.mark();
+        let levels = self.levels.as_slice();
+        let asserts = self.asserts.as_slice();
+        is_start(levels, asserts, &declared, &self.first)
+    }
+
+    // So many levels fewer.
+    fn leave(&mut self, global: bool, n: usize)
+        ensures popped { self.new ≡ popped_by global n self.old }
+    {
+        let mut left = n;
+        while left > 0 {
+            self.leave_one(global);
+            left -= 1;
+        }
+    }
+
+    // One level fewer, where there is one.
+    fn leave_one(&mut self, global: bool)
+        ensures popped { self.new ≡ popped global self.old }
+    {
+        laws();
+        self.scope.sig.sorts();
+        let Some(mark) = self.levels.pop() else {
+            return;
+        };
+        self.asserts.truncate(mark.asserts);
+        self.numbers.truncate(mark.asserts);
+        self.table.cut_to(mark.terms);
+        if global {
+            return;
+        }
+        cut_scope(self.alloc, &mut self.scope, &mark.declared);
+    }
+}

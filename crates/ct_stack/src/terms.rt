@@ -1,0 +1,146 @@
+//! Assertions and their core terms.
+ghost use Rattle.std.specs.Prelude.{◌≡◌, ℕ, ◌+◌, ◌≤◌, vec_len, vec_capacity, List, ◌++◌, ◌∷◌, [], map, length, OnOk, OnErr, IfOk, IsErrOf};
+ghost use Rattle.ct_sexpr.specs.View.{expression_of};
+ghost use Rattle.ct_sorts.specs.Declarations.{bool_sort};
+ghost use Rattle.ct_sorts.specs.Grown.{Begins};
+ghost use Rattle.ct_sorts.specs.declared.ids.SortId.{SortId};
+ghost use Rattle.ct_terms.specs.CoreTree.{CoreTree};
+ghost use Rattle.ct_terms.specs.FormulaSorts.{IsSorted, AreSound};
+ghost use Rattle.ct_terms.specs.Terms.{AreSorted, most_terms};
+ghost use Rattle.ct_terms.specs.TreeFormula.{formula_of};
+ghost use Rattle.ct_compile.specs.Effect.{IsPrefix, Stands as Stood};
+ghost use Rattle.ct_stack.specs.Numbers.{too_many_terms};
+ghost use Rattle.ct_stack.specs.Stack.{core, cores};
+ghost use Rattle.ct_stack.specs.Elaborations.{asserted_formula};
+ghost use Rattle.ct_stack.specs.Outcomes.{Comes};
+ghost use Rattle.ct_stack.specs.Refusal.{HasManyTerms};
+ghost use Rattle.ct_stack.specs.Held.{IsHeld, IsTableOf, context_in, level_in};
+
+use crate::laws::laws;
+use crate::sorts::{is_sort, term_of};
+use ct_check::{Scope, elaboration};
+use ct_command::CommandError;
+use ct_compile::compile;
+use ct_sexpr::Sexpr;
+use ct_sorts::SortId;
+use ct_terms::{TermError, TermId, TermTable, Tree};
+use std::alloc::{AllocError, Global};
+
+/// The sort Bool.
+const BOOL: SortId = SortId(0);
+
+/// The number of the error of an assertion that is not Bool.
+const NOT_BOOLEAN: u16 = 24;
+
+/// The number of the error of too many core terms.
+const TOO_MANY_TERMS: u16 = 20;
+
+/// The formula that is asserted, which is Boolean.
+pub(crate) fn asserted_formula(
+    alloc: Global,
+    scope: &Scope,
+    expr: &Sexpr,
+) -> Result<Tree, CommandError>
+    ensures value { Comes formula_of (asserted_formula scope.now.sig (expression_of expr.now)) result }
+    ensures sorted { IfOk result (λ t. IsSorted scope.now.sig [] (formula_of t) bool_sort) }
+{
+    elaboration();
+    scope.sig.sorts();
+    let (tree, sort) = term_of(alloc, scope, &[], expr)?;
+    if !is_sort(sort, BOOL) {
+        return Err(CommandError::Refused(NOT_BOOLEAN));
+    }
+    Ok(tree)
+}
+
+/// Asserts a formula, whose core term is made in the table; or leaves all as it was.
+pub(crate) fn add_assertion(
+    alloc: Global,
+    scope: &Scope,
+    table: &mut TermTable,
+    numbers: &mut Vec<TermId>,
+    asserts: &mut Vec<Tree>,
+    tree: Tree,
+) -> Result<(), CommandError>
+    requires sorted { IsSorted scope.now.sig [] (formula_of tree) bool_sort }
+    requires held { IsHeld (level_in scope.now asserts.old.items) table.old numbers.old.items }
+    ensures held { IsHeld (level_in scope.now asserts.new.items) table.new numbers.new.items }
+    ensures ok { OnOk result (asserts.new.items ≡ asserts.old.items ++ tree ∷ []) }
+    ensures fits { OnOk result (HasManyTerms (cores (context_in scope.now) (map formula_of asserts.old.items) ++ core (context_in scope.now) (formula_of tree) ∷ []) → ⊥) }
+    ensures refused { (n : ℕ) → IsErrOf result (CommandError.Refused n) → (n ≡ too_many_terms)
+        × HasManyTerms (cores (context_in scope.now) (map formula_of asserts.old.items) ++ core (context_in scope.now) (formula_of tree) ∷ []) }
+    ensures unchanged { OnErr result (asserts.new.items ≡ asserts.old.items) }
+    ensures grown { IsPrefix table.old table.new }
+    ensures longer { Begins numbers.old.items numbers.new.items }
+{
+    laws();
+    scope.sig.sorts();
+    let before = table.len();
+    reserve(numbers, asserts)?;
+    match core_number(alloc, scope, table, &tree) {
+        Ok(number) => {
+            table.len();
+            put(numbers, asserts, number, tree);
+            Ok(())
+        }
+        Err(error) => {
+            table.cut_to(before);
+            Err(error)
+        }
+    }
+}
+
+// Makes room for one more of each.
+fn reserve(numbers: &mut Vec<TermId>, asserts: &mut Vec<Tree>) -> Result<(), AllocError>
+    ensures numbers { numbers.new.items ≡ numbers.old.items }
+    ensures asserts { asserts.new.items ≡ asserts.old.items }
+    ensures more_numbers { OnOk result (vec_len numbers.new + 1 ≤ vec_capacity numbers.new) }
+    ensures more_asserts { OnOk result (vec_len asserts.new + 1 ≤ vec_capacity asserts.new) }
+{
+    asserts.reserve(1)?;
+    numbers.reserve(1)?;
+    Ok(())
+}
+
+// Puts one more of each at the end, where there is room.
+fn put(numbers: &mut Vec<TermId>, asserts: &mut Vec<Tree>, number: TermId, tree: Tree)
+    requires more_numbers { vec_len numbers.old + 1 ≤ vec_capacity numbers.old }
+    requires more_asserts { vec_len asserts.old + 1 ≤ vec_capacity asserts.old }
+    ensures numbers { numbers.new.items ≡ numbers.old.items ++ number ∷ [] }
+    ensures asserts { asserts.new.items ≡ asserts.old.items ++ tree ∷ [] }
+{
+    asserts.push(tree).unwrap();
+    numbers.push(number).unwrap();
+}
+
+/// The number of the core term of a formula, which is made in the table. After an error the table may have grown.
+pub(crate) fn core_number(
+    alloc: Global,
+    scope: &Scope,
+    table: &mut TermTable,
+    tree: &Tree,
+) -> Result<TermId, CommandError>
+    requires sound { AreSound scope.now.sig (map formula_of scope.now.bodies) }
+    requires sorted { (sort : SortId) × IsSorted scope.now.sig [] (formula_of tree.now) sort }
+    requires table { AreSorted scope.now.sig table.old }
+    ensures made { IfOk result (λ t. (roots : List CoreTree) → IsTableOf scope.now.sig roots table.old
+        → IsTableOf scope.now.sig (roots ++ core (context_in scope.now) (formula_of tree.now) ∷ []) table.new) }
+    ensures stands { IfOk result (λ t. Stood table.new t (core (context_in scope.now) (formula_of tree.now))) }
+    ensures few { OnOk result (length table.new ≤ most_terms) }
+    ensures sorted { AreSorted scope.now.sig table.new }
+    ensures grown { IsPrefix table.old table.new }
+    ensures refused { (n : ℕ) → IsErrOf result (CommandError.Refused n) → (n ≡ too_many_terms)
+        × ((roots : List CoreTree) → IsTableOf scope.now.sig roots table.old
+        → HasManyTerms (roots ++ core (context_in scope.now) (formula_of tree.now) ∷ [])) }
+{
+    laws();
+    table.len();
+    match compile(alloc, scope, table, tree) {
+        Ok(number) => {
+            table.len();
+            Ok(number)
+        }
+        Err(TermError::Full) => Err(CommandError::Refused(TOO_MANY_TERMS)),
+        Err(TermError::NoMemory) => Err(CommandError::NoMemory),
+    }
+}
