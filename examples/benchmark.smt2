@@ -1,0 +1,27 @@
+(set-info :smt-lib-version 2.6)
+(set-option :produce-models true)
+(set-logic QF_UFDT)
+(set-info :source |
+Jobs of two ranks wait in a queue. The head of this file is that of a benchmark;
+such a head changes nothing of what follows.
+|)
+(set-info :category "crafted")
+(set-info :status sat)
+(declare-sort Job 0)
+(declare-datatypes ((Level 0) (Queue 0)) (
+    ((low) (high))
+    ((empty) (job (first Job) (rank Level) (others Queue)))))
+(declare-fun urgency (Job) Level)
+(declare-const q Queue)
+(declare-const r Queue)
+(assert ((_ is job) q))
+(assert (= r (others q)))
+(assert (= (rank q) (urgency (first q))))
+(assert (= (urgency (first q)) low))
+(check-sat)
+(set-info :status unsat)
+(assert (or (= q r) (= (rank q) high)))
+(check-sat)
+(get-info :name)
+(get-info :error-behavior)
+(exit)

@@ -1,0 +1,25 @@
+; Names that are declared at a level stay when it goes, and its assertions do not: for a program that
+; declares what it needs when it needs it. The option comes before all declarations.
+(set-option :global-declarations true)
+(declare-datatype Color ((red) (green)))
+(push)
+(declare-const c Color)
+(define-fun other ((d Color)) Color (match d ((red green) (green red))))
+(assert (= c red))
+(check-sat)
+(get-value (c (other c)))
+(pop)
+(assert (= (other c) red))
+(check-sat)
+(get-value (c))
+; No assertion is left, and the names still are.
+(reset-assertions)
+(assert (not (= c green)))
+(check-sat)
+(get-value (c))
+; After this all is as at the start.
+(reset)
+(declare-datatype Color ((blue)))
+(declare-const c Color)
+(check-sat)
+(get-value (c))

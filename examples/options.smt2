@@ -1,0 +1,21 @@
+; Commands without an answer of their own answer `success` once that is asked for.
+(set-option :print-success true)
+(declare-const p Bool)
+(declare-const q Bool)
+(declare-const r Bool)
+(declare-const s Bool)
+(assert (or p q))
+(assert (or r s))
+; One decision does not suffice for this, two do.
+(set-option :reproducible-resource-limit 1)
+(check-sat)
+(get-info :reason-unknown)
+(set-option :reproducible-resource-limit 2)
+(check-sat)
+(get-option :reproducible-resource-limit)
+(set-option :print-success false)
+; What the solver does not have is answered, and changes nothing: the model of the last check stands.
+(set-option :random-seed 42)
+(get-unsat-core)
+(echo "p or q, and r or s:")
+(get-value ((and (or p q) (or r s))))
