@@ -1,6 +1,5 @@
 -- Checks, and questions about what the last verdict left.
-use Rattle.std.proofs.Common.{◌≡◌, ◌∙◌, ℕ, ◌+◌, ◌-◌, List, [], ◌∷◌, ◌++◌, length, slice_get, Option, None, Some, option_map, Result, Ok, Err, IsErrOf, refl, sym, ap, subst, inl, inr, arith}
-use Rattle.std.specs.Borrow.{Bor}
+use Rattle.std.proofs.Common.{◌≡◌, ◌∙◌, ℕ, ◌-◌, List, [], ◌∷◌, ◌++◌, length, slice_get, Option, None, Some, option_map, refl, sym, ap, subst, inl, inr, arith}
 use Rattle.std.proofs.lemmas.List.{append-nil, length-append}
 use Rattle.std.proofs.lemmas.Option.{none-some}
 use Rattle.ct_sexpr.specs.Expression.{Expression}
@@ -8,22 +7,19 @@ use Rattle.ct_eval.specs.declared.interp.Interp.{Interp}
 use Rattle.ct_log.specs.Recorded.{Derived}
 use Rattle.ct_model.specs.ModelText.{IsModelText}
 use Rattle.ct_log_text.specs.Written.{expression_of_record, text_of}
-use Rattle.ct_command.specs.declared.error.CommandError.{CommandError}
-use Rattle.ct_command.specs.declared.error.CommandError.TheVariants.{Refused, NoMemory}
-use Rattle.ct_command.specs.Command.{Command, check_sat, get_model, get_value, get_proof}
+use Rattle.ct_command.specs.Command.{check_sat, get_model, get_value, get_proof}
 use Rattle.ct_engine.specs.declared.verdict.Verdict.{Verdict}
 use Rattle.ct_stack.specs.Stack.{Stack, in_force, cores}
 use Rattle.ct_stack.specs.Refusal.{IsTermsRefusal}
 use Rattle.ct_stack.specs.Values.{AreValues}
 use Rattle.ct_script.specs.declared.answer.Answer.{Answer}
 use Rattle.ct_script.specs.declared.state.SessionState.{SessionState}
-use Rattle.ct_script.specs.Numbers.{no_model, no_derivation}
 use Rattle.ct_script.specs.declared.options.Options.{Options}
 use Rattle.ct_script.specs.Options.{budget}
 use Rattle.ct_script.specs.State.{State, Kept, model_kept, derivation_kept}
-use Rattle.ct_script.specs.Refusal.{IsRefusal, IsCheckRefusal}
-use Rattle.ct_script.specs.Step.{Effect, Does, OfKept, said, decided, word_of}
-use Rattle.ct_script.specs.Session.{IsAnswer, Performs, IsSame, IsDone, state_of, kept_of, last_of}
+use Rattle.ct_script.specs.Refusal.{IsCheckRefusal}
+use Rattle.ct_script.specs.Step.{OfKept, said, decided, word_of}
+use Rattle.ct_script.specs.Session.{IsAnswer, Performs, IsSame, state_of, kept_of, last_of}
 use Rattle.ct_script.specs.Verdict.{IsRight}
 use Rattle.ct_script.proofs.ListLemmas.{slice_get-last}
 use Rattle.ct_script.proofs.SoundLemmas.{same_state}
@@ -54,24 +50,9 @@ checked old new number v a right accepted same_stack same_options given kept ans
       answer = record { text = (answer (state_of old)).text; error = (answer (state_of old)).error; stop = (answer (state_of old)).stop };
     }
 
--- what is not lent is not kept
-pub not_lent : {X Y : Type 0} (f : X → Y) (o : Option X) (m : Option Y) → ((x : X) → o ≡ Some x → ⊥) → option_map f o ≡ m → m ≡ None
-not_lent f None m other e = sym e
-not_lent f (Some x) m other e = absurd (other x refl)
-
 module _ (old : SessionState) where
   abbrev kept : Option Kept
   kept = kept_of old.verdicts.items old.kept
-
-  -- without a model or a derivation the question is refused
-  pub no_model_refuses : model_kept kept ≡ None → IsRefusal (state_of old) get_model no_model
-  no_model_refuses e = inl (refl, e)
-
-  pub no_model_refuses_values : (ts : List Expression) → model_kept kept ≡ None → IsRefusal (state_of old) (get_value ts) no_model
-  no_model_refuses_values ts e = inl (refl, e)
-
-  pub no_derivation_refuses : derivation_kept kept ≡ None → IsRefusal (state_of old) get_proof no_derivation
-  no_derivation_refuses e = inl (refl, e)
 
   -- what is kept is there
   there : {X : Type 0} (m : Option X) (x : X) → m ≡ Some x → m ≡ None → ⊥
@@ -99,9 +80,6 @@ module _ (old : SessionState) where
           given = same.verdicts ∙ sym (append-nil old.verdicts.items);
           answer = answer (state_of old);
         }
-
-    pub values_refused : (ts : List Expression) (n : ℕ) → IsTermsRefusal old.stack.top.context (cores old.stack.top.context (in_force old.stack)) ts n → IsRefusal (state_of old) (get_value ts) n
-    values_refused ts n refusal = inr (there (model_kept kept) i stands, refusal)
 
   -- the text of the derivation
   pub derivation_answered : (p : ℕ × Derived) → derivation_kept kept ≡ Some p → (number : ℕ) (a : Answer) → ((s : State) → IsAnswer (said s (text_of (expression_of_record old.stack.top.context.declarations p.0 p.1.rec))) a) → Performs old number get_proof old a

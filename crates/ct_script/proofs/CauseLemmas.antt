@@ -1,5 +1,5 @@
 -- The causes of a refusal one after the other, and the numbers of errors.
-use Rattle.std.proofs.Common.{◌≡◌, ◌∙◌, ◌↔◌, ℕ, Bool, true, false, true≢false, Err, sym, ap, subst, inl, inr}
+use Rattle.std.proofs.Common.{◌≡◌, ◌∙◌, ◌↔◌, ℕ, Bool, true, false, true≢false, Err, sym, subst, inl, inr}
 use Rattle.std.specs.Prelude.{IsErrOf, IsTrue}
 use Rattle.ct_sorts.specs.Refusals.{IsFirstCause, IsNone}
 use Rattle.ct_command.specs.declared.error.CommandError.{CommandError}
@@ -18,12 +18,6 @@ pub at_code : {T : Type 0} (X : ℕ → Type 0) (code : ℕ) → X code → (n :
 at_code X code h n e =
     let same : code ≡ n = cc in
     subst X same h
-
--- a refusal is the same of any result
-pub same_refusal : {P Q : Type 0} (e : CommandError) (n : ℕ) → IsErrOf {T = P} (Err e) (Refused n) → IsErrOf {T = Q} (Err e) (Refused n)
-same_refusal {P} {Q} e n is =
-    let same : e ≡ Refused n = cc in
-    ap (λ (z : CommandError). Err z) same
 
 -- what is tested is not there where the test fails
 pub not_when : (b : Bool) (P : Type 0) → b ≡ false → IsTrue b ↔ P → P → ⊥

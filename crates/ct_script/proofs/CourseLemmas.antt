@@ -1,8 +1,8 @@
 -- What a session that is seen as a course comes to.
-use Rattle.std.proofs.Common.{◌≡◌, ◌∙◌, ℕ, List, [], ◌∷◌, ◌++◌, Option, Result, Ok, Err, IfOk, refl, sym, ap, subst}
+use Rattle.std.proofs.Common.{◌≡◌, ◌∙◌, ℕ, List, [], ◌∷◌, ◌++◌, Result, Ok, Err, IfOk, ap, subst}
 use Rattle.ct_sexpr.specs.Expression.{Expression}
 use Rattle.ct_command.specs.Command.{Command}
-use Rattle.ct_command.specs.Reading.{Read, command}
+use Rattle.ct_command.specs.Reading.{command}
 use Rattle.ct_engine.specs.declared.verdict.Verdict.{Verdict}
 use Rattle.ct_script.specs.declared.answer.Answer.{Answer}
 use Rattle.ct_script.specs.declared.state.SessionState.{SessionState}

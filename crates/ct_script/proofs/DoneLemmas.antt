@@ -1,8 +1,6 @@
 -- What becomes of a command: it is done, or refused, or memory runs out.
-use Rattle.std.proofs.Common.{◌≡◌, ◌≢◌, ◌∙◌, ◌↔◌, ℕ, Bool, true, false, not, List, [], ◌∷◌, ◌++◌, Option, None, Some, Result, Ok, Err, IsErrOf, refl, sym, ap, subst, inl, inr}
-use Rattle.std.specs.Borrow.{Bor}
+use Rattle.std.proofs.Common.{◌≡◌, ◌∙◌, ℕ, true, List, None, Result, Ok, Err, IsErrOf, refl, sym, ap, subst}
 use Rattle.std.proofs.lemmas.List.{append-nil}
-use Rattle.std.proofs.lemmas.Option.{none-some}
 use Rattle.ct_check.specs.Outcome.{Outcome}
 use Rattle.ct_command.specs.declared.error.CommandError.{CommandError}
 use Rattle.ct_command.specs.declared.error.CommandError.TheVariants.{Refused, NoMemory}
@@ -18,7 +16,7 @@ use Rattle.ct_script.specs.declared.options.Options.{Options}
 use Rattle.ct_script.specs.Options.{first_options, with_setting}
 use Rattle.ct_script.specs.State.{State, first_state, changed}
 use Rattle.ct_script.specs.Refusal.{IsRefusal}
-use Rattle.ct_script.specs.Step.{Effect, Does, OfKept, said, quiet, success}
+use Rattle.ct_script.specs.Step.{Does, said, quiet, success}
 use Rattle.ct_script.specs.Session.{IsAnswer, Performs, IsSame, IsDone, state_of}
 
 -- what holds of a value holds where more follows from it
@@ -26,15 +24,7 @@ pub Gives-map : {X : Type 0} (o : Outcome X) (P Q : X → Type 0) → ((x : X) �
 Gives-map (Ok x) P Q more h = more x h
 Gives-map (Err n) P Q more h = absurd h
 
--- a state is the same as itself
-pub same : (s : SessionState) → IsSame s s
-same s = record { stack = refl; options = refl; verdicts = refl; kept = refl }
-
 module _ (old new : SessionState) (number : ℕ) (c : Command) where
-  -- memory runs out
-  pub no_memory : (e : CommandError) → e ≡ NoMemory → IsSame old new → IsDone old number c new (Err e)
-  no_memory e is unchanged = subst (λ (f : CommandError). IsDone old number c new (Err f)) (sym is) unchanged
-
   -- an error that is passed on
   pub not_done : {T : Type 0} (e : CommandError) → ((n : ℕ) → IsErrOf {T = T} {E = CommandError} (Err e) (Refused n) → IsRefusal (state_of old) c n) → IsSame old new → IsDone old number c new (Err e)
   not_done (Refused n) why unchanged = (why n refl, unchanged)

@@ -1,5 +1,5 @@
 -- What a session comes to by a command that is accepted, by one that is refused, and by an expression that is no command.
-use Rattle.std.proofs.Common.{◌≡◌, ◌∙◌, ℕ, List, [], ◌∷◌, ◌++◌, Option, None, Some, Result, Ok, Err, IfOk, refl, sym, ap, subst, inl, inr}
+use Rattle.std.proofs.Common.{◌≡◌, ◌∙◌, ℕ, List, [], ◌∷◌, ◌++◌, Option, None, Ok, Err, refl, sym, ap, subst, inl, inr}
 use Rattle.std.proofs.lemmas.List.{append-nil}
 use Rattle.ct_sexpr.specs.Expression.{Expression}
 use Rattle.ct_sorts.specs.Declarations.{with_function}

@@ -1,8 +1,7 @@
 -- What a session always holds: what is kept is of what is declared.
-use Rattle.std.proofs.Common.{◌≡◌, ◌∙◌, ℕ, List, Option, None, Some, Result, Ok, Err, refl, sym, ap, subst}
+use Rattle.std.proofs.Common.{◌≡◌, ◌∙◌, ℕ, List, Option, None, Some, Result, Ok, Err, sym, ap, subst}
 use Rattle.std.proofs.lemmas.Option.{none-some, same_Some}
 use Rattle.ct_sorts.specs.Declarations.{Declarations, with_function}
-use Rattle.ct_eval.specs.declared.interp.Interp.{Interp}
 use Rattle.ct_eval.specs.Interpretation.{IsProper}
 use Rattle.ct_log.specs.Recorded.{Derived}
 use Rattle.ct_model.specs.ModelText.{IsModelText}
@@ -22,9 +21,9 @@ use Rattle.ct_script.specs.declared.answer.Answer.{Answer}
 use Rattle.ct_script.specs.declared.state.SessionState.{SessionState}
 use Rattle.ct_script.specs.declared.options.Options.{Options}
 use Rattle.ct_script.specs.Options.{budget}
-use Rattle.ct_script.specs.State.{State, Kept, context_of, declared, changed, model_kept, derivation_kept}
+use Rattle.ct_script.specs.State.{State, context_of, declared, changed, model_kept, derivation_kept}
 use Rattle.ct_script.specs.Step.{Effect, Does, OfKept, quiet, said, decided}
-use Rattle.ct_script.specs.Session.{KeepsOwn, IsSound, Performs, IsSame, IsDone, state_of, kept_of}
+use Rattle.ct_script.specs.Session.{KeepsOwn, IsSound, IsSame, IsDone, state_of, kept_of}
 use Rattle.ct_script.specs.Verdict.{IsRight}
 
 -- where nothing is kept

@@ -47,11 +47,12 @@ abbrev pub with_setting : Options → Setting → Options
 with_setting o (setting.Boolean option b) = with_boolean o option b
 with_setting o (setting.Numeral option n) = with_numeral o option n
 
--- whether the setting is of the option on which hangs what declarations belong to
+-- the option is the one that says to which level declarations belong
 abbrev pub is_global_option : BooleanOption → Bool
 is_global_option GlobalDeclarations = true
 is_global_option option = false
 
+-- the setting is of that option
 abbrev pub sets_global : Setting → Bool
 sets_global (setting.Boolean option b) = is_global_option option
 sets_global (setting.Numeral option n) = false

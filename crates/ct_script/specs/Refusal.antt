@@ -23,7 +23,7 @@ is_logic name = list_any (λ logic. bytes_eq logic name) logics
 abbrev pub IsLogicRefusal : List ℕ → ℕ → Type 0
 IsLogicRefusal name = IsFirstCause unknown_logic (is_logic name ≡ false) IsNone
 
--- what declarations belong to is settled before anything is declared, defined or asserted, and before a level is added
+-- to which level declarations belong is set before anything is declared, defined or asserted and before a level is added
 abbrev pub IsOptionRefusal : State → Setting → ℕ → Type 0
 IsOptionRefusal s setting = IsFirstCause not_now ((sets_global setting ≡ true) × (s.stack ≢ first_stack)) IsNone
 

@@ -22,7 +22,7 @@ pub(crate) fn info_text(
         Info::Name => Vec::from_slice(alloc, b"(:name \"cosmt\")"),
         Info::Version => Vec::from_slice(alloc, b"(:version \"1.0\")"),
         Info::Authors => Vec::from_slice(alloc, b"(:authors \"cosmt\")"),
-        Info::ErrorBehavior => { Vec::from_slice(alloc, b"(:error-behavior continued-execution)") }
+        Info::ErrorBehavior => Vec::from_slice(alloc, b"(:error-behavior continued-execution)"),
         Info::AssertionStackLevels => levels_text(alloc, state.stack.levels()),
         Info::ReasonUnknown => reason_text(alloc, state),
     }

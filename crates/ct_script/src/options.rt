@@ -165,7 +165,7 @@ impl Options {
     }
 }
 
-/// Whether the setting is of the option on which hangs what declarations belong to.
+/// Whether the setting is of the option that says to which level declarations belong.
 pub(crate) fn sets_global(setting: Setting) -> bool
     ensures value { result ≡ sets_global setting }
 {

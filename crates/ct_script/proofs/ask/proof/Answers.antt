@@ -1,5 +1,6 @@
 use Rattle.std.proofs.Common.{◌≡◌, ◌∙◌, ℕ, List, Some, sym, ap, subst}
 use Rattle.ct_sorts.specs.Declarations.{Declarations}
+use Rattle.ct_terms.specs.Terms.{AreSorted}
 use Rattle.ct_log.specs.Recorded.{Derived, Recorded}
 use Rattle.ct_log_text.specs.Written.{expression_of_record, text_of}
 use Rattle.ct_engine.specs.declared.verdict.Verdict.{Verdict}
@@ -9,6 +10,17 @@ use Rattle.ct_script.specs.Session.{kept_of}
 use Rattle.ct_script.proofs.AnswerLemmas.{same_text}
 use Rattle.ct_script.proofs.AskLemmas.{derivation_answered}
 use Rattle.ct_script.proofs.ask.proof.Goals as goal
+
+pub derivation_text-requires : goal.derivation_text-requires
+derivation_text-requires c =
+    let p : ℕ × Derived = (c.in-Some.number, c.in-Some.derivation.now) in
+    let stands : derivation_kept (kept_of c.args.state.now.verdicts.items c.args.state.now.kept) ≡ Some p = subst (λ (vs : List Verdict). derivation_kept (kept_of vs c.args.state.now.kept) ≡ Some p) c.as_slice.ensures.value (sym c.in-Some.ensures.value) in
+    record {
+      fits =
+          subst (λ (x : Context). AreSorted x.declarations c.rec.result.now.terms) (sym c.scope.ensures.value)
+          (subst (λ (d : Declarations). AreSorted d c.rec.result.now.terms) (c.requires.sound.derived p stands)
+          (subst (λ (r : Recorded). AreSorted c.in-Some.derivation.now.declarations r.terms) (sym c.rec.ensures.value) c.rec.ensures.derivation.judges.sorted));
+    }
 
 pub returns-in-Ok : goal.returns-in-Ok
 returns-in-Ok c =

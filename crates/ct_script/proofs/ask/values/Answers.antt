@@ -7,6 +7,12 @@ use Rattle.ct_script.proofs.DoneLemmas.{same_stack}
 use Rattle.ct_script.proofs.AskLemmas.{values_answered}
 use Rattle.ct_script.proofs.ask.values.Goals as goal
 
+pub values-requires : goal.values-requires
+values-requires c =
+    let i = c.in-Some.interp.now in
+    let stands : model_kept (kept_of c.args.state.now.verdicts.items c.args.state.now.kept) ≡ Some i = subst (λ (vs : List Verdict). model_kept (kept_of vs c.args.state.now.kept) ≡ Some i) c.as_slice.ensures.value (sym c.in-Some.ensures.value) in
+    record { proper = c.requires.sound.proper i stands }
+
 pub returns : goal.returns
 returns c =
     let i = c.in-Some.interp.now in

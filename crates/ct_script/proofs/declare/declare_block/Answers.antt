@@ -1,10 +1,10 @@
-use Rattle.std.proofs.Common.{◌≡◌, ◌∙◌, ℕ, List, map, refl, ap, sym, subst}
+use Rattle.std.proofs.Common.{◌∙◌, List, map, ap}
 use Rattle.std.proofs.lemmas.Result.{err_from_is_err_and}
 use Rattle.ct_command.specs.declared.command.SortHead.{SortHead as ReadHead}
 use Rattle.ct_command.specs.declared.command.Body.{Body as ReadBody}
 use Rattle.ct_command.specs.Seen.{head_seen, body_seen}
-use Rattle.ct_command.specs.Command.{Command, declare_block}
-use Rattle.ct_script.specs.Session.{IsDone, state_of}
+use Rattle.ct_command.specs.Command.{declare_block}
+use Rattle.ct_script.specs.Session.{state_of}
 use Rattle.ct_script.proofs.DoneLemmas.{not_done_as, done_as, changes, quietly, same_stack}
 use Rattle.ct_script.proofs.declare.declare_block.Goals as goal
 

@@ -1,4 +1,4 @@
-use Rattle.std.proofs.Common.{◌≡◌, ◌∙◌, ℕ, List, map, refl, ap, sym, subst}
+use Rattle.std.proofs.Common.{◌≡◌, List, map, ap}
 use Rattle.std.proofs.lemmas.Result.{err_from_is_err_and}
 use Rattle.ct_sexpr.specs.View.{expression_of}
 use Rattle.ct_command.specs.declared.command.Named.{Named as ReadNamed}
@@ -6,8 +6,8 @@ use Rattle.ct_command.specs.Seen.{named_seen}
 use Rattle.ct_stack.specs.Stack.{in_context, defined_in}
 use Rattle.ct_stack.specs.Elaborations.{defined_function}
 use Rattle.ct_script.proofs.DoneLemmas.{Gives-map}
-use Rattle.ct_command.specs.Command.{Command, define_fun}
-use Rattle.ct_script.specs.Session.{IsDone, state_of}
+use Rattle.ct_command.specs.Command.{define_fun}
+use Rattle.ct_script.specs.Session.{state_of}
 use Rattle.ct_script.proofs.DoneLemmas.{not_done_as, done_as, changes, quietly, same_stack}
 use Rattle.ct_script.proofs.declare.define_function.Goals as goal
 
