@@ -1,0 +1,165 @@
+-- Tables of asserted formulas: the first one, and one with one more formula.
+use Rattle.std.proofs.Common.{◌≡◌, Bool, true, false, not, nat_eq, true≢false, ℕ, zero, suc, ◌<◌, ◌≤◌, ◌⊎◌, List, [], ◌∷◌, ◌++◌, length, map, Contains, slice_get, slice_index_or, Some, refl, sym, ap, subst, ◌∙◌, inl, inr, arith}
+use Rattle.std.specs.List.{flat_map}
+use Rattle.std.proofs.lemmas.List.Elements.{All-nil, All-append, All-contains, All-weaker, All-cons, Contains-append_cases, Contains-append_left, Contains-append_right}
+use Rattle.std.proofs.lemmas.Bool.Decides.{Decides-eqb}
+use Rattle.std.proofs.lemmas.Option.{slice_get_within, none-some}
+use Rattle.ct_sorts.specs.declared.ids.SortId.{SortId}
+use Rattle.ct_sorts.specs.Declarations.{Declarations, bool_sort}
+use Rattle.ct_terms.specs.declared.ids.TermId.{TermId}
+use Rattle.ct_terms.specs.declared.term.Core.{Core}
+use Rattle.ct_terms.specs.declared.term.Core.TheVariants.{Con}
+use Rattle.ct_terms.specs.Terms.{Terms, IsOfSort, IsBoolean, AreSorted, AreOrdered, truths}
+use Rattle.ct_terms.specs.CoreTree.{CoreTree, tree_children, subtrees, tree_layer, term_at}
+use Rattle.ct_terms.specs.CoreSorts.{HasTreeSort}
+use Rattle.ct_closure.specs.Closed.{truth_trees}
+use Rattle.ct_closure.specs.ClosedTable.{AreSubtermsOf, terms_at}
+use Rattle.ct_compile.specs.Effect.{IsPrefix}
+use Rattle.test_engine.specs.Asserted.{IsAsserted}
+
+-- what a list contains is its first element or in the rest
+Contains-cons : {X : Type 0} (x : X) (xs : List X) (y : X) → Contains (x ∷ xs) y → (x ≡ y) ⊎ Contains xs y
+Contains-cons {X} x xs y h = by h.0 h.1 h.2
+  where
+    by : (k : ℕ) → k < length (x ∷ xs) → slice_index_or (x ∷ xs) k y ≡ y → (x ≡ y) ⊎ Contains xs y
+    by zero within is = inl is
+    by (suc k) within is = inr (k, omega (arith, within), is)
+
+-- the first element is contained, and so is what the rest contains
+Contains-first : {X : Type 0} (x : X) (xs : List X) → Contains (x ∷ xs) x
+Contains-first x xs = (0, omega arith, refl)
+
+Contains-rest : {X : Type 0} (x : X) (xs : List X) (y : X) → Contains xs y → Contains (x ∷ xs) y
+Contains-rest x xs y h = (suc h.0, omega (arith, h.1), h.2)
+
+-- an empty list contains nothing
+Contains-none : {X : Type 0} (x : X) → Contains [] x → ⊥
+Contains-none x h = absurd (omega (arith, h.1))
+
+-- the function of an element is among those of all elements
+Contains-map : {X Y : Type 0} (f : X → Y) (xs : List X) (x : X) → Contains xs x → Contains (map f xs) (f x)
+Contains-map f [] x h = absurd (Contains-none x h)
+Contains-map f (y ∷ xs) x h =
+    elim (Contains-cons y xs x h) [
+      | inl same ↦ subst (λ z. Contains (f y ∷ map f xs) z) (ap f same) (Contains-first (f y) (map f xs))
+      | inr rest ↦ Contains-rest (f y) (map f xs) (f x) (Contains-map f xs x rest)
+    ]
+
+-- and what is among those is that of some element
+Contains-from_map : {X Y : Type 0} (f : X → Y) (xs : List X) (y : Y) → Contains (map f xs) y → (x : X) × Contains xs x × (f x ≡ y)
+Contains-from_map f [] y h = absurd (Contains-none y h)
+Contains-from_map f (x ∷ xs) y h =
+    elim (Contains-cons (f x) (map f xs) y h) [
+      | inl same ↦ (x, Contains-first x xs, same)
+      | inr rest ↦ let found = Contains-from_map f xs y rest in (found.0, Contains-rest x xs found.0 found.1, found.2)
+    ]
+
+-- what stands at an index stands there with more after it
+slice_get-append_left : {X : Type 0} (xs ys : List X) (i : ℕ) (x : X) → slice_get xs i ≡ Some x → slice_get (xs ++ ys) i ≡ Some x
+slice_get-append_left [] ys i x e = absurd (none-some x e)
+slice_get-append_left (z ∷ zs) ys zero x e = e
+slice_get-append_left (z ∷ zs) ys (suc i) x e = slice_get-append_left zs ys i x e
+
+-- something stands at each index
+entry_at : {X : Type 0} (xs : List X) (k : ℕ) → k < length xs → (x : X) × (slice_get xs k ≡ Some x)
+entry_at [] k h = absurd (omega (arith, h))
+entry_at (x ∷ xs) zero h = (x, refl)
+entry_at (x ∷ xs) (suc k) h = entry_at xs k (omega (arith, h))
+
+-- a number is below another, or it is not
+below_or_not : (k n : ℕ) → (k < n) ⊎ (n ≤ k)
+below_or_not k zero = inr (omega arith)
+below_or_not zero (suc n) = inl (omega arith)
+below_or_not (suc k) (suc n) =
+    elim (below_or_not k n) [ inl below ↦ inl (omega (arith, below)) | inr other ↦ inr (omega (arith, other)) ]
+
+-- a tree is a subterm of itself
+subtree_itself : ((t : CoreTree) → subtrees t ≡ t ∷ flat_map subtrees (tree_children t)) → (t : CoreTree) → Contains (subtrees t) t
+subtree_itself subterms t = subst (λ (ts : List CoreTree). Contains ts t) (sym (subterms t)) (Contains-first t (flat_map subtrees (tree_children t)))
+
+module _ (unfolds : (table : Terms) (t : TermId) (core : Core) (sort : SortId) → AreOrdered table → slice_get table t.0 ≡ Some (core, sort) → term_at table t ≡ tree_layer (term_at table) core) (subterms : (t : CoreTree) → subtrees t ≡ t ∷ flat_map subtrees (tree_children t)) where
+  -- the terms of the first table are `true` and `false`
+  truth_tree : AreOrdered truths → (k : ℕ) → k < 2 → Contains truth_trees (term_at truths (record { 0 = k }))
+  truth_tree ordered zero h =
+      subst (Contains truth_trees) (sym (unfolds truths (record { 0 = 0 }) (Con (record { 0 = 0 }) []) bool_sort ordered refl)) (0, omega arith, refl)
+  truth_tree ordered (suc zero) h =
+      subst (Contains truth_trees) (sym (unfolds truths (record { 0 = 1 }) (Con (record { 0 = 1 }) []) bool_sort ordered refl)) (1, omega arith, refl)
+  truth_tree ordered (suc (suc k)) h = absurd (omega (arith, h))
+
+  -- the first table is that of no assertion
+  pub truths_asserted : (d : Declarations) (table : Terms) → table ≡ truths → AreOrdered table → AreSorted d table → IsAsserted d table []
+  truths_asserted d table e ordered sorted =
+      record {
+        sorted = sorted;
+        boolean = All-nil (IsBoolean table);
+        exact =
+            subst (λ (ts : Terms). AreSubtermsOf ts []) (sym e)
+            (λ t within. (term_at truths t, truth_tree (subst AreOrdered e ordered) t.0 (omega (arith, within)), subtree_itself subterms (term_at truths t)));
+      }
+
+-- two sorts that the test does not tell apart are one
+pub same_sort : (r s : SortId) → not (nat_eq r.0 s.0) ≡ false → r ≡ s
+same_sort r s told = by (nat_eq r.0 s.0) refl told
+  where
+    of : ℕ → SortId
+    of n = record { 0 = n }
+
+    by : (b : Bool) → nat_eq r.0 s.0 ≡ b → not b ≡ false → r ≡ s
+    by true e h = ap of ((Decides-eqb r.0 s.0).0 e)
+    by false e h = absurd (true≢false h)
+
+-- a term is Boolean where its tree is
+pub boolean_term : ((d : Declarations) (t : CoreTree) (r s : SortId) → HasTreeSort d t r → HasTreeSort d t s → r ≡ s) → ((d : Declarations) (table : Terms) (t : TermId) (sort : SortId) → AreOrdered table → AreSorted d table → IsOfSort table t sort → HasTreeSort d (term_at table t) sort) → (d : Declarations) (table : Terms) (t : TermId) → AreOrdered table → AreSorted d table → t.0 < length table → HasTreeSort d (term_at table t) bool_sort → IsBoolean table t
+boolean_term one_sort tree_sorted d table t ordered sorted within boolean =
+    let found = entry_at table t.0 within in
+    let same : found.0.1 ≡ bool_sort = one_sort d (term_at table t) found.0.1 bool_sort (tree_sorted d table t found.0.1 ordered sorted (found.0.0, found.1)) boolean in
+    (found.0.0, subst (λ (s : SortId). slice_get table t.0 ≡ Some (found.0.0, s)) same found.1)
+
+module _ (longer : (table more : Terms) (t : TermId) → AreOrdered (table ++ more) → t.0 < length table → term_at (table ++ more) t ≡ term_at table t) (subterms : (t : CoreTree) → subtrees t ≡ t ∷ flat_map subtrees (tree_children t)) (d : Declarations) (old new : Terms) (asserts : List TermId) (t : TermId) (before : IsAsserted d old asserts) (grown : IsPrefix old new) (sorted : AreSorted d new) (ordered : AreOrdered new) (boolean : IsBoolean new t) (added : (u : TermId) → length old ≤ u.0 → u.0 < length new → Contains (subtrees (term_at new t)) (term_at new u)) where
+  tree_stays : (u : TermId) → u.0 < length old → term_at new u ≡ term_at old u
+  tree_stays u within =
+      ap (λ (table : Terms). term_at table u) grown.1 ∙ longer old grown.0 u (subst AreOrdered grown.1 ordered) within
+
+  boolean_stays : (u : TermId) → IsBoolean old u → IsBoolean new u
+  boolean_stays u h =
+      (h.0, subst (λ (table : Terms). slice_get table u.0 ≡ Some (h.0, bool_sort)) (sym grown.1) (slice_get-append_left old grown.0 u.0 (h.0, bool_sort) h.1))
+
+  -- the roots are roots still
+  formula_stays : (root : CoreTree) → Contains (terms_at old asserts) root → Contains (terms_at new (asserts ++ t ∷ [])) root
+  formula_stays root h =
+      let found = Contains-from_map (term_at old) asserts root h in
+      let of_sort = All-contains (IsBoolean old) asserts found.0 before.boolean found.1 in
+      let within : found.0.0 < length old = slice_get_within old found.0.0 (of_sort.0, bool_sort) of_sort.1 in
+      subst (Contains (terms_at new (asserts ++ t ∷ []))) (tree_stays found.0 within ∙ found.2)
+      (Contains-map (term_at new) (asserts ++ t ∷ []) found.0 (Contains-append_left asserts (t ∷ []) found.0 found.1))
+
+  root_stays : (root : CoreTree) → Contains (truth_trees ++ terms_at old asserts) root → Contains (truth_trees ++ terms_at new (asserts ++ t ∷ [])) root
+  root_stays root h =
+      elim (Contains-append_cases truth_trees (terms_at old asserts) root h) [
+        | inl truth ↦ Contains-append_left truth_trees (terms_at new (asserts ++ t ∷ [])) root truth
+        | inr formula ↦ Contains-append_right truth_trees (terms_at new (asserts ++ t ∷ [])) root (formula_stays root formula)
+      ]
+
+  new_root : Contains (truth_trees ++ terms_at new (asserts ++ t ∷ [])) (term_at new t)
+  new_root =
+      Contains-append_right truth_trees (terms_at new (asserts ++ t ∷ [])) (term_at new t)
+      (Contains-map (term_at new) (asserts ++ t ∷ []) t (Contains-append_right asserts (t ∷ []) t (Contains-first t [])))
+
+  -- each term is a subterm of one of them
+  exact_still : AreSubtermsOf new (asserts ++ t ∷ [])
+  exact_still u within =
+      elim (below_or_not u.0 (length old)) [
+        | inl below ↦ let root = before.exact u below in (root.0, root_stays root.0 root.1, subst (Contains (subtrees root.0)) (sym (tree_stays u below)) root.2)
+        | inr from ↦ (term_at new t, new_root, added u from within)
+      ]
+
+  -- with one more formula the table is that of the formulas
+  pub one_more_asserted : IsAsserted d new (asserts ++ t ∷ [])
+  one_more_asserted =
+      record {
+        sorted = sorted;
+        boolean =
+            All-append (IsBoolean new) asserts (t ∷ []) (All-weaker (IsBoolean old) (IsBoolean new) boolean_stays asserts before.boolean)
+            (All-cons (IsBoolean new) t [] boolean (All-nil (IsBoolean new)));
+        exact = exact_still;
+      }

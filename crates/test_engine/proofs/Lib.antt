@@ -1,0 +1,3 @@
+pub mod AssertedLemmas
+pub mod ScopeLemmas
+pub mod VerdictLemmas

@@ -1,0 +1,6 @@
+use Rattle.std.proofs.Common.{◌≡◌, map, take}
+use Rattle.ct_check.specs.declared.scope.Param.{Param}
+use Rattle.test_engine.proofs.define.sorts_of.Given as goal
+
+abbrev pub invariant-loop-param : goal.invariant-loop-param
+invariant-loop-param l = l.sorts.items ≡ map (λ (p : Param). p.sort) (take l.param-index l.params)

@@ -1,0 +1,59 @@
+//! Expressions of cases: parameters, and the trees of terms.
+ghost use Rattle.std.specs.Prelude.{[], All, IfOk, map};
+ghost use Rattle.ct_sorts.specs.Declarations.{IsSort};
+ghost use Rattle.ct_terms.specs.Formula.{bind};
+ghost use Rattle.ct_terms.specs.FormulaSorts.{IsSorted};
+ghost use Rattle.ct_terms.specs.TreeFormula.{formula_of};
+ghost use Rattle.ct_check.specs.declared.scope.Param.{Param};
+
+use ct_cases::{CaseError, bytes_of, items_of, sort_of as declared_sort};
+use ct_check::{CheckError, Param, elaborate, elaboration};
+use ct_compile::Scope;
+use ct_sexpr::{Bytes, Sexpr};
+use ct_sorts::{Signature, SortId};
+use ct_terms::Tree;
+use std::alloc::Global;
+
+/// The tree of an expression under parameters, and its sort.
+pub fn term_of(
+    alloc: Global,
+    scope: &Scope,
+    params: &[Param],
+    expr: &Sexpr,
+) -> Result<(Tree, SortId), CaseError>
+    ensures sorted { IfOk result (λ found. IsSorted scope.now.sig
+        (bind (map (λ (p : Param). p.sort) params.now) []) (formula_of found.0) found.1) }
+{
+    elaboration();
+    scope.sig.sorts();
+    match elaborate(alloc, scope, params, expr) {
+        Ok(found) => Ok(found),
+        Err(CheckError::Refused(_)) => Err(CaseError::Bad),
+        Err(CheckError::NoMemory) => Err(CaseError::NoMemory),
+    }
+}
+
+/// The parameters that the parts write.
+pub fn params_of(alloc: Global, sig: &Signature, parts: &[Sexpr]) -> Result<Vec<Param>, CaseError>
+    ensures inside { IfOk result (λ params. All (λ (p : Param). IsSort sig.now p.sort) params.items) }
+{
+    let mut params = Vec::new(alloc);
+    for part in parts {
+        params.push(param_of(alloc, sig, part)?)?;
+    }
+    Ok(params)
+}
+
+/// The parameter that a part writes.
+fn param_of(alloc: Global, sig: &Signature, part: &Sexpr) -> Result<Param, CaseError>
+    ensures inside { IfOk result (λ param. IsSort sig.now param.sort) }
+{
+    match items_of(part)? {
+        [name, sort] => {
+            let name = Bytes::new(bytes_of(alloc, name)?);
+            let sort = declared_sort(alloc, sig, sort)?;
+            Ok(Param { name, sort })
+        }
+        _ => Err(CaseError::Bad),
+    }
+}
