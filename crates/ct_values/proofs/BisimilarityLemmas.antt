@@ -14,6 +14,7 @@ use Rattle.ct_values.specs.Agreement.{AgreeAlways}
 use Rattle.ct_values.specs.Partition.{class_at, node_key, Alike}
 use Rattle.ct_values.specs.Settled.{TellsTrees, AreSettled}
 use Rattle.ct_values.specs.Sharing.{AreClasses}
+use Rattle.ct_values.specs.Least.{AreLeast, ArePositive}
 use Rattle.ct_values.specs.NodePoints.{label_of, row_of, ArePointsOf}
 use Rattle.ct_values.proofs.AgreeLemmas.{both}
 use Rattle.ct_values.proofs.GraphLemmas.{closed_children}
@@ -156,3 +157,25 @@ module _ (g : Nodes) (settled blocks : List ℕ) (p : Points) (closed : IsClosed
         each : (i j : ℕ) (x y : Node) → slice_get g i ≡ Some x → slice_get g j ≡ Some y → class_at blocks i ≡ class_at blocks j → node_key blocks x ≡ node_key blocks y
         each i j x y at_i at_j one =
             keys i j x y at_i at_j (slice_get_within g i x at_i) (slice_get_within g j y at_j) one (eq-zero-or-pos (class_at settled i)) (eq-zero-or-pos (class_at settled j))
+
+-- where all nodes are settled, the least nodes with their classes name the classes
+pub AreClasses-settled : (g : Nodes) (settled places : List ℕ) → IsClosed g → TellsTrees g settled → ArePositive settled → AreLeast settled places → AreClasses g places
+AreClasses-settled g settled places closed tells positive least = record {
+  closed = closed;
+  long = least.long ∙ tells.keeps.long;
+  named = λ n within.
+      let found = least.named n.0 (settled_in n.0 within) in
+      let low : class_at places n.0 ≤ n.0 = found.least n.0 (omega arith) (settled_in n.0 within) refl in
+      let first_in : class_at places n.0 < length g = omega (arith, low, within) in
+      record {
+        within = first_in;
+        same = AgreeAlways-stable g settled closed keys (id (class_at places n.0)) n first_in within found.same;
+        first = λ m m_in alike. found.least m.0 (omega arith) (settled_in m.0 m_in) (tells.keeps.together m.0 n.0 m_in within alike);
+      };
+}
+  where
+    settled_in : (i : ℕ) → i < length g → i < length settled
+    settled_in i within = omega (arith, within, tells.keeps.long)
+
+    keys : (i j : ℕ) (x y : Node) → slice_get g i ≡ Some x → slice_get g j ≡ Some y → class_at settled i ≡ class_at settled j → node_key settled x ≡ node_key settled y
+    keys i j x y at_i at_j one = tells.keys i j x y at_i at_j (positive i (settled_in i (slice_get_within g i x at_i))) one

@@ -48,12 +48,12 @@ one_bound g (n ∷ ns) each =
 
 -- ---- one class changes
 
-class_at-set_same : (classes : List ℕ) (i c : ℕ) → i < length classes → class_at (set classes i c) i ≡ c
+pub class_at-set_same : (classes : List ℕ) (i c : ℕ) → i < length classes → class_at (set classes i c) i ≡ c
 class_at-set_same [] i c h = absurd (omega arith)
 class_at-set_same (x ∷ xs) zero c h = refl
 class_at-set_same (x ∷ xs) (suc i) c h = class_at-set_same xs i c (omega arith)
 
-class_at-set_other : (classes : List ℕ) (i j c : ℕ) → (j ≡ i → ⊥) → class_at (set classes i c) j ≡ class_at classes j
+pub class_at-set_other : (classes : List ℕ) (i j c : ℕ) → (j ≡ i → ⊥) → class_at (set classes i c) j ≡ class_at classes j
 class_at-set_other [] i j c other = refl
 class_at-set_other (x ∷ xs) zero zero c other = absurd (other refl)
 class_at-set_other (x ∷ xs) zero (suc j) c other = refl

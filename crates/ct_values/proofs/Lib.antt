@@ -15,6 +15,7 @@ pub mod PostorderLemmas
 pub mod QuotientLemmas
 pub mod RepresentativeLemmas
 pub mod ClassLemmas
+pub mod LeastLemmas
 pub mod BisimilarityLemmas
 pub mod SharedLemmas
 pub mod FitTestLemmas

@@ -11,6 +11,7 @@ pub mod KeyTest
 pub mod Renumbering
 pub mod Quotient
 pub mod Shape
+pub mod Least
 pub mod Postorder
 pub mod Settled
 pub mod NodePoints

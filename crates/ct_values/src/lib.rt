@@ -11,6 +11,7 @@ mod graph;
 mod graph_text;
 mod indices;
 mod key;
+mod least;
 mod minimal;
 mod node;
 mod node_ids;
