@@ -60,7 +60,8 @@ pub fn accepted(
 
 /// Whether the line of the record at this index is accepted after the lines before it. Takes no memory. Its cost is the
 /// length of the line and of the clauses that it names; beside these, each assertion is gone over once in all, an
-/// expansion costs the fields of its constructor, and an argument of a gate the negations over its literal.
+/// `input` line that is refused since its term is no assertion goes over all of them once more, and an expansion costs
+/// the fields of its constructor.
 pub fn accepted_at(
     sig: &Signature,
     sizes: &Sizes,

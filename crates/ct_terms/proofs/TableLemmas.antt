@@ -152,6 +152,34 @@ IsTermTable-take table n two old =
           (boolean.0, take-slice_get n table a.0 (boolean.0, bool_sort) (omega arith) boolean.1);
     }
 
+-- the number of the constructor on top, or 2
+abbrev con_number : Core → ℕ
+con_number (Con c args) = c.0
+con_number _ = 2
+
+-- `true` and `false` stand at the numbers of their constructors
+con_number-truths : (t : ℕ) (core : Core) → Has truths core t → con_number core ≡ t
+con_number-truths zero core has = ap (λ (e : Core × SortId). con_number e.0) (sym (same_Some (Con (record { 0 = 0 }) [], bool_sort) (core, has.0) has.1))
+con_number-truths (suc zero) core has = ap (λ (e : Core × SortId). con_number e.0) (sym (same_Some (Con (record { 0 = 1 }) [], bool_sort) (core, has.0) has.1))
+con_number-truths (suc (suc t)) core has = absurd (none-some (core, has.0) has.1)
+
+-- no terms are under them
+AreOrdered-truths : AreOrdered truths
+AreOrdered-truths zero core has = subst (λ (e : Core × SortId). HasArgumentsBelow 0 e.0) (same_Some (Con (record { 0 = 0 }) [], bool_sort) (core, has.0) has.1) tt
+AreOrdered-truths (suc zero) core has = subst (λ (e : Core × SortId). HasArgumentsBelow 1 e.0) (same_Some (Con (record { 0 = 1 }) [], bool_sort) (core, has.0) has.1) tt
+AreOrdered-truths (suc (suc t)) core has = absurd (none-some (core, has.0) has.1)
+
+-- alone they are a table
+pub IsTermTable-truths : IsTermTable truths
+IsTermTable-truths =
+    record {
+      few = omega arith;
+      begins = refl;
+      ordered = AreOrdered-truths;
+      single = λ i j core at_i at_j. sym (con_number-truths i core at_i) ∙ con_number-truths j core at_j;
+      negates = λ t a has. absurd (none-some (Not a, has.0) (ap (slice_get truths) (con_number-truths t (Not a) has) ∙ has.1));
+    }
+
 -- a term is not among those before it
 pub IsAbsent-before : (table : Terms) (core : Core) (t : ℕ) → AreSingle table → Has table core t → IsAbsent (take t table) core
 IsAbsent-before table core t single has u before =

@@ -1,5 +1,5 @@
 -- Literals: a term without the negations around it, and the sign that they leave.
-use Rattle.std.specs.Prelude.{◌≡◌, ℕ, zero, suc, true, not, Option, Some, None, slice_get}
+use Rattle.std.specs.Prelude.{◌≡◌, ℕ, zero, suc, ◌<◌, true, not, List, length, Option, Some, None, slice_get}
 use Rattle.ct_sorts.specs.declared.ids.SortId.{SortId}
 use Rattle.ct_terms.specs.declared.ids.TermId.{TermId}
 use Rattle.ct_terms.specs.declared.ids.Lit.{Lit}
@@ -37,3 +37,8 @@ IsLiteral table t (Some (_, s)) = literal_of table t ≡ record { term = t; posi
 -- a Boolean term of the table that is no negation
 abbrev pub IsStripped : Terms → TermId → Type 0
 IsStripped table t = IsOfSort table t bool_sort × ((a : TermId) → Has table (Not a) t.0 → ⊥)
+
+-- the list has the literal of each term of the table, by its number
+pub record AreLiterals (table : Terms) (literals : List Lit) : Type 0 where
+  pub long : length literals ≡ length table
+  pub each : (t : TermId) → t.0 < length table → slice_get literals t.0 ≡ Some (literal_of table t)

@@ -52,13 +52,13 @@ abbrev mutual
   occurs_in_bound d uses inner no_formulas i = false
   occurs_in_bound d uses inner (with_formula t ts) i = (inner (count_of ts) && occurs d uses t i) || occurs_in_bound d uses inner ts i
 
-  -- the matched term occurs, in a test or in place of a variable of a case that is stored, after cases of these constructors
+  -- the matched term occurs, in a test or in place of a variable of a case that the core term has, after cases of these constructors
   pub matched_occurs : Declarations → (DefId → ℕ → Bool) → List CtorId → Cases → Bool
   matched_occurs d uses earlier no_cases = false
   matched_occurs d uses earlier (with_case Any body cases) = occurs d uses body 0
   matched_occurs d uses earlier (with_case (Ctor c) body cases) = not (surely_fits d earlier c || are_none cases) || any_below (occurs d uses body) (field_count d c)
 
-  -- the variable occurs in the body of a case that is stored, after cases of these constructors
+  -- the variable occurs in the body of a case that the core term has, after cases of these constructors
   pub occurs_in_cases : Declarations → (DefId → ℕ → Bool) → List CtorId → Cases → ℕ → Bool
   occurs_in_cases d uses earlier no_cases i = false
   occurs_in_cases d uses earlier (with_case Any body cases) i = occurs d uses body (suc i)

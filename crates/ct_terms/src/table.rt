@@ -1,12 +1,12 @@
 //! The table of terms, in which equal terms have one number.
 
-ghost use Rattle.std.specs.Prelude.{◌≡◌, ℕ, ◌<◌, ◌≤◌, ◌↔◌, length, take, slice_get, OnErr, IsOk, IfOk, IfErr, IfSome, IfNone, IsErrOf};
+ghost use Rattle.std.specs.Prelude.{◌≡◌, true, ℕ, ◌<◌, ◌≤◌, ◌↔◌, length, take, Some, slice_get, OnErr, IsOk, IfOk, IfErr, IfSome, IfNone, IsErrOf};
 ghost use Rattle.ct_sorts.specs.declared.ids.SortId.{SortId};
 ghost use Rattle.ct_sorts.specs.Declarations.{Declarations, start, bool_sort};
 ghost use Rattle.ct_terms.specs.declared.ids.TermId.{TermId};
 ghost use Rattle.ct_terms.specs.Terms.{Terms, IsOfSort, HasSort, IsWellSorted, AreSorted, StandsSorted, Has, IsAbsent, Makes, HasArgumentsBelow, AreOrdered, AreSingle, NegatesBooleans, BeginsWithTruths, most_terms, truths};
 ghost use Rattle.ct_sorts.specs.Grown.{Extends};
-ghost use Rattle.ct_terms.specs.Literal.{literal_of, IsLiteral, IsStripped};
+ghost use Rattle.ct_terms.specs.Literal.{literal_step, literal_of, IsLiteral, IsStripped};
 
 use crate::args::Args;
 use crate::error::TermError;
@@ -29,16 +29,19 @@ pub struct TermTable {
     alloc: Global,
     // An index in the map is a number.
     terms: IndexMap<Core, SortId>,
+    // The literal of each term, by its number.
+    literals: Vec<Lit>,
 }
 
 impl Model for TermTable {
     ghost use Rattle.ct_terms.specs.Terms.{Terms, IsTermTable};
+    ghost use Rattle.ct_terms.specs.Literal.{AreLiterals};
 
     ghost Value = { Terms };
 
     ghost view = { λ t. t.terms.entries };
 
-    ghost invariant = { λ t. IsTermTable t.terms.entries };
+    ghost invariant = { λ t. IsTermTable t.terms.entries × AreLiterals t.terms.entries t.literals.items };
 }
 
 impl TermTable {
@@ -52,7 +55,12 @@ impl TermTable {
         let mut terms = IndexMap::new(alloc);
         terms.insert(Core::Con(CtorId(0), Args::new(alloc)), BOOL)?;
         terms.insert(Core::Con(CtorId(1), Args::new(alloc)), BOOL)?;
-        Ok(TermTable { alloc, terms })
+        let literals = Vec::from_slice(alloc, &[itself(TermId(0)), itself(TermId(1))])?;
+        Ok(TermTable {
+            alloc,
+            terms,
+            literals,
+        })
     }
 
     /// An equal table. Its only error is `NoMemory`.
@@ -60,6 +68,7 @@ impl TermTable {
         ensures ok { IfOk result (λ table. table ≡ self.now) }
         ensures err { IfErr result (λ e. e ≡ TermError.NoMemory) }
     {
+        let literals = Vec::from_slice(self.alloc, &self.literals)?;
         let mut copied = IndexMap::new(self.alloc);
         for index in 0..self.terms.len() {
             let term = TermId(index as u32);
@@ -68,6 +77,7 @@ impl TermTable {
         Ok(TermTable {
             alloc: self.alloc,
             terms: copied,
+            literals,
         })
     }
 
@@ -81,6 +91,7 @@ impl TermTable {
         ensures sorted { (d : Declarations) → AreSorted d self.old → AreSorted d self.new }
     {
         self.terms.truncate(len as usize);
+        self.literals.truncate(len as usize);
     }
 
     /// The number of the term: of the equal one that is there, or of a new one at the end. `Full` comes
@@ -109,7 +120,10 @@ impl TermTable {
             return Err(TermError::Full);
         }
         let sort = self.sort_of(sig, &core);
+        let literal = self.next_literal(TermId(number as u32), &core);
+        self.literals.reserve(1)?;
         self.terms.insert(core, sort)?;
+        self.literals.push(literal).unwrap();
         Ok(TermId(number as u32))
     }
 
@@ -150,7 +164,7 @@ impl TermTable {
         self.terms[t.0 as usize]
     }
 
-    /// The term without the negations around it, and the sign that they leave.
+    /// The term without the negations around it, and the sign that they leave, in constant time.
     pub fn lit(&self, t: TermId) -> Lit
         requires boolean { IsOfSort self.now t bool_sort }
         ensures value { result ≡ literal_of self.now t }
@@ -158,13 +172,7 @@ impl TermTable {
         ensures means { (u : TermId) → IsLiteral self.now u (slice_get self.now u.0) }
     {
         prove!(t.0 < self.len());
-        let mut term = t;
-        let mut positive = true;
-        while let Core::Not(inner) = self.core(term) {
-            term = *inner;
-            positive = !positive;
-        }
-        Lit { term, positive }
+        self.literals[t.0 as usize]
     }
 
     /// The number of the term, where it is in the table.
@@ -175,6 +183,23 @@ impl TermTable {
         match self.terms.get_index_of(core) {
             Some(index) => Some(TermId(index as u32)),
             None => None,
+        }
+    }
+
+    // The literal of a term over this table, whose number is `t`.
+    fn next_literal(&self, t: TermId, core: &Core) -> Lit
+        requires inside { HasArgumentsBelow (length self.now) core.now }
+        ensures value { (sort : SortId) → result ≡ literal_step (literal_of self.now) t (Some (core.now, sort)) }
+    {
+        match core {
+            Core::Not(inner) => {
+                let below = self.literals[inner.0 as usize];
+                Lit {
+                    term: below.term,
+                    positive: !below.positive,
+                }
+            }
+            _ => itself(t),
         }
     }
 
@@ -195,5 +220,15 @@ impl TermTable {
             Core::Or(_) => BOOL,
             Core::Iff(_, _) => BOOL,
         }
+    }
+}
+
+// The literal of a term that is no negation.
+fn itself(term: TermId) -> Lit
+    ensures value { result ≡ record { term = term; positive = true } }
+{
+    Lit {
+        term,
+        positive: true,
     }
 }

@@ -12,7 +12,7 @@ there c =
 
 -- so the terms under it have smaller numbers
 below : (c : In-Some) → HasArgumentsBelow c.args.t.0 c.in-Some.core.now
-below c = c.self.invariant.ordered c.args.t.0 c.in-Some.core.now (there c)
+below c = c.self.invariant.0.ordered c.args.t.0 c.in-Some.core.now (there c)
 
 pub returns-clause-value : goal.returns-clause-value
 returns-clause-value c = rw (← c.self.view_is) (there (goal.at.returns-clause-value c).In-Some)

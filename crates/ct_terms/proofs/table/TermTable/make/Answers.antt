@@ -1,29 +1,46 @@
-use Rattle.std.proofs.Common.{[], ◌∷◌, ◌++◌, ◌≡◌, ◌<◌, ◌∙◌, Some, length, ap, inl, inr, refl, arith}
+use Rattle.std.proofs.Common.{List, [], ◌∷◌, ◌++◌, ◌≡◌, ◌<◌, ◌∙◌, Some, length, ap, inl, inr, refl, arith}
+use Rattle.ct_terms.specs.declared.ids.Lit.{Lit}
 use Rattle.ct_terms.specs.Terms.{HasSort, most_terms}
+use Rattle.ct_terms.specs.Literal.{literal_step, literal_of}
+use Rattle.ct_terms.proofs.LiteralLemmas.{AreLiterals-push}
 use Rattle.ct_terms.proofs.ListLemmas.{slice_get-last}
-use Rattle.ct_terms.proofs.SortLemmas.{HasSort-same, IsOfSort-append}
+use Rattle.ct_terms.proofs.SortLemmas.{HasSort-same, HasSort-below, IsOfSort-append}
 use Rattle.ct_terms.proofs.TableLemmas.{IsTermTable-push, IsOfSort-sorted, AreSorted-push, StandsSorted-made, insert_entry-absent}
 use Rattle.ct_terms.proofs.table.TermTable.make.Goals as goal
+use Rattle.ct_terms.proofs.table.TermTable.make.Goals.{After-unwrap}
 
 -- the sort that is stored is the term's
-stored : (c : goal.In_ok-insert) → HasSort c.args.sig.now c.args.self.now c.args.core c.sort_of-sort.result
+stored : (c : After-unwrap) → HasSort c.args.sig.now c.args.self.now c.args.core c.sort_of-sort.result
 stored c = c.sort_of-sort.ensures.sort
 
 -- the table has grown by the term
-grown : (c : goal.In_ok-insert) → c.insert.new.self.entries ≡ c.args.self.now ++ (c.args.core, c.sort_of-sort.result) ∷ []
+grown : (c : After-unwrap) → c.insert.new.self.entries ≡ c.args.self.now ++ (c.args.core, c.sort_of-sort.result) ∷ []
 grown c =
     rw (c.in_ok-insert.ensures.entries, c.self.view_is)
     (insert_entry-absent c.args.self.now c.args.core c.sort_of-sort.result c.in_default.ensures.absent)
 
 -- the number is the old length
-number : (c : goal.In_ok-insert) → c.len-number.result ≡ length c.args.self.now
+number : (c : After-unwrap) → c.len-number.result ≡ length c.args.self.now
 number c = rw (← c.self.view_is) c.len-number.ensures.len
+
+-- the terms under the new one are in the table
+pub next_literal-literal-requires : goal.next_literal-literal-requires
+next_literal-literal-requires c = record { inside = HasSort-below c.args.sig.now c.args.self.now c.args.core c.sort_of-sort.result c.sort_of-sort.ensures.sort }
+
+-- the literals have grown by that of the term
+literals : (c : After-unwrap) → c.push.new.self.items ≡ c.self.inside.literals.items ++ literal_step (literal_of c.args.self.now) (record { 0 = c.len-number.result }) (Some (c.args.core, c.sort_of-sort.result)) ∷ []
+literals c =
+    rw c.unwrap.ensures at c.push.ensures.items
+    ∙ ap (λ (ls : List Lit). ls ++ c.next_literal-literal.result ∷ []) c.in_ok-reserve.ensures.items
+    ∙ ap (λ (l : Lit). c.self.inside.literals.items ++ l ∷ []) (c.next_literal-literal.ensures.value c.sort_of-sort.result)
 
 pub invariant_of-self-2 : goal.invariant_of-self-2
 invariant_of-self-2 c =
     let room : length c.args.self.now < most_terms = omega (arith, number c) in
-    rw (grown c)
-    (IsTermTable-push c.args.sig.now c.args.self.now c.args.core c.sort_of-sort.result (rw c.self.view_is at c.self.invariant) room c.in_default.ensures.absent (stored c))
+    let kept = rw c.self.view_is at c.self.invariant in
+    let more = IsTermTable-push c.args.sig.now c.args.self.now c.args.core c.sort_of-sort.result kept.0 room c.in_default.ensures.absent (stored c) in
+    rw (grown c, literals c)
+    (more, AreLiterals-push c.args.self.now c.self.inside.literals.items c.args.core c.sort_of-sort.result (record { 0 = c.len-number.result }) more.ordered (number c) kept.1)
 
 pub returns-in-Some-clause-full : goal.returns-in-Some-clause-full
 returns-in-Some-clause-full c = (λ e. cc, λ h. absurd (h.0 c.in-Some.term.0 c.in-Some.ensures.found))
@@ -34,6 +51,9 @@ returns-in-Some-clause-sort c =
 
 pub returns-then-number-ge-MOST_TERMS-clause-there : goal.returns-then-number-ge-MOST_TERMS-clause-there
 returns-then-number-ge-MOST_TERMS-clause-there c = λ t has. absurd (c.in_default.ensures.absent t has)
+
+pub returns-in_err-reserve-clause-there : goal.returns-in_err-reserve-clause-there
+returns-in_err-reserve-clause-there c = λ t has. absurd (c.in_default.ensures.absent t has)
 
 pub returns-in_err-insert-clause-there : goal.returns-in_err-insert-clause-there
 returns-in_err-insert-clause-there c = λ t has. absurd (c.in_default.ensures.absent t has)
