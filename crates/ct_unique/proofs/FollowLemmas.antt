@@ -15,6 +15,7 @@ use Rattle.ct_congr.specs.State.{State, AreEqual, IsQuiet}
 use Rattle.ct_unique.specs.declared.found.Key.{Key}
 use Rattle.ct_unique.specs.Partition.{block_of, in_one_block, IsCoarsest}
 use Rattle.ct_unique.specs.Found.{AreOnce, room, StandsFor, IsAdded, IsOpen, IsMore, IsUnderWay}
+use Rattle.ct_unique.specs.Reached.{IsArgumentPair, IsReached, by_asking, by_arguments}
 use Rattle.ct_unique.proofs.ListLemmas.{stands, slice_get-append_left, AllZip-at, AllZip-from, AllZip-weaker, Contains-from_slice_get, slice_get-from_Contains}
 use Rattle.ct_unique.proofs.ClassLemmas.{InOneClass-sym, InOneClass-trans, one_arity, same_ctor, same_argument}
 use Rattle.ct_unique.proofs.BlockLemmas.{in_block}
@@ -88,11 +89,12 @@ module _ {S T : Type 0} (state : State) (blocks : List ℕ) (asked : Equation) w
         indexed = added.indexed;
         first = head.1 ∙ ap Some (is 0 head.0 head.1);
         opens = λ k e at. subst (IsOpen state blocks) (sym (is k e at)) opens;
+        reached = λ k e at. subst (IsReached state asked) (sym (is k e at)) by_asking;
         done = λ k e before at. absurd (omega (arith, before));
         within = omega arith;
       }
 
-  module _ (old : IndexMap Key ℕ S) (before : List Equation) (new : IndexMap Key ℕ T) (after : List Equation) (next : ℕ) (pair : Equation) (now : IsUnderWay state blocks asked old before next) (here : slice_get before next ≡ Some pair) (more : IsMore state blocks old before new after) where
+  module _ (old : IndexMap Key ℕ S) (before : List Equation) (new : IndexMap Key ℕ T) (after : List Equation) (next : ℕ) (pair : Equation) (now : IsUnderWay state blocks asked old before next) (here : slice_get before next ≡ Some pair) (more : IsMore state blocks (IsArgumentPair state pair) old before new after) where
     longer : length after ≡ length before + length more.rest
     longer = ap length more.grown ∙ length-append before more.rest
 
@@ -103,7 +105,8 @@ module _ {S T : Type 0} (state : State) (blocks : List ℕ) (asked : Equation) w
         record {
           indexed = more.indexed;
           first = later known before after more.rest more.grown 0 asked now.first;
-          opens = λ k e at. elim (more.only k e at) [ inl had ↦ now.opens k e had | inr opens ↦ opens ];
+          opens = λ k e at. elim (more.only k e at) [ inl had ↦ now.opens k e had | inr new ↦ new.0 ];
+          reached = λ k e at. elim (more.only k e at) [ inl had ↦ now.reached k e had | inr new ↦ by_arguments pair e (now.reached next pair here) new.1 ];
           done = λ k e soon at.
               let found = stands before k (omega (arith, soon, inside)) in
               let same : found.0 ≡ e = same_Some found.0 e (sym (later known before after more.rest more.grown k found.0 found.1) ∙ at) in
@@ -142,6 +145,9 @@ module _ {S : Type 0} (state : State) (blocks : List ℕ) (asked : Equation) whe
 
   pub asked_listed : (places : IndexMap Key ℕ S) (pairs : List Equation) (next : ℕ) → IsUnderWay state blocks asked places pairs next → Contains pairs asked
   asked_listed places pairs next now = Contains-from_slice_get pairs 0 asked now.first
+
+  pub reached_listed : (places : IndexMap Key ℕ S) (pairs : List Equation) (next : ℕ) → IsUnderWay state blocks asked places pairs next → (e : Equation) → Contains pairs e → IsReached state asked e
+  reached_listed places pairs next now e listed = let at = slice_get-from_Contains pairs e listed in now.reached at.0 e at.1
 
   -- no two are of the same classes
   pub AreOnce-end : (places : IndexMap Key ℕ S) (pairs : List Equation) (next : ℕ) → IsUnderWay state blocks asked places pairs next → AreOnce state pairs

@@ -104,8 +104,8 @@ module _ {S : Type 0} (state : State) (index : IndexMap Key ℕ S) (pairs : List
 
 -- ---- more pairs of one block
 
-pub IsMore-none : {S : Type 0} (state : State) (blocks : List ℕ) (index : IndexMap Key ℕ S) (pairs : List Equation) → IsIndexed state index pairs → IsMore state blocks index pairs index pairs
-IsMore-none state blocks index pairs indexed = record {
+pub IsMore-none : {S : Type 0} (state : State) (blocks : List ℕ) (IsNeeded : Equation → Type 0) (index : IndexMap Key ℕ S) (pairs : List Equation) → IsIndexed state index pairs → IsMore state blocks IsNeeded index pairs index pairs
+IsMore-none state blocks IsNeeded index pairs indexed = record {
   rest = [];
   grown = sym (append-nil pairs);
   only = λ k e at. inl at;
@@ -113,20 +113,30 @@ IsMore-none state blocks index pairs indexed = record {
   spent = omega arith;
 }
 
-pub IsMore-added : {S T : Type 0} (state : State) (blocks : List ℕ) (old : IndexMap Key ℕ S) (before : List Equation) (new : IndexMap Key ℕ T) (after : List Equation) (pair : Equation) → IsAdded state old before new after pair → IsOpen state blocks pair → IsMore state blocks old before new after
-IsMore-added state blocks old before new after pair added opens = record {
+pub IsMore-added : {S T : Type 0} (state : State) (blocks : List ℕ) (IsNeeded : Equation → Type 0) (old : IndexMap Key ℕ S) (before : List Equation) (new : IndexMap Key ℕ T) (after : List Equation) (pair : Equation) → IsAdded state old before new after pair → IsOpen state blocks pair → IsNeeded pair → IsMore state blocks IsNeeded old before new after
+IsMore-added state blocks IsNeeded old before new after pair added opens needed = record {
   rest = added.rest;
   grown = added.grown;
-  only = λ k e at. elim (added.only k e at) [ inl had ↦ inl had | inr is ↦ inr (subst (IsOpen state blocks) (sym is) opens) ];
+  only = λ k e at. elim (added.only k e at) [ inl had ↦ inl had | inr is ↦ inr (subst (IsOpen state blocks) (sym is) opens, subst IsNeeded (sym is) needed) ];
   indexed = added.indexed;
   spent = added.spent;
 }
 
-pub IsMore-trans : {S T U : Type 0} (state : State) (blocks : List ℕ) (old : IndexMap Key ℕ S) (before : List Equation) (mid : IndexMap Key ℕ T) (between : List Equation) (new : IndexMap Key ℕ U) (after : List Equation) → IsMore state blocks old before mid between → IsMore state blocks mid between new after → IsMore state blocks old before new after
-IsMore-trans state blocks old before mid between new after p q = record {
+pub IsMore-trans : {S T U : Type 0} (state : State) (blocks : List ℕ) (IsNeeded : Equation → Type 0) (old : IndexMap Key ℕ S) (before : List Equation) (mid : IndexMap Key ℕ T) (between : List Equation) (new : IndexMap Key ℕ U) (after : List Equation) → IsMore state blocks IsNeeded old before mid between → IsMore state blocks IsNeeded mid between new after → IsMore state blocks IsNeeded old before new after
+IsMore-trans state blocks IsNeeded old before mid between new after p q = record {
   rest = p.rest ++ q.rest;
   grown = q.grown ∙ ap (λ (list : List Equation). list ++ q.rest) p.grown ∙ append_assoc before p.rest q.rest;
-  only = λ k e at. elim (q.only k e at) [ inl had ↦ p.only k e had | inr opens ↦ inr opens ];
+  only = λ k e at. elim (q.only k e at) [ inl had ↦ p.only k e had | inr new ↦ inr new ];
   indexed = q.indexed;
   spent = omega (arith, p.spent, q.spent);
+}
+
+-- they are needed for something else too
+pub IsMore-weaker : {S T : Type 0} (state : State) (blocks : List ℕ) (P Q : Equation → Type 0) (old : IndexMap Key ℕ S) (before : List Equation) (new : IndexMap Key ℕ T) (after : List Equation) → ((e : Equation) → P e → Q e) → IsMore state blocks P old before new after → IsMore state blocks Q old before new after
+IsMore-weaker state blocks P Q old before new after each more = record {
+  rest = more.rest;
+  grown = more.grown;
+  only = λ k e at. elim (more.only k e at) [ inl had ↦ inl had | inr new ↦ inr (new.0, each e new.1) ];
+  indexed = more.indexed;
+  spent = more.spent;
 }

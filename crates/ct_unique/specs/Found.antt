@@ -9,6 +9,7 @@ use Rattle.ct_unique.specs.declared.found.Key.{Key}
 use Rattle.ct_unique.specs.contracts.found.KeyPartialEq.TheImpl as derived
 use Rattle.ct_unique.specs.Nodes.{term}
 use Rattle.ct_unique.specs.Partition.{block_of}
+use Rattle.ct_unique.specs.Reached.{IsReached}
 
 -- the derived test of two keys
 abbrev pub same_key : Key → Key → Bool
@@ -64,18 +65,19 @@ pub record IsOpen (state : State) (blocks : List ℕ) (pair : Equation) : Type 0
   pub right : IsConstructorTerm state.terms pair.right
   pub same : block_of blocks pair.left ≡ block_of blocks pair.right
 
--- pairs of constructor terms of one block were added at the end
-pub record IsMore {S T : Type 0} (state : State) (blocks : List ℕ) (old : IndexMap Key ℕ S) (before : List Equation) (new : IndexMap Key ℕ T) (after : List Equation) : Type 0 where
+-- pairs of constructor terms of one block, each of which is needed, were added at the end
+pub record IsMore {S T : Type 0} (state : State) (blocks : List ℕ) (IsNeeded : Equation → Type 0) (old : IndexMap Key ℕ S) (before : List Equation) (new : IndexMap Key ℕ T) (after : List Equation) : Type 0 where
   pub rest : List Equation
   pub grown : after ≡ before ++ rest
-  pub only : (k : ℕ) (e : Equation) → slice_get after k ≡ Some e → (slice_get before k ≡ Some e) ⊎ IsOpen state blocks e
+  pub only : (k : ℕ) (e : Equation) → slice_get after k ≡ Some e → (slice_get before k ≡ Some e) ⊎ (IsOpen state blocks e × IsNeeded e)
   pub indexed : IsIndexed state new after
   pub spent : room state new + length after ≤ room state old + length before
 
--- the asked pair comes first, and of those before an index the arguments are matched
+-- the asked pair comes first, each is reached from it, and of those before an index the arguments are matched
 pub record IsUnderWay {S : Type 0} (state : State) (blocks : List ℕ) (asked : Equation) (places : IndexMap Key ℕ S) (pairs : List Equation) (next : ℕ) : Type 0 where
   pub indexed : IsIndexed state places pairs
   pub first : slice_get pairs 0 ≡ Some asked
   pub opens : (k : ℕ) (e : Equation) → slice_get pairs k ≡ Some e → IsOpen state blocks e
+  pub reached : (k : ℕ) (e : Equation) → slice_get pairs k ≡ Some e → IsReached state asked e
   pub done : (k : ℕ) (e : Equation) → k < next → slice_get pairs k ≡ Some e → IsPairMatched state.terms (AreEqual state) pairs e.left e.right
   pub within : next ≤ length pairs

@@ -1,3 +1,4 @@
 pub mod Partition
 pub mod Nodes
 pub mod Found
+pub mod Reached

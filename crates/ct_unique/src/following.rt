@@ -5,10 +5,12 @@
 ghost use Rattle.std.specs.Prelude.{◌≡◌, ℕ, ◌<◌, true, length, IfOk, OnOk, Contains};
 ghost use Rattle.std.specs.List.{AllZip};
 ghost use Rattle.ct_terms.specs.declared.ids.TermId.{TermId};
+ghost use Rattle.ct_rules.specs.declared.equation.Equation.{Equation};
 ghost use Rattle.ct_rules.specs.Uniqueness.{AreMatched, IsPairMatched, AreAllMatched};
 ghost use Rattle.ct_congr.specs.State.{AreEqual, IsConstructorTerm, IsQuiet};
 ghost use Rattle.ct_unique.specs.Partition.{block_of, in_one_block, IsCoarsest};
 ghost use Rattle.ct_unique.specs.Found.{AreOnce, IsIndexed, IsOpen, IsMore};
+ghost use Rattle.ct_unique.specs.Reached.{IsPairFor, IsPairAmong, IsArgumentPair, IsReached};
 
 use crate::error::UniqueError;
 use crate::found::{Found, add};
@@ -22,8 +24,8 @@ use std::alloc::Global;
 
 /// A list of pairs of constructor terms that holds the asked pair, where each pair has one constructor and at each place
 /// arguments that are equal, or equal to a pair of the list: what the rule of uniqueness asks for (Reynolds and Blanchette
-/// 2015, section 4). The two are constructor terms of one block. No more pairs are listed than are reached, and one at most
-/// for two classes; the time is linear in the arguments of these. The only error is out of memory.
+/// 2015, section 4). The two are constructor terms of one block. The time is linear in the arguments of the listed pairs. The
+/// only error is out of memory.
 pub fn pairs(
     alloc: Global,
     partition: &Partition,
@@ -38,6 +40,11 @@ pub fn pairs(
     requires same { block_of partition.now a ≡ block_of partition.now b }
     ensures asked { IfOk result (λ pairs. Contains pairs (record { left = a; right = b })) }
     ensures matched { IfOk result (λ pairs. AreAllMatched classes.now.terms (AreEqual classes.now) pairs) }
+
+    // Each pair is reached from the asked one by arguments that are not equal.
+    ensures reached { IfOk result (λ pairs. (e : Equation)
+        → Contains pairs e
+        → IsReached classes.now (record { left = a; right = b }) e) }
 
     // No two pairs are of the same classes.
     ensures once { IfOk result (λ pairs. AreOnce classes.now pairs) }
@@ -68,7 +75,7 @@ fn follow(
     requires made { IsCoarsest classes.now partition.now }
     requires opens { IsOpen classes.now partition.now pair }
     requires indexed { IsIndexed classes.now found.old.places found.old.pairs.items }
-    ensures more { OnOk result (IsMore classes.now partition.now found.old.places found.old.pairs.items found.new.places found.new.pairs.items) }
+    ensures more { OnOk result (IsMore classes.now partition.now (IsArgumentPair classes.now pair) found.old.places found.old.pairs.items found.new.places found.new.pairs.items) }
     ensures matched { OnOk result (IsPairMatched classes.now.terms (AreEqual classes.now) found.new.pairs.items pair.left pair.right) }
 {
     prove!(classes.merges().len() >= 0);
@@ -94,7 +101,7 @@ fn follow_arguments(
     requires made { IsCoarsest classes.now partition.now }
     requires blocks { AllZip (λ x y. in_one_block partition.now x y ≡ true) xs.now ys.now }
     requires indexed { IsIndexed classes.now found.old.places found.old.pairs.items }
-    ensures more { OnOk result (IsMore classes.now partition.now found.old.places found.old.pairs.items found.new.places found.new.pairs.items) }
+    ensures more { OnOk result (IsMore classes.now partition.now (IsPairAmong classes.now xs.now ys.now) found.old.places found.old.pairs.items found.new.places found.new.pairs.items) }
     ensures matched { OnOk result (AllZip (AreMatched (AreEqual classes.now) found.new.pairs.items) xs.now ys.now) }
 {
     for place in 0..xs.len() {
@@ -116,7 +123,7 @@ fn meet(
     requires left { x.0 < length classes.now.terms }
     requires right { y.0 < length classes.now.terms }
     requires indexed { IsIndexed classes.now found.old.places found.old.pairs.items }
-    ensures more { OnOk result (IsMore classes.now partition.now found.old.places found.old.pairs.items found.new.places found.new.pairs.items) }
+    ensures more { OnOk result (IsMore classes.now partition.now (IsPairFor classes.now x y) found.old.places found.old.pairs.items found.new.places found.new.pairs.items) }
     ensures matched { OnOk result (AreMatched (AreEqual classes.now) found.new.pairs.items x y) }
 {
     if are_equal(classes, x, y) {

@@ -5,9 +5,10 @@ use Rattle.ct_terms.specs.declared.ids.TermId.{TermId}
 use Rattle.ct_rules.specs.Uniqueness.{AreMatched}
 use Rattle.ct_congr.specs.State.{AreEqual}
 use Rattle.ct_unique.specs.Partition.{in_one_block}
+use Rattle.ct_unique.specs.Reached.{IsPairFor, IsPairAmong}
 use Rattle.ct_unique.proofs.ListLemmas.{AllZip-at, AllZip-from, AllZip-one_length}
 use Rattle.ct_unique.proofs.BlockLemmas.{block_parts}
-use Rattle.ct_unique.proofs.FoundLemmas.{IsMore-trans}
+use Rattle.ct_unique.proofs.FoundLemmas.{IsMore-trans, IsMore-weaker}
 use Rattle.ct_unique.proofs.FollowLemmas.{AreMatched-more}
 use Rattle.ct_unique.proofs.following.follow_arguments.Goals as goal
 
@@ -57,8 +58,13 @@ loop-place-preserved c =
     let before = c.loop-place.found in
     let after = c.meet.new.found in
     let new = c.in_ok-meet.ensures in
+    let x = get_or xs i zeroth in
+    let y = get_or ys i zeroth in
+    let one_more = IsMore-weaker state c.args.partition.now (IsPairFor state x y) (IsPairAmong state xs ys) before.places before.pairs.items after.places after.pairs.items
+    (λ e needed. record { place = i; x = x; y = y; left_at = slice_get-get_or xs i zeroth c.loop-place-test.true; right_at = slice_get-get_or ys i zeroth inside; needed = needed })
+    new.more in
     record {
-      more = IsMore-trans state c.args.partition.now c.args.found.now.places c.args.found.now.pairs.items before.places before.pairs.items after.places after.pairs.items c.loop-place.invariant.more new.more;
+      more = IsMore-trans state c.args.partition.now (IsPairAmong state xs ys) c.args.found.now.places c.args.found.now.pairs.items before.places before.pairs.items after.places after.pairs.items c.loop-place.invariant.more one_more;
       matched = λ k x y soon at_x at_y. elim (cases_order k i) [
         | inl e ↦
             let is_x : get_or xs i zeroth ≡ x = same_Some (get_or xs i zeroth) x (sym (slice_get-get_or xs i zeroth c.loop-place-test.true) ∙ ap (slice_get xs) (sym e) ∙ at_x) in

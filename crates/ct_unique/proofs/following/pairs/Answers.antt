@@ -1,7 +1,7 @@
 use Rattle.std.proofs.Common.{◌≡◌, ◌<◌, ◌≤◌, length, slice_get, Some, sym, ap, ◌∙◌, arith}
 use Rattle.std.proofs.lemmas.Option.{slice_get-get_or}
 use Rattle.ct_rules.specs.declared.equation.Equation.{Equation}
-use Rattle.ct_unique.proofs.FollowLemmas.{IsUnderWay-start, IsUnderWay-next, less_left, AreAllMatched-end, AreOnce-end, asked_listed}
+use Rattle.ct_unique.proofs.FollowLemmas.{IsUnderWay-start, IsUnderWay-next, less_left, AreAllMatched-end, AreOnce-end, asked_listed, reached_listed}
 use Rattle.ct_unique.proofs.following.pairs.Goals as goal
 
 pub loop-next-init : goal.loop-next-init
@@ -50,6 +50,12 @@ returns-clause-matched c =
     let asked : Equation = record { left = c.args.a; right = c.args.b } in
     let end : length pairs.items ≤ c.loop-next.next = omega (arith, c.loop-next-test.false, pairs.ok.0) in
     rw c.new-3.ensures.value (AreAllMatched-end c.args.classes.now c.args.partition.now asked c.loop-next.found.places pairs.items c.loop-next.next c.loop-next.invariant end)
+
+pub returns-clause-reached : goal.returns-clause-reached
+returns-clause-reached c =
+    let pairs = c.loop-next.found.pairs in
+    let asked : Equation = record { left = c.args.a; right = c.args.b } in
+    rw c.new-3.ensures.value (reached_listed c.args.classes.now c.args.partition.now asked c.loop-next.found.places pairs.items c.loop-next.next c.loop-next.invariant)
 
 pub returns-clause-once : goal.returns-clause-once
 returns-clause-once c =
