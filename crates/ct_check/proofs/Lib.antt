@@ -2,6 +2,7 @@ pub mod BoundLemmas
 pub mod MetLemmas
 pub mod TakenLemmas
 pub mod BinderLemmas
+pub mod RepeatLemmas
 pub mod CasePushes
 pub mod CaseSteps
 pub mod NestingLemmas

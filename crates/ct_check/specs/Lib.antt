@@ -2,6 +2,7 @@ pub mod Refusals
 pub mod Outcome
 pub mod Answer
 pub mod Variables
+pub mod Repeats
 pub mod Parts
 pub mod Symbols
 pub mod Forms

@@ -15,8 +15,9 @@ ghost use Rattle.ct_check.specs.Variables.{Variable};
 use crate::callees::is_sort;
 use crate::error::CheckError;
 use crate::forms::are_bindings;
-use crate::patterns::{are_exhaustive, bound_names, has_repeated};
+use crate::patterns::{are_exhaustive, bound_names};
 use crate::refusals::{NOT_EXHAUSTIVE, OUT_OF_SCOPE, REPEATED_VARIABLE};
+use crate::repeats::has_repeated;
 use ct_sexpr::Sexpr;
 use ct_sorts::{Signature, SortId};
 use ct_terms::{Case, Pattern, Tree};
@@ -47,7 +48,8 @@ pub(crate) fn binding_names<'e>(
         return Err(CheckError::Refused(OUT_OF_SCOPE));
     }
     let names = bound_names(alloc, bindings)?;
-    if has_repeated(names.as_slice()) {
+    let repeated = has_repeated(alloc, names.as_slice())?;
+    if repeated {
         return Err(CheckError::Refused(REPEATED_VARIABLE));
     }
     Ok(names)

@@ -13,6 +13,7 @@ mod leaves;
 mod operator;
 mod patterns;
 mod refusals;
+mod repeats;
 mod scope;
 mod sorting;
 mod symbols;

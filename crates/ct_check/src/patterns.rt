@@ -13,15 +13,15 @@ ghost use Rattle.ct_check.specs.Parts.{list_part, name_of};
 ghost use Rattle.ct_check.specs.Symbols.{ctor_named};
 ghost use Rattle.ct_check.specs.Forms.{bound_name, bound_names};
 ghost use Rattle.std.specs.List.{list_all, list_any};
-ghost use Rattle.std.specs.Str.{bytes_eq};
 ghost use Rattle.ct_check.specs.Outcome.{Outcome, Sorted};
-ghost use Rattle.ct_check.specs.Variables.{Variable, variables, names_in, has_repeated};
+ghost use Rattle.ct_check.specs.Variables.{Variable, variables};
 
 use crate::atoms::name_of;
 use crate::error::CheckError;
 use crate::refusals::{
     FOREIGN_PATTERN, OUT_OF_SCOPE, REPEATED_VARIABLE, UNKNOWN_SYMBOL, WRONG_COUNT, WRONG_SORT,
 };
+use crate::repeats::has_repeated;
 use crate::symbols::{ctor_fields, ctor_named};
 use crate::variables::Bound;
 use ct_sexpr::Sexpr;
@@ -180,42 +180,11 @@ fn ctor_with<'e>(
     if names.is_empty() {
         return Err(CheckError::Refused(OUT_OF_SCOPE));
     }
-    if has_repeated(names) {
+    let repeated = has_repeated(alloc, names)?;
+    if repeated {
         return Err(CheckError::Refused(REPEATED_VARIABLE));
     }
     Ok((Pattern::Ctor(c), bounds(alloc, names, fields.as_slice())?))
-}
-
-/// Whether some name stands twice among those that are there.
-pub(crate) fn has_repeated(names: &[Option<&[u8]>]) -> bool
-    ensures value { result ≡ has_repeated (names_in (map held_name names.now)) }
-{
-    let mut left = names;
-    while let [first, others @ ..] = left {
-        if let Some(name) = first {
-            if is_among(name, others) {
-                return true;
-            }
-        }
-        left = others;
-    }
-    false
-}
-
-// Whether the name is one of these.
-fn is_among(name: &[u8], names: &[Option<&[u8]>]) -> bool
-    ensures value { result ≡ list_any (bytes_eq name.now) (names_in (map held_name names.now)) }
-{
-    let mut left = names;
-    while let [first, others @ ..] = left {
-        if let Some(other) = first {
-            if name == *other {
-                return true;
-            }
-        }
-        left = others;
-    }
-    false
 }
 
 /// The names that bindings bind, in order.

@@ -7,7 +7,7 @@ use ct_sorts::SortId;
 /// A parameter of a definition.
 #[derive(Debug, Drop)]
 pub struct Param {
-    /// Its name, without the bars that may surround it in a script.
+    /// Its name, without the `|` that may surround it in a script.
     pub name: Bytes,
     /// Its sort.
     pub sort: SortId,

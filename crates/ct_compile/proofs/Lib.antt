@@ -27,6 +27,7 @@ mod KnownLemmas
 mod FormLemmas
 mod MayLemmas
 mod FlagLemmas
+mod CoverLemmas
 mod NameLemmas
 mod WorkingLemmas
 mod CaseLemmas

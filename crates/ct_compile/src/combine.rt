@@ -15,6 +15,7 @@ use ct_terms::{Args, Core, TermError, TermId, TermTable};
 use std::alloc::Global;
 
 /// The term of an operator over these terms.
+#[inline(never)]
 pub(crate) fn combine(
     alloc: Global,
     sig: &Signature,

@@ -1,6 +1,7 @@
 //! Which case of a `match` surely fits: its constructor is the only one of its sort that no case before it has. How many
 //! variables a case binds.
 ghost use Rattle.std.specs.Prelude.{◌≡◌, ◌<◌, ◌||◌, ◌==◌, length, reverse};
+ghost use Rattle.std.specs.List.{list_all};
 ghost use Rattle.ct_terms.specs.Compiled.{surely_fits, is_among};
 ghost use Rattle.ct_terms.specs.Occurrence.{field_count};
 ghost use Rattle.ct_compile.specs.Marks.{variable_count};
@@ -14,7 +15,20 @@ pub(crate) fn surely_fits(sig: &Signature, earlier: &[CtorId], c: CtorId) -> boo
     requires declared { c.0 < length sig.now.ctors }
     ensures value { result ≡ surely_fits sig.now (reverse earlier.now) c }
 {
-    let mut rest = sig.ctors(sig.ctor_sort(c));
+    // This says that no constructor stands twice among those of a sort.
+    sig.sorts();
+    let all = sig.ctors(sig.ctor_sort(c));
+    if earlier.len() + 1 < all.len() {
+        return false;
+    }
+    are_covered(earlier, c, all)
+}
+
+// Whether each of the constructors is this one, or has a case before it.
+fn are_covered(earlier: &[CtorId], c: CtorId, all: &[CtorId]) -> bool
+    ensures value { result ≡ list_all (λ k. (k.0 == c.0) || is_among (reverse earlier.now) k) all.now }
+{
+    let mut rest = all;
     while let [next, others @ ..] = rest {
         let covered = is_covered(earlier, c, *next);
         if !covered {

@@ -11,6 +11,7 @@ use ct_terms::{TermError, TermId, TermTable};
 
 /// Makes what the operator's core term has between this term and the next one: a comparison with the
 /// leading term, or the negation of a term that implies others. The answer leads the next term.
+#[inline(never)]
 pub(crate) fn follow(
     sig: &Signature,
     table: &mut TermTable,

@@ -25,6 +25,7 @@ pub(crate) struct Called {
 pub(crate) type Known = IndexMap<Called, TermId>;
 
 /// The call of a definition whose parameters stand for these.
+#[inline(never)]
 pub(crate) fn call_with(alloc: Global, k: DefId, bounds: &[Bound]) -> Result<Called, AllocError>
     ensures call { IfOk result (λ call. call ≡ call_of k bounds.now) }
 {
@@ -59,6 +60,7 @@ fn add_term(args: &mut Args, bound: Bound) -> Result<(), AllocError>
 }
 
 /// The term of the call, where it is known.
+#[inline(never)]
 pub(crate) fn known_term(known: &Known, call: &Called) -> Option<TermId>
     ensures value { result ≡ get same_call known.now call.now }
 {
@@ -66,6 +68,7 @@ pub(crate) fn known_term(known: &Known, call: &Called) -> Option<TermId>
 }
 
 /// Puts down the term of a call.
+#[inline(never)]
 pub(crate) fn remember(known: &mut Known, call: Called, term: TermId) -> Result<(), TermError>
     ensures only { OnOk result ((other : Called) (t : TermId)
         → get same_call known.new other ≡ Some t

@@ -222,6 +222,7 @@ fn compile_all(
 
 // The term of a choice.
 #[cycle(compile)]
+#[inline(never)]
 fn compile_choice(
     alloc: Global,
     scope: &Scope,
@@ -282,6 +283,7 @@ fn compile_choice(
 }
 
 // The term of a variable.
+#[inline(never)]
 fn variable(
     scope: &Scope,
     table: &mut TermTable,
@@ -299,6 +301,7 @@ fn variable(
 
 // The term of a formula with bindings.
 #[cycle(compile)]
+#[inline(never)]
 fn compile_let(
     alloc: Global,
     scope: &Scope,
@@ -347,6 +350,7 @@ fn compile_let(
 
 // The term of a definition with its arguments.
 #[cycle(compile)]
+#[inline(never)]
 fn compile_call(
     alloc: Global,
     scope: &Scope,
@@ -453,6 +457,7 @@ fn compile_bound(
 
 // The term of a `match`.
 #[cycle(compile)]
+#[inline(never)]
 fn compile_match(
     alloc: Global,
     scope: &Scope,
@@ -505,6 +510,7 @@ fn compile_match(
 // The term of the cases of a `match`: each case has its test and its body's term, up to one that surely fits or is the
 // last, which has its body's term alone. The choices come after all of them.
 #[cycle(compile)]
+#[inline(never)]
 fn compile_cases(
     alloc: Global,
     scope: &Scope,
@@ -574,6 +580,7 @@ fn compile_cases(
 
 // The term of the body of a case.
 #[cycle(compile)]
+#[inline(never)]
 fn compile_case(
     alloc: Global,
     scope: &Scope,

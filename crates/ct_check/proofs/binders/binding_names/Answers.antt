@@ -21,8 +21,13 @@ returns-in_err-names c =
     let p = err_from_is_err_and c.from_residual.result c.from_residual.ensures.1 in
     record { value = λ d scope body. rw (p.1, p.2) (leads_memory (λ (names : Vec (Option (Bor (List ℕ))) Global). bound_by d scope (map held_name names.items) (parts_of d (expressions_of c.args.bindings.now)) body) (bound d scope (parts_of d (expressions_of c.args.bindings.now)) body) _ c.in_err-names.ensures.err) }
 
-pub returns-then-has_repeated : goal.returns-then-has_repeated
-returns-then-has_repeated c = record { value = λ d scope body. bound-repeated d scope c.args.bindings.now body (map held_name c.in_ok-names.names.items) (some_are c.args.bindings.now c.is_empty.result c.is_empty.ensures c.if-is_empty.false) (sym (c.are_bindings.ensures.value d) ∙ c.if-not-are_bindings.false) (c.in_ok-names.ensures.ok d) (ap (λ ns. has_repeated (names_in (map held_name ns))) (sym c.as_slice.ensures.value) ∙ sym c.has_repeated.ensures.value ∙ c.if-has_repeated.true) }
+pub returns-in_err-repeated : goal.returns-in_err-repeated
+returns-in_err-repeated c =
+    let p = err_from_is_err_and c.from_residual-in_err-repeated.result c.from_residual-in_err-repeated.ensures.1 in
+    record { value = λ d scope body. rw (p.1, p.2) (leads_memory (λ (names : Vec (Option (Bor (List ℕ))) Global). bound_by d scope (map held_name names.items) (parts_of d (expressions_of c.args.bindings.now)) body) (bound d scope (parts_of d (expressions_of c.args.bindings.now)) body) _ c.in_err-repeated.ensures.err) }
+
+pub returns-then-repeated : goal.returns-then-repeated
+returns-then-repeated c = record { value = λ d scope body. bound-repeated d scope c.args.bindings.now body (map held_name c.in_ok-names.names.items) (some_are c.args.bindings.now c.is_empty.result c.is_empty.ensures c.if-is_empty.false) (sym (c.are_bindings.ensures.value d) ∙ c.if-not-are_bindings.false) (c.in_ok-names.ensures.ok d) (ap (λ ns. has_repeated (names_in (map held_name ns))) (sym c.as_slice.ensures.value) ∙ sym c.in_ok-repeated.ensures.value ∙ c.if-repeated.true) }
 
 pub returns : goal.returns
-returns c = record { value = λ d scope body. bound-names d scope c.args.bindings.now body (map held_name c.in_ok-names.names.items) (some_are c.args.bindings.now c.is_empty.result c.is_empty.ensures c.if-is_empty.false) (sym (c.are_bindings.ensures.value d) ∙ c.if-not-are_bindings.false) (c.in_ok-names.ensures.ok d) (ap (λ ns. has_repeated (names_in (map held_name ns))) (sym c.as_slice.ensures.value) ∙ sym c.has_repeated.ensures.value ∙ c.if-has_repeated.false) }
+returns c = record { value = λ d scope body. bound-names d scope c.args.bindings.now body (map held_name c.in_ok-names.names.items) (some_are c.args.bindings.now c.is_empty.result c.is_empty.ensures c.if-is_empty.false) (sym (c.are_bindings.ensures.value d) ∙ c.if-not-are_bindings.false) (c.in_ok-names.ensures.ok d) (ap (λ ns. has_repeated (names_in (map held_name ns))) (sym c.as_slice.ensures.value) ∙ sym c.in_ok-repeated.ensures.value ∙ c.if-repeated.false) }
