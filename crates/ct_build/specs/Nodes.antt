@@ -31,7 +31,7 @@ pub record HaveNodes (d : Declarations) (terms : Terms) (g : Nodes) (list : List
   pub long : length list ≡ length terms
   pub sorted : (t : TermId) (s : SortId) (n : NodeId) → IsOfSort terms t s → slice_get list t.0 ≡ Some n → HasNodeSort d g n s
 
--- the term represents a class that has no constructor term and whose sort is infinite
+-- the term represents a class whose sort is infinite
 pub record IsOpenClass (state : State) (class : OpenClass) : Type 0 where
   pub own : slice_get state.reps class.rep.0 ≡ Some class.rep
   pub sort : SortId

@@ -29,8 +29,8 @@ use std::alloc::Global;
 /// nothing contradicts the trail, an interpretation is built of the classes, and the assertions are evaluated in it.
 ///
 /// `Sat` has an interpretation in which they hold, `Unsat` a derivation of the empty clause, and `Unknown` the record of a
-/// search that spent its decisions. `Stuck` has literals that nothing contradicts and the first assertion that is false in
-/// the interpretation of their classes. `TooLarge` comes where the closure has more than 200,000 terms.
+/// search that spent its decisions. `Stuck` has literals that nothing contradicts and an assertion that is false in a
+/// well-formed interpretation. `TooLarge` comes where the closure has more than 200,000 terms.
 pub fn solve(
     alloc: Global,
     sig: &Signature,

@@ -553,7 +553,7 @@ impl Signature {
         self.is_symbol(name) || is_core_word(name) || is_unfit(name)
     }
 
-    // The same of a name.
+    /// Whether the name, already read as one, cannot be declared as a symbol here.
     pub(crate) fn is_unavailable_name(&self, name: &Name) -> bool
         ensures unavailable { IsTrue result ↔ IsUnavailable (symbol_names self.now) name.now }
     {

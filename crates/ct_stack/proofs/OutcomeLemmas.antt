@@ -34,6 +34,6 @@ module _ {X Y : Type 0} (step : X → Outcome Y) where
   pub all_taken : (whole : Outcome (List Y)) (out : List Y) → Completes step whole out [] → whole ≡ Ok out
   all_taken whole out completes = completes ∙ ap (λ (ys : List Y). Ok ys) (append-nil out)
 
--- lists that grow by what is taken from the front of another
+-- lists that grow by what is taken from the start of another
 abbrev pub Moves : {X Y : Type 0} → (X → Y) → List Y → List Y → List X → Type 0
 Moves f whole out left = whole ≡ out ++ map f left
