@@ -9,3 +9,4 @@ pub mod AskLemmas
 pub mod SessionLemmas
 pub mod CourseLemmas
 pub mod ReplayLemmas
+pub mod OneStackLemmas

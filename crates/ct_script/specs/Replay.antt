@@ -1,10 +1,14 @@
 -- A script that is gone through once more without solving, up to one of its checks.
-use Rattle.std.specs.Prelude.{◌≡◌, ℕ, Bool, true, false, Ok}
+use Rattle.std.specs.Prelude.{◌≡◌, ℕ, Bool, true, false, List, [], ◌∷◌, ◌++◌, Ok}
 use Rattle.std.specs.Bool.{MatchBool}
+use Rattle.ct_sexpr.specs.Text.{Located, Ending}
 use Rattle.ct_command.specs.Command.{check_sat}
-use Rattle.ct_command.specs.Reading.{Read}
+use Rattle.ct_command.specs.Reading.{Read, command}
+use Rattle.ct_engine.specs.declared.verdict.Verdict.{Verdict}
 use Rattle.ct_script.specs.declared.replay.Replayed.{Replayed}
+use Rattle.ct_script.specs.State.{State}
 use Rattle.ct_script.specs.Step.{Effect, Steps, one_more}
+use Rattle.ct_script.specs.Answers.{Answers, Leads}
 use Rattle.ct_script.specs.Session.{Course, reached}
 
 -- what was read is a check
@@ -23,3 +27,28 @@ IsStepped old line read new r = (e : Effect) × Steps old.state old.number line 
 -- what was read on this line is replayed so
 abbrev pub Replays : Course → ℕ → Read → Course → Replayed → Type 0
 Replays old line read new r = MatchBool (is_check read) (IsCounted old new r) (IsStepped old line read new r)
+
+-- a replay goes through commands, none of which ends the script
+abbrev pub GoesThrough : Course → List Located → Course → Type 0
+GoesThrough old [] new = new ≡ old
+GoesThrough old (c ∷ cs) new = (next : Course) × (r : Replayed) × Replays old c.line (command c.command) next r × (r.stop ≡ false) × GoesThrough next cs new
+
+-- the second state has the stack and the options of the first, whatever each has kept
+pub record HaveOneStack (s t : State) : Type 0 where
+  pub stack : t.stack ≡ s.stack
+  pub options : t.options ≡ s.options
+
+-- answers to some commands and those that follow are answers to the first ones, which lead to a state, and then, in that state, to
+-- the others
+pub record AnswersThrough (s : State) (number : ℕ) (first others : List Located) (ending : Ending) (verdicts : List Verdict) (errors : List (ℕ × ℕ)) (lines : List (List ℕ)) (last : State) (count : ℕ) : Type 0 where
+  pub first_verdicts : List Verdict
+  pub later_verdicts : List Verdict
+  pub first_errors : List (ℕ × ℕ)
+  pub later_errors : List (ℕ × ℕ)
+  pub first_lines : List (List ℕ)
+  pub later_lines : List (List ℕ)
+  pub leads : Leads s number first last count first_verdicts first_errors first_lines
+  pub answers : Answers last count others ending later_verdicts later_errors later_lines
+  pub verdicts_are : verdicts ≡ first_verdicts ++ later_verdicts
+  pub errors_are : errors ≡ first_errors ++ later_errors
+  pub lines_are : lines ≡ first_lines ++ later_lines

@@ -14,8 +14,10 @@ mod replay;
 mod session;
 mod settings;
 mod state;
+mod theorems;
 
 pub use answer::{Answer, refusal_text};
 pub use error::SessionError;
 pub use replay::Replayed;
 pub use session::Session;
+pub use theorems::replayed_scripts;

@@ -5,7 +5,7 @@ ghost use Rattle.ct_terms.specs.TreeFormula.{formula_of};
 ghost use Rattle.ct_command.specs.Reading.{command};
 ghost use Rattle.ct_command.specs.Seen.{command_seen};
 ghost use Rattle.ct_stack.specs.Stack.{in_force};
-ghost use Rattle.ct_stack.specs.Held.{context_in};
+ghost use Rattle.ct_stack.specs.Held.{context_in, as_one, IsSoundLevel};
 ghost use Rattle.ct_script.specs.State.{first_state, context_of};
 ghost use Rattle.ct_script.specs.Replay.{Replays, is_check};
 ghost use Rattle.ct_script.specs.Session.{IsAnswer, after, reached};
@@ -111,9 +111,17 @@ impl Session {
         }
     }
 
+    /// How many checks there were.
+    pub fn checks(&self) -> u64
+        ensures value { result ≡ self.now.number }
+    {
+        self.number
+    }
+
     /// What is declared and defined.
     pub fn scope(&self) -> &Scope
         ensures value { context_in result.now ≡ context_of self.now.state }
+        ensures sound { IsSoundLevel (as_one self.now.state.stack) }
     {
         self.state.stack.scope()
     }

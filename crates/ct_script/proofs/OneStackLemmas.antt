@@ -1,0 +1,239 @@
+-- What a command makes of the stack and the options is fixed by the stack and the options alone, and not by what was answered; so a
+-- replay changes them as the commands do.
+use Rattle.std.proofs.Common.{◌≡◌, ◌∙◌, ℕ, Bool, true, false, true≢false, List, [], ◌∷◌, ◌++◌, Option, Ok, Err, append_assoc, refl, sym, ap, subst, inl, inr}
+use Rattle.std.specs.Bool.{MatchBool}
+use Rattle.ct_check.specs.Outcome.{Outcome}
+use Rattle.ct_sorts.specs.Declarations.{with_function}
+use Rattle.ct_model.specs.ModelText.{IsModelText}
+use Rattle.ct_log_text.specs.Written.{expression_of_record, text_of}
+use Rattle.ct_sexpr.specs.Text.{Located, Ending}
+use Rattle.ct_command.specs.Command.{Command, declare_fun, define_fun, assert, check_sat, get_model, get_value, get_proof}
+use Rattle.ct_command.specs.Reading.{Read, command}
+use Rattle.ct_engine.specs.declared.verdict.Verdict.{Verdict}
+use Rattle.ct_stack.specs.Stack.{Stack, declaring, in_context, asserting, defined_in}
+use Rattle.ct_stack.specs.Outcomes.{Gives}
+use Rattle.ct_stack.specs.Elaborations.{declared_function, defined_function, asserted_formula}
+use Rattle.ct_stack.specs.Values.{AreValues}
+use Rattle.ct_script.specs.declared.options.Options.{Options}
+use Rattle.ct_script.specs.declared.replay.Replayed.{Replayed}
+use Rattle.ct_script.specs.State.{State, Kept, declared, context_of, changed, model_kept, derivation_kept}
+use Rattle.ct_script.specs.Refusal.{IsRefusal}
+use Rattle.ct_script.specs.Step.{Effect, Does, Steps, said, quiet, Step, counted, counted_by, one_more}
+use Rattle.ct_script.specs.Answers.{Answers, Leads, IsSilent, IsFollowed, errors_of, lines_of}
+use Rattle.ct_script.specs.Session.{Course}
+use Rattle.ct_script.specs.Replay.{is_check, IsCounted, IsStepped, Replays, GoesThrough, HaveOneStack, AnswersThrough}
+use Rattle.ct_script.proofs.SoundLemmas.{only_of}
+
+-- both effects leave one stack and the same options, and both end the script, or neither
+abbrev pub AreAlike : Effect → Effect → Type 0
+AreAlike e f = HaveOneStack e.state f.state × (f.stop ≡ e.stop)
+
+-- the effect leaves the stack and the options, and the script goes on
+abbrev pub Rests : State → Effect → Type 0
+Rests s e = HaveOneStack s e.state × (e.stop ≡ false)
+
+-- what equals alike effects is alike
+alike : {a b : Effect} (e f : Effect) → e ≡ a → f ≡ b → b.state.stack ≡ a.state.stack → b.state.options ≡ a.state.options → b.stop ≡ a.stop → AreAlike e f
+alike {a = a} {b = b} e f is same stack options stop =
+    subst (λ (x : Effect). AreAlike x f) (sym is) (subst (λ (y : Effect). AreAlike a y) (sym same) (record { stack = stack; options = options }, stop))
+
+-- what equals an effect that rests does so too
+rests : {a : Effect} (s : State) (e : Effect) → e ≡ a → a.state.stack ≡ s.stack → a.state.options ≡ s.options → a.stop ≡ false → Rests s e
+rests s e is stack options stop = subst (Rests s) (sym is) (record { stack = stack; options = options }, stop)
+
+-- the command only asks for something, or is a check
+abbrev pub asks : Command → Bool
+asks check_sat = true
+asks get_model = true
+asks (get_value ts) = true
+asks get_proof = true
+asks c = false
+
+-- then it leaves the stack and the options
+done_rests : (s : State) (number : ℕ) (c : Command) (e : Effect) → asks c ≡ true → Does s number c e → Rests s e
+done_rests s number check_sat e asking is = rests s e is.2 refl refl refl
+done_rests s number get_model e asking is = only_of (model_kept s.kept) (λ i. (text : List ℕ) × IsModelText (declared s) i text × (e ≡ said s text)) (Rests s e) (λ i h. rests s e h.2 refl refl refl) is
+done_rests s number (get_value ts) e asking is = only_of (model_kept s.kept) (λ i. (text : List ℕ) × AreValues (context_of s) i ts text × (e ≡ said s text)) (Rests s e) (λ i h. rests s e h.2 refl refl refl) is
+done_rests s number get_proof e asking is = only_of (derivation_kept s.kept) (λ p. e ≡ said s (text_of (expression_of_record (declared s) p.0 p.1.rec))) (Rests s e) (λ p h. rests s e h refl refl refl) is
+done_rests s number c e asking is = absurd (true≢false (sym asking))
+
+-- where it is refused too
+asking_rests : (s : State) (number line : ℕ) (c : Command) (e : Effect) → asks c ≡ true → Steps s number line (Ok c) e → Rests s e
+asking_rests s number line c e asking (inl h) = rests s e h.2 refl refl refl
+asking_rests s number line c e asking (inr h) = done_rests s number c e asking h.1
+
+module _ (s : State) (kept : Option Kept) where
+  -- every other command is refused whatever was kept
+  refused_too : (c : Command) (n : ℕ) → asks c ≡ false → IsRefusal s c n → IsRefusal (record s { kept = kept }) c n
+  refused_too check_sat n other h = h
+  refused_too get_model n other h = absurd (true≢false other)
+  refused_too (get_value ts) n other h = absurd (true≢false other)
+  refused_too get_proof n other h = absurd (true≢false other)
+  refused_too c n other h = h
+
+  -- a stack that is formed
+  formed : {X : Type 0} (o : Outcome X) (stack : X → Stack) (e f : Effect) → Gives o (λ x. e ≡ quiet (changed s (stack x))) → Gives o (λ x. f ≡ quiet (changed s (stack x))) → AreAlike e f
+  formed (Ok x) stack e f is same = alike e f is same refl refl refl
+  formed (Err n) stack e f is same = absurd is
+
+  -- and does the same
+  done_alike : (number count : ℕ) (c : Command) (e f : Effect) → asks c ≡ false → Does s number c e → Does (record s { kept = kept }) count c f → AreAlike e f
+  done_alike number count (declare_fun name args sort) e f other is same = formed (declared_function (declared s) name args sort) (λ x. declaring s.stack (with_function (declared s) x)) e f is same
+  done_alike number count (define_fun name params sort t) e f other is same = formed (defined_function (declared s) name params sort t) (λ x. in_context s.stack (defined_in (context_of s) x)) e f is same
+  done_alike number count (assert t) e f other is same = formed (asserted_formula (declared s) t) (asserting s.stack) e f is same
+  done_alike number count check_sat e f other is same = absurd (true≢false other)
+  done_alike number count get_model e f other is same = absurd (true≢false other)
+  done_alike number count (get_value ts) e f other is same = absurd (true≢false other)
+  done_alike number count get_proof e f other is same = absurd (true≢false other)
+  done_alike number count c e f other is same = alike e f is same refl refl refl
+
+-- so it does where it is refused too
+other_alike : (s : State) (kept : Option Kept) (number count line : ℕ) (c : Command) (e f : Effect) → asks c ≡ false → Steps s number line (Ok c) e → Steps (record s { kept = kept }) count line (Ok c) f → AreAlike e f
+other_alike s kept number count line c e f other (inl h) (inl k) = alike e f h.2 k.2 refl refl refl
+other_alike s kept number count line c e f other (inl h) (inr k) = absurd (k.0 h.0 (refused_too s kept c h.0 other h.1))
+other_alike s kept number count line c e f other (inr h) (inl k) = absurd (h.0 k.0 (refused_too (record s { kept = kept }) s.kept c k.0 other k.1))
+other_alike s kept number count line c e f other (inr h) (inr k) = done_alike s kept number count c e f other h.1 k.1
+
+-- effects that rest are alike
+resting : (s : State) (kept : Option Kept) (e f : Effect) → Rests s e → Rests (record s { kept = kept }) f → AreAlike e f
+resting s kept e f h k = (record { stack = k.0.stack ∙ sym h.0.stack; options = k.0.options ∙ sym h.0.options }, k.1 ∙ sym h.1)
+
+-- a command, whether it asks or not
+command_alike : (s : State) (kept : Option Kept) (number count line : ℕ) (c : Command) (e f : Effect) (asking : Bool) → asks c ≡ asking → Steps s number line (Ok c) e → Steps (record s { kept = kept }) count line (Ok c) f → AreAlike e f
+command_alike s kept number count line c e f true is h k = resting s kept e f (asking_rests s number line c e is h) (asking_rests (record s { kept = kept }) count line c f is k)
+command_alike s kept number count line c e f false is h k = other_alike s kept number count line c e f is h k
+
+-- what was read, whether it is a command or not
+read_alike : (s : State) (kept : Option Kept) (number count line : ℕ) (read : Read) (e f : Effect) → Steps s number line read e → Steps (record s { kept = kept }) count line read f → AreAlike e f
+read_alike s kept number count line (Err n) e f h k = alike e f h k refl refl refl
+read_alike s kept number count line (Ok c) e f h k = command_alike s kept number count line c e f (asks c) refl h k
+
+-- the second state is the first with what it has kept itself
+same_but_kept : (s t : State) → HaveOneStack s t → record s { kept = t.kept } ≡ t
+same_but_kept s t one = sym (
+    ap (λ (stack : Stack). record { stack = stack; options = t.options; kept = t.kept }) one.stack
+    ∙ ap (λ (options : Options). record { stack = s.stack; options = options; kept = t.kept }) one.options
+    )
+
+-- one stack and one list of options lead to one stack and one list of options
+pub steps_alike : (s t : State) (number count line : ℕ) (read : Read) (e f : Effect) → HaveOneStack s t → Steps s number line read e → Steps t count line read f → HaveOneStack e.state f.state × (f.stop ≡ e.stop)
+steps_alike s t number count line read e f one h k =
+    read_alike s t.kept number count line read e f h (subst (λ (x : State). Steps x count line read f) (sym (same_but_kept s t one)) k)
+
+-- a check only asks
+check_asks : (c : Command) → is_check (Ok c) ≡ true → asks c ≡ true
+check_asks check_sat check = refl
+check_asks c check = absurd (true≢false (sym check))
+
+-- so it leaves the stack and the options
+pub check_rests : (s : State) (number line : ℕ) (read : Read) (e : Effect) → is_check read ≡ true → Steps s number line read e → HaveOneStack s e.state × (e.stop ≡ false)
+check_rests s number line (Err n) e check h = absurd (true≢false (sym check))
+check_rests s number line (Ok c) e check h = asking_rests s number line c e (check_asks c check) h
+
+-- what is read is replayed beside its step
+module _ (s : State) (number : ℕ) (old new : Course) (line : ℕ) (read : Read) (e : Effect) (r : Replayed) (one : HaveOneStack s old.state) (steps : Steps s number line read e) where
+  replayed_by : (check : Bool) → is_check read ≡ check → MatchBool check (IsCounted old new r) (IsStepped old line read new r) → HaveOneStack e.state new.state × (r.stop ≡ e.stop)
+  replayed_by true check (is, checked, stop) =
+      let rest : Rests s e = check_rests s number line read e check steps in
+      let state : new.state ≡ old.state = ap (λ (c : Course). c.state) is in (
+        record {
+          stack = ap (λ (x : State). x.stack) state ∙ one.stack ∙ sym rest.0.stack;
+          options = ap (λ (x : State). x.options) state ∙ one.options ∙ sym rest.0.options;
+        },
+        stop ∙ sym rest.1,
+      )
+  replayed_by false check (f, stepped, is, checked, stop) =
+      let same : AreAlike e f = steps_alike s old.state number old.number line read e f one steps stepped in (
+        subst (λ (x : State). HaveOneStack e.state x) (sym (ap (λ (c : Course). c.state) is)) same.0,
+        stop ∙ same.1,
+      )
+
+  pub replayed_alike : Replays old line read new r → HaveOneStack e.state new.state × (r.stop ≡ e.stop)
+  replayed_alike h = replayed_by (is_check read) refl h
+
+-- a command that is no check is not counted
+uncounted : (number : ℕ) (read : Read) → is_check read ≡ false → counted_by number read ≡ number
+uncounted number (Err n) other = refl
+uncounted number (Ok check_sat) other = absurd (true≢false other)
+uncounted number (Ok c) other = refl
+
+-- and a check is
+check_counted : (number : ℕ) (read : Read) → is_check read ≡ true → counted_by number read ≡ one_more number
+check_counted number (Err n) check = absurd (true≢false (sym check))
+check_counted number (Ok check_sat) check = refl
+check_counted number (Ok c) check = absurd (true≢false (sym check))
+
+-- so the checks are counted
+counted_with_check : (old new : Course) (line : ℕ) (read : Read) (r : Replayed) (check : Bool) → is_check read ≡ check → MatchBool check (IsCounted old new r) (IsStepped old line read new r) → new.number ≡ counted_by old.number read
+counted_with_check old new line read r true check (is, checked, stop) = ap (λ (c : Course). c.number) is ∙ sym (check_counted old.number read check)
+counted_with_check old new line read r false check (f, stepped, is, checked, stop) = ap (λ (c : Course). c.number) is ∙ sym (uncounted old.number read check)
+
+pub replayed_counted : (old new : Course) (line : ℕ) (read : Read) (r : Replayed) → Replays old line read new r → new.number ≡ counted_by old.number read
+replayed_counted old new line read r h = counted_with_check old new line read r (is_check read) refl h
+
+-- what is told of a check
+told_by : (old new : Course) (line : ℕ) (read : Read) (r : Replayed) (check : Bool) → is_check read ≡ check → MatchBool check (IsCounted old new r) (IsStepped old line read new r) → r.check ≡ is_check read
+told_by old new line read r true check (is, checked, stop) = checked ∙ sym check
+told_by old new line read r false check (f, stepped, is, checked, stop) = checked ∙ sym check
+
+pub replayed_told : (old new : Course) (line : ℕ) (read : Read) (r : Replayed) → Replays old line read new r → r.check ≡ is_check read
+replayed_told old new line read r h = told_by old new line read r (is_check read) refl h
+
+-- commands that lead to a state
+pub leads_alike : (s last : State) (number count : ℕ) (cs : List Located) (verdicts : List Verdict) (errors : List (ℕ × ℕ)) (lines : List (List ℕ)) (old new : Course) → Leads s number cs last count verdicts errors lines → GoesThrough old cs new → HaveOneStack s old.state → HaveOneStack last new.state
+leads_alike s last number count [] verdicts errors lines old new leads through one =
+    subst (λ (x : State). HaveOneStack x new.state) (sym leads.0)
+    (subst (λ (c : Course). HaveOneStack s c.state) (sym through) one)
+leads_alike s last number count (c ∷ cs) verdicts errors lines old new (e, vs, es, ls, step, followed, goes_on, leads) (next, r, replays, on, through) one =
+    leads_alike e.state last (counted_by number (command c.command)) count cs vs es ls next new leads through
+    (replayed_alike s (counted_by number (command c.command)) old next c.line (command c.command) e r one step replays).0
+
+-- and the number of checks
+pub leads_counted : (s last : State) (number count : ℕ) (cs : List Located) (verdicts : List Verdict) (errors : List (ℕ × ℕ)) (lines : List (List ℕ)) (old new : Course) → Leads s number cs last count verdicts errors lines → GoesThrough old cs new → old.number ≡ number → new.number ≡ count
+leads_counted s last number count [] verdicts errors lines old new leads through same = ap (λ (c : Course). c.number) through ∙ same ∙ sym leads.1
+leads_counted s last number count (c ∷ cs) verdicts errors lines old new (e, vs, es, ls, step, followed, goes_on, leads) (next, r, replays, on, through) same =
+    leads_counted e.state last (counted_by number (command c.command)) count cs vs es ls next new leads through
+    (replayed_counted old next c.line (command c.command) r replays ∙ ap (λ (n : ℕ). counted_by n (command c.command)) same)
+
+-- answers through the commands after one that does not end the script
+through_one : (s : State) (number : ℕ) (c : Located) (first others : List Located) (ending : Ending) (verdicts vs : List Verdict) (errors es : List (ℕ × ℕ)) (lines ls : List (List ℕ)) (e : Effect) (last : State) (count : ℕ) → Step s number c.line c.command e → IsFollowed c.line e verdicts vs errors es lines ls → e.stop ≡ false → AnswersThrough e.state (counted number c.command) first others ending vs es ls last count → AnswersThrough s number (c ∷ first) others ending verdicts errors lines last count
+through_one s number c first others ending verdicts vs errors es lines ls e last count step followed goes_on later = record {
+  first_verdicts = e.verdicts ++ later.first_verdicts;
+  later_verdicts = later.later_verdicts;
+  first_errors = errors_of c.line e.error ++ later.first_errors;
+  later_errors = later.later_errors;
+  first_lines = lines_of e.text ++ later.first_lines;
+  later_lines = later.later_lines;
+  leads = (e, later.first_verdicts, later.first_errors, later.first_lines, step, record { verdicts_are = refl; errors_are = refl; lines_are = refl }, goes_on, later.leads);
+  answers = later.answers;
+  verdicts_are = followed.verdicts_are ∙ ap (λ (xs : List Verdict). e.verdicts ++ xs) later.verdicts_are ∙ sym (append_assoc e.verdicts later.first_verdicts later.later_verdicts);
+  errors_are = followed.errors_are ∙ ap (λ (xs : List (ℕ × ℕ)). errors_of c.line e.error ++ xs) later.errors_are ∙ sym (append_assoc (errors_of c.line e.error) later.first_errors later.later_errors);
+  lines_are = followed.lines_are ∙ ap (λ (xs : List (List ℕ)). lines_of e.text ++ xs) later.lines_are ∙ sym (append_assoc (lines_of e.text) later.first_lines later.later_lines);
+}
+
+-- answers begin with those to the commands that a replay goes through
+pub answers_through : (s : State) (number : ℕ) (first others : List Located) (ending : Ending) (verdicts : List Verdict) (errors : List (ℕ × ℕ)) (lines : List (List ℕ)) (old new : Course) → Answers s number (first ++ others) ending verdicts errors lines → GoesThrough old first new → HaveOneStack s old.state → (last : State) × (count : ℕ) × AnswersThrough s number first others ending verdicts errors lines last count
+answers_through s number [] others ending verdicts errors lines old new answers through one = (
+  s,
+  number,
+  record {
+    first_verdicts = [];
+    later_verdicts = verdicts;
+    first_errors = [];
+    later_errors = errors;
+    first_lines = [];
+    later_lines = lines;
+    leads = (refl, refl, record { no_verdict = refl; no_error = refl; no_line = refl });
+    answers = answers;
+    verdicts_are = refl;
+    errors_are = refl;
+    lines_are = refl;
+  },
+)
+answers_through s number (c ∷ first) others ending verdicts errors lines old new (e, vs, es, ls, step, followed, rest) (next, r, replays, on, through) one =
+    let count : ℕ = counted number c.command in
+    let same : HaveOneStack e.state next.state × (r.stop ≡ e.stop) = replayed_alike s count old next c.line (command c.command) e r one step replays in
+    let goes_on : e.stop ≡ false = sym same.1 ∙ on in
+    let more : Answers e.state count (first ++ others) ending vs es ls = subst (λ (b : Bool). MatchBool b (IsSilent vs es ls) (Answers e.state count (first ++ others) ending vs es ls)) goes_on rest in
+    let later : (last : State) × (total : ℕ) × AnswersThrough e.state count first others ending vs es ls last total = answers_through e.state count first others ending vs es ls next new more through same.0 in
+    (later.0, later.1, through_one s number c first others ending verdicts vs errors es lines ls e later.0 later.1 step followed goes_on later.2)

@@ -1,0 +1,29 @@
+use Rattle.ct_command.specs.Reading.{command}
+use Rattle.ct_script.specs.Step.{counted}
+use Rattle.ct_script.proofs.OneStackLemmas.{steps_alike, check_rests, replayed_alike, replayed_counted, replayed_told, leads_alike, leads_counted, answers_through}
+use Rattle.ct_script.proofs.theorems.replayed_scripts.Goals as goal
+
+pub returns-clause-step : goal.returns-clause-step
+returns-clause-step c = steps_alike
+
+pub returns-clause-check : goal.returns-clause-check
+returns-clause-check c = check_rests
+
+pub returns-clause-replayed : goal.returns-clause-replayed
+returns-clause-replayed c = λ s number line x e old new r one step replays.
+    replayed_alike s (counted number x) old new line (command x) e r one step replays
+
+pub returns-clause-counted : goal.returns-clause-counted
+returns-clause-counted c = λ line x old new r replays. replayed_counted old new line (command x) r replays
+
+pub returns-clause-told : goal.returns-clause-told
+returns-clause-told c = λ line x old new r replays. replayed_told old new line (command x) r replays
+
+pub returns-clause-replay : goal.returns-clause-replay
+returns-clause-replay c = leads_alike
+
+pub returns-clause-count : goal.returns-clause-count
+returns-clause-count c = leads_counted
+
+pub returns-clause-through : goal.returns-clause-through
+returns-clause-through c = answers_through

@@ -1,0 +1,75 @@
+//! What holds of scripts that are replayed. A theorem is the contract of a function that does nothing.
+ghost use Rattle.std.specs.Prelude.{◌≡◌, ℕ, true, false, List, ◌++◌};
+ghost use Rattle.ct_sexpr.specs.Text.{Located, Ending};
+ghost use Rattle.ct_sexpr.specs.Expression.{Expression};
+ghost use Rattle.ct_command.specs.Reading.{Read, command};
+ghost use Rattle.ct_engine.specs.declared.verdict.Verdict.{Verdict};
+ghost use Rattle.ct_script.specs.declared.replay.Replayed.{Replayed};
+ghost use Rattle.ct_script.specs.State.{State};
+ghost use Rattle.ct_script.specs.Step.{Effect, Steps, Step, counted};
+ghost use Rattle.ct_script.specs.Answers.{Answers, Leads};
+ghost use Rattle.ct_script.specs.Session.{Course};
+ghost use Rattle.ct_script.specs.Replay.{is_check, Replays, GoesThrough, HaveOneStack, AnswersThrough};
+
+/// A replay changes declarations, assertions, levels and options as the commands do, whatever was
+/// answered. It does nothing: a proof that needs these theorems calls it.
+pub fn replayed_scripts()
+    // What was read on a line makes of one stack and the same options one stack and the same
+    // options, and ends the script or does not, whatever was kept and however many checks there were.
+    ensures step { (s t : State) (number count line : ℕ) (read : Read) (e f : Effect)
+        → HaveOneStack s t
+        → Steps s number line read e
+        → Steps t count line read f
+        → HaveOneStack e.state f.state × (f.stop ≡ e.stop) }
+
+    // A check leaves them, and does not end the script.
+    ensures check { (s : State) (number line : ℕ) (read : Read) (e : Effect)
+        → is_check read ≡ true
+        → Steps s number line read e
+        → HaveOneStack s e.state × (e.stop ≡ false) }
+
+    // So an expression that is replayed makes of them what its step makes of them, and counts as
+    // its step does.
+    ensures replayed { (s : State) (number line : ℕ) (x : Expression) (e : Effect) (old new : Course)
+        (r : Replayed)
+        → HaveOneStack s old.state
+        → Step s number line x e
+        → Replays old line (command x) new r
+        → HaveOneStack e.state new.state × (r.stop ≡ e.stop) }
+    ensures counted { (line : ℕ) (x : Expression) (old new : Course) (r : Replayed)
+        → Replays old line (command x) new r
+        → new.number ≡ counted old.number x }
+
+    // It tells of each check, and of nothing else, that it is one.
+    ensures told { (line : ℕ) (x : Expression) (old new : Course) (r : Replayed)
+        → Replays old line (command x) new r
+        → r.check ≡ is_check (command x) }
+
+    // And a replay of commands comes to the stack, the options and the number of checks to which
+    // the commands lead.
+    ensures replay { (s last : State) (number count : ℕ) (cs : List Located)
+        (verdicts : List Verdict) (errors : List (ℕ × ℕ)) (lines : List (List ℕ))
+        (old new : Course)
+        → Leads s number cs last count verdicts errors lines
+        → GoesThrough old cs new
+        → HaveOneStack s old.state
+        → HaveOneStack last new.state }
+    ensures count { (s last : State) (number count : ℕ) (cs : List Located)
+        (verdicts : List Verdict) (errors : List (ℕ × ℕ)) (lines : List (List ℕ))
+        (old new : Course)
+        → Leads s number cs last count verdicts errors lines
+        → GoesThrough old cs new
+        → old.number ≡ number
+        → new.number ≡ count }
+
+    // Where it goes through the first commands of a script, the answers to the script go through
+    // them too: they lead to a state in which the other commands are answered.
+    ensures through { (s : State) (number : ℕ) (first others : List Located) (ending : Ending)
+        (verdicts : List Verdict) (errors : List (ℕ × ℕ)) (lines : List (List ℕ))
+        (old new : Course)
+        → Answers s number (first ++ others) ending verdicts errors lines
+        → GoesThrough old first new
+        → HaveOneStack s old.state
+        → (last : State) × (count : ℕ)
+        × AnswersThrough s number first others ending verdicts errors lines last count }
+{}
