@@ -2,6 +2,7 @@
 
 ghost use Rattle.std.specs.Prelude.{◌≡◌, string_bytes};
 
+use std::convert::AsStr;
 use std::marker::Model;
 
 /// A text in UTF-8, as an argument of the command line. Clauses see its bytes.
@@ -38,5 +39,13 @@ impl Text {
         ensures value { string_bytes result ≡ self }
     {
         self.string
+    }
+}
+
+impl AsStr for Text {
+    ghost text = { λ text. text };
+
+    fn as_str(&self) -> &str {
+        Text::as_str(self)
     }
 }

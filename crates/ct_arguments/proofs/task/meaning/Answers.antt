@@ -1,0 +1,14 @@
+use Rattle.std.proofs.Common.{◌≡◌, ◌∙◌, option_map, codes}
+use Rattle.clap.specs.Words.{first_of, found_of, rows_of}
+use Rattle.clap.proofs.WalkLemmas.{first_value-rows}
+use Rattle.ct_arguments.specs.Arguments.{asked_by}
+use Rattle.ct_arguments.proofs.task.meaning.Goals as goal
+
+pub returns : goal.returns
+returns c =
+    let found = found_of c.args.matches.now in
+    let gen_is : option_map (λ s. s.now) c.get_str.result ≡ first_of (codes "gen") (rows_of found) = c.get_str.ensures ∙ first_value-rows found (codes "gen") in
+    let audit_is : option_map (λ s. s.now) c.get_str-2.result ≡ first_of (codes "audit") (rows_of found) =
+    c.get_str-2.ensures ∙ first_value-rows found (codes "audit") in
+    let file_is : option_map (λ s. s.now) c.get_str-3.result ≡ first_of (codes "file") (rows_of found) = c.get_str-3.ensures ∙ first_value-rows found (codes "file") in
+    record { task = c.asked_by.ensures.task ∙ (λ i. asked_by (gen_is i) (audit_is i) (file_is i)) }

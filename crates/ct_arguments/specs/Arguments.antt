@@ -1,0 +1,56 @@
+-- What the arguments of the command line ask for.
+use Rattle.std.specs.Prelude.{ℕ, Bool, true, false, List, [], Option, Some, None, ◌&&◌, nat_le, if◌then◌else◌, codes}
+use Rattle.std.specs.List.{list_any}
+use Rattle.std.specs.Option.{option_map_or}
+use Rattle.std.specs.Str.Parse.{digits_value}
+use Rattle.std.specs.Str.{all_ascii_digits}
+use Rattle.clap.specs.Words.{Row, fault_of, first_of, matches_of, takes}
+use Rattle.clap.specs.declared.error.kind.ErrorKind.{ErrorKind}
+use Rattle.clap.specs.declared.error.kind.ErrorKind.TheVariants.{DisplayHelp}
+use Rattle.ct_arguments.specs.Command.{cosmt}
+
+-- a task: to answer the script of this name, to check the derivation of the first name against the script of the second, to
+-- answer the generated script of so many blocks, to tell how the program is called; or the arguments have none of the forms
+pub data Asked : Type 0 where
+  solves : List ℕ → Asked
+  audits : List ℕ → List ℕ → Asked
+  generates : ℕ → Asked
+  helps : Asked
+  faulty : Asked
+
+-- the number of blocks that the text writes: decimal digits alone, from 1 to 2,000; leading zeros are accepted
+abbrev pub block_count : List ℕ → Option ℕ
+block_count text =
+    let n = digits_value 10 text in
+    if all_ascii_digits text && (nat_le 1 n && nat_le n 2000) then Some n else None
+
+abbrev pub generation : List ℕ → Asked
+generation text = option_map_or generates (block_count text) faulty
+
+-- by the values of `--gen`, of `--audit` and of the file: a generated script stands alone, a derivation needs its script, and
+-- the empty name stands for a script whose name is left out
+abbrev pub asked_by : Option (List ℕ) → Option (List ℕ) → Option (List ℕ) → Asked
+asked_by (Some count) None None = generation count
+asked_by (Some count) None (Some script) = faulty
+asked_by (Some count) (Some proof) script = faulty
+asked_by None (Some proof) (Some script) = audits proof script
+asked_by None (Some proof) None = faulty
+asked_by None None (Some script) = solves script
+asked_by None None None = solves []
+
+-- what accepted arguments ask for, by their values
+abbrev pub meaning : List Row → Asked
+meaning rows = asked_by (first_of (codes "gen") rows) (first_of (codes "audit") rows) (first_of (codes "file") rows)
+
+-- `--help` or `-h` was met
+abbrev pub is_help : ErrorKind → Bool
+is_help DisplayHelp = true
+is_help _ = false
+
+-- what refused arguments ask for, by the kind of the first fault
+abbrev pub refusal : Bool → Asked
+refusal help = if help then helps else faulty
+
+-- the task that the arguments ask for
+unfoldable pub task_of : List (List ℕ) → Asked
+task_of words = if takes cosmt words then meaning (matches_of cosmt words) else refusal (list_any is_help (fault_of cosmt words))

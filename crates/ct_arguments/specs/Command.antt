@@ -1,0 +1,24 @@
+-- The command line as `clap` reads it: two options with one value each, and one positional argument.
+use Rattle.std.specs.Prelude.{Some, true, codes}
+use Rattle.clap.specs.Words.{App, Rule, new_app, new_rule, with_rule}
+use Rattle.clap.specs.Simple.{on_top}
+
+-- `--audit PROOF`
+abbrev pub audit : Rule
+audit = record (new_rule (codes "audit")) { long = Some (codes "audit") }
+
+-- `--gen N`
+abbrev pub gen : Rule
+gen = record (new_rule (codes "gen")) { long = Some (codes "gen") }
+
+-- `FILE`, which may be left out
+abbrev pub file : Rule
+file = new_rule (codes "file")
+
+-- the arguments come without the program's own name
+abbrev pub bare : App
+bare = on_top (λ s. record s { no_binary_name = true }) (new_app (codes "cosmt"))
+
+-- the command; no argument has a rule on another
+unfoldable pub cosmt : App
+cosmt = with_rule (with_rule (with_rule bare audit) gen) file

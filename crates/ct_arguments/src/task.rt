@@ -1,0 +1,108 @@
+//! The tasks, and which of them the arguments ask for.
+
+ghost use Rattle.std.specs.Prelude.{◌≡◌, ◌≢◌, IfOk, option_map, map};
+ghost use Rattle.clap.specs.Words.{app_of, found_of, rows_of};
+ghost use Rattle.clap.specs.declared.error.kind.ErrorKind.TheVariants.{OutOfMemory};
+ghost use Rattle.ct_arguments.specs.Arguments as spec;
+ghost use Rattle.ct_arguments.specs.Command.{cosmt};
+ghost use Rattle.ct_arguments.specs.Seen.{task_seen};
+
+use crate::error::ArgumentError;
+use crate::number::block_count;
+use clap::error::ErrorKind;
+use clap::{Arg, ArgMatches, Command};
+use ct_io::Text;
+use std::alloc::{AllocError, Global};
+
+/// What the arguments of the command line ask for.
+#[derive(Clone, Copy, Debug)]
+pub enum Task<'a> {
+    /// To answer the script of this name. The empty name stands for standard input.
+    Solve(&'a str),
+    /// To check a derivation against its script.
+    Audit {
+        /// The name of the derivation.
+        proof: &'a str,
+        /// The name of the script.
+        script: &'a str,
+    },
+    /// To answer the generated script of so many blocks, from 1 to 2,000.
+    Generate(u64),
+    /// To tell how the program is called.
+    Help,
+    /// Nothing: the arguments have none of the forms.
+    Faulty,
+}
+
+/// What the arguments, without the program's own name, ask for.
+///
+/// The only error is out of memory.
+pub fn task_of<'a>(alloc: Global, words: &'a [Text]) -> Result<Task<'a>, ArgumentError>
+    ensures task { IfOk result (λ t. task_seen t ≡ spec.task_of words.entry.now) }
+{
+    match command(alloc)?.try_get_matches_from(words) {
+        Ok(matches) => Ok(meaning(&matches)),
+        Err(error) => refusal(error.kind()),
+    }
+}
+
+/// The command, whose arguments come without its name.
+fn command<'a>(alloc: Global) -> Result<Command<'a>, AllocError>
+    ensures app { IfOk result (λ c. app_of c ≡ cosmt) }
+{
+    let audit = Arg::new(alloc, "audit").long("audit");
+    let count = Arg::new(alloc, "gen").long("gen");
+    let file = Arg::new(alloc, "file");
+    Command::new(alloc, "cosmt")
+        .no_binary_name(true)
+        .arg(audit)?
+        .arg(count)?
+        .arg(file)
+}
+
+/// What the arguments ask for that were accepted.
+fn meaning<'a>(matches: &ArgMatches<'a>) -> Task<'a>
+    ensures task { task_seen result ≡ spec.meaning (rows_of (found_of matches.now)) }
+{
+    asked_by(
+        matches.get_str("gen"),
+        matches.get_str("audit"),
+        matches.get_str("file"),
+    )
+}
+
+/// What the values of `--gen`, of `--audit` and of the file ask for.
+fn asked_by<'a>(count: Option<&'a str>, proof: Option<&'a str>, script: Option<&'a str>) -> Task<'a>
+    ensures task { task_seen result ≡ spec.asked_by (option_map (λ s. s.now) count.entry)
+        (option_map (λ s. s.now) proof.entry) (option_map (λ s. s.now) script.entry) }
+{
+    match (count, proof, script) {
+        (Some(count), None, None) => generation(count),
+        (None, Some(proof), Some(script)) => Task::Audit { proof, script },
+        (None, None, Some(script)) => Task::Solve(script),
+        (None, None, None) => Task::Solve(""),
+        (Some(_), None, Some(_)) | (Some(_), Some(_), _) | (None, Some(_), None) => Task::Faulty,
+    }
+}
+
+/// What the value of `--gen` asks for, where it stands alone.
+fn generation<'a>(text: &str) -> Task<'a>
+    ensures task { task_seen result ≡ spec.generation text.now }
+{
+    match block_count(text) {
+        Some(count) => Task::Generate(count),
+        None => Task::Faulty,
+    }
+}
+
+/// What arguments ask for that were refused, by the kind of the refusal.
+fn refusal<'a>(kind: ErrorKind) -> Result<Task<'a>, ArgumentError>
+    ensures task { IfOk result (λ t. task_seen t ≡ spec.refusal (spec.is_help kind)) }
+    ensures refused { IfOk result (λ _. kind ≢ OutOfMemory) }
+{
+    match kind {
+        ErrorKind::OutOfMemory => Err(ArgumentError),
+        ErrorKind::DisplayHelp => Ok(Task::Help),
+        _ => Ok(Task::Faulty),
+    }
+}
