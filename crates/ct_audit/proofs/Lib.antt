@@ -1,0 +1,6 @@
+mod ListLemmas
+mod GrowLemmas
+mod ReplayLemmas
+mod JudgeLemmas
+mod TextLemmas
+mod TheoremLemmas

@@ -1,0 +1,115 @@
+-- The state that is found at a check of a script has the stack and the options of the state in which the script's answers come to it.
+use Rattle.std.proofs.Common.{◌≡◌, ◌∙◌, ℕ, Bool, true, false, List, [], ◌∷◌, ◌++◌, ◌==◌, None, Some, refl, sym, ap, subst}
+use Rattle.std.specs.Bool.{MatchBool}
+use Rattle.std.proofs.lemmas.Bool.{and_parts, eqb-true}
+use Rattle.std.proofs.lemmas.Option.{none-some, same_Some}
+use Rattle.ct_sexpr.specs.Text.{Located, Ending}
+use Rattle.ct_sexpr.specs.Expression.{Expression}
+use Rattle.ct_command.specs.Reading.{command}
+use Rattle.ct_engine.specs.declared.verdict.Verdict.{Verdict}
+use Rattle.ct_script.specs.declared.replay.Replayed.{Replayed}
+use Rattle.ct_script.specs.State.{State, first_state}
+use Rattle.ct_script.specs.Step.{counted}
+use Rattle.ct_script.specs.Answers.{Answers, Leads}
+use Rattle.ct_script.specs.Session.{Course}
+use Rattle.ct_script.specs.Replay.{is_check, IsCounted, IsStepped, Replays, GoesThrough, HaveOneStack, AnswersThrough}
+use Rattle.ct_audit.specs.Found.{Finds, is_wanted, first_course}
+use Rattle.ct_audit.specs.AtCheck.{IsAtCheck}
+
+-- the theorems on scripts that are replayed
+pub record ReplayTheorems : Type 0 where
+  pub counts : (line : ℕ) (x : Expression) (old new : Course) (r : Replayed) → Replays old line (command x) new r → new.number ≡ counted old.number x
+  pub tells : (line : ℕ) (x : Expression) (old new : Course) (r : Replayed) → Replays old line (command x) new r → r.check ≡ is_check (command x)
+  pub leads_alike : (s last : State) (number count : ℕ) (cs : List Located) (verdicts : List Verdict) (errors : List (ℕ × ℕ)) (lines : List (List ℕ)) (old new : Course) → Leads s number cs last count verdicts errors lines → GoesThrough old cs new → HaveOneStack s old.state → HaveOneStack last new.state
+  pub leads_counted : (s last : State) (number count : ℕ) (cs : List Located) (verdicts : List Verdict) (errors : List (ℕ × ℕ)) (lines : List (List ℕ)) (old new : Course) → Leads s number cs last count verdicts errors lines → GoesThrough old cs new → old.number ≡ number → new.number ≡ count
+  pub goes_through : (s : State) (number : ℕ) (first others : List Located) (ending : Ending) (verdicts : List Verdict) (errors : List (ℕ × ℕ)) (lines : List (List ℕ)) (old new : Course) → Answers s number (first ++ others) ending verdicts errors lines → GoesThrough old first new → HaveOneStack s old.state → (last : State) × (count : ℕ) × AnswersThrough s number first others ending verdicts errors lines last count
+
+-- these commands split at the wanted check: the replay goes through those before it, and then comes to this state
+record IsSplit (old : Course) (cs : List Located) (wanted : ℕ) (found : State) : Type 0 where
+  before : List Located
+  check : Located
+  after : List Located
+  all : cs ≡ before ++ check ∷ after
+  mid : Course
+  new : Course
+  r : Replayed
+  through : GoesThrough old before mid
+  replays : Replays mid check.line (command check.command) new r
+  wants : is_wanted r new.number wanted ≡ true
+  same : new.state ≡ found
+
+-- after a command that is replayed
+module _ (old : Course) (c : Located) (cs : List Located) (wanted : ℕ) (found : State) (new : Course) (r : Replayed) (replays : Replays old c.line (command c.command) new r) (later : Finds new cs wanted (Some found) → IsSplit new cs wanted found) where
+  split_later : (stop : Bool) → r.stop ≡ stop → MatchBool stop (Some found ≡ None) (Finds new cs wanted (Some found)) → IsSplit old (c ∷ cs) wanted found
+  split_later true stops none = absurd (none-some found (sym none))
+  split_later false goes_on finds =
+      let rest : IsSplit new cs wanted found = later finds in
+      record {
+        before = c ∷ rest.before;
+        check = rest.check;
+        after = rest.after;
+        all = ap (λ (xs : List Located). c ∷ xs) rest.all;
+        mid = rest.mid;
+        new = rest.new;
+        r = rest.r;
+        through = (new, r, replays, goes_on, rest.through);
+        replays = rest.replays;
+        wants = rest.wants;
+        same = rest.same;
+      }
+
+  split_one : (wants : Bool) → is_wanted r new.number wanted ≡ wants → MatchBool wants (Some found ≡ Some new.state) (MatchBool r.stop (Some found ≡ None) (Finds new cs wanted (Some found))) → IsSplit old (c ∷ cs) wanted found
+  split_one true wants is = record {
+    before = [];
+    check = c;
+    after = cs;
+    all = refl;
+    mid = old;
+    new = new;
+    r = r;
+    through = refl;
+    replays = replays;
+    wants = wants;
+    same = sym (same_Some found new.state is);
+  }
+  split_one false other on = split_later r.stop refl on
+
+-- the commands of a script in which the check is found
+split : (old : Course) (cs : List Located) (wanted : ℕ) (found : State) → Finds old cs wanted (Some found) → IsSplit old cs wanted found
+split old [] wanted found none = absurd (none-some found (sym none))
+split old (c ∷ cs) wanted found (new, r, replays, turned) =
+    split_one old c cs wanted found new r replays (λ finds. split new cs wanted found finds) (is_wanted r new.number wanted) refl turned
+
+-- a check that is replayed changes no state
+check_stays : (old new : Course) (line : ℕ) (x : Expression) (r : Replayed) → is_check (command x) ≡ true → Replays old line (command x) new r → new.state ≡ old.state
+check_stays old new line x r asks replays =
+    let counted : IsCounted old new r = subst (λ (b : Bool). MatchBool b (IsCounted old new r) (IsStepped old line (command x) new r)) asks replays in
+    ap (λ (c : Course). c.state) counted.0
+
+-- where the commands split, the answers come to the check
+at_split : (t : ReplayTheorems) (script : List Located) (wanted : ℕ) (found : State) (ending : Ending) (verdicts : List Verdict) (errors : List (ℕ × ℕ)) (lines : List (List ℕ)) → IsSplit first_course script wanted found → Answers first_state 0 script ending verdicts errors lines → IsAtCheck script wanted found ending verdicts errors lines
+at_split t script wanted found ending verdicts errors lines p answers =
+    let parted : Answers first_state 0 (p.before ++ p.check ∷ p.after) ending verdicts errors lines = subst (λ (cs : List Located). Answers first_state 0 cs ending verdicts errors lines) p.all answers in
+    let start : HaveOneStack first_state first_state = record { stack = refl; options = refl } in
+    let gone = t.goes_through first_state 0 p.before (p.check ∷ p.after) ending verdicts errors lines first_course p.mid parted p.through start in
+    let through : AnswersThrough first_state 0 p.before (p.check ∷ p.after) ending verdicts errors lines gone.0 gone.1 = gone.2 in
+    let one : HaveOneStack gone.0 p.mid.state = t.leads_alike first_state gone.0 0 gone.1 p.before through.first_verdicts through.first_errors through.first_lines first_course p.mid through.leads p.through start in
+    let count : p.mid.number ≡ gone.1 = t.leads_counted first_state gone.0 0 gone.1 p.before through.first_verdicts through.first_errors through.first_lines first_course p.mid through.leads p.through refl in
+    let wants : (p.r.check ≡ true) × ((p.new.number == wanted) ≡ true) = and_parts p.r.check (p.new.number == wanted) p.wants in
+    let asks : is_check (command p.check.command) ≡ true = sym (t.tells p.check.line p.check.command p.mid p.new p.r p.replays) ∙ wants.0 in
+    record {
+      before = p.before;
+      check = p.check;
+      after = p.after;
+      all = p.all;
+      asks = asks;
+      last = gone.0;
+      count = gone.1;
+      through = through;
+      number = ap (λ (n : ℕ). counted n p.check.command) (sym count) ∙ sym (t.counts p.check.line p.check.command p.mid p.new p.r p.replays) ∙ eqb-true p.new.number wanted wants.1;
+      same = subst (λ (s : State). HaveOneStack gone.0 s) (sym (check_stays p.mid p.new p.check.line p.check.command p.r asks p.replays) ∙ p.same) one;
+    }
+
+-- what is found at a check has the stack and the options that the answers have there
+pub answers_at : (t : ReplayTheorems) (script : List Located) (wanted : ℕ) (found : State) (ending : Ending) (verdicts : List Verdict) (errors : List (ℕ × ℕ)) (lines : List (List ℕ)) → Finds first_course script wanted (Some found) → Answers first_state 0 script ending verdicts errors lines → IsAtCheck script wanted found ending verdicts errors lines
+answers_at t script wanted found ending verdicts errors lines finds answers = at_split t script wanted found ending verdicts errors lines (split first_course script wanted found finds) answers

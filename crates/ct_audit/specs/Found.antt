@@ -1,0 +1,28 @@
+-- What a script has declared and asserted at one of its checks: it is gone through without solving.
+use Rattle.std.specs.Prelude.{◌≡◌, ℕ, ◌==◌, Bool, ◌&&◌, List, [], ◌∷◌, Option, None, Some, if◌then◌else◌}
+use Rattle.std.specs.Bool.{MatchBool}
+use Rattle.ct_sexpr.specs.Text.{Located}
+use Rattle.ct_command.specs.Reading.{command}
+use Rattle.ct_script.specs.declared.replay.Replayed.{Replayed}
+use Rattle.ct_script.specs.State.{State, first_state}
+use Rattle.ct_script.specs.Replay.{Replays}
+use Rattle.ct_script.specs.Session.{Course}
+
+-- the course of a script that begins
+abbrev pub first_course : Course
+first_course = record { state = first_state; number = 0; verdicts = []; errors = [] }
+
+-- the command is the check with this number
+abbrev pub is_wanted : Replayed → ℕ → ℕ → Bool
+is_wanted r number wanted = r.check && (number == wanted)
+
+-- the state of the script at its check with this number, where these commands are left; nothing where the script ends before it
+abbrev pub Finds : Course → List Located → ℕ → Option State → Type 0
+Finds old [] wanted found = found ≡ None
+Finds old (c ∷ cs) wanted found =
+    (new : Course) × (r : Replayed) × Replays old c.line (command c.command) new r
+    × MatchBool (is_wanted r new.number wanted) (found ≡ Some new.state) (MatchBool r.stop (found ≡ None) (Finds new cs wanted found))
+
+-- the state, where it was found
+abbrev pub state_where : Bool → State → Option State
+state_where found state = if found then Some state else None

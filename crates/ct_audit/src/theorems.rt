@@ -1,0 +1,24 @@
+//! What holds of audits. A theorem is the contract of a function that does nothing.
+ghost use Rattle.std.specs.Prelude.{ℕ, List, Some};
+ghost use Rattle.ct_sexpr.specs.Text.{Located, Ending};
+ghost use Rattle.ct_engine.specs.declared.verdict.Verdict.{Verdict};
+ghost use Rattle.ct_script.specs.State.{State, first_state};
+ghost use Rattle.ct_script.specs.Answers.{Answers};
+ghost use Rattle.ct_audit.specs.Found.{Finds, first_course};
+ghost use Rattle.ct_audit.specs.AtCheck.{IsAtCheck};
+
+use ct_script::replayed_scripts;
+
+/// What an audit finds at a check of a script is what the script's answers have there. It does
+/// nothing: a proof that needs this theorem calls it.
+pub fn found_checks()
+    // Whatever answers a script has, the state that is found at a check has the stack and the
+    // options of the state in which these answers come to that check.
+    ensures found { (script : List Located) (wanted : ℕ) (found : State) (ending : Ending)
+        (verdicts : List Verdict) (errors : List (ℕ × ℕ)) (lines : List (List ℕ))
+        → Finds first_course script wanted (Some found)
+        → Answers first_state 0 script ending verdicts errors lines
+        → IsAtCheck script wanted found ending verdicts errors lines }
+{
+    replayed_scripts();
+}
