@@ -4,7 +4,11 @@
 ghost use Rattle.std.specs.Prelude.{◌≡◌, ◌≢◌, ℕ, List, [], Some, ◌≤◌};
 ghost use Rattle.ct_io.specs.Fault.{Rose};
 ghost use Rattle.ct_io.specs.declared.status.Status.TheVariants as status;
-ghost use Rattle.ct_run.specs.Run.{NamesFile, AreFaulty, Solves, ReportsUsage};
+ghost use Rattle.ct_arguments.specs.Arguments as arguments;
+ghost use Rattle.ct_run.specs.Run.{Solves, ReportsUsage, ReportsHelp};
+ghost use Rattle.ct_run.specs.AuditRun.{ReportsAudit};
+ghost use Rattle.ct_run.specs.Generated.{ReportsCounts};
+ghost use Rattle.ct_run.specs.Tasks.{IsAudit, IsOfScript};
 
 use ct_io::{Desk, HostDesk, HostSink, Sink, Status, Text};
 use ct_run::{Report, report_usage, unanswered};
@@ -28,26 +32,39 @@ fn main(rt: HostRuntime) -> ExitCode {
 
 /// Runs the program on the arguments of its command line, without its own name.
 ///
-/// No argument, or an empty one, names standard input, and an argument that does not begin with `-`
-/// names a file. The script there is answered command by command, up to its end, to `exit` or to an
-/// error of its text. All other arguments are answered with the line of usage.
+/// One argument that is no option names a script, and no argument, or an empty one, standard input. The
+/// script is answered command by command, up to its end, to `exit` or to an error of its text. `--audit`
+/// with a derivation and a script judges the one by the other, `--gen` with a number answers a script
+/// that is generated and counts its answers, and `--help` is answered with the line of usage. So are all
+/// other arguments, with the status of usage.
 pub fn run<D: Desk, K: Sink>(alloc: Global, words: &[Text], desk: &mut D, out: &mut K) -> Report
     // Where the desk tells what it holds under the script's name, the report and what was written are its answers.
-    ensures solved { (name bytes : List ℕ) → NamesFile words.now name → D.held desk.old name ≡ Some bytes
+    ensures solved { (name bytes : List ℕ) → arguments.task_of words.now ≡ arguments.solves name → D.held desk.old name ≡ Some bytes
         → Solves bytes result.status result.verdicts.items result.errors.items (K.written out.old) (K.written out.new) }
-    ensures usage { AreFaulty words.now
+    // The same of a derivation that is judged by a script.
+    ensures audited { (proof script proof_bytes script_bytes : List ℕ) → arguments.task_of words.now ≡ arguments.audits proof script
+        → D.held desk.old proof ≡ Some proof_bytes → D.held desk.old script ≡ Some script_bytes
+        → ReportsAudit proof_bytes script_bytes result.status result.verdicts.items result.errors.items (K.written out.old) (K.written out.new) }
+    ensures generated { (count : ℕ) → arguments.task_of words.now ≡ arguments.generates count
+        → ReportsCounts count result.status result.verdicts.items result.errors.items (K.written out.old) (K.written out.new) }
+    ensures helped { arguments.task_of words.now ≡ arguments.helps
+        → ReportsHelp result.status result.verdicts.items result.errors.items (K.written out.old) (K.written out.new) }
+    ensures usage { arguments.task_of words.now ≡ arguments.faulty
         → ReportsUsage result.status result.verdicts.items result.errors.items (K.written out.old) (K.written out.new) }
 
     // Where the desk tells nothing, as that of the host, there are still bytes, whatever the status, of which the
     // report is right, and what was written where the sink tells it.
-    ensures some_script { (name : List ℕ) → NamesFile words.now name → (bytes : List ℕ)
+    ensures some_script { (name : List ℕ) → arguments.task_of words.now ≡ arguments.solves name → (bytes : List ℕ)
         × Solves bytes result.status result.verdicts.items result.errors.items (K.written out.old) (K.written out.new) }
+    ensures some_files { (proof script : List ℕ) → arguments.task_of words.now ≡ arguments.audits proof script → (proof_bytes : List ℕ) × (script_bytes : List ℕ)
+        × ReportsAudit proof_bytes script_bytes result.status result.verdicts.items result.errors.items (K.written out.old) (K.written out.new) }
 
     // When each status comes, whatever the desk and the sink tell.
-    ensures usage_only { result.status ≡ status.Usage → AreFaulty words.now }
-    ensures rejected { result.status ≢ status.Rejected }
+    ensures usage_only { result.status ≡ status.Usage → arguments.task_of words.now ≡ arguments.faulty }
+    ensures rejected { result.status ≡ status.Rejected → IsAudit (arguments.task_of words.now) }
     ensures done { result.status ≡ status.Done → result.errors.items ≡ [] }
     ensures refused { result.status ≡ status.Refused → result.errors.items ≢ [] }
+    ensures refused_only { result.status ≡ status.Refused → IsOfScript (arguments.task_of words.now) }
     ensures input { result.status ≡ status.InputFault → Rose (D.faults desk.old) (D.faults desk.new) }
     ensures output { result.status ≡ status.OutputFault → Rose (K.faults out.old) (K.faults out.new) }
     ensures counts { (D.faults desk.old ≤ D.faults desk.new) × (K.faults out.old ≤ K.faults out.new) }

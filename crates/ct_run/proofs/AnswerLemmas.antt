@@ -1,11 +1,12 @@
 -- Commands that are answered after others.
 use Rattle.std.proofs.Common.{◌≡◌, ℕ, Bool, true, false, List, [], ◌∷◌, ◌++◌, refl, ap, sym, ◌∙◌, subst, append_assoc}
 use Rattle.std.specs.Bool.{MatchBool}
-use Rattle.ct_sexpr.specs.Text.{Located, Ending, clean, lexical}
+use Rattle.ct_sexpr.specs.Text.{Located, Ending, clean, EndingSoFar}
 use Rattle.ct_engine.specs.declared.verdict.Verdict.{Verdict}
 use Rattle.ct_script.specs.State.{State}
 use Rattle.ct_script.specs.Step.{Effect, Step, counted, refusal_text}
 use Rattle.ct_script.specs.Answers.{Answers, Leads, IsSilent, IsFollowed, lines_of, errors_of}
+use Rattle.ct_run.specs.SoFar.{AnswersSoFar, Outcome, ends, stands, AnswersTo, refusal}
 use Rattle.ct_run.proofs.WritingLemmas.{append_nil}
 
 pub silence : IsSilent [] [] []
@@ -79,7 +80,7 @@ pub Answers-one : (s : State) (n : ℕ) (c : Located) (e : Effect) → Step s n 
 Answers-one s n c e step = (e, [], [], [], step, followed_by_nothing c.line e, silent_after e.stop (IsSilent [] [] []) silence)
 
 -- a command is answered that ends the script, whatever follows
-pub Answers-last : (s : State) (n : ℕ) (c : Located) (cs : List Located) (x : Ending) (e : Effect) → Step s n c.line c.command e → e.stop ≡ true → Answers s n (c ∷ cs) x e.verdicts (errors_of c.line e.error) (lines_of e.text)
+Answers-last : (s : State) (n : ℕ) (c : Located) (cs : List Located) (x : Ending) (e : Effect) → Step s n c.line c.command e → e.stop ≡ true → Answers s n (c ∷ cs) x e.verdicts (errors_of c.line e.error) (lines_of e.text)
 Answers-last s n c cs x e step stops = (
   e,
   [],
@@ -95,5 +96,42 @@ pub Answers-none : (s : State) (n : ℕ) → Answers s n [] clean [] [] []
 Answers-none s n = silence
 
 -- an error of the text
-pub Answers-lexical : (s : State) (n code line : ℕ) → Answers s n [] (lexical code line) [] ((line, code) ∷ []) (lines_of (refusal_text line code))
-Answers-lexical s n code line = (refl, refl, refl)
+pub AnswersTo-refusal : (s : State) (n : ℕ) (ended : Bool) (error : ℕ × ℕ) → AnswersTo s n [] (refusal ended error) [] (error ∷ []) (lines_of (refusal_text error.0 error.1))
+AnswersTo-refusal s n true error = (refl, refl, refl)
+AnswersTo-refusal s n false error = (refl, refl, refl)
+
+-- the same of a text that may go on
+AnswersSoFar-after : (s mid : State) (n k : ℕ) (cs ds : List Located) (x : EndingSoFar) (vs ws : List Verdict) (es fs : List (ℕ × ℕ)) (ls ms : List (List ℕ)) → Leads s n cs mid k vs es ls → AnswersSoFar mid k ds x ws fs ms → AnswersSoFar s n (cs ++ ds) x (vs ++ ws) (es ++ fs) (ls ++ ms)
+AnswersSoFar-after s mid n k [] ds x vs ws es fs ls ms leads answers =
+    silent_before (λ (vs : List Verdict) (es : List (ℕ × ℕ)) (ls : List (List ℕ)). AnswersSoFar s n ds x vs es ls) vs ws es fs ls ms leads.2
+    (subst (λ (t : State). AnswersSoFar t n ds x ws fs ms) leads.0 (subst (λ (m : ℕ). AnswersSoFar mid m ds x ws fs ms) leads.1 answers))
+AnswersSoFar-after s mid n k (c ∷ cs) ds x vs ws es fs ls ms (e, vs', es', ls', step, followed, goes_on, leads) answers =
+    let later = AnswersSoFar-after e.state mid (counted n c.command) k cs ds x vs' ws es' fs ls' ms leads answers in (
+      e,
+      vs' ++ ws,
+      es' ++ fs,
+      ls' ++ ms,
+      step,
+      followed_on c.line e vs vs' ws es es' fs ls ls' ms followed,
+      subst (λ (b : Bool). MatchBool b (IsSilent (vs' ++ ws) (es' ++ fs) (ls' ++ ms)) (AnswersSoFar e.state (counted n c.command) (cs ++ ds) x (vs' ++ ws) (es' ++ fs) (ls' ++ ms))) (sym goes_on) later,
+    )
+
+AnswersSoFar-last : (s : State) (n : ℕ) (c : Located) (cs : List Located) (x : EndingSoFar) (e : Effect) → Step s n c.line c.command e → e.stop ≡ true → AnswersSoFar s n (c ∷ cs) x e.verdicts (errors_of c.line e.error) (lines_of e.text)
+AnswersSoFar-last s n c cs x e step stops = (
+  e,
+  [],
+  [],
+  [],
+  step,
+  followed_by_nothing c.line e,
+  subst (λ (b : Bool). MatchBool b (IsSilent [] [] []) (AnswersSoFar e.state (counted n c.command) cs x [] [] [])) (sym stops) silence,
+)
+
+-- the same of a text that ends or may go on
+pub AnswersTo-after : (s mid : State) (n k : ℕ) (cs ds : List Located) (x : Outcome) (vs ws : List Verdict) (es fs : List (ℕ × ℕ)) (ls ms : List (List ℕ)) → Leads s n cs mid k vs es ls → AnswersTo mid k ds x ws fs ms → AnswersTo s n (cs ++ ds) x (vs ++ ws) (es ++ fs) (ls ++ ms)
+AnswersTo-after s mid n k cs ds (ends x) vs ws es fs ls ms leads answers = Answers-after s mid n k cs ds x vs ws es fs ls ms leads answers
+AnswersTo-after s mid n k cs ds (stands x) vs ws es fs ls ms leads answers = AnswersSoFar-after s mid n k cs ds x vs ws es fs ls ms leads answers
+
+pub AnswersTo-last : (s : State) (n : ℕ) (c : Located) (cs : List Located) (x : Outcome) (e : Effect) → Step s n c.line c.command e → e.stop ≡ true → AnswersTo s n (c ∷ cs) x e.verdicts (errors_of c.line e.error) (lines_of e.text)
+AnswersTo-last s n c cs (ends x) e step stops = Answers-last s n c cs x e step stops
+AnswersTo-last s n c cs (stands x) e step stops = AnswersSoFar-last s n c cs x e step stops

@@ -1,14 +1,175 @@
--- What is reported of arguments that have none of the forms.
-use Rattle.std.proofs.Common.{◌≡◌, ℕ, List, [], Option}
+-- What each task reports, by its status.
+use Rattle.std.specs.Prelude.{◌&&◌, codes, if◌then◌else◌, option_to_list}
+use Rattle.std.specs.List.{list_any}
+use Rattle.std.specs.Option.{option_map_or}
+use Rattle.std.specs.Str.Parse.{digits_value}
+use Rattle.std.specs.Str.{all_ascii_digits}
+use Rattle.std.proofs.Common.{◌≡◌, ◌≢◌, ℕ, ◌≤◌, inl, inr, Bool, true, false, List, [], Option, None, Some, refl, ap, sym, ◌∙◌, subst, arith}
+use Rattle.std.proofs.Math.Dec.{leb}
+use Rattle.std.proofs.lemmas.Bool.{leb-true}
+use Rattle.clap.specs.Words.{fault_of, first_of, matches_of, takes}
 use Rattle.ct_io.specs.Bytes.{GrewByPart}
 use Rattle.ct_io.specs.declared.sink.SinkError.{SinkError}
 use Rattle.ct_io.specs.declared.sink.SinkError.TheVariants as sink
+use Rattle.ct_io.specs.declared.status.Status.{Status}
+use Rattle.ct_io.specs.declared.status.Status.TheVariants as status
 use Rattle.ct_engine.specs.declared.verdict.Verdict.{Verdict}
+use Rattle.ct_audit.specs.declared.answer.AuditAnswer.{AuditAnswer}
+use Rattle.ct_audit.specs.Answer.{audit_error}
+use Rattle.ct_arguments.specs.Arguments.{Asked, solves, audits, generates, helps, faulty, generation, asked_by, meaning, is_help, refusal, task_of}
+use Rattle.ct_arguments.specs.Command.{cosmt}
 use Rattle.ct_run.specs.Output.{usage_line}
 use Rattle.ct_run.specs.Refusal.{status_of_error}
-use Rattle.ct_run.specs.Run.{ReportsUsage}
+use Rattle.ct_run.specs.Run.{Solves, DoesNothing, ReportsUsage, ReportsHelp}
+use Rattle.ct_run.specs.AuditRun.{ReportsAudit}
+use Rattle.ct_run.specs.Generated.{ReportsCounts}
+use Rattle.ct_run.specs.Tasks.{Does, DoesOfSome, IsAudit, IsOfScript, IsWithin}
+use Rattle.ct_run.proofs.WritingLemmas.{appended-nothing}
 
 -- the sink failed while the line of usage was written
 pub ReportsUsage-broke : (e : SinkError) (vs : List Verdict) (es : List (ℕ × ℕ)) (old new : Option (List ℕ)) → vs ≡ [] → es ≡ [] → GrewByPart usage_line old new → ReportsUsage (status_of_error e) vs es old new
 ReportsUsage-broke sink.Fault vs es old new no_verdicts no_errors grew = (no_verdicts, no_errors, grew)
 ReportsUsage-broke sink.NoMemory vs es old new no_verdicts no_errors grew = (no_verdicts, no_errors, grew)
+
+pub ReportsHelp-broke : (e : SinkError) (vs : List Verdict) (es : List (ℕ × ℕ)) (old new : Option (List ℕ)) → vs ≡ [] → es ≡ [] → GrewByPart usage_line old new → ReportsHelp (status_of_error e) vs es old new
+ReportsHelp-broke sink.Fault vs es old new no_verdicts no_errors grew = (no_verdicts, no_errors, grew)
+ReportsHelp-broke sink.NoMemory vs es old new no_verdicts no_errors grew = (no_verdicts, no_errors, grew)
+
+-- nothing of the line was written
+no_part : (old new : Option (List ℕ)) → new ≡ old → GrewByPart usage_line old new
+no_part old new same = record { count = 0; short = omega arith; grown = same ∙ sym (appended-nothing old) }
+
+-- memory ran out before anything was done
+pub does_nothing : (held : List ℕ → Option (List ℕ)) (asked : Asked) (vs : List Verdict) (es : List (ℕ × ℕ)) (old new : Option (List ℕ)) → DoesNothing vs es old new → Does held asked status.NoMemory vs es old new
+does_nothing held (solves name) vs es old new nothing = λ bytes is. inr nothing
+does_nothing held (audits proof script) vs es old new nothing = λ proof_bytes script_bytes first second. inr (tt, nothing)
+does_nothing held (generates count) vs es old new nothing = (
+  nothing.1,
+  inr (record { solved = record { errors = []; lines = []; answers = inr nothing.0 }; unwritten = nothing.2 }),
+)
+does_nothing held helps vs es old new nothing = (nothing.0, nothing.1, no_part old new nothing.2)
+does_nothing held faulty vs es old new nothing = (nothing.0, nothing.1, no_part old new nothing.2)
+
+pub does_nothing_of_some : (asked : Asked) (vs : List Verdict) (es : List (ℕ × ℕ)) (old new : Option (List ℕ)) → DoesNothing vs es old new → DoesOfSome asked status.NoMemory vs es old new
+does_nothing_of_some (solves name) vs es old new nothing = ([], inr nothing)
+does_nothing_of_some (audits proof script) vs es old new nothing = ([], [], inr (tt, nothing))
+does_nothing_of_some (generates count) vs es old new nothing = tt
+does_nothing_of_some helps vs es old new nothing = tt
+does_nothing_of_some faulty vs es old new nothing = tt
+
+-- when each status comes
+pub record Comes (asked : Asked) (s : Status) (es : List (ℕ × ℕ)) : Type 0 where
+  pub usage_only : s ≡ status.Usage → asked ≡ faulty
+  pub rejected : s ≡ status.Rejected → IsAudit asked
+  pub done : s ≡ status.Done → es ≡ []
+  pub refused : s ≡ status.Refused → es ≢ []
+  pub refused_only : s ≡ status.Refused → IsOfScript asked
+
+solve_comes : (name bytes : List ℕ) (s : Status) (vs : List Verdict) (es : List (ℕ × ℕ)) (old new : Option (List ℕ)) → Solves bytes s vs es old new → Comes (solves name) s es
+solve_comes name bytes s vs es old new d =
+    let at : (t : Status) → s ≡ t → Solves bytes t vs es old new = λ t is. subst (λ (x : Status). Solves bytes x vs es old new) is d in
+    record {
+      usage_only = λ is. absurd (at status.Usage is);
+      rejected = λ is. absurd (at status.Rejected is);
+      done = λ is. (at status.Done is).1;
+      refused = λ is. (at status.Refused is).1;
+      refused_only = λ is. (name, refl);
+    }
+
+-- a derivation that is verified leaves no error
+no_error : (proof script : List ℕ) (vs : List Verdict) (es : List (ℕ × ℕ)) (old new : Option (List ℕ)) → ReportsAudit proof script status.Done vs es old new → es ≡ []
+no_error proof script vs es old new (inl judged) =
+    judged.reported.1.errors_are ∙ ap (λ (a : AuditAnswer). option_to_list (audit_error a)) judged.reported.0
+no_error proof script vs es old new (inr prevented) = absurd prevented.0
+
+not_refused : (proof script : List ℕ) (vs : List Verdict) (es : List (ℕ × ℕ)) (old new : Option (List ℕ)) → ReportsAudit proof script status.Refused vs es old new → ⊥
+not_refused proof script vs es old new (inl judged) = judged.reported
+not_refused proof script vs es old new (inr prevented) = prevented.0
+
+not_usage : (proof script : List ℕ) (vs : List Verdict) (es : List (ℕ × ℕ)) (old new : Option (List ℕ)) → ReportsAudit proof script status.Usage vs es old new → ⊥
+not_usage proof script vs es old new (inl judged) = judged.reported
+not_usage proof script vs es old new (inr prevented) = prevented.0
+
+audit_comes : (proof script proof_bytes script_bytes : List ℕ) (s : Status) (vs : List Verdict) (es : List (ℕ × ℕ)) (old new : Option (List ℕ)) → ReportsAudit proof_bytes script_bytes s vs es old new → Comes (audits proof script) s es
+audit_comes proof script proof_bytes script_bytes s vs es old new d =
+    let at : (t : Status) → s ≡ t → ReportsAudit proof_bytes script_bytes t vs es old new = λ t is. subst (λ (x : Status). ReportsAudit proof_bytes script_bytes x vs es old new) is d in
+    record {
+      usage_only = λ is. absurd (not_usage proof_bytes script_bytes vs es old new (at status.Usage is));
+      rejected = λ is. (proof, script, refl);
+      done = λ is. no_error proof_bytes script_bytes vs es old new (at status.Done is);
+      refused = λ is. absurd (not_refused proof_bytes script_bytes vs es old new (at status.Refused is));
+      refused_only = λ is. absurd (not_refused proof_bytes script_bytes vs es old new (at status.Refused is));
+    }
+
+counts_come : (count : ℕ) (s : Status) (vs : List Verdict) (es : List (ℕ × ℕ)) (old new : Option (List ℕ)) → ReportsCounts count s vs es old new → Comes (generates count) s es
+counts_come count s vs es old new d =
+    let at : (t : Status) → s ≡ t → ReportsCounts count t vs es old new = λ t is. subst (λ (x : Status). ReportsCounts count x vs es old new) is d in
+    record {
+      usage_only = λ is. absurd (at status.Usage is);
+      rejected = λ is. absurd (at status.Rejected is);
+      done = λ is. (at status.Done is).0;
+      refused = λ is. absurd (at status.Refused is);
+      refused_only = λ is. absurd (at status.Refused is);
+    }
+
+help_comes : (s : Status) (vs : List Verdict) (es : List (ℕ × ℕ)) (old new : Option (List ℕ)) → ReportsHelp s vs es old new → Comes helps s es
+help_comes s vs es old new d =
+    let at : (t : Status) → s ≡ t → ReportsHelp t vs es old new = λ t is. subst (λ (x : Status). ReportsHelp x vs es old new) is d in
+    record {
+      usage_only = λ is. absurd (at status.Usage is);
+      rejected = λ is. absurd (at status.Rejected is);
+      done = λ is. (at status.Done is).1;
+      refused = λ is. absurd (at status.Refused is);
+      refused_only = λ is. absurd (at status.Refused is);
+    }
+
+usage_comes : (s : Status) (vs : List Verdict) (es : List (ℕ × ℕ)) (old new : Option (List ℕ)) → ReportsUsage s vs es old new → Comes faulty s es
+usage_comes s vs es old new d =
+    let at : (t : Status) → s ≡ t → ReportsUsage t vs es old new = λ t is. subst (λ (x : Status). ReportsUsage x vs es old new) is d in
+    record {
+      usage_only = λ is. refl;
+      rejected = λ is. absurd (at status.Rejected is);
+      done = λ is. absurd (at status.Done is);
+      refused = λ is. absurd (at status.Refused is);
+      refused_only = λ is. absurd (at status.Refused is);
+    }
+
+pub comes : (held : List ℕ → Option (List ℕ)) (asked : Asked) (s : Status) (vs : List Verdict) (es : List (ℕ × ℕ)) (old new : Option (List ℕ)) → Does held asked s vs es old new → DoesOfSome asked s vs es old new → Comes asked s es
+comes held (solves name) s vs es old new does of_some = solve_comes name of_some.0 s vs es old new of_some.1
+comes held (audits proof script) s vs es old new does of_some = audit_comes proof script of_some.0 of_some.1 s vs es old new of_some.2
+comes held (generates count) s vs es old new does of_some = counts_come count s vs es old new does
+comes held helps s vs es old new does of_some = help_comes s vs es old new does
+comes held faulty s vs es old new does of_some = usage_comes s vs es old new does
+
+-- what the arguments ask for is within the limit
+within_where : (b c d : Bool) (n : ℕ) → leb 1 n ≡ c → leb n 2000 ≡ d → IsWithin (option_map_or generates (if b && (c && d) then Some n else None) faulty)
+within_where true true true n some few = (leb-true 1 n some, leb-true n 2000 few)
+within_where true true false n some few = tt
+within_where true false d n some few = tt
+within_where false c d n some few = tt
+
+generation_within : (text : List ℕ) → IsWithin (generation text)
+generation_within text = within_where (all_ascii_digits text) (leb 1 (digits_value 10 text)) (leb (digits_value 10 text) 2000) (digits_value 10 text) refl refl
+
+asked_within : (count proof script : Option (List ℕ)) → IsWithin (asked_by count proof script)
+asked_within (Some count) None None = generation_within count
+asked_within (Some count) None (Some script) = tt
+asked_within (Some count) (Some proof) script = tt
+asked_within None (Some proof) (Some script) = tt
+asked_within None (Some proof) None = tt
+asked_within None None (Some script) = tt
+asked_within None None None = tt
+
+refusal_within : (help : Bool) → IsWithin (refusal help)
+refusal_within true = tt
+refusal_within false = tt
+
+taken_within : (b : Bool) (asked other : Asked) → IsWithin asked → IsWithin other → IsWithin (if b then asked else other)
+taken_within true asked other first second = first
+taken_within false asked other first second = second
+
+pub task_within : (words : List (List ℕ)) → IsWithin (task_of words)
+unfolding task_of
+task_within words = taken_within (takes cosmt words) (meaning (matches_of cosmt words)) (refusal (list_any is_help (fault_of cosmt words)))
+    (asked_within (first_of (codes "gen") (matches_of cosmt words)) (first_of (codes "audit") (matches_of cosmt words)) (first_of (codes "file") (matches_of cosmt words)))
+    (refusal_within (list_any is_help (fault_of cosmt words)))

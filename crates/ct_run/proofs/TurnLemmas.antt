@@ -1,23 +1,42 @@
 -- Commands one after another: what is read, answered and written.
-use Rattle.std.proofs.Common.{◌≡◌, ℕ, ◌⊎◌, inl, inr, true, false, List, [], ◌∷◌, ◌++◌, Option, refl, ap, sym, ◌∙◌, subst, append_assoc}
+use Rattle.std.proofs.Common.{◌≡◌, ℕ, ◌⊎◌, inl, inr, Bool, true, false, List, [], ◌∷◌, ◌++◌, Option, refl, ap, sym, ◌∙◌, subst, append_assoc}
 use Rattle.ct_io.specs.declared.sink.SinkError.{SinkError}
 use Rattle.ct_io.specs.declared.sink.SinkError.TheVariants as sink
 use Rattle.ct_sexpr.specs.Expression.{Expression}
-use Rattle.ct_sexpr.specs.Text.{Located, Ending, clean, Reads}
+use Rattle.ct_sexpr.specs.Text.{Located, Ending, clean, Reads, EndingSoFar, refused, ReadsSoFar}
 use Rattle.ct_sexpr.specs.Unread.{Unread}
-use Rattle.ct_sexpr.specs.Answer.{IsFirstCommand}
+use Rattle.ct_sexpr.specs.Answer.{IsFirstCommand, IsLast}
 use Rattle.ct_engine.specs.declared.verdict.Verdict.{Verdict}
 use Rattle.ct_script.specs.Step.{Effect}
 use Rattle.ct_script.specs.Session.{Course}
 use Rattle.ct_script.specs.Answers.{Leads, lines_of, errors_of}
 use Rattle.ct_run.specs.Output.{wrote, IsLeft}
+use Rattle.ct_run.specs.SoFar.{Outcome, ends, stands, Has, AnswersTo, refusal}
 use Rattle.ct_run.specs.Progress.{Progress, AnsweredWith, IsUnanswered, IsCutOff, Adds, WentOn, CameToEnd, BrokeOff}
 use Rattle.ct_run.proofs.WritingLemmas.{append_nil, appended-nothing, nothing_written, wrote-later, IsLeft-later}
-use Rattle.ct_run.proofs.AnswerLemmas.{silence, Answers-after, Leads-after, Leads-one, Answers-one, Answers-last, Answers-none}
+use Rattle.ct_run.proofs.AnswerLemmas.{silence, Answers-after, Leads-after, Leads-one, Answers-one, Answers-none, AnswersTo-after, AnswersTo-last}
 
--- each text has a reading
-abbrev pub SomeText : Type 0
-SomeText = (line : ℕ) (bytes : List ℕ) → (cs : List Located) × (x : Ending) × Reads line bytes cs x
+-- what a reader was fed has some reading
+abbrev pub SomeReading : Type 0
+SomeReading = (u : Unread) → (cs : List Located) × (x : Outcome) × Has u cs x
+
+some_reading_where : ((line : ℕ) (bytes : List ℕ) → (cs : List Located) × (x : Ending) × Reads line bytes cs x) → ((line : ℕ) (bytes : List ℕ) → (cs : List Located) × (x : EndingSoFar) × ReadsSoFar line bytes cs x) → (u : Unread) (b : Bool) → u.ended ≡ b → (cs : List Located) × (x : Outcome) × Has u cs x
+some_reading_where whole so_far u true ended = let r = whole u.line u.bytes in (r.0, ends r.1, (ended, r.2))
+some_reading_where whole so_far u false ended = let r = so_far u.line u.bytes in (r.0, stands r.1, (ended, r.2))
+
+pub some_reading : ((line : ℕ) (bytes : List ℕ) → (cs : List Located) × (x : Ending) × Reads line bytes cs x) → ((line : ℕ) (bytes : List ℕ) → (cs : List Located) × (x : EndingSoFar) × ReadsSoFar line bytes cs x) → SomeReading
+some_reading whole so_far u = some_reading_where whole so_far u u.ended refl
+
+-- an error of the text alone is how it ends, or how it stands so far
+refused_where : (u : Unread) (code line : ℕ) → IsLast u code line → (b : Bool) → u.ended ≡ b → Has u [] (refusal b (line, code))
+refused_where u code line last true ended = (ended, last.ended)
+refused_where u code line last false ended = (
+  ended,
+  subst (λ (b : List ℕ). ReadsSoFar u.line b [] (refused code line)) (append_nil u.bytes) (last.so_far (last.definite ended) []),
+)
+
+pub refused_text : (u : Unread) (code line : ℕ) → IsLast u code line → Has u [] (refusal u.ended (line, code))
+refused_text u code line last = refused_where u code line last u.ended refl
 
 -- nothing was added yet
 adds_nothing : (c : Course) → Adds c c [] []
@@ -50,45 +69,52 @@ WentOn-start p = record {
   written = sym (appended-nothing p.written);
 }
 
--- a text is read to its end: its first command, and then the others
-first_read : (u v : Unread) (first : Located) → IsFirstCommand u v first → (cs : List Located) (x : Ending) → Reads v.line v.bytes cs x → Reads u.line u.bytes (first ∷ cs) x
-first_read u v first is cs x reads =
-    subst (λ (b : List ℕ). Reads u.line b (first ∷ cs) x) (append_nil u.bytes)
-    (is.ended [] cs x (subst (λ (b : List ℕ). Reads v.line b cs x) (sym (append_nil v.bytes)) reads))
+-- what a reader was fed is read: its first command, and then the others
+first_read : (u v : Unread) (first : Located) → IsFirstCommand u v first → v.ended ≡ u.ended → (cs : List Located) (x : Outcome) → Has v cs x → Has u (first ∷ cs) x
+first_read u v first is same cs (ends x) (ended, reads) = (
+  sym same ∙ ended,
+  subst (λ (b : List ℕ). Reads u.line b (first ∷ cs) x) (append_nil u.bytes)
+      (is.ended [] cs x (subst (λ (b : List ℕ). Reads v.line b cs x) (sym (append_nil v.bytes)) reads)),
+)
+first_read u v first is same cs (stands x) (goes_on, reads) = (
+  sym same ∙ goes_on,
+  subst (λ (b : List ℕ). ReadsSoFar u.line b (first ∷ cs) x) (append_nil u.bytes)
+      (is.so_far [] cs x (subst (λ (b : List ℕ). ReadsSoFar v.line b cs x) (sym (append_nil v.bytes)) reads)),
+)
 
 module _ (old mid : Progress) (went : WentOn old mid) where
   -- nothing is left of the text
-  pub ends_there : (new : Course) → new ≡ mid.course → Reads mid.unread.line mid.unread.bytes [] clean → (unread : Unread) → CameToEnd old (record { course = new; unread = unread; written = mid.written })
+  pub ends_there : (new : Course) → new ≡ mid.course → Has mid.unread [] (ends clean) → (unread : Unread) → CameToEnd old (record { course = new; unread = unread; written = mid.written })
   ends_there new same reads unread = record {
     commands = went.commands ++ [];
-    ending = clean;
+    outcome = ends clean;
     verdicts = went.verdicts ++ [];
     errors = went.errors ++ [];
     lines = went.lines ++ [];
-    read = went.read [] clean reads;
+    read = went.read [] (ends clean) reads;
     answered = Answers-after old.course.state mid.course.state old.course.number mid.course.number went.commands [] clean went.verdicts [] went.errors [] went.lines [] went.answered (Answers-none mid.course.state mid.course.number);
     adds = adds_more old.course mid.course new went.verdicts [] went.errors [] went.adds (subst (λ (c : Course). Adds mid.course c [] []) (sym same) (adds_nothing mid.course));
     written = went.written ∙ ap (λ (ls : List (List ℕ)). wrote ls old.written) (sym (append_nil went.lines));
   }
 
   -- memory ran out before the next command was answered
-  pub breaks_before : (some : SomeText) (new : Course) (unread : Unread) (now : Option (List ℕ)) → new ≡ mid.course → now ≡ mid.written → BrokeOff sink.NoMemory old (record { course = new; unread = unread; written = now })
+  pub breaks_before : (some : SomeReading) (new : Course) (unread : Unread) (now : Option (List ℕ)) → new ≡ mid.course → now ≡ mid.written → BrokeOff sink.NoMemory old (record { course = new; unread = unread; written = now })
   breaks_before some new unread now same unwritten =
-      let rest = some mid.unread.line mid.unread.bytes in
+      let rest = some mid.unread in
       record {
         commands = went.commands ++ [];
         rest = rest.0;
-        ending = rest.1;
+        outcome = rest.1;
         verdicts = went.verdicts ++ [];
         errors = went.errors ++ [];
         lines = went.lines ++ [];
-        read = subst (λ (cs : List Located). Reads old.unread.line old.unread.bytes (cs ++ rest.0) rest.1) (sym (append_nil went.commands)) (went.read rest.0 rest.1 rest.2);
+        read = subst (λ (cs : List Located). Has old.unread (cs ++ rest.0) rest.1) (sym (append_nil went.commands)) (went.read rest.0 rest.1 rest.2);
         answered = Answers-after old.course.state mid.course.state old.course.number mid.course.number went.commands [] clean went.verdicts [] went.errors [] went.lines [] went.answered (Answers-none mid.course.state mid.course.number);
         adds = adds_more old.course mid.course new went.verdicts [] went.errors [] went.adds (subst (λ (c : Course). Adds mid.course c [] []) (sym same) (adds_nothing mid.course));
         left = IsLeft-later sink.NoMemory went.lines [] old.written mid.written now went.written (nothing_written [] mid.written now unwritten);
       }
 
-  module _ (new : Progress) (first : Located) (is : IsFirstCommand mid.unread new.unread first) (effect : Effect) (done : AnsweredWith mid.course new.course first.line first.command effect) where
+  module _ (new : Progress) (first : Located) (is : IsFirstCommand mid.unread new.unread first) (same : new.unread.ended ≡ mid.unread.ended) (effect : Effect) (done : AnsweredWith mid.course new.course first.line first.command effect) where
     adds_all : Adds old.course new.course (went.verdicts ++ effect.verdicts) (went.errors ++ errors_of first.line effect.error)
     adds_all = adds_more old.course mid.course new.course went.verdicts effect.verdicts went.errors (errors_of first.line effect.error) went.adds (adds_effect mid.course new.course first.line first.command effect done)
 
@@ -100,8 +126,8 @@ module _ (old mid : Progress) (went : WentOn old mid) where
       errors = went.errors ++ errors_of first.line effect.error;
       lines = went.lines ++ lines_of effect.text;
       read = λ cs x reads.
-          subst (λ (ds : List Located). Reads old.unread.line old.unread.bytes ds x) (sym (append_assoc went.commands (first ∷ []) cs))
-          (went.read (first ∷ cs) x (first_read mid.unread new.unread first is cs x reads));
+          subst (λ (ds : List Located). Has old.unread ds x) (sym (append_assoc went.commands (first ∷ []) cs))
+          (went.read (first ∷ cs) x (first_read mid.unread new.unread first is same cs x reads));
       answered = Leads-after old.course.state mid.course.state new.course.state old.course.number mid.course.number new.course.number went.commands (first ∷ []) went.verdicts effect.verdicts went.errors (errors_of first.line effect.error) went.lines (lines_of effect.text) went.answered
           (subst (λ (c : Course). Leads mid.course.state mid.course.number (first ∷ []) c.state c.number effect.verdicts (errors_of first.line effect.error) (lines_of effect.text)) (sym done.course)
           (Leads-one mid.course.state mid.course.number first effect done.step stop));
@@ -110,36 +136,36 @@ module _ (old mid : Progress) (went : WentOn old mid) where
     }
 
     -- it ends the script
-    pub ends_with_it : (some : SomeText) → effect.stop ≡ true → new.written ≡ wrote (lines_of effect.text) mid.written → CameToEnd old new
+    pub ends_with_it : (some : SomeReading) → effect.stop ≡ true → new.written ≡ wrote (lines_of effect.text) mid.written → CameToEnd old new
     ends_with_it some stop written =
-        let rest = some new.unread.line new.unread.bytes in
+        let rest = some new.unread in
         record {
           commands = went.commands ++ first ∷ rest.0;
-          ending = rest.1;
+          outcome = rest.1;
           verdicts = went.verdicts ++ effect.verdicts;
           errors = went.errors ++ errors_of first.line effect.error;
           lines = went.lines ++ lines_of effect.text;
-          read = went.read (first ∷ rest.0) rest.1 (first_read mid.unread new.unread first is rest.0 rest.1 rest.2);
-          answered = Answers-after old.course.state mid.course.state old.course.number mid.course.number went.commands (first ∷ rest.0) rest.1 went.verdicts effect.verdicts went.errors (errors_of first.line effect.error) went.lines (lines_of effect.text) went.answered
-              (Answers-last mid.course.state mid.course.number first rest.0 rest.1 effect done.step stop);
+          read = went.read (first ∷ rest.0) rest.1 (first_read mid.unread new.unread first is same rest.0 rest.1 rest.2);
+          answered = AnswersTo-after old.course.state mid.course.state old.course.number mid.course.number went.commands (first ∷ rest.0) rest.1 went.verdicts effect.verdicts went.errors (errors_of first.line effect.error) went.lines (lines_of effect.text) went.answered
+              (AnswersTo-last mid.course.state mid.course.number first rest.0 rest.1 effect done.step stop);
           adds = adds_all;
           written = wrote-later went.lines (lines_of effect.text) old.written mid.written new.written went.written written;
         }
 
     -- its line was not written whole
-    pub breaks_in_it : (some : SomeText) (error : SinkError) → IsLeft error (lines_of effect.text) mid.written new.written → BrokeOff error old new
+    pub breaks_in_it : (some : SomeReading) (error : SinkError) → IsLeft error (lines_of effect.text) mid.written new.written → BrokeOff error old new
     breaks_in_it some error left =
-        let rest = some new.unread.line new.unread.bytes in
+        let rest = some new.unread in
         record {
           commands = went.commands ++ first ∷ [];
           rest = rest.0;
-          ending = rest.1;
+          outcome = rest.1;
           verdicts = went.verdicts ++ effect.verdicts;
           errors = went.errors ++ errors_of first.line effect.error;
           lines = went.lines ++ lines_of effect.text;
           read =
-              subst (λ (ds : List Located). Reads old.unread.line old.unread.bytes ds rest.1) (sym (append_assoc went.commands (first ∷ []) rest.0))
-              (went.read (first ∷ rest.0) rest.1 (first_read mid.unread new.unread first is rest.0 rest.1 rest.2));
+              subst (λ (ds : List Located). Has old.unread ds rest.1) (sym (append_assoc went.commands (first ∷ []) rest.0))
+              (went.read (first ∷ rest.0) rest.1 (first_read mid.unread new.unread first is same rest.0 rest.1 rest.2));
           answered = Answers-after old.course.state mid.course.state old.course.number mid.course.number went.commands (first ∷ []) clean went.verdicts effect.verdicts went.errors (errors_of first.line effect.error) went.lines (lines_of effect.text) went.answered
               (Answers-one mid.course.state mid.course.number first effect done.step);
           adds = adds_all;
@@ -147,6 +173,6 @@ module _ (old mid : Progress) (went : WentOn old mid) where
         }
 
   -- an error of the sink came while it was answered
-  pub breaks : (new : Progress) (first : Located) (is : IsFirstCommand mid.unread new.unread first) (some : SomeText) (e : SinkError) → (IsUnanswered e mid.course new.course mid.written new.written ⊎ IsCutOff e mid.course new.course first.line first.command mid.written new.written) → BrokeOff e old new
-  breaks new first is some e (inl u) = subst (λ (e : SinkError). BrokeOff e old new) (sym u.no_memory) (breaks_before some new.course new.unread new.written u.same u.unwritten)
-  breaks new first is some e (inr cut) = breaks_in_it new first is cut.effect cut.answered some e cut.left
+  pub breaks : (new : Progress) (first : Located) (is : IsFirstCommand mid.unread new.unread first) → new.unread.ended ≡ mid.unread.ended → (some : SomeReading) (e : SinkError) → (IsUnanswered e mid.course new.course mid.written new.written ⊎ IsCutOff e mid.course new.course first.line first.command mid.written new.written) → BrokeOff e old new
+  breaks new first is same some e (inl u) = subst (λ (e : SinkError). BrokeOff e old new) (sym u.no_memory) (breaks_before some new.course new.unread new.written u.same u.unwritten)
+  breaks new first is same some e (inr cut) = breaks_in_it new first is same cut.effect cut.answered some e cut.left

@@ -1,5 +1,8 @@
-pub mod Fresh
 pub mod Output
 pub mod Refusal
+pub mod SoFar
 pub mod Progress
 pub mod Run
+pub mod AuditRun
+pub mod Generated
+pub mod Tasks

@@ -3,7 +3,7 @@ use Rattle.std.specs.Prelude.{◌≡◌, ℕ, List, [], ◌++◌, Option}
 use Rattle.ct_io.specs.declared.sink.SinkError.{SinkError}
 use Rattle.ct_io.specs.declared.sink.SinkError.TheVariants as sink
 use Rattle.ct_sexpr.specs.Expression.{Expression}
-use Rattle.ct_sexpr.specs.Text.{Located, Ending, clean, lexical, Reads}
+use Rattle.ct_sexpr.specs.Text.{Located, clean, waiting}
 use Rattle.ct_sexpr.specs.Unread.{Unread}
 use Rattle.ct_engine.specs.declared.verdict.Verdict.{Verdict}
 use Rattle.ct_script.specs.Step.{Effect, Step}
@@ -12,6 +12,7 @@ use Rattle.ct_script.specs.Answers.{Answers, Leads, lines_of}
 use Rattle.ct_run.specs.declared.turn.Ending.{Ending as Ended}
 use Rattle.ct_run.specs.declared.turn.Ending.TheVariants as ended
 use Rattle.ct_run.specs.Output.{wrote, IsLeft}
+use Rattle.ct_run.specs.SoFar.{Outcome, stands, Has, AnswersTo, refusal}
 
 -- what a session has come to, what is left of the script, and what was written
 pub record Progress : Type 0 where
@@ -50,7 +51,7 @@ pub record WentOn (old new : Progress) : Type 0 where
   pub verdicts : List Verdict
   pub errors : List (ℕ × ℕ)
   pub lines : List (List ℕ)
-  pub read : (cs : List Located) (x : Ending) → Reads new.unread.line new.unread.bytes cs x → Reads old.unread.line old.unread.bytes (commands ++ cs) x
+  pub read : (cs : List Located) (x : Outcome) → Has new.unread cs x → Has old.unread (commands ++ cs) x
   pub answered : Leads old.course.state old.course.number commands new.course.state new.course.number verdicts errors lines
   pub adds : Adds old.course new.course verdicts errors
   pub written : new.written ≡ wrote lines old.written
@@ -58,29 +59,30 @@ pub record WentOn (old new : Progress) : Type 0 where
 -- the script was read, answered and written to its end
 pub record CameToEnd (old new : Progress) : Type 0 where
   pub commands : List Located
-  pub ending : Ending
+  pub outcome : Outcome
   pub verdicts : List Verdict
   pub errors : List (ℕ × ℕ)
   pub lines : List (List ℕ)
-  pub read : Reads old.unread.line old.unread.bytes commands ending
-  pub answered : Answers old.course.state old.course.number commands ending verdicts errors lines
+  pub read : Has old.unread commands outcome
+  pub answered : AnswersTo old.course.state old.course.number commands outcome verdicts errors lines
   pub adds : Adds old.course new.course verdicts errors
   pub written : new.written ≡ wrote lines old.written
 
--- nothing is left to answer, or an error of the text alone
+-- nothing is left to answer, or an error of the text alone, or the text goes on beyond what is there
 abbrev pub EndsWith : Progress → Progress → Ended → Type 0
 EndsWith old new ended.Clean = CameToEnd old new
-EndsWith old new (ended.Lexical error) = WentOn old new × Reads new.unread.line new.unread.bytes [] (lexical error.1 error.0)
+EndsWith old new (ended.Lexical error) = WentOn old new × Has new.unread [] (refusal new.unread.ended error)
+EndsWith old new ended.Cut = WentOn old new × Has new.unread [] (stands waiting)
 
 -- an error of the sink ended the script after these commands
 pub record BrokeOff (error : SinkError) (old new : Progress) : Type 0 where
   pub commands : List Located
   pub rest : List Located
-  pub ending : Ending
+  pub outcome : Outcome
   pub verdicts : List Verdict
   pub errors : List (ℕ × ℕ)
   pub lines : List (List ℕ)
-  pub read : Reads old.unread.line old.unread.bytes (commands ++ rest) ending
+  pub read : Has old.unread (commands ++ rest) outcome
   pub answered : Answers old.course.state old.course.number commands clean verdicts errors lines
   pub adds : Adds old.course new.course verdicts errors
   pub left : IsLeft error lines old.written new.written

@@ -40,7 +40,8 @@ IsRefused error status.InputFault errors reported old new = ⊥
 IsRefused error status.Rejected errors reported old new = ⊥
 IsRefused error status.TooLong errors reported old new = ⊥
 
--- how a run ends whose script was answered
+-- how a run ends whose script was answered as far as it was read
 abbrev pub IsConcluded : Ending → Status → List (ℕ × ℕ) → List (ℕ × ℕ) → Option (List ℕ) → Option (List ℕ) → Type 0
 IsConcluded ended.Clean s errors reported old new = (s ≡ status_of_script errors) × (reported ≡ errors) × (new ≡ old)
+IsConcluded ended.Cut s errors reported old new = (s ≡ status.TooLong) × (reported ≡ errors) × (new ≡ old)
 IsConcluded (ended.Lexical error) s errors reported old new = IsRefused error s errors reported old new

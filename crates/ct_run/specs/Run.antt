@@ -1,62 +1,86 @@
 -- What a run of the program does, by the status with which it ends.
-use Rattle.std.specs.Prelude.{◌≡◌, ◌≢◌, ℕ, ◌≤◌, ◌<◌, ◌⊎◌, List, [], ◌∷◌, ◌++◌, length, Option, Some, slice_get}
+use Rattle.std.specs.Prelude.{◌≡◌, ◌≢◌, ℕ, ◌≤◌, ◌<◌, ◌⊎◌, List, [], ◌++◌, length, Option}
 use Rattle.std.specs.List.{concat}
 use Rattle.ct_io.specs.Bytes.{GrewByPrefix, GrewByPart, appended}
 use Rattle.ct_io.specs.declared.status.Status.{Status}
 use Rattle.ct_io.specs.declared.status.Status.TheVariants.{Done, Refused, Usage, InputFault, OutputFault, NoMemory, Rejected, TooLong}
-use Rattle.ct_sexpr.specs.Text.{Located, Ending, clean, Reads}
+use Rattle.ct_sexpr.specs.Text.{Located, Ending, clean, Reads, EndingSoFar, waiting, ReadsSoFar}
+use Rattle.ct_input.specs.Slot.{most_bytes, head}
 use Rattle.ct_engine.specs.declared.verdict.Verdict.{Verdict}
-use Rattle.ct_script.specs.State.{first_state}
-use Rattle.ct_script.specs.Answers.{Answers}
+use Rattle.ct_script.specs.State.{State, first_state}
+use Rattle.ct_script.specs.Answers.{Answers, Leads}
 use Rattle.ct_run.specs.Output.{wrote, BreaksInLine, usage_line}
+use Rattle.ct_run.specs.SoFar.{AnswersSoFar}
 
--- the greatest number of bytes that a slot may hold
-abbrev pub most_bytes : ℕ
-most_bytes = 67108864
-
--- the arguments that name a file: none, for standard input, or one argument that does not begin with `-`
-abbrev pub NamesFile : List (List ℕ) → List ℕ → Type 0
-NamesFile [] name = name ≡ []
-NamesFile (word ∷ []) name = (name ≡ word) × (slice_get word 0 ≢ Some 45)
-NamesFile (word ∷ (next ∷ words)) name = ⊥
-
--- the arguments have none of the forms
-abbrev pub AreFaulty : List (List ℕ) → Type 0
-AreFaulty words = (name : List ℕ) → NamesFile words name → ⊥
-
--- the script that the bytes are is answered by these verdicts, each of which is right where it is given, with these errors, and
--- these lines are written
-pub record IsAnswered (bytes : List ℕ) (verdicts : List Verdict) (errors : List (ℕ × ℕ)) (lines : List (List ℕ)) : Type 0 where
+-- a script that is read whole is answered to its end: its commands are answered by these verdicts, each of which is right where
+-- it is given, with these errors, and these lines are written
+pub record IsAnsweredWhole (bytes : List ℕ) (verdicts : List Verdict) (errors : List (ℕ × ℕ)) (lines : List (List ℕ)) : Type 0 where
+  pub short : length bytes ≤ most_bytes
   pub commands : List Located
   pub ending : Ending
   pub read : Reads 1 bytes commands ending
   pub answered : Answers first_state 0 commands ending verdicts errors lines
 
--- the same of the first commands of the script
-pub record IsAnsweredSoFar (bytes : List ℕ) (verdicts : List Verdict) (errors : List (ℕ × ℕ)) (lines : List (List ℕ)) : Type 0 where
+-- the same of a longer one, which ends in the first bytes, by a command or by an error
+pub record IsAnsweredInHead (bytes : List ℕ) (verdicts : List Verdict) (errors : List (ℕ × ℕ)) (lines : List (List ℕ)) : Type 0 where
+  pub long : most_bytes < length bytes
+  pub commands : List Located
+  pub so_far : EndingSoFar
+  pub read : ReadsSoFar 1 (head bytes) commands so_far
+  pub answered : AnswersSoFar first_state 0 commands so_far verdicts errors lines
+
+-- the script is answered to its end
+abbrev pub IsAnswered : List ℕ → List Verdict → List (ℕ × ℕ) → List (List ℕ) → Type 0
+IsAnswered bytes verdicts errors lines = IsAnsweredWhole bytes verdicts errors lines ⊎ IsAnsweredInHead bytes verdicts errors lines
+
+-- the first commands of a script that is read whole are answered
+pub record IsBegun (bytes : List ℕ) (verdicts : List Verdict) (errors : List (ℕ × ℕ)) (lines : List (List ℕ)) : Type 0 where
+  pub short : length bytes ≤ most_bytes
   pub commands : List Located
   pub rest : List Located
   pub ending : Ending
   pub read : Reads 1 bytes (commands ++ rest) ending
   pub answered : Answers first_state 0 commands clean verdicts errors lines
 
--- the whole script was answered and written
+-- the same of a longer one
+pub record IsBegunInHead (bytes : List ℕ) (verdicts : List Verdict) (errors : List (ℕ × ℕ)) (lines : List (List ℕ)) : Type 0 where
+  pub long : most_bytes < length bytes
+  pub commands : List Located
+  pub rest : List Located
+  pub so_far : EndingSoFar
+  pub read : ReadsSoFar 1 (head bytes) (commands ++ rest) so_far
+  pub answered : Answers first_state 0 commands clean verdicts errors lines
+
+-- the first commands of the script are answered
+abbrev pub IsAnsweredSoFar : List ℕ → List Verdict → List (ℕ × ℕ) → List (List ℕ) → Type 0
+IsAnsweredSoFar bytes verdicts errors lines = IsBegun bytes verdicts errors lines ⊎ IsBegunInHead bytes verdicts errors lines
+
+-- the script was answered to its end, and written
 pub record Finishes (bytes : List ℕ) (verdicts : List Verdict) (errors : List (ℕ × ℕ)) (old new : Option (List ℕ)) : Type 0 where
-  pub short : length bytes ≤ most_bytes
   pub lines : List (List ℕ)
   pub answers : IsAnswered bytes verdicts errors lines
+  pub written : new ≡ wrote lines old
+
+-- the script is longer than what is read of it: every whole command of the first bytes was answered, none of which ends the
+-- script, and written
+pub record IsCut (bytes : List ℕ) (verdicts : List Verdict) (errors : List (ℕ × ℕ)) (old new : Option (List ℕ)) : Type 0 where
+  pub long : most_bytes < length bytes
+  pub commands : List Located
+  pub last : State
+  pub count : ℕ
+  pub lines : List (List ℕ)
+  pub read : ReadsSoFar 1 (head bytes) commands waiting
+  pub answered : Leads first_state 0 commands last count verdicts errors lines
   pub written : new ≡ wrote lines old
 
 -- the run stopped early: as far as it came it answered, and a prefix of that was written, up to a part of the last line where the
 -- sink failed
 pub record StopsEarly (bytes : List ℕ) (verdicts : List Verdict) (errors : List (ℕ × ℕ)) (old new : Option (List ℕ)) : Type 0 where
-  pub short : length bytes ≤ most_bytes
   pub lines : List (List ℕ)
   pub answers : IsAnswered bytes verdicts errors lines ⊎ IsAnsweredSoFar bytes verdicts errors lines
   pub written : GrewByPrefix (concat lines) old new
 
 pub record StopsInLine (bytes : List ℕ) (verdicts : List Verdict) (errors : List (ℕ × ℕ)) (old new : Option (List ℕ)) : Type 0 where
-  pub short : length bytes ≤ most_bytes
   pub lines : List (List ℕ)
   pub answers : IsAnswered bytes verdicts errors lines ⊎ IsAnsweredSoFar bytes verdicts errors lines
   pub written : BreaksInLine lines old new
@@ -70,7 +94,7 @@ DoesNothing verdicts errors old new = (verdicts ≡ []) × (errors ≡ []) × (n
 abbrev pub Solves : List ℕ → Status → List Verdict → List (ℕ × ℕ) → Option (List ℕ) → Option (List ℕ) → Type 0
 Solves bytes Done verdicts errors old new = Finishes bytes verdicts errors old new × (errors ≡ [])
 Solves bytes Refused verdicts errors old new = Finishes bytes verdicts errors old new × (errors ≢ [])
-Solves bytes TooLong verdicts errors old new = (most_bytes < length bytes) × DoesNothing verdicts errors old new
+Solves bytes TooLong verdicts errors old new = IsCut bytes verdicts errors old new
 Solves bytes InputFault verdicts errors old new = DoesNothing verdicts errors old new
 Solves bytes OutputFault verdicts errors old new = StopsInLine bytes verdicts errors old new
 Solves bytes NoMemory verdicts errors old new = StopsEarly bytes verdicts errors old new ⊎ DoesNothing verdicts errors old new
@@ -87,3 +111,14 @@ ReportsUsage Refused verdicts errors old new = ⊥
 ReportsUsage InputFault verdicts errors old new = ⊥
 ReportsUsage Rejected verdicts errors old new = ⊥
 ReportsUsage TooLong verdicts errors old new = ⊥
+
+-- a run that is asked how the program is called: the same line, as it was asked for
+abbrev pub ReportsHelp : Status → List Verdict → List (ℕ × ℕ) → Option (List ℕ) → Option (List ℕ) → Type 0
+ReportsHelp Done verdicts errors old new = (verdicts ≡ []) × (errors ≡ []) × (new ≡ appended usage_line old)
+ReportsHelp OutputFault verdicts errors old new = (verdicts ≡ []) × (errors ≡ []) × GrewByPart usage_line old new
+ReportsHelp NoMemory verdicts errors old new = (verdicts ≡ []) × (errors ≡ []) × GrewByPart usage_line old new
+ReportsHelp Refused verdicts errors old new = ⊥
+ReportsHelp Usage verdicts errors old new = ⊥
+ReportsHelp InputFault verdicts errors old new = ⊥
+ReportsHelp Rejected verdicts errors old new = ⊥
+ReportsHelp TooLong verdicts errors old new = ⊥

@@ -1,12 +1,16 @@
-//! The body of a run: a script is read, and its commands are answered in a session.
+//! The body of a run: what the arguments ask for is done. A script is read and its commands are
+//! answered in a session, or a stored derivation is judged, or a generated script is counted.
 #![tactic(auto)]
 
 mod answer;
-mod input;
+mod audit;
+mod counts;
+mod generated;
 mod report;
 mod solve;
 mod top;
 mod turn;
 
+pub use generated::generate;
 pub use report::{Report, ScriptError, unanswered};
 pub use top::{report_usage, run};

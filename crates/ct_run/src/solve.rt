@@ -1,22 +1,23 @@
-//! A script is answered from its first command to its end.
-ghost use Rattle.std.specs.Prelude.{◌≡◌, ◌≢◌, ℕ, List, [], true, length, Some, OnOk, IfErr, ◌≤◌};
+//! A script is answered from its first command to its end, or as far as it is read.
+ghost use Rattle.std.specs.Prelude.{◌≡◌, ◌≢◌, ℕ, List, [], Some, OnOk, IfErr, ◌≤◌};
 ghost use Rattle.ct_io.specs.Fault.{HasCause, Rose};
 ghost use Rattle.ct_io.specs.declared.status.Status.TheVariants as status;
+ghost use Rattle.ct_input.specs.Slot.{IsReadOf};
 ghost use Rattle.ct_run.specs.Output.{wrote, IsLeft};
 ghost use Rattle.ct_run.specs.Refusal.{IsConcluded, IsRefused, status_of_script, refusal_line};
-ghost use Rattle.ct_run.specs.Run.{most_bytes, Solves};
+ghost use Rattle.ct_run.specs.Run.{Solves};
 
 use crate::answer::write_line;
-use crate::input::{InputError, read_script};
 use crate::report::{Report, ScriptError, status_of, unanswered};
 use crate::turn::{Ending, answer_all};
 use ct_engine::Verdict;
-use ct_io::{Desk, Sink, SinkError, Status};
+use ct_input::{InputError, read_slot};
+use ct_io::{Desk, Sink, SinkError, Slot, Status};
 use ct_script::{Session, refusal_text};
 use ct_sexpr::Reader;
 use std::alloc::Global;
 
-/// Reads the script under the name and answers it.
+/// Reads the script under the name and answers it, as far as it is read.
 pub fn solve<D: Desk, K: Sink>(alloc: Global, name: &str, desk: &mut D, out: &mut K) -> Report
     ensures solved { (bytes : List ℕ) → D.held desk.old name.now ≡ Some bytes
         → Solves bytes result.status result.verdicts.items result.errors.items (K.written out.old) (K.written out.new) }
@@ -34,20 +35,17 @@ pub fn solve<D: Desk, K: Sink>(alloc: Global, name: &str, desk: &mut D, out: &mu
     ensures sink_uncounted { result.status ≢ status.OutputFault
         → K.faults out.new ≡ K.faults out.old }
 {
-    match read_script(alloc, desk, name) {
+    match read_slot(alloc, desk, Slot::Script, name) {
         Ok(mut reader) => answer_script(alloc, &mut reader, out),
         Err(InputError::Fault) => unanswered(alloc, Status::InputFault),
-        Err(InputError::TooLong) => unanswered(alloc, Status::TooLong),
         Err(InputError::NoMemory) => unanswered(alloc, Status::NoMemory),
     }
 }
 
-// Answers the script that the reader was fed.
-fn answer_script<K: Sink>(alloc: Global, reader: &mut Reader, out: &mut K) -> Report
-    requires ended { reader.old.ended ≡ true }
-    requires line { reader.old.line ≡ 1 }
-    requires short { length reader.old.bytes ≤ most_bytes }
-    ensures solved { Solves reader.old.bytes result.status result.verdicts.items result.errors.items (K.written out.old) (K.written out.new) }
+/// Answers the script that the reader was fed, or the first bytes of it.
+pub(crate) fn answer_script<K: Sink>(alloc: Global, reader: &mut Reader, out: &mut K) -> Report
+    ensures solved { (bytes : List ℕ) → IsReadOf bytes reader.old
+        → Solves bytes result.status result.verdicts.items result.errors.items (K.written out.old) (K.written out.new) }
     ensures output { result.status ≡ status.OutputFault → Rose (K.faults out.old) (K.faults out.new) }
     ensures input { result.status ≢ status.InputFault }
     ensures count { K.faults out.old ≤ K.faults out.new }
@@ -68,7 +66,7 @@ fn answer_script<K: Sink>(alloc: Global, reader: &mut Reader, out: &mut K) -> Re
     }
 }
 
-// The report of a script that was answered, by how it ends.
+// The report of a script that was answered as far as it was read, by how it ends.
 fn conclude<K: Sink>(
     alloc: Global,
     verdicts: Vec<Verdict>,
@@ -86,6 +84,7 @@ fn conclude<K: Sink>(
     match ending {
         Ending::Clean => finished(verdicts, errors),
         Ending::Lexical(error) => refuse(alloc, verdicts, errors, error, out),
+        Ending::Cut => too_long(verdicts, errors),
     }
 }
 
@@ -104,6 +103,19 @@ fn finished(verdicts: Vec<Verdict>, errors: Vec<ScriptError>) -> Report
     };
     Report {
         status,
+        verdicts,
+        errors,
+    }
+}
+
+// The report of a script whose first bytes were answered, and do not end it.
+fn too_long(verdicts: Vec<Verdict>, errors: Vec<ScriptError>) -> Report
+    ensures status { result.status ≡ status.TooLong }
+    ensures verdicts { result.verdicts.items ≡ verdicts.items }
+    ensures errors { result.errors.items ≡ errors.items }
+{
+    Report {
+        status: Status::TooLong,
         verdicts,
         errors,
     }

@@ -1,12 +1,20 @@
 //! The program, over any desk and any sink.
 
-ghost use Rattle.std.specs.Prelude.{◌≡◌, ◌≢◌, ℕ, List, [], ◌∷◌, Some, None, IfSome, ◌≤◌};
+ghost use Rattle.std.specs.Prelude.{◌≡◌, ◌≢◌, ℕ, List, [], Some, ◌≤◌};
 ghost use Rattle.ct_io.specs.Fault.{Rose};
 ghost use Rattle.ct_io.specs.declared.status.Status.TheVariants as status;
-ghost use Rattle.ct_run.specs.Run.{NamesFile, AreFaulty, Solves, ReportsUsage};
+ghost use Rattle.ct_arguments.specs.Arguments as arguments;
+ghost use Rattle.ct_arguments.specs.Seen.{task_seen};
+ghost use Rattle.ct_run.specs.Run.{Solves, ReportsUsage, ReportsHelp};
+ghost use Rattle.ct_run.specs.AuditRun.{ReportsAudit};
+ghost use Rattle.ct_run.specs.Generated.{ReportsCounts};
+ghost use Rattle.ct_run.specs.Tasks.{Does, DoesOfSome, IsAudit, IsOfScript, IsWithin};
 
+use crate::audit::audit_files;
+use crate::generated::generate;
 use crate::report::{Report, status_of, unanswered};
 use crate::solve::solve;
+use ct_arguments::{Task, task_of};
 use ct_io::{Desk, Sink, Status, Text, write_all};
 use std::alloc::Global;
 
@@ -15,26 +23,39 @@ const USAGE: &str = "usage: cosmt [FILE | --audit PROOF FILE | --gen N]\n";
 
 /// Runs the program on the words of its command line, without its own name.
 ///
-/// No word, or an empty one, names standard input, and a word that does not begin with `-` names a
-/// file. The script there is answered command by command, up to its end, to `exit` or to an error of
-/// its text. All other words are answered with the line of usage.
+/// One word that is no option names a script, and no word, or an empty one, standard input. The script
+/// is answered command by command, up to its end, to `exit` or to an error of its text. `--audit` with
+/// a derivation and a script judges the one by the other, `--gen` with a number answers a script that
+/// is generated and counts its answers, and `--help` is answered with the line of usage. So are all
+/// other words, with the status of usage.
 pub fn run<D: Desk, K: Sink>(alloc: Global, words: &[Text], desk: &mut D, out: &mut K) -> Report
     // Where the desk tells what it holds under the script's name, the report and what was written are its answers.
-    ensures solved { (name bytes : List ℕ) → NamesFile words.now name → D.held desk.old name ≡ Some bytes
+    ensures solved { (name bytes : List ℕ) → arguments.task_of words.now ≡ arguments.solves name → D.held desk.old name ≡ Some bytes
         → Solves bytes result.status result.verdicts.items result.errors.items (K.written out.old) (K.written out.new) }
-    ensures usage { AreFaulty words.now
+    // The same of a derivation that is judged by a script.
+    ensures audited { (proof script proof_bytes script_bytes : List ℕ) → arguments.task_of words.now ≡ arguments.audits proof script
+        → D.held desk.old proof ≡ Some proof_bytes → D.held desk.old script ≡ Some script_bytes
+        → ReportsAudit proof_bytes script_bytes result.status result.verdicts.items result.errors.items (K.written out.old) (K.written out.new) }
+    ensures generated { (count : ℕ) → arguments.task_of words.now ≡ arguments.generates count
+        → ReportsCounts count result.status result.verdicts.items result.errors.items (K.written out.old) (K.written out.new) }
+    ensures helped { arguments.task_of words.now ≡ arguments.helps
+        → ReportsHelp result.status result.verdicts.items result.errors.items (K.written out.old) (K.written out.new) }
+    ensures usage { arguments.task_of words.now ≡ arguments.faulty
         → ReportsUsage result.status result.verdicts.items result.errors.items (K.written out.old) (K.written out.new) }
 
     // Where the desk tells nothing, as that of the host, there are still bytes, whatever the status, of which the
     // report is right, and what was written where the sink tells it.
-    ensures some_script { (name : List ℕ) → NamesFile words.now name → (bytes : List ℕ)
+    ensures some_script { (name : List ℕ) → arguments.task_of words.now ≡ arguments.solves name → (bytes : List ℕ)
         × Solves bytes result.status result.verdicts.items result.errors.items (K.written out.old) (K.written out.new) }
+    ensures some_files { (proof script : List ℕ) → arguments.task_of words.now ≡ arguments.audits proof script → (proof_bytes : List ℕ) × (script_bytes : List ℕ)
+        × ReportsAudit proof_bytes script_bytes result.status result.verdicts.items result.errors.items (K.written out.old) (K.written out.new) }
 
     // When each status comes, whatever the desk and the sink tell.
-    ensures usage_only { result.status ≡ status.Usage → AreFaulty words.now }
-    ensures rejected { result.status ≢ status.Rejected }
+    ensures usage_only { result.status ≡ status.Usage → arguments.task_of words.now ≡ arguments.faulty }
+    ensures rejected { result.status ≡ status.Rejected → IsAudit (arguments.task_of words.now) }
     ensures done { result.status ≡ status.Done → result.errors.items ≡ [] }
     ensures refused { result.status ≡ status.Refused → result.errors.items ≢ [] }
+    ensures refused_only { result.status ≡ status.Refused → IsOfScript (arguments.task_of words.now) }
     ensures input { result.status ≡ status.InputFault → Rose (D.faults desk.old) (D.faults desk.new) }
     ensures output { result.status ≡ status.OutputFault → Rose (K.faults out.old) (K.faults out.new) }
     ensures counts { (D.faults desk.old ≤ D.faults desk.new) × (K.faults out.old ≤ K.faults out.new) }
@@ -45,9 +66,29 @@ pub fn run<D: Desk, K: Sink>(alloc: Global, words: &[Text], desk: &mut D, out: &
     ensures sink_uncounted { result.status ≢ status.OutputFault
         → K.faults out.new ≡ K.faults out.old }
 {
-    match script_name(words) {
-        Some(name) => solve(alloc, name, desk, out),
-        None => report_usage(alloc, out),
+    match task_of(alloc, words) {
+        Ok(task) => perform(alloc, task, desk, out),
+        Err(_) => unanswered(alloc, Status::NoMemory),
+    }
+}
+
+/// Does what the arguments ask for.
+fn perform<D: Desk, K: Sink>(alloc: Global, task: Task<'_>, desk: &mut D, out: &mut K) -> Report
+    requires within { IsWithin (task_seen task) }
+    ensures does { Does (D.held desk.old) (task_seen task.entry) result.status result.verdicts.items result.errors.items (K.written out.old) (K.written out.new) }
+    ensures of_some { DoesOfSome (task_seen task.entry) result.status result.verdicts.items result.errors.items (K.written out.old) (K.written out.new) }
+    ensures input { result.status ≡ status.InputFault → Rose (D.faults desk.old) (D.faults desk.new) }
+    ensures output { result.status ≡ status.OutputFault → Rose (K.faults out.old) (K.faults out.new) }
+    ensures counts { (D.faults desk.old ≤ D.faults desk.new) × (K.faults out.old ≤ K.faults out.new) }
+    ensures desk_uncounted { result.status ≢ status.InputFault → D.faults desk.new ≡ D.faults desk.old }
+    ensures sink_uncounted { result.status ≢ status.OutputFault → K.faults out.new ≡ K.faults out.old }
+{
+    match task {
+        Task::Solve(name) => solve(alloc, name, desk, out),
+        Task::Audit { proof, script } => audit_files(alloc, proof, script, desk, out),
+        Task::Generate(count) => generate(alloc, count, out),
+        Task::Help => report_help(alloc, out),
+        Task::Faulty => report_usage(alloc, out),
     }
 }
 
@@ -65,25 +106,16 @@ pub fn report_usage<K: Sink>(alloc: Global, out: &mut K) -> Report
     unanswered(alloc, status)
 }
 
-/// The name of the script. `None` where the words have none of the accepted forms.
-fn script_name(words: &[Text]) -> Option<&str>
-    ensures named { IfSome result (λ name. NamesFile words.now name.now) }
-    ensures faulty { result ≡ None → AreFaulty words.now }
+/// The same, where it was asked for.
+fn report_help<K: Sink>(alloc: Global, out: &mut K) -> Report
+    ensures reported { ReportsHelp result.status result.verdicts.items result.errors.items (K.written out.old) (K.written out.new) }
+    ensures output { result.status ≡ status.OutputFault → Rose (K.faults out.old) (K.faults out.new) }
+    ensures count { K.faults out.old ≤ K.faults out.new }
+    ensures uncounted { result.status ≢ status.OutputFault → K.faults out.new ≡ K.faults out.old }
 {
-    match words {
-        [] => Some(""),
-        [word] => file_name(word.as_str()),
-        [_, _, ..] => None,
-    }
-}
-
-/// The word where it may name a file: it does not begin with `-`.
-fn file_name(word: &str) -> Option<&str>
-    ensures named { IfSome result (λ name. NamesFile (word.now ∷ []) name.now) }
-    ensures faulty { result ≡ None → AreFaulty (word.now ∷ []) }
-{
-    if word.as_bytes().first() == Some(&b'-') {
-        return None;
-    }
-    Some(word)
+    let status = match write_all(out, USAGE.as_bytes()) {
+        Ok(()) => Status::Done,
+        Err(error) => status_of(error),
+    };
+    unanswered(alloc, status)
 }

@@ -1,5 +1,5 @@
 //! One command after another.
-ghost use Rattle.std.specs.Prelude.{◌≡◌, true, IfOk, IfErr};
+ghost use Rattle.std.specs.Prelude.{IfOk, IfErr};
 ghost use Rattle.ct_io.specs.Fault.{HasCause};
 ghost use Rattle.ct_run.specs.Progress.{progress, EndsWith, BrokeOff};
 
@@ -15,15 +15,16 @@ pub enum Ending {
     Clean,
     /// With this error.
     Lexical(ScriptError),
+    /// Not in what was read of it.
+    Cut,
 }
 
-/// Answers commands up to the end of the script.
+/// Answers commands up to the end of the script, or of what was read of it.
 pub fn answer_all<K: Sink>(
     reader: &mut Reader,
     session: &mut Session,
     out: &mut K,
 ) -> Result<Ending, SinkError>
-    requires ended { reader.old.ended ≡ true }
     ensures ends { IfOk result (EndsWith (progress session.old reader.old (K.written out.old)) (progress session.new reader.new (K.written out.new))) }
     ensures broke { IfErr result (λ error. BrokeOff error (progress session.old reader.old (K.written out.old)) (progress session.new reader.new (K.written out.new))) }
     ensures cause { HasCause SinkError.Fault (K.faults out.old) (K.faults out.new) result }
@@ -36,7 +37,7 @@ pub fn answer_all<K: Sink>(
                     return Ok(Ending::Clean);
                 }
             }
-            Ok(Next::Need) => unreachable!(),
+            Ok(Next::Need) => return Ok(Ending::Cut),
             Ok(Next::End) => return Ok(Ending::Clean),
             Err(ReadError::Lexical { code, line }) => return Ok(Ending::Lexical((line, code))),
             Err(ReadError::NoMemory) => return Err(SinkError::NoMemory),

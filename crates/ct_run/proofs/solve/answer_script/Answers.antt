@@ -4,11 +4,11 @@ use Rattle.ct_run.proofs.ReportLemmas.{report_concluded, report_broke}
 use Rattle.ct_run.proofs.solve.answer_script.Goals as goal
 
 pub returns-in-Err-clause-solved : goal.returns-in-Err-clause-solved
-returns-in-Err-clause-solved g c =
+returns-in-Err-clause-solved g c = λ bytes of.
     let now : Progress = progress c.answer_all-ending.new.session c.answer_all-ending.new.reader (g.K.Sink.written c.answer_all-ending.new.out) in
-    report_broke c.args.reader.now c.requires.line c.requires.short (g.K.Sink.written c.args.out.now) c.in-Ok.session c.in-Ok.ensures.empty now c.in-Err.error _ _ _ c.status_of.ensures.value c.finish-verdicts.ensures.verdicts c.finish-verdicts.ensures.errors c.in-Err.ensures.broke
+    report_broke bytes c.args.reader.now of (g.K.Sink.written c.args.out.now) c.in-Ok.session c.in-Ok.ensures.empty now c.in-Err.error _ _ _ c.status_of.ensures.value c.finish-verdicts.ensures.verdicts c.finish-verdicts.ensures.errors c.in-Err.ensures.broke
 
 pub returns-in-Ok-ending-clause-solved : goal.returns-in-Ok-ending-clause-solved
-returns-in-Ok-ending-clause-solved g c =
+returns-in-Ok-ending-clause-solved g c = λ bytes of.
     let now : Progress = progress c.answer_all-ending.new.session c.answer_all-ending.new.reader (g.K.Sink.written c.answer_all-ending.new.out) in
-    report_concluded c.args.reader.now c.requires.line c.requires.short (g.K.Sink.written c.args.out.now) c.in-Ok.session c.in-Ok.ensures.empty now c.in-Ok-ending.ending _ _ _ _ _ (c.conclude.ensures.verdicts ∙ c.finish-verdicts.ensures.verdicts) c.finish-verdicts.ensures.errors c.conclude.ensures.concluded c.in-Ok-ending.ensures.ends
+    report_concluded bytes c.args.reader.now of (g.K.Sink.written c.args.out.now) c.in-Ok.session c.in-Ok.ensures.empty now c.in-Ok-ending.ending _ _ _ _ _ (c.conclude.ensures.verdicts ∙ c.finish-verdicts.ensures.verdicts) c.finish-verdicts.ensures.errors c.conclude.ensures.concluded c.in-Ok-ending.ensures.ends

@@ -1,0 +1,20 @@
+use Rattle.std.proofs.Common.{rules, arith, ◌≡◌, Some, Option, subst}
+use Rattle.std.proofs.lemmas.Grind.{common_steps}
+use Rattle.ct_sexpr.specs.Unread.{Unread}
+use Rattle.ct_run.specs.AuditRun.{AreFiles}
+use Rattle.ct_run.proofs.audit.audit_files.Goals as goal
+
+pub returns-in-Ok-Some-clause-audited : goal.returns-in-Ok-Some-clause-audited
+returns-in-Ok-Some-clause-audited g c = λ proof_bytes script_bytes first second.
+    let both : c.in-Ok-Some.field-0 ≡ Some (c.in-Ok-Some.proof, c.in-Ok-Some.script) = first_of (search rules, grind (arith, common_steps)) in
+    c.judge.ensures.audited proof_bytes script_bytes
+    (subst (λ (files : Option (Unread × Unread)). AreFiles proof_bytes script_bytes files) both (c.in-Ok-Some.ensures.held proof_bytes script_bytes first second))
+
+pub returns-in-Ok-Some-clause-some_files : goal.returns-in-Ok-Some-clause-some_files
+returns-in-Ok-Some-clause-some_files g c =
+    let both : c.in-Ok-Some.field-0 ≡ Some (c.in-Ok-Some.proof, c.in-Ok-Some.script) = first_of (search rules, grind (arith, common_steps)) in
+    let fed = c.in-Ok-Some.ensures.fed in (
+      fed.0,
+      fed.1,
+      c.judge.ensures.audited fed.0 fed.1 (subst (λ (files : Option (Unread × Unread)). AreFiles fed.0 fed.1 files) both fed.2),
+    )

@@ -1,0 +1,84 @@
+-- What an audit of a stored derivation does, by the status with which it ends.
+use Rattle.std.specs.Prelude.{◌≡◌, ◌≢◌, ℕ, ◌≤◌, ◌<◌, ◌⊎◌, List, [], length, Option, None, Some, option_to_list}
+use Rattle.ct_io.specs.declared.sink.SinkError.TheVariants as sink
+use Rattle.ct_io.specs.declared.status.Status.{Status}
+use Rattle.ct_io.specs.declared.status.Status.TheVariants.{Done, Refused, Usage, InputFault, OutputFault, NoMemory, Rejected, TooLong}
+use Rattle.ct_sexpr.specs.Unread.{Unread}
+use Rattle.ct_input.specs.Slot.{most_bytes, IsWholeOf}
+use Rattle.ct_engine.specs.declared.verdict.Verdict.{Verdict}
+use Rattle.ct_script.specs.Answers.{lines_of}
+use Rattle.ct_audit.specs.declared.answer.AuditAnswer.{AuditAnswer}
+use Rattle.ct_audit.specs.declared.answer.AuditAnswer.TheVariants.{Verified}
+use Rattle.ct_audit.specs.declared.answer.AuditAnswer.TheVariants as said
+use Rattle.ct_audit.specs.Answer.{audit_text, audit_error}
+use Rattle.ct_audit.specs.Audit.{Audits}
+use Rattle.ct_run.specs.Output.{wrote, IsLeft}
+use Rattle.ct_run.specs.Run.{DoesNothing}
+
+-- one of the two files holds more bytes than are read
+abbrev pub AreTooLong : List ℕ → List ℕ → Type 0
+AreTooLong proof script = (most_bytes < length proof) ⊎ (most_bytes < length script)
+
+-- what is read of the two files: both whole, or nothing where one is too long
+abbrev pub AreFiles : List ℕ → List ℕ → Option (Unread × Unread) → Type 0
+AreFiles proof script None = AreTooLong proof script
+AreFiles proof script (Some readers) = IsWholeOf proof (Some readers.0) × IsWholeOf script (Some readers.1)
+
+-- the two files are read whole, and this is the answer
+pub record IsJudged (proof script : List ℕ) (answer : AuditAnswer) : Type 0 where
+  pub short_proof : length proof ≤ most_bytes
+  pub short_script : length script ≤ most_bytes
+  pub audited : Audits proof script answer
+
+-- there is no verdict, and the answer's error is the only one
+pub record Tells (answer : AuditAnswer) (verdicts : List Verdict) (errors : List (ℕ × ℕ)) : Type 0 where
+  pub no_verdict : verdicts ≡ []
+  pub errors_are : errors ≡ option_to_list (audit_error answer)
+
+-- the answer's line
+abbrev pub answer_line : AuditAnswer → List (List ℕ)
+answer_line answer = lines_of (audit_text answer)
+
+-- how an audit with this answer ends: by its status, the verdicts and errors, and the bytes of the sink before and after it
+abbrev pub ReportsAnswer : AuditAnswer → Status → List Verdict → List (ℕ × ℕ) → Option (List ℕ) → Option (List ℕ) → Type 0
+ReportsAnswer answer Done verdicts errors old new = (answer ≡ Verified) × Tells answer verdicts errors × (new ≡ wrote (answer_line answer) old)
+ReportsAnswer answer Rejected verdicts errors old new = (answer ≢ Verified) × Tells answer verdicts errors × (new ≡ wrote (answer_line answer) old)
+ReportsAnswer answer OutputFault verdicts errors old new = Tells answer verdicts errors × IsLeft sink.Fault (answer_line answer) old new
+ReportsAnswer answer NoMemory verdicts errors old new = Tells answer verdicts errors × IsLeft sink.NoMemory (answer_line answer) old new
+ReportsAnswer answer Refused verdicts errors old new = ⊥
+ReportsAnswer answer Usage verdicts errors old new = ⊥
+ReportsAnswer answer InputFault verdicts errors old new = ⊥
+ReportsAnswer answer TooLong verdicts errors old new = ⊥
+
+-- the status of an answer whose line was written
+abbrev pub status_of_answer : AuditAnswer → Status
+status_of_answer Verified = Done
+status_of_answer (said.Rejected number) = Rejected
+status_of_answer (said.Wrong item code) = Rejected
+
+-- the answer is reported, or memory ran out before that
+abbrev pub Reports : AuditAnswer → Status → List Verdict → List (ℕ × ℕ) → Option (List ℕ) → Option (List ℕ) → Type 0
+Reports answer status verdicts errors old new =
+    ReportsAnswer answer status verdicts errors old new ⊎ ((status ≡ NoMemory) × DoesNothing verdicts errors old new)
+
+-- why nothing was judged
+abbrev pub Prevents : List ℕ → List ℕ → Status → Type 0
+Prevents proof script InputFault = Unit {0}
+Prevents proof script NoMemory = Unit {0}
+Prevents proof script TooLong = AreTooLong proof script
+Prevents proof script Done = ⊥
+Prevents proof script Refused = ⊥
+Prevents proof script Usage = ⊥
+Prevents proof script OutputFault = ⊥
+Prevents proof script Rejected = ⊥
+
+-- the derivation was judged and the answer reported
+pub record Judges (proof script : List ℕ) (status : Status) (verdicts : List Verdict) (errors : List (ℕ × ℕ)) (old new : Option (List ℕ)) : Type 0 where
+  pub answer : AuditAnswer
+  pub judged : IsJudged proof script answer
+  pub reported : ReportsAnswer answer status verdicts errors old new
+
+-- an audit of a derivation and a script of these bytes: the answer is reported, or nothing was judged
+abbrev pub ReportsAudit : List ℕ → List ℕ → Status → List Verdict → List (ℕ × ℕ) → Option (List ℕ) → Option (List ℕ) → Type 0
+ReportsAudit proof script status verdicts errors old new =
+    Judges proof script status verdicts errors old new ⊎ (Prevents proof script status × DoesNothing verdicts errors old new)

@@ -1,0 +1,41 @@
+-- What a run does, by what its arguments ask for.
+use Rattle.std.specs.Prelude.{◌≡◌, ℕ, ◌≤◌, List, Option, Some}
+use Rattle.ct_io.specs.declared.status.Status.{Status}
+use Rattle.ct_engine.specs.declared.verdict.Verdict.{Verdict}
+use Rattle.ct_arguments.specs.Arguments.{Asked, solves, audits, generates, helps, faulty}
+use Rattle.ct_run.specs.Run.{Solves, ReportsUsage, ReportsHelp}
+use Rattle.ct_run.specs.AuditRun.{ReportsAudit}
+use Rattle.ct_run.specs.Generated.{ReportsCounts}
+
+-- a run that was asked for this does so, where the desk tells what it holds under the names
+abbrev pub Does : (List ℕ → Option (List ℕ)) → Asked → Status → List Verdict → List (ℕ × ℕ) → Option (List ℕ) → Option (List ℕ) → Type 0
+Does held (solves name) status verdicts errors old new = (bytes : List ℕ) → held name ≡ Some bytes → Solves bytes status verdicts errors old new
+Does held (audits proof script) status verdicts errors old new =
+    (proof_bytes script_bytes : List ℕ) → held proof ≡ Some proof_bytes → held script ≡ Some script_bytes → ReportsAudit proof_bytes script_bytes status verdicts errors old new
+Does held (generates count) status verdicts errors old new = ReportsCounts count status verdicts errors old new
+Does held helps status verdicts errors old new = ReportsHelp status verdicts errors old new
+Does held faulty status verdicts errors old new = ReportsUsage status verdicts errors old new
+
+-- where the desk tells nothing there are still bytes of which it does so
+abbrev pub DoesOfSome : Asked → Status → List Verdict → List (ℕ × ℕ) → Option (List ℕ) → Option (List ℕ) → Type 0
+DoesOfSome (solves name) status verdicts errors old new = (bytes : List ℕ) × Solves bytes status verdicts errors old new
+DoesOfSome (audits proof script) status verdicts errors old new = (proof_bytes : List ℕ) × (script_bytes : List ℕ) × ReportsAudit proof_bytes script_bytes status verdicts errors old new
+DoesOfSome (generates count) status verdicts errors old new = Unit {0}
+DoesOfSome helps status verdicts errors old new = Unit {0}
+DoesOfSome faulty status verdicts errors old new = Unit {0}
+
+-- an audit is asked for
+abbrev pub IsAudit : Asked → Type 0
+IsAudit asked = (proof : List ℕ) × (script : List ℕ) × (asked ≡ audits proof script)
+
+-- a script is to be answered that a file holds
+abbrev pub IsOfScript : Asked → Type 0
+IsOfScript asked = (name : List ℕ) × (asked ≡ solves name)
+
+-- a script that is to be generated has a number of blocks for which there is one
+abbrev pub IsWithin : Asked → Type 0
+IsWithin (generates count) = (1 ≤ count) × (count ≤ 2000)
+IsWithin (solves name) = Unit {0}
+IsWithin (audits proof script) = Unit {0}
+IsWithin helps = Unit {0}
+IsWithin faulty = Unit {0}
