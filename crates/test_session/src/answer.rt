@@ -45,7 +45,7 @@ fn show_run(
     alloc: Global,
     words: &[Text],
     script: Vec<u8>,
-    setting: Setting,
+    setting: Setting<'_>,
     out: &mut String,
 ) -> Result<(), CaseError> {
     let mut desk = desk_of(alloc, script, setting)?;

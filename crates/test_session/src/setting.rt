@@ -1,34 +1,34 @@
-//! Which calls fail in a run, and how many bytes a call takes at most.
+//! Which calls fail in a run, how many bytes a call takes at most, and the derivation that is audited.
+use crate::script::script_of;
 use ct_cases::{CaseError, number_of, split_word};
 use ct_io::{DeskInMemory, SinkInMemory, Text};
 use ct_sexpr::Sexpr;
 use std::alloc::Global;
 
-/// The numbers of the calls that fail, if any, and the most bytes that a call takes.
+/// The numbers of the calls that fail, if any, the most bytes that a call takes, and the derivation, if there is one.
 #[derive(Clone, Copy)]
-pub struct Setting {
+pub struct Setting<'a> {
     desk_fails: Option<u64>,
     sink_fails: Option<u64>,
     piece: usize,
+    proof: Option<&'a Sexpr>,
 }
 
-impl Setting {
+impl Setting<'_> {
     /// Whether the number of calls of the desk is shown: where one of them fails.
     pub fn counts_calls(self) -> bool {
         self.desk_fails.is_some()
     }
 }
 
-/// Nothing fails, and every call takes all.
-const STEADY: Setting = Setting {
-    desk_fails: None,
-    sink_fails: None,
-    piece: 1 << 30,
-};
-
-/// The setting of these parts.
-pub fn setting_of(parts: &[Sexpr]) -> Result<Setting, CaseError> {
-    let mut setting = STEADY;
+/// The setting of these parts: without any, nothing fails, and every call takes all.
+pub fn setting_of(parts: &[Sexpr]) -> Result<Setting<'_>, CaseError> {
+    let mut setting = Setting {
+        desk_fails: None,
+        sink_fails: None,
+        piece: 1 << 30,
+        proof: None,
+    };
     for part in parts {
         setting = with_part(setting, part)?;
     }
@@ -36,7 +36,7 @@ pub fn setting_of(parts: &[Sexpr]) -> Result<Setting, CaseError> {
 }
 
 /// The setting with one part.
-fn with_part(setting: Setting, part: &Sexpr) -> Result<Setting, CaseError> {
+fn with_part<'a>(setting: Setting<'a>, part: &'a Sexpr) -> Result<Setting<'a>, CaseError> {
     match split_word(part)? {
         ("desk-fails", [call]) => Ok(Setting {
             desk_fails: Some(number_of(call)?),
@@ -50,24 +50,32 @@ fn with_part(setting: Setting, part: &Sexpr) -> Result<Setting, CaseError> {
             piece: number_of(count)? as usize,
             ..setting
         }),
+        ("proof", [proof]) => Ok(Setting {
+            proof: Some(proof),
+            ..setting
+        }),
         _ => Err(CaseError::Bad),
     }
 }
 
-/// A desk with the script under the name `s`.
+/// A desk with the script under the name `s`, and the derivation under the name `p`.
 pub fn desk_of(
     alloc: Global,
     script: Vec<u8>,
-    setting: Setting,
+    setting: Setting<'_>,
 ) -> Result<DeskInMemory, CaseError> {
     let mut files = Vec::new(alloc);
     files.push((Text::new(String::from_str(alloc, "s")?), script))?;
+    if let Some(proof) = setting.proof {
+        let proof = script_of(alloc, proof)?;
+        files.push((Text::new(String::from_str(alloc, "p")?), proof))?;
+    }
     let fails = numbers(alloc, setting.desk_fails)?;
     Ok(DeskInMemory::new(files, fails, setting.piece.max(1)))
 }
 
 /// A sink that has taken nothing.
-pub fn sink_of(alloc: Global, setting: Setting) -> Result<SinkInMemory, CaseError> {
+pub fn sink_of(alloc: Global, setting: Setting<'_>) -> Result<SinkInMemory, CaseError> {
     let fails = numbers(alloc, setting.sink_fails)?;
     Ok(SinkInMemory::new(alloc, fails, setting.piece.max(1)))
 }
