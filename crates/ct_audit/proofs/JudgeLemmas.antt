@@ -1,5 +1,5 @@
 -- What a check of core terms says of the assertions whose core terms they are.
-use Rattle.std.proofs.Common.{◌≡◌, ◌↔◌, List, [], ◌∷◌, drop, All, Some, slice_get, sym, ap}
+use Rattle.std.proofs.Common.{◌≡◌, ◌↔◌, List, [], ◌∷◌, drop, All, slice_get, sym, ap}
 use Rattle.std.specs.List.{AllZip}
 use Rattle.std.proofs.lemmas.Option.{none-some, same_Some}
 use Rattle.ct_sorts.specs.Declarations.{Declarations, bool_sort}

@@ -1,5 +1,5 @@
 -- What an audit says, from what its parts say.
-use Rattle.std.proofs.Common.{◌≡◌, ◌∙◌, ℕ, Bool, true, false, List, [], ◌∷◌, Option, None, Some, Result, Ok, Err, refl, sym, ap, subst}
+use Rattle.std.proofs.Common.{◌≡◌, ◌∙◌, ℕ, Bool, true, false, List, ◌∷◌, Option, None, Some, Result, Ok, Err, refl, sym, ap, subst}
 use Rattle.std.specs.Prelude.{option_map, IfOk}
 use Rattle.ct_sexpr.specs.Expression.{Expression}
 use Rattle.ct_sexpr.specs.Text.{Located, Ending, Reads}

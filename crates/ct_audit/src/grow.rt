@@ -1,5 +1,5 @@
 //! A table of terms grows by the core terms of assertions.
-ghost use Rattle.std.specs.Prelude.{◌≡◌, All, map, IfOk, IsErrOf};
+ghost use Rattle.std.specs.Prelude.{All, map, IfOk, IsErrOf};
 ghost use Rattle.ct_terms.specs.Terms.{AreSorted, IsBoolean};
 ghost use Rattle.ct_terms.specs.TreeFormula.{formula_of};
 ghost use Rattle.ct_stack.specs.Held.{context_in, level_in, IsSoundLevel};

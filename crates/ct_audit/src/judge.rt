@@ -1,5 +1,5 @@
 //! A derivation is judged over the assertions of its check.
-ghost use Rattle.std.specs.Prelude.{◌≡◌, ℕ, All, map, IfOk, IsErrOf, Ok, MatchOption};
+ghost use Rattle.std.specs.Prelude.{◌≡◌, All, map, IfOk, IsErrOf, Ok, MatchOption};
 ghost use Rattle.ct_sexpr.specs.View.{expression_of};
 ghost use Rattle.ct_card.specs.Sizes.{AreSizes};
 ghost use Rattle.ct_terms.specs.Terms.{AreSorted, IsBoolean};

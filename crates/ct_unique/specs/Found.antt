@@ -24,7 +24,7 @@ pub record IsIndexed {S : Type 0} (state : State) (places : IndexMap Key ℕ S) 
   pub stored : (key : Key) (place : ℕ) → get same_key places key ≡ Some place → (pair : Equation) × (slice_get pairs place ≡ Some pair) × (slice_get state.reps pair.left.0 ≡ Some key.left) × (slice_get state.reps pair.right.0 ≡ Some key.right)
   pub listed : (place : ℕ) (pair : Equation) (key : Key) → slice_get pairs place ≡ Some pair → slice_get state.reps pair.left.0 ≡ Some key.left → slice_get state.reps pair.right.0 ≡ Some key.right → get same_key places key ≡ Some place
 
--- no two of the pairs are of the same classes
+-- no two of the pairs are of the same classes, left with left and right with right
 abbrev pub AreOnce : State → List Equation → Type 0
 AreOnce state pairs = (i j : ℕ) (e f : Equation) → slice_get pairs i ≡ Some e → slice_get pairs j ≡ Some f → AreEqual state e.left f.left → AreEqual state e.right f.right → i ≡ j
 

@@ -1,8 +1,8 @@
 -- The least place that has the number of a place: one place more.
-use Rattle.std.proofs.Common.{◌≡◌, ℕ, ◌+◌, ◌-◌, ◌<◌, ◌≤◌, ◌⊎◌, List, [], ◌∷◌, ◌++◌, length, set, slice_index, sym, ap, subst, ◌∙◌, inl, inr, arith, length-set, length-append, eq-or-lt_of_le}
+use Rattle.std.proofs.Common.{◌≡◌, ℕ, ◌+◌, ◌-◌, ◌<◌, ◌≤◌, List, [], ◌∷◌, ◌++◌, length, set, slice_index, sym, ap, subst, ◌∙◌, inl, inr, arith, length-set, length-append, eq-or-lt_of_le}
 use Rattle.std.proofs.lemmas.Bool.{cases_lt, cases_eq}
 use Rattle.ct_values.specs.Partition.{class_at}
-use Rattle.ct_values.specs.Least.{IsLeastFrom, AreLeast, ArePositive, TellsLeast}
+use Rattle.ct_values.specs.Least.{IsLeastFrom, ArePositive, TellsLeast}
 use Rattle.ct_values.proofs.ClassLemmas.{class_at-before, class_at-last}
 use Rattle.ct_values.proofs.FiniteLemmas.{class_at-set_same, class_at-set_other}
 

@@ -1,5 +1,4 @@
-use Rattle.std.proofs.Common.{◌+◌, ◌-◌, ◌≡◌, set, subst, arith}
-use Rattle.ct_values.specs.Partition.{class_at}
+use Rattle.std.proofs.Common.{◌+◌, ◌-◌, ◌≡◌, subst, arith}
 use Rattle.ct_values.specs.Least.{TellsLeast}
 use Rattle.ct_values.proofs.LeastLemmas.{TellsLeast-none, TellsLeast-more}
 use Rattle.ct_values.proofs.least.least_places.Goals as goal
