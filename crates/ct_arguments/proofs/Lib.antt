@@ -1,3 +1,4 @@
 pub mod Judgement
 pub mod CommandLemmas
 pub mod NumberLemmas
+pub mod TaskLemmas

@@ -1,5 +1,5 @@
 -- What the arguments of the command line ask for.
-use Rattle.std.specs.Prelude.{ℕ, Bool, true, false, List, [], Option, Some, None, ◌&&◌, nat_le, if◌then◌else◌, codes}
+use Rattle.std.specs.Prelude.{ℕ, ◌≤◌, Bool, true, false, List, [], Option, Some, None, ◌&&◌, nat_le, if◌then◌else◌, codes}
 use Rattle.std.specs.List.{list_any}
 use Rattle.std.specs.Option.{option_map_or}
 use Rattle.std.specs.Str.Parse.{digits_value}
@@ -54,3 +54,11 @@ refusal help = if help then helps else faulty
 -- the task that the arguments ask for
 unfoldable pub task_of : List (List ℕ) → Asked
 task_of words = if takes cosmt words then meaning (matches_of cosmt words) else refusal (list_any is_help (fault_of cosmt words))
+
+-- a script that is to be generated has from 1 to 2,000 blocks
+abbrev pub IsWithin : Asked → Type 0
+IsWithin (generates count) = (1 ≤ count) × (count ≤ 2000)
+IsWithin (solves name) = Unit {0}
+IsWithin (audits proof script) = Unit {0}
+IsWithin helps = Unit {0}
+IsWithin faulty = Unit {0}

@@ -1,6 +1,6 @@
 //! The tasks, and which of them the arguments ask for.
 
-ghost use Rattle.std.specs.Prelude.{◌≡◌, ◌≢◌, IfOk, option_map, map};
+ghost use Rattle.std.specs.Prelude.{◌≡◌, ◌≢◌, IfOk, option_map};
 ghost use Rattle.clap.specs.Words.{app_of, found_of, rows_of};
 ghost use Rattle.clap.specs.declared.error.kind.ErrorKind.TheVariants.{OutOfMemory};
 ghost use Rattle.ct_arguments.specs.Arguments as spec;
@@ -39,6 +39,7 @@ pub enum Task<'a> {
 /// The only error is out of memory.
 pub fn task_of<'a>(alloc: Global, words: &'a [Text]) -> Result<Task<'a>, ArgumentError>
     ensures task { IfOk result (λ t. task_seen t ≡ spec.task_of words.entry.now) }
+    ensures within { IfOk result (λ t. spec.IsWithin (task_seen t)) }
 {
     match command(alloc)?.try_get_matches_from(words) {
         Ok(matches) => Ok(meaning(&matches)),

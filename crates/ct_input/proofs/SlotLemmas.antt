@@ -1,10 +1,10 @@
 -- A slot that is read piece by piece.
-use Rattle.std.proofs.Common.{◌≡◌, ℕ, ◌+◌, ◌<◌, ◌≤◌, inl, inr, Bool, true, false, List, [], ◌∷◌, ◌++◌, length, take, drop, Option, Some, IfSome, ap, sym, ◌∙◌, subst, arith, length-append}
-use Rattle.std.proofs.Math.Seq.{take-append_seam, take-append-add}
-use Rattle.std.proofs.lemmas.List.{take-append-le, take-append-drop, length-take-le}
-use Rattle.ct_io.specs.Bytes.{ReadsBytes}
+use Rattle.std.proofs.Common.{◌≡◌, ℕ, ◌+◌, ◌<◌, ◌≤◌, inl, inr, true, false, List, [], ◌∷◌, ◌++◌, length, take, drop, Option, None, Some, IfSome, refl, ap, sym, ◌∙◌, subst, arith, length-append, true≢false}
+use Rattle.std.proofs.Math.Seq.{drop-nil, take-append_seam, take-append-add}
+use Rattle.std.proofs.lemmas.List.{drop-drop, take-append-le, take-append-drop, length-take-le}
+use Rattle.ct_io.specs.Bytes.{ReadsBytes, remaining}
 use Rattle.ct_sexpr.specs.Unread.{Unread}
-use Rattle.ct_input.specs.Slot.{most_bytes, HasAll, HasHead, IsReadWhole, IsReadOf}
+use Rattle.ct_input.specs.Slot.{most_bytes, HasAll, HasHead, IsReadWhole, IsReadOf, IsTaken}
 
 -- of all that was left at first, these bytes were read, and the rest is still left
 pub record IsReadUpTo (old : Option (List ℕ)) (bytes : List ℕ) (now : Option (List ℕ)) : Type 0 where
@@ -41,6 +41,38 @@ fed_head old now bytes u before piece n k upto reads few full fed all is =
           ∙ ap (λ (m : ℕ). take m (bytes ++ rest.0)) full
           ∙ ap (take most_bytes) (sym rest.1);
     }
+
+-- what is left after one more piece
+pub taken_more : (old now new : Option (List ℕ)) (total n : ℕ) → now ≡ remaining total old → new ≡ remaining n now → new ≡ remaining (total + n) old
+taken_more old now new total n is next = next ∙ ap (remaining n) is ∙ go old
+  where
+    go : (held : Option (List ℕ)) → remaining n (remaining total held) ≡ remaining (total + n) held
+    go None = refl
+    go (Some bytes) = ap (λ (rest : List ℕ). Some rest) (drop-drop n total bytes)
+
+-- where no more byte comes, all were taken
+pub taken_all : (old now new : Option (List ℕ)) (total n : ℕ) (before piece : List ℕ) → total ≤ most_bytes → now ≡ remaining total old → n ≡ 0 → 0 < length before → IfSome now (λ rest. ReadsBytes rest n before piece) → new ≡ remaining n now → IsTaken old true new
+taken_all old now new total n before piece few is none some reads next = record {
+  count = total + n;
+  few = omega (arith, few, none);
+  rest = taken_more old now new total n is next;
+  beyond = λ e. absurd (true≢false e);
+  spent = λ e. subst (λ (left : Option (List ℕ)). IfSome left (λ bytes. bytes ≡ [])) (sym next) (go now reads);
+}
+  where
+    go : (left : Option (List ℕ)) → IfSome left (λ rest. ReadsBytes rest n before piece) → IfSome (remaining n left) (λ bytes. bytes ≡ [])
+    go None reads = tt
+    go (Some bytes) reads = ap (drop n) (reads.none none some) ∙ drop-nil n
+
+-- where only a part of the piece fits, one byte was taken beyond those that are read
+pub taken_head : (old now new : Option (List ℕ)) (total n : ℕ) → total + n ≡ most_bytes + 1 → now ≡ remaining total old → new ≡ remaining n now → IsTaken old false new
+taken_head old now new total n full is next = record {
+  count = total + n;
+  few = omega (arith, full);
+  rest = taken_more old now new total n is next;
+  beyond = λ e. full;
+  spent = λ e. absurd (true≢false (sym e));
+}
 
 -- a reader that has all bytes and was told their end
 pub whole_of : (bytes : List ℕ) (u v : Unread) → u.line ≡ 1 → v.line ≡ u.line → v.bytes ≡ u.bytes → v.ended ≡ true → HasAll bytes u → (v.line ≡ 1) × IsReadWhole bytes v

@@ -1,5 +1,6 @@
 -- What a reader has of the bytes of a slot, of which no more than a fixed number are read.
-use Rattle.std.specs.Prelude.{◌≡◌, ℕ, ◌≤◌, ◌<◌, ◌⊎◌, true, false, List, take, length, Bool, Option, None, Some}
+use Rattle.std.specs.Prelude.{◌≡◌, ℕ, ◌+◌, ◌≤◌, ◌<◌, ◌⊎◌, true, false, List, [], take, length, Bool, Option, None, Some, IfSome}
+use Rattle.ct_io.specs.Bytes.{remaining}
 use Rattle.ct_sexpr.specs.Unread.{Unread}
 
 -- the most bytes of a slot that are read
@@ -45,3 +46,12 @@ IsFed false bytes u = HasHead bytes u
 abbrev pub IsWholeOf : List ℕ → Option Unread → Type 0
 IsWholeOf bytes None = most_bytes < length bytes
 IsWholeOf bytes (Some u) = (u.line ≡ 1) × IsReadWhole bytes u
+
+-- of the bytes that a slot held the first ones were taken, at most one beyond those that are read, and the others are left: one was
+-- taken beyond them where the reader has not all bytes, and nothing is left where it has
+pub record IsTaken (held : Option (List ℕ)) (whole : Bool) (left : Option (List ℕ)) : Type 0 where
+  pub count : ℕ
+  pub few : count ≤ most_bytes + 1
+  pub rest : left ≡ remaining count held
+  pub beyond : whole ≡ false → count ≡ most_bytes + 1
+  pub spent : whole ≡ true → IfSome left (λ bytes. bytes ≡ [])

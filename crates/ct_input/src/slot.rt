@@ -1,10 +1,10 @@
 //! A slot is read into a reader, up to a fixed number of bytes.
 
-ghost use Rattle.std.specs.Prelude.{◌≡◌, ℕ, List, ◌<◌, ◌≤◌, false, length, Some, IfSome, IfOk, OnOk};
+ghost use Rattle.std.specs.Prelude.{◌≡◌, ℕ, List, ◌<◌, ◌≤◌, false, is_some, length, Some, IfSome, IfOk, OnOk};
 ghost use Rattle.ct_io.specs.Bytes.{ReadsBytes, remaining};
 ghost use Rattle.ct_io.specs.Fault.{HasCause};
 ghost use Rattle.ct_input.specs.Fresh.{fresh};
-ghost use Rattle.ct_input.specs.Slot.{IsFed, IsReadOf, IsWholeOf};
+ghost use Rattle.ct_input.specs.Slot.{IsFed, IsReadOf, IsTaken, IsWholeOf};
 
 use ct_io::{Desk, DeskError, Slot};
 use ct_sexpr::Reader;
@@ -36,6 +36,7 @@ pub fn read_slot<D: Desk>(
 ) -> Result<Reader, InputError>
     ensures fed { IfOk result (λ reader. (bytes : List ℕ) × IsReadOf bytes reader) }
     ensures held { IfOk result (λ reader. (bytes : List ℕ) → D.held desk.old name.now ≡ Some bytes → IsReadOf bytes reader) }
+    ensures taken { IfOk result (λ reader. IsTaken (D.held desk.old name.now) reader.ended (D.left desk.new slot)) }
     ensures names { (n : List ℕ) → D.held desk.new n ≡ D.held desk.old n }
     ensures cause { HasCause InputError.Fault (D.faults desk.old) (D.faults desk.new) result }
 {
@@ -44,7 +45,7 @@ pub fn read_slot<D: Desk>(
 }
 
 /// A reader that was fed the bytes that are held under the name, and their end. `None` where there
-/// are more than 67,108,864.
+/// are more than 67,108,864, and then one byte beyond these is read.
 pub fn read_whole_slot<D: Desk>(
     alloc: Global,
     desk: &mut D,
@@ -53,6 +54,7 @@ pub fn read_whole_slot<D: Desk>(
 ) -> Result<Option<Reader>, InputError>
     ensures fed { IfOk result (λ read. (bytes : List ℕ) × IsWholeOf bytes read) }
     ensures held { IfOk result (λ read. (bytes : List ℕ) → D.held desk.old name.now ≡ Some bytes → IsWholeOf bytes read) }
+    ensures taken { IfOk result (λ read. IsTaken (D.held desk.old name.now) (is_some read) (D.left desk.new slot)) }
     ensures names { (n : List ℕ) → D.held desk.new n ≡ D.held desk.old n }
     ensures cause { HasCause InputError.Fault (D.faults desk.old) (D.faults desk.new) result }
 {
@@ -72,6 +74,7 @@ fn read_to_most<D: Desk>(
     ensures goes_on { IfOk result (λ read. read.0.ended ≡ false) }
     ensures fed { IfOk result (λ read. (bytes : List ℕ) × IsFed read.1 bytes read.0) }
     ensures held { IfOk result (λ read. (bytes : List ℕ) → D.held desk.old name.now ≡ Some bytes → IsFed read.1 bytes read.0) }
+    ensures taken { IfOk result (λ read. IsTaken (D.held desk.old name.now) read.1 (D.left desk.new slot)) }
     ensures names { (n : List ℕ) → D.held desk.new n ≡ D.held desk.old n }
     ensures cause { HasCause InputError.Fault (D.faults desk.old) (D.faults desk.new) result }
 {
@@ -91,6 +94,7 @@ fn ended_or_none(reader: Reader, whole: bool) -> Option<Reader>
     requires goes_on { reader.ended ≡ false }
     requires first { reader.line ≡ 1 }
     ensures read { (bytes : List ℕ) → IsFed whole bytes reader → IsWholeOf bytes result }
+    ensures some { is_some result ≡ whole }
 {
     if !whole {
         return None;
@@ -105,6 +109,7 @@ fn ended_where(reader: Reader, whole: bool) -> Reader
     requires goes_on { reader.ended ≡ false }
     requires first { reader.line ≡ 1 }
     ensures read { (bytes : List ℕ) → IsFed whole bytes reader → IsReadOf bytes result }
+    ensures ended { result.ended ≡ whole }
 {
     let mut reader = reader;
     if whole {
@@ -128,6 +133,7 @@ fn feed_slot<D: Desk>(
     ensures goes_on { OnOk result (reader.new.ended ≡ false) }
     ensures fed { IfOk result (λ whole. (bytes : List ℕ) × IsFed whole bytes reader.new) }
     ensures left { IfOk result (λ whole. (bytes : List ℕ) → D.left desk.old slot ≡ Some bytes → IsFed whole bytes reader.new) }
+    ensures taken { IfOk result (λ whole. IsTaken (D.left desk.old slot) whole (D.left desk.new slot)) }
     ensures names { (n : List ℕ) → D.held desk.new n ≡ D.held desk.old n }
     ensures cause { HasCause InputError.Fault (D.faults desk.old) (D.faults desk.new) result }
 {

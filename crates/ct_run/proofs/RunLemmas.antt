@@ -1,13 +1,6 @@
 -- What each task reports, by its status.
-use Rattle.std.specs.Prelude.{◌&&◌, codes, if◌then◌else◌, option_to_list}
-use Rattle.std.specs.List.{list_any}
-use Rattle.std.specs.Option.{option_map_or}
-use Rattle.std.specs.Str.Parse.{digits_value}
-use Rattle.std.specs.Str.{all_ascii_digits}
-use Rattle.std.proofs.Common.{◌≡◌, ◌≢◌, ℕ, ◌≤◌, inl, inr, Bool, true, false, List, [], Option, None, Some, refl, ap, sym, ◌∙◌, subst, arith}
-use Rattle.std.proofs.Math.Dec.{leb}
-use Rattle.std.proofs.lemmas.Bool.{leb-true}
-use Rattle.clap.specs.Words.{fault_of, first_of, matches_of, takes}
+use Rattle.std.specs.Prelude.{option_to_list}
+use Rattle.std.proofs.Common.{◌≡◌, ◌≢◌, ℕ, inl, inr, List, [], Option, refl, ap, sym, ◌∙◌, subst, arith}
 use Rattle.ct_io.specs.Bytes.{GrewByPart}
 use Rattle.ct_io.specs.declared.sink.SinkError.{SinkError}
 use Rattle.ct_io.specs.declared.sink.SinkError.TheVariants as sink
@@ -16,14 +9,13 @@ use Rattle.ct_io.specs.declared.status.Status.TheVariants as status
 use Rattle.ct_engine.specs.declared.verdict.Verdict.{Verdict}
 use Rattle.ct_audit.specs.declared.answer.AuditAnswer.{AuditAnswer}
 use Rattle.ct_audit.specs.Answer.{audit_error}
-use Rattle.ct_arguments.specs.Arguments.{Asked, solves, audits, generates, helps, faulty, generation, asked_by, meaning, is_help, refusal, task_of}
-use Rattle.ct_arguments.specs.Command.{cosmt}
+use Rattle.ct_arguments.specs.Arguments.{Asked, solves, audits, generates, helps, faulty}
 use Rattle.ct_run.specs.Output.{usage_line}
 use Rattle.ct_run.specs.Refusal.{status_of_error}
 use Rattle.ct_run.specs.Run.{Solves, DoesNothing, ReportsUsage, ReportsHelp}
 use Rattle.ct_run.specs.AuditRun.{ReportsAudit}
 use Rattle.ct_run.specs.Generated.{ReportsCounts}
-use Rattle.ct_run.specs.Tasks.{Does, DoesOfSome, IsAudit, IsOfScript, IsWithin}
+use Rattle.ct_run.specs.Tasks.{Does, DoesOfSome, IsAudit, IsOfScript}
 use Rattle.ct_run.proofs.WritingLemmas.{appended-nothing}
 
 -- the sink failed while the line of usage was written
@@ -140,36 +132,3 @@ comes held (audits proof script) s vs es old new does of_some = audit_comes proo
 comes held (generates count) s vs es old new does of_some = counts_come count s vs es old new does
 comes held helps s vs es old new does of_some = help_comes s vs es old new does
 comes held faulty s vs es old new does of_some = usage_comes s vs es old new does
-
--- what the arguments ask for is within the limit
-within_where : (b c d : Bool) (n : ℕ) → leb 1 n ≡ c → leb n 2000 ≡ d → IsWithin (option_map_or generates (if b && (c && d) then Some n else None) faulty)
-within_where true true true n some few = (leb-true 1 n some, leb-true n 2000 few)
-within_where true true false n some few = tt
-within_where true false d n some few = tt
-within_where false c d n some few = tt
-
-generation_within : (text : List ℕ) → IsWithin (generation text)
-generation_within text = within_where (all_ascii_digits text) (leb 1 (digits_value 10 text)) (leb (digits_value 10 text) 2000) (digits_value 10 text) refl refl
-
-asked_within : (count proof script : Option (List ℕ)) → IsWithin (asked_by count proof script)
-asked_within (Some count) None None = generation_within count
-asked_within (Some count) None (Some script) = tt
-asked_within (Some count) (Some proof) script = tt
-asked_within None (Some proof) (Some script) = tt
-asked_within None (Some proof) None = tt
-asked_within None None (Some script) = tt
-asked_within None None None = tt
-
-refusal_within : (help : Bool) → IsWithin (refusal help)
-refusal_within true = tt
-refusal_within false = tt
-
-taken_within : (b : Bool) (asked other : Asked) → IsWithin asked → IsWithin other → IsWithin (if b then asked else other)
-taken_within true asked other first second = first
-taken_within false asked other first second = second
-
-pub task_within : (words : List (List ℕ)) → IsWithin (task_of words)
-unfolding task_of
-task_within words = taken_within (takes cosmt words) (meaning (matches_of cosmt words)) (refusal (list_any is_help (fault_of cosmt words)))
-    (asked_within (first_of (codes "gen") (matches_of cosmt words)) (first_of (codes "audit") (matches_of cosmt words)) (first_of (codes "file") (matches_of cosmt words)))
-    (refusal_within (list_any is_help (fault_of cosmt words)))

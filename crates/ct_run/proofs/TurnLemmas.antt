@@ -11,7 +11,7 @@ use Rattle.ct_script.specs.Step.{Effect}
 use Rattle.ct_script.specs.Session.{Course}
 use Rattle.ct_script.specs.Answers.{Leads, lines_of, errors_of}
 use Rattle.ct_run.specs.Output.{wrote, IsLeft}
-use Rattle.ct_run.specs.SoFar.{Outcome, ends, stands, Has, AnswersTo, refusal}
+use Rattle.ct_run.specs.SoFar.{Outcome, ends, stands, Has, refusal}
 use Rattle.ct_run.specs.Progress.{Progress, AnsweredWith, IsUnanswered, IsCutOff, Adds, WentOn, CameToEnd, BrokeOff}
 use Rattle.ct_run.proofs.WritingLemmas.{append_nil, appended-nothing, nothing_written, wrote-later, IsLeft-later}
 use Rattle.ct_run.proofs.AnswerLemmas.{silence, Answers-after, Leads-after, Leads-one, Answers-one, Answers-none, AnswersTo-after, AnswersTo-last}

@@ -1,12 +1,12 @@
 -- How a text that may go on is answered as far as it is there.
 use Rattle.std.specs.Prelude.{◌≡◌, ℕ, true, false, Bool, List, [], ◌∷◌}
 use Rattle.std.specs.Bool.{MatchBool}
-use Rattle.ct_sexpr.specs.Text.{Located, Ending, clean, lexical, Reads, EndingSoFar, waiting, refused, ReadsSoFar}
+use Rattle.ct_sexpr.specs.Text.{Located, Ending, lexical, Reads, EndingSoFar, waiting, refused, ReadsSoFar}
 use Rattle.ct_sexpr.specs.Unread.{Unread}
 use Rattle.ct_engine.specs.declared.verdict.Verdict.{Verdict}
 use Rattle.ct_script.specs.State.{State}
 use Rattle.ct_script.specs.Step.{Effect, Step, counted}
-use Rattle.ct_script.specs.Answers.{Answers, IsSilent, IsFollowed, IsEnding, lines_of, errors_of}
+use Rattle.ct_script.specs.Answers.{Answers, IsSilent, IsFollowed, IsEnding}
 
 -- as `Answers`, of a text that may go on: all of it is answered only where a command ends the script, or an error is definite
 abbrev pub AnswersSoFar : State → ℕ → List Located → EndingSoFar → List Verdict → List (ℕ × ℕ) → List (List ℕ) → Type 0

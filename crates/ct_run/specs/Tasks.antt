@@ -1,5 +1,5 @@
 -- What a run does, by what its arguments ask for.
-use Rattle.std.specs.Prelude.{◌≡◌, ℕ, ◌≤◌, List, Option, Some}
+use Rattle.std.specs.Prelude.{◌≡◌, ℕ, List, Option, Some}
 use Rattle.ct_io.specs.declared.status.Status.{Status}
 use Rattle.ct_engine.specs.declared.verdict.Verdict.{Verdict}
 use Rattle.ct_arguments.specs.Arguments.{Asked, solves, audits, generates, helps, faulty}
@@ -31,11 +31,3 @@ IsAudit asked = (proof : List ℕ) × (script : List ℕ) × (asked ≡ audits p
 -- a script is to be answered that a file holds
 abbrev pub IsOfScript : Asked → Type 0
 IsOfScript asked = (name : List ℕ) × (asked ≡ solves name)
-
--- a script that is to be generated has a number of blocks for which there is one
-abbrev pub IsWithin : Asked → Type 0
-IsWithin (generates count) = (1 ≤ count) × (count ≤ 2000)
-IsWithin (solves name) = Unit {0}
-IsWithin (audits proof script) = Unit {0}
-IsWithin helps = Unit {0}
-IsWithin faulty = Unit {0}

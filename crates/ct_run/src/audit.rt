@@ -1,6 +1,6 @@
 //! A stored derivation is judged by its script.
 
-ghost use Rattle.std.specs.Prelude.{◌≡◌, ◌≢◌, ◌≤◌, ℕ, [], List, Some, IfOk, IfErr, OnOk, option_to_list};
+ghost use Rattle.std.specs.Prelude.{◌≡◌, ◌≢◌, ◌≤◌, ℕ, List, Some, IfOk, IfErr, OnOk, option_to_list};
 ghost use Rattle.ct_io.specs.Fault.{HasCause, Rose};
 ghost use Rattle.ct_io.specs.declared.status.Status.TheVariants as status;
 ghost use Rattle.ct_input.specs.Slot.{IsWholeOf};

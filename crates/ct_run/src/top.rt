@@ -8,7 +8,7 @@ ghost use Rattle.ct_arguments.specs.Seen.{task_seen};
 ghost use Rattle.ct_run.specs.Run.{Solves, ReportsUsage, ReportsHelp};
 ghost use Rattle.ct_run.specs.AuditRun.{ReportsAudit};
 ghost use Rattle.ct_run.specs.Generated.{ReportsCounts};
-ghost use Rattle.ct_run.specs.Tasks.{Does, DoesOfSome, IsAudit, IsOfScript, IsWithin};
+ghost use Rattle.ct_run.specs.Tasks.{Does, DoesOfSome, IsAudit, IsOfScript};
 
 use crate::audit::audit_files;
 use crate::generated::generate;
@@ -21,13 +21,13 @@ use std::alloc::Global;
 /// How the program is called.
 const USAGE: &str = "usage: cosmt [FILE | --audit PROOF FILE | --gen N]\n";
 
-/// Runs the program on the words of its command line, without its own name.
+/// Runs the program on the arguments of its command line, without its own name.
 ///
-/// One word that is no option names a script, and no word, or an empty one, standard input. The script
-/// is answered command by command, up to its end, to `exit` or to an error of its text. `--audit` with
-/// a derivation and a script judges the one by the other, `--gen` with a number answers a script that
-/// is generated and counts its answers, and `--help` is answered with the line of usage. So are all
-/// other words, with the status of usage.
+/// One argument that is no option names a script, and no argument, or an empty one, standard input. The
+/// script is answered command by command, up to its end, to `exit` or to an error of its text. `--audit`
+/// with a derivation and a script judges the one by the other, `--gen` with a number answers a script
+/// that is generated and counts its answers, and `--help` is answered with the line of usage. So are all
+/// other arguments, with the status of usage.
 pub fn run<D: Desk, K: Sink>(alloc: Global, words: &[Text], desk: &mut D, out: &mut K) -> Report
     // Where the desk tells what it holds under the script's name, the report and what was written are its answers.
     ensures solved { (name bytes : List ℕ) → arguments.task_of words.now ≡ arguments.solves name → D.held desk.old name ≡ Some bytes
@@ -74,7 +74,7 @@ pub fn run<D: Desk, K: Sink>(alloc: Global, words: &[Text], desk: &mut D, out: &
 
 /// Does what the arguments ask for.
 fn perform<D: Desk, K: Sink>(alloc: Global, task: Task<'_>, desk: &mut D, out: &mut K) -> Report
-    requires within { IsWithin (task_seen task) }
+    requires within { arguments.IsWithin (task_seen task) }
     ensures does { Does (D.held desk.old) (task_seen task.entry) result.status result.verdicts.items result.errors.items (K.written out.old) (K.written out.new) }
     ensures of_some { DoesOfSome (task_seen task.entry) result.status result.verdicts.items result.errors.items (K.written out.old) (K.written out.new) }
     ensures input { result.status ≡ status.InputFault → Rose (D.faults desk.old) (D.faults desk.new) }

@@ -1,4 +1,4 @@
-use Rattle.std.proofs.Common.{◌≡◌, ℕ, List, ◌∙◌}
+use Rattle.std.proofs.Common.{◌∙◌}
 use Rattle.std.proofs.lemmas.Result.{err_from_is_err_and}
 use Rattle.ct_input.proofs.FaultLemmas.{HasCause-passed, HasCause-since}
 use Rattle.ct_input.proofs.slot.read_to_most.Goals as goal

@@ -1,11 +1,8 @@
-use Rattle.std.proofs.Common.{◌≡◌, ℕ, List, Option, Some, refl, sym, ◌∙◌, subst}
+use Rattle.std.proofs.Common.{refl, ◌∙◌, subst}
 use Rattle.ct_arguments.specs.Arguments.{Asked, solves, audits, generates, helps, faulty, task_of}
-use Rattle.ct_run.specs.Tasks.{Does, DoesOfSome, IsWithin}
-use Rattle.ct_run.proofs.RunLemmas.{Comes, comes, does_nothing, does_nothing_of_some, task_within}
+use Rattle.ct_run.specs.Tasks.{Does, DoesOfSome}
+use Rattle.ct_run.proofs.RunLemmas.{comes, does_nothing, does_nothing_of_some}
 use Rattle.ct_run.proofs.top.run.Goals as goal
-
-pub perform-requires : goal.perform-requires
-perform-requires g c = record { within = subst IsWithin (sym c.in-Ok.ensures.task) (task_within c.args.words.now) }
 
 pub returns-in-Ok-clause-solved : goal.returns-in-Ok-clause-solved
 returns-in-Ok-clause-solved g c = λ name bytes asked held. (subst (λ (a : Asked). Does (g.D.Desk.held c.args.desk.now) a c.perform.result.status c.perform.result.verdicts.items c.perform.result.errors.items (g.K.Sink.written c.args.out.now) (g.K.Sink.written c.perform.new.out)) (c.in-Ok.ensures.task ∙ asked) c.perform.ensures.does) bytes held
