@@ -1,23 +1,17 @@
 -- Variables in the order in which they were bound, and from the innermost outwards.
-use Rattle.std.proofs.Common.{◌≡◌, List, [], ◌∷◌, ◌++◌, map, refl, ◌∙◌, ap}
-use Rattle.std.proofs.lemmas.List.{map-append}
+use Rattle.std.proofs.Common.{◌≡◌, ℕ, ◌+◌, List, [], ◌∷◌, ◌++◌, length, drop, refl, sym, ◌∙◌, ap, arith}
+use Rattle.std.proofs.lemmas.List.{drop-drop}
 use Rattle.ct_terms.specs.Formula.{bind}
-use Rattle.ct_check.specs.declared.variables.Bound.{Bound}
-use Rattle.ct_check.specs.Variables.{Variable}
-use Rattle.ct_check.specs.Bounds.{variable_of, scope_of}
 
 -- binding some and then others is binding all of them in order
 pub bind-append : {X : Type 0} (xs ys env : List X) → bind (xs ++ ys) env ≡ bind ys (bind xs env)
 bind-append [] ys env = refl
 bind-append (x ∷ xs) ys env = bind-append xs ys (x ∷ env)
 
--- the variable that was bound last is the innermost
-pub scope_of-last : (bounds : List Bound) (last : Bound) → scope_of (bounds ++ last ∷ []) ≡ variable_of last ∷ scope_of bounds
-scope_of-last bounds last =
-    ap (λ (vs : List Variable). bind vs []) (map-append variable_of bounds (last ∷ []))
-    ∙ bind-append (map variable_of bounds) (variable_of last ∷ []) []
-
--- variables that were bound after others
-pub scope_of_more : (outer inner : List Bound) → scope_of (outer ++ inner) ≡ bind (map variable_of inner) (scope_of outer)
-scope_of_more outer inner =
-    ap (λ (vs : List Variable). bind vs []) (map-append variable_of outer inner) ∙ bind-append (map variable_of outer) (map variable_of inner) []
+-- what was bound last leaves first
+pub drop-bind : {X : Type 0} (xs env : List X) → drop (length xs) (bind xs env) ≡ env
+drop-bind [] env = refl
+drop-bind (x ∷ xs) env =
+    let all = bind xs (x ∷ env) in
+    let more : length (x ∷ xs) ≡ length xs + 1 = omega arith in
+    ap (λ (n : ℕ). drop n all) more ∙ sym (drop-drop 1 (length xs) all) ∙ ap (λ ys. drop 1 ys) (drop-bind xs (x ∷ env))

@@ -1,5 +1,6 @@
 -- The cases of a `match` by what the program holds of them.
-use Rattle.std.proofs.Common.{◌≡◌, ℕ, suc, ◌<◌, List, [], ◌∷◌, ◌++◌, length, get_or, map, Option, None, Ok, Err, Vec, Global, refl, sym, ◌∙◌, ap, arith}
+use Rattle.std.proofs.Common.{◌≡◌, ℕ, suc, ◌<◌, List, [], ◌∷◌, ◌++◌, length, drop, get_or, map, Option, None, Ok, Err, Vec, Global, refl, sym, ◌∙◌, ap, arith}
+use Rattle.std.proofs.lemmas.List.{length-map}
 use Rattle.std.specs.Borrow.{Bor}
 use Rattle.ct_sexpr.specs.declared.sexpr.Sexpr.{Sexpr, List as list_in_memory}
 use Rattle.ct_sexpr.specs.View.{expression_of, expressions_of}
@@ -11,11 +12,12 @@ use Rattle.ct_check.specs.declared.error.CheckError.{CheckError}
 use Rattle.ct_check.specs.declared.error.CheckError.TheVariants.{Refused, NoMemory}
 use Rattle.ct_check.specs.declared.variables.Bound.{Bound}
 use Rattle.ct_check.specs.Answer.{Answers}
-use Rattle.ct_check.specs.Bounds.{scope_of, variable_of, held_name, held_binding}
+use Rattle.ct_check.specs.Bounds.{variable_of, held_name, held_binding}
 use Rattle.ct_check.specs.Trees.{sorted_of, checked_of}
 use Rattle.ct_check.specs.Variables.{Variable, variables}
 use Rattle.ct_check.specs.Patterns.{Binding, pattern}
 use Rattle.ct_check.specs.Elaboration.{part_of, parts_of, meaning, checked_cases}
+use Rattle.ct_check.proofs.BoundLemmas.{drop-bind}
 use Rattle.ct_check.proofs.BindingLemmas.{IsBinding}
 use Rattle.ct_check.proofs.BinderLemmas.{pair_form, two_of}
 use Rattle.ct_check.proofs.CaseLemmas.{IsAt, at_pattern_error, at_term_error}
@@ -25,13 +27,19 @@ pub case_form : (d : Declarations) (c : Sexpr) (items : Vec Sexpr Global) (slice
 case_form d c items slice x t is same long ex et = pair_form d c items slice x t is same (two_of slice x t long ex et)
 
 -- the scope of a case, and of the body of a `let`
-pub case-scope : (outer inner inner_slice all all_slice : List Bound) → inner_slice ≡ inner → scope_of all ≡ bind (map variable_of inner_slice) (scope_of outer) → all_slice ≡ all → scope_of all_slice ≡ bind (map variable_of inner) (scope_of outer)
-case-scope outer inner inner_slice all all_slice ei is ea = ap scope_of ea ∙ is ∙ ap (λ (xs : List Bound). bind (map variable_of xs) (scope_of outer)) ei
+pub case-scope : (outer scope : List Variable) (inner inner_slice : List Bound) → outer ≡ scope → inner_slice ≡ inner → bind (map variable_of inner_slice) outer ≡ bind (map variable_of inner) scope
+case-scope outer scope inner inner_slice back ei = ap (bind (map variable_of inner_slice)) back ∙ ap (λ (xs : List Bound). bind (map variable_of xs) scope) ei
 
-pub inner-scope : (outer : List Bound) (names names_slice : List (Option (Bor (List ℕ)))) (sorts sorts_slice : List SortId) (inner inner_slice all all_slice : List Bound) → names_slice ≡ names → sorts_slice ≡ sorts → map variable_of inner ≡ variables (map held_name names_slice) sorts_slice → inner_slice ≡ inner → scope_of all ≡ bind (map variable_of inner_slice) (scope_of outer) → all_slice ≡ all → scope_of all_slice ≡ bind (variables (map held_name names) sorts) (scope_of outer)
-inner-scope outer names names_slice sorts sorts_slice inner inner_slice all all_slice en es is ei whole ea =
-    case-scope outer inner inner_slice all all_slice ei whole ea
-    ∙ ap (λ (vs : List Variable). bind vs (scope_of outer)) (is ∙ ap (λ (ns : List (Option (Bor (List ℕ)))). variables (map held_name ns) sorts_slice) en ∙ ap (λ (ss : List SortId). variables (map held_name names) ss) es)
+pub inner-scope : (outer scope : List Variable) (names names_slice : List (Option (Bor (List ℕ)))) (sorts sorts_slice : List SortId) (inner inner_slice : List Bound) → outer ≡ scope → names_slice ≡ names → sorts_slice ≡ sorts → map variable_of inner ≡ variables (map held_name names_slice) sorts_slice → inner_slice ≡ inner → bind (map variable_of inner_slice) outer ≡ bind (variables (map held_name names) sorts) scope
+inner-scope outer scope names names_slice sorts sorts_slice inner inner_slice back en es is ei =
+    case-scope outer scope inner inner_slice back ei
+    ∙ ap (λ (vs : List Variable). bind vs scope) (is ∙ ap (λ (ns : List (Option (Bor (List ℕ)))). variables (map held_name ns) sorts_slice) en ∙ ap (λ (ss : List SortId). variables (map held_name names) ss) es)
+
+-- variables that were bound, and left after a term
+pub left_again : (inner : List Bound) (scope entered after left : List Variable) (count : ℕ) → entered ≡ bind (map variable_of inner) scope → after ≡ entered → count ≡ length inner → left ≡ drop count after → left ≡ scope
+left_again inner scope entered after left count bound back long rest =
+    let counted : count ≡ length (map variable_of inner) = long ∙ sym (length-map inner variable_of) in
+    rest ∙ ap (drop count) (back ∙ bound) ∙ ap (λ (n : ℕ). drop n (bind (map variable_of inner) scope)) counted ∙ drop-bind (map variable_of inner) scope
 
 -- one more of each
 pub one_more_each : {X Y : Type 0} (xs : List X) (ys : List Y) (x : X) (y : Y) → length xs ≡ length ys → length (xs ++ x ∷ []) ≡ length (ys ++ y ∷ [])

@@ -1,4 +1,5 @@
 pub mod BoundLemmas
+pub mod StackLemmas
 pub mod MetLemmas
 pub mod TakenLemmas
 pub mod BinderLemmas

@@ -17,10 +17,6 @@ held_name name = option_map (λ (text : Bor (List ℕ)). text.now) name
 abbrev pub variable_of : Bound → Variable
 variable_of b = record { name = held_name b.name; sort = b.sort }
 
--- the variables in scope, from the innermost outwards
-abbrev pub scope_of : List Bound → List Variable
-scope_of bounds = bind (map variable_of bounds) []
-
 -- the variable that a parameter is
 abbrev pub variable_of_param : Param → Variable
 variable_of_param p = record { name = Some p.name; sort = p.sort }

@@ -14,3 +14,4 @@ pub mod Heads
 pub mod Trees
 pub mod Arguments
 pub mod Binders
+pub mod Stack

@@ -3,7 +3,6 @@ ghost use Rattle.std.specs.Prelude.{◌≡◌, List, None, IfOk};
 ghost use Rattle.ct_sexpr.specs.View.{expression_of, expressions_of};
 ghost use Rattle.ct_sorts.specs.Lookup.{IsSymbol};
 ghost use Rattle.ct_check.specs.Answer.{Answers, Leads, same};
-ghost use Rattle.ct_check.specs.Bounds.{scope_of};
 ghost use Rattle.ct_check.specs.Elaboration.{part_of, parts_of, list_meaning, reserved, application, qualified, qualified_symbol, tester, headed, is_text, may_qualify, takes, operated, global, applied_symbol, tested_term};
 ghost use Rattle.ct_check.specs.Heads.{headed_by, IsDeclared};
 ghost use Rattle.ct_check.specs.Parts.{Parts, with_part, no_parts, name_of, count};
@@ -20,8 +19,8 @@ use crate::callees::{Callee, takes};
 use crate::error::CheckError;
 use crate::operator::Operator;
 use crate::refusals::{OUT_OF_SCOPE, UNKNOWN_SYMBOL, WRONG_COUNT, WRONG_SORT};
+use crate::stack::Variables;
 use crate::symbols::{argument_count, ctor_named, operator_of, result_sort, symbol_named};
-use crate::variables::{Bound, find};
 use ct_sexpr::{Sexpr, is_reserved};
 use ct_sorts::{CtorId, Signature, Symbol};
 
@@ -47,14 +46,14 @@ pub(crate) enum Head {
 /// What the first item of a list with these others says of the list.
 pub(crate) fn head_of(
     sig: &Signature,
-    variables: &[Bound],
+    variables: &Variables,
     head: &Sexpr,
     args: &[Sexpr],
 ) -> Result<Head, CheckError>
     ensures value { Leads (list_meaning sig.now (with_part (part_of sig.now
         (expression_of head.now)) (parts_of sig.now (expressions_of args.now)))
-        (scope_of variables.now))
-        (λ h. headed_by sig.now (scope_of variables.now) h (parts_of sig.now
+        variables.now)
+        (λ h. headed_by sig.now variables.now h (parts_of sig.now
         (expressions_of args.now))) result }
     ensures inside { IfOk result (IsDeclared sig.now) }
 {
@@ -74,13 +73,13 @@ pub(crate) fn head_of(
 // A simple symbol at the head of a list.
 fn word_head(
     sig: &Signature,
-    variables: &[Bound],
+    variables: &Variables,
     word: &[u8],
     args: &[Sexpr],
 ) -> Result<Head, CheckError>
-    ensures value { Leads (headed sig.now (scope_of variables.now) (symbol word.now)
+    ensures value { Leads (headed sig.now variables.now (symbol word.now)
         (parts_of sig.now (expressions_of args.now)))
-        (λ h. headed_by sig.now (scope_of variables.now) h (parts_of sig.now
+        (λ h. headed_by sig.now variables.now h (parts_of sig.now
         (expressions_of args.now))) result }
     ensures inside { IfOk result (IsDeclared sig.now) }
 {
@@ -93,13 +92,13 @@ fn word_head(
 // A reserved word at the head of a list.
 fn reserved_head(
     sig: &Signature,
-    variables: &[Bound],
+    variables: &Variables,
     word: &[u8],
     args: &[Sexpr],
 ) -> Result<Head, CheckError>
-    ensures value { Leads (reserved sig.now (scope_of variables.now) word.now (parts_of sig.now
+    ensures value { Leads (reserved sig.now variables.now word.now (parts_of sig.now
         (expressions_of args.now)))
-        (λ h. headed_by sig.now (scope_of variables.now) h (parts_of sig.now
+        (λ h. headed_by sig.now variables.now h (parts_of sig.now
         (expressions_of args.now))) result }
     ensures inside { IfOk result (IsDeclared sig.now) }
 {
@@ -115,16 +114,16 @@ fn reserved_head(
 // A name at the head of a list: no variable, but an operator or a symbol.
 fn name_head(
     sig: &Signature,
-    variables: &[Bound],
+    variables: &Variables,
     name: &[u8],
     args: usize,
 ) -> Result<Head, CheckError>
     ensures value { (ps : Parts) → count ps ≡ args → Leads (application sig.now
-        (scope_of variables.now) name.now ps)
-        (λ h. headed_by sig.now (scope_of variables.now) h ps) result }
+        variables.now name.now ps)
+        (λ h. headed_by sig.now variables.now h ps) result }
     ensures inside { IfOk result (IsDeclared sig.now) }
 {
-    if find(variables, name).is_some() {
+    if variables.find(name).is_some() {
         return Err(CheckError::Refused(UNKNOWN_SYMBOL));
     }
     match operator_of(name) {
@@ -201,13 +200,13 @@ fn tester_head(c: CtorId, args: usize) -> Result<Head, CheckError>
 // A list at the head of a list: a tester, or a qualified symbol.
 fn list_head(
     sig: &Signature,
-    variables: &[Bound],
+    variables: &Variables,
     items: &[Sexpr],
     args: usize,
 ) -> Result<Head, CheckError>
     ensures value { (ps : Parts) → count ps ≡ args → Leads (qualified sig.now
-        (scope_of variables.now) (parts_of sig.now (expressions_of items.now)) ps)
-        (λ h. headed_by sig.now (scope_of variables.now) h ps) result }
+        variables.now (parts_of sig.now (expressions_of items.now)) ps)
+        (λ h. headed_by sig.now variables.now h ps) result }
     ensures inside { IfOk result (IsDeclared sig.now) }
 {
     let [word, others @ ..] = items else {
@@ -272,10 +271,10 @@ fn is_named(wanted: &[u8], expr: &Sexpr) -> bool
 // The symbol of `(as f S)`, by its items without `as`.
 fn qualified_symbol(
     sig: &Signature,
-    variables: &[Bound],
+    variables: &Variables,
     items: &[Sexpr],
 ) -> Result<Symbol, CheckError>
-    ensures value { Answers same (qualified_symbol sig.now (scope_of variables.now)
+    ensures value { Answers same (qualified_symbol sig.now variables.now
         (parts_of sig.now (expressions_of items.now))) result }
     ensures inside { IfOk result (IsSymbol sig.now) }
 {
@@ -288,11 +287,11 @@ fn qualified_symbol(
 // The symbol of `(as f S)`, by f and S.
 fn qualified_name(
     sig: &Signature,
-    variables: &[Bound],
+    variables: &Variables,
     f: &Sexpr,
     sort: &Sexpr,
 ) -> Result<Symbol, CheckError>
-    ensures value { Answers same (qualified_symbol sig.now (scope_of variables.now) (with_part
+    ensures value { Answers same (qualified_symbol sig.now variables.now (with_part
         (part_of sig.now (expression_of f.now)) (with_part (part_of sig.now
         (expression_of sort.now)) no_parts))) result }
     ensures inside { IfOk result (IsSymbol sig.now) }
@@ -300,7 +299,7 @@ fn qualified_name(
     let Some(name) = name_of(f) else {
         return Err(CheckError::Refused(OUT_OF_SCOPE));
     };
-    if find(variables, name).is_some() {
+    if variables.find(name).is_some() {
         return Err(CheckError::Refused(UNKNOWN_SYMBOL));
     }
     let symbol = qualifiable(sig, name)?;

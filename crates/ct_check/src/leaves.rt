@@ -3,7 +3,6 @@ ghost use Rattle.std.specs.Prelude.{◌≡◌};
 ghost use Rattle.ct_sexpr.specs.View.{expression_of};
 ghost use Rattle.ct_sorts.specs.Lookup.{IsSymbol};
 ghost use Rattle.ct_check.specs.Answer.{Answers};
-ghost use Rattle.ct_check.specs.Bounds.{scope_of};
 ghost use Rattle.ct_check.specs.Parts.{name_of};
 ghost use Rattle.ct_check.specs.Symbols.{symbol_of};
 ghost use Rattle.ct_check.specs.Elaboration.{part_of, lone, lone_global, lone_symbol};
@@ -12,9 +11,9 @@ ghost use Rattle.ct_check.specs.Trees.{sorted_of};
 use crate::atoms::name_of;
 use crate::error::CheckError;
 use crate::refusals::{OUT_OF_SCOPE, UNKNOWN_SYMBOL, WRONG_COUNT};
+use crate::stack::Variables;
 use crate::symbols::{argument_count, operator_of, result_sort, symbol_named};
 use crate::trees::symbol_tree;
-use crate::variables::{Bound, find};
 use ct_sexpr::Sexpr;
 use ct_sorts::{Signature, SortId, Symbol};
 use ct_terms::Tree;
@@ -24,16 +23,16 @@ use std::alloc::Global;
 pub(crate) fn lone(
     alloc: Global,
     sig: &Signature,
-    variables: &[Bound],
+    variables: &Variables,
     expr: &Sexpr,
 ) -> Result<(Tree, SortId), CheckError>
-    ensures value { Answers sorted_of (lone sig.now (scope_of variables.now) (name_of
+    ensures value { Answers sorted_of (lone sig.now variables.now (name_of
         (part_of sig.now (expression_of expr.now)))) result }
 {
     let Some(name) = name_of(expr) else {
         return Err(CheckError::Refused(OUT_OF_SCOPE));
     };
-    match find(variables, name) {
+    match variables.find(name) {
         Some(found) => Ok((Tree::Var(found.number), found.sort)),
         None => lone_global(alloc, sig, name),
     }

@@ -16,6 +16,7 @@ mod refusals;
 mod repeats;
 mod scope;
 mod sorting;
+mod stack;
 mod symbols;
 mod terms;
 mod theorems;

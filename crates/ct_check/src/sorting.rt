@@ -8,6 +8,7 @@ ghost use Rattle.ct_check.specs.Elaboration.{elaborated, sort_of};
 use crate::atoms::named_sort;
 use crate::error::CheckError;
 use crate::scope::{Param, Scope};
+use crate::stack::Variables;
 use crate::terms::term;
 use crate::variables::parameters;
 use ct_sexpr::Sexpr;
@@ -33,10 +34,9 @@ pub fn sort_of(scope: &Scope, expr: &Sexpr) -> Result<SortId, CheckError>
 /// unknown symbol, 22 wrong number of arguments, 23 wrong sort, 25 pattern of another sort, 26
 /// `match` not exhaustive, 27 variable repeated, 28 form out of scope. Or memory runs out.
 ///
-/// The time is linear in the expression but for its names and its cases: a name is looked for among
-/// the variables in scope from the innermost outwards, each `let` and each case copies the list of
-/// these, the names that one of them binds are compared with one another, and each constructor of
-/// the sort of a `match` is looked for among its patterns.
+/// The time is linear in the expression but for its cases: each constructor of the sort of a `match`
+/// is looked for among its patterns. A name is looked for in about constant time, and a binder costs
+/// what it binds.
 pub fn elaborate(
     alloc: Global,
     scope: &Scope,
@@ -49,6 +49,8 @@ pub fn elaborate(
     ensures refused { (n : ℕ) → IsErrOf result (CheckError.Refused n)
         → elaborated scope.now.sig (parameters params.now) (expression_of expr.now) ≡ Err n }
 {
-    let variables = parameters(alloc, params)?;
-    term(alloc, &scope.sig, variables.as_slice(), expr)
+    let bounds = parameters(alloc, params)?;
+    let mut variables = Variables::new(alloc);
+    variables.enter(bounds.as_slice())?;
+    term(alloc, &scope.sig, &mut variables, expr)
 }

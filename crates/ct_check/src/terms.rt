@@ -1,9 +1,10 @@
 //! Expressions with variables in scope, as trees with their sorts.
-ghost use Rattle.std.specs.Prelude.{◌≡◌, length, None, IfOk, IfErr};
+ghost use Rattle.std.specs.Prelude.{◌≡◌, map, length, None, IfOk, IfErr};
+ghost use Rattle.ct_terms.specs.Formula.{bind};
 ghost use Rattle.ct_sexpr.specs.View.{expression_of, expressions_of};
 ghost use Rattle.ct_check.specs.Answer.{Answers};
 ghost use Rattle.ct_check.specs.Arguments.{met, AreHeld};
-ghost use Rattle.ct_check.specs.Bounds.{scope_of};
+ghost use Rattle.ct_check.specs.Bounds.{variable_of};
 ghost use Rattle.ct_check.specs.Elaboration.{elaborated, parts_of, list_meaning, annotated, let_form, bound_terms, match_form, checked_cases};
 ghost use Rattle.ct_check.specs.Trees.{sorted_of, sorted_list, checked_of};
 
@@ -15,7 +16,8 @@ use crate::heads::{Head, head_of};
 use crate::leaves::{lone, lone_symbol};
 use crate::patterns::{bounds, matchable, pattern};
 use crate::refusals::{OUT_OF_SCOPE, WRONG_SORT};
-use crate::variables::{Bound, extended};
+use crate::stack::Variables;
+use crate::variables::Bound;
 use ct_sexpr::Sexpr;
 use ct_sorts::{Signature, SortId};
 use ct_terms::Tree;
@@ -26,11 +28,12 @@ use std::alloc::Global;
 pub(crate) fn term<'e>(
     alloc: Global,
     sig: &Signature,
-    variables: &[Bound<'e>],
+    variables: &mut Variables<'e>,
     expr: &'e Sexpr,
 ) -> Result<(Tree, SortId), CheckError>
-    ensures value { Answers sorted_of (elaborated sig.now (scope_of variables.now)
+    ensures value { Answers sorted_of (elaborated sig.now variables.old
         (expression_of expr.now)) result }
+    ensures restored { variables.new ≡ variables.old }
 {
     match expr {
         Sexpr::List(items) => list(alloc, sig, variables, items.as_slice()),
@@ -50,11 +53,12 @@ pub(crate) fn term<'e>(
 fn list<'e>(
     alloc: Global,
     sig: &Signature,
-    variables: &[Bound<'e>],
+    variables: &mut Variables<'e>,
     items: &'e [Sexpr],
 ) -> Result<(Tree, SortId), CheckError>
     ensures value { Answers sorted_of (list_meaning sig.now (parts_of sig.now
-        (expressions_of items.now)) (scope_of variables.now)) result }
+        (expressions_of items.now)) variables.old) result }
+    ensures restored { variables.new ≡ variables.old }
 {
     let [first, args @ ..] = items else {
         return Err(CheckError::Refused(OUT_OF_SCOPE));
@@ -84,11 +88,12 @@ fn list<'e>(
 fn annotated<'e>(
     alloc: Global,
     sig: &Signature,
-    variables: &[Bound<'e>],
+    variables: &mut Variables<'e>,
     args: &'e [Sexpr],
 ) -> Result<(Tree, SortId), CheckError>
-    ensures value { Answers sorted_of (annotated sig.now (scope_of variables.now) (parts_of sig.now
+    ensures value { Answers sorted_of (annotated sig.now variables.old (parts_of sig.now
         (expressions_of args.now))) result }
+    ensures restored { variables.new ≡ variables.old }
 {
     let [expr, attributes @ ..] = args else {
         return Err(CheckError::Refused(OUT_OF_SCOPE));
@@ -104,12 +109,13 @@ fn annotated<'e>(
 fn terms<'e>(
     alloc: Global,
     sig: &Signature,
-    variables: &[Bound<'e>],
+    variables: &mut Variables<'e>,
     exprs: &'e [Sexpr],
 ) -> Result<Elaborated, CheckError>
-    ensures held { IfOk result (λ t. AreHeld (met sig.now (scope_of variables.now) (parts_of sig.now
+    ensures held { IfOk result (λ t. AreHeld (met sig.now variables.old (parts_of sig.now
         (expressions_of exprs.now))) t.trees.items t.sorts.items t.error) }
     ensures err { IfErr result (λ e. e ≡ CheckError.NoMemory) }
+    ensures restored { variables.new ≡ variables.old }
 {
     let mut trees = Vec::with_capacity(alloc, exprs.len())?;
     let mut sorts = Vec::with_capacity(alloc, exprs.len())?;
@@ -134,11 +140,12 @@ fn terms<'e>(
 fn let_form<'e>(
     alloc: Global,
     sig: &Signature,
-    variables: &[Bound<'e>],
+    variables: &mut Variables<'e>,
     args: &'e [Sexpr],
 ) -> Result<(Tree, SortId), CheckError>
-    ensures value { Answers sorted_of (let_form sig.now (scope_of variables.now) (parts_of sig.now
+    ensures value { Answers sorted_of (let_form sig.now variables.old (parts_of sig.now
         (expressions_of args.now))) result }
+    ensures restored { variables.new ≡ variables.old }
 {
     if args.len() != 2 {
         return Err(CheckError::Refused(OUT_OF_SCOPE));
@@ -152,9 +159,27 @@ fn let_form<'e>(
     let names = binding_names(alloc, bindings)?;
     let (trees, sorts) = bound_terms(alloc, sig, variables, bindings)?;
     let inner = bounds(alloc, names.as_slice(), sorts.as_slice())?;
-    let all = extended(alloc, variables, inner.as_slice())?;
-    let (tree, sort) = term(alloc, sig, all.as_slice(), body)?;
+    let (tree, sort) = under(alloc, sig, variables, inner.as_slice(), body)?;
     Ok((let_tree(alloc, trees, tree)?, sort))
+}
+
+// A term where these variables are in scope too, the last of them as the innermost.
+#[cycle(terms)]
+fn under<'e>(
+    alloc: Global,
+    sig: &Signature,
+    variables: &mut Variables<'e>,
+    inner: &[Bound<'e>],
+    body: &'e Sexpr,
+) -> Result<(Tree, SortId), CheckError>
+    ensures value { Answers sorted_of (elaborated sig.now (bind (map variable_of inner.now)
+        variables.old) (expression_of body.now)) result }
+    ensures restored { variables.new ≡ variables.old }
+{
+    variables.enter(inner)?;
+    let answer = term(alloc, sig, variables, body);
+    variables.leave(inner.len());
+    answer
 }
 
 // The terms of bindings, in order, and their sorts.
@@ -162,12 +187,13 @@ fn let_form<'e>(
 fn bound_terms<'e>(
     alloc: Global,
     sig: &Signature,
-    variables: &[Bound<'e>],
+    variables: &mut Variables<'e>,
     bindings: &'e [Sexpr],
 ) -> Result<(Vec<Tree>, Vec<SortId>), CheckError>
-    ensures value { Answers sorted_list (bound_terms sig.now (scope_of variables.now)
+    ensures value { Answers sorted_list (bound_terms sig.now variables.old
         (parts_of sig.now (expressions_of bindings.now))) result }
     ensures one_each { IfOk result (λ r. length r.0.items ≡ length r.1.items) }
+    ensures restored { variables.new ≡ variables.old }
 {
     let mut trees = Vec::with_capacity(alloc, bindings.len())?;
     let mut sorts = Vec::with_capacity(alloc, bindings.len())?;
@@ -191,11 +217,12 @@ fn bound_terms<'e>(
 fn match_form<'e>(
     alloc: Global,
     sig: &Signature,
-    variables: &[Bound<'e>],
+    variables: &mut Variables<'e>,
     args: &'e [Sexpr],
 ) -> Result<(Tree, SortId), CheckError>
-    ensures value { Answers sorted_of (match_form sig.now (scope_of variables.now) (parts_of sig.now
+    ensures value { Answers sorted_of (match_form sig.now variables.old (parts_of sig.now
         (expressions_of args.now))) result }
+    ensures restored { variables.new ≡ variables.old }
 {
     if args.len() != 2 {
         return Err(CheckError::Refused(OUT_OF_SCOPE));
@@ -221,12 +248,13 @@ fn match_form<'e>(
 fn checked_cases<'e>(
     alloc: Global,
     sig: &Signature,
-    variables: &[Bound<'e>],
+    variables: &mut Variables<'e>,
     side: SortId,
     cases: &'e [Sexpr],
 ) -> Result<Checked, CheckError>
-    ensures value { Answers checked_of (checked_cases sig.now (scope_of variables.now) side None
+    ensures value { Answers checked_of (checked_cases sig.now variables.old side None
         (parts_of sig.now (expressions_of cases.now))) result }
+    ensures restored { variables.new ≡ variables.old }
 {
     let mut checked = Checked {
         cases: Vec::with_capacity(alloc, cases.len())?,
@@ -244,8 +272,7 @@ fn checked_cases<'e>(
         let first = &items[0];
         let body = &items[1];
         let (fitted, inner) = pattern(alloc, sig, side, first)?;
-        let all = extended(alloc, variables, inner.as_slice())?;
-        let (tree, sort) = term(alloc, sig, all.as_slice(), body)?;
+        let (tree, sort) = under(alloc, sig, variables, inner.as_slice(), body)?;
         if !goes_with(checked.sort, sort) {
             return Err(CheckError::Refused(WRONG_SORT));
         }

@@ -1,9 +1,6 @@
-//! Variables in scope: parameters, bindings of `let`, and variables of patterns.
-ghost use Rattle.std.specs.Prelude.{◌≡◌, ◌+◌, ◌++◌, List, ℕ, map, option_map, IfOk, IfErr};
-ghost use Rattle.ct_terms.specs.Formula.{bind};
-ghost use Rattle.ct_check.specs.Variables.{Variable, find, is_named};
-ghost use Rattle.ct_check.specs.Bounds.{variable_of, scope_of, variable_of_param};
-ghost use Rattle.ct_check.specs.declared.variables.Found.{Found};
+//! Variables: parameters, bindings of `let`, and variables of patterns.
+ghost use Rattle.std.specs.Prelude.{◌≡◌, map, IfOk, IfErr};
+ghost use Rattle.ct_check.specs.Bounds.{variable_of, variable_of_param};
 
 use crate::error::CheckError;
 use crate::scope::Param;
@@ -24,39 +21,6 @@ pub(crate) struct Found {
     pub(crate) sort: SortId,
 }
 
-impl Bound<'_> {
-    /// Whether the variable has this name.
-    pub(crate) fn is_named(&self, name: &[u8]) -> bool
-        ensures named { result ≡ is_named name.now (variable_of self.now).name }
-    {
-        match self.name {
-            Some(own) => own == name,
-            None => false,
-        }
-    }
-}
-
-/// The variable of this name that was bound last. The variables stand in the order in which they
-/// were bound.
-pub(crate) fn find(variables: &[Bound], name: &[u8]) -> Option<Found>
-    ensures found { option_map (λ (f : Found). (f.number, f.sort)) result ≡ find
-        (scope_of variables.now) name.now }
-{
-    let mut number = 0;
-    let mut left = variables;
-    while let [outer @ .., last] = left {
-        if last.is_named(name) {
-            return Some(Found {
-                number,
-                sort: last.sort,
-            });
-        }
-        number += 1;
-        left = outer;
-    }
-    None
-}
-
 /// The parameters as variables.
 pub(crate) fn parameters<'e>(
     alloc: Global,
@@ -74,22 +38,4 @@ pub(crate) fn parameters<'e>(
         })?;
     }
     Ok(variables)
-}
-
-/// The variables with more that were bound after them.
-#[tactic(auto, using(crate::proofs::BoundLemmas::scope_of_more))]
-pub(crate) fn extended<'e>(
-    alloc: Global,
-    outer: &[Bound<'e>],
-    inner: &[Bound<'e>],
-) -> Result<Vec<Bound<'e>>, CheckError>
-    ensures items { IfOk result (λ all. all.items ≡ outer.now ++ inner.now) }
-    ensures ok { IfOk result (λ all. scope_of all.items ≡ bind (map variable_of inner.now)
-        (scope_of outer.now)) }
-    ensures err { IfErr result (λ e. e ≡ CheckError.NoMemory) }
-{
-    let mut all = Vec::with_capacity(alloc, outer.len())?;
-    all.extend_from_slice(outer)?;
-    all.extend_from_slice(inner)?;
-    Ok(all)
 }

@@ -1,7 +1,6 @@
 use Rattle.std.proofs.Common.{sym, ap, ◌∙◌}
 use Rattle.ct_sexpr.specs.Atom.{symbol}
 use Rattle.ct_sexpr.specs.View.{expression_of, expressions_of}
-use Rattle.ct_check.specs.Bounds.{scope_of}
 use Rattle.ct_check.specs.Parts.{with_part}
 use Rattle.ct_check.specs.Elaboration.{part_of, parts_of, list_meaning, headed, application}
 use Rattle.ct_check.specs.Heads.{headed_by}
@@ -12,7 +11,7 @@ use Rattle.ct_check.proofs.heads.head_of.Goals as goal
 pub returns-in-List-clause-value : goal.returns-in-List-clause-value
 returns-in-List-clause-value c =
     let d = c.args.sig.now in
-    let scope = scope_of c.args.variables.now in
+    let scope = c.args.variables.now in
     let ps = parts_of d (expressions_of c.args.args.now) in
     leads_along (λ h. headed_by d scope h ps) _ _ c.list_head.result
     (ap (λ p. list_meaning d (with_part p ps) scope) (part_of_list d c.args.head.now c.in-List.items c.as_slice.result.now c.in-List.is c.as_slice.ensures.value))
@@ -21,7 +20,7 @@ returns-in-List-clause-value c =
 pub returns-in-Symbol-clause-value : goal.returns-in-Symbol-clause-value
 returns-in-Symbol-clause-value c =
     let d = c.args.sig.now in
-    let scope = scope_of c.args.variables.now in
+    let scope = c.args.variables.now in
     let ps = parts_of d (expressions_of c.args.args.now) in
     leads_along (λ h. headed_by d scope h ps) _ _ c.word_head.result
     (ap (λ e. list_meaning d (with_part (part_of d (expression_of e)) ps) scope) c.in-Symbol.is ∙ ap (λ w. headed d scope (symbol w) ps) (sym c.as_slice-in-Symbol.ensures.value))
@@ -30,7 +29,7 @@ returns-in-Symbol-clause-value c =
 pub returns-in-Quoted-clause-value : goal.returns-in-Quoted-clause-value
 returns-in-Quoted-clause-value c =
     let d = c.args.sig.now in
-    let scope = scope_of c.args.variables.now in
+    let scope = c.args.variables.now in
     let ps = parts_of d (expressions_of c.args.args.now) in
     leads_along (λ h. headed_by d scope h ps) _ _ c.name_head.result
     (ap (λ e. list_meaning d (with_part (part_of d (expression_of e)) ps) scope) c.in-Quoted.is ∙ ap (λ w. application d scope w ps) (sym c.as_slice-in-Quoted.ensures.value))

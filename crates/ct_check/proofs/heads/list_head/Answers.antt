@@ -1,6 +1,5 @@
 use Rattle.std.proofs.Common.{◌-◌, length, take, drop, sym, ap, ◌∙◌}
 use Rattle.ct_sexpr.specs.View.{expression_of, expressions_of}
-use Rattle.ct_check.specs.Bounds.{scope_of}
 use Rattle.ct_check.specs.Elaboration.{part_of, parts_of, qualified, qualified_symbol, applied_symbol}
 use Rattle.ct_check.specs.Heads.{headed_by}
 use Rattle.ct_check.proofs.AnswerLemmas.{leads_along, and_then-ok}
@@ -11,7 +10,7 @@ use Rattle.ct_check.proofs.heads.list_head.Goals as goal
 pub returns-then-is_word-clause-value : goal.returns-then-is_word-clause-value
 returns-then-is_word-clause-value c =
     let d = c.args.sig.now in
-    let scope = scope_of c.args.variables.now in
+    let scope = c.args.variables.now in
     let items = c.args.items.now in
     let others = take (length items - 1) (drop 1 items) in
     λ ps n. leads_along (λ h. headed_by d scope h ps) _ _ c.tester_head.result
@@ -22,7 +21,7 @@ returns-then-is_word-clause-value c =
 pub returns-then-is_word-2-clause-value : goal.returns-then-is_word-2-clause-value
 returns-then-is_word-2-clause-value c =
     let d = c.args.sig.now in
-    let scope = scope_of c.args.variables.now in
+    let scope = c.args.variables.now in
     let items = c.args.items.now in
     let others = take (length items - 1) (drop 1 items) in
     λ ps n. leads_along (λ h. headed_by d scope h ps) _ _ c.symbol_head.result

@@ -1,5 +1,4 @@
 use Rattle.std.proofs.Common.{◌≡◌, is_some, false, sym, ◌∙◌}
-use Rattle.ct_check.specs.Bounds.{scope_of}
 use Rattle.ct_check.specs.Variables.{find}
 use Rattle.ct_check.specs.Heads.{headed_by}
 use Rattle.ct_check.proofs.AnswerLemmas.{leads_along}
@@ -9,7 +8,7 @@ use Rattle.ct_check.proofs.heads.name_head.Goals as goal
 pub returns-in-Some-clause-value : goal.returns-in-Some-clause-value
 returns-in-Some-clause-value c =
     let d = c.args.sig.now in
-    let scope = scope_of c.args.variables.now in
+    let scope = c.args.variables.now in
     let none : is_some (find scope c.args.name.now) ≡ false = unfound c.find.result _ c.find.ensures.found (sym c.is_some.ensures ∙ c.if-is_some.false) in
     λ ps n. leads_along (λ h. headed_by d scope h ps) _ _ c.operator_head.result
     (application-operator d scope c.args.name.now ps c.in-Some.operator none (sym c.in-Some.ensures.value))
@@ -18,7 +17,7 @@ returns-in-Some-clause-value c =
 pub returns-in-None-clause-value : goal.returns-in-None-clause-value
 returns-in-None-clause-value c =
     let d = c.args.sig.now in
-    let scope = scope_of c.args.variables.now in
+    let scope = c.args.variables.now in
     let none : is_some (find scope c.args.name.now) ≡ false = unfound c.find.result _ c.find.ensures.found (sym c.is_some.ensures ∙ c.if-is_some.false) in
     λ ps n. leads_along (λ h. headed_by d scope h ps) _ _ c.global_head.result
     (application-global d scope c.args.name.now ps none (sym c.in-None.ensures.value))

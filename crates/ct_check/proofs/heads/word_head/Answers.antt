@@ -1,6 +1,5 @@
 use Rattle.std.proofs.Common.{sym}
 use Rattle.ct_sexpr.specs.View.{expressions_of}
-use Rattle.ct_check.specs.Bounds.{scope_of}
 use Rattle.ct_check.specs.Elaboration.{parts_of}
 use Rattle.ct_check.specs.Heads.{headed_by}
 use Rattle.ct_check.proofs.AnswerLemmas.{leads_along}
@@ -11,7 +10,7 @@ use Rattle.ct_check.proofs.heads.word_head.Goals as goal
 pub returns-clause-value : goal.returns-clause-value
 returns-clause-value c =
     let d = c.args.sig.now in
-    let scope = scope_of c.args.variables.now in
+    let scope = c.args.variables.now in
     let ps = parts_of d (expressions_of c.args.args.now) in
     leads_along (λ h. headed_by d scope h ps) _ _ c.name_head.result
     (headed-name d scope c.args.word.now ps (sym c.if-is_reserved.ensures.reserved))

@@ -1,10 +1,10 @@
-use Rattle.std.proofs.Common.{◌≡◌, ℕ, [], Result, IfOk, Ok, Err, sym, ap, ◌∙◌}
+use Rattle.std.proofs.Common.{◌≡◌, ℕ, [], map, Result, IfOk, Ok, Err, sym, ap, ◌∙◌}
 use Rattle.ct_sexpr.specs.View.{expression_of}
 use Rattle.ct_terms.specs.Formula.{bind}
 use Rattle.ct_check.specs.declared.error.CheckError.{CheckError}
 use Rattle.ct_check.specs.declared.error.CheckError.TheVariants.{Refused, NoMemory}
 use Rattle.ct_check.specs.Answer.{Answers}
-use Rattle.ct_check.specs.Bounds.{scope_of, parameters}
+use Rattle.ct_check.specs.Bounds.{variable_of, parameters}
 use Rattle.ct_check.specs.Elaboration.{elaborated}
 use Rattle.ct_check.specs.Outcome.{Outcome}
 use Rattle.ct_check.specs.Trees.{sorted_of}
@@ -26,11 +26,14 @@ pub returns : goal.returns
 returns c =
     let d = c.args.scope.now.sig in
     let e = expression_of c.args.expr.now in
-    let held : scope_of c.as_slice.result.now ≡ parameters c.args.params.now =
-    ap scope_of c.as_slice.ensures.value ∙ ap (λ vs. bind vs []) c.in_ok-variables.ensures.ok in
+    let held : c.enter.new.self ≡ parameters c.args.params.now =
+    c.in_ok-enter.ensures.bound
+    ∙ ap (bind (map variable_of c.as_slice.result.now)) c.new-variables.ensures.none
+    ∙ ap (λ bounds. bind (map variable_of bounds) []) c.as_slice.ensures.value
+    ∙ ap (λ vs. bind vs []) c.in_ok-bounds.ensures.ok in
     let whole = elaborated d (parameters c.args.params.now) e in
     let means : Answers sorted_of (elaborated d (parameters c.args.params.now) e) c.term.result =
-    answers_along sorted_of whole (elaborated d (scope_of c.as_slice.result.now) e) c.term.result (ap (λ sc. elaborated d sc e) (sym held)) c.term.ensures.value in
+    answers_along sorted_of whole (elaborated d c.enter.new.self e) c.term.result (ap (λ sc. elaborated d sc e) (sym held)) c.term.ensures.value in
     record {
       ok = answered sorted_of whole c.term.result means;
       refused = refused_by sorted_of whole c.term.result means;

@@ -1,4 +1,4 @@
-use Rattle.std.proofs.Common.{◌≡◌, ℕ, Option, Vec, Global, ◌-◌, List, length, take, drop, map, None, Ok, Err, sym, ap, ◌∙◌, subst, arith}
+use Rattle.std.proofs.Common.{◌≡◌, ℕ, Option, Vec, Global, ◌-◌, List, length, take, drop, map, None, Ok, Err, refl, sym, ap, ◌∙◌, subst, arith}
 use Rattle.std.proofs.lemmas.Result.{err_from_is_err_and}
 use Rattle.std.specs.Borrow.{Bor}
 use Rattle.ct_sexpr.specs.View.{expression_of, expressions_of}
@@ -8,7 +8,7 @@ use Rattle.ct_terms.specs.TreeFormula.{formula_of, formulas_of_trees}
 use Rattle.ct_check.specs.declared.heads.Head.{Head}
 use Rattle.ct_check.specs.declared.heads.Head.TheVariants.{Equation}
 use Rattle.ct_check.specs.Answer.{same}
-use Rattle.ct_check.specs.Bounds.{scope_of, variable_of, held_name}
+use Rattle.ct_check.specs.Bounds.{variable_of, held_name}
 use Rattle.ct_check.specs.Binders.{bound_by}
 use Rattle.ct_check.specs.Callees.{called}
 use Rattle.ct_check.specs.Heads.{headed_by, IsDeclared}
@@ -25,7 +25,7 @@ use Rattle.ct_check.proofs.MetLemmas as met_terms
 use Rattle.ct_check.proofs.MetLemmas.{elim-stopped}
 use Rattle.ct_check.proofs.BindingLemmas as bindings
 use Rattle.ct_check.proofs.CaseLemmas as cases
-use Rattle.ct_check.proofs.CaseSteps.{case_form, case_pattern_error, case_term_error, case-scope, inner-scope, one_more_each}
+use Rattle.ct_check.proofs.CaseSteps.{case_form, case_pattern_error, case_term_error, case-scope, inner-scope, left_again, one_more_each}
 use Rattle.ct_check.proofs.BinderLemmas.{two_of, bound-body, cases-other, cases-subject, cases-side, cases-checked, annotated-other, annotated-term, let-list, match-list, pair_at, pair_form}
 use Rattle.ct_check.proofs.NestingLemmas.{nests_item, nests_rest, nests_list}
 use Rattle.ct_check.proofs.OtherForms.{list-empty, annotated-empty, let-length, let-leaf, match-length, match-leaf, leaf-no_pair, length-no_pair, bindings-other, cases-other as cases-no_pair}
@@ -62,9 +62,6 @@ terms-term-requires t c = (omega (arith, nests_item c.args.exprs.now c.loop-expr
 pub let_form-bound_terms-requires : goal.let_form-bound_terms-requires
 let_form-bound_terms-requires t c = (omega (arith, nests_item c.args.args.now 0 c.index-args-0.result (omega arith) c.index-args-0.is, nests_list c.index-args-0.result c.in-List.bindings c.as_slice-bindings.result.now c.in-List.is c.as_slice-bindings.ensures.value, c.decreases), tt)
 
-pub let_form-term-requires : goal.let_form-term-requires
-let_form-term-requires t c = (omega (arith, nests_item c.args.args.now 1 c.index-args-1.result (omega arith) c.index-args-1.is, c.decreases), tt)
-
 pub bound_terms-term-requires : goal.bound_terms-term-requires
 bound_terms-term-requires t c = (omega (arith, nests_item c.args.bindings.now c.loop-binding.binding-index c.binding-item.result c.loop-binding-test.true c.binding-item.is, nests_list c.binding-item.result c.in-List.items c.as_slice-items.result.now c.in-List.is c.as_slice-items.ensures.value, nests_item c.as_slice-items.result.now 1 c.index-items-1.result (omega arith) c.index-items-1.is, c.decreases), tt)
 
@@ -74,79 +71,88 @@ match_form-term-requires t c = (omega (arith, nests_item c.args.args.now 0 c.ind
 pub match_form-checked_cases-requires : goal.match_form-checked_cases-requires
 match_form-checked_cases-requires t c = (omega (arith, nests_item c.args.args.now 1 c.index-args-1.result (omega arith) c.index-args-1.is, nests_list c.index-args-1.result c.in-List.cases c.as_slice-cases.result.now c.in-List.is c.as_slice-cases.ensures.value, c.decreases), tt)
 
-pub checked_cases-term-requires : goal.checked_cases-term-requires
-checked_cases-term-requires t c = (omega (arith, nests_item c.args.cases.now c.loop-case.case-index c.case-item.result c.loop-case-test.true c.case-item.is, nests_list c.case-item.result c.in-List.items c.as_slice-items.result.now c.in-List.is c.as_slice-items.ensures.value, nests_item c.as_slice-items.result.now 1 c.index-items-1.result (omega arith) c.index-items-1.is, c.decreases), tt)
+-- a term under more variables, which leave again
+pub let_form-under-requires : goal.let_form-under-requires
+let_form-under-requires t c = (omega (arith, nests_item c.args.args.now 1 c.index-args-1.result (omega arith) c.index-args-1.is, c.decreases), tt)
 
-pub term-returns-in-List : goal.term-returns-in-List
-term-returns-in-List t c =
+pub checked_cases-under-requires : goal.checked_cases-under-requires
+checked_cases-under-requires t c = (omega (arith, nests_item c.args.cases.now c.loop-case.case-index c.case-item.result c.loop-case-test.true c.case-item.is, nests_list c.case-item.result c.in-List.items c.as_slice-items.result.now c.in-List.is c.as_slice-items.ensures.value, nests_item c.as_slice-items.result.now 1 c.index-items-1.result (omega arith) c.index-items-1.is, c.decreases), tt)
+
+pub under-returns-in_err-enter-clause-value : goal.under-returns-in_err-enter-clause-value
+under-returns-in_err-enter-clause-value t c =
+    let p = err_from_is_err_and c.from_residual.result c.from_residual.ensures.1 in
+    rw (p.1, p.2) (answers_memory sorted_of (elaborated c.args.sig.now (bind (map variable_of c.args.inner.now) c.args.variables.now) (expression_of c.args.body.now)) _ c.in_err-enter.ensures.err)
+
+pub under-returns : goal.under-returns
+under-returns t c =
     let d = c.args.sig.now in
-    let scope = scope_of c.args.variables.now in
+    let e = expression_of c.args.body.now in
+    let inner = bind (map variable_of c.args.inner.now) c.args.variables.now in
     record {
-      value = answers_along sorted_of (elaborated d scope (expression_of c.args.expr.now)) (list_meaning d (parts_of d (expressions_of c.as_slice.result.now)) scope) c.list.result
-          (ap (λ (p : Part). meaning d scope p) (part_of_list d c.args.expr.now c.in-List.items c.as_slice.result.now c.in-List.is c.as_slice.ensures.value))
-          c.list.ensures.value;
+      value = answers_along sorted_of (elaborated d inner e) (elaborated d c.enter.new.self e) c.term-answer.result (ap (λ sc. elaborated d sc e) (sym c.in_ok-enter.ensures.bound)) c.term-answer.ensures.value;
+      restored = left_again c.args.inner.now c.args.variables.now c.enter.new.self c.term-answer.new.variables c.leave.new.self (length c.args.inner.now) c.in_ok-enter.ensures.bound c.term-answer.ensures.restored refl c.leave.ensures.rest;
     }
 
-pub list-returns-in_default : goal.list-returns-in_default
-list-returns-in_default t c = record { value = list-empty c.args.sig.now (scope_of c.args.variables.now) c.args.items.now (omega arith) }
-
-pub list-returns-in_err-head_of : goal.list-returns-in_err-head_of
-list-returns-in_err-head_of t c =
+pub term-returns-in-List-clause-value : goal.term-returns-in-List-clause-value
+term-returns-in-List-clause-value t c =
     let d = c.args.sig.now in
-    let scope = scope_of c.args.variables.now in
+    let scope = c.args.variables.now in
+    answers_along sorted_of (elaborated d scope (expression_of c.args.expr.now)) (list_meaning d (parts_of d (expressions_of c.as_slice.result.now)) scope) c.list.result
+    (ap (λ (p : Part). meaning d scope p) (part_of_list d c.args.expr.now c.in-List.items c.as_slice.result.now c.in-List.is c.as_slice.ensures.value))
+    c.list.ensures.value
+
+pub list-returns-in_default-clause-value : goal.list-returns-in_default-clause-value
+list-returns-in_default-clause-value t c = list-empty c.args.sig.now c.args.variables.now c.args.items.now (omega arith)
+
+pub list-returns-in_err-head_of-clause-value : goal.list-returns-in_err-head_of-clause-value
+list-returns-in_err-head_of-clause-value t c =
+    let d = c.args.sig.now in
+    let scope = c.args.variables.now in
     let items = c.args.items.now in
     let others = take (length items - 1) (drop 1 items) in
     let whole = list_meaning d (parts_of d (expressions_of items)) scope in
     let next : Head → Outcome Sorted = λ h. headed_by d scope h (parts_of d (expressions_of others)) in
     let p = err_from_is_err_and c.from_residual.result c.from_residual.ensures.1 in
-    record {
-      value = rw (p.1, p.2) (leads_error next sorted_of whole _
-          (leads_along next whole (list_meaning d (with_part (part_of d (expression_of c.first-item.result)) (parts_of d (expressions_of others))) scope) (Err _)
-          (list-headed d scope items c.first-item.result others (first_and_rest items c.first-item.result c.in-len1-up.len_at_least c.first-item.is))
-          c.in_err-head_of.ensures.value));
-    }
+    rw (p.1, p.2) (leads_error next sorted_of whole _
+    (leads_along next whole (list_meaning d (with_part (part_of d (expression_of c.first-item.result)) (parts_of d (expressions_of others))) scope) (Err _)
+    (list-headed d scope items c.first-item.result others (first_and_rest items c.first-item.result c.in-len1-up.len_at_least c.first-item.is))
+    c.in_err-head_of.ensures.value))
 
-pub list-returns-in-Let : goal.list-returns-in-Let
-list-returns-in-Let t c =
+pub list-returns-in-Let-clause-value : goal.list-returns-in-Let-clause-value
+list-returns-in-Let-clause-value t c =
     let d = c.args.sig.now in
-    let scope = scope_of c.args.variables.now in
+    let scope = c.args.variables.now in
     let items = c.args.items.now in
     let others = take (length items - 1) (drop 1 items) in
     let ps = parts_of d (expressions_of others) in
-    record {
-      value = answers_along sorted_of (list_meaning d (parts_of d (expressions_of items)) scope) (let_form d scope ps) c.let_form.result
-          (list-headed d scope items c.first-item.result others (first_and_rest items c.first-item.result c.in-len1-up.len_at_least c.first-item.is)
-          ∙ c.in_ok-head_of.ensures.value ∙ ap (λ (h : Head). headed_by d scope h ps) c.in-Let.is)
-          c.let_form.ensures.value;
-    }
+    answers_along sorted_of (list_meaning d (parts_of d (expressions_of items)) scope) (let_form d scope ps) c.let_form.result
+    (list-headed d scope items c.first-item.result others (first_and_rest items c.first-item.result c.in-len1-up.len_at_least c.first-item.is)
+    ∙ c.in_ok-head_of.ensures.value ∙ ap (λ (h : Head). headed_by d scope h ps) c.in-Let.is)
+    c.let_form.ensures.value
 
-pub list-returns-in-Match : goal.list-returns-in-Match
-list-returns-in-Match t c =
+pub list-returns-in-Match-clause-value : goal.list-returns-in-Match-clause-value
+list-returns-in-Match-clause-value t c =
     let d = c.args.sig.now in
-    let scope = scope_of c.args.variables.now in
+    let scope = c.args.variables.now in
     let items = c.args.items.now in
     let others = take (length items - 1) (drop 1 items) in
     let ps = parts_of d (expressions_of others) in
-    record {
-      value = answers_along sorted_of (list_meaning d (parts_of d (expressions_of items)) scope) (match_form d scope ps) c.match_form.result
-          (list-headed d scope items c.first-item.result others (first_and_rest items c.first-item.result c.in-len1-up.len_at_least c.first-item.is)
-          ∙ c.in_ok-head_of.ensures.value ∙ ap (λ (h : Head). headed_by d scope h ps) c.in-Match.is)
-          c.match_form.ensures.value;
-    }
+    answers_along sorted_of (list_meaning d (parts_of d (expressions_of items)) scope) (match_form d scope ps) c.match_form.result
+    (list-headed d scope items c.first-item.result others (first_and_rest items c.first-item.result c.in-len1-up.len_at_least c.first-item.is)
+    ∙ c.in_ok-head_of.ensures.value ∙ ap (λ (h : Head). headed_by d scope h ps) c.in-Match.is)
+    c.match_form.ensures.value
 
-pub list-returns-in-Annotation : goal.list-returns-in-Annotation
-list-returns-in-Annotation t c =
+pub list-returns-in-Annotation-clause-value : goal.list-returns-in-Annotation-clause-value
+list-returns-in-Annotation-clause-value t c =
     let d = c.args.sig.now in
-    let scope = scope_of c.args.variables.now in
+    let scope = c.args.variables.now in
     let items = c.args.items.now in
     let others = take (length items - 1) (drop 1 items) in
     let ps = parts_of d (expressions_of others) in
-    record {
-      value = answers_along sorted_of (list_meaning d (parts_of d (expressions_of items)) scope) (annotated d scope ps) c.annotated.result
-          (list-headed d scope items c.first-item.result others (first_and_rest items c.first-item.result c.in-len1-up.len_at_least c.first-item.is)
-          ∙ c.in_ok-head_of.ensures.value ∙ ap (λ (h : Head). headed_by d scope h ps) c.in-Annotation.is)
-          c.annotated.ensures.value;
-    }
+    answers_along sorted_of (list_meaning d (parts_of d (expressions_of items)) scope) (annotated d scope ps) c.annotated.result
+    (list-headed d scope items c.first-item.result others (first_and_rest items c.first-item.result c.in-len1-up.len_at_least c.first-item.is)
+    ∙ c.in_ok-head_of.ensures.value ∙ ap (λ (h : Head). headed_by d scope h ps) c.in-Annotation.is)
+    c.annotated.ensures.value
 
 pub list-lone_symbol-requires : goal.list-lone_symbol-requires
 list-lone_symbol-requires t c = record { inside = subst (λ (h : Head). IsDeclared c.args.sig.now h) c.in-Whole.is c.in_ok-head_of.ensures.inside }
@@ -154,141 +160,128 @@ list-lone_symbol-requires t c = record { inside = subst (λ (h : Head). IsDeclar
 pub list-called-requires : goal.list-called-requires
 list-called-requires t c = record { inside = subst (λ (h : Head). IsDeclared c.args.sig.now h) c.in-Call.is c.in_ok-head_of.ensures.inside }
 
-pub list-returns-in-Whole : goal.list-returns-in-Whole
-list-returns-in-Whole t c =
+pub list-returns-in-Whole-clause-value : goal.list-returns-in-Whole-clause-value
+list-returns-in-Whole-clause-value t c =
     let d = c.args.sig.now in
-    let scope = scope_of c.args.variables.now in
+    let scope = c.args.variables.now in
     let items = c.args.items.now in
     let others = take (length items - 1) (drop 1 items) in
     let ps = parts_of d (expressions_of others) in
-    record {
-      value = answers_along sorted_of (list_meaning d (parts_of d (expressions_of items)) scope) (lone_symbol d c.in-Whole.symbol) c.lone_symbol.result
-          (list-headed d scope items c.first-item.result others (first_and_rest items c.first-item.result c.in-len1-up.len_at_least c.first-item.is)
-          ∙ c.in_ok-head_of.ensures.value ∙ ap (λ (h : Head). headed_by d scope h ps) c.in-Whole.is)
-          c.lone_symbol.ensures.value;
-    }
+    answers_along sorted_of (list_meaning d (parts_of d (expressions_of items)) scope) (lone_symbol d c.in-Whole.symbol) c.lone_symbol.result
+    (list-headed d scope items c.first-item.result others (first_and_rest items c.first-item.result c.in-len1-up.len_at_least c.first-item.is)
+    ∙ c.in_ok-head_of.ensures.value ∙ ap (λ (h : Head). headed_by d scope h ps) c.in-Whole.is)
+    c.lone_symbol.ensures.value
 
-pub list-returns-in_err-met-in-Call : goal.list-returns-in_err-met-in-Call
-list-returns-in_err-met-in-Call t c =
+pub list-returns-in_err-met-in-Call-clause-value : goal.list-returns-in_err-met-in-Call-clause-value
+list-returns-in_err-met-in-Call-clause-value t c =
     let d = c.args.sig.now in
     let p = err_from_is_err_and c.from_residual-in_err-met-in-Call.result c.from_residual-in_err-met-in-Call.ensures.1 in
-    record { value = rw (p.1, p.2) (answers_memory sorted_of (list_meaning d (parts_of d (expressions_of c.args.items.now)) (scope_of c.args.variables.now)) _ c.in_err-met-in-Call.ensures.err) }
+    rw (p.1, p.2) (answers_memory sorted_of (list_meaning d (parts_of d (expressions_of c.args.items.now)) c.args.variables.now) _ c.in_err-met-in-Call.ensures.err)
 
-pub list-returns-in_ok-met-in-Call : goal.list-returns-in_ok-met-in-Call
-list-returns-in_ok-met-in-Call t c =
+pub list-returns-in_ok-met-in-Call-clause-value : goal.list-returns-in_ok-met-in-Call-clause-value
+list-returns-in_ok-met-in-Call-clause-value t c =
     let d = c.args.sig.now in
-    let scope = scope_of c.args.variables.now in
+    let scope = c.args.variables.now in
     let items = c.args.items.now in
     let others = take (length items - 1) (drop 1 items) in
     let ps = parts_of d (expressions_of others) in
-    record {
-      value = answers_along sorted_of (list_meaning d (parts_of d (expressions_of items)) scope) (called d scope c.in-Call.callee ps) c.called.result
-          (list-headed d scope items c.first-item.result others (first_and_rest items c.first-item.result c.in-len1-up.len_at_least c.first-item.is)
-          ∙ c.in_ok-head_of.ensures.value ∙ ap (λ (h : Head). headed_by d scope h ps) c.in-Call.is)
-          (c.called.ensures.value scope ps (count-parts d others) c.in_ok-met-in-Call.ensures.held);
-    }
+    answers_along sorted_of (list_meaning d (parts_of d (expressions_of items)) scope) (called d scope c.in-Call.callee ps) c.called.result
+    (list-headed d scope items c.first-item.result others (first_and_rest items c.first-item.result c.in-len1-up.len_at_least c.first-item.is)
+    ∙ c.in_ok-head_of.ensures.value ∙ ap (λ (h : Head). headed_by d scope h ps) c.in-Call.is)
+    (c.called.ensures.value scope ps (count-parts d others) c.in_ok-met-in-Call.ensures.held)
 
-pub list-returns-in_err-met-in-Equation : goal.list-returns-in_err-met-in-Equation
-list-returns-in_err-met-in-Equation t c =
+pub list-returns-in_err-met-in-Equation-clause-value : goal.list-returns-in_err-met-in-Equation-clause-value
+list-returns-in_err-met-in-Equation-clause-value t c =
     let d = c.args.sig.now in
     let p = err_from_is_err_and c.from_residual-in_err-met-in-Equation.result c.from_residual-in_err-met-in-Equation.ensures.1 in
-    record { value = rw (p.1, p.2) (answers_memory sorted_of (list_meaning d (parts_of d (expressions_of c.args.items.now)) (scope_of c.args.variables.now)) _ c.in_err-met-in-Equation.ensures.err) }
+    rw (p.1, p.2) (answers_memory sorted_of (list_meaning d (parts_of d (expressions_of c.args.items.now)) c.args.variables.now) _ c.in_err-met-in-Equation.ensures.err)
 
-pub list-returns-in_ok-met-in-Equation : goal.list-returns-in_ok-met-in-Equation
-list-returns-in_ok-met-in-Equation t c =
+pub list-returns-in_ok-met-in-Equation-clause-value : goal.list-returns-in_ok-met-in-Equation-clause-value
+list-returns-in_ok-met-in-Equation-clause-value t c =
     let d = c.args.sig.now in
-    let scope = scope_of c.args.variables.now in
+    let scope = c.args.variables.now in
     let items = c.args.items.now in
     let others = take (length items - 1) (drop 1 items) in
     let ps = parts_of d (expressions_of others) in
-    record {
-      value = answers_along sorted_of (list_meaning d (parts_of d (expressions_of items)) scope) (headed_by d scope (Equation c.in-Equation.operator) ps) c.equation.result
-          (list-headed d scope items c.first-item.result others (first_and_rest items c.first-item.result c.in-len1-up.len_at_least c.first-item.is)
-          ∙ c.in_ok-head_of.ensures.value ∙ ap (λ (h : Head). headed_by d scope h ps) c.in-Equation.is)
-          (c.equation.ensures.value d scope ps (count-parts d others) c.in_ok-met-in-Equation.ensures.held);
-    }
+    answers_along sorted_of (list_meaning d (parts_of d (expressions_of items)) scope) (headed_by d scope (Equation c.in-Equation.operator) ps) c.equation.result
+    (list-headed d scope items c.first-item.result others (first_and_rest items c.first-item.result c.in-len1-up.len_at_least c.first-item.is)
+    ∙ c.in_ok-head_of.ensures.value ∙ ap (λ (h : Head). headed_by d scope h ps) c.in-Equation.is)
+    (c.equation.ensures.value d scope ps (count-parts d others) c.in_ok-met-in-Equation.ensures.held)
 
-pub list-returns-in_err-met-in-Choice : goal.list-returns-in_err-met-in-Choice
-list-returns-in_err-met-in-Choice t c =
+pub list-returns-in_err-met-in-Choice-clause-value : goal.list-returns-in_err-met-in-Choice-clause-value
+list-returns-in_err-met-in-Choice-clause-value t c =
     let d = c.args.sig.now in
     let p = err_from_is_err_and c.from_residual-in_err-met-in-Choice.result c.from_residual-in_err-met-in-Choice.ensures.1 in
-    record { value = rw (p.1, p.2) (answers_memory sorted_of (list_meaning d (parts_of d (expressions_of c.args.items.now)) (scope_of c.args.variables.now)) _ c.in_err-met-in-Choice.ensures.err) }
+    rw (p.1, p.2) (answers_memory sorted_of (list_meaning d (parts_of d (expressions_of c.args.items.now)) c.args.variables.now) _ c.in_err-met-in-Choice.ensures.err)
 
-pub list-returns-in_ok-met-in-Choice : goal.list-returns-in_ok-met-in-Choice
-list-returns-in_ok-met-in-Choice t c =
+pub list-returns-in_ok-met-in-Choice-clause-value : goal.list-returns-in_ok-met-in-Choice-clause-value
+list-returns-in_ok-met-in-Choice-clause-value t c =
     let d = c.args.sig.now in
-    let scope = scope_of c.args.variables.now in
+    let scope = c.args.variables.now in
     let items = c.args.items.now in
     let others = take (length items - 1) (drop 1 items) in
     let ps = parts_of d (expressions_of others) in
-    record {
-      value = answers_along sorted_of (list_meaning d (parts_of d (expressions_of items)) scope) (choice d scope ps) c.choice.result
-          (list-headed d scope items c.first-item.result others (first_and_rest items c.first-item.result c.in-len1-up.len_at_least c.first-item.is)
-          ∙ c.in_ok-head_of.ensures.value ∙ ap (λ (h : Head). headed_by d scope h ps) c.in-Choice.is)
-          (c.choice.ensures.value d scope ps (count-parts d others) c.in_ok-met-in-Choice.ensures.held);
-    }
+    answers_along sorted_of (list_meaning d (parts_of d (expressions_of items)) scope) (choice d scope ps) c.choice.result
+    (list-headed d scope items c.first-item.result others (first_and_rest items c.first-item.result c.in-len1-up.len_at_least c.first-item.is)
+    ∙ c.in_ok-head_of.ensures.value ∙ ap (λ (h : Head). headed_by d scope h ps) c.in-Choice.is)
+    (c.choice.ensures.value d scope ps (count-parts d others) c.in_ok-met-in-Choice.ensures.held)
 
-pub annotated-returns-in_default : goal.annotated-returns-in_default
-annotated-returns-in_default t c = record { value = annotated-empty c.args.sig.now (scope_of c.args.variables.now) c.args.args.now (omega arith) }
+pub annotated-returns-in_default-clause-value : goal.annotated-returns-in_default-clause-value
+annotated-returns-in_default-clause-value t c = annotated-empty c.args.sig.now c.args.variables.now c.args.args.now (omega arith)
 
-pub annotated-returns-then-not-are_attributes : goal.annotated-returns-then-not-are_attributes
-annotated-returns-then-not-are_attributes t c =
+pub annotated-returns-then-not-are_attributes-clause-value : goal.annotated-returns-then-not-are_attributes-clause-value
+annotated-returns-then-not-are_attributes-clause-value t c =
     let d = c.args.sig.now in
     let args = c.args.args.now in
-    record {
-      value = annotated-other d (scope_of c.args.variables.now) args c.expr-item.result (take (length args - 1) (drop 1 args))
-          (first_and_rest args c.expr-item.result c.in-len1-up.len_at_least c.expr-item.is)
-          (sym (c.are_attributes.ensures.value d) ∙ c.if-not-are_attributes.true);
-    }
+    annotated-other d c.args.variables.now args c.expr-item.result (take (length args - 1) (drop 1 args))
+    (first_and_rest args c.expr-item.result c.in-len1-up.len_at_least c.expr-item.is)
+    (sym (c.are_attributes.ensures.value d) ∙ c.if-not-are_attributes.true)
 
-pub annotated-returns : goal.annotated-returns
-annotated-returns t c =
+pub annotated-returns-clause-value : goal.annotated-returns-clause-value
+annotated-returns-clause-value t c =
     let d = c.args.sig.now in
-    let scope = scope_of c.args.variables.now in
+    let scope = c.args.variables.now in
     let args = c.args.args.now in
-    record {
-      value = answers_along sorted_of (annotated d scope (parts_of d (expressions_of args))) (elaborated d scope (expression_of c.expr-item.result)) c.term.result
-          (annotated-term d scope args c.expr-item.result (take (length args - 1) (drop 1 args))
-          (first_and_rest args c.expr-item.result c.in-len1-up.len_at_least c.expr-item.is)
-          (sym (c.are_attributes.ensures.value d) ∙ c.if-not-are_attributes.false))
-          c.term.ensures.value;
-    }
+    answers_along sorted_of (annotated d scope (parts_of d (expressions_of args))) (elaborated d scope (expression_of c.expr-item.result)) c.term.result
+    (annotated-term d scope args c.expr-item.result (take (length args - 1) (drop 1 args))
+    (first_and_rest args c.expr-item.result c.in-len1-up.len_at_least c.expr-item.is)
+    (sym (c.are_attributes.ensures.value d) ∙ c.if-not-are_attributes.false))
+    c.term.ensures.value
 
 pub terms-loop-expr-init : goal.terms-loop-expr-init
-terms-loop-expr-init t c = rw (c.in_ok-trees.ensures.items, c.in_ok-sorts.ensures.items) (met_terms.at_start c.args.sig.now (scope_of c.args.variables.now) c.args.exprs.now)
+terms-loop-expr-init t c = rw (c.in_ok-trees.ensures.items, c.in_ok-sorts.ensures.items) (refl, (met_terms.at_start c.args.sig.now c.args.variables.now c.args.exprs.now))
 
 pub terms-loop-expr-preserved : goal.terms-loop-expr-preserved
 terms-loop-expr-preserved t c =
     let loop = c.loop-expr in
+    let here = part_of c.args.sig.now (expression_of c.expr-item.result) in
     rw (c.in_ok-push-in-Ok.ensures.items, c.in_ok-push-in-Ok-2.ensures.items)
-    (met_terms.at_next c.args.sig.now (scope_of c.args.variables.now) c.args.exprs.now loop.expr-index loop.trees.items loop.sorts.items loop.invariant c.expr-item.result _ _ c.loop-expr-test.true c.expr-item.is c.in-Ok.ensures.value)
+    (c.in-Ok.ensures.restored ∙ loop.invariant.0, met_terms.at_next c.args.sig.now c.args.variables.now c.args.exprs.now loop.expr-index loop.trees.items loop.sorts.items loop.invariant.1 c.expr-item.result _ _ c.loop-expr-test.true c.expr-item.is (ap (λ sc. meaning c.args.sig.now sc here) (sym loop.invariant.0) ∙ c.in-Ok.ensures.value))
 
 pub terms-returns-in-Err-clause-held : goal.terms-returns-in-Err-clause-held
 terms-returns-in-Err-clause-held t c =
     let loop = c.loop-expr in
-    elim-stopped c.args.sig.now (scope_of c.args.variables.now) c.args.exprs.now loop.expr-index loop.trees.items loop.sorts.items loop.invariant c.expr-item.result c.in-Err.error c.stopped.result c.loop-expr-test.true c.expr-item.is c.in-Err.ensures.value c.stopped.ensures.ok
+    elim-stopped c.args.sig.now c.args.variables.now c.args.exprs.now loop.expr-index loop.trees.items loop.sorts.items loop.invariant.1 c.expr-item.result c.in-Err.error c.stopped.result c.loop-expr-test.true c.expr-item.is (answers_along sorted_of (meaning c.args.sig.now c.args.variables.now (part_of c.args.sig.now (expression_of c.expr-item.result))) (meaning c.args.sig.now loop.variables (part_of c.args.sig.now (expression_of c.expr-item.result))) (Err c.in-Err.error) (ap (λ sc. meaning c.args.sig.now sc (part_of c.args.sig.now (expression_of c.expr-item.result))) (sym loop.invariant.0)) c.in-Err.ensures.value) c.stopped.ensures.ok
 
 pub terms-returns-clause-held : goal.terms-returns-clause-held
 terms-returns-clause-held t c =
     let loop = c.loop-expr in
-    met_terms.at_end c.args.sig.now (scope_of c.args.variables.now) c.args.exprs.now loop.expr-index loop.trees.items loop.sorts.items loop.invariant c.loop-expr-test.false
+    met_terms.at_end c.args.sig.now c.args.variables.now c.args.exprs.now loop.expr-index loop.trees.items loop.sorts.items loop.invariant.1 c.loop-expr-test.false
 
 -- `let`: its two items, then its bindings, and then its body
-pub let_form-returns-in_default : goal.let_form-returns-in_default
-let_form-returns-in_default t c =
+pub let_form-returns-in_default-clause-value : goal.let_form-returns-in_default-clause-value
+let_form-returns-in_default-clause-value t c =
     let args = c.args.args.now in
-    record {
-      value = let-leaf c.args.sig.now (scope_of c.args.variables.now) args c.index-args-0.result c.index-args-1.result
-          (two_of args c.index-args-0.result c.index-args-1.result c.if-args-ne2.false c.index-args-0.is c.index-args-1.is) c.in_default.not-List;
-    }
+    let-leaf c.args.sig.now c.args.variables.now args c.index-args-0.result c.index-args-1.result
+    (two_of args c.index-args-0.result c.index-args-1.result c.if-args-ne2.false c.index-args-0.is c.index-args-1.is) c.in_default.not-List
 
-pub let_form-returns-then-args-ne2 : goal.let_form-returns-then-args-ne2
-let_form-returns-then-args-ne2 t c = record { value = let-length c.args.sig.now (scope_of c.args.variables.now) c.args.args.now c.if-args-ne2.true }
+pub let_form-returns-then-args-ne2-clause-value : goal.let_form-returns-then-args-ne2-clause-value
+let_form-returns-then-args-ne2-clause-value t c = let-length c.args.sig.now c.args.variables.now c.args.args.now c.if-args-ne2.true
 
-pub let_form-returns-in_err-names : goal.let_form-returns-in_err-names
-let_form-returns-in_err-names t c =
+pub let_form-returns-in_err-names-clause-value : goal.let_form-returns-in_err-names-clause-value
+let_form-returns-in_err-names-clause-value t c =
     let d = c.args.sig.now in
-    let scope = scope_of c.args.variables.now in
+    let scope = c.args.variables.now in
     let args = c.args.args.now in
     let ps = parts_of d (expressions_of c.as_slice-bindings.result.now) in
     let body = part_of d (expression_of c.index-args-1.result) in
@@ -297,15 +290,13 @@ let_form-returns-in_err-names t c =
     let-list d scope args c.index-args-0.result c.index-args-1.result c.in-List.bindings c.as_slice-bindings.result.now
     (two_of args c.index-args-0.result c.index-args-1.result c.if-args-ne2.false c.index-args-0.is c.index-args-1.is) c.in-List.is c.as_slice-bindings.ensures.value in
     let p = err_from_is_err_and c.from_residual.result c.from_residual.ensures.1 in
-    record {
-      value = rw (p.1, p.2) (leads_error (λ (names : Vec (Option (Bor (List ℕ))) Global). bound_by d scope (map held_name names.items) ps body) sorted_of whole _
-          (leads_along (λ (names : Vec (Option (Bor (List ℕ))) Global). bound_by d scope (map held_name names.items) ps body) whole (bound d scope ps body) (Err _) as_bound (c.in_err-names.ensures.value d scope body)));
-    }
+    rw (p.1, p.2) (leads_error (λ (names : Vec (Option (Bor (List ℕ))) Global). bound_by d scope (map held_name names.items) ps body) sorted_of whole _
+    (leads_along (λ (names : Vec (Option (Bor (List ℕ))) Global). bound_by d scope (map held_name names.items) ps body) whole (bound d scope ps body) (Err _) as_bound (c.in_err-names.ensures.value d scope body)))
 
-pub let_form-returns-in_err-trees : goal.let_form-returns-in_err-trees
-let_form-returns-in_err-trees t c =
+pub let_form-returns-in_err-trees-clause-value : goal.let_form-returns-in_err-trees-clause-value
+let_form-returns-in_err-trees-clause-value t c =
     let d = c.args.sig.now in
-    let scope = scope_of c.args.variables.now in
+    let scope = c.args.variables.now in
     let args = c.args.args.now in
     let ps = parts_of d (expressions_of c.as_slice-bindings.result.now) in
     let body = part_of d (expression_of c.index-args-1.result) in
@@ -315,25 +306,18 @@ let_form-returns-in_err-trees t c =
     (two_of args c.index-args-0.result c.index-args-1.result c.if-args-ne2.false c.index-args-0.is c.index-args-1.is) c.in-List.is c.as_slice-bindings.ensures.value in
     let names = map held_name c.in_ok-names.names.items in
     let p = err_from_is_err_and c.from_residual-in_err-trees.result c.from_residual-in_err-trees.ensures.1 in
-    record {
-      value = rw (p.1, p.2) (answers_error sorted_list sorted_of whole (bound_terms d scope ps) (λ ts. and_then (meaning d (bind (variables names (sorts_of ts)) scope) body) (λ u. Ok (formula.Let (formulas_of ts) u.0, u.1))) _
-          (as_bound ∙ c.in_ok-names.ensures.value d scope body) c.in_err-trees.ensures.value);
-    }
+    rw (p.1, p.2) (answers_error sorted_list sorted_of whole (bound_terms d scope ps) (λ ts. and_then (meaning d (bind (variables names (sorts_of ts)) scope) body) (λ u. Ok (formula.Let (formulas_of ts) u.0, u.1))) _
+    (as_bound ∙ c.in_ok-names.ensures.value d scope body) c.in_err-trees.ensures.value)
 
-pub let_form-returns-in_err-inner : goal.let_form-returns-in_err-inner
-let_form-returns-in_err-inner t c =
+pub let_form-returns-in_err-inner-clause-value : goal.let_form-returns-in_err-inner-clause-value
+let_form-returns-in_err-inner-clause-value t c =
     let p = err_from_is_err_and c.from_residual-in_err-inner.result c.from_residual-in_err-inner.ensures.1 in
-    record { value = rw (p.1, p.2) (answers_memory sorted_of (let_form c.args.sig.now (scope_of c.args.variables.now) (parts_of c.args.sig.now (expressions_of c.args.args.now))) _ c.in_err-inner.ensures.err) }
+    rw (p.1, p.2) (answers_memory sorted_of (let_form c.args.sig.now c.args.variables.now (parts_of c.args.sig.now (expressions_of c.args.args.now))) _ c.in_err-inner.ensures.err)
 
-pub let_form-returns-in_err-all : goal.let_form-returns-in_err-all
-let_form-returns-in_err-all t c =
-    let p = err_from_is_err_and c.from_residual-in_err-all.result c.from_residual-in_err-all.ensures.1 in
-    record { value = rw (p.1, p.2) (answers_memory sorted_of (let_form c.args.sig.now (scope_of c.args.variables.now) (parts_of c.args.sig.now (expressions_of c.args.args.now))) _ c.in_err-all.ensures.err) }
-
-pub let_form-returns-in_err-tree : goal.let_form-returns-in_err-tree
-let_form-returns-in_err-tree t c =
+pub let_form-returns-in_err-tree-clause-value : goal.let_form-returns-in_err-tree-clause-value
+let_form-returns-in_err-tree-clause-value t c =
     let d = c.args.sig.now in
-    let scope = scope_of c.args.variables.now in
+    let scope = c.args.variables.now in
     let args = c.args.args.now in
     let ps = parts_of d (expressions_of c.as_slice-bindings.result.now) in
     let body = part_of d (expression_of c.index-args-1.result) in
@@ -344,25 +328,23 @@ let_form-returns-in_err-tree t c =
     let names = map held_name c.in_ok-names.names.items in
     let trees = c.in_ok-trees.trees.items in
     let sorts = c.in_ok-trees.sorts.items in
-    let inner = scope_of c.as_slice-4.result.now in
+    let inner = bind (map variable_of c.as_slice-3.result.now) c.bound_terms.new.variables in
     let p = err_from_is_err_and c.from_residual-in_err-tree.result c.from_residual-in_err-tree.ensures.1 in
-    record {
-      value = rw (p.1, p.2) (answers_error sorted_of sorted_of whole (meaning d inner body) (λ u. Ok (formula.Let (formulas_of_trees trees) u.0, u.1)) _
-          (as_bound ∙ c.in_ok-names.ensures.value d scope body
-          ∙ bound-body d scope names ps body trees sorts inner c.in_ok-trees.ensures.one_each c.in_ok-trees.ensures.value
-          (inner-scope c.args.variables.now c.in_ok-names.names.items c.as_slice.result.now sorts c.as_slice-2.result.now c.in_ok-inner.inner.items c.as_slice-3.result.now c.in_ok-all.all.items c.as_slice-4.result.now c.as_slice.ensures.value c.as_slice-2.ensures.value c.in_ok-inner.ensures.ok c.as_slice-3.ensures.value c.in_ok-all.ensures.ok c.as_slice-4.ensures.value))
-          c.in_err-tree.ensures.value);
-    }
+    rw (p.1, p.2) (answers_error sorted_of sorted_of whole (meaning d inner body) (λ u. Ok (formula.Let (formulas_of_trees trees) u.0, u.1)) _
+    (as_bound ∙ c.in_ok-names.ensures.value d scope body
+    ∙ bound-body d scope names ps body trees sorts inner c.in_ok-trees.ensures.one_each c.in_ok-trees.ensures.value
+    (inner-scope c.bound_terms.new.variables scope c.in_ok-names.names.items c.as_slice.result.now sorts c.as_slice-2.result.now c.in_ok-inner.inner.items c.as_slice-3.result.now c.in_ok-trees.ensures.restored c.as_slice.ensures.value c.as_slice-2.ensures.value c.in_ok-inner.ensures.ok c.as_slice-3.ensures.value))
+    c.in_err-tree.ensures.value)
 
-pub let_form-returns-in_err-let_tree : goal.let_form-returns-in_err-let_tree
-let_form-returns-in_err-let_tree t c =
+pub let_form-returns-in_err-let_tree-clause-value : goal.let_form-returns-in_err-let_tree-clause-value
+let_form-returns-in_err-let_tree-clause-value t c =
     let p = err_from_is_err_and c.from_residual-in_err-let_tree.result c.from_residual-in_err-let_tree.ensures.1 in
-    record { value = rw (p.1, p.2) (answers_memory sorted_of (let_form c.args.sig.now (scope_of c.args.variables.now) (parts_of c.args.sig.now (expressions_of c.args.args.now))) _ c.in_err-let_tree.ensures.err) }
+    rw (p.1, p.2) (answers_memory sorted_of (let_form c.args.sig.now c.args.variables.now (parts_of c.args.sig.now (expressions_of c.args.args.now))) _ c.in_err-let_tree.ensures.err)
 
-pub let_form-returns : goal.let_form-returns
-let_form-returns t c =
+pub let_form-returns-clause-value : goal.let_form-returns-clause-value
+let_form-returns-clause-value t c =
     let d = c.args.sig.now in
-    let scope = scope_of c.args.variables.now in
+    let scope = c.args.variables.now in
     let args = c.args.args.now in
     let ps = parts_of d (expressions_of c.as_slice-bindings.result.now) in
     let body = part_of d (expression_of c.index-args-1.result) in
@@ -373,34 +355,32 @@ let_form-returns t c =
     let names = map held_name c.in_ok-names.names.items in
     let trees = c.in_ok-trees.trees.items in
     let sorts = c.in_ok-trees.sorts.items in
-    let inner = scope_of c.as_slice-4.result.now in
-    record {
-      value =
-          as_bound ∙ c.in_ok-names.ensures.value d scope body
-          ∙ bound-body d scope names ps body trees sorts inner c.in_ok-trees.ensures.one_each c.in_ok-trees.ensures.value
-          (inner-scope c.args.variables.now c.in_ok-names.names.items c.as_slice.result.now sorts c.as_slice-2.result.now c.in_ok-inner.inner.items c.as_slice-3.result.now c.in_ok-all.all.items c.as_slice-4.result.now c.as_slice.ensures.value c.as_slice-2.ensures.value c.in_ok-inner.ensures.ok c.as_slice-3.ensures.value c.in_ok-all.ensures.ok c.as_slice-4.ensures.value)
-          ∙ ap (λ o. and_then o (λ u. Ok (formula.Let (formulas_of_trees trees) u.0, u.1))) c.in_ok-tree.ensures.value
-          ∙ ap (λ f. Ok (f, c.in_ok-tree.sort)) (sym c.in_ok-let_tree.ensures.ok);
-    }
+    let inner = bind (map variable_of c.as_slice-3.result.now) c.bound_terms.new.variables in
+    as_bound ∙ c.in_ok-names.ensures.value d scope body
+    ∙ bound-body d scope names ps body trees sorts inner c.in_ok-trees.ensures.one_each c.in_ok-trees.ensures.value
+    (inner-scope c.bound_terms.new.variables scope c.in_ok-names.names.items c.as_slice.result.now sorts c.as_slice-2.result.now c.in_ok-inner.inner.items c.as_slice-3.result.now c.in_ok-trees.ensures.restored c.as_slice.ensures.value c.as_slice-2.ensures.value c.in_ok-inner.ensures.ok c.as_slice-3.ensures.value)
+    ∙ ap (λ o. and_then o (λ u. Ok (formula.Let (formulas_of_trees trees) u.0, u.1))) c.in_ok-tree.ensures.value
+    ∙ ap (λ f. Ok (f, c.in_ok-tree.sort)) (sym c.in_ok-let_tree.ensures.ok)
 
 -- the loop over bindings: `(x t)` in memory, and the step with its term
 pub bound_terms-loop-binding-init : goal.bound_terms-loop-binding-init
-bound_terms-loop-binding-init t c = rw (c.in_ok-trees.ensures.items, c.in_ok-sorts.ensures.items) (bindings.at_start c.args.sig.now (scope_of c.args.variables.now) c.args.bindings.now)
+bound_terms-loop-binding-init t c = rw (c.in_ok-trees.ensures.items, c.in_ok-sorts.ensures.items) (refl, (bindings.at_start c.args.sig.now c.args.variables.now c.args.bindings.now))
 
 pub bound_terms-returns-in_default : goal.bound_terms-returns-in_default
 bound_terms-returns-in_default t c =
     let d = c.args.sig.now in
     let loop = c.loop-binding in
     record {
-      value = bindings-other d (scope_of c.args.variables.now) c.args.bindings.now loop.binding-index loop.trees.items loop.sorts.items loop.invariant c.binding-item.result c.loop-binding-test.true c.binding-item.is (leaf-no_pair d c.binding-item.result c.in_default.not-List);
+      value = bindings-other d c.args.variables.now c.args.bindings.now loop.binding-index loop.trees.items loop.sorts.items loop.invariant.1 c.binding-item.result c.loop-binding-test.true c.binding-item.is (leaf-no_pair d c.binding-item.result c.in_default.not-List);
       one_each = tt;
+      restored = loop.invariant.0;
     }
 
 pub bound_terms-returns-then-items-ne2-clause-value : goal.bound_terms-returns-then-items-ne2-clause-value
 bound_terms-returns-then-items-ne2-clause-value t c =
     let d = c.args.sig.now in
     let loop = c.loop-binding in
-    bindings-other d (scope_of c.args.variables.now) c.args.bindings.now loop.binding-index loop.trees.items loop.sorts.items loop.invariant c.binding-item.result c.loop-binding-test.true c.binding-item.is
+    bindings-other d c.args.variables.now c.args.bindings.now loop.binding-index loop.trees.items loop.sorts.items loop.invariant.1 c.binding-item.result c.loop-binding-test.true c.binding-item.is
     (length-no_pair d c.binding-item.result c.in-List.items c.as_slice-items.result.now c.in-List.is c.as_slice-items.ensures.value c.if-items-ne2.true)
 
 pub bound_terms-returns-in_err-tree-clause-value : goal.bound_terms-returns-in_err-tree-clause-value
@@ -409,113 +389,107 @@ bound_terms-returns-in_err-tree-clause-value t c =
     let loop = c.loop-binding in
     let two = pair_at c.as_slice-items.result.now c.index-items-1.result c.if-items-ne2.false c.index-items-1.is in
     let p = err_from_is_err_and c.from_residual-in_err-tree.result c.from_residual-in_err-tree.ensures.1 in
-    rw (p.1, p.2) (bindings.at_error d (scope_of c.args.variables.now) c.args.bindings.now loop.binding-index loop.trees.items loop.sorts.items loop.invariant c.binding-item.result two.0 c.index-items-1.result _ c.loop-binding-test.true c.binding-item.is
-    (pair_form d c.binding-item.result c.in-List.items c.as_slice-items.result.now two.0 c.index-items-1.result c.in-List.is c.as_slice-items.ensures.value two.1) c.in_err-tree.ensures.value)
+    rw (p.1, p.2) (bindings.at_error d c.args.variables.now c.args.bindings.now loop.binding-index loop.trees.items loop.sorts.items loop.invariant.1 c.binding-item.result two.0 c.index-items-1.result _ c.loop-binding-test.true c.binding-item.is
+    (pair_form d c.binding-item.result c.in-List.items c.as_slice-items.result.now two.0 c.index-items-1.result c.in-List.is c.as_slice-items.ensures.value two.1) (answers_along sorted_of (meaning d c.args.variables.now (part_of d (expression_of c.index-items-1.result))) (meaning d loop.variables (part_of d (expression_of c.index-items-1.result))) (Err _) (ap (λ sc. meaning d sc (part_of d (expression_of c.index-items-1.result))) (sym loop.invariant.0)) c.in_err-tree.ensures.value))
 
 pub bound_terms-loop-binding-preserved : goal.bound_terms-loop-binding-preserved
 bound_terms-loop-binding-preserved t c =
     let d = c.args.sig.now in
     let loop = c.loop-binding in
     let two = pair_at c.as_slice-items.result.now c.index-items-1.result c.if-items-ne2.false c.index-items-1.is in
-    rw (c.in_ok-push.ensures.items, c.in_ok-push-2.ensures.items)
-    (bindings.at_next d (scope_of c.args.variables.now) c.args.bindings.now loop.binding-index loop.trees.items loop.sorts.items loop.invariant c.binding-item.result two.0 c.index-items-1.result _ _ (one_more_each loop.trees.items loop.sorts.items _ _ loop.invariant.long) c.loop-binding-test.true c.binding-item.is
-    (pair_form d c.binding-item.result c.in-List.items c.as_slice-items.result.now two.0 c.index-items-1.result c.in-List.is c.as_slice-items.ensures.value two.1) c.in_ok-tree.ensures.value)
+    rw (c.in_ok-push.ensures.items, c.in_ok-push-2.ensures.items) (
+      c.in_ok-tree.ensures.restored ∙ loop.invariant.0,
+      bindings.at_next d c.args.variables.now c.args.bindings.now loop.binding-index loop.trees.items loop.sorts.items loop.invariant.1 c.binding-item.result two.0 c.index-items-1.result _ _ (one_more_each loop.trees.items loop.sorts.items _ _ loop.invariant.1.long) c.loop-binding-test.true c.binding-item.is
+          (pair_form d c.binding-item.result c.in-List.items c.as_slice-items.result.now two.0 c.index-items-1.result c.in-List.is c.as_slice-items.ensures.value two.1) (ap (λ sc. meaning d sc (part_of d (expression_of c.index-items-1.result))) (sym loop.invariant.0) ∙ c.in_ok-tree.ensures.value),
+    )
 
 pub bound_terms-returns-clause-value : goal.bound_terms-returns-clause-value
 bound_terms-returns-clause-value t c =
     let loop = c.loop-binding in
-    bindings.at_end c.args.sig.now (scope_of c.args.variables.now) c.args.bindings.now loop.binding-index loop.trees.items loop.sorts.items loop.invariant c.loop-binding-test.false
+    bindings.at_end c.args.sig.now c.args.variables.now c.args.bindings.now loop.binding-index loop.trees.items loop.sorts.items loop.invariant.1 c.loop-binding-test.false
 
 pub bound_terms-returns-clause-one_each : goal.bound_terms-returns-clause-one_each
-bound_terms-returns-clause-one_each t c = c.loop-binding.invariant.long
+bound_terms-returns-clause-one_each t c = c.loop-binding.invariant.1.long
 
 -- the loop over cases
 pub checked_cases-loop-case-init : goal.checked_cases-loop-case-init
-checked_cases-loop-case-init t c = rw (c.in_ok-with_capacity.ensures.items, c.in_ok-with_capacity-2.ensures.items) (cases.at_start c.args.sig.now (scope_of c.args.variables.now) c.args.side c.args.cases.now)
+checked_cases-loop-case-init t c = rw (c.in_ok-with_capacity.ensures.items, c.in_ok-with_capacity-2.ensures.items) (refl, (cases.at_start c.args.sig.now c.args.variables.now c.args.side c.args.cases.now))
 
-pub checked_cases-returns-in_default : goal.checked_cases-returns-in_default
-checked_cases-returns-in_default t c =
+pub checked_cases-returns-in_default-clause-value : goal.checked_cases-returns-in_default-clause-value
+checked_cases-returns-in_default-clause-value t c =
     let d = c.args.sig.now in
     let loop = c.loop-case in
-    record { value = cases-no_pair d (scope_of c.args.variables.now) c.args.side c.args.cases.now loop.case-index loop.checked.sort (map case_of loop.checked.cases.items) loop.checked.patterns.items loop.invariant c.case-item.result c.loop-case-test.true c.case-item.is (leaf-no_pair d c.case-item.result c.in_default.not-List) }
+    cases-no_pair d c.args.variables.now c.args.side c.args.cases.now loop.case-index loop.checked.sort (map case_of loop.checked.cases.items) loop.checked.patterns.items loop.invariant.1 c.case-item.result c.loop-case-test.true c.case-item.is (leaf-no_pair d c.case-item.result c.in_default.not-List)
 
-pub checked_cases-returns-then-items-ne2 : goal.checked_cases-returns-then-items-ne2
-checked_cases-returns-then-items-ne2 t c =
+pub checked_cases-returns-then-items-ne2-clause-value : goal.checked_cases-returns-then-items-ne2-clause-value
+checked_cases-returns-then-items-ne2-clause-value t c =
     let d = c.args.sig.now in
     let loop = c.loop-case in
-    record {
-      value = cases-no_pair d (scope_of c.args.variables.now) c.args.side c.args.cases.now loop.case-index loop.checked.sort (map case_of loop.checked.cases.items) loop.checked.patterns.items loop.invariant c.case-item.result c.loop-case-test.true c.case-item.is
-          (length-no_pair d c.case-item.result c.in-List.items c.as_slice-items.result.now c.in-List.is c.as_slice-items.ensures.value c.if-items-ne2.true);
-    }
+    cases-no_pair d c.args.variables.now c.args.side c.args.cases.now loop.case-index loop.checked.sort (map case_of loop.checked.cases.items) loop.checked.patterns.items loop.invariant.1 c.case-item.result c.loop-case-test.true c.case-item.is
+    (length-no_pair d c.case-item.result c.in-List.items c.as_slice-items.result.now c.in-List.is c.as_slice-items.ensures.value c.if-items-ne2.true)
 
-pub checked_cases-returns-in_err-fitted : goal.checked_cases-returns-in_err-fitted
-checked_cases-returns-in_err-fitted t c =
+pub checked_cases-returns-in_err-fitted-clause-value : goal.checked_cases-returns-in_err-fitted-clause-value
+checked_cases-returns-in_err-fitted-clause-value t c =
     let d = c.args.sig.now in
     let loop = c.loop-case in
     let form = case_form d c.case-item.result c.in-List.items c.as_slice-items.result.now c.index-items-0.result c.index-items-1.result c.in-List.is c.as_slice-items.ensures.value c.if-items-ne2.false c.index-items-0.is c.index-items-1.is in
     let p = err_from_is_err_and c.from_residual-in_err-fitted.result c.from_residual-in_err-fitted.ensures.1 in
-    record {
-      value = rw (p.1, p.2) (case_pattern_error d (scope_of c.args.variables.now) c.args.side c.args.cases.now loop.case-index loop.checked.sort (map case_of loop.checked.cases.items) loop.checked.patterns.items loop.invariant c.case-item.result c.index-items-0.result c.index-items-1.result _ c.loop-case-test.true c.case-item.is form c.in_err-fitted.ensures.value);
-    }
+    rw (p.1, p.2) (case_pattern_error d c.args.variables.now c.args.side c.args.cases.now loop.case-index loop.checked.sort (map case_of loop.checked.cases.items) loop.checked.patterns.items loop.invariant.1 c.case-item.result c.index-items-0.result c.index-items-1.result _ c.loop-case-test.true c.case-item.is form c.in_err-fitted.ensures.value)
 
-pub checked_cases-returns-in_err-tree : goal.checked_cases-returns-in_err-tree
-checked_cases-returns-in_err-tree t c =
+pub checked_cases-returns-in_err-tree-clause-value : goal.checked_cases-returns-in_err-tree-clause-value
+checked_cases-returns-in_err-tree-clause-value t c =
     let d = c.args.sig.now in
-    let scope = scope_of c.args.variables.now in
+    let scope = c.args.variables.now in
     let loop = c.loop-case in
     let form = case_form d c.case-item.result c.in-List.items c.as_slice-items.result.now c.index-items-0.result c.index-items-1.result c.in-List.is c.as_slice-items.ensures.value c.if-items-ne2.false c.index-items-0.is c.index-items-1.is in
-    let inner = case-scope c.args.variables.now c.in_ok-fitted.inner.items c.as_slice.result.now c.in_ok-all.all.items c.as_slice-in-loop-case.result.now c.as_slice.ensures.value c.in_ok-all.ensures.ok c.as_slice-in-loop-case.ensures.value in
+    let inner = case-scope loop.variables scope c.in_ok-fitted.inner.items c.as_slice.result.now loop.invariant.0 c.as_slice.ensures.value in
     let p = err_from_is_err_and c.from_residual-in_err-tree.result c.from_residual-in_err-tree.ensures.1 in
-    record {
-      value = rw (p.1, p.2) (case_term_error d scope c.args.side c.args.cases.now loop.case-index loop.checked.sort (map case_of loop.checked.cases.items) loop.checked.patterns.items loop.invariant c.case-item.result c.index-items-0.result c.index-items-1.result (c.in_ok-fitted.fitted, map variable_of c.in_ok-fitted.inner.items) (scope_of c.as_slice-in-loop-case.result.now) _ c.loop-case-test.true c.case-item.is form c.in_ok-fitted.ensures.value inner c.in_err-tree.ensures.value);
-    }
+    rw (p.1, p.2) (case_term_error d scope c.args.side c.args.cases.now loop.case-index loop.checked.sort (map case_of loop.checked.cases.items) loop.checked.patterns.items loop.invariant.1 c.case-item.result c.index-items-0.result c.index-items-1.result (c.in_ok-fitted.fitted, map variable_of c.in_ok-fitted.inner.items) (bind (map variable_of c.as_slice.result.now) loop.variables) _ c.loop-case-test.true c.case-item.is form c.in_ok-fitted.ensures.value inner c.in_err-tree.ensures.value)
 
-pub checked_cases-returns-then-not-goes_with : goal.checked_cases-returns-then-not-goes_with
-checked_cases-returns-then-not-goes_with t c =
+pub checked_cases-returns-then-not-goes_with-clause-value : goal.checked_cases-returns-then-not-goes_with-clause-value
+checked_cases-returns-then-not-goes_with-clause-value t c =
     let d = c.args.sig.now in
-    let scope = scope_of c.args.variables.now in
+    let scope = c.args.variables.now in
     let loop = c.loop-case in
     let form = case_form d c.case-item.result c.in-List.items c.as_slice-items.result.now c.index-items-0.result c.index-items-1.result c.in-List.is c.as_slice-items.ensures.value c.if-items-ne2.false c.index-items-0.is c.index-items-1.is in
-    let inner = case-scope c.args.variables.now c.in_ok-fitted.inner.items c.as_slice.result.now c.in_ok-all.all.items c.as_slice-in-loop-case.result.now c.as_slice.ensures.value c.in_ok-all.ensures.ok c.as_slice-in-loop-case.ensures.value in
+    let inner = case-scope loop.variables scope c.in_ok-fitted.inner.items c.as_slice.result.now loop.invariant.0 c.as_slice.ensures.value in
     let body = part_of d (expression_of c.index-items-1.result) in
-    record {
-      value = cases.at_wrong d scope c.args.side c.args.cases.now loop.case-index loop.checked.sort (map case_of loop.checked.cases.items) loop.checked.patterns.items loop.invariant c.case-item.result c.index-items-0.result c.index-items-1.result (c.in_ok-fitted.fitted, map variable_of c.in_ok-fitted.inner.items) (formula_of c.in_ok-tree.tree, c.in_ok-tree.sort) c.loop-case-test.true c.case-item.is form c.in_ok-fitted.ensures.value
-          (ap (λ sc. meaning d sc body) (sym inner) ∙ c.in_ok-tree.ensures.value) (sym c.goes_with.ensures.value ∙ c.if-not-goes_with.true);
-    }
+    cases.at_wrong d scope c.args.side c.args.cases.now loop.case-index loop.checked.sort (map case_of loop.checked.cases.items) loop.checked.patterns.items loop.invariant.1 c.case-item.result c.index-items-0.result c.index-items-1.result (c.in_ok-fitted.fitted, map variable_of c.in_ok-fitted.inner.items) (formula_of c.in_ok-tree.tree, c.in_ok-tree.sort) c.loop-case-test.true c.case-item.is form c.in_ok-fitted.ensures.value
+    (ap (λ sc. meaning d sc body) (sym inner) ∙ c.in_ok-tree.ensures.value) (sym c.goes_with.ensures.value ∙ c.if-not-goes_with.true)
 
 pub checked_cases-loop-case-preserved : goal.checked_cases-loop-case-preserved
 checked_cases-loop-case-preserved t c =
     let d = c.args.sig.now in
-    let scope = scope_of c.args.variables.now in
+    let scope = c.args.variables.now in
     let loop = c.loop-case in
     let form = case_form d c.case-item.result c.in-List.items c.as_slice-items.result.now c.index-items-0.result c.index-items-1.result c.in-List.is c.as_slice-items.ensures.value c.if-items-ne2.false c.index-items-0.is c.index-items-1.is in
-    let inner = case-scope c.args.variables.now c.in_ok-fitted.inner.items c.as_slice.result.now c.in_ok-all.all.items c.as_slice-in-loop-case.result.now c.as_slice.ensures.value c.in_ok-all.ensures.ok c.as_slice-in-loop-case.ensures.value in
+    let inner = case-scope loop.variables scope c.in_ok-fitted.inner.items c.as_slice.result.now loop.invariant.0 c.as_slice.ensures.value in
     let body = part_of d (expression_of c.index-items-1.result) in
-    rw (c.in_ok-add_case.ensures.sort, c.in_ok-add_case.ensures.cases, c.in_ok-add_case.ensures.patterns)
-    (cases.at_next d scope c.args.side c.args.cases.now loop.case-index loop.checked.sort (map case_of loop.checked.cases.items) loop.checked.patterns.items loop.invariant c.case-item.result c.index-items-0.result c.index-items-1.result (c.in_ok-fitted.fitted, map variable_of c.in_ok-fitted.inner.items) (formula_of c.in_ok-tree.tree, c.in_ok-tree.sort) c.loop-case-test.true c.case-item.is form c.in_ok-fitted.ensures.value
-    (ap (λ sc. meaning d sc body) (sym inner) ∙ c.in_ok-tree.ensures.value) (sym c.goes_with.ensures.value ∙ c.if-not-goes_with.false))
+    rw (c.in_ok-add_case.ensures.sort, c.in_ok-add_case.ensures.cases, c.in_ok-add_case.ensures.patterns) (
+      c.in_ok-tree.ensures.restored ∙ loop.invariant.0,
+      cases.at_next d scope c.args.side c.args.cases.now loop.case-index loop.checked.sort (map case_of loop.checked.cases.items) loop.checked.patterns.items loop.invariant.1 c.case-item.result c.index-items-0.result c.index-items-1.result (c.in_ok-fitted.fitted, map variable_of c.in_ok-fitted.inner.items) (formula_of c.in_ok-tree.tree, c.in_ok-tree.sort) c.loop-case-test.true c.case-item.is form c.in_ok-fitted.ensures.value
+          (ap (λ sc. meaning d sc body) (sym inner) ∙ c.in_ok-tree.ensures.value) (sym c.goes_with.ensures.value ∙ c.if-not-goes_with.false),
+    )
 
-pub checked_cases-returns : goal.checked_cases-returns
-checked_cases-returns t c =
+pub checked_cases-returns-clause-value : goal.checked_cases-returns-clause-value
+checked_cases-returns-clause-value t c =
     let loop = c.loop-case in
-    record { value = cases.at_end c.args.sig.now (scope_of c.args.variables.now) c.args.side c.args.cases.now loop.case-index loop.checked.sort (map case_of loop.checked.cases.items) loop.checked.patterns.items loop.invariant c.loop-case-test.false }
+    cases.at_end c.args.sig.now c.args.variables.now c.args.side c.args.cases.now loop.case-index loop.checked.sort (map case_of loop.checked.cases.items) loop.checked.patterns.items loop.invariant.1 c.loop-case-test.false
 
 -- `match`: its two items, then its subject, and then its cases
-pub match_form-returns-in_default : goal.match_form-returns-in_default
-match_form-returns-in_default t c =
+pub match_form-returns-in_default-clause-value : goal.match_form-returns-in_default-clause-value
+match_form-returns-in_default-clause-value t c =
     let args = c.args.args.now in
-    record {
-      value = match-leaf c.args.sig.now (scope_of c.args.variables.now) args c.index-args-0.result c.index-args-1.result
-          (two_of args c.index-args-0.result c.index-args-1.result c.if-args-ne2.false c.index-args-0.is c.index-args-1.is) c.in_default.not-List;
-    }
+    match-leaf c.args.sig.now c.args.variables.now args c.index-args-0.result c.index-args-1.result
+    (two_of args c.index-args-0.result c.index-args-1.result c.if-args-ne2.false c.index-args-0.is c.index-args-1.is) c.in_default.not-List
 
-pub match_form-returns-then-args-ne2 : goal.match_form-returns-then-args-ne2
-match_form-returns-then-args-ne2 t c = record { value = match-length c.args.sig.now (scope_of c.args.variables.now) c.args.args.now c.if-args-ne2.true }
+pub match_form-returns-then-args-ne2-clause-value : goal.match_form-returns-then-args-ne2-clause-value
+match_form-returns-then-args-ne2-clause-value t c = match-length c.args.sig.now c.args.variables.now c.args.args.now c.if-args-ne2.true
 
-pub match_form-returns-then-not-are_cases : goal.match_form-returns-then-not-are_cases
-match_form-returns-then-not-are_cases t c =
+pub match_form-returns-then-not-are_cases-clause-value : goal.match_form-returns-then-not-are_cases-clause-value
+match_form-returns-then-not-are_cases-clause-value t c =
     let d = c.args.sig.now in
-    let scope = scope_of c.args.variables.now in
+    let scope = c.args.variables.now in
     let args = c.args.args.now in
     let e = part_of d (expression_of c.index-args-0.result) in
     let ps = parts_of d (expressions_of c.as_slice-cases.result.now) in
@@ -523,12 +497,12 @@ match_form-returns-then-not-are_cases t c =
     let as_cases : match_form d scope (parts_of d (expressions_of args)) ≡ cases_of d scope e ps =
     match-list d scope args c.index-args-0.result c.index-args-1.result c.in-List.cases c.as_slice-cases.result.now
     (two_of args c.index-args-0.result c.index-args-1.result c.if-args-ne2.false c.index-args-0.is c.index-args-1.is) c.in-List.is c.as_slice-cases.ensures.value in
-    record { value = as_cases ∙ cases-other d scope e ps (sym (c.are_cases.ensures.value d) ∙ c.if-not-are_cases.true) }
+    as_cases ∙ cases-other d scope e ps (sym (c.are_cases.ensures.value d) ∙ c.if-not-are_cases.true)
 
-pub match_form-returns-in_err-subject : goal.match_form-returns-in_err-subject
-match_form-returns-in_err-subject t c =
+pub match_form-returns-in_err-subject-clause-value : goal.match_form-returns-in_err-subject-clause-value
+match_form-returns-in_err-subject-clause-value t c =
     let d = c.args.sig.now in
-    let scope = scope_of c.args.variables.now in
+    let scope = c.args.variables.now in
     let args = c.args.args.now in
     let e = part_of d (expression_of c.index-args-0.result) in
     let ps = parts_of d (expressions_of c.as_slice-cases.result.now) in
@@ -537,15 +511,13 @@ match_form-returns-in_err-subject t c =
     match-list d scope args c.index-args-0.result c.index-args-1.result c.in-List.cases c.as_slice-cases.result.now
     (two_of args c.index-args-0.result c.index-args-1.result c.if-args-ne2.false c.index-args-0.is c.index-args-1.is) c.in-List.is c.as_slice-cases.ensures.value in
     let p = err_from_is_err_and c.from_residual.result c.from_residual.ensures.1 in
-    record {
-      value = rw (p.1, p.2) (answers_error sorted_of sorted_of whole (meaning d scope e) (λ subject. and_then (matchable d subject.1) (λ side. and_then (checked_cases d scope side None ps) (λ checked. exhausted d subject checked))) _
-          (as_cases ∙ cases-subject d scope e ps (sym (c.are_cases.ensures.value d) ∙ c.if-not-are_cases.false)) c.in_err-subject.ensures.value);
-    }
+    rw (p.1, p.2) (answers_error sorted_of sorted_of whole (meaning d scope e) (λ subject. and_then (matchable d subject.1) (λ side. and_then (checked_cases d scope side None ps) (λ checked. exhausted d subject checked))) _
+    (as_cases ∙ cases-subject d scope e ps (sym (c.are_cases.ensures.value d) ∙ c.if-not-are_cases.false)) c.in_err-subject.ensures.value)
 
-pub match_form-returns-in_err-side : goal.match_form-returns-in_err-side
-match_form-returns-in_err-side t c =
+pub match_form-returns-in_err-side-clause-value : goal.match_form-returns-in_err-side-clause-value
+match_form-returns-in_err-side-clause-value t c =
     let d = c.args.sig.now in
-    let scope = scope_of c.args.variables.now in
+    let scope = c.args.variables.now in
     let args = c.args.args.now in
     let e = part_of d (expression_of c.index-args-0.result) in
     let ps = parts_of d (expressions_of c.as_slice-cases.result.now) in
@@ -555,15 +527,13 @@ match_form-returns-in_err-side t c =
     (two_of args c.index-args-0.result c.index-args-1.result c.if-args-ne2.false c.index-args-0.is c.index-args-1.is) c.in-List.is c.as_slice-cases.ensures.value in
     let subject : Sorted = (formula_of c.in_ok-subject.subject, c.in_ok-subject.subject_sort) in
     let p = err_from_is_err_and c.from_residual-in_err-side.result c.from_residual-in_err-side.ensures.1 in
-    record {
-      value = rw (p.1, p.2) (answers_error same sorted_of whole (matchable d c.in_ok-subject.subject_sort) (λ side. and_then (checked_cases d scope side None ps) (λ checked. exhausted d subject checked)) _
-          (as_cases ∙ cases-side d scope e ps subject (sym (c.are_cases.ensures.value d) ∙ c.if-not-are_cases.false) c.in_ok-subject.ensures.value) c.in_err-side.ensures.value);
-    }
+    rw (p.1, p.2) (answers_error same sorted_of whole (matchable d c.in_ok-subject.subject_sort) (λ side. and_then (checked_cases d scope side None ps) (λ checked. exhausted d subject checked)) _
+    (as_cases ∙ cases-side d scope e ps subject (sym (c.are_cases.ensures.value d) ∙ c.if-not-are_cases.false) c.in_ok-subject.ensures.value) c.in_err-side.ensures.value)
 
-pub match_form-returns-in_err-checked : goal.match_form-returns-in_err-checked
-match_form-returns-in_err-checked t c =
+pub match_form-returns-in_err-checked-clause-value : goal.match_form-returns-in_err-checked-clause-value
+match_form-returns-in_err-checked-clause-value t c =
     let d = c.args.sig.now in
-    let scope = scope_of c.args.variables.now in
+    let scope = c.args.variables.now in
     let args = c.args.args.now in
     let e = part_of d (expression_of c.index-args-0.result) in
     let ps = parts_of d (expressions_of c.as_slice-cases.result.now) in
@@ -573,15 +543,13 @@ match_form-returns-in_err-checked t c =
     (two_of args c.index-args-0.result c.index-args-1.result c.if-args-ne2.false c.index-args-0.is c.index-args-1.is) c.in-List.is c.as_slice-cases.ensures.value in
     let subject : Sorted = (formula_of c.in_ok-subject.subject, c.in_ok-subject.subject_sort) in
     let p = err_from_is_err_and c.from_residual-in_err-checked.result c.from_residual-in_err-checked.ensures.1 in
-    record {
-      value = rw (p.1, p.2) (answers_error checked_of sorted_of whole (checked_cases d scope c.in_ok-side.side None ps) (λ checked. exhausted d subject checked) _
-          (as_cases ∙ cases-checked d scope e ps subject c.in_ok-side.side (sym (c.are_cases.ensures.value d) ∙ c.if-not-are_cases.false) c.in_ok-subject.ensures.value c.in_ok-side.ensures.value) c.in_err-checked.ensures.value);
-    }
+    rw (p.1, p.2) (answers_error checked_of sorted_of whole (checked_cases d scope c.in_ok-side.side None ps) (λ checked. exhausted d subject checked) _
+    (as_cases ∙ cases-checked d scope e ps subject c.in_ok-side.side (sym (c.are_cases.ensures.value d) ∙ c.if-not-are_cases.false) c.in_ok-subject.ensures.value c.in_ok-side.ensures.value) (answers_along checked_of (checked_cases d scope c.in_ok-side.side None ps) (checked_cases d c.term.new.variables c.in_ok-side.side None ps) (Err _) (ap (λ sc. checked_cases d sc c.in_ok-side.side None ps) (sym c.in_ok-subject.ensures.restored)) c.in_err-checked.ensures.value))
 
-pub match_form-returns : goal.match_form-returns
-match_form-returns t c =
+pub match_form-returns-clause-value : goal.match_form-returns-clause-value
+match_form-returns-clause-value t c =
     let d = c.args.sig.now in
-    let scope = scope_of c.args.variables.now in
+    let scope = c.args.variables.now in
     let args = c.args.args.now in
     let e = part_of d (expression_of c.index-args-0.result) in
     let ps = parts_of d (expressions_of c.as_slice-cases.result.now) in
@@ -590,9 +558,7 @@ match_form-returns t c =
     match-list d scope args c.index-args-0.result c.index-args-1.result c.in-List.cases c.as_slice-cases.result.now
     (two_of args c.index-args-0.result c.index-args-1.result c.if-args-ne2.false c.index-args-0.is c.index-args-1.is) c.in-List.is c.as_slice-cases.ensures.value in
     let subject : Sorted = (formula_of c.in_ok-subject.subject, c.in_ok-subject.subject_sort) in
-    record {
-      value = answers_along sorted_of whole (exhausted d subject (checked_of c.in_ok-checked.checked)) c.match_tree.result
-          (as_cases ∙ cases-checked d scope e ps subject c.in_ok-side.side (sym (c.are_cases.ensures.value d) ∙ c.if-not-are_cases.false) c.in_ok-subject.ensures.value c.in_ok-side.ensures.value
-          ∙ ap (λ o. and_then o (λ checked. exhausted d subject checked)) c.in_ok-checked.ensures.value)
-          c.match_tree.ensures.value;
-    }
+    answers_along sorted_of whole (exhausted d subject (checked_of c.in_ok-checked.checked)) c.match_tree.result
+    (as_cases ∙ cases-checked d scope e ps subject c.in_ok-side.side (sym (c.are_cases.ensures.value d) ∙ c.if-not-are_cases.false) c.in_ok-subject.ensures.value c.in_ok-side.ensures.value
+    ∙ ap (λ o. and_then o (λ checked. exhausted d subject checked)) (ap (λ sc. checked_cases d sc c.in_ok-side.side None ps) (sym c.in_ok-subject.ensures.restored) ∙ c.in_ok-checked.ensures.value))
+    c.match_tree.ensures.value
