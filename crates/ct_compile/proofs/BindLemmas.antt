@@ -10,7 +10,7 @@ use Rattle.ct_compile.specs.declared.bound.Bound.TheVariants.{Term, Field, Absen
 use Rattle.ct_compile.specs.Effect.{Within}
 use Rattle.ct_compile.specs.Ready.{IsThere, ArePresent}
 use Rattle.ct_compile.specs.Binding.{IsBoundAs, WithinWhere}
-use Rattle.ct_compile.specs.Marks.{listed}
+use Rattle.ct_occurrence.specs.Marks.{listed}
 
 -- lists that stand one for one are of one length
 pub zip_length : {X Y : Type 0} (R : X → Y → Type 0) (xs : List X) (ys : List Y) → AllZip R xs ys → length xs ≡ length ys

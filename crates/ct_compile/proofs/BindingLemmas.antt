@@ -16,8 +16,11 @@ use Rattle.ct_terms.specs.Formula.{Formula, Formulas, no_formulas, with_formula}
 use Rattle.ct_terms.specs.Compiled.{compiled, compiled_all}
 use Rattle.ct_terms.specs.Occurrence.{count_of, occurs, uses_below}
 use Rattle.ct_compile.specs.declared.bound.Bound.{Bound}
+use Rattle.ct_compile.specs.declared.stop.Stop.{Stop}
+use Rattle.ct_compile.specs.Deferral.{ended, Defers, DefersBound}
+use Rattle.ct_occurrence.specs.Marks.{Rows}
 use Rattle.ct_compile.specs.declared.bound.Bound.TheVariants.{Term, Absent}
-use Rattle.ct_compile.specs.Effect.{IsKept, IsPrefix, Effect}
+use Rattle.ct_compile.specs.Effect.{IsKept, IsPrefix, Within, Effect}
 use Rattle.ct_compile.specs.Ready.{given, IsReady, MayCompile, Compiles}
 use Rattle.ct_compile.specs.Weight.{weight, weights, weights_below}
 use Rattle.ct_compile.specs.Making.{making, defined}
@@ -27,6 +30,7 @@ use Rattle.ct_compile.proofs.WithinLemmas.{within_subtrees}
 use Rattle.ct_compile.proofs.MakesLemmas.{makes_then}
 use Rattle.ct_compile.proofs.ReadyLemmas.{bound_stays, setting_stays, present_less, or_left, or_right}
 use Rattle.ct_compile.proofs.CycleLemmas.{same_error}
+use Rattle.ct_compile.proofs.DeferralLemmas.{ended_by, too_deep_by, waits_under}
 
 -- nothing is left
 pub binds_none : (d : Declarations) (bodies : List Formula) (n : ℕ) (table : Terms) (env : List Bound) → Binds d bodies n table table env [] no_formulas (Ok [])
@@ -91,6 +95,15 @@ module _ (d : Declarations) (bodies : List Formula) (n : ℕ) (env : List Bound)
       order = λ trees sorts each h. tt;
     }
 
+    -- a call under the others is put off
+    pub absent_waits : (rows : Rows) (s : Stop) → DefersBound d bodies rows n table new env flags ts (Err s) → DefersBound d bodies rows n table new env (false ∷ flags) (with_formula t ts) (Err s)
+    absent_waits rows s rest =
+        too_deep_by (List Bound) (List Bound) s _ _ (λ call w trees sorts each h.
+        let k = absent_binding trees sorts each h in
+        let part = making_where d (defined d bodies n) trees flags ts in
+        waits_under d bodies rows n n table table new part [] part [] (λ allowed. WithinWhere allowed flags (compiled_all d (given d bodies n) trees ts)) (λ allowed. WithinWhere allowed (false ∷ flags) (compiled_all d (given d bodies n) trees (with_formula t ts))) call
+        (omega arith) refl (sym (append-nil part)) (λ allowed inside. inside.1) (w trees sorts k.0 k.1)) rest
+
   -- ---- it occurs
 
   module _ (table : Terms) (trees : List CoreTree) (sorts : List SortId) where
@@ -134,6 +147,16 @@ module _ (d : Declarations) (bodies : List Formula) (n : ℕ) (env : List Bound)
     order = λ trees sorts each h. tt;
   }
 
+  -- a call under the first is put off
+  pub term_waits : (rows : Rows) (table new : Terms) (s : Stop) → Defers d bodies rows n table new env t (Err s) → DefersBound d bodies rows n table new env (true ∷ flags) (with_formula t ts) (Err s)
+  term_waits rows table new s one =
+      too_deep_by TermId (List Bound) s _ _ (λ call w trees sorts each h.
+      let k = split table trees sorts each h in
+      let part = making d (defined d bodies n) trees t in
+      let rest = making_where d (defined d bodies n) trees flags ts in
+      waits_under d bodies rows n n table table new (part ++ rest) [] part rest (λ allowed. Within allowed (made trees t)) (λ allowed. WithinWhere allowed (true ∷ flags) (compiled_all d (given d bodies n) trees (with_formula t ts))) call
+      (omega arith) refl refl (λ allowed inside. inside.0 refl) (w trees sorts k.0 k.2)) one
+
   module _ (table mid : Terms) (u : TermId) (one : Compiles d bodies n table mid env t (Ok u)) where
     grown : (trees : List CoreTree) (sorts : List SortId) (s : SortId) → IsReady d bodies table n env t trees sorts s → Effect d (subtrees (made trees t)) table mid (IsErrOf (Ok u) Full)
     grown trees sorts s ready = one.effect trees sorts s (subtrees (made trees t)) ready (within_subtrees (made trees t))
@@ -147,6 +170,16 @@ module _ (d : Declarations) (bodies : List Formula) (n : ℕ) (env : List Bound)
     term_rest may =
         let k = split table may.0 may.1 may.2 may.3 in
         (may.0, may.1, k.1, rest_after may.0 may.1 k.1 k.0 k.2 k.3)
+
+    -- a call under the others is put off
+    pub term_later : (rows : Rows) (new : Terms) (s : Stop) → DefersBound d bodies rows n mid new env flags ts (Err s) → DefersBound d bodies rows n table new env (true ∷ flags) (with_formula t ts) (Err s)
+    term_later rows new s rest =
+        too_deep_by (List Bound) (List Bound) s _ _ (λ call w trees sorts each h.
+        let k = split table trees sorts each h in
+        let before = making d (defined d bodies n) trees t in
+        let part = making_where d (defined d bodies n) trees flags ts in
+        waits_under d bodies rows n n table mid new (before ++ part) before part [] (λ allowed. WithinWhere allowed flags (compiled_all d (given d bodies n) trees ts)) (λ allowed. WithinWhere allowed (true ∷ flags) (compiled_all d (given d bodies n) trees (with_formula t ts))) call
+        (omega arith) (one.order trees sorts k.0 k.2) (ap (λ (xs : List CoreTree). before ++ xs) (sym (append-nil part))) (λ allowed inside. inside.1) (w trees sorts k.1 (rest_after trees sorts k.1 k.0 k.2 k.3))) rest
 
     -- the table has grown, and is kept
     pub term_grown : MayBind d bodies table n env (true ∷ flags) (with_formula t ts) → IsPrefix table mid × IsKept d mid
@@ -200,6 +233,7 @@ pub record Completes (d : Declarations) (bodies : List Formula) (n : ℕ) (old t
   pub may : MayBind d bodies table n env left rest
   pub done : (new : Terms) (more : List Bound) → Binds d bodies n table new env left rest (Ok more) → Binds d bodies n old new env flags all (Ok (bounds ++ more))
   pub failed : (new : Terms) (e : TermError) → Binds d bodies n table new env left rest (Err e) → Binds d bodies n old new env flags all (Err e)
+  pub waits : (rows : Rows) (new : Terms) (s : Stop) → DefersBound d bodies rows n table new env left rest (Err s) → DefersBound d bodies rows n old new env flags all (Err s)
   pub lighter : weights (weights_below bodies n) rest ≤ weights (weights_below bodies n) all
 
 pub completes_start : (d : Declarations) (bodies : List Formula) (n : ℕ) (old : Terms) (env : List Bound) (flags : List Bool) (all : Formulas) → MayBind d bodies old n env flags all → Completes d bodies n old old env flags all [] flags all
@@ -207,6 +241,7 @@ completes_start d bodies n old env flags all may = record {
   may = may;
   done = λ new more h. h;
   failed = λ new e h. h;
+  waits = λ rows new s h. h;
   lighter = omega arith;
 }
 
@@ -227,6 +262,7 @@ module _ (d : Declarations) (bodies : List Formula) (n : ℕ) (old table : Terms
       may = absent_rest d bodies n env left t more table h.may;
       done = λ new bs k. subst (λ (xs : List Bound). Binds d bodies n old new env flags all (Ok xs)) (sym (append_assoc bounds (Absent ∷ []) bs)) (h.done new (Absent ∷ bs) (absent_done d bodies n env left t more table new bs k));
       failed = λ new e k. h.failed new e (absent_failed d bodies n env left t more table new e k);
+      waits = λ rows new s k. h.waits rows new s (absent_waits d bodies n env left t more table new rows s k);
       lighter = let k = h.lighter in omega (arith, k);
     }
 
@@ -240,11 +276,18 @@ module _ (d : Declarations) (bodies : List Formula) (n : ℕ) (old table : Terms
       pub completes_failed : (new : Terms) (e : TermError) → Compiles d bodies n table new env t (Err e) → Binds d bodies n old new env flags all (Err e)
       completes_failed new e one = h.failed new e (term_failed d bodies n env left t more table new e one)
 
+      pub completes_stopped : (new : Terms) (s : Stop) → Compiles d bodies n table new env t (ended (Err s)) → Binds d bodies n old new env flags all (ended (Err s))
+      completes_stopped new s one = ended_by s (λ r. Compiles d bodies n table new env t r) (λ r. Binds d bodies n old new env flags all r) (completes_failed new) one
+
+      pub completes_waits : (rows : Rows) (new : Terms) (s : Stop) → Defers d bodies rows n table new env t (Err s) → DefersBound d bodies rows n old new env flags all (Err s)
+      completes_waits rows new s one = h.waits rows new s (term_waits d bodies n env left t more rows table new s one)
+
       pub completes_term : (mid : Terms) (u : TermId) → Compiles d bodies n table mid env t (Ok u) → Completes d bodies n old mid env flags all (bounds ++ Term u ∷ []) left more
       completes_term mid u one = record {
         may = term_rest d bodies n env left t more table mid u one h.may;
         done = λ new bs k. subst (λ (xs : List Bound). Binds d bodies n old new env flags all (Ok xs)) (sym (append_assoc bounds (Term u ∷ []) bs)) (h.done new (Term u ∷ bs) (term_done d bodies n env left t more table mid u one new bs k));
         failed = λ new e k. h.failed new e (term_broken d bodies n env left t more table mid u one new e k);
+        waits = λ rows new s k. h.waits rows new s (term_later d bodies n env left t more table mid u one rows new s k);
         lighter = let k = h.lighter in omega (arith, k);
       }
 

@@ -1,7 +1,8 @@
 -- What is known of calls: it stays true as the table grows, and with one call more.
-use Rattle.std.proofs.Common.{◌≡◌, ◌⊎◌, ℕ, suc, ◌≤◌, Bool, true, false, List, [], ◌∷◌, length, Contains, Result, Ok, Err, Some, slice_get, OnOk, refl, sym, ap, ap₂, subst, ◌∙◌, inl, inr, arith, true≢false}
+use Rattle.std.proofs.Common.{◌≡◌, ◌⊎◌, ℕ, suc, ◌≤◌, Bool, true, false, List, [], ◌∷◌, ◌++◌, length, Contains, Result, Ok, Err, Some, slice_get, OnOk, refl, sym, ap, ap₂, subst, ◌∙◌, inl, inr, arith, true≢false}
 use Rattle.std.specs.List.{AllZip}
 use Rattle.std.proofs.lemmas.Option.{none-some, same_Some}
+use Rattle.std.proofs.lemmas.List.{append-nil}
 use Rattle.std.specs.Map.{lookup}
 use Rattle.indexmap.specs.IndexMap.{IndexMap, get}
 use Rattle.ct_sorts.specs.declared.ids.DefId.{DefId}
@@ -10,6 +11,7 @@ use Rattle.ct_sorts.specs.Declarations.{Declarations}
 use Rattle.ct_terms.specs.declared.ids.TermId.{TermId}
 use Rattle.ct_terms.specs.Terms.{Terms}
 use Rattle.ct_terms.specs.CoreTree.{CoreTree, subtrees}
+use Rattle.ct_terms.specs.CoreSorts.{HasTreeSort}
 use Rattle.ct_terms.specs.Formula.{Formula, Formulas, Def, bind}
 use Rattle.ct_terms.specs.FormulaSorts.{AreSound}
 use Rattle.ct_terms.specs.Compiled.{compiled, compiled_all}
@@ -17,11 +19,13 @@ use Rattle.ct_terms.specs.Occurrence.{count_of, uses_below, AreBoundSame}
 use Rattle.ct_compile.specs.declared.bound.Bound.{Bound}
 use Rattle.ct_compile.specs.declared.bound.Bound.TheVariants.{Term, Field, Absent}
 use Rattle.ct_compile.specs.declared.known.Called.{Called}
+use Rattle.ct_compile.specs.declared.stop.Stop.TheVariants.{TooDeep}
+use Rattle.ct_compile.specs.Deferral.{Defers}
 use Rattle.ct_compile.specs.Making.{HasTrees, making, makes_below, defined}
 use Rattle.ct_compile.specs.Effect.{Stands, IsKept, IsPrefix, Within, Effect}
 use Rattle.ct_compile.specs.Ready.{given, IsBound, IsReady}
-use Rattle.ct_compile.specs.Marks.{listed, Rows, row_in, HaveRows}
-use Rattle.ct_compile.specs.Binding.{IsBoundAs, Binds}
+use Rattle.ct_occurrence.specs.Marks.{listed, Rows, row_in, HaveRows}
+use Rattle.ct_compile.specs.Binding.{IsBoundAs, making_where, Binds}
 use Rattle.ct_compile.specs.Calling.{same_call, terms_of, call_of, IsRecalled, IsState}
 use Rattle.ct_compile.proofs.EffectLemmas.{stands_stays}
 use Rattle.ct_compile.proofs.WithinLemmas.{Contains-first, within_subtrees}
@@ -31,7 +35,7 @@ use Rattle.ct_compile.proofs.MakesLemmas.{have_stay}
 use Rattle.ct_compile.proofs.MakingLemmas.{makes_is, makes_same_below}
 use Rattle.ct_compile.proofs.BindLemmas.{zip_length}
 use Rattle.ct_compile.proofs.DefinitionLemmas.{given_is, fewer_rows}
-use Rattle.ct_compile.proofs.UnderLemmas.{Under, count_sorted, count_terms, call_view}
+use Rattle.ct_compile.proofs.UnderLemmas.{Under, count_sorted, count_terms, call_view, body_ready}
 
 -- ---- tables that grow
 
@@ -201,14 +205,38 @@ module _ (d : Declarations) (bodies : List Formula) (n : ℕ) (rows : Rows) (old
           made = subst (HasTrees new) (ap (λ (us : List CoreTree). making d (defined d bodies k.0) (bind (parts trees) us) body) (zip_none (IsBound old) view.others view.bound) ∙ sym (makes_is bodies k body at d (suc k.0) (parts trees) (omega arith))) made;
         }
 
--- a clause on an answer that is no error
-pub ok_always : {X E : Type 0} (P : Type 0) (r : Result X E) → P → OnOk r P
-ok_always P (Ok x) h = h
-ok_always P (Err e) h = tt
-
-pub ok_so : {X E : Type 0} (r : Result X E) (P Q : Type 0) → (P → Q) → OnOk r P → OnOk r Q
-ok_so (Ok x) P Q f h = f h
-ok_so (Err e) P Q f h = tt
+    -- the call is put off: its arguments are made
+    pub call_waits : Defers d bodies rows n old mid env (Def k ts) (Err (TooDeep (record { definition = k; bounds = bs })))
+    call_waits trees sorts sort h =
+        let view = call_under trees sorts sort h in
+        let before = making_where d (defined d bodies n) trees row ts in
+        let none : view.others ≡ [] = zip_none (IsBound old) view.others view.bound in
+        let no_sorts : view.other_sorts ≡ [] = zip_none (HasTreeSort d) view.other_sorts (subst (λ (us : List CoreTree). AllZip (HasTreeSort d) us view.other_sorts) none view.fitting) in
+        let ready = body_ready d bodies n k.0 old env [] row (Def k ts) ts body call_under mid bs all trees sorts sort h in
+        record {
+          trees = parts trees;
+          below = h.mentions.0;
+          is_call = record {
+            row = row;
+            at_row = at_row;
+            flags = all.flagged;
+            stand = all.core trees sorts view.each view.binding;
+            body = body;
+            at = at;
+            sorts = view.each;
+            sort = sort;
+            ready = subst (λ (ss : List SortId). IsReady d bodies mid k.0 (bind bs []) body (bind (parts trees) []) (bind view.each ss) sort) no_sorts
+                (subst (λ (us : List CoreTree). IsReady d bodies mid k.0 (bind bs []) body (bind (parts trees) us) (bind view.each view.other_sorts) sort) none ready);
+          };
+          within = λ allowed inside. subst (Within allowed) (given_is bodies k body at d n (parts trees) h.mentions.0 ∙ sym (given_is bodies k body at d (suc k.0) (parts trees) (omega arith))) inside;
+          before = before;
+          after = [];
+          order =
+              view.makes
+              ∙ ap (λ (us : List CoreTree). before ++ making d (defined d bodies k.0) (bind (parts trees) us) body) none
+              ∙ ap (λ (xs : List CoreTree). before ++ xs) (sym (makes_is bodies k body at d (suc k.0) (parts trees) (omega arith)) ∙ sym (append-nil (makes_below d bodies (suc k.0) k (parts trees))));
+          makes = all.order trees sorts view.each view.binding;
+        }
 
 -- nothing is known at first
 pub state_start : {S : Type 0} (d : Declarations) (bodies : List Formula) (n : ℕ) (rows : Rows) (table : Terms) (known : IndexMap Called TermId S) → known.entries ≡ [] → HaveRows d (uses_below d bodies n) n rows → IsState d bodies n rows table known

@@ -3,6 +3,7 @@ use Rattle.std.proofs.Common.{◌≡◌, ℕ, zero, suc, ◌<◌, Bool, ◌||◌
 use Rattle.std.specs.List.{AllZip, AllByRecursion}
 use Rattle.std.proofs.lemmas.Option.{none-some, same_Some}
 use Rattle.std.proofs.lemmas.Bool.Decides.{Decides-eqb}
+use Rattle.std.proofs.lemmas.List.{append_assoc}
 use Rattle.std.proofs.lemmas.Result.{IfOk-weaker}
 use Rattle.ct_sorts.specs.declared.ids.SortId.{SortId}
 use Rattle.ct_sorts.specs.Declarations.{Declarations, bool_sort}
@@ -18,12 +19,15 @@ use Rattle.ct_terms.specs.Occurrence.{occurs, uses_below}
 use Rattle.ct_compile.specs.declared.bound.Bound.{Bound}
 use Rattle.ct_compile.specs.declared.bound.Bound.TheVariants.{Term, Field, Absent}
 use Rattle.ct_compile.specs.Making.{HasTree, HasTrees, Makes, making, defined}
-use Rattle.ct_compile.specs.Effect.{Stands, IsKept, Effect}
+use Rattle.ct_compile.specs.declared.stop.Call.{Call}
+use Rattle.ct_occurrence.specs.Marks.{Rows}
+use Rattle.ct_compile.specs.Effect.{Stands, IsKept, Within, Effect}
 use Rattle.ct_compile.specs.Ready.{given, IsBound, IsThere, IsReady, MayCompile, Compiles}
 use Rattle.ct_compile.proofs.EffectLemmas.{stands_stays, effect_then}
 use Rattle.ct_compile.proofs.WithinLemmas.{within_subtrees, within_itself, within_choice}
 use Rattle.ct_compile.proofs.OperatorLemmas.{stands_as}
 use Rattle.ct_compile.proofs.MakesLemmas.{makes_then, makes_none, makes_one, makes_same}
+use Rattle.ct_compile.proofs.DeferralLemmas.{IsPutOff, waits_under}
 use Rattle.ct_compile.proofs.ReadyLemmas.{ready_stays, present_less, or_left, or_right}
 use Rattle.ct_compile.proofs.PlainLemmas.{whole_sorted}
 
@@ -143,6 +147,17 @@ module _ (d : Declarations) (bodies : List Formula) (n : ℕ) (env : List Bound)
     order = λ trees sorts sort h. tt;
   }
 
+  abbrev allows : List CoreTree → Formula → List CoreTree → Type 0
+  allows trees f allowed = Within allowed (core trees f)
+
+  abbrev made : List CoreTree → Formula → List CoreTree
+  made trees f = making d (defined d bodies n) trees f
+
+  pub choice_waits_1 : (rows : Rows) (old new : Terms) (call : Call) → IsPutOff d bodies rows n old new env c call → IsPutOff d bodies rows n old new env (Ite c t u) call
+  choice_waits_1 rows old new call one = λ trees sorts sort h.
+      waits_under d bodies rows n n old old new (made trees (Ite c t u)) [] (made trees c) (made trees t ++ (made trees u ++ core trees (Ite c t u) ∷ [])) (allows trees c) (allows trees (Ite c t u)) call (omega arith) refl refl
+      (λ allowed w. (within_choice allowed (core trees c) (core trees t) (core trees u) w).0) (one trees sorts bool_sort (condition_ready old trees sorts sort h))
+
   module _ (old m1 : Terms) (a : TermId) (first : Compiles d bodies n old m1 env c (Ok a)) where
     e1 : (trees : List CoreTree) (sorts : List SortId) (sort : SortId) → IsReady d bodies old n env (Ite c t u) trees sorts sort → Effect d (subtrees (core trees c)) old m1 (IsErrOf (Ok a) Full)
     e1 trees sorts sort h = first.effect trees sorts bool_sort (subtrees (core trees c)) (condition_ready old trees sorts sort h) (within_subtrees (core trees c))
@@ -162,6 +177,12 @@ module _ (d : Declarations) (bodies : List Formula) (n : ℕ) (env : List Bound)
           (one.effect trees sorts sort allowed (then_ready m1 trees sorts sort (ready_1 trees sorts sort h)) parts.1.0);
       order = λ trees sorts sort h. tt;
     }
+
+    pub choice_waits_2 : (rows : Rows) (new : Terms) (call : Call) → IsPutOff d bodies rows n m1 new env t call → IsPutOff d bodies rows n old new env (Ite c t u) call
+    choice_waits_2 rows new call one = λ trees sorts sort h.
+        waits_under d bodies rows n n old m1 new (made trees (Ite c t u)) (made trees c) (made trees t) (made trees u ++ core trees (Ite c t u) ∷ []) (allows trees t) (allows trees (Ite c t u)) call (omega arith)
+        (first.order trees sorts bool_sort (condition_ready old trees sorts sort h)) refl
+        (λ allowed w. (within_choice allowed (core trees c) (core trees t) (core trees u) w).1.0) (one trees sorts sort (then_ready m1 trees sorts sort (ready_1 trees sorts sort h)))
 
     module _ (m2 : Terms) (b : TermId) (second : Compiles d bodies n m1 m2 env t (Ok b)) where
       e2 : (trees : List CoreTree) (sorts : List SortId) (sort : SortId) → IsReady d bodies old n env (Ite c t u) trees sorts sort → Effect d (subtrees (core trees t)) m1 m2 (IsErrOf (Ok b) Full)
@@ -184,6 +205,13 @@ module _ (d : Declarations) (bodies : List Formula) (n : ℕ) (env : List Bound)
             (one.effect trees sorts sort allowed (else_ready m2 trees sorts sort (ready_2 trees sorts sort h)) parts.1.1);
         order = λ trees sorts sort h. tt;
       }
+
+      pub choice_waits_3 : (rows : Rows) (new : Terms) (call : Call) → IsPutOff d bodies rows n m2 new env u call → IsPutOff d bodies rows n old new env (Ite c t u) call
+      choice_waits_3 rows new call one = λ trees sorts sort h.
+          waits_under d bodies rows n n old m2 new (made trees (Ite c t u)) (made trees c ++ made trees t) (made trees u) (core trees (Ite c t u) ∷ []) (allows trees u) (allows trees (Ite c t u)) call (omega arith)
+          (makes_then (made trees c) (made trees t) old m1 m2 (first.order trees sorts bool_sort (condition_ready old trees sorts sort h)) (second.order trees sorts sort (then_ready m1 trees sorts sort (ready_1 trees sorts sort h))))
+          (sym (append_assoc (made trees c) (made trees t) (made trees u ++ core trees (Ite c t u) ∷ [])))
+          (λ allowed w. (within_choice allowed (core trees c) (core trees t) (core trees u) w).1.1) (one trees sorts sort (else_ready m2 trees sorts sort (ready_2 trees sorts sort h)))
 
       module _ (m3 : Terms) (v : TermId) (third : Compiles d bodies n m2 m3 env u (Ok v)) where
         e3 : (trees : List CoreTree) (sorts : List SortId) (sort : SortId) → IsReady d bodies old n env (Ite c t u) trees sorts sort → Effect d (subtrees (core trees u)) m2 m3 (IsErrOf (Ok v) Full)

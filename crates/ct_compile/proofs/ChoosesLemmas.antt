@@ -16,6 +16,9 @@ use Rattle.ct_terms.specs.CoreSorts.{HasTreeSort}
 use Rattle.ct_terms.specs.Formula.{Formula, Cases, no_cases, with_case}
 use Rattle.ct_terms.specs.Compiled.{compiled_cases}
 use Rattle.ct_compile.specs.declared.bound.Bound.{Bound}
+use Rattle.ct_compile.specs.declared.stop.Stop.{Stop}
+use Rattle.ct_compile.specs.Deferral.{ended, DefersCases}
+use Rattle.ct_occurrence.specs.Marks.{Rows}
 use Rattle.ct_compile.specs.declared.choices.Guarded.{Guarded}
 use Rattle.ct_compile.specs.Laws.{Laws}
 use Rattle.ct_compile.specs.Making.{HasTree, Makes, making_cases, defined}
@@ -28,6 +31,7 @@ use Rattle.ct_compile.proofs.EffectLemmas.{effect_none, effect_then}
 use Rattle.ct_compile.proofs.WithinLemmas.{within_subtrees, within_itself, within_choice}
 use Rattle.ct_compile.proofs.MakesLemmas.{makes_then, Contains-cons, Contains-none, has_subterm, subterm_cases, Rises, rises_stay, makes_rising}
 use Rattle.ct_compile.proofs.OperatorLemmas.{stands_as}
+use Rattle.ct_compile.proofs.DeferralLemmas.{ended_by, too_deep_by, waits_under}
 use Rattle.ct_compile.proofs.MatchLemmas.{IsChosen, cases_sorted}
 use Rattle.ct_compile.proofs.ChosenLemmas.{chosen_last, within_chosen, guarded_stay, same_chosen, all_after}
 
@@ -89,6 +93,18 @@ module _ (d : Declarations) (bodies : List Formula) (n : ℕ) (old table : Terms
     effect = λ tree side trees sorts sort allowed k w. later_effect new (Err e) one tree side trees sorts sort allowed k w;
     order = λ tree side trees sorts sort k. tt;
   }
+
+  pub chooses_stopped : (new : Terms) (s : Stop) → CompilesCases d bodies n table new env matched earlier rest (ended (Err s)) → CompilesCases d bodies n old new env matched [] all (ended (Err s))
+  chooses_stopped new s one = ended_by s (λ r. CompilesCases d bodies n table new env matched earlier rest r) (λ r. CompilesCases d bodies n old new env matched [] all r) (chooses_failed new) one
+
+  -- a call under them is put off
+  pub chooses_waits : (rows : Rows) (new : Terms) (s : Stop) → DefersCases d bodies rows n table new env matched earlier rest (Err s) → DefersCases d bodies rows n old new env matched [] all (Err s)
+  chooses_waits rows new s one =
+      too_deep_by TermId TermId s _ _ (λ call w tree side trees sorts sort k.
+      let f = h.for tree side trees sorts sort k in
+      waits_under d bodies rows n n old table new (making_cases d (defined d bodies n) trees tree [] all) f.begun (making_cases d (defined d bodies n) trees tree earlier rest) f.ends (λ allowed. Within allowed (later tree trees)) (λ allowed. Within allowed (whole tree trees)) call
+      (omega arith) f.order f.makes (λ allowed inside. within_chosen allowed (term_at table) made (later tree trees) (subst (Within allowed) (sym f.same) inside))
+      (w tree side trees sorts sort f.ready)) one
 
   -- the body of the last is made
   module _ (mid : Terms) (v : TermId) (one : CompilesCases d bodies n table mid env matched earlier rest (Ok v)) where

@@ -15,17 +15,22 @@ use Rattle.ct_terms.specs.Compiled.{compiled, compiled_all}
 use Rattle.ct_compile.specs.declared.bound.Bound.{Bound}
 use Rattle.ct_terms.specs.Occurrence.{count_of}
 use Rattle.ct_compile.specs.Effect.{Stands, AllStand, IsKept, Within, AllWithin, IsPrefix, Effect}
-use Rattle.ct_compile.specs.Making.{HasTree, HasTrees, Makes, leaf, terms, made_by, making, made_each, defined}
+use Rattle.ct_compile.specs.declared.stop.Call.{Call}
+use Rattle.ct_occurrence.specs.Marks.{Rows}
+use Rattle.ct_compile.specs.Making.{HasTree, HasTrees, Makes, Made, leaf, terms, made_by, making, made_each, defined}
 use Rattle.ct_compile.specs.Following.{leading, between, woven, IsLeading, IsFollowing, MayFollow, Follows}
 use Rattle.ct_compile.specs.declared.operator.Operator.{Operator}
 use Rattle.ct_compile.specs.declared.operator.Operator.TheVariants.{Inequality}
-use Rattle.ct_compile.specs.Forms.{is_plain, children_of, operator_for, combined, AreOperands}
+use Rattle.ct_occurrence.specs.Plain.{is_plain, children_of}
+use Rattle.ct_compile.specs.Forms.{operator_for, combined, AreOperands}
 use Rattle.ct_compile.specs.Weight.{weight, weights, weights_below}
 use Rattle.ct_compile.specs.Ready.{given, IsReady, AreReady, AreUnder, MayCompile, MayCompileAll, Compiles, CompilesAll}
 use Rattle.ct_compile.proofs.EffectLemmas.{stands_stays, all_stay, effect_none, effect_then, effect_because}
 use Rattle.ct_compile.proofs.WithinLemmas.{within_subtrees}
 use Rattle.ct_compile.proofs.MakesLemmas.{makes_then}
-use Rattle.ct_compile.proofs.WovenLemmas.{operator_made}
+use Rattle.ct_compile.proofs.WovenLemmas.{operator_made, terms_append}
+use Rattle.ct_compile.proofs.PrefixLemmas.{woven_prefix, prefix_end, prefix_more, operator_next}
+use Rattle.ct_compile.proofs.DeferralLemmas.{IsPutOff, ArePutOff, waits_under}
 use Rattle.ct_compile.proofs.MakingLemmas.{terms_each, making_plain}
 use Rattle.ct_compile.proofs.OperatorLemmas.{stands_as}
 use Rattle.ct_compile.proofs.ReadyLemmas.{children_ready, compiled_plain, first_ready, rest_ready, all_ready_stay}
@@ -90,6 +95,21 @@ module _ (d : Declarations) (bodies : List Formula) (n : ℕ) (old : Terms) (env
   whole_is : (trees : List CoreTree) → compiled d (given d bodies n) trees t ≡ combined d o (parts trees)
   whole_is trees = compiled_plain d bodies n trees t plain ∙ ap (λ (x : Operator). combined d x (compiled_all d (given d bodies n) trees (children_of t))) is_operator ∙ ap (λ (us : Formulas). combined d o (compiled_all d (given d bodies n) trees us)) under
 
+  made_is : (trees : List CoreTree) → making d (defined d bodies n) trees t ≡ (made_by d o (made_each d (defined d bodies n) trees ts)).making
+  made_is trees =
+      let defs = defined d bodies n in
+      making_plain d defs trees t plain
+      ∙ ap (λ (x : Operator). (made_by d x (made_each d defs trees (children_of t))).making) is_operator
+      ∙ ap (λ (us : Formulas). (made_by d o (made_each d defs trees us)).making) under
+
+  -- where a call under it is put off
+  pub plain_waits : (rows : Rows) (new : Terms) (call : Call) → ArePutOff d bodies rows n old new env o ts call → IsPutOff d bodies rows n old new env t call
+  plain_waits rows new call all = λ trees sorts sort h.
+      let ready = are_under trees sorts sort h in
+      let part = (made_by d o (made_each d (defined d bodies n) trees ts)).making in
+      waits_under d bodies rows n n old old new (making d (defined d bodies n) trees t) [] part [] (λ allowed. Within allowed (combined d o (parts trees))) (λ allowed. Within allowed (compiled d (given d bodies n) trees t)) call (omega arith) refl
+      (made_is trees ∙ sym (append-nil part)) (λ allowed w. subst (Within allowed) (whole_is trees) w) (all trees sorts ready.0 ready.1)
+
   -- where a formula under it fails
   pub plain_failed : (new : Terms) (e : TermError) → CompilesAll d bodies n old new env o ts (Err e) → Compiles d bodies n old new env t (Err e)
   plain_failed new e all = record {
@@ -141,11 +161,7 @@ module _ (d : Declarations) (bodies : List Formula) (n : ℕ) (old : Terms) (env
             let ps = made_each d defs trees ts in
             let terms_are : terms ps ≡ parts trees = terms_each d defs trees ts in
             let all_is : map (term_at mid) args ≡ terms ps = all_trees mid args (parts trees) (stand trees sorts sort h) ∙ sym terms_are in
-            let making_is : making d defs trees t ≡ (made_by d o ps).making =
-            making_plain d defs trees t plain
-            ∙ ap (λ (x : Operator). (made_by d x (made_each d defs trees (children_of t))).making) is_operator
-            ∙ ap (λ (us : Formulas). (made_by d o (made_each d defs trees us)).making) under in
-            subst (λ (xs : List CoreTree). Makes old xs new) (sym making_is)
+            subst (λ (xs : List CoreTree). Makes old xs new) (sym (made_is trees))
             (operator_made d old mid new o ps full
             (subst (AreOperands d o) (sym terms_are) (operands trees sorts sort h))
             (subst (HasTrees mid) (sym terms_are) (trees_stand mid args (parts trees) (stand trees sorts sort h)))
@@ -185,9 +201,10 @@ pub record CollectsFor (d : Declarations) (bodies : List Formula) (n : ℕ) (old
   pub same : made ++ compiled_all d (given d bodies n) trees rest ≡ compiled_all d (given d bodies n) trees all
   pub operands : AreOperands d o (made ++ compiled_all d (given d bodies n) trees rest)
   pub effect : (allowed : List CoreTree) → Within allowed (combined d o (compiled_all d (given d bodies n) trees all)) → Effect d allowed old table ⊥
-  pub begun : List CoreTree
-  pub begins : woven d o [] (made_each d (defined d bodies n) trees all) ≡ begun ++ woven d o made (made_each d (defined d bodies n) trees rest)
-  pub order : Makes old begun table
+  pub done : List Made
+  pub all_done : made_each d (defined d bodies n) trees all ≡ done ++ made_each d (defined d bodies n) trees rest
+  pub made_is : terms done ≡ made
+  pub order : Makes old (woven_prefix d o [] done (terms (made_each d (defined d bodies n) trees rest))) table
 
 pub record Collects (d : Declarations) (bodies : List Formula) (n : ℕ) (old table : Terms) (env : List Bound) (o : Operator) (all : Formulas) (args : List TermId) (lead : Option TermId) (rest : Formulas) : Type 0 where
   pub may : MayCompileAll d bodies old n env o all
@@ -206,8 +223,9 @@ collects_start d bodies n old env o all may = record {
     same = refl;
     operands = h.operands;
     effect = λ allowed w. effect_none d allowed old ⊥ h.ready.setting.kept (λ x. x);
-    begun = [];
-    begins = refl;
+    done = [];
+    all_done = refl;
+    made_is = refl;
     order = refl;
   };
   lighter = omega arith;
@@ -253,6 +271,25 @@ module _ (d : Declarations) (bodies : List Formula) (n : ℕ) (old table : Terms
         effect_because d allowed old new _ _ (same_error e Full) (effect_then d allowed old table new ⊥ _ (f.effect allowed w) (one.effect trees sorts s.0 allowed s.2 (tree_within trees sorts each under allowed w)));
     order = λ trees sorts each under. tt;
   }
+
+  -- what is made for it, and its tree
+  abbrev one_made : List CoreTree → Made
+  one_made trees = record { making = making d (defined d bodies n) trees t; term = tree_for trees }
+
+  -- a call under it is put off
+  pub collects_waits : (rows : Rows) (new : Terms) (call : Call) → IsPutOff d bodies rows n table new env t call → ArePutOff d bodies rows n old new env o all call
+  collects_waits rows new call one = λ trees sorts each under.
+      let f = h.for trees sorts each under in
+      let s = split f.each f.ready in
+      let defs = defined d bodies n in
+      let later = made_each d defs trees more in
+      let all_made = made_each d defs trees all in
+      let kept = f.ready.setting.kept in
+      let operands : AreOperands d o (terms (f.done ++ one_made trees ∷ later)) = subst (λ (ps : List Made). AreOperands d o (terms ps)) f.all_done (subst (AreOperands d o) (sym (terms_each d defs trees all)) under.operands) in
+      let next = operator_next kept.laws d (one_made trees) later old table kept.ordered o f.done operands f.order in
+      waits_under d bodies rows n n old table new (made_by d o all_made).making next.0 (making d defs trees t) next.1.0 (λ allowed. Within allowed (tree_for trees)) (λ allowed. Within allowed (combined d o (compiled_all d (given d bodies n) trees all))) call (omega arith) next.2
+      (ap (λ (ps : List Made). (made_by d o ps).making) f.all_done ∙ next.1.1)
+      (λ allowed w. tree_within trees sorts each under allowed w) (one trees sorts s.0 s.2)
 
   -- it is made, and what follows it may be
   module _ (mid : Terms) (u : TermId) (one : Compiles d bodies n table mid env t (Ok u)) where
@@ -349,14 +386,15 @@ module _ (d : Declarations) (bodies : List Formula) (n : ℕ) (old table : Terms
               same = append_assoc f.made (tree_for trees ∷ []) (later_for trees) ∙ f.same;
               operands = subst (AreOperands d o) (sym (append_assoc f.made (tree_for trees ∷ []) (later_for trees))) f.operands;
               effect = λ allowed w. effect_because d allowed old new _ ⊥ (λ x. absurd x) (effect_both trees sorts each under allowed w);
-              begun = f.begun ++ (making d (defined d bodies n) trees t ++ between d o f.made (tree_for trees) (terms (made_each d (defined d bodies n) trees more)));
-              begins =
-                  f.begins
-                  ∙ ap (λ (xs : List CoreTree). f.begun ++ xs) (sym (append_assoc (making d (defined d bodies n) trees t) (between d o f.made (tree_for trees) (terms (made_each d (defined d bodies n) trees more))) (woven d o (f.made ++ tree_for trees ∷ []) (made_each d (defined d bodies n) trees more))))
-                  ∙ sym (append_assoc f.begun (making d (defined d bodies n) trees t ++ between d o f.made (tree_for trees) (terms (made_each d (defined d bodies n) trees more))) (woven d o (f.made ++ tree_for trees ∷ []) (made_each d (defined d bodies n) trees more)));
+              done = f.done ++ one_made trees ∷ [];
+              all_done = f.all_done ∙ sym (append_assoc f.done (one_made trees ∷ []) (made_each d (defined d bodies n) trees more));
+              made_is = terms_append f.done (one_made trees ∷ []) ∙ ap (λ (us : List CoreTree). us ++ tree_for trees ∷ []) f.made_is;
               order =
-                  makes_then f.begun (making d (defined d bodies n) trees t ++ between d o f.made (tree_for trees) (terms (made_each d (defined d bodies n) trees more))) old table new f.order
-                  (makes_then (making d (defined d bodies n) trees t) (between d o f.made (tree_for trees) (terms (made_each d (defined d bodies n) trees more))) table mid new (one.order trees sorts s.0 s.2) (between_made trees sorts each under v is));
+                  let later = terms (made_each d (defined d bodies n) trees more) in
+                  subst (λ (xs : List CoreTree). Makes old xs new) (sym (prefix_more d o [] f.done (one_made trees) later))
+                  (makes_then (woven_prefix d o [] f.done (tree_for trees ∷ later)) (making d (defined d bodies n) trees t ++ between d o (terms f.done) (tree_for trees) later) old table new f.order
+                  (makes_then (making d (defined d bodies n) trees t) (between d o (terms f.done) (tree_for trees) later) table mid new (one.order trees sorts s.0 s.2)
+                  (subst (λ (us : List CoreTree). Makes mid (between d o us (tree_for trees) later) new) (sym f.made_is) (between_made trees sorts each under v is))));
             };
         lighter = let k = h.lighter in omega (arith, k);
       }
@@ -371,7 +409,7 @@ collects_end d bodies n old table env o all args lead h = record {
       effect_because d allowed old table ⊥ (IsErrOf (Ok args) Full) (λ x. cc) ((h.for trees sorts each under).effect allowed w);
   order = λ trees sorts each under.
       let f = h.for trees sorts each under in
-      subst (λ (xs : List CoreTree). Makes old xs table) (sym (f.begins ∙ append-nil f.begun)) f.order;
+      subst (λ (xs : List CoreTree). Makes old xs table) (prefix_end d o [] f.done ∙ sym (ap (λ (ps : List Made). woven d o [] ps) (f.all_done ∙ append-nil f.done))) f.order;
 }
 
 -- there is no memory for one more

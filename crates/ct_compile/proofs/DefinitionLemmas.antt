@@ -12,7 +12,7 @@ use Rattle.ct_terms.specs.Compiled.{compiled}
 use Rattle.ct_terms.specs.Occurrence.{occurs, body_uses, uses_below}
 use Rattle.ct_compile.specs.Weight.{weight, body_weight, weights_below}
 use Rattle.ct_compile.specs.Ready.{given}
-use Rattle.ct_compile.specs.Marks.{listed, Rows, HaveRows}
+use Rattle.ct_occurrence.specs.Marks.{listed, Rows, HaveRows}
 
 -- a test of two numbers that are the same
 same_number : (k n : ℕ) → (k == n) ≡ true → k ≡ n

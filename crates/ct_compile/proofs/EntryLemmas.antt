@@ -13,9 +13,9 @@ use Rattle.ct_terms.specs.FormulaSorts.{IsSorted, AreSound}
 use Rattle.ct_terms.specs.TreeFormula.{formula_of}
 use Rattle.ct_compile.specs.declared.bound.Bound.{Bound}
 use Rattle.ct_terms.specs.Occurrence.{uses_below}
-use Rattle.ct_compile.specs.Calls.{CallsAre}
-use Rattle.ct_compile.specs.Marks.{Rows, IsKnown, HaveRows, MayMark}
-use Rattle.ct_compile.specs.Working.{AreRight}
+use Rattle.ct_occurrence.specs.Calls.{CallsAre}
+use Rattle.ct_occurrence.specs.Marks.{Rows, IsKnown, HaveRows, MayMark}
+use Rattle.ct_occurrence.specs.Working.{AreRight}
 use Rattle.ct_compile.specs.Laws.{Laws}
 use Rattle.ct_compile.specs.Effect.{Stands, IsKept}
 use Rattle.ct_compile.specs.Ready.{IsReady}

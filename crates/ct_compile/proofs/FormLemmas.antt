@@ -18,15 +18,18 @@ use Rattle.ct_terms.specs.Terms.{Terms}
 use Rattle.ct_terms.specs.CoreTree.{CoreTree}
 use Rattle.ct_terms.specs.Formula.{Formula, Formulas, Cases, Match, no_formulas, with_formula, with_case}
 use Rattle.ct_terms.specs.TreeFormula.{formula_of, formulas_of_trees}
-use Rattle.ct_terms.specs.Compiled.{are_none, compiled}
+use Rattle.ct_terms.specs.Compiled.{are_none, compiled, compiled_cases}
 use Rattle.ct_terms.specs.Occurrence.{count_of, occurs, matched_occurs, occurs_in_cases, uses_below}
 use Rattle.ct_compile.specs.declared.bound.Bound.{Bound}
+use Rattle.ct_compile.specs.declared.stop.Stop.{Stop}
+use Rattle.ct_compile.specs.Deferral.{ended, Defers, DefersBound, DefersCases}
+use Rattle.ct_occurrence.specs.Marks.{Rows}
 use Rattle.ct_compile.specs.declared.bound.Bound.TheVariants.{Term, Field, Absent}
 use Rattle.ct_compile.specs.Effect.{Within}
 use Rattle.ct_compile.specs.Making.{Makes, making, making_cases, defined}
 use Rattle.ct_compile.specs.Ready.{given, IsBound, IsReady, MayCompile, Compiles}
-use Rattle.ct_compile.specs.Binding.{IsBoundAs, occurs_where, WithinWhere, AreBinding, MayBind, Binds}
-use Rattle.ct_compile.specs.CaseFormula.{case_of, cases_of_trees}
+use Rattle.ct_compile.specs.Binding.{IsBoundAs, occurs_where, WithinWhere, making_where, AreBinding, MayBind, Binds}
+use Rattle.ct_occurrence.specs.CaseFormula.{case_of, cases_of_trees}
 use Rattle.ct_compile.specs.Matching.{IsTerm, AreCases, MayCases, CompilesCases}
 use Rattle.ct_compile.specs.Weight.{weight, weights}
 use Rattle.ct_compile.proofs.EffectLemmas.{effect_then, effect_because}
@@ -34,6 +37,8 @@ use Rattle.ct_compile.proofs.ReadyLemmas.{setting_stays, present_less, or_left, 
 use Rattle.ct_compile.proofs.CycleLemmas.{same_error}
 use Rattle.ct_compile.proofs.MakesLemmas.{makes_then}
 use Rattle.ct_compile.proofs.MatchLemmas.{matched_under}
+use Rattle.ct_compile.proofs.DeferralLemmas.{ended_by, too_deep_by, waits_under}
+use Rattle.ct_compile.proofs.UnderLemmas.{too_deep_same}
 
 pub not_full : (e : TermError) → e ≡ NoMemory → IsErrOf {T = TermId} {E = TermError} (Err e) Full → ⊥
 not_full e is h = cc
@@ -67,6 +72,10 @@ may_bind_as d bodies table n env flags others ts us e f h =
 pub binds_as : (d : Declarations) (bodies : List Formula) (n : ℕ) (old new : Terms) (env : List Bound) (flags others : List Bool) (ts us : Formulas) (r : Result (List Bound) TermError) → flags ≡ others → ts ≡ us → Binds d bodies n old new env flags ts r → Binds d bodies n old new env others us r
 binds_as d bodies n old new env flags others ts us r e f h =
     subst (λ (xs : Formulas). Binds d bodies n old new env others xs r) f (subst (λ (bs : List Bool). Binds d bodies n old new env bs ts r) e h)
+
+pub defers_as : (d : Declarations) (bodies : List Formula) (rows : Rows) (n : ℕ) (old new : Terms) (env : List Bound) (flags others : List Bool) (ts us : Formulas) (r : Result (List Bound) Stop) → flags ≡ others → ts ≡ us → DefersBound d bodies rows n old new env flags ts r → DefersBound d bodies rows n old new env others us r
+defers_as d bodies rows n old new env flags others ts us r e f h =
+    subst (λ (xs : Formulas). DefersBound d bodies rows n old new env others xs r) f (subst (λ (bs : List Bool). DefersBound d bodies rows n old new env bs ts r) e h)
 
 or_false : (b : Bool) → (b || false) ≡ b
 or_false true = refl
@@ -127,6 +136,26 @@ module _ (d : Declarations) (bodies : List Formula) (n : ℕ) (old : Terms) (env
     order = λ trees sorts sort h. tt;
   }
 
+  pub match_stopped : (new : Terms) (s : Stop) → Binds d bodies n old new env (b ∷ []) ts (ended (Err s)) → Compiles d bodies n old new env (Match t cases) (ended (Err s))
+  match_stopped new s all = ended_by s (λ r. Binds d bodies n old new env (b ∷ []) ts r) (λ r. Compiles d bodies n old new env (Match t cases) r) (match_failed new) all
+
+  -- what is made for the matched term, where it occurs
+  abbrev here : List CoreTree → List CoreTree
+  here trees = if b then making d (defined d bodies n) trees t else []
+
+  match_makes : (trees : List CoreTree) → making d (defined d bodies n) trees (Match t cases) ≡ here trees ++ making_cases d (defined d bodies n) trees (core trees) [] cases
+  match_makes trees = ap (λ (y : Bool). (if y then making d (defined d bodies n) trees t else []) ++ making_cases d (defined d bodies n) trees (core trees) [] cases) (sym is)
+
+  -- a call under it is put off
+  pub match_waits : (rows : Rows) (new : Terms) (s : Stop) → DefersBound d bodies rows n old new env (b ∷ []) ts (Err s) → Defers d bodies rows n old new env (Match t cases) (Err s)
+  match_waits rows new s all =
+      too_deep_by (List Bound) TermId s _ _ (λ call w trees sorts sort h.
+      let rest = making_cases d (defined d bodies n) trees (core trees) [] cases in
+      waits_under d bodies rows n n old old new (making d (defined d bodies n) trees (Match t cases)) [] (making_where d (defined d bodies n) trees (b ∷ []) ts) rest
+      (λ allowed. WithinWhere allowed (b ∷ []) (core trees ∷ [])) (λ allowed. Within allowed (compiled d (given d bodies n) trees (Match t cases))) call
+      (omega arith) refl (match_makes trees ∙ ap (λ (xs : List CoreTree). xs ++ rest) (sym (append-nil (here trees)))) (λ allowed inside. within trees sorts sort h allowed inside)
+      (w trees sorts (h.sorted.0 ∷ []) (binding trees sorts sort h))) all
+
   module _ (mid : Terms) (bs : List Bound) (all : Binds d bodies n old mid env (b ∷ []) ts (Ok bs)) where
     pub match_some : MayCompile d bodies old n env (Match t cases) → 0 < length bs
     match_some may = some bs all.flagged
@@ -171,3 +200,13 @@ module _ (d : Declarations) (bodies : List Formula) (n : ℕ) (old : Terms) (env
             (λ x k. subst (λ (y : Bool). Makes old ((if y then making d defs trees t else []) ++ rest) new) is (makes_then here rest old mid new first k))
             (one.order (core trees) h.sorted.0 trees sorts sort (cases_ready trees sorts sort h));
       }
+
+      -- a call under the cases is put off
+      pub match_later : (rows : Rows) (new : Terms) (r : Result TermId Stop) → DefersCases d bodies rows n mid new env x [] cases r → Defers d bodies rows n old new env (Match t cases) r
+      match_later rows new r one =
+          too_deep_same r _ _ (λ call w trees sorts sort h.
+          let part = making_cases d (defined d bodies n) trees (core trees) [] cases in
+          let first : Makes old (here trees) mid = subst (λ (xs : List CoreTree). Makes old xs mid) (append-nil (here trees)) (all.order trees sorts (h.sorted.0 ∷ []) (binding trees sorts sort h)) in
+          waits_under d bodies rows n n old mid new (making d (defined d bodies n) trees (Match t cases)) (here trees) part [] (λ allowed. Within allowed (compiled_cases d (given d bodies n) trees (core trees) [] cases)) (λ allowed. Within allowed (compiled d (given d bodies n) trees (Match t cases))) call
+          (omega arith) first (match_makes trees ∙ ap (λ (xs : List CoreTree). here trees ++ xs) (sym (append-nil part))) (λ allowed inside. inside)
+          (w (core trees) h.sorted.0 trees sorts sort (cases_ready trees sorts sort h))) one

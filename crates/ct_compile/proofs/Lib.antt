@@ -14,7 +14,6 @@ mod PairLemmas
 mod ImplyingLemmas
 mod ChosenLemmas
 mod FollowLemmas
-mod MarkLemmas
 mod BindLemmas
 mod BindingLemmas
 mod DefinitionLemmas
@@ -25,14 +24,10 @@ mod ChoosesLemmas
 mod StepLemmas
 mod KnownLemmas
 mod FormLemmas
-mod MayLemmas
-mod FlagLemmas
-mod CoverLemmas
-mod NameLemmas
-mod WorkingLemmas
-mod CaseLemmas
 mod NoteLemmas
-mod MarkedCases
 mod MakesLemmas
 mod WovenLemmas
 mod MakingLemmas
+mod DeferralLemmas
+mod PrefixLemmas
+mod AttemptLemmas

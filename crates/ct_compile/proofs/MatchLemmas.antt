@@ -4,6 +4,7 @@ use Rattle.std.specs.List.{AllZip}
 use Rattle.std.proofs.lemmas.Option.{none-some, same_Some}
 use Rattle.std.proofs.lemmas.Result.{IfOk-weaker}
 use Rattle.std.proofs.lemmas.Bool.{cases_lt}
+use Rattle.std.proofs.lemmas.List.{append-nil}
 use Rattle.ct_sorts.specs.declared.ids.CtorId.{CtorId}
 use Rattle.ct_sorts.specs.declared.ids.DefId.{DefId}
 use Rattle.ct_sorts.specs.declared.ids.SelId.{SelId}
@@ -23,19 +24,23 @@ use Rattle.ct_terms.specs.FormulaSorts.{BindsSorts, AreSortedCases, HasCase}
 use Rattle.ct_terms.specs.Compiled.{fields_of, surely_fits, are_none, compiled, compiled_cases}
 use Rattle.ct_terms.specs.Occurrence.{any_below, field_count, occurs, matched_occurs, occurs_in_cases, uses_below, GiveUsed}
 use Rattle.ct_compile.specs.declared.bound.Bound.{Bound}
+use Rattle.ct_compile.specs.declared.stop.Stop.{Stop}
+use Rattle.ct_compile.specs.Deferral.{ended, Defers, DefersCases}
 use Rattle.ct_compile.specs.declared.bound.Bound.TheVariants.{Term, Field, Absent}
 use Rattle.ct_compile.specs.Laws.{Laws}
 use Rattle.ct_compile.specs.Effect.{Stands, IsKept, IsPrefix, Within, Effect}
 use Rattle.ct_compile.specs.Ready.{given, IsBound, IsThere, ArePresent, IsReady, MayCompile, Compiles}
-use Rattle.ct_compile.specs.Marks.{listed}
+use Rattle.ct_occurrence.specs.Marks.{listed, Rows}
 use Rattle.ct_compile.specs.Making.{HasTree, Makes, Defined, making, making_cases, defined}
-use Rattle.ct_compile.specs.Matching.{IsTerm, field_of, sels_of, bound_by, trees_by, tested_by, IsDeclared, AreCases, MayCases, CompilesCases}
+use Rattle.ct_compile.specs.Matching.{IsTerm, field_of, sels_of, bound_by, trees_by, AreCases, MayCases, CompilesCases}
+use Rattle.ct_occurrence.specs.Matching.{tested_by, IsDeclared}
 use Rattle.ct_compile.proofs.EffectLemmas.{prefix_trans, stands_stays, effect_none, effect_then, effect_because}
 use Rattle.ct_compile.proofs.WithinLemmas.{Contains-rest, within_subtrees, within_itself, within_choice, within_test}
 use Rattle.ct_compile.proofs.ReadyLemmas.{bound_stays, setting_stays, present_less, or_left, or_right}
 use Rattle.ct_compile.proofs.OperatorLemmas.{stands_as}
 use Rattle.ct_compile.proofs.MakesLemmas.{makes_then, makes_one}
 use Rattle.ct_compile.proofs.BindLemmas.{bind_zip, bind_first, bind_present}
+use Rattle.ct_compile.proofs.DeferralLemmas.{ended_by, too_deep_by, waits_under}
 
 -- ---- what a case is
 
@@ -276,6 +281,15 @@ module _ (d : Declarations) (bodies : List Formula) (n : ℕ) (env : List Bound)
         (one.order (bind (trees_by d p tree) trees) (bind h.sorted.0.0 sorts) sort (body_ready old tree side trees sorts sort h));
   }
 
+  -- a call under a case that ends the cases is put off
+  pub ends_waits : (rows : Rows) → tested_by d earlier p (are_none rest) ≡ None → (old new : Terms) (s : Stop) → Defers d bodies rows n old new inner body (Err s) → DefersCases d bodies rows n old new env matched earlier all (Err s)
+  ends_waits rows e old new s one =
+      too_deep_by TermId TermId s _ _ (λ call w tree side trees sorts sort h.
+      let part = making d (defined d bodies n) (bind (trees_by d p tree) trees) body in
+      waits_under d bodies rows n n old old new (making_cases d (defined d bodies n) trees tree earlier all) [] part [] (λ allowed. Within allowed (core_body tree trees)) (λ allowed. Within allowed (whole tree trees)) call
+      (omega arith) refl (making_none d (defined d bodies n) trees tree earlier body rest p e ∙ sym (append-nil part)) (λ allowed inside. subst (Within allowed) (case_none d (given d bodies n) trees tree earlier body rest p e) inside)
+      (w (bind (trees_by d p tree) trees) (bind h.sorted.0.0 sorts) sort (body_ready old tree side trees sorts sort h))) one
+
   -- the case has a test
   module _ (c : CtorId) (e : tested_by d earlier p (are_none rest) ≡ Some c) (old : Terms) where
     abbrev core_rest : CoreTree → List CoreTree → CoreTree
@@ -331,6 +345,22 @@ module _ (d : Declarations) (bodies : List Formula) (n : ℕ) (env : List Bound)
       pub test_grown : MayCases d bodies old n env matched earlier all → IsPrefix old m1 × IsKept d m1
       test_grown may = grown_1 may.0 may.1 may.2 may.3 may.4 may.5
 
+      -- the test is made
+      test_made : (a : TermId) → ((tree : CoreTree) → IsBound old matched tree → Stands m1 a (test c tree)) → (tree : CoreTree) (side : SortId) (trees : List CoreTree) (sorts : List SortId) (sort : SortId) → AreCases d bodies old n env matched earlier all tree side trees sorts sort → Makes old (test c tree ∷ []) m1
+      test_made a made tree side trees sorts sort h =
+          makes_one d old m1 (test c tree) full (tests tree (subtrees (test c tree)) h.bound (within_itself h.setting.kept.laws (subtrees (test c tree)) (test c tree) (within_subtrees (test c tree))))
+          (term_tree old matched tree (tested_there d (uses_below d bodies n) env matched earlier body rest p c e h.there) h.bound, tt) (a, made tree h.bound)
+
+      -- a call under the body is put off
+      pub first_waits : (rows : Rows) (a : TermId) → ((tree : CoreTree) → IsBound old matched tree → Stands m1 a (test c tree)) → (m2 : Terms) (s : Stop) → Defers d bodies rows n m1 m2 inner body (Err s) → DefersCases d bodies rows n old m2 env matched earlier all (Err s)
+      first_waits rows a made m2 s first =
+          too_deep_by TermId TermId s _ _ (λ call w tree side trees sorts sort h.
+          let k = cases_1 tree side trees sorts sort h in
+          let part = making d (defined d bodies n) (bind (trees_by d p tree) trees) body in
+          waits_under d bodies rows n n old m1 m2 (making_cases d (defined d bodies n) trees tree earlier all) (test c tree ∷ []) part (making_cases d (defined d bodies n) trees tree (c ∷ earlier) rest ++ whole tree trees ∷ []) (λ allowed. Within allowed (core_body tree trees)) (λ allowed. Within allowed (whole tree trees)) call
+          (omega arith) (test_made a made tree side trees sorts sort h) (making_some d (defined d bodies n) trees tree earlier body rest p c e) (λ allowed inside. (within tree trees allowed inside).1.0)
+          (w (bind (trees_by d p tree) trees) (bind k.sorted.0.0 sorts) sort (body_ready m1 tree side trees sorts sort k))) first
+
       pub first_may : MayCases d bodies old n env matched earlier all → MayCompile d bodies m1 n inner body
       first_may may = case_body m1 (may.0, may.1, may.2, may.3, may.4, cases_1 may.0 may.1 may.2 may.3 may.4 may.5)
 
@@ -380,10 +410,13 @@ module _ (d : Declarations) (bodies : List Formula) (n : ℕ) (env : List Bound)
               makes = making_some d (defined d bodies n) trees tree earlier body rest p c e;
               order =
                   makes_then (test c tree ∷ []) (making d (defined d bodies n) (bind (trees_by d p tree) trees) body) old m1 m2
-                  (makes_one d old m1 (test c tree) full (tests tree (subtrees (test c tree)) h.bound (within_itself h.setting.kept.laws (subtrees (test c tree)) (test c tree) (within_subtrees (test c tree))))
-                  (term_tree old matched tree (tested_there d (uses_below d bodies n) env matched earlier body rest p c e h.there) h.bound, tt) (a, made tree h.bound))
+                  (test_made a made tree side trees sorts sort h)
                   (subst (λ (z : Result TermId TermError). IfOk z (λ x. Makes m1 (making d (defined d bodies n) (bind (trees_by d p tree) trees) body) m2)) is_first (first.order (bind (trees_by d p tree) trees) (bind k.sorted.0.0 sorts) sort (body_ready m1 tree side trees sorts sort k)));
             }
+
+      -- the body stops
+      pub first_stopped : (m2 : Terms) (s : Stop) → Compiles d bodies n m1 m2 inner body (ended (Err s)) → CompilesCases d bodies n old m2 env matched earlier all (ended (Err s))
+      first_stopped m2 s first = ended_by s (λ r. Compiles d bodies n m1 m2 inner body r) (λ r. CompilesCases d bodies n old m2 env matched earlier all r) (λ e k. first_failed m2 (Err e) k e (λ x. x)) first
 
 -- the core term of cases has the sort of the `match`
 pub cases_sorted : (d : Declarations) (bodies : List Formula) (table : Terms) (n : ℕ) (env : List Bound) (matched : Bound) (cases : Cases) (earlier : List CtorId) (tree : CoreTree) (side : SortId) (trees : List CoreTree) (sorts : List SortId) (sort : SortId) → AreCases d bodies table n env matched earlier cases tree side trees sorts sort → HasTreeSort d (compiled_cases d (given d bodies n) trees tree earlier cases) sort

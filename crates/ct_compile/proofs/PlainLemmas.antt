@@ -16,7 +16,8 @@ use Rattle.ct_compile.specs.declared.bound.Bound.{Bound}
 use Rattle.ct_compile.specs.Effect.{AllStand, Within, AllWithin}
 use Rattle.ct_compile.specs.declared.operator.Operator.{Operator}
 use Rattle.ct_compile.specs.declared.operator.Operator.TheVariants.{Construct, Select, Inspect, Call, Negation, Conjunction, Disjunction, Exclusion, Implication, Equality, Inequality}
-use Rattle.ct_compile.specs.Forms.{is_plain, children_of, first_of, operator_for, combined, AllHaveSort, AreOperands}
+use Rattle.ct_occurrence.specs.Plain.{is_plain, children_of}
+use Rattle.ct_compile.specs.Forms.{first_of, operator_for, combined, AllHaveSort, AreOperands}
 use Rattle.ct_compile.specs.Ready.{given, IsReady}
 use Rattle.ct_compile.proofs.WithinLemmas.{Contains-rest, within_negation, within_equivalence, within_sel, within_test, within_con, within_apply, within_conjunction, within_disjunction}
 

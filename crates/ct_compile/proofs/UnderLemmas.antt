@@ -1,7 +1,8 @@
 -- A formula under variables that are bound to others: the body of a `let`, or of a definition that is called.
-use Rattle.std.proofs.Common.{◌≡◌, ℕ, zero, suc, ◌+◌, Bool, ◌&&◌, ◌||◌, List, [], ◌∷◌, length, Contains, Result, Ok, Err, Some, slice_get, refl, sym, ap, subst, ◌∙◌, ◌++◌, ap₂}
+use Rattle.std.proofs.Common.{◌≡◌, ℕ, zero, suc, ◌+◌, ◌≤◌, arith, Bool, ◌&&◌, ◌||◌, List, [], ◌∷◌, length, Contains, Result, Ok, Err, Some, slice_get, refl, sym, ap, subst, ◌∙◌, ◌++◌, ap₂}
 use Rattle.std.specs.List.{AllZip}
 use Rattle.std.proofs.lemmas.Option.{none-some}
+use Rattle.std.proofs.lemmas.List.{append-nil}
 use Rattle.std.proofs.lemmas.Result.{IfOk-weaker}
 use Rattle.ct_sorts.specs.declared.ids.DefId.{DefId}
 use Rattle.ct_sorts.specs.declared.ids.SortId.{SortId}
@@ -17,9 +18,13 @@ use Rattle.ct_terms.specs.FormulaSorts.{IsSorted, AreSorted}
 use Rattle.ct_terms.specs.Compiled.{compiled, compiled_all}
 use Rattle.ct_terms.specs.Occurrence.{count_of, occurs, occurs_in_bound, uses_below}
 use Rattle.ct_compile.specs.declared.bound.Bound.{Bound}
+use Rattle.ct_compile.specs.declared.stop.Stop.{Stop}
+use Rattle.ct_compile.specs.declared.stop.Call.{Call}
+use Rattle.ct_compile.specs.declared.stop.Stop.TheVariants.{Failed, TooDeep}
+use Rattle.ct_compile.specs.Deferral.{ended, WhenTooDeep, Defers, DefersBound}
 use Rattle.ct_compile.specs.Effect.{Stands, IsKept, IsPrefix, Within}
 use Rattle.ct_compile.specs.Ready.{given, IsBound, ArePresent, IsSetting, IsReady, MayCompile, Compiles}
-use Rattle.ct_compile.specs.Marks.{listed}
+use Rattle.ct_occurrence.specs.Marks.{listed, Rows}
 use Rattle.ct_compile.specs.Making.{HasTrees, Makes, making, defined}
 use Rattle.ct_compile.specs.Binding.{IsBoundAs, occurs_where, WithinWhere, making_where, AreBinding, MayBind, Binds}
 use Rattle.ct_compile.proofs.EffectLemmas.{effect_then, effect_because}
@@ -30,6 +35,13 @@ use Rattle.ct_compile.proofs.MakingLemmas.{makes_is, making_listed}
 use Rattle.ct_compile.proofs.CycleLemmas.{same_error}
 use Rattle.ct_compile.proofs.BindLemmas.{zip_length, bind_zip, bind_present, all_there, where_within}
 use Rattle.ct_compile.proofs.DefinitionLemmas.{given_is, uses_is, listed_same}
+use Rattle.ct_compile.proofs.DeferralLemmas.{ended_by, too_deep_by, waits_under}
+
+-- what holds of a call that is put off, where another thing does
+pub too_deep_same : {A : Type 0} (r : Result A Stop) (P Q : Call → Type 0) → ((call : Call) → P call → Q call) → WhenTooDeep r P → WhenTooDeep r Q
+too_deep_same (Ok a) P Q f h = tt
+too_deep_same (Err (Failed e)) P Q f h = tt
+too_deep_same (Err (TooDeep call)) P Q f h = f call h
 
 -- what the formula is over, for these trees of the variables
 pub record Under (d : Declarations) (bodies : List Formula) (n m : ℕ) (old : Terms) (env outer : List Bound) (flags : List Bool) (t : Formula) (ts : Formulas) (body : Formula) (trees : List CoreTree) (sorts : List SortId) (sort : SortId) : Type 0 where
@@ -92,6 +104,18 @@ module _ (d : Declarations) (bodies : List Formula) (n m : ℕ) (old : Terms) (e
     order = λ trees sorts sort h. tt;
   }
 
+  pub under_stopped : (new : Terms) (s : Stop) → Binds d bodies n old new env flags ts (ended (Err s)) → Compiles d bodies n old new env t (ended (Err s))
+  under_stopped new s all = ended_by s (λ r. Binds d bodies n old new env flags ts r) (λ r. Compiles d bodies n old new env t r) (under_failed new) all
+
+  -- a call under what is bound is put off
+  pub under_waits : (rows : Rows) (new : Terms) (s : Stop) → DefersBound d bodies rows n old new env flags ts (Err s) → Defers d bodies rows n old new env t (Err s)
+  under_waits rows new s all =
+      too_deep_by (List Bound) TermId s _ _ (λ call w trees sorts sort h.
+      let u = view trees sorts sort h in
+      waits_under d bodies rows n n old old new (making d (defined d bodies n) trees t) [] (making_where d (defined d bodies n) trees flags ts) (making d (defined d bodies m) (bind (parts trees) u.others) body)
+      (λ allowed. WithinWhere allowed flags (parts trees)) (λ allowed. Within allowed (compiled d (given d bodies n) trees t)) call
+      (omega arith) refl u.makes (λ allowed inside. within_parts trees sorts sort h allowed inside) (w trees sorts u.each u.binding)) all
+
   module _ (mid : Terms) (bs : List Bound) (all : Binds d bodies n old mid env flags ts (Ok bs)) where
     -- there is no memory for more
     pub under_out : (e : TermError) → e ≡ NoMemory → Compiles d bodies n old mid env t (Err e)
@@ -121,7 +145,7 @@ module _ (d : Declarations) (bodies : List Formula) (n m : ℕ) (old : Terms) (e
     pub under_grown : MayCompile d bodies old n env t → IsPrefix old mid × IsKept d mid
     under_grown may = let u = view may.0 may.1 may.2 may.3 in all.grown may.0 may.1 u.each u.binding
 
-    body_ready : (trees : List CoreTree) (sorts : List SortId) (sort : SortId) (h : IsReady d bodies old n env t trees sorts sort) → IsReady d bodies mid m (bind bs outer) body (bind (parts trees) (view trees sorts sort h).others) (bind (view trees sorts sort h).each (view trees sorts sort h).other_sorts) sort
+    pub body_ready : (trees : List CoreTree) (sorts : List SortId) (sort : SortId) (h : IsReady d bodies old n env t trees sorts sort) → IsReady d bodies mid m (bind bs outer) body (bind (parts trees) (view trees sorts sort h).others) (bind (view trees sorts sort h).each (view trees sorts sort h).other_sorts) sort
     body_ready trees sorts sort h =
         let u = view trees sorts sort h in
         let g = all.grown trees sorts u.each u.binding in
@@ -162,6 +186,18 @@ module _ (d : Declarations) (bodies : List Formula) (n m : ℕ) (old : Terms) (e
           (λ x k. subst (λ (xs : List CoreTree). Makes old xs new) (sym u.makes) (makes_then (making_where d (defined d bodies n) trees flags ts) inner old mid new (all.order trees sorts u.each u.binding) k))
           (one.order (bind (parts trees) u.others) (bind u.each u.other_sorts) sort (body_ready trees sorts sort h));
     }
+
+    -- a call under the body is put off
+    pub under_later : (rows : Rows) → m ≤ n → (new : Terms) (r : Result TermId Stop) → Defers d bodies rows m mid new (bind bs outer) body r → Defers d bodies rows n old new env t r
+    under_later rows lower new r one =
+        too_deep_same r _ _ (λ call w trees sorts sort h.
+        let u = view trees sorts sort h in
+        let before = making_where d (defined d bodies n) trees flags ts in
+        let inner = making d (defined d bodies m) (bind (parts trees) u.others) body in
+        waits_under d bodies rows m n old mid new (making d (defined d bodies n) trees t) before inner []
+        (λ allowed. Within allowed (compiled d (given d bodies m) (bind (parts trees) u.others) body)) (λ allowed. Within allowed (compiled d (given d bodies n) trees t)) call
+        lower (all.order trees sorts u.each u.binding) (u.makes ∙ ap (λ (xs : List CoreTree). before ++ xs) (sym (append-nil inner))) (λ allowed inside. subst (Within allowed) u.same inside)
+        (w (bind (parts trees) u.others) (bind u.each u.other_sorts) sort (body_ready trees sorts sort h))) one
 
     -- what is made for the body is there
     pub under_has : (new : Terms) (x : TermId) → IsKept d new → Compiles d bodies m mid new (bind bs outer) body (Ok x) → (trees : List CoreTree) (sorts : List SortId) (sort : SortId) (h : IsReady d bodies old n env t trees sorts sort) → HasTrees new (making d (defined d bodies m) (bind (parts trees) (view trees sorts sort h).others) body)

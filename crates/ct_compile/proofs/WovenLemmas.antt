@@ -25,14 +25,14 @@ listed (u ∷ us) = ap (λ (xs : List CoreTree). u ∷ xs) (listed us)
 
 -- ---- terms over one term, and over two
 
-one_over : (p : Made) (t : CoreTree) (a b c : Terms) → Makes a p.making b → Makes b (t ∷ []) c → Makes a (over (p ∷ []) t).making c
+pub one_over : (p : Made) (t : CoreTree) (a b c : Terms) → Makes a p.making b → Makes b (t ∷ []) c → Makes a (over (p ∷ []) t).making c
 one_over p t a b c h k = makes_then (p.making ++ []) (t ∷ []) a b c (makes_then p.making [] a b b h refl) k
 
 two_over : (p q : Made) (t : CoreTree) (a b c e : Terms) → Makes a p.making b → Makes b q.making c → Makes c (t ∷ []) e → Makes a (over (p ∷ (q ∷ [])) t).making e
 two_over p q t a b c e h k m = makes_then (p.making ++ (q.making ++ [])) (t ∷ []) a c e (makes_then p.making (q.making ++ []) a b c h (makes_then q.making [] b c c k refl)) m
 
 -- without the empty end
-without_nil : (xs : List CoreTree) (a b : Terms) → Makes a (xs ++ []) b → Makes a xs b
+pub without_nil : (xs : List CoreTree) (a b : Terms) → Makes a (xs ++ []) b → Makes a xs b
 without_nil xs a b h = subst (λ (ys : List CoreTree). Makes a ys b) (append-nil xs) h
 
 -- nothing more is made
@@ -41,7 +41,7 @@ and_nothing xs a b c h k = subst (λ (ts : Terms). Makes a xs ts) (sym k) h
 
 -- ---- exclusive disjunction
 
-exclusive_woven : (d : Declarations) (acc : Made) (v : CoreTree) (vs : List CoreTree) (ps : List Made) (a b c : Terms) → exclusive_of (v ∷ vs) ≡ acc.term → Makes a acc.making b → Makes b (woven d Exclusion (v ∷ vs) ps) c → Makes a (fold made_exclusive acc ps).making c
+pub exclusive_woven : (d : Declarations) (acc : Made) (v : CoreTree) (vs : List CoreTree) (ps : List Made) (a b c : Terms) → exclusive_of (v ∷ vs) ≡ acc.term → Makes a acc.making b → Makes b (woven d Exclusion (v ∷ vs) ps) c → Makes a (fold made_exclusive acc ps).making c
 exclusive_woven d acc v vs [] a b c is h k = and_nothing acc.making a b c h k
 exclusive_woven d acc v vs (p ∷ ps) a b c is h k =
     let x = exclusive_of (v ∷ vs) in
@@ -130,7 +130,7 @@ equal_first d p q x rest a b c is h k =
     let two = makes_split (equality d x q.term ∷ []) rest one.0 c one.1.1 in
     (one.0, two.0, one.1.0, two.1.0, two_over p q (equality d p.term q.term) a b one.0 two.0 h one.1.0 (subst (λ (w : CoreTree). Makes one.0 (equality d w q.term ∷ []) two.0) is two.1.0), two.1.1)
 
-equal_woven : (laws : Laws) (d : Declarations) (p q : Made) (qs : List Made) (v : CoreTree) (vs : List CoreTree) (a b c : Terms) → AreOrdered c → last_of (v ∷ vs) ≡ p.term → Makes a p.making b → Makes b (woven d Equality (v ∷ vs) (q ∷ qs)) c → Makes a (made_for (neighbours_from (made_equality d) p (q ∷ qs))) c
+pub equal_woven : (laws : Laws) (d : Declarations) (p q : Made) (qs : List Made) (v : CoreTree) (vs : List CoreTree) (a b c : Terms) → AreOrdered c → last_of (v ∷ vs) ≡ p.term → Makes a p.making b → Makes b (woven d Equality (v ∷ vs) (q ∷ qs)) c → Makes a (made_for (neighbours_from (made_equality d) p (q ∷ qs))) c
 equal_woven laws d p q [] v vs a b c ordered is h k =
     let f = equal_first d p q (last_of (v ∷ vs)) [] a b c is h k in
     makes_then (made_equality d p q).making [] a f.1 c f.4 f.5
@@ -170,7 +170,7 @@ row_has d p q n h =
     let equal = have_left n (made_equality d p q).making [] outer in
     have_left n p.making (q.making ++ []) (have_left n (made_for (p ∷ (q ∷ []))) (equality d p.term q.term ∷ []) equal)
 
-row_woven : (laws : Laws) (d : Declarations) (p q : Made) (qs : List Made) (us : List CoreTree) (a b c : Terms) → AreOrdered c → Makes a p.making b → Makes b (woven d Inequality (p.term ∷ us) (q ∷ qs)) c → Makes a (made_for (map (made_inequality d p) (q ∷ qs))) c
+pub row_woven : (laws : Laws) (d : Declarations) (p q : Made) (qs : List Made) (us : List CoreTree) (a b c : Terms) → AreOrdered c → Makes a p.making b → Makes b (woven d Inequality (p.term ∷ us) (q ∷ qs)) c → Makes a (made_for (map (made_inequality d p) (q ∷ qs))) c
 row_woven laws d p q [] us a b c ordered h k =
     let f = row_first d p q [] a b c h k in
     makes_then (made_inequality d p q).making [] a f.0 c f.1 f.2
@@ -182,11 +182,11 @@ row_woven laws d p q (r ∷ rs) us a b c ordered h k =
     makes_then (made_inequality d p q).making (made_for (map (made_inequality d p) (r ∷ rs))) a f.0 c f.1
     (row_woven laws d p r rs (us ++ q.term ∷ []) f.0 f.0 c ordered (makes_none p.making f.0 there) f.2)
 
-made_append : (ps qs : List Made) → made_for (ps ++ qs) ≡ made_for ps ++ made_for qs
+pub made_append : (ps qs : List Made) → made_for (ps ++ qs) ≡ made_for ps ++ made_for qs
 made_append [] qs = refl
 made_append (p ∷ ps) qs = ap (λ (xs : List CoreTree). p.making ++ xs) (made_append ps qs) ∙ sym (append_assoc p.making (made_for ps) (made_for qs))
 
-terms_append : (ps qs : List Made) → terms (ps ++ qs) ≡ terms ps ++ terms qs
+pub terms_append : (ps qs : List Made) → terms (ps ++ qs) ≡ terms ps ++ terms qs
 terms_append [] qs = refl
 terms_append (p ∷ ps) qs = ap (λ (xs : List CoreTree). p.term ∷ xs) (terms_append ps qs)
 
@@ -241,7 +241,7 @@ row_there d table p (q ∷ qs) h =
     )
 
 -- all that is made for the terms is made on the way
-woven_has : (d : Declarations) (o : Operator) (table : Terms) (us : List CoreTree) (ps : List Made) → HasTrees table (woven d o us ps) → HasTrees table (made_for ps)
+pub woven_has : (d : Declarations) (o : Operator) (table : Terms) (us : List CoreTree) (ps : List Made) → HasTrees table (woven d o us ps) → HasTrees table (made_for ps)
 woven_has d o table us [] h = tt
 woven_has d o table us (p ∷ ps) h =
     let rest = have_right table p.making (between d o us p.term (terms ps) ++ woven d o (us ++ p.term ∷ []) ps) h in

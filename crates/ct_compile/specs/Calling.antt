@@ -17,7 +17,7 @@ use Rattle.ct_compile.specs.Effect.{Stands}
 use Rattle.ct_compile.specs.Making.{HasTrees, makes_below}
 use Rattle.ct_compile.specs.Ready.{given, IsBound}
 use Rattle.ct_compile.specs.Binding.{IsBoundAs}
-use Rattle.ct_compile.specs.Marks.{Rows, row_in, HaveRows}
+use Rattle.ct_occurrence.specs.Marks.{Rows, row_in, HaveRows}
 
 -- the derived test of two calls
 abbrev pub same_call : Called → Called → Bool

@@ -48,16 +48,6 @@ abbrev pub trees_by : Declarations → Pattern → CoreTree → List CoreTree
 trees_by d Any t = t ∷ []
 trees_by d (Ctor c) t = fields_of d c t
 
--- the constructor that is tested before a case after cases of these: none where the case surely fits or is the last
-abbrev pub tested_by : Declarations → List CtorId → Pattern → Bool → Option CtorId
-tested_by d earlier Any last = None
-tested_by d earlier (Ctor c) last = if surely_fits d earlier c || last then None else Some c
-
--- the pattern's constructor, where it has one, is declared
-abbrev pub IsDeclared : Declarations → Pattern → Type 0
-IsDeclared d Any = Unit {0}
-IsDeclared d (Ctor c) = (ctor : Constructor) × (slice_get d.ctors c.0 ≡ Some ctor)
-
 -- cases of a `match` may be compiled, after cases of these constructors
 pub record AreCases (d : Declarations) (bodies : List Formula) (table : Terms) (n : ℕ) (env : List Bound) (matched : Bound) (earlier : List CtorId) (cases : Cases) (tree : CoreTree) (side : SortId) (trees : List CoreTree) (sorts : List SortId) (sort : SortId) : Type 0 where
   pub setting : IsSetting d bodies table env trees sorts

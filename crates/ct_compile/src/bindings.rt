@@ -1,7 +1,8 @@
 //! Environments: what the variables stand for, variable 0 first.
 ghost use Rattle.std.specs.Prelude.{◌≡◌, ◌++◌, [], ◌∷◌, map, IfOk, OnOk};
 ghost use Rattle.ct_terms.specs.Formula.{bind as bound_over};
-ghost use Rattle.ct_compile.specs.Matching.{field_of, bound_by, IsDeclared};
+ghost use Rattle.ct_compile.specs.Matching.{field_of, bound_by};
+ghost use Rattle.ct_occurrence.specs.Matching.{IsDeclared};
 
 use crate::bound::Bound;
 use ct_sorts::{SelId, Signature};

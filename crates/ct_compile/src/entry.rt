@@ -10,11 +10,10 @@ ghost use Rattle.ct_terms.specs.Compiled.{core_of};
 ghost use Rattle.ct_compile.specs.Effect.{IsPrefix, DoNotFit};
 ghost use Rattle.ct_compile.specs.Making.{Makes, making_of};
 
+use crate::deferring::compile_deferring;
 use crate::laws::laws;
-use crate::needed::work_out_named;
-use crate::occurrence::notes_on;
 use crate::scope::Scope;
-use crate::terms::compile_tree;
+use ct_occurrence::{no_definitions, notes_on, work_out_named};
 use ct_terms::{TermError, TermId, TermTable, Tree};
 use indexmap::IndexMap;
 use std::alloc::Global;
@@ -60,18 +59,18 @@ pub fn compile(
     scope.sig.sorts();
     table.len();
     let below = scope.bodies.len();
-    let mut definitions = IndexMap::new(alloc);
-    work_out_named(alloc, scope, &mut definitions, below, tree)?;
+    let mut definitions = no_definitions(alloc);
+    let bodies = scope.bodies.as_slice();
+    work_out_named(alloc, &scope.sig, bodies, &mut definitions, below, tree)?;
     let notes = notes_on(alloc, &scope.sig, &definitions, tree)?;
     let mut known = IndexMap::new(alloc);
-    compile_tree(
+    compile_deferring(
         alloc,
         scope,
         &definitions,
         &mut known,
         table,
         below,
-        &[],
         tree,
         notes.alone(),
     )

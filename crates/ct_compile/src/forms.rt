@@ -1,7 +1,8 @@
 //! Operators: which one a formula is, and the formulas under it.
 ghost use Rattle.std.specs.Prelude.{◌≡◌, true, false, IfSome, IfNone};
 ghost use Rattle.ct_terms.specs.TreeFormula.{formula_of, formulas_of_trees};
-ghost use Rattle.ct_compile.specs.Forms.{is_plain, children_of, operator_for};
+ghost use Rattle.ct_occurrence.specs.Plain.{is_plain, children_of};
+ghost use Rattle.ct_compile.specs.Forms.{operator_for};
 
 use crate::operator::Operator;
 use ct_terms::Tree;

@@ -3,26 +3,22 @@
 
 mod bindings;
 mod bound;
-mod cases;
 mod chains;
 mod choices;
 mod combine;
-mod definitions;
+mod deferring;
 mod entry;
-mod fitting;
 mod follow;
 mod forms;
 mod known;
 mod laws;
+mod level;
 mod make;
 mod matching;
-mod names;
-mod needed;
-mod notes;
-mod occurrence;
 mod operator;
 mod operators;
 mod scope;
+mod stop;
 mod terms;
 
 pub use entry::compile;

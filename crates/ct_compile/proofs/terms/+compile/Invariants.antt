@@ -1,10 +1,10 @@
 use Rattle.std.proofs.Common.{◌+◌, map, length, reverse}
 use Rattle.ct_terms.specs.TreeFormula.{formula_of, formulas_of_trees}
 use Rattle.ct_terms.specs.Occurrence.{uses_below}
-use Rattle.ct_compile.specs.Noted.{AreNoted, AreNotedWhere, CasesNoted}
+use Rattle.ct_occurrence.specs.Noted.{AreNoted, AreNotedWhere, CasesNoted}
 use Rattle.ct_compile.specs.Calling.{IsState}
-use Rattle.ct_compile.specs.Marks.{worked_in}
-use Rattle.ct_compile.specs.CaseFormula.{cases_of_trees}
+use Rattle.ct_occurrence.specs.Marks.{worked_in}
+use Rattle.ct_occurrence.specs.CaseFormula.{cases_of_trees}
 use Rattle.ct_compile.specs.Weight.{weight, weights, case_weights, weights_below}
 use Rattle.ct_compile.proofs.BindingLemmas.{Completes}
 use Rattle.ct_compile.proofs.CycleLemmas.{Collects}
@@ -12,49 +12,49 @@ use Rattle.ct_compile.proofs.ChoosesLemmas.{Chooses}
 use Rattle.ct_compile.proofs.terms.+compile.Given as goal
 
 abbrev pub decreases-compile_tree : goal.decreases-compile_tree
-decreases-compile_tree l = weight (weights_below (map formula_of l.scope.now.bodies) l.below) (formula_of l.tree.now)
+decreases-compile_tree l = weight (weights_below (map formula_of l.level.now.scope.now.bodies) l.level.now.below) (formula_of l.tree.now)
 
 abbrev pub decreases-compile_plain : goal.decreases-compile_plain
-decreases-compile_plain l = weights (weights_below (map formula_of l.scope.now.bodies) l.below) (formulas_of_trees l.trees.now) + 1
+decreases-compile_plain l = weights (weights_below (map formula_of l.level.now.scope.now.bodies) l.level.now.below) (formulas_of_trees l.trees.now) + 1
 
 abbrev pub decreases-compile_all : goal.decreases-compile_all
-decreases-compile_all l = weights (weights_below (map formula_of l.scope.now.bodies) l.below) (formulas_of_trees l.trees.now)
+decreases-compile_all l = weights (weights_below (map formula_of l.level.now.scope.now.bodies) l.level.now.below) (formulas_of_trees l.trees.now)
 
 abbrev pub decreases-compile_choice : goal.decreases-compile_choice
-decreases-compile_choice l = weight (weights_below (map formula_of l.scope.now.bodies) l.below) (formula_of l.condition.now) + weight (weights_below (map formula_of l.scope.now.bodies) l.below) (formula_of l.first.now) + weight (weights_below (map formula_of l.scope.now.bodies) l.below) (formula_of l.second.now) + 1
+decreases-compile_choice l = weight (weights_below (map formula_of l.level.now.scope.now.bodies) l.level.now.below) (formula_of l.condition.now) + weight (weights_below (map formula_of l.level.now.scope.now.bodies) l.level.now.below) (formula_of l.first.now) + weight (weights_below (map formula_of l.level.now.scope.now.bodies) l.level.now.below) (formula_of l.second.now) + 1
 
 abbrev pub decreases-compile_let : goal.decreases-compile_let
-decreases-compile_let l = weights (weights_below (map formula_of l.scope.now.bodies) l.below) (formulas_of_trees l.trees.now) + weight (weights_below (map formula_of l.scope.now.bodies) l.below) (formula_of l.body.now) + 1
+decreases-compile_let l = weights (weights_below (map formula_of l.level.now.scope.now.bodies) l.level.now.below) (formulas_of_trees l.trees.now) + weight (weights_below (map formula_of l.level.now.scope.now.bodies) l.level.now.below) (formula_of l.body.now) + 1
 
 abbrev pub decreases-compile_call : goal.decreases-compile_call
-decreases-compile_call l = weights_below (map formula_of l.scope.now.bodies) l.below l.k + weights (weights_below (map formula_of l.scope.now.bodies) l.below) (formulas_of_trees l.trees.now) + 1
+decreases-compile_call l = weights_below (map formula_of l.level.now.scope.now.bodies) l.level.now.below l.k + weights (weights_below (map formula_of l.level.now.scope.now.bodies) l.level.now.below) (formulas_of_trees l.trees.now) + 1
 
 abbrev pub decreases-compile_bound : goal.decreases-compile_bound
-decreases-compile_bound l = weights (weights_below (map formula_of l.scope.now.bodies) l.below) (formulas_of_trees l.trees.now)
+decreases-compile_bound l = weights (weights_below (map formula_of l.level.now.scope.now.bodies) l.level.now.below) (formulas_of_trees l.trees.now)
 
 abbrev pub decreases-compile_match : goal.decreases-compile_match
-decreases-compile_match l = weight (weights_below (map formula_of l.scope.now.bodies) l.below) (formula_of l.tree.now) + case_weights (weights_below (map formula_of l.scope.now.bodies) l.below) (cases_of_trees l.cases.now) + 2
+decreases-compile_match l = weight (weights_below (map formula_of l.level.now.scope.now.bodies) l.level.now.below) (formula_of l.tree.now) + case_weights (weights_below (map formula_of l.level.now.scope.now.bodies) l.level.now.below) (cases_of_trees l.cases.now) + 2
 
 abbrev pub decreases-compile_cases : goal.decreases-compile_cases
-decreases-compile_cases l = case_weights (weights_below (map formula_of l.scope.now.bodies) l.below) (cases_of_trees l.cases.now)
+decreases-compile_cases l = case_weights (weights_below (map formula_of l.level.now.scope.now.bodies) l.level.now.below) (cases_of_trees l.cases.now)
 
 abbrev pub invariant-compile_all-loop-rest : goal.invariant-compile_all-loop-rest
-invariant-compile_all-loop-rest l = Collects l.scope.sig (map formula_of l.scope.bodies) l.below l.initial.table l.table l.env l.operator (formulas_of_trees l.trees) l.args l.lead (formulas_of_trees l.rest) × IsState l.scope.sig (map formula_of l.scope.bodies) l.below (worked_in l.definitions) l.table l.known × AreNoted l.scope.sig (worked_in l.definitions) (uses_below l.scope.sig (map formula_of l.scope.bodies) l.below) (formulas_of_trees l.rest) l.left
+invariant-compile_all-loop-rest l = Collects l.level.scope.now.sig (map formula_of l.level.scope.now.bodies) l.level.below l.initial.table l.table l.env l.operator (formulas_of_trees l.trees) l.args l.lead (formulas_of_trees l.rest) × IsState l.level.scope.now.sig (map formula_of l.level.scope.now.bodies) l.level.below (worked_in l.level.definitions.now) l.table l.known × AreNoted l.level.scope.now.sig (worked_in l.level.definitions.now) (uses_below l.level.scope.now.sig (map formula_of l.level.scope.now.bodies) l.level.below) (formulas_of_trees l.rest) l.left
 
 abbrev pub decreases-compile_all-loop-rest : goal.decreases-compile_all-loop-rest
 decreases-compile_all-loop-rest l = length l.rest
 
 abbrev pub invariant-compile_bound-loop-rest : goal.invariant-compile_bound-loop-rest
-invariant-compile_bound-loop-rest l = Completes l.scope.sig (map formula_of l.scope.bodies) l.below l.initial.table l.table l.env l.flags (formulas_of_trees l.trees) l.bounds.items l.left (formulas_of_trees l.rest) × IsState l.scope.sig (map formula_of l.scope.bodies) l.below (worked_in l.definitions) l.table l.known × AreNotedWhere l.scope.sig (worked_in l.definitions) (uses_below l.scope.sig (map formula_of l.scope.bodies) l.below) l.left (formulas_of_trees l.rest) l.noted
+invariant-compile_bound-loop-rest l = Completes l.level.scope.now.sig (map formula_of l.level.scope.now.bodies) l.level.below l.initial.table l.table l.env l.flags (formulas_of_trees l.trees) l.bounds.items l.left (formulas_of_trees l.rest) × IsState l.level.scope.now.sig (map formula_of l.level.scope.now.bodies) l.level.below (worked_in l.level.definitions.now) l.table l.known × AreNotedWhere l.level.scope.now.sig (worked_in l.level.definitions.now) (uses_below l.level.scope.now.sig (map formula_of l.level.scope.now.bodies) l.level.below) l.left (formulas_of_trees l.rest) l.noted
 
 abbrev pub decreases-compile_bound-loop-rest : goal.decreases-compile_bound-loop-rest
 decreases-compile_bound-loop-rest l = length l.rest
 
 abbrev pub decreases-compile_case : goal.decreases-compile_case
-decreases-compile_case l = weight (weights_below (map formula_of l.scope.now.bodies) l.below) (formula_of l.body.now) + 1
+decreases-compile_case l = weight (weights_below (map formula_of l.level.now.scope.now.bodies) l.level.now.below) (formula_of l.body.now) + 1
 
 abbrev pub invariant-compile_cases-loop-rest : goal.invariant-compile_cases-loop-rest
-invariant-compile_cases-loop-rest l = Chooses l.scope.sig (map formula_of l.scope.bodies) l.below l.initial.table l.table l.env l.matched (cases_of_trees l.cases) l.made.items (reverse l.earlier.items) (cases_of_trees l.rest) × IsState l.scope.sig (map formula_of l.scope.bodies) l.below (worked_in l.definitions) l.table l.known × CasesNoted l.scope.sig (worked_in l.definitions) (uses_below l.scope.sig (map formula_of l.scope.bodies) l.below) (reverse l.earlier.items) (cases_of_trees l.rest) l.left
+invariant-compile_cases-loop-rest l = Chooses l.level.scope.now.sig (map formula_of l.level.scope.now.bodies) l.level.below l.initial.table l.table l.env l.matched (cases_of_trees l.cases) l.made.items (reverse l.earlier.items) (cases_of_trees l.rest) × IsState l.level.scope.now.sig (map formula_of l.level.scope.now.bodies) l.level.below (worked_in l.level.definitions.now) l.table l.known × CasesNoted l.level.scope.now.sig (worked_in l.level.definitions.now) (uses_below l.level.scope.now.sig (map formula_of l.level.scope.now.bodies) l.level.below) (reverse l.earlier.items) (cases_of_trees l.rest) l.left
 
 abbrev pub decreases-compile_cases-loop-rest : goal.decreases-compile_cases-loop-rest
 decreases-compile_cases-loop-rest l = length l.rest

@@ -1,4 +1,0 @@
-use Rattle.ct_compile.proofs.definitions.put.Goals as goal
-
-pub returns : goal.returns
-returns c = record { only = λ j. c.in_ok-insert.ensures.updates.0 j.0 }

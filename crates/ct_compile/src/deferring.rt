@@ -1,0 +1,143 @@
+//! A formula is compiled with a bounded depth of the stack: calls of definitions that lie too deep are compiled first.
+ghost use Rattle.std.specs.Prelude.{◌≡◌, suc, [], map, List, IfOk, IsErrOf};
+ghost use Rattle.ct_terms.specs.CoreTree.{CoreTree};
+ghost use Rattle.ct_terms.specs.TreeFormula.{formula_of};
+ghost use Rattle.ct_terms.specs.Occurrence.{uses_below};
+ghost use Rattle.ct_compile.specs.declared.stop.Call.{Call};
+ghost use Rattle.ct_compile.specs.Attempts.{MakesFirst, closed_core, closed_making, IsWaiting, AreWaiting};
+ghost use Rattle.ct_compile.specs.Calling.{IsState};
+ghost use Rattle.ct_compile.specs.Deferral.{ended, GoesOn, WhenTooDeep, IsCall, Waits};
+ghost use Rattle.ct_compile.specs.Effect.{Stands, Within, Effect};
+ghost use Rattle.ct_compile.specs.Making.{HasTrees, Makes, makes_below};
+ghost use Rattle.ct_occurrence.specs.Marks.{worked_in};
+ghost use Rattle.ct_occurrence.specs.Noted.{IsOfFirst, IsNoted, HaveNotes};
+ghost use Rattle.ct_compile.specs.Ready.{given, MayCompile, Compiles};
+
+use crate::bindings::bind;
+use crate::known::{Known, call_with, remember};
+use crate::level::{Level, room_under};
+use crate::scope::{Scope, body_at};
+use crate::stop::{Call, Stop};
+use crate::terms::compile_tree;
+use ct_occurrence::{Definitions, Notes, notes_at};
+use ct_terms::{TermError, TermId, TermTable, Tree};
+use std::alloc::Global;
+
+/// How deep the bodies of calls under calls may nest, beside the formula or the body that is compiled: this takes less than half
+/// of a stack of 8 MiB.
+const CALL_ROOM: usize = 2_000;
+
+/// The term of a closed formula.
+pub(crate) fn compile_deferring(
+    alloc: Global,
+    scope: &Scope,
+    definitions: &Definitions,
+    known: &mut Known,
+    table: &mut TermTable,
+    below: usize,
+    tree: &Tree,
+    notes: &[Notes],
+) -> Result<TermId, TermError>
+    requires state { IsState scope.now.sig (map formula_of scope.now.bodies) below (worked_in definitions.now) table.old known.old }
+    requires ready { MayCompile scope.now.sig (map formula_of scope.now.bodies) table.old below [] (formula_of tree.now) }
+    requires noted { HaveNotes scope.now.sig (map formula_of scope.now.bodies) (worked_in definitions.now) × IsOfFirst (IsNoted scope.now.sig (worked_in definitions.now) (uses_below scope.now.sig (map formula_of scope.now.bodies) below) (formula_of tree.now)) notes.now }
+    ensures outcome { Compiles scope.now.sig (map formula_of scope.now.bodies) below table.old table.new [] (formula_of tree.now) result }
+{
+    let level = Level {
+        alloc,
+        scope,
+        definitions,
+        below,
+        room: CALL_ROOM,
+    };
+    // The calls that are put off, each under the one before it.
+    let mut calls = Vec::new(alloc);
+    for _ in 0..u64::MAX {
+        match attempt(&level, known, table, tree, notes, calls.as_slice()) {
+            Ok(term) => {
+                if calls.pop().is_none() {
+                    return Ok(term);
+                }
+            }
+            Err(Stop::Failed(error)) => return Err(error),
+            Err(Stop::TooDeep(call)) => calls.push(call)?,
+        }
+    }
+    // Each attempt ends with a call that was not known before, so that this is never reached.
+    Err(TermError::NoMemory)
+}
+
+// Compiles the last of the calls that are put off, or the formula where there is none.
+fn attempt(
+    level: &Level<'_>,
+    known: &mut Known,
+    table: &mut TermTable,
+    tree: &Tree,
+    notes: &[Notes],
+    calls: &[Call],
+) -> Result<TermId, Stop>
+    requires state { IsState level.now.scope.now.sig (map formula_of level.now.scope.now.bodies) level.now.below (worked_in level.now.definitions.now) table.old known.old }
+    requires ready { MayCompile level.now.scope.now.sig (map formula_of level.now.scope.now.bodies) table.old level.now.below [] (formula_of tree.now) }
+    requires noted { HaveNotes level.now.scope.now.sig (map formula_of level.now.scope.now.bodies) (worked_in level.now.definitions.now) × IsOfFirst (IsNoted level.now.scope.now.sig (worked_in level.now.definitions.now) (uses_below level.now.scope.now.sig (map formula_of level.now.scope.now.bodies) level.now.below) (formula_of tree.now)) notes.now }
+    requires waiting { AreWaiting level.now.scope.now.sig (map formula_of level.now.scope.now.bodies) (worked_in level.now.definitions.now) level.now.below (formula_of tree.now) table.old calls.now }
+    ensures effect { (allowed : List CoreTree)
+        → Within allowed (closed_core level.now.scope.now.sig (map formula_of level.now.scope.now.bodies) level.now.below (formula_of tree.now))
+        → Effect level.now.scope.now.sig allowed table.old table.new (IsErrOf (ended result) TermError.Full) }
+    ensures makes { GoesOn result (MakesFirst table.old (closed_making level.now.scope.now.sig (map formula_of level.now.scope.now.bodies) level.now.below (formula_of tree.now)) table.new) }
+    ensures state { GoesOn result (IsState level.now.scope.now.sig (map formula_of level.now.scope.now.bodies) level.now.below (worked_in level.now.definitions.now) table.new known.new) }
+    ensures waits { WhenTooDeep result (IsWaiting level.now.scope.now.sig (map formula_of level.now.scope.now.bodies) (worked_in level.now.definitions.now) level.now.below (formula_of tree.now) table.new) }
+    ensures all { calls.now ≡ [] → IfOk result (λ u. Stands table.new u (closed_core level.now.scope.now.sig (map formula_of level.now.scope.now.bodies) level.now.below (formula_of tree.now))
+        × HasTrees table.new (closed_making level.now.scope.now.sig (map formula_of level.now.scope.now.bodies) level.now.below (formula_of tree.now))) }
+{
+    match calls {
+        [.., call] => compile_call_first(level, known, table, call),
+        [] => compile_tree(level, known, table, &[], tree, notes),
+    }
+}
+
+// Compiles a call, and puts down its term.
+fn compile_call_first(
+    level: &Level<'_>,
+    known: &mut Known,
+    table: &mut TermTable,
+    call: &Call,
+) -> Result<TermId, Stop>
+    requires state { IsState level.now.scope.now.sig (map formula_of level.now.scope.now.bodies) call.now.definition.0 (worked_in level.now.definitions.now) table.old known.old }
+    requires call { (trees : List CoreTree) × IsCall level.now.scope.now.sig (map formula_of level.now.scope.now.bodies) (worked_in level.now.definitions.now) table.old call.now trees }
+    requires noted { HaveNotes level.now.scope.now.sig (map formula_of level.now.scope.now.bodies) (worked_in level.now.definitions.now) }
+    ensures effect { (trees : List CoreTree) (allowed : List CoreTree)
+        → IsCall level.now.scope.now.sig (map formula_of level.now.scope.now.bodies) (worked_in level.now.definitions.now) table.old call.now trees
+        → Within allowed (given level.now.scope.now.sig (map formula_of level.now.scope.now.bodies) (suc call.now.definition.0) call.now.definition trees)
+        → Effect level.now.scope.now.sig allowed table.old table.new (IsErrOf (ended result) TermError.Full) }
+    ensures makes { (trees : List CoreTree)
+        → IsCall level.now.scope.now.sig (map formula_of level.now.scope.now.bodies) (worked_in level.now.definitions.now) table.old call.now trees
+        → IfOk result (λ u. Makes table.old (makes_below level.now.scope.now.sig (map formula_of level.now.scope.now.bodies) (suc call.now.definition.0) call.now.definition trees) table.new) }
+    ensures waits { (trees : List CoreTree)
+        → IsCall level.now.scope.now.sig (map formula_of level.now.scope.now.bodies) (worked_in level.now.definitions.now) table.old call.now trees
+        → WhenTooDeep result (Waits level.now.scope.now.sig (map formula_of level.now.scope.now.bodies) (worked_in level.now.definitions.now) call.now.definition.0 table.old table.new
+        (makes_below level.now.scope.now.sig (map formula_of level.now.scope.now.bodies) (suc call.now.definition.0) call.now.definition trees)
+        (λ allowed. Within allowed (given level.now.scope.now.sig (map formula_of level.now.scope.now.bodies) (suc call.now.definition.0) call.now.definition trees))) }
+    ensures state { GoesOn result (IsState level.now.scope.now.sig (map formula_of level.now.scope.now.bodies) call.now.definition.0 (worked_in level.now.definitions.now) table.new known.new) }
+{
+    let k = call.definition;
+    let key = call_with(level.alloc, k, call.bounds.as_slice())?;
+    let inner = bind(level.alloc, call.bounds.as_slice(), &[])?;
+    let inside = Level {
+        alloc: level.alloc,
+        scope: level.scope,
+        definitions: level.definitions,
+        below: k.0 as usize,
+        room: room_under(level, k).unwrap_or(0),
+    };
+    let body = body_at(level.scope, k);
+    let term = compile_tree(
+        &inside,
+        known,
+        table,
+        &inner,
+        body,
+        notes_at(level.definitions, k),
+    )?;
+    remember(known, key, term)?;
+    Ok(term)
+}

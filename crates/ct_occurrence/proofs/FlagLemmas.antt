@@ -1,0 +1,83 @@
+-- One flag that is set, and which case surely fits.
+use Rattle.std.proofs.Common.{◌≡◌, ℕ, zero, suc, ◌+◌, ◌<◌, ◌≤◌, Bool, true, false, ◌||◌, ◌&&◌, ◌==◌, List, [], ◌∷◌, length, reverse, set, Option, Some, None, option_map, unwrap_or, slice_get, refl, sym, ap, ap₂, ◌∙◌, arith}
+use Rattle.std.specs.List.{list_all}
+use Rattle.std.proofs.lemmas.Option.{same_Some}
+use Rattle.std.proofs.lemmas.Bool.{ne_eqb, eq-eqb}
+use Rattle.std.proofs.lemmas.List.Sorted.{list_any-IsPermutation, IsPermutation-reverse}
+use Rattle.ct_sorts.specs.declared.ids.CtorId.{CtorId}
+use Rattle.ct_sorts.specs.declared.ids.SelId.{SelId}
+use Rattle.ct_sorts.specs.declared.ids.SortId.{SortId}
+use Rattle.ct_sorts.specs.Declarations.{Declarations, Sort, Constructor}
+use Rattle.ct_terms.specs.Compiled.{ctors_of_sort, siblings, is_among, are_none}
+use Rattle.ct_terms.specs.declared.tree.Case.{Case}
+use Rattle.ct_terms.specs.declared.tree.Pattern.{Pattern}
+use Rattle.ct_terms.specs.declared.tree.Pattern.TheVariants.{Ctor, Any}
+use Rattle.ct_terms.specs.Occurrence.{field_count}
+use Rattle.ct_occurrence.specs.CaseFormula.{cases_of_trees}
+use Rattle.ct_occurrence.specs.Marks.{marked}
+
+or_none : (b : Bool) → (b || false) ≡ b
+or_none true = refl
+or_none false = refl
+
+or_all : (b : Bool) → (b || true) ≡ true
+or_all true = refl
+or_all false = refl
+
+-- a variable that has no flag
+pub marked_outside : (i : ℕ) (bs : List Bool) → length bs ≤ i → marked (λ k. i == k) bs ≡ bs
+marked_outside i [] h = refl
+marked_outside i (b ∷ bs) h =
+    ap₂ (λ (x : Bool) (xs : List Bool). x ∷ xs) (ap (λ (x : Bool). b || x) (ne_eqb i (length bs) (λ e. omega (arith, h, e))) ∙ or_none b) (marked_outside i bs (omega (arith, h)))
+
+-- a variable that has one: its place is counted from the end
+pub marked_one : (i place : ℕ) (bs : List Bool) → suc (place + i) ≡ length bs → marked (λ k. i == k) bs ≡ set bs place true
+marked_one i place [] h = absurd (omega (arith, h))
+marked_one i zero (b ∷ bs) h =
+    ap₂ (λ (x : Bool) (xs : List Bool). x ∷ xs) (ap (λ (x : Bool). b || x) (eq-eqb i (length bs) (omega (arith, h))) ∙ or_all b) (marked_outside i bs (omega (arith, h)))
+marked_one i (suc place) (b ∷ bs) h =
+    ap₂ (λ (x : Bool) (xs : List Bool). x ∷ xs) (ap (λ (x : Bool). b || x) (ne_eqb i (length bs) (λ e. omega (arith, h, e))) ∙ or_none b) (marked_one i place bs (omega (arith, h)))
+
+-- ---- constructors of one sort
+
+pub siblings_are : (d : Declarations) (c : CtorId) (s : SortId) (rest : List CtorId) → option_map (λ (x : Constructor). x.sort) (slice_get d.ctors c.0) ≡ Some s → option_map (λ (x : Sort). x.ctors) (slice_get d.sorts s.0) ≡ Some rest → siblings d c ≡ rest
+siblings_are d c s rest e f = of (slice_get d.ctors c.0) e
+  where
+    of : (found : Option Constructor) → option_map (λ (x : Constructor). x.sort) found ≡ Some s → unwrap_or (option_map (λ (ctor : Constructor). ctors_of_sort d ctor.sort) found) [] ≡ rest
+    of None k = cc
+    of (Some ctor) k = ap (ctors_of_sort d) (same_Some ctor.sort s k) ∙ ap (λ (o : Option (List CtorId)). unwrap_or o []) f
+
+pub among_reversed : (earlier : List CtorId) (k : CtorId) → is_among (reverse earlier) k ≡ is_among earlier k
+among_reversed earlier k = sym (list_any-IsPermutation (λ m. m.0 == k.0) earlier (reverse earlier) (IsPermutation-reverse earlier))
+
+-- ---- cases that are left
+
+pub none_left : (cs : List Case) → length cs < 1 → are_none (cases_of_trees cs) ≡ true
+none_left [] h = refl
+none_left (c ∷ cs) h = absurd (omega (arith, h))
+
+pub some_left : (cs : List Case) → 1 ≤ length cs → are_none (cases_of_trees cs) ≡ false
+some_left [] h = absurd (omega (arith, h))
+some_left (c ∷ cs) h = refl
+
+pub alone_at_end : (b : Bool) (cs : List Case) → length cs < 1 → true ≡ (b || are_none (cases_of_trees cs))
+alone_at_end b cs h = sym (ap (λ (x : Bool). b || x) (none_left cs h) ∙ or_all b)
+
+pub alone_before : (b : Bool) (cs : List Case) → 1 ≤ length cs → b ≡ (b || are_none (cases_of_trees cs))
+alone_before b cs h = sym (ap (λ (x : Bool). b || x) (some_left cs h) ∙ or_none b)
+
+pub fields_counted : (d : Declarations) (c : CtorId) (sels : List SelId) → option_map (λ (x : Constructor). x.sels) (slice_get d.ctors c.0) ≡ Some sels → length sels ≡ field_count d c
+fields_counted d c sels e = sym (ap (λ (o : Option (List SelId)). length (unwrap_or o [])) e)
+
+-- a pattern that is no constructor's
+pub pattern_any : (p : Pattern) → ((c : CtorId) → p ≡ Ctor c → ⊥) → p ≡ Any
+pattern_any (Ctor c) h = absurd (h c refl)
+pattern_any Any h = refl
+
+-- ---- constructors that are gone over
+
+pub covered_step : (p : CtorId → Bool) (x : CtorId) (xs : List CtorId) (b : Bool) → b ≡ p x → list_all p (x ∷ xs) ≡ (b && list_all p xs)
+covered_step p x xs b e = ap (λ (c : Bool). c && list_all p xs) (sym e)
+
+pub covered_other : (a b : ℕ) (x : Bool) → (a ≡ b → ⊥) → x ≡ ((a == b) || x)
+covered_other a b x other = sym (ap (λ (c : Bool). c || x) (ne_eqb a b other))

@@ -1,0 +1,14 @@
+mod MayLemmas
+mod MarkLemmas
+mod NameLemmas
+mod FlagLemmas
+mod CoverLemmas
+mod WorkingLemmas
+mod MarkedCases
+mod CaseLemmas
+mod OperandLemmas
+mod RestLemmas
+mod DefinitionLemmas
+mod NoteLemmas
+mod UnderWayLemmas
+mod SizeLemmas

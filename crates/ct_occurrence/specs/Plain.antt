@@ -1,0 +1,33 @@
+-- Operators: formulas that bind nothing, but for `ite`, and the formulas under them.
+use Rattle.std.specs.Prelude.{Bool, true, false}
+use Rattle.ct_terms.specs.Formula.{Formula, Formulas, Con, Sel, Test, Apply, Not, And, Or, Xor, Implies, Equal, Distinct, no_formulas, with_formula}
+
+-- the formula is an operator over formulas of one environment
+abbrev pub is_plain : Formula → Bool
+is_plain (Con c ts) = true
+is_plain (Sel s t) = true
+is_plain (Test c t) = true
+is_plain (Apply f ts) = true
+is_plain (Not t) = true
+is_plain (And ts) = true
+is_plain (Or ts) = true
+is_plain (Xor ts) = true
+is_plain (Implies ts) = true
+is_plain (Equal ts) = true
+is_plain (Distinct ts) = true
+is_plain _ = false
+
+-- the formulas under it
+abbrev pub children_of : Formula → Formulas
+children_of (Con c ts) = ts
+children_of (Sel s t) = with_formula t no_formulas
+children_of (Test c t) = with_formula t no_formulas
+children_of (Apply f ts) = ts
+children_of (Not t) = with_formula t no_formulas
+children_of (And ts) = ts
+children_of (Or ts) = ts
+children_of (Xor ts) = ts
+children_of (Implies ts) = ts
+children_of (Equal ts) = ts
+children_of (Distinct ts) = ts
+children_of _ = no_formulas

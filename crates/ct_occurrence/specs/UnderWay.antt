@@ -1,0 +1,75 @@
+-- Definitions under way: each waits for the definitions that its body names.
+use Rattle.std.specs.Prelude.{◌≡◌, ◌⊎◌, ℕ, zero, suc, ◌+◌, ◌<◌, List, [], ◌∷◌, length, Contains, Option, Some, None, slice_get, IfSome, IfNone}
+use Rattle.ct_sorts.specs.declared.ids.DefId.{DefId}
+use Rattle.ct_sorts.specs.Declarations.{Declarations}
+use Rattle.ct_terms.specs.Formula.{Formula}
+use Rattle.ct_occurrence.specs.declared.definitions.Worked.{Worked}
+use Rattle.ct_occurrence.specs.declared.under_way.Frame.{Frame}
+use Rattle.ct_occurrence.specs.Calls.{CallsAre, AreBelow}
+use Rattle.ct_occurrence.specs.Marks.{Rows, IsKnown}
+use Rattle.ct_occurrence.specs.Working.{AreRight, StayKnown}
+
+-- the definition waits: what its body names is worked out, or is left to look at
+pub record IsFrame (bodies : List Formula) (rows : Rows) (f : Frame) : Type 0 where
+  pub body : Formula
+  pub at : slice_get bodies f.definition.0 ≡ Some body
+  pub named : CallsAre (λ j. IsKnown rows j ⊎ Contains f.left.items j) body
+  pub before : AreBelow f.definition.0 f.left.items
+  pub waits : rows f.definition ≡ None
+
+-- all that the body of the definition names is left to look at
+pub record Begins (bodies : List Formula) (k : DefId) (f : Frame) : Type 0 where
+  pub definition_is : f.definition ≡ k
+  pub body : Formula
+  pub at : slice_get bodies k.0 ≡ Some body
+  pub named : CallsAre (Contains f.left.items) body
+  pub before : AreBelow k.0 f.left.items
+
+-- names are left out that are worked out, up to one that is not
+pub record IsLeft (rows : Rows) (old new : List DefId) (found : Option DefId) : Type 0 where
+  pub kept : (j : DefId) → Contains old j → IsKnown rows j ⊎ Contains new j
+  pub within : (j : DefId) → Contains new j → Contains old j
+  pub unknown : IfSome found (λ j. (rows j ≡ None) × Contains new j)
+  pub finished : IfNone found (new ≡ [])
+
+-- each comes before those that wait for it
+abbrev pub Descend : List Frame → Type 0
+Descend [] = Unit {0}
+Descend (f ∷ fs) = ((g : Frame) → Contains fs g → g.definition.0 < f.definition.0) × Descend fs
+
+-- the definitions that wait, the last one for none of the others
+pub record AreUnderWay (d : Declarations) (bodies : List Formula) (rows : Rows) (stack : List Frame) : Type 0 where
+  pub right : AreRight d bodies rows
+  pub frames : (f : Frame) → Contains stack f → IsFrame bodies rows f
+  pub descend : Descend stack
+
+-- the definition is worked out or waits
+abbrev pub IsMet : Rows → List Frame → DefId → Type 0
+IsMet rows stack k = IsKnown rows k ⊎ ((f : Frame) × Contains stack f × (f.definition ≡ k))
+
+-- a number for a definition that is not worked out
+abbrev pub counted : ℕ → Option Worked → ℕ
+counted each None = each
+counted each (Some w) = 0
+
+-- the same number for each definition below a bound that is not worked out
+abbrev pub room : Rows → ℕ → ℕ → ℕ
+room rows each zero = 0
+room rows each (suc n) = counted each (rows (record { 0 = n })) + room rows each n
+
+-- the number of the last definition that waits, and one more
+abbrev pub top : List Frame → ℕ
+top [] = 0
+top (f ∷ []) = suc f.definition.0
+top (f ∷ (g ∷ fs)) = top (g ∷ fs)
+
+-- how much is left to do
+abbrev pub left_to_do : ℕ → Rows → List Frame → ℕ
+left_to_do n rows stack = room rows (suc n) n + top stack
+
+-- a step towards the end
+pub record IsStep (d : Declarations) (bodies : List Formula) (old new : Rows) (before after : List Frame) : Type 0 where
+  pub under_way : AreUnderWay d bodies new after
+  pub stay : StayKnown old new
+  pub met : (k : DefId) → IsMet old before k → IsMet new after k
+  pub less : left_to_do (length bodies) new after < left_to_do (length bodies) old before

@@ -1,0 +1,22 @@
+//! Occurrence: which variables of a formula occur in its core term, worked out once for all binders in it, and once a
+//! definition.
+#![tactic(auto)]
+
+mod cases;
+mod definitions;
+mod fitting;
+mod height;
+mod matching;
+mod names;
+mod needed;
+mod notes;
+mod occurrence;
+mod plain;
+mod under_way;
+
+pub use cases::{body_of, pattern_of};
+pub use definitions::{Definitions, Worked, height_at, no_definitions, notes_at, row_at};
+pub use matching::tested;
+pub use needed::work_out_named;
+pub use notes::Notes;
+pub use occurrence::notes_on;
