@@ -1,6 +1,7 @@
 //! Scripts: bytes of a case, `(lists PART)` for the bytes of a part after declarations of lists, of
-//! streams and of a few constants, or `(declares 3)` for declarations of the constants `c0`, `c1`
-//! and `c2`, one a line, and a check on the last line.
+//! streams and of a few constants, `(declares 3)` for declarations of the constants `c0`, `c1` and
+//! `c2`, one a line, and a check on the last line, or `(defines 3 2)` for the definitions `e1`, `e2`
+//! and `e3`, each of which negates the one before it twice, and for an assertion of the last.
 use ct_cases::{CaseError, bytes_of, items_of, size_of, split_named};
 use ct_sexpr::Sexpr;
 use std::alloc::Global;
@@ -24,6 +25,7 @@ pub fn script_of(alloc: Global, part: &Sexpr) -> Result<Vec<u8>, CaseError> {
     }
     match split_named(items_of(part)?)? {
         ("declares", [count]) => declarations(alloc, size_of(count)?),
+        ("defines", [count, depth]) => definitions(alloc, size_of(count)?, size_of(depth)?),
         ("lists", [rest]) => after_lists(alloc, rest),
         _ => bytes_of(alloc, part),
     }
@@ -46,4 +48,42 @@ fn declarations(alloc: Global, count: u32) -> Result<Vec<u8>, CaseError> {
     }
     script.extend_from_slice(b"(check-sat)\n")?;
     Ok(script)
+}
+
+/// A script of so many definitions, each of which negates the one before it so many times, and an
+/// assertion of the last.
+fn definitions(alloc: Global, count: u32, depth: u32) -> Result<Vec<u8>, CaseError> {
+    let mut script = Vec::from_slice(alloc, b"(define-fun e0 ((x Bool)) Bool x)\n")?;
+    for number in 0..count {
+        add_definition(alloc, number, depth, &mut script)?;
+    }
+    let last = format!(in alloc; "(declare-const p Bool)\n(assert (e{count} p))\n")?;
+    script.extend_from_slice(last.as_bytes())?;
+    Ok(script)
+}
+
+/// Adds the definition after this one, which negates it so many times.
+fn add_definition(
+    alloc: Global,
+    number: u32,
+    depth: u32,
+    script: &mut Vec<u8>,
+) -> Result<(), CaseError> {
+    let next = number.saturating_add(1);
+    let head = format!(in alloc; "(define-fun e{next} ((x Bool)) Bool ")?;
+    script.extend_from_slice(head.as_bytes())?;
+    add_times(depth, "(not ", script)?;
+    let call = format!(in alloc; "(e{number} x)")?;
+    script.extend_from_slice(call.as_bytes())?;
+    add_times(depth, ")", script)?;
+    script.extend_from_slice(b")\n")?;
+    Ok(())
+}
+
+/// Adds a text so many times.
+fn add_times(count: u32, text: &str, script: &mut Vec<u8>) -> Result<(), CaseError> {
+    for _ in 0..count {
+        script.extend_from_slice(text.as_bytes())?;
+    }
+    Ok(())
 }
