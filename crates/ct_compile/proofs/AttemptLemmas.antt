@@ -1,11 +1,12 @@
 -- Attempts to compile a closed formula: first parts that are made, and calls that are put off.
-use Rattle.std.proofs.Common.{◌≡◌, ◌⊎◌, ℕ, suc, ◌<◌, Bool, List, [], ◌∷◌, ◌++◌, Contains, length, Result, Ok, Err, Option, Some, None, is_some, option_map, slice_get, IfOk, IsErrOf, true, false, true≢false, refl, sym, ap₂, subst, ◌∙◌, inl, inr, arith}
+use Rattle.std.proofs.Common.{◌≡◌, ◌⊎◌, ◌-◌, ℕ, suc, ◌<◌, Bool, List, [], ◌∷◌, ◌++◌, Contains, length, Result, Ok, Err, Option, Some, None, is_some, option_map, slice_get, get_or, IfOk, IsErrOf, true, false, true≢false, refl, sym, ap, ap₂, subst, ◌∙◌, inl, inr, arith}
 use Rattle.std.specs.List.{AllZip}
-use Rattle.std.proofs.lemmas.List.{append-nil, append_assoc}
+use Rattle.std.proofs.Math.Seq.{get_or-append_seam}
+use Rattle.std.proofs.lemmas.List.{append-nil, append_assoc, length-append}
 use Rattle.std.proofs.lemmas.List.Elements.{Contains-append_cases, Contains-append_left}
 use Rattle.std.proofs.lemmas.Option.{none-some, same_Some}
 use Rattle.std.proofs.lemmas.Result.{IfOk-weaker}
-use Rattle.indexmap.specs.IndexMap.{IndexMap}
+use Rattle.indexmap.specs.IndexMap.{IndexMap, get}
 use Rattle.ct_sorts.specs.declared.ids.DefId.{DefId}
 use Rattle.ct_sorts.specs.declared.ids.SortId.{SortId}
 use Rattle.ct_sorts.specs.Declarations.{Declarations}
@@ -18,7 +19,7 @@ use Rattle.ct_terms.specs.Formula.{Formula, bind}
 use Rattle.ct_terms.specs.Compiled.{compiled}
 use Rattle.ct_occurrence.specs.declared.definitions.Worked.{Worked}
 use Rattle.ct_compile.specs.declared.known.Called.{Called}
-use Rattle.ct_compile.specs.declared.stop.Call.{Call}
+use Rattle.ct_compile.specs.declared.stop.DeferredCall.{DeferredCall}
 use Rattle.ct_compile.specs.declared.stop.Stop.{Stop}
 use Rattle.ct_compile.specs.declared.stop.Stop.TheVariants.{Failed, TooDeep}
 use Rattle.ct_compile.specs.Laws.{Laws}
@@ -26,9 +27,9 @@ use Rattle.ct_compile.specs.Effect.{Stands, IsKept, IsPrefix, Within, Effect}
 use Rattle.ct_compile.specs.Making.{HasTrees, Makes, making, makes_below, defined}
 use Rattle.ct_occurrence.specs.Marks.{Rows, row_in, IsKnown}
 use Rattle.ct_compile.specs.Ready.{given, IsBound, IsReady, MayCompile, Compiles}
-use Rattle.ct_compile.specs.Calling.{call_of, IsRecalled, IsState}
+use Rattle.ct_compile.specs.Calling.{same_call, call_of, IsRecalled, IsState}
 use Rattle.ct_compile.specs.Deferral.{ended, GoesOn, WhenTooDeep, IsCall, Waits, Defers}
-use Rattle.ct_compile.specs.Attempts.{MakesFirst, closed_core, closed_making, IsWaiting, AreWaiting}
+use Rattle.ct_compile.specs.Attempts.{MakesFirst, closed_core, closed_making, IsWaiting, AreWaiting, IsLastKnown}
 use Rattle.ct_compile.proofs.EffectLemmas.{prefix_itself, effect_none, effect_then, effect_because}
 use Rattle.ct_compile.proofs.ReadyLemmas.{bounds_stay, ready_stays}
 use Rattle.ct_compile.proofs.OperatorLemmas.{stands_as}
@@ -89,7 +90,7 @@ makes_first_all ts a b there h =
 
 -- ---- tables that grow
 
-pub call_stays : (d : Declarations) (bodies : List Formula) (rows : Rows) (old new : Terms) (call : Call) (trees : List CoreTree) → IsPrefix old new → IsKept d new → IsCall d bodies rows old call trees → IsCall d bodies rows new call trees
+pub call_stays : (d : Declarations) (bodies : List Formula) (rows : Rows) (old new : Terms) (call : DeferredCall) (trees : List CoreTree) → IsPrefix old new → IsKept d new → IsCall d bodies rows old call trees → IsCall d bodies rows new call trees
 call_stays d bodies rows old new call trees grown kept h = record {
   row = h.row;
   at_row = h.at_row;
@@ -103,7 +104,7 @@ call_stays d bodies rows old new call trees grown kept h = record {
 }
 
 -- what was made before the call is there from then on
-pub waits_stay : (d : Declarations) (bodies : List Formula) (rows : Rows) (n : ℕ) (a b c : Terms) (made : List CoreTree) (allows : List CoreTree → Type 0) (call : Call) → IsPrefix b c → IsKept d c → Waits d bodies rows n a b made allows call → Waits d bodies rows n c c made allows call
+pub waits_stay : (d : Declarations) (bodies : List Formula) (rows : Rows) (n : ℕ) (a b c : Terms) (made : List CoreTree) (allows : List CoreTree → Type 0) (call : DeferredCall) → IsPrefix b c → IsKept d c → Waits d bodies rows n a b made allows call → Waits d bodies rows n c c made allows call
 waits_stay d bodies rows n a b c made allows call grown kept w = record {
   trees = w.trees;
   below = w.below;
@@ -115,12 +116,12 @@ waits_stay d bodies rows n a b c made allows call grown kept w = record {
   makes = makes_none w.before c (have_stay kept.laws b c w.before grown kept.ordered (makes_has kept.laws w.before a b (prefix_ordered b c grown kept.ordered) w.makes));
 }
 
-pub waiting_stay : (d : Declarations) (bodies : List Formula) (rows : Rows) (n : ℕ) (t : Formula) (old new : Terms) (calls : List Call) → IsPrefix old new → IsKept d new → AreWaiting d bodies rows n t old calls → AreWaiting d bodies rows n t new calls
+pub waiting_stay : (d : Declarations) (bodies : List Formula) (rows : Rows) (n : ℕ) (t : Formula) (old new : Terms) (calls : List DeferredCall) → IsPrefix old new → IsKept d new → AreWaiting d bodies rows n t old calls → AreWaiting d bodies rows n t new calls
 waiting_stay d bodies rows n t old new calls grown kept h = λ call c. waits_stay d bodies rows n old old new (closed_making d bodies n t) (λ allowed. Within allowed (closed_core d bodies n t)) call grown kept (h call c)
 
 -- ---- a call that is compiled first
 
-module _ (d : Declarations) (bodies : List Formula) (rows : Rows) (old : Terms) (call : Call) (body : Formula) (at : slice_get bodies call.definition.0 ≡ Some body) where
+module _ (d : Declarations) (bodies : List Formula) (rows : Rows) (old : Terms) (call : DeferredCall) (body : Formula) (at : slice_get bodies call.definition.0 ≡ Some body) where
   abbrev k : ℕ
   k = call.definition.0
 
@@ -168,7 +169,7 @@ module _ (d : Declarations) (bodies : List Formula) (rows : Rows) (old : Terms) 
       }
 
   -- a call under it is put off
-  pub call_waits : (new : Terms) (deeper : Call) → ((trees : List CoreTree) (sorts : List SortId) (sort : SortId) → IsReady d bodies old k (bind call.bounds []) body trees sorts sort → Waits d bodies rows k old new (making d (defined d bodies k) trees body) (λ allowed. Within allowed (compiled d (given d bodies k) trees body)) deeper) → (trees : List CoreTree) → IsCall d bodies rows old call trees → Waits d bodies rows k old new (makes_below d bodies (suc k) call.definition trees) (λ allowed. Within allowed (given d bodies (suc k) call.definition trees)) deeper
+  pub call_waits : (new : Terms) (deeper : DeferredCall) → ((trees : List CoreTree) (sorts : List SortId) (sort : SortId) → IsReady d bodies old k (bind call.bounds []) body trees sorts sort → Waits d bodies rows k old new (making d (defined d bodies k) trees body) (λ allowed. Within allowed (compiled d (given d bodies k) trees body)) deeper) → (trees : List CoreTree) → IsCall d bodies rows old call trees → Waits d bodies rows k old new (makes_below d bodies (suc k) call.definition trees) (λ allowed. Within allowed (given d bodies (suc k) call.definition trees)) deeper
   call_waits new deeper defers trees h =
       let w = defers (bind trees []) (bind h.sorts []) h.sort (ready trees h) in
       record {
@@ -204,6 +205,23 @@ pub emptied : {X : Type 0} (xs : List X) (n : ℕ) (o : Option X) → is_some o 
 emptied [] n o e long some = refl
 emptied (x ∷ xs) n o e long some = absurd (true≢false (sym (some (omega (arith, long))) ∙ e))
 
+-- ---- the last of the calls
+
+last_is : {X : Type 0} (xs earlier : List X) (x y : X) → xs ≡ earlier ++ x ∷ [] → y ≡ get_or xs (length xs - 1) y → y ≡ x
+last_is {X = X} xs earlier x y is at =
+    let long = ap length is ∙ length-append earlier (x ∷ []) in
+    let place : length xs - 1 ≡ length earlier = omega (arith, long) in
+    at ∙ ap₂ (λ (zs : List X) (i : ℕ). get_or zs i y) is place ∙ get_or-append_seam earlier x [] y
+
+-- where it is known, with this term, the last is
+pub last_known : {S : Type 0} (known : IndexMap Called TermId S) (calls : List DeferredCall) (call : DeferredCall) → call ≡ get_or calls (length calls - 1) call → (r : Result TermId Stop) → IfOk r (λ term. get same_call known (call_of call.definition call.bounds) ≡ Some term) → IfOk r (λ term. IsLastKnown known calls term)
+last_known known calls call at r h = IfOk-weaker r (λ term. get same_call known (call_of call.definition call.bounds) ≡ Some term) (λ term. IsLastKnown known calls term) (λ term has earlier last is. subst (λ (x : DeferredCall). get same_call known (call_of x.definition x.bounds) ≡ Some term) (last_is calls earlier last call is at) has) h
+
+-- there is none
+pub last_none : {S : Type 0} (known : IndexMap Called TermId S) (calls : List DeferredCall) → length calls < 1 → (r : Result TermId Stop) → IfOk r (λ term. IsLastKnown known calls term)
+last_none known calls empty (Ok term) = λ earlier last is. let long = ap length is ∙ length-append earlier (last ∷ []) in absurd (omega (arith, empty, long))
+last_none known calls empty (Err s) = tt
+
 -- ---- a closed formula
 
 zip_none : {X Y : Type 0} (R : X → Y → Type 0) (ys : List Y) → AllZip R [] ys → ys ≡ []
@@ -226,15 +244,15 @@ module _ (d : Declarations) (bodies : List Formula) (rows : Rows) (n : ℕ) (t :
   closed_ready old may = (may.1, may.2, subst (λ (us : List CoreTree). IsReady d bodies old n [] t us may.1 may.2) (no_trees old may.0 may.1 may.2 may.3) may.3)
 
   -- a call under a call that is put off is put off
-  pub waits_deeper : (old new : Terms) (call deeper : Call) (w : IsWaiting d bodies rows n t old call) → Waits d bodies rows call.definition.0 old new (makes_below d bodies (suc call.definition.0) call.definition w.trees) (λ allowed. Within allowed (given d bodies (suc call.definition.0) call.definition w.trees)) deeper → Waits d bodies rows n old new (closed_making d bodies n t) (λ allowed. Within allowed (closed_core d bodies n t)) deeper
+  pub waits_deeper : (old new : Terms) (call deeper : DeferredCall) (w : IsWaiting d bodies rows n t old call) → Waits d bodies rows call.definition.0 old new (makes_below d bodies (suc call.definition.0) call.definition w.trees) (λ allowed. Within allowed (given d bodies (suc call.definition.0) call.definition w.trees)) deeper → Waits d bodies rows n old new (closed_making d bodies n t) (λ allowed. Within allowed (closed_core d bodies n t)) deeper
   waits_deeper old new call deeper w v =
       waits_under d bodies rows call.definition.0 n old old new (closed_making d bodies n t) w.before (makes_below d bodies (suc call.definition.0) call.definition w.trees) w.after _ _ deeper (let b = w.below in omega (arith, b)) w.makes w.order w.within v
 
   -- what comes before a call that is put off is a first part, and with its terms it is one
-  pub waits_first : (old new : Terms) (call : Call) (w : Waits d bodies rows n old new (closed_making d bodies n t) (λ allowed. Within allowed (closed_core d bodies n t)) call) → MakesFirst old (closed_making d bodies n t) new
+  pub waits_first : (old new : Terms) (call : DeferredCall) (w : Waits d bodies rows n old new (closed_making d bodies n t) (λ allowed. Within allowed (closed_core d bodies n t)) call) → MakesFirst old (closed_making d bodies n t) new
   waits_first old new call w = (w.before, makes_below d bodies (suc call.definition.0) call.definition w.trees ++ w.after, w.order, w.makes)
 
-  pub made_first : (old new : Terms) (call : Call) (w : IsWaiting d bodies rows n t old call) → Makes old (makes_below d bodies (suc call.definition.0) call.definition w.trees) new → MakesFirst old (closed_making d bodies n t) new
+  pub made_first : (old new : Terms) (call : DeferredCall) (w : IsWaiting d bodies rows n t old call) → Makes old (makes_below d bodies (suc call.definition.0) call.definition w.trees) new → MakesFirst old (closed_making d bodies n t) new
   made_first old new call w m =
       let own = makes_below d bodies (suc call.definition.0) call.definition w.trees in
       (w.before ++ own, w.after, w.order ∙ sym (append_assoc w.before own w.after), makes_then w.before own old old new w.makes m)
@@ -246,15 +264,15 @@ module _ (d : Declarations) (bodies : List Formula) (rows : Rows) (n : ℕ) (t :
   core = closed_core d bodies n t
 
   -- what was made before a call is there
-  now_waiting : (old new : Terms) (call : Call) → IsKept d new → Waits d bodies rows n old new making_all (λ allowed. Within allowed core) call → IsWaiting d bodies rows n t new call
+  now_waiting : (old new : Terms) (call : DeferredCall) → IsKept d new → Waits d bodies rows n old new making_all (λ allowed. Within allowed core) call → IsWaiting d bodies rows n t new call
   now_waiting old new call kept w = waits_stay d bodies rows n old new new making_all (λ allowed. Within allowed core) call (prefix_itself new) kept w
 
   -- the last of the calls is compiled
-  module _ (old new : Terms) (call : Call) (w : IsWaiting d bodies rows n t old call) (r : Result TermId Stop) where
+  module _ (old new : Terms) (call : DeferredCall) (w : IsWaiting d bodies rows n t old call) (r : Result TermId Stop) where
     abbrev own : List CoreTree
     own = makes_below d bodies (suc call.definition.0) call.definition w.trees
 
-    abbrev Deeper : Call → Type 0
+    abbrev Deeper : DeferredCall → Type 0
     Deeper deeper = Waits d bodies rows call.definition.0 old new own (λ allowed. Within allowed (given d bodies (suc call.definition.0) call.definition w.trees)) deeper
 
     pub called_makes : IfOk r (λ u. Makes old own new) → WhenTooDeep r Deeper → GoesOn r (MakesFirst old making_all new)
@@ -298,22 +316,22 @@ module _ (d : Declarations) (bodies : List Formula) (rows : Rows) (n : ℕ) (t :
 -- ---- attempts one after the other
 
 -- some of a formula is compiled, and these calls are put off
-pub record IsUnderWay {S : Type 0} (d : Declarations) (bodies : List Formula) (rows : Rows) (n : ℕ) (t : Formula) (start table : Terms) (known : IndexMap Called TermId S) (calls : List Call) : Type 0 where
+pub record IsUnderWay {S : Type 0} (d : Declarations) (bodies : List Formula) (rows : Rows) (n : ℕ) (t : Formula) (start table : Terms) (known : IndexMap Called TermId S) (calls : List DeferredCall) : Type 0 where
   pub state : IsState d bodies n rows table known
   pub makes : MakesFirst start (closed_making d bodies n t) table
   pub effect : (allowed : List CoreTree) → Within allowed (closed_core d bodies n t) → Effect d allowed start table ⊥
   pub waiting : AreWaiting d bodies rows n t table calls
 
 module _ {S : Type 0} (d : Declarations) (bodies : List Formula) (rows : Rows) (n : ℕ) (t : Formula) (start : Terms) (may : MayCompile d bodies start n [] t) where
-  pub way_start : (known : IndexMap Called TermId S) (calls : List Call) → calls ≡ [] → IsState d bodies n rows start known → IsUnderWay d bodies rows n t start start known calls
+  pub way_start : (known : IndexMap Called TermId S) (calls : List DeferredCall) → calls ≡ [] → IsState d bodies n rows start known → IsUnderWay d bodies rows n t start start known calls
   way_start known calls empty state = record {
     state = state;
     makes = makes_first_none (closed_making d bodies n t) start;
     effect = λ allowed w. effect_none d allowed start ⊥ may.3.setting.kept (λ x. x);
-    waiting = λ call c. absurd (Contains-none call (subst (λ (cs : List Call). Contains cs call) empty c));
+    waiting = λ call c. absurd (Contains-none call (subst (λ (cs : List DeferredCall). Contains cs call) empty c));
   }
 
-  module _ (table : Terms) (known : IndexMap Called TermId S) (calls : List Call) (u : IsUnderWay d bodies rows n t start table known calls) where
+  module _ (table : Terms) (known : IndexMap Called TermId S) (calls : List DeferredCall) (u : IsUnderWay d bodies rows n t start table known calls) where
     so_far : Effect d (subtrees (closed_core d bodies n t)) start table ⊥
     so_far = u.effect (subtrees (closed_core d bodies n t)) (within_subtrees (closed_core d bodies n t))
 
@@ -340,16 +358,16 @@ module _ {S : Type 0} (d : Declarations) (bodies : List Formula) (rows : Rows) (
         }
 
     -- fewer calls
-    pub way_fewer : (rest more : List Call) → calls ≡ rest ++ more → IsUnderWay d bodies rows n t start table known rest
+    pub way_fewer : (rest more : List DeferredCall) → calls ≡ rest ++ more → IsUnderWay d bodies rows n t start table known rest
     way_fewer rest more is = record {
       state = u.state;
       makes = u.makes;
       effect = u.effect;
-      waiting = λ call c. u.waiting call (subst (λ (cs : List Call). Contains cs call) (sym is) (Contains-append_left rest more call c));
+      waiting = λ call c. u.waiting call (subst (λ (cs : List DeferredCall). Contains cs call) (sym is) (Contains-append_left rest more call c));
     }
 
     -- one call more
-    pub way_more : (call : Call) → IsWaiting d bodies rows n t table call → IsUnderWay d bodies rows n t start table known (calls ++ call ∷ [])
+    pub way_more : (call : DeferredCall) → IsWaiting d bodies rows n t table call → IsUnderWay d bodies rows n t start table known (calls ++ call ∷ [])
     way_more call waits = record {
       state = u.state;
       makes = u.makes;

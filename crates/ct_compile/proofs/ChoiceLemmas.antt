@@ -19,7 +19,7 @@ use Rattle.ct_terms.specs.Occurrence.{occurs, uses_below}
 use Rattle.ct_compile.specs.declared.bound.Bound.{Bound}
 use Rattle.ct_compile.specs.declared.bound.Bound.TheVariants.{Term, Field, Absent}
 use Rattle.ct_compile.specs.Making.{HasTree, HasTrees, Makes, making, defined}
-use Rattle.ct_compile.specs.declared.stop.Call.{Call}
+use Rattle.ct_compile.specs.declared.stop.DeferredCall.{DeferredCall}
 use Rattle.ct_occurrence.specs.Marks.{Rows}
 use Rattle.ct_compile.specs.Effect.{Stands, IsKept, Within, Effect}
 use Rattle.ct_compile.specs.Ready.{given, IsBound, IsThere, IsReady, MayCompile, Compiles}
@@ -153,7 +153,7 @@ module _ (d : Declarations) (bodies : List Formula) (n : ℕ) (env : List Bound)
   abbrev made : List CoreTree → Formula → List CoreTree
   made trees f = making d (defined d bodies n) trees f
 
-  pub choice_waits_1 : (rows : Rows) (old new : Terms) (call : Call) → IsPutOff d bodies rows n old new env c call → IsPutOff d bodies rows n old new env (Ite c t u) call
+  pub choice_waits_1 : (rows : Rows) (old new : Terms) (call : DeferredCall) → IsPutOff d bodies rows n old new env c call → IsPutOff d bodies rows n old new env (Ite c t u) call
   choice_waits_1 rows old new call one = λ trees sorts sort h.
       waits_under d bodies rows n n old old new (made trees (Ite c t u)) [] (made trees c) (made trees t ++ (made trees u ++ core trees (Ite c t u) ∷ [])) (allows trees c) (allows trees (Ite c t u)) call (omega arith) refl refl
       (λ allowed w. (within_choice allowed (core trees c) (core trees t) (core trees u) w).0) (one trees sorts bool_sort (condition_ready old trees sorts sort h))
@@ -178,7 +178,7 @@ module _ (d : Declarations) (bodies : List Formula) (n : ℕ) (env : List Bound)
       order = λ trees sorts sort h. tt;
     }
 
-    pub choice_waits_2 : (rows : Rows) (new : Terms) (call : Call) → IsPutOff d bodies rows n m1 new env t call → IsPutOff d bodies rows n old new env (Ite c t u) call
+    pub choice_waits_2 : (rows : Rows) (new : Terms) (call : DeferredCall) → IsPutOff d bodies rows n m1 new env t call → IsPutOff d bodies rows n old new env (Ite c t u) call
     choice_waits_2 rows new call one = λ trees sorts sort h.
         waits_under d bodies rows n n old m1 new (made trees (Ite c t u)) (made trees c) (made trees t) (made trees u ++ core trees (Ite c t u) ∷ []) (allows trees t) (allows trees (Ite c t u)) call (omega arith)
         (first.order trees sorts bool_sort (condition_ready old trees sorts sort h)) refl
@@ -206,7 +206,7 @@ module _ (d : Declarations) (bodies : List Formula) (n : ℕ) (env : List Bound)
         order = λ trees sorts sort h. tt;
       }
 
-      pub choice_waits_3 : (rows : Rows) (new : Terms) (call : Call) → IsPutOff d bodies rows n m2 new env u call → IsPutOff d bodies rows n old new env (Ite c t u) call
+      pub choice_waits_3 : (rows : Rows) (new : Terms) (call : DeferredCall) → IsPutOff d bodies rows n m2 new env u call → IsPutOff d bodies rows n old new env (Ite c t u) call
       choice_waits_3 rows new call one = λ trees sorts sort h.
           waits_under d bodies rows n n old m2 new (made trees (Ite c t u)) (made trees c ++ made trees t) (made trees u) (core trees (Ite c t u) ∷ []) (allows trees u) (allows trees (Ite c t u)) call (omega arith)
           (makes_then (made trees c) (made trees t) old m1 m2 (first.order trees sorts bool_sort (condition_ready old trees sorts sort h)) (second.order trees sorts sort (then_ready m1 trees sorts sort (ready_1 trees sorts sort h))))

@@ -15,7 +15,7 @@ use Rattle.ct_terms.specs.Compiled.{compiled, compiled_all}
 use Rattle.ct_compile.specs.declared.bound.Bound.{Bound}
 use Rattle.ct_terms.specs.Occurrence.{count_of}
 use Rattle.ct_compile.specs.Effect.{Stands, AllStand, IsKept, Within, AllWithin, IsPrefix, Effect}
-use Rattle.ct_compile.specs.declared.stop.Call.{Call}
+use Rattle.ct_compile.specs.declared.stop.DeferredCall.{DeferredCall}
 use Rattle.ct_occurrence.specs.Marks.{Rows}
 use Rattle.ct_compile.specs.Making.{HasTree, HasTrees, Makes, Made, leaf, terms, made_by, making, made_each, defined}
 use Rattle.ct_compile.specs.Following.{leading, between, woven, IsLeading, IsFollowing, MayFollow, Follows}
@@ -103,7 +103,7 @@ module _ (d : Declarations) (bodies : List Formula) (n : ℕ) (old : Terms) (env
       ∙ ap (λ (us : Formulas). (made_by d o (made_each d defs trees us)).making) under
 
   -- where a call under it is put off
-  pub plain_waits : (rows : Rows) (new : Terms) (call : Call) → ArePutOff d bodies rows n old new env o ts call → IsPutOff d bodies rows n old new env t call
+  pub plain_waits : (rows : Rows) (new : Terms) (call : DeferredCall) → ArePutOff d bodies rows n old new env o ts call → IsPutOff d bodies rows n old new env t call
   plain_waits rows new call all = λ trees sorts sort h.
       let ready = are_under trees sorts sort h in
       let part = (made_by d o (made_each d (defined d bodies n) trees ts)).making in
@@ -277,7 +277,7 @@ module _ (d : Declarations) (bodies : List Formula) (n : ℕ) (old table : Terms
   one_made trees = record { making = making d (defined d bodies n) trees t; term = tree_for trees }
 
   -- a call under it is put off
-  pub collects_waits : (rows : Rows) (new : Terms) (call : Call) → IsPutOff d bodies rows n table new env t call → ArePutOff d bodies rows n old new env o all call
+  pub collects_waits : (rows : Rows) (new : Terms) (call : DeferredCall) → IsPutOff d bodies rows n table new env t call → ArePutOff d bodies rows n old new env o all call
   collects_waits rows new call one = λ trees sorts each under.
       let f = h.for trees sorts each under in
       let s = split f.each f.ready in

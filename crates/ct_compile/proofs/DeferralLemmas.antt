@@ -11,7 +11,7 @@ use Rattle.ct_terms.specs.Formula.{Formula, Formulas}
 use Rattle.ct_terms.specs.Compiled.{compiled, compiled_all}
 use Rattle.ct_compile.specs.declared.bound.Bound.{Bound}
 use Rattle.ct_compile.specs.declared.operator.Operator.{Operator}
-use Rattle.ct_compile.specs.declared.stop.Call.{Call}
+use Rattle.ct_compile.specs.declared.stop.DeferredCall.{DeferredCall}
 use Rattle.ct_compile.specs.declared.stop.Stop.{Stop}
 use Rattle.ct_compile.specs.declared.stop.Stop.TheVariants.{Failed, TooDeep}
 use Rattle.ct_compile.specs.Deferral.{ended, GoesOn, WhenTooDeep, Waits}
@@ -35,7 +35,7 @@ goes_on_by A B (Failed e) P Q f h = tt
 goes_on_by A B (TooDeep call) P Q f h = f h
 
 -- what holds of the call of the part, holds of that of the whole
-pub too_deep_by : (A B : Type 0) (s : Stop) (P Q : Call → Type 0) → ((call : Call) → P call → Q call) → WhenTooDeep {A = A} (Err s) P → WhenTooDeep {A = B} (Err s) Q
+pub too_deep_by : (A B : Type 0) (s : Stop) (P Q : DeferredCall → Type 0) → ((call : DeferredCall) → P call → Q call) → WhenTooDeep {A = A} (Err s) P → WhenTooDeep {A = B} (Err s) Q
 too_deep_by A B (Failed e) P Q f h = tt
 too_deep_by A B (TooDeep call) P Q f h = f call h
 
@@ -48,16 +48,16 @@ goes_on_always (Err (TooDeep call)) P h = h
 -- ---- of a call that is put off: for all terms of the variables
 
 -- under a formula
-abbrev pub IsPutOff : Declarations → List Formula → Rows → ℕ → Terms → Terms → List Bound → Formula → Call → Type 0
+abbrev pub IsPutOff : Declarations → List Formula → Rows → ℕ → Terms → Terms → List Bound → Formula → DeferredCall → Type 0
 IsPutOff d bodies rows n old new env t call = (trees : List CoreTree) (sorts : List SortId) (sort : SortId) → IsReady d bodies old n env t trees sorts sort → Waits d bodies rows n old new (making d (defined d bodies n) trees t) (λ allowed. Within allowed (compiled d (given d bodies n) trees t)) call
 
 -- under those of an operator
-abbrev pub ArePutOff : Declarations → List Formula → Rows → ℕ → Terms → Terms → List Bound → Operator → Formulas → Call → Type 0
+abbrev pub ArePutOff : Declarations → List Formula → Rows → ℕ → Terms → Terms → List Bound → Operator → Formulas → DeferredCall → Type 0
 ArePutOff d bodies rows n old new env o ts call = (trees : List CoreTree) (sorts : List SortId) (each : List SortId) → AreUnder d bodies old n env o ts trees sorts each → Waits d bodies rows n old new (made_by d o (made_each d (defined d bodies n) trees ts)).making (λ allowed. Within allowed (combined d o (compiled_all d (given d bodies n) trees ts))) call
 
 -- ---- what was made before a part, and what comes after it
 
-pub waits_under : (d : Declarations) (bodies : List Formula) (rows : Rows) (m n : ℕ) (old mid new : Terms) (made before part rest : List CoreTree) (part_allows allows : List CoreTree → Type 0) (call : Call) → m ≤ n → Makes old before mid → made ≡ before ++ (part ++ rest) → ((allowed : List CoreTree) → allows allowed → part_allows allowed) → Waits d bodies rows m mid new part part_allows call → Waits d bodies rows n old new made allows call
+pub waits_under : (d : Declarations) (bodies : List Formula) (rows : Rows) (m n : ℕ) (old mid new : Terms) (made before part rest : List CoreTree) (part_allows allows : List CoreTree → Type 0) (call : DeferredCall) → m ≤ n → Makes old before mid → made ≡ before ++ (part ++ rest) → ((allowed : List CoreTree) → allows allowed → part_allows allowed) → Waits d bodies rows m mid new part part_allows call → Waits d bodies rows n old new made allows call
 waits_under d bodies rows m n old mid new made before part rest part_allows allows call lower first is less w =
     let own = makes_below d bodies (suc call.definition.0) call.definition w.trees in
     let inside : part ++ rest ≡ w.before ++ (own ++ (w.after ++ rest)) =

@@ -27,3 +27,7 @@ remembered-only known more call term writes k t has = at (same_call call k) refl
     at : (b : Bool) → same_call call k ≡ b → cond b (Some term) (get same_call known k) ≡ Some t → (get same_call known k ≡ Some t) ⊎ ((k ≡ call) × (t ≡ term))
     at true e now = inr (sym ((Decides-same_call call k).0 e), same_Some t term (sym now))
     at false e now = inl now
+
+-- the call is
+pub remembered-known : {S : Type 0} (known more : IndexMap Called TermId S) (call : Called) (term : TermId) → ((k : Called) → get same_call more k ≡ cond (same_call call k) (Some term) (get same_call known k)) → get same_call more call ≡ Some term
+remembered-known known more call term writes = writes call ∙ ap (λ (b : Bool). cond b (Some term) (get same_call known call)) ((Decides-same_call call call).1 refl)

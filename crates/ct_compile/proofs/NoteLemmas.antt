@@ -1,7 +1,6 @@
 -- The notes on the formulas under a formula.
-use Rattle.std.proofs.Common.{◌≡◌, ℕ, ◌<◌, Bool, true, false, ◌||◌, List, [], ◌∷◌, ◌++◌, length, drop, Some, None, slice_get, if◌then◌else◌, refl, sym, ap, subst, ◌∙◌, arith, true≢false}
+use Rattle.std.proofs.Common.{◌≡◌, ℕ, ◌<◌, Bool, true, false, ◌||◌, List, [], ◌∷◌, length, drop, Some, None, slice_get, if◌then◌else◌, refl, sym, ap, subst, ◌∙◌, arith, true≢false}
 use Rattle.std.proofs.lemmas.Option.{same_Some, none-some}
-use Rattle.std.proofs.lemmas.List.{append_assoc, append-nil}
 use Rattle.ct_sorts.specs.declared.ids.CtorId.{CtorId}
 use Rattle.ct_sorts.specs.declared.ids.DefId.{DefId}
 use Rattle.ct_sorts.specs.Declarations.{Declarations}
@@ -12,7 +11,7 @@ use Rattle.ct_terms.specs.Compiled.{surely_fits, are_none}
 use Rattle.ct_terms.specs.Occurrence.{count_of, occurs, matched_occurs}
 use Rattle.ct_occurrence.specs.declared.notes.Notes.{Notes}
 use Rattle.ct_occurrence.specs.Plain.{is_plain, children_of}
-use Rattle.ct_occurrence.specs.Marks.{listed, Rows, IsKnown, MayMarkAll}
+use Rattle.ct_occurrence.specs.Marks.{listed, Rows, IsKnown}
 use Rattle.ct_occurrence.specs.Matching.{tested_by}
 use Rattle.ct_occurrence.specs.Noted.{bound_of, under_of, inner_of, IsOfFirst, IsNoted, AreNoted, AreNotedWhere, CasesNoted}
 

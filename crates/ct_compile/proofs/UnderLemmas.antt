@@ -19,7 +19,7 @@ use Rattle.ct_terms.specs.Compiled.{compiled, compiled_all}
 use Rattle.ct_terms.specs.Occurrence.{count_of, occurs, occurs_in_bound, uses_below}
 use Rattle.ct_compile.specs.declared.bound.Bound.{Bound}
 use Rattle.ct_compile.specs.declared.stop.Stop.{Stop}
-use Rattle.ct_compile.specs.declared.stop.Call.{Call}
+use Rattle.ct_compile.specs.declared.stop.DeferredCall.{DeferredCall}
 use Rattle.ct_compile.specs.declared.stop.Stop.TheVariants.{Failed, TooDeep}
 use Rattle.ct_compile.specs.Deferral.{ended, WhenTooDeep, Defers, DefersBound}
 use Rattle.ct_compile.specs.Effect.{Stands, IsKept, IsPrefix, Within}
@@ -38,7 +38,7 @@ use Rattle.ct_compile.proofs.DefinitionLemmas.{given_is, uses_is, listed_same}
 use Rattle.ct_compile.proofs.DeferralLemmas.{ended_by, too_deep_by, waits_under}
 
 -- what holds of a call that is put off, where another thing does
-pub too_deep_same : {A : Type 0} (r : Result A Stop) (P Q : Call → Type 0) → ((call : Call) → P call → Q call) → WhenTooDeep r P → WhenTooDeep r Q
+pub too_deep_same : {A : Type 0} (r : Result A Stop) (P Q : DeferredCall → Type 0) → ((call : DeferredCall) → P call → Q call) → WhenTooDeep r P → WhenTooDeep r Q
 too_deep_same (Ok a) P Q f h = tt
 too_deep_same (Err (Failed e)) P Q f h = tt
 too_deep_same (Err (TooDeep call)) P Q f h = f call h

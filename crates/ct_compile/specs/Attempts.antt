@@ -1,11 +1,15 @@
 -- Attempts to compile a closed formula: each makes a first part of what is to be made.
-use Rattle.std.specs.Prelude.{◌≡◌, ℕ, List, [], ◌++◌, Contains}
+use Rattle.std.specs.Prelude.{◌≡◌, ℕ, List, [], ◌∷◌, ◌++◌, Some, Contains}
+use Rattle.indexmap.specs.IndexMap.{IndexMap, get}
 use Rattle.ct_sorts.specs.Declarations.{Declarations}
+use Rattle.ct_terms.specs.declared.ids.TermId.{TermId}
 use Rattle.ct_terms.specs.Terms.{Terms}
 use Rattle.ct_terms.specs.CoreTree.{CoreTree}
 use Rattle.ct_terms.specs.Formula.{Formula}
 use Rattle.ct_terms.specs.Compiled.{compiled}
-use Rattle.ct_compile.specs.declared.stop.Call.{Call}
+use Rattle.ct_compile.specs.declared.known.Called.{Called}
+use Rattle.ct_compile.specs.declared.stop.DeferredCall.{DeferredCall}
+use Rattle.ct_compile.specs.Calling.{same_call, call_of}
 use Rattle.ct_compile.specs.Deferral.{Waits}
 use Rattle.ct_compile.specs.Effect.{Within}
 use Rattle.ct_compile.specs.Making.{Makes, making, defined}
@@ -23,10 +27,14 @@ closed_core d bodies n t = compiled d (given d bodies n) [] t
 abbrev pub closed_making : Declarations → List Formula → ℕ → Formula → List CoreTree
 closed_making d bodies n t = making d (defined d bodies n) [] t
 
--- a call under a closed formula waits: it is put off, and the table has all that is made before its terms
-abbrev pub IsWaiting : Declarations → List Formula → Rows → ℕ → Formula → Terms → Call → Type 0
+-- a call under a closed formula may be compiled now: the table has all that is made before its terms
+abbrev pub IsWaiting : Declarations → List Formula → Rows → ℕ → Formula → Terms → DeferredCall → Type 0
 IsWaiting d bodies rows n t table call = Waits d bodies rows n table table (closed_making d bodies n t) (λ allowed. Within allowed (closed_core d bodies n t)) call
 
--- each of these calls waits so
-abbrev pub AreWaiting : Declarations → List Formula → Rows → ℕ → Formula → Terms → List Call → Type 0
-AreWaiting d bodies rows n t table calls = (call : Call) → Contains calls call → IsWaiting d bodies rows n t table call
+-- each of these calls may
+abbrev pub AreWaiting : Declarations → List Formula → Rows → ℕ → Formula → Terms → List DeferredCall → Type 0
+AreWaiting d bodies rows n t table calls = (call : DeferredCall) → Contains calls call → IsWaiting d bodies rows n t table call
+
+-- the last of these calls, where there is one, is known, with this term
+abbrev pub IsLastKnown : {S : Type 0} → IndexMap Called TermId S → List DeferredCall → TermId → Type 0
+IsLastKnown known calls term = (earlier : List DeferredCall) (call : DeferredCall) → calls ≡ earlier ++ call ∷ [] → get same_call known (call_of call.definition call.bounds) ≡ Some term

@@ -1,5 +1,5 @@
 -- Calls of definitions that are compiled already, each with its term.
-use Rattle.std.specs.Prelude.{◌≡◌, ℕ, suc, Bool, List, [], ◌∷◌, Some}
+use Rattle.std.specs.Prelude.{◌≡◌, ℕ, suc, Bool, List, [], ◌∷◌, Some, None}
 use Rattle.std.specs.List.{AllZip}
 use Rattle.indexmap.specs.IndexMap.{IndexMap, get}
 use Rattle.ct_sorts.specs.declared.ids.DefId.{DefId}
@@ -12,6 +12,7 @@ use Rattle.ct_terms.specs.Occurrence.{uses_below}
 use Rattle.ct_compile.specs.declared.bound.Bound.{Bound}
 use Rattle.ct_compile.specs.declared.bound.Bound.TheVariants.{Term, Field, Absent}
 use Rattle.ct_compile.specs.declared.known.Called.{Called}
+use Rattle.ct_compile.specs.declared.stop.DeferredCall.{DeferredCall}
 use Rattle.ct_compile.specs.contracts.known.CalledPartialEq.TheImpl as derived
 use Rattle.ct_compile.specs.Effect.{Stands}
 use Rattle.ct_compile.specs.Making.{HasTrees, makes_below}
@@ -50,3 +51,7 @@ pub record IsRecalled (d : Declarations) (bodies : List Formula) (rows : Rows) (
 pub record IsState {S : Type 0} (d : Declarations) (bodies : List Formula) (n : ℕ) (rows : Rows) (table : Terms) (known : IndexMap Called TermId S) : Type 0 where
   pub have : HaveRows d (uses_below d bodies n) n rows
   pub recalls : (call : Called) (t : TermId) → get same_call known call ≡ Some t → IsRecalled d bodies rows table call t
+
+-- the term of a call that is put off is not known
+abbrev pub IsUnknown : {S : Type 0} → IndexMap Called TermId S → DeferredCall → Type 0
+IsUnknown known call = get same_call known (call_of call.definition call.bounds) ≡ None

@@ -1,11 +1,11 @@
 -- Formulas without binders: the formulas under one, and its core term over theirs.
-use Rattle.std.specs.Prelude.{◌≡◌, ◌<◌, Bool, true, false, List, [], ◌∷◌, length}
+use Rattle.std.specs.Prelude.{◌≡◌, ◌<◌, List, [], ◌∷◌, length}
 use Rattle.std.specs.List.{AllByRecursion}
 use Rattle.ct_sorts.specs.declared.ids.SortId.{SortId}
 use Rattle.ct_sorts.specs.Declarations.{Declarations, bool_sort}
 use Rattle.ct_terms.specs.CoreTree.{CoreTree, con, sel, test, apply, negation, trees_of, no_term}
 use Rattle.ct_terms.specs.CoreSorts.{HasTreeSort}
-use Rattle.ct_terms.specs.Formula.{Formula, Formulas, Con, Sel, Test, Apply, Not, And, Or, Xor, Implies, Equal, Distinct, no_formulas, with_formula}
+use Rattle.ct_terms.specs.Formula.{Formula, Con, Sel, Test, Apply, Not, And, Or, Xor, Implies, Equal, Distinct}
 use Rattle.ct_compile.specs.declared.operator.Operator.{Operator}
 use Rattle.ct_compile.specs.declared.operator.Operator.TheVariants.{Construct, Select, Inspect, Call, Negation, Conjunction, Disjunction, Exclusion, Implication, Equality, Inequality}
 use Rattle.ct_terms.specs.Pairs.{neighbours, pairs}

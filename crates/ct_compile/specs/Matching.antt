@@ -1,5 +1,5 @@
 -- The cases of a `match`, one after the other.
-use Rattle.std.specs.Prelude.{◌≡◌, ℕ, Bool, true, ◌||◌, List, [], ◌∷◌, map, Option, Some, None, option_map, unwrap_or, slice_get, if◌then◌else◌, Result, IfOk, IsErrOf}
+use Rattle.std.specs.Prelude.{◌≡◌, ℕ, true, List, [], ◌∷◌, map, option_map, unwrap_or, slice_get, Result, IfOk, IsErrOf}
 use Rattle.ct_sorts.specs.declared.ids.CtorId.{CtorId}
 use Rattle.ct_sorts.specs.declared.ids.SelId.{SelId}
 use Rattle.ct_sorts.specs.declared.ids.SortId.{SortId}
@@ -14,7 +14,7 @@ use Rattle.ct_terms.specs.CoreTree.{CoreTree}
 use Rattle.ct_terms.specs.CoreSorts.{HasTreeSort}
 use Rattle.ct_terms.specs.Formula.{Formula, Cases, CasesMentionBelow}
 use Rattle.ct_terms.specs.FormulaSorts.{AreSortedCases, HasCase}
-use Rattle.ct_terms.specs.Compiled.{fields_of, surely_fits, compiled_cases}
+use Rattle.ct_terms.specs.Compiled.{fields_of, compiled_cases}
 use Rattle.ct_terms.specs.Occurrence.{matched_occurs, occurs_in_cases, uses_below}
 use Rattle.ct_compile.specs.declared.bound.Bound.{Bound}
 use Rattle.ct_compile.specs.declared.bound.Bound.TheVariants.{Term, Field, Absent}

@@ -1,5 +1,5 @@
 //! Environments: what the variables stand for, variable 0 first.
-ghost use Rattle.std.specs.Prelude.{◌≡◌, ◌++◌, [], ◌∷◌, map, IfOk, OnOk};
+ghost use Rattle.std.specs.Prelude.{◌≡◌, [], ◌∷◌, map, IfOk};
 ghost use Rattle.ct_terms.specs.Formula.{bind as bound_over};
 ghost use Rattle.ct_compile.specs.Matching.{field_of, bound_by};
 ghost use Rattle.ct_occurrence.specs.Matching.{IsDeclared};
@@ -19,20 +19,8 @@ pub(crate) fn bind(alloc: Global, bounds: &[Bound], env: &[Bound]) -> Result<Vec
         inner.push(*last)?;
         rest = more;
     }
-    add_all(&mut inner, env)?;
+    inner.extend_from_slice(env)?;
     Ok(inner)
-}
-
-// These after what there is.
-fn add_all(all: &mut Vec<Bound>, others: &[Bound]) -> Result<(), AllocError>
-    ensures added { OnOk result (all.new.items ≡ all.old.items ++ others.now) }
-{
-    let mut rest = others;
-    while let [bound, more @ ..] = rest {
-        all.push(*bound)?;
-        rest = more;
-    }
-    Ok(())
 }
 
 /// What the variables of a pattern stand for, in order.

@@ -1,9 +1,8 @@
 //! Equality and inequality of several terms: of each with the next, and of all pairs.
-ghost use Rattle.std.specs.Prelude.{◌≡◌, ◌<◌, ◌≤◌, length, map, List, [], ◌∷◌, ◌++◌, Contains, IfOk, OnOk, IsErrOf};
+ghost use Rattle.std.specs.Prelude.{◌≡◌, ◌<◌, length, map, List, [], ◌++◌, IfOk, OnOk, IsErrOf};
 ghost use Rattle.std.specs.List.{AllByRecursion};
 ghost use Rattle.ct_sorts.specs.declared.ids.SortId.{SortId};
 ghost use Rattle.ct_terms.specs.CoreTree.{CoreTree, term_at};
-ghost use Rattle.ct_terms.specs.CoreSorts.{HasTreeSort};
 ghost use Rattle.ct_terms.specs.Pairs.{neighbours_from, neighbours, pairs};
 ghost use Rattle.ct_terms.specs.Compiled.{all_of as conjunction_of, equality as equality_of, inequality as inequality_of};
 ghost use Rattle.ct_compile.specs.Effect.{Stands, AllStand, IsKept, Within, AllWithin, Effect};

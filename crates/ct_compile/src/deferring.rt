@@ -1,11 +1,12 @@
 //! A formula is compiled with a bounded depth of the stack: calls of definitions that lie too deep are compiled first.
-ghost use Rattle.std.specs.Prelude.{◌≡◌, suc, [], map, List, IfOk, IsErrOf};
+ghost use Rattle.std.specs.Prelude.{◌≡◌, suc, [], map, List, Some, IfOk, IsErrOf};
+ghost use Rattle.indexmap.specs.IndexMap.{get};
 ghost use Rattle.ct_terms.specs.CoreTree.{CoreTree};
 ghost use Rattle.ct_terms.specs.TreeFormula.{formula_of};
 ghost use Rattle.ct_terms.specs.Occurrence.{uses_below};
-ghost use Rattle.ct_compile.specs.declared.stop.Call.{Call};
-ghost use Rattle.ct_compile.specs.Attempts.{MakesFirst, closed_core, closed_making, IsWaiting, AreWaiting};
-ghost use Rattle.ct_compile.specs.Calling.{IsState};
+ghost use Rattle.ct_compile.specs.declared.stop.DeferredCall.{DeferredCall};
+ghost use Rattle.ct_compile.specs.Attempts.{MakesFirst, closed_core, closed_making, IsWaiting, AreWaiting, IsLastKnown};
+ghost use Rattle.ct_compile.specs.Calling.{same_call, call_of, IsState, IsUnknown};
 ghost use Rattle.ct_compile.specs.Deferral.{ended, GoesOn, WhenTooDeep, IsCall, Waits};
 ghost use Rattle.ct_compile.specs.Effect.{Stands, Within, Effect};
 ghost use Rattle.ct_compile.specs.Making.{HasTrees, Makes, makes_below};
@@ -17,14 +18,14 @@ use crate::bindings::bind;
 use crate::known::{Known, call_with, remember};
 use crate::level::{Level, room_under};
 use crate::scope::{Scope, body_at};
-use crate::stop::{Call, Stop};
+use crate::stop::{DeferredCall, Stop};
 use crate::terms::compile_tree;
 use ct_occurrence::{Definitions, Notes, notes_at};
 use ct_terms::{TermError, TermId, TermTable, Tree};
 use std::alloc::Global;
 
-/// How deep the bodies of calls under calls may nest, beside the formula or the body that is compiled: this takes less than half
-/// of a stack of 8 MiB.
+/// How deep the bodies of calls under calls may nest under a formula, or in a call that is compiled first, with its own body:
+/// this takes less than half of a stack of 8 MiB. A body that is deeper by itself is compiled first, with no room under it.
 const CALL_ROOM: usize = 2_000;
 
 /// The term of a closed formula.
@@ -63,7 +64,8 @@ pub(crate) fn compile_deferring(
             Err(Stop::TooDeep(call)) => calls.push(call)?,
         }
     }
-    // Each attempt ends with a call that was not known before, so that this is never reached.
+    // An attempt puts off a call that is not known (`unknown`) or puts down the call that it compiles (`recorded`), so that
+    // this is never reached. That a call once known stays known while other formulas are compiled is said by no clause.
     Err(TermError::NoMemory)
 }
 
@@ -74,7 +76,7 @@ fn attempt(
     table: &mut TermTable,
     tree: &Tree,
     notes: &[Notes],
-    calls: &[Call],
+    calls: &[DeferredCall],
 ) -> Result<TermId, Stop>
     requires state { IsState level.now.scope.now.sig (map formula_of level.now.scope.now.bodies) level.now.below (worked_in level.now.definitions.now) table.old known.old }
     requires ready { MayCompile level.now.scope.now.sig (map formula_of level.now.scope.now.bodies) table.old level.now.below [] (formula_of tree.now) }
@@ -88,6 +90,8 @@ fn attempt(
     ensures waits { WhenTooDeep result (IsWaiting level.now.scope.now.sig (map formula_of level.now.scope.now.bodies) (worked_in level.now.definitions.now) level.now.below (formula_of tree.now) table.new) }
     ensures all { calls.now ≡ [] → IfOk result (λ u. Stands table.new u (closed_core level.now.scope.now.sig (map formula_of level.now.scope.now.bodies) level.now.below (formula_of tree.now))
         × HasTrees table.new (closed_making level.now.scope.now.sig (map formula_of level.now.scope.now.bodies) level.now.below (formula_of tree.now))) }
+    ensures unknown { WhenTooDeep result (λ call. IsUnknown known.new call) }
+    ensures recorded { IfOk result (λ term. IsLastKnown known.new calls.now term) }
 {
     match calls {
         [.., call] => compile_call_first(level, known, table, call),
@@ -100,7 +104,7 @@ fn compile_call_first(
     level: &Level<'_>,
     known: &mut Known,
     table: &mut TermTable,
-    call: &Call,
+    call: &DeferredCall,
 ) -> Result<TermId, Stop>
     requires state { IsState level.now.scope.now.sig (map formula_of level.now.scope.now.bodies) call.now.definition.0 (worked_in level.now.definitions.now) table.old known.old }
     requires call { (trees : List CoreTree) × IsCall level.now.scope.now.sig (map formula_of level.now.scope.now.bodies) (worked_in level.now.definitions.now) table.old call.now trees }
@@ -118,6 +122,8 @@ fn compile_call_first(
         (makes_below level.now.scope.now.sig (map formula_of level.now.scope.now.bodies) (suc call.now.definition.0) call.now.definition trees)
         (λ allowed. Within allowed (given level.now.scope.now.sig (map formula_of level.now.scope.now.bodies) (suc call.now.definition.0) call.now.definition trees))) }
     ensures state { GoesOn result (IsState level.now.scope.now.sig (map formula_of level.now.scope.now.bodies) call.now.definition.0 (worked_in level.now.definitions.now) table.new known.new) }
+    ensures unknown { WhenTooDeep result (λ call. IsUnknown known.new call) }
+    ensures recorded { IfOk result (λ term. get same_call known.new (call_of call.now.definition call.now.bounds) ≡ Some term) }
 {
     let k = call.definition;
     let key = call_with(level.alloc, k, call.bounds.as_slice())?;

@@ -1,5 +1,5 @@
 //! The core term of a formula: the call that scripts and checks make.
-ghost use Rattle.std.specs.Prelude.{◌≡◌, ◌<◌, ◌≤◌, ℕ, List, [], length, map, Contains, IfOk, IsErrOf};
+ghost use Rattle.std.specs.Prelude.{◌≡◌, ◌<◌, ◌≤◌, List, [], length, map, Contains, IfOk, IsErrOf};
 ghost use Rattle.ct_sorts.specs.declared.ids.SortId.{SortId};
 ghost use Rattle.ct_terms.specs.declared.ids.TermId.{TermId};
 ghost use Rattle.ct_terms.specs.Terms.{AreSorted};
@@ -23,8 +23,10 @@ use std::alloc::Global;
 ///
 /// The table grows by subterms of the core term alone, from left to right, each after the terms under it. What is
 /// bound comes before the body, and makes no term where its variable does not occur; so do the arguments of a
-/// definition, and what is matched. A definition is compiled once for each list of arguments. `Full` comes where
-/// the table holds 400,000 terms and does not have one of these. After an error the caller cuts the table back.
+/// definition, and what is matched. Calls of a definition with the same arguments are compiled once. A call that lies
+/// too deep under others for the stack is compiled first, and what was left begins anew, over the terms that are there.
+/// `Full` comes where the table holds 400,000 terms and does not have one of these. After an error the caller cuts the
+/// table back.
 pub fn compile(
     alloc: Global,
     scope: &Scope,

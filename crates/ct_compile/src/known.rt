@@ -1,4 +1,4 @@
-//! Calls of definitions that are compiled already: each is compiled once.
+//! Calls of definitions that are compiled already, so that none of them is compiled again.
 ghost use Rattle.std.specs.Prelude.{◌≡◌, ◌⊎◌, [], ◌∷◌, ◌++◌, Some, IfOk, IfErr, OnOk};
 ghost use Rattle.indexmap.specs.IndexMap.{get};
 ghost use Rattle.ct_sorts.specs.declared.ids.DefId.{DefId};
@@ -73,6 +73,7 @@ pub(crate) fn remember(known: &mut Known, call: Called, term: TermId) -> Result<
     ensures only { OnOk result ((other : Called) (t : TermId)
         → get same_call known.new other ≡ Some t
         → (get same_call known.old other ≡ Some t) ⊎ ((other ≡ call) × (t ≡ term))) }
+    ensures recorded { OnOk result (get same_call known.new call ≡ Some term) }
     ensures err { IfErr result (λ e. e ≡ TermError.NoMemory) }
 {
     known.insert(call, term)?;

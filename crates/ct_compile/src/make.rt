@@ -1,5 +1,5 @@
 //! One core term: it is made where the table does not have it.
-ghost use Rattle.std.specs.Prelude.{◌≡◌, length, List, Contains, IfOk, IsErrOf};
+ghost use Rattle.std.specs.Prelude.{length, List, Contains, IfOk, IsErrOf};
 ghost use Rattle.ct_sorts.specs.declared.ids.SortId.{SortId};
 ghost use Rattle.ct_terms.specs.Terms.{HasArgumentsBelow};
 ghost use Rattle.ct_terms.specs.CoreTree.{CoreTree, tree_layer, term_at};

@@ -10,7 +10,7 @@ use std::alloc::{AllocError, AllocFailed};
 
 /// A call of a definition.
 #[derive(Debug, Drop)]
-pub(crate) struct Call {
+pub(crate) struct DeferredCall {
     /// The definition.
     pub(crate) definition: DefId,
     /// What its parameters stand for, in order.
@@ -23,7 +23,7 @@ pub(crate) enum Stop {
     /// It failed.
     Failed(TermError),
     /// This call lies too deep under others: it is to be compiled first, and then all of the rest anew.
-    TooDeep(Call),
+    TooDeep(DeferredCall),
 }
 
 impl From<TermError> for Stop {

@@ -1,5 +1,5 @@
 //! The core term of a formula, by recursion on the formula and on the definitions that it names.
-ghost use Rattle.std.specs.Prelude.{◌≡◌, ◌<◌, true, map, length, List, [], ◌∷◌, drop, Contains, Some, slice_get, IfOk, OnOk, IsErrOf};
+ghost use Rattle.std.specs.Prelude.{◌≡◌, ◌<◌, true, map, length, List, [], ◌∷◌, drop, Contains, Some, slice_get, IfOk, IsErrOf};
 ghost use Rattle.ct_sorts.specs.declared.ids.SortId.{SortId};
 ghost use Rattle.ct_terms.specs.CoreTree.{CoreTree};
 ghost use Rattle.ct_terms.specs.CoreSorts.{HasTreeSort};
@@ -7,9 +7,9 @@ ghost use Rattle.ct_compile.specs.Effect.{Stands, IsKept, IsPrefix, Effect};
 ghost use Rattle.ct_terms.specs.Formula.{Var, Ite, Def, Let, Match, no_formulas, with_formula, bind as bound_over};
 ghost use Rattle.ct_terms.specs.TreeFormula.{formula_of, formulas_of_trees};
 ghost use Rattle.ct_compile.specs.Binding.{MayBind, Binds};
-ghost use Rattle.ct_compile.specs.Calling.{IsState};
-ghost use Rattle.ct_compile.specs.Deferral.{ended, GoesOn, Defers, DefersAll, DefersBound, DefersCases};
-ghost use Rattle.ct_occurrence.specs.CaseFormula.{case_of, cases_of_trees};
+ghost use Rattle.ct_compile.specs.Calling.{IsState, IsUnknown};
+ghost use Rattle.ct_compile.specs.Deferral.{ended, GoesOn, WhenTooDeep, Defers, DefersAll, DefersBound, DefersCases};
+ghost use Rattle.ct_occurrence.specs.CaseFormula.{cases_of_trees};
 ghost use Rattle.ct_compile.specs.Matching.{bound_by, MayCases, CompilesCases};
 ghost use Rattle.ct_occurrence.specs.Matching.{IsDeclared};
 ghost use Rattle.ct_terms.specs.Occurrence.{uses_below};
@@ -32,7 +32,7 @@ use crate::make::make;
 use crate::matching::make_test;
 use crate::operator::Operator;
 use crate::scope::body_at;
-use crate::stop::{Call, Stop};
+use crate::stop::{DeferredCall, Stop};
 use ct_occurrence::{Notes, body_of, notes_at, pattern_of, row_at, tested};
 use ct_sorts::{DefId, Items, Signature};
 use ct_terms::{Args, Case, Core, Pattern, TermError, TermId, TermTable, Tree};
@@ -54,6 +54,7 @@ pub(crate) fn compile_tree(
     ensures outcome { Compiles level.now.scope.now.sig (map formula_of level.now.scope.now.bodies) level.now.below table.old table.new env.now (formula_of tree.now) (ended result) }
     ensures waits { Defers level.now.scope.now.sig (map formula_of level.now.scope.now.bodies) (worked_in level.now.definitions.now) level.now.below table.old table.new env.now (formula_of tree.now) result }
     ensures state { GoesOn result (IsState level.now.scope.now.sig (map formula_of level.now.scope.now.bodies) level.now.below (worked_in level.now.definitions.now) table.new known.new) }
+    ensures unknown { WhenTooDeep result (λ call. IsUnknown known.new call) }
 {
     if let Some((operator, trees)) = operands(tree) {
         return compile_plain(level, known, table, env, tree, operator, trees, notes);
@@ -99,6 +100,7 @@ fn compile_plain(
     ensures outcome { Compiles level.now.scope.now.sig (map formula_of level.now.scope.now.bodies) level.now.below table.old table.new env.now (formula_of tree.now) (ended result) }
     ensures waits { Defers level.now.scope.now.sig (map formula_of level.now.scope.now.bodies) (worked_in level.now.definitions.now) level.now.below table.old table.new env.now (formula_of tree.now) result }
     ensures state { GoesOn result (IsState level.now.scope.now.sig (map formula_of level.now.scope.now.bodies) level.now.below (worked_in level.now.definitions.now) table.new known.new) }
+    ensures unknown { WhenTooDeep result (λ call. IsUnknown known.new call) }
 {
     let note = first_note(notes);
     let args = compile_all(level, known, table, env, operator, trees, note.under())?;
@@ -122,6 +124,7 @@ fn compile_all(
     ensures outcome { CompilesAll level.now.scope.now.sig (map formula_of level.now.scope.now.bodies) level.now.below table.old table.new env.now operator (formulas_of_trees trees.now) (ended result) }
     ensures waits { DefersAll level.now.scope.now.sig (map formula_of level.now.scope.now.bodies) (worked_in level.now.definitions.now) level.now.below table.old table.new env.now operator (formulas_of_trees trees.now) result }
     ensures state { GoesOn result (IsState level.now.scope.now.sig (map formula_of level.now.scope.now.bodies) level.now.below (worked_in level.now.definitions.now) table.new known.new) }
+    ensures unknown { WhenTooDeep result (λ call. IsUnknown known.new call) }
 {
     let mut args = Args::new(level.alloc);
     let mut lead = None;
@@ -164,6 +167,7 @@ fn compile_choice(
     ensures outcome { Compiles level.now.scope.now.sig (map formula_of level.now.scope.now.bodies) level.now.below table.old table.new env.now (Ite (formula_of condition.now) (formula_of first.now) (formula_of second.now)) (ended result) }
     ensures waits { Defers level.now.scope.now.sig (map formula_of level.now.scope.now.bodies) (worked_in level.now.definitions.now) level.now.below table.old table.new env.now (Ite (formula_of condition.now) (formula_of first.now) (formula_of second.now)) result }
     ensures state { GoesOn result (IsState level.now.scope.now.sig (map formula_of level.now.scope.now.bodies) level.now.below (worked_in level.now.definitions.now) table.new known.new) }
+    ensures unknown { WhenTooDeep result (λ call. IsUnknown known.new call) }
 {
     let note = first_note(notes);
     let of_condition = note.under();
@@ -209,6 +213,7 @@ fn compile_let(
     ensures outcome { Compiles level.now.scope.now.sig (map formula_of level.now.scope.now.bodies) level.now.below table.old table.new env.now (Let (formulas_of_trees trees.now) (formula_of body.now)) (ended result) }
     ensures waits { Defers level.now.scope.now.sig (map formula_of level.now.scope.now.bodies) (worked_in level.now.definitions.now) level.now.below table.old table.new env.now (Let (formulas_of_trees trees.now) (formula_of body.now)) result }
     ensures state { GoesOn result (IsState level.now.scope.now.sig (map formula_of level.now.scope.now.bodies) level.now.below (worked_in level.now.definitions.now) table.new known.new) }
+    ensures unknown { WhenTooDeep result (λ call. IsUnknown known.new call) }
 {
     let note = first_note(notes);
     let flags = note.bound();
@@ -235,6 +240,7 @@ fn compile_call(
     ensures outcome { Compiles level.now.scope.now.sig (map formula_of level.now.scope.now.bodies) level.now.below table.old table.new env.now (Def k (formulas_of_trees trees.now)) (ended result) }
     ensures waits { Defers level.now.scope.now.sig (map formula_of level.now.scope.now.bodies) (worked_in level.now.definitions.now) level.now.below table.old table.new env.now (Def k (formulas_of_trees trees.now)) result }
     ensures state { GoesOn result (IsState level.now.scope.now.sig (map formula_of level.now.scope.now.bodies) level.now.below (worked_in level.now.definitions.now) table.new known.new) }
+    ensures unknown { WhenTooDeep result (λ call. IsUnknown known.new call) }
 {
     let row = row_at(level.definitions, k);
     let body = body_at(level.scope, k);
@@ -245,7 +251,7 @@ fn compile_call(
         return Ok(term);
     }
     let Some(room) = room_under(level, k) else {
-        return Err(Stop::TooDeep(Call {
+        return Err(Stop::TooDeep(DeferredCall {
             definition: k,
             bounds,
         }));
@@ -281,6 +287,7 @@ fn compile_bound(
     ensures outcome { Binds level.now.scope.now.sig (map formula_of level.now.scope.now.bodies) level.now.below table.old table.new env.now flags.now (formulas_of_trees trees.now) (ended result) }
     ensures waits { DefersBound level.now.scope.now.sig (map formula_of level.now.scope.now.bodies) (worked_in level.now.definitions.now) level.now.below table.old table.new env.now flags.now (formulas_of_trees trees.now) result }
     ensures state { GoesOn result (IsState level.now.scope.now.sig (map formula_of level.now.scope.now.bodies) level.now.below (worked_in level.now.definitions.now) table.new known.new) }
+    ensures unknown { WhenTooDeep result (λ call. IsUnknown known.new call) }
 {
     let mut bounds = Vec::new(level.alloc);
     let mut left = flags;
@@ -320,6 +327,7 @@ fn compile_match(
     ensures outcome { Compiles level.now.scope.now.sig (map formula_of level.now.scope.now.bodies) level.now.below table.old table.new env.now (Match (formula_of tree.now) (cases_of_trees cases.now)) (ended result) }
     ensures waits { Defers level.now.scope.now.sig (map formula_of level.now.scope.now.bodies) (worked_in level.now.definitions.now) level.now.below table.old table.new env.now (Match (formula_of tree.now) (cases_of_trees cases.now)) result }
     ensures state { GoesOn result (IsState level.now.scope.now.sig (map formula_of level.now.scope.now.bodies) level.now.below (worked_in level.now.definitions.now) table.new known.new) }
+    ensures unknown { WhenTooDeep result (λ call. IsUnknown known.new call) }
 {
     let note = first_note(notes);
     let occurs = first_flag(note.bound());
@@ -349,6 +357,7 @@ fn compile_cases(
     ensures outcome { CompilesCases level.now.scope.now.sig (map formula_of level.now.scope.now.bodies) level.now.below table.old table.new env.now matched [] (cases_of_trees cases.now) (ended result) }
     ensures waits { DefersCases level.now.scope.now.sig (map formula_of level.now.scope.now.bodies) (worked_in level.now.definitions.now) level.now.below table.old table.new env.now matched [] (cases_of_trees cases.now) result }
     ensures state { GoesOn result (IsState level.now.scope.now.sig (map formula_of level.now.scope.now.bodies) level.now.below (worked_in level.now.definitions.now) table.new known.new) }
+    ensures unknown { WhenTooDeep result (λ call. IsUnknown known.new call) }
 {
     let mut earlier = Vec::new(level.alloc);
     let mut made = Vec::new(level.alloc);
@@ -400,6 +409,7 @@ fn compile_case(
     ensures outcome { Compiles level.now.scope.now.sig (map formula_of level.now.scope.now.bodies) level.now.below table.old table.new (bound_over (bound_by level.now.scope.now.sig pattern matched) env.now) (formula_of body.now) (ended result) }
     ensures waits { Defers level.now.scope.now.sig (map formula_of level.now.scope.now.bodies) (worked_in level.now.definitions.now) level.now.below table.old table.new (bound_over (bound_by level.now.scope.now.sig pattern matched) env.now) (formula_of body.now) result }
     ensures state { GoesOn result (IsState level.now.scope.now.sig (map formula_of level.now.scope.now.bodies) level.now.below (worked_in level.now.definitions.now) table.new known.new) }
+    ensures unknown { WhenTooDeep result (λ call. IsUnknown known.new call) }
 {
     let bounds = pattern_bounds(level.alloc, &level.scope.sig, pattern, matched)?;
     let inner = bind(level.alloc, &bounds, env)?;

@@ -10,4 +10,4 @@ returns c =
     let inner = c.loop-rest.inner.items in
     let none : c.loop-rest.rest.now ≡ [] = nothing_left c.loop-rest.rest.now (omega (arith, c.in_default.len_below)) in
     let all : inner ≡ reverse c.args.bounds.now = sym (append-nil inner) ∙ subst (λ (xs : List Bound). inner ++ reverse xs ≡ reverse c.args.bounds.now) none c.loop-rest.invariant in
-    record { bound = c.in_ok-add_all.ensures.added ∙ ap (λ (xs : List Bound). xs ++ c.args.env.now) all ∙ sym (bind_reverse c.args.bounds.now c.args.env.now) }
+    record { bound = c.in_ok-extend_from_slice.ensures.items ∙ ap (λ (xs : List Bound). xs ++ c.args.env.now) all ∙ sym (bind_reverse c.args.bounds.now c.args.env.now) }

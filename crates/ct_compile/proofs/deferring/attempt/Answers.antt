@@ -4,7 +4,7 @@ use Rattle.ct_occurrence.specs.Marks.{worked_in}
 use Rattle.ct_compile.specs.Ready.{given}
 use Rattle.ct_compile.proofs.CallingLemmas.{state_below}
 use Rattle.ct_compile.proofs.WithinLemmas.{within_subtrees}
-use Rattle.ct_compile.proofs.AttemptLemmas.{called_makes, called_waits, closed_effect, closed_makes, closed_waits, closed_all}
+use Rattle.ct_compile.proofs.AttemptLemmas.{called_makes, called_waits, closed_effect, closed_makes, closed_waits, closed_all, last_known, last_none}
 use Rattle.ct_compile.proofs.deferring.attempt.Goals as goal
 
 pub compile_call_first-requires-clause-state : goal.compile_call_first-requires-clause-state
@@ -96,3 +96,11 @@ returns-in-len1-up-clause-waits c =
     let w = c.requires.waiting call (length c.args.calls.now - 1, omega (arith, c.in-len1-up.len_at_least), sym c.call-item.is) in
     let effect = c.compile_call_first.ensures.effect w.trees _ w.is_call (within_subtrees (given d bodies (suc call.definition.0) call.definition w.trees)) in
     called_waits d bodies rows n t old c.compile_call_first.new.table call w c.compile_call_first.result effect.kept (c.compile_call_first.ensures.waits w.trees w.is_call)
+
+pub returns-in-empty-clause-recorded : goal.returns-in-empty-clause-recorded
+returns-in-empty-clause-recorded c =
+    last_none c.compile_tree.new.known c.args.calls.now c.in-empty.len_below c.compile_tree.result
+
+pub returns-in-len1-up-clause-recorded : goal.returns-in-len1-up-clause-recorded
+returns-in-len1-up-clause-recorded c =
+    last_known c.compile_call_first.new.known c.args.calls.now c.call-item.result c.call-item.is c.compile_call_first.result c.compile_call_first.ensures.recorded

@@ -1,10 +1,11 @@
-use Rattle.std.proofs.Common.{◌≡◌, List, [], map, Ok, Err, sym, ap, subst, ◌∙◌}
+use Rattle.std.proofs.Common.{◌≡◌, List, [], map, Some, Ok, Err, sym, ap, subst, ◌∙◌}
 use Rattle.std.proofs.lemmas.Result.{err_from_is_err_and}
+use Rattle.indexmap.specs.IndexMap.{get}
 use Rattle.ct_terms.specs.Formula.{bind}
 use Rattle.ct_terms.specs.TreeFormula.{formula_of}
 use Rattle.ct_compile.specs.declared.bound.Bound.{Bound}
 use Rattle.ct_compile.specs.declared.known.Called.{Called}
-use Rattle.ct_compile.specs.Calling.{call_of, IsRecalled}
+use Rattle.ct_compile.specs.Calling.{same_call, call_of, IsRecalled}
 use Rattle.ct_compile.specs.Deferral.{ended, Defers}
 use Rattle.ct_occurrence.specs.Marks.{worked_in}
 use Rattle.ct_compile.specs.Ready.{Compiles}
@@ -104,3 +105,9 @@ returns-clause-state c =
     state_with d bodies rows call.definition.0 new c.compile_tree.new.known c.remember.new.known c.in_ok-key.key c.in_ok-term.term c.in_ok-term.ensures.state
     (subst (λ (x : Called). IsRecalled d bodies rows new x c.in_ok-term.term) (sym key_is) (call_known d bodies rows old call body at new c.in_ok-term.term one c.requires.call.0 c.requires.call.1))
     c.in_ok-remember.ensures.only
+
+pub returns-clause-recorded : goal.returns-clause-recorded
+returns-clause-recorded c =
+    let call = c.args.call.now in
+    let key_is : c.in_ok-key.key ≡ call_of call.definition call.bounds = c.in_ok-key.ensures.call ∙ ap (call_of call.definition) c.as_slice.ensures.value in
+    subst (λ (x : Called). get same_call c.remember.new.known x ≡ Some c.in_ok-term.term) key_is c.in_ok-remember.ensures.recorded

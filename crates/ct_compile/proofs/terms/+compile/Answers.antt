@@ -22,7 +22,7 @@ use Rattle.ct_terms.specs.TreeFormula.{formula_of, formulas_of_trees}
 use Rattle.ct_compile.specs.declared.bound.Bound.{Bound}
 use Rattle.ct_compile.specs.declared.known.Called.{Called}
 use Rattle.ct_compile.specs.Binding.{Binds}
-use Rattle.ct_compile.specs.Calling.{call_of, IsRecalled, IsState}
+use Rattle.ct_compile.specs.Calling.{call_of, IsRecalled, IsState, IsUnknown}
 use Rattle.ct_occurrence.specs.CaseFormula.{cases_of_trees}
 use Rattle.ct_compile.specs.Forms.{combined}
 use Rattle.ct_occurrence.specs.Marks.{worked_in, listed}
@@ -93,6 +93,11 @@ compile_all-returns-in_err-term-clause-state t c =
     let p = err_from_is_err_and c.from_residual.result c.from_residual.ensures.1 in
     rw (p.1, p.2) (goes_on_by TermId (List TermId) _ (IsState c.args.level.now.scope.now.sig (map formula_of c.args.level.now.scope.now.bodies) c.args.level.now.below (worked_in c.args.level.now.definitions.now) c.compile_tree.new.table c.compile_tree.new.known) (IsState c.args.level.now.scope.now.sig (map formula_of c.args.level.now.scope.now.bodies) c.args.level.now.below (worked_in c.args.level.now.definitions.now) c.compile_tree.new.table c.compile_tree.new.known) (λ k. k) c.in_err-term.ensures.state)
 
+pub compile_all-returns-in_err-term-clause-unknown : goal.compile_all-returns-in_err-term-clause-unknown
+compile_all-returns-in_err-term-clause-unknown t c =
+    let p = err_from_is_err_and c.from_residual.result c.from_residual.ensures.1 in
+    rw (p.1, p.2) (too_deep_by TermId (List TermId) _ (λ call. IsUnknown c.compile_tree.new.known call) (λ call. IsUnknown c.compile_tree.new.known call) (λ call h. h) c.in_err-term.ensures.unknown)
+
 pub compile_all-follow-requires : goal.compile_all-follow-requires
 compile_all-follow-requires t c =
     let loop = c.loop-rest in
@@ -161,6 +166,11 @@ compile_plain-returns-in_err-args-clause-state t c =
     let p = err_from_is_err_and c.from_residual.result c.from_residual.ensures.1 in
     rw (p.1, p.2) (goes_on_by (List TermId) TermId _ (IsState c.args.level.now.scope.now.sig (map formula_of c.args.level.now.scope.now.bodies) c.args.level.now.below (worked_in c.args.level.now.definitions.now) c.compile_all.new.table c.compile_all.new.known) (IsState c.args.level.now.scope.now.sig (map formula_of c.args.level.now.scope.now.bodies) c.args.level.now.below (worked_in c.args.level.now.definitions.now) c.compile_all.new.table c.compile_all.new.known) (λ k. k) c.in_err-args.ensures.state)
 
+pub compile_plain-returns-in_err-args-clause-unknown : goal.compile_plain-returns-in_err-args-clause-unknown
+compile_plain-returns-in_err-args-clause-unknown t c =
+    let p = err_from_is_err_and c.from_residual.result c.from_residual.ensures.1 in
+    rw (p.1, p.2) (too_deep_by (List TermId) TermId _ (λ call. IsUnknown c.compile_all.new.known call) (λ call. IsUnknown c.compile_all.new.known call) (λ call h. h) c.in_err-args.ensures.unknown)
+
 pub compile_plain-combine-requires-clause-kept : goal.compile_plain-combine-requires-clause-kept
 compile_plain-combine-requires-clause-kept t c =
     plain_kept c.args.level.now.scope.now.sig (map formula_of c.args.level.now.scope.now.bodies) c.args.level.now.below c.args.table.now c.args.env.now (formula_of c.args.tree.now) (formulas_of_trees c.args.trees.now) c.requires.plain c.args.operator c.requires.operator c.requires.under c.compile_all.new.table c.in_ok-args.args c.in_ok-args.ensures.outcome c.requires.ready
@@ -205,6 +215,11 @@ compile_choice-returns-in_err-c-clause-state t c =
     let p = err_from_is_err_and c.from_residual.result c.from_residual.ensures.1 in
     rw (p.1, p.2) (goes_on_by TermId TermId _ (IsState c.args.level.now.scope.now.sig (map formula_of c.args.level.now.scope.now.bodies) c.args.level.now.below (worked_in c.args.level.now.definitions.now) c.compile_tree.new.table c.compile_tree.new.known) (IsState c.args.level.now.scope.now.sig (map formula_of c.args.level.now.scope.now.bodies) c.args.level.now.below (worked_in c.args.level.now.definitions.now) c.compile_tree.new.table c.compile_tree.new.known) (λ k. k) c.in_err-c.ensures.state)
 
+pub compile_choice-returns-in_err-c-clause-unknown : goal.compile_choice-returns-in_err-c-clause-unknown
+compile_choice-returns-in_err-c-clause-unknown t c =
+    let p = err_from_is_err_and c.from_residual.result c.from_residual.ensures.1 in
+    rw (p.1, p.2) (too_deep_by TermId TermId _ (λ call. IsUnknown c.compile_tree.new.known call) (λ call. IsUnknown c.compile_tree.new.known call) (λ call h. h) c.in_err-c.ensures.unknown)
+
 pub compile_choice-compile_tree-requires-2 : goal.compile_choice-compile_tree-requires-2
 compile_choice-compile_tree-requires-2 t c =
     (omega (arith, c.decreases), (c.in_ok-c.ensures.state, (choice_then c.args.level.now.scope.now.sig (map formula_of c.args.level.now.scope.now.bodies) c.args.level.now.below c.args.env.now (formula_of c.args.condition.now) (formula_of c.args.first.now) (formula_of c.args.second.now) c.args.table.now c.compile_tree.new.table c.in_ok-c.c c.in_ok-c.ensures.outcome c.requires.ready, (c.requires.noted.0, then_notes c.args.level.now.scope.now.sig (worked_in c.args.level.now.definitions.now) (uses_below c.args.level.now.scope.now.sig (map formula_of c.args.level.now.scope.now.bodies) c.args.level.now.below) c.args.notes.now c.first_note-note.result.now c.first_note-note.ensures.value (formula_of c.args.condition.now) (formula_of c.args.first.now) (formula_of c.args.second.now) c.under-of_condition.result.now c.later_notes-of_first.result.now c.under-of_condition.ensures.value c.later_notes-of_first.ensures.value c.requires.noted.1))))
@@ -224,6 +239,11 @@ compile_choice-returns-in_err-a-clause-state t c =
     let p = err_from_is_err_and c.from_residual-in_err-a.result c.from_residual-in_err-a.ensures.1 in
     rw (p.1, p.2) (goes_on_by TermId TermId _ (IsState c.args.level.now.scope.now.sig (map formula_of c.args.level.now.scope.now.bodies) c.args.level.now.below (worked_in c.args.level.now.definitions.now) c.compile_tree-2.new.table c.compile_tree-2.new.known) (IsState c.args.level.now.scope.now.sig (map formula_of c.args.level.now.scope.now.bodies) c.args.level.now.below (worked_in c.args.level.now.definitions.now) c.compile_tree-2.new.table c.compile_tree-2.new.known) (λ k. k) c.in_err-a.ensures.state)
 
+pub compile_choice-returns-in_err-a-clause-unknown : goal.compile_choice-returns-in_err-a-clause-unknown
+compile_choice-returns-in_err-a-clause-unknown t c =
+    let p = err_from_is_err_and c.from_residual-in_err-a.result c.from_residual-in_err-a.ensures.1 in
+    rw (p.1, p.2) (too_deep_by TermId TermId _ (λ call. IsUnknown c.compile_tree-2.new.known call) (λ call. IsUnknown c.compile_tree-2.new.known call) (λ call h. h) c.in_err-a.ensures.unknown)
+
 pub compile_choice-compile_tree-requires-3 : goal.compile_choice-compile_tree-requires-3
 compile_choice-compile_tree-requires-3 t c =
     (omega (arith, c.decreases), (c.in_ok-a.ensures.state, (choice_else c.args.level.now.scope.now.sig (map formula_of c.args.level.now.scope.now.bodies) c.args.level.now.below c.args.env.now (formula_of c.args.condition.now) (formula_of c.args.first.now) (formula_of c.args.second.now) c.args.table.now c.compile_tree.new.table c.in_ok-c.c c.in_ok-c.ensures.outcome c.compile_tree-2.new.table c.in_ok-a.a c.in_ok-a.ensures.outcome c.requires.ready, (c.requires.noted.0, else_notes c.args.level.now.scope.now.sig (worked_in c.args.level.now.definitions.now) (uses_below c.args.level.now.scope.now.sig (map formula_of c.args.level.now.scope.now.bodies) c.args.level.now.below) c.args.notes.now c.first_note-note.result.now c.first_note-note.ensures.value (formula_of c.args.condition.now) (formula_of c.args.first.now) (formula_of c.args.second.now) c.under-of_condition.result.now c.later_notes-of_first.result.now c.later_notes-of_second.result.now c.under-of_condition.ensures.value c.later_notes-of_first.ensures.value c.later_notes-of_second.ensures.value c.requires.noted.1))))
@@ -242,6 +262,11 @@ pub compile_choice-returns-in_err-b-clause-state : goal.compile_choice-returns-i
 compile_choice-returns-in_err-b-clause-state t c =
     let p = err_from_is_err_and c.from_residual-in_err-b.result c.from_residual-in_err-b.ensures.1 in
     rw (p.1, p.2) (goes_on_by TermId TermId _ (IsState c.args.level.now.scope.now.sig (map formula_of c.args.level.now.scope.now.bodies) c.args.level.now.below (worked_in c.args.level.now.definitions.now) c.compile_tree-3.new.table c.compile_tree-3.new.known) (IsState c.args.level.now.scope.now.sig (map formula_of c.args.level.now.scope.now.bodies) c.args.level.now.below (worked_in c.args.level.now.definitions.now) c.compile_tree-3.new.table c.compile_tree-3.new.known) (λ k. k) c.in_err-b.ensures.state)
+
+pub compile_choice-returns-in_err-b-clause-unknown : goal.compile_choice-returns-in_err-b-clause-unknown
+compile_choice-returns-in_err-b-clause-unknown t c =
+    let p = err_from_is_err_and c.from_residual-in_err-b.result c.from_residual-in_err-b.ensures.1 in
+    rw (p.1, p.2) (too_deep_by TermId TermId _ (λ call. IsUnknown c.compile_tree-3.new.known call) (λ call. IsUnknown c.compile_tree-3.new.known call) (λ call h. h) c.in_err-b.ensures.unknown)
 
 pub compile_choice-make-requires-clause-kept : goal.compile_choice-make-requires-clause-kept
 compile_choice-make-requires-clause-kept t c =
@@ -295,6 +320,11 @@ compile_let-returns-in_err-bounds-clause-state t c =
     let p = err_from_is_err_and c.from_residual.result c.from_residual.ensures.1 in
     rw (p.1, p.2) (goes_on_by (List Bound) TermId c.in_err-bounds.field-0.0 (IsState c.args.level.now.scope.now.sig (map formula_of c.args.level.now.scope.now.bodies) c.args.level.now.below (worked_in c.args.level.now.definitions.now) c.compile_bound.new.table c.compile_bound.new.known) (IsState c.args.level.now.scope.now.sig (map formula_of c.args.level.now.scope.now.bodies) c.args.level.now.below (worked_in c.args.level.now.definitions.now) c.compile_bound.new.table c.compile_bound.new.known) (λ x. x) c.in_err-bounds.ensures.state)
 
+pub compile_let-returns-in_err-bounds-clause-unknown : goal.compile_let-returns-in_err-bounds-clause-unknown
+compile_let-returns-in_err-bounds-clause-unknown t c =
+    let p = err_from_is_err_and c.from_residual.result c.from_residual.ensures.1 in
+    rw (p.1, p.2) (too_deep_by (List Bound) TermId _ (λ call. IsUnknown c.compile_bound.new.known call) (λ call. IsUnknown c.compile_bound.new.known call) (λ call h. h) c.in_err-bounds.ensures.unknown)
+
 pub compile_let-returns-in_err-inner-clause-outcome : goal.compile_let-returns-in_err-inner-clause-outcome
 compile_let-returns-in_err-inner-clause-outcome t c =
     let flags_are : c.bound-flags.result.now ≡ listed (occurs c.args.level.now.scope.now.sig (uses_below c.args.level.now.scope.now.sig (map formula_of c.args.level.now.scope.now.bodies) c.args.level.now.below) (formula_of c.args.body.now)) (count_of (formulas_of_trees c.args.trees.now)) = let_flags c.args.level.now.scope.now.sig (worked_in c.args.level.now.definitions.now) (uses_below c.args.level.now.scope.now.sig (map formula_of c.args.level.now.scope.now.bodies) c.args.level.now.below) c.args.notes.now c.first_note-note.result.now c.first_note-note.ensures.value (formulas_of_trees c.args.trees.now) (formula_of c.args.body.now) c.bound-flags.result.now c.bound-flags.ensures.value c.requires.noted.1 in
@@ -337,6 +367,11 @@ pub compile_call-returns-in_err-bounds-clause-state : goal.compile_call-returns-
 compile_call-returns-in_err-bounds-clause-state t c =
     let p = err_from_is_err_and c.from_residual.result c.from_residual.ensures.1 in
     rw (p.1, p.2) (goes_on_by (List Bound) TermId c.in_err-bounds.field-0.0 (IsState c.args.level.now.scope.now.sig (map formula_of c.args.level.now.scope.now.bodies) c.args.level.now.below (worked_in c.args.level.now.definitions.now) c.compile_bound.new.table c.compile_bound.new.known) (IsState c.args.level.now.scope.now.sig (map formula_of c.args.level.now.scope.now.bodies) c.args.level.now.below (worked_in c.args.level.now.definitions.now) c.compile_bound.new.table c.compile_bound.new.known) (λ x. x) c.in_err-bounds.ensures.state)
+
+pub compile_call-returns-in_err-bounds-clause-unknown : goal.compile_call-returns-in_err-bounds-clause-unknown
+compile_call-returns-in_err-bounds-clause-unknown t c =
+    let p = err_from_is_err_and c.from_residual.result c.from_residual.ensures.1 in
+    rw (p.1, p.2) (too_deep_by (List Bound) TermId _ (λ call. IsUnknown c.compile_bound.new.known call) (λ call. IsUnknown c.compile_bound.new.known call) (λ call h. h) c.in_err-bounds.ensures.unknown)
 
 pub compile_call-returns-in_err-call-clause-outcome : goal.compile_call-returns-in_err-call-clause-outcome
 compile_call-returns-in_err-call-clause-outcome t c =
@@ -386,6 +421,11 @@ pub compile_call-returns-in_err-term-clause-state : goal.compile_call-returns-in
 compile_call-returns-in_err-term-clause-state t c =
     let p = err_from_is_err_and c.from_residual-in_err-term.result c.from_residual-in_err-term.ensures.1 in
     rw (p.1, p.2) (goes_on_by TermId TermId c.in_err-term.field-0.0 (IsState c.args.level.now.scope.now.sig (map formula_of c.args.level.now.scope.now.bodies) c.args.k.0 (worked_in c.args.level.now.definitions.now) c.compile_tree.new.table c.compile_tree.new.known) (IsState c.args.level.now.scope.now.sig (map formula_of c.args.level.now.scope.now.bodies) c.args.level.now.below (worked_in c.args.level.now.definitions.now) c.compile_tree.new.table c.compile_tree.new.known) (λ x. state_back c.args.level.now.scope.now.sig (map formula_of c.args.level.now.scope.now.bodies) (worked_in c.args.level.now.definitions.now) c.args.k.0 c.args.level.now.below c.compile_bound.new.table c.compile_tree.new.table c.compile_bound.new.known c.compile_tree.new.known c.in_ok-bounds.ensures.state x) c.in_err-term.ensures.state)
+
+pub compile_call-returns-in_err-term-clause-unknown : goal.compile_call-returns-in_err-term-clause-unknown
+compile_call-returns-in_err-term-clause-unknown t c =
+    let p = err_from_is_err_and c.from_residual-in_err-term.result c.from_residual-in_err-term.ensures.1 in
+    rw (p.1, p.2) (too_deep_by TermId TermId _ (λ call. IsUnknown c.compile_tree.new.known call) (λ call. IsUnknown c.compile_tree.new.known call) (λ call h. h) c.in_err-term.ensures.unknown)
 
 pub compile_call-returns-in_err-remember-clause-outcome : goal.compile_call-returns-in_err-remember-clause-outcome
 compile_call-returns-in_err-remember-clause-outcome t c =
@@ -479,6 +519,11 @@ compile_bound-returns-in_err-term-clause-state t c =
     let p = err_from_is_err_and c.from_residual-in_err-term.result c.from_residual-in_err-term.ensures.1 in
     rw (p.1, p.2) (goes_on_by TermId (List Bound) c.in_err-term.field-0.0 (IsState c.args.level.now.scope.now.sig (map formula_of c.args.level.now.scope.now.bodies) c.args.level.now.below (worked_in c.args.level.now.definitions.now) c.compile_tree.new.table c.compile_tree.new.known) (IsState c.args.level.now.scope.now.sig (map formula_of c.args.level.now.scope.now.bodies) c.args.level.now.below (worked_in c.args.level.now.definitions.now) c.compile_tree.new.table c.compile_tree.new.known) (λ x. x) c.in_err-term.ensures.state)
 
+pub compile_bound-returns-in_err-term-clause-unknown : goal.compile_bound-returns-in_err-term-clause-unknown
+compile_bound-returns-in_err-term-clause-unknown t c =
+    let p = err_from_is_err_and c.from_residual-in_err-term.result c.from_residual-in_err-term.ensures.1 in
+    rw (p.1, p.2) (too_deep_by TermId (List Bound) _ (λ call. IsUnknown c.compile_tree.new.known call) (λ call. IsUnknown c.compile_tree.new.known call) (λ call h. h) c.in_err-term.ensures.unknown)
+
 pub compile_bound-returns-in_err-push-2-clause-outcome : goal.compile_bound-returns-in_err-push-2-clause-outcome
 compile_bound-returns-in_err-push-2-clause-outcome t c =
     let loop = c.loop-rest in
@@ -523,6 +568,11 @@ pub compile_match-returns-in_err-bounds-clause-state : goal.compile_match-return
 compile_match-returns-in_err-bounds-clause-state t c =
     let p = err_from_is_err_and c.from_residual.result c.from_residual.ensures.1 in
     rw (p.1, p.2) (goes_on_by (List Bound) TermId c.in_err-bounds.field-0.0 (IsState c.args.level.now.scope.now.sig (map formula_of c.args.level.now.scope.now.bodies) c.args.level.now.below (worked_in c.args.level.now.definitions.now) c.compile_bound.new.table c.compile_bound.new.known) (IsState c.args.level.now.scope.now.sig (map formula_of c.args.level.now.scope.now.bodies) c.args.level.now.below (worked_in c.args.level.now.definitions.now) c.compile_bound.new.table c.compile_bound.new.known) (λ x. x) c.in_err-bounds.ensures.state)
+
+pub compile_match-returns-in_err-bounds-clause-unknown : goal.compile_match-returns-in_err-bounds-clause-unknown
+compile_match-returns-in_err-bounds-clause-unknown t c =
+    let p = err_from_is_err_and c.from_residual.result c.from_residual.ensures.1 in
+    rw (p.1, p.2) (too_deep_by (List Bound) TermId _ (λ call. IsUnknown c.compile_bound.new.known call) (λ call. IsUnknown c.compile_bound.new.known call) (λ call h. h) c.in_err-bounds.ensures.unknown)
 
 pub compile_match-bound_at-matched-requires : goal.compile_match-bound_at-matched-requires
 compile_match-bound_at-matched-requires t c =
@@ -591,6 +641,11 @@ pub compile_cases-returns-in_err-last-clause-state : goal.compile_cases-returns-
 compile_cases-returns-in_err-last-clause-state t c =
     let p = err_from_is_err_and c.from_residual.result c.from_residual.ensures.1 in
     rw (p.1, p.2) (goes_on_by TermId TermId c.in_err-last.field-0.0 (IsState c.args.level.now.scope.now.sig (map formula_of c.args.level.now.scope.now.bodies) c.args.level.now.below (worked_in c.args.level.now.definitions.now) c.compile_case.new.table c.compile_case.new.known) (IsState c.args.level.now.scope.now.sig (map formula_of c.args.level.now.scope.now.bodies) c.args.level.now.below (worked_in c.args.level.now.definitions.now) c.compile_case.new.table c.compile_case.new.known) (λ x. x) c.in_err-last.ensures.state)
+
+pub compile_cases-returns-in_err-last-clause-unknown : goal.compile_cases-returns-in_err-last-clause-unknown
+compile_cases-returns-in_err-last-clause-unknown t c =
+    let p = err_from_is_err_and c.from_residual.result c.from_residual.ensures.1 in
+    rw (p.1, p.2) (too_deep_by TermId TermId _ (λ call. IsUnknown c.compile_case.new.known call) (λ call. IsUnknown c.compile_case.new.known call) (λ call h. h) c.in_err-last.ensures.unknown)
 
 pub compile_cases-choices-requires-clause-kept : goal.compile_cases-choices-requires-clause-kept
 compile_cases-choices-requires-clause-kept t c =
@@ -721,6 +776,11 @@ pub compile_cases-returns-in_err-term-clause-state : goal.compile_cases-returns-
 compile_cases-returns-in_err-term-clause-state t c =
     let p = err_from_is_err_and c.from_residual-in_err-term.result c.from_residual-in_err-term.ensures.1 in
     rw (p.1, p.2) (goes_on_by TermId TermId c.in_err-term.field-0.0 (IsState c.args.level.now.scope.now.sig (map formula_of c.args.level.now.scope.now.bodies) c.args.level.now.below (worked_in c.args.level.now.definitions.now) c.compile_case-in-len1-up.new.table c.compile_case-in-len1-up.new.known) (IsState c.args.level.now.scope.now.sig (map formula_of c.args.level.now.scope.now.bodies) c.args.level.now.below (worked_in c.args.level.now.definitions.now) c.compile_case-in-len1-up.new.table c.compile_case-in-len1-up.new.known) (λ x. x) c.in_err-term.ensures.state)
+
+pub compile_cases-returns-in_err-term-clause-unknown : goal.compile_cases-returns-in_err-term-clause-unknown
+compile_cases-returns-in_err-term-clause-unknown t c =
+    let p = err_from_is_err_and c.from_residual-in_err-term.result c.from_residual-in_err-term.ensures.1 in
+    rw (p.1, p.2) (too_deep_by TermId TermId _ (λ call. IsUnknown c.compile_case-in-len1-up.new.known call) (λ call. IsUnknown c.compile_case-in-len1-up.new.known call) (λ call h. h) c.in_err-term.ensures.unknown)
 
 pub compile_cases-returns-in_err-push-clause-outcome : goal.compile_cases-returns-in_err-push-clause-outcome
 compile_cases-returns-in_err-push-clause-outcome t c =
