@@ -7,7 +7,7 @@ use Rattle.ct_sorts.specs.declared.ids.Symbol.{Symbol}
 use Rattle.ct_sorts.specs.Declarations.{Declarations, bool_sort}
 use Rattle.ct_sorts.specs.Lookup.{IsSymbol}
 use Rattle.ct_terms.specs.Formula as formula
-use Rattle.ct_terms.specs.Formula.{Formula, Formulas, no_formulas, with_formula, bind}
+use Rattle.ct_terms.specs.Formula.{Formulas, no_formulas, with_formula, bind}
 use Rattle.ct_terms.specs.FormulaSorts.{IsSorted, AreSorted, AreOfSort, HasFormula, AreSeveral}
 use Rattle.ct_check.specs.declared.operator.Operator.{Operator}
 use Rattle.ct_check.specs.declared.operator.Operator.TheVariants.{Not, And, Or, Xor, Implies, Equal, Distinct, Ite}

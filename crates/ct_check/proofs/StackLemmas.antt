@@ -1,4 +1,4 @@
--- Variables on a stack: what is kept beside them finds the innermost, when one is pushed and when one leaves.
+-- Variables on a stack: what is stored beside them finds the innermost, when one is pushed and when one leaves.
 use Rattle.std.proofs.Common.{◌≡◌, ℕ, suc, ◌+◌, ◌-◌, ◌<◌, Bool, true, false, if◌then◌else◌, List, [], ◌∷◌, ◌++◌, length, Option, Some, None, Result, Ok, Err, OnOk, OnErr, refl, sym, ap, subst, ◌∙◌, arith}
 use Rattle.std.proofs.lemmas.Option.{same_Some}
 use Rattle.std.proofs.lemmas.Map.Text.{hash_map_updates_str}
@@ -78,12 +78,12 @@ length-scope entries = length-variables (bind entries []) ∙ length-bind entrie
 pub bind-last : (entries : List Entry) (last : Entry) → bind (entries ++ last ∷ []) [] ≡ last ∷ bind entries []
 bind-last entries last = bind-append entries (last ∷ []) []
 
--- ---- the places that are kept
+-- ---- the places that are stored
 
 -- what a look-up finds
 module _ {S : Type 0} (entries : List Entry) (places : IndexMap (Bor (List ℕ)) (Option Place) S) (is : IsStack entries places) (scope : List Variable) (seen : variables_of (bind entries []) ≡ scope) (name : List ℕ) where
   place-seen : placed places name ≡ place_of scope name
-  place-seen = is.kept name ∙ ap (λ (vs : List Variable). place_of vs name) seen
+  place-seen = is.stored name ∙ ap (λ (vs : List Variable). place_of vs name) seen
 
   length-seen : length scope ≡ length entries
   length-seen = ap (λ (vs : List Variable). length vs) (sym seen) ∙ length-scope entries
@@ -99,10 +99,10 @@ module _ {S : Type 0} (entries : List Entry) (places : IndexMap (Bor (List ℕ))
   none-seen unplaced = sym (find-none 0 scope name (sym place-seen ∙ sym unplaced))
 
 pub placed_as : {S : Type 0} (places : IndexMap (Bor (List ℕ)) (Option Place) S) (scope : List Variable) → ArePlaces places scope → (name : Option (List ℕ)) → placed_at places name ≡ shadowed_by scope name
-placed_as places scope kept None = refl
-placed_as places scope kept (Some name) = kept name
+placed_as places scope stored None = refl
+placed_as places scope stored (Some name) = stored name
 
--- what is kept once a place is put under a name
+-- what is stored once a place is put under a name
 pub placed-put : {S : Type 0} (places more : IndexMap (Bor (List ℕ)) (Option Place) S) (own : List ℕ) (place : Option Place) → UpdatesBy (λ x y. bytes_eq x.now y.now) (λ k. bytes_eq own k.now) places more (Some place) → (other : List ℕ) → placed more other ≡ (if bytes_eq own other then place else placed places other)
 placed-put places more own place updates other = ap flat (hash_map_updates_str own places more (Some place) updates other) ∙ at (bytes_eq own other)
   where
@@ -120,13 +120,13 @@ IsStack-push entries places more bound shadowed before is at had writes =
     let es = bind entries [] in
     let name = held_name bound.name in
     let last : Entry = record { bound = bound; shadowed = shadowed } in
-    let kept : ArePlaces more (variable_of bound ∷ variables_of es) = λ other.
+    let stored : ArePlaces more (variable_of bound ∷ variables_of es) = λ other.
     writes other
     ∙ ap (λ (n : ℕ). if is_named other name then Some (record { before = n; sort = bound.sort }) else placed places other) (at ∙ sym (length-scope entries))
-    ∙ ap (λ (o : Option Place). if is_named other name then Some (record { before = length (variables_of es); sort = bound.sort }) else o) (is.kept other) in
+    ∙ ap (λ (o : Option Place). if is_named other name then Some (record { before = length (variables_of es); sort = bound.sort }) else o) (is.stored other) in
     record {
-      shadowing = subst AreShadowing (sym (bind-last entries last)) (had ∙ placed_as places (variables_of es) is.kept name, is.shadowing);
-      kept = subst (λ (all : List Entry). ArePlaces more (variables_of all)) (sym (bind-last entries last)) kept;
+      shadowing = subst AreShadowing (sym (bind-last entries last)) (had ∙ placed_as places (variables_of es) is.stored name, is.shadowing);
+      stored = subst (λ (all : List Entry). ArePlaces more (variables_of all)) (sym (bind-last entries last)) stored;
     }
 
 -- a name that stands on the stack has a place
@@ -137,9 +137,9 @@ stands scope v name named none = absurd (at (is_named name v.name) (ap (is_named
     at true is h = absurd cc
     at false is h = absurd cc
 
--- what is kept below the innermost, once its name has back the place that it had before
+-- what is stored below the innermost, once its name has back the place that it had before
 restored : {S : Type 0} (es : List Entry) (last : Entry) (places less : IndexMap (Bor (List ℕ)) (Option Place) S) → AreShadowing (last ∷ es) → ArePlaces places (variables_of (last ∷ es)) → Puts places less (held_name last.bound.name) last.shadowed → ArePlaces less (variables_of es)
-restored es last places less shadowing kept writes other = writes other ∙ at (held_name last.bound.name) shadowing.0 (kept other)
+restored es last places less shadowing stored writes other = writes other ∙ at (held_name last.bound.name) shadowing.0 (stored other)
   where
     scope : List Variable
     scope = variables_of es
@@ -153,17 +153,17 @@ restored es last places less shadowing kept writes other = writes other ∙ at (
     at (Some own) had is = by (bytes_eq own other) own (placed places other) refl had is
 
 unplaced-never : {S : Type 0} (es : List Entry) (last : Entry) (places : IndexMap (Bor (List ℕ)) (Option Place) S) (name : Option (List ℕ)) → held_name last.bound.name ≡ name → IsUnplaced places name → ArePlaces places (variables_of (last ∷ es)) → ⊥
-unplaced-never es last places None e h kept = h
-unplaced-never es last places (Some own) e h kept = stands (variables_of es) (variable_of last.bound) own e (sym (kept own) ∙ h)
+unplaced-never es last places None e h stored = h
+unplaced-never es last places (Some own) e h stored = stands (variables_of es) (variable_of last.bound) own e (sym (stored own) ∙ h)
 
 written : {S A E : Type 0} (es : List Entry) (last : Entry) (places less : IndexMap (Bor (List ℕ)) (Option Place) S) (r : Result A E) → OnOk r (Puts places less (held_name last.bound.name) last.shadowed) → OnErr r (IsUnplaced places (held_name last.bound.name)) → ArePlaces places (variables_of (last ∷ es)) → Puts places less (held_name last.bound.name) last.shadowed
-written es last places less (Ok x) h k kept = h
-written es last places less (Err x) h k kept = absurd (unplaced-never es last places (held_name last.bound.name) refl k kept)
+written es last places less (Ok x) h k stored = h
+written es last places less (Err x) h k stored = absurd (unplaced-never es last places (held_name last.bound.name) refl k stored)
 
 pub IsStack-pop : {S A E : Type 0} (entries before : List Entry) (last : Entry) (places less : IndexMap (Bor (List ℕ)) (Option Place) S) (r : Result A E) → IsStack before places → before ≡ entries ++ last ∷ [] → OnOk r (Puts places less (held_name last.bound.name) last.shadowed) → OnErr r (IsUnplaced places (held_name last.bound.name)) → IsStack entries less
 IsStack-pop entries before last places less r is split puts unplaced =
     let es = bind entries [] in
     let whole : bind before [] ≡ last ∷ es = ap (λ (xs : List Entry). bind xs []) split ∙ bind-last entries last in
     let shadowing : AreShadowing (last ∷ es) = subst AreShadowing whole is.shadowing in
-    let kept : ArePlaces places (variables_of (last ∷ es)) = subst (λ (xs : List Entry). ArePlaces places (variables_of xs)) whole is.kept in
-    record { shadowing = shadowing.1; kept = restored es last places less shadowing kept (written es last places less r puts unplaced kept) }
+    let stored : ArePlaces places (variables_of (last ∷ es)) = subst (λ (xs : List Entry). ArePlaces places (variables_of xs)) whole is.stored in
+    record { shadowing = shadowing.1; stored = restored es last places less shadowing stored (written es last places less r puts unplaced stored) }

@@ -1,6 +1,7 @@
--- Elaboration: the formula that an expression writes and its sort, or the number of its first error, from left to right
--- (SMT-LIB 2.7, section 3.6; the details of `match` and of `as` are this project's own profile). Variables are listed
--- from the innermost outwards.
+-- Elaboration: the formula that an expression writes and its sort, or the number of its first error (SMT-LIB 2.7, section
+-- 3.6; the details of `match` and of `as` are this project's own profile). Errors come from left to right, but the number of
+-- arguments before the arguments, a repeated variable of a `let` before its terms, and the forms of cases before the matched
+-- term. Variables are listed from the innermost outwards.
 use Rattle.std.specs.Prelude.{ℕ, Bool, true, false, not, ◌&&◌, ◌==◌, List, [], ◌∷◌, map, length, nat_le, Option, Some, None, is_some, Ok, Err, codes, if◌then◌else◌}
 use Rattle.std.specs.Str.{bytes_eq}
 use Rattle.ct_sorts.specs.declared.ids.SortId.{SortId}

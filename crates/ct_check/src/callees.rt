@@ -1,12 +1,9 @@
 //! What takes arguments of stated sorts: symbols, testers and connectives.
-ghost use Rattle.std.specs.Prelude.{◌≡◌, ◌∷◌, [], ◌==◌, length, replicate, IfOk, IfErr};
-ghost use Rattle.ct_sorts.specs.Declarations.{bool_sort};
-ghost use Rattle.ct_sorts.specs.Lookup.{IsSymbol};
-ghost use Rattle.ct_terms.specs.TreeFormula.{formula_of, formulas_of_trees};
+ghost use Rattle.std.specs.Prelude.{◌≡◌, ◌==◌, replicate, IfOk, IfErr};
 ghost use Rattle.ct_check.specs.Symbols.{argument_sorts};
 ghost use Rattle.ct_check.specs.Elaboration.{takes};
 ghost use Rattle.ct_check.specs.Outcome.{is_sort};
-ghost use Rattle.ct_check.specs.Callees.{callee_sorts, callee_result, callee_formula, IsCallee};
+ghost use Rattle.ct_check.specs.Callees.{callee_sorts, callee_result, IsCallee};
 
 use crate::error::CheckError;
 use crate::operator::Operator;

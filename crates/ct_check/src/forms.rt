@@ -2,7 +2,7 @@
 ghost use Rattle.std.specs.Prelude.{◌≡◌, List};
 ghost use Rattle.ct_sexpr.specs.View.{expression_of, expressions_of};
 ghost use Rattle.ct_sorts.specs.Declarations.{Declarations};
-ghost use Rattle.ct_check.specs.Forms.{is_name, is_binding, are_bindings, is_variable, are_variables, is_pattern, is_case, are_cases, is_keyword, is_named_attribute, are_attributes_from, are_attributes};
+ghost use Rattle.ct_check.specs.Forms.{is_name, is_binding, are_bindings, is_variable, are_variables, is_pattern, is_case, are_cases, is_keyword, is_named_attribute, are_attributes};
 ghost use Rattle.ct_check.specs.Elaboration.{part_of, parts_of};
 ghost use Rattle.ct_check.specs.Parts.{list_part};
 ghost use Rattle.ct_check.specs.Variables.{Variable};

@@ -1,5 +1,4 @@
 //! Names that stand alone.
-ghost use Rattle.std.specs.Prelude.{◌≡◌};
 ghost use Rattle.ct_sexpr.specs.View.{expression_of};
 ghost use Rattle.ct_sorts.specs.Lookup.{IsSymbol};
 ghost use Rattle.ct_check.specs.Answer.{Answers};

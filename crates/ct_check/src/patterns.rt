@@ -1,6 +1,5 @@
 //! Patterns of a `match`: what a pattern fits and binds, or its first error.
-ghost use Rattle.std.specs.Prelude.{◌≡◌, List, ℕ, map, length, option_map, IfOk, IfErr, All};
-ghost use Rattle.std.specs.Borrow.{Bor};
+ghost use Rattle.std.specs.Prelude.{◌≡◌, true, List, map, IfOk, IfErr};
 ghost use Rattle.ct_sexpr.specs.View.{expression_of, expressions_of};
 ghost use Rattle.ct_sorts.specs.Declarations.{Declarations};
 ghost use Rattle.ct_sorts.specs.Lookup.{IsSymbol};
@@ -8,7 +7,7 @@ ghost use Rattle.ct_sorts.specs.declared.ids.Symbol.TheVariants.{Ctor};
 ghost use Rattle.ct_check.specs.Answer.{Answers, same};
 ghost use Rattle.ct_check.specs.Bounds.{variable_of, held_name, held_binding};
 ghost use Rattle.ct_check.specs.Elaboration.{part_of, parts_of};
-ghost use Rattle.ct_check.specs.Patterns.{variable_names, lone_ctor, leaf_pattern, ctor_with, headed_pattern, ctor_at, pattern, matchable, any_pattern, lone_pattern, are_exhaustive, fits_all, is_of_ctor, sort_ctors};
+ghost use Rattle.ct_check.specs.Patterns.{variable_names, lone_ctor, leaf_pattern, ctor_with, pattern, matchable, any_pattern, lone_pattern, are_exhaustive, fits_all, is_of_ctor, sort_ctors};
 ghost use Rattle.ct_check.specs.Parts.{list_part, name_of};
 ghost use Rattle.ct_check.specs.Symbols.{ctor_named};
 ghost use Rattle.ct_check.specs.Forms.{bound_name, bound_names};
@@ -300,11 +299,52 @@ fn is_covered(sig: &Signature, side: SortId, patterns: &[Pattern]) -> bool
     are_covered(sig.ctors(side), patterns)
 }
 
-// Whether each of the constructors has a pattern.
+// Whether each of the constructors has a pattern. Patterns in the order of the declaration are met at the first look.
 fn are_covered(ctors: &[CtorId], patterns: &[Pattern]) -> bool
     ensures value { result ≡ list_all (λ c. list_any (is_of_ctor c) patterns.now) ctors.now }
 {
-    ctors.iter().all(|c| has_ctor(patterns, *c))
+    let mut near = patterns;
+    let mut rest = ctors;
+    while let [c, others @ ..] = rest {
+        let covered = is_met(patterns, near, *c);
+        if !covered {
+            return false;
+        }
+        near = after_first(near);
+        rest = others;
+    }
+    true
+}
+
+// Whether the constructor has a pattern: the first of `near`, which are some of the patterns, is looked at first.
+fn is_met(patterns: &[Pattern], near: &[Pattern], c: CtorId) -> bool
+    requires near { (k : CtorId) → list_any (is_of_ctor k) near.now ≡ true → list_any (is_of_ctor k) patterns.now ≡ true }
+    ensures value { result ≡ list_any (is_of_ctor c) patterns.now }
+{
+    if is_of_first(near, c) {
+        return true;
+    }
+    has_ctor(patterns, c)
+}
+
+// Whether the first of the patterns is of the constructor.
+fn is_of_first(patterns: &[Pattern], c: CtorId) -> bool
+    ensures among { result ≡ true → list_any (is_of_ctor c) patterns.now ≡ true }
+{
+    match patterns {
+        [first, ..] => is_of_ctor(c, *first),
+        [] => false,
+    }
+}
+
+// The patterns after the first.
+fn after_first(patterns: &[Pattern]) -> &[Pattern]
+    ensures among { (c : CtorId) → list_any (is_of_ctor c) result.now ≡ true → list_any (is_of_ctor c) patterns.now ≡ true }
+{
+    match patterns {
+        [_, others @ ..] => others,
+        [] => patterns,
+    }
 }
 
 // Whether the pattern fits everything.

@@ -30,13 +30,15 @@ pub fn sort_of(scope: &Scope, expr: &Sexpr) -> Result<SortId, CheckError>
 /// The tree of an expression under parameters, with its sort (SMT-LIB 2.7, section 3.6; the details
 /// of `match` and of `as` are this project's own).
 ///
-/// It is refused with the number of its first error, from left to right: 12 unknown sort, 21
-/// unknown symbol, 22 wrong number of arguments, 23 wrong sort, 25 pattern of another sort, 26
-/// `match` not exhaustive, 27 variable repeated, 28 form out of scope. Or memory runs out.
+/// It is refused with the number of its first error: 12 unknown sort, 21 unknown symbol, 22 wrong
+/// number of arguments, 23 wrong sort, 25 pattern of another sort, 26 `match` not exhaustive, 27
+/// variable repeated, 28 form out of scope. Errors come from left to right, but the number of
+/// arguments before the arguments, 27 in a `let` before its terms, and 28 for the form of a case
+/// before the matched term; 26 comes last. Or memory runs out.
 ///
 /// The time is linear in the expression but for its cases: each constructor of the sort of a `match`
-/// is looked for among its patterns. A name is looked for in about constant time, and a binder costs
-/// what it binds.
+/// is looked for among its patterns, and is met at once where these come in the order of the
+/// declaration. A name is looked for in about constant time, and a binder costs what it binds.
 pub fn elaborate(
     alloc: Global,
     scope: &Scope,

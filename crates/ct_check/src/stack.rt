@@ -68,7 +68,7 @@ impl<'e> Variables<'e> {
         ensures found { option_map (λ (f : Found). (f.number, f.sort)) result ≡ find self.now
             name.now }
     {
-        match kept(&self.places, name) {
+        match stored(&self.places, name) {
             Some(place) => Some(Found {
                 number: (self.entries.len() - 1 - place.before) as u64,
                 sort: place.sort,
@@ -138,8 +138,8 @@ impl<'e> Variables<'e> {
     }
 }
 
-// The place that is kept for the name.
-fn kept(places: &IndexMap<&[u8], Option<Place>>, name: &[u8]) -> Option<Place>
+// The place that is stored for the name.
+fn stored(places: &IndexMap<&[u8], Option<Place>>, name: &[u8]) -> Option<Place>
     ensures place { result ≡ placed places.now name.now }
 {
     match places.get(name) {
@@ -148,7 +148,7 @@ fn kept(places: &IndexMap<&[u8], Option<Place>>, name: &[u8]) -> Option<Place>
     }
 }
 
-// Keeps the place for the name, where there is one. The answer is the place that was kept for it.
+// Stores the place for the name, where there is one. The answer is the place that was stored for it.
 fn put<'e>(
     places: &mut IndexMap<&'e [u8], Option<Place>>,
     name: Option<&'e [u8]>,

@@ -2,7 +2,7 @@
 ghost use Rattle.std.specs.Prelude.{◌≡◌, ◌<◌, length, All, IfSome, IfOk, IfErr};
 ghost use Rattle.ct_sorts.specs.Declarations.{IsSort};
 ghost use Rattle.ct_sorts.specs.Lookup.{IsSymbol};
-ghost use Rattle.ct_check.specs.Symbols.{sort_of_name, symbol_of, ctor_named, ctor_of, argument_sorts, result_sort, ctor_fields, operator_of};
+ghost use Rattle.ct_check.specs.Symbols.{sort_of_name, symbol_of, ctor_named, argument_sorts, result_sort, ctor_fields, operator_of};
 ghost use Rattle.ct_sorts.specs.declared.ids.Symbol.TheVariants.{Ctor};
 
 use crate::error::CheckError;

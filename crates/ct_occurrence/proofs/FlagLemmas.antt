@@ -1,6 +1,5 @@
 -- One flag that is set, and which case surely fits.
-use Rattle.std.proofs.Common.{◌≡◌, ℕ, zero, suc, ◌+◌, ◌<◌, ◌≤◌, Bool, true, false, ◌||◌, ◌&&◌, ◌==◌, List, [], ◌∷◌, length, reverse, set, Option, Some, None, option_map, unwrap_or, slice_get, refl, sym, ap, ap₂, ◌∙◌, arith}
-use Rattle.std.specs.List.{list_all}
+use Rattle.std.proofs.Common.{◌≡◌, ℕ, zero, suc, ◌+◌, ◌<◌, ◌≤◌, Bool, true, false, ◌||◌, ◌==◌, List, [], ◌∷◌, length, reverse, set, Option, Some, None, option_map, unwrap_or, slice_get, refl, sym, ap, ap₂, ◌∙◌, arith}
 use Rattle.std.proofs.lemmas.Option.{same_Some}
 use Rattle.std.proofs.lemmas.Bool.{ne_eqb, eq-eqb}
 use Rattle.std.proofs.lemmas.List.Sorted.{list_any-IsPermutation, IsPermutation-reverse}
@@ -60,9 +59,6 @@ pub some_left : (cs : List Case) → 1 ≤ length cs → are_none (cases_of_tree
 some_left [] h = absurd (omega (arith, h))
 some_left (c ∷ cs) h = refl
 
-pub alone_at_end : (b : Bool) (cs : List Case) → length cs < 1 → true ≡ (b || are_none (cases_of_trees cs))
-alone_at_end b cs h = sym (ap (λ (x : Bool). b || x) (none_left cs h) ∙ or_all b)
-
 pub alone_before : (b : Bool) (cs : List Case) → 1 ≤ length cs → b ≡ (b || are_none (cases_of_trees cs))
 alone_before b cs h = sym (ap (λ (x : Bool). b || x) (some_left cs h) ∙ or_none b)
 
@@ -75,9 +71,6 @@ pattern_any (Ctor c) h = absurd (h c refl)
 pattern_any Any h = refl
 
 -- ---- constructors that are gone over
-
-pub covered_step : (p : CtorId → Bool) (x : CtorId) (xs : List CtorId) (b : Bool) → b ≡ p x → list_all p (x ∷ xs) ≡ (b && list_all p xs)
-covered_step p x xs b e = ap (λ (c : Bool). c && list_all p xs) (sym e)
 
 pub covered_other : (a b : ℕ) (x : Bool) → (a ≡ b → ⊥) → x ≡ ((a == b) || x)
 covered_other a b x other = sym (ap (λ (c : Bool). c || x) (ne_eqb a b other))

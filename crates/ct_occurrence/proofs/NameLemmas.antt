@@ -1,10 +1,10 @@
 -- The definitions that a formula names, from those that the formulas under it name.
-use Rattle.std.proofs.Common.{Result, Ok, Err, OnOk, ◌≡◌, ℕ, ◌<◌, ◌≤◌, true, List, [], ◌∷◌, ◌++◌, Contains, sym, subst, inl, inr, arith}
+use Rattle.std.proofs.Common.{Result, Ok, Err, OnOk, ◌≡◌, ℕ, ◌<◌, ◌≤◌, Bool, true, List, [], ◌∷◌, ◌++◌, Contains, sym, subst, inl, inr, arith}
 use Rattle.std.proofs.lemmas.List.Elements.{Contains-append_left, Contains-push, Contains-push_cases}
 use Rattle.ct_sorts.specs.declared.ids.DefId.{DefId}
 use Rattle.ct_terms.specs.declared.tree.Pattern.{Pattern}
 use Rattle.ct_terms.specs.Formula.{Formula, Formulas, Cases, Var, Con, Sel, Test, Apply, Def, Not, And, Or, Xor, Implies, Equal, Distinct, Ite, Let, Match, no_formulas, with_formula, no_cases, with_case, MentionsBelow, AllMentionBelow, CasesMentionBelow}
-use Rattle.ct_occurrence.specs.Calls.{CallsAre, AllCallsAre, CaseCallsAre, AreBelow, AddsNamed, AddsAllNamed, AddsCaseNamed}
+use Rattle.ct_occurrence.specs.Calls.{CallsAre, AllCallsAre, CaseCallsAre, AllPass, AddsNamed, AddsAllNamed, AddsCaseNamed}
 use Rattle.ct_occurrence.specs.Plain.{is_plain, children_of}
 use Rattle.ct_occurrence.specs.Size.{size, sizes, case_sizes}
 use Rattle.ct_occurrence.proofs.MayLemmas.{plain_calls}
@@ -96,11 +96,11 @@ adds_plain t ts old new plain under h =
     record {
       named = plain_from (Contains new) t plain k.named;
       stay = k.stay;
-      below = λ n c b. k.below n (plain_calls (λ j. j.0 < n) t plain c) b;
+      only = λ p c b. k.only p (plain_calls (λ j. p j ≡ true) t plain c) b;
     }
 
 pub adds_variable : (i : ℕ) (names : List DefId) → AddsNamed (Var i) names names
-adds_variable i names = record { named = tt; stay = λ k h. h; below = λ n c b. b }
+adds_variable i names = record { named = tt; stay = λ k h. h; only = λ p c b. b }
 
 pub adds_choice : (c t u : Formula) (first second third last : List DefId) → AddsNamed c first second → AddsNamed t second third → AddsNamed u third last → AddsNamed (Ite c t u) first last
 adds_choice c t u first second third last f g h = record {
@@ -110,34 +110,34 @@ adds_choice c t u first second third last f g h = record {
     h.named,
   );
   stay = λ k x. h.stay k (g.stay k (f.stay k x));
-  below = λ n x b. h.below n x.2 (g.below n x.1 (f.below n x.0 b));
+  only = λ p x b. h.only p x.2 (g.only p x.1 (f.only p x.0 b));
 }
 
 pub adds_call : (k : DefId) (ts : Formulas) (first second last : List DefId) → second ≡ first ++ k ∷ [] → AddsAllNamed ts second last → AddsNamed (Def k ts) first last
 adds_call k ts first second last is h = record {
   named = (h.stay k (subst (λ (ks : List DefId). Contains ks k) (sym is) (Contains-push first k)), h.named);
   stay = λ j x. h.stay j (subst (λ (ks : List DefId). Contains ks j) (sym is) (Contains-append_left first (k ∷ []) j x));
-  below = λ n x b. h.below n x.1 (subst (AreBelow n) (sym is) (pushed n x.0 b));
+  only = λ p x b. h.only p x.1 (subst (AllPass p) (sym is) (pushed p x.0 b));
 }
   where
-    pushed : (n : ℕ) → k.0 < n → AreBelow n first → AreBelow n (first ++ k ∷ [])
-    pushed n less b j x = elim (Contains-push_cases first k j x) [
+    pushed : (p : DefId → Bool) → p k ≡ true → AllPass p first → AllPass p (first ++ k ∷ [])
+    pushed p passed b j x = elim (Contains-push_cases first k j x) [
       | inl before ↦ b j before
-      | inr one ↦ subst (λ (i : DefId). i.0 < n) one less
+      | inr one ↦ subst (λ (i : DefId). p i ≡ true) one passed
     ]
 
 pub adds_let : (ts : Formulas) (u : Formula) (first second last : List DefId) → AddsAllNamed ts first second → AddsNamed u second last → AddsNamed (Let ts u) first last
 adds_let ts u first second last f g = record {
   named = (all_calls_more (Contains second) (Contains last) g.stay ts f.named, g.named);
   stay = λ k x. g.stay k (f.stay k x);
-  below = λ n x b. g.below n x.1 (f.below n x.0 b);
+  only = λ p x b. g.only p x.1 (f.only p x.0 b);
 }
 
 pub adds_match : (t : Formula) (cases : Cases) (first second last : List DefId) → AddsNamed t first second → AddsCaseNamed cases second last → AddsNamed (Match t cases) first last
 adds_match t cases first second last f g = record {
   named = (calls_more (Contains second) (Contains last) g.stay t f.named, g.named);
   stay = λ k x. g.stay k (f.stay k x);
-  below = λ n x b. g.below n x.1 (f.below n x.0 b);
+  only = λ p x b. g.only p x.1 (f.only p x.0 b);
 }
 
 -- ---- the loop over several formulas: what adds the names of the rest adds those of all
@@ -146,15 +146,12 @@ pub record NamesRest (all rest : Formulas) (first now : List DefId) : Type 0 whe
   pub adds : (new : List DefId) → AddsAllNamed rest now new → AddsAllNamed all first new
   pub lighter : sizes rest ≤ sizes all
 
-pub names_start : (all : Formulas) (first : List DefId) → NamesRest all all first first
-names_start all first = record { adds = λ new h. h; lighter = omega arith }
-
 pub names_next : (all : Formulas) (t : Formula) (ts : Formulas) (first now later : List DefId) → NamesRest all (with_formula t ts) first now → AddsNamed t now later → NamesRest all ts first later
 names_next all t ts first now later h f = record {
   adds = λ new g. h.adds new record {
     named = (calls_more (Contains later) (Contains new) g.stay t f.named, g.named);
     stay = λ k x. g.stay k (f.stay k x);
-    below = λ n x b. g.below n x.1 (f.below n x.0 b);
+    only = λ p x b. g.only p x.1 (f.only p x.0 b);
   };
   lighter = let k = h.lighter in omega (arith, k);
 }
@@ -163,7 +160,7 @@ pub names_lighter : (all : Formulas) (t : Formula) (ts : Formulas) (first now : 
 names_lighter all t ts first now h = let k = h.lighter in omega (arith, k)
 
 pub names_end : (all : Formulas) (first now : List DefId) → NamesRest all no_formulas first now → AddsAllNamed all first now
-names_end all first now h = h.adds now record { named = tt; stay = λ k x. x; below = λ n c b. b }
+names_end all first now h = h.adds now record { named = tt; stay = λ k x. x; only = λ p c b. b }
 
 -- ---- the loop over cases
 
@@ -171,15 +168,12 @@ pub record CaseNamesRest (all rest : Cases) (first now : List DefId) : Type 0 wh
   pub adds : (new : List DefId) → AddsCaseNamed rest now new → AddsCaseNamed all first new
   pub lighter : case_sizes rest ≤ case_sizes all
 
-pub case_names_start : (all : Cases) (first : List DefId) → CaseNamesRest all all first first
-case_names_start all first = record { adds = λ new h. h; lighter = omega arith }
-
 pub case_names_next : (all : Cases) (p : Pattern) (body : Formula) (cases : Cases) (first now later : List DefId) → CaseNamesRest all (with_case p body cases) first now → AddsNamed body now later → CaseNamesRest all cases first later
 case_names_next all p body cases first now later h f = record {
   adds = λ new g. h.adds new record {
     named = (calls_more (Contains later) (Contains new) g.stay body f.named, g.named);
     stay = λ k x. g.stay k (f.stay k x);
-    below = λ n x b. g.below n x.1 (f.below n x.0 b);
+    only = λ p x b. g.only p x.1 (f.only p x.0 b);
   };
   lighter = let k = h.lighter in omega (arith, k);
 }
@@ -188,4 +182,4 @@ pub case_names_lighter : (all : Cases) (p : Pattern) (body : Formula) (cases : C
 case_names_lighter all p body cases first now h = let k = h.lighter in omega (arith, k)
 
 pub case_names_end : (all : Cases) (first now : List DefId) → CaseNamesRest all no_cases first now → AddsCaseNamed all first now
-case_names_end all first now h = h.adds now record { named = tt; stay = λ k x. x; below = λ n c b. b }
+case_names_end all first now h = h.adds now record { named = tt; stay = λ k x. x; only = λ p c b. b }

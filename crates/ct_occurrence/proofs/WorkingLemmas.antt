@@ -1,6 +1,7 @@
 -- What is worked out of definitions, one after the other.
-use Rattle.std.proofs.Common.{map, ◌≡◌, ◌⊎◌, ℕ, zero, suc, ◌<◌, Bool, true, false, cond, List, [], ◌∷◌, length, drop, Contains, Option, Some, None, option_map, slice_get, nat_eq, refl, sym, ap, subst, ◌∙◌, inl, inr, arith}
+use Rattle.std.proofs.Common.{map, ◌≡◌, ◌⊎◌, ℕ, zero, suc, ◌<◌, Bool, true, false, cond, List, [], ◌∷◌, length, drop, Contains, Option, Some, None, option_map, slice_get, nat_eq, nat_lt, refl, sym, ap, subst, ◌∙◌, inl, inr, arith}
 use Rattle.std.specs.Map.{lookup}
+use Rattle.std.proofs.lemmas.Bool.{lt-ltb, ltb-true}
 use Rattle.std.proofs.lemmas.Bool.Decides.{Decides-eqb}
 use Rattle.std.proofs.lemmas.Option.{none-some, same_Some, slice_get_within}
 use Rattle.indexmap.specs.IndexMap.{IndexMap}
@@ -16,11 +17,12 @@ use Rattle.ct_terms.specs.FormulaSorts.{AreSound}
 use Rattle.ct_terms.specs.Occurrence.{count_of, occurs, uses_below}
 use Rattle.ct_occurrence.specs.declared.definitions.Worked.{Worked}
 use Rattle.ct_occurrence.specs.declared.notes.Notes.{Notes}
-use Rattle.ct_occurrence.specs.Calls.{CallsAre, AreBelow, AddsNamed}
+use Rattle.ct_occurrence.specs.Calls.{CallsAre, AreBelow, AllPass, AddsNamed}
 use Rattle.ct_occurrence.specs.Marks.{listed, Rows, worked_in, IsKnown, row_in, MayMark}
 use Rattle.ct_occurrence.specs.Noted.{under_of, inner_of, IsOfFirst, IsNoted, AreNoted, AreNotedWhere, CasesNoted}
 use Rattle.ct_occurrence.specs.Working.{AreRight, StayKnown}
 use Rattle.ct_occurrence.proofs.DefinitionLemmas.{uses_is, listed_same, fewer_rows}
+use Rattle.ct_occurrence.proofs.NameLemmas.{calls_more}
 
 -- a list of formulas is as long as that of their trees
 map_length : (ts : List Tree) → length (map formula_of ts) ≡ length ts
@@ -186,7 +188,10 @@ pub record WorksOut (d : Declarations) (bodies : List Formula) (below : ℕ) (fi
 
 -- the names that a formula adds to none are below the bound
 pub names_below : (below : ℕ) (t : Formula) (none names : List DefId) → none ≡ [] → AddsNamed t none names → CallsAre (λ k. k.0 < below) t → AreBelow below names
-names_below below t none names is adds calls = adds.below below calls (subst (AreBelow below) (sym is) (λ k h. absurd (omega (arith, h.1))))
+names_below below t none names is adds calls k inside =
+    let each = calls_more (λ j. j.0 < below) (λ j. nat_lt j.0 below ≡ true) (λ j less. lt-ltb j.0 below less) t calls in
+    let none_before : AllPass (λ j. nat_lt j.0 below) none = subst (AllPass (λ j. nat_lt j.0 below)) (sym is) (λ j h. absurd (omega (arith, h.1))) in
+    ltb-true k.0 below (adds.only (λ j. nat_lt j.0 below) each none_before k inside)
 
 pub works_start : (d : Declarations) (bodies : List Formula) (below : ℕ) (rows : Rows) (names : List DefId) → AreRight d bodies rows → AreBelow below names → WorksOut d bodies below rows rows names names
 works_start d bodies below rows names right below_are = record {

@@ -1,5 +1,5 @@
 -- Which definitions a formula names.
-use Rattle.std.specs.Prelude.{ℕ, ◌<◌, List, Contains}
+use Rattle.std.specs.Prelude.{◌≡◌, ℕ, ◌<◌, Bool, true, List, Contains}
 use Rattle.ct_sorts.specs.declared.ids.DefId.{DefId}
 use Rattle.ct_terms.specs.Formula.{Formula, Formulas, Cases, Var, Con, Sel, Test, Apply, Def, Not, And, Or, Xor, Implies, Equal, Distinct, Ite, Let, Match, no_formulas, with_formula, no_cases, with_case}
 
@@ -37,11 +37,16 @@ abbrev mutual
 abbrev pub AreBelow : ℕ → List DefId → Type 0
 AreBelow n ks = (k : DefId) → Contains ks k → k.0 < n
 
--- definitions are added: all that are named; where those have numbers below a bound, no others
+-- each of the definitions passes the test
+abbrev pub AllPass : (DefId → Bool) → List DefId → Type 0
+AllPass p ks = (k : DefId) → Contains ks k → p k ≡ true
+
+-- definitions are added: all that are named, and no others: a test that these and the old ones pass is passed by all that
+-- there are then
 pub record AddsNames (calls : (DefId → Type 0) → Type 0) (old new : List DefId) : Type 0 where
   pub named : calls (Contains new)
   pub stay : (k : DefId) → Contains old k → Contains new k
-  pub below : (n : ℕ) → calls (λ k. k.0 < n) → AreBelow n old → AreBelow n new
+  pub only : (p : DefId → Bool) → calls (λ k. p k ≡ true) → AllPass p old → AllPass p new
 
 -- those that a formula names
 abbrev pub AddsNamed : Formula → List DefId → List DefId → Type 0

@@ -32,7 +32,7 @@ pub record IsLeft (rows : Rows) (old new : List DefId) (found : Option DefId) : 
   pub unknown : IfSome found (λ j. (rows j ≡ None) × Contains new j)
   pub finished : IfNone found (new ≡ [])
 
--- each comes before those that wait for it
+-- each comes before those that it waits for, whose numbers are smaller
 abbrev pub Descend : List Frame → Type 0
 Descend [] = Unit {0}
 Descend (f ∷ fs) = ((g : Frame) → Contains fs g → g.definition.0 < f.definition.0) × Descend fs

@@ -1,6 +1,6 @@
-//! Which case of a `match` surely fits: its constructor is the only one of its sort that no case before it has. How many
-//! variables a case binds.
-ghost use Rattle.std.specs.Prelude.{◌≡◌, ◌<◌, ◌||◌, ◌==◌, length, reverse};
+//! Which case of a `match` surely fits: each other constructor of its sort has a case before it. How many variables a case
+//! binds.
+ghost use Rattle.std.specs.Prelude.{◌≡◌, ◌<◌, ◌||◌, ◌==◌, true, length, reverse};
 ghost use Rattle.std.specs.List.{list_all};
 ghost use Rattle.ct_terms.specs.Compiled.{surely_fits, is_among};
 ghost use Rattle.ct_terms.specs.Occurrence.{field_count};
@@ -24,29 +24,57 @@ pub(crate) fn surely_fits(sig: &Signature, earlier: &[CtorId], c: CtorId) -> boo
     are_covered(earlier, c, all)
 }
 
-// Whether each of the constructors is this one, or has a case before it.
+// Whether each of the constructors is this one, or has a case before it. Cases in the order of the declaration are met at
+// the first look.
 fn are_covered(earlier: &[CtorId], c: CtorId, all: &[CtorId]) -> bool
     ensures value { result ≡ list_all (λ k. (k.0 == c.0) || is_among (reverse earlier.now) k) all.now }
 {
+    let mut near = earlier;
     let mut rest = all;
     while let [next, others @ ..] = rest {
-        let covered = is_covered(earlier, c, *next);
+        let covered = is_covered(earlier, near, c, *next);
         if !covered {
             return false;
         }
+        near = after_first(near);
         rest = others;
     }
     true
 }
 
-// Whether another constructor is this one, or has a case before it.
-fn is_covered(earlier: &[CtorId], c: CtorId, other: CtorId) -> bool
+// Whether another constructor is this one, or has a case before it: the first of `near`, which are some of those before it,
+// is looked at first.
+fn is_covered(earlier: &[CtorId], near: &[CtorId], c: CtorId, other: CtorId) -> bool
+    requires near { (k : CtorId) → is_among near.now k ≡ true → is_among earlier.now k ≡ true }
     ensures value { result ≡ ((other.0 == c.0) || is_among (reverse earlier.now) other) }
 {
     if other.0 == c.0 {
         return true;
     }
+    if is_first(near, other) {
+        return true;
+    }
     is_among(earlier, other)
+}
+
+// Whether the constructor is the first of these.
+fn is_first(ctors: &[CtorId], c: CtorId) -> bool
+    ensures among { result ≡ true → is_among ctors.now c ≡ true }
+{
+    match ctors {
+        [first, ..] => first.0 == c.0,
+        [] => false,
+    }
+}
+
+// The constructors after the first.
+fn after_first(ctors: &[CtorId]) -> &[CtorId]
+    ensures among { (k : CtorId) → is_among result.now k ≡ true → is_among ctors.now k ≡ true }
+{
+    match ctors {
+        [_, others @ ..] => others,
+        [] => ctors,
+    }
 }
 
 // Whether the constructor is among these.

@@ -11,7 +11,7 @@ use ct_sorts::DefId;
 use ct_terms::{Case, Tree};
 use std::alloc::AllocError;
 
-/// Puts down the definitions that a formula names, after those that there are.
+/// Adds the definitions that a formula names to those that there are.
 #[cycle(names)]
 pub(crate) fn add_names(tree: &Tree, names: &mut Vec<DefId>) -> Result<(), AllocError>
     ensures named { OnOk result (AddsNamed (formula_of tree.now) names.old.items names.new.items) }

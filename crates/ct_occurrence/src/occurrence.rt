@@ -1,11 +1,9 @@
 //! Which variables occur in the core term of a formula: what is bound to the others makes no term.
-ghost use Rattle.std.specs.Prelude.{◌≡◌, ℕ, ◌+◌, ◌++◌, Bool, true, false, ◌&&◌, ◌||◌, ◌==◌, List, [], length, replicate, IfOk, OnOk};
-ghost use Rattle.std.specs.List.{list_any};
+ghost use Rattle.std.specs.Prelude.{◌≡◌, ℕ, ◌+◌, ◌++◌, Bool, true, false, ◌&&◌, ◌||◌, ◌==◌, [], replicate, IfOk, OnOk};
 ghost use Rattle.ct_sorts.specs.declared.ids.DefId.{DefId};
-ghost use Rattle.ct_sorts.specs.Declarations.{IsConstructor};
 ghost use Rattle.ct_terms.specs.TreeFormula.{formula_of, formulas_of_trees};
 ghost use Rattle.ct_terms.specs.Formula.{Ite, Let, Match};
-ghost use Rattle.ct_terms.specs.Occurrence.{count_of, field_count, occurs, occurs_in_some, occurs_in_bound, matched_occurs, occurs_in_cases};
+ghost use Rattle.ct_terms.specs.Occurrence.{count_of, occurs, occurs_in_some, occurs_in_bound, matched_occurs, occurs_in_cases};
 ghost use Rattle.ct_occurrence.specs.CaseFormula.{cases_of_trees};
 ghost use Rattle.ct_occurrence.specs.Noted.{IsOfFirst, IsNoted, AreNoted, AreNotedWhere, CasesNoted, AddsNotes, AddsAllNotes};
 ghost use Rattle.ct_occurrence.specs.Marks.{worked_in, listed, marked, has_set, MayMark, MayMarkAll, MayMarkCases};

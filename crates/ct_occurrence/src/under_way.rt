@@ -1,8 +1,8 @@
 //! One definition is worked out, after those that its body names: without recursion, whatever the chain of definitions.
 //!
 //! The definitions that wait for another stand on a stack, each with the names in its body that are left to look at. Each
-//! definition names those with smaller numbers alone, so none waits twice. The time is linear in the bodies of the
-//! definitions that are worked out.
+//! definition names those with smaller numbers alone, so none waits twice. Each body is gone over three times, whatever
+//! names it: for the names in it, for what occurs, and for its height.
 ghost use Rattle.std.specs.Prelude.{◌≡◌, ◌<◌, ◌++◌, [], ◌∷◌, length, map, Some, slice_get, nat_eq, if◌then◌else◌, IfOk, OnOk};
 ghost use Rattle.ct_sorts.specs.declared.ids.DefId.{DefId};
 ghost use Rattle.ct_terms.specs.Formula.{Formula, MentionsBelow};
@@ -96,7 +96,8 @@ fn go_on(
     Ok(())
 }
 
-// The last of the names that is not worked out, with which they end then. Those after it are left out.
+// One of the names that is not worked out, where there is one, which stays among them. Names that are worked out may be left
+// out.
 fn next_unknown(
     definitions: &Definitions,
     left: &mut Vec<DefId>,
