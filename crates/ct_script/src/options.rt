@@ -1,7 +1,7 @@
 //! The options of a session (SMT-LIB 2.7, section 4.1.7).
 ghost use Rattle.std.specs.Prelude.{◌≡◌, IfOk};
 ghost use Rattle.std.specs.Fmt.{decimal};
-ghost use Rattle.ct_script.specs.Options.{first_options, with_boolean, with_numeral, with_setting, sets_global, is_global_option, boolean_of, numeral_of, truth_text, value_text, budget};
+ghost use Rattle.ct_script.specs.Options.{first_options, with_boolean, with_numeral, with_setting, sets_global, boolean_of, numeral_of, truth_text, value_text, budget};
 
 use ct_command::{BooleanOption, NumeralOption, OptionName, Setting};
 use std::alloc::{AllocError, Global};
