@@ -1,7 +1,7 @@
 //! Scripts: bytes of a case, `(lists PART)` for the bytes of a part after declarations of lists, of
 //! streams and of a few constants, `(declares 3)` for declarations of the constants `c0`, `c1` and
 //! `c2`, one a line, and a check on the last line, or `(defines 3 2)` for the definitions `e1`, `e2`
-//! and `e3`, each of which negates the one before it twice, and for an assertion of the last.
+//! and `e3`, each of which negates the one before it twice, and for an assertion of the last of two constants.
 use ct_cases::{CaseError, bytes_of, items_of, size_of, split_named};
 use ct_sexpr::Sexpr;
 use std::alloc::Global;
@@ -51,13 +51,14 @@ fn declarations(alloc: Global, count: u32) -> Result<Vec<u8>, CaseError> {
 }
 
 /// A script of so many definitions, each of which negates the one before it so many times, and an
-/// assertion of the last.
+/// assertion of the last of two constants.
 fn definitions(alloc: Global, count: u32, depth: u32) -> Result<Vec<u8>, CaseError> {
     let mut script = Vec::from_slice(alloc, b"(define-fun e0 ((x Bool)) Bool x)\n")?;
     for number in 0..count {
         add_definition(alloc, number, depth, &mut script)?;
     }
-    let last = format!(in alloc; "(declare-const p Bool)\n(assert (e{count} p))\n")?;
+    script.extend_from_slice(b"(declare-const p Bool)\n(declare-const q Bool)\n")?;
+    let last = format!(in alloc; "(assert (and (e{count} p) (e{count} q)))\n")?;
     script.extend_from_slice(last.as_bytes())?;
     Ok(script)
 }
