@@ -1,18 +1,12 @@
 -- One flag that is set, and which case surely fits.
-use Rattle.std.proofs.Common.{◌≡◌, ℕ, zero, suc, ◌+◌, ◌<◌, ◌≤◌, Bool, true, false, ◌||◌, ◌==◌, List, [], ◌∷◌, length, reverse, set, Option, Some, None, option_map, unwrap_or, slice_get, refl, sym, ap, ap₂, ◌∙◌, arith}
+use Rattle.std.proofs.Common.{◌≡◌, ℕ, zero, suc, ◌+◌, ◌≤◌, Bool, true, false, ◌||◌, ◌==◌, List, [], ◌∷◌, length, reverse, set, Option, Some, None, option_map, unwrap_or, slice_get, refl, sym, ap, ap₂, ◌∙◌, arith}
 use Rattle.std.proofs.lemmas.Option.{same_Some}
 use Rattle.std.proofs.lemmas.Bool.{ne_eqb, eq-eqb}
 use Rattle.std.proofs.lemmas.List.Sorted.{list_any-IsPermutation, IsPermutation-reverse}
 use Rattle.ct_sorts.specs.declared.ids.CtorId.{CtorId}
-use Rattle.ct_sorts.specs.declared.ids.SelId.{SelId}
 use Rattle.ct_sorts.specs.declared.ids.SortId.{SortId}
 use Rattle.ct_sorts.specs.Declarations.{Declarations, Sort, Constructor}
-use Rattle.ct_terms.specs.Compiled.{ctors_of_sort, siblings, is_among, are_none}
-use Rattle.ct_terms.specs.declared.tree.Case.{Case}
-use Rattle.ct_terms.specs.declared.tree.Pattern.{Pattern}
-use Rattle.ct_terms.specs.declared.tree.Pattern.TheVariants.{Ctor, Any}
-use Rattle.ct_terms.specs.Occurrence.{field_count}
-use Rattle.ct_occurrence.specs.CaseFormula.{cases_of_trees}
+use Rattle.ct_terms.specs.Compiled.{ctors_of_sort, siblings, is_among}
 use Rattle.ct_occurrence.specs.Marks.{marked}
 
 or_none : (b : Bool) → (b || false) ≡ b
@@ -48,27 +42,6 @@ siblings_are d c s rest e f = of (slice_get d.ctors c.0) e
 
 pub among_reversed : (earlier : List CtorId) (k : CtorId) → is_among (reverse earlier) k ≡ is_among earlier k
 among_reversed earlier k = sym (list_any-IsPermutation (λ m. m.0 == k.0) earlier (reverse earlier) (IsPermutation-reverse earlier))
-
--- ---- cases that are left
-
-pub none_left : (cs : List Case) → length cs < 1 → are_none (cases_of_trees cs) ≡ true
-none_left [] h = refl
-none_left (c ∷ cs) h = absurd (omega (arith, h))
-
-pub some_left : (cs : List Case) → 1 ≤ length cs → are_none (cases_of_trees cs) ≡ false
-some_left [] h = absurd (omega (arith, h))
-some_left (c ∷ cs) h = refl
-
-pub alone_before : (b : Bool) (cs : List Case) → 1 ≤ length cs → b ≡ (b || are_none (cases_of_trees cs))
-alone_before b cs h = sym (ap (λ (x : Bool). b || x) (some_left cs h) ∙ or_none b)
-
-pub fields_counted : (d : Declarations) (c : CtorId) (sels : List SelId) → option_map (λ (x : Constructor). x.sels) (slice_get d.ctors c.0) ≡ Some sels → length sels ≡ field_count d c
-fields_counted d c sels e = sym (ap (λ (o : Option (List SelId)). length (unwrap_or o [])) e)
-
--- a pattern that is no constructor's
-pub pattern_any : (p : Pattern) → ((c : CtorId) → p ≡ Ctor c → ⊥) → p ≡ Any
-pattern_any (Ctor c) h = absurd (h c refl)
-pattern_any Any h = refl
 
 -- ---- constructors that are gone over
 

@@ -1,7 +1,9 @@
+mod Size
 mod MayLemmas
 mod MarkLemmas
 mod NameLemmas
 mod FlagLemmas
+mod EarlierLemmas
 mod CoverLemmas
 mod WorkingLemmas
 mod MarkedCases

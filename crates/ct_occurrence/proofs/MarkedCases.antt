@@ -14,7 +14,7 @@ use Rattle.ct_occurrence.specs.declared.notes.Notes.{Notes}
 use Rattle.ct_occurrence.specs.Marks.{listed, marked, has_set, variable_count, Rows, MayMark, MayMarkCases}
 use Rattle.ct_occurrence.specs.Matching.{tested_by, IsDeclared}
 use Rattle.ct_occurrence.specs.Noted.{IsNoted, CasesNoted, AddsNotes, AddsAllNotes}
-use Rattle.ct_occurrence.specs.Size.{size, case_sizes}
+use Rattle.ct_occurrence.proofs.Size.{size, case_sizes}
 use Rattle.ct_occurrence.proofs.MarkLemmas.{marked_none}
 use Rattle.ct_occurrence.proofs.MayLemmas.{may_case, may_later, matched_last, marks_last, matched_more, marks_more, matched_any, marks_any}
 use Rattle.ct_occurrence.proofs.NoteLemmas.{cases_last, cases_more}
@@ -85,19 +85,6 @@ pub record CasesMarked (d : Declarations) (uses : DefId → ℕ → Bool) (n : �
 pub record MarksCases (d : Declarations) (rows : Rows) (all : Cases) (first : List Bool) (before : List Notes) (earlier : List CtorId) (tests : Bool) (rest : Cases) (flags : List Bool) (inner : List Notes) : Type 0 where
   pub step : (uses : DefId → ℕ → Bool) (n : ℕ) → MayMarkCases d uses n rows all → CasesMarked d uses n rows all first before earlier tests rest flags inner
   pub lighter : case_sizes rest ≤ case_sizes all
-
-pub cases_start : (d : Declarations) (rows : Rows) (all : Cases) (first : List Bool) (before : List Notes) → MarksCases d rows all first before [] false all first before
-cases_start d rows all first before = record {
-  step = λ uses n may. record {
-    may = may;
-    marks = refl;
-    matched = refl;
-    done = [];
-    is = sym (append-nil before);
-    noted = λ ms h. h;
-  };
-  lighter = omega arith;
-}
 
 module _ (d : Declarations) (rows : Rows) (all : Cases) (first : List Bool) (before : List Notes) (earlier : List CtorId) (tests : Bool) (p : Pattern) (body : Formula) (later : Cases) (flags : List Bool) (inner : List Notes) (h : MarksCases d rows all first before earlier tests (with_case p body later) flags inner) where
   pub cases_first : (uses : DefId → ℕ → Bool) (n : ℕ) → MayMarkCases d uses n rows all → MayMark d uses n rows body

@@ -12,7 +12,7 @@ use Rattle.ct_terms.specs.FormulaSorts.{IsSorted, AreSorted}
 use Rattle.ct_terms.specs.Compiled.{surely_fits, are_none}
 use Rattle.ct_terms.specs.Occurrence.{count_of, field_count, any_below, occurs, occurs_in_some, occurs_in_bound, matched_occurs, occurs_in_cases}
 use Rattle.ct_occurrence.specs.Plain.{is_plain, children_of}
-use Rattle.ct_occurrence.specs.Size.{size, sizes}
+use Rattle.ct_occurrence.proofs.Size.{size, sizes}
 use Rattle.ct_occurrence.specs.Calls.{CallsAre, AllCallsAre}
 use Rattle.ct_occurrence.specs.Marks.{listed, marked, has_set, Rows, row_in, IsKnown, MayMark, MayMarkAll, MayMarkCases}
 use Rattle.ct_occurrence.proofs.OperandLemmas.{plain_sorted, plain_mentions}
@@ -215,9 +215,6 @@ pub record MarksRest (d : Declarations) (rows : Rows) (all : Formulas) (first : 
   pub step : (uses : DefId → ℕ → Bool) (n : ℕ) → MayMarkAll d uses n rows all → MayMarkAll d uses n rows rest × (marked (occurs_in_some d uses rest) flags ≡ marked (occurs_in_some d uses all) first)
   pub lighter : sizes rest ≤ sizes all
 
-pub rest_start : (d : Declarations) (rows : Rows) (all : Formulas) (first : List Bool) → MarksRest d rows all first all first
-rest_start d rows all first = record { step = λ uses n h. (h, refl); lighter = omega arith }
-
 module _ (d : Declarations) (rows : Rows) (all : Formulas) (first : List Bool) (t : Formula) (ts : Formulas) (flags : List Bool) (h : MarksRest d rows all first (with_formula t ts) flags) where
   pub rest_first : (uses : DefId → ℕ → Bool) (n : ℕ) → MayMarkAll d uses n rows all → MayMark d uses n rows t
   rest_first uses n may = may_first d uses n rows t ts (h.step uses n may).0
@@ -243,9 +240,6 @@ rest_end d rows all first flags uses n h may = sym (marked_none flags) ∙ (h.st
 pub record MarksBound (d : Declarations) (rows : Rows) (bound : List Bool) (all : Formulas) (first : List Bool) (left : List Bool) (rest : Formulas) (flags : List Bool) : Type 0 where
   pub step : (inner : ℕ → Bool) (uses : DefId → ℕ → Bool) (n : ℕ) → MayMarkAll d uses n rows all → bound ≡ listed inner (count_of all) → MayMarkAll d uses n rows rest × ((left ≡ listed inner (count_of rest)) × (marked (occurs_in_bound d uses inner rest) flags ≡ marked (occurs_in_bound d uses inner all) first))
   pub lighter : sizes rest ≤ sizes all
-
-pub bound_start : (d : Declarations) (rows : Rows) (bound : List Bool) (all : Formulas) (first : List Bool) → MarksBound d rows bound all first bound all first
-bound_start d rows bound all first = record { step = λ inner uses n h e. (h, (e, refl)); lighter = omega arith }
 
 module _ (d : Declarations) (rows : Rows) (bound : List Bool) (all : Formulas) (first : List Bool) (b : Bool) (left : List Bool) (t : Formula) (ts : Formulas) (flags : List Bool) (h : MarksBound d rows bound all first (b ∷ left) (with_formula t ts) flags) where
   pub bound_first : (inner : ℕ → Bool) (uses : DefId → ℕ → Bool) (n : ℕ) → MayMarkAll d uses n rows all → bound ≡ listed inner (count_of all) → MayMark d uses n rows t

@@ -6,7 +6,7 @@ use Rattle.ct_terms.specs.declared.tree.Pattern.{Pattern}
 use Rattle.ct_terms.specs.Formula.{Formula, Formulas, Cases, Var, Con, Sel, Test, Apply, Def, Not, And, Or, Xor, Implies, Equal, Distinct, Ite, Let, Match, no_formulas, with_formula, no_cases, with_case, MentionsBelow, AllMentionBelow, CasesMentionBelow}
 use Rattle.ct_occurrence.specs.Calls.{CallsAre, AllCallsAre, CaseCallsAre, AllPass, AddsNamed, AddsAllNamed, AddsCaseNamed}
 use Rattle.ct_occurrence.specs.Plain.{is_plain, children_of}
-use Rattle.ct_occurrence.specs.Size.{size, sizes, case_sizes}
+use Rattle.ct_occurrence.proofs.Size.{size, sizes, case_sizes}
 use Rattle.ct_occurrence.proofs.MayLemmas.{plain_calls}
 
 -- a clause on an answer that is no error
@@ -98,9 +98,6 @@ adds_plain t ts old new plain under h =
       stay = k.stay;
       only = λ p c b. k.only p (plain_calls (λ j. p j ≡ true) t plain c) b;
     }
-
-pub adds_variable : (i : ℕ) (names : List DefId) → AddsNamed (Var i) names names
-adds_variable i names = record { named = tt; stay = λ k h. h; only = λ p c b. b }
 
 pub adds_choice : (c t u : Formula) (first second third last : List DefId) → AddsNamed c first second → AddsNamed t second third → AddsNamed u third last → AddsNamed (Ite c t u) first last
 adds_choice c t u first second third last f g h = record {

@@ -69,9 +69,6 @@ module _ (d : Declarations) (rows : Rows) (uses : DefId → ℕ → Bool) where
 pub record NotesRest (d : Declarations) (rows : Rows) (all rest : Formulas) (done : List Notes) : Type 0 where
   pub step : (uses : DefId → ℕ → Bool) (n : ℕ) → MayMarkAll d uses n rows all → (more : List Notes) → AreNoted d rows uses rest more → AreNoted d rows uses all (done ++ more)
 
-pub notes_start : (d : Declarations) (rows : Rows) (all : Formulas) → NotesRest d rows all all []
-notes_start d rows all = record { step = λ uses n may more h. h }
-
 pub notes_more : (d : Declarations) (rows : Rows) (all : Formulas) (t : Formula) (ts : Formulas) (done : List Notes) (m : Notes) → NotesRest d rows all (with_formula t ts) done → ((uses : DefId → ℕ → Bool) (n : ℕ) → MayMarkAll d uses n rows all → IsNoted d rows uses t m) → NotesRest d rows all ts (done ++ m ∷ [])
 notes_more d rows all t ts done m h first = record {
   step = λ uses n may more k. subst (AreNoted d rows uses all) (sym (append_assoc done (m ∷ []) more)) (h.step uses n may (m ∷ more) (first uses n may, k));
@@ -84,9 +81,6 @@ notes_end d rows all done uses n h may = subst (AreNoted d rows uses all) (appen
 
 pub record NotesBound (d : Declarations) (rows : Rows) (bound : List Bool) (all : Formulas) (left : List Bool) (rest : Formulas) (done : List Notes) : Type 0 where
   pub step : (inner : ℕ → Bool) (uses : DefId → ℕ → Bool) (n : ℕ) → MayMarkAll d uses n rows all → bound ≡ listed inner (count_of all) → (more : List Notes) → AreNotedWhere d rows uses left rest more → AreNotedWhere d rows uses bound all (done ++ more)
-
-pub notes_bound_start : (d : Declarations) (rows : Rows) (bound : List Bool) (all : Formulas) → NotesBound d rows bound all bound all []
-notes_bound_start d rows bound all = record { step = λ inner uses n may e more h. h }
 
 pub notes_bound_more : (d : Declarations) (rows : Rows) (bound : List Bool) (all : Formulas) (b : Bool) (left : List Bool) (t : Formula) (ts : Formulas) (done : List Notes) (m : Notes) → NotesBound d rows bound all (b ∷ left) (with_formula t ts) done → ((inner : ℕ → Bool) (uses : DefId → ℕ → Bool) (n : ℕ) → MayMarkAll d uses n rows all → bound ≡ listed inner (count_of all) → b ≡ true → IsNoted d rows uses t m) → NotesBound d rows bound all left ts (done ++ m ∷ [])
 notes_bound_more d rows bound all b left t ts done m h first = record {

@@ -2,7 +2,7 @@
 use Rattle.std.proofs.Common.{ℕ, ◌<◌, ◌≤◌, arith}
 use Rattle.ct_terms.specs.declared.tree.Pattern.{Pattern}
 use Rattle.ct_terms.specs.Formula.{Formula, Formulas, Cases, with_formula, with_case}
-use Rattle.ct_occurrence.specs.Size.{size, sizes, case_sizes}
+use Rattle.ct_occurrence.proofs.Size.{size, sizes, case_sizes}
 
 pub first_size : (t : Formula) (ts : Formulas) (n : ℕ) → sizes (with_formula t ts) ≤ n → (size t < n) × (sizes ts ≤ n)
 first_size t ts n h = (omega (arith, h), omega (arith, h))

@@ -1,9 +1,9 @@
 pub mod Plain
-pub mod Size
 pub mod CaseFormula
 pub mod Calls
 pub mod Marks
 pub mod Matching
+pub mod Earlier
 pub mod Noted
 pub mod Working
 pub mod UnderWay

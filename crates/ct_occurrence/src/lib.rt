@@ -4,6 +4,7 @@
 
 mod cases;
 mod definitions;
+mod earlier;
 mod fitting;
 mod height;
 mod matching;
@@ -16,6 +17,7 @@ mod under_way;
 
 pub use cases::{body_of, pattern_of};
 pub use definitions::{Definitions, Worked, height_at, no_definitions, notes_at, row_at};
+pub use earlier::Earlier;
 pub use matching::tested;
 pub use needed::work_out_named;
 pub use notes::Notes;

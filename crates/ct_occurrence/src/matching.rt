@@ -2,13 +2,14 @@
 ghost use Rattle.std.specs.Prelude.{◌≡◌, reverse};
 ghost use Rattle.ct_occurrence.specs.Matching.{IsDeclared, tested_by};
 
+use crate::earlier::Earlier;
 use crate::fitting::surely_fits;
 use ct_sorts::{CtorId, Signature};
 use ct_terms::Pattern;
 
 /// The constructor that is tested before a case, after cases of the constructors `earlier`: none where
 /// the case surely fits or is the last.
-pub fn tested(sig: &Signature, earlier: &[CtorId], pattern: Pattern, last: bool) -> Option<CtorId>
+pub fn tested(sig: &Signature, earlier: &Earlier, pattern: Pattern, last: bool) -> Option<CtorId>
     requires declared { IsDeclared sig.now pattern }
     ensures value { result ≡ tested_by sig.now (reverse earlier.now) pattern last }
 {
@@ -19,7 +20,7 @@ pub fn tested(sig: &Signature, earlier: &[CtorId], pattern: Pattern, last: bool)
 }
 
 // The constructor, unless its case surely fits or is the last.
-fn tested_constructor(sig: &Signature, earlier: &[CtorId], c: CtorId, last: bool) -> Option<CtorId>
+fn tested_constructor(sig: &Signature, earlier: &Earlier, c: CtorId, last: bool) -> Option<CtorId>
     requires declared { IsDeclared sig.now (Pattern.Ctor c) }
     ensures value { result ≡ tested_by sig.now (reverse earlier.now) (Pattern.Ctor c) last }
 {

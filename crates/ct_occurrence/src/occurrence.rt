@@ -10,6 +10,7 @@ ghost use Rattle.ct_occurrence.specs.Marks.{worked_in, listed, marked, has_set, 
 
 use crate::cases::{body_of, pattern_of};
 use crate::definitions::{Definitions, Worked, row_at};
+use crate::earlier::Earlier;
 use crate::fitting::variable_count;
 use crate::height::height_of_call;
 use crate::matching::tested;
@@ -317,7 +318,7 @@ fn mark_cases(
     ensures noted { (uses : DefId → ℕ → Bool) (n : ℕ) → MayMarkCases sig.now uses n (worked_in definitions.now) (cases_of_trees cases.now)
         → OnOk result (AddsAllNotes (CasesNoted sig.now (worked_in definitions.now) uses [] (cases_of_trees cases.now)) inner.old.items inner.new.items) }
 {
-    let mut earlier = Vec::new(alloc);
+    let mut earlier = Earlier::new(alloc);
     let mut tests = false;
     let mut rest = cases;
     while let [case, others @ ..] = rest {
@@ -325,7 +326,7 @@ fn mark_cases(
         let body = body_of(case);
         let count = variable_count(sig, pattern);
         let bound = mark_under(alloc, sig, definitions, flags, count, body, inner)?;
-        let Some(c) = tested(sig, earlier.as_slice(), pattern, others.is_empty()) else {
+        let Some(c) = tested(sig, &earlier, pattern, others.is_empty()) else {
             return Ok(has_set_or(tests, bound.as_slice()));
         };
         earlier.push(c)?;

@@ -14,7 +14,7 @@ use Rattle.ct_terms.specs.Compiled.{are_none}
 use Rattle.ct_terms.specs.Occurrence.{count_of, occurs, occurs_in_bound, matched_occurs, occurs_in_cases}
 use Rattle.ct_occurrence.specs.declared.notes.Notes.{Notes}
 use Rattle.ct_occurrence.specs.CaseFormula.{cases_of_trees}
-use Rattle.ct_occurrence.specs.Size.{size, sizes}
+use Rattle.ct_occurrence.proofs.Size.{size, sizes}
 use Rattle.ct_occurrence.specs.Marks.{worked_in, listed, marked, variable_count, MayMark}
 use Rattle.ct_occurrence.specs.Noted.{under_of, IsNoted}
 use Rattle.ct_occurrence.proofs.RestLemmas.{rest_item, rest_step}
@@ -365,7 +365,7 @@ mark_cases-variable_count-count-requires t c =
     let first = c.args.flags.now.items in
     let before = c.args.inner.now.items in
     let loop = c.loop-rest in
-    let earlier = reverse loop.earlier.items in
+    let earlier = reverse loop.earlier in
     let p = c.pattern_of-pattern.result in
     let body = formula_of c.body_of-body.result.now in
     let others = take (length loop.rest.now - 1) (drop 1 loop.rest.now) in
@@ -383,7 +383,7 @@ mark_cases-mark_under-requires t c =
     let first = c.args.flags.now.items in
     let before = c.args.inner.now.items in
     let loop = c.loop-rest in
-    let earlier = reverse loop.earlier.items in
+    let earlier = reverse loop.earlier in
     let p = c.pattern_of-pattern.result in
     let body = formula_of c.body_of-body.result.now in
     let others = take (length loop.rest.now - 1) (drop 1 loop.rest.now) in
@@ -402,7 +402,7 @@ mark_cases-tested-requires t c =
     let first = c.args.flags.now.items in
     let before = c.args.inner.now.items in
     let loop = c.loop-rest in
-    let earlier = reverse loop.earlier.items in
+    let earlier = reverse loop.earlier in
     let p = c.pattern_of-pattern.result in
     let body = formula_of c.body_of-body.result.now in
     let others = take (length loop.rest.now - 1) (drop 1 loop.rest.now) in
@@ -420,17 +420,17 @@ mark_cases-returns-in_default-tested-clause-matched t c = λ uses n may.
     let first = c.args.flags.now.items in
     let before = c.args.inner.now.items in
     let loop = c.loop-rest in
-    let earlier = reverse loop.earlier.items in
+    let earlier = reverse loop.earlier in
     let p = c.pattern_of-pattern.result in
     let body = formula_of c.body_of-body.result.now in
     let others = take (length loop.rest.now - 1) (drop 1 loop.rest.now) in
     let later = cases_of_trees others in
     let whole : cases_of_trees loop.rest.now ≡ with_case p body later = cases_is loop.rest.now others c.case-item.result p body (rest_item loop.rest.now c.case-item.result c.in-len1-up.len_at_least c.case-item.is) c.pattern_of-pattern.ensures.value c.body_of-body.ensures.value in
     let split = subst (λ (cs : Cases). MarksCases d rows all first before earlier loop.tests cs loop.flags.items loop.inner.items) whole loop.invariant in
-    let test : c.tested.result ≡ tested_by d earlier p (are_none later) = c.tested.ensures.value ∙ (ap (λ (xs : List CtorId). tested_by d (reverse xs) p c.is_empty.result) c.as_slice.ensures.value ∙ ap (tested_by d earlier p) (c.is_empty.ensures ∙ none_is others)) in
+    let test : c.tested.result ≡ tested_by d earlier p (are_none later) = c.tested.ensures.value ∙ ap (tested_by d earlier p) (c.is_empty.ensures ∙ none_is others) in
     let end : tested_by d earlier p (are_none later) ≡ None = sym test ∙ c.in_default-tested.is in
-    let bound : c.as_slice-in_default-tested.result.now ≡ listed (occurs d uses body) (variable_count d p) = c.as_slice-in_default-tested.ensures.value ∙ (c.in_ok-bound.ensures.flags uses n (cases_first d rows all first before earlier loop.tests p body later loop.flags.items loop.inner.items split uses n may) ∙ ap (listed (occurs d uses body)) c.variable_count-count.ensures.count) in
-    c.has_set_or.ensures.value ∙ ends_matched d rows all first before earlier loop.tests p body later loop.flags.items loop.inner.items split uses n may end c.as_slice-in_default-tested.result.now bound
+    let bound : c.as_slice.result.now ≡ listed (occurs d uses body) (variable_count d p) = c.as_slice.ensures.value ∙ (c.in_ok-bound.ensures.flags uses n (cases_first d rows all first before earlier loop.tests p body later loop.flags.items loop.inner.items split uses n may) ∙ ap (listed (occurs d uses body)) c.variable_count-count.ensures.count) in
+    c.has_set_or.ensures.value ∙ ends_matched d rows all first before earlier loop.tests p body later loop.flags.items loop.inner.items split uses n may end c.as_slice.result.now bound
 
 pub mark_cases-returns-in_default-tested-clause-marks : goal.mark_cases-returns-in_default-tested-clause-marks
 mark_cases-returns-in_default-tested-clause-marks t c = λ uses n may.
@@ -440,14 +440,14 @@ mark_cases-returns-in_default-tested-clause-marks t c = λ uses n may.
     let first = c.args.flags.now.items in
     let before = c.args.inner.now.items in
     let loop = c.loop-rest in
-    let earlier = reverse loop.earlier.items in
+    let earlier = reverse loop.earlier in
     let p = c.pattern_of-pattern.result in
     let body = formula_of c.body_of-body.result.now in
     let others = take (length loop.rest.now - 1) (drop 1 loop.rest.now) in
     let later = cases_of_trees others in
     let whole : cases_of_trees loop.rest.now ≡ with_case p body later = cases_is loop.rest.now others c.case-item.result p body (rest_item loop.rest.now c.case-item.result c.in-len1-up.len_at_least c.case-item.is) c.pattern_of-pattern.ensures.value c.body_of-body.ensures.value in
     let split = subst (λ (cs : Cases). MarksCases d rows all first before earlier loop.tests cs loop.flags.items loop.inner.items) whole loop.invariant in
-    let test : c.tested.result ≡ tested_by d earlier p (are_none later) = c.tested.ensures.value ∙ (ap (λ (xs : List CtorId). tested_by d (reverse xs) p c.is_empty.result) c.as_slice.ensures.value ∙ ap (tested_by d earlier p) (c.is_empty.ensures ∙ none_is others)) in
+    let test : c.tested.result ≡ tested_by d earlier p (are_none later) = c.tested.ensures.value ∙ ap (tested_by d earlier p) (c.is_empty.ensures ∙ none_is others) in
     let end : tested_by d earlier p (are_none later) ≡ None = sym test ∙ c.in_default-tested.is in
     let under : c.mark_under.new.flags.items ≡ marked (λ i. occurs d uses body (i + variable_count d p)) loop.flags.items = c.in_ok-bound.ensures.marks uses n (cases_first d rows all first before earlier loop.tests p body later loop.flags.items loop.inner.items split uses n may) ∙ ap (λ (m : ℕ). marked (λ i. occurs d uses body (i + m)) loop.flags.items) c.variable_count-count.ensures.count in
     ends_marks d rows all first before earlier loop.tests p body later loop.flags.items loop.inner.items split uses n may end c.mark_under.new.flags.items under
@@ -460,14 +460,14 @@ mark_cases-returns-in_default-tested-clause-noted t c = λ uses n may.
     let first = c.args.flags.now.items in
     let before = c.args.inner.now.items in
     let loop = c.loop-rest in
-    let earlier = reverse loop.earlier.items in
+    let earlier = reverse loop.earlier in
     let p = c.pattern_of-pattern.result in
     let body = formula_of c.body_of-body.result.now in
     let others = take (length loop.rest.now - 1) (drop 1 loop.rest.now) in
     let later = cases_of_trees others in
     let whole : cases_of_trees loop.rest.now ≡ with_case p body later = cases_is loop.rest.now others c.case-item.result p body (rest_item loop.rest.now c.case-item.result c.in-len1-up.len_at_least c.case-item.is) c.pattern_of-pattern.ensures.value c.body_of-body.ensures.value in
     let split = subst (λ (cs : Cases). MarksCases d rows all first before earlier loop.tests cs loop.flags.items loop.inner.items) whole loop.invariant in
-    let test : c.tested.result ≡ tested_by d earlier p (are_none later) = c.tested.ensures.value ∙ (ap (λ (xs : List CtorId). tested_by d (reverse xs) p c.is_empty.result) c.as_slice.ensures.value ∙ ap (tested_by d earlier p) (c.is_empty.ensures ∙ none_is others)) in
+    let test : c.tested.result ≡ tested_by d earlier p (are_none later) = c.tested.ensures.value ∙ ap (tested_by d earlier p) (c.is_empty.ensures ∙ none_is others) in
     let end : tested_by d earlier p (are_none later) ≡ None = sym test ∙ c.in_default-tested.is in
     ends_noted d rows all first before earlier loop.tests p body later loop.flags.items loop.inner.items split uses n may end c.mark_under.new.inner.items (c.in_ok-bound.ensures.noted uses n (cases_first d rows all first before earlier loop.tests p body later loop.flags.items loop.inner.items split uses n may))
 
@@ -479,16 +479,16 @@ mark_cases-loop-rest-preserved t c =
     let first = c.args.flags.now.items in
     let before = c.args.inner.now.items in
     let loop = c.loop-rest in
-    let earlier = reverse loop.earlier.items in
+    let earlier = reverse loop.earlier in
     let p = c.pattern_of-pattern.result in
     let body = formula_of c.body_of-body.result.now in
     let others = take (length loop.rest.now - 1) (drop 1 loop.rest.now) in
     let later = cases_of_trees others in
     let whole : cases_of_trees loop.rest.now ≡ with_case p body later = cases_is loop.rest.now others c.case-item.result p body (rest_item loop.rest.now c.case-item.result c.in-len1-up.len_at_least c.case-item.is) c.pattern_of-pattern.ensures.value c.body_of-body.ensures.value in
     let split = subst (λ (cs : Cases). MarksCases d rows all first before earlier loop.tests cs loop.flags.items loop.inner.items) whole loop.invariant in
-    let test : c.tested.result ≡ tested_by d earlier p (are_none later) = c.tested.ensures.value ∙ (ap (λ (xs : List CtorId). tested_by d (reverse xs) p c.is_empty.result) c.as_slice.ensures.value ∙ ap (tested_by d earlier p) (c.is_empty.ensures ∙ none_is others)) in
+    let test : c.tested.result ≡ tested_by d earlier p (are_none later) = c.tested.ensures.value ∙ ap (tested_by d earlier p) (c.is_empty.ensures ∙ none_is others) in
     let more : tested_by d earlier p (are_none later) ≡ Some c.in-Some.c = sym test ∙ c.in-Some.is in
-    let longer : reverse c.push.new.self.items ≡ c.in-Some.c ∷ earlier = ap reverse c.in_ok-push.ensures.items ∙ reverse-append loop.earlier.items (c.in-Some.c ∷ []) in
+    let longer : reverse c.push.new.self ≡ c.in-Some.c ∷ earlier = ap reverse c.in_ok-push.ensures.pushed ∙ reverse-append loop.earlier (c.in-Some.c ∷ []) in
     subst (λ (e : List CtorId). MarksCases d rows all first before e true later c.mark_under.new.flags.items c.mark_under.new.inner.items) (sym longer)
     (cases_next d rows all first before earlier loop.tests p body later loop.flags.items loop.inner.items split c.in-Some.c more c.mark_under.new.flags.items c.mark_under.new.inner.items
     (λ uses n may. c.in_ok-bound.ensures.marks uses n may ∙ ap (λ (m : ℕ). marked (λ i. occurs d uses body (i + m)) loop.flags.items) c.variable_count-count.ensures.count)
@@ -503,8 +503,8 @@ mark_cases-returns-clause-matched t c = λ uses n may.
     let before = c.args.inner.now.items in
     let loop = c.loop-rest in
     let none = nothing_left loop.rest.now (omega (arith, c.in_default.len_below)) in
-    let end = subst (λ (cs : List Case). MarksCases d rows all first before (reverse loop.earlier.items) loop.tests (cases_of_trees cs) loop.flags.items loop.inner.items) none loop.invariant in
-    none_matched d rows all first before (reverse loop.earlier.items) loop.tests loop.flags.items loop.inner.items end uses n may
+    let end = subst (λ (cs : List Case). MarksCases d rows all first before (reverse loop.earlier) loop.tests (cases_of_trees cs) loop.flags.items loop.inner.items) none loop.invariant in
+    none_matched d rows all first before (reverse loop.earlier) loop.tests loop.flags.items loop.inner.items end uses n may
 
 pub mark_cases-returns-clause-marks : goal.mark_cases-returns-clause-marks
 mark_cases-returns-clause-marks t c = λ uses n may.
@@ -515,8 +515,8 @@ mark_cases-returns-clause-marks t c = λ uses n may.
     let before = c.args.inner.now.items in
     let loop = c.loop-rest in
     let none = nothing_left loop.rest.now (omega (arith, c.in_default.len_below)) in
-    let end = subst (λ (cs : List Case). MarksCases d rows all first before (reverse loop.earlier.items) loop.tests (cases_of_trees cs) loop.flags.items loop.inner.items) none loop.invariant in
-    none_marks d rows all first before (reverse loop.earlier.items) loop.tests loop.flags.items loop.inner.items end uses n may
+    let end = subst (λ (cs : List Case). MarksCases d rows all first before (reverse loop.earlier) loop.tests (cases_of_trees cs) loop.flags.items loop.inner.items) none loop.invariant in
+    none_marks d rows all first before (reverse loop.earlier) loop.tests loop.flags.items loop.inner.items end uses n may
 
 pub mark_cases-returns-clause-noted : goal.mark_cases-returns-clause-noted
 mark_cases-returns-clause-noted t c = λ uses n may.
@@ -527,5 +527,5 @@ mark_cases-returns-clause-noted t c = λ uses n may.
     let before = c.args.inner.now.items in
     let loop = c.loop-rest in
     let none = nothing_left loop.rest.now (omega (arith, c.in_default.len_below)) in
-    let end = subst (λ (cs : List Case). MarksCases d rows all first before (reverse loop.earlier.items) loop.tests (cases_of_trees cs) loop.flags.items loop.inner.items) none loop.invariant in
-    none_noted d rows all first before (reverse loop.earlier.items) loop.tests loop.flags.items loop.inner.items end uses n may
+    let end = subst (λ (cs : List Case). MarksCases d rows all first before (reverse loop.earlier) loop.tests (cases_of_trees cs) loop.flags.items loop.inner.items) none loop.invariant in
+    none_noted d rows all first before (reverse loop.earlier) loop.tests loop.flags.items loop.inner.items end uses n may

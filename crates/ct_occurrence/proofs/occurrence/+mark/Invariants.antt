@@ -1,6 +1,6 @@
 use Rattle.std.proofs.Common.{◌+◌, ◌*◌, length, reverse}
 use Rattle.ct_terms.specs.TreeFormula.{formula_of, formulas_of_trees}
-use Rattle.ct_occurrence.specs.Size.{size, sizes, case_sizes}
+use Rattle.ct_occurrence.proofs.Size.{size, sizes, case_sizes}
 use Rattle.ct_occurrence.specs.Marks.{worked_in}
 use Rattle.ct_occurrence.specs.CaseFormula.{cases_of_trees}
 use Rattle.ct_occurrence.proofs.MayLemmas.{MarksRest, MarksBound}
@@ -30,7 +30,7 @@ abbrev pub decreases-mark_cases : goal.decreases-mark_cases
 decreases-mark_cases l = 2 * case_sizes (cases_of_trees l.cases.now)
 
 abbrev pub invariant-mark_cases-loop-rest : goal.invariant-mark_cases-loop-rest
-invariant-mark_cases-loop-rest l = MarksCases l.sig (worked_in l.definitions) (cases_of_trees l.cases) l.initial.flags.items l.initial.inner.items (reverse l.earlier.items) l.tests (cases_of_trees l.rest) l.flags.items l.inner.items
+invariant-mark_cases-loop-rest l = MarksCases l.sig (worked_in l.definitions) (cases_of_trees l.cases) l.initial.flags.items l.initial.inner.items (reverse l.earlier) l.tests (cases_of_trees l.rest) l.flags.items l.inner.items
 
 abbrev pub decreases-mark_cases-loop-rest : goal.decreases-mark_cases-loop-rest
 decreases-mark_cases-loop-rest l = length l.rest
