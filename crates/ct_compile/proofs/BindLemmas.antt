@@ -1,13 +1,13 @@
 -- Environments under more variables.
-use Rattle.std.proofs.Common.{◌≡◌, ℕ, zero, suc, ◌+◌, Bool, true, false, List, [], ◌∷◌, ◌++◌, length, reverse, Some, slice_get, refl, sym, ap, subst, ◌∙◌, arith, true≢false}
+use Rattle.std.proofs.Common.{◌≡◌, ℕ, zero, suc, ◌+◌, Bool, true, false, List, [], ◌∷◌, ◌++◌, length, drop, reverse, Some, slice_get, refl, sym, ap, subst, ◌∙◌, arith, true≢false}
 use Rattle.std.specs.List.{AllZip}
-use Rattle.std.proofs.lemmas.List.{reverse-append, append_assoc}
+use Rattle.std.proofs.lemmas.List.{reverse-append, length-reverse, append_assoc, drop_at}
 use Rattle.std.proofs.lemmas.Option.{same_Some}
 use Rattle.ct_terms.specs.CoreTree.{CoreTree}
 use Rattle.ct_terms.specs.Formula.{bind}
 use Rattle.ct_compile.specs.declared.bound.Bound.{Bound}
 use Rattle.ct_compile.specs.declared.bound.Bound.TheVariants.{Term, Field, Absent}
-use Rattle.ct_compile.specs.Effect.{Within}
+use Rattle.ct_operators.specs.Effect.{Within}
 use Rattle.ct_compile.specs.Ready.{IsThere, ArePresent}
 use Rattle.ct_compile.specs.Binding.{IsBoundAs, WithinWhere}
 use Rattle.ct_occurrence.specs.Marks.{listed}
@@ -39,6 +39,10 @@ bind_past (x ∷ xs) env i = ap (slice_get (bind xs (x ∷ env))) (omega arith) 
 
 pub bind_first : {X : Type 0} (x : X) (xs env : List X) → slice_get (bind xs (x ∷ env)) (length xs) ≡ Some x
 bind_first x xs env = ap (slice_get (bind xs (x ∷ env))) (omega arith) ∙ bind_past xs (x ∷ env) 0
+
+-- under what is bound there is what there was
+pub bind_left : {X : Type 0} (xs env : List X) → drop (length xs) (bind xs env) ≡ env
+bind_left {X} xs env = ap (λ (ys : List X). drop (length xs) ys) (bind_reverse xs env) ∙ drop_at (reverse xs) env (length xs) (length-reverse xs)
 
 -- where each of these is there, all that occurs is there
 pub bind_present : (p : ℕ → Bool) (xs env : List Bound) → AllZip (λ b x. b ≡ true → IsThere x) (listed p (length xs)) xs → ArePresent (λ i. p (i + length xs)) env → ArePresent p (bind xs env)

@@ -20,16 +20,16 @@ use Rattle.ct_compile.specs.declared.stop.Stop.{Stop}
 use Rattle.ct_compile.specs.Deferral.{ended, Defers, DefersBound}
 use Rattle.ct_occurrence.specs.Marks.{Rows}
 use Rattle.ct_compile.specs.declared.bound.Bound.TheVariants.{Term, Absent}
-use Rattle.ct_compile.specs.Effect.{IsKept, IsPrefix, Within, Effect}
+use Rattle.ct_operators.specs.Effect.{IsKept, IsPrefix, Within, Effect}
 use Rattle.ct_compile.specs.Ready.{given, IsReady, MayCompile, Compiles}
-use Rattle.ct_compile.specs.Weight.{weight, weights, weights_below}
+use Rattle.ct_compile.proofs.Weight.{weight, weights, weights_below}
 use Rattle.ct_compile.specs.Making.{making, defined}
 use Rattle.ct_compile.specs.Binding.{occurs_where, WithinWhere, making_where, AreBinding, MayBind, Binds}
-use Rattle.ct_compile.proofs.EffectLemmas.{prefix_itself, prefix_trans, effect_none, effect_then, effect_because}
-use Rattle.ct_compile.proofs.WithinLemmas.{within_subtrees}
-use Rattle.ct_compile.proofs.MakesLemmas.{makes_then}
+use Rattle.ct_operators.proofs.EffectLemmas.{prefix_itself, prefix_trans, effect_none, effect_then, effect_because}
+use Rattle.ct_operators.proofs.WithinLemmas.{within_subtrees}
+use Rattle.ct_operators.proofs.MakesLemmas.{makes_then}
 use Rattle.ct_compile.proofs.ReadyLemmas.{bound_stays, setting_stays, present_less, or_left, or_right}
-use Rattle.ct_compile.proofs.CycleLemmas.{same_error}
+use Rattle.ct_operators.proofs.EffectLemmas.{same_error}
 use Rattle.ct_compile.proofs.DeferralLemmas.{ended_by, too_deep_by, waits_under}
 
 -- nothing is left

@@ -21,17 +21,18 @@ use Rattle.ct_compile.specs.declared.bound.Bound.TheVariants.{Term, Field, Absen
 use Rattle.ct_compile.specs.declared.known.Called.{Called}
 use Rattle.ct_compile.specs.declared.stop.Stop.TheVariants.{TooDeep}
 use Rattle.ct_compile.specs.Deferral.{Defers}
-use Rattle.ct_compile.specs.Making.{HasTrees, making, makes_below, defined}
-use Rattle.ct_compile.specs.Effect.{Stands, IsKept, IsPrefix, Within, Effect}
+use Rattle.ct_operators.specs.Made.{HasTrees}
+use Rattle.ct_compile.specs.Making.{making, makes_below, defined}
+use Rattle.ct_operators.specs.Effect.{Stands, IsKept, IsPrefix, Within, Effect}
 use Rattle.ct_compile.specs.Ready.{given, IsBound, IsReady}
 use Rattle.ct_occurrence.specs.Marks.{listed, Rows, row_in, HaveRows}
 use Rattle.ct_compile.specs.Binding.{IsBoundAs, making_where, Binds}
 use Rattle.ct_compile.specs.Calling.{same_call, terms_of, call_of, IsRecalled, IsState}
-use Rattle.ct_compile.proofs.EffectLemmas.{stands_stays}
-use Rattle.ct_compile.proofs.WithinLemmas.{Contains-first, within_subtrees}
+use Rattle.ct_operators.proofs.EffectLemmas.{stands_stays}
+use Rattle.ct_operators.proofs.WithinLemmas.{Contains-first, within_subtrees}
 use Rattle.ct_compile.proofs.ReadyLemmas.{bounds_stay}
-use Rattle.ct_compile.proofs.OperatorLemmas.{stands_as}
-use Rattle.ct_compile.proofs.MakesLemmas.{have_stay}
+use Rattle.ct_operators.proofs.OperatorLemmas.{stands_as}
+use Rattle.ct_operators.proofs.MakesLemmas.{have_stay}
 use Rattle.ct_compile.proofs.MakingLemmas.{makes_is, makes_same_below}
 use Rattle.ct_compile.proofs.BindLemmas.{zip_length}
 use Rattle.ct_compile.proofs.DefinitionLemmas.{given_is, fewer_rows}

@@ -18,15 +18,16 @@ use Rattle.ct_terms.specs.Compiled.{compiled}
 use Rattle.ct_terms.specs.Occurrence.{occurs, uses_below}
 use Rattle.ct_compile.specs.declared.bound.Bound.{Bound}
 use Rattle.ct_compile.specs.declared.bound.Bound.TheVariants.{Term, Field, Absent}
-use Rattle.ct_compile.specs.Making.{HasTree, HasTrees, Makes, making, defined}
+use Rattle.ct_operators.specs.Made.{HasTree, HasTrees, Makes}
+use Rattle.ct_compile.specs.Making.{making, defined}
 use Rattle.ct_compile.specs.declared.stop.DeferredCall.{DeferredCall}
 use Rattle.ct_occurrence.specs.Marks.{Rows}
-use Rattle.ct_compile.specs.Effect.{Stands, IsKept, Within, Effect}
+use Rattle.ct_operators.specs.Effect.{Stands, IsKept, Within, Effect}
 use Rattle.ct_compile.specs.Ready.{given, IsBound, IsThere, IsReady, MayCompile, Compiles}
-use Rattle.ct_compile.proofs.EffectLemmas.{stands_stays, effect_then}
-use Rattle.ct_compile.proofs.WithinLemmas.{within_subtrees, within_itself, within_choice}
-use Rattle.ct_compile.proofs.OperatorLemmas.{stands_as}
-use Rattle.ct_compile.proofs.MakesLemmas.{makes_then, makes_none, makes_one, makes_same}
+use Rattle.ct_operators.proofs.EffectLemmas.{stands_stays, effect_then}
+use Rattle.ct_operators.proofs.WithinLemmas.{within_subtrees, within_itself, within_choice}
+use Rattle.ct_operators.proofs.OperatorLemmas.{stands_as}
+use Rattle.ct_operators.proofs.MakesLemmas.{makes_then, makes_none, makes_one, makes_same}
 use Rattle.ct_compile.proofs.DeferralLemmas.{IsPutOff, waits_under}
 use Rattle.ct_compile.proofs.ReadyLemmas.{ready_stays, present_less, or_left, or_right}
 use Rattle.ct_compile.proofs.PlainLemmas.{whole_sorted}

@@ -10,17 +10,18 @@ use Rattle.ct_terms.specs.CoreTree.{CoreTree}
 use Rattle.ct_terms.specs.Formula.{Formula, Formulas}
 use Rattle.ct_terms.specs.Compiled.{compiled, compiled_all}
 use Rattle.ct_compile.specs.declared.bound.Bound.{Bound}
-use Rattle.ct_compile.specs.declared.operator.Operator.{Operator}
+use Rattle.ct_operators.specs.declared.operator.Operator.{Operator}
 use Rattle.ct_compile.specs.declared.stop.DeferredCall.{DeferredCall}
 use Rattle.ct_compile.specs.declared.stop.Stop.{Stop}
 use Rattle.ct_compile.specs.declared.stop.Stop.TheVariants.{Failed, TooDeep}
 use Rattle.ct_compile.specs.Deferral.{ended, GoesOn, WhenTooDeep, Waits}
-use Rattle.ct_compile.specs.Effect.{Within}
-use Rattle.ct_compile.specs.Forms.{combined}
-use Rattle.ct_compile.specs.Making.{Makes, making, made_by, made_each, makes_below, defined}
+use Rattle.ct_operators.specs.Effect.{Within}
+use Rattle.ct_operators.specs.Forms.{combined}
+use Rattle.ct_operators.specs.Made.{Makes, made_by}
+use Rattle.ct_compile.specs.Making.{making, made_each, makes_below, defined}
 use Rattle.ct_compile.specs.Ready.{given, IsReady, AreUnder}
 use Rattle.ct_occurrence.specs.Marks.{Rows}
-use Rattle.ct_compile.proofs.MakesLemmas.{makes_then}
+use Rattle.ct_operators.proofs.MakesLemmas.{makes_then}
 
 -- ---- where a part stops, the whole does
 

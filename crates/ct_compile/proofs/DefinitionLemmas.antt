@@ -10,7 +10,7 @@ use Rattle.ct_terms.specs.FormulaSorts.{AreSound}
 use Rattle.ct_terms.specs.Calls.{body_call, calls_below}
 use Rattle.ct_terms.specs.Compiled.{compiled}
 use Rattle.ct_terms.specs.Occurrence.{occurs, body_uses, uses_below}
-use Rattle.ct_compile.specs.Weight.{weight, body_weight, weights_below}
+use Rattle.ct_compile.proofs.Weight.{weight, body_weight, weights_below}
 use Rattle.ct_compile.specs.Ready.{given}
 use Rattle.ct_occurrence.specs.Marks.{listed, Rows, HaveRows}
 

@@ -16,8 +16,8 @@ use Rattle.ct_terms.specs.Occurrence.{uses_below}
 use Rattle.ct_occurrence.specs.Calls.{CallsAre}
 use Rattle.ct_occurrence.specs.Marks.{Rows, IsKnown, HaveRows, MayMark}
 use Rattle.ct_occurrence.specs.Working.{AreRight}
-use Rattle.ct_compile.specs.Laws.{Laws}
-use Rattle.ct_compile.specs.Effect.{Stands, IsKept}
+use Rattle.ct_operators.specs.Laws.{Laws}
+use Rattle.ct_operators.specs.Effect.{Stands, IsKept}
 use Rattle.ct_compile.specs.Ready.{IsReady}
 
 -- a list of formulas is as long as that of their trees

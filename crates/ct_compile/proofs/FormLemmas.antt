@@ -25,17 +25,18 @@ use Rattle.ct_compile.specs.declared.stop.Stop.{Stop}
 use Rattle.ct_compile.specs.Deferral.{ended, Defers, DefersBound, DefersCases}
 use Rattle.ct_occurrence.specs.Marks.{Rows}
 use Rattle.ct_compile.specs.declared.bound.Bound.TheVariants.{Term, Field, Absent}
-use Rattle.ct_compile.specs.Effect.{Within}
-use Rattle.ct_compile.specs.Making.{Makes, making, making_cases, defined}
+use Rattle.ct_operators.specs.Effect.{Within}
+use Rattle.ct_operators.specs.Made.{Makes}
+use Rattle.ct_compile.specs.Making.{making, making_cases, defined}
 use Rattle.ct_compile.specs.Ready.{given, IsBound, IsReady, MayCompile, Compiles}
 use Rattle.ct_compile.specs.Binding.{IsBoundAs, occurs_where, WithinWhere, making_where, AreBinding, MayBind, Binds}
 use Rattle.ct_occurrence.specs.CaseFormula.{case_of, cases_of_trees}
 use Rattle.ct_compile.specs.Matching.{IsTerm, AreCases, MayCases, CompilesCases}
-use Rattle.ct_compile.specs.Weight.{weight, weights}
-use Rattle.ct_compile.proofs.EffectLemmas.{effect_then, effect_because}
+use Rattle.ct_compile.proofs.Weight.{weight, weights}
+use Rattle.ct_operators.proofs.EffectLemmas.{effect_then, effect_because}
 use Rattle.ct_compile.proofs.ReadyLemmas.{setting_stays, present_less, or_left, or_right}
-use Rattle.ct_compile.proofs.CycleLemmas.{same_error}
-use Rattle.ct_compile.proofs.MakesLemmas.{makes_then}
+use Rattle.ct_operators.proofs.EffectLemmas.{same_error}
+use Rattle.ct_operators.proofs.MakesLemmas.{makes_then}
 use Rattle.ct_compile.proofs.MatchLemmas.{matched_under}
 use Rattle.ct_compile.proofs.DeferralLemmas.{ended_by, too_deep_by, waits_under}
 use Rattle.ct_compile.proofs.UnderLemmas.{too_deep_same}

@@ -6,8 +6,8 @@ use Rattle.ct_sorts.specs.Declarations.{Declarations}
 use Rattle.ct_terms.specs.declared.ids.TermId.{TermId}
 use Rattle.ct_terms.specs.Terms.{Terms}
 use Rattle.ct_terms.specs.CoreTree.{CoreTree, term_at}
-use Rattle.ct_compile.specs.Effect.{IsKept, IsPrefix, Adds, IsMissing, Lacks, AreDifferent, DoNotFit}
-use Rattle.ct_compile.proofs.EffectLemmas.{prefix_length, same_tree}
+use Rattle.ct_operators.specs.Effect.{IsKept, IsPrefix, Adds, IsMissing, Lacks, AreDifferent, DoNotFit}
+use Rattle.ct_operators.proofs.EffectLemmas.{prefix_length, same_tree}
 
 abbrev id : ℕ → TermId
 id k = record { 0 = k }

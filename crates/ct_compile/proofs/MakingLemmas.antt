@@ -9,14 +9,15 @@ use Rattle.ct_terms.specs.CoreTree.{CoreTree, sel, test, choice}
 use Rattle.ct_terms.specs.Formula.{Formula, Formulas, Cases, Var, Con, Sel, Test, Apply, Def, Not, And, Or, Xor, Implies, Equal, Distinct, Ite, Let, Match, no_formulas, with_formula, no_cases, with_case, bind}
 use Rattle.ct_terms.specs.Compiled.{fields_of, surely_fits, are_none, compiled, compiled_all, compiled_cases}
 use Rattle.ct_terms.specs.Occurrence.{count_of, field_count, any_below, occurs, occurs_in_some, occurs_in_bound, matched_occurs, occurs_in_cases, body_uses, uses_below, AreSameAt, AreBoundSame}
-use Rattle.ct_compile.specs.declared.operator.Operator.TheVariants.{Construct, Select, Inspect, Call, Negation, Conjunction, Disjunction, Exclusion, Implication, Equality, Inequality}
-use Rattle.ct_compile.specs.Laws.{Laws}
+use Rattle.ct_operators.specs.declared.operator.Operator.TheVariants.{Construct, Select, Inspect, Call, Negation, Conjunction, Disjunction, Exclusion, Implication, Equality, Inequality}
+use Rattle.ct_operators.specs.Laws.{Laws}
 use Rattle.ct_occurrence.specs.Plain.{is_plain, children_of}
-use Rattle.ct_compile.specs.Forms.{operator_for}
+use Rattle.ct_operators.specs.Forms.{operator_for}
 use Rattle.ct_compile.specs.Ready.{given}
 use Rattle.ct_occurrence.specs.Marks.{listed}
 use Rattle.ct_compile.specs.Binding.{making_where}
-use Rattle.ct_compile.specs.Making.{Made, terms, made_by, Defined, making, made_each, making_bound, making_cases, body_makes, makes_below, defined}
+use Rattle.ct_operators.specs.Made.{Made, terms, made_by}
+use Rattle.ct_compile.specs.Making.{Defined, making, made_each, making_bound, making_cases, body_makes, makes_below, defined}
 use Rattle.ct_compile.proofs.ReadyLemmas.{or_left, or_right}
 use Rattle.ct_compile.proofs.DefinitionLemmas.{by_last}
 

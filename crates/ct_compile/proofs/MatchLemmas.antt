@@ -27,18 +27,19 @@ use Rattle.ct_compile.specs.declared.bound.Bound.{Bound}
 use Rattle.ct_compile.specs.declared.stop.Stop.{Stop}
 use Rattle.ct_compile.specs.Deferral.{ended, Defers, DefersCases}
 use Rattle.ct_compile.specs.declared.bound.Bound.TheVariants.{Term, Field, Absent}
-use Rattle.ct_compile.specs.Laws.{Laws}
-use Rattle.ct_compile.specs.Effect.{Stands, IsKept, IsPrefix, Within, Effect}
+use Rattle.ct_operators.specs.Laws.{Laws}
+use Rattle.ct_operators.specs.Effect.{Stands, IsKept, IsPrefix, Within, Effect}
 use Rattle.ct_compile.specs.Ready.{given, IsBound, IsThere, ArePresent, IsReady, MayCompile, Compiles}
 use Rattle.ct_occurrence.specs.Marks.{listed, Rows}
-use Rattle.ct_compile.specs.Making.{HasTree, Makes, Defined, making, making_cases, defined}
+use Rattle.ct_operators.specs.Made.{HasTree, Makes}
+use Rattle.ct_compile.specs.Making.{Defined, making, making_cases, defined}
 use Rattle.ct_compile.specs.Matching.{IsTerm, field_of, sels_of, bound_by, trees_by, AreCases, MayCases, CompilesCases}
 use Rattle.ct_occurrence.specs.Matching.{tested_by, IsDeclared}
-use Rattle.ct_compile.proofs.EffectLemmas.{prefix_trans, stands_stays, effect_none, effect_then, effect_because}
-use Rattle.ct_compile.proofs.WithinLemmas.{Contains-rest, within_subtrees, within_itself, within_choice, within_test}
+use Rattle.ct_operators.proofs.EffectLemmas.{prefix_trans, stands_stays, effect_none, effect_then, effect_because}
+use Rattle.ct_operators.proofs.WithinLemmas.{Contains-rest, within_subtrees, within_itself, within_choice, within_test}
 use Rattle.ct_compile.proofs.ReadyLemmas.{bound_stays, setting_stays, present_less, or_left, or_right}
-use Rattle.ct_compile.proofs.OperatorLemmas.{stands_as}
-use Rattle.ct_compile.proofs.MakesLemmas.{makes_then, makes_one}
+use Rattle.ct_operators.proofs.OperatorLemmas.{stands_as}
+use Rattle.ct_operators.proofs.MakesLemmas.{makes_then, makes_one}
 use Rattle.ct_compile.proofs.BindLemmas.{bind_zip, bind_first, bind_present}
 use Rattle.ct_compile.proofs.DeferralLemmas.{ended_by, too_deep_by, waits_under}
 

@@ -11,11 +11,11 @@ use Rattle.ct_terms.specs.Compiled.{compiled, compiled_all}
 use Rattle.ct_terms.specs.Occurrence.{occurs, occurs_in_some, uses_below}
 use Rattle.ct_compile.specs.declared.bound.Bound.{Bound}
 use Rattle.ct_compile.specs.declared.bound.Bound.TheVariants.{Term, Field, Absent}
-use Rattle.ct_compile.specs.Effect.{IsKept, IsPrefix}
+use Rattle.ct_operators.specs.Effect.{IsKept, IsPrefix}
 use Rattle.ct_occurrence.specs.Plain.{is_plain, children_of}
-use Rattle.ct_compile.specs.Forms.{operator_for, combined}
+use Rattle.ct_operators.specs.Forms.{operator_for, combined}
 use Rattle.ct_compile.specs.Ready.{given, IsBound, ArePresent, IsSetting, IsReady, AreReady}
-use Rattle.ct_compile.proofs.EffectLemmas.{prefix_length, same_tree, stands_stays}
+use Rattle.ct_operators.proofs.EffectLemmas.{prefix_length, same_tree, stands_stays}
 
 -- ---- tables that grow
 

@@ -5,7 +5,7 @@ use Rattle.ct_terms.specs.declared.ids.TermId.{TermId}
 use Rattle.ct_compile.specs.declared.bound.Bound.{Bound}
 use Rattle.ct_compile.specs.declared.bound.Bound.TheVariants.{Term, Field, Absent}
 use Rattle.ct_compile.specs.Calling.{terms_of}
-use Rattle.ct_compile.proofs.RestLemmas.{rest_step}
+use Rattle.ct_operators.proofs.RestLemmas.{rest_step}
 
 abbrev rest_of : {X : Type 0} → List X → List X
 rest_of xs = take (length xs - 1) (drop 1 xs)

@@ -22,17 +22,18 @@ use Rattle.ct_compile.specs.declared.stop.Stop.{Stop}
 use Rattle.ct_compile.specs.declared.stop.DeferredCall.{DeferredCall}
 use Rattle.ct_compile.specs.declared.stop.Stop.TheVariants.{Failed, TooDeep}
 use Rattle.ct_compile.specs.Deferral.{ended, WhenTooDeep, Defers, DefersBound}
-use Rattle.ct_compile.specs.Effect.{Stands, IsKept, IsPrefix, Within}
+use Rattle.ct_operators.specs.Effect.{Stands, IsKept, IsPrefix, Within}
 use Rattle.ct_compile.specs.Ready.{given, IsBound, ArePresent, IsSetting, IsReady, MayCompile, Compiles}
 use Rattle.ct_occurrence.specs.Marks.{listed, Rows}
-use Rattle.ct_compile.specs.Making.{HasTrees, Makes, making, defined}
+use Rattle.ct_operators.specs.Made.{HasTrees, Makes}
+use Rattle.ct_compile.specs.Making.{making, defined}
 use Rattle.ct_compile.specs.Binding.{IsBoundAs, occurs_where, WithinWhere, making_where, AreBinding, MayBind, Binds}
-use Rattle.ct_compile.proofs.EffectLemmas.{effect_then, effect_because}
+use Rattle.ct_operators.proofs.EffectLemmas.{effect_then, effect_because}
 use Rattle.ct_compile.proofs.ReadyLemmas.{bounds_stay, present_less, or_left, or_right}
-use Rattle.ct_compile.proofs.OperatorLemmas.{stands_as}
-use Rattle.ct_compile.proofs.MakesLemmas.{makes_then, makes_none, makes_has}
+use Rattle.ct_operators.proofs.OperatorLemmas.{stands_as}
+use Rattle.ct_operators.proofs.MakesLemmas.{makes_then, makes_none, makes_has}
 use Rattle.ct_compile.proofs.MakingLemmas.{makes_is, making_listed}
-use Rattle.ct_compile.proofs.CycleLemmas.{same_error}
+use Rattle.ct_operators.proofs.EffectLemmas.{same_error}
 use Rattle.ct_compile.proofs.BindLemmas.{zip_length, bind_zip, bind_present, all_there, where_within}
 use Rattle.ct_compile.proofs.DefinitionLemmas.{given_is, uses_is, listed_same}
 use Rattle.ct_compile.proofs.DeferralLemmas.{ended_by, too_deep_by, waits_under}

@@ -11,8 +11,9 @@ use Rattle.ct_compile.specs.declared.known.Called.{Called}
 use Rattle.ct_compile.specs.declared.stop.DeferredCall.{DeferredCall}
 use Rattle.ct_compile.specs.Calling.{same_call, call_of}
 use Rattle.ct_compile.specs.Deferral.{Waits}
-use Rattle.ct_compile.specs.Effect.{Within}
-use Rattle.ct_compile.specs.Making.{Makes, making, defined}
+use Rattle.ct_operators.specs.Effect.{Within}
+use Rattle.ct_operators.specs.Made.{Makes}
+use Rattle.ct_compile.specs.Making.{making, defined}
 use Rattle.ct_occurrence.specs.Marks.{Rows}
 use Rattle.ct_compile.specs.Ready.{given}
 

@@ -14,8 +14,9 @@ use Rattle.ct_terms.specs.Compiled.{compiled_all}
 use Rattle.ct_terms.specs.Occurrence.{count_of, occurs, uses_below}
 use Rattle.ct_compile.specs.declared.bound.Bound.{Bound}
 use Rattle.ct_compile.specs.declared.bound.Bound.TheVariants.{Term, Field, Absent}
-use Rattle.ct_compile.specs.Making.{Makes, Defined, making, defined}
-use Rattle.ct_compile.specs.Effect.{IsKept, IsPrefix, Within, Effect}
+use Rattle.ct_operators.specs.Made.{Makes}
+use Rattle.ct_compile.specs.Making.{Defined, making, defined}
+use Rattle.ct_operators.specs.Effect.{IsKept, IsPrefix, Within, Effect}
 use Rattle.ct_compile.specs.Ready.{given, IsBound, ArePresent, IsSetting}
 
 -- a variable that occurs has a term, another one has nothing

@@ -14,8 +14,9 @@ use Rattle.ct_compile.specs.declared.bound.Bound.TheVariants.{Term, Field, Absen
 use Rattle.ct_compile.specs.declared.known.Called.{Called}
 use Rattle.ct_compile.specs.declared.stop.DeferredCall.{DeferredCall}
 use Rattle.ct_compile.specs.contracts.known.CalledPartialEq.TheImpl as derived
-use Rattle.ct_compile.specs.Effect.{Stands}
-use Rattle.ct_compile.specs.Making.{HasTrees, makes_below}
+use Rattle.ct_operators.specs.Effect.{Stands}
+use Rattle.ct_operators.specs.Made.{HasTrees}
+use Rattle.ct_compile.specs.Making.{makes_below}
 use Rattle.ct_compile.specs.Ready.{given, IsBound}
 use Rattle.ct_compile.specs.Binding.{IsBoundAs}
 use Rattle.ct_occurrence.specs.Marks.{Rows, row_in, HaveRows}

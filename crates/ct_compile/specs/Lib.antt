@@ -1,14 +1,9 @@
-pub mod Laws
+pub use Rattle.ct_operators.specs.Effect
+pub use Rattle.ct_operators.specs.Made
 pub mod Deferral
-pub mod Effect
-pub mod Forms
-pub mod Weight
 pub mod Ready
-pub mod Pairing
-pub mod Following
 pub mod Binding
 pub mod Calling
 pub mod Matching
-pub mod Chosen
 pub mod Making
 pub mod Attempts

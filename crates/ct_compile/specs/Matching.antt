@@ -18,8 +18,9 @@ use Rattle.ct_terms.specs.Compiled.{fields_of, compiled_cases}
 use Rattle.ct_terms.specs.Occurrence.{matched_occurs, occurs_in_cases, uses_below}
 use Rattle.ct_compile.specs.declared.bound.Bound.{Bound}
 use Rattle.ct_compile.specs.declared.bound.Bound.TheVariants.{Term, Field, Absent}
-use Rattle.ct_compile.specs.Making.{Makes, making_cases, defined}
-use Rattle.ct_compile.specs.Effect.{Stands, Within, Effect}
+use Rattle.ct_operators.specs.Made.{Makes}
+use Rattle.ct_compile.specs.Making.{making_cases, defined}
+use Rattle.ct_operators.specs.Effect.{Stands, Within, Effect}
 use Rattle.ct_compile.specs.Ready.{given, IsBound, ArePresent, IsSetting}
 
 -- a term is bound

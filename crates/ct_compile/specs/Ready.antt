@@ -18,11 +18,12 @@ use Rattle.ct_terms.specs.Compiled.{compiled, compiled_all}
 use Rattle.ct_terms.specs.Occurrence.{occurs, occurs_in_some, uses_below}
 use Rattle.ct_compile.specs.declared.bound.Bound.{Bound}
 use Rattle.ct_compile.specs.declared.bound.Bound.TheVariants.{Term, Field, Absent}
-use Rattle.ct_compile.specs.declared.operator.Operator.{Operator}
-use Rattle.ct_compile.specs.Effect.{Stands, AllStand, IsKept, Within, Effect}
-use Rattle.ct_compile.specs.Forms.{combined, AreOperands}
-use Rattle.ct_compile.specs.Making.{Makes, making, made_each, defined}
-use Rattle.ct_compile.specs.Following.{woven}
+use Rattle.ct_operators.specs.declared.operator.Operator.{Operator}
+use Rattle.ct_operators.specs.Effect.{Stands, AllStand, IsKept, Within, Effect}
+use Rattle.ct_operators.specs.Forms.{combined, AreOperands}
+use Rattle.ct_operators.specs.Made.{Makes}
+use Rattle.ct_compile.specs.Making.{making, made_each, defined}
+use Rattle.ct_operators.specs.Following.{woven}
 
 -- what the definitions below a number give, and the variables that occur in them
 abbrev pub given : Declarations → List Formula → ℕ → DefId → List CoreTree → CoreTree

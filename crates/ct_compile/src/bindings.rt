@@ -1,6 +1,5 @@
-//! Environments: what the variables stand for, variable 0 first.
+//! What the variables of a pattern stand for.
 ghost use Rattle.std.specs.Prelude.{◌≡◌, [], ◌∷◌, map, IfOk};
-ghost use Rattle.ct_terms.specs.Formula.{bind as bound_over};
 ghost use Rattle.ct_compile.specs.Matching.{field_of, bound_by};
 ghost use Rattle.ct_occurrence.specs.Matching.{IsDeclared};
 
@@ -8,20 +7,6 @@ use crate::bound::Bound;
 use ct_sorts::{SelId, Signature};
 use ct_terms::Pattern;
 use std::alloc::{AllocError, Global};
-
-/// The environment under these, which are bound in order.
-pub(crate) fn bind(alloc: Global, bounds: &[Bound], env: &[Bound]) -> Result<Vec<Bound>, AllocError>
-    ensures bound { IfOk result (λ inner. inner.items ≡ bound_over bounds.now env.now) }
-{
-    let mut inner = Vec::new(alloc);
-    let mut rest = bounds;
-    while let [more @ .., last] = rest {
-        inner.push(*last)?;
-        rest = more;
-    }
-    inner.extend_from_slice(env)?;
-    Ok(inner)
-}
 
 /// What the variables of a pattern stand for, in order.
 pub(crate) fn pattern_bounds(

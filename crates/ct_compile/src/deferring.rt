@@ -8,13 +8,14 @@ ghost use Rattle.ct_compile.specs.declared.stop.DeferredCall.{DeferredCall};
 ghost use Rattle.ct_compile.specs.Attempts.{MakesFirst, closed_core, closed_making, IsWaiting, AreWaiting, IsLastKnown};
 ghost use Rattle.ct_compile.specs.Calling.{same_call, call_of, IsState, IsUnknown};
 ghost use Rattle.ct_compile.specs.Deferral.{ended, GoesOn, WhenTooDeep, IsCall, Waits};
-ghost use Rattle.ct_compile.specs.Effect.{Stands, Within, Effect};
-ghost use Rattle.ct_compile.specs.Making.{HasTrees, Makes, makes_below};
+ghost use Rattle.ct_operators.specs.Effect.{Stands, Within, Effect};
+ghost use Rattle.ct_operators.specs.Made.{HasTrees, Makes};
+ghost use Rattle.ct_compile.specs.Making.{makes_below};
 ghost use Rattle.ct_occurrence.specs.Marks.{worked_in};
 ghost use Rattle.ct_occurrence.specs.Noted.{IsOfFirst, IsNoted, HaveNotes};
 ghost use Rattle.ct_compile.specs.Ready.{given, MayCompile, Compiles};
 
-use crate::bindings::bind;
+use crate::environment::Environment;
 use crate::known::{Known, call_with, remember};
 use crate::level::{Level, room_under};
 use crate::scope::{Scope, body_at};
@@ -95,7 +96,10 @@ fn attempt(
 {
     match calls {
         [.., call] => compile_call_first(level, known, table, call),
-        [] => compile_tree(level, known, table, &[], tree, notes),
+        [] => {
+            let mut outside = Environment::new(level.alloc);
+            compile_tree(level, known, table, &mut outside, tree, notes)
+        }
     }
 }
 
@@ -127,7 +131,8 @@ fn compile_call_first(
 {
     let k = call.definition;
     let key = call_with(level.alloc, k, call.bounds.as_slice())?;
-    let inner = bind(level.alloc, call.bounds.as_slice(), &[])?;
+    let bounds = Vec::from_slice(level.alloc, call.bounds.as_slice())?;
+    let mut inner = Environment::of(bounds);
     let inside = Level {
         alloc: level.alloc,
         scope: level.scope,
@@ -140,7 +145,7 @@ fn compile_call_first(
         &inside,
         known,
         table,
-        &inner,
+        &mut inner,
         body,
         notes_at(level.definitions, k),
     )?;

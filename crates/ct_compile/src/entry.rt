@@ -7,13 +7,14 @@ ghost use Rattle.ct_terms.specs.CoreTree.{CoreTree, subtrees, term_at};
 ghost use Rattle.ct_terms.specs.FormulaSorts.{IsSorted, AreSound};
 ghost use Rattle.ct_terms.specs.TreeFormula.{formula_of};
 ghost use Rattle.ct_terms.specs.Compiled.{core_of};
-ghost use Rattle.ct_compile.specs.Effect.{IsPrefix, DoNotFit};
-ghost use Rattle.ct_compile.specs.Making.{Makes, making_of};
+ghost use Rattle.ct_operators.specs.Effect.{IsPrefix, DoNotFit};
+ghost use Rattle.ct_operators.specs.Made.{Makes};
+ghost use Rattle.ct_compile.specs.Making.{making_of};
 
 use crate::deferring::compile_deferring;
-use crate::laws::laws;
 use crate::scope::Scope;
 use ct_occurrence::{no_definitions, notes_on, work_out_named};
+use ct_operators::laws;
 use ct_terms::{TermError, TermId, TermTable, Tree};
 use indexmap::IndexMap;
 use std::alloc::Global;

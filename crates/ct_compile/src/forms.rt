@@ -2,9 +2,9 @@
 ghost use Rattle.std.specs.Prelude.{◌≡◌, true, false, IfSome, IfNone};
 ghost use Rattle.ct_terms.specs.TreeFormula.{formula_of, formulas_of_trees};
 ghost use Rattle.ct_occurrence.specs.Plain.{is_plain, children_of};
-ghost use Rattle.ct_compile.specs.Forms.{operator_for};
+ghost use Rattle.ct_operators.specs.Forms.{operator_for};
 
-use crate::operator::Operator;
+use ct_operators::Operator;
 use ct_terms::Tree;
 use std::slice;
 

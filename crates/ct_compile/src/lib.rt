@@ -3,20 +3,13 @@
 
 mod bindings;
 mod bound;
-mod chains;
-mod choices;
-mod combine;
 mod deferring;
 mod entry;
-mod follow;
+mod environment;
 mod forms;
 mod known;
-mod laws;
 mod level;
-mod make;
 mod matching;
-mod operator;
-mod operators;
 mod scope;
 mod stop;
 mod terms;

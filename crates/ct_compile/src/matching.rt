@@ -3,12 +3,12 @@ ghost use Rattle.std.specs.Prelude.{List, Contains, IfOk, IsErrOf};
 ghost use Rattle.ct_sorts.specs.declared.ids.SortId.{SortId};
 ghost use Rattle.ct_terms.specs.CoreTree.{CoreTree, test};
 ghost use Rattle.ct_terms.specs.CoreSorts.{HasTreeSort};
-ghost use Rattle.ct_compile.specs.Effect.{Stands, IsKept, Effect};
+ghost use Rattle.ct_operators.specs.Effect.{Stands, IsKept, Effect};
 ghost use Rattle.ct_compile.specs.Ready.{IsBound};
 ghost use Rattle.ct_compile.specs.Matching.{IsTerm};
 
 use crate::bound::Bound;
-use crate::make::make;
+use ct_operators::make;
 use ct_sorts::{CtorId, Signature};
 use ct_terms::{Core, TermError, TermId, TermTable};
 

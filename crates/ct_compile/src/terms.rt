@@ -3,7 +3,7 @@ ghost use Rattle.std.specs.Prelude.{◌≡◌, ◌<◌, true, map, length, List,
 ghost use Rattle.ct_sorts.specs.declared.ids.SortId.{SortId};
 ghost use Rattle.ct_terms.specs.CoreTree.{CoreTree};
 ghost use Rattle.ct_terms.specs.CoreSorts.{HasTreeSort};
-ghost use Rattle.ct_compile.specs.Effect.{Stands, IsKept, IsPrefix, Effect};
+ghost use Rattle.ct_operators.specs.Effect.{Stands, IsKept, IsPrefix, Effect};
 ghost use Rattle.ct_terms.specs.Formula.{Var, Ite, Def, Let, Match, no_formulas, with_formula, bind as bound_over};
 ghost use Rattle.ct_terms.specs.TreeFormula.{formula_of, formulas_of_trees};
 ghost use Rattle.ct_compile.specs.Binding.{MayBind, Binds};
@@ -17,23 +17,20 @@ ghost use Rattle.ct_occurrence.specs.declared.notes.Notes.{Notes};
 ghost use Rattle.ct_occurrence.specs.Marks.{worked_in};
 ghost use Rattle.ct_occurrence.specs.Noted.{IsOfFirst, IsNoted, AreNoted, AreNotedWhere, CasesNoted, HaveNotes};
 ghost use Rattle.ct_occurrence.specs.Plain.{is_plain, children_of};
-ghost use Rattle.ct_compile.specs.Forms.{operator_for};
+ghost use Rattle.ct_operators.specs.Forms.{operator_for};
 ghost use Rattle.ct_compile.specs.Ready.{MayCompile, MayCompileAll, Compiles, CompilesAll, IsBound, IsThere};
 
-use crate::bindings::{bind, pattern_bounds};
+use crate::bindings::pattern_bounds;
 use crate::bound::Bound;
-use crate::choices::{Guarded, choices};
-use crate::combine::combine;
-use crate::follow::follow;
+use crate::environment::Environment;
 use crate::forms::operands;
 use crate::known::{Known, call_with, known_term, remember};
 use crate::level::{Level, room_under};
-use crate::make::make;
 use crate::matching::make_test;
-use crate::operator::Operator;
 use crate::scope::body_at;
 use crate::stop::{DeferredCall, Stop};
-use ct_occurrence::{Notes, body_of, notes_at, pattern_of, row_at, tested};
+use ct_occurrence::{Earlier, Notes, body_of, notes_at, pattern_of, row_at, tested};
+use ct_operators::{Guarded, Operator, choices, combine, follow, make};
 use ct_sorts::{DefId, Items, Signature};
 use ct_terms::{Args, Case, Core, Pattern, TermError, TermId, TermTable, Tree};
 use std::slice;
@@ -44,17 +41,18 @@ pub(crate) fn compile_tree(
     level: &Level<'_>,
     known: &mut Known,
     table: &mut TermTable,
-    env: &[Bound],
+    env: &mut Environment,
     tree: &Tree,
     notes: &[Notes],
 ) -> Result<TermId, Stop>
     requires state { IsState level.now.scope.now.sig (map formula_of level.now.scope.now.bodies) level.now.below (worked_in level.now.definitions.now) table.old known.old }
-    requires ready { MayCompile level.now.scope.now.sig (map formula_of level.now.scope.now.bodies) table.old level.now.below env.now (formula_of tree.now) }
+    requires ready { MayCompile level.now.scope.now.sig (map formula_of level.now.scope.now.bodies) table.old level.now.below env.old (formula_of tree.now) }
     requires noted { HaveNotes level.now.scope.now.sig (map formula_of level.now.scope.now.bodies) (worked_in level.now.definitions.now) × IsOfFirst (IsNoted level.now.scope.now.sig (worked_in level.now.definitions.now) (uses_below level.now.scope.now.sig (map formula_of level.now.scope.now.bodies) level.now.below) (formula_of tree.now)) notes.now }
-    ensures outcome { Compiles level.now.scope.now.sig (map formula_of level.now.scope.now.bodies) level.now.below table.old table.new env.now (formula_of tree.now) (ended result) }
-    ensures waits { Defers level.now.scope.now.sig (map formula_of level.now.scope.now.bodies) (worked_in level.now.definitions.now) level.now.below table.old table.new env.now (formula_of tree.now) result }
+    ensures outcome { Compiles level.now.scope.now.sig (map formula_of level.now.scope.now.bodies) level.now.below table.old table.new env.old (formula_of tree.now) (ended result) }
+    ensures waits { Defers level.now.scope.now.sig (map formula_of level.now.scope.now.bodies) (worked_in level.now.definitions.now) level.now.below table.old table.new env.old (formula_of tree.now) result }
     ensures state { GoesOn result (IsState level.now.scope.now.sig (map formula_of level.now.scope.now.bodies) level.now.below (worked_in level.now.definitions.now) table.new known.new) }
     ensures unknown { WhenTooDeep result (λ call. IsUnknown known.new call) }
+    ensures back { env.new ≡ env.old }
 {
     if let Some((operator, trees)) = operands(tree) {
         return compile_plain(level, known, table, env, tree, operator, trees, notes);
@@ -85,7 +83,7 @@ fn compile_plain(
     level: &Level<'_>,
     known: &mut Known,
     table: &mut TermTable,
-    env: &[Bound],
+    env: &mut Environment,
     tree: &Tree,
     operator: Operator,
     trees: &[Tree],
@@ -95,12 +93,13 @@ fn compile_plain(
     requires plain { is_plain (formula_of tree.now) ≡ true }
     requires under { children_of (formula_of tree.now) ≡ formulas_of_trees trees.now }
     requires state { IsState level.now.scope.now.sig (map formula_of level.now.scope.now.bodies) level.now.below (worked_in level.now.definitions.now) table.old known.old }
-    requires ready { MayCompile level.now.scope.now.sig (map formula_of level.now.scope.now.bodies) table.old level.now.below env.now (formula_of tree.now) }
+    requires ready { MayCompile level.now.scope.now.sig (map formula_of level.now.scope.now.bodies) table.old level.now.below env.old (formula_of tree.now) }
     requires noted { HaveNotes level.now.scope.now.sig (map formula_of level.now.scope.now.bodies) (worked_in level.now.definitions.now) × IsOfFirst (IsNoted level.now.scope.now.sig (worked_in level.now.definitions.now) (uses_below level.now.scope.now.sig (map formula_of level.now.scope.now.bodies) level.now.below) (formula_of tree.now)) notes.now }
-    ensures outcome { Compiles level.now.scope.now.sig (map formula_of level.now.scope.now.bodies) level.now.below table.old table.new env.now (formula_of tree.now) (ended result) }
-    ensures waits { Defers level.now.scope.now.sig (map formula_of level.now.scope.now.bodies) (worked_in level.now.definitions.now) level.now.below table.old table.new env.now (formula_of tree.now) result }
+    ensures outcome { Compiles level.now.scope.now.sig (map formula_of level.now.scope.now.bodies) level.now.below table.old table.new env.old (formula_of tree.now) (ended result) }
+    ensures waits { Defers level.now.scope.now.sig (map formula_of level.now.scope.now.bodies) (worked_in level.now.definitions.now) level.now.below table.old table.new env.old (formula_of tree.now) result }
     ensures state { GoesOn result (IsState level.now.scope.now.sig (map formula_of level.now.scope.now.bodies) level.now.below (worked_in level.now.definitions.now) table.new known.new) }
     ensures unknown { WhenTooDeep result (λ call. IsUnknown known.new call) }
+    ensures back { env.new ≡ env.old }
 {
     let note = first_note(notes);
     let args = compile_all(level, known, table, env, operator, trees, note.under())?;
@@ -113,18 +112,19 @@ fn compile_all(
     level: &Level<'_>,
     known: &mut Known,
     table: &mut TermTable,
-    env: &[Bound],
+    env: &mut Environment,
     operator: Operator,
     trees: &[Tree],
     notes: &[Notes],
 ) -> Result<Args, Stop>
     requires state { IsState level.now.scope.now.sig (map formula_of level.now.scope.now.bodies) level.now.below (worked_in level.now.definitions.now) table.old known.old }
-    requires ready { MayCompileAll level.now.scope.now.sig (map formula_of level.now.scope.now.bodies) table.old level.now.below env.now operator (formulas_of_trees trees.now) }
+    requires ready { MayCompileAll level.now.scope.now.sig (map formula_of level.now.scope.now.bodies) table.old level.now.below env.old operator (formulas_of_trees trees.now) }
     requires noted { HaveNotes level.now.scope.now.sig (map formula_of level.now.scope.now.bodies) (worked_in level.now.definitions.now) × AreNoted level.now.scope.now.sig (worked_in level.now.definitions.now) (uses_below level.now.scope.now.sig (map formula_of level.now.scope.now.bodies) level.now.below) (formulas_of_trees trees.now) notes.now }
-    ensures outcome { CompilesAll level.now.scope.now.sig (map formula_of level.now.scope.now.bodies) level.now.below table.old table.new env.now operator (formulas_of_trees trees.now) (ended result) }
-    ensures waits { DefersAll level.now.scope.now.sig (map formula_of level.now.scope.now.bodies) (worked_in level.now.definitions.now) level.now.below table.old table.new env.now operator (formulas_of_trees trees.now) result }
+    ensures outcome { CompilesAll level.now.scope.now.sig (map formula_of level.now.scope.now.bodies) level.now.below table.old table.new env.old operator (formulas_of_trees trees.now) (ended result) }
+    ensures waits { DefersAll level.now.scope.now.sig (map formula_of level.now.scope.now.bodies) (worked_in level.now.definitions.now) level.now.below table.old table.new env.old operator (formulas_of_trees trees.now) result }
     ensures state { GoesOn result (IsState level.now.scope.now.sig (map formula_of level.now.scope.now.bodies) level.now.below (worked_in level.now.definitions.now) table.new known.new) }
     ensures unknown { WhenTooDeep result (λ call. IsUnknown known.new call) }
+    ensures back { env.new ≡ env.old }
 {
     let mut args = Args::new(level.alloc);
     let mut lead = None;
@@ -155,19 +155,20 @@ fn compile_choice(
     level: &Level<'_>,
     known: &mut Known,
     table: &mut TermTable,
-    env: &[Bound],
+    env: &mut Environment,
     condition: &Tree,
     first: &Tree,
     second: &Tree,
     notes: &[Notes],
 ) -> Result<TermId, Stop>
     requires state { IsState level.now.scope.now.sig (map formula_of level.now.scope.now.bodies) level.now.below (worked_in level.now.definitions.now) table.old known.old }
-    requires ready { MayCompile level.now.scope.now.sig (map formula_of level.now.scope.now.bodies) table.old level.now.below env.now (Ite (formula_of condition.now) (formula_of first.now) (formula_of second.now)) }
+    requires ready { MayCompile level.now.scope.now.sig (map formula_of level.now.scope.now.bodies) table.old level.now.below env.old (Ite (formula_of condition.now) (formula_of first.now) (formula_of second.now)) }
     requires noted { HaveNotes level.now.scope.now.sig (map formula_of level.now.scope.now.bodies) (worked_in level.now.definitions.now) × IsOfFirst (IsNoted level.now.scope.now.sig (worked_in level.now.definitions.now) (uses_below level.now.scope.now.sig (map formula_of level.now.scope.now.bodies) level.now.below) (Ite (formula_of condition.now) (formula_of first.now) (formula_of second.now))) notes.now }
-    ensures outcome { Compiles level.now.scope.now.sig (map formula_of level.now.scope.now.bodies) level.now.below table.old table.new env.now (Ite (formula_of condition.now) (formula_of first.now) (formula_of second.now)) (ended result) }
-    ensures waits { Defers level.now.scope.now.sig (map formula_of level.now.scope.now.bodies) (worked_in level.now.definitions.now) level.now.below table.old table.new env.now (Ite (formula_of condition.now) (formula_of first.now) (formula_of second.now)) result }
+    ensures outcome { Compiles level.now.scope.now.sig (map formula_of level.now.scope.now.bodies) level.now.below table.old table.new env.old (Ite (formula_of condition.now) (formula_of first.now) (formula_of second.now)) (ended result) }
+    ensures waits { Defers level.now.scope.now.sig (map formula_of level.now.scope.now.bodies) (worked_in level.now.definitions.now) level.now.below table.old table.new env.old (Ite (formula_of condition.now) (formula_of first.now) (formula_of second.now)) result }
     ensures state { GoesOn result (IsState level.now.scope.now.sig (map formula_of level.now.scope.now.bodies) level.now.below (worked_in level.now.definitions.now) table.new known.new) }
     ensures unknown { WhenTooDeep result (λ call. IsUnknown known.new call) }
+    ensures back { env.new ≡ env.old }
 {
     let note = first_note(notes);
     let of_condition = note.under();
@@ -184,14 +185,14 @@ fn compile_choice(
 fn variable(
     level: &Level<'_>,
     table: &mut TermTable,
-    env: &[Bound],
+    env: &Environment,
     i: u64,
 ) -> Result<TermId, TermError>
     requires ready { MayCompile level.now.scope.now.sig (map formula_of level.now.scope.now.bodies) table.old level.now.below env.now (Var i) }
     ensures outcome { Compiles level.now.scope.now.sig (map formula_of level.now.scope.now.bodies) level.now.below table.old table.new env.now (Var i) result }
     ensures grown { IsPrefix table.old table.new × IsKept level.now.scope.now.sig table.new }
 {
-    let bound = bound_at(env, i as usize);
+    let bound = env.at(i as usize);
     of_bound(&level.scope.sig, table, bound)
 }
 
@@ -202,24 +203,28 @@ fn compile_let(
     level: &Level<'_>,
     known: &mut Known,
     table: &mut TermTable,
-    env: &[Bound],
+    env: &mut Environment,
     trees: &[Tree],
     body: &Tree,
     notes: &[Notes],
 ) -> Result<TermId, Stop>
     requires state { IsState level.now.scope.now.sig (map formula_of level.now.scope.now.bodies) level.now.below (worked_in level.now.definitions.now) table.old known.old }
-    requires ready { MayCompile level.now.scope.now.sig (map formula_of level.now.scope.now.bodies) table.old level.now.below env.now (Let (formulas_of_trees trees.now) (formula_of body.now)) }
+    requires ready { MayCompile level.now.scope.now.sig (map formula_of level.now.scope.now.bodies) table.old level.now.below env.old (Let (formulas_of_trees trees.now) (formula_of body.now)) }
     requires noted { HaveNotes level.now.scope.now.sig (map formula_of level.now.scope.now.bodies) (worked_in level.now.definitions.now) × IsOfFirst (IsNoted level.now.scope.now.sig (worked_in level.now.definitions.now) (uses_below level.now.scope.now.sig (map formula_of level.now.scope.now.bodies) level.now.below) (Let (formulas_of_trees trees.now) (formula_of body.now))) notes.now }
-    ensures outcome { Compiles level.now.scope.now.sig (map formula_of level.now.scope.now.bodies) level.now.below table.old table.new env.now (Let (formulas_of_trees trees.now) (formula_of body.now)) (ended result) }
-    ensures waits { Defers level.now.scope.now.sig (map formula_of level.now.scope.now.bodies) (worked_in level.now.definitions.now) level.now.below table.old table.new env.now (Let (formulas_of_trees trees.now) (formula_of body.now)) result }
+    ensures outcome { Compiles level.now.scope.now.sig (map formula_of level.now.scope.now.bodies) level.now.below table.old table.new env.old (Let (formulas_of_trees trees.now) (formula_of body.now)) (ended result) }
+    ensures waits { Defers level.now.scope.now.sig (map formula_of level.now.scope.now.bodies) (worked_in level.now.definitions.now) level.now.below table.old table.new env.old (Let (formulas_of_trees trees.now) (formula_of body.now)) result }
     ensures state { GoesOn result (IsState level.now.scope.now.sig (map formula_of level.now.scope.now.bodies) level.now.below (worked_in level.now.definitions.now) table.new known.new) }
     ensures unknown { WhenTooDeep result (λ call. IsUnknown known.new call) }
+    ensures back { env.new ≡ env.old }
 {
     let note = first_note(notes);
     let flags = note.bound();
     let bounds = compile_bound(level, known, table, env, flags, trees, note.under())?;
-    let inner = bind(level.alloc, bounds.as_slice(), env)?;
-    compile_tree(level, known, table, &inner, body, note.inner())
+    let bounds = bounds.as_slice();
+    env.bind(bounds)?;
+    let result = compile_tree(level, known, table, env, body, note.inner());
+    env.unbind(bounds.len());
+    result
 }
 
 // The term of a definition with its arguments.
@@ -229,18 +234,19 @@ fn compile_call(
     level: &Level<'_>,
     known: &mut Known,
     table: &mut TermTable,
-    env: &[Bound],
+    env: &mut Environment,
     k: DefId,
     trees: &[Tree],
     notes: &[Notes],
 ) -> Result<TermId, Stop>
     requires state { IsState level.now.scope.now.sig (map formula_of level.now.scope.now.bodies) level.now.below (worked_in level.now.definitions.now) table.old known.old }
-    requires ready { MayCompile level.now.scope.now.sig (map formula_of level.now.scope.now.bodies) table.old level.now.below env.now (Def k (formulas_of_trees trees.now)) }
+    requires ready { MayCompile level.now.scope.now.sig (map formula_of level.now.scope.now.bodies) table.old level.now.below env.old (Def k (formulas_of_trees trees.now)) }
     requires noted { HaveNotes level.now.scope.now.sig (map formula_of level.now.scope.now.bodies) (worked_in level.now.definitions.now) × IsOfFirst (IsNoted level.now.scope.now.sig (worked_in level.now.definitions.now) (uses_below level.now.scope.now.sig (map formula_of level.now.scope.now.bodies) level.now.below) (Def k (formulas_of_trees trees.now))) notes.now }
-    ensures outcome { Compiles level.now.scope.now.sig (map formula_of level.now.scope.now.bodies) level.now.below table.old table.new env.now (Def k (formulas_of_trees trees.now)) (ended result) }
-    ensures waits { Defers level.now.scope.now.sig (map formula_of level.now.scope.now.bodies) (worked_in level.now.definitions.now) level.now.below table.old table.new env.now (Def k (formulas_of_trees trees.now)) result }
+    ensures outcome { Compiles level.now.scope.now.sig (map formula_of level.now.scope.now.bodies) level.now.below table.old table.new env.old (Def k (formulas_of_trees trees.now)) (ended result) }
+    ensures waits { Defers level.now.scope.now.sig (map formula_of level.now.scope.now.bodies) (worked_in level.now.definitions.now) level.now.below table.old table.new env.old (Def k (formulas_of_trees trees.now)) result }
     ensures state { GoesOn result (IsState level.now.scope.now.sig (map formula_of level.now.scope.now.bodies) level.now.below (worked_in level.now.definitions.now) table.new known.new) }
     ensures unknown { WhenTooDeep result (λ call. IsUnknown known.new call) }
+    ensures back { env.new ≡ env.old }
 {
     let row = row_at(level.definitions, k);
     let body = body_at(level.scope, k);
@@ -263,9 +269,9 @@ fn compile_call(
         below: k.0 as usize,
         room,
     };
-    let inner = bind(level.alloc, bounds.as_slice(), &[])?;
+    let mut inner = Environment::of(bounds.into_vec());
     let body_notes = notes_at(level.definitions, k);
-    let term = compile_tree(&inside, known, table, &inner, body, body_notes)?;
+    let term = compile_tree(&inside, known, table, &mut inner, body, body_notes)?;
     remember(known, call, term)?;
     Ok(term)
 }
@@ -276,18 +282,19 @@ fn compile_bound(
     level: &Level<'_>,
     known: &mut Known,
     table: &mut TermTable,
-    env: &[Bound],
+    env: &mut Environment,
     flags: &[bool],
     trees: &[Tree],
     notes: &[Notes],
 ) -> Result<Items<Bound>, Stop>
     requires state { IsState level.now.scope.now.sig (map formula_of level.now.scope.now.bodies) level.now.below (worked_in level.now.definitions.now) table.old known.old }
-    requires ready { MayBind level.now.scope.now.sig (map formula_of level.now.scope.now.bodies) table.old level.now.below env.now flags.now (formulas_of_trees trees.now) }
+    requires ready { MayBind level.now.scope.now.sig (map formula_of level.now.scope.now.bodies) table.old level.now.below env.old flags.now (formulas_of_trees trees.now) }
     requires noted { HaveNotes level.now.scope.now.sig (map formula_of level.now.scope.now.bodies) (worked_in level.now.definitions.now) × AreNotedWhere level.now.scope.now.sig (worked_in level.now.definitions.now) (uses_below level.now.scope.now.sig (map formula_of level.now.scope.now.bodies) level.now.below) flags.now (formulas_of_trees trees.now) notes.now }
-    ensures outcome { Binds level.now.scope.now.sig (map formula_of level.now.scope.now.bodies) level.now.below table.old table.new env.now flags.now (formulas_of_trees trees.now) (ended result) }
-    ensures waits { DefersBound level.now.scope.now.sig (map formula_of level.now.scope.now.bodies) (worked_in level.now.definitions.now) level.now.below table.old table.new env.now flags.now (formulas_of_trees trees.now) result }
+    ensures outcome { Binds level.now.scope.now.sig (map formula_of level.now.scope.now.bodies) level.now.below table.old table.new env.old flags.now (formulas_of_trees trees.now) (ended result) }
+    ensures waits { DefersBound level.now.scope.now.sig (map formula_of level.now.scope.now.bodies) (worked_in level.now.definitions.now) level.now.below table.old table.new env.old flags.now (formulas_of_trees trees.now) result }
     ensures state { GoesOn result (IsState level.now.scope.now.sig (map formula_of level.now.scope.now.bodies) level.now.below (worked_in level.now.definitions.now) table.new known.new) }
     ensures unknown { WhenTooDeep result (λ call. IsUnknown known.new call) }
+    ensures back { env.new ≡ env.old }
 {
     let mut bounds = Vec::new(level.alloc);
     let mut left = flags;
@@ -316,18 +323,19 @@ fn compile_match(
     level: &Level<'_>,
     known: &mut Known,
     table: &mut TermTable,
-    env: &[Bound],
+    env: &mut Environment,
     tree: &Tree,
     cases: &[Case],
     notes: &[Notes],
 ) -> Result<TermId, Stop>
     requires state { IsState level.now.scope.now.sig (map formula_of level.now.scope.now.bodies) level.now.below (worked_in level.now.definitions.now) table.old known.old }
-    requires ready { MayCompile level.now.scope.now.sig (map formula_of level.now.scope.now.bodies) table.old level.now.below env.now (Match (formula_of tree.now) (cases_of_trees cases.now)) }
+    requires ready { MayCompile level.now.scope.now.sig (map formula_of level.now.scope.now.bodies) table.old level.now.below env.old (Match (formula_of tree.now) (cases_of_trees cases.now)) }
     requires noted { HaveNotes level.now.scope.now.sig (map formula_of level.now.scope.now.bodies) (worked_in level.now.definitions.now) × IsOfFirst (IsNoted level.now.scope.now.sig (worked_in level.now.definitions.now) (uses_below level.now.scope.now.sig (map formula_of level.now.scope.now.bodies) level.now.below) (Match (formula_of tree.now) (cases_of_trees cases.now))) notes.now }
-    ensures outcome { Compiles level.now.scope.now.sig (map formula_of level.now.scope.now.bodies) level.now.below table.old table.new env.now (Match (formula_of tree.now) (cases_of_trees cases.now)) (ended result) }
-    ensures waits { Defers level.now.scope.now.sig (map formula_of level.now.scope.now.bodies) (worked_in level.now.definitions.now) level.now.below table.old table.new env.now (Match (formula_of tree.now) (cases_of_trees cases.now)) result }
+    ensures outcome { Compiles level.now.scope.now.sig (map formula_of level.now.scope.now.bodies) level.now.below table.old table.new env.old (Match (formula_of tree.now) (cases_of_trees cases.now)) (ended result) }
+    ensures waits { Defers level.now.scope.now.sig (map formula_of level.now.scope.now.bodies) (worked_in level.now.definitions.now) level.now.below table.old table.new env.old (Match (formula_of tree.now) (cases_of_trees cases.now)) result }
     ensures state { GoesOn result (IsState level.now.scope.now.sig (map formula_of level.now.scope.now.bodies) level.now.below (worked_in level.now.definitions.now) table.new known.new) }
     ensures unknown { WhenTooDeep result (λ call. IsUnknown known.new call) }
+    ensures back { env.new ≡ env.old }
 {
     let note = first_note(notes);
     let occurs = first_flag(note.bound());
@@ -346,20 +354,21 @@ fn compile_cases(
     level: &Level<'_>,
     known: &mut Known,
     table: &mut TermTable,
-    env: &[Bound],
+    env: &mut Environment,
     matched: Bound,
     cases: &[Case],
     notes: &[Notes],
 ) -> Result<TermId, Stop>
     requires state { IsState level.now.scope.now.sig (map formula_of level.now.scope.now.bodies) level.now.below (worked_in level.now.definitions.now) table.old known.old }
-    requires ready { MayCases level.now.scope.now.sig (map formula_of level.now.scope.now.bodies) table.old level.now.below env.now matched [] (cases_of_trees cases.now) }
+    requires ready { MayCases level.now.scope.now.sig (map formula_of level.now.scope.now.bodies) table.old level.now.below env.old matched [] (cases_of_trees cases.now) }
     requires noted { HaveNotes level.now.scope.now.sig (map formula_of level.now.scope.now.bodies) (worked_in level.now.definitions.now) × CasesNoted level.now.scope.now.sig (worked_in level.now.definitions.now) (uses_below level.now.scope.now.sig (map formula_of level.now.scope.now.bodies) level.now.below) [] (cases_of_trees cases.now) notes.now }
-    ensures outcome { CompilesCases level.now.scope.now.sig (map formula_of level.now.scope.now.bodies) level.now.below table.old table.new env.now matched [] (cases_of_trees cases.now) (ended result) }
-    ensures waits { DefersCases level.now.scope.now.sig (map formula_of level.now.scope.now.bodies) (worked_in level.now.definitions.now) level.now.below table.old table.new env.now matched [] (cases_of_trees cases.now) result }
+    ensures outcome { CompilesCases level.now.scope.now.sig (map formula_of level.now.scope.now.bodies) level.now.below table.old table.new env.old matched [] (cases_of_trees cases.now) (ended result) }
+    ensures waits { DefersCases level.now.scope.now.sig (map formula_of level.now.scope.now.bodies) (worked_in level.now.definitions.now) level.now.below table.old table.new env.old matched [] (cases_of_trees cases.now) result }
     ensures state { GoesOn result (IsState level.now.scope.now.sig (map formula_of level.now.scope.now.bodies) level.now.below (worked_in level.now.definitions.now) table.new known.new) }
     ensures unknown { WhenTooDeep result (λ call. IsUnknown known.new call) }
+    ensures back { env.new ≡ env.old }
 {
-    let mut earlier = Vec::new(level.alloc);
+    let mut earlier = Earlier::new(level.alloc);
     let mut made = Vec::new(level.alloc);
     let mut left = notes;
     let mut rest = cases;
@@ -367,12 +376,7 @@ fn compile_cases(
         let pattern = pattern_of(case);
         let body = body_of(case);
         let here = left;
-        let Some(c) = tested(
-            &level.scope.sig,
-            earlier.as_slice(),
-            pattern,
-            others.is_empty(),
-        ) else {
+        let Some(c) = tested(&level.scope.sig, &earlier, pattern, others.is_empty()) else {
             let last = compile_case(level, known, table, env, matched, pattern, body, here)?;
             return Ok(choices(&level.scope.sig, table, made.as_slice(), last)?);
         };
@@ -396,7 +400,7 @@ fn compile_case(
     level: &Level<'_>,
     known: &mut Known,
     table: &mut TermTable,
-    env: &[Bound],
+    env: &mut Environment,
     matched: Bound,
     pattern: Pattern,
     body: &Tree,
@@ -404,16 +408,20 @@ fn compile_case(
 ) -> Result<TermId, Stop>
     requires state { IsState level.now.scope.now.sig (map formula_of level.now.scope.now.bodies) level.now.below (worked_in level.now.definitions.now) table.old known.old }
     requires declared { IsDeclared level.now.scope.now.sig pattern }
-    requires ready { MayCompile level.now.scope.now.sig (map formula_of level.now.scope.now.bodies) table.old level.now.below (bound_over (bound_by level.now.scope.now.sig pattern matched) env.now) (formula_of body.now) }
+    requires ready { MayCompile level.now.scope.now.sig (map formula_of level.now.scope.now.bodies) table.old level.now.below (bound_over (bound_by level.now.scope.now.sig pattern matched) env.old) (formula_of body.now) }
     requires noted { HaveNotes level.now.scope.now.sig (map formula_of level.now.scope.now.bodies) (worked_in level.now.definitions.now) × IsOfFirst (IsNoted level.now.scope.now.sig (worked_in level.now.definitions.now) (uses_below level.now.scope.now.sig (map formula_of level.now.scope.now.bodies) level.now.below) (formula_of body.now)) notes.now }
-    ensures outcome { Compiles level.now.scope.now.sig (map formula_of level.now.scope.now.bodies) level.now.below table.old table.new (bound_over (bound_by level.now.scope.now.sig pattern matched) env.now) (formula_of body.now) (ended result) }
-    ensures waits { Defers level.now.scope.now.sig (map formula_of level.now.scope.now.bodies) (worked_in level.now.definitions.now) level.now.below table.old table.new (bound_over (bound_by level.now.scope.now.sig pattern matched) env.now) (formula_of body.now) result }
+    ensures outcome { Compiles level.now.scope.now.sig (map formula_of level.now.scope.now.bodies) level.now.below table.old table.new (bound_over (bound_by level.now.scope.now.sig pattern matched) env.old) (formula_of body.now) (ended result) }
+    ensures waits { Defers level.now.scope.now.sig (map formula_of level.now.scope.now.bodies) (worked_in level.now.definitions.now) level.now.below table.old table.new (bound_over (bound_by level.now.scope.now.sig pattern matched) env.old) (formula_of body.now) result }
     ensures state { GoesOn result (IsState level.now.scope.now.sig (map formula_of level.now.scope.now.bodies) level.now.below (worked_in level.now.definitions.now) table.new known.new) }
     ensures unknown { WhenTooDeep result (λ call. IsUnknown known.new call) }
+    ensures back { env.new ≡ env.old }
 {
     let bounds = pattern_bounds(level.alloc, &level.scope.sig, pattern, matched)?;
-    let inner = bind(level.alloc, &bounds, env)?;
-    compile_tree(level, known, table, &inner, body, notes)
+    let bounds = bounds.as_slice();
+    env.bind(bounds)?;
+    let result = compile_tree(level, known, table, env, body, notes);
+    env.unbind(bounds.len());
+    result
 }
 
 // The first of the notes.
@@ -465,11 +473,11 @@ fn later_flags(flags: &[bool]) -> &[bool]
 }
 
 // What stands at an index.
-fn bound_at(env: &[Bound], i: usize) -> Bound
-    requires inside { i < length env.now }
-    ensures value { slice_get env.now i ≡ Some result }
+fn bound_at(bounds: &[Bound], i: usize) -> Bound
+    requires inside { i < length bounds.now }
+    ensures value { slice_get bounds.now i ≡ Some result }
 {
-    env[i]
+    bounds[i]
 }
 
 // The term of what is bound.

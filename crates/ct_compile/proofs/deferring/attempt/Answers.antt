@@ -3,7 +3,7 @@ use Rattle.ct_terms.specs.TreeFormula.{formula_of}
 use Rattle.ct_occurrence.specs.Marks.{worked_in}
 use Rattle.ct_compile.specs.Ready.{given}
 use Rattle.ct_compile.proofs.CallingLemmas.{state_below}
-use Rattle.ct_compile.proofs.WithinLemmas.{within_subtrees}
+use Rattle.ct_operators.proofs.WithinLemmas.{within_subtrees}
 use Rattle.ct_compile.proofs.AttemptLemmas.{called_makes, called_waits, closed_effect, closed_makes, closed_waits, closed_all, last_known, last_none}
 use Rattle.ct_compile.proofs.deferring.attempt.Goals as goal
 
@@ -34,7 +34,7 @@ returns-in-empty-clause-effect c =
     let n = c.args.level.now.below in
     let t = formula_of c.args.tree.now in
     let old = c.args.table.now in
-    closed_effect d bodies rows n t old c.compile_tree.new.table c.requires.ready c.compile_tree.result c.compile_tree.ensures.outcome
+    closed_effect d bodies rows n t old c.compile_tree.new.table c.requires.ready c.compile_tree.result (rw c.new-outside.ensures.empty at c.compile_tree.ensures.outcome)
 
 pub returns-in-empty-clause-makes : goal.returns-in-empty-clause-makes
 returns-in-empty-clause-makes c =
@@ -44,7 +44,7 @@ returns-in-empty-clause-makes c =
     let n = c.args.level.now.below in
     let t = formula_of c.args.tree.now in
     let old = c.args.table.now in
-    closed_makes d bodies rows n t old c.compile_tree.new.table c.requires.ready c.compile_tree.result c.compile_tree.ensures.outcome c.compile_tree.ensures.waits
+    closed_makes d bodies rows n t old c.compile_tree.new.table c.requires.ready c.compile_tree.result (rw c.new-outside.ensures.empty at c.compile_tree.ensures.outcome) (rw c.new-outside.ensures.empty at c.compile_tree.ensures.waits)
 
 pub returns-in-empty-clause-waits : goal.returns-in-empty-clause-waits
 returns-in-empty-clause-waits c =
@@ -54,7 +54,7 @@ returns-in-empty-clause-waits c =
     let n = c.args.level.now.below in
     let t = formula_of c.args.tree.now in
     let old = c.args.table.now in
-    closed_waits d bodies rows n t old c.compile_tree.new.table c.requires.ready c.compile_tree.result c.compile_tree.ensures.outcome c.compile_tree.ensures.waits
+    closed_waits d bodies rows n t old c.compile_tree.new.table c.requires.ready c.compile_tree.result (rw c.new-outside.ensures.empty at c.compile_tree.ensures.outcome) (rw c.new-outside.ensures.empty at c.compile_tree.ensures.waits)
 
 pub returns-in-empty-clause-all : goal.returns-in-empty-clause-all
 returns-in-empty-clause-all c =
@@ -64,7 +64,7 @@ returns-in-empty-clause-all c =
     let n = c.args.level.now.below in
     let t = formula_of c.args.tree.now in
     let old = c.args.table.now in
-    λ e. closed_all d bodies rows n t old c.compile_tree.new.table c.requires.ready c.compile_tree.result c.compile_tree.ensures.outcome
+    λ e. closed_all d bodies rows n t old c.compile_tree.new.table c.requires.ready c.compile_tree.result (rw c.new-outside.ensures.empty at c.compile_tree.ensures.outcome)
 
 pub returns-in-len1-up-clause-effect : goal.returns-in-len1-up-clause-effect
 returns-in-len1-up-clause-effect c =

@@ -26,7 +26,7 @@ returns-in_err-term-clause-effect c =
     let new = c.compile_tree.new.table in
     let body = formula_of c.body_at-body.result.now in
     let at = c.body_at-body.ensures.value in
-    let inner_is : c.deref.result.now ≡ bind call.bounds [] = c.deref.ensures.value ∙ c.in_ok-inner.ensures.bound ∙ ap (λ (xs : List Bound). bind xs []) c.as_slice-2.ensures.value in
+    let inner_is : c.of-inner.result ≡ bind call.bounds [] = c.of-inner.ensures.bound ∙ ap (λ (xs : List Bound). bind xs []) (c.in_ok-bounds.ensures.items ∙ c.as_slice-2.ensures.value) in
     let p = err_from_is_err_and c.from_residual-in_err-term.result c.from_residual-in_err-term.ensures.1 in
     let one = subst (λ (xs : List Bound). Compiles d bodies call.definition.0 old new xs body (ended (Err c.in_err-term.field-0.0))) inner_is c.in_err-term.ensures.outcome in
     λ trees allowed h w. rw (p.1, p.2) (call_effect d bodies rows old call body at new _ one trees allowed h w)
@@ -41,7 +41,7 @@ returns-in_err-term-clause-waits c =
     let new = c.compile_tree.new.table in
     let body = formula_of c.body_at-body.result.now in
     let at = c.body_at-body.ensures.value in
-    let inner_is : c.deref.result.now ≡ bind call.bounds [] = c.deref.ensures.value ∙ c.in_ok-inner.ensures.bound ∙ ap (λ (xs : List Bound). bind xs []) c.as_slice-2.ensures.value in
+    let inner_is : c.of-inner.result ≡ bind call.bounds [] = c.of-inner.ensures.bound ∙ ap (λ (xs : List Bound). bind xs []) (c.in_ok-bounds.ensures.items ∙ c.as_slice-2.ensures.value) in
     let p = err_from_is_err_and c.from_residual-in_err-term.result c.from_residual-in_err-term.ensures.1 in
     let defers = subst (λ (xs : List Bound). Defers d bodies rows call.definition.0 old new xs body (Err c.in_err-term.field-0.0)) inner_is c.in_err-term.ensures.waits in
     λ trees h. rw (p.1, p.2) (call_defers d bodies rows old call body at new (Err c.in_err-term.field-0.0) defers trees h)
@@ -56,7 +56,7 @@ returns-in_err-remember-clause-effect c =
     let new = c.compile_tree.new.table in
     let body = formula_of c.body_at-body.result.now in
     let at = c.body_at-body.ensures.value in
-    let inner_is : c.deref.result.now ≡ bind call.bounds [] = c.deref.ensures.value ∙ c.in_ok-inner.ensures.bound ∙ ap (λ (xs : List Bound). bind xs []) c.as_slice-2.ensures.value in
+    let inner_is : c.of-inner.result ≡ bind call.bounds [] = c.of-inner.ensures.bound ∙ ap (λ (xs : List Bound). bind xs []) (c.in_ok-bounds.ensures.items ∙ c.as_slice-2.ensures.value) in
     let p = err_from_is_err_and c.from_residual-in_err-remember.result c.from_residual-in_err-remember.ensures.1 in
     let one = subst (λ (xs : List Bound). Compiles d bodies call.definition.0 old new xs body (Ok c.in_ok-term.term)) inner_is c.in_ok-term.ensures.outcome in
     λ trees allowed h w. rw (p.1, p.2) (call_lost d bodies rows old call body at new c.in_ok-term.term c.in_err-remember.field-0.0 c.in_err-remember.ensures.err one trees allowed h w)
@@ -71,7 +71,7 @@ returns-clause-effect c =
     let new = c.compile_tree.new.table in
     let body = formula_of c.body_at-body.result.now in
     let at = c.body_at-body.ensures.value in
-    let inner_is : c.deref.result.now ≡ bind call.bounds [] = c.deref.ensures.value ∙ c.in_ok-inner.ensures.bound ∙ ap (λ (xs : List Bound). bind xs []) c.as_slice-2.ensures.value in
+    let inner_is : c.of-inner.result ≡ bind call.bounds [] = c.of-inner.ensures.bound ∙ ap (λ (xs : List Bound). bind xs []) (c.in_ok-bounds.ensures.items ∙ c.as_slice-2.ensures.value) in
     let one = subst (λ (xs : List Bound). Compiles d bodies call.definition.0 old new xs body (Ok c.in_ok-term.term)) inner_is c.in_ok-term.ensures.outcome in
     λ trees allowed h w. call_effect d bodies rows old call body at new (Ok c.in_ok-term.term) one trees allowed h w
 
@@ -85,7 +85,7 @@ returns-clause-makes c =
     let new = c.compile_tree.new.table in
     let body = formula_of c.body_at-body.result.now in
     let at = c.body_at-body.ensures.value in
-    let inner_is : c.deref.result.now ≡ bind call.bounds [] = c.deref.ensures.value ∙ c.in_ok-inner.ensures.bound ∙ ap (λ (xs : List Bound). bind xs []) c.as_slice-2.ensures.value in
+    let inner_is : c.of-inner.result ≡ bind call.bounds [] = c.of-inner.ensures.bound ∙ ap (λ (xs : List Bound). bind xs []) (c.in_ok-bounds.ensures.items ∙ c.as_slice-2.ensures.value) in
     let one = subst (λ (xs : List Bound). Compiles d bodies call.definition.0 old new xs body (Ok c.in_ok-term.term)) inner_is c.in_ok-term.ensures.outcome in
     λ trees h. call_makes d bodies rows old call body at new (Ok c.in_ok-term.term) one trees h
 
@@ -99,7 +99,7 @@ returns-clause-state c =
     let new = c.compile_tree.new.table in
     let body = formula_of c.body_at-body.result.now in
     let at = c.body_at-body.ensures.value in
-    let inner_is : c.deref.result.now ≡ bind call.bounds [] = c.deref.ensures.value ∙ c.in_ok-inner.ensures.bound ∙ ap (λ (xs : List Bound). bind xs []) c.as_slice-2.ensures.value in
+    let inner_is : c.of-inner.result ≡ bind call.bounds [] = c.of-inner.ensures.bound ∙ ap (λ (xs : List Bound). bind xs []) (c.in_ok-bounds.ensures.items ∙ c.as_slice-2.ensures.value) in
     let key_is : c.in_ok-key.key ≡ call_of call.definition call.bounds = c.in_ok-key.ensures.call ∙ ap (call_of call.definition) c.as_slice.ensures.value in
     let one = subst (λ (xs : List Bound). Compiles d bodies call.definition.0 old new xs body (Ok c.in_ok-term.term)) inner_is c.in_ok-term.ensures.outcome in
     state_with d bodies rows call.definition.0 new c.compile_tree.new.known c.remember.new.known c.in_ok-key.key c.in_ok-term.term c.in_ok-term.ensures.state

@@ -1,4 +1,4 @@
-use Rattle.std.proofs.Common.{◌≡◌, ◌-◌, ◌<◌, ◌==◌, Bool, true, false, List, ◌∷◌, [], ◌++◌, length, take, drop, map, reverse, IfOk, IsErrOf, Result, Some, None, Ok, Err, slice_get, refl, ap, subst, sym, ◌∙◌, arith, true≢false}
+use Rattle.std.proofs.Common.{◌≡◌, ◌-◌, ◌<◌, ◌==◌, ℕ, Bool, true, false, List, ◌∷◌, [], ◌++◌, length, take, drop, map, reverse, IfOk, IsErrOf, Result, Some, None, Ok, Err, slice_get, refl, ap, subst, sym, ◌∙◌, arith, true≢false}
 use Rattle.std.proofs.lemmas.List.{reverse-append}
 use Rattle.std.proofs.lemmas.Bool.Decides.{Decides-eqb}
 use Rattle.std.proofs.lemmas.Result.{err_from_is_err_and}
@@ -12,9 +12,9 @@ use Rattle.ct_terms.specs.declared.error.TermError.{TermError}
 use Rattle.ct_terms.specs.declared.error.TermError.TheVariants.{Full, NoMemory}
 use Rattle.ct_terms.specs.CoreTree.{CoreTree, choice, term_at}
 use Rattle.ct_terms.specs.CoreSorts.{HasTreeSort}
-use Rattle.ct_compile.specs.declared.choices.Guarded.{Guarded}
-use Rattle.ct_compile.specs.Effect.{Stands, Within, Effect}
-use Rattle.ct_compile.specs.Chosen.{chosen_from, IsGuardedIn}
+use Rattle.ct_operators.specs.declared.choosing.Guarded.{Guarded}
+use Rattle.ct_operators.specs.Effect.{Stands, Within, Effect}
+use Rattle.ct_operators.specs.Chosen.{chosen_from, IsGuardedIn}
 use Rattle.ct_terms.specs.Formula.{Cases, Def, Ite, Let, Match, with_case, bind}
 use Rattle.ct_terms.specs.Compiled.{are_none}
 use Rattle.ct_terms.specs.Occurrence.{count_of, occurs, uses_below}
@@ -24,14 +24,15 @@ use Rattle.ct_compile.specs.declared.known.Called.{Called}
 use Rattle.ct_compile.specs.Binding.{Binds}
 use Rattle.ct_compile.specs.Calling.{call_of, IsRecalled, IsState, IsUnknown}
 use Rattle.ct_occurrence.specs.CaseFormula.{cases_of_trees}
-use Rattle.ct_compile.specs.Forms.{combined}
+use Rattle.ct_operators.specs.Forms.{combined}
 use Rattle.ct_occurrence.specs.Marks.{worked_in, listed}
 use Rattle.ct_compile.specs.Matching.{bound_by}
 use Rattle.ct_occurrence.specs.Matching.{tested_by}
 use Rattle.ct_compile.specs.Ready.{MayCompile, Compiles, CompilesAll}
 use Rattle.ct_occurrence.specs.Noted.{IsOfFirst, IsNoted, AreNoted, CasesNoted}
-use Rattle.ct_compile.specs.Weight.{weights_below}
-use Rattle.ct_compile.proofs.RestLemmas.{rest_item}
+use Rattle.ct_compile.proofs.Weight.{weights_below}
+use Rattle.ct_operators.proofs.RestLemmas.{rest_item}
+use Rattle.ct_compile.proofs.BindLemmas.{bind_left}
 use Rattle.ct_compile.proofs.NoteLemmas.{first_inside, call_known, plain_notes, condition_notes, then_notes, else_notes, let_flags, let_under, let_inner, call_notes, match_inside, match_flag, match_under, match_inner, case_notes, later_cases, where_split}
 use Rattle.ct_compile.proofs.CycleLemmas.{compiles_nothing, compiles_grown, plain_children, plain_waits, plain_failed, plain_kept, plain_below, plain_operands, plain_made, Collects, collects_start, collects_next, collects_lighter, collects_waits, collects_failed, collects_follows, collects_broken, collects_out, collects_grown, collects_more, collects_end}
 use Rattle.ct_compile.proofs.ChoiceLemmas.{choice_condition, choice_then, choice_else, choice_waits_1, choice_failed_1, choice_waits_2, choice_failed_2, choice_waits_3, choice_failed_3, choice_kept, choice_below, choice_sorted, choice_made}
@@ -62,31 +63,31 @@ ends_last (x ∷ xs) b is e = absurd (omega (arith, (Decides-eqb (length (x ∷ 
 
 pub compile_all-loop-rest-init : goal.compile_all-loop-rest-init
 compile_all-loop-rest-init t c =
-    (subst (λ (args : List TermId). Collects c.args.level.now.scope.now.sig (map formula_of c.args.level.now.scope.now.bodies) c.args.level.now.below c.args.table.now c.args.table.now c.args.env.now c.args.operator (formulas_of_trees c.args.trees.now) args None (formulas_of_trees c.args.trees.now)) (sym c.new-args.ensures.empty) (collects_start c.args.level.now.scope.now.sig (map formula_of c.args.level.now.scope.now.bodies) c.args.level.now.below c.args.table.now c.args.env.now c.args.operator (formulas_of_trees c.args.trees.now) c.requires.ready), c.requires.state, c.requires.noted.1)
+    record { done = subst (λ (args : List TermId). Collects c.args.level.now.scope.now.sig (map formula_of c.args.level.now.scope.now.bodies) c.args.level.now.below c.args.table.now c.args.table.now c.args.env.now c.args.operator (formulas_of_trees c.args.trees.now) args None (formulas_of_trees c.args.trees.now)) (sym c.new-args.ensures.empty) (collects_start c.args.level.now.scope.now.sig (map formula_of c.args.level.now.scope.now.bodies) c.args.level.now.below c.args.table.now c.args.env.now c.args.operator (formulas_of_trees c.args.trees.now) c.requires.ready); state = c.requires.state; noted = c.requires.noted.1; same = refl }
 
 pub compile_all-compile_tree-requires : goal.compile_all-compile_tree-requires
 compile_all-compile_tree-requires t c =
     let loop = c.loop-rest in
     let more = formulas_of_trees (take (length loop.rest.now - 1) (drop 1 loop.rest.now)) in
-    let split = subst (λ (xs : List Tree). Collects c.args.level.now.scope.now.sig (map formula_of c.args.level.now.scope.now.bodies) c.args.level.now.below c.args.table.now loop.table c.args.env.now c.args.operator (formulas_of_trees c.args.trees.now) loop.args loop.lead (formulas_of_trees xs)) (rest_item loop.rest.now c.tree-item.result c.in-len1-up.len_at_least c.tree-item.is) loop.invariant.0 in
+    let split = subst (λ (xs : List Tree). Collects c.args.level.now.scope.now.sig (map formula_of c.args.level.now.scope.now.bodies) c.args.level.now.below c.args.table.now loop.table c.args.env.now c.args.operator (formulas_of_trees c.args.trees.now) loop.args loop.lead (formulas_of_trees xs)) (rest_item loop.rest.now c.tree-item.result c.in-len1-up.len_at_least c.tree-item.is) loop.invariant.done in
     let lighter = collects_lighter c.args.level.now.scope.now.sig (map formula_of c.args.level.now.scope.now.bodies) c.args.level.now.below c.args.table.now loop.table c.args.env.now c.args.operator (formulas_of_trees c.args.trees.now) loop.args loop.lead (formula_of c.tree-item.result) more split in
-    (omega (arith, lighter, c.decreases), (loop.invariant.1, (collects_next c.args.level.now.scope.now.sig (map formula_of c.args.level.now.scope.now.bodies) c.args.level.now.below c.args.table.now loop.table c.args.env.now c.args.operator (formulas_of_trees c.args.trees.now) loop.args loop.lead (formula_of c.tree-item.result) more split, (c.requires.noted.0, (subst (λ (xs : List Tree). AreNoted c.args.level.now.scope.now.sig (worked_in c.args.level.now.definitions.now) (uses_below c.args.level.now.scope.now.sig (map formula_of c.args.level.now.scope.now.bodies) c.args.level.now.below) (formulas_of_trees xs) loop.left.now) (rest_item loop.rest.now c.tree-item.result c.in-len1-up.len_at_least c.tree-item.is) loop.invariant.2).0))))
+    (omega (arith, lighter, c.decreases), (loop.invariant.state, (rw loop.invariant.same (collects_next c.args.level.now.scope.now.sig (map formula_of c.args.level.now.scope.now.bodies) c.args.level.now.below c.args.table.now loop.table c.args.env.now c.args.operator (formulas_of_trees c.args.trees.now) loop.args loop.lead (formula_of c.tree-item.result) more split), (c.requires.noted.0, (subst (λ (xs : List Tree). AreNoted c.args.level.now.scope.now.sig (worked_in c.args.level.now.definitions.now) (uses_below c.args.level.now.scope.now.sig (map formula_of c.args.level.now.scope.now.bodies) c.args.level.now.below) (formulas_of_trees xs) loop.left.now) (rest_item loop.rest.now c.tree-item.result c.in-len1-up.len_at_least c.tree-item.is) loop.invariant.noted).0))))
 
 pub compile_all-returns-in_err-term-clause-outcome : goal.compile_all-returns-in_err-term-clause-outcome
 compile_all-returns-in_err-term-clause-outcome t c =
     let loop = c.loop-rest in
     let more = formulas_of_trees (take (length loop.rest.now - 1) (drop 1 loop.rest.now)) in
-    let split = subst (λ (xs : List Tree). Collects c.args.level.now.scope.now.sig (map formula_of c.args.level.now.scope.now.bodies) c.args.level.now.below c.args.table.now loop.table c.args.env.now c.args.operator (formulas_of_trees c.args.trees.now) loop.args loop.lead (formulas_of_trees xs)) (rest_item loop.rest.now c.tree-item.result c.in-len1-up.len_at_least c.tree-item.is) loop.invariant.0 in
+    let split = subst (λ (xs : List Tree). Collects c.args.level.now.scope.now.sig (map formula_of c.args.level.now.scope.now.bodies) c.args.level.now.below c.args.table.now loop.table c.args.env.now c.args.operator (formulas_of_trees c.args.trees.now) loop.args loop.lead (formulas_of_trees xs)) (rest_item loop.rest.now c.tree-item.result c.in-len1-up.len_at_least c.tree-item.is) loop.invariant.done in
     let p = err_from_is_err_and c.from_residual.result c.from_residual.ensures.1 in
-    rw (p.1, p.2) (ended_by _ (λ (r : Result TermId TermError). Compiles c.args.level.now.scope.now.sig (map formula_of c.args.level.now.scope.now.bodies) c.args.level.now.below loop.table c.compile_tree.new.table c.args.env.now (formula_of c.tree-item.result) r) (λ (r : Result (List TermId) TermError). CompilesAll c.args.level.now.scope.now.sig (map formula_of c.args.level.now.scope.now.bodies) c.args.level.now.below c.args.table.now c.compile_tree.new.table c.args.env.now c.args.operator (formulas_of_trees c.args.trees.now) r) (λ e k. collects_failed c.args.level.now.scope.now.sig (map formula_of c.args.level.now.scope.now.bodies) c.args.level.now.below c.args.table.now loop.table c.args.env.now c.args.operator (formulas_of_trees c.args.trees.now) loop.args loop.lead (formula_of c.tree-item.result) more split c.compile_tree.new.table e k) c.in_err-term.ensures.outcome)
+    rw (p.1, p.2) (ended_by _ (λ (r : Result TermId TermError). Compiles c.args.level.now.scope.now.sig (map formula_of c.args.level.now.scope.now.bodies) c.args.level.now.below loop.table c.compile_tree.new.table c.args.env.now (formula_of c.tree-item.result) r) (λ (r : Result (List TermId) TermError). CompilesAll c.args.level.now.scope.now.sig (map formula_of c.args.level.now.scope.now.bodies) c.args.level.now.below c.args.table.now c.compile_tree.new.table c.args.env.now c.args.operator (formulas_of_trees c.args.trees.now) r) (λ e k. collects_failed c.args.level.now.scope.now.sig (map formula_of c.args.level.now.scope.now.bodies) c.args.level.now.below c.args.table.now loop.table c.args.env.now c.args.operator (formulas_of_trees c.args.trees.now) loop.args loop.lead (formula_of c.tree-item.result) more split c.compile_tree.new.table e k) (rw loop.invariant.same at c.in_err-term.ensures.outcome))
 
 pub compile_all-returns-in_err-term-clause-waits : goal.compile_all-returns-in_err-term-clause-waits
 compile_all-returns-in_err-term-clause-waits t c =
     let loop = c.loop-rest in
     let more = formulas_of_trees (take (length loop.rest.now - 1) (drop 1 loop.rest.now)) in
-    let split = subst (λ (xs : List Tree). Collects c.args.level.now.scope.now.sig (map formula_of c.args.level.now.scope.now.bodies) c.args.level.now.below c.args.table.now loop.table c.args.env.now c.args.operator (formulas_of_trees c.args.trees.now) loop.args loop.lead (formulas_of_trees xs)) (rest_item loop.rest.now c.tree-item.result c.in-len1-up.len_at_least c.tree-item.is) loop.invariant.0 in
+    let split = subst (λ (xs : List Tree). Collects c.args.level.now.scope.now.sig (map formula_of c.args.level.now.scope.now.bodies) c.args.level.now.below c.args.table.now loop.table c.args.env.now c.args.operator (formulas_of_trees c.args.trees.now) loop.args loop.lead (formulas_of_trees xs)) (rest_item loop.rest.now c.tree-item.result c.in-len1-up.len_at_least c.tree-item.is) loop.invariant.done in
     let p = err_from_is_err_and c.from_residual.result c.from_residual.ensures.1 in
-    rw (p.1, p.2) (too_deep_by TermId (List TermId) _ (λ call. IsPutOff c.args.level.now.scope.now.sig (map formula_of c.args.level.now.scope.now.bodies) (worked_in c.args.level.now.definitions.now) c.args.level.now.below loop.table c.compile_tree.new.table c.args.env.now (formula_of c.tree-item.result) call) (λ call. ArePutOff c.args.level.now.scope.now.sig (map formula_of c.args.level.now.scope.now.bodies) (worked_in c.args.level.now.definitions.now) c.args.level.now.below c.args.table.now c.compile_tree.new.table c.args.env.now c.args.operator (formulas_of_trees c.args.trees.now) call) (λ call k. collects_waits c.args.level.now.scope.now.sig (map formula_of c.args.level.now.scope.now.bodies) c.args.level.now.below c.args.table.now loop.table c.args.env.now c.args.operator (formulas_of_trees c.args.trees.now) loop.args loop.lead (formula_of c.tree-item.result) more split (worked_in c.args.level.now.definitions.now) c.compile_tree.new.table call k) c.in_err-term.ensures.waits)
+    rw (p.1, p.2) (too_deep_by TermId (List TermId) _ (λ call. IsPutOff c.args.level.now.scope.now.sig (map formula_of c.args.level.now.scope.now.bodies) (worked_in c.args.level.now.definitions.now) c.args.level.now.below loop.table c.compile_tree.new.table c.args.env.now (formula_of c.tree-item.result) call) (λ call. ArePutOff c.args.level.now.scope.now.sig (map formula_of c.args.level.now.scope.now.bodies) (worked_in c.args.level.now.definitions.now) c.args.level.now.below c.args.table.now c.compile_tree.new.table c.args.env.now c.args.operator (formulas_of_trees c.args.trees.now) call) (λ call k. collects_waits c.args.level.now.scope.now.sig (map formula_of c.args.level.now.scope.now.bodies) c.args.level.now.below c.args.table.now loop.table c.args.env.now c.args.operator (formulas_of_trees c.args.trees.now) loop.args loop.lead (formula_of c.tree-item.result) more split (worked_in c.args.level.now.definitions.now) c.compile_tree.new.table call k) (rw loop.invariant.same at c.in_err-term.ensures.waits))
 
 pub compile_all-returns-in_err-term-clause-state : goal.compile_all-returns-in_err-term-clause-state
 compile_all-returns-in_err-term-clause-state t c =
@@ -102,49 +103,50 @@ pub compile_all-follow-requires : goal.compile_all-follow-requires
 compile_all-follow-requires t c =
     let loop = c.loop-rest in
     let more = formulas_of_trees (take (length loop.rest.now - 1) (drop 1 loop.rest.now)) in
-    let split = subst (λ (xs : List Tree). Collects c.args.level.now.scope.now.sig (map formula_of c.args.level.now.scope.now.bodies) c.args.level.now.below c.args.table.now loop.table c.args.env.now c.args.operator (formulas_of_trees c.args.trees.now) loop.args loop.lead (formulas_of_trees xs)) (rest_item loop.rest.now c.tree-item.result c.in-len1-up.len_at_least c.tree-item.is) loop.invariant.0 in
-    record { ready = collects_follows c.args.level.now.scope.now.sig (map formula_of c.args.level.now.scope.now.bodies) c.args.level.now.below c.args.table.now loop.table c.args.env.now c.args.operator (formulas_of_trees c.args.trees.now) loop.args loop.lead (formula_of c.tree-item.result) more split c.compile_tree.new.table c.in_ok-term.term c.in_ok-term.ensures.outcome }
+    let split = subst (λ (xs : List Tree). Collects c.args.level.now.scope.now.sig (map formula_of c.args.level.now.scope.now.bodies) c.args.level.now.below c.args.table.now loop.table c.args.env.now c.args.operator (formulas_of_trees c.args.trees.now) loop.args loop.lead (formulas_of_trees xs)) (rest_item loop.rest.now c.tree-item.result c.in-len1-up.len_at_least c.tree-item.is) loop.invariant.done in
+    record { ready = collects_follows c.args.level.now.scope.now.sig (map formula_of c.args.level.now.scope.now.bodies) c.args.level.now.below c.args.table.now loop.table c.args.env.now c.args.operator (formulas_of_trees c.args.trees.now) loop.args loop.lead (formula_of c.tree-item.result) more split c.compile_tree.new.table c.in_ok-term.term (rw loop.invariant.same at c.in_ok-term.ensures.outcome) }
 
 pub compile_all-returns-in_err-next-clause-outcome : goal.compile_all-returns-in_err-next-clause-outcome
 compile_all-returns-in_err-next-clause-outcome t c =
     let loop = c.loop-rest in
     let more = formulas_of_trees (take (length loop.rest.now - 1) (drop 1 loop.rest.now)) in
-    let split = subst (λ (xs : List Tree). Collects c.args.level.now.scope.now.sig (map formula_of c.args.level.now.scope.now.bodies) c.args.level.now.below c.args.table.now loop.table c.args.env.now c.args.operator (formulas_of_trees c.args.trees.now) loop.args loop.lead (formulas_of_trees xs)) (rest_item loop.rest.now c.tree-item.result c.in-len1-up.len_at_least c.tree-item.is) loop.invariant.0 in
+    let split = subst (λ (xs : List Tree). Collects c.args.level.now.scope.now.sig (map formula_of c.args.level.now.scope.now.bodies) c.args.level.now.below c.args.table.now loop.table c.args.env.now c.args.operator (formulas_of_trees c.args.trees.now) loop.args loop.lead (formulas_of_trees xs)) (rest_item loop.rest.now c.tree-item.result c.in-len1-up.len_at_least c.tree-item.is) loop.invariant.done in
     let is_end : c.is_empty.result ≡ false → 0 < count_of more = λ e. ends_short (take (length loop.rest.now - 1) (drop 1 loop.rest.now)) c.is_empty.result c.is_empty.ensures e in
     let is_last : c.is_empty.result ≡ true → count_of more ≡ 0 = λ e. ends_last (take (length loop.rest.now - 1) (drop 1 loop.rest.now)) c.is_empty.result c.is_empty.ensures e in
     let p = err_from_is_err_and c.from_residual-in_err-next.result c.from_residual-in_err-next.ensures.1 in
-    rw (p.1, p.2) (collects_broken c.args.level.now.scope.now.sig (map formula_of c.args.level.now.scope.now.bodies) c.args.level.now.below c.args.table.now loop.table c.args.env.now c.args.operator (formulas_of_trees c.args.trees.now) loop.args loop.lead (formula_of c.tree-item.result) more split c.compile_tree.new.table c.in_ok-term.term c.in_ok-term.ensures.outcome c.is_empty.result is_end is_last c.follow.new.table _ c.in_err-next.ensures.outcome _ refl)
+    rw (p.1, p.2) (collects_broken c.args.level.now.scope.now.sig (map formula_of c.args.level.now.scope.now.bodies) c.args.level.now.below c.args.table.now loop.table c.args.env.now c.args.operator (formulas_of_trees c.args.trees.now) loop.args loop.lead (formula_of c.tree-item.result) more split c.compile_tree.new.table c.in_ok-term.term (rw loop.invariant.same at c.in_ok-term.ensures.outcome) c.is_empty.result is_end is_last c.follow.new.table _ c.in_err-next.ensures.outcome _ refl)
 
 pub compile_all-returns-in_err-push-clause-outcome : goal.compile_all-returns-in_err-push-clause-outcome
 compile_all-returns-in_err-push-clause-outcome t c =
     let loop = c.loop-rest in
     let more = formulas_of_trees (take (length loop.rest.now - 1) (drop 1 loop.rest.now)) in
-    let split = subst (λ (xs : List Tree). Collects c.args.level.now.scope.now.sig (map formula_of c.args.level.now.scope.now.bodies) c.args.level.now.below c.args.table.now loop.table c.args.env.now c.args.operator (formulas_of_trees c.args.trees.now) loop.args loop.lead (formulas_of_trees xs)) (rest_item loop.rest.now c.tree-item.result c.in-len1-up.len_at_least c.tree-item.is) loop.invariant.0 in
+    let split = subst (λ (xs : List Tree). Collects c.args.level.now.scope.now.sig (map formula_of c.args.level.now.scope.now.bodies) c.args.level.now.below c.args.table.now loop.table c.args.env.now c.args.operator (formulas_of_trees c.args.trees.now) loop.args loop.lead (formulas_of_trees xs)) (rest_item loop.rest.now c.tree-item.result c.in-len1-up.len_at_least c.tree-item.is) loop.invariant.done in
     let is_end : c.is_empty.result ≡ false → 0 < count_of more = λ e. ends_short (take (length loop.rest.now - 1) (drop 1 loop.rest.now)) c.is_empty.result c.is_empty.ensures e in
     let is_last : c.is_empty.result ≡ true → count_of more ≡ 0 = λ e. ends_last (take (length loop.rest.now - 1) (drop 1 loop.rest.now)) c.is_empty.result c.is_empty.ensures e in
     let p = err_from_is_err_and c.from_residual-in_err-push.result c.from_residual-in_err-push.ensures.1 in
-    let next = collects_more c.args.level.now.scope.now.sig (map formula_of c.args.level.now.scope.now.bodies) c.args.level.now.below c.args.table.now loop.table c.args.env.now c.args.operator (formulas_of_trees c.args.trees.now) loop.args loop.lead (formula_of c.tree-item.result) more split c.compile_tree.new.table c.in_ok-term.term c.in_ok-term.ensures.outcome c.is_empty.result is_end is_last c.follow.new.table _ c.in_ok-next.ensures.outcome c.in_ok-next.next refl in
+    let next = collects_more c.args.level.now.scope.now.sig (map formula_of c.args.level.now.scope.now.bodies) c.args.level.now.below c.args.table.now loop.table c.args.env.now c.args.operator (formulas_of_trees c.args.trees.now) loop.args loop.lead (formula_of c.tree-item.result) more split c.compile_tree.new.table c.in_ok-term.term (rw loop.invariant.same at c.in_ok-term.ensures.outcome) c.is_empty.result is_end is_last c.follow.new.table _ c.in_ok-next.ensures.outcome c.in_ok-next.next refl in
     rw (p.1, p.2) (collects_out c.args.level.now.scope.now.sig (map formula_of c.args.level.now.scope.now.bodies) c.args.level.now.below c.args.table.now c.follow.new.table c.args.env.now c.args.operator (formulas_of_trees c.args.trees.now) _ _ more next NoMemory refl)
 
 pub compile_all-loop-rest-preserved : goal.compile_all-loop-rest-preserved
 compile_all-loop-rest-preserved t c =
     let loop = c.loop-rest in
     let more = formulas_of_trees (take (length loop.rest.now - 1) (drop 1 loop.rest.now)) in
-    let split = subst (λ (xs : List Tree). Collects c.args.level.now.scope.now.sig (map formula_of c.args.level.now.scope.now.bodies) c.args.level.now.below c.args.table.now loop.table c.args.env.now c.args.operator (formulas_of_trees c.args.trees.now) loop.args loop.lead (formulas_of_trees xs)) (rest_item loop.rest.now c.tree-item.result c.in-len1-up.len_at_least c.tree-item.is) loop.invariant.0 in
+    let split = subst (λ (xs : List Tree). Collects c.args.level.now.scope.now.sig (map formula_of c.args.level.now.scope.now.bodies) c.args.level.now.below c.args.table.now loop.table c.args.env.now c.args.operator (formulas_of_trees c.args.trees.now) loop.args loop.lead (formulas_of_trees xs)) (rest_item loop.rest.now c.tree-item.result c.in-len1-up.len_at_least c.tree-item.is) loop.invariant.done in
     let is_end : c.is_empty.result ≡ false → 0 < count_of more = λ e. ends_short (take (length loop.rest.now - 1) (drop 1 loop.rest.now)) c.is_empty.result c.is_empty.ensures e in
     let is_last : c.is_empty.result ≡ true → count_of more ≡ 0 = λ e. ends_last (take (length loop.rest.now - 1) (drop 1 loop.rest.now)) c.is_empty.result c.is_empty.ensures e in
-    let next = collects_more c.args.level.now.scope.now.sig (map formula_of c.args.level.now.scope.now.bodies) c.args.level.now.below c.args.table.now loop.table c.args.env.now c.args.operator (formulas_of_trees c.args.trees.now) loop.args loop.lead (formula_of c.tree-item.result) more split c.compile_tree.new.table c.in_ok-term.term c.in_ok-term.ensures.outcome c.is_empty.result is_end is_last c.follow.new.table _ c.in_ok-next.ensures.outcome c.in_ok-next.next refl in
-    let g = collects_grown c.args.level.now.scope.now.sig (map formula_of c.args.level.now.scope.now.bodies) c.args.level.now.below c.args.table.now loop.table c.args.env.now c.args.operator (formulas_of_trees c.args.trees.now) loop.args loop.lead (formula_of c.tree-item.result) more split c.compile_tree.new.table c.in_ok-term.term c.in_ok-term.ensures.outcome c.is_empty.result is_end is_last c.follow.new.table _ c.in_ok-next.ensures.outcome in (
-      subst (λ (args : List TermId). Collects c.args.level.now.scope.now.sig (map formula_of c.args.level.now.scope.now.bodies) c.args.level.now.below c.args.table.now c.follow.new.table c.args.env.now c.args.operator (formulas_of_trees c.args.trees.now) args (Some c.in_ok-next.next) more) (sym c.in_ok-push.ensures.ok) next,
-      state_stays c.args.level.now.scope.now.sig (map formula_of c.args.level.now.scope.now.bodies) (worked_in c.args.level.now.definitions.now) c.args.level.now.below c.compile_tree.new.table c.follow.new.table c.compile_tree.new.known g.0 g.1 c.in_ok-term.ensures.state,
-      subst (AreNoted c.args.level.now.scope.now.sig (worked_in c.args.level.now.definitions.now) (uses_below c.args.level.now.scope.now.sig (map formula_of c.args.level.now.scope.now.bodies) c.args.level.now.below) more) (sym c.later_notes-left.ensures.value) (subst (λ (xs : List Tree). AreNoted c.args.level.now.scope.now.sig (worked_in c.args.level.now.definitions.now) (uses_below c.args.level.now.scope.now.sig (map formula_of c.args.level.now.scope.now.bodies) c.args.level.now.below) (formulas_of_trees xs) loop.left.now) (rest_item loop.rest.now c.tree-item.result c.in-len1-up.len_at_least c.tree-item.is) loop.invariant.2).1,
-    )
+    let next = collects_more c.args.level.now.scope.now.sig (map formula_of c.args.level.now.scope.now.bodies) c.args.level.now.below c.args.table.now loop.table c.args.env.now c.args.operator (formulas_of_trees c.args.trees.now) loop.args loop.lead (formula_of c.tree-item.result) more split c.compile_tree.new.table c.in_ok-term.term (rw loop.invariant.same at c.in_ok-term.ensures.outcome) c.is_empty.result is_end is_last c.follow.new.table _ c.in_ok-next.ensures.outcome c.in_ok-next.next refl in
+    let g = collects_grown c.args.level.now.scope.now.sig (map formula_of c.args.level.now.scope.now.bodies) c.args.level.now.below c.args.table.now loop.table c.args.env.now c.args.operator (formulas_of_trees c.args.trees.now) loop.args loop.lead (formula_of c.tree-item.result) more split c.compile_tree.new.table c.in_ok-term.term (rw loop.invariant.same at c.in_ok-term.ensures.outcome) c.is_empty.result is_end is_last c.follow.new.table _ c.in_ok-next.ensures.outcome in record {
+      done = subst (λ (args : List TermId). Collects c.args.level.now.scope.now.sig (map formula_of c.args.level.now.scope.now.bodies) c.args.level.now.below c.args.table.now c.follow.new.table c.args.env.now c.args.operator (formulas_of_trees c.args.trees.now) args (Some c.in_ok-next.next) more) (sym c.in_ok-push.ensures.ok) next;
+      state = state_stays c.args.level.now.scope.now.sig (map formula_of c.args.level.now.scope.now.bodies) (worked_in c.args.level.now.definitions.now) c.args.level.now.below c.compile_tree.new.table c.follow.new.table c.compile_tree.new.known g.0 g.1 c.in_ok-term.ensures.state;
+      noted = subst (AreNoted c.args.level.now.scope.now.sig (worked_in c.args.level.now.definitions.now) (uses_below c.args.level.now.scope.now.sig (map formula_of c.args.level.now.scope.now.bodies) c.args.level.now.below) more) (sym c.later_notes-left.ensures.value) (subst (λ (xs : List Tree). AreNoted c.args.level.now.scope.now.sig (worked_in c.args.level.now.definitions.now) (uses_below c.args.level.now.scope.now.sig (map formula_of c.args.level.now.scope.now.bodies) c.args.level.now.below) (formulas_of_trees xs) loop.left.now) (rest_item loop.rest.now c.tree-item.result c.in-len1-up.len_at_least c.tree-item.is) loop.invariant.noted).1;
+      same = c.in_ok-term.ensures.back ∙ loop.invariant.same;
+    }
 
 pub compile_all-returns-clause-outcome : goal.compile_all-returns-clause-outcome
 compile_all-returns-clause-outcome t c =
     let loop = c.loop-rest in
     let none : loop.rest.now ≡ [] = nothing_left loop.rest.now (omega (arith, c.in_default.len_below)) in
-    let h = subst (λ (xs : List Tree). Collects c.args.level.now.scope.now.sig (map formula_of c.args.level.now.scope.now.bodies) c.args.level.now.below c.args.table.now loop.table c.args.env.now c.args.operator (formulas_of_trees c.args.trees.now) loop.args loop.lead (formulas_of_trees xs)) none loop.invariant.0 in
+    let h = subst (λ (xs : List Tree). Collects c.args.level.now.scope.now.sig (map formula_of c.args.level.now.scope.now.bodies) c.args.level.now.below c.args.table.now loop.table c.args.env.now c.args.operator (formulas_of_trees c.args.trees.now) loop.args loop.lead (formulas_of_trees xs)) none loop.invariant.done in
     collects_end c.args.level.now.scope.now.sig (map formula_of c.args.level.now.scope.now.bodies) c.args.level.now.below c.args.table.now loop.table c.args.env.now c.args.operator (formulas_of_trees c.args.trees.now) loop.args loop.lead h
 
 pub compile_plain-compile_all-requires : goal.compile_plain-compile_all-requires
@@ -222,17 +224,17 @@ compile_choice-returns-in_err-c-clause-unknown t c =
 
 pub compile_choice-compile_tree-requires-2 : goal.compile_choice-compile_tree-requires-2
 compile_choice-compile_tree-requires-2 t c =
-    (omega (arith, c.decreases), (c.in_ok-c.ensures.state, (choice_then c.args.level.now.scope.now.sig (map formula_of c.args.level.now.scope.now.bodies) c.args.level.now.below c.args.env.now (formula_of c.args.condition.now) (formula_of c.args.first.now) (formula_of c.args.second.now) c.args.table.now c.compile_tree.new.table c.in_ok-c.c c.in_ok-c.ensures.outcome c.requires.ready, (c.requires.noted.0, then_notes c.args.level.now.scope.now.sig (worked_in c.args.level.now.definitions.now) (uses_below c.args.level.now.scope.now.sig (map formula_of c.args.level.now.scope.now.bodies) c.args.level.now.below) c.args.notes.now c.first_note-note.result.now c.first_note-note.ensures.value (formula_of c.args.condition.now) (formula_of c.args.first.now) (formula_of c.args.second.now) c.under-of_condition.result.now c.later_notes-of_first.result.now c.under-of_condition.ensures.value c.later_notes-of_first.ensures.value c.requires.noted.1))))
+    (omega (arith, c.decreases), (c.in_ok-c.ensures.state, (rw c.in_ok-c.ensures.back (choice_then c.args.level.now.scope.now.sig (map formula_of c.args.level.now.scope.now.bodies) c.args.level.now.below c.args.env.now (formula_of c.args.condition.now) (formula_of c.args.first.now) (formula_of c.args.second.now) c.args.table.now c.compile_tree.new.table c.in_ok-c.c c.in_ok-c.ensures.outcome c.requires.ready), (c.requires.noted.0, then_notes c.args.level.now.scope.now.sig (worked_in c.args.level.now.definitions.now) (uses_below c.args.level.now.scope.now.sig (map formula_of c.args.level.now.scope.now.bodies) c.args.level.now.below) c.args.notes.now c.first_note-note.result.now c.first_note-note.ensures.value (formula_of c.args.condition.now) (formula_of c.args.first.now) (formula_of c.args.second.now) c.under-of_condition.result.now c.later_notes-of_first.result.now c.under-of_condition.ensures.value c.later_notes-of_first.ensures.value c.requires.noted.1))))
 
 pub compile_choice-returns-in_err-a-clause-outcome : goal.compile_choice-returns-in_err-a-clause-outcome
 compile_choice-returns-in_err-a-clause-outcome t c =
     let p = err_from_is_err_and c.from_residual-in_err-a.result c.from_residual-in_err-a.ensures.1 in
-    rw (p.1, p.2) (ended_by _ (λ (r : Result TermId TermError). Compiles c.args.level.now.scope.now.sig (map formula_of c.args.level.now.scope.now.bodies) c.args.level.now.below c.compile_tree.new.table c.compile_tree-2.new.table c.args.env.now (formula_of c.args.first.now) r) (λ (r : Result TermId TermError). Compiles c.args.level.now.scope.now.sig (map formula_of c.args.level.now.scope.now.bodies) c.args.level.now.below c.args.table.now c.compile_tree-2.new.table c.args.env.now (Ite (formula_of c.args.condition.now) (formula_of c.args.first.now) (formula_of c.args.second.now)) r) (λ e k. choice_failed_2 c.args.level.now.scope.now.sig (map formula_of c.args.level.now.scope.now.bodies) c.args.level.now.below c.args.env.now (formula_of c.args.condition.now) (formula_of c.args.first.now) (formula_of c.args.second.now) c.args.table.now c.compile_tree.new.table c.in_ok-c.c c.in_ok-c.ensures.outcome c.compile_tree-2.new.table e k) c.in_err-a.ensures.outcome)
+    rw (p.1, p.2) (ended_by _ (λ (r : Result TermId TermError). Compiles c.args.level.now.scope.now.sig (map formula_of c.args.level.now.scope.now.bodies) c.args.level.now.below c.compile_tree.new.table c.compile_tree-2.new.table c.args.env.now (formula_of c.args.first.now) r) (λ (r : Result TermId TermError). Compiles c.args.level.now.scope.now.sig (map formula_of c.args.level.now.scope.now.bodies) c.args.level.now.below c.args.table.now c.compile_tree-2.new.table c.args.env.now (Ite (formula_of c.args.condition.now) (formula_of c.args.first.now) (formula_of c.args.second.now)) r) (λ e k. choice_failed_2 c.args.level.now.scope.now.sig (map formula_of c.args.level.now.scope.now.bodies) c.args.level.now.below c.args.env.now (formula_of c.args.condition.now) (formula_of c.args.first.now) (formula_of c.args.second.now) c.args.table.now c.compile_tree.new.table c.in_ok-c.c c.in_ok-c.ensures.outcome c.compile_tree-2.new.table e k) (rw c.in_ok-c.ensures.back at c.in_err-a.ensures.outcome))
 
 pub compile_choice-returns-in_err-a-clause-waits : goal.compile_choice-returns-in_err-a-clause-waits
 compile_choice-returns-in_err-a-clause-waits t c =
     let p = err_from_is_err_and c.from_residual-in_err-a.result c.from_residual-in_err-a.ensures.1 in
-    rw (p.1, p.2) (too_deep_by TermId TermId _ (λ call. IsPutOff c.args.level.now.scope.now.sig (map formula_of c.args.level.now.scope.now.bodies) (worked_in c.args.level.now.definitions.now) c.args.level.now.below c.compile_tree.new.table c.compile_tree-2.new.table c.args.env.now (formula_of c.args.first.now) call) (λ call. IsPutOff c.args.level.now.scope.now.sig (map formula_of c.args.level.now.scope.now.bodies) (worked_in c.args.level.now.definitions.now) c.args.level.now.below c.args.table.now c.compile_tree-2.new.table c.args.env.now (Ite (formula_of c.args.condition.now) (formula_of c.args.first.now) (formula_of c.args.second.now)) call) (λ call k. choice_waits_2 c.args.level.now.scope.now.sig (map formula_of c.args.level.now.scope.now.bodies) c.args.level.now.below c.args.env.now (formula_of c.args.condition.now) (formula_of c.args.first.now) (formula_of c.args.second.now) c.args.table.now c.compile_tree.new.table c.in_ok-c.c c.in_ok-c.ensures.outcome (worked_in c.args.level.now.definitions.now) c.compile_tree-2.new.table call k) c.in_err-a.ensures.waits)
+    rw (p.1, p.2) (too_deep_by TermId TermId _ (λ call. IsPutOff c.args.level.now.scope.now.sig (map formula_of c.args.level.now.scope.now.bodies) (worked_in c.args.level.now.definitions.now) c.args.level.now.below c.compile_tree.new.table c.compile_tree-2.new.table c.args.env.now (formula_of c.args.first.now) call) (λ call. IsPutOff c.args.level.now.scope.now.sig (map formula_of c.args.level.now.scope.now.bodies) (worked_in c.args.level.now.definitions.now) c.args.level.now.below c.args.table.now c.compile_tree-2.new.table c.args.env.now (Ite (formula_of c.args.condition.now) (formula_of c.args.first.now) (formula_of c.args.second.now)) call) (λ call k. choice_waits_2 c.args.level.now.scope.now.sig (map formula_of c.args.level.now.scope.now.bodies) c.args.level.now.below c.args.env.now (formula_of c.args.condition.now) (formula_of c.args.first.now) (formula_of c.args.second.now) c.args.table.now c.compile_tree.new.table c.in_ok-c.c c.in_ok-c.ensures.outcome (worked_in c.args.level.now.definitions.now) c.compile_tree-2.new.table call k) (rw c.in_ok-c.ensures.back at c.in_err-a.ensures.waits))
 
 pub compile_choice-returns-in_err-a-clause-state : goal.compile_choice-returns-in_err-a-clause-state
 compile_choice-returns-in_err-a-clause-state t c =
@@ -246,17 +248,17 @@ compile_choice-returns-in_err-a-clause-unknown t c =
 
 pub compile_choice-compile_tree-requires-3 : goal.compile_choice-compile_tree-requires-3
 compile_choice-compile_tree-requires-3 t c =
-    (omega (arith, c.decreases), (c.in_ok-a.ensures.state, (choice_else c.args.level.now.scope.now.sig (map formula_of c.args.level.now.scope.now.bodies) c.args.level.now.below c.args.env.now (formula_of c.args.condition.now) (formula_of c.args.first.now) (formula_of c.args.second.now) c.args.table.now c.compile_tree.new.table c.in_ok-c.c c.in_ok-c.ensures.outcome c.compile_tree-2.new.table c.in_ok-a.a c.in_ok-a.ensures.outcome c.requires.ready, (c.requires.noted.0, else_notes c.args.level.now.scope.now.sig (worked_in c.args.level.now.definitions.now) (uses_below c.args.level.now.scope.now.sig (map formula_of c.args.level.now.scope.now.bodies) c.args.level.now.below) c.args.notes.now c.first_note-note.result.now c.first_note-note.ensures.value (formula_of c.args.condition.now) (formula_of c.args.first.now) (formula_of c.args.second.now) c.under-of_condition.result.now c.later_notes-of_first.result.now c.later_notes-of_second.result.now c.under-of_condition.ensures.value c.later_notes-of_first.ensures.value c.later_notes-of_second.ensures.value c.requires.noted.1))))
+    (omega (arith, c.decreases), (c.in_ok-a.ensures.state, (rw (c.in_ok-a.ensures.back, c.in_ok-c.ensures.back) (choice_else c.args.level.now.scope.now.sig (map formula_of c.args.level.now.scope.now.bodies) c.args.level.now.below c.args.env.now (formula_of c.args.condition.now) (formula_of c.args.first.now) (formula_of c.args.second.now) c.args.table.now c.compile_tree.new.table c.in_ok-c.c c.in_ok-c.ensures.outcome c.compile_tree-2.new.table c.in_ok-a.a (rw c.in_ok-c.ensures.back at c.in_ok-a.ensures.outcome) c.requires.ready), (c.requires.noted.0, else_notes c.args.level.now.scope.now.sig (worked_in c.args.level.now.definitions.now) (uses_below c.args.level.now.scope.now.sig (map formula_of c.args.level.now.scope.now.bodies) c.args.level.now.below) c.args.notes.now c.first_note-note.result.now c.first_note-note.ensures.value (formula_of c.args.condition.now) (formula_of c.args.first.now) (formula_of c.args.second.now) c.under-of_condition.result.now c.later_notes-of_first.result.now c.later_notes-of_second.result.now c.under-of_condition.ensures.value c.later_notes-of_first.ensures.value c.later_notes-of_second.ensures.value c.requires.noted.1))))
 
 pub compile_choice-returns-in_err-b-clause-outcome : goal.compile_choice-returns-in_err-b-clause-outcome
 compile_choice-returns-in_err-b-clause-outcome t c =
     let p = err_from_is_err_and c.from_residual-in_err-b.result c.from_residual-in_err-b.ensures.1 in
-    rw (p.1, p.2) (ended_by _ (λ (r : Result TermId TermError). Compiles c.args.level.now.scope.now.sig (map formula_of c.args.level.now.scope.now.bodies) c.args.level.now.below c.compile_tree-2.new.table c.compile_tree-3.new.table c.args.env.now (formula_of c.args.second.now) r) (λ (r : Result TermId TermError). Compiles c.args.level.now.scope.now.sig (map formula_of c.args.level.now.scope.now.bodies) c.args.level.now.below c.args.table.now c.compile_tree-3.new.table c.args.env.now (Ite (formula_of c.args.condition.now) (formula_of c.args.first.now) (formula_of c.args.second.now)) r) (λ e k. choice_failed_3 c.args.level.now.scope.now.sig (map formula_of c.args.level.now.scope.now.bodies) c.args.level.now.below c.args.env.now (formula_of c.args.condition.now) (formula_of c.args.first.now) (formula_of c.args.second.now) c.args.table.now c.compile_tree.new.table c.in_ok-c.c c.in_ok-c.ensures.outcome c.compile_tree-2.new.table c.in_ok-a.a c.in_ok-a.ensures.outcome c.compile_tree-3.new.table e k) c.in_err-b.ensures.outcome)
+    rw (p.1, p.2) (ended_by _ (λ (r : Result TermId TermError). Compiles c.args.level.now.scope.now.sig (map formula_of c.args.level.now.scope.now.bodies) c.args.level.now.below c.compile_tree-2.new.table c.compile_tree-3.new.table c.args.env.now (formula_of c.args.second.now) r) (λ (r : Result TermId TermError). Compiles c.args.level.now.scope.now.sig (map formula_of c.args.level.now.scope.now.bodies) c.args.level.now.below c.args.table.now c.compile_tree-3.new.table c.args.env.now (Ite (formula_of c.args.condition.now) (formula_of c.args.first.now) (formula_of c.args.second.now)) r) (λ e k. choice_failed_3 c.args.level.now.scope.now.sig (map formula_of c.args.level.now.scope.now.bodies) c.args.level.now.below c.args.env.now (formula_of c.args.condition.now) (formula_of c.args.first.now) (formula_of c.args.second.now) c.args.table.now c.compile_tree.new.table c.in_ok-c.c c.in_ok-c.ensures.outcome c.compile_tree-2.new.table c.in_ok-a.a (rw c.in_ok-c.ensures.back at c.in_ok-a.ensures.outcome) c.compile_tree-3.new.table e k) (rw (c.in_ok-a.ensures.back, c.in_ok-c.ensures.back) at c.in_err-b.ensures.outcome))
 
 pub compile_choice-returns-in_err-b-clause-waits : goal.compile_choice-returns-in_err-b-clause-waits
 compile_choice-returns-in_err-b-clause-waits t c =
     let p = err_from_is_err_and c.from_residual-in_err-b.result c.from_residual-in_err-b.ensures.1 in
-    rw (p.1, p.2) (too_deep_by TermId TermId _ (λ call. IsPutOff c.args.level.now.scope.now.sig (map formula_of c.args.level.now.scope.now.bodies) (worked_in c.args.level.now.definitions.now) c.args.level.now.below c.compile_tree-2.new.table c.compile_tree-3.new.table c.args.env.now (formula_of c.args.second.now) call) (λ call. IsPutOff c.args.level.now.scope.now.sig (map formula_of c.args.level.now.scope.now.bodies) (worked_in c.args.level.now.definitions.now) c.args.level.now.below c.args.table.now c.compile_tree-3.new.table c.args.env.now (Ite (formula_of c.args.condition.now) (formula_of c.args.first.now) (formula_of c.args.second.now)) call) (λ call k. choice_waits_3 c.args.level.now.scope.now.sig (map formula_of c.args.level.now.scope.now.bodies) c.args.level.now.below c.args.env.now (formula_of c.args.condition.now) (formula_of c.args.first.now) (formula_of c.args.second.now) c.args.table.now c.compile_tree.new.table c.in_ok-c.c c.in_ok-c.ensures.outcome c.compile_tree-2.new.table c.in_ok-a.a c.in_ok-a.ensures.outcome (worked_in c.args.level.now.definitions.now) c.compile_tree-3.new.table call k) c.in_err-b.ensures.waits)
+    rw (p.1, p.2) (too_deep_by TermId TermId _ (λ call. IsPutOff c.args.level.now.scope.now.sig (map formula_of c.args.level.now.scope.now.bodies) (worked_in c.args.level.now.definitions.now) c.args.level.now.below c.compile_tree-2.new.table c.compile_tree-3.new.table c.args.env.now (formula_of c.args.second.now) call) (λ call. IsPutOff c.args.level.now.scope.now.sig (map formula_of c.args.level.now.scope.now.bodies) (worked_in c.args.level.now.definitions.now) c.args.level.now.below c.args.table.now c.compile_tree-3.new.table c.args.env.now (Ite (formula_of c.args.condition.now) (formula_of c.args.first.now) (formula_of c.args.second.now)) call) (λ call k. choice_waits_3 c.args.level.now.scope.now.sig (map formula_of c.args.level.now.scope.now.bodies) c.args.level.now.below c.args.env.now (formula_of c.args.condition.now) (formula_of c.args.first.now) (formula_of c.args.second.now) c.args.table.now c.compile_tree.new.table c.in_ok-c.c c.in_ok-c.ensures.outcome c.compile_tree-2.new.table c.in_ok-a.a (rw c.in_ok-c.ensures.back at c.in_ok-a.ensures.outcome) (worked_in c.args.level.now.definitions.now) c.compile_tree-3.new.table call k) (rw (c.in_ok-a.ensures.back, c.in_ok-c.ensures.back) at c.in_err-b.ensures.waits))
 
 pub compile_choice-returns-in_err-b-clause-state : goal.compile_choice-returns-in_err-b-clause-state
 compile_choice-returns-in_err-b-clause-state t c =
@@ -270,24 +272,24 @@ compile_choice-returns-in_err-b-clause-unknown t c =
 
 pub compile_choice-make-requires-clause-kept : goal.compile_choice-make-requires-clause-kept
 compile_choice-make-requires-clause-kept t c =
-    choice_kept c.args.level.now.scope.now.sig (map formula_of c.args.level.now.scope.now.bodies) c.args.level.now.below c.args.env.now (formula_of c.args.condition.now) (formula_of c.args.first.now) (formula_of c.args.second.now) c.args.table.now c.compile_tree.new.table c.in_ok-c.c c.in_ok-c.ensures.outcome c.compile_tree-2.new.table c.in_ok-a.a c.in_ok-a.ensures.outcome c.compile_tree-3.new.table c.in_ok-b.b c.in_ok-b.ensures.outcome c.requires.ready
+    choice_kept c.args.level.now.scope.now.sig (map formula_of c.args.level.now.scope.now.bodies) c.args.level.now.below c.args.env.now (formula_of c.args.condition.now) (formula_of c.args.first.now) (formula_of c.args.second.now) c.args.table.now c.compile_tree.new.table c.in_ok-c.c c.in_ok-c.ensures.outcome c.compile_tree-2.new.table c.in_ok-a.a (rw c.in_ok-c.ensures.back at c.in_ok-a.ensures.outcome) c.compile_tree-3.new.table c.in_ok-b.b (rw (c.in_ok-a.ensures.back, c.in_ok-c.ensures.back) at c.in_ok-b.ensures.outcome) c.requires.ready
 
 pub compile_choice-make-requires-clause-below : goal.compile_choice-make-requires-clause-below
 compile_choice-make-requires-clause-below t c =
-    choice_below c.args.level.now.scope.now.sig (map formula_of c.args.level.now.scope.now.bodies) c.args.level.now.below c.args.env.now (formula_of c.args.condition.now) (formula_of c.args.first.now) (formula_of c.args.second.now) c.args.table.now c.compile_tree.new.table c.in_ok-c.c c.in_ok-c.ensures.outcome c.compile_tree-2.new.table c.in_ok-a.a c.in_ok-a.ensures.outcome c.compile_tree-3.new.table c.in_ok-b.b c.in_ok-b.ensures.outcome c.requires.ready
+    choice_below c.args.level.now.scope.now.sig (map formula_of c.args.level.now.scope.now.bodies) c.args.level.now.below c.args.env.now (formula_of c.args.condition.now) (formula_of c.args.first.now) (formula_of c.args.second.now) c.args.table.now c.compile_tree.new.table c.in_ok-c.c c.in_ok-c.ensures.outcome c.compile_tree-2.new.table c.in_ok-a.a (rw c.in_ok-c.ensures.back at c.in_ok-a.ensures.outcome) c.compile_tree-3.new.table c.in_ok-b.b (rw (c.in_ok-a.ensures.back, c.in_ok-c.ensures.back) at c.in_ok-b.ensures.outcome) c.requires.ready
 
 pub compile_choice-make-requires-clause-sorted : goal.compile_choice-make-requires-clause-sorted
 compile_choice-make-requires-clause-sorted t c =
-    choice_sorted c.args.level.now.scope.now.sig (map formula_of c.args.level.now.scope.now.bodies) c.args.level.now.below c.args.env.now (formula_of c.args.condition.now) (formula_of c.args.first.now) (formula_of c.args.second.now) c.args.table.now c.compile_tree.new.table c.in_ok-c.c c.in_ok-c.ensures.outcome c.compile_tree-2.new.table c.in_ok-a.a c.in_ok-a.ensures.outcome c.compile_tree-3.new.table c.in_ok-b.b c.in_ok-b.ensures.outcome c.requires.ready
+    choice_sorted c.args.level.now.scope.now.sig (map formula_of c.args.level.now.scope.now.bodies) c.args.level.now.below c.args.env.now (formula_of c.args.condition.now) (formula_of c.args.first.now) (formula_of c.args.second.now) c.args.table.now c.compile_tree.new.table c.in_ok-c.c c.in_ok-c.ensures.outcome c.compile_tree-2.new.table c.in_ok-a.a (rw c.in_ok-c.ensures.back at c.in_ok-a.ensures.outcome) c.compile_tree-3.new.table c.in_ok-b.b (rw (c.in_ok-a.ensures.back, c.in_ok-c.ensures.back) at c.in_ok-b.ensures.outcome) c.requires.ready
 
 pub compile_choice-returns-in_err-make-clause-outcome : goal.compile_choice-returns-in_err-make-clause-outcome
 compile_choice-returns-in_err-make-clause-outcome t c =
     let p = err_from_is_err_and c.from_residual-in_err-make.result c.from_residual-in_err-make.ensures.1 in
-    rw (p.1, p.2) (choice_made c.args.level.now.scope.now.sig (map formula_of c.args.level.now.scope.now.bodies) c.args.level.now.below c.args.env.now (formula_of c.args.condition.now) (formula_of c.args.first.now) (formula_of c.args.second.now) c.args.table.now c.compile_tree.new.table c.in_ok-c.c c.in_ok-c.ensures.outcome c.compile_tree-2.new.table c.in_ok-a.a c.in_ok-a.ensures.outcome c.compile_tree-3.new.table c.in_ok-b.b c.in_ok-b.ensures.outcome c.make.new.table _ c.in_err-make.ensures.core c.in_err-make.ensures.effect)
+    rw (p.1, p.2) (choice_made c.args.level.now.scope.now.sig (map formula_of c.args.level.now.scope.now.bodies) c.args.level.now.below c.args.env.now (formula_of c.args.condition.now) (formula_of c.args.first.now) (formula_of c.args.second.now) c.args.table.now c.compile_tree.new.table c.in_ok-c.c c.in_ok-c.ensures.outcome c.compile_tree-2.new.table c.in_ok-a.a (rw c.in_ok-c.ensures.back at c.in_ok-a.ensures.outcome) c.compile_tree-3.new.table c.in_ok-b.b (rw (c.in_ok-a.ensures.back, c.in_ok-c.ensures.back) at c.in_ok-b.ensures.outcome) c.make.new.table _ c.in_err-make.ensures.core c.in_err-make.ensures.effect)
 
 pub compile_choice-returns-clause-outcome : goal.compile_choice-returns-clause-outcome
 compile_choice-returns-clause-outcome t c =
-    choice_made c.args.level.now.scope.now.sig (map formula_of c.args.level.now.scope.now.bodies) c.args.level.now.below c.args.env.now (formula_of c.args.condition.now) (formula_of c.args.first.now) (formula_of c.args.second.now) c.args.table.now c.compile_tree.new.table c.in_ok-c.c c.in_ok-c.ensures.outcome c.compile_tree-2.new.table c.in_ok-a.a c.in_ok-a.ensures.outcome c.compile_tree-3.new.table c.in_ok-b.b c.in_ok-b.ensures.outcome c.make.new.table _ c.in_ok-make.ensures.core c.in_ok-make.ensures.effect
+    choice_made c.args.level.now.scope.now.sig (map formula_of c.args.level.now.scope.now.bodies) c.args.level.now.below c.args.env.now (formula_of c.args.condition.now) (formula_of c.args.first.now) (formula_of c.args.second.now) c.args.table.now c.compile_tree.new.table c.in_ok-c.c c.in_ok-c.ensures.outcome c.compile_tree-2.new.table c.in_ok-a.a (rw c.in_ok-c.ensures.back at c.in_ok-a.ensures.outcome) c.compile_tree-3.new.table c.in_ok-b.b (rw (c.in_ok-a.ensures.back, c.in_ok-c.ensures.back) at c.in_ok-b.ensures.outcome) c.make.new.table _ c.in_ok-make.ensures.core c.in_ok-make.ensures.effect
 
 pub compile_choice-returns-clause-state : goal.compile_choice-returns-clause-state
 compile_choice-returns-clause-state t c =
@@ -325,29 +327,35 @@ compile_let-returns-in_err-bounds-clause-unknown t c =
     let p = err_from_is_err_and c.from_residual.result c.from_residual.ensures.1 in
     rw (p.1, p.2) (too_deep_by (List Bound) TermId _ (λ call. IsUnknown c.compile_bound.new.known call) (λ call. IsUnknown c.compile_bound.new.known call) (λ call h. h) c.in_err-bounds.ensures.unknown)
 
-pub compile_let-returns-in_err-inner-clause-outcome : goal.compile_let-returns-in_err-inner-clause-outcome
-compile_let-returns-in_err-inner-clause-outcome t c =
+pub compile_let-returns-in_err-bind-clause-outcome : goal.compile_let-returns-in_err-bind-clause-outcome
+compile_let-returns-in_err-bind-clause-outcome t c =
     let flags_are : c.bound-flags.result.now ≡ listed (occurs c.args.level.now.scope.now.sig (uses_below c.args.level.now.scope.now.sig (map formula_of c.args.level.now.scope.now.bodies) c.args.level.now.below) (formula_of c.args.body.now)) (count_of (formulas_of_trees c.args.trees.now)) = let_flags c.args.level.now.scope.now.sig (worked_in c.args.level.now.definitions.now) (uses_below c.args.level.now.scope.now.sig (map formula_of c.args.level.now.scope.now.bodies) c.args.level.now.below) c.args.notes.now c.first_note-note.result.now c.first_note-note.ensures.value (formulas_of_trees c.args.trees.now) (formula_of c.args.body.now) c.bound-flags.result.now c.bound-flags.ensures.value c.requires.noted.1 in
-    let p = err_from_is_err_and c.from_residual-in_err-inner.result c.from_residual-in_err-inner.ensures.1 in
+    let p = err_from_is_err_and c.from_residual-in_err-bind.result c.from_residual-in_err-bind.ensures.1 in
     rw (p.1, p.2) (under_out c.args.level.now.scope.now.sig (map formula_of c.args.level.now.scope.now.bodies) c.args.level.now.below c.args.level.now.below c.args.table.now c.args.env.now c.args.env.now c.bound-flags.result.now (Let (formulas_of_trees c.args.trees.now) (formula_of c.args.body.now)) (formulas_of_trees c.args.trees.now) (formula_of c.args.body.now) (let_view c.args.level.now.scope.now.sig (map formula_of c.args.level.now.scope.now.bodies) c.args.level.now.below c.args.table.now c.args.env.now c.bound-flags.result.now (formulas_of_trees c.args.trees.now) (formula_of c.args.body.now) flags_are) c.compile_bound.new.table c.in_ok-bounds.bounds c.in_ok-bounds.ensures.outcome NoMemory refl)
 
-pub compile_let-compile_tree-requires : goal.compile_let-compile_tree-requires
-compile_let-compile_tree-requires t c =
+pub compile_let-compile_tree-result-requires : goal.compile_let-compile_tree-result-requires
+compile_let-compile_tree-result-requires t c =
     let flags_are : c.bound-flags.result.now ≡ listed (occurs c.args.level.now.scope.now.sig (uses_below c.args.level.now.scope.now.sig (map formula_of c.args.level.now.scope.now.bodies) c.args.level.now.below) (formula_of c.args.body.now)) (count_of (formulas_of_trees c.args.trees.now)) = let_flags c.args.level.now.scope.now.sig (worked_in c.args.level.now.definitions.now) (uses_below c.args.level.now.scope.now.sig (map formula_of c.args.level.now.scope.now.bodies) c.args.level.now.below) c.args.notes.now c.first_note-note.result.now c.first_note-note.ensures.value (formulas_of_trees c.args.trees.now) (formula_of c.args.body.now) c.bound-flags.result.now c.bound-flags.ensures.value c.requires.noted.1 in
-    let inner_is : c.deref.result.now ≡ bind c.in_ok-bounds.bounds c.args.env.now = c.deref.ensures.value ∙ c.in_ok-inner.ensures.bound ∙ ap (λ (xs : List Bound). bind xs c.args.env.now) c.as_slice.ensures.value in
+    let inner_is : c.bind.new.self ≡ bind c.in_ok-bounds.bounds c.args.env.now = c.in_ok-bind.ensures.bound ∙ ap (λ (xs : List Bound). bind xs c.compile_bound.new.env) c.as_slice-bounds.ensures.value ∙ ap (bind c.in_ok-bounds.bounds) c.in_ok-bounds.ensures.back in
     (omega (arith, c.decreases), (c.in_ok-bounds.ensures.state, (subst (λ (xs : List Bound). MayCompile c.args.level.now.scope.now.sig (map formula_of c.args.level.now.scope.now.bodies) c.compile_bound.new.table c.args.level.now.below xs (formula_of c.args.body.now)) (sym inner_is) (under_body c.args.level.now.scope.now.sig (map formula_of c.args.level.now.scope.now.bodies) c.args.level.now.below c.args.level.now.below c.args.table.now c.args.env.now c.args.env.now c.bound-flags.result.now (Let (formulas_of_trees c.args.trees.now) (formula_of c.args.body.now)) (formulas_of_trees c.args.trees.now) (formula_of c.args.body.now) (let_view c.args.level.now.scope.now.sig (map formula_of c.args.level.now.scope.now.bodies) c.args.level.now.below c.args.table.now c.args.env.now c.bound-flags.result.now (formulas_of_trees c.args.trees.now) (formula_of c.args.body.now) flags_are) c.compile_bound.new.table c.in_ok-bounds.bounds c.in_ok-bounds.ensures.outcome c.requires.ready), (c.requires.noted.0, let_inner c.args.level.now.scope.now.sig (worked_in c.args.level.now.definitions.now) (uses_below c.args.level.now.scope.now.sig (map formula_of c.args.level.now.scope.now.bodies) c.args.level.now.below) c.args.notes.now c.first_note-note.result.now c.first_note-note.ensures.value (formulas_of_trees c.args.trees.now) (formula_of c.args.body.now) c.inner.result.now c.inner.ensures.value c.requires.noted.1))))
 
 pub compile_let-returns-clause-outcome : goal.compile_let-returns-clause-outcome
 compile_let-returns-clause-outcome t c =
     let flags_are : c.bound-flags.result.now ≡ listed (occurs c.args.level.now.scope.now.sig (uses_below c.args.level.now.scope.now.sig (map formula_of c.args.level.now.scope.now.bodies) c.args.level.now.below) (formula_of c.args.body.now)) (count_of (formulas_of_trees c.args.trees.now)) = let_flags c.args.level.now.scope.now.sig (worked_in c.args.level.now.definitions.now) (uses_below c.args.level.now.scope.now.sig (map formula_of c.args.level.now.scope.now.bodies) c.args.level.now.below) c.args.notes.now c.first_note-note.result.now c.first_note-note.ensures.value (formulas_of_trees c.args.trees.now) (formula_of c.args.body.now) c.bound-flags.result.now c.bound-flags.ensures.value c.requires.noted.1 in
-    let inner_is : c.deref.result.now ≡ bind c.in_ok-bounds.bounds c.args.env.now = c.deref.ensures.value ∙ c.in_ok-inner.ensures.bound ∙ ap (λ (xs : List Bound). bind xs c.args.env.now) c.as_slice.ensures.value in
-    under_made c.args.level.now.scope.now.sig (map formula_of c.args.level.now.scope.now.bodies) c.args.level.now.below c.args.level.now.below c.args.table.now c.args.env.now c.args.env.now c.bound-flags.result.now (Let (formulas_of_trees c.args.trees.now) (formula_of c.args.body.now)) (formulas_of_trees c.args.trees.now) (formula_of c.args.body.now) (let_view c.args.level.now.scope.now.sig (map formula_of c.args.level.now.scope.now.bodies) c.args.level.now.below c.args.table.now c.args.env.now c.bound-flags.result.now (formulas_of_trees c.args.trees.now) (formula_of c.args.body.now) flags_are) c.compile_bound.new.table c.in_ok-bounds.bounds c.in_ok-bounds.ensures.outcome c.compile_tree.new.table (ended c.compile_tree.result) (subst (λ (xs : List Bound). Compiles c.args.level.now.scope.now.sig (map formula_of c.args.level.now.scope.now.bodies) c.args.level.now.below c.compile_bound.new.table c.compile_tree.new.table xs (formula_of c.args.body.now) (ended c.compile_tree.result)) inner_is c.compile_tree.ensures.outcome)
+    let inner_is : c.bind.new.self ≡ bind c.in_ok-bounds.bounds c.args.env.now = c.in_ok-bind.ensures.bound ∙ ap (λ (xs : List Bound). bind xs c.compile_bound.new.env) c.as_slice-bounds.ensures.value ∙ ap (bind c.in_ok-bounds.bounds) c.in_ok-bounds.ensures.back in
+    under_made c.args.level.now.scope.now.sig (map formula_of c.args.level.now.scope.now.bodies) c.args.level.now.below c.args.level.now.below c.args.table.now c.args.env.now c.args.env.now c.bound-flags.result.now (Let (formulas_of_trees c.args.trees.now) (formula_of c.args.body.now)) (formulas_of_trees c.args.trees.now) (formula_of c.args.body.now) (let_view c.args.level.now.scope.now.sig (map formula_of c.args.level.now.scope.now.bodies) c.args.level.now.below c.args.table.now c.args.env.now c.bound-flags.result.now (formulas_of_trees c.args.trees.now) (formula_of c.args.body.now) flags_are) c.compile_bound.new.table c.in_ok-bounds.bounds c.in_ok-bounds.ensures.outcome c.compile_tree-result.new.table (ended c.compile_tree-result.result) (subst (λ (xs : List Bound). Compiles c.args.level.now.scope.now.sig (map formula_of c.args.level.now.scope.now.bodies) c.args.level.now.below c.compile_bound.new.table c.compile_tree-result.new.table xs (formula_of c.args.body.now) (ended c.compile_tree-result.result)) inner_is c.compile_tree-result.ensures.outcome)
 
 pub compile_let-returns-clause-waits : goal.compile_let-returns-clause-waits
 compile_let-returns-clause-waits t c =
     let flags_are : c.bound-flags.result.now ≡ listed (occurs c.args.level.now.scope.now.sig (uses_below c.args.level.now.scope.now.sig (map formula_of c.args.level.now.scope.now.bodies) c.args.level.now.below) (formula_of c.args.body.now)) (count_of (formulas_of_trees c.args.trees.now)) = let_flags c.args.level.now.scope.now.sig (worked_in c.args.level.now.definitions.now) (uses_below c.args.level.now.scope.now.sig (map formula_of c.args.level.now.scope.now.bodies) c.args.level.now.below) c.args.notes.now c.first_note-note.result.now c.first_note-note.ensures.value (formulas_of_trees c.args.trees.now) (formula_of c.args.body.now) c.bound-flags.result.now c.bound-flags.ensures.value c.requires.noted.1 in
-    let inner_is : c.deref.result.now ≡ bind c.in_ok-bounds.bounds c.args.env.now = c.deref.ensures.value ∙ c.in_ok-inner.ensures.bound ∙ ap (λ (xs : List Bound). bind xs c.args.env.now) c.as_slice.ensures.value in
-    under_later c.args.level.now.scope.now.sig (map formula_of c.args.level.now.scope.now.bodies) c.args.level.now.below c.args.level.now.below c.args.table.now c.args.env.now c.args.env.now c.bound-flags.result.now (Let (formulas_of_trees c.args.trees.now) (formula_of c.args.body.now)) (formulas_of_trees c.args.trees.now) (formula_of c.args.body.now) (let_view c.args.level.now.scope.now.sig (map formula_of c.args.level.now.scope.now.bodies) c.args.level.now.below c.args.table.now c.args.env.now c.bound-flags.result.now (formulas_of_trees c.args.trees.now) (formula_of c.args.body.now) flags_are) c.compile_bound.new.table c.in_ok-bounds.bounds c.in_ok-bounds.ensures.outcome (worked_in c.args.level.now.definitions.now) (omega arith) c.compile_tree.new.table c.compile_tree.result (subst (λ (xs : List Bound). Defers c.args.level.now.scope.now.sig (map formula_of c.args.level.now.scope.now.bodies) (worked_in c.args.level.now.definitions.now) c.args.level.now.below c.compile_bound.new.table c.compile_tree.new.table xs (formula_of c.args.body.now) c.compile_tree.result) inner_is c.compile_tree.ensures.waits)
+    let inner_is : c.bind.new.self ≡ bind c.in_ok-bounds.bounds c.args.env.now = c.in_ok-bind.ensures.bound ∙ ap (λ (xs : List Bound). bind xs c.compile_bound.new.env) c.as_slice-bounds.ensures.value ∙ ap (bind c.in_ok-bounds.bounds) c.in_ok-bounds.ensures.back in
+    under_later c.args.level.now.scope.now.sig (map formula_of c.args.level.now.scope.now.bodies) c.args.level.now.below c.args.level.now.below c.args.table.now c.args.env.now c.args.env.now c.bound-flags.result.now (Let (formulas_of_trees c.args.trees.now) (formula_of c.args.body.now)) (formulas_of_trees c.args.trees.now) (formula_of c.args.body.now) (let_view c.args.level.now.scope.now.sig (map formula_of c.args.level.now.scope.now.bodies) c.args.level.now.below c.args.table.now c.args.env.now c.bound-flags.result.now (formulas_of_trees c.args.trees.now) (formula_of c.args.body.now) flags_are) c.compile_bound.new.table c.in_ok-bounds.bounds c.in_ok-bounds.ensures.outcome (worked_in c.args.level.now.definitions.now) (omega arith) c.compile_tree-result.new.table c.compile_tree-result.result (subst (λ (xs : List Bound). Defers c.args.level.now.scope.now.sig (map formula_of c.args.level.now.scope.now.bodies) (worked_in c.args.level.now.definitions.now) c.args.level.now.below c.compile_bound.new.table c.compile_tree-result.new.table xs (formula_of c.args.body.now) c.compile_tree-result.result) inner_is c.compile_tree-result.ensures.waits)
+
+pub compile_let-returns-clause-back : goal.compile_let-returns-clause-back
+compile_let-returns-clause-back t c =
+    let inner_is : c.bind.new.self ≡ bind c.in_ok-bounds.bounds c.args.env.now = c.in_ok-bind.ensures.bound ∙ ap (λ (xs : List Bound). bind xs c.compile_bound.new.env) c.as_slice-bounds.ensures.value ∙ ap (bind c.in_ok-bounds.bounds) c.in_ok-bounds.ensures.back in
+    let long : length c.as_slice-bounds.result.now ≡ length c.in_ok-bounds.bounds = ap (λ (xs : List Bound). length xs) c.as_slice-bounds.ensures.value in
+    c.unbind.ensures.rest ∙ ap (drop (length c.as_slice-bounds.result.now)) (c.compile_tree-result.ensures.back ∙ inner_is) ∙ ap (λ (k : ℕ). drop k (bind c.in_ok-bounds.bounds c.args.env.now)) long ∙ bind_left c.in_ok-bounds.bounds c.args.env.now
 
 pub compile_call-compile_bound-requires : goal.compile_call-compile_bound-requires
 compile_call-compile_bound-requires t c =
@@ -392,14 +400,9 @@ pub compile_call-returns-in_default-room_under-clause-waits : goal.compile_call-
 compile_call-returns-in_default-room_under-clause-waits t c =
     call_waits c.args.level.now.scope.now.sig (map formula_of c.args.level.now.scope.now.bodies) c.args.level.now.below (worked_in c.args.level.now.definitions.now) c.args.table.now c.args.env.now c.args.k (formulas_of_trees c.args.trees.now) c.row_at-row.result.now c.row_at-row.ensures.value (formula_of c.body_at-body.result.now) c.body_at-body.ensures.value c.requires.state.have c.compile_bound.new.table c.in_ok-bounds.bounds c.in_ok-bounds.ensures.outcome
 
-pub compile_call-returns-in_err-inner-clause-outcome : goal.compile_call-returns-in_err-inner-clause-outcome
-compile_call-returns-in_err-inner-clause-outcome t c =
-    let p = err_from_is_err_and c.from_residual-in_err-inner.result c.from_residual-in_err-inner.ensures.1 in
-    rw (p.1, p.2) (under_out c.args.level.now.scope.now.sig (map formula_of c.args.level.now.scope.now.bodies) c.args.level.now.below c.args.k.0 c.args.table.now c.args.env.now [] c.row_at-row.result.now (Def c.args.k (formulas_of_trees c.args.trees.now)) (formulas_of_trees c.args.trees.now) (formula_of c.body_at-body.result.now) (call_under c.args.level.now.scope.now.sig (map formula_of c.args.level.now.scope.now.bodies) c.args.level.now.below (worked_in c.args.level.now.definitions.now) c.args.table.now c.args.env.now c.args.k (formulas_of_trees c.args.trees.now) c.row_at-row.result.now c.row_at-row.ensures.value (formula_of c.body_at-body.result.now) c.body_at-body.ensures.value c.requires.state.have) c.compile_bound.new.table c.in_ok-bounds.bounds c.in_ok-bounds.ensures.outcome NoMemory refl)
-
 pub compile_call-compile_tree-requires : goal.compile_call-compile_tree-requires
 compile_call-compile_tree-requires t c =
-    let inner_is : c.deref.result.now ≡ bind c.in_ok-bounds.bounds [] = c.deref.ensures.value ∙ c.in_ok-inner.ensures.bound ∙ ap (λ (xs : List Bound). bind xs []) c.as_slice-2.ensures.value in
+    let inner_is : c.of-inner.result ≡ bind c.in_ok-bounds.bounds [] = c.of-inner.ensures.bound ∙ ap (λ (xs : List Bound). bind xs []) c.into_vec.ensures.value in
     let below = c.requires.ready.3.mentions.0 in
     let known = call_known c.args.level.now.scope.now.sig (worked_in c.args.level.now.definitions.now) (uses_below c.args.level.now.scope.now.sig (map formula_of c.args.level.now.scope.now.bodies) c.args.level.now.below) c.args.k (formulas_of_trees c.args.trees.now) c.args.notes.now c.requires.noted.1 in
     let noted = c.requires.noted.0 c.args.k (formula_of c.body_at-body.result.now) known.0 c.body_at-body.ensures.value known.1 in
@@ -407,13 +410,13 @@ compile_call-compile_tree-requires t c =
 
 pub compile_call-returns-in_err-term-clause-outcome : goal.compile_call-returns-in_err-term-clause-outcome
 compile_call-returns-in_err-term-clause-outcome t c =
-    let inner_is : c.deref.result.now ≡ bind c.in_ok-bounds.bounds [] = c.deref.ensures.value ∙ c.in_ok-inner.ensures.bound ∙ ap (λ (xs : List Bound). bind xs []) c.as_slice-2.ensures.value in
+    let inner_is : c.of-inner.result ≡ bind c.in_ok-bounds.bounds [] = c.of-inner.ensures.bound ∙ ap (λ (xs : List Bound). bind xs []) c.into_vec.ensures.value in
     let p = err_from_is_err_and c.from_residual-in_err-term.result c.from_residual-in_err-term.ensures.1 in
     rw (p.1, p.2) (under_made c.args.level.now.scope.now.sig (map formula_of c.args.level.now.scope.now.bodies) c.args.level.now.below c.args.k.0 c.args.table.now c.args.env.now [] c.row_at-row.result.now (Def c.args.k (formulas_of_trees c.args.trees.now)) (formulas_of_trees c.args.trees.now) (formula_of c.body_at-body.result.now) (call_under c.args.level.now.scope.now.sig (map formula_of c.args.level.now.scope.now.bodies) c.args.level.now.below (worked_in c.args.level.now.definitions.now) c.args.table.now c.args.env.now c.args.k (formulas_of_trees c.args.trees.now) c.row_at-row.result.now c.row_at-row.ensures.value (formula_of c.body_at-body.result.now) c.body_at-body.ensures.value c.requires.state.have) c.compile_bound.new.table c.in_ok-bounds.bounds c.in_ok-bounds.ensures.outcome c.compile_tree.new.table _ (subst (λ (xs : List Bound). Compiles c.args.level.now.scope.now.sig (map formula_of c.args.level.now.scope.now.bodies) c.args.k.0 c.compile_bound.new.table c.compile_tree.new.table xs (formula_of c.body_at-body.result.now) (ended {A = TermId} (Err c.in_err-term.field-0.0))) inner_is c.in_err-term.ensures.outcome))
 
 pub compile_call-returns-in_err-term-clause-waits : goal.compile_call-returns-in_err-term-clause-waits
 compile_call-returns-in_err-term-clause-waits t c =
-    let inner_is : c.deref.result.now ≡ bind c.in_ok-bounds.bounds [] = c.deref.ensures.value ∙ c.in_ok-inner.ensures.bound ∙ ap (λ (xs : List Bound). bind xs []) c.as_slice-2.ensures.value in
+    let inner_is : c.of-inner.result ≡ bind c.in_ok-bounds.bounds [] = c.of-inner.ensures.bound ∙ ap (λ (xs : List Bound). bind xs []) c.into_vec.ensures.value in
     let p = err_from_is_err_and c.from_residual-in_err-term.result c.from_residual-in_err-term.ensures.1 in
     rw (p.1, p.2) (under_later c.args.level.now.scope.now.sig (map formula_of c.args.level.now.scope.now.bodies) c.args.level.now.below c.args.k.0 c.args.table.now c.args.env.now [] c.row_at-row.result.now (Def c.args.k (formulas_of_trees c.args.trees.now)) (formulas_of_trees c.args.trees.now) (formula_of c.body_at-body.result.now) (call_under c.args.level.now.scope.now.sig (map formula_of c.args.level.now.scope.now.bodies) c.args.level.now.below (worked_in c.args.level.now.definitions.now) c.args.table.now c.args.env.now c.args.k (formulas_of_trees c.args.trees.now) c.row_at-row.result.now c.row_at-row.ensures.value (formula_of c.body_at-body.result.now) c.body_at-body.ensures.value c.requires.state.have) c.compile_bound.new.table c.in_ok-bounds.bounds c.in_ok-bounds.ensures.outcome (worked_in c.args.level.now.definitions.now) (let below = c.requires.ready.3.mentions.0 in omega (arith, below)) c.compile_tree.new.table (Err c.in_err-term.field-0.0) (subst (λ (xs : List Bound). Defers c.args.level.now.scope.now.sig (map formula_of c.args.level.now.scope.now.bodies) (worked_in c.args.level.now.definitions.now) c.args.k.0 c.compile_bound.new.table c.compile_tree.new.table xs (formula_of c.body_at-body.result.now) (Err c.in_err-term.field-0.0)) inner_is c.in_err-term.ensures.waits))
 
@@ -429,18 +432,18 @@ compile_call-returns-in_err-term-clause-unknown t c =
 
 pub compile_call-returns-in_err-remember-clause-outcome : goal.compile_call-returns-in_err-remember-clause-outcome
 compile_call-returns-in_err-remember-clause-outcome t c =
-    let inner_is : c.deref.result.now ≡ bind c.in_ok-bounds.bounds [] = c.deref.ensures.value ∙ c.in_ok-inner.ensures.bound ∙ ap (λ (xs : List Bound). bind xs []) c.as_slice-2.ensures.value in
+    let inner_is : c.of-inner.result ≡ bind c.in_ok-bounds.bounds [] = c.of-inner.ensures.bound ∙ ap (λ (xs : List Bound). bind xs []) c.into_vec.ensures.value in
     let p = err_from_is_err_and c.from_residual-in_err-remember.result c.from_residual-in_err-remember.ensures.1 in
     rw (p.1, p.2) (under_lost c.args.level.now.scope.now.sig (map formula_of c.args.level.now.scope.now.bodies) c.args.level.now.below c.args.k.0 c.args.table.now c.args.env.now [] c.row_at-row.result.now (Def c.args.k (formulas_of_trees c.args.trees.now)) (formulas_of_trees c.args.trees.now) (formula_of c.body_at-body.result.now) (call_under c.args.level.now.scope.now.sig (map formula_of c.args.level.now.scope.now.bodies) c.args.level.now.below (worked_in c.args.level.now.definitions.now) c.args.table.now c.args.env.now c.args.k (formulas_of_trees c.args.trees.now) c.row_at-row.result.now c.row_at-row.ensures.value (formula_of c.body_at-body.result.now) c.body_at-body.ensures.value c.requires.state.have) c.compile_bound.new.table c.in_ok-bounds.bounds c.in_ok-bounds.ensures.outcome c.compile_tree.new.table c.in_ok-term.term _ c.in_err-remember.ensures.err (subst (λ (xs : List Bound). Compiles c.args.level.now.scope.now.sig (map formula_of c.args.level.now.scope.now.bodies) c.args.k.0 c.compile_bound.new.table c.compile_tree.new.table xs (formula_of c.body_at-body.result.now) (Ok c.in_ok-term.term)) inner_is c.in_ok-term.ensures.outcome))
 
 pub compile_call-returns-clause-outcome : goal.compile_call-returns-clause-outcome
 compile_call-returns-clause-outcome t c =
-    let inner_is : c.deref.result.now ≡ bind c.in_ok-bounds.bounds [] = c.deref.ensures.value ∙ c.in_ok-inner.ensures.bound ∙ ap (λ (xs : List Bound). bind xs []) c.as_slice-2.ensures.value in
+    let inner_is : c.of-inner.result ≡ bind c.in_ok-bounds.bounds [] = c.of-inner.ensures.bound ∙ ap (λ (xs : List Bound). bind xs []) c.into_vec.ensures.value in
     under_made c.args.level.now.scope.now.sig (map formula_of c.args.level.now.scope.now.bodies) c.args.level.now.below c.args.k.0 c.args.table.now c.args.env.now [] c.row_at-row.result.now (Def c.args.k (formulas_of_trees c.args.trees.now)) (formulas_of_trees c.args.trees.now) (formula_of c.body_at-body.result.now) (call_under c.args.level.now.scope.now.sig (map formula_of c.args.level.now.scope.now.bodies) c.args.level.now.below (worked_in c.args.level.now.definitions.now) c.args.table.now c.args.env.now c.args.k (formulas_of_trees c.args.trees.now) c.row_at-row.result.now c.row_at-row.ensures.value (formula_of c.body_at-body.result.now) c.body_at-body.ensures.value c.requires.state.have) c.compile_bound.new.table c.in_ok-bounds.bounds c.in_ok-bounds.ensures.outcome c.compile_tree.new.table (Ok c.in_ok-term.term) (subst (λ (xs : List Bound). Compiles c.args.level.now.scope.now.sig (map formula_of c.args.level.now.scope.now.bodies) c.args.k.0 c.compile_bound.new.table c.compile_tree.new.table xs (formula_of c.body_at-body.result.now) (Ok c.in_ok-term.term)) inner_is c.in_ok-term.ensures.outcome)
 
 pub compile_call-returns-clause-state : goal.compile_call-returns-clause-state
 compile_call-returns-clause-state t c =
-    let inner_is : c.deref.result.now ≡ bind c.in_ok-bounds.bounds [] = c.deref.ensures.value ∙ c.in_ok-inner.ensures.bound ∙ ap (λ (xs : List Bound). bind xs []) c.as_slice-2.ensures.value in
+    let inner_is : c.of-inner.result ≡ bind c.in_ok-bounds.bounds [] = c.of-inner.ensures.bound ∙ ap (λ (xs : List Bound). bind xs []) c.into_vec.ensures.value in
     let call_is : c.in_ok-call.call ≡ call_of c.args.k c.in_ok-bounds.bounds = c.in_ok-call.ensures.call ∙ ap (call_of c.args.k) c.as_slice.ensures.value in
     let one = (subst (λ (xs : List Bound). Compiles c.args.level.now.scope.now.sig (map formula_of c.args.level.now.scope.now.bodies) c.args.k.0 c.compile_bound.new.table c.compile_tree.new.table xs (formula_of c.body_at-body.result.now) (Ok c.in_ok-term.term)) inner_is c.in_ok-term.ensures.outcome) in
     let whole = under_made c.args.level.now.scope.now.sig (map formula_of c.args.level.now.scope.now.bodies) c.args.level.now.below c.args.k.0 c.args.table.now c.args.env.now [] c.row_at-row.result.now (Def c.args.k (formulas_of_trees c.args.trees.now)) (formulas_of_trees c.args.trees.now) (formula_of c.body_at-body.result.now) (call_under c.args.level.now.scope.now.sig (map formula_of c.args.level.now.scope.now.bodies) c.args.level.now.below (worked_in c.args.level.now.definitions.now) c.args.table.now c.args.env.now c.args.k (formulas_of_trees c.args.trees.now) c.row_at-row.result.now c.row_at-row.ensures.value (formula_of c.body_at-body.result.now) c.body_at-body.ensures.value c.requires.state.have) c.compile_bound.new.table c.in_ok-bounds.bounds c.in_ok-bounds.ensures.outcome c.compile_tree.new.table (Ok c.in_ok-term.term) one in
@@ -454,28 +457,28 @@ compile_call-returns-clause-state t c =
 
 pub compile_bound-loop-rest-init : goal.compile_bound-loop-rest-init
 compile_bound-loop-rest-init t c =
-    (subst (λ (xs : List Bound). Completes c.args.level.now.scope.now.sig (map formula_of c.args.level.now.scope.now.bodies) c.args.level.now.below c.args.table.now c.args.table.now c.args.env.now c.args.flags.now (formulas_of_trees c.args.trees.now) xs c.args.flags.now (formulas_of_trees c.args.trees.now)) (sym c.new-bounds.ensures.items) (completes_start c.args.level.now.scope.now.sig (map formula_of c.args.level.now.scope.now.bodies) c.args.level.now.below c.args.table.now c.args.env.now c.args.flags.now (formulas_of_trees c.args.trees.now) c.requires.ready), c.requires.state, c.requires.noted.1)
+    record { done = subst (λ (xs : List Bound). Completes c.args.level.now.scope.now.sig (map formula_of c.args.level.now.scope.now.bodies) c.args.level.now.below c.args.table.now c.args.table.now c.args.env.now c.args.flags.now (formulas_of_trees c.args.trees.now) xs c.args.flags.now (formulas_of_trees c.args.trees.now)) (sym c.new-bounds.ensures.items) (completes_start c.args.level.now.scope.now.sig (map formula_of c.args.level.now.scope.now.bodies) c.args.level.now.below c.args.table.now c.args.env.now c.args.flags.now (formulas_of_trees c.args.trees.now) c.requires.ready); state = c.requires.state; noted = c.requires.noted.1; same = refl }
 
 pub compile_bound-first_flag-occurs-requires : goal.compile_bound-first_flag-occurs-requires
 compile_bound-first_flag-occurs-requires t c =
     let loop = c.loop-rest in
     let others = take (length loop.rest.now - 1) (drop 1 loop.rest.now) in
     let item = rest_item loop.rest.now c.tree-item.result c.in-len1-up.len_at_least c.tree-item.is in
-    record { some = completes_flag c.args.level.now.scope.now.sig (map formula_of c.args.level.now.scope.now.bodies) c.args.level.now.below c.args.table.now loop.table c.args.env.now c.args.flags.now (formulas_of_trees c.args.trees.now) loop.bounds.items loop.left.now loop.rest.now others c.tree-item.result item loop.invariant.0 }
+    record { some = completes_flag c.args.level.now.scope.now.sig (map formula_of c.args.level.now.scope.now.bodies) c.args.level.now.below c.args.table.now loop.table c.args.env.now c.args.flags.now (formulas_of_trees c.args.trees.now) loop.bounds.items loop.left.now loop.rest.now others c.tree-item.result item loop.invariant.done }
 
 pub compile_bound-later_flags-left-requires : goal.compile_bound-later_flags-left-requires
 compile_bound-later_flags-left-requires t c =
     let loop = c.loop-rest in
     let others = take (length loop.rest.now - 1) (drop 1 loop.rest.now) in
     let item = rest_item loop.rest.now c.tree-item.result c.in-len1-up.len_at_least c.tree-item.is in
-    record { some = completes_flag c.args.level.now.scope.now.sig (map formula_of c.args.level.now.scope.now.bodies) c.args.level.now.below c.args.table.now loop.table c.args.env.now c.args.flags.now (formulas_of_trees c.args.trees.now) loop.bounds.items loop.left.now loop.rest.now others c.tree-item.result item loop.invariant.0 }
+    record { some = completes_flag c.args.level.now.scope.now.sig (map formula_of c.args.level.now.scope.now.bodies) c.args.level.now.below c.args.table.now loop.table c.args.env.now c.args.flags.now (formulas_of_trees c.args.trees.now) loop.bounds.items loop.left.now loop.rest.now others c.tree-item.result item loop.invariant.done }
 
 pub compile_bound-returns-in_err-push-clause-outcome : goal.compile_bound-returns-in_err-push-clause-outcome
 compile_bound-returns-in_err-push-clause-outcome t c =
     let loop = c.loop-rest in
     let others = take (length loop.rest.now - 1) (drop 1 loop.rest.now) in
     let item = rest_item loop.rest.now c.tree-item.result c.in-len1-up.len_at_least c.tree-item.is in
-    let split = completes_split c.args.level.now.scope.now.sig (map formula_of c.args.level.now.scope.now.bodies) c.args.level.now.below c.args.table.now loop.table c.args.env.now c.args.flags.now (formulas_of_trees c.args.trees.now) loop.bounds.items loop.left.now c.later_flags-left.result.now loop.rest.now others c.tree-item.result c.first_flag-occurs.result false (flags_split loop.left.now c.later_flags-left.result.now c.first_flag-occurs.result c.first_flag-occurs.ensures.value c.later_flags-left.ensures.value) item c.if-not-occurs.true loop.invariant.0 in
+    let split = completes_split c.args.level.now.scope.now.sig (map formula_of c.args.level.now.scope.now.bodies) c.args.level.now.below c.args.table.now loop.table c.args.env.now c.args.flags.now (formulas_of_trees c.args.trees.now) loop.bounds.items loop.left.now c.later_flags-left.result.now loop.rest.now others c.tree-item.result c.first_flag-occurs.result false (flags_split loop.left.now c.later_flags-left.result.now c.first_flag-occurs.result c.first_flag-occurs.ensures.value c.later_flags-left.ensures.value) item c.if-not-occurs.true loop.invariant.done in
     let p = err_from_is_err_and c.from_residual.result c.from_residual.ensures.1 in
     rw (p.1, p.2) (completes_out c.args.level.now.scope.now.sig (map formula_of c.args.level.now.scope.now.bodies) c.args.level.now.below c.args.table.now loop.table c.args.env.now c.args.flags.now (formulas_of_trees c.args.trees.now) loop.bounds.items _ _ split NoMemory refl)
 
@@ -484,35 +487,35 @@ compile_bound-loop-rest-preserved-then-not-occurs t c =
     let loop = c.loop-rest in
     let others = take (length loop.rest.now - 1) (drop 1 loop.rest.now) in
     let item = rest_item loop.rest.now c.tree-item.result c.in-len1-up.len_at_least c.tree-item.is in
-    let split = completes_split c.args.level.now.scope.now.sig (map formula_of c.args.level.now.scope.now.bodies) c.args.level.now.below c.args.table.now loop.table c.args.env.now c.args.flags.now (formulas_of_trees c.args.trees.now) loop.bounds.items loop.left.now c.later_flags-left.result.now loop.rest.now others c.tree-item.result c.first_flag-occurs.result false (flags_split loop.left.now c.later_flags-left.result.now c.first_flag-occurs.result c.first_flag-occurs.ensures.value c.later_flags-left.ensures.value) item c.if-not-occurs.true loop.invariant.0 in
-    (subst (λ (xs : List Bound). Completes c.args.level.now.scope.now.sig (map formula_of c.args.level.now.scope.now.bodies) c.args.level.now.below c.args.table.now loop.table c.args.env.now c.args.flags.now (formulas_of_trees c.args.trees.now) xs c.later_flags-left.result.now (formulas_of_trees others)) (sym c.in_ok-push.ensures.items) (completes_absent c.args.level.now.scope.now.sig (map formula_of c.args.level.now.scope.now.bodies) c.args.level.now.below c.args.table.now loop.table c.args.env.now c.args.flags.now (formulas_of_trees c.args.trees.now) loop.bounds.items c.later_flags-left.result.now (formula_of c.tree-item.result) (formulas_of_trees others) split), loop.invariant.1, (where_split c.args.level.now.scope.now.sig (worked_in c.args.level.now.definitions.now) (uses_below c.args.level.now.scope.now.sig (map formula_of c.args.level.now.scope.now.bodies) c.args.level.now.below) loop.left.now c.later_flags-left.result.now c.first_flag-occurs.result (formulas_of_trees loop.rest.now) (formula_of c.tree-item.result) (formulas_of_trees others) loop.noted.now c.later_notes-noted.result.now (flags_split loop.left.now c.later_flags-left.result.now c.first_flag-occurs.result c.first_flag-occurs.ensures.value c.later_flags-left.ensures.value) (ap formulas_of_trees item) c.later_notes-noted.ensures.value loop.invariant.2).1)
+    let split = completes_split c.args.level.now.scope.now.sig (map formula_of c.args.level.now.scope.now.bodies) c.args.level.now.below c.args.table.now loop.table c.args.env.now c.args.flags.now (formulas_of_trees c.args.trees.now) loop.bounds.items loop.left.now c.later_flags-left.result.now loop.rest.now others c.tree-item.result c.first_flag-occurs.result false (flags_split loop.left.now c.later_flags-left.result.now c.first_flag-occurs.result c.first_flag-occurs.ensures.value c.later_flags-left.ensures.value) item c.if-not-occurs.true loop.invariant.done in
+    record { done = subst (λ (xs : List Bound). Completes c.args.level.now.scope.now.sig (map formula_of c.args.level.now.scope.now.bodies) c.args.level.now.below c.args.table.now loop.table c.args.env.now c.args.flags.now (formulas_of_trees c.args.trees.now) xs c.later_flags-left.result.now (formulas_of_trees others)) (sym c.in_ok-push.ensures.items) (completes_absent c.args.level.now.scope.now.sig (map formula_of c.args.level.now.scope.now.bodies) c.args.level.now.below c.args.table.now loop.table c.args.env.now c.args.flags.now (formulas_of_trees c.args.trees.now) loop.bounds.items c.later_flags-left.result.now (formula_of c.tree-item.result) (formulas_of_trees others) split); state = loop.invariant.state; noted = (where_split c.args.level.now.scope.now.sig (worked_in c.args.level.now.definitions.now) (uses_below c.args.level.now.scope.now.sig (map formula_of c.args.level.now.scope.now.bodies) c.args.level.now.below) loop.left.now c.later_flags-left.result.now c.first_flag-occurs.result (formulas_of_trees loop.rest.now) (formula_of c.tree-item.result) (formulas_of_trees others) loop.noted.now c.later_notes-noted.result.now (flags_split loop.left.now c.later_flags-left.result.now c.first_flag-occurs.result c.first_flag-occurs.ensures.value c.later_flags-left.ensures.value) (ap formulas_of_trees item) c.later_notes-noted.ensures.value loop.invariant.noted).1; same = loop.invariant.same }
 
 pub compile_bound-compile_tree-requires : goal.compile_bound-compile_tree-requires
 compile_bound-compile_tree-requires t c =
     let loop = c.loop-rest in
     let others = take (length loop.rest.now - 1) (drop 1 loop.rest.now) in
     let item = rest_item loop.rest.now c.tree-item.result c.in-len1-up.len_at_least c.tree-item.is in
-    let split = completes_split c.args.level.now.scope.now.sig (map formula_of c.args.level.now.scope.now.bodies) c.args.level.now.below c.args.table.now loop.table c.args.env.now c.args.flags.now (formulas_of_trees c.args.trees.now) loop.bounds.items loop.left.now c.later_flags-left.result.now loop.rest.now others c.tree-item.result c.first_flag-occurs.result true (flags_split loop.left.now c.later_flags-left.result.now c.first_flag-occurs.result c.first_flag-occurs.ensures.value c.later_flags-left.ensures.value) item c.if-not-occurs.false loop.invariant.0 in
+    let split = completes_split c.args.level.now.scope.now.sig (map formula_of c.args.level.now.scope.now.bodies) c.args.level.now.below c.args.table.now loop.table c.args.env.now c.args.flags.now (formulas_of_trees c.args.trees.now) loop.bounds.items loop.left.now c.later_flags-left.result.now loop.rest.now others c.tree-item.result c.first_flag-occurs.result true (flags_split loop.left.now c.later_flags-left.result.now c.first_flag-occurs.result c.first_flag-occurs.ensures.value c.later_flags-left.ensures.value) item c.if-not-occurs.false loop.invariant.done in
     let lighter = completes_lighter c.args.level.now.scope.now.sig (map formula_of c.args.level.now.scope.now.bodies) c.args.level.now.below c.args.table.now loop.table c.args.env.now c.args.flags.now (formulas_of_trees c.args.trees.now) loop.bounds.items c.later_flags-left.result.now (formula_of c.tree-item.result) (formulas_of_trees others) split in
-    (omega (arith, lighter, c.decreases), (loop.invariant.1, (completes_next c.args.level.now.scope.now.sig (map formula_of c.args.level.now.scope.now.bodies) c.args.level.now.below c.args.table.now loop.table c.args.env.now c.args.flags.now (formulas_of_trees c.args.trees.now) loop.bounds.items c.later_flags-left.result.now (formula_of c.tree-item.result) (formulas_of_trees others) split, (c.requires.noted.0, (where_split c.args.level.now.scope.now.sig (worked_in c.args.level.now.definitions.now) (uses_below c.args.level.now.scope.now.sig (map formula_of c.args.level.now.scope.now.bodies) c.args.level.now.below) loop.left.now c.later_flags-left.result.now c.first_flag-occurs.result (formulas_of_trees loop.rest.now) (formula_of c.tree-item.result) (formulas_of_trees others) loop.noted.now c.later_notes-noted.result.now (flags_split loop.left.now c.later_flags-left.result.now c.first_flag-occurs.result c.first_flag-occurs.ensures.value c.later_flags-left.ensures.value) (ap formulas_of_trees item) c.later_notes-noted.ensures.value loop.invariant.2).0 c.if-not-occurs.false))))
+    (omega (arith, lighter, c.decreases), (loop.invariant.state, (rw loop.invariant.same (completes_next c.args.level.now.scope.now.sig (map formula_of c.args.level.now.scope.now.bodies) c.args.level.now.below c.args.table.now loop.table c.args.env.now c.args.flags.now (formulas_of_trees c.args.trees.now) loop.bounds.items c.later_flags-left.result.now (formula_of c.tree-item.result) (formulas_of_trees others) split), (c.requires.noted.0, (where_split c.args.level.now.scope.now.sig (worked_in c.args.level.now.definitions.now) (uses_below c.args.level.now.scope.now.sig (map formula_of c.args.level.now.scope.now.bodies) c.args.level.now.below) loop.left.now c.later_flags-left.result.now c.first_flag-occurs.result (formulas_of_trees loop.rest.now) (formula_of c.tree-item.result) (formulas_of_trees others) loop.noted.now c.later_notes-noted.result.now (flags_split loop.left.now c.later_flags-left.result.now c.first_flag-occurs.result c.first_flag-occurs.ensures.value c.later_flags-left.ensures.value) (ap formulas_of_trees item) c.later_notes-noted.ensures.value loop.invariant.noted).0 c.if-not-occurs.false))))
 
 pub compile_bound-returns-in_err-term-clause-outcome : goal.compile_bound-returns-in_err-term-clause-outcome
 compile_bound-returns-in_err-term-clause-outcome t c =
     let loop = c.loop-rest in
     let others = take (length loop.rest.now - 1) (drop 1 loop.rest.now) in
     let item = rest_item loop.rest.now c.tree-item.result c.in-len1-up.len_at_least c.tree-item.is in
-    let split = completes_split c.args.level.now.scope.now.sig (map formula_of c.args.level.now.scope.now.bodies) c.args.level.now.below c.args.table.now loop.table c.args.env.now c.args.flags.now (formulas_of_trees c.args.trees.now) loop.bounds.items loop.left.now c.later_flags-left.result.now loop.rest.now others c.tree-item.result c.first_flag-occurs.result true (flags_split loop.left.now c.later_flags-left.result.now c.first_flag-occurs.result c.first_flag-occurs.ensures.value c.later_flags-left.ensures.value) item c.if-not-occurs.false loop.invariant.0 in
+    let split = completes_split c.args.level.now.scope.now.sig (map formula_of c.args.level.now.scope.now.bodies) c.args.level.now.below c.args.table.now loop.table c.args.env.now c.args.flags.now (formulas_of_trees c.args.trees.now) loop.bounds.items loop.left.now c.later_flags-left.result.now loop.rest.now others c.tree-item.result c.first_flag-occurs.result true (flags_split loop.left.now c.later_flags-left.result.now c.first_flag-occurs.result c.first_flag-occurs.ensures.value c.later_flags-left.ensures.value) item c.if-not-occurs.false loop.invariant.done in
     let p = err_from_is_err_and c.from_residual-in_err-term.result c.from_residual-in_err-term.ensures.1 in
-    rw (p.1, p.2) (completes_stopped c.args.level.now.scope.now.sig (map formula_of c.args.level.now.scope.now.bodies) c.args.level.now.below c.args.table.now loop.table c.args.env.now c.args.flags.now (formulas_of_trees c.args.trees.now) loop.bounds.items c.later_flags-left.result.now (formula_of c.tree-item.result) (formulas_of_trees others) split c.compile_tree.new.table _ c.in_err-term.ensures.outcome)
+    rw (p.1, p.2) (completes_stopped c.args.level.now.scope.now.sig (map formula_of c.args.level.now.scope.now.bodies) c.args.level.now.below c.args.table.now loop.table c.args.env.now c.args.flags.now (formulas_of_trees c.args.trees.now) loop.bounds.items c.later_flags-left.result.now (formula_of c.tree-item.result) (formulas_of_trees others) split c.compile_tree.new.table _ (rw loop.invariant.same at c.in_err-term.ensures.outcome))
 
 pub compile_bound-returns-in_err-term-clause-waits : goal.compile_bound-returns-in_err-term-clause-waits
 compile_bound-returns-in_err-term-clause-waits t c =
     let loop = c.loop-rest in
     let others = take (length loop.rest.now - 1) (drop 1 loop.rest.now) in
     let item = rest_item loop.rest.now c.tree-item.result c.in-len1-up.len_at_least c.tree-item.is in
-    let split = completes_split c.args.level.now.scope.now.sig (map formula_of c.args.level.now.scope.now.bodies) c.args.level.now.below c.args.table.now loop.table c.args.env.now c.args.flags.now (formulas_of_trees c.args.trees.now) loop.bounds.items loop.left.now c.later_flags-left.result.now loop.rest.now others c.tree-item.result c.first_flag-occurs.result true (flags_split loop.left.now c.later_flags-left.result.now c.first_flag-occurs.result c.first_flag-occurs.ensures.value c.later_flags-left.ensures.value) item c.if-not-occurs.false loop.invariant.0 in
+    let split = completes_split c.args.level.now.scope.now.sig (map formula_of c.args.level.now.scope.now.bodies) c.args.level.now.below c.args.table.now loop.table c.args.env.now c.args.flags.now (formulas_of_trees c.args.trees.now) loop.bounds.items loop.left.now c.later_flags-left.result.now loop.rest.now others c.tree-item.result c.first_flag-occurs.result true (flags_split loop.left.now c.later_flags-left.result.now c.first_flag-occurs.result c.first_flag-occurs.ensures.value c.later_flags-left.ensures.value) item c.if-not-occurs.false loop.invariant.done in
     let p = err_from_is_err_and c.from_residual-in_err-term.result c.from_residual-in_err-term.ensures.1 in
-    rw (p.1, p.2) (completes_waits c.args.level.now.scope.now.sig (map formula_of c.args.level.now.scope.now.bodies) c.args.level.now.below c.args.table.now loop.table c.args.env.now c.args.flags.now (formulas_of_trees c.args.trees.now) loop.bounds.items c.later_flags-left.result.now (formula_of c.tree-item.result) (formulas_of_trees others) split (worked_in c.args.level.now.definitions.now) c.compile_tree.new.table _ c.in_err-term.ensures.waits)
+    rw (p.1, p.2) (completes_waits c.args.level.now.scope.now.sig (map formula_of c.args.level.now.scope.now.bodies) c.args.level.now.below c.args.table.now loop.table c.args.env.now c.args.flags.now (formulas_of_trees c.args.trees.now) loop.bounds.items c.later_flags-left.result.now (formula_of c.tree-item.result) (formulas_of_trees others) split (worked_in c.args.level.now.definitions.now) c.compile_tree.new.table _ (rw loop.invariant.same at c.in_err-term.ensures.waits))
 
 pub compile_bound-returns-in_err-term-clause-state : goal.compile_bound-returns-in_err-term-clause-state
 compile_bound-returns-in_err-term-clause-state t c =
@@ -529,23 +532,23 @@ compile_bound-returns-in_err-push-2-clause-outcome t c =
     let loop = c.loop-rest in
     let others = take (length loop.rest.now - 1) (drop 1 loop.rest.now) in
     let item = rest_item loop.rest.now c.tree-item.result c.in-len1-up.len_at_least c.tree-item.is in
-    let split = completes_split c.args.level.now.scope.now.sig (map formula_of c.args.level.now.scope.now.bodies) c.args.level.now.below c.args.table.now loop.table c.args.env.now c.args.flags.now (formulas_of_trees c.args.trees.now) loop.bounds.items loop.left.now c.later_flags-left.result.now loop.rest.now others c.tree-item.result c.first_flag-occurs.result true (flags_split loop.left.now c.later_flags-left.result.now c.first_flag-occurs.result c.first_flag-occurs.ensures.value c.later_flags-left.ensures.value) item c.if-not-occurs.false loop.invariant.0 in
+    let split = completes_split c.args.level.now.scope.now.sig (map formula_of c.args.level.now.scope.now.bodies) c.args.level.now.below c.args.table.now loop.table c.args.env.now c.args.flags.now (formulas_of_trees c.args.trees.now) loop.bounds.items loop.left.now c.later_flags-left.result.now loop.rest.now others c.tree-item.result c.first_flag-occurs.result true (flags_split loop.left.now c.later_flags-left.result.now c.first_flag-occurs.result c.first_flag-occurs.ensures.value c.later_flags-left.ensures.value) item c.if-not-occurs.false loop.invariant.done in
     let p = err_from_is_err_and c.from_residual-in_err-push-2.result c.from_residual-in_err-push-2.ensures.1 in
-    rw (p.1, p.2) (completes_out c.args.level.now.scope.now.sig (map formula_of c.args.level.now.scope.now.bodies) c.args.level.now.below c.args.table.now c.compile_tree.new.table c.args.env.now c.args.flags.now (formulas_of_trees c.args.trees.now) _ _ _ (completes_term c.args.level.now.scope.now.sig (map formula_of c.args.level.now.scope.now.bodies) c.args.level.now.below c.args.table.now loop.table c.args.env.now c.args.flags.now (formulas_of_trees c.args.trees.now) loop.bounds.items c.later_flags-left.result.now (formula_of c.tree-item.result) (formulas_of_trees others) split c.compile_tree.new.table c.in_ok-term.term c.in_ok-term.ensures.outcome) NoMemory refl)
+    rw (p.1, p.2) (completes_out c.args.level.now.scope.now.sig (map formula_of c.args.level.now.scope.now.bodies) c.args.level.now.below c.args.table.now c.compile_tree.new.table c.args.env.now c.args.flags.now (formulas_of_trees c.args.trees.now) _ _ _ (completes_term c.args.level.now.scope.now.sig (map formula_of c.args.level.now.scope.now.bodies) c.args.level.now.below c.args.table.now loop.table c.args.env.now c.args.flags.now (formulas_of_trees c.args.trees.now) loop.bounds.items c.later_flags-left.result.now (formula_of c.tree-item.result) (formulas_of_trees others) split c.compile_tree.new.table c.in_ok-term.term (rw loop.invariant.same at c.in_ok-term.ensures.outcome)) NoMemory refl)
 
 pub compile_bound-loop-rest-preserved : goal.compile_bound-loop-rest-preserved
 compile_bound-loop-rest-preserved t c =
     let loop = c.loop-rest in
     let others = take (length loop.rest.now - 1) (drop 1 loop.rest.now) in
     let item = rest_item loop.rest.now c.tree-item.result c.in-len1-up.len_at_least c.tree-item.is in
-    let split = completes_split c.args.level.now.scope.now.sig (map formula_of c.args.level.now.scope.now.bodies) c.args.level.now.below c.args.table.now loop.table c.args.env.now c.args.flags.now (formulas_of_trees c.args.trees.now) loop.bounds.items loop.left.now c.later_flags-left.result.now loop.rest.now others c.tree-item.result c.first_flag-occurs.result true (flags_split loop.left.now c.later_flags-left.result.now c.first_flag-occurs.result c.first_flag-occurs.ensures.value c.later_flags-left.ensures.value) item c.if-not-occurs.false loop.invariant.0 in
-    (subst (λ (xs : List Bound). Completes c.args.level.now.scope.now.sig (map formula_of c.args.level.now.scope.now.bodies) c.args.level.now.below c.args.table.now c.compile_tree.new.table c.args.env.now c.args.flags.now (formulas_of_trees c.args.trees.now) xs c.later_flags-left.result.now (formulas_of_trees others)) (sym c.in_ok-push-2.ensures.items) (completes_term c.args.level.now.scope.now.sig (map formula_of c.args.level.now.scope.now.bodies) c.args.level.now.below c.args.table.now loop.table c.args.env.now c.args.flags.now (formulas_of_trees c.args.trees.now) loop.bounds.items c.later_flags-left.result.now (formula_of c.tree-item.result) (formulas_of_trees others) split c.compile_tree.new.table c.in_ok-term.term c.in_ok-term.ensures.outcome), c.in_ok-term.ensures.state, (where_split c.args.level.now.scope.now.sig (worked_in c.args.level.now.definitions.now) (uses_below c.args.level.now.scope.now.sig (map formula_of c.args.level.now.scope.now.bodies) c.args.level.now.below) loop.left.now c.later_flags-left.result.now c.first_flag-occurs.result (formulas_of_trees loop.rest.now) (formula_of c.tree-item.result) (formulas_of_trees others) loop.noted.now c.later_notes-noted.result.now (flags_split loop.left.now c.later_flags-left.result.now c.first_flag-occurs.result c.first_flag-occurs.ensures.value c.later_flags-left.ensures.value) (ap formulas_of_trees item) c.later_notes-noted.ensures.value loop.invariant.2).1)
+    let split = completes_split c.args.level.now.scope.now.sig (map formula_of c.args.level.now.scope.now.bodies) c.args.level.now.below c.args.table.now loop.table c.args.env.now c.args.flags.now (formulas_of_trees c.args.trees.now) loop.bounds.items loop.left.now c.later_flags-left.result.now loop.rest.now others c.tree-item.result c.first_flag-occurs.result true (flags_split loop.left.now c.later_flags-left.result.now c.first_flag-occurs.result c.first_flag-occurs.ensures.value c.later_flags-left.ensures.value) item c.if-not-occurs.false loop.invariant.done in
+    record { done = subst (λ (xs : List Bound). Completes c.args.level.now.scope.now.sig (map formula_of c.args.level.now.scope.now.bodies) c.args.level.now.below c.args.table.now c.compile_tree.new.table c.args.env.now c.args.flags.now (formulas_of_trees c.args.trees.now) xs c.later_flags-left.result.now (formulas_of_trees others)) (sym c.in_ok-push-2.ensures.items) (completes_term c.args.level.now.scope.now.sig (map formula_of c.args.level.now.scope.now.bodies) c.args.level.now.below c.args.table.now loop.table c.args.env.now c.args.flags.now (formulas_of_trees c.args.trees.now) loop.bounds.items c.later_flags-left.result.now (formula_of c.tree-item.result) (formulas_of_trees others) split c.compile_tree.new.table c.in_ok-term.term (rw loop.invariant.same at c.in_ok-term.ensures.outcome)); state = c.in_ok-term.ensures.state; noted = (where_split c.args.level.now.scope.now.sig (worked_in c.args.level.now.definitions.now) (uses_below c.args.level.now.scope.now.sig (map formula_of c.args.level.now.scope.now.bodies) c.args.level.now.below) loop.left.now c.later_flags-left.result.now c.first_flag-occurs.result (formulas_of_trees loop.rest.now) (formula_of c.tree-item.result) (formulas_of_trees others) loop.noted.now c.later_notes-noted.result.now (flags_split loop.left.now c.later_flags-left.result.now c.first_flag-occurs.result c.first_flag-occurs.ensures.value c.later_flags-left.ensures.value) (ap formulas_of_trees item) c.later_notes-noted.ensures.value loop.invariant.noted).1; same = c.in_ok-term.ensures.back ∙ loop.invariant.same }
 
 pub compile_bound-returns-clause-outcome : goal.compile_bound-returns-clause-outcome
 compile_bound-returns-clause-outcome t c =
     let loop = c.loop-rest in
     let none : loop.rest.now ≡ [] = nothing_left loop.rest.now (omega (arith, c.in_default.len_below)) in
-    subst (λ (xs : List Bound). Binds c.args.level.now.scope.now.sig (map formula_of c.args.level.now.scope.now.bodies) c.args.level.now.below c.args.table.now loop.table c.args.env.now c.args.flags.now (formulas_of_trees c.args.trees.now) (Ok xs)) (sym c.new.ensures.value) (completes_all c.args.level.now.scope.now.sig (map formula_of c.args.level.now.scope.now.bodies) c.args.level.now.below c.args.table.now loop.table c.args.env.now c.args.flags.now (formulas_of_trees c.args.trees.now) loop.bounds.items loop.left.now loop.rest.now none loop.invariant.0)
+    subst (λ (xs : List Bound). Binds c.args.level.now.scope.now.sig (map formula_of c.args.level.now.scope.now.bodies) c.args.level.now.below c.args.table.now loop.table c.args.env.now c.args.flags.now (formulas_of_trees c.args.trees.now) (Ok xs)) (sym c.new.ensures.value) (completes_all c.args.level.now.scope.now.sig (map formula_of c.args.level.now.scope.now.bodies) c.args.level.now.below c.args.table.now loop.table c.args.env.now c.args.flags.now (formulas_of_trees c.args.trees.now) loop.bounds.items loop.left.now loop.rest.now none loop.invariant.done)
 
 pub compile_match-compile_bound-requires : goal.compile_match-compile_bound-requires
 compile_match-compile_bound-requires t c =
@@ -583,59 +586,59 @@ pub compile_match-compile_cases-requires : goal.compile_match-compile_cases-requ
 compile_match-compile_cases-requires t c =
     let is = match_flag c.args.level.now.scope.now.sig (worked_in c.args.level.now.definitions.now) (uses_below c.args.level.now.scope.now.sig (map formula_of c.args.level.now.scope.now.bodies) c.args.level.now.below) c.args.notes.now c.first_note-note.result.now c.first_note-note.ensures.value (formula_of c.args.tree.now) (cases_of_trees c.args.cases.now) c.bound.result.now c.first_flag-occurs.result c.bound.ensures.value c.first_flag-occurs.ensures.value c.requires.noted.1 in
     let at : slice_get c.in_ok-bounds.bounds 0 ≡ Some c.bound_at-matched.result = ap (λ (xs : List Bound). slice_get xs 0) (sym c.as_slice.ensures.value) ∙ c.bound_at-matched.ensures.value in
-    (omega (arith, c.decreases), (c.in_ok-bounds.ensures.state, ((match_cases c.args.level.now.scope.now.sig (map formula_of c.args.level.now.scope.now.bodies) c.args.level.now.below c.args.table.now c.args.env.now (formula_of c.args.tree.now) (cases_of_trees c.args.cases.now) c.first_flag-occurs.result is c.compile_bound.new.table c.in_ok-bounds.bounds (binds_as c.args.level.now.scope.now.sig (map formula_of c.args.level.now.scope.now.bodies) c.args.level.now.below c.args.table.now c.compile_bound.new.table c.args.env.now c.one_flag-flags.result.now _ (formulas_of_trees c.one_tree-trees.result.now) _ _ c.one_flag-flags.ensures.value c.one_tree-trees.ensures.value c.in_ok-bounds.ensures.outcome) c.bound_at-matched.result at c.requires.ready), (c.requires.noted.0, match_inner c.args.level.now.scope.now.sig (worked_in c.args.level.now.definitions.now) (uses_below c.args.level.now.scope.now.sig (map formula_of c.args.level.now.scope.now.bodies) c.args.level.now.below) c.args.notes.now c.first_note-note.result.now c.first_note-note.ensures.value (formula_of c.args.tree.now) (cases_of_trees c.args.cases.now) [] c.inner.result.now refl c.inner.ensures.value c.requires.noted.1))))
+    (omega (arith, c.decreases), (c.in_ok-bounds.ensures.state, (rw c.in_ok-bounds.ensures.back (match_cases c.args.level.now.scope.now.sig (map formula_of c.args.level.now.scope.now.bodies) c.args.level.now.below c.args.table.now c.args.env.now (formula_of c.args.tree.now) (cases_of_trees c.args.cases.now) c.first_flag-occurs.result is c.compile_bound.new.table c.in_ok-bounds.bounds (binds_as c.args.level.now.scope.now.sig (map formula_of c.args.level.now.scope.now.bodies) c.args.level.now.below c.args.table.now c.compile_bound.new.table c.args.env.now c.one_flag-flags.result.now _ (formulas_of_trees c.one_tree-trees.result.now) _ _ c.one_flag-flags.ensures.value c.one_tree-trees.ensures.value c.in_ok-bounds.ensures.outcome) c.bound_at-matched.result at c.requires.ready), (c.requires.noted.0, match_inner c.args.level.now.scope.now.sig (worked_in c.args.level.now.definitions.now) (uses_below c.args.level.now.scope.now.sig (map formula_of c.args.level.now.scope.now.bodies) c.args.level.now.below) c.args.notes.now c.first_note-note.result.now c.first_note-note.ensures.value (formula_of c.args.tree.now) (cases_of_trees c.args.cases.now) [] c.inner.result.now refl c.inner.ensures.value c.requires.noted.1))))
 
 pub compile_match-returns-clause-outcome : goal.compile_match-returns-clause-outcome
 compile_match-returns-clause-outcome t c =
     let is = match_flag c.args.level.now.scope.now.sig (worked_in c.args.level.now.definitions.now) (uses_below c.args.level.now.scope.now.sig (map formula_of c.args.level.now.scope.now.bodies) c.args.level.now.below) c.args.notes.now c.first_note-note.result.now c.first_note-note.ensures.value (formula_of c.args.tree.now) (cases_of_trees c.args.cases.now) c.bound.result.now c.first_flag-occurs.result c.bound.ensures.value c.first_flag-occurs.ensures.value c.requires.noted.1 in
     let at : slice_get c.in_ok-bounds.bounds 0 ≡ Some c.bound_at-matched.result = ap (λ (xs : List Bound). slice_get xs 0) (sym c.as_slice.ensures.value) ∙ c.bound_at-matched.ensures.value in
-    match_made c.args.level.now.scope.now.sig (map formula_of c.args.level.now.scope.now.bodies) c.args.level.now.below c.args.table.now c.args.env.now (formula_of c.args.tree.now) (cases_of_trees c.args.cases.now) c.first_flag-occurs.result is c.compile_bound.new.table c.in_ok-bounds.bounds (binds_as c.args.level.now.scope.now.sig (map formula_of c.args.level.now.scope.now.bodies) c.args.level.now.below c.args.table.now c.compile_bound.new.table c.args.env.now c.one_flag-flags.result.now _ (formulas_of_trees c.one_tree-trees.result.now) _ _ c.one_flag-flags.ensures.value c.one_tree-trees.ensures.value c.in_ok-bounds.ensures.outcome) c.bound_at-matched.result at c.compile_cases.new.table (ended c.compile_cases.result) c.compile_cases.ensures.outcome
+    match_made c.args.level.now.scope.now.sig (map formula_of c.args.level.now.scope.now.bodies) c.args.level.now.below c.args.table.now c.args.env.now (formula_of c.args.tree.now) (cases_of_trees c.args.cases.now) c.first_flag-occurs.result is c.compile_bound.new.table c.in_ok-bounds.bounds (binds_as c.args.level.now.scope.now.sig (map formula_of c.args.level.now.scope.now.bodies) c.args.level.now.below c.args.table.now c.compile_bound.new.table c.args.env.now c.one_flag-flags.result.now _ (formulas_of_trees c.one_tree-trees.result.now) _ _ c.one_flag-flags.ensures.value c.one_tree-trees.ensures.value c.in_ok-bounds.ensures.outcome) c.bound_at-matched.result at c.compile_cases.new.table (ended c.compile_cases.result) (rw c.in_ok-bounds.ensures.back at c.compile_cases.ensures.outcome)
 
 pub compile_match-returns-clause-waits : goal.compile_match-returns-clause-waits
 compile_match-returns-clause-waits t c =
     let is = match_flag c.args.level.now.scope.now.sig (worked_in c.args.level.now.definitions.now) (uses_below c.args.level.now.scope.now.sig (map formula_of c.args.level.now.scope.now.bodies) c.args.level.now.below) c.args.notes.now c.first_note-note.result.now c.first_note-note.ensures.value (formula_of c.args.tree.now) (cases_of_trees c.args.cases.now) c.bound.result.now c.first_flag-occurs.result c.bound.ensures.value c.first_flag-occurs.ensures.value c.requires.noted.1 in
     let at : slice_get c.in_ok-bounds.bounds 0 ≡ Some c.bound_at-matched.result = ap (λ (xs : List Bound). slice_get xs 0) (sym c.as_slice.ensures.value) ∙ c.bound_at-matched.ensures.value in
-    match_later c.args.level.now.scope.now.sig (map formula_of c.args.level.now.scope.now.bodies) c.args.level.now.below c.args.table.now c.args.env.now (formula_of c.args.tree.now) (cases_of_trees c.args.cases.now) c.first_flag-occurs.result is c.compile_bound.new.table c.in_ok-bounds.bounds (binds_as c.args.level.now.scope.now.sig (map formula_of c.args.level.now.scope.now.bodies) c.args.level.now.below c.args.table.now c.compile_bound.new.table c.args.env.now c.one_flag-flags.result.now _ (formulas_of_trees c.one_tree-trees.result.now) _ _ c.one_flag-flags.ensures.value c.one_tree-trees.ensures.value c.in_ok-bounds.ensures.outcome) c.bound_at-matched.result at (worked_in c.args.level.now.definitions.now) c.compile_cases.new.table c.compile_cases.result c.compile_cases.ensures.waits
+    match_later c.args.level.now.scope.now.sig (map formula_of c.args.level.now.scope.now.bodies) c.args.level.now.below c.args.table.now c.args.env.now (formula_of c.args.tree.now) (cases_of_trees c.args.cases.now) c.first_flag-occurs.result is c.compile_bound.new.table c.in_ok-bounds.bounds (binds_as c.args.level.now.scope.now.sig (map formula_of c.args.level.now.scope.now.bodies) c.args.level.now.below c.args.table.now c.compile_bound.new.table c.args.env.now c.one_flag-flags.result.now _ (formulas_of_trees c.one_tree-trees.result.now) _ _ c.one_flag-flags.ensures.value c.one_tree-trees.ensures.value c.in_ok-bounds.ensures.outcome) c.bound_at-matched.result at (worked_in c.args.level.now.definitions.now) c.compile_cases.new.table c.compile_cases.result (rw c.in_ok-bounds.ensures.back at c.compile_cases.ensures.waits)
 
 pub compile_cases-loop-rest-init : goal.compile_cases-loop-rest-init
 compile_cases-loop-rest-init t c =
-    (subst (λ (gs : List Guarded). Chooses c.args.level.now.scope.now.sig (map formula_of c.args.level.now.scope.now.bodies) c.args.level.now.below c.args.table.now c.args.table.now c.args.env.now c.args.matched (cases_of_trees c.args.cases.now) gs (reverse c.new-earlier.result.items) (cases_of_trees c.args.cases.now)) (sym c.new-made.ensures.items) (subst (λ (cs : List CtorId). Chooses c.args.level.now.scope.now.sig (map formula_of c.args.level.now.scope.now.bodies) c.args.level.now.below c.args.table.now c.args.table.now c.args.env.now c.args.matched (cases_of_trees c.args.cases.now) [] (reverse cs) (cases_of_trees c.args.cases.now)) (sym c.new-earlier.ensures.items) (chooses_start c.args.level.now.scope.now.sig (map formula_of c.args.level.now.scope.now.bodies) c.args.level.now.below c.args.table.now c.args.env.now c.args.matched (cases_of_trees c.args.cases.now) c.requires.ready)), c.requires.state, subst (λ (cs : List CtorId). CasesNoted c.args.level.now.scope.now.sig (worked_in c.args.level.now.definitions.now) (uses_below c.args.level.now.scope.now.sig (map formula_of c.args.level.now.scope.now.bodies) c.args.level.now.below) (reverse cs) (cases_of_trees c.args.cases.now) c.args.notes.now) (sym c.new-earlier.ensures.items) c.requires.noted.1)
+    record { done = subst (λ (gs : List Guarded). Chooses c.args.level.now.scope.now.sig (map formula_of c.args.level.now.scope.now.bodies) c.args.level.now.below c.args.table.now c.args.table.now c.args.env.now c.args.matched (cases_of_trees c.args.cases.now) gs (reverse c.new-earlier.result) (cases_of_trees c.args.cases.now)) (sym c.new-made.ensures.items) (subst (λ (cs : List CtorId). Chooses c.args.level.now.scope.now.sig (map formula_of c.args.level.now.scope.now.bodies) c.args.level.now.below c.args.table.now c.args.table.now c.args.env.now c.args.matched (cases_of_trees c.args.cases.now) [] (reverse cs) (cases_of_trees c.args.cases.now)) (sym c.new-earlier.ensures.empty) (chooses_start c.args.level.now.scope.now.sig (map formula_of c.args.level.now.scope.now.bodies) c.args.level.now.below c.args.table.now c.args.env.now c.args.matched (cases_of_trees c.args.cases.now) c.requires.ready)); state = c.requires.state; noted = subst (λ (cs : List CtorId). CasesNoted c.args.level.now.scope.now.sig (worked_in c.args.level.now.definitions.now) (uses_below c.args.level.now.scope.now.sig (map formula_of c.args.level.now.scope.now.bodies) c.args.level.now.below) (reverse cs) (cases_of_trees c.args.cases.now) c.args.notes.now) (sym c.new-earlier.ensures.empty) c.requires.noted.1; same = refl }
 
 pub compile_cases-tested-requires : goal.compile_cases-tested-requires
 compile_cases-tested-requires t c =
     let rest = take (length c.loop-rest.rest.now - 1) (drop 1 c.loop-rest.rest.now) in
     let whole = cases_is c.loop-rest.rest.now rest c.case-item.result c.pattern_of-pattern.result (formula_of c.body_of-body.result.now) (rest_item c.loop-rest.rest.now c.case-item.result c.in-len1-up.len_at_least c.case-item.is) c.pattern_of-pattern.ensures.value c.body_of-body.ensures.value in
-    let split = subst (λ (cs : Cases). Chooses c.args.level.now.scope.now.sig (map formula_of c.args.level.now.scope.now.bodies) c.args.level.now.below c.args.table.now c.loop-rest.table c.args.env.now c.args.matched (cases_of_trees c.args.cases.now) c.loop-rest.made.items (reverse c.loop-rest.earlier.items) cs) whole c.loop-rest.invariant.0 in
-    let may = chooses_may c.args.level.now.scope.now.sig (map formula_of c.args.level.now.scope.now.bodies) c.args.level.now.below c.args.table.now c.loop-rest.table c.args.env.now c.args.matched (cases_of_trees c.args.cases.now) c.loop-rest.made.items (reverse c.loop-rest.earlier.items) (with_case c.pattern_of-pattern.result (formula_of c.body_of-body.result.now) (cases_of_trees rest)) split in
-    record { declared = case_declared c.args.level.now.scope.now.sig (map formula_of c.args.level.now.scope.now.bodies) c.args.level.now.below c.args.env.now c.args.matched (reverse c.loop-rest.earlier.items) c.pattern_of-pattern.result (formula_of c.body_of-body.result.now) (cases_of_trees rest) c.loop-rest.table may }
+    let split = subst (λ (cs : Cases). Chooses c.args.level.now.scope.now.sig (map formula_of c.args.level.now.scope.now.bodies) c.args.level.now.below c.args.table.now c.loop-rest.table c.args.env.now c.args.matched (cases_of_trees c.args.cases.now) c.loop-rest.made.items (reverse c.loop-rest.earlier) cs) whole c.loop-rest.invariant.done in
+    let may = chooses_may c.args.level.now.scope.now.sig (map formula_of c.args.level.now.scope.now.bodies) c.args.level.now.below c.args.table.now c.loop-rest.table c.args.env.now c.args.matched (cases_of_trees c.args.cases.now) c.loop-rest.made.items (reverse c.loop-rest.earlier) (with_case c.pattern_of-pattern.result (formula_of c.body_of-body.result.now) (cases_of_trees rest)) split in
+    record { declared = case_declared c.args.level.now.scope.now.sig (map formula_of c.args.level.now.scope.now.bodies) c.args.level.now.below c.args.env.now c.args.matched (reverse c.loop-rest.earlier) c.pattern_of-pattern.result (formula_of c.body_of-body.result.now) (cases_of_trees rest) c.loop-rest.table may }
 
 pub compile_cases-compile_case-requires : goal.compile_cases-compile_case-requires
 compile_cases-compile_case-requires t c =
     let rest = take (length c.loop-rest.rest.now - 1) (drop 1 c.loop-rest.rest.now) in
     let whole = cases_is c.loop-rest.rest.now rest c.case-item.result c.pattern_of-pattern.result (formula_of c.body_of-body.result.now) (rest_item c.loop-rest.rest.now c.case-item.result c.in-len1-up.len_at_least c.case-item.is) c.pattern_of-pattern.ensures.value c.body_of-body.ensures.value in
-    let split = subst (λ (cs : Cases). Chooses c.args.level.now.scope.now.sig (map formula_of c.args.level.now.scope.now.bodies) c.args.level.now.below c.args.table.now c.loop-rest.table c.args.env.now c.args.matched (cases_of_trees c.args.cases.now) c.loop-rest.made.items (reverse c.loop-rest.earlier.items) cs) whole c.loop-rest.invariant.0 in
-    let may = chooses_may c.args.level.now.scope.now.sig (map formula_of c.args.level.now.scope.now.bodies) c.args.level.now.below c.args.table.now c.loop-rest.table c.args.env.now c.args.matched (cases_of_trees c.args.cases.now) c.loop-rest.made.items (reverse c.loop-rest.earlier.items) (with_case c.pattern_of-pattern.result (formula_of c.body_of-body.result.now) (cases_of_trees rest)) split in
-    let lighter = chooses_lighter c.args.level.now.scope.now.sig (map formula_of c.args.level.now.scope.now.bodies) c.args.level.now.below c.args.table.now c.loop-rest.table c.args.env.now c.args.matched (cases_of_trees c.args.cases.now) c.loop-rest.made.items (reverse c.loop-rest.earlier.items) c.pattern_of-pattern.result (formula_of c.body_of-body.result.now) (cases_of_trees rest) split in
-    let noted = subst (λ (cs : Cases). CasesNoted c.args.level.now.scope.now.sig (worked_in c.args.level.now.definitions.now) (uses_below c.args.level.now.scope.now.sig (map formula_of c.args.level.now.scope.now.bodies) c.args.level.now.below) (reverse c.loop-rest.earlier.items) cs c.loop-rest.left.now) whole c.loop-rest.invariant.2 in
-    (omega (arith, lighter, c.decreases), (c.loop-rest.invariant.1, (case_declared c.args.level.now.scope.now.sig (map formula_of c.args.level.now.scope.now.bodies) c.args.level.now.below c.args.env.now c.args.matched (reverse c.loop-rest.earlier.items) c.pattern_of-pattern.result (formula_of c.body_of-body.result.now) (cases_of_trees rest) c.loop-rest.table may, (case_body c.args.level.now.scope.now.sig (map formula_of c.args.level.now.scope.now.bodies) c.args.level.now.below c.args.env.now c.args.matched (reverse c.loop-rest.earlier.items) c.pattern_of-pattern.result (formula_of c.body_of-body.result.now) (cases_of_trees rest) c.loop-rest.table may, (c.requires.noted.0, case_notes c.args.level.now.scope.now.sig (worked_in c.args.level.now.definitions.now) (uses_below c.args.level.now.scope.now.sig (map formula_of c.args.level.now.scope.now.bodies) c.args.level.now.below) (reverse c.loop-rest.earlier.items) c.pattern_of-pattern.result (formula_of c.body_of-body.result.now) (cases_of_trees rest) c.loop-rest.left.now noted)))))
+    let split = subst (λ (cs : Cases). Chooses c.args.level.now.scope.now.sig (map formula_of c.args.level.now.scope.now.bodies) c.args.level.now.below c.args.table.now c.loop-rest.table c.args.env.now c.args.matched (cases_of_trees c.args.cases.now) c.loop-rest.made.items (reverse c.loop-rest.earlier) cs) whole c.loop-rest.invariant.done in
+    let may = chooses_may c.args.level.now.scope.now.sig (map formula_of c.args.level.now.scope.now.bodies) c.args.level.now.below c.args.table.now c.loop-rest.table c.args.env.now c.args.matched (cases_of_trees c.args.cases.now) c.loop-rest.made.items (reverse c.loop-rest.earlier) (with_case c.pattern_of-pattern.result (formula_of c.body_of-body.result.now) (cases_of_trees rest)) split in
+    let lighter = chooses_lighter c.args.level.now.scope.now.sig (map formula_of c.args.level.now.scope.now.bodies) c.args.level.now.below c.args.table.now c.loop-rest.table c.args.env.now c.args.matched (cases_of_trees c.args.cases.now) c.loop-rest.made.items (reverse c.loop-rest.earlier) c.pattern_of-pattern.result (formula_of c.body_of-body.result.now) (cases_of_trees rest) split in
+    let noted = subst (λ (cs : Cases). CasesNoted c.args.level.now.scope.now.sig (worked_in c.args.level.now.definitions.now) (uses_below c.args.level.now.scope.now.sig (map formula_of c.args.level.now.scope.now.bodies) c.args.level.now.below) (reverse c.loop-rest.earlier) cs c.loop-rest.left.now) whole c.loop-rest.invariant.noted in
+    (omega (arith, lighter, c.decreases), (c.loop-rest.invariant.state, (case_declared c.args.level.now.scope.now.sig (map formula_of c.args.level.now.scope.now.bodies) c.args.level.now.below c.args.env.now c.args.matched (reverse c.loop-rest.earlier) c.pattern_of-pattern.result (formula_of c.body_of-body.result.now) (cases_of_trees rest) c.loop-rest.table may, (rw c.loop-rest.invariant.same (case_body c.args.level.now.scope.now.sig (map formula_of c.args.level.now.scope.now.bodies) c.args.level.now.below c.args.env.now c.args.matched (reverse c.loop-rest.earlier) c.pattern_of-pattern.result (formula_of c.body_of-body.result.now) (cases_of_trees rest) c.loop-rest.table may), (c.requires.noted.0, case_notes c.args.level.now.scope.now.sig (worked_in c.args.level.now.definitions.now) (uses_below c.args.level.now.scope.now.sig (map formula_of c.args.level.now.scope.now.bodies) c.args.level.now.below) (reverse c.loop-rest.earlier) c.pattern_of-pattern.result (formula_of c.body_of-body.result.now) (cases_of_trees rest) c.loop-rest.left.now noted)))))
 
 pub compile_cases-returns-in_err-last-clause-outcome : goal.compile_cases-returns-in_err-last-clause-outcome
 compile_cases-returns-in_err-last-clause-outcome t c =
     let rest = take (length c.loop-rest.rest.now - 1) (drop 1 c.loop-rest.rest.now) in
     let whole = cases_is c.loop-rest.rest.now rest c.case-item.result c.pattern_of-pattern.result (formula_of c.body_of-body.result.now) (rest_item c.loop-rest.rest.now c.case-item.result c.in-len1-up.len_at_least c.case-item.is) c.pattern_of-pattern.ensures.value c.body_of-body.ensures.value in
-    let split = subst (λ (cs : Cases). Chooses c.args.level.now.scope.now.sig (map formula_of c.args.level.now.scope.now.bodies) c.args.level.now.below c.args.table.now c.loop-rest.table c.args.env.now c.args.matched (cases_of_trees c.args.cases.now) c.loop-rest.made.items (reverse c.loop-rest.earlier.items) cs) whole c.loop-rest.invariant.0 in
-    let test_is : c.tested.result ≡ tested_by c.args.level.now.scope.now.sig (reverse c.loop-rest.earlier.items) c.pattern_of-pattern.result (are_none (cases_of_trees rest)) = c.tested.ensures.value ∙ ap (λ (xs : List CtorId). tested_by c.args.level.now.scope.now.sig (reverse xs) c.pattern_of-pattern.result c.is_empty.result) c.as_slice.ensures.value ∙ ap (tested_by c.args.level.now.scope.now.sig (reverse c.loop-rest.earlier.items) c.pattern_of-pattern.result) (c.is_empty.ensures ∙ none_is rest) in
+    let split = subst (λ (cs : Cases). Chooses c.args.level.now.scope.now.sig (map formula_of c.args.level.now.scope.now.bodies) c.args.level.now.below c.args.table.now c.loop-rest.table c.args.env.now c.args.matched (cases_of_trees c.args.cases.now) c.loop-rest.made.items (reverse c.loop-rest.earlier) cs) whole c.loop-rest.invariant.done in
+    let test_is : c.tested.result ≡ tested_by c.args.level.now.scope.now.sig (reverse c.loop-rest.earlier) c.pattern_of-pattern.result (are_none (cases_of_trees rest)) = c.tested.ensures.value ∙ ap (tested_by c.args.level.now.scope.now.sig (reverse c.loop-rest.earlier) c.pattern_of-pattern.result) (c.is_empty.ensures ∙ none_is rest) in
     let p = err_from_is_err_and c.from_residual.result c.from_residual.ensures.1 in
-    rw (p.1, p.2) (chooses_stopped c.args.level.now.scope.now.sig (map formula_of c.args.level.now.scope.now.bodies) c.args.level.now.below c.args.table.now c.loop-rest.table c.args.env.now c.args.matched (cases_of_trees c.args.cases.now) c.loop-rest.made.items (reverse c.loop-rest.earlier.items) (with_case c.pattern_of-pattern.result (formula_of c.body_of-body.result.now) (cases_of_trees rest)) split c.compile_case.new.table _ (case_ends c.args.level.now.scope.now.sig (map formula_of c.args.level.now.scope.now.bodies) c.args.level.now.below c.args.env.now c.args.matched (reverse c.loop-rest.earlier.items) c.pattern_of-pattern.result (formula_of c.body_of-body.result.now) (cases_of_trees rest) (sym test_is ∙ c.in_default-tested.is) c.loop-rest.table c.compile_case.new.table _ c.in_err-last.ensures.outcome))
+    rw (p.1, p.2) (chooses_stopped c.args.level.now.scope.now.sig (map formula_of c.args.level.now.scope.now.bodies) c.args.level.now.below c.args.table.now c.loop-rest.table c.args.env.now c.args.matched (cases_of_trees c.args.cases.now) c.loop-rest.made.items (reverse c.loop-rest.earlier) (with_case c.pattern_of-pattern.result (formula_of c.body_of-body.result.now) (cases_of_trees rest)) split c.compile_case.new.table _ (case_ends c.args.level.now.scope.now.sig (map formula_of c.args.level.now.scope.now.bodies) c.args.level.now.below c.args.env.now c.args.matched (reverse c.loop-rest.earlier) c.pattern_of-pattern.result (formula_of c.body_of-body.result.now) (cases_of_trees rest) (sym test_is ∙ c.in_default-tested.is) c.loop-rest.table c.compile_case.new.table _ (rw c.loop-rest.invariant.same at c.in_err-last.ensures.outcome)))
 
 pub compile_cases-returns-in_err-last-clause-waits : goal.compile_cases-returns-in_err-last-clause-waits
 compile_cases-returns-in_err-last-clause-waits t c =
     let rest = take (length c.loop-rest.rest.now - 1) (drop 1 c.loop-rest.rest.now) in
     let whole = cases_is c.loop-rest.rest.now rest c.case-item.result c.pattern_of-pattern.result (formula_of c.body_of-body.result.now) (rest_item c.loop-rest.rest.now c.case-item.result c.in-len1-up.len_at_least c.case-item.is) c.pattern_of-pattern.ensures.value c.body_of-body.ensures.value in
-    let split = subst (λ (cs : Cases). Chooses c.args.level.now.scope.now.sig (map formula_of c.args.level.now.scope.now.bodies) c.args.level.now.below c.args.table.now c.loop-rest.table c.args.env.now c.args.matched (cases_of_trees c.args.cases.now) c.loop-rest.made.items (reverse c.loop-rest.earlier.items) cs) whole c.loop-rest.invariant.0 in
-    let test_is : c.tested.result ≡ tested_by c.args.level.now.scope.now.sig (reverse c.loop-rest.earlier.items) c.pattern_of-pattern.result (are_none (cases_of_trees rest)) = c.tested.ensures.value ∙ ap (λ (xs : List CtorId). tested_by c.args.level.now.scope.now.sig (reverse xs) c.pattern_of-pattern.result c.is_empty.result) c.as_slice.ensures.value ∙ ap (tested_by c.args.level.now.scope.now.sig (reverse c.loop-rest.earlier.items) c.pattern_of-pattern.result) (c.is_empty.ensures ∙ none_is rest) in
+    let split = subst (λ (cs : Cases). Chooses c.args.level.now.scope.now.sig (map formula_of c.args.level.now.scope.now.bodies) c.args.level.now.below c.args.table.now c.loop-rest.table c.args.env.now c.args.matched (cases_of_trees c.args.cases.now) c.loop-rest.made.items (reverse c.loop-rest.earlier) cs) whole c.loop-rest.invariant.done in
+    let test_is : c.tested.result ≡ tested_by c.args.level.now.scope.now.sig (reverse c.loop-rest.earlier) c.pattern_of-pattern.result (are_none (cases_of_trees rest)) = c.tested.ensures.value ∙ ap (tested_by c.args.level.now.scope.now.sig (reverse c.loop-rest.earlier) c.pattern_of-pattern.result) (c.is_empty.ensures ∙ none_is rest) in
     let p = err_from_is_err_and c.from_residual.result c.from_residual.ensures.1 in
-    rw (p.1, p.2) (chooses_waits c.args.level.now.scope.now.sig (map formula_of c.args.level.now.scope.now.bodies) c.args.level.now.below c.args.table.now c.loop-rest.table c.args.env.now c.args.matched (cases_of_trees c.args.cases.now) c.loop-rest.made.items (reverse c.loop-rest.earlier.items) (with_case c.pattern_of-pattern.result (formula_of c.body_of-body.result.now) (cases_of_trees rest)) split (worked_in c.args.level.now.definitions.now) c.compile_case.new.table _ (ends_waits c.args.level.now.scope.now.sig (map formula_of c.args.level.now.scope.now.bodies) c.args.level.now.below c.args.env.now c.args.matched (reverse c.loop-rest.earlier.items) c.pattern_of-pattern.result (formula_of c.body_of-body.result.now) (cases_of_trees rest) (worked_in c.args.level.now.definitions.now) (sym test_is ∙ c.in_default-tested.is) c.loop-rest.table c.compile_case.new.table _ c.in_err-last.ensures.waits))
+    rw (p.1, p.2) (chooses_waits c.args.level.now.scope.now.sig (map formula_of c.args.level.now.scope.now.bodies) c.args.level.now.below c.args.table.now c.loop-rest.table c.args.env.now c.args.matched (cases_of_trees c.args.cases.now) c.loop-rest.made.items (reverse c.loop-rest.earlier) (with_case c.pattern_of-pattern.result (formula_of c.body_of-body.result.now) (cases_of_trees rest)) split (worked_in c.args.level.now.definitions.now) c.compile_case.new.table _ (ends_waits c.args.level.now.scope.now.sig (map formula_of c.args.level.now.scope.now.bodies) c.args.level.now.below c.args.env.now c.args.matched (reverse c.loop-rest.earlier) c.pattern_of-pattern.result (formula_of c.body_of-body.result.now) (cases_of_trees rest) (worked_in c.args.level.now.definitions.now) (sym test_is ∙ c.in_default-tested.is) c.loop-rest.table c.compile_case.new.table _ (rw c.loop-rest.invariant.same at c.in_err-last.ensures.waits)))
 
 pub compile_cases-returns-in_err-last-clause-state : goal.compile_cases-returns-in_err-last-clause-state
 compile_cases-returns-in_err-last-clause-state t c =
@@ -651,56 +654,56 @@ pub compile_cases-choices-requires-clause-kept : goal.compile_cases-choices-requ
 compile_cases-choices-requires-clause-kept t c =
     let rest = take (length c.loop-rest.rest.now - 1) (drop 1 c.loop-rest.rest.now) in
     let whole = cases_is c.loop-rest.rest.now rest c.case-item.result c.pattern_of-pattern.result (formula_of c.body_of-body.result.now) (rest_item c.loop-rest.rest.now c.case-item.result c.in-len1-up.len_at_least c.case-item.is) c.pattern_of-pattern.ensures.value c.body_of-body.ensures.value in
-    let split = subst (λ (cs : Cases). Chooses c.args.level.now.scope.now.sig (map formula_of c.args.level.now.scope.now.bodies) c.args.level.now.below c.args.table.now c.loop-rest.table c.args.env.now c.args.matched (cases_of_trees c.args.cases.now) c.loop-rest.made.items (reverse c.loop-rest.earlier.items) cs) whole c.loop-rest.invariant.0 in
-    let test_is : c.tested.result ≡ tested_by c.args.level.now.scope.now.sig (reverse c.loop-rest.earlier.items) c.pattern_of-pattern.result (are_none (cases_of_trees rest)) = c.tested.ensures.value ∙ ap (λ (xs : List CtorId). tested_by c.args.level.now.scope.now.sig (reverse xs) c.pattern_of-pattern.result c.is_empty.result) c.as_slice.ensures.value ∙ ap (tested_by c.args.level.now.scope.now.sig (reverse c.loop-rest.earlier.items) c.pattern_of-pattern.result) (c.is_empty.ensures ∙ none_is rest) in
-    let one = case_ends c.args.level.now.scope.now.sig (map formula_of c.args.level.now.scope.now.bodies) c.args.level.now.below c.args.env.now c.args.matched (reverse c.loop-rest.earlier.items) c.pattern_of-pattern.result (formula_of c.body_of-body.result.now) (cases_of_trees rest) (sym test_is ∙ c.in_default-tested.is) c.loop-rest.table c.compile_case.new.table (Ok c.in_ok-last.last) c.in_ok-last.ensures.outcome in
-    last_kept c.args.level.now.scope.now.sig (map formula_of c.args.level.now.scope.now.bodies) c.args.level.now.below c.args.table.now c.loop-rest.table c.args.env.now c.args.matched (cases_of_trees c.args.cases.now) c.loop-rest.made.items (reverse c.loop-rest.earlier.items) (with_case c.pattern_of-pattern.result (formula_of c.body_of-body.result.now) (cases_of_trees rest)) split c.compile_case.new.table c.in_ok-last.last one
+    let split = subst (λ (cs : Cases). Chooses c.args.level.now.scope.now.sig (map formula_of c.args.level.now.scope.now.bodies) c.args.level.now.below c.args.table.now c.loop-rest.table c.args.env.now c.args.matched (cases_of_trees c.args.cases.now) c.loop-rest.made.items (reverse c.loop-rest.earlier) cs) whole c.loop-rest.invariant.done in
+    let test_is : c.tested.result ≡ tested_by c.args.level.now.scope.now.sig (reverse c.loop-rest.earlier) c.pattern_of-pattern.result (are_none (cases_of_trees rest)) = c.tested.ensures.value ∙ ap (tested_by c.args.level.now.scope.now.sig (reverse c.loop-rest.earlier) c.pattern_of-pattern.result) (c.is_empty.ensures ∙ none_is rest) in
+    let one = case_ends c.args.level.now.scope.now.sig (map formula_of c.args.level.now.scope.now.bodies) c.args.level.now.below c.args.env.now c.args.matched (reverse c.loop-rest.earlier) c.pattern_of-pattern.result (formula_of c.body_of-body.result.now) (cases_of_trees rest) (sym test_is ∙ c.in_default-tested.is) c.loop-rest.table c.compile_case.new.table (Ok c.in_ok-last.last) (rw c.loop-rest.invariant.same at c.in_ok-last.ensures.outcome) in
+    last_kept c.args.level.now.scope.now.sig (map formula_of c.args.level.now.scope.now.bodies) c.args.level.now.below c.args.table.now c.loop-rest.table c.args.env.now c.args.matched (cases_of_trees c.args.cases.now) c.loop-rest.made.items (reverse c.loop-rest.earlier) (with_case c.pattern_of-pattern.result (formula_of c.body_of-body.result.now) (cases_of_trees rest)) split c.compile_case.new.table c.in_ok-last.last one
 
 pub compile_cases-choices-requires-clause-below : goal.compile_cases-choices-requires-clause-below
 compile_cases-choices-requires-clause-below t c =
     let rest = take (length c.loop-rest.rest.now - 1) (drop 1 c.loop-rest.rest.now) in
     let whole = cases_is c.loop-rest.rest.now rest c.case-item.result c.pattern_of-pattern.result (formula_of c.body_of-body.result.now) (rest_item c.loop-rest.rest.now c.case-item.result c.in-len1-up.len_at_least c.case-item.is) c.pattern_of-pattern.ensures.value c.body_of-body.ensures.value in
-    let split = subst (λ (cs : Cases). Chooses c.args.level.now.scope.now.sig (map formula_of c.args.level.now.scope.now.bodies) c.args.level.now.below c.args.table.now c.loop-rest.table c.args.env.now c.args.matched (cases_of_trees c.args.cases.now) c.loop-rest.made.items (reverse c.loop-rest.earlier.items) cs) whole c.loop-rest.invariant.0 in
-    let test_is : c.tested.result ≡ tested_by c.args.level.now.scope.now.sig (reverse c.loop-rest.earlier.items) c.pattern_of-pattern.result (are_none (cases_of_trees rest)) = c.tested.ensures.value ∙ ap (λ (xs : List CtorId). tested_by c.args.level.now.scope.now.sig (reverse xs) c.pattern_of-pattern.result c.is_empty.result) c.as_slice.ensures.value ∙ ap (tested_by c.args.level.now.scope.now.sig (reverse c.loop-rest.earlier.items) c.pattern_of-pattern.result) (c.is_empty.ensures ∙ none_is rest) in
-    let one = case_ends c.args.level.now.scope.now.sig (map formula_of c.args.level.now.scope.now.bodies) c.args.level.now.below c.args.env.now c.args.matched (reverse c.loop-rest.earlier.items) c.pattern_of-pattern.result (formula_of c.body_of-body.result.now) (cases_of_trees rest) (sym test_is ∙ c.in_default-tested.is) c.loop-rest.table c.compile_case.new.table (Ok c.in_ok-last.last) c.in_ok-last.ensures.outcome in
-    subst (λ (gs : List Guarded). AllByRecursion (IsGuardedIn c.compile_case.new.table) gs) (sym c.as_slice-in_default-tested.ensures.value) (last_below c.args.level.now.scope.now.sig (map formula_of c.args.level.now.scope.now.bodies) c.args.level.now.below c.args.table.now c.loop-rest.table c.args.env.now c.args.matched (cases_of_trees c.args.cases.now) c.loop-rest.made.items (reverse c.loop-rest.earlier.items) (with_case c.pattern_of-pattern.result (formula_of c.body_of-body.result.now) (cases_of_trees rest)) split c.compile_case.new.table c.in_ok-last.last one)
+    let split = subst (λ (cs : Cases). Chooses c.args.level.now.scope.now.sig (map formula_of c.args.level.now.scope.now.bodies) c.args.level.now.below c.args.table.now c.loop-rest.table c.args.env.now c.args.matched (cases_of_trees c.args.cases.now) c.loop-rest.made.items (reverse c.loop-rest.earlier) cs) whole c.loop-rest.invariant.done in
+    let test_is : c.tested.result ≡ tested_by c.args.level.now.scope.now.sig (reverse c.loop-rest.earlier) c.pattern_of-pattern.result (are_none (cases_of_trees rest)) = c.tested.ensures.value ∙ ap (tested_by c.args.level.now.scope.now.sig (reverse c.loop-rest.earlier) c.pattern_of-pattern.result) (c.is_empty.ensures ∙ none_is rest) in
+    let one = case_ends c.args.level.now.scope.now.sig (map formula_of c.args.level.now.scope.now.bodies) c.args.level.now.below c.args.env.now c.args.matched (reverse c.loop-rest.earlier) c.pattern_of-pattern.result (formula_of c.body_of-body.result.now) (cases_of_trees rest) (sym test_is ∙ c.in_default-tested.is) c.loop-rest.table c.compile_case.new.table (Ok c.in_ok-last.last) (rw c.loop-rest.invariant.same at c.in_ok-last.ensures.outcome) in
+    subst (λ (gs : List Guarded). AllByRecursion (IsGuardedIn c.compile_case.new.table) gs) (sym c.as_slice.ensures.value) (last_below c.args.level.now.scope.now.sig (map formula_of c.args.level.now.scope.now.bodies) c.args.level.now.below c.args.table.now c.loop-rest.table c.args.env.now c.args.matched (cases_of_trees c.args.cases.now) c.loop-rest.made.items (reverse c.loop-rest.earlier) (with_case c.pattern_of-pattern.result (formula_of c.body_of-body.result.now) (cases_of_trees rest)) split c.compile_case.new.table c.in_ok-last.last one)
 
 pub compile_cases-choices-requires-clause-inside : goal.compile_cases-choices-requires-clause-inside
 compile_cases-choices-requires-clause-inside t c =
     let rest = take (length c.loop-rest.rest.now - 1) (drop 1 c.loop-rest.rest.now) in
     let whole = cases_is c.loop-rest.rest.now rest c.case-item.result c.pattern_of-pattern.result (formula_of c.body_of-body.result.now) (rest_item c.loop-rest.rest.now c.case-item.result c.in-len1-up.len_at_least c.case-item.is) c.pattern_of-pattern.ensures.value c.body_of-body.ensures.value in
-    let split = subst (λ (cs : Cases). Chooses c.args.level.now.scope.now.sig (map formula_of c.args.level.now.scope.now.bodies) c.args.level.now.below c.args.table.now c.loop-rest.table c.args.env.now c.args.matched (cases_of_trees c.args.cases.now) c.loop-rest.made.items (reverse c.loop-rest.earlier.items) cs) whole c.loop-rest.invariant.0 in
-    let test_is : c.tested.result ≡ tested_by c.args.level.now.scope.now.sig (reverse c.loop-rest.earlier.items) c.pattern_of-pattern.result (are_none (cases_of_trees rest)) = c.tested.ensures.value ∙ ap (λ (xs : List CtorId). tested_by c.args.level.now.scope.now.sig (reverse xs) c.pattern_of-pattern.result c.is_empty.result) c.as_slice.ensures.value ∙ ap (tested_by c.args.level.now.scope.now.sig (reverse c.loop-rest.earlier.items) c.pattern_of-pattern.result) (c.is_empty.ensures ∙ none_is rest) in
-    let one = case_ends c.args.level.now.scope.now.sig (map formula_of c.args.level.now.scope.now.bodies) c.args.level.now.below c.args.env.now c.args.matched (reverse c.loop-rest.earlier.items) c.pattern_of-pattern.result (formula_of c.body_of-body.result.now) (cases_of_trees rest) (sym test_is ∙ c.in_default-tested.is) c.loop-rest.table c.compile_case.new.table (Ok c.in_ok-last.last) c.in_ok-last.ensures.outcome in
-    last_inside c.args.level.now.scope.now.sig (map formula_of c.args.level.now.scope.now.bodies) c.args.level.now.below c.args.table.now c.loop-rest.table c.args.env.now c.args.matched (cases_of_trees c.args.cases.now) c.loop-rest.made.items (reverse c.loop-rest.earlier.items) (with_case c.pattern_of-pattern.result (formula_of c.body_of-body.result.now) (cases_of_trees rest)) split c.compile_case.new.table c.in_ok-last.last one
+    let split = subst (λ (cs : Cases). Chooses c.args.level.now.scope.now.sig (map formula_of c.args.level.now.scope.now.bodies) c.args.level.now.below c.args.table.now c.loop-rest.table c.args.env.now c.args.matched (cases_of_trees c.args.cases.now) c.loop-rest.made.items (reverse c.loop-rest.earlier) cs) whole c.loop-rest.invariant.done in
+    let test_is : c.tested.result ≡ tested_by c.args.level.now.scope.now.sig (reverse c.loop-rest.earlier) c.pattern_of-pattern.result (are_none (cases_of_trees rest)) = c.tested.ensures.value ∙ ap (tested_by c.args.level.now.scope.now.sig (reverse c.loop-rest.earlier) c.pattern_of-pattern.result) (c.is_empty.ensures ∙ none_is rest) in
+    let one = case_ends c.args.level.now.scope.now.sig (map formula_of c.args.level.now.scope.now.bodies) c.args.level.now.below c.args.env.now c.args.matched (reverse c.loop-rest.earlier) c.pattern_of-pattern.result (formula_of c.body_of-body.result.now) (cases_of_trees rest) (sym test_is ∙ c.in_default-tested.is) c.loop-rest.table c.compile_case.new.table (Ok c.in_ok-last.last) (rw c.loop-rest.invariant.same at c.in_ok-last.ensures.outcome) in
+    last_inside c.args.level.now.scope.now.sig (map formula_of c.args.level.now.scope.now.bodies) c.args.level.now.below c.args.table.now c.loop-rest.table c.args.env.now c.args.matched (cases_of_trees c.args.cases.now) c.loop-rest.made.items (reverse c.loop-rest.earlier) (with_case c.pattern_of-pattern.result (formula_of c.body_of-body.result.now) (cases_of_trees rest)) split c.compile_case.new.table c.in_ok-last.last one
 
 pub compile_cases-choices-requires-clause-sorted : goal.compile_cases-choices-requires-clause-sorted
 compile_cases-choices-requires-clause-sorted t c =
     let rest = take (length c.loop-rest.rest.now - 1) (drop 1 c.loop-rest.rest.now) in
     let whole = cases_is c.loop-rest.rest.now rest c.case-item.result c.pattern_of-pattern.result (formula_of c.body_of-body.result.now) (rest_item c.loop-rest.rest.now c.case-item.result c.in-len1-up.len_at_least c.case-item.is) c.pattern_of-pattern.ensures.value c.body_of-body.ensures.value in
-    let split = subst (λ (cs : Cases). Chooses c.args.level.now.scope.now.sig (map formula_of c.args.level.now.scope.now.bodies) c.args.level.now.below c.args.table.now c.loop-rest.table c.args.env.now c.args.matched (cases_of_trees c.args.cases.now) c.loop-rest.made.items (reverse c.loop-rest.earlier.items) cs) whole c.loop-rest.invariant.0 in
-    let test_is : c.tested.result ≡ tested_by c.args.level.now.scope.now.sig (reverse c.loop-rest.earlier.items) c.pattern_of-pattern.result (are_none (cases_of_trees rest)) = c.tested.ensures.value ∙ ap (λ (xs : List CtorId). tested_by c.args.level.now.scope.now.sig (reverse xs) c.pattern_of-pattern.result c.is_empty.result) c.as_slice.ensures.value ∙ ap (tested_by c.args.level.now.scope.now.sig (reverse c.loop-rest.earlier.items) c.pattern_of-pattern.result) (c.is_empty.ensures ∙ none_is rest) in
-    let one = case_ends c.args.level.now.scope.now.sig (map formula_of c.args.level.now.scope.now.bodies) c.args.level.now.below c.args.env.now c.args.matched (reverse c.loop-rest.earlier.items) c.pattern_of-pattern.result (formula_of c.body_of-body.result.now) (cases_of_trees rest) (sym test_is ∙ c.in_default-tested.is) c.loop-rest.table c.compile_case.new.table (Ok c.in_ok-last.last) c.in_ok-last.ensures.outcome in
-    subst (λ (gs : List Guarded). (sort : SortId) × HasTreeSort c.args.level.now.scope.now.sig (chosen_from (term_at c.compile_case.new.table) gs (term_at c.compile_case.new.table c.in_ok-last.last)) sort) (sym c.as_slice-in_default-tested.ensures.value) (last_sorted c.args.level.now.scope.now.sig (map formula_of c.args.level.now.scope.now.bodies) c.args.level.now.below c.args.table.now c.loop-rest.table c.args.env.now c.args.matched (cases_of_trees c.args.cases.now) c.loop-rest.made.items (reverse c.loop-rest.earlier.items) (with_case c.pattern_of-pattern.result (formula_of c.body_of-body.result.now) (cases_of_trees rest)) split c.compile_case.new.table c.in_ok-last.last one)
+    let split = subst (λ (cs : Cases). Chooses c.args.level.now.scope.now.sig (map formula_of c.args.level.now.scope.now.bodies) c.args.level.now.below c.args.table.now c.loop-rest.table c.args.env.now c.args.matched (cases_of_trees c.args.cases.now) c.loop-rest.made.items (reverse c.loop-rest.earlier) cs) whole c.loop-rest.invariant.done in
+    let test_is : c.tested.result ≡ tested_by c.args.level.now.scope.now.sig (reverse c.loop-rest.earlier) c.pattern_of-pattern.result (are_none (cases_of_trees rest)) = c.tested.ensures.value ∙ ap (tested_by c.args.level.now.scope.now.sig (reverse c.loop-rest.earlier) c.pattern_of-pattern.result) (c.is_empty.ensures ∙ none_is rest) in
+    let one = case_ends c.args.level.now.scope.now.sig (map formula_of c.args.level.now.scope.now.bodies) c.args.level.now.below c.args.env.now c.args.matched (reverse c.loop-rest.earlier) c.pattern_of-pattern.result (formula_of c.body_of-body.result.now) (cases_of_trees rest) (sym test_is ∙ c.in_default-tested.is) c.loop-rest.table c.compile_case.new.table (Ok c.in_ok-last.last) (rw c.loop-rest.invariant.same at c.in_ok-last.ensures.outcome) in
+    subst (λ (gs : List Guarded). (sort : SortId) × HasTreeSort c.args.level.now.scope.now.sig (chosen_from (term_at c.compile_case.new.table) gs (term_at c.compile_case.new.table c.in_ok-last.last)) sort) (sym c.as_slice.ensures.value) (last_sorted c.args.level.now.scope.now.sig (map formula_of c.args.level.now.scope.now.bodies) c.args.level.now.below c.args.table.now c.loop-rest.table c.args.env.now c.args.matched (cases_of_trees c.args.cases.now) c.loop-rest.made.items (reverse c.loop-rest.earlier) (with_case c.pattern_of-pattern.result (formula_of c.body_of-body.result.now) (cases_of_trees rest)) split c.compile_case.new.table c.in_ok-last.last one)
 
 pub compile_cases-returns-in_default-tested-clause-outcome : goal.compile_cases-returns-in_default-tested-clause-outcome
 compile_cases-returns-in_default-tested-clause-outcome t c =
     let rest = take (length c.loop-rest.rest.now - 1) (drop 1 c.loop-rest.rest.now) in
     let whole = cases_is c.loop-rest.rest.now rest c.case-item.result c.pattern_of-pattern.result (formula_of c.body_of-body.result.now) (rest_item c.loop-rest.rest.now c.case-item.result c.in-len1-up.len_at_least c.case-item.is) c.pattern_of-pattern.ensures.value c.body_of-body.ensures.value in
-    let split = subst (λ (cs : Cases). Chooses c.args.level.now.scope.now.sig (map formula_of c.args.level.now.scope.now.bodies) c.args.level.now.below c.args.table.now c.loop-rest.table c.args.env.now c.args.matched (cases_of_trees c.args.cases.now) c.loop-rest.made.items (reverse c.loop-rest.earlier.items) cs) whole c.loop-rest.invariant.0 in
-    let test_is : c.tested.result ≡ tested_by c.args.level.now.scope.now.sig (reverse c.loop-rest.earlier.items) c.pattern_of-pattern.result (are_none (cases_of_trees rest)) = c.tested.ensures.value ∙ ap (λ (xs : List CtorId). tested_by c.args.level.now.scope.now.sig (reverse xs) c.pattern_of-pattern.result c.is_empty.result) c.as_slice.ensures.value ∙ ap (tested_by c.args.level.now.scope.now.sig (reverse c.loop-rest.earlier.items) c.pattern_of-pattern.result) (c.is_empty.ensures ∙ none_is rest) in
-    let one = case_ends c.args.level.now.scope.now.sig (map formula_of c.args.level.now.scope.now.bodies) c.args.level.now.below c.args.env.now c.args.matched (reverse c.loop-rest.earlier.items) c.pattern_of-pattern.result (formula_of c.body_of-body.result.now) (cases_of_trees rest) (sym test_is ∙ c.in_default-tested.is) c.loop-rest.table c.compile_case.new.table (Ok c.in_ok-last.last) c.in_ok-last.ensures.outcome in
-    chooses_end c.args.level.now.scope.now.sig (map formula_of c.args.level.now.scope.now.bodies) c.args.level.now.below c.args.table.now c.loop-rest.table c.args.env.now c.args.matched (cases_of_trees c.args.cases.now) c.loop-rest.made.items (reverse c.loop-rest.earlier.items) (with_case c.pattern_of-pattern.result (formula_of c.body_of-body.result.now) (cases_of_trees rest)) split c.compile_case.new.table c.in_ok-last.last one c.choices.new.table (Ok c.in_ok-choices.field-0) (subst (λ (gs : List Guarded). IfOk {E = TermError} (Ok c.in_ok-choices.field-0) (λ x. Stands c.choices.new.table x (chosen_from (term_at c.compile_case.new.table) gs (term_at c.compile_case.new.table c.in_ok-last.last)))) c.as_slice-in_default-tested.ensures.value c.in_ok-choices.ensures.core) (subst (λ (gs : List Guarded). (allowed : List CoreTree) → Within allowed (chosen_from (term_at c.compile_case.new.table) gs (term_at c.compile_case.new.table c.in_ok-last.last)) → Effect c.args.level.now.scope.now.sig allowed c.compile_case.new.table c.choices.new.table (IsErrOf (Ok c.in_ok-choices.field-0) Full)) c.as_slice-in_default-tested.ensures.value c.in_ok-choices.ensures.effect)
+    let split = subst (λ (cs : Cases). Chooses c.args.level.now.scope.now.sig (map formula_of c.args.level.now.scope.now.bodies) c.args.level.now.below c.args.table.now c.loop-rest.table c.args.env.now c.args.matched (cases_of_trees c.args.cases.now) c.loop-rest.made.items (reverse c.loop-rest.earlier) cs) whole c.loop-rest.invariant.done in
+    let test_is : c.tested.result ≡ tested_by c.args.level.now.scope.now.sig (reverse c.loop-rest.earlier) c.pattern_of-pattern.result (are_none (cases_of_trees rest)) = c.tested.ensures.value ∙ ap (tested_by c.args.level.now.scope.now.sig (reverse c.loop-rest.earlier) c.pattern_of-pattern.result) (c.is_empty.ensures ∙ none_is rest) in
+    let one = case_ends c.args.level.now.scope.now.sig (map formula_of c.args.level.now.scope.now.bodies) c.args.level.now.below c.args.env.now c.args.matched (reverse c.loop-rest.earlier) c.pattern_of-pattern.result (formula_of c.body_of-body.result.now) (cases_of_trees rest) (sym test_is ∙ c.in_default-tested.is) c.loop-rest.table c.compile_case.new.table (Ok c.in_ok-last.last) (rw c.loop-rest.invariant.same at c.in_ok-last.ensures.outcome) in
+    chooses_end c.args.level.now.scope.now.sig (map formula_of c.args.level.now.scope.now.bodies) c.args.level.now.below c.args.table.now c.loop-rest.table c.args.env.now c.args.matched (cases_of_trees c.args.cases.now) c.loop-rest.made.items (reverse c.loop-rest.earlier) (with_case c.pattern_of-pattern.result (formula_of c.body_of-body.result.now) (cases_of_trees rest)) split c.compile_case.new.table c.in_ok-last.last one c.choices.new.table (Ok c.in_ok-choices.field-0) (subst (λ (gs : List Guarded). IfOk {E = TermError} (Ok c.in_ok-choices.field-0) (λ x. Stands c.choices.new.table x (chosen_from (term_at c.compile_case.new.table) gs (term_at c.compile_case.new.table c.in_ok-last.last)))) c.as_slice.ensures.value c.in_ok-choices.ensures.core) (subst (λ (gs : List Guarded). (allowed : List CoreTree) → Within allowed (chosen_from (term_at c.compile_case.new.table) gs (term_at c.compile_case.new.table c.in_ok-last.last)) → Effect c.args.level.now.scope.now.sig allowed c.compile_case.new.table c.choices.new.table (IsErrOf (Ok c.in_ok-choices.field-0) Full)) c.as_slice.ensures.value c.in_ok-choices.ensures.effect)
 
 pub compile_cases-returns-in_err-choices-clause-outcome : goal.compile_cases-returns-in_err-choices-clause-outcome
 compile_cases-returns-in_err-choices-clause-outcome t c =
     let rest = take (length c.loop-rest.rest.now - 1) (drop 1 c.loop-rest.rest.now) in
     let whole = cases_is c.loop-rest.rest.now rest c.case-item.result c.pattern_of-pattern.result (formula_of c.body_of-body.result.now) (rest_item c.loop-rest.rest.now c.case-item.result c.in-len1-up.len_at_least c.case-item.is) c.pattern_of-pattern.ensures.value c.body_of-body.ensures.value in
-    let split = subst (λ (cs : Cases). Chooses c.args.level.now.scope.now.sig (map formula_of c.args.level.now.scope.now.bodies) c.args.level.now.below c.args.table.now c.loop-rest.table c.args.env.now c.args.matched (cases_of_trees c.args.cases.now) c.loop-rest.made.items (reverse c.loop-rest.earlier.items) cs) whole c.loop-rest.invariant.0 in
-    let test_is : c.tested.result ≡ tested_by c.args.level.now.scope.now.sig (reverse c.loop-rest.earlier.items) c.pattern_of-pattern.result (are_none (cases_of_trees rest)) = c.tested.ensures.value ∙ ap (λ (xs : List CtorId). tested_by c.args.level.now.scope.now.sig (reverse xs) c.pattern_of-pattern.result c.is_empty.result) c.as_slice.ensures.value ∙ ap (tested_by c.args.level.now.scope.now.sig (reverse c.loop-rest.earlier.items) c.pattern_of-pattern.result) (c.is_empty.ensures ∙ none_is rest) in
-    let one = case_ends c.args.level.now.scope.now.sig (map formula_of c.args.level.now.scope.now.bodies) c.args.level.now.below c.args.env.now c.args.matched (reverse c.loop-rest.earlier.items) c.pattern_of-pattern.result (formula_of c.body_of-body.result.now) (cases_of_trees rest) (sym test_is ∙ c.in_default-tested.is) c.loop-rest.table c.compile_case.new.table (Ok c.in_ok-last.last) c.in_ok-last.ensures.outcome in
+    let split = subst (λ (cs : Cases). Chooses c.args.level.now.scope.now.sig (map formula_of c.args.level.now.scope.now.bodies) c.args.level.now.below c.args.table.now c.loop-rest.table c.args.env.now c.args.matched (cases_of_trees c.args.cases.now) c.loop-rest.made.items (reverse c.loop-rest.earlier) cs) whole c.loop-rest.invariant.done in
+    let test_is : c.tested.result ≡ tested_by c.args.level.now.scope.now.sig (reverse c.loop-rest.earlier) c.pattern_of-pattern.result (are_none (cases_of_trees rest)) = c.tested.ensures.value ∙ ap (tested_by c.args.level.now.scope.now.sig (reverse c.loop-rest.earlier) c.pattern_of-pattern.result) (c.is_empty.ensures ∙ none_is rest) in
+    let one = case_ends c.args.level.now.scope.now.sig (map formula_of c.args.level.now.scope.now.bodies) c.args.level.now.below c.args.env.now c.args.matched (reverse c.loop-rest.earlier) c.pattern_of-pattern.result (formula_of c.body_of-body.result.now) (cases_of_trees rest) (sym test_is ∙ c.in_default-tested.is) c.loop-rest.table c.compile_case.new.table (Ok c.in_ok-last.last) (rw c.loop-rest.invariant.same at c.in_ok-last.ensures.outcome) in
     let p = err_from_is_err_and c.from_residual-in_err-choices.result c.from_residual-in_err-choices.ensures.1 in
-    rw (p.1, p.2) (chooses_end c.args.level.now.scope.now.sig (map formula_of c.args.level.now.scope.now.bodies) c.args.level.now.below c.args.table.now c.loop-rest.table c.args.env.now c.args.matched (cases_of_trees c.args.cases.now) c.loop-rest.made.items (reverse c.loop-rest.earlier.items) (with_case c.pattern_of-pattern.result (formula_of c.body_of-body.result.now) (cases_of_trees rest)) split c.compile_case.new.table c.in_ok-last.last one c.choices.new.table (Err c.in_err-choices.field-0.0) (subst (λ (gs : List Guarded). IfOk (Err c.in_err-choices.field-0.0) (λ x. Stands c.choices.new.table x (chosen_from (term_at c.compile_case.new.table) gs (term_at c.compile_case.new.table c.in_ok-last.last)))) c.as_slice-in_default-tested.ensures.value c.in_err-choices.ensures.core) (subst (λ (gs : List Guarded). (allowed : List CoreTree) → Within allowed (chosen_from (term_at c.compile_case.new.table) gs (term_at c.compile_case.new.table c.in_ok-last.last)) → Effect c.args.level.now.scope.now.sig allowed c.compile_case.new.table c.choices.new.table (IsErrOf {T = TermId} (Err c.in_err-choices.field-0.0) Full)) c.as_slice-in_default-tested.ensures.value c.in_err-choices.ensures.effect))
+    rw (p.1, p.2) (chooses_end c.args.level.now.scope.now.sig (map formula_of c.args.level.now.scope.now.bodies) c.args.level.now.below c.args.table.now c.loop-rest.table c.args.env.now c.args.matched (cases_of_trees c.args.cases.now) c.loop-rest.made.items (reverse c.loop-rest.earlier) (with_case c.pattern_of-pattern.result (formula_of c.body_of-body.result.now) (cases_of_trees rest)) split c.compile_case.new.table c.in_ok-last.last one c.choices.new.table (Err c.in_err-choices.field-0.0) (subst (λ (gs : List Guarded). IfOk (Err c.in_err-choices.field-0.0) (λ x. Stands c.choices.new.table x (chosen_from (term_at c.compile_case.new.table) gs (term_at c.compile_case.new.table c.in_ok-last.last)))) c.as_slice.ensures.value c.in_err-choices.ensures.core) (subst (λ (gs : List Guarded). (allowed : List CoreTree) → Within allowed (chosen_from (term_at c.compile_case.new.table) gs (term_at c.compile_case.new.table c.in_ok-last.last)) → Effect c.args.level.now.scope.now.sig allowed c.compile_case.new.table c.choices.new.table (IsErrOf {T = TermId} (Err c.in_err-choices.field-0.0) Full)) c.as_slice.ensures.value c.in_err-choices.ensures.effect))
 
 pub compile_cases-returns-in_default-tested-clause-state : goal.compile_cases-returns-in_default-tested-clause-state
 compile_cases-returns-in_default-tested-clause-state t c =
@@ -710,67 +713,67 @@ pub compile_cases-make_test-requires-clause-kept : goal.compile_cases-make_test-
 compile_cases-make_test-requires-clause-kept t c =
     let rest = take (length c.loop-rest.rest.now - 1) (drop 1 c.loop-rest.rest.now) in
     let whole = cases_is c.loop-rest.rest.now rest c.case-item.result c.pattern_of-pattern.result (formula_of c.body_of-body.result.now) (rest_item c.loop-rest.rest.now c.case-item.result c.in-len1-up.len_at_least c.case-item.is) c.pattern_of-pattern.ensures.value c.body_of-body.ensures.value in
-    let split = subst (λ (cs : Cases). Chooses c.args.level.now.scope.now.sig (map formula_of c.args.level.now.scope.now.bodies) c.args.level.now.below c.args.table.now c.loop-rest.table c.args.env.now c.args.matched (cases_of_trees c.args.cases.now) c.loop-rest.made.items (reverse c.loop-rest.earlier.items) cs) whole c.loop-rest.invariant.0 in
-    let may = chooses_may c.args.level.now.scope.now.sig (map formula_of c.args.level.now.scope.now.bodies) c.args.level.now.below c.args.table.now c.loop-rest.table c.args.env.now c.args.matched (cases_of_trees c.args.cases.now) c.loop-rest.made.items (reverse c.loop-rest.earlier.items) (with_case c.pattern_of-pattern.result (formula_of c.body_of-body.result.now) (cases_of_trees rest)) split in
-    let test_is : c.tested.result ≡ tested_by c.args.level.now.scope.now.sig (reverse c.loop-rest.earlier.items) c.pattern_of-pattern.result (are_none (cases_of_trees rest)) = c.tested.ensures.value ∙ ap (λ (xs : List CtorId). tested_by c.args.level.now.scope.now.sig (reverse xs) c.pattern_of-pattern.result c.is_empty.result) c.as_slice.ensures.value ∙ ap (tested_by c.args.level.now.scope.now.sig (reverse c.loop-rest.earlier.items) c.pattern_of-pattern.result) (c.is_empty.ensures ∙ none_is rest) in
-    test_kept c.args.level.now.scope.now.sig (map formula_of c.args.level.now.scope.now.bodies) c.args.level.now.below c.args.env.now c.args.matched (reverse c.loop-rest.earlier.items) c.pattern_of-pattern.result (formula_of c.body_of-body.result.now) (cases_of_trees rest) c.in-Some.c (sym test_is ∙ c.in-Some.is) c.loop-rest.table may
+    let split = subst (λ (cs : Cases). Chooses c.args.level.now.scope.now.sig (map formula_of c.args.level.now.scope.now.bodies) c.args.level.now.below c.args.table.now c.loop-rest.table c.args.env.now c.args.matched (cases_of_trees c.args.cases.now) c.loop-rest.made.items (reverse c.loop-rest.earlier) cs) whole c.loop-rest.invariant.done in
+    let may = chooses_may c.args.level.now.scope.now.sig (map formula_of c.args.level.now.scope.now.bodies) c.args.level.now.below c.args.table.now c.loop-rest.table c.args.env.now c.args.matched (cases_of_trees c.args.cases.now) c.loop-rest.made.items (reverse c.loop-rest.earlier) (with_case c.pattern_of-pattern.result (formula_of c.body_of-body.result.now) (cases_of_trees rest)) split in
+    let test_is : c.tested.result ≡ tested_by c.args.level.now.scope.now.sig (reverse c.loop-rest.earlier) c.pattern_of-pattern.result (are_none (cases_of_trees rest)) = c.tested.ensures.value ∙ ap (tested_by c.args.level.now.scope.now.sig (reverse c.loop-rest.earlier) c.pattern_of-pattern.result) (c.is_empty.ensures ∙ none_is rest) in
+    test_kept c.args.level.now.scope.now.sig (map formula_of c.args.level.now.scope.now.bodies) c.args.level.now.below c.args.env.now c.args.matched (reverse c.loop-rest.earlier) c.pattern_of-pattern.result (formula_of c.body_of-body.result.now) (cases_of_trees rest) c.in-Some.c (sym test_is ∙ c.in-Some.is) c.loop-rest.table may
 
 pub compile_cases-make_test-requires-clause-there : goal.compile_cases-make_test-requires-clause-there
 compile_cases-make_test-requires-clause-there t c =
     let rest = take (length c.loop-rest.rest.now - 1) (drop 1 c.loop-rest.rest.now) in
     let whole = cases_is c.loop-rest.rest.now rest c.case-item.result c.pattern_of-pattern.result (formula_of c.body_of-body.result.now) (rest_item c.loop-rest.rest.now c.case-item.result c.in-len1-up.len_at_least c.case-item.is) c.pattern_of-pattern.ensures.value c.body_of-body.ensures.value in
-    let split = subst (λ (cs : Cases). Chooses c.args.level.now.scope.now.sig (map formula_of c.args.level.now.scope.now.bodies) c.args.level.now.below c.args.table.now c.loop-rest.table c.args.env.now c.args.matched (cases_of_trees c.args.cases.now) c.loop-rest.made.items (reverse c.loop-rest.earlier.items) cs) whole c.loop-rest.invariant.0 in
-    let may = chooses_may c.args.level.now.scope.now.sig (map formula_of c.args.level.now.scope.now.bodies) c.args.level.now.below c.args.table.now c.loop-rest.table c.args.env.now c.args.matched (cases_of_trees c.args.cases.now) c.loop-rest.made.items (reverse c.loop-rest.earlier.items) (with_case c.pattern_of-pattern.result (formula_of c.body_of-body.result.now) (cases_of_trees rest)) split in
-    let test_is : c.tested.result ≡ tested_by c.args.level.now.scope.now.sig (reverse c.loop-rest.earlier.items) c.pattern_of-pattern.result (are_none (cases_of_trees rest)) = c.tested.ensures.value ∙ ap (λ (xs : List CtorId). tested_by c.args.level.now.scope.now.sig (reverse xs) c.pattern_of-pattern.result c.is_empty.result) c.as_slice.ensures.value ∙ ap (tested_by c.args.level.now.scope.now.sig (reverse c.loop-rest.earlier.items) c.pattern_of-pattern.result) (c.is_empty.ensures ∙ none_is rest) in
-    test_there c.args.level.now.scope.now.sig (map formula_of c.args.level.now.scope.now.bodies) c.args.level.now.below c.args.env.now c.args.matched (reverse c.loop-rest.earlier.items) c.pattern_of-pattern.result (formula_of c.body_of-body.result.now) (cases_of_trees rest) c.in-Some.c (sym test_is ∙ c.in-Some.is) c.loop-rest.table may
+    let split = subst (λ (cs : Cases). Chooses c.args.level.now.scope.now.sig (map formula_of c.args.level.now.scope.now.bodies) c.args.level.now.below c.args.table.now c.loop-rest.table c.args.env.now c.args.matched (cases_of_trees c.args.cases.now) c.loop-rest.made.items (reverse c.loop-rest.earlier) cs) whole c.loop-rest.invariant.done in
+    let may = chooses_may c.args.level.now.scope.now.sig (map formula_of c.args.level.now.scope.now.bodies) c.args.level.now.below c.args.table.now c.loop-rest.table c.args.env.now c.args.matched (cases_of_trees c.args.cases.now) c.loop-rest.made.items (reverse c.loop-rest.earlier) (with_case c.pattern_of-pattern.result (formula_of c.body_of-body.result.now) (cases_of_trees rest)) split in
+    let test_is : c.tested.result ≡ tested_by c.args.level.now.scope.now.sig (reverse c.loop-rest.earlier) c.pattern_of-pattern.result (are_none (cases_of_trees rest)) = c.tested.ensures.value ∙ ap (tested_by c.args.level.now.scope.now.sig (reverse c.loop-rest.earlier) c.pattern_of-pattern.result) (c.is_empty.ensures ∙ none_is rest) in
+    test_there c.args.level.now.scope.now.sig (map formula_of c.args.level.now.scope.now.bodies) c.args.level.now.below c.args.env.now c.args.matched (reverse c.loop-rest.earlier) c.pattern_of-pattern.result (formula_of c.body_of-body.result.now) (cases_of_trees rest) c.in-Some.c (sym test_is ∙ c.in-Some.is) c.loop-rest.table may
 
 pub compile_cases-make_test-requires-clause-bound : goal.compile_cases-make_test-requires-clause-bound
 compile_cases-make_test-requires-clause-bound t c =
     let rest = take (length c.loop-rest.rest.now - 1) (drop 1 c.loop-rest.rest.now) in
     let whole = cases_is c.loop-rest.rest.now rest c.case-item.result c.pattern_of-pattern.result (formula_of c.body_of-body.result.now) (rest_item c.loop-rest.rest.now c.case-item.result c.in-len1-up.len_at_least c.case-item.is) c.pattern_of-pattern.ensures.value c.body_of-body.ensures.value in
-    let split = subst (λ (cs : Cases). Chooses c.args.level.now.scope.now.sig (map formula_of c.args.level.now.scope.now.bodies) c.args.level.now.below c.args.table.now c.loop-rest.table c.args.env.now c.args.matched (cases_of_trees c.args.cases.now) c.loop-rest.made.items (reverse c.loop-rest.earlier.items) cs) whole c.loop-rest.invariant.0 in
-    let may = chooses_may c.args.level.now.scope.now.sig (map formula_of c.args.level.now.scope.now.bodies) c.args.level.now.below c.args.table.now c.loop-rest.table c.args.env.now c.args.matched (cases_of_trees c.args.cases.now) c.loop-rest.made.items (reverse c.loop-rest.earlier.items) (with_case c.pattern_of-pattern.result (formula_of c.body_of-body.result.now) (cases_of_trees rest)) split in
-    let test_is : c.tested.result ≡ tested_by c.args.level.now.scope.now.sig (reverse c.loop-rest.earlier.items) c.pattern_of-pattern.result (are_none (cases_of_trees rest)) = c.tested.ensures.value ∙ ap (λ (xs : List CtorId). tested_by c.args.level.now.scope.now.sig (reverse xs) c.pattern_of-pattern.result c.is_empty.result) c.as_slice.ensures.value ∙ ap (tested_by c.args.level.now.scope.now.sig (reverse c.loop-rest.earlier.items) c.pattern_of-pattern.result) (c.is_empty.ensures ∙ none_is rest) in
-    test_bound c.args.level.now.scope.now.sig (map formula_of c.args.level.now.scope.now.bodies) c.args.level.now.below c.args.env.now c.args.matched (reverse c.loop-rest.earlier.items) c.pattern_of-pattern.result (formula_of c.body_of-body.result.now) (cases_of_trees rest) c.in-Some.c (sym test_is ∙ c.in-Some.is) c.loop-rest.table may
+    let split = subst (λ (cs : Cases). Chooses c.args.level.now.scope.now.sig (map formula_of c.args.level.now.scope.now.bodies) c.args.level.now.below c.args.table.now c.loop-rest.table c.args.env.now c.args.matched (cases_of_trees c.args.cases.now) c.loop-rest.made.items (reverse c.loop-rest.earlier) cs) whole c.loop-rest.invariant.done in
+    let may = chooses_may c.args.level.now.scope.now.sig (map formula_of c.args.level.now.scope.now.bodies) c.args.level.now.below c.args.table.now c.loop-rest.table c.args.env.now c.args.matched (cases_of_trees c.args.cases.now) c.loop-rest.made.items (reverse c.loop-rest.earlier) (with_case c.pattern_of-pattern.result (formula_of c.body_of-body.result.now) (cases_of_trees rest)) split in
+    let test_is : c.tested.result ≡ tested_by c.args.level.now.scope.now.sig (reverse c.loop-rest.earlier) c.pattern_of-pattern.result (are_none (cases_of_trees rest)) = c.tested.ensures.value ∙ ap (tested_by c.args.level.now.scope.now.sig (reverse c.loop-rest.earlier) c.pattern_of-pattern.result) (c.is_empty.ensures ∙ none_is rest) in
+    test_bound c.args.level.now.scope.now.sig (map formula_of c.args.level.now.scope.now.bodies) c.args.level.now.below c.args.env.now c.args.matched (reverse c.loop-rest.earlier) c.pattern_of-pattern.result (formula_of c.body_of-body.result.now) (cases_of_trees rest) c.in-Some.c (sym test_is ∙ c.in-Some.is) c.loop-rest.table may
 
 pub compile_cases-returns-in_err-condition-clause-outcome : goal.compile_cases-returns-in_err-condition-clause-outcome
 compile_cases-returns-in_err-condition-clause-outcome t c =
     let rest = take (length c.loop-rest.rest.now - 1) (drop 1 c.loop-rest.rest.now) in
     let whole = cases_is c.loop-rest.rest.now rest c.case-item.result c.pattern_of-pattern.result (formula_of c.body_of-body.result.now) (rest_item c.loop-rest.rest.now c.case-item.result c.in-len1-up.len_at_least c.case-item.is) c.pattern_of-pattern.ensures.value c.body_of-body.ensures.value in
-    let split = subst (λ (cs : Cases). Chooses c.args.level.now.scope.now.sig (map formula_of c.args.level.now.scope.now.bodies) c.args.level.now.below c.args.table.now c.loop-rest.table c.args.env.now c.args.matched (cases_of_trees c.args.cases.now) c.loop-rest.made.items (reverse c.loop-rest.earlier.items) cs) whole c.loop-rest.invariant.0 in
-    let test_is : c.tested.result ≡ tested_by c.args.level.now.scope.now.sig (reverse c.loop-rest.earlier.items) c.pattern_of-pattern.result (are_none (cases_of_trees rest)) = c.tested.ensures.value ∙ ap (λ (xs : List CtorId). tested_by c.args.level.now.scope.now.sig (reverse xs) c.pattern_of-pattern.result c.is_empty.result) c.as_slice.ensures.value ∙ ap (tested_by c.args.level.now.scope.now.sig (reverse c.loop-rest.earlier.items) c.pattern_of-pattern.result) (c.is_empty.ensures ∙ none_is rest) in
+    let split = subst (λ (cs : Cases). Chooses c.args.level.now.scope.now.sig (map formula_of c.args.level.now.scope.now.bodies) c.args.level.now.below c.args.table.now c.loop-rest.table c.args.env.now c.args.matched (cases_of_trees c.args.cases.now) c.loop-rest.made.items (reverse c.loop-rest.earlier) cs) whole c.loop-rest.invariant.done in
+    let test_is : c.tested.result ≡ tested_by c.args.level.now.scope.now.sig (reverse c.loop-rest.earlier) c.pattern_of-pattern.result (are_none (cases_of_trees rest)) = c.tested.ensures.value ∙ ap (tested_by c.args.level.now.scope.now.sig (reverse c.loop-rest.earlier) c.pattern_of-pattern.result) (c.is_empty.ensures ∙ none_is rest) in
     let p = err_from_is_err_and c.from_residual-in_err-condition.result c.from_residual-in_err-condition.ensures.1 in
-    rw (p.1, p.2) (chooses_failed c.args.level.now.scope.now.sig (map formula_of c.args.level.now.scope.now.bodies) c.args.level.now.below c.args.table.now c.loop-rest.table c.args.env.now c.args.matched (cases_of_trees c.args.cases.now) c.loop-rest.made.items (reverse c.loop-rest.earlier.items) (with_case c.pattern_of-pattern.result (formula_of c.body_of-body.result.now) (cases_of_trees rest)) split c.make_test.new.table c.in_err-condition.field-0.0 (test_failed c.args.level.now.scope.now.sig (map formula_of c.args.level.now.scope.now.bodies) c.args.level.now.below c.args.env.now c.args.matched (reverse c.loop-rest.earlier.items) c.pattern_of-pattern.result (formula_of c.body_of-body.result.now) (cases_of_trees rest) c.in-Some.c (sym test_is ∙ c.in-Some.is) c.loop-rest.table c.make_test.new.table _ c.in_err-condition.ensures.effect c.in_err-condition.field-0.0 (λ x. x)))
+    rw (p.1, p.2) (chooses_failed c.args.level.now.scope.now.sig (map formula_of c.args.level.now.scope.now.bodies) c.args.level.now.below c.args.table.now c.loop-rest.table c.args.env.now c.args.matched (cases_of_trees c.args.cases.now) c.loop-rest.made.items (reverse c.loop-rest.earlier) (with_case c.pattern_of-pattern.result (formula_of c.body_of-body.result.now) (cases_of_trees rest)) split c.make_test.new.table c.in_err-condition.field-0.0 (test_failed c.args.level.now.scope.now.sig (map formula_of c.args.level.now.scope.now.bodies) c.args.level.now.below c.args.env.now c.args.matched (reverse c.loop-rest.earlier) c.pattern_of-pattern.result (formula_of c.body_of-body.result.now) (cases_of_trees rest) c.in-Some.c (sym test_is ∙ c.in-Some.is) c.loop-rest.table c.make_test.new.table _ c.in_err-condition.ensures.effect c.in_err-condition.field-0.0 (λ x. x)))
 
 pub compile_cases-compile_case-requires-in-len1-up : goal.compile_cases-compile_case-requires-in-len1-up
 compile_cases-compile_case-requires-in-len1-up t c =
     let rest = take (length c.loop-rest.rest.now - 1) (drop 1 c.loop-rest.rest.now) in
     let whole = cases_is c.loop-rest.rest.now rest c.case-item.result c.pattern_of-pattern.result (formula_of c.body_of-body.result.now) (rest_item c.loop-rest.rest.now c.case-item.result c.in-len1-up.len_at_least c.case-item.is) c.pattern_of-pattern.ensures.value c.body_of-body.ensures.value in
-    let split = subst (λ (cs : Cases). Chooses c.args.level.now.scope.now.sig (map formula_of c.args.level.now.scope.now.bodies) c.args.level.now.below c.args.table.now c.loop-rest.table c.args.env.now c.args.matched (cases_of_trees c.args.cases.now) c.loop-rest.made.items (reverse c.loop-rest.earlier.items) cs) whole c.loop-rest.invariant.0 in
-    let may = chooses_may c.args.level.now.scope.now.sig (map formula_of c.args.level.now.scope.now.bodies) c.args.level.now.below c.args.table.now c.loop-rest.table c.args.env.now c.args.matched (cases_of_trees c.args.cases.now) c.loop-rest.made.items (reverse c.loop-rest.earlier.items) (with_case c.pattern_of-pattern.result (formula_of c.body_of-body.result.now) (cases_of_trees rest)) split in
-    let test_is : c.tested.result ≡ tested_by c.args.level.now.scope.now.sig (reverse c.loop-rest.earlier.items) c.pattern_of-pattern.result (are_none (cases_of_trees rest)) = c.tested.ensures.value ∙ ap (λ (xs : List CtorId). tested_by c.args.level.now.scope.now.sig (reverse xs) c.pattern_of-pattern.result c.is_empty.result) c.as_slice.ensures.value ∙ ap (tested_by c.args.level.now.scope.now.sig (reverse c.loop-rest.earlier.items) c.pattern_of-pattern.result) (c.is_empty.ensures ∙ none_is rest) in
-    let lighter = chooses_lighter c.args.level.now.scope.now.sig (map formula_of c.args.level.now.scope.now.bodies) c.args.level.now.below c.args.table.now c.loop-rest.table c.args.env.now c.args.matched (cases_of_trees c.args.cases.now) c.loop-rest.made.items (reverse c.loop-rest.earlier.items) c.pattern_of-pattern.result (formula_of c.body_of-body.result.now) (cases_of_trees rest) split in
-    let noted = subst (λ (cs : Cases). CasesNoted c.args.level.now.scope.now.sig (worked_in c.args.level.now.definitions.now) (uses_below c.args.level.now.scope.now.sig (map formula_of c.args.level.now.scope.now.bodies) c.args.level.now.below) (reverse c.loop-rest.earlier.items) cs c.loop-rest.left.now) whole c.loop-rest.invariant.2 in
-    let grown = test_grown c.args.level.now.scope.now.sig (map formula_of c.args.level.now.scope.now.bodies) c.args.level.now.below c.args.env.now c.args.matched (reverse c.loop-rest.earlier.items) c.pattern_of-pattern.result (formula_of c.body_of-body.result.now) (cases_of_trees rest) c.in-Some.c (sym test_is ∙ c.in-Some.is) c.loop-rest.table c.make_test.new.table _ c.in_ok-condition.ensures.effect may in
-    (omega (arith, lighter, c.decreases), (state_stays c.args.level.now.scope.now.sig (map formula_of c.args.level.now.scope.now.bodies) (worked_in c.args.level.now.definitions.now) c.args.level.now.below c.loop-rest.table c.make_test.new.table c.loop-rest.known grown.0 grown.1 c.loop-rest.invariant.1, (case_declared c.args.level.now.scope.now.sig (map formula_of c.args.level.now.scope.now.bodies) c.args.level.now.below c.args.env.now c.args.matched (reverse c.loop-rest.earlier.items) c.pattern_of-pattern.result (formula_of c.body_of-body.result.now) (cases_of_trees rest) c.loop-rest.table may, (first_may c.args.level.now.scope.now.sig (map formula_of c.args.level.now.scope.now.bodies) c.args.level.now.below c.args.env.now c.args.matched (reverse c.loop-rest.earlier.items) c.pattern_of-pattern.result (formula_of c.body_of-body.result.now) (cases_of_trees rest) c.in-Some.c (sym test_is ∙ c.in-Some.is) c.loop-rest.table c.make_test.new.table _ c.in_ok-condition.ensures.effect may, (c.requires.noted.0, case_notes c.args.level.now.scope.now.sig (worked_in c.args.level.now.definitions.now) (uses_below c.args.level.now.scope.now.sig (map formula_of c.args.level.now.scope.now.bodies) c.args.level.now.below) (reverse c.loop-rest.earlier.items) c.pattern_of-pattern.result (formula_of c.body_of-body.result.now) (cases_of_trees rest) c.loop-rest.left.now noted)))))
+    let split = subst (λ (cs : Cases). Chooses c.args.level.now.scope.now.sig (map formula_of c.args.level.now.scope.now.bodies) c.args.level.now.below c.args.table.now c.loop-rest.table c.args.env.now c.args.matched (cases_of_trees c.args.cases.now) c.loop-rest.made.items (reverse c.loop-rest.earlier) cs) whole c.loop-rest.invariant.done in
+    let may = chooses_may c.args.level.now.scope.now.sig (map formula_of c.args.level.now.scope.now.bodies) c.args.level.now.below c.args.table.now c.loop-rest.table c.args.env.now c.args.matched (cases_of_trees c.args.cases.now) c.loop-rest.made.items (reverse c.loop-rest.earlier) (with_case c.pattern_of-pattern.result (formula_of c.body_of-body.result.now) (cases_of_trees rest)) split in
+    let test_is : c.tested.result ≡ tested_by c.args.level.now.scope.now.sig (reverse c.loop-rest.earlier) c.pattern_of-pattern.result (are_none (cases_of_trees rest)) = c.tested.ensures.value ∙ ap (tested_by c.args.level.now.scope.now.sig (reverse c.loop-rest.earlier) c.pattern_of-pattern.result) (c.is_empty.ensures ∙ none_is rest) in
+    let lighter = chooses_lighter c.args.level.now.scope.now.sig (map formula_of c.args.level.now.scope.now.bodies) c.args.level.now.below c.args.table.now c.loop-rest.table c.args.env.now c.args.matched (cases_of_trees c.args.cases.now) c.loop-rest.made.items (reverse c.loop-rest.earlier) c.pattern_of-pattern.result (formula_of c.body_of-body.result.now) (cases_of_trees rest) split in
+    let noted = subst (λ (cs : Cases). CasesNoted c.args.level.now.scope.now.sig (worked_in c.args.level.now.definitions.now) (uses_below c.args.level.now.scope.now.sig (map formula_of c.args.level.now.scope.now.bodies) c.args.level.now.below) (reverse c.loop-rest.earlier) cs c.loop-rest.left.now) whole c.loop-rest.invariant.noted in
+    let grown = test_grown c.args.level.now.scope.now.sig (map formula_of c.args.level.now.scope.now.bodies) c.args.level.now.below c.args.env.now c.args.matched (reverse c.loop-rest.earlier) c.pattern_of-pattern.result (formula_of c.body_of-body.result.now) (cases_of_trees rest) c.in-Some.c (sym test_is ∙ c.in-Some.is) c.loop-rest.table c.make_test.new.table _ c.in_ok-condition.ensures.effect may in
+    (omega (arith, lighter, c.decreases), (state_stays c.args.level.now.scope.now.sig (map formula_of c.args.level.now.scope.now.bodies) (worked_in c.args.level.now.definitions.now) c.args.level.now.below c.loop-rest.table c.make_test.new.table c.loop-rest.known grown.0 grown.1 c.loop-rest.invariant.state, (case_declared c.args.level.now.scope.now.sig (map formula_of c.args.level.now.scope.now.bodies) c.args.level.now.below c.args.env.now c.args.matched (reverse c.loop-rest.earlier) c.pattern_of-pattern.result (formula_of c.body_of-body.result.now) (cases_of_trees rest) c.loop-rest.table may, (rw c.loop-rest.invariant.same (first_may c.args.level.now.scope.now.sig (map formula_of c.args.level.now.scope.now.bodies) c.args.level.now.below c.args.env.now c.args.matched (reverse c.loop-rest.earlier) c.pattern_of-pattern.result (formula_of c.body_of-body.result.now) (cases_of_trees rest) c.in-Some.c (sym test_is ∙ c.in-Some.is) c.loop-rest.table c.make_test.new.table _ c.in_ok-condition.ensures.effect may), (c.requires.noted.0, case_notes c.args.level.now.scope.now.sig (worked_in c.args.level.now.definitions.now) (uses_below c.args.level.now.scope.now.sig (map formula_of c.args.level.now.scope.now.bodies) c.args.level.now.below) (reverse c.loop-rest.earlier) c.pattern_of-pattern.result (formula_of c.body_of-body.result.now) (cases_of_trees rest) c.loop-rest.left.now noted)))))
 
 pub compile_cases-returns-in_err-term-clause-outcome : goal.compile_cases-returns-in_err-term-clause-outcome
 compile_cases-returns-in_err-term-clause-outcome t c =
     let rest = take (length c.loop-rest.rest.now - 1) (drop 1 c.loop-rest.rest.now) in
     let whole = cases_is c.loop-rest.rest.now rest c.case-item.result c.pattern_of-pattern.result (formula_of c.body_of-body.result.now) (rest_item c.loop-rest.rest.now c.case-item.result c.in-len1-up.len_at_least c.case-item.is) c.pattern_of-pattern.ensures.value c.body_of-body.ensures.value in
-    let split = subst (λ (cs : Cases). Chooses c.args.level.now.scope.now.sig (map formula_of c.args.level.now.scope.now.bodies) c.args.level.now.below c.args.table.now c.loop-rest.table c.args.env.now c.args.matched (cases_of_trees c.args.cases.now) c.loop-rest.made.items (reverse c.loop-rest.earlier.items) cs) whole c.loop-rest.invariant.0 in
-    let test_is : c.tested.result ≡ tested_by c.args.level.now.scope.now.sig (reverse c.loop-rest.earlier.items) c.pattern_of-pattern.result (are_none (cases_of_trees rest)) = c.tested.ensures.value ∙ ap (λ (xs : List CtorId). tested_by c.args.level.now.scope.now.sig (reverse xs) c.pattern_of-pattern.result c.is_empty.result) c.as_slice.ensures.value ∙ ap (tested_by c.args.level.now.scope.now.sig (reverse c.loop-rest.earlier.items) c.pattern_of-pattern.result) (c.is_empty.ensures ∙ none_is rest) in
+    let split = subst (λ (cs : Cases). Chooses c.args.level.now.scope.now.sig (map formula_of c.args.level.now.scope.now.bodies) c.args.level.now.below c.args.table.now c.loop-rest.table c.args.env.now c.args.matched (cases_of_trees c.args.cases.now) c.loop-rest.made.items (reverse c.loop-rest.earlier) cs) whole c.loop-rest.invariant.done in
+    let test_is : c.tested.result ≡ tested_by c.args.level.now.scope.now.sig (reverse c.loop-rest.earlier) c.pattern_of-pattern.result (are_none (cases_of_trees rest)) = c.tested.ensures.value ∙ ap (tested_by c.args.level.now.scope.now.sig (reverse c.loop-rest.earlier) c.pattern_of-pattern.result) (c.is_empty.ensures ∙ none_is rest) in
     let p = err_from_is_err_and c.from_residual-in_err-term.result c.from_residual-in_err-term.ensures.1 in
-    rw (p.1, p.2) (chooses_stopped c.args.level.now.scope.now.sig (map formula_of c.args.level.now.scope.now.bodies) c.args.level.now.below c.args.table.now c.loop-rest.table c.args.env.now c.args.matched (cases_of_trees c.args.cases.now) c.loop-rest.made.items (reverse c.loop-rest.earlier.items) (with_case c.pattern_of-pattern.result (formula_of c.body_of-body.result.now) (cases_of_trees rest)) split c.compile_case-in-len1-up.new.table _ (first_stopped c.args.level.now.scope.now.sig (map formula_of c.args.level.now.scope.now.bodies) c.args.level.now.below c.args.env.now c.args.matched (reverse c.loop-rest.earlier.items) c.pattern_of-pattern.result (formula_of c.body_of-body.result.now) (cases_of_trees rest) c.in-Some.c (sym test_is ∙ c.in-Some.is) c.loop-rest.table c.make_test.new.table _ c.in_ok-condition.ensures.effect c.compile_case-in-len1-up.new.table _ c.in_err-term.ensures.outcome))
+    rw (p.1, p.2) (chooses_stopped c.args.level.now.scope.now.sig (map formula_of c.args.level.now.scope.now.bodies) c.args.level.now.below c.args.table.now c.loop-rest.table c.args.env.now c.args.matched (cases_of_trees c.args.cases.now) c.loop-rest.made.items (reverse c.loop-rest.earlier) (with_case c.pattern_of-pattern.result (formula_of c.body_of-body.result.now) (cases_of_trees rest)) split c.compile_case-in-len1-up.new.table _ (first_stopped c.args.level.now.scope.now.sig (map formula_of c.args.level.now.scope.now.bodies) c.args.level.now.below c.args.env.now c.args.matched (reverse c.loop-rest.earlier) c.pattern_of-pattern.result (formula_of c.body_of-body.result.now) (cases_of_trees rest) c.in-Some.c (sym test_is ∙ c.in-Some.is) c.loop-rest.table c.make_test.new.table _ c.in_ok-condition.ensures.effect c.compile_case-in-len1-up.new.table _ (rw c.loop-rest.invariant.same at c.in_err-term.ensures.outcome)))
 
 pub compile_cases-returns-in_err-term-clause-waits : goal.compile_cases-returns-in_err-term-clause-waits
 compile_cases-returns-in_err-term-clause-waits t c =
     let rest = take (length c.loop-rest.rest.now - 1) (drop 1 c.loop-rest.rest.now) in
     let whole = cases_is c.loop-rest.rest.now rest c.case-item.result c.pattern_of-pattern.result (formula_of c.body_of-body.result.now) (rest_item c.loop-rest.rest.now c.case-item.result c.in-len1-up.len_at_least c.case-item.is) c.pattern_of-pattern.ensures.value c.body_of-body.ensures.value in
-    let split = subst (λ (cs : Cases). Chooses c.args.level.now.scope.now.sig (map formula_of c.args.level.now.scope.now.bodies) c.args.level.now.below c.args.table.now c.loop-rest.table c.args.env.now c.args.matched (cases_of_trees c.args.cases.now) c.loop-rest.made.items (reverse c.loop-rest.earlier.items) cs) whole c.loop-rest.invariant.0 in
-    let test_is : c.tested.result ≡ tested_by c.args.level.now.scope.now.sig (reverse c.loop-rest.earlier.items) c.pattern_of-pattern.result (are_none (cases_of_trees rest)) = c.tested.ensures.value ∙ ap (λ (xs : List CtorId). tested_by c.args.level.now.scope.now.sig (reverse xs) c.pattern_of-pattern.result c.is_empty.result) c.as_slice.ensures.value ∙ ap (tested_by c.args.level.now.scope.now.sig (reverse c.loop-rest.earlier.items) c.pattern_of-pattern.result) (c.is_empty.ensures ∙ none_is rest) in
+    let split = subst (λ (cs : Cases). Chooses c.args.level.now.scope.now.sig (map formula_of c.args.level.now.scope.now.bodies) c.args.level.now.below c.args.table.now c.loop-rest.table c.args.env.now c.args.matched (cases_of_trees c.args.cases.now) c.loop-rest.made.items (reverse c.loop-rest.earlier) cs) whole c.loop-rest.invariant.done in
+    let test_is : c.tested.result ≡ tested_by c.args.level.now.scope.now.sig (reverse c.loop-rest.earlier) c.pattern_of-pattern.result (are_none (cases_of_trees rest)) = c.tested.ensures.value ∙ ap (tested_by c.args.level.now.scope.now.sig (reverse c.loop-rest.earlier) c.pattern_of-pattern.result) (c.is_empty.ensures ∙ none_is rest) in
     let p = err_from_is_err_and c.from_residual-in_err-term.result c.from_residual-in_err-term.ensures.1 in
-    rw (p.1, p.2) (chooses_waits c.args.level.now.scope.now.sig (map formula_of c.args.level.now.scope.now.bodies) c.args.level.now.below c.args.table.now c.loop-rest.table c.args.env.now c.args.matched (cases_of_trees c.args.cases.now) c.loop-rest.made.items (reverse c.loop-rest.earlier.items) (with_case c.pattern_of-pattern.result (formula_of c.body_of-body.result.now) (cases_of_trees rest)) split (worked_in c.args.level.now.definitions.now) c.compile_case-in-len1-up.new.table _ (first_waits c.args.level.now.scope.now.sig (map formula_of c.args.level.now.scope.now.bodies) c.args.level.now.below c.args.env.now c.args.matched (reverse c.loop-rest.earlier.items) c.pattern_of-pattern.result (formula_of c.body_of-body.result.now) (cases_of_trees rest) c.in-Some.c (sym test_is ∙ c.in-Some.is) c.loop-rest.table c.make_test.new.table _ c.in_ok-condition.ensures.effect (worked_in c.args.level.now.definitions.now) c.in_ok-condition.condition c.in_ok-condition.ensures.core c.compile_case-in-len1-up.new.table _ c.in_err-term.ensures.waits))
+    rw (p.1, p.2) (chooses_waits c.args.level.now.scope.now.sig (map formula_of c.args.level.now.scope.now.bodies) c.args.level.now.below c.args.table.now c.loop-rest.table c.args.env.now c.args.matched (cases_of_trees c.args.cases.now) c.loop-rest.made.items (reverse c.loop-rest.earlier) (with_case c.pattern_of-pattern.result (formula_of c.body_of-body.result.now) (cases_of_trees rest)) split (worked_in c.args.level.now.definitions.now) c.compile_case-in-len1-up.new.table _ (first_waits c.args.level.now.scope.now.sig (map formula_of c.args.level.now.scope.now.bodies) c.args.level.now.below c.args.env.now c.args.matched (reverse c.loop-rest.earlier) c.pattern_of-pattern.result (formula_of c.body_of-body.result.now) (cases_of_trees rest) c.in-Some.c (sym test_is ∙ c.in-Some.is) c.loop-rest.table c.make_test.new.table _ c.in_ok-condition.ensures.effect (worked_in c.args.level.now.definitions.now) c.in_ok-condition.condition c.in_ok-condition.ensures.core c.compile_case-in-len1-up.new.table _ (rw c.loop-rest.invariant.same at c.in_err-term.ensures.waits)))
 
 pub compile_cases-returns-in_err-term-clause-state : goal.compile_cases-returns-in_err-term-clause-state
 compile_cases-returns-in_err-term-clause-state t c =
@@ -786,59 +789,65 @@ pub compile_cases-returns-in_err-push-clause-outcome : goal.compile_cases-return
 compile_cases-returns-in_err-push-clause-outcome t c =
     let rest = take (length c.loop-rest.rest.now - 1) (drop 1 c.loop-rest.rest.now) in
     let whole = cases_is c.loop-rest.rest.now rest c.case-item.result c.pattern_of-pattern.result (formula_of c.body_of-body.result.now) (rest_item c.loop-rest.rest.now c.case-item.result c.in-len1-up.len_at_least c.case-item.is) c.pattern_of-pattern.ensures.value c.body_of-body.ensures.value in
-    let split = subst (λ (cs : Cases). Chooses c.args.level.now.scope.now.sig (map formula_of c.args.level.now.scope.now.bodies) c.args.level.now.below c.args.table.now c.loop-rest.table c.args.env.now c.args.matched (cases_of_trees c.args.cases.now) c.loop-rest.made.items (reverse c.loop-rest.earlier.items) cs) whole c.loop-rest.invariant.0 in
-    let test_is : c.tested.result ≡ tested_by c.args.level.now.scope.now.sig (reverse c.loop-rest.earlier.items) c.pattern_of-pattern.result (are_none (cases_of_trees rest)) = c.tested.ensures.value ∙ ap (λ (xs : List CtorId). tested_by c.args.level.now.scope.now.sig (reverse xs) c.pattern_of-pattern.result c.is_empty.result) c.as_slice.ensures.value ∙ ap (tested_by c.args.level.now.scope.now.sig (reverse c.loop-rest.earlier.items) c.pattern_of-pattern.result) (c.is_empty.ensures ∙ none_is rest) in
+    let split = subst (λ (cs : Cases). Chooses c.args.level.now.scope.now.sig (map formula_of c.args.level.now.scope.now.bodies) c.args.level.now.below c.args.table.now c.loop-rest.table c.args.env.now c.args.matched (cases_of_trees c.args.cases.now) c.loop-rest.made.items (reverse c.loop-rest.earlier) cs) whole c.loop-rest.invariant.done in
+    let test_is : c.tested.result ≡ tested_by c.args.level.now.scope.now.sig (reverse c.loop-rest.earlier) c.pattern_of-pattern.result (are_none (cases_of_trees rest)) = c.tested.ensures.value ∙ ap (tested_by c.args.level.now.scope.now.sig (reverse c.loop-rest.earlier) c.pattern_of-pattern.result) (c.is_empty.ensures ∙ none_is rest) in
     let p = err_from_is_err_and c.from_residual-in_err-push.result c.from_residual-in_err-push.ensures.1 in
-    rw (p.1, p.2) (chooses_failed c.args.level.now.scope.now.sig (map formula_of c.args.level.now.scope.now.bodies) c.args.level.now.below c.args.table.now c.loop-rest.table c.args.env.now c.args.matched (cases_of_trees c.args.cases.now) c.loop-rest.made.items (reverse c.loop-rest.earlier.items) (with_case c.pattern_of-pattern.result (formula_of c.body_of-body.result.now) (cases_of_trees rest)) split c.compile_case-in-len1-up.new.table NoMemory (first_failed c.args.level.now.scope.now.sig (map formula_of c.args.level.now.scope.now.bodies) c.args.level.now.below c.args.env.now c.args.matched (reverse c.loop-rest.earlier.items) c.pattern_of-pattern.result (formula_of c.body_of-body.result.now) (cases_of_trees rest) c.in-Some.c (sym test_is ∙ c.in-Some.is) c.loop-rest.table c.make_test.new.table _ c.in_ok-condition.ensures.effect c.compile_case-in-len1-up.new.table (Ok c.in_ok-term.term) c.in_ok-term.ensures.outcome NoMemory (λ x. absurd (not_full NoMemory refl x))))
+    rw (p.1, p.2) (chooses_failed c.args.level.now.scope.now.sig (map formula_of c.args.level.now.scope.now.bodies) c.args.level.now.below c.args.table.now c.loop-rest.table c.args.env.now c.args.matched (cases_of_trees c.args.cases.now) c.loop-rest.made.items (reverse c.loop-rest.earlier) (with_case c.pattern_of-pattern.result (formula_of c.body_of-body.result.now) (cases_of_trees rest)) split c.compile_case-in-len1-up.new.table NoMemory (first_failed c.args.level.now.scope.now.sig (map formula_of c.args.level.now.scope.now.bodies) c.args.level.now.below c.args.env.now c.args.matched (reverse c.loop-rest.earlier) c.pattern_of-pattern.result (formula_of c.body_of-body.result.now) (cases_of_trees rest) c.in-Some.c (sym test_is ∙ c.in-Some.is) c.loop-rest.table c.make_test.new.table _ c.in_ok-condition.ensures.effect c.compile_case-in-len1-up.new.table (Ok c.in_ok-term.term) (rw c.loop-rest.invariant.same at c.in_ok-term.ensures.outcome) NoMemory (λ x. absurd (not_full NoMemory refl x))))
 
 pub compile_cases-returns-in_err-push-2-clause-outcome : goal.compile_cases-returns-in_err-push-2-clause-outcome
 compile_cases-returns-in_err-push-2-clause-outcome t c =
     let rest = take (length c.loop-rest.rest.now - 1) (drop 1 c.loop-rest.rest.now) in
     let whole = cases_is c.loop-rest.rest.now rest c.case-item.result c.pattern_of-pattern.result (formula_of c.body_of-body.result.now) (rest_item c.loop-rest.rest.now c.case-item.result c.in-len1-up.len_at_least c.case-item.is) c.pattern_of-pattern.ensures.value c.body_of-body.ensures.value in
-    let split = subst (λ (cs : Cases). Chooses c.args.level.now.scope.now.sig (map formula_of c.args.level.now.scope.now.bodies) c.args.level.now.below c.args.table.now c.loop-rest.table c.args.env.now c.args.matched (cases_of_trees c.args.cases.now) c.loop-rest.made.items (reverse c.loop-rest.earlier.items) cs) whole c.loop-rest.invariant.0 in
-    let test_is : c.tested.result ≡ tested_by c.args.level.now.scope.now.sig (reverse c.loop-rest.earlier.items) c.pattern_of-pattern.result (are_none (cases_of_trees rest)) = c.tested.ensures.value ∙ ap (λ (xs : List CtorId). tested_by c.args.level.now.scope.now.sig (reverse xs) c.pattern_of-pattern.result c.is_empty.result) c.as_slice.ensures.value ∙ ap (tested_by c.args.level.now.scope.now.sig (reverse c.loop-rest.earlier.items) c.pattern_of-pattern.result) (c.is_empty.ensures ∙ none_is rest) in
+    let split = subst (λ (cs : Cases). Chooses c.args.level.now.scope.now.sig (map formula_of c.args.level.now.scope.now.bodies) c.args.level.now.below c.args.table.now c.loop-rest.table c.args.env.now c.args.matched (cases_of_trees c.args.cases.now) c.loop-rest.made.items (reverse c.loop-rest.earlier) cs) whole c.loop-rest.invariant.done in
+    let test_is : c.tested.result ≡ tested_by c.args.level.now.scope.now.sig (reverse c.loop-rest.earlier) c.pattern_of-pattern.result (are_none (cases_of_trees rest)) = c.tested.ensures.value ∙ ap (tested_by c.args.level.now.scope.now.sig (reverse c.loop-rest.earlier) c.pattern_of-pattern.result) (c.is_empty.ensures ∙ none_is rest) in
     let p = err_from_is_err_and c.from_residual-in_err-push-2.result c.from_residual-in_err-push-2.ensures.1 in
-    rw (p.1, p.2) (chooses_failed c.args.level.now.scope.now.sig (map formula_of c.args.level.now.scope.now.bodies) c.args.level.now.below c.args.table.now c.loop-rest.table c.args.env.now c.args.matched (cases_of_trees c.args.cases.now) c.loop-rest.made.items (reverse c.loop-rest.earlier.items) (with_case c.pattern_of-pattern.result (formula_of c.body_of-body.result.now) (cases_of_trees rest)) split c.compile_case-in-len1-up.new.table NoMemory (first_failed c.args.level.now.scope.now.sig (map formula_of c.args.level.now.scope.now.bodies) c.args.level.now.below c.args.env.now c.args.matched (reverse c.loop-rest.earlier.items) c.pattern_of-pattern.result (formula_of c.body_of-body.result.now) (cases_of_trees rest) c.in-Some.c (sym test_is ∙ c.in-Some.is) c.loop-rest.table c.make_test.new.table _ c.in_ok-condition.ensures.effect c.compile_case-in-len1-up.new.table (Ok c.in_ok-term.term) c.in_ok-term.ensures.outcome NoMemory (λ x. absurd (not_full NoMemory refl x))))
+    rw (p.1, p.2) (chooses_failed c.args.level.now.scope.now.sig (map formula_of c.args.level.now.scope.now.bodies) c.args.level.now.below c.args.table.now c.loop-rest.table c.args.env.now c.args.matched (cases_of_trees c.args.cases.now) c.loop-rest.made.items (reverse c.loop-rest.earlier) (with_case c.pattern_of-pattern.result (formula_of c.body_of-body.result.now) (cases_of_trees rest)) split c.compile_case-in-len1-up.new.table NoMemory (first_failed c.args.level.now.scope.now.sig (map formula_of c.args.level.now.scope.now.bodies) c.args.level.now.below c.args.env.now c.args.matched (reverse c.loop-rest.earlier) c.pattern_of-pattern.result (formula_of c.body_of-body.result.now) (cases_of_trees rest) c.in-Some.c (sym test_is ∙ c.in-Some.is) c.loop-rest.table c.make_test.new.table _ c.in_ok-condition.ensures.effect c.compile_case-in-len1-up.new.table (Ok c.in_ok-term.term) (rw c.loop-rest.invariant.same at c.in_ok-term.ensures.outcome) NoMemory (λ x. absurd (not_full NoMemory refl x))))
 
 pub compile_cases-loop-rest-preserved : goal.compile_cases-loop-rest-preserved
 compile_cases-loop-rest-preserved t c =
     let rest = take (length c.loop-rest.rest.now - 1) (drop 1 c.loop-rest.rest.now) in
     let whole = cases_is c.loop-rest.rest.now rest c.case-item.result c.pattern_of-pattern.result (formula_of c.body_of-body.result.now) (rest_item c.loop-rest.rest.now c.case-item.result c.in-len1-up.len_at_least c.case-item.is) c.pattern_of-pattern.ensures.value c.body_of-body.ensures.value in
-    let split = subst (λ (cs : Cases). Chooses c.args.level.now.scope.now.sig (map formula_of c.args.level.now.scope.now.bodies) c.args.level.now.below c.args.table.now c.loop-rest.table c.args.env.now c.args.matched (cases_of_trees c.args.cases.now) c.loop-rest.made.items (reverse c.loop-rest.earlier.items) cs) whole c.loop-rest.invariant.0 in
-    let test_is : c.tested.result ≡ tested_by c.args.level.now.scope.now.sig (reverse c.loop-rest.earlier.items) c.pattern_of-pattern.result (are_none (cases_of_trees rest)) = c.tested.ensures.value ∙ ap (λ (xs : List CtorId). tested_by c.args.level.now.scope.now.sig (reverse xs) c.pattern_of-pattern.result c.is_empty.result) c.as_slice.ensures.value ∙ ap (tested_by c.args.level.now.scope.now.sig (reverse c.loop-rest.earlier.items) c.pattern_of-pattern.result) (c.is_empty.ensures ∙ none_is rest) in
-    let noted = subst (λ (cs : Cases). CasesNoted c.args.level.now.scope.now.sig (worked_in c.args.level.now.definitions.now) (uses_below c.args.level.now.scope.now.sig (map formula_of c.args.level.now.scope.now.bodies) c.args.level.now.below) (reverse c.loop-rest.earlier.items) cs c.loop-rest.left.now) whole c.loop-rest.invariant.2 in
-    let longer : (reverse c.push-in-len1-up.new.self.items) ≡ c.in-Some.c ∷ (reverse c.loop-rest.earlier.items) = ap (λ (xs : List CtorId). reverse xs) c.in_ok-push-2.ensures.items ∙ reverse-append c.loop-rest.earlier.items (c.in-Some.c ∷ []) in
-    let next = chooses_more c.args.level.now.scope.now.sig (map formula_of c.args.level.now.scope.now.bodies) c.args.level.now.below c.args.table.now c.loop-rest.table c.args.env.now c.args.matched (cases_of_trees c.args.cases.now) c.loop-rest.made.items (reverse c.loop-rest.earlier.items) c.pattern_of-pattern.result (formula_of c.body_of-body.result.now) (cases_of_trees rest) split c.compile_case-in-len1-up.new.table c.in-Some.c (record { condition = c.in_ok-condition.condition; body = c.in_ok-term.term }) (case_chosen c.args.level.now.scope.now.sig (map formula_of c.args.level.now.scope.now.bodies) c.args.level.now.below c.args.env.now c.args.matched (reverse c.loop-rest.earlier.items) c.pattern_of-pattern.result (formula_of c.body_of-body.result.now) (cases_of_trees rest) c.in-Some.c (sym test_is ∙ c.in-Some.is) c.loop-rest.table c.make_test.new.table _ c.in_ok-condition.ensures.effect c.compile_case-in-len1-up.new.table (Ok c.in_ok-term.term) c.in_ok-term.ensures.outcome c.in_ok-condition.condition c.in_ok-term.term c.in_ok-condition.ensures.core refl) in
-    (subst (λ (gs : List Guarded). Chooses c.args.level.now.scope.now.sig (map formula_of c.args.level.now.scope.now.bodies) c.args.level.now.below c.args.table.now c.compile_case-in-len1-up.new.table c.args.env.now c.args.matched (cases_of_trees c.args.cases.now) gs (reverse c.push-in-len1-up.new.self.items) (cases_of_trees rest)) (sym c.in_ok-push.ensures.items) (subst (λ (e : List CtorId). Chooses c.args.level.now.scope.now.sig (map formula_of c.args.level.now.scope.now.bodies) c.args.level.now.below c.args.table.now c.compile_case-in-len1-up.new.table c.args.env.now c.args.matched (cases_of_trees c.args.cases.now) (c.loop-rest.made.items ++ (record { condition = c.in_ok-condition.condition; body = c.in_ok-term.term }) ∷ []) e (cases_of_trees rest)) (sym longer) next), c.in_ok-term.ensures.state, subst (λ (e : List CtorId). CasesNoted c.args.level.now.scope.now.sig (worked_in c.args.level.now.definitions.now) (uses_below c.args.level.now.scope.now.sig (map formula_of c.args.level.now.scope.now.bodies) c.args.level.now.below) e (cases_of_trees rest) c.later_notes-left.result.now) (sym longer) (subst (CasesNoted c.args.level.now.scope.now.sig (worked_in c.args.level.now.definitions.now) (uses_below c.args.level.now.scope.now.sig (map formula_of c.args.level.now.scope.now.bodies) c.args.level.now.below) (c.in-Some.c ∷ (reverse c.loop-rest.earlier.items)) (cases_of_trees rest)) (sym c.later_notes-left.ensures.value) (later_cases c.args.level.now.scope.now.sig (worked_in c.args.level.now.definitions.now) (uses_below c.args.level.now.scope.now.sig (map formula_of c.args.level.now.scope.now.bodies) c.args.level.now.below) (reverse c.loop-rest.earlier.items) c.pattern_of-pattern.result c.in-Some.c (formula_of c.body_of-body.result.now) (cases_of_trees rest) c.loop-rest.left.now (sym test_is ∙ c.in-Some.is) noted)))
+    let split = subst (λ (cs : Cases). Chooses c.args.level.now.scope.now.sig (map formula_of c.args.level.now.scope.now.bodies) c.args.level.now.below c.args.table.now c.loop-rest.table c.args.env.now c.args.matched (cases_of_trees c.args.cases.now) c.loop-rest.made.items (reverse c.loop-rest.earlier) cs) whole c.loop-rest.invariant.done in
+    let test_is : c.tested.result ≡ tested_by c.args.level.now.scope.now.sig (reverse c.loop-rest.earlier) c.pattern_of-pattern.result (are_none (cases_of_trees rest)) = c.tested.ensures.value ∙ ap (tested_by c.args.level.now.scope.now.sig (reverse c.loop-rest.earlier) c.pattern_of-pattern.result) (c.is_empty.ensures ∙ none_is rest) in
+    let noted = subst (λ (cs : Cases). CasesNoted c.args.level.now.scope.now.sig (worked_in c.args.level.now.definitions.now) (uses_below c.args.level.now.scope.now.sig (map formula_of c.args.level.now.scope.now.bodies) c.args.level.now.below) (reverse c.loop-rest.earlier) cs c.loop-rest.left.now) whole c.loop-rest.invariant.noted in
+    let longer : (reverse c.push-in-len1-up.new.self) ≡ c.in-Some.c ∷ (reverse c.loop-rest.earlier) = ap (λ (xs : List CtorId). reverse xs) c.in_ok-push-2.ensures.pushed ∙ reverse-append c.loop-rest.earlier (c.in-Some.c ∷ []) in
+    let next = chooses_more c.args.level.now.scope.now.sig (map formula_of c.args.level.now.scope.now.bodies) c.args.level.now.below c.args.table.now c.loop-rest.table c.args.env.now c.args.matched (cases_of_trees c.args.cases.now) c.loop-rest.made.items (reverse c.loop-rest.earlier) c.pattern_of-pattern.result (formula_of c.body_of-body.result.now) (cases_of_trees rest) split c.compile_case-in-len1-up.new.table c.in-Some.c (record { condition = c.in_ok-condition.condition; body = c.in_ok-term.term }) (case_chosen c.args.level.now.scope.now.sig (map formula_of c.args.level.now.scope.now.bodies) c.args.level.now.below c.args.env.now c.args.matched (reverse c.loop-rest.earlier) c.pattern_of-pattern.result (formula_of c.body_of-body.result.now) (cases_of_trees rest) c.in-Some.c (sym test_is ∙ c.in-Some.is) c.loop-rest.table c.make_test.new.table _ c.in_ok-condition.ensures.effect c.compile_case-in-len1-up.new.table (Ok c.in_ok-term.term) (rw c.loop-rest.invariant.same at c.in_ok-term.ensures.outcome) c.in_ok-condition.condition c.in_ok-term.term c.in_ok-condition.ensures.core refl) in
+    record { done = subst (λ (gs : List Guarded). Chooses c.args.level.now.scope.now.sig (map formula_of c.args.level.now.scope.now.bodies) c.args.level.now.below c.args.table.now c.compile_case-in-len1-up.new.table c.args.env.now c.args.matched (cases_of_trees c.args.cases.now) gs (reverse c.push-in-len1-up.new.self) (cases_of_trees rest)) (sym c.in_ok-push.ensures.items) (subst (λ (e : List CtorId). Chooses c.args.level.now.scope.now.sig (map formula_of c.args.level.now.scope.now.bodies) c.args.level.now.below c.args.table.now c.compile_case-in-len1-up.new.table c.args.env.now c.args.matched (cases_of_trees c.args.cases.now) (c.loop-rest.made.items ++ (record { condition = c.in_ok-condition.condition; body = c.in_ok-term.term }) ∷ []) e (cases_of_trees rest)) (sym longer) next); state = c.in_ok-term.ensures.state; noted = subst (λ (e : List CtorId). CasesNoted c.args.level.now.scope.now.sig (worked_in c.args.level.now.definitions.now) (uses_below c.args.level.now.scope.now.sig (map formula_of c.args.level.now.scope.now.bodies) c.args.level.now.below) e (cases_of_trees rest) c.later_notes-left.result.now) (sym longer) (subst (CasesNoted c.args.level.now.scope.now.sig (worked_in c.args.level.now.definitions.now) (uses_below c.args.level.now.scope.now.sig (map formula_of c.args.level.now.scope.now.bodies) c.args.level.now.below) (c.in-Some.c ∷ (reverse c.loop-rest.earlier)) (cases_of_trees rest)) (sym c.later_notes-left.ensures.value) (later_cases c.args.level.now.scope.now.sig (worked_in c.args.level.now.definitions.now) (uses_below c.args.level.now.scope.now.sig (map formula_of c.args.level.now.scope.now.bodies) c.args.level.now.below) (reverse c.loop-rest.earlier) c.pattern_of-pattern.result c.in-Some.c (formula_of c.body_of-body.result.now) (cases_of_trees rest) c.loop-rest.left.now (sym test_is ∙ c.in-Some.is) noted)); same = c.in_ok-term.ensures.back ∙ c.loop-rest.invariant.same }
 
 pub compile_cases-unreachable-requires : goal.compile_cases-unreachable-requires
 compile_cases-unreachable-requires t c =
-    chooses_none c.args.level.now.scope.now.sig (map formula_of c.args.level.now.scope.now.bodies) c.args.level.now.below c.args.table.now c.loop-rest.table c.args.env.now c.args.matched (cases_of_trees c.args.cases.now) c.loop-rest.made.items (reverse c.loop-rest.earlier.items) (subst (λ (cs : List Case). Chooses c.args.level.now.scope.now.sig (map formula_of c.args.level.now.scope.now.bodies) c.args.level.now.below c.args.table.now c.loop-rest.table c.args.env.now c.args.matched (cases_of_trees c.args.cases.now) c.loop-rest.made.items (reverse c.loop-rest.earlier.items) (cases_of_trees cs)) (nothing_left c.loop-rest.rest.now (omega (arith, c.in_default.len_below))) c.loop-rest.invariant.0)
+    chooses_none c.args.level.now.scope.now.sig (map formula_of c.args.level.now.scope.now.bodies) c.args.level.now.below c.args.table.now c.loop-rest.table c.args.env.now c.args.matched (cases_of_trees c.args.cases.now) c.loop-rest.made.items (reverse c.loop-rest.earlier) (subst (λ (cs : List Case). Chooses c.args.level.now.scope.now.sig (map formula_of c.args.level.now.scope.now.bodies) c.args.level.now.below c.args.table.now c.loop-rest.table c.args.env.now c.args.matched (cases_of_trees c.args.cases.now) c.loop-rest.made.items (reverse c.loop-rest.earlier) (cases_of_trees cs)) (nothing_left c.loop-rest.rest.now (omega (arith, c.in_default.len_below))) c.loop-rest.invariant.done)
 
 pub compile_case-returns-in_err-bounds-clause-outcome : goal.compile_case-returns-in_err-bounds-clause-outcome
 compile_case-returns-in_err-bounds-clause-outcome t c =
     let p = err_from_is_err_and c.from_residual.result c.from_residual.ensures.1 in
     rw (p.1, p.2) (compiles_nothing c.args.level.now.scope.now.sig (map formula_of c.args.level.now.scope.now.bodies) c.args.level.now.below c.args.table.now (bind (bound_by c.args.level.now.scope.now.sig c.args.pattern c.args.matched) c.args.env.now) (formula_of c.args.body.now) NoMemory refl)
 
-pub compile_case-returns-in_err-inner-clause-outcome : goal.compile_case-returns-in_err-inner-clause-outcome
-compile_case-returns-in_err-inner-clause-outcome t c =
-    let p = err_from_is_err_and c.from_residual-in_err-inner.result c.from_residual-in_err-inner.ensures.1 in
+pub compile_case-returns-in_err-bind-clause-outcome : goal.compile_case-returns-in_err-bind-clause-outcome
+compile_case-returns-in_err-bind-clause-outcome t c =
+    let p = err_from_is_err_and c.from_residual-in_err-bind.result c.from_residual-in_err-bind.ensures.1 in
     rw (p.1, p.2) (compiles_nothing c.args.level.now.scope.now.sig (map formula_of c.args.level.now.scope.now.bodies) c.args.level.now.below c.args.table.now (bind (bound_by c.args.level.now.scope.now.sig c.args.pattern c.args.matched) c.args.env.now) (formula_of c.args.body.now) NoMemory refl)
 
-pub compile_case-compile_tree-requires : goal.compile_case-compile_tree-requires
-compile_case-compile_tree-requires t c =
-    let inner_is : c.deref-2.result.now ≡ bind (bound_by c.args.level.now.scope.now.sig c.args.pattern c.args.matched) c.args.env.now = c.deref-2.ensures.value ∙ c.in_ok-inner.ensures.bound ∙ ap (λ (xs : List Bound). bind xs c.args.env.now) (c.deref.ensures.value ∙ c.in_ok-bounds.ensures.bounds) in
+pub compile_case-compile_tree-result-requires : goal.compile_case-compile_tree-result-requires
+compile_case-compile_tree-result-requires t c =
+    let inner_is : c.bind.new.self ≡ bind (bound_by c.args.level.now.scope.now.sig c.args.pattern c.args.matched) c.args.env.now = c.in_ok-bind.ensures.bound ∙ ap (λ (xs : List Bound). bind xs c.args.env.now) (c.as_slice-bounds.ensures.value ∙ c.in_ok-bounds.ensures.bounds) in
     (omega (arith, c.decreases), (c.requires.state, (subst (λ (xs : List Bound). MayCompile c.args.level.now.scope.now.sig (map formula_of c.args.level.now.scope.now.bodies) c.args.table.now c.args.level.now.below xs (formula_of c.args.body.now)) (sym inner_is) c.requires.ready, c.requires.noted)))
 
 pub compile_case-returns-clause-outcome : goal.compile_case-returns-clause-outcome
 compile_case-returns-clause-outcome t c =
-    let inner_is : c.deref-2.result.now ≡ bind (bound_by c.args.level.now.scope.now.sig c.args.pattern c.args.matched) c.args.env.now = c.deref-2.ensures.value ∙ c.in_ok-inner.ensures.bound ∙ ap (λ (xs : List Bound). bind xs c.args.env.now) (c.deref.ensures.value ∙ c.in_ok-bounds.ensures.bounds) in
-    subst (λ (xs : List Bound). Compiles c.args.level.now.scope.now.sig (map formula_of c.args.level.now.scope.now.bodies) c.args.level.now.below c.args.table.now c.compile_tree.new.table xs (formula_of c.args.body.now) (ended c.compile_tree.result)) inner_is c.compile_tree.ensures.outcome
+    let inner_is : c.bind.new.self ≡ bind (bound_by c.args.level.now.scope.now.sig c.args.pattern c.args.matched) c.args.env.now = c.in_ok-bind.ensures.bound ∙ ap (λ (xs : List Bound). bind xs c.args.env.now) (c.as_slice-bounds.ensures.value ∙ c.in_ok-bounds.ensures.bounds) in
+    subst (λ (xs : List Bound). Compiles c.args.level.now.scope.now.sig (map formula_of c.args.level.now.scope.now.bodies) c.args.level.now.below c.args.table.now c.compile_tree-result.new.table xs (formula_of c.args.body.now) (ended c.compile_tree-result.result)) inner_is c.compile_tree-result.ensures.outcome
 
 pub compile_case-returns-clause-waits : goal.compile_case-returns-clause-waits
 compile_case-returns-clause-waits t c =
-    let inner_is : c.deref-2.result.now ≡ bind (bound_by c.args.level.now.scope.now.sig c.args.pattern c.args.matched) c.args.env.now = c.deref-2.ensures.value ∙ c.in_ok-inner.ensures.bound ∙ ap (λ (xs : List Bound). bind xs c.args.env.now) (c.deref.ensures.value ∙ c.in_ok-bounds.ensures.bounds) in
-    subst (λ (xs : List Bound). Defers c.args.level.now.scope.now.sig (map formula_of c.args.level.now.scope.now.bodies) (worked_in c.args.level.now.definitions.now) c.args.level.now.below c.args.table.now c.compile_tree.new.table xs (formula_of c.args.body.now) c.compile_tree.result) inner_is c.compile_tree.ensures.waits
+    let inner_is : c.bind.new.self ≡ bind (bound_by c.args.level.now.scope.now.sig c.args.pattern c.args.matched) c.args.env.now = c.in_ok-bind.ensures.bound ∙ ap (λ (xs : List Bound). bind xs c.args.env.now) (c.as_slice-bounds.ensures.value ∙ c.in_ok-bounds.ensures.bounds) in
+    subst (λ (xs : List Bound). Defers c.args.level.now.scope.now.sig (map formula_of c.args.level.now.scope.now.bodies) (worked_in c.args.level.now.definitions.now) c.args.level.now.below c.args.table.now c.compile_tree-result.new.table xs (formula_of c.args.body.now) c.compile_tree-result.result) inner_is c.compile_tree-result.ensures.waits
+
+pub compile_case-returns-clause-back : goal.compile_case-returns-clause-back
+compile_case-returns-clause-back t c =
+    let inner_is : c.bind.new.self ≡ bind (bound_by c.args.level.now.scope.now.sig c.args.pattern c.args.matched) c.args.env.now = c.in_ok-bind.ensures.bound ∙ ap (λ (xs : List Bound). bind xs c.args.env.now) (c.as_slice-bounds.ensures.value ∙ c.in_ok-bounds.ensures.bounds) in
+    let long : length c.as_slice-bounds.result.now ≡ length (bound_by c.args.level.now.scope.now.sig c.args.pattern c.args.matched) = ap (λ (xs : List Bound). length xs) (c.as_slice-bounds.ensures.value ∙ c.in_ok-bounds.ensures.bounds) in
+    c.unbind.ensures.rest ∙ ap (drop (length c.as_slice-bounds.result.now)) (c.compile_tree-result.ensures.back ∙ inner_is) ∙ ap (λ (k : ℕ). drop k (bind (bound_by c.args.level.now.scope.now.sig c.args.pattern c.args.matched) c.args.env.now)) long ∙ bind_left (bound_by c.args.level.now.scope.now.sig c.args.pattern c.args.matched) c.args.env.now
 
 pub compile_plain-first_note-note-requires : goal.compile_plain-first_note-note-requires
 compile_plain-first_note-note-requires t c = record { some = first_inside (IsNoted c.args.level.now.scope.now.sig (worked_in c.args.level.now.definitions.now) (uses_below c.args.level.now.scope.now.sig (map formula_of c.args.level.now.scope.now.bodies) c.args.level.now.below) (formula_of c.args.tree.now)) c.args.notes.now c.requires.noted.1 }

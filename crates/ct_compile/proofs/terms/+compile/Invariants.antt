@@ -5,10 +5,11 @@ use Rattle.ct_occurrence.specs.Noted.{AreNoted, AreNotedWhere, CasesNoted}
 use Rattle.ct_compile.specs.Calling.{IsState}
 use Rattle.ct_occurrence.specs.Marks.{worked_in}
 use Rattle.ct_occurrence.specs.CaseFormula.{cases_of_trees}
-use Rattle.ct_compile.specs.Weight.{weight, weights, case_weights, weights_below}
+use Rattle.ct_compile.proofs.Weight.{weight, weights, case_weights, weights_below}
 use Rattle.ct_compile.proofs.BindingLemmas.{Completes}
 use Rattle.ct_compile.proofs.CycleLemmas.{Collects}
 use Rattle.ct_compile.proofs.ChoosesLemmas.{Chooses}
+use Rattle.ct_compile.proofs.LoopLemmas.{Keeps}
 use Rattle.ct_compile.proofs.terms.+compile.Given as goal
 
 abbrev pub decreases-compile_tree : goal.decreases-compile_tree
@@ -39,13 +40,13 @@ abbrev pub decreases-compile_cases : goal.decreases-compile_cases
 decreases-compile_cases l = case_weights (weights_below (map formula_of l.level.now.scope.now.bodies) l.level.now.below) (cases_of_trees l.cases.now)
 
 abbrev pub invariant-compile_all-loop-rest : goal.invariant-compile_all-loop-rest
-invariant-compile_all-loop-rest l = Collects l.level.scope.now.sig (map formula_of l.level.scope.now.bodies) l.level.below l.initial.table l.table l.env l.operator (formulas_of_trees l.trees) l.args l.lead (formulas_of_trees l.rest) × IsState l.level.scope.now.sig (map formula_of l.level.scope.now.bodies) l.level.below (worked_in l.level.definitions.now) l.table l.known × AreNoted l.level.scope.now.sig (worked_in l.level.definitions.now) (uses_below l.level.scope.now.sig (map formula_of l.level.scope.now.bodies) l.level.below) (formulas_of_trees l.rest) l.left
+invariant-compile_all-loop-rest l = Keeps (Collects l.level.scope.now.sig (map formula_of l.level.scope.now.bodies) l.level.below l.initial.table l.table l.initial.env l.operator (formulas_of_trees l.trees) l.args l.lead (formulas_of_trees l.rest)) (IsState l.level.scope.now.sig (map formula_of l.level.scope.now.bodies) l.level.below (worked_in l.level.definitions.now) l.table l.known) (AreNoted l.level.scope.now.sig (worked_in l.level.definitions.now) (uses_below l.level.scope.now.sig (map formula_of l.level.scope.now.bodies) l.level.below) (formulas_of_trees l.rest) l.left) l.env l.initial.env
 
 abbrev pub decreases-compile_all-loop-rest : goal.decreases-compile_all-loop-rest
 decreases-compile_all-loop-rest l = length l.rest
 
 abbrev pub invariant-compile_bound-loop-rest : goal.invariant-compile_bound-loop-rest
-invariant-compile_bound-loop-rest l = Completes l.level.scope.now.sig (map formula_of l.level.scope.now.bodies) l.level.below l.initial.table l.table l.env l.flags (formulas_of_trees l.trees) l.bounds.items l.left (formulas_of_trees l.rest) × IsState l.level.scope.now.sig (map formula_of l.level.scope.now.bodies) l.level.below (worked_in l.level.definitions.now) l.table l.known × AreNotedWhere l.level.scope.now.sig (worked_in l.level.definitions.now) (uses_below l.level.scope.now.sig (map formula_of l.level.scope.now.bodies) l.level.below) l.left (formulas_of_trees l.rest) l.noted
+invariant-compile_bound-loop-rest l = Keeps (Completes l.level.scope.now.sig (map formula_of l.level.scope.now.bodies) l.level.below l.initial.table l.table l.initial.env l.flags (formulas_of_trees l.trees) l.bounds.items l.left (formulas_of_trees l.rest)) (IsState l.level.scope.now.sig (map formula_of l.level.scope.now.bodies) l.level.below (worked_in l.level.definitions.now) l.table l.known) (AreNotedWhere l.level.scope.now.sig (worked_in l.level.definitions.now) (uses_below l.level.scope.now.sig (map formula_of l.level.scope.now.bodies) l.level.below) l.left (formulas_of_trees l.rest) l.noted) l.env l.initial.env
 
 abbrev pub decreases-compile_bound-loop-rest : goal.decreases-compile_bound-loop-rest
 decreases-compile_bound-loop-rest l = length l.rest
@@ -54,7 +55,7 @@ abbrev pub decreases-compile_case : goal.decreases-compile_case
 decreases-compile_case l = weight (weights_below (map formula_of l.level.now.scope.now.bodies) l.level.now.below) (formula_of l.body.now) + 1
 
 abbrev pub invariant-compile_cases-loop-rest : goal.invariant-compile_cases-loop-rest
-invariant-compile_cases-loop-rest l = Chooses l.level.scope.now.sig (map formula_of l.level.scope.now.bodies) l.level.below l.initial.table l.table l.env l.matched (cases_of_trees l.cases) l.made.items (reverse l.earlier.items) (cases_of_trees l.rest) × IsState l.level.scope.now.sig (map formula_of l.level.scope.now.bodies) l.level.below (worked_in l.level.definitions.now) l.table l.known × CasesNoted l.level.scope.now.sig (worked_in l.level.definitions.now) (uses_below l.level.scope.now.sig (map formula_of l.level.scope.now.bodies) l.level.below) (reverse l.earlier.items) (cases_of_trees l.rest) l.left
+invariant-compile_cases-loop-rest l = Keeps (Chooses l.level.scope.now.sig (map formula_of l.level.scope.now.bodies) l.level.below l.initial.table l.table l.initial.env l.matched (cases_of_trees l.cases) l.made.items (reverse l.earlier) (cases_of_trees l.rest)) (IsState l.level.scope.now.sig (map formula_of l.level.scope.now.bodies) l.level.below (worked_in l.level.definitions.now) l.table l.known) (CasesNoted l.level.scope.now.sig (worked_in l.level.definitions.now) (uses_below l.level.scope.now.sig (map formula_of l.level.scope.now.bodies) l.level.below) (reverse l.earlier) (cases_of_trees l.rest) l.left) l.env l.initial.env
 
 abbrev pub decreases-compile_cases-loop-rest : goal.decreases-compile_cases-loop-rest
 decreases-compile_cases-loop-rest l = length l.rest

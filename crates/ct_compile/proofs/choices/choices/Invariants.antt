@@ -1,9 +1,0 @@
-use Rattle.std.proofs.Common.{length}
-use Rattle.ct_compile.proofs.ChosenLemmas.{Choosing}
-use Rattle.ct_compile.proofs.choices.choices.Given as goal
-
-abbrev pub invariant-loop-rest : goal.invariant-loop-rest
-invariant-loop-rest l = Choosing l.sig l.initial.table l.table l.guarded l.initial.term l.term l.rest
-
-abbrev pub decreases-loop-rest : goal.decreases-loop-rest
-decreases-loop-rest l = length l.rest

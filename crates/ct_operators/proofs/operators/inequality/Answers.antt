@@ -1,0 +1,26 @@
+use Rattle.std.proofs.Common.{◌∷◌, [], Contains, sym, subst}
+use Rattle.std.proofs.lemmas.Result.{err_from_is_err_and}
+use Rattle.ct_terms.specs.CoreTree.{CoreTree, negation, term_at}
+use Rattle.ct_terms.specs.Compiled.{equality as equality_of}
+use Rattle.ct_operators.proofs.EffectLemmas.{effect_then}
+use Rattle.ct_operators.proofs.WithinLemmas.{Contains-first, within_itself, within_negation}
+use Rattle.ct_operators.proofs.operators.inequality.Goals as goal
+
+pub returns-in_err-same-clause-effect : goal.returns-in_err-same-clause-effect
+returns-in_err-same-clause-effect c = λ allowed within.
+    let both : CoreTree = equality_of c.args.sig.now (term_at c.args.table.now c.args.a) (term_at c.args.table.now c.args.b) in
+    let p = err_from_is_err_and c.from_residual.result c.from_residual.ensures.1 in
+    rw (p.1, p.2) (c.in_err-same.ensures.effect allowed (within_itself c.requires.kept.laws allowed both (within_negation allowed both within)))
+
+pub negated-requires-clause-kept : goal.negated-requires-clause-kept
+negated-requires-clause-kept c =
+    let both : CoreTree = equality_of c.args.sig.now (term_at c.args.table.now c.args.a) (term_at c.args.table.now c.args.b) in
+    (c.in_ok-same.ensures.effect (both ∷ []) (Contains-first both [])).kept
+
+pub returns-clause-effect : goal.returns-clause-effect
+returns-clause-effect c = λ allowed within.
+    let both : CoreTree = equality_of c.args.sig.now (term_at c.args.table.now c.args.a) (term_at c.args.table.now c.args.b) in
+    let laws = c.requires.kept.laws in
+    let first = c.in_ok-same.ensures.effect allowed (within_itself laws allowed both (within_negation allowed both within)) in
+    let second = c.negated.ensures.effect allowed (subst (λ (u : CoreTree). Contains allowed (negation u)) (sym c.in_ok-same.ensures.core.1) (within_itself laws allowed (negation both) within)) in
+    effect_then c.args.sig.now allowed c.args.table.now c.equality.new.table c.negated.new.table _ _ first second

@@ -1,0 +1,7 @@
+pub mod Laws
+pub mod Effect
+pub mod Forms
+pub mod Made
+pub mod Following
+pub mod Pairing
+pub mod Chosen

@@ -1,0 +1,18 @@
+//! Operators and choices: their core terms over terms of a table, and what a table is while terms are made.
+#![tactic(auto)]
+
+mod chains;
+mod choosing;
+mod combining;
+mod following;
+mod making;
+mod operator;
+mod operators;
+mod theorems;
+
+pub use choosing::{Guarded, choices};
+pub use combining::combine;
+pub use following::follow;
+pub use making::make;
+pub use operator::Operator;
+pub use theorems::laws;
