@@ -9,16 +9,16 @@ use Rattle.ct_terms.specs.declared.tree.Tree.{Tree}
 use Rattle.ct_terms.specs.Formula as formula
 use Rattle.ct_terms.specs.Formula.{bind}
 use Rattle.ct_terms.specs.TreeFormula.{formulas_of_trees}
-use Rattle.ct_check.specs.Outcome.{Outcome, Sorted, and_then, unless_refused}
-use Rattle.ct_check.specs.Refusals.{out_of_scope, repeated_variable}
-use Rattle.ct_check.specs.Variables.{Variable, variables, names_in, has_repeated}
-use Rattle.ct_check.specs.Parts.{Part, Parts, count, list_part, with_part, no_parts}
-use Rattle.ct_check.specs.Forms.{are_bindings, bound_names, are_cases, are_attributes}
-use Rattle.ct_check.specs.Patterns.{matchable}
-use Rattle.ct_check.specs.Elaboration.{part_of, parts_of, list_meaning, meaning, bound, bound_terms, formulas_of, sorts_of, let_form, match_form, cases_of, checked_cases, exhausted, annotated}
+use Rattle.ct_names.specs.Outcome.{Outcome, Sorted, and_then, unless_refused}
+use Rattle.ct_names.specs.Refusals.{out_of_scope, repeated_variable}
+use Rattle.ct_names.specs.Variables.{Variable, variables, names_in, has_repeated}
+use Rattle.ct_names.specs.Parts.{Part, Parts, count, list_part, with_part, no_parts}
+use Rattle.ct_names.specs.Forms.{are_bindings, bound_names, are_cases, are_attributes}
+use Rattle.ct_names.specs.Patterns.{matchable}
+use Rattle.ct_names.specs.Elaboration.{part_of, parts_of, list_meaning, meaning, bound, bound_terms, formulas_of, sorts_of, let_form, match_form, cases_of, checked_cases, exhausted, annotated}
 use Rattle.ct_check.specs.Binders.{bound_by}
 use Rattle.ct_check.specs.Trees.{sorted_trees}
-use Rattle.ct_check.proofs.PartLemmas.{part_of_list, two_items}
+use Rattle.ct_names.proofs.PartLemmas.{part_of_list, two_items}
 use Rattle.ct_check.proofs.BindingLemmas.{formulas_of-sorted, sorts_of-sorted, IsBinding}
 
 -- the test of an empty list

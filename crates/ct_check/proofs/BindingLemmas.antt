@@ -8,16 +8,16 @@ use Rattle.ct_sorts.specs.Declarations.{Declarations}
 use Rattle.ct_terms.specs.declared.tree.Tree.{Tree}
 use Rattle.ct_terms.specs.Formula.{with_formula}
 use Rattle.ct_terms.specs.TreeFormula.{formula_of, formulas_of_trees}
-use Rattle.ct_check.specs.declared.error.CheckError.{CheckError}
-use Rattle.ct_check.specs.declared.error.CheckError.TheVariants.{Refused, NoMemory}
-use Rattle.ct_check.specs.Outcome.{Outcome, Sorted, and_then}
-use Rattle.ct_check.specs.Answer.{Answers}
-use Rattle.ct_check.specs.Variables.{Variable}
-use Rattle.ct_check.specs.Parts.{list_part, with_part}
-use Rattle.ct_check.specs.Elaboration.{part_of, parts_of, meaning, bound_terms, formulas_of, sorts_of}
+use Rattle.ct_names.specs.declared.error.CheckError.{CheckError}
+use Rattle.ct_names.specs.declared.error.CheckError.TheVariants.{Refused, NoMemory}
+use Rattle.ct_names.specs.Outcome.{Outcome, Sorted, and_then}
+use Rattle.ct_names.specs.Answer.{Answers}
+use Rattle.ct_names.specs.Variables.{Variable}
+use Rattle.ct_names.specs.Parts.{list_part, with_part}
+use Rattle.ct_names.specs.Elaboration.{part_of, parts_of, meaning, bound_terms, formulas_of, sorts_of}
 use Rattle.ct_check.specs.Trees.{sorted_of, sorted_trees, sorted_list}
-use Rattle.ct_check.proofs.AnswerLemmas.{and_then-self}
-use Rattle.ct_check.proofs.PartLemmas.{drop_item}
+use Rattle.ct_names.proofs.AnswerLemmas.{and_then-self}
+use Rattle.ct_names.proofs.PartLemmas.{drop_item}
 use Rattle.ct_check.proofs.JoinedFormulas.{drop_past}
 
 -- trees with their sorts, one more of each

@@ -1,12 +1,7 @@
--- Variables in the order in which they were bound, and from the innermost outwards.
-use Rattle.std.proofs.Common.{◌≡◌, ℕ, ◌+◌, List, [], ◌∷◌, ◌++◌, length, drop, refl, sym, ◌∙◌, ap, arith}
+-- Variables that were bound leave.
+use Rattle.std.proofs.Common.{◌≡◌, ℕ, ◌+◌, List, [], ◌∷◌, length, drop, refl, sym, ◌∙◌, ap, arith}
 use Rattle.std.proofs.lemmas.List.{drop-drop}
 use Rattle.ct_terms.specs.Formula.{bind}
-
--- binding some and then others is binding all of them in order
-pub bind-append : {X : Type 0} (xs ys env : List X) → bind (xs ++ ys) env ≡ bind ys (bind xs env)
-bind-append [] ys env = refl
-bind-append (x ∷ xs) ys env = bind-append xs ys (x ∷ env)
 
 -- what was bound last leaves first
 pub drop-bind : {X : Type 0} (xs env : List X) → drop (length xs) (bind xs env) ≡ env

@@ -7,14 +7,14 @@ use Rattle.ct_sorts.specs.Declarations.{Declarations}
 use Rattle.ct_terms.specs.declared.tree.Pattern.{Pattern}
 use Rattle.ct_terms.specs.Formula.{Formula, Cases, no_cases, with_case, bind}
 use Rattle.ct_terms.specs.TreeFormula.{cases_of}
-use Rattle.ct_check.specs.Outcome.{Outcome, Sorted, and_then, unless_refused}
-use Rattle.ct_check.specs.Refusals.{wrong_sort}
-use Rattle.ct_check.specs.Variables.{Variable}
-use Rattle.ct_check.specs.Parts.{Part, with_part}
-use Rattle.ct_check.specs.Patterns.{Binding, pattern}
-use Rattle.ct_check.specs.Elaboration.{Checked, one_more, goes_with, part_of, parts_of, meaning, checked_cases}
-use Rattle.ct_check.proofs.AnswerLemmas.{and_then-self}
-use Rattle.ct_check.proofs.PartLemmas.{drop_item}
+use Rattle.ct_names.specs.Outcome.{Outcome, Sorted, and_then, unless_refused}
+use Rattle.ct_names.specs.Refusals.{wrong_sort}
+use Rattle.ct_names.specs.Variables.{Variable}
+use Rattle.ct_names.specs.Parts.{Part, with_part}
+use Rattle.ct_names.specs.Patterns.{Binding, pattern}
+use Rattle.ct_names.specs.Elaboration.{Checked, one_more, goes_with, part_of, parts_of, meaning, checked_cases}
+use Rattle.ct_names.proofs.AnswerLemmas.{and_then-self}
+use Rattle.ct_names.proofs.PartLemmas.{drop_item}
 use Rattle.ct_check.proofs.JoinedFormulas.{drop_past}
 use Rattle.ct_check.proofs.BindingLemmas.{IsBinding}
 

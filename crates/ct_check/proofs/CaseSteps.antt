@@ -8,15 +8,15 @@ use Rattle.ct_sorts.specs.declared.ids.SortId.{SortId}
 use Rattle.ct_sorts.specs.Declarations.{Declarations}
 use Rattle.ct_terms.specs.declared.tree.Pattern.{Pattern}
 use Rattle.ct_terms.specs.Formula.{Formula, bind}
-use Rattle.ct_check.specs.declared.error.CheckError.{CheckError}
-use Rattle.ct_check.specs.declared.error.CheckError.TheVariants.{Refused, NoMemory}
-use Rattle.ct_check.specs.declared.variables.Bound.{Bound}
-use Rattle.ct_check.specs.Answer.{Answers}
-use Rattle.ct_check.specs.Bounds.{variable_of, held_name, held_binding}
+use Rattle.ct_names.specs.declared.error.CheckError.{CheckError}
+use Rattle.ct_names.specs.declared.error.CheckError.TheVariants.{Refused, NoMemory}
+use Rattle.ct_names.specs.declared.variables.Bound.{Bound}
+use Rattle.ct_names.specs.Answer.{Answers}
+use Rattle.ct_names.specs.Bounds.{variable_of, held_name, held_binding}
 use Rattle.ct_check.specs.Trees.{sorted_of, checked_of}
-use Rattle.ct_check.specs.Variables.{Variable, variables}
-use Rattle.ct_check.specs.Patterns.{Binding, pattern}
-use Rattle.ct_check.specs.Elaboration.{part_of, parts_of, meaning, checked_cases}
+use Rattle.ct_names.specs.Variables.{Variable, variables}
+use Rattle.ct_names.specs.Patterns.{Binding, pattern}
+use Rattle.ct_names.specs.Elaboration.{part_of, parts_of, meaning, checked_cases}
 use Rattle.ct_check.proofs.BoundLemmas.{drop-bind}
 use Rattle.ct_check.proofs.BindingLemmas.{IsBinding}
 use Rattle.ct_check.proofs.BinderLemmas.{pair_form, two_of}

@@ -9,17 +9,17 @@ use Rattle.ct_sorts.specs.declared.ids.CtorId.{CtorId}
 use Rattle.ct_sorts.specs.Declarations.{Declarations, bool_sort}
 use Rattle.ct_terms.specs.Formula as formula
 use Rattle.ct_terms.specs.Formula.{Formula, Formulas, with_formula, no_formulas}
-use Rattle.ct_check.specs.declared.operator.Operator.{Operator}
-use Rattle.ct_check.specs.declared.variables.Found.{Found}
+use Rattle.ct_names.specs.declared.operator.Operator.{Operator}
+use Rattle.ct_names.specs.declared.variables.Found.{Found}
 use Rattle.ct_check.specs.declared.callees.Callee.TheVariants.{Tester, Connective}
-use Rattle.ct_check.specs.Outcome.{Outcome, Sorted, and_then, unless_refused, of_sort}
-use Rattle.ct_check.specs.Refusals.{unknown_symbol, wrong_count, out_of_scope}
-use Rattle.ct_check.specs.Symbols.{symbol_of, operator_of, ctor_sort}
-use Rattle.ct_check.specs.Variables.{Variable, find}
-use Rattle.ct_check.specs.Parts.{Part, Parts, with_part, no_parts, count}
-use Rattle.ct_check.specs.Forms.{is_word}
+use Rattle.ct_names.specs.Outcome.{Outcome, Sorted, and_then, unless_refused, of_sort}
+use Rattle.ct_names.specs.Refusals.{unknown_symbol, wrong_count, out_of_scope}
+use Rattle.ct_names.specs.Symbols.{symbol_of, operator_of, ctor_sort}
+use Rattle.ct_names.specs.Variables.{Variable, find}
+use Rattle.ct_names.specs.Parts.{Part, Parts, with_part, no_parts, count}
+use Rattle.ct_names.specs.Forms.{is_word}
 use Rattle.ct_check.specs.Callees.{called, test_of}
-use Rattle.ct_check.specs.Elaboration.{part_of, parts_of, meaning, list_meaning, arguments, all_of_sort, connected, takes, operated, application, global, headed, reserved, applied_symbol, tested_term, qualified, qualified_symbol, tester}
+use Rattle.ct_names.specs.Elaboration.{part_of, parts_of, meaning, list_meaning, arguments, all_of_sort, connected, takes, operated, application, global, headed, reserved, applied_symbol, tested_term, qualified, qualified_symbol, tester}
 
 -- arguments of one sort are arguments of that sort, so many times
 pub all_of_sort-arguments : (d : Declarations) (scope : List Variable) (s : SortId) (ps : Parts) → all_of_sort d scope s ps ≡ arguments d scope (replicate (count ps) s) ps

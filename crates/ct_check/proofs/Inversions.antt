@@ -3,8 +3,8 @@ use Rattle.std.proofs.Common.{◌≡◌, ℕ, Bool, true, false, Ok, Err, refl, 
 use Rattle.std.proofs.lemmas.Bool.Decides.{Decides-eqb}
 use Rattle.ct_sorts.specs.declared.ids.SortId.{SortId}
 use Rattle.ct_terms.specs.Formula.{Formula}
-use Rattle.ct_check.specs.Outcome.{Outcome, Sorted, and_then, unless_refused, is_sort, of_sort}
-use Rattle.ct_check.specs.Refusals.{wrong_sort}
+use Rattle.ct_names.specs.Outcome.{Outcome, Sorted, and_then, unless_refused, is_sort, of_sort}
+use Rattle.ct_names.specs.Refusals.{wrong_sort}
 
 pub and_then-inverse : {X Y : Type 0} (first : Outcome X) (next : X → Outcome Y) (y : Y) → and_then first next ≡ Ok y → (x : X) × (first ≡ Ok x) × (next x ≡ Ok y)
 and_then-inverse (Ok x) next y e = (x, refl, e)

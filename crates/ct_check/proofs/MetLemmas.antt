@@ -7,17 +7,17 @@ use Rattle.ct_sorts.specs.declared.ids.SortId.{SortId}
 use Rattle.ct_sorts.specs.Declarations.{Declarations}
 use Rattle.ct_terms.specs.declared.tree.Tree.{Tree}
 use Rattle.ct_terms.specs.TreeFormula.{formula_of, formulas_of_trees}
-use Rattle.ct_check.specs.declared.error.CheckError.{CheckError}
+use Rattle.ct_names.specs.declared.error.CheckError.{CheckError}
 use Rattle.ct_check.specs.declared.arguments.Elaborated.{Elaborated}
-use Rattle.ct_check.specs.declared.error.CheckError.TheVariants.{Refused, NoMemory}
-use Rattle.ct_check.specs.Answer.{Answers}
-use Rattle.ct_check.specs.Outcome.{Outcome, Sorted}
+use Rattle.ct_names.specs.declared.error.CheckError.TheVariants.{Refused, NoMemory}
+use Rattle.ct_names.specs.Answer.{Answers}
+use Rattle.ct_names.specs.Outcome.{Outcome, Sorted}
 use Rattle.ct_check.specs.Trees.{sorted_of}
-use Rattle.ct_check.specs.Variables.{Variable}
-use Rattle.ct_check.specs.Elaboration.{part_of, parts_of, meaning, formulas_of, sorts_of}
+use Rattle.ct_names.specs.Variables.{Variable}
+use Rattle.ct_names.specs.Elaboration.{part_of, parts_of, meaning, formulas_of, sorts_of}
 use Rattle.ct_check.specs.Arguments.{Met, met, met_first, AreHeld}
 use Rattle.ct_check.proofs.JoinedFormulas.{joined, joined-none, joined-push, drop_past}
-use Rattle.ct_check.proofs.PartLemmas.{drop_item}
+use Rattle.ct_names.proofs.PartLemmas.{drop_item}
 
 append-none : {X : Type 0} (xs : List X) → xs ++ [] ≡ xs
 append-none [] = refl

@@ -3,7 +3,7 @@ use Rattle.std.proofs.Common.{◌≡◌, ℕ, zero, suc, ◌+◌, ◌-◌, ◌<�
 use Rattle.ct_sexpr.specs.declared.sexpr.Sexpr.{Sexpr, List as list_in_memory}
 use Rattle.ct_sexpr.specs.Expression.{Expression, nesting, nesting_of_each}
 use Rattle.ct_sexpr.specs.View.{expression_of, expressions_of}
-use Rattle.ct_check.proofs.Rows.{expression_of_list}
+use Rattle.ct_names.proofs.Rows.{expression_of_list}
 
 -- an item nests no deeper than the items
 pub nests_item : (items : List Sexpr) (i : ℕ) (x : Sexpr) → i < length items → x ≡ get_or items i x → nesting (expression_of x) ≤ nesting_of_each (expressions_of items)

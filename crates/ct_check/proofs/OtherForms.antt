@@ -10,12 +10,12 @@ use Rattle.ct_sorts.specs.Declarations.{Declarations}
 use Rattle.ct_terms.specs.declared.tree.Tree.{Tree}
 use Rattle.ct_terms.specs.declared.tree.Pattern.{Pattern}
 use Rattle.ct_terms.specs.Formula.{Formula}
-use Rattle.ct_check.specs.Outcome.{Outcome, Sorted, and_then}
-use Rattle.ct_check.specs.Refusals.{out_of_scope}
-use Rattle.ct_check.specs.Variables.{Variable}
-use Rattle.ct_check.specs.Parts.{Part, Parts, atom_part, list_part, no_parts, with_part}
-use Rattle.ct_check.specs.Elaboration.{part_of, parts_of, list_meaning, annotated, let_form, match_form, bound_terms, checked_cases}
-use Rattle.ct_check.proofs.PartLemmas.{part_of_list, drop_item}
+use Rattle.ct_names.specs.Outcome.{Outcome, Sorted, and_then}
+use Rattle.ct_names.specs.Refusals.{out_of_scope}
+use Rattle.ct_names.specs.Variables.{Variable}
+use Rattle.ct_names.specs.Parts.{Part, Parts, atom_part, list_part, no_parts, with_part}
+use Rattle.ct_names.specs.Elaboration.{part_of, parts_of, list_meaning, annotated, let_form, match_form, bound_terms, checked_cases}
+use Rattle.ct_names.proofs.PartLemmas.{part_of_list, drop_item}
 use Rattle.ct_check.proofs.BindingLemmas as bindings
 use Rattle.ct_check.proofs.CaseLemmas as cases
 

@@ -12,16 +12,16 @@ use Rattle.ct_sorts.specs.Declarations.{Declarations, bool_sort}
 use Rattle.ct_sorts.specs.Lookup.{ResolvesTo, IsSymbol}
 use Rattle.ct_terms.specs.Formula as formula
 use Rattle.ct_terms.specs.FormulaSorts.{IsSorted}
-use Rattle.ct_check.specs.declared.operator.Operator.{Operator}
-use Rattle.ct_check.specs.Refusals.{unknown_symbol, wrong_count, wrong_sort, out_of_scope}
-use Rattle.ct_check.specs.Outcome.{Sorted, and_then, unless_refused, is_sort, of_sort}
-use Rattle.ct_check.specs.Symbols.{symbol_of, operator_of, ctor_named, ctor_sort, result_sort}
-use Rattle.ct_check.specs.Variables.{Variable, find, variable_sorts}
-use Rattle.ct_check.specs.Forms.{is_word, are_attributes}
-use Rattle.ct_check.specs.Parts.{Part, Parts, atom_part, list_part, no_parts, with_part, count, name_of}
-use Rattle.ct_check.specs.Elaboration.{meaning, takes, operated, applied_symbol, global, application, let_form, match_form, annotated, lone_symbol, may_qualify, qualified_name, qualified_symbol, sort_of_part, tested, tested_name, is_text, tester, tested_term, qualified, reserved, headed, list_meaning, part_of, parts_of, elaborated}
+use Rattle.ct_names.specs.declared.operator.Operator.{Operator}
+use Rattle.ct_names.specs.Refusals.{unknown_symbol, wrong_count, wrong_sort, out_of_scope}
+use Rattle.ct_names.specs.Outcome.{Sorted, and_then, unless_refused, is_sort, of_sort}
+use Rattle.ct_names.specs.Symbols.{symbol_of, operator_of, ctor_named, ctor_sort, result_sort}
+use Rattle.ct_names.specs.Variables.{Variable, find, variable_sorts}
+use Rattle.ct_names.specs.Forms.{is_word, are_attributes}
+use Rattle.ct_names.specs.Parts.{Part, Parts, atom_part, list_part, no_parts, with_part, count, name_of}
+use Rattle.ct_names.specs.Elaboration.{meaning, takes, operated, applied_symbol, global, application, let_form, match_form, annotated, lone_symbol, may_qualify, qualified_name, qualified_symbol, sort_of_part, tested, tested_name, is_text, tester, tested_term, qualified, reserved, headed, list_meaning, part_of, parts_of, elaborated}
 use Rattle.ct_check.proofs.Inversions.{and_then-inverse, unless-inverse, same_value, of_sort-inverse}
-use Rattle.ct_check.proofs.SymbolLemmas.{resolves}
+use Rattle.ct_names.proofs.SymbolLemmas.{resolves}
 use Rattle.ct_check.proofs.SymbolSorts.{Laws, there, owner_at}
 use Rattle.ct_check.proofs.SoundLemmas.{IsSoundMeaning, IsSoundPart, AreSoundParts, HasOwnSort, carried, meaning_sound, lone_symbol_sound}
 use Rattle.ct_check.proofs.SoundForms.{operated_sound, applied_sound, bound_sound}

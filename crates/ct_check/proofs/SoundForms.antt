@@ -9,15 +9,15 @@ use Rattle.ct_sorts.specs.Lookup.{IsSymbol}
 use Rattle.ct_terms.specs.Formula as formula
 use Rattle.ct_terms.specs.Formula.{Formulas, no_formulas, with_formula, bind}
 use Rattle.ct_terms.specs.FormulaSorts.{IsSorted, AreSorted, AreOfSort, HasFormula, AreSeveral}
-use Rattle.ct_check.specs.declared.operator.Operator.{Operator}
-use Rattle.ct_check.specs.declared.operator.Operator.TheVariants.{Not, And, Or, Xor, Implies, Equal, Distinct, Ite}
-use Rattle.ct_check.specs.Refusals.{wrong_count, repeated_variable, out_of_scope}
-use Rattle.ct_check.specs.Outcome.{Sorted, and_then, unless_refused, of_sort}
-use Rattle.ct_check.specs.Symbols.{argument_sorts, result_sort, applied}
-use Rattle.ct_check.specs.Variables.{Variable, variables, variable_sorts, has_repeated, names_in}
-use Rattle.ct_check.specs.Forms.{are_bindings, bound_names}
-use Rattle.ct_check.specs.Parts.{Part, Parts, atom_part, list_part, no_parts, with_part, count}
-use Rattle.ct_check.specs.Elaboration.{meaning, arguments, all_of_sort, of_one_sort, connective, choice, takes, operated, applied_symbol, connected, bound_terms, bound, formulas_of, sorts_of}
+use Rattle.ct_names.specs.declared.operator.Operator.{Operator}
+use Rattle.ct_names.specs.declared.operator.Operator.TheVariants.{Not, And, Or, Xor, Implies, Equal, Distinct, Ite}
+use Rattle.ct_names.specs.Refusals.{wrong_count, repeated_variable, out_of_scope}
+use Rattle.ct_names.specs.Outcome.{Sorted, and_then, unless_refused, of_sort}
+use Rattle.ct_names.specs.Symbols.{argument_sorts, result_sort, applied}
+use Rattle.ct_names.specs.Variables.{Variable, variables, variable_sorts, has_repeated, names_in}
+use Rattle.ct_names.specs.Forms.{are_bindings, bound_names}
+use Rattle.ct_names.specs.Parts.{Part, Parts, atom_part, list_part, no_parts, with_part, count}
+use Rattle.ct_names.specs.Elaboration.{meaning, arguments, all_of_sort, of_one_sort, connective, choice, takes, operated, applied_symbol, connected, bound_terms, bound, formulas_of, sorts_of}
 use Rattle.ct_check.proofs.Inversions.{and_then-inverse, unless-inverse, same_value, of_sort-inverse}
 use Rattle.ct_check.proofs.SymbolSorts.{Laws, applied_sorted}
 use Rattle.ct_check.proofs.SoundLemmas.{IsSoundPart, AreSoundParts, HasOwnSort, carried, meaning_sound, arguments_sound, all_sound, all_some, all_several}

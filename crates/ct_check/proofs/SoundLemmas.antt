@@ -9,16 +9,16 @@ use Rattle.ct_sexpr.specs.Readable.{name_of_atom}
 use Rattle.ct_terms.specs.Formula as formula
 use Rattle.ct_terms.specs.Formula.{Formulas, no_formulas, with_formula}
 use Rattle.ct_terms.specs.FormulaSorts.{IsSorted, AreSorted, AreOfSort, HasFormula, AreSeveral}
-use Rattle.ct_check.specs.declared.operator.Operator.{Operator}
-use Rattle.ct_check.specs.Refusals.{wrong_count}
-use Rattle.ct_check.specs.Outcome.{Outcome, Sorted, and_then, of_sort}
-use Rattle.ct_check.specs.Symbols.{symbol_of, operator_of, argument_sorts, result_sort, applied}
-use Rattle.ct_check.specs.Variables.{Variable, is_named, find_from, find, variable_sorts}
-use Rattle.ct_check.specs.Parts.{Part, Parts, atom_part, list_part, no_parts, with_part, count}
-use Rattle.ct_check.specs.Elaboration.{lone, lone_name, lone_global, lone_symbol, lone_operator, meaning, arguments, all_of_sort}
+use Rattle.ct_names.specs.declared.operator.Operator.{Operator}
+use Rattle.ct_names.specs.Refusals.{wrong_count}
+use Rattle.ct_names.specs.Outcome.{Outcome, Sorted, and_then, of_sort}
+use Rattle.ct_names.specs.Symbols.{symbol_of, operator_of, argument_sorts, result_sort, applied}
+use Rattle.ct_names.specs.Variables.{Variable, is_named, find_from, find, variable_sorts}
+use Rattle.ct_names.specs.Parts.{Part, Parts, atom_part, list_part, no_parts, with_part, count}
+use Rattle.ct_names.specs.Elaboration.{lone, lone_name, lone_global, lone_symbol, lone_operator, meaning, arguments, all_of_sort}
 use Rattle.ct_check.proofs.Inversions.{and_then-inverse, unless-inverse, same_value, of_sort-inverse}
 use Rattle.ct_check.proofs.SymbolSorts.{Laws, applied_sorted}
-use Rattle.ct_check.proofs.SymbolLemmas.{resolves}
+use Rattle.ct_names.proofs.SymbolLemmas.{resolves}
 
 -- what a list means is well sorted, at every scope
 abbrev pub IsSoundMeaning : Declarations → (List Variable → Outcome Sorted) → Type 0

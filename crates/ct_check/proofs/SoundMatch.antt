@@ -12,13 +12,13 @@ use Rattle.ct_terms.specs.declared.tree.Pattern.TheVariants.{Ctor, Any}
 use Rattle.ct_terms.specs.Formula as formula
 use Rattle.ct_terms.specs.Formula.{Formula, Cases, no_cases, with_case, bind}
 use Rattle.ct_terms.specs.FormulaSorts.{IsSorted, AreSortedCases, HasPattern, IsExhaustive, HasCase, IsMatchable}
-use Rattle.ct_check.specs.Refusals.{wrong_sort, not_exhaustive, out_of_scope}
-use Rattle.ct_check.specs.Outcome.{Sorted}
-use Rattle.ct_check.specs.Variables.{Variable, variable_sorts}
-use Rattle.ct_check.specs.Parts.{Part, Parts, atom_part, list_part, no_parts, with_part}
-use Rattle.ct_check.specs.Forms.{are_cases}
-use Rattle.ct_check.specs.Patterns.{pattern, matchable, are_exhaustive, fits_all, is_of_ctor, sort_ctors}
-use Rattle.ct_check.specs.Elaboration.{Checked, no_more, one_more, goes_with, meaning, checked_cases, matched, exhausted, cases_of}
+use Rattle.ct_names.specs.Refusals.{wrong_sort, not_exhaustive, out_of_scope}
+use Rattle.ct_names.specs.Outcome.{Sorted}
+use Rattle.ct_names.specs.Variables.{Variable, variable_sorts}
+use Rattle.ct_names.specs.Parts.{Part, Parts, atom_part, list_part, no_parts, with_part}
+use Rattle.ct_names.specs.Forms.{are_cases}
+use Rattle.ct_names.specs.Patterns.{pattern, matchable, are_exhaustive, fits_all, is_of_ctor, sort_ctors}
+use Rattle.ct_names.specs.Elaboration.{Checked, no_more, one_more, goes_with, meaning, checked_cases, matched, exhausted, cases_of}
 use Rattle.ct_check.proofs.Inversions.{and_then-inverse, unless-inverse, same_value, one_sort}
 use Rattle.ct_check.proofs.SymbolSorts.{Laws}
 use Rattle.ct_check.proofs.SoundLemmas.{IsSoundPart, AreSoundParts, HasOwnSort, carried, meaning_sound}

@@ -12,14 +12,14 @@ use Rattle.ct_sorts.specs.Lookup.{ResolvesTo}
 use Rattle.ct_terms.specs.CoreSorts.{AreFieldSorts}
 use Rattle.ct_terms.specs.declared.tree.Pattern.TheVariants.{Ctor}
 use Rattle.ct_terms.specs.FormulaSorts.{IsMatchable, BindsSorts}
-use Rattle.ct_check.specs.Refusals.{foreign_pattern, wrong_count, out_of_scope, repeated_variable}
-use Rattle.ct_check.specs.Outcome.{Outcome, is_sort}
-use Rattle.ct_check.specs.Parts.{Part, atom_part, list_part, no_parts, with_part, name_of}
-use Rattle.ct_check.specs.Symbols.{symbol_of, ctor_of, ctor_named, ctor_sort, ctor_fields}
-use Rattle.ct_check.specs.Variables.{variables, variable_sorts, has_repeated, names_in}
-use Rattle.ct_check.specs.Patterns.{Binding, any_pattern, lone_ctor, lone_pattern, leaf_pattern, ctor_with, headed_pattern, ctor_at, variable_names, pattern, matchable, matchable_kind}
+use Rattle.ct_names.specs.Refusals.{foreign_pattern, wrong_count, out_of_scope, repeated_variable}
+use Rattle.ct_names.specs.Outcome.{Outcome, is_sort}
+use Rattle.ct_names.specs.Parts.{Part, atom_part, list_part, no_parts, with_part, name_of}
+use Rattle.ct_names.specs.Symbols.{symbol_of, ctor_of, ctor_named, ctor_sort, ctor_fields}
+use Rattle.ct_names.specs.Variables.{variables, variable_sorts, has_repeated, names_in}
+use Rattle.ct_names.specs.Patterns.{Binding, any_pattern, lone_ctor, lone_pattern, leaf_pattern, ctor_with, headed_pattern, ctor_at, variable_names, pattern, matchable, matchable_kind}
 use Rattle.ct_check.proofs.Inversions.{unless-inverse, same_value, one_sort}
-use Rattle.ct_check.proofs.SymbolLemmas.{resolves}
+use Rattle.ct_names.proofs.SymbolLemmas.{resolves}
 use Rattle.ct_check.proofs.SymbolSorts.{Laws, there, field_sorts, owner_at}
 use Rattle.ct_check.proofs.SoundLemmas.{empty_from}
 use Rattle.ct_check.proofs.SoundForms.{sorts-variables}

@@ -12,7 +12,7 @@ use Rattle.ct_sorts.specs.Structure.{HaveOwnConstructors, AreOfTheirSorts, HaveO
 use Rattle.ct_terms.specs.CoreSorts.{IsFieldSort, AreFieldSorts}
 use Rattle.ct_terms.specs.Formula.{Formula, Formulas, no_formulas, with_formula, Sel as SelFormula}
 use Rattle.ct_terms.specs.FormulaSorts.{IsSorted, AreSorted}
-use Rattle.ct_check.specs.Symbols.{field_sort, ctor_fields, ctor_sort, sel_argument, argument_sorts, result_sort, applied}
+use Rattle.ct_names.specs.Symbols.{field_sort, ctor_fields, ctor_sort, sel_argument, argument_sorts, result_sort, applied}
 
 -- what holds of consistent declarations
 pub record Laws (d : Declarations) : Type 0 where

@@ -7,16 +7,16 @@ use Rattle.ct_terms.specs.declared.tree.Tree.{Tree}
 use Rattle.ct_terms.specs.Formula as formula
 use Rattle.ct_terms.specs.Formula.{Formula, Formulas, no_formulas, with_formula}
 use Rattle.ct_terms.specs.TreeFormula.{formulas_of_trees}
-use Rattle.ct_check.specs.declared.operator.Operator.{Operator}
+use Rattle.ct_names.specs.declared.operator.Operator.{Operator}
 use Rattle.ct_check.specs.declared.callees.Callee.{Callee}
 use Rattle.ct_check.specs.declared.heads.Head.TheVariants.{Equation}
-use Rattle.ct_check.specs.Outcome.{Outcome, Sorted, and_then, unless_refused, is_sort, of_sort}
-use Rattle.ct_check.specs.Refusals.{wrong_sort, wrong_count}
-use Rattle.ct_check.specs.Variables.{Variable}
-use Rattle.ct_check.specs.Parts.{Parts, no_parts, with_part, count}
+use Rattle.ct_names.specs.Outcome.{Outcome, Sorted, and_then, unless_refused, is_sort, of_sort}
+use Rattle.ct_names.specs.Refusals.{wrong_sort, wrong_count}
+use Rattle.ct_names.specs.Variables.{Variable}
+use Rattle.ct_names.specs.Parts.{Parts, no_parts, with_part, count}
 use Rattle.ct_check.specs.Callees.{called, callee_sorts, callee_formula, callee_result}
 use Rattle.ct_check.specs.Heads.{headed_by}
-use Rattle.ct_check.specs.Elaboration.{meaning, arguments, all_of_sort, of_one_sort, choice, connected, formulas_of, sorts_of}
+use Rattle.ct_names.specs.Elaboration.{meaning, arguments, all_of_sort, of_one_sort, choice, connected, formulas_of, sorts_of}
 use Rattle.ct_check.specs.Arguments.{Met, met, met_first, AreHeld, misfit, unless_misfit, same_sorts, second_sort, choice_sorts, chosen}
 use Rattle.ct_check.proofs.HeadLemmas.{all_of_sort-arguments}
 

@@ -6,11 +6,11 @@ use Rattle.ct_terms.specs.declared.tree.Tree.{Tree}
 use Rattle.ct_terms.specs.Formula as formula
 use Rattle.ct_terms.specs.Formula.{Formula, Formulas, no_formulas, with_formula}
 use Rattle.ct_terms.specs.TreeFormula.{formulas_of_trees}
-use Rattle.ct_check.specs.Outcome.{Outcome, Sorted, is_sort}
-use Rattle.ct_check.specs.Refusals.{wrong_count, wrong_sort}
-use Rattle.ct_check.specs.Variables.{Variable}
-use Rattle.ct_check.specs.Parts.{Parts, no_parts, with_part}
-use Rattle.ct_check.specs.Elaboration.{meaning, formulas_of, sorts_of}
+use Rattle.ct_names.specs.Outcome.{Outcome, Sorted, is_sort}
+use Rattle.ct_names.specs.Refusals.{wrong_count, wrong_sort}
+use Rattle.ct_names.specs.Variables.{Variable}
+use Rattle.ct_names.specs.Parts.{Parts, no_parts, with_part}
+use Rattle.ct_names.specs.Elaboration.{meaning, formulas_of, sorts_of}
 
 -- the terms before the first error, and that error, where there is one
 pub record Met : Type 0 where

@@ -3,10 +3,10 @@ use Rattle.std.specs.Prelude.{ℕ, List, Option, Ok}
 use Rattle.ct_sorts.specs.Declarations.{Declarations}
 use Rattle.ct_terms.specs.Formula as formula
 use Rattle.ct_terms.specs.Formula.{bind}
-use Rattle.ct_check.specs.Outcome.{Outcome, Sorted, and_then}
-use Rattle.ct_check.specs.Variables.{Variable, variables}
-use Rattle.ct_check.specs.Parts.{Part, Parts}
-use Rattle.ct_check.specs.Elaboration.{meaning, bound_terms, formulas_of, sorts_of}
+use Rattle.ct_names.specs.Outcome.{Outcome, Sorted, and_then}
+use Rattle.ct_names.specs.Variables.{Variable, variables}
+use Rattle.ct_names.specs.Parts.{Part, Parts}
+use Rattle.ct_names.specs.Elaboration.{meaning, bound_terms, formulas_of, sorts_of}
 
 -- bindings of these names, and a body
 abbrev pub bound_by : Declarations → List Variable → List (Option (List ℕ)) → Parts → Part → Outcome Sorted

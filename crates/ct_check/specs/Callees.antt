@@ -8,11 +8,11 @@ use Rattle.ct_terms.specs.Formula as formula
 use Rattle.ct_terms.specs.Formula.{Formula, Formulas, no_formulas, with_formula}
 use Rattle.ct_check.specs.declared.callees.Callee.{Callee}
 use Rattle.ct_check.specs.declared.callees.Callee.TheVariants.{Symbol, Tester, Connective}
-use Rattle.ct_check.specs.Outcome.{Outcome, Sorted, and_then}
-use Rattle.ct_check.specs.Symbols.{argument_sorts, result_sort, applied, ctor_sort}
-use Rattle.ct_check.specs.Variables.{Variable}
-use Rattle.ct_check.specs.Parts.{Parts, count}
-use Rattle.ct_check.specs.Elaboration.{arguments, connected}
+use Rattle.ct_names.specs.Outcome.{Outcome, Sorted, and_then}
+use Rattle.ct_names.specs.Symbols.{argument_sorts, result_sort, applied, ctor_sort}
+use Rattle.ct_names.specs.Variables.{Variable}
+use Rattle.ct_names.specs.Parts.{Parts, count}
+use Rattle.ct_names.specs.Elaboration.{arguments, connected}
 
 -- the sorts of its arguments, where there are so many
 abbrev pub callee_sorts : Declarations → Callee → ℕ → List SortId

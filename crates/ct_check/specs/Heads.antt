@@ -4,11 +4,11 @@ use Rattle.ct_sorts.specs.Declarations.{Declarations, bool_sort}
 use Rattle.ct_sorts.specs.Lookup.{IsSymbol}
 use Rattle.ct_check.specs.declared.heads.Head.{Head}
 use Rattle.ct_check.specs.declared.heads.Head.TheVariants.{Let, Match, Annotation, Whole, Call, Equation, Choice}
-use Rattle.ct_check.specs.Outcome.{Outcome, Sorted, and_then}
-use Rattle.ct_check.specs.Variables.{Variable}
-use Rattle.ct_check.specs.Parts.{Parts}
+use Rattle.ct_names.specs.Outcome.{Outcome, Sorted, and_then}
+use Rattle.ct_names.specs.Variables.{Variable}
+use Rattle.ct_names.specs.Parts.{Parts}
 use Rattle.ct_check.specs.Callees.{called, IsCallee}
-use Rattle.ct_check.specs.Elaboration.{let_form, match_form, annotated, lone_symbol, of_one_sort, connected, choice}
+use Rattle.ct_names.specs.Elaboration.{let_form, match_form, annotated, lone_symbol, of_one_sort, connected, choice}
 
 -- the list means this, where its other items are these
 abbrev pub headed_by : Declarations → List Variable → Head → Parts → Outcome Sorted

@@ -1,17 +1,5 @@
-pub mod Refusals
-pub mod Outcome
-pub mod Answer
-pub mod Variables
-pub mod Repeats
-pub mod Parts
-pub mod Symbols
-pub mod Forms
-pub mod Patterns
-pub mod Bounds
-pub mod Elaboration
 pub mod Callees
 pub mod Heads
 pub mod Trees
 pub mod Arguments
 pub mod Binders
-pub mod Stack

@@ -9,8 +9,8 @@ use Rattle.ct_terms.specs.declared.tree.Pattern.{Pattern}
 use Rattle.ct_terms.specs.declared.tree.Case.{Case}
 use Rattle.ct_terms.specs.declared.tree.Tree.TheFolds.{fold-Case}
 use Rattle.ct_check.specs.declared.binders.Checked.{Checked as CheckedTrees}
-use Rattle.ct_check.specs.Elaboration.{Checked}
-use Rattle.ct_check.specs.Outcome.{Sorted}
+use Rattle.ct_names.specs.Elaboration.{Checked}
+use Rattle.ct_names.specs.Outcome.{Sorted}
 
 -- the formula of a tree, with its sort
 abbrev pub sorted_of : Tree × SortId → Sorted

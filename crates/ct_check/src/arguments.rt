@@ -2,21 +2,19 @@
 ghost use Rattle.std.specs.Prelude.{◌≡◌, ◌∷◌, ℕ, List, [], Some, MatchOption, IfOk, IfErr};
 ghost use Rattle.ct_sorts.specs.Declarations.{Declarations};
 ghost use Rattle.ct_terms.specs.TreeFormula.{formula_of, formulas_of_trees};
-ghost use Rattle.ct_check.specs.Answer.{Answers};
+ghost use Rattle.ct_names.specs.Answer.{Answers};
 ghost use Rattle.ct_check.specs.Arguments.{met, AreHeld, misfit, same_sorts, second_sort, choice_sorts, chosen};
 ghost use Rattle.ct_check.specs.Callees.{called, IsCallee};
-ghost use Rattle.ct_check.specs.Elaboration.{choice};
+ghost use Rattle.ct_names.specs.Elaboration.{choice};
 ghost use Rattle.ct_check.specs.Heads.{headed_by};
-ghost use Rattle.ct_check.specs.Parts.{Parts, count};
+ghost use Rattle.ct_names.specs.Parts.{Parts, count};
 ghost use Rattle.ct_check.specs.Trees.{sorted_of};
-ghost use Rattle.ct_check.specs.Variables.{Variable};
+ghost use Rattle.ct_names.specs.Variables.{Variable};
 ghost use Rattle.ct_check.specs.declared.heads.Head.TheVariants.{Equation};
 
 use crate::callees::{BOOL, Callee, callee_result, callee_sorts, is_sort, repeated};
-use crate::error::CheckError;
-use crate::operator::Operator;
-use crate::refusals::{WRONG_COUNT, WRONG_SORT};
 use crate::trees::{callee_tree, operator_tree};
+use ct_names::{CheckError, Operator, WRONG_COUNT, WRONG_SORT};
 use ct_sorts::{Signature, SortId};
 use ct_terms::Tree;
 use std::alloc::Global;

@@ -4,20 +4,20 @@ ghost use Rattle.ct_sexpr.specs.View.{expressions_of};
 ghost use Rattle.ct_sorts.specs.Declarations.{Declarations};
 ghost use Rattle.ct_terms.specs.Formula.{Let};
 ghost use Rattle.ct_terms.specs.TreeFormula.{formula_of, formulas_of_trees};
-ghost use Rattle.ct_check.specs.Answer.{Answers, Leads};
+ghost use Rattle.ct_names.specs.Answer.{Answers, Leads};
 ghost use Rattle.ct_check.specs.Binders.{bound_by};
-ghost use Rattle.ct_check.specs.Bounds.{held_name};
-ghost use Rattle.ct_check.specs.Elaboration.{parts_of, bound, exhausted, goes_with};
-ghost use Rattle.ct_check.specs.Parts.{Part};
+ghost use Rattle.ct_names.specs.Bounds.{held_name};
+ghost use Rattle.ct_names.specs.Elaboration.{parts_of, bound, exhausted, goes_with};
+ghost use Rattle.ct_names.specs.Parts.{Part};
 ghost use Rattle.ct_check.specs.Trees.{sorted_of, checked_of, case_of};
-ghost use Rattle.ct_check.specs.Variables.{Variable};
+ghost use Rattle.ct_names.specs.Variables.{Variable};
 
 use crate::callees::is_sort;
-use crate::error::CheckError;
-use crate::forms::are_bindings;
-use crate::patterns::{are_exhaustive, bound_names};
-use crate::refusals::{NOT_EXHAUSTIVE, OUT_OF_SCOPE, REPEATED_VARIABLE};
-use crate::repeats::has_repeated;
+use crate::exhaustive::are_exhaustive;
+use ct_names::{
+    CheckError, NOT_EXHAUSTIVE, OUT_OF_SCOPE, REPEATED_VARIABLE, are_bindings, bound_names,
+    has_repeated,
+};
 use ct_sexpr::Sexpr;
 use ct_sorts::{Signature, SortId};
 use ct_terms::{Case, Pattern, Tree};
@@ -75,7 +75,8 @@ pub(crate) fn match_tree(
     ensures value { Answers sorted_of (exhausted sig.now (formula_of subject, side)
         (checked_of checked)) result }
 {
-    if !are_exhaustive(sig, side, checked.patterns.as_slice()) {
+    let exhaustive = are_exhaustive(alloc, sig, side, checked.patterns.as_slice())?;
+    if !exhaustive {
         return Err(CheckError::Refused(NOT_EXHAUSTIVE));
     }
     match checked.sort {

@@ -1,13 +1,11 @@
 //! What takes arguments of stated sorts: symbols, testers and connectives.
 ghost use Rattle.std.specs.Prelude.{◌≡◌, ◌==◌, replicate, IfOk, IfErr};
-ghost use Rattle.ct_check.specs.Symbols.{argument_sorts};
-ghost use Rattle.ct_check.specs.Elaboration.{takes};
-ghost use Rattle.ct_check.specs.Outcome.{is_sort};
+ghost use Rattle.ct_names.specs.Symbols.{argument_sorts};
+ghost use Rattle.ct_names.specs.Elaboration.{takes};
+ghost use Rattle.ct_names.specs.Outcome.{is_sort};
 ghost use Rattle.ct_check.specs.Callees.{callee_sorts, callee_result, IsCallee};
 
-use crate::error::CheckError;
-use crate::operator::Operator;
-use crate::symbols::{argument_sorts, result_sort};
+use ct_names::{CheckError, Operator, argument_sorts, result_sort};
 use ct_sorts::{CtorId, Signature, SortId, Symbol};
 use ct_terms::Tree;
 use std::alloc::Global;

@@ -2,25 +2,24 @@
 ghost use Rattle.std.specs.Prelude.{◌≡◌, List, None, IfOk};
 ghost use Rattle.ct_sexpr.specs.View.{expression_of, expressions_of};
 ghost use Rattle.ct_sorts.specs.Lookup.{IsSymbol};
-ghost use Rattle.ct_check.specs.Answer.{Answers, Leads, same};
-ghost use Rattle.ct_check.specs.Elaboration.{part_of, parts_of, list_meaning, reserved, application, qualified, qualified_symbol, tester, headed, is_text, may_qualify, takes, operated, global, applied_symbol, tested_term};
+ghost use Rattle.ct_names.specs.Answer.{Answers, Leads, same};
+ghost use Rattle.ct_names.specs.Elaboration.{part_of, parts_of, list_meaning, reserved, application, qualified, qualified_symbol, tester, headed, is_text, may_qualify, takes, operated, global, applied_symbol, tested_term};
 ghost use Rattle.ct_check.specs.Heads.{headed_by, IsDeclared};
-ghost use Rattle.ct_check.specs.Parts.{Parts, with_part, no_parts, name_of, count};
-ghost use Rattle.ct_check.specs.Outcome.{unless_refused};
-ghost use Rattle.ct_check.specs.Refusals.{wrong_count};
-ghost use Rattle.ct_check.specs.Variables.{Variable};
-ghost use Rattle.ct_check.specs.Symbols.{symbol_of};
+ghost use Rattle.ct_names.specs.Parts.{Parts, with_part, no_parts, name_of, count};
+ghost use Rattle.ct_names.specs.Outcome.{unless_refused};
+ghost use Rattle.ct_names.specs.Refusals.{wrong_count};
+ghost use Rattle.ct_names.specs.Variables.{Variable};
+ghost use Rattle.ct_names.specs.Symbols.{symbol_of};
 ghost use Rattle.ct_sorts.specs.Declarations.{Declarations};
 ghost use Rattle.ct_sorts.specs.declared.ids.Symbol.TheVariants.{Ctor};
 ghost use Rattle.ct_sexpr.specs.Atom.{symbol};
 
-use crate::atoms::{is_word, name_of, named_sort};
 use crate::callees::{Callee, takes};
-use crate::error::CheckError;
-use crate::operator::Operator;
-use crate::refusals::{OUT_OF_SCOPE, UNKNOWN_SYMBOL, WRONG_COUNT, WRONG_SORT};
-use crate::stack::Variables;
-use crate::symbols::{argument_count, ctor_named, operator_of, result_sort, symbol_named};
+use ct_names::{
+    CheckError, OUT_OF_SCOPE, Operator, UNKNOWN_SYMBOL, Variables, WRONG_COUNT, WRONG_SORT,
+    argument_count, ctor_named, is_word, name_of, named_sort, operator_of, result_sort,
+    symbol_named,
+};
 use ct_sexpr::{Sexpr, is_reserved};
 use ct_sorts::{CtorId, Signature, Symbol};
 

@@ -1,18 +1,17 @@
 //! Names that stand alone.
 ghost use Rattle.ct_sexpr.specs.View.{expression_of};
 ghost use Rattle.ct_sorts.specs.Lookup.{IsSymbol};
-ghost use Rattle.ct_check.specs.Answer.{Answers};
-ghost use Rattle.ct_check.specs.Parts.{name_of};
-ghost use Rattle.ct_check.specs.Symbols.{symbol_of};
-ghost use Rattle.ct_check.specs.Elaboration.{part_of, lone, lone_global, lone_symbol};
+ghost use Rattle.ct_names.specs.Answer.{Answers};
+ghost use Rattle.ct_names.specs.Parts.{name_of};
+ghost use Rattle.ct_names.specs.Symbols.{symbol_of};
+ghost use Rattle.ct_names.specs.Elaboration.{part_of, lone, lone_global, lone_symbol};
 ghost use Rattle.ct_check.specs.Trees.{sorted_of};
 
-use crate::atoms::name_of;
-use crate::error::CheckError;
-use crate::refusals::{OUT_OF_SCOPE, UNKNOWN_SYMBOL, WRONG_COUNT};
-use crate::stack::Variables;
-use crate::symbols::{argument_count, operator_of, result_sort, symbol_named};
 use crate::trees::symbol_tree;
+use ct_names::{
+    CheckError, OUT_OF_SCOPE, UNKNOWN_SYMBOL, Variables, WRONG_COUNT, argument_count, name_of,
+    operator_of, result_sort, symbol_named,
+};
 use ct_sexpr::Sexpr;
 use ct_sorts::{Signature, SortId, Symbol};
 use ct_terms::Tree;

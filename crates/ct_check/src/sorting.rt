@@ -2,15 +2,12 @@
 ghost use Rattle.std.specs.Prelude.{◌≡◌, ℕ, Ok, Err, IfOk, IfErr, IsErrOf};
 ghost use Rattle.ct_sexpr.specs.View.{expression_of};
 ghost use Rattle.ct_terms.specs.TreeFormula.{formula_of};
-ghost use Rattle.ct_check.specs.Bounds.{parameters};
-ghost use Rattle.ct_check.specs.Elaboration.{elaborated, sort_of};
+ghost use Rattle.ct_names.specs.Bounds.{parameters};
+ghost use Rattle.ct_names.specs.Elaboration.{elaborated, sort_of};
 
-use crate::atoms::named_sort;
-use crate::error::CheckError;
-use crate::scope::{Param, Scope};
-use crate::stack::Variables;
 use crate::terms::term;
-use crate::variables::parameters;
+use ct_compile::Scope;
+use ct_names::{CheckError, Param, Variables, named_sort, parameters};
 use ct_sexpr::Sexpr;
 use ct_sorts::SortId;
 use ct_terms::Tree;
@@ -36,9 +33,8 @@ pub fn sort_of(scope: &Scope, expr: &Sexpr) -> Result<SortId, CheckError>
 /// arguments before the arguments, 27 in a `let` before its terms, and 28 for the form of a case
 /// before the matched term; 26 comes last. Or memory runs out.
 ///
-/// The time is linear in the expression but for its cases: each constructor of the sort of a `match`
-/// is looked for among its patterns, and is met at once where these come in the order of the
-/// declaration. A name is looked for in about constant time, and a binder costs what it binds.
+/// The time is linear in the expression, and for each `match` in the constructors of the sort of its
+/// subject. A name is looked for in about constant time, and a binder costs what it binds.
 pub fn elaborate(
     alloc: Global,
     scope: &Scope,

@@ -2,22 +2,20 @@
 ghost use Rattle.std.specs.Prelude.{◌≡◌, map, length, None, IfOk, IfErr};
 ghost use Rattle.ct_terms.specs.Formula.{bind};
 ghost use Rattle.ct_sexpr.specs.View.{expression_of, expressions_of};
-ghost use Rattle.ct_check.specs.Answer.{Answers};
+ghost use Rattle.ct_names.specs.Answer.{Answers};
 ghost use Rattle.ct_check.specs.Arguments.{met, AreHeld};
-ghost use Rattle.ct_check.specs.Bounds.{variable_of};
-ghost use Rattle.ct_check.specs.Elaboration.{elaborated, parts_of, list_meaning, annotated, let_form, bound_terms, match_form, checked_cases};
+ghost use Rattle.ct_names.specs.Bounds.{variable_of};
+ghost use Rattle.ct_names.specs.Elaboration.{elaborated, parts_of, list_meaning, annotated, let_form, bound_terms, match_form, checked_cases};
 ghost use Rattle.ct_check.specs.Trees.{sorted_of, sorted_list, checked_of};
 
 use crate::arguments::{Elaborated, called, choice, equation, stopped};
 use crate::binders::{Checked, add_case, binding_names, goes_with, let_tree, match_tree};
-use crate::error::CheckError;
-use crate::forms::{are_attributes, are_cases};
 use crate::heads::{Head, head_of};
 use crate::leaves::{lone, lone_symbol};
-use crate::patterns::{bounds, matchable, pattern};
-use crate::refusals::{OUT_OF_SCOPE, WRONG_SORT};
-use crate::stack::Variables;
-use crate::variables::Bound;
+use ct_names::{
+    Bound, CheckError, OUT_OF_SCOPE, Variables, WRONG_SORT, are_attributes, are_cases, bounds,
+    matchable, pattern,
+};
 use ct_sexpr::Sexpr;
 use ct_sorts::{Signature, SortId};
 use ct_terms::Tree;

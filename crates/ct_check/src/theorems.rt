@@ -6,10 +6,10 @@ ghost use Rattle.ct_sorts.specs.Consistent.{IsConsistent};
 ghost use Rattle.ct_sorts.specs.Declarations.{Declarations};
 ghost use Rattle.ct_terms.specs.Formula.{Formula, MentionsBelow, bind};
 ghost use Rattle.ct_terms.specs.FormulaSorts.{IsSorted};
-ghost use Rattle.ct_check.specs.declared.scope.Param.{Param};
-ghost use Rattle.ct_check.specs.Bounds.{parameters};
-ghost use Rattle.ct_check.specs.Elaboration.{elaborated};
-ghost use Rattle.ct_check.specs.Variables.{Variable, variable_sorts};
+ghost use Rattle.ct_names.specs.declared.variables.Param.{Param};
+ghost use Rattle.ct_names.specs.Bounds.{parameters};
+ghost use Rattle.ct_names.specs.Elaboration.{elaborated};
+ghost use Rattle.ct_names.specs.Variables.{Variable, variable_sorts};
 
 use ct_sorts::{naming, structure};
 use ct_terms::formulas;

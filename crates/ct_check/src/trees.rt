@@ -2,13 +2,12 @@
 ghost use Rattle.std.specs.Prelude.{◌≡◌, ◌∷◌, [], List, MatchOption, IfOk, IfErr};
 ghost use Rattle.ct_terms.specs.declared.tree.Tree.{Tree};
 ghost use Rattle.ct_terms.specs.TreeFormula.{formula_of, formulas_of_trees};
-ghost use Rattle.ct_check.specs.Symbols.{applied};
-ghost use Rattle.ct_check.specs.Elaboration.{connected};
+ghost use Rattle.ct_names.specs.Symbols.{applied};
+ghost use Rattle.ct_names.specs.Elaboration.{connected};
 ghost use Rattle.ct_check.specs.Callees.{callee_formula, test_of};
 
 use crate::callees::Callee;
-use crate::error::CheckError;
-use crate::operator::Operator;
+use ct_names::{CheckError, Operator};
 use ct_sorts::{CtorId, SelId, Symbol};
 use ct_terms::Tree;
 use std::alloc::Global;

@@ -1,7 +1,7 @@
 -- What becomes of a command: it is done, or refused, or memory runs out.
 use Rattle.std.proofs.Common.{◌≡◌, ◌∙◌, ℕ, true, List, None, Result, Ok, Err, IsErrOf, refl, sym, ap, subst}
 use Rattle.std.proofs.lemmas.List.{append-nil}
-use Rattle.ct_check.specs.Outcome.{Outcome}
+use Rattle.ct_names.specs.Outcome.{Outcome}
 use Rattle.ct_command.specs.declared.error.CommandError.{CommandError}
 use Rattle.ct_command.specs.declared.error.CommandError.TheVariants.{Refused, NoMemory}
 use Rattle.ct_command.specs.declared.command.Command.{Command as ReadCommand}

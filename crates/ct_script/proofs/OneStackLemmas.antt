@@ -2,7 +2,7 @@
 -- replay changes them as the commands do.
 use Rattle.std.proofs.Common.{◌≡◌, ◌∙◌, ℕ, Bool, true, false, true≢false, List, [], ◌∷◌, ◌++◌, Option, Ok, Err, append_assoc, refl, sym, ap, subst, inl, inr}
 use Rattle.std.specs.Bool.{MatchBool}
-use Rattle.ct_check.specs.Outcome.{Outcome}
+use Rattle.ct_names.specs.Outcome.{Outcome}
 use Rattle.ct_sorts.specs.Declarations.{with_function}
 use Rattle.ct_model.specs.ModelText.{IsModelText}
 use Rattle.ct_log_text.specs.Written.{expression_of_record, text_of}

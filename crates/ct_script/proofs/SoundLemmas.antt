@@ -6,7 +6,7 @@ use Rattle.ct_eval.specs.Interpretation.{IsProper}
 use Rattle.ct_log.specs.Recorded.{Derived}
 use Rattle.ct_model.specs.ModelText.{IsModelText}
 use Rattle.ct_log_text.specs.Written.{expression_of_record, text_of}
-use Rattle.ct_check.specs.Outcome.{Outcome}
+use Rattle.ct_names.specs.Outcome.{Outcome}
 use Rattle.ct_command.specs.declared.error.CommandError.{CommandError}
 use Rattle.ct_command.specs.declared.error.CommandError.TheVariants.{Refused, NoMemory}
 use Rattle.ct_command.specs.Command.{Command, set_logic, set_option, get_option, set_info, get_info, declare_sort, declare_block, declare_fun, define_fun, assert, check_sat, push, pop, reset_assertions, reset, get_model, get_value, get_proof, echo, exit, unsupported}

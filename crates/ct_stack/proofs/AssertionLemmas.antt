@@ -6,8 +6,8 @@ use Rattle.ct_sorts.specs.Declarations.{Declarations, bool_sort}
 use Rattle.ct_terms.specs.Formula.{Formula}
 use Rattle.ct_terms.specs.FormulaSorts.{IsSorted}
 use Rattle.ct_terms.specs.TreeFormula.{formula_of}
-use Rattle.ct_check.specs.Outcome.{Outcome, Sorted, and_then, unless_refused, is_sort}
-use Rattle.ct_check.specs.Elaboration.{elaborated}
+use Rattle.ct_names.specs.Outcome.{Outcome, Sorted, and_then, unless_refused, is_sort}
+use Rattle.ct_names.specs.Elaboration.{elaborated}
 use Rattle.ct_check.specs.Trees.{sorted_of}
 use Rattle.ct_command.specs.declared.error.CommandError.{CommandError}
 use Rattle.ct_command.specs.declared.error.CommandError.TheVariants.{Refused, NoMemory}

@@ -8,16 +8,16 @@ use Rattle.ct_sorts.specs.Declarations.{Declarations, Function, with_definition}
 use Rattle.ct_sorts.specs.Refusals.{IsFirstCause}
 use Rattle.ct_terms.specs.Formula.{Formula, bind}
 use Rattle.ct_terms.specs.FormulaSorts.{IsSorted}
-use Rattle.ct_check.specs.Outcome.{Outcome, Sorted, and_then, unless_refused, is_sort}
-use Rattle.ct_check.specs.Refusals.{wrong_sort, repeated_variable}
-use Rattle.ct_check.specs.Variables.{Variable, variables, variable_sorts, has_repeated}
-use Rattle.ct_check.specs.Elaboration.{elaborated, sort_of}
+use Rattle.ct_names.specs.Outcome.{Outcome, Sorted, and_then, unless_refused, is_sort}
+use Rattle.ct_names.specs.Refusals.{wrong_sort, repeated_variable}
+use Rattle.ct_names.specs.Variables.{Variable, variables, variable_sorts, has_repeated}
+use Rattle.ct_names.specs.Elaboration.{elaborated, sort_of}
 use Rattle.ct_command.specs.Command.{Named}
 use Rattle.ct_command.specs.declared.error.CommandError.{CommandError}
 use Rattle.ct_command.specs.declared.error.CommandError.TheVariants.{Refused, NoMemory}
 use Rattle.ct_stack.specs.Outcomes.{IsErrorOr, Gives, Comes, each_of}
 use Rattle.ct_stack.specs.Elaborations.{declared_function, defined_function, body_of, parameter_names, parameter_sorts}
-use Rattle.ct_check.specs.Answer.{same}
+use Rattle.ct_names.specs.Answer.{same}
 use Rattle.ct_check.specs.Trees.{sorted_of}
 use Rattle.ct_stack.specs.Sorts.{sorts_seen, function_seen, definition_seen}
 use Rattle.std.specs.Prelude.{IsErrOf}

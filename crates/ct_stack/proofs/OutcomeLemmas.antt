@@ -1,7 +1,7 @@
 -- Steps one after the other, up to the first that is refused.
 use Rattle.std.proofs.Common.{◌≡◌, ◌∙◌, ℕ, List, [], ◌∷◌, ◌++◌, map, Ok, Err, refl, sym, ap}
 use Rattle.std.proofs.lemmas.List.{append_assoc, append-nil}
-use Rattle.ct_check.specs.Outcome.{Outcome, and_then}
+use Rattle.ct_names.specs.Outcome.{Outcome, and_then}
 use Rattle.ct_stack.specs.Outcomes.{each_of}
 
 -- the whole comes to what is there already, and then to what the rest comes to

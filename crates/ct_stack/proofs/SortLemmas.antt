@@ -7,8 +7,8 @@ use Rattle.std.proofs.lemmas.List.{length-map}
 use Rattle.ct_sexpr.specs.Expression.{Expression}
 use Rattle.ct_sorts.specs.declared.ids.SortId.{SortId}
 use Rattle.ct_sorts.specs.Declarations.{Declarations, Sort, IsSort, sort_names}
-use Rattle.ct_check.specs.Parts.{name_of}
-use Rattle.ct_check.specs.Elaboration.{known_sort, named_sort, part_of, sort_of}
+use Rattle.ct_names.specs.Parts.{name_of}
+use Rattle.ct_names.specs.Elaboration.{known_sort, named_sort, part_of, sort_of}
 
 named_within : (d : Declarations) (name : List ℕ) (s : SortId) (b : Bool) → Decides b (position_or_len (bytes_eq name) (sort_names d) < length (sort_names d)) → known_sort (option_map (λ n. record { 0 = n }) (cond b (Some (position_or_len (bytes_eq name) (sort_names d))) None)) ≡ Ok s → IsSort d s
 named_within d name s true tells e =

@@ -10,7 +10,7 @@ use Rattle.ct_terms.specs.Terms.{Terms}
 use Rattle.ct_terms.specs.Formula.{Formula, bind}
 use Rattle.ct_terms.specs.FormulaSorts.{IsSorted}
 use Rattle.ct_terms.specs.TreeFormula.{formula_of}
-use Rattle.ct_check.specs.Outcome.{Outcome}
+use Rattle.ct_names.specs.Outcome.{Outcome}
 use Rattle.ct_compile.specs.declared.scope.Scope.{Scope}
 use Rattle.ct_compile.specs.Effect.{IsPrefix}
 use Rattle.ct_stack.specs.Laws.{Laws}

@@ -1,7 +1,7 @@
 -- Steps that may be refused, the causes of a refusal one after the other, and what calls say of them.
 use Rattle.std.proofs.Common.{◌≡◌, ◌∙◌, ℕ, Ok, Err, refl, sym, ap, subst, inl, inr}
 use Rattle.ct_sorts.specs.Refusals.{IsFirstCause, IsNone}
-use Rattle.ct_check.specs.Outcome.{Outcome}
+use Rattle.ct_names.specs.Outcome.{Outcome}
 use Rattle.ct_command.specs.declared.error.CommandError.{CommandError}
 use Rattle.ct_command.specs.declared.error.CommandError.TheVariants.{Refused, NoMemory}
 use Rattle.ct_stack.specs.Outcomes.{IsErrorOr, Gives, Comes}

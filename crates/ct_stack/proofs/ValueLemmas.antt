@@ -21,9 +21,9 @@ use Rattle.ct_terms.specs.TreeFormula.{formula_of}
 use Rattle.ct_terms.specs.Compiled.{core_of}
 use Rattle.ct_closure.specs.Closed.{truth_trees}
 use Rattle.ct_compile.specs.Effect.{Stands, AllStand, IsPrefix}
-use Rattle.ct_check.specs.Outcome.{Outcome, Sorted, and_then}
+use Rattle.ct_names.specs.Outcome.{Outcome, Sorted, and_then}
 use Rattle.ct_check.specs.Trees.{sorted_trees}
-use Rattle.ct_check.specs.Elaboration.{elaborated}
+use Rattle.ct_names.specs.Elaboration.{elaborated}
 use Rattle.ct_command.specs.Seen.{all_seen}
 use Rattle.ct_values.specs.declared.node.NodeId.{NodeId}
 use Rattle.ct_values.specs.Graph.{Nodes}

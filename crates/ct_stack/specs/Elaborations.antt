@@ -9,10 +9,10 @@ use Rattle.ct_sorts.specs.declared.block.CtorDecl.{CtorDecl}
 use Rattle.ct_sorts.specs.declared.block.SortDecl.{SortDecl}
 use Rattle.ct_sorts.specs.Declarations.{Declarations, Function, bool_sort}
 use Rattle.ct_terms.specs.Formula.{Formula, bind}
-use Rattle.ct_check.specs.Outcome.{Outcome, Sorted, and_then, unless_refused, is_sort}
-use Rattle.ct_check.specs.Refusals.{wrong_sort, repeated_variable}
-use Rattle.ct_check.specs.Variables.{variables, has_repeated}
-use Rattle.ct_check.specs.Elaboration.{elaborated, sort_of}
+use Rattle.ct_names.specs.Outcome.{Outcome, Sorted, and_then, unless_refused, is_sort}
+use Rattle.ct_names.specs.Refusals.{wrong_sort, repeated_variable}
+use Rattle.ct_names.specs.Variables.{variables, has_repeated}
+use Rattle.ct_names.specs.Elaboration.{elaborated, sort_of}
 use Rattle.ct_command.specs.declared.command.Family.{Family}
 use Rattle.ct_command.specs.declared.command.Family.TheVariants as family
 use Rattle.ct_command.specs.Command.{Named, SortHead, Constructor, Body, parametric, constructors}

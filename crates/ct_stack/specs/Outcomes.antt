@@ -2,7 +2,7 @@
 use Rattle.std.specs.Prelude.{◌≡◌, ℕ, List, [], ◌∷◌, Result, Ok, Err}
 use Rattle.ct_command.specs.declared.error.CommandError.{CommandError}
 use Rattle.ct_command.specs.declared.error.CommandError.TheVariants.{Refused, NoMemory}
-use Rattle.ct_check.specs.Outcome.{Outcome, and_then}
+use Rattle.ct_names.specs.Outcome.{Outcome, and_then}
 
 -- the number is that of the step's error, or is what refuses the value that the step gives
 abbrev pub IsErrorOr : {X : Type 0} → Outcome X → (X → ℕ → Type 0) → ℕ → Type 0

@@ -9,8 +9,8 @@ use Rattle.ct_terms.specs.Terms.{most_terms}
 use Rattle.ct_terms.specs.CoreTree.{CoreTree, subtrees}
 use Rattle.ct_terms.specs.Formula.{Formula}
 use Rattle.ct_closure.specs.Closed.{AreDifferent, truth_trees}
-use Rattle.ct_check.specs.Outcome.{Sorted}
-use Rattle.ct_check.specs.Refusals.{out_of_scope}
+use Rattle.ct_names.specs.Outcome.{Sorted}
+use Rattle.ct_names.specs.Refusals.{out_of_scope}
 use Rattle.ct_command.specs.declared.command.Family.{Family}
 use Rattle.ct_command.specs.Command.{Named, SortHead, Body}
 use Rattle.ct_stack.specs.Numbers.{counts_differ, too_many_terms, above_levels, too_many_levels, most_levels}

@@ -8,7 +8,7 @@ use Rattle.ct_terms.specs.Formula.{Formula}
 use Rattle.ct_terms.specs.FormulaSorts.{IsSorted}
 use Rattle.ct_terms.specs.TreeFormula.{formula_of}
 use Rattle.ct_terms.specs.declared.tree.Tree.{Tree}
-use Rattle.ct_check.specs.Outcome.{Sorted}
+use Rattle.ct_names.specs.Outcome.{Sorted}
 use Rattle.ct_check.specs.Trees.{sorted_trees}
 use Rattle.ct_stack.specs.declared.define.Definition.{Definition}
 

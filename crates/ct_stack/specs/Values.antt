@@ -13,8 +13,8 @@ use Rattle.ct_values.specs.Fitting.{FitsGraph}
 use Rattle.ct_values.specs.ValueText.{IsValueText}
 use Rattle.ct_eval.specs.declared.interp.Interp.{Interp}
 use Rattle.ct_eval.specs.Meaning.{eval}
-use Rattle.ct_check.specs.Outcome.{Sorted}
-use Rattle.ct_check.specs.Elaboration.{elaborated}
+use Rattle.ct_names.specs.Outcome.{Sorted}
+use Rattle.ct_names.specs.Elaboration.{elaborated}
 use Rattle.ct_model.specs.Listed.{listed}
 use Rattle.ct_stack.specs.Stack.{Context}
 

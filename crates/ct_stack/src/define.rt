@@ -9,12 +9,12 @@ ghost use Rattle.ct_sorts.specs.Refusals.{IsFirstCause, IsNone, symbol_taken, to
 ghost use Rattle.ct_terms.specs.Formula.{bind};
 ghost use Rattle.ct_terms.specs.FormulaSorts.{IsSorted};
 ghost use Rattle.ct_terms.specs.TreeFormula.{formula_of};
-ghost use Rattle.ct_check.specs.Bounds.{parameters};
-ghost use Rattle.ct_check.specs.Variables.{variables, has_repeated};
+ghost use Rattle.ct_names.specs.Bounds.{parameters};
+ghost use Rattle.ct_names.specs.Variables.{variables, has_repeated};
 ghost use Rattle.ct_command.specs.Seen.{named_seen};
 ghost use Rattle.ct_stack.specs.Elaborations.{defined_function, parameter_names, parameter_sorts};
 ghost use Rattle.ct_stack.specs.Outcomes.{Comes, Gives, each_of};
-ghost use Rattle.ct_check.specs.Elaboration.{sort_of};
+ghost use Rattle.ct_names.specs.Elaboration.{sort_of};
 ghost use Rattle.ct_stack.specs.Sorts.{definition_seen, sorts_seen};
 ghost use Rattle.ct_stack.specs.Refusal.{IsDefinitionRefusal};
 

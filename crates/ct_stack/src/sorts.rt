@@ -2,10 +2,10 @@
 ghost use Rattle.std.specs.Prelude.{◌≡◌, All, IfOk};
 ghost use Rattle.ct_sexpr.specs.View.{expression_of};
 ghost use Rattle.ct_sorts.specs.Declarations.{IsSort};
-ghost use Rattle.ct_check.specs.Answer.{same};
-ghost use Rattle.ct_check.specs.Bounds.{parameters};
-ghost use Rattle.ct_check.specs.Elaboration.{sort_of, elaborated};
-ghost use Rattle.ct_check.specs.Outcome.{is_sort};
+ghost use Rattle.ct_names.specs.Answer.{same};
+ghost use Rattle.ct_names.specs.Bounds.{parameters};
+ghost use Rattle.ct_names.specs.Elaboration.{sort_of, elaborated};
+ghost use Rattle.ct_names.specs.Outcome.{is_sort};
 ghost use Rattle.ct_check.specs.Trees.{sorted_of};
 ghost use Rattle.ct_command.specs.Seen.{all_seen};
 ghost use Rattle.ct_stack.specs.Outcomes.{Comes, each_of};

@@ -6,7 +6,7 @@ ghost use Rattle.ct_sorts.specs.Declarations.{IsSort};
 ghost use Rattle.ct_terms.specs.Formula.{bind};
 ghost use Rattle.ct_terms.specs.FormulaSorts.{IsSorted};
 ghost use Rattle.ct_terms.specs.TreeFormula.{formula_of};
-ghost use Rattle.ct_check.specs.declared.scope.Param.{Param};
+ghost use Rattle.ct_names.specs.declared.variables.Param.{Param};
 
 use crate::show::show_sort_name;
 use ct_cases::{CaseError, bytes_of, items_of, sort_of as declared_sort};

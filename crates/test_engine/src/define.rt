@@ -4,7 +4,7 @@ ghost use Rattle.ct_sorts.specs.Declarations.{start, IsSort};
 ghost use Rattle.ct_terms.specs.Formula.{bind};
 ghost use Rattle.ct_terms.specs.FormulaSorts.{IsSorted};
 ghost use Rattle.ct_terms.specs.TreeFormula.{formula_of};
-ghost use Rattle.ct_check.specs.declared.scope.Param.{Param};
+ghost use Rattle.ct_names.specs.declared.variables.Param.{Param};
 ghost use Rattle.test_engine.specs.Scopes.{IsSound};
 
 use crate::elaborate::{params_of, term_of};

@@ -2,9 +2,9 @@ use Rattle.std.proofs.Common.{Ok, sym, ap, ◌∙◌}
 use Rattle.std.proofs.lemmas.Result.{err_from_is_err_and}
 use Rattle.ct_terms.specs.TreeFormula.{formula_of, formulas_of_trees}
 use Rattle.ct_check.specs.Trees.{sorted_of}
-use Rattle.ct_check.proofs.AnswerLemmas.{answers_memory}
+use Rattle.ct_names.proofs.AnswerLemmas.{answers_memory}
 use Rattle.ct_check.specs.Arguments.{misfit, choice_sorts, second_sort, chosen}
-use Rattle.ct_check.specs.Elaboration.{choice}
+use Rattle.ct_names.specs.Elaboration.{choice}
 use Rattle.ct_check.proofs.TakenLemmas.{misfits, fits, through, choice-held, choice-count}
 use Rattle.ct_check.proofs.arguments.choice.Goals as goal
 

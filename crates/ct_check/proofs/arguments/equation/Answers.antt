@@ -2,11 +2,11 @@ use Rattle.std.proofs.Common.{Ok, sym, ap, ◌∙◌}
 use Rattle.std.proofs.lemmas.Result.{err_from_is_err_and}
 use Rattle.ct_terms.specs.TreeFormula.{formulas_of_trees}
 use Rattle.ct_check.specs.Trees.{sorted_of}
-use Rattle.ct_check.proofs.AnswerLemmas.{answers_memory}
+use Rattle.ct_names.proofs.AnswerLemmas.{answers_memory}
 use Rattle.ct_sorts.specs.Declarations.{bool_sort}
 use Rattle.ct_check.specs.declared.heads.Head.TheVariants.{Equation}
 use Rattle.ct_check.specs.Arguments.{misfit, same_sorts}
-use Rattle.ct_check.specs.Elaboration.{connected}
+use Rattle.ct_names.specs.Elaboration.{connected}
 use Rattle.ct_check.specs.Heads.{headed_by}
 use Rattle.ct_check.proofs.TakenLemmas.{misfits, fits, through, equation-held}
 use Rattle.ct_check.proofs.arguments.equation.Goals as goal

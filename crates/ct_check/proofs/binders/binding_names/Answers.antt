@@ -3,10 +3,10 @@ use Rattle.std.proofs.lemmas.Result.{err_from_is_err_and}
 use Rattle.std.specs.Borrow.{Bor}
 use Rattle.ct_sexpr.specs.View.{expressions_of}
 use Rattle.ct_check.specs.Binders.{bound_by}
-use Rattle.ct_check.specs.Bounds.{held_name}
-use Rattle.ct_check.specs.Elaboration.{parts_of, bound}
-use Rattle.ct_check.specs.Variables.{names_in, has_repeated}
-use Rattle.ct_check.proofs.AnswerLemmas.{leads_memory}
+use Rattle.ct_names.specs.Bounds.{held_name}
+use Rattle.ct_names.specs.Elaboration.{parts_of, bound}
+use Rattle.ct_names.specs.Variables.{names_in, has_repeated}
+use Rattle.ct_names.proofs.AnswerLemmas.{leads_memory}
 use Rattle.ct_check.proofs.BinderLemmas.{bound-empty, bound-other, bound-repeated, bound-names, empty_is, some_are}
 use Rattle.ct_check.proofs.binders.binding_names.Goals as goal
 

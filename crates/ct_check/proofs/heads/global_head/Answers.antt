@@ -1,7 +1,7 @@
 use Rattle.std.proofs.Common.{None, sym, ap}
-use Rattle.ct_check.specs.Elaboration.{global}
+use Rattle.ct_names.specs.Elaboration.{global}
 use Rattle.ct_check.specs.Heads.{headed_by}
-use Rattle.ct_check.proofs.AnswerLemmas.{leads_along}
+use Rattle.ct_names.proofs.AnswerLemmas.{leads_along}
 use Rattle.ct_check.proofs.heads.global_head.Goals as goal
 
 pub returns-in-Some-clause-value : goal.returns-in-Some-clause-value

@@ -1,11 +1,11 @@
 use Rattle.std.proofs.Common.{sym, ap, ◌∙◌}
 use Rattle.ct_sexpr.specs.Atom.{symbol}
 use Rattle.ct_sexpr.specs.View.{expression_of, expressions_of}
-use Rattle.ct_check.specs.Parts.{with_part}
-use Rattle.ct_check.specs.Elaboration.{part_of, parts_of, list_meaning, headed, application}
+use Rattle.ct_names.specs.Parts.{with_part}
+use Rattle.ct_names.specs.Elaboration.{part_of, parts_of, list_meaning, headed, application}
 use Rattle.ct_check.specs.Heads.{headed_by}
-use Rattle.ct_check.proofs.AnswerLemmas.{leads_along}
-use Rattle.ct_check.proofs.PartLemmas.{count-parts, part_of_list}
+use Rattle.ct_names.proofs.AnswerLemmas.{leads_along}
+use Rattle.ct_names.proofs.PartLemmas.{count-parts, part_of_list}
 use Rattle.ct_check.proofs.heads.head_of.Goals as goal
 
 pub returns-in-List-clause-value : goal.returns-in-List-clause-value

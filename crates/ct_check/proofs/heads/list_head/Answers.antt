@@ -1,9 +1,9 @@
 use Rattle.std.proofs.Common.{◌-◌, length, take, drop, sym, ap, ◌∙◌}
 use Rattle.ct_sexpr.specs.View.{expression_of, expressions_of}
-use Rattle.ct_check.specs.Elaboration.{part_of, parts_of, qualified, qualified_symbol, applied_symbol}
+use Rattle.ct_names.specs.Elaboration.{part_of, parts_of, qualified, qualified_symbol, applied_symbol}
 use Rattle.ct_check.specs.Heads.{headed_by}
-use Rattle.ct_check.proofs.AnswerLemmas.{leads_along, and_then-ok}
-use Rattle.ct_check.proofs.PartLemmas.{first_and_rest}
+use Rattle.ct_names.proofs.AnswerLemmas.{leads_along, and_then-ok}
+use Rattle.ct_names.proofs.PartLemmas.{first_and_rest}
 use Rattle.ct_check.proofs.HeadLemmas.{qualified-tester, qualified-as}
 use Rattle.ct_check.proofs.heads.list_head.Goals as goal
 

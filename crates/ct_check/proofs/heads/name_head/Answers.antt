@@ -1,7 +1,7 @@
 use Rattle.std.proofs.Common.{◌≡◌, is_some, false, sym, ◌∙◌}
-use Rattle.ct_check.specs.Variables.{find}
+use Rattle.ct_names.specs.Variables.{find}
 use Rattle.ct_check.specs.Heads.{headed_by}
-use Rattle.ct_check.proofs.AnswerLemmas.{leads_along}
+use Rattle.ct_names.proofs.AnswerLemmas.{leads_along}
 use Rattle.ct_check.proofs.HeadLemmas.{unfound, application-operator, application-global}
 use Rattle.ct_check.proofs.heads.name_head.Goals as goal
 

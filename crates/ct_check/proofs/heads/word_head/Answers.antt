@@ -1,9 +1,9 @@
 use Rattle.std.proofs.Common.{sym}
 use Rattle.ct_sexpr.specs.View.{expressions_of}
-use Rattle.ct_check.specs.Elaboration.{parts_of}
+use Rattle.ct_names.specs.Elaboration.{parts_of}
 use Rattle.ct_check.specs.Heads.{headed_by}
-use Rattle.ct_check.proofs.AnswerLemmas.{leads_along}
-use Rattle.ct_check.proofs.PartLemmas.{count-parts}
+use Rattle.ct_names.proofs.AnswerLemmas.{leads_along}
+use Rattle.ct_names.proofs.PartLemmas.{count-parts}
 use Rattle.ct_check.proofs.HeadLemmas.{headed-name}
 use Rattle.ct_check.proofs.heads.word_head.Goals as goal
 

@@ -1,14 +1,14 @@
 use Rattle.std.proofs.Common.{◌≡◌, ℕ, [], map, Result, IfOk, Ok, Err, sym, ap, ◌∙◌}
 use Rattle.ct_sexpr.specs.View.{expression_of}
 use Rattle.ct_terms.specs.Formula.{bind}
-use Rattle.ct_check.specs.declared.error.CheckError.{CheckError}
-use Rattle.ct_check.specs.declared.error.CheckError.TheVariants.{Refused, NoMemory}
-use Rattle.ct_check.specs.Answer.{Answers}
-use Rattle.ct_check.specs.Bounds.{variable_of, parameters}
-use Rattle.ct_check.specs.Elaboration.{elaborated}
-use Rattle.ct_check.specs.Outcome.{Outcome}
+use Rattle.ct_names.specs.declared.error.CheckError.{CheckError}
+use Rattle.ct_names.specs.declared.error.CheckError.TheVariants.{Refused, NoMemory}
+use Rattle.ct_names.specs.Answer.{Answers}
+use Rattle.ct_names.specs.Bounds.{variable_of, parameters}
+use Rattle.ct_names.specs.Elaboration.{elaborated}
+use Rattle.ct_names.specs.Outcome.{Outcome}
 use Rattle.ct_check.specs.Trees.{sorted_of}
-use Rattle.ct_check.proofs.AnswerLemmas.{answers_along}
+use Rattle.ct_names.proofs.AnswerLemmas.{answers_along}
 use Rattle.ct_check.proofs.sorting.elaborate.Goals as goal
 
 answered : {X Y : Type 0} (view : X → Y) (whole : Outcome Y) (r : Result X CheckError) → Answers view whole r → IfOk r (λ x. whole ≡ Ok (view x))

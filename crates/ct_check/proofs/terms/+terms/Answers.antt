@@ -7,19 +7,19 @@ use Rattle.ct_terms.specs.Formula.{bind}
 use Rattle.ct_terms.specs.TreeFormula.{formula_of, formulas_of_trees}
 use Rattle.ct_check.specs.declared.heads.Head.{Head}
 use Rattle.ct_check.specs.declared.heads.Head.TheVariants.{Equation}
-use Rattle.ct_check.specs.Answer.{same}
-use Rattle.ct_check.specs.Bounds.{variable_of, held_name}
+use Rattle.ct_names.specs.Answer.{same}
+use Rattle.ct_names.specs.Bounds.{variable_of, held_name}
 use Rattle.ct_check.specs.Binders.{bound_by}
 use Rattle.ct_check.specs.Callees.{called}
 use Rattle.ct_check.specs.Heads.{headed_by, IsDeclared}
-use Rattle.ct_check.specs.Outcome.{Outcome, Sorted, and_then}
-use Rattle.ct_check.specs.Parts.{Part, with_part}
-use Rattle.ct_check.specs.Patterns.{matchable}
+use Rattle.ct_names.specs.Outcome.{Outcome, Sorted, and_then}
+use Rattle.ct_names.specs.Parts.{Part, with_part}
+use Rattle.ct_names.specs.Patterns.{matchable}
 use Rattle.ct_check.specs.Trees.{sorted_of, sorted_list, checked_of, case_of}
-use Rattle.ct_check.specs.Variables.{variables}
-use Rattle.ct_check.specs.Elaboration.{part_of, parts_of, meaning, elaborated, list_meaning, let_form, match_form, annotated, lone_symbol, choice, bound, bound_terms, cases_of, checked_cases, exhausted, sorts_of, formulas_of}
-use Rattle.ct_check.proofs.AnswerLemmas.{answers_along, answers_error, answers_memory, leads_along, leads_error}
-use Rattle.ct_check.proofs.PartLemmas.{part_of_list, first_and_rest, count-parts}
+use Rattle.ct_names.specs.Variables.{variables}
+use Rattle.ct_names.specs.Elaboration.{part_of, parts_of, meaning, elaborated, list_meaning, let_form, match_form, annotated, lone_symbol, choice, bound, bound_terms, cases_of, checked_cases, exhausted, sorts_of, formulas_of}
+use Rattle.ct_names.proofs.AnswerLemmas.{answers_along, answers_error, answers_memory, leads_along, leads_error}
+use Rattle.ct_names.proofs.PartLemmas.{part_of_list, first_and_rest, count-parts}
 use Rattle.ct_check.proofs.HeadLemmas.{list-headed}
 use Rattle.ct_check.proofs.MetLemmas as met_terms
 use Rattle.ct_check.proofs.MetLemmas.{elim-stopped}

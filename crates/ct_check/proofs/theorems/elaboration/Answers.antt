@@ -5,10 +5,10 @@ use Rattle.ct_sorts.specs.Declarations.{Declarations}
 use Rattle.ct_sorts.specs.declared.ids.SortId.{SortId}
 use Rattle.ct_terms.specs.Formula.{Formula, bind}
 use Rattle.ct_terms.specs.FormulaSorts.{IsSorted}
-use Rattle.ct_check.specs.declared.scope.Param.{Param}
-use Rattle.ct_check.specs.Bounds.{parameters, variable_of_param}
-use Rattle.ct_check.specs.Elaboration.{elaborated}
-use Rattle.ct_check.specs.Variables.{Variable, variable_sorts}
+use Rattle.ct_names.specs.declared.variables.Param.{Param}
+use Rattle.ct_names.specs.Bounds.{parameters, variable_of_param}
+use Rattle.ct_names.specs.Elaboration.{elaborated}
+use Rattle.ct_names.specs.Variables.{Variable, variable_sorts}
 use Rattle.ct_check.proofs.SymbolSorts.{Laws}
 use Rattle.ct_check.proofs.SoundForms.{map-bind}
 use Rattle.ct_check.proofs.SoundExpressions.{elaborated_sound}

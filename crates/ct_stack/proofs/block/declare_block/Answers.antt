@@ -4,7 +4,7 @@ use Rattle.std.proofs.lemmas.List.{length-map}
 use Rattle.ct_sorts.specs.declared.ids.Kind.{Kind}
 use Rattle.ct_sorts.specs.declared.block.SortDecl.{SortDecl}
 use Rattle.ct_sorts.specs.Block.{with_block, IsBlockRefusal}
-use Rattle.ct_check.specs.Refusals.{out_of_scope}
+use Rattle.ct_names.specs.Refusals.{out_of_scope}
 use Rattle.ct_command.specs.Seen.{head_seen, body_seen}
 use Rattle.ct_stack.specs.Numbers.{counts_differ}
 use Rattle.ct_stack.specs.Elaborations.{kind_of, is_plain_block, block_of}

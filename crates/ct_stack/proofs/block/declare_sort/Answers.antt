@@ -3,7 +3,7 @@ use Rattle.ct_sorts.specs.declared.ids.Kind.TheVariants.{Free}
 use Rattle.ct_sorts.specs.Availability.{IsUnavailableSort}
 use Rattle.ct_sorts.specs.Declarations.{sort_names, most_sorts, with_sort}
 use Rattle.ct_sorts.specs.Refusals.{IsFirstCause, IsNone, name_taken, too_many}
-use Rattle.ct_check.specs.Refusals.{out_of_scope}
+use Rattle.ct_names.specs.Refusals.{out_of_scope}
 use Rattle.ct_command.specs.Seen.{head_seen}
 use Rattle.ct_stack.specs.Refusal.{IsSortRefusal}
 use Rattle.ct_stack.proofs.StepLemmas.{no_cause}

@@ -4,8 +4,8 @@ use Rattle.ct_sexpr.specs.View.{expression_of}
 use Rattle.ct_sorts.specs.declared.ids.SortId.{SortId}
 use Rattle.ct_terms.specs.Formula.{bind}
 use Rattle.ct_terms.specs.TreeFormula.{formula_of}
-use Rattle.ct_check.specs.Bounds.{parameters}
-use Rattle.ct_check.specs.Variables.{variables}
+use Rattle.ct_names.specs.Bounds.{parameters}
+use Rattle.ct_names.specs.Variables.{variables}
 use Rattle.ct_command.specs.Seen.{named_seen}
 use Rattle.ct_stack.specs.Elaborations.{parameter_names}
 use Rattle.ct_stack.proofs.DefineLemmas.{repeated, definition_no_args, definition_no_sort, definition_no_term, definition_other_sort, definition_of, definition_sorted}

@@ -1,6 +1,6 @@
 use Rattle.std.proofs.Common.{◌≡◌, length, map}
 use Rattle.ct_command.specs.Seen.{named_seen}
-use Rattle.ct_check.specs.Variables.{has_repeated}
+use Rattle.ct_names.specs.Variables.{has_repeated}
 use Rattle.ct_stack.specs.Elaborations.{parameter_names}
 use Rattle.ct_stack.proofs.define.has_repeated.Given as goal
 

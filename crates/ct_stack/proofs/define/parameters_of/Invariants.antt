@@ -1,6 +1,6 @@
 use Rattle.std.proofs.Common.{◌≡◌, ◌++◌, length, map, Some}
-use Rattle.ct_check.specs.Variables.{variables}
-use Rattle.ct_check.specs.Bounds.{variable_of_param}
+use Rattle.ct_names.specs.Variables.{variables}
+use Rattle.ct_names.specs.Bounds.{variable_of_param}
 use Rattle.ct_command.specs.Seen.{named_seen}
 use Rattle.ct_stack.specs.Elaborations.{parameter_names}
 use Rattle.ct_stack.proofs.define.parameters_of.Given as goal

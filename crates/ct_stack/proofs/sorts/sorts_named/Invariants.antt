@@ -1,6 +1,6 @@
 use Rattle.std.proofs.Common.{length, All}
 use Rattle.ct_sorts.specs.Declarations.{IsSort}
-use Rattle.ct_check.specs.Elaboration.{sort_of}
+use Rattle.ct_names.specs.Elaboration.{sort_of}
 use Rattle.ct_command.specs.Seen.{all_seen}
 use Rattle.ct_stack.specs.Outcomes.{each_of}
 use Rattle.ct_stack.proofs.OutcomeLemmas.{Completes}

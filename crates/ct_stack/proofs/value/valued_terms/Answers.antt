@@ -4,9 +4,9 @@ use Rattle.ct_sexpr.specs.declared.sexpr.Sexpr.{Sexpr}
 use Rattle.ct_sexpr.specs.View.{expression_of}
 use Rattle.ct_terms.specs.TreeFormula.{formula_of}
 use Rattle.ct_terms.specs.FormulaSorts.{IsSorted}
-use Rattle.ct_check.specs.Outcome.{Sorted}
+use Rattle.ct_names.specs.Outcome.{Sorted}
 use Rattle.ct_check.specs.Trees.{sorted_of, sorted_trees}
-use Rattle.ct_check.specs.Elaboration.{elaborated}
+use Rattle.ct_names.specs.Elaboration.{elaborated}
 use Rattle.ct_command.specs.Seen.{all_seen}
 use Rattle.ct_stack.specs.Outcomes.{each_of}
 use Rattle.ct_stack.specs.Sorts.{terms_seen}

@@ -1,5 +1,5 @@
 use Rattle.std.proofs.Common.{[], length}
-use Rattle.ct_check.specs.Elaboration.{elaborated}
+use Rattle.ct_names.specs.Elaboration.{elaborated}
 use Rattle.ct_check.specs.Trees.{sorted_trees}
 use Rattle.ct_command.specs.Seen.{all_seen}
 use Rattle.ct_stack.specs.Outcomes.{each_of}

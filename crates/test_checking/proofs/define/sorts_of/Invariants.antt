@@ -1,5 +1,5 @@
 use Rattle.std.proofs.Common.{◌≡◌, map, take}
-use Rattle.ct_check.specs.declared.scope.Param.{Param}
+use Rattle.ct_names.specs.declared.variables.Param.{Param}
 use Rattle.test_checking.proofs.define.sorts_of.Given as goal
 
 abbrev pub invariant-loop-param : goal.invariant-loop-param

@@ -5,7 +5,7 @@ use Rattle.ct_sorts.specs.Declarations.{IsSort}
 use Rattle.ct_terms.specs.Formula.{bind}
 use Rattle.ct_terms.specs.FormulaSorts.{IsSorted}
 use Rattle.ct_terms.specs.TreeFormula.{formula_of}
-use Rattle.ct_check.specs.declared.scope.Param.{Param}
+use Rattle.ct_names.specs.declared.variables.Param.{Param}
 use Rattle.test_engine.proofs.ScopeLemmas.{sound_with_body}
 use Rattle.test_engine.proofs.define.add_definition.Goals as goal
 

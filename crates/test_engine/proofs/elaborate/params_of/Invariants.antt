@@ -1,6 +1,6 @@
 use Rattle.std.proofs.Common.{All}
 use Rattle.ct_sorts.specs.Declarations.{IsSort}
-use Rattle.ct_check.specs.declared.scope.Param.{Param}
+use Rattle.ct_names.specs.declared.variables.Param.{Param}
 use Rattle.test_engine.proofs.elaborate.params_of.Given as goal
 
 abbrev pub invariant-loop-part : goal.invariant-loop-part

@@ -1,7 +1,0 @@
-use Rattle.std.proofs.Common.{◌≡◌, map, take, All}
-use Rattle.ct_sorts.specs.Declarations.{IsSort}
-use Rattle.ct_check.specs.Symbols.{field_sort}
-use Rattle.ct_check.proofs.symbols.ctor_fields.Given as goal
-
-abbrev pub invariant-loop-sel : goal.invariant-loop-sel
-invariant-loop-sel l = (l.sorts.items ≡ map (field_sort l.sig) (take l.sel-index l.sels)) × All (IsSort l.sig) l.sorts.items

@@ -1,0 +1,362 @@
+-- Elaboration: the formula that an expression writes and its sort, or the number of its first error (SMT-LIB 2.7, section
+-- 3.6; the details of `match` and of `as` are this project's own profile). Errors come from left to right, but the number of
+-- arguments before the arguments, a repeated variable of a `let` before its terms, and the forms of cases before the matched
+-- term. Variables are listed from the innermost outwards.
+use Rattle.std.specs.Prelude.{ℕ, Bool, true, false, not, ◌&&◌, ◌==◌, List, [], ◌∷◌, map, length, nat_le, Option, Some, None, is_some, Ok, Err, codes, if◌then◌else◌}
+use Rattle.std.specs.Str.{bytes_eq}
+use Rattle.ct_sorts.specs.declared.ids.SortId.{SortId}
+use Rattle.ct_sorts.specs.declared.ids.CtorId.{CtorId}
+use Rattle.ct_sorts.specs.declared.ids.Symbol.{Symbol}
+use Rattle.ct_sorts.specs.declared.ids.Symbol.TheVariants.{Ctor, Sel, Fun, Def}
+use Rattle.ct_sorts.specs.Declarations.{Declarations, bool_sort}
+use Rattle.ct_sexpr.specs.Atom.{Atom, symbol, quoted, keyword, text, numeral, decimal, binary, hexadecimal}
+use Rattle.ct_sexpr.specs.Expression.{Expression, Expressions, leaf, list, none, more}
+use Rattle.ct_sexpr.specs.Written.{is_reserved}
+use Rattle.ct_sexpr.specs.Readable.{name_of_atom}
+use Rattle.ct_terms.specs.declared.tree.Pattern.{Pattern}
+use Rattle.ct_terms.specs.Formula as formula
+use Rattle.ct_terms.specs.Formula.{Formula, Formulas, Cases, no_formulas, with_formula, no_cases, with_case, bind}
+use Rattle.ct_names.specs.declared.operator.Operator.{Operator}
+use Rattle.ct_names.specs.declared.operator.Operator.TheVariants.{Not, And, Or, Xor, Implies, Equal, Distinct, Ite}
+use Rattle.ct_names.specs.Refusals.{unknown_sort, unknown_symbol, wrong_count, wrong_sort, not_exhaustive, repeated_variable, out_of_scope}
+use Rattle.ct_names.specs.Outcome.{Outcome, Sorted, and_then, unless_refused, is_sort, of_sort}
+use Rattle.ct_names.specs.Parts.{Part, Parts, atom_part, list_part, no_parts, with_part, count, name_of}
+use Rattle.ct_names.specs.Symbols.{sort_of_name, symbol_of, ctor_named, operator_of, argument_sorts, result_sort, applied, ctor_sort}
+use Rattle.ct_names.specs.Variables.{Variable, find, has_repeated, variables, names_in}
+use Rattle.ct_names.specs.Forms.{is_word, are_bindings, bound_names, are_cases, are_attributes}
+use Rattle.ct_names.specs.Patterns.{pattern, matchable, are_exhaustive}
+
+-- the sort, where there is one of a name
+abbrev pub known_sort : Option SortId → Outcome SortId
+known_sort None = Err unknown_sort
+known_sort (Some s) = Ok s
+
+-- the sort that an expression names: a name, and that of a sort
+abbrev pub named_sort : Declarations → Option (List ℕ) → Outcome SortId
+named_sort d None = Err out_of_scope
+named_sort d (Some name) = known_sort (sort_of_name d name)
+
+abbrev pub sort_of_part : Declarations → Part → Outcome SortId
+sort_of_part d p = named_sort d (name_of p)
+
+-- a symbol with no argument, where it takes none
+abbrev pub lone_symbol : Declarations → Symbol → Outcome Sorted
+lone_symbol d s = unless_refused (length (argument_sorts d s) == 0) wrong_count (Ok (applied s no_formulas, result_sort d s))
+
+-- a name that is no variable and no symbol: an operator takes arguments
+abbrev pub lone_operator : Option Operator → Outcome Sorted
+lone_operator None = Err unknown_symbol
+lone_operator (Some o) = Err wrong_count
+
+-- a name that is no variable, where it stands alone
+abbrev pub lone_global : Declarations → List ℕ → Option Symbol → Outcome Sorted
+lone_global d name None = lone_operator (operator_of name)
+lone_global d name (Some s) = lone_symbol d s
+
+-- a name that stands alone: the innermost variable of this name, and else a symbol
+abbrev pub lone_name : Declarations → List ℕ → Option (ℕ × SortId) → Outcome Sorted
+lone_name d name (Some v) = Ok (formula.Var v.0, v.1)
+lone_name d name None = lone_global d name (symbol_of d name)
+
+-- an atom that stands alone: a name
+abbrev pub lone : Declarations → List Variable → Option (List ℕ) → Outcome Sorted
+lone d scope None = Err out_of_scope
+lone d scope (Some name) = lone_name d name (find scope name)
+
+-- the fewest and the most arguments of an operator; none where there may be any number
+abbrev pub fewest : Operator → ℕ
+fewest Not = 1
+fewest And = 1
+fewest Or = 1
+fewest Xor = 2
+fewest Implies = 2
+fewest Equal = 2
+fewest Distinct = 2
+fewest Ite = 3
+
+abbrev pub takes_at_most : Operator → ℕ → Bool
+takes_at_most Not n = nat_le n 1
+takes_at_most Ite n = nat_le n 3
+takes_at_most And n = true
+takes_at_most Or n = true
+takes_at_most Xor n = true
+takes_at_most Implies n = true
+takes_at_most Equal n = true
+takes_at_most Distinct n = true
+
+abbrev pub takes : Operator → ℕ → Bool
+takes o n = nat_le (fewest o) n && takes_at_most o n
+
+-- a negation of the first of the formulas, which is the only one
+abbrev pub negated : Formulas → Formula
+negated no_formulas = formula.And no_formulas
+negated (with_formula t ts) = formula.Not t
+
+-- the formula of a Boolean operator
+abbrev pub connected : Operator → Formulas → Formula
+connected Not ts = negated ts
+connected And ts = formula.And ts
+connected Or ts = formula.Or ts
+connected Xor ts = formula.Xor ts
+connected Implies ts = formula.Implies ts
+connected Equal ts = formula.Equal ts
+connected Distinct ts = formula.Distinct ts
+connected Ite ts = formula.And ts
+
+-- the formulas of several, and their sorts
+abbrev pub formulas_of : List Sorted → Formulas
+formulas_of [] = no_formulas
+formulas_of (t ∷ ts) = with_formula t.0 (formulas_of ts)
+
+abbrev pub sorts_of : List Sorted → List SortId
+sorts_of ts = map (λ (t : Sorted). t.1) ts
+
+-- the sort is the one that earlier cases had, where there are any
+abbrev pub goes_with : Option SortId → SortId → Bool
+goes_with None s = true
+goes_with (Some first) s = is_sort s first
+
+-- the cases of a `match`, with their patterns and their common sort, where there is one
+pub record Checked : Type 0 where
+  pub cases : Cases
+  pub patterns : List Pattern
+  pub sort : Option SortId
+
+abbrev pub no_more : Option SortId → Checked
+no_more sort = record { cases = no_cases; patterns = []; sort = sort }
+
+abbrev pub one_more : Pattern → Formula → Checked → Checked
+one_more p body checked = record { cases = with_case p body checked.cases; patterns = p ∷ checked.patterns; sort = checked.sort }
+
+-- a `match` is exhaustive, and so has a case that gives its sort
+abbrev pub matched : Formula → Checked → Option SortId → Outcome Sorted
+matched subject checked None = Err not_exhaustive
+matched subject checked (Some sort) = Ok (formula.Match subject checked.cases, sort)
+
+abbrev pub exhausted : Declarations → Sorted → Checked → Outcome Sorted
+exhausted d subject checked = unless_refused (are_exhaustive d subject.1 checked.patterns) not_exhaustive (matched subject.0 checked checked.sort)
+
+-- what the head of `(as f S)` stands for: no variable, and no selector
+abbrev pub may_qualify : Option Symbol → Outcome Symbol
+may_qualify None = Err unknown_symbol
+may_qualify (Some (Sel s)) = Err unknown_symbol
+may_qualify (Some (Ctor c)) = Ok (Ctor c)
+may_qualify (Some (Fun f)) = Ok (Fun f)
+may_qualify (Some (Def k)) = Ok (Def k)
+
+-- the symbol that `(as f S)` qualifies: S is a sort, and the sort of its result
+abbrev pub qualified_name : Declarations → List Variable → Option (List ℕ) → Part → Outcome Symbol
+qualified_name d scope None sort = Err out_of_scope
+qualified_name d scope (Some name) sort =
+    unless_refused (not (is_some (find scope name))) unknown_symbol
+    (and_then (may_qualify (symbol_of d name)) (λ s.
+    and_then (sort_of_part d sort) (λ t.
+    unless_refused (is_sort (result_sort d s) t) wrong_sort (Ok s))))
+
+-- the same of the three items of `(as f S)`, without `as`
+abbrev pub qualified_symbol : Declarations → List Variable → Parts → Outcome Symbol
+qualified_symbol d scope (with_part f (with_part sort no_parts)) = qualified_name d scope (name_of f) sort
+qualified_symbol d scope ps = Err out_of_scope
+
+-- the constructor that a tester tests for: one that is neither `true` nor `false`
+abbrev pub tested : Option CtorId → Outcome CtorId
+tested None = Err unknown_symbol
+tested (Some c) = unless_refused (not (nat_le c.0 1)) out_of_scope (Ok c)
+
+abbrev pub tested_name : Declarations → Option (List ℕ) → Outcome CtorId
+tested_name d None = Err out_of_scope
+tested_name d (Some name) = tested (ctor_named d name)
+
+-- the name is this text
+abbrev pub is_text : List ℕ → Option (List ℕ) → Bool
+is_text wanted None = false
+is_text wanted (Some name) = bytes_eq name wanted
+
+-- the constructor of `(_ is C)`, by its items without `_`
+abbrev pub tester : Declarations → Parts → Outcome CtorId
+tester d (with_part word (with_part c no_parts)) = unless_refused (is_text (codes "is") (name_of word)) out_of_scope (tested_name d (name_of c))
+tester d ps = Err out_of_scope
+
+-- what a part means where these variables are in scope
+abbrev pub meaning : Declarations → List Variable → Part → Outcome Sorted
+meaning d scope (atom_part a) = lone d scope (name_of_atom a)
+meaning d scope (list_part ps m) = m scope
+
+-- arguments of these sorts, one for one
+abbrev pub arguments : Declarations → List Variable → List SortId → Parts → Outcome Formulas
+arguments d scope [] no_parts = Ok no_formulas
+arguments d scope [] (with_part p ps) = Err wrong_count
+arguments d scope (s ∷ sorts) no_parts = Err wrong_count
+arguments d scope (s ∷ sorts) (with_part p ps) =
+    and_then (of_sort s (meaning d scope p)) (λ t.
+    and_then (arguments d scope sorts ps) (λ ts.
+    Ok (with_formula t ts)))
+
+-- arguments of one sort
+abbrev pub all_of_sort : Declarations → List Variable → SortId → Parts → Outcome Formulas
+all_of_sort d scope s no_parts = Ok no_formulas
+all_of_sort d scope s (with_part p ps) =
+    and_then (of_sort s (meaning d scope p)) (λ t.
+    and_then (all_of_sort d scope s ps) (λ ts.
+    Ok (with_formula t ts)))
+
+-- arguments that have the sort of the first
+abbrev pub of_one_sort : Declarations → List Variable → Parts → Outcome Formulas
+of_one_sort d scope no_parts = Err wrong_count
+of_one_sort d scope (with_part p ps) =
+    and_then (meaning d scope p) (λ t.
+    and_then (all_of_sort d scope t.1 ps) (λ ts.
+    Ok (with_formula t.0 ts)))
+
+-- a condition and two of one sort
+abbrev pub choice : Declarations → List Variable → Parts → Outcome Sorted
+choice d scope (with_part c (with_part t (with_part u no_parts))) =
+    and_then (of_sort bool_sort (meaning d scope c)) (λ condition.
+    and_then (meaning d scope t) (λ first.
+    and_then (of_sort first.1 (meaning d scope u)) (λ second.
+    Ok (formula.Ite condition first.0 second, first.1))))
+choice d scope ps = Err wrong_count
+
+-- a connective of Boolean arguments
+abbrev pub connective : Declarations → List Variable → Operator → Parts → Outcome Sorted
+connective d scope o ps = and_then (all_of_sort d scope bool_sort ps) (λ ts. Ok (connected o ts, bool_sort))
+
+-- an operator, of as many arguments as it takes
+abbrev pub operated : Declarations → List Variable → Operator → Parts → Outcome Sorted
+operated d scope Not ps = connective d scope Not ps
+operated d scope And ps = connective d scope And ps
+operated d scope Or ps = connective d scope Or ps
+operated d scope Xor ps = connective d scope Xor ps
+operated d scope Implies ps = connective d scope Implies ps
+operated d scope Equal ps = and_then (of_one_sort d scope ps) (λ ts. Ok (formula.Equal ts, bool_sort))
+operated d scope Distinct ps = and_then (of_one_sort d scope ps) (λ ts. Ok (formula.Distinct ts, bool_sort))
+operated d scope Ite ps = choice d scope ps
+
+-- a symbol at the head of a list: `(f)` where f takes no argument has no form
+abbrev pub applied_symbol : Declarations → List Variable → Symbol → Parts → Outcome Sorted
+applied_symbol d scope s ps =
+    unless_refused (not (length (argument_sorts d s) == 0 && count ps == 0)) out_of_scope
+    (unless_refused (length (argument_sorts d s) == count ps) wrong_count
+    (and_then (arguments d scope (argument_sorts d s) ps) (λ ts.
+    Ok (applied s ts, result_sort d s))))
+
+-- an operator or a symbol, with arguments
+abbrev pub global : Declarations → List Variable → Option Operator → Option Symbol → Parts → Outcome Sorted
+global d scope (Some o) s ps = unless_refused (takes o (count ps)) wrong_count (operated d scope o ps)
+global d scope None None ps = Err unknown_symbol
+global d scope None (Some s) ps = applied_symbol d scope s ps
+
+-- a name with arguments, which is no variable
+abbrev pub application : Declarations → List Variable → List ℕ → Parts → Outcome Sorted
+application d scope name ps =
+    unless_refused (not (is_some (find scope name))) unknown_symbol
+    (global d scope (operator_of name) (symbol_of d name) ps)
+
+-- the terms of bindings, in order
+abbrev pub bound_terms : Declarations → List Variable → Parts → Outcome (List Sorted)
+bound_terms d scope no_parts = Ok []
+bound_terms d scope (with_part (list_part (with_part x (with_part t no_parts)) m) bs) =
+    and_then (meaning d scope t) (λ first.
+    and_then (bound_terms d scope bs) (λ ts.
+    Ok (first ∷ ts)))
+bound_terms d scope (with_part b bs) = Err out_of_scope
+
+-- bindings and a body: one binding or more, no variable twice; the terms do not see the variables
+abbrev pub bound : Declarations → List Variable → Parts → Part → Outcome Sorted
+bound d scope bindings body =
+    unless_refused (are_bindings bindings && not (count bindings == 0)) out_of_scope
+    (unless_refused (not (has_repeated (names_in (bound_names bindings)))) repeated_variable
+    (and_then (bound_terms d scope bindings) (λ ts.
+    and_then (meaning d (bind (variables (bound_names bindings) (sorts_of ts)) scope) body) (λ u.
+    Ok (formula.Let (formulas_of ts) u.0, u.1)))))
+
+-- `(let ((x t) ..) u)`
+abbrev pub let_form : Declarations → List Variable → Parts → Outcome Sorted
+let_form d scope (with_part (list_part bindings m) (with_part body no_parts)) = bound d scope bindings body
+let_form d scope ps = Err out_of_scope
+
+-- `(! t K v ..)`: the term, whatever its attributes say
+abbrev pub annotated : Declarations → List Variable → Parts → Outcome Sorted
+annotated d scope no_parts = Err out_of_scope
+annotated d scope (with_part t attributes) = unless_refused (are_attributes attributes) out_of_scope (meaning d scope t)
+
+-- the cases in order: each has a pattern against the sort of the subject, and a term of the sort of the first
+abbrev pub checked_cases : Declarations → List Variable → SortId → Option SortId → Parts → Outcome Checked
+checked_cases d scope side sort no_parts = Ok (no_more sort)
+checked_cases d scope side sort (with_part (list_part (with_part p (with_part body no_parts)) m) cases) =
+    and_then (pattern d side p) (λ binding.
+    and_then (meaning d (bind binding.1 scope) body) (λ u.
+    unless_refused (goes_with sort u.1) wrong_sort
+    (and_then (checked_cases d scope side (Some u.1) cases) (λ checked.
+    Ok (one_more binding.0 u.0 checked)))))
+checked_cases d scope side sort (with_part c cases) = Err out_of_scope
+
+-- a subject and cases: first the forms of all patterns, then the subject, then the cases in order, and then whether they
+-- are exhaustive
+abbrev pub cases_of : Declarations → List Variable → Part → Parts → Outcome Sorted
+cases_of d scope t cases =
+    unless_refused (are_cases cases) out_of_scope
+    (and_then (meaning d scope t) (λ subject.
+    and_then (matchable d subject.1) (λ side.
+    and_then (checked_cases d scope side None cases) (λ checked.
+    exhausted d subject checked))))
+
+-- `(match t ((p u) ..))`
+abbrev pub match_form : Declarations → List Variable → Parts → Outcome Sorted
+match_form d scope (with_part t (with_part (list_part cases m) no_parts)) = cases_of d scope t cases
+match_form d scope ps = Err out_of_scope
+
+-- the one argument of a tester, of the sort of its constructor
+abbrev pub tested_term : Declarations → List Variable → CtorId → Parts → Outcome Sorted
+tested_term d scope c (with_part t no_parts) = and_then (of_sort (ctor_sort d c) (meaning d scope t)) (λ u. Ok (formula.Test c u, bool_sort))
+tested_term d scope c ps = Err wrong_count
+
+-- a list that begins with a list: a tester, or a qualified symbol, with its arguments
+abbrev pub qualified : Declarations → List Variable → Parts → Parts → Outcome Sorted
+qualified d scope no_parts ps = Err out_of_scope
+qualified d scope (with_part word head) ps =
+    if is_word (codes "_") word then and_then (tester d head) (λ c. tested_term d scope c ps) else
+    (if is_word (codes "as") word then and_then (qualified_symbol d scope head) (λ s. applied_symbol d scope s ps) else Err out_of_scope)
+
+-- a form by its reserved word
+abbrev pub reserved : Declarations → List Variable → List ℕ → Parts → Outcome Sorted
+reserved d scope w ps =
+    if bytes_eq w (codes "let") then let_form d scope ps else
+    (if bytes_eq w (codes "match") then match_form d scope ps else
+    (if bytes_eq w (codes "!") then annotated d scope ps else
+    (if bytes_eq w (codes "as") then and_then (qualified_symbol d scope ps) (lone_symbol d) else Err out_of_scope)))
+
+-- a list that begins with an atom: a form with a reserved word, or an application
+abbrev pub headed : Declarations → List Variable → Atom → Parts → Outcome Sorted
+headed d scope (symbol w) ps = if is_reserved w then reserved d scope w ps else application d scope w ps
+headed d scope (quoted w) ps = application d scope w ps
+headed d scope (keyword w) ps = Err out_of_scope
+headed d scope (text w) ps = Err out_of_scope
+headed d scope (numeral n) ps = Err out_of_scope
+headed d scope (decimal w) ps = Err out_of_scope
+headed d scope (binary w) ps = Err out_of_scope
+headed d scope (hexadecimal w) ps = Err out_of_scope
+
+-- what a list means, by the parts right under it
+abbrev pub list_meaning : Declarations → Parts → List Variable → Outcome Sorted
+list_meaning d no_parts scope = Err out_of_scope
+list_meaning d (with_part (atom_part a) ps) scope = headed d scope a ps
+list_meaning d (with_part (list_part head m) ps) scope = qualified d scope head ps
+
+abbrev mutual
+  -- the expression with what each list of it means
+  pub part_of : Declarations → Expression → Part
+  part_of d (leaf a) = atom_part a
+  part_of d (list es) = list_part (parts_of d es) (list_meaning d (parts_of d es))
+
+  pub parts_of : Declarations → Expressions → Parts
+  parts_of d none = no_parts
+  parts_of d (more e es) = with_part (part_of d e) (parts_of d es)
+
+-- the formula and the sort of an expression where these variables are in scope, or its first error
+abbrev pub elaborated : Declarations → List Variable → Expression → Outcome Sorted
+elaborated d scope e = meaning d scope (part_of d e)
+
+-- the sort that an expression names, or the error
+abbrev pub sort_of : Declarations → Expression → Outcome SortId
+sort_of d e = sort_of_part d (part_of d e)

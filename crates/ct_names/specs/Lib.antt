@@ -1,0 +1,12 @@
+pub mod Refusals
+pub mod Outcome
+pub mod Answer
+pub mod Variables
+pub mod Repeats
+pub mod Parts
+pub mod Symbols
+pub mod Forms
+pub mod Patterns
+pub mod Bounds
+pub mod Elaboration
+pub mod Stack

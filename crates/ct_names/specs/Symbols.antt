@@ -1,0 +1,96 @@
+-- What names stand for: sorts, symbols and operators (SMT-LIB 2.7, sections 3.6 and 3.7, and the theory Core).
+use Rattle.std.specs.Prelude.{ℕ, List, [], ◌∷◌, map, Option, Some, None, option_map, unwrap_or, slice_get, position, codes, if◌then◌else◌}
+use Rattle.std.specs.Str.{bytes_eq}
+use Rattle.ct_sorts.specs.declared.ids.SortId.{SortId}
+use Rattle.ct_sorts.specs.declared.ids.CtorId.{CtorId}
+use Rattle.ct_sorts.specs.declared.ids.SelId.{SelId}
+use Rattle.ct_sorts.specs.declared.ids.Symbol.{Symbol}
+use Rattle.ct_sorts.specs.declared.ids.Symbol.TheVariants.{Ctor, Sel, Fun, Def}
+use Rattle.ct_sorts.specs.Declarations.{Declarations, Constructor, Selector, Function, sort_names, ctor_names, sel_names, function_names, definition_names}
+use Rattle.ct_terms.specs.Formula.{Formula, Formulas, Con, Apply, Def as DefFormula, Sel as SelFormula, no_formulas, with_formula}
+use Rattle.ct_names.specs.declared.operator.Operator.{Operator}
+use Rattle.ct_names.specs.declared.operator.Operator.TheVariants.{Not, And, Or, Xor, Implies, Equal, Distinct, Ite}
+
+-- the sort with this name
+abbrev pub sort_of_name : Declarations → List ℕ → Option SortId
+sort_of_name d name = option_map (λ n. record { 0 = n }) (position (bytes_eq name) (sort_names d))
+
+-- the first of the two that is there
+abbrev pub first_of : {X : Type 0} → Option X → Option X → Option X
+first_of (Some x) other = Some x
+first_of None other = other
+
+-- the constructor, selector, function or definition with this name; no two have one
+abbrev pub symbol_of : Declarations → List ℕ → Option Symbol
+symbol_of d name =
+    first_of (option_map (λ n. Ctor (record { 0 = n })) (position (bytes_eq name) (ctor_names d)))
+    (first_of (option_map (λ n. Sel (record { 0 = n })) (position (bytes_eq name) (sel_names d)))
+    (first_of (option_map (λ n. Fun (record { 0 = n })) (position (bytes_eq name) (function_names d)))
+    (option_map (λ n. Def (record { 0 = n })) (position (bytes_eq name) (definition_names d)))))
+
+-- the symbol where it is a constructor
+abbrev pub ctor_of : Option Symbol → Option CtorId
+ctor_of (Some (Ctor c)) = Some c
+ctor_of (Some (Sel s)) = None
+ctor_of (Some (Fun f)) = None
+ctor_of (Some (Def k)) = None
+ctor_of None = None
+
+-- the constructor with this name
+abbrev pub ctor_named : Declarations → List ℕ → Option CtorId
+ctor_named d name = ctor_of (symbol_of d name)
+
+-- the operators by their words
+abbrev pub operators : List (List ℕ × Operator)
+operators =
+    (codes "not", Not) ∷ ((codes "and", And) ∷ ((codes "or", Or) ∷ ((codes "xor", Xor) ∷ ((codes "=>", Implies) ∷ ((codes "=", Equal) ∷ ((codes "distinct", Distinct) ∷ ((codes "ite", Ite) ∷ [])))))))
+
+-- the operator that stands beside the word in the list
+abbrev pub operator_in : List (List ℕ × Operator) → List ℕ → Option Operator
+operator_in [] word = None
+operator_in (entry ∷ entries) word = if bytes_eq entry.0 word then Some entry.1 else operator_in entries word
+
+-- the operator that the word is
+abbrev pub operator_of : List ℕ → Option Operator
+operator_of word = operator_in operators word
+
+-- the sort of a field, and those of all fields of a constructor; every number that is asked for is declared
+abbrev pub field_sort : Declarations → SelId → SortId
+field_sort d s = unwrap_or (option_map (λ (sel : Selector). sel.sort) (slice_get d.sels s.0)) (record { 0 = 0 })
+
+abbrev pub ctor_fields : Declarations → CtorId → List SortId
+ctor_fields d c = map (field_sort d) (unwrap_or (option_map (λ (ctor : Constructor). ctor.sels) (slice_get d.ctors c.0)) [])
+
+-- the sort of a constructor
+abbrev pub ctor_sort : Declarations → CtorId → SortId
+ctor_sort d c = unwrap_or (option_map (λ (ctor : Constructor). ctor.sort) (slice_get d.ctors c.0)) (record { 0 = 0 })
+
+-- the sort to which a selector applies: that of its constructor
+abbrev pub sel_argument : Declarations → SelId → SortId
+sel_argument d s = unwrap_or (option_map (λ (sel : Selector). ctor_sort d sel.ctor) (slice_get d.sels s.0)) (record { 0 = 0 })
+
+-- the sorts of the symbol's arguments
+abbrev pub argument_sorts : Declarations → Symbol → List SortId
+argument_sorts d (Ctor c) = ctor_fields d c
+argument_sorts d (Sel s) = sel_argument d s ∷ []
+argument_sorts d (Fun f) = unwrap_or (option_map (λ (function : Function). function.args) (slice_get d.functions f.0)) []
+argument_sorts d (Def k) = unwrap_or (option_map (λ (definition : Function). definition.args) (slice_get d.definitions k.0)) []
+
+-- the sort of its result
+abbrev pub result_sort : Declarations → Symbol → SortId
+result_sort d (Ctor c) = ctor_sort d c
+result_sort d (Sel s) = field_sort d s
+result_sort d (Fun f) = unwrap_or (option_map (λ (function : Function). function.result) (slice_get d.functions f.0)) (record { 0 = 0 })
+result_sort d (Def k) = unwrap_or (option_map (λ (definition : Function). definition.result) (slice_get d.definitions k.0)) (record { 0 = 0 })
+
+-- a selector of the first of the formulas, which is the only one
+abbrev pub selected : SelId → Formulas → Formula
+selected s no_formulas = Con (record { 0 = 0 }) no_formulas
+selected s (with_formula t ts) = SelFormula s t
+
+-- the formula of a symbol with its arguments
+abbrev pub applied : Symbol → Formulas → Formula
+applied (Ctor c) ts = Con c ts
+applied (Sel s) ts = selected s ts
+applied (Fun f) ts = Apply f ts
+applied (Def k) ts = DefFormula k ts

@@ -1,0 +1,181 @@
+//! The variables in scope as a stack, with the place of the innermost of each name.
+ghost use Rattle.std.specs.Prelude.{◌≡◌, ◌∷◌, [], List, ℕ, map, drop, option_map, if◌then◌else◌, IfOk, IfErr, OnOk, OnErr};
+ghost use Rattle.ct_terms.specs.Formula.{bind};
+ghost use Rattle.ct_names.specs.Variables.{find, is_named};
+ghost use Rattle.ct_names.specs.Bounds.{variable_of, held_name};
+ghost use Rattle.ct_names.specs.Stack.{placed, placed_at, flat, IsUnplaced};
+ghost use Rattle.ct_names.specs.declared.variables.Found.{Found};
+
+use crate::error::CheckError;
+use crate::variables::{Bound, Found};
+use ct_sorts::SortId;
+use indexmap::IndexMap;
+use std::alloc::Global;
+use std::marker::Model;
+
+/// Where a variable stands: how many were bound before it, and its sort.
+#[derive(Clone, Copy)]
+struct Place {
+    before: usize,
+    sort: SortId,
+}
+
+/// A variable on the stack, with the place that its name had before.
+#[derive(Clone, Copy)]
+struct Entry<'e> {
+    bound: Bound<'e>,
+    shadowed: Option<Place>,
+}
+
+/// The variables in scope, for a walk over an expression: a binder enters its variables before its
+/// body, and they leave after it. A clause sees them from the innermost outwards.
+///
+/// A look-up takes about constant time, and a variable that is bound or that leaves too.
+#[derive(Drop)]
+pub struct Variables<'e> {
+    // In the order in which they were bound.
+    entries: Vec<Entry<'e>>,
+    // The place of the innermost variable of each name, none where all of this name have left.
+    places: IndexMap<&'e [u8], Option<Place>>,
+}
+
+impl<'e> Model for Variables<'e> {
+    ghost use Rattle.std.specs.Prelude.{List, []};
+    ghost use Rattle.ct_names.specs.Variables.{Variable};
+
+    ghost Value = { List Variable };
+
+    ghost use Rattle.ct_terms.specs.Formula.{bind};
+    ghost use Rattle.ct_names.specs.Stack.{variables_of, IsStack};
+
+    ghost view = { λ s. variables_of (bind s.entries.items []) };
+
+    ghost invariant = { λ s. IsStack s.entries.items s.places };
+}
+
+impl<'e> Variables<'e> {
+    /// No variables. Takes no memory.
+    pub fn new(alloc: Global) -> Variables<'e>
+        ensures none { result ≡ [] }
+    {
+        Variables {
+            entries: Vec::new(alloc),
+            places: IndexMap::new(alloc),
+        }
+    }
+
+    /// The variable of this name that was bound last, none where no variable in scope has it.
+    pub fn find(&self, name: &[u8]) -> Option<Found>
+        ensures found { option_map (λ (f : Found). (f.number, f.sort)) result ≡ find self.now
+            name.now }
+    {
+        match stored(&self.places, name) {
+            Some(place) => Some(Found {
+                number: (self.entries.len() - 1 - place.before) as u64,
+                sort: place.sort,
+            }),
+            None => None,
+        }
+    }
+
+    /// Binds a variable as the new innermost.
+    fn push(&mut self, variable: Bound<'e>) -> Result<(), CheckError>
+        ensures pushed { OnOk result (self.new ≡ variable_of variable.entry ∷ self.old) }
+        ensures unchanged { OnErr result (self.new ≡ self.old) }
+        ensures err { IfErr result (λ e. e ≡ CheckError.NoMemory) }
+    {
+        self.entries.reserve(1)?;
+        let place = Place {
+            before: self.entries.len(),
+            sort: variable.sort,
+        };
+        let shadowed = put(&mut self.places, variable.name, Some(place))?;
+        self.entries
+            .push(Entry {
+                bound: variable,
+                shadowed,
+            })
+            .unwrap();
+        Ok(())
+    }
+
+    /// Lets the innermost variable leave, where there is one.
+    fn pop(&mut self)
+        ensures rest { self.new ≡ drop 1 self.old }
+    {
+        let Some(last) = self.entries.pop() else {
+            return;
+        };
+        // A name that has a place takes no memory.
+        let _ = put(&mut self.places, last.bound.name, last.shadowed);
+    }
+
+    /// Lets so many of the innermost variables leave, or all where there are fewer.
+    pub fn leave(&mut self, count: usize)
+        ensures rest { self.new ≡ drop count self.old }
+    {
+        for _ in 0..count {
+            self.pop();
+        }
+    }
+
+    /// Binds variables in order, each as the new innermost, or none of them, where memory runs out.
+    pub fn enter(&mut self, inner: &[Bound<'e>]) -> Result<(), CheckError>
+        ensures bound { OnOk result (self.new ≡ bind (map variable_of inner.now) self.old) }
+        ensures unchanged { OnErr result (self.new ≡ self.old) }
+        ensures err { IfErr result (λ e. e ≡ CheckError.NoMemory) }
+    {
+        let mut entered = 0;
+        let mut left = inner;
+        while let [first, others @ ..] = left {
+            if let Err(error) = self.push(*first) {
+                self.leave(entered);
+                return Err(error);
+            }
+            entered += 1;
+            left = others;
+        }
+        Ok(())
+    }
+}
+
+// The place that is stored for the name.
+fn stored(places: &IndexMap<&[u8], Option<Place>>, name: &[u8]) -> Option<Place>
+    ensures place { result ≡ placed places.now name.now }
+{
+    match places.get(name) {
+        Some(place) => *place,
+        None => None,
+    }
+}
+
+// Stores the place for the name, where there is one. The answer is the place that was stored for it.
+fn put<'e>(
+    places: &mut IndexMap<&'e [u8], Option<Place>>,
+    name: Option<&'e [u8]>,
+    place: Option<Place>,
+) -> Result<Option<Place>, CheckError>
+    ensures before { IfOk result (λ old. old ≡ placed_at places.old (held_name name.entry)) }
+    ensures put { OnOk result ((other : List ℕ) → placed places.new other ≡ (if is_named other (held_name name.entry) then place else placed places.old other)) }
+    ensures unchanged { OnErr result ((other : List ℕ) → placed places.new other ≡ placed places.old other) }
+    ensures absent { OnErr result (IsUnplaced places.old (held_name name.entry)) }
+    ensures err { IfErr result (λ e. e ≡ CheckError.NoMemory) }
+{
+    match name {
+        Some(own) => {
+            let old = places.insert(own, place)?;
+            Ok(flat(old))
+        }
+        None => Ok(None),
+    }
+}
+
+// The place, where there is one.
+fn flat(place: Option<Option<Place>>) -> Option<Place>
+    ensures flat { result ≡ flat place }
+{
+    match place {
+        Some(place) => place,
+        None => None,
+    }
+}
