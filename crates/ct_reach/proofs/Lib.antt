@@ -1,0 +1,4 @@
+pub mod NameLemmas
+pub mod CallLemmas
+pub mod MeaningLemmas
+pub mod CoreLemmas
