@@ -20,7 +20,7 @@ use Rattle.ct_closure.specs.ClosedTable.{terms_at}
 use Rattle.ct_compile.specs.Effect.{IsPrefix, IsMissing, AreDifferent, DoNotFit, Adds}
 use Rattle.ct_stack.specs.Stack.{Context, core, cores}
 use Rattle.ct_audit.specs.Grown.{terms_of, IsGrownBy, AreTooMany}
-use Rattle.ct_audit.specs.Growing.{Laws, IsGrowing}
+use Rattle.ct_audit.specs.Growing.{Theorems, IsGrowing}
 use Rattle.ct_audit.proofs.ListLemmas.{slice_get-append_left, entry_at, append_at}
 
 prefix_length : (old new : Terms) → IsPrefix old new → length old ≤ length new
@@ -62,9 +62,9 @@ module _ (c : Context) (all rest : List Formula) (f : Formula) (old now : Terms)
       (Contains-append_right (flat_map subtrees (terms_at now numbers)) (flat_map subtrees (core c f ∷ cores c rest)) t
       (Contains-append_left (subtrees (core c f)) (flat_map subtrees (cores c rest)) t h)))
 
-  module _ (laws : Laws) (new : Terms) (t : TermId) (ordered : AreOrdered new) (grown : IsPrefix now new) where
+  module _ (theorems : Theorems) (new : Terms) (t : TermId) (ordered : AreOrdered new) (grown : IsPrefix now new) where
     stays : (u : TermId) → u.0 < length now → term_at new u ≡ term_at now u
-    stays u within = ap (λ (ts : Terms). term_at ts u) grown.1 ∙ laws.longer now grown.0 u (subst AreOrdered grown.1 ordered) within
+    stays u within = ap (λ (ts : Terms). term_at ts u) grown.1 ∙ theorems.longer now grown.0 u (subst AreOrdered grown.1 ordered) within
 
     boolean_stays : (u : TermId) → IsBoolean now u → IsBoolean new u
     boolean_stays u h =
@@ -83,9 +83,9 @@ module _ (c : Context) (all rest : List Formula) (f : Formula) (old now : Terms)
       is_boolean =
           let found = entry_at new t.0 stands.0 in
           let tree : HasTreeSort c.declarations (term_at new t) bool_sort =
-          subst (λ (tree : CoreTree). HasTreeSort c.declarations tree bool_sort) (sym stands.1) (laws.core_sorted c.declarations c.bodies [] [] f bool_sort consistent sound tt boolean)
+          subst (λ (tree : CoreTree). HasTreeSort c.declarations tree bool_sort) (sym stands.1) (theorems.core_sorted c.declarations c.bodies [] [] f bool_sort consistent sound tt boolean)
           in
-          let same : found.0.1 ≡ bool_sort = laws.one_sort c.declarations (term_at new t) found.0.1 bool_sort (laws.tree_sorted c.declarations new t found.0.1 ordered sorted (found.0.0, found.1)) tree in
+          let same : found.0.1 ≡ bool_sort = theorems.one_sort c.declarations (term_at new t) found.0.1 bool_sort (theorems.tree_sorted c.declarations new t found.0.1 ordered sorted (found.0.0, found.1)) tree in
           (found.0.0, subst (λ (s : SortId). slice_get new t.0 ≡ Some (found.0.0, s)) same found.1)
 
       added : Adds (terms_of c all) old new
@@ -134,7 +134,7 @@ at_index table k (suc m) (suc i) t e =
     (omega (arith, h.0), ap (λ (x : ℕ). term_at table (id x)) n ∙ h.1)
 
 -- where terms do not fit into a table that has grown, they did not fit with those that it has grown by
-module _ (laws : Laws) (allowed next : List CoreTree) (old now : Terms) (ordered : AreOrdered now) (single : AreSingle now) (grown : IsPrefix old now) (adds : Adds allowed old now) (among : (t : CoreTree) → Contains next t → Contains allowed t) (trees : List CoreTree) (unfit : DoNotFit next now trees) where
+module _ (theorems : Theorems) (allowed next : List CoreTree) (old now : Terms) (ordered : AreOrdered now) (single : AreSingle now) (grown : IsPrefix old now) (adds : Adds allowed old now) (among : (t : CoreTree) → Contains next t → Contains allowed t) (trees : List CoreTree) (unfit : DoNotFit next now trees) where
   abbrev more : ℕ
   more = length grown.0
 
@@ -164,10 +164,10 @@ module _ (laws : Laws) (allowed next : List CoreTree) (old now : Terms) (ordered
       ]
 
   stayed : (u : TermId) → u.0 < length old → term_at now u ≡ term_at old u
-  stayed u within = ap (λ (ts : Terms). term_at ts u) grown.1 ∙ laws.longer old grown.0 u (subst AreOrdered grown.1 ordered) within
+  stayed u within = ap (λ (ts : Terms). term_at ts u) grown.1 ∙ theorems.longer old grown.0 u (subst AreOrdered grown.1 ordered) within
 
   same_number : (u v : TermId) → u.0 < length now → v.0 < length now → term_at now u ≡ term_at now v → u.0 ≡ v.0
-  same_number u v a b e = ap (λ (w : TermId). w.0) (laws.one now u v ordered single a b e)
+  same_number u v a b e = ap (λ (w : TermId). w.0) (theorems.one now u v ordered single a b e)
 
   different : AreDifferent (first ++ trees)
   different i j t at_i at_j = by (split i t at_i) (split j t at_j)
@@ -203,9 +203,9 @@ module _ (laws : Laws) (allowed next : List CoreTree) (old now : Terms) (ordered
     },
   )
 
-pub too_many : (laws : Laws) (c : Context) (all rest : List Formula) (f : Formula) (old now : Terms) (numbers : List TermId) → IsGrowing c all (f ∷ rest) old now numbers → AreOrdered now → AreSingle now → (trees : List CoreTree) → DoNotFit (subtrees (core c f)) now trees → AreTooMany c all old
-too_many laws c all rest f old now numbers growing ordered single trees unfit =
-    do_not_fit laws (terms_of c all) (subtrees (core c f)) old now ordered single growing.prefix growing.adds (among c all rest f old now numbers growing) trees unfit
+pub too_many : (theorems : Theorems) (c : Context) (all rest : List Formula) (f : Formula) (old now : Terms) (numbers : List TermId) → IsGrowing c all (f ∷ rest) old now numbers → AreOrdered now → AreSingle now → (trees : List CoreTree) → DoNotFit (subtrees (core c f)) now trees → AreTooMany c all old
+too_many theorems c all rest f old now numbers growing ordered single trees unfit =
+    do_not_fit theorems (terms_of c all) (subtrees (core c f)) old now ordered single growing.prefix growing.adds (among c all rest f old now numbers growing) trees unfit
 
 -- an error is the same, whatever is made where there is none
 pub other_err : {T U E : Type 0} (a b : E) → IsErrOf {T = T} {E = E} (Err a) b → IsErrOf {T = U} {E = E} (Err a) b

@@ -17,7 +17,7 @@ use Rattle.ct_stack.specs.Stack.{Context, cores}
 use Rattle.ct_audit.specs.Grown.{terms_of}
 
 -- the theorems on terms that this stands on
-pub record Laws : Type 0 where
+pub record Theorems : Type 0 where
   pub one : (table : Terms) (s t : TermId) → AreOrdered table → AreSingle table → s.0 < length table → t.0 < length table → term_at table s ≡ term_at table t → s ≡ t
   pub longer : (table more : Terms) (t : TermId) → AreOrdered (table ++ more) → t.0 < length table → term_at (table ++ more) t ≡ term_at table t
   pub one_sort : (d : Declarations) (t : CoreTree) (r s : SortId) → HasTreeSort d t r → HasTreeSort d t s → r ≡ s

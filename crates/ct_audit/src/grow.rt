@@ -4,7 +4,7 @@ ghost use Rattle.ct_terms.specs.Terms.{AreSorted, IsBoolean};
 ghost use Rattle.ct_terms.specs.TreeFormula.{formula_of};
 ghost use Rattle.ct_stack.specs.Held.{context_in, level_in, IsSoundLevel};
 ghost use Rattle.ct_audit.specs.Grown.{IsGrownBy, AreTooMany};
-ghost use Rattle.ct_audit.specs.Growing.{Laws};
+ghost use Rattle.ct_audit.specs.Growing.{Theorems};
 
 use ct_compile::{Scope, compile};
 use ct_terms::{TermError, TermId, TermTable, Tree, core_trees, formulas};
@@ -23,7 +23,7 @@ pub(crate) fn add_assertions(
     ensures booleans { IfOk result (λ numbers. All (IsBoolean table.new) numbers.items) }
     ensures full { IsErrOf result TermError.Full → AreTooMany (context_in scope.now) (map formula_of asserts.now) table.old }
 {
-    laws();
+    term_theorems();
     scope.sig.sorts();
     table.len();
     let mut numbers = Vec::new(alloc);
@@ -40,8 +40,8 @@ pub(crate) fn add_assertions(
 }
 
 // The theorems on terms and formulas, as one. The function does nothing.
-fn laws()
-    ensures hold { Laws }
+fn term_theorems()
+    ensures hold { Theorems }
 {
     core_trees();
     formulas();

@@ -10,7 +10,7 @@ use Rattle.ct_terms.specs.declared.tree.Pattern.{Pattern}
 use Rattle.ct_terms.specs.Formula.{Formula, bind}
 use Rattle.ct_names.specs.declared.error.CheckError.{CheckError}
 use Rattle.ct_names.specs.declared.error.CheckError.TheVariants.{Refused, NoMemory}
-use Rattle.ct_names.specs.declared.variables.Bound.{Bound}
+use Rattle.ct_names.specs.declared.variables.BoundVariable.{BoundVariable}
 use Rattle.ct_names.specs.Answer.{Answers}
 use Rattle.ct_names.specs.Bounds.{variable_of, held_name, held_binding}
 use Rattle.ct_check.specs.Trees.{sorted_of, checked_of}
@@ -27,16 +27,16 @@ pub case_form : (d : Declarations) (c : Sexpr) (items : Vec Sexpr Global) (slice
 case_form d c items slice x t is same long ex et = pair_form d c items slice x t is same (two_of slice x t long ex et)
 
 -- the scope of a case, and of the body of a `let`
-pub case-scope : (outer scope : List Variable) (inner inner_slice : List Bound) → outer ≡ scope → inner_slice ≡ inner → bind (map variable_of inner_slice) outer ≡ bind (map variable_of inner) scope
-case-scope outer scope inner inner_slice back ei = ap (bind (map variable_of inner_slice)) back ∙ ap (λ (xs : List Bound). bind (map variable_of xs) scope) ei
+pub case-scope : (outer scope : List Variable) (inner inner_slice : List BoundVariable) → outer ≡ scope → inner_slice ≡ inner → bind (map variable_of inner_slice) outer ≡ bind (map variable_of inner) scope
+case-scope outer scope inner inner_slice back ei = ap (bind (map variable_of inner_slice)) back ∙ ap (λ (xs : List BoundVariable). bind (map variable_of xs) scope) ei
 
-pub inner-scope : (outer scope : List Variable) (names names_slice : List (Option (Bor (List ℕ)))) (sorts sorts_slice : List SortId) (inner inner_slice : List Bound) → outer ≡ scope → names_slice ≡ names → sorts_slice ≡ sorts → map variable_of inner ≡ variables (map held_name names_slice) sorts_slice → inner_slice ≡ inner → bind (map variable_of inner_slice) outer ≡ bind (variables (map held_name names) sorts) scope
+pub inner-scope : (outer scope : List Variable) (names names_slice : List (Option (Bor (List ℕ)))) (sorts sorts_slice : List SortId) (inner inner_slice : List BoundVariable) → outer ≡ scope → names_slice ≡ names → sorts_slice ≡ sorts → map variable_of inner ≡ variables (map held_name names_slice) sorts_slice → inner_slice ≡ inner → bind (map variable_of inner_slice) outer ≡ bind (variables (map held_name names) sorts) scope
 inner-scope outer scope names names_slice sorts sorts_slice inner inner_slice back en es is ei =
     case-scope outer scope inner inner_slice back ei
     ∙ ap (λ (vs : List Variable). bind vs scope) (is ∙ ap (λ (ns : List (Option (Bor (List ℕ)))). variables (map held_name ns) sorts_slice) en ∙ ap (λ (ss : List SortId). variables (map held_name names) ss) es)
 
 -- variables that were bound, and left after a term
-pub left_again : (inner : List Bound) (scope entered after left : List Variable) (count : ℕ) → entered ≡ bind (map variable_of inner) scope → after ≡ entered → count ≡ length inner → left ≡ drop count after → left ≡ scope
+pub left_again : (inner : List BoundVariable) (scope entered after left : List Variable) (count : ℕ) → entered ≡ bind (map variable_of inner) scope → after ≡ entered → count ≡ length inner → left ≡ drop count after → left ≡ scope
 left_again inner scope entered after left count bound back long rest =
     let counted : count ≡ length (map variable_of inner) = long ∙ sym (length-map inner variable_of) in
     rest ∙ ap (drop count) (back ∙ bound) ∙ ap (λ (n : ℕ). drop n (bind (map variable_of inner) scope)) counted ∙ drop-bind (map variable_of inner) scope

@@ -9,7 +9,7 @@ use Rattle.ct_sorts.specs.declared.ids.CtorId.{CtorId}
 use Rattle.ct_sorts.specs.Declarations.{Declarations, bool_sort}
 use Rattle.ct_terms.specs.Formula as formula
 use Rattle.ct_terms.specs.Formula.{Formula, Formulas, with_formula, no_formulas}
-use Rattle.ct_names.specs.declared.operator.Operator.{Operator}
+use Rattle.ct_names.specs.declared.operator.CoreOperator.{CoreOperator}
 use Rattle.ct_names.specs.declared.variables.Found.{Found}
 use Rattle.ct_check.specs.declared.callees.Callee.TheVariants.{Tester, Connective}
 use Rattle.ct_names.specs.Outcome.{Outcome, Sorted, and_then, unless_refused, of_sort}
@@ -27,7 +27,7 @@ all_of_sort-arguments d scope s no_parts = refl
 all_of_sort-arguments d scope s (with_part p ps) = ap (λ rest. and_then (of_sort s (meaning d scope p)) (λ t. and_then rest (λ ts. Ok (with_formula t ts)))) (all_of_sort-arguments d scope s ps)
 
 -- a connective takes Boolean arguments alone
-pub connective-called : (d : Declarations) (scope : List Variable) (o : Operator) (ps : Parts) → and_then (all_of_sort d scope bool_sort ps) (λ ts. Ok (connected o ts, bool_sort)) ≡ called d scope (Connective o) ps
+pub connective-called : (d : Declarations) (scope : List Variable) (o : CoreOperator) (ps : Parts) → and_then (all_of_sort d scope bool_sort ps) (λ ts. Ok (connected o ts, bool_sort)) ≡ called d scope (Connective o) ps
 connective-called d scope o ps = ap (λ all. and_then all (λ ts. Ok (connected o ts, bool_sort))) (all_of_sort-arguments d scope bool_sort ps)
 
 -- a tester takes one argument
@@ -65,7 +65,7 @@ unfound-map (Some x) = refl
 pub unfound : (r : Option Found) (v : Option (ℕ × SortId)) → option_map pair_of r ≡ v → is_some r ≡ false → is_some v ≡ false
 unfound r v e n = ap (λ (o : Option (ℕ × SortId)). is_some o) (sym e) ∙ unfound-map r ∙ n
 
-pub application-operator : (d : Declarations) (scope : List Variable) (name : List ℕ) (ps : Parts) (o : Operator) → is_some (find scope name) ≡ false → operator_of name ≡ Some o → application d scope name ps ≡ unless_refused (takes o (count ps)) wrong_count (operated d scope o ps)
+pub application-operator : (d : Declarations) (scope : List Variable) (name : List ℕ) (ps : Parts) (o : CoreOperator) → is_some (find scope name) ≡ false → operator_of name ≡ Some o → application d scope name ps ≡ unless_refused (takes o (count ps)) wrong_count (operated d scope o ps)
 application-operator d scope name ps o none is =
     ap (λ b. unless_refused (not b) unknown_symbol (global d scope (operator_of name) (symbol_of d name) ps)) none ∙ ap (λ x. global d scope x (symbol_of d name) ps) is
 
@@ -111,7 +111,7 @@ pub headed-name : (d : Declarations) (scope : List Variable) (w : List ℕ) (ps 
 headed-name d scope w ps e = ap (λ b. if b then reserved d scope w ps else application d scope w ps) e
 
 -- an operator that is a connective, with as many arguments as it takes
-pub operator-called : (d : Declarations) (scope : List Variable) (o k : Operator) (ps : Parts) → o ≡ k → takes o (count ps) ≡ true → operated d scope k ps ≡ and_then (all_of_sort d scope bool_sort ps) (λ ts. Ok (connected k ts, bool_sort)) → unless_refused (takes o (count ps)) wrong_count (operated d scope o ps) ≡ called d scope (Connective k) ps
+pub operator-called : (d : Declarations) (scope : List Variable) (o k : CoreOperator) (ps : Parts) → o ≡ k → takes o (count ps) ≡ true → operated d scope k ps ≡ and_then (all_of_sort d scope bool_sort ps) (λ ts. Ok (connected k ts, bool_sort)) → unless_refused (takes o (count ps)) wrong_count (operated d scope o ps) ≡ called d scope (Connective k) ps
 operator-called d scope o k ps is enough one =
     ap (λ b. unless_refused b wrong_count (operated d scope o ps)) enough ∙ ap (λ x. operated d scope x ps) is ∙ one ∙ connective-called d scope k ps
 

@@ -12,7 +12,7 @@ use Rattle.ct_sorts.specs.Declarations.{Declarations, bool_sort}
 use Rattle.ct_sorts.specs.Lookup.{ResolvesTo, IsSymbol}
 use Rattle.ct_terms.specs.Formula as formula
 use Rattle.ct_terms.specs.FormulaSorts.{IsSorted}
-use Rattle.ct_names.specs.declared.operator.Operator.{Operator}
+use Rattle.ct_names.specs.declared.operator.CoreOperator.{CoreOperator}
 use Rattle.ct_names.specs.Refusals.{unknown_symbol, wrong_count, wrong_sort, out_of_scope}
 use Rattle.ct_names.specs.Outcome.{Sorted, and_then, unless_refused, is_sort, of_sort}
 use Rattle.ct_names.specs.Symbols.{symbol_of, operator_of, ctor_named, ctor_sort, result_sort}
@@ -22,16 +22,16 @@ use Rattle.ct_names.specs.Parts.{Part, Parts, atom_part, list_part, no_parts, wi
 use Rattle.ct_names.specs.Elaboration.{meaning, takes, operated, applied_symbol, global, application, let_form, match_form, annotated, lone_symbol, may_qualify, qualified_name, qualified_symbol, sort_of_part, tested, tested_name, is_text, tester, tested_term, qualified, reserved, headed, list_meaning, part_of, parts_of, elaborated}
 use Rattle.ct_check.proofs.Inversions.{and_then-inverse, unless-inverse, same_value, of_sort-inverse}
 use Rattle.ct_names.proofs.SymbolLemmas.{resolves}
-use Rattle.ct_check.proofs.SymbolSorts.{Laws, there, owner_at}
+use Rattle.ct_check.proofs.SymbolSorts.{Theorems, there, owner_at}
 use Rattle.ct_check.proofs.SoundLemmas.{IsSoundMeaning, IsSoundPart, AreSoundParts, HasOwnSort, carried, meaning_sound, lone_symbol_sound}
 use Rattle.ct_check.proofs.SoundForms.{operated_sound, applied_sound, bound_sound}
 use Rattle.ct_check.proofs.SoundPatterns.{ctor_inside}
 use Rattle.ct_check.proofs.SoundMatch.{cases_of_sound}
 
-module _ (d : Declarations) (laws : Laws d) where
+module _ (d : Declarations) (theorems : Theorems d) where
   -- a symbol that a name stands for is declared
   symbol_inside : (name : List ℕ) (s : Symbol) → symbol_of d name ≡ Some s → IsSymbol d s
-  symbol_inside name s is = laws.symbol_inside name s (subst (λ (o : Option Symbol). ResolvesTo d name o) is (resolves d name))
+  symbol_inside name s is = theorems.symbol_inside name s (subst (λ (o : Option Symbol). ResolvesTo d name o) is (resolves d name))
 
   qualifies : (o : Option Symbol) (s : Symbol) → may_qualify o ≡ Ok s → o ≡ Some s
   qualifies None s e = absurd cc
@@ -61,7 +61,7 @@ module _ (d : Declarations) (laws : Laws d) where
   tested_inside name None is c e = absurd cc
   tested_inside name (Some k) is c e =
       let test = unless-inverse (not (nat_le k.0 1)) out_of_scope (Ok k) c e in
-      ctor_inside d laws name c (is ∙ ap (λ (x : CtorId). Some x) (same_value k c test.1))
+      ctor_inside d theorems name c (is ∙ ap (λ (x : CtorId). Some x) (same_value k c test.1))
 
   tested_name_inside : (name : Option (List ℕ)) (c : CtorId) → tested_name d name ≡ Ok c → c.0 < length d.ctors
   tested_name_inside None c e = absurd cc
@@ -81,7 +81,7 @@ module _ (d : Declarations) (laws : Laws d) where
         let step = and_then-inverse (of_sort (ctor_sort d c) (meaning d scope p)) (λ u. Ok (formula.Test c u, bool_sort)) t e in
         let ctor = there d.ctors c.0 inside in
         let own : ctor_sort d c ≡ ctor.0.sort = ap owner_at ctor.1 in
-        let sorted = meaning_sound d laws scope p sound.0 (step.0, ctor_sort d c) (of_sort-inverse (ctor_sort d c) (meaning d scope p) step.0 step.1) in
+        let sorted = meaning_sound d theorems scope p sound.0 (step.0, ctor_sort d c) (of_sort-inverse (ctor_sort d c) (meaning d scope p) step.0 step.1) in
         carried d (variable_sorts scope) (formula.Test c step.0, bool_sort) t step.2
         (ctor.0, ctor.1, subst (λ (s : SortId). IsSorted d (variable_sorts scope) step.0 s) own sorted, refl)
 
@@ -92,7 +92,7 @@ module _ (d : Declarations) (laws : Laws d) where
         as_symbol : (b : Bool) → (if b then and_then (qualified_symbol d scope head) (λ s. applied_symbol d scope s ps) else Err out_of_scope) ≡ Ok t → HasOwnSort d (variable_sorts scope) t
         as_symbol true f =
             let s = and_then-inverse (qualified_symbol d scope head) (λ s. applied_symbol d scope s ps) t f in
-            applied_sound d laws scope s.0 (qualified_symbol_inside scope head s.0 s.1) ps sound t s.2
+            applied_sound d theorems scope s.0 (qualified_symbol_inside scope head s.0 s.1) ps sound t s.2
         as_symbol false f = absurd cc
 
         by : (b : Bool) → is_word (codes "_") word ≡ b → HasOwnSort d (variable_sorts scope) t
@@ -103,14 +103,14 @@ module _ (d : Declarations) (laws : Laws d) where
         by false is = as_symbol (is_word (codes "as") word) (rw is at e)
 
     let_sound : (ps : Parts) → AreSoundParts d ps → (t : Sorted) → let_form d scope ps ≡ Ok t → HasOwnSort d (variable_sorts scope) t
-    let_sound (with_part (list_part bindings m) (with_part body no_parts)) sound t e = bound_sound d laws scope bindings body sound.0.0 sound.1.0 t e
+    let_sound (with_part (list_part bindings m) (with_part body no_parts)) sound t e = bound_sound d theorems scope bindings body sound.0.0 sound.1.0 t e
     let_sound no_parts sound t e = absurd cc
     let_sound (with_part (atom_part a) ps) sound t e = absurd cc
     let_sound (with_part (list_part bindings m) no_parts) sound t e = absurd cc
     let_sound (with_part (list_part bindings m) (with_part body (with_part p ps))) sound t e = absurd cc
 
     match_sound : (ps : Parts) → AreSoundParts d ps → (t : Sorted) → match_form d scope ps ≡ Ok t → HasOwnSort d (variable_sorts scope) t
-    match_sound (with_part p (with_part (list_part cases m) no_parts)) sound t e = cases_of_sound d laws scope p cases sound.0 sound.1.0.0 t e
+    match_sound (with_part p (with_part (list_part cases m) no_parts)) sound t e = cases_of_sound d theorems scope p cases sound.0 sound.1.0.0 t e
     match_sound no_parts sound t e = absurd cc
     match_sound (with_part p no_parts) sound t e = absurd cc
     match_sound (with_part p (with_part (atom_part a) ps)) sound t e = absurd cc
@@ -119,13 +119,13 @@ module _ (d : Declarations) (laws : Laws d) where
     annotated_sound : (ps : Parts) → AreSoundParts d ps → (t : Sorted) → annotated d scope ps ≡ Ok t → HasOwnSort d (variable_sorts scope) t
     annotated_sound no_parts sound t e = absurd cc
     annotated_sound (with_part p attributes) sound t e =
-        meaning_sound d laws scope p sound.0 t (unless-inverse (are_attributes attributes) out_of_scope (meaning d scope p) t e).1
+        meaning_sound d theorems scope p sound.0 t (unless-inverse (are_attributes attributes) out_of_scope (meaning d scope p) t e).1
 
     -- `(as f S)` that stands alone
     whole_sound : (ps : Parts) (t : Sorted) → and_then (qualified_symbol d scope ps) (lone_symbol d) ≡ Ok t → HasOwnSort d (variable_sorts scope) t
     whole_sound ps t e =
         let s = and_then-inverse (qualified_symbol d scope ps) (lone_symbol d) t e in
-        lone_symbol_sound d laws (variable_sorts scope) s.0 (qualified_symbol_inside scope ps s.0 s.1) t s.2
+        lone_symbol_sound d theorems (variable_sorts scope) s.0 (qualified_symbol_inside scope ps s.0 s.1) t s.2
 
     reserved_sound : (w : List ℕ) (ps : Parts) → AreSoundParts d ps → (t : Sorted) → reserved d scope w ps ≡ Ok t → HasOwnSort d (variable_sorts scope) t
     reserved_sound w ps sound t e = by_let (bytes_eq w (codes "let")) e
@@ -146,12 +146,12 @@ module _ (d : Declarations) (laws : Laws d) where
         by_let true f = let_sound ps sound t f
         by_let false f = by_match (bytes_eq w (codes "match")) f
 
-    global_sound : (o : Option Operator) (name : List ℕ) (s : Option Symbol) → symbol_of d name ≡ s → (ps : Parts) → AreSoundParts d ps → (t : Sorted) → global d scope o s ps ≡ Ok t → HasOwnSort d (variable_sorts scope) t
+    global_sound : (o : Option CoreOperator) (name : List ℕ) (s : Option Symbol) → symbol_of d name ≡ s → (ps : Parts) → AreSoundParts d ps → (t : Sorted) → global d scope o s ps ≡ Ok t → HasOwnSort d (variable_sorts scope) t
     global_sound (Some o) name s is ps sound t e =
         let enough = unless-inverse (takes o (count ps)) wrong_count (operated d scope o ps) t e in
-        operated_sound d laws scope o ps sound enough.0 t enough.1
+        operated_sound d theorems scope o ps sound enough.0 t enough.1
     global_sound None name None is ps sound t e = absurd cc
-    global_sound None name (Some s) is ps sound t e = applied_sound d laws scope s (symbol_inside name s is) ps sound t e
+    global_sound None name (Some s) is ps sound t e = applied_sound d theorems scope s (symbol_inside name s is) ps sound t e
 
     application_sound : (name : List ℕ) (ps : Parts) → AreSoundParts d ps → (t : Sorted) → application d scope name ps ≡ Ok t → HasOwnSort d (variable_sorts scope) t
     application_sound name ps sound t e =
@@ -188,4 +188,4 @@ module _ (d : Declarations) (laws : Laws d) where
 
   -- the formula of an expression is well sorted
   pub elaborated_sound : (scope : List Variable) (e : Expression) (t : Sorted) → elaborated d scope e ≡ Ok t → HasOwnSort d (variable_sorts scope) t
-  elaborated_sound scope e t is = meaning_sound d laws scope (part_of d e) (part_sound e) t is
+  elaborated_sound scope e t is = meaning_sound d theorems scope (part_of d e) (part_sound e) t is

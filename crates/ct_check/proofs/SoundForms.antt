@@ -9,8 +9,8 @@ use Rattle.ct_sorts.specs.Lookup.{IsSymbol}
 use Rattle.ct_terms.specs.Formula as formula
 use Rattle.ct_terms.specs.Formula.{Formulas, no_formulas, with_formula, bind}
 use Rattle.ct_terms.specs.FormulaSorts.{IsSorted, AreSorted, AreOfSort, HasFormula, AreSeveral}
-use Rattle.ct_names.specs.declared.operator.Operator.{Operator}
-use Rattle.ct_names.specs.declared.operator.Operator.TheVariants.{Not, And, Or, Xor, Implies, Equal, Distinct, Ite}
+use Rattle.ct_names.specs.declared.operator.CoreOperator.{CoreOperator}
+use Rattle.ct_names.specs.declared.operator.CoreOperator.TheVariants.{Not, And, Or, Xor, Implies, Equal, Distinct, Ite}
 use Rattle.ct_names.specs.Refusals.{wrong_count, repeated_variable, out_of_scope}
 use Rattle.ct_names.specs.Outcome.{Sorted, and_then, unless_refused, of_sort}
 use Rattle.ct_names.specs.Symbols.{argument_sorts, result_sort, applied}
@@ -19,11 +19,11 @@ use Rattle.ct_names.specs.Forms.{are_bindings, bound_names}
 use Rattle.ct_names.specs.Parts.{Part, Parts, atom_part, list_part, no_parts, with_part, count}
 use Rattle.ct_names.specs.Elaboration.{meaning, arguments, all_of_sort, of_one_sort, connective, choice, takes, operated, applied_symbol, connected, bound_terms, bound, formulas_of, sorts_of}
 use Rattle.ct_check.proofs.Inversions.{and_then-inverse, unless-inverse, same_value, of_sort-inverse}
-use Rattle.ct_check.proofs.SymbolSorts.{Laws, applied_sorted}
+use Rattle.ct_check.proofs.SymbolSorts.{Theorems, applied_sorted}
 use Rattle.ct_check.proofs.SoundLemmas.{IsSoundPart, AreSoundParts, HasOwnSort, carried, meaning_sound, arguments_sound, all_sound, all_some, all_several}
 
 -- an operator of one or more, and of two or more
-abbrev HasEnough : Operator → Formulas → Type 0
+abbrev HasEnough : CoreOperator → Formulas → Type 0
 HasEnough Not ts = HasFormula ts
 HasEnough And ts = HasFormula ts
 HasEnough Or ts = HasFormula ts
@@ -33,7 +33,7 @@ HasEnough Equal ts = AreSeveral ts
 HasEnough Distinct ts = AreSeveral ts
 HasEnough Ite ts = HasFormula ts
 
-connected_sorted : (d : Declarations) (env : List SortId) (o : Operator) (ts : Formulas) → HasEnough o ts → AreOfSort d env ts bool_sort → IsSorted d env (connected o ts) bool_sort
+connected_sorted : (d : Declarations) (env : List SortId) (o : CoreOperator) (ts : Formulas) → HasEnough o ts → AreOfSort d env ts bool_sort → IsSorted d env (connected o ts) bool_sort
 connected_sorted d env Not no_formulas some all = absurd some
 connected_sorted d env Not (with_formula t ts) some all = (all.0, refl)
 connected_sorted d env And ts some all = (some, all, refl)
@@ -62,22 +62,22 @@ pub bound_sorts : (names : List (Option (List ℕ))) (sorts : List SortId) (scop
 bound_sorts names sorts scope e =
     map-bind (λ (v : Variable). v.sort) (variables names sorts) scope ∙ ap (λ ss. bind ss (variable_sorts scope)) (sorts-variables names sorts e)
 
-module _ (d : Declarations) (laws : Laws d) (scope : List Variable) where
-  enough : (o : Operator) (ps : Parts) (ts : Formulas) → all_of_sort d scope bool_sort ps ≡ Ok ts → takes o (count ps) ≡ true → HasEnough o ts
-  enough Not ps ts e h = all_some d laws scope bool_sort ps ts e (at_least 1 (count ps) (nat_le (count ps) 1) h)
-  enough And ps ts e h = all_some d laws scope bool_sort ps ts e (at_least 1 (count ps) true h)
-  enough Or ps ts e h = all_some d laws scope bool_sort ps ts e (at_least 1 (count ps) true h)
-  enough Xor ps ts e h = all_several d laws scope bool_sort ps ts e (at_least 2 (count ps) true h)
-  enough Implies ps ts e h = all_several d laws scope bool_sort ps ts e (at_least 2 (count ps) true h)
-  enough Equal ps ts e h = all_several d laws scope bool_sort ps ts e (at_least 2 (count ps) true h)
-  enough Distinct ps ts e h = all_several d laws scope bool_sort ps ts e (at_least 2 (count ps) true h)
-  enough Ite ps ts e h = all_some d laws scope bool_sort ps ts e (let three : 3 ≤ count ps = at_least 3 (count ps) (nat_le (count ps) 3) h in omega arith)
+module _ (d : Declarations) (theorems : Theorems d) (scope : List Variable) where
+  enough : (o : CoreOperator) (ps : Parts) (ts : Formulas) → all_of_sort d scope bool_sort ps ≡ Ok ts → takes o (count ps) ≡ true → HasEnough o ts
+  enough Not ps ts e h = all_some d theorems scope bool_sort ps ts e (at_least 1 (count ps) (nat_le (count ps) 1) h)
+  enough And ps ts e h = all_some d theorems scope bool_sort ps ts e (at_least 1 (count ps) true h)
+  enough Or ps ts e h = all_some d theorems scope bool_sort ps ts e (at_least 1 (count ps) true h)
+  enough Xor ps ts e h = all_several d theorems scope bool_sort ps ts e (at_least 2 (count ps) true h)
+  enough Implies ps ts e h = all_several d theorems scope bool_sort ps ts e (at_least 2 (count ps) true h)
+  enough Equal ps ts e h = all_several d theorems scope bool_sort ps ts e (at_least 2 (count ps) true h)
+  enough Distinct ps ts e h = all_several d theorems scope bool_sort ps ts e (at_least 2 (count ps) true h)
+  enough Ite ps ts e h = all_some d theorems scope bool_sort ps ts e (let three : 3 ≤ count ps = at_least 3 (count ps) (nat_le (count ps) 3) h in omega arith)
 
-  connective_sound : (o : Operator) (ps : Parts) → AreSoundParts d ps → takes o (count ps) ≡ true → (t : Sorted) → connective d scope o ps ≡ Ok t → HasOwnSort d (variable_sorts scope) t
+  connective_sound : (o : CoreOperator) (ps : Parts) → AreSoundParts d ps → takes o (count ps) ≡ true → (t : Sorted) → connective d scope o ps ≡ Ok t → HasOwnSort d (variable_sorts scope) t
   connective_sound o ps sound h t e =
       let step = and_then-inverse (all_of_sort d scope bool_sort ps) (λ ts. Ok (connected o ts, bool_sort)) t e in
       carried d (variable_sorts scope) (connected o step.0, bool_sort) t step.2
-      (connected_sorted d (variable_sorts scope) o step.0 (enough o ps step.0 step.1 h) (all_sound d laws scope bool_sort ps sound step.0 step.1))
+      (connected_sorted d (variable_sorts scope) o step.0 (enough o ps step.0 step.1 h) (all_sound d theorems scope bool_sort ps sound step.0 step.1))
 
   -- two or more of one sort
   pub record OfOneSort (ts : Formulas) : Type 0 where
@@ -93,8 +93,8 @@ module _ (d : Declarations) (laws : Laws d) (scope : List Variable) where
       let same : with_formula one.0.0 rest.0 ≡ ts = same_value (with_formula one.0.0 rest.0) ts rest.2 in
       record {
         side = one.0.1;
-        several = subst (λ (us : Formulas). AreSeveral us) same (all_some d laws scope one.0.1 ps rest.0 rest.1 (omega arith));
-        all = subst (λ (us : Formulas). AreOfSort d (variable_sorts scope) us one.0.1) same (meaning_sound d laws scope p sound.0 one.0 one.1, all_sound d laws scope one.0.1 ps sound.1 rest.0 rest.1);
+        several = subst (λ (us : Formulas). AreSeveral us) same (all_some d theorems scope one.0.1 ps rest.0 rest.1 (omega arith));
+        all = subst (λ (us : Formulas). AreOfSort d (variable_sorts scope) us one.0.1) same (meaning_sound d theorems scope p sound.0 one.0 one.1, all_sound d theorems scope one.0.1 ps sound.1 rest.0 rest.1);
       }
 
   choice_sound : (ps : Parts) → AreSoundParts d ps → (t : Sorted) → choice d scope ps ≡ Ok t → HasOwnSort d (variable_sorts scope) t
@@ -106,18 +106,18 @@ module _ (d : Declarations) (laws : Laws d) (scope : List Variable) where
       let second = and_then-inverse (meaning d scope a) (λ x. and_then (of_sort x.1 (meaning d scope b)) (λ y. Ok (formula.Ite first.0 x.0 y, x.1))) t first.2 in
       let third = and_then-inverse (of_sort second.0.1 (meaning d scope b)) (λ y. Ok (formula.Ite first.0 second.0.0 y, second.0.1)) t second.2 in
       carried d (variable_sorts scope) (formula.Ite first.0 second.0.0 third.0, second.0.1) t third.2 (
-        meaning_sound d laws scope c sound.0 (first.0, bool_sort) (of_sort-inverse bool_sort (meaning d scope c) first.0 first.1),
-        meaning_sound d laws scope a sound.1.0 second.0 second.1,
-        meaning_sound d laws scope b sound.1.1.0 (third.0, second.0.1) (of_sort-inverse second.0.1 (meaning d scope b) third.0 third.1),
+        meaning_sound d theorems scope c sound.0 (first.0, bool_sort) (of_sort-inverse bool_sort (meaning d scope c) first.0 first.1),
+        meaning_sound d theorems scope a sound.1.0 second.0 second.1,
+        meaning_sound d theorems scope b sound.1.1.0 (third.0, second.0.1) (of_sort-inverse second.0.1 (meaning d scope b) third.0 third.1),
       )
   choice_sound (with_part c (with_part a (with_part b (with_part x ps)))) sound t e = absurd cc
 
-  equation_sound : (o : Operator) → ((ts : Formulas) → OfOneSort ts → IsSorted d (variable_sorts scope) (connected o ts) bool_sort) → (ps : Parts) → AreSoundParts d ps → 2 ≤ count ps → (t : Sorted) → and_then (of_one_sort d scope ps) (λ ts. Ok (connected o ts, bool_sort)) ≡ Ok t → HasOwnSort d (variable_sorts scope) t
+  equation_sound : (o : CoreOperator) → ((ts : Formulas) → OfOneSort ts → IsSorted d (variable_sorts scope) (connected o ts) bool_sort) → (ps : Parts) → AreSoundParts d ps → 2 ≤ count ps → (t : Sorted) → and_then (of_one_sort d scope ps) (λ ts. Ok (connected o ts, bool_sort)) ≡ Ok t → HasOwnSort d (variable_sorts scope) t
   equation_sound o of ps sound h t e =
       let step = and_then-inverse (of_one_sort d scope ps) (λ ts. Ok (connected o ts, bool_sort)) t e in
       carried d (variable_sorts scope) (connected o step.0, bool_sort) t step.2 (of step.0 (one_sort_sound ps sound h step.0 step.1))
 
-  pub operated_sound : (o : Operator) (ps : Parts) → AreSoundParts d ps → takes o (count ps) ≡ true → (t : Sorted) → operated d scope o ps ≡ Ok t → HasOwnSort d (variable_sorts scope) t
+  pub operated_sound : (o : CoreOperator) (ps : Parts) → AreSoundParts d ps → takes o (count ps) ≡ true → (t : Sorted) → operated d scope o ps ≡ Ok t → HasOwnSort d (variable_sorts scope) t
   operated_sound Not ps sound h t e = connective_sound Not ps sound h t e
   operated_sound And ps sound h t e = connective_sound And ps sound h t e
   operated_sound Or ps sound h t e = connective_sound Or ps sound h t e
@@ -133,7 +133,7 @@ module _ (d : Declarations) (laws : Laws d) (scope : List Variable) where
       let enough = unless-inverse (length (argument_sorts d s) == count ps) wrong_count (and_then (arguments d scope (argument_sorts d s) ps) (λ ts. Ok (applied s ts, result_sort d s))) t form.1 in
       let step = and_then-inverse (arguments d scope (argument_sorts d s) ps) (λ ts. Ok (applied s ts, result_sort d s)) t enough.1 in
       carried d (variable_sorts scope) (applied s step.0, result_sort d s) t step.2
-      (applied_sorted d laws (variable_sorts scope) s inside step.0 (arguments_sound d laws scope (argument_sorts d s) ps sound step.0 step.1))
+      (applied_sorted d theorems (variable_sorts scope) s inside step.0 (arguments_sound d theorems scope (argument_sorts d s) ps sound step.0 step.1))
 
   -- the terms of bindings are well sorted, as many as there are bindings
   pub terms_sound : (bs : Parts) → AreSoundParts d bs → (ts : List Sorted) → bound_terms d scope bs ≡ Ok ts → AreSorted d (variable_sorts scope) (formulas_of ts) (sorts_of ts) × (length ts ≡ count bs)
@@ -143,7 +143,7 @@ module _ (d : Declarations) (laws : Laws d) (scope : List Variable) where
       let rest = and_then-inverse (bound_terms d scope bs) (λ us. Ok (one.0 ∷ us)) ts one.2 in
       let others = terms_sound bs sound.1 rest.0 rest.1 in
       subst (λ (us : List Sorted). AreSorted d (variable_sorts scope) (formulas_of us) (sorts_of us) × (length us ≡ suc (count bs))) (same_value (one.0 ∷ rest.0) ts rest.2)
-      ((meaning_sound d laws scope b sound.0.0.1.0 one.0 one.1, others.0), ap suc others.1)
+      ((meaning_sound d theorems scope b sound.0.0.1.0 one.0 one.1, others.0), ap suc others.1)
   terms_sound (with_part (atom_part a) bs) sound ts e = absurd cc
   terms_sound (with_part (list_part no_parts m) bs) sound ts e = absurd cc
   terms_sound (with_part (list_part (with_part x no_parts) m) bs) sound ts e = absurd cc
@@ -170,5 +170,5 @@ module _ (d : Declarations) (laws : Laws d) (scope : List Variable) where
         sorts_of terms.0,
         some-terms terms.0 bs sorted.1 form.0,
         sorted.0,
-        subst (λ (env : List SortId). IsSorted d env whole.0.0 whole.0.1) (bound_sorts (bound_names bs) (sorts_of terms.0) scope long) (meaning_sound d laws inner body sound_body whole.0 whole.1),
+        subst (λ (env : List SortId). IsSorted d env whole.0.0 whole.0.1) (bound_sorts (bound_names bs) (sorts_of terms.0) scope long) (meaning_sound d theorems inner body sound_body whole.0 whole.1),
       )

@@ -9,7 +9,7 @@ use Rattle.ct_sexpr.specs.Readable.{name_of_atom}
 use Rattle.ct_terms.specs.Formula as formula
 use Rattle.ct_terms.specs.Formula.{Formulas, no_formulas, with_formula}
 use Rattle.ct_terms.specs.FormulaSorts.{IsSorted, AreSorted, AreOfSort, HasFormula, AreSeveral}
-use Rattle.ct_names.specs.declared.operator.Operator.{Operator}
+use Rattle.ct_names.specs.declared.operator.CoreOperator.{CoreOperator}
 use Rattle.ct_names.specs.Refusals.{wrong_count}
 use Rattle.ct_names.specs.Outcome.{Outcome, Sorted, and_then, of_sort}
 use Rattle.ct_names.specs.Symbols.{symbol_of, operator_of, argument_sorts, result_sort, applied}
@@ -17,7 +17,7 @@ use Rattle.ct_names.specs.Variables.{Variable, is_named, find_from, find, variab
 use Rattle.ct_names.specs.Parts.{Part, Parts, atom_part, list_part, no_parts, with_part, count}
 use Rattle.ct_names.specs.Elaboration.{lone, lone_name, lone_global, lone_symbol, lone_operator, meaning, arguments, all_of_sort}
 use Rattle.ct_check.proofs.Inversions.{and_then-inverse, unless-inverse, same_value, of_sort-inverse}
-use Rattle.ct_check.proofs.SymbolSorts.{Laws, applied_sorted}
+use Rattle.ct_check.proofs.SymbolSorts.{Theorems, applied_sorted}
 use Rattle.ct_names.proofs.SymbolLemmas.{resolves}
 
 -- what a list means is well sorted, at every scope
@@ -66,21 +66,21 @@ pub empty_from : (xs : List SortId) → (length xs == 0) ≡ true → xs ≡ []
 empty_from [] e = refl
 empty_from (x ∷ xs) e = absurd (grind (arith, nat_tests))
 
-module _ (d : Declarations) (laws : Laws d) where
+module _ (d : Declarations) (theorems : Theorems d) where
   pub lone_symbol_sound : (env : List SortId) (s : Symbol) → IsSymbol d s → (t : Sorted) → lone_symbol d s ≡ Ok t → HasOwnSort d env t
   lone_symbol_sound env s inside t e =
       let step = unless-inverse (length (argument_sorts d s) == 0) wrong_count (Ok (applied s no_formulas, result_sort d s)) t e in
       let none = empty_from (argument_sorts d s) step.0 in
       carried d env (applied s no_formulas, result_sort d s) t step.1
-      (applied_sorted d laws env s inside no_formulas (subst (λ (sorts : List SortId). AreSorted d env no_formulas sorts) (sym none) tt))
+      (applied_sorted d theorems env s inside no_formulas (subst (λ (sorts : List SortId). AreSorted d env no_formulas sorts) (sym none) tt))
 
-  operator_refused : (o : Option Operator) (t : Sorted) → lone_operator o ≡ Ok t → ⊥
+  operator_refused : (o : Option CoreOperator) (t : Sorted) → lone_operator o ≡ Ok t → ⊥
   operator_refused None t e = cc
   operator_refused (Some o) t e = cc
 
   lone_global_sound : (env : List SortId) (name : List ℕ) (s : Option Symbol) → symbol_of d name ≡ s → (t : Sorted) → lone_global d name s ≡ Ok t → HasOwnSort d env t
   lone_global_sound env name None is t e = absurd (operator_refused (operator_of name) t e)
-  lone_global_sound env name (Some s) is t e = lone_symbol_sound env s (laws.symbol_inside name s (subst (λ (o : Option Symbol). ResolvesTo d name o) is (resolves d name))) t e
+  lone_global_sound env name (Some s) is t e = lone_symbol_sound env s (theorems.symbol_inside name s (subst (λ (o : Option Symbol). ResolvesTo d name o) is (resolves d name))) t e
 
   lone_name_sound : (scope : List Variable) (name : List ℕ) (v : Option (ℕ × SortId)) → find scope name ≡ v → (t : Sorted) → lone_name d name v ≡ Ok t → HasOwnSort d (variable_sorts scope) t
   lone_name_sound scope name (Some v) is t e =

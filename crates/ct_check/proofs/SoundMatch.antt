@@ -20,7 +20,7 @@ use Rattle.ct_names.specs.Forms.{are_cases}
 use Rattle.ct_names.specs.Patterns.{pattern, matchable, are_exhaustive, fits_all, is_of_ctor, sort_ctors}
 use Rattle.ct_names.specs.Elaboration.{Checked, no_more, one_more, goes_with, meaning, checked_cases, matched, exhausted, cases_of}
 use Rattle.ct_check.proofs.Inversions.{and_then-inverse, unless-inverse, same_value, one_sort}
-use Rattle.ct_check.proofs.SymbolSorts.{Laws}
+use Rattle.ct_check.proofs.SymbolSorts.{Theorems}
 use Rattle.ct_check.proofs.SoundLemmas.{IsSoundPart, AreSoundParts, HasOwnSort, carried, meaning_sound}
 use Rattle.ct_check.proofs.SoundForms.{map-bind}
 use Rattle.ct_check.proofs.SoundPatterns.{Binds, pattern_sound, matchable_sound}
@@ -62,20 +62,20 @@ passes-at test (y ∷ xs) (suc i) x e at = passes-at test xs i x (and_parts (tes
 ctors_at : Option Sort → List CtorId
 ctors_at o = unwrap_or (option_map (λ (sort : Sort). sort.ctors) o) []
 
-each_ctor : (d : Declarations) (laws : Laws d) (side : SortId) (cases : Cases) → list_all (λ c. list_any (is_of_ctor c) (patterns_of cases)) (sort_ctors d side) ≡ true → (c : CtorId) (ctor : Constructor) → slice_get d.ctors c.0 ≡ Some ctor → ctor.sort ≡ side → HasPattern (Ctor c) cases
+each_ctor : (d : Declarations) (theorems : Theorems d) (side : SortId) (cases : Cases) → list_all (λ c. list_any (is_of_ctor c) (patterns_of cases)) (sort_ctors d side) ≡ true → (c : CtorId) (ctor : Constructor) → slice_get d.ctors c.0 ≡ Some ctor → ctor.sort ≡ side → HasPattern (Ctor c) cases
 unfolding ctors_at
-each_ctor d laws side cases all c ctor at own =
-    let owner = laws.of_their_sorts c.0 ctor at in
+each_ctor d theorems side cases all c ctor at own =
+    let owner = theorems.of_their_sorts c.0 ctor at in
     let there : slice_get d.sorts side.0 ≡ Some owner.0 = subst (λ (s : SortId). slice_get d.sorts s.0 ≡ Some owner.0) own owner.2 in
     let ctors : sort_ctors d side ≡ owner.0.ctors = ap ctors_at there in
     of_ctor c cases (passes-at (λ k. list_any (is_of_ctor k) (patterns_of cases)) (sort_ctors d side) owner.1 c all (ap (λ (cs : List CtorId). slice_get cs owner.1) ctors ∙ owner.3))
 
-exhaustive_sound : (d : Declarations) (laws : Laws d) (side : SortId) (cases : Cases) → are_exhaustive d side (patterns_of cases) ≡ true → IsExhaustive d side cases
-exhaustive_sound d laws side cases e = by (list_any fits_all (patterns_of cases)) refl
+exhaustive_sound : (d : Declarations) (theorems : Theorems d) (side : SortId) (cases : Cases) → are_exhaustive d side (patterns_of cases) ≡ true → IsExhaustive d side cases
+exhaustive_sound d theorems side cases e = by (list_any fits_all (patterns_of cases)) refl
   where
     by : (b : Bool) → list_any fits_all (patterns_of cases) ≡ b → IsExhaustive d side cases
     by true is = inl (any_fits cases is)
-    by false is = inr (each_ctor d laws side cases (rw is at e))
+    by false is = inr (each_ctor d theorems side cases (rw is at e))
 
 -- the cases after some of this sort, where there are any
 record AreChecked (d : Declarations) (env : List SortId) (side : SortId) (given : Option SortId) (k : Checked) : Type 0 where
@@ -90,7 +90,7 @@ goes (Some first) s t e is =
     let same : first ≡ s = cc in
     one_sort t first e ∙ same
 
-module _ (d : Declarations) (laws : Laws d) (scope : List Variable) (side : SortId) where
+module _ (d : Declarations) (theorems : Theorems d) (scope : List Variable) (side : SortId) where
   none_checked : (given : Option SortId) → AreChecked d (variable_sorts scope) side given (no_more given)
   none_checked given = record {
     sorted = λ s e. tt;
@@ -118,9 +118,9 @@ module _ (d : Declarations) (laws : Laws d) (scope : List Variable) (side : Sort
       let means = and_then-inverse (meaning d inner body) _ k fits.2 in
       let follows = unless-inverse (goes_with given means.0.1) wrong_sort _ k means.2 in
       let rest = and_then-inverse (checked_cases d scope side (Some means.0.1) cs) (λ checked. Ok (one_more fits.0.0 means.0.0 checked)) k follows.1 in
-      let sorted : IsSorted d (variable_sorts inner) means.0.0 means.0.1 = meaning_sound d laws inner body sound.0.0.1.0 means.0 means.1 in
+      let sorted : IsSorted d (variable_sorts inner) means.0.0 means.0.1 = meaning_sound d theorems inner body sound.0.0.1.0 means.0 means.1 in
       subst (λ (x : Checked). AreChecked d (variable_sorts scope) side given x) (same_value (one_more fits.0.0 means.0.0 rest.0) k rest.2)
-      (one_checked given fits.0.0 fits.0.1 means.0 rest.0 (pattern_sound d laws side p fits.0 fits.1) follows.0
+      (one_checked given fits.0.0 fits.0.1 means.0 rest.0 (pattern_sound d theorems side p fits.0 fits.1) follows.0
       (subst (λ (env : List SortId). IsSorted d env means.0.0 means.0.1) (map-bind (λ (v : Variable). v.sort) fits.0.1 scope) sorted)
       (cases_sound (Some means.0.1) cs sound.1 rest.0 rest.1))
   cases_sound given (with_part (atom_part a) cs) sound k e = absurd cc
@@ -133,10 +133,10 @@ module _ (d : Declarations) (laws : Laws d) (scope : List Variable) (side : Sort
   matched_sound subject k sorted matches are all (Some sort) is t e =
       let every : are_exhaustive d side (patterns_of k.cases) ≡ true = subst (λ (ps : List Pattern). are_exhaustive d side ps ≡ true) (sym are.patterns) all in
       carried d (variable_sorts scope) (formula.Match subject k.cases, sort) t e
-      (side, sorted, matches, are.some sort is refl, are.sorted sort is, exhaustive_sound d laws side k.cases every)
+      (side, sorted, matches, are.some sort is refl, are.sorted sort is, exhaustive_sound d theorems side k.cases every)
 
-pub cases_of_sound : (d : Declarations) (laws : Laws d) (scope : List Variable) (p : Part) (cs : Parts) → IsSoundPart d p → AreSoundParts d cs → (t : Sorted) → cases_of d scope p cs ≡ Ok t → HasOwnSort d (variable_sorts scope) t
-cases_of_sound d laws scope p cs sound_p sound_cs t e =
+pub cases_of_sound : (d : Declarations) (theorems : Theorems d) (scope : List Variable) (p : Part) (cs : Parts) → IsSoundPart d p → AreSoundParts d cs → (t : Sorted) → cases_of d scope p cs ≡ Ok t → HasOwnSort d (variable_sorts scope) t
+cases_of_sound d theorems scope p cs sound_p sound_cs t e =
     let form = unless-inverse (are_cases cs) out_of_scope _ t e in
     let subject = and_then-inverse (meaning d scope p) _ t form.1 in
     let side = and_then-inverse (matchable d subject.0.1) _ t subject.2 in
@@ -144,5 +144,5 @@ cases_of_sound d laws scope p cs sound_p sound_cs t e =
     let all = unless-inverse (are_exhaustive d subject.0.1 checked.0.patterns) not_exhaustive (matched subject.0.0 checked.0 checked.0.sort) t checked.2 in
     let matches = matchable_sound d subject.0.1 side.0 side.1 in
     let are : AreChecked d (variable_sorts scope) subject.0.1 None checked.0 =
-    subst (λ (s : SortId). AreChecked d (variable_sorts scope) s None checked.0) matches.0 (cases_sound d laws scope side.0 None cs sound_cs checked.0 checked.1) in
-    matched_sound d laws scope subject.0.1 subject.0.0 checked.0 (meaning_sound d laws scope p sound_p subject.0 subject.1) matches.1 are all.0 checked.0.sort refl t all.1
+    subst (λ (s : SortId). AreChecked d (variable_sorts scope) s None checked.0) matches.0 (cases_sound d theorems scope side.0 None cs sound_cs checked.0 checked.1) in
+    matched_sound d theorems scope subject.0.1 subject.0.0 checked.0 (meaning_sound d theorems scope p sound_p subject.0 subject.1) matches.1 are all.0 checked.0.sort refl t all.1

@@ -20,7 +20,7 @@ use Rattle.ct_names.specs.Variables.{variables, variable_sorts, has_repeated, na
 use Rattle.ct_names.specs.Patterns.{Binding, any_pattern, lone_ctor, lone_pattern, leaf_pattern, ctor_with, headed_pattern, ctor_at, variable_names, pattern, matchable, matchable_kind}
 use Rattle.ct_check.proofs.Inversions.{unless-inverse, same_value, one_sort}
 use Rattle.ct_names.proofs.SymbolLemmas.{resolves}
-use Rattle.ct_check.proofs.SymbolSorts.{Laws, there, field_sorts, owner_at}
+use Rattle.ct_check.proofs.SymbolSorts.{Theorems, there, field_sorts, owner_at}
 use Rattle.ct_check.proofs.SoundLemmas.{empty_from}
 use Rattle.ct_check.proofs.SoundForms.{sorts-variables}
 
@@ -42,17 +42,17 @@ pub matchable_sound : (d : Declarations) (side given : SortId) → matchable d s
 matchable_sound d side given e = matchable_by d side given (slice_get d.sorts side.0) refl e
 
 -- a constructor with this name is declared
-ctor_by : (d : Declarations) (laws : Laws d) (name : List ℕ) (s : Option Symbol) → ResolvesTo d name s → (c : CtorId) → ctor_of s ≡ Some c → c.0 < length d.ctors
-ctor_by d laws name None at c e = absurd cc
-ctor_by d laws name (Some (Sel x)) at c e = absurd cc
-ctor_by d laws name (Some (Fun x)) at c e = absurd cc
-ctor_by d laws name (Some (Def x)) at c e = absurd cc
-ctor_by d laws name (Some (CtorSymbol k)) at c e =
+ctor_by : (d : Declarations) (theorems : Theorems d) (name : List ℕ) (s : Option Symbol) → ResolvesTo d name s → (c : CtorId) → ctor_of s ≡ Some c → c.0 < length d.ctors
+ctor_by d theorems name None at c e = absurd cc
+ctor_by d theorems name (Some (Sel x)) at c e = absurd cc
+ctor_by d theorems name (Some (Fun x)) at c e = absurd cc
+ctor_by d theorems name (Some (Def x)) at c e = absurd cc
+ctor_by d theorems name (Some (CtorSymbol k)) at c e =
     let same : k ≡ c = cc in
-    subst (λ (x : CtorId). x.0 < length d.ctors) same (laws.symbol_inside name (CtorSymbol k) at)
+    subst (λ (x : CtorId). x.0 < length d.ctors) same (theorems.symbol_inside name (CtorSymbol k) at)
 
-pub ctor_inside : (d : Declarations) (laws : Laws d) (name : List ℕ) (c : CtorId) → ctor_named d name ≡ Some c → c.0 < length d.ctors
-ctor_inside d laws name c e = ctor_by d laws name (symbol_of d name) (resolves d name) c e
+pub ctor_inside : (d : Declarations) (theorems : Theorems d) (name : List ℕ) (c : CtorId) → ctor_named d name ≡ Some c → c.0 < length d.ctors
+ctor_inside d theorems name c e = ctor_by d theorems name (symbol_of d name) (resolves d name) c e
 
 -- the pattern binds variables of the sorts of what it fits
 abbrev pub Binds : Declarations → SortId → Binding → Type 0
@@ -62,7 +62,7 @@ Binds d side b = BindsSorts d side b.0 (variable_sorts b.1)
 bound_as : (d : Declarations) (side : SortId) (a b : Binding) → (let o : Outcome Binding = Ok a in o) ≡ Ok b → Binds d side a → Binds d side b
 bound_as d side a b e h = subst (λ (x : Binding). Binds d side x) (same_value a b e) h
 
-module _ (d : Declarations) (laws : Laws d) (side : SortId) where
+module _ (d : Declarations) (theorems : Theorems d) (side : SortId) where
   -- a constructor of the sort binds variables of the sorts of its fields
   ctor_binds : (c : CtorId) → c.0 < length d.ctors → is_sort (ctor_sort d c) side ≡ true → (sorts : List SortId) → sorts ≡ ctor_fields d c → BindsSorts d side (Ctor c) sorts
   ctor_binds c inside own sorts are =
@@ -70,7 +70,7 @@ module _ (d : Declarations) (laws : Laws d) (side : SortId) where
         ctor.0,
         ctor.1,
         sym (ap owner_at ctor.1) ∙ one_sort (ctor_sort d c) side own,
-        subst (λ (fields : List SortId). AreFieldSorts d ctor.0.sels fields) (sym are) (field_sorts d laws c ctor.0 ctor.1),
+        subst (λ (fields : List SortId). AreFieldSorts d ctor.0.sels fields) (sym are) (field_sorts d theorems c ctor.0 ctor.1),
       )
 
   ctor_with_sound : (names : List (Option (List ℕ))) (c : CtorId) → c.0 < length d.ctors → (b : Binding) → ctor_with d side names c ≡ Ok b → Binds d side b
@@ -94,7 +94,7 @@ module _ (d : Declarations) (laws : Laws d) (side : SortId) where
 
   lone_pattern_sound : (name : List ℕ) (c : Option CtorId) → ctor_named d name ≡ c → (b : Binding) → lone_pattern d side name c ≡ Ok b → Binds d side b
   lone_pattern_sound name None is b e = any_sound (Some name) b e
-  lone_pattern_sound name (Some c) is b e = lone_ctor_sound c (ctor_inside d laws name c is) b e
+  lone_pattern_sound name (Some c) is b e = lone_ctor_sound c (ctor_inside d theorems name c is) b e
 
   leaf_pattern_sound : (name : Option (List ℕ)) (b : Binding) → leaf_pattern d side name ≡ Ok b → Binds d side b
   leaf_pattern_sound None b e = any_sound None b e
@@ -106,7 +106,7 @@ module _ (d : Declarations) (laws : Laws d) (side : SortId) where
 
   ctor_at_inside : (name : Option (List ℕ)) (c : CtorId) → ctor_at d name ≡ Some c → c.0 < length d.ctors
   ctor_at_inside None c e = absurd cc
-  ctor_at_inside (Some name) c e = ctor_inside d laws name c e
+  ctor_at_inside (Some name) c e = ctor_inside d theorems name c e
 
   pub pattern_sound : (p : Part) (b : Binding) → pattern d side p ≡ Ok b → Binds d side b
   pattern_sound (atom_part a) b e = leaf_pattern_sound (name_of (atom_part a)) b e

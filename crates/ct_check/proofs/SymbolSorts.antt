@@ -15,7 +15,7 @@ use Rattle.ct_terms.specs.FormulaSorts.{IsSorted, AreSorted}
 use Rattle.ct_names.specs.Symbols.{field_sort, ctor_fields, ctor_sort, sel_argument, argument_sorts, result_sort, applied}
 
 -- what holds of consistent declarations
-pub record Laws (d : Declarations) : Type 0 where
+pub record Theorems (d : Declarations) : Type 0 where
   pub own_constructors : HaveOwnConstructors d
   pub of_their_sorts : AreOfTheirSorts d
   pub own_selectors : HaveOwnSelectors d
@@ -44,10 +44,10 @@ fields_are d (s ∷ sels) at =
     let here = at 0 s refl in
     ((here.0, here.1, sym (ap sort_at here.1)), fields_are d sels (λ i t e. at (suc i) t e))
 
-pub field_sorts : (d : Declarations) → Laws d → (c : CtorId) (ctor : Constructor) → slice_get d.ctors c.0 ≡ Some ctor → AreFieldSorts d ctor.sels (ctor_fields d c)
-field_sorts d laws c ctor at =
+pub field_sorts : (d : Declarations) → Theorems d → (c : CtorId) (ctor : Constructor) → slice_get d.ctors c.0 ≡ Some ctor → AreFieldSorts d ctor.sels (ctor_fields d c)
+field_sorts d theorems c ctor at =
     subst (λ (sels : List SelId). AreFieldSorts d ctor.sels (map (field_sort d) sels)) (sym (ap sels_at at))
-    (fields_are d ctor.sels (λ i s e. let own = laws.own_selectors c.0 i ctor s at e in (own.0, own.1)))
+    (fields_are d ctor.sels (λ i s e. let own = theorems.own_selectors c.0 i ctor s at e in (own.0, own.1)))
 
 abbrev function_args : Option Function → List SortId
 function_args o = unwrap_or (option_map (λ (f : Function). f.args) o) []
@@ -55,11 +55,11 @@ function_args o = unwrap_or (option_map (λ (f : Function). f.args) o) []
 abbrev function_result : Option Function → SortId
 function_result o = unwrap_or (option_map (λ (f : Function). f.result) o) (record { 0 = 0 })
 
-module _ (d : Declarations) (laws : Laws d) (env : List SortId) where
+module _ (d : Declarations) (theorems : Theorems d) (env : List SortId) where
   selected_sorted : (s : SelId) → s.0 < length d.sels → (t : Formula) → IsSorted d env t (sel_argument d s) → IsSorted d env (SelFormula s t) (field_sort d s)
   selected_sorted s h t sorted =
       let sel = there d.sels s.0 h in
-      let own = laws.of_their_constructors s.0 sel.0 sel.1 in
+      let own = theorems.of_their_constructors s.0 sel.0 sel.1 in
       let side : sel_argument d s ≡ own.0.sort =
       ap (λ (o : Option Selector). unwrap_or (option_map (λ (x : Selector). ctor_sort d x.ctor) o) (record { 0 = 0 })) sel.1 ∙ ap owner_at own.1 in
       (sel.0, own.0, sel.1, own.1, subst (λ (r : SortId). IsSorted d env t r) side sorted, sym (ap sort_at sel.1))
@@ -67,7 +67,7 @@ module _ (d : Declarations) (laws : Laws d) (env : List SortId) where
   pub applied_sorted : (s : Symbol) → IsSymbol d s → (ts : Formulas) → AreSorted d env ts (argument_sorts d s) → IsSorted d env (applied s ts) (result_sort d s)
   applied_sorted (Ctor c) h ts sorted =
       let ctor = there d.ctors c.0 h in
-      (ctor.0, ctor_fields d c, ctor.1, field_sorts d laws c ctor.0 ctor.1, sorted, sym (ap owner_at ctor.1))
+      (ctor.0, ctor_fields d c, ctor.1, field_sorts d theorems c ctor.0 ctor.1, sorted, sym (ap owner_at ctor.1))
   applied_sorted (Sel s) h no_formulas sorted = absurd sorted
   applied_sorted (Sel s) h (with_formula t no_formulas) sorted = selected_sorted s h t sorted.0
   applied_sorted (Sel s) h (with_formula t (with_formula u ts)) sorted = absurd sorted.1

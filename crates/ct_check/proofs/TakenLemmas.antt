@@ -7,7 +7,7 @@ use Rattle.ct_terms.specs.declared.tree.Tree.{Tree}
 use Rattle.ct_terms.specs.Formula as formula
 use Rattle.ct_terms.specs.Formula.{Formula, Formulas, no_formulas, with_formula}
 use Rattle.ct_terms.specs.TreeFormula.{formulas_of_trees}
-use Rattle.ct_names.specs.declared.operator.Operator.{Operator}
+use Rattle.ct_names.specs.declared.operator.CoreOperator.{CoreOperator}
 use Rattle.ct_check.specs.declared.callees.Callee.{Callee}
 use Rattle.ct_check.specs.declared.heads.Head.TheVariants.{Equation}
 use Rattle.ct_names.specs.Outcome.{Outcome, Sorted, and_then, unless_refused, is_sort, of_sort}
@@ -128,7 +128,7 @@ module _ (d : Declarations) (scope : List Variable) (ps : Parts) (n : ℕ) (tree
       ap (λ k. and_then (arguments d scope (callee_sorts d f k) ps) (λ ts. Ok (callee_formula f ts, callee_result d f))) long
       ∙ ap (λ o. and_then o (λ ts. Ok (callee_formula f ts, callee_result d f))) (arguments-taken d scope (callee_sorts d f n) ps ∙ held-taken (met d scope ps) trees sorts error (callee_sorts d f n) held)
 
-  pub equation-held : (o : Operator) → headed_by d scope (Equation o) ps ≡ and_then (unless_misfit (misfit sorts (same_sorts sorts n) error) (formulas_of_trees trees)) (λ ts. Ok (connected o ts, bool_sort))
+  pub equation-held : (o : CoreOperator) → headed_by d scope (Equation o) ps ≡ and_then (unless_misfit (misfit sorts (same_sorts sorts n) error) (formulas_of_trees trees)) (λ ts. Ok (connected o ts, bool_sort))
   equation-held o =
       ap (λ r. and_then r (λ ts. Ok (connected o ts, bool_sort)))
       (one_sort-taken d scope ps

@@ -14,7 +14,7 @@ ghost use Rattle.ct_check.specs.declared.heads.Head.TheVariants.{Equation};
 
 use crate::callees::{BOOL, Callee, callee_result, callee_sorts, is_sort, repeated};
 use crate::trees::{callee_tree, operator_tree};
-use ct_names::{CheckError, Operator, WRONG_COUNT, WRONG_SORT};
+use ct_names::{CheckError, CoreOperator, WRONG_COUNT, WRONG_SORT};
 use ct_sorts::{Signature, SortId};
 use ct_terms::Tree;
 use std::alloc::Global;
@@ -109,7 +109,7 @@ pub(crate) fn called(
 /// `=` or `distinct` with its arguments, of which there are so many.
 pub(crate) fn equation(
     alloc: Global,
-    operator: Operator,
+    operator: CoreOperator,
     terms: Elaborated,
     args: usize,
 ) -> Result<(Tree, SortId), CheckError>

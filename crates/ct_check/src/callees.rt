@@ -5,7 +5,7 @@ ghost use Rattle.ct_names.specs.Elaboration.{takes};
 ghost use Rattle.ct_names.specs.Outcome.{is_sort};
 ghost use Rattle.ct_check.specs.Callees.{callee_sorts, callee_result, IsCallee};
 
-use ct_names::{CheckError, Operator, argument_sorts, result_sort};
+use ct_names::{CheckError, CoreOperator, argument_sorts, result_sort};
 use ct_sorts::{CtorId, Signature, SortId, Symbol};
 use ct_terms::Tree;
 use std::alloc::Global;
@@ -21,7 +21,7 @@ pub(crate) enum Callee {
     /// `(_ is C)`.
     Tester(CtorId),
     /// A connective: an operator that takes Boolean arguments alone.
-    Connective(Operator),
+    Connective(CoreOperator),
 }
 
 /// Whether the two sorts are one.
@@ -32,14 +32,14 @@ pub(crate) fn is_sort(s: SortId, t: SortId) -> bool
 }
 
 /// Whether the operator takes so many arguments.
-pub(crate) fn takes(operator: Operator, count: usize) -> bool
+pub(crate) fn takes(operator: CoreOperator, count: usize) -> bool
     ensures value { result ≡ takes operator count }
 {
     match operator {
-        Operator::Not => count == 1,
-        Operator::And | Operator::Or => 1 <= count,
-        Operator::Xor | Operator::Implies | Operator::Equal | Operator::Distinct => 2 <= count,
-        Operator::Ite => count == 3,
+        CoreOperator::Not => count == 1,
+        CoreOperator::And | CoreOperator::Or => 1 <= count,
+        CoreOperator::Xor | CoreOperator::Implies | CoreOperator::Equal | CoreOperator::Distinct => 2 <= count,
+        CoreOperator::Ite => count == 3,
     }
 }
 

@@ -16,7 +16,7 @@ ghost use Rattle.ct_sexpr.specs.Atom.{symbol};
 
 use crate::callees::{Callee, takes};
 use ct_names::{
-    CheckError, OUT_OF_SCOPE, Operator, UNKNOWN_SYMBOL, Variables, WRONG_COUNT, WRONG_SORT,
+    CheckError, OUT_OF_SCOPE, CoreOperator, UNKNOWN_SYMBOL, Variables, WRONG_COUNT, WRONG_SORT,
     argument_count, ctor_named, is_word, name_of, named_sort, operator_of, result_sort,
     symbol_named,
 };
@@ -37,7 +37,7 @@ pub(crate) enum Head {
     /// What takes arguments of stated sorts.
     Call(Callee),
     /// `=` or `distinct`.
-    Equation(Operator),
+    Equation(CoreOperator),
     /// `ite`.
     Choice,
 }
@@ -145,7 +145,7 @@ fn global_head(sig: &Signature, name: &[u8], args: usize) -> Result<Head, CheckE
 }
 
 // An operator at the head of a list, with so many arguments.
-fn operator_head(operator: Operator, args: usize) -> Result<Head, CheckError>
+fn operator_head(operator: CoreOperator, args: usize) -> Result<Head, CheckError>
     ensures value { (d : Declarations) (scope : List Variable) (ps : Parts) → count ps ≡ args
         → Leads (unless_refused (takes operator (count ps)) wrong_count
         (operated d scope operator ps)) (λ h. headed_by d scope h ps) result }
@@ -155,13 +155,13 @@ fn operator_head(operator: Operator, args: usize) -> Result<Head, CheckError>
         return Err(CheckError::Refused(WRONG_COUNT));
     }
     match operator {
-        Operator::Not => Ok(Head::Call(Callee::Connective(Operator::Not))),
-        Operator::And => Ok(Head::Call(Callee::Connective(Operator::And))),
-        Operator::Or => Ok(Head::Call(Callee::Connective(Operator::Or))),
-        Operator::Xor => Ok(Head::Call(Callee::Connective(Operator::Xor))),
-        Operator::Implies => Ok(Head::Call(Callee::Connective(Operator::Implies))),
-        Operator::Equal | Operator::Distinct => Ok(Head::Equation(operator)),
-        Operator::Ite => Ok(Head::Choice),
+        CoreOperator::Not => Ok(Head::Call(Callee::Connective(CoreOperator::Not))),
+        CoreOperator::And => Ok(Head::Call(Callee::Connective(CoreOperator::And))),
+        CoreOperator::Or => Ok(Head::Call(Callee::Connective(CoreOperator::Or))),
+        CoreOperator::Xor => Ok(Head::Call(Callee::Connective(CoreOperator::Xor))),
+        CoreOperator::Implies => Ok(Head::Call(Callee::Connective(CoreOperator::Implies))),
+        CoreOperator::Equal | CoreOperator::Distinct => Ok(Head::Equation(operator)),
+        CoreOperator::Ite => Ok(Head::Choice),
     }
 }
 

@@ -14,6 +14,6 @@ mod theorems;
 mod trees;
 
 pub use ct_compile::Scope;
-pub use ct_names::{CheckError, Operator, Param};
+pub use ct_names::{CheckError, CoreOperator, Param};
 pub use sorting::{elaborate, sort_of};
 pub use theorems::elaboration;

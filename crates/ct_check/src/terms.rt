@@ -13,7 +13,7 @@ use crate::binders::{Checked, add_case, binding_names, goes_with, let_tree, matc
 use crate::heads::{Head, head_of};
 use crate::leaves::{lone, lone_symbol};
 use ct_names::{
-    Bound, CheckError, OUT_OF_SCOPE, Variables, WRONG_SORT, are_attributes, are_cases, bounds,
+    BoundVariable, CheckError, OUT_OF_SCOPE, Variables, WRONG_SORT, are_attributes, are_cases, bounds,
     matchable, pattern,
 };
 use ct_sexpr::Sexpr;
@@ -167,7 +167,7 @@ fn under<'e>(
     alloc: Global,
     sig: &Signature,
     variables: &mut Variables<'e>,
-    inner: &[Bound<'e>],
+    inner: &[BoundVariable<'e>],
     body: &'e Sexpr,
 ) -> Result<(Tree, SortId), CheckError>
     ensures value { Answers sorted_of (elaborated sig.now (bind (map variable_of inner.now)

@@ -7,7 +7,7 @@ ghost use Rattle.ct_names.specs.Elaboration.{connected};
 ghost use Rattle.ct_check.specs.Callees.{callee_formula, test_of};
 
 use crate::callees::Callee;
-use ct_names::{CheckError, Operator};
+use ct_names::{CheckError, CoreOperator};
 use ct_sorts::{CtorId, SelId, Symbol};
 use ct_terms::Tree;
 use std::alloc::Global;
@@ -49,7 +49,7 @@ pub(crate) fn symbol_tree(
 /// An operator with its arguments, but for `ite`.
 pub(crate) fn operator_tree(
     alloc: Global,
-    operator: Operator,
+    operator: CoreOperator,
     args: Vec<Tree>,
 ) -> Result<Tree, CheckError>
     ensures ok { IfOk result (λ t. formula_of t ≡ connected operator
@@ -57,14 +57,14 @@ pub(crate) fn operator_tree(
     ensures err { IfErr result (λ e. e ≡ CheckError.NoMemory) }
 {
     match operator {
-        Operator::Not => negation(alloc, args),
-        Operator::And => Ok(Tree::And(args)),
-        Operator::Or => Ok(Tree::Or(args)),
-        Operator::Xor => Ok(Tree::Xor(args)),
-        Operator::Implies => Ok(Tree::Implies(args)),
-        Operator::Equal => Ok(Tree::Equal(args)),
-        Operator::Distinct => Ok(Tree::Distinct(args)),
-        Operator::Ite => Ok(Tree::And(args)),
+        CoreOperator::Not => negation(alloc, args),
+        CoreOperator::And => Ok(Tree::And(args)),
+        CoreOperator::Or => Ok(Tree::Or(args)),
+        CoreOperator::Xor => Ok(Tree::Xor(args)),
+        CoreOperator::Implies => Ok(Tree::Implies(args)),
+        CoreOperator::Equal => Ok(Tree::Equal(args)),
+        CoreOperator::Distinct => Ok(Tree::Distinct(args)),
+        CoreOperator::Ite => Ok(Tree::And(args)),
     }
 }
 
@@ -93,7 +93,7 @@ fn test(alloc: Global, c: CtorId, args: Vec<Tree>) -> Result<Tree, CheckError>
 
 // A negation of the one argument.
 fn negation(alloc: Global, args: Vec<Tree>) -> Result<Tree, CheckError>
-    ensures ok { IfOk result (λ t. formula_of t ≡ connected Operator.Not
+    ensures ok { IfOk result (λ t. formula_of t ≡ connected CoreOperator.Not
         (formulas_of_trees args.items)) }
     ensures err { IfErr result (λ e. e ≡ CheckError.NoMemory) }
 {

@@ -22,7 +22,7 @@ use Rattle.ct_compile.specs.declared.known.Called.{Called}
 use Rattle.ct_compile.specs.declared.stop.DeferredCall.{DeferredCall}
 use Rattle.ct_compile.specs.declared.stop.Stop.{Stop}
 use Rattle.ct_compile.specs.declared.stop.Stop.TheVariants.{Failed, TooDeep}
-use Rattle.ct_operators.specs.Laws.{Laws}
+use Rattle.ct_operators.specs.Theorems.{Theorems}
 use Rattle.ct_operators.specs.Effect.{Stands, IsKept, IsPrefix, Within, Effect}
 use Rattle.ct_operators.specs.Made.{HasTrees, Makes}
 use Rattle.ct_compile.specs.Making.{making, makes_below, defined}
@@ -62,9 +62,9 @@ pub makes_first_none : (ts : List CoreTree) (table : Terms) → MakesFirst table
 makes_first_none ts table = ([], ts, refl, refl)
 
 -- one attempt after the other
-pub makes_first_then : (laws : Laws) (ts : List CoreTree) (a b c : Terms) → AreOrdered b → MakesFirst a ts b → MakesFirst b ts c → MakesFirst a ts c
-makes_first_then laws ts a b c ordered h k =
-    let there : HasTrees b h.0 = makes_has laws h.0 a b ordered h.3 in
+pub makes_first_then : (theorems : Theorems) (ts : List CoreTree) (a b c : Terms) → AreOrdered b → MakesFirst a ts b → MakesFirst b ts c → MakesFirst a ts c
+makes_first_then theorems ts a b c ordered h k =
+    let there : HasTrees b h.0 = makes_has theorems h.0 a b ordered h.3 in
     elim (parted h.0 h.1 k.0 k.1 (sym h.2 ∙ k.2)) [
       | inl r ↦ (
         k.0,
@@ -114,7 +114,7 @@ waits_stay d bodies rows n a b c made allows call grown kept w = record {
   before = w.before;
   after = w.after;
   order = w.order;
-  makes = makes_none w.before c (have_stay kept.laws b c w.before grown kept.ordered (makes_has kept.laws w.before a b (prefix_ordered b c grown kept.ordered) w.makes));
+  makes = makes_none w.before c (have_stay kept.theorems b c w.before grown kept.ordered (makes_has kept.theorems w.before a b (prefix_ordered b c grown kept.ordered) w.makes));
 }
 
 pub waiting_stay : (d : Declarations) (bodies : List Formula) (rows : Rows) (n : ℕ) (t : Formula) (old new : Terms) (calls : List DeferredCall) → IsPrefix old new → IsKept d new → AreWaiting d bodies rows n t old calls → AreWaiting d bodies rows n t new calls
@@ -166,7 +166,7 @@ module _ (d : Declarations) (bodies : List Formula) (rows : Rows) (old : Terms) 
         flags = h.flags;
         stand = bounds_stay d old new call.bounds trees g.0 g.1 h.stand;
         stands = stands_as new t _ _ (sym (gives trees)) (one.core (bind trees []) (bind h.sorts []) h.sort (ready trees h));
-        made = makes_has g.1.laws (makes_below d bodies (suc k) call.definition trees) old new g.1.ordered (call_makes new (Ok t) one trees h);
+        made = makes_has g.1.theorems (makes_below d bodies (suc k) call.definition trees) old new g.1.ordered (call_makes new (Ok t) one trees h);
       }
 
   -- a call under it is put off
@@ -311,7 +311,7 @@ module _ (d : Declarations) (bodies : List Formula) (rows : Rows) (n : ℕ) (t :
     closed_waits (Err (TooDeep call)) one v = let h = closed_ready old may in now_waiting old new call (closed_kept (Err (TooDeep call)) one) (v [] h.0 h.1 h.2)
 
     pub closed_all : (r : Result TermId Stop) → Compiles d bodies n old new [] t (ended r) → IfOk r (λ u. Stands new u core × HasTrees new making_all)
-    closed_all (Ok u) one = let h = closed_ready old may in let kept = closed_kept (Ok u) one in (one.core [] h.0 h.1 h.2, makes_has kept.laws making_all old new kept.ordered (one.order [] h.0 h.1 h.2))
+    closed_all (Ok u) one = let h = closed_ready old may in let kept = closed_kept (Ok u) one in (one.core [] h.0 h.1 h.2, makes_has kept.theorems making_all old new kept.ordered (one.order [] h.0 h.1 h.2))
     closed_all (Err s) one = tt
 
 -- ---- attempts one after the other
@@ -353,7 +353,7 @@ module _ {S : Type 0} (d : Declarations) (bodies : List Formula) (rows : Rows) (
         let e = effect (subtrees (closed_core d bodies n t)) (within_subtrees (closed_core d bodies n t)) in
         record {
           state = state;
-          makes = makes_first_then so_far.kept.laws (closed_making d bodies n t) start table new so_far.kept.ordered u.makes makes;
+          makes = makes_first_then so_far.kept.theorems (closed_making d bodies n t) start table new so_far.kept.ordered u.makes makes;
           effect = λ allowed w. effect_because d allowed start new full ⊥ (λ x. absurd x) (effect_then d allowed start table new ⊥ full (u.effect allowed w) (effect allowed w));
           waiting = waiting_stay d bodies rows n t table new calls e.grown e.kept u.waiting;
         }

@@ -50,7 +50,7 @@ recalled_stays d bodies rows old new call t grown kept h = record {
   flags = h.flags;
   stand = bounds_stay d old new h.bounds h.trees grown kept h.stand;
   stands = stands_stays d old new t (given d bodies (suc call.definition.0) call.definition h.trees) grown kept h.stands;
-  made = have_stay kept.laws old new (makes_below d bodies (suc call.definition.0) call.definition h.trees) grown kept.ordered h.made;
+  made = have_stay kept.theorems old new (makes_below d bodies (suc call.definition.0) call.definition h.trees) grown kept.ordered h.made;
 }
 
 module _ {S : Type 0} (d : Declarations) (bodies : List Formula) (rows : Rows) where
@@ -168,7 +168,7 @@ module _ (d : Declarations) (bodies : List Formula) (n : ℕ) (rows : Rows) (old
         stands_as mid t _ _
         (given_is bodies k body at d (suc k.0) is.trees (omega arith)
         ∙ sym (given_is bodies k body at d n is.trees h.mentions.0)
-        ∙ sym (h.setting.kept.laws.used d bodies n k (parts trees) is.trees (bound_same mid (uses_below d bodies n k) bs (parts trees) is.trees marked_as core stand)))
+        ∙ sym (h.setting.kept.theorems.used d bodies n k (parts trees) is.trees (bound_same mid (uses_below d bodies n k) bs (parts trees) is.trees marked_as core stand)))
         is.stands
 
     -- what is made for a known term is there
@@ -185,7 +185,7 @@ module _ (d : Declarations) (bodies : List Formula) (n : ℕ) (rows : Rows) (old
         subst (HasTrees mid)
         (makes_is bodies k body at d (suc k.0) is.trees (omega arith)
         ∙ sym (makes_is bodies k body at d n is.trees h.mentions.0)
-        ∙ sym (makes_same_below h.setting.kept.laws d bodies n k (parts trees) is.trees (bound_same mid (uses_below d bodies n k) bs (parts trees) is.trees marked_as core stand))
+        ∙ sym (makes_same_below h.setting.kept.theorems d bodies n k (parts trees) is.trees (bound_same mid (uses_below d bodies n k) bs (parts trees) is.trees marked_as core stand))
         ∙ makes_is bodies k body at d n (parts trees) h.mentions.0
         ∙ ap (λ (us : List CoreTree). making d (defined d bodies k.0) (bind (parts trees) us) body) (sym (zip_none (IsBound old) view.others view.bound)))
         is.made

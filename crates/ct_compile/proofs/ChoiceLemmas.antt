@@ -93,11 +93,11 @@ module _ (d : Declarations) (bodies : List Formula) (n : ℕ) (table : Terms) (e
       effect = λ trees sorts sort allowed h w.
           let s = stood trees sorts sort h in
           let is : compiled d (given d bodies n) trees (Var i) ≡ s.tree = ap (λ (o : Option CoreTree). unwrap_or o no_term) s.is in
-          effect s.tree allowed (same trees sort s) (subst (Contains allowed) is (within_itself h.setting.kept.laws allowed _ w));
+          effect s.tree allowed (same trees sort s) (subst (Contains allowed) is (within_itself h.setting.kept.theorems allowed _ w));
       order = λ trees sorts sort h.
           let s = stood trees sorts sort h in
           let is : compiled d (given d bodies n) trees (Var i) ≡ s.tree = ap (λ (o : Option CoreTree). unwrap_or o no_term) s.is in
-          let e = effect s.tree (subtrees s.tree) (same trees sort s) (within_itself h.setting.kept.laws (subtrees s.tree) s.tree (within_subtrees s.tree)) in
+          let e = effect s.tree (subtrees s.tree) (same trees sort s) (within_itself h.setting.kept.theorems (subtrees s.tree) s.tree (within_subtrees s.tree)) in
           subst (λ (x : CoreTree). IfOk r (λ t. Makes table (x ∷ []) new)) (sym is)
           (IfOk-weaker r (λ t. Stands new t s.tree) (λ t. Makes table (s.tree ∷ []) new)
           (λ t stands. bound_made d table new b s.tree _ (h.present i b ((Decides-eqb i i).1 refl) at) (same trees sort s) e (t, stands))
@@ -255,13 +255,13 @@ module _ (d : Declarations) (bodies : List Formula) (n : ℕ) (env : List Bound)
               (effect_then d allowed old m1 m2 _ _ (first.effect trees sorts bool_sort allowed (condition_ready old trees sorts sort h) parts.0)
               (second.effect trees sorts sort allowed (then_ready m1 trees sorts sort (ready_1 trees sorts sort h)) parts.1.0))
               (third.effect trees sorts sort allowed (else_ready m2 trees sorts sort (ready_2 trees sorts sort h)) parts.1.1))
-              (effect allowed (subst (Contains allowed) (sym (layer trees sorts sort h)) (within_itself h.setting.kept.laws allowed _ w)));
+              (effect allowed (subst (Contains allowed) (sym (layer trees sorts sort h)) (within_itself h.setting.kept.theorems allowed _ w)));
           order = λ trees sorts sort h.
               let defs = defined d bodies n in
               let whole = core trees (Ite c t u) in
               IfOk-weaker r (λ x. Stands new x (choice (term_at m3 a) (term_at m3 b) (term_at m3 v))) (λ x. Makes old (making d defs trees (Ite c t u)) new)
               (λ x k.
-              let e = effect (subtrees (choice (term_at m3 a) (term_at m3 b) (term_at m3 v))) (within_itself h.setting.kept.laws (subtrees (choice (term_at m3 a) (term_at m3 b) (term_at m3 v))) (choice (term_at m3 a) (term_at m3 b) (term_at m3 v)) (within_subtrees (choice (term_at m3 a) (term_at m3 b) (term_at m3 v)))) in
+              let e = effect (subtrees (choice (term_at m3 a) (term_at m3 b) (term_at m3 v))) (within_itself h.setting.kept.theorems (subtrees (choice (term_at m3 a) (term_at m3 b) (term_at m3 v))) (choice (term_at m3 a) (term_at m3 b) (term_at m3 v)) (within_subtrees (choice (term_at m3 a) (term_at m3 b) (term_at m3 v)))) in
               let last = makes_one d m3 new whole _ (subst (λ (y : CoreTree). Effect d (subtrees y) m3 new (IsErrOf r Full)) (layer trees sorts sort h) e) ((a, stand_1 trees sorts sort h), ((b, stand_2 trees sorts sort h), ((v, stand_3 trees sorts sort h), tt))) (x, stands_as new x _ _ (layer trees sorts sort h) k) in
               makes_then (making d defs trees c) (making d defs trees t ++ (making d defs trees u ++ whole ∷ [])) old m1 new (first.order trees sorts bool_sort (condition_ready old trees sorts sort h))
               (makes_then (making d defs trees t) (making d defs trees u ++ whole ∷ []) m1 m2 new (second.order trees sorts sort (then_ready m1 trees sorts sort (ready_1 trees sorts sort h)))

@@ -20,7 +20,7 @@ use Rattle.ct_compile.specs.declared.stop.Stop.{Stop}
 use Rattle.ct_compile.specs.Deferral.{ended, DefersCases}
 use Rattle.ct_occurrence.specs.Marks.{Rows}
 use Rattle.ct_operators.specs.declared.choosing.Guarded.{Guarded}
-use Rattle.ct_operators.specs.Laws.{Laws}
+use Rattle.ct_operators.specs.Theorems.{Theorems}
 use Rattle.ct_operators.specs.Made.{HasTree, Makes}
 use Rattle.ct_compile.specs.Making.{making_cases, defined}
 use Rattle.ct_operators.specs.Effect.{Stands, IsKept, Within, Effect}
@@ -149,7 +149,7 @@ module _ (d : Declarations) (bodies : List Formula) (n : ℕ) (old table : Terms
           IfOk-weaker r (λ x. Stands new x top) (λ x. Makes old (making_cases d (defined d bodies n) trees tree [] all) new)
           (λ x s.
           let e = subst (λ (y : CoreTree). Effect d (subtrees y) mid new (IsErrOf r Full)) is (effect (subtrees top) (within_subtrees top)) in
-          let rises = rises_stay g.kept.laws table mid (later tree trees) f.ends (whole tree trees) g.grown g.kept.ordered f.rises in
+          let rises = rises_stay g.kept.theorems table mid (later tree trees) f.ends (whole tree trees) g.grown g.kept.ordered f.rises in
           let last = makes_rising d mid new (later tree trees) f.ends (whole tree trees) (IsErrOf r Full) e rises (v, one.core tree side trees sorts sort f.ready) (x, stands_as new x _ _ is s) in
           subst (λ (xs : List CoreTree). Makes old xs new) (sym f.makes)
           (makes_then f.begun (rest_made ++ f.ends) old table new f.order (makes_then rest_made f.ends table mid new (one.order tree side trees sorts sort f.ready) last)))
@@ -163,13 +163,13 @@ regroup xs ys zs w ws =
     ∙ sym (append_assoc xs ys (zs ++ w ∷ ws))
 
 -- a choice is over what comes after it, and over its test and body
-choice_rises : (laws : Laws) (table : Terms) (a b : TermId) (now later : CoreTree) (ends : List CoreTree) (whole : CoreTree) → AreOrdered table → a.0 < length table → b.0 < length table → now ≡ choice (term_at table a) (term_at table b) later → Rises table now ends whole → Rises table later (now ∷ ends) whole
-choice_rises laws table a b now later ends whole ordered a_in b_in is r =
+choice_rises : (theorems : Theorems) (table : Terms) (a b : TermId) (now later : CoreTree) (ends : List CoreTree) (whole : CoreTree) → AreOrdered table → a.0 < length table → b.0 < length table → now ≡ choice (term_at table a) (term_at table b) later → Rises table now ends whole → Rises table later (now ∷ ends) whole
+choice_rises theorems table a b now later ends whole ordered a_in b_in is r =
     let up = choice (term_at table a) (term_at table b) later in
-    let under : Contains (subtrees up) later = within_itself laws (subtrees up) later (within_choice (subtrees up) (term_at table a) (term_at table b) later (within_subtrees up)).1.1 in (
+    let under : Contains (subtrees up) later = within_itself theorems (subtrees up) later (within_choice (subtrees up) (term_at table a) (term_at table b) later (within_subtrees up)).1.1 in (
       subst (λ (x : CoreTree). Contains (subtrees x) later) (sym is) under,
       (
-        λ s c. elim (subterm_cases laws now s c) [
+        λ s c. elim (subterm_cases theorems now s c) [
           | inl e ↦ inl e
           | inr deeper ↦ inr (by s deeper.0 (subst (λ (x : CoreTree). Contains (tree_children x) deeper.0) is deeper.1.0) deeper.1.1)
         ],
@@ -179,9 +179,9 @@ choice_rises laws table a b now later ends whole ordered a_in b_in is r =
   where
     by : (s u : CoreTree) → Contains (term_at table a ∷ (term_at table b ∷ (later ∷ []))) u → Contains (subtrees u) s → Contains (subtrees later) s ⊎ HasTree table s
     by s u inside c = elim (Contains-cons (term_at table a) (term_at table b ∷ (later ∷ [])) u inside) [
-      | inl e ↦ inr (has_subterm laws table (term_at table a) s ordered (a, (a_in, refl)) (subst (λ (x : CoreTree). Contains (subtrees x) s) (sym e) c))
+      | inl e ↦ inr (has_subterm theorems table (term_at table a) s ordered (a, (a_in, refl)) (subst (λ (x : CoreTree). Contains (subtrees x) s) (sym e) c))
       | inr second ↦ elim (Contains-cons (term_at table b) (later ∷ []) u second) [
-        | inl e ↦ inr (has_subterm laws table (term_at table b) s ordered (b, (b_in, refl)) (subst (λ (x : CoreTree). Contains (subtrees x) s) (sym e) c))
+        | inl e ↦ inr (has_subterm theorems table (term_at table b) s ordered (b, (b_in, refl)) (subst (λ (x : CoreTree). Contains (subtrees x) s) (sym e) c))
         | inr third ↦ elim (Contains-cons later [] u third) [
           | inl e ↦ inl (subst (λ (x : CoreTree). Contains (subtrees x) s) (sym e) c)
           | inr none ↦ absurd (Contains-none u none)
@@ -218,7 +218,7 @@ module _ (d : Declarations) (bodies : List Formula) (n : ℕ) (old table : Terms
               ∙ ap (λ (xs : List CoreTree). f.begun ++ (xs ++ f.ends)) s.makes
               ∙ regroup f.begun s.begun (making_cases d (defined d bodies n) trees tree (c ∷ earlier) rest) now f.ends;
           order = makes_then f.begun s.begun old table new f.order s.order;
-          rises = choice_rises s.kept.laws new g.condition g.body now later f.ends (compiled_cases d (given d bodies n) trees tree [] all) s.kept.ordered s.condition s.body s.same (rises_stay s.kept.laws table new now f.ends (compiled_cases d (given d bodies n) trees tree [] all) s.grown s.kept.ordered f.rises);
+          rises = choice_rises s.kept.theorems new g.condition g.body now later f.ends (compiled_cases d (given d bodies n) trees tree [] all) s.kept.ordered s.condition s.body s.same (rises_stay s.kept.theorems table new now f.ends (compiled_cases d (given d bodies n) trees tree [] all) s.grown s.kept.ordered f.rises);
         };
     lighter = let k = h.lighter in omega (arith, k);
   }

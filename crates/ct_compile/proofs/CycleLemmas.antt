@@ -281,7 +281,7 @@ module _ (d : Declarations) (bodies : List Formula) (n : ℕ) (old table : Terms
       let all_made = made_each d defs trees all in
       let kept = f.ready.setting.kept in
       let operands : AreOperands d o (terms (f.done ++ one_made trees ∷ later)) = subst (λ (ps : List Made). AreOperands d o (terms ps)) f.all_done (subst (AreOperands d o) (sym (terms_each d defs trees all)) under.operands) in
-      let next = operator_next kept.laws d (one_made trees) later old table kept.ordered o f.done operands f.order in
+      let next = operator_next kept.theorems d (one_made trees) later old table kept.ordered o f.done operands f.order in
       waits_under d bodies rows n n old table new (made_by d o all_made).making next.0 (making d defs trees t) next.1.0 (λ allowed. Within allowed (tree_for trees)) (λ allowed. Within allowed (combined d o (compiled_all d (given d bodies n) trees all))) call (omega arith) next.2
       (ap (λ (ps : List Made). (made_by d o ps).making) f.all_done ∙ next.1.1)
       (λ allowed w. tree_within trees sorts each under allowed w) (one trees sorts s.0 s.2)

@@ -123,9 +123,9 @@ module _ (d : Declarations) (bodies : List Formula) (n : ℕ) (old : Terms) (env
   within : (trees : List CoreTree) (sorts : List SortId) (sort : SortId) (h : IsReady d bodies old n env (Match t cases) trees sorts sort) (allowed : List CoreTree) → Within allowed (compiled d (given d bodies n) trees (Match t cases)) → WithinWhere allowed (b ∷ []) (core trees ∷ [])
   within trees sorts sort h allowed w = (
     λ e s inside.
-        let laws = h.setting.kept.laws in
-        w s (laws.subterms_of_subterms (compiled d (given d bodies n) trees (Match t cases)) (core trees) s
-        (matched_under laws d uses (given d bodies n) trees sorts h.sorted.0 sort (core trees) [] cases (laws.used_subterm d bodies n h.setting.sound) h.sorted.4 (sym is ∙ e)) inside),
+        let theorems = h.setting.kept.theorems in
+        w s (theorems.subterms_of_subterms (compiled d (given d bodies n) trees (Match t cases)) (core trees) s
+        (matched_under theorems d uses (given d bodies n) trees sorts h.sorted.0 sort (core trees) [] cases (theorems.used_subterm d bodies n h.setting.sound) h.sorted.4 (sym is ∙ e)) inside),
     tt,
   )
 
@@ -177,7 +177,7 @@ module _ (d : Declarations) (bodies : List Formula) (n : ℕ) (old : Terms) (env
             sorted = h.sorted.4;
             some = h.sorted.3;
             bound = zip_first (IsBound mid) bs x (core trees) (all.core trees sorts (h.sorted.0 ∷ []) k) at;
-            fits = s.kept.laws.compiled_sorted d n (given d bodies n) trees sorts t h.sorted.0 s.consistent (s.kept.laws.calls_sorted d bodies n s.consistent s.sound) s.fitting h.mentions.0 h.sorted.1;
+            fits = s.kept.theorems.compiled_sorted d n (given d bodies n) trees sorts t h.sorted.0 s.consistent (s.kept.theorems.calls_sorted d bodies n s.consistent s.sound) s.fitting h.mentions.0 h.sorted.1;
             there = λ e. term_as b x (first_zip IsBoundAs (b ∷ []) x b bs refl all.flagged at) (is ∙ e);
             present = present_less (occurs_in_cases d uses [] cases) (occurs d uses (Match t cases)) env
                 (λ i e. or_right (matched_occurs d uses [] cases && occurs d uses t i) (occurs_in_cases d uses [] cases i) e) h.present;

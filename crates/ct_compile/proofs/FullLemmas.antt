@@ -52,7 +52,7 @@ module _ (d : Declarations) (allowed : List CoreTree) (old new : Terms) (grown :
   different (suc i) (suc j) t at_i at_j =
       let h = at_index new (length old) more i t at_i in
       let k = at_index new (length old) more j t at_j in
-      let same = kept.laws.one new (id (length old + i)) (id (length old + j)) kept.ordered kept.single (omega (arith, h.0, long)) (omega (arith, k.0, long)) (h.1 ∙ sym k.1) in
+      let same = kept.theorems.one new (id (length old + i)) (id (length old + j)) kept.ordered kept.single (omega (arith, h.0, long)) (omega (arith, k.0, long)) (h.1 ∙ sym k.1) in
       let number : length old + i ≡ length old + j = ap (λ (u : TermId). u.0) same in
       omega (arith, number)
 
@@ -67,7 +67,7 @@ module _ (d : Declarations) (allowed : List CoreTree) (old new : Terms) (grown :
       lacks.2 u (omega (arith, within, prefix_length old new grown)) (same_tree d old new u grown kept within ∙ is ∙ sym (same_Some lacks.0 t at))
   missing (suc i) t at u within is =
       let h = at_index new (length old) more i t at in
-      let same = kept.laws.one new u (id (length old + i)) kept.ordered kept.single (omega (arith, within, prefix_length old new grown)) (omega (arith, h.0, long)) (same_tree d old new u grown kept within ∙ is ∙ sym h.1) in
+      let same = kept.theorems.one new u (id (length old + i)) kept.ordered kept.single (omega (arith, within, prefix_length old new grown)) (omega (arith, h.0, long)) (same_tree d old new u grown kept within ∙ is ∙ sym h.1) in
       let number : u.0 ≡ length old + i = ap (λ (v : TermId). v.0) same in
       omega (arith, number, within)
 

@@ -10,7 +10,7 @@ use Rattle.ct_terms.specs.Formula.{Formula, Formulas, Cases, Var, Con, Sel, Test
 use Rattle.ct_terms.specs.Compiled.{fields_of, surely_fits, are_none, compiled, compiled_all, compiled_cases}
 use Rattle.ct_terms.specs.Occurrence.{count_of, field_count, any_below, occurs, occurs_in_some, occurs_in_bound, matched_occurs, occurs_in_cases, body_uses, uses_below, AreSameAt, AreBoundSame}
 use Rattle.ct_operators.specs.declared.operator.Operator.TheVariants.{Construct, Select, Inspect, Call, Negation, Conjunction, Disjunction, Exclusion, Implication, Equality, Inequality}
-use Rattle.ct_operators.specs.Laws.{Laws}
+use Rattle.ct_operators.specs.Theorems.{Theorems}
 use Rattle.ct_occurrence.specs.Plain.{is_plain, children_of}
 use Rattle.ct_operators.specs.Forms.{operator_for}
 use Rattle.ct_compile.specs.Ready.{given}
@@ -223,11 +223,11 @@ tested : (b : Bool) (x y v w : List CoreTree) → (b ≡ true → x ≡ v) → (
 tested true x y v w h k = h refl
 tested false x y v w h k = k refl
 
-module _ (laws : Laws) (d : Declarations) (bodies : List Formula) where
+module _ (theorems : Theorems) (d : Declarations) (bodies : List Formula) where
   body_makes_same : (n : ℕ) (o : Option Formula) (ts us : List CoreTree) → MakeSame (defined d bodies n) → AreBoundSame (body_uses d (uses_below d bodies n) o) ts us → body_makes d (defined d bodies n) o ts ≡ body_makes d (defined d bodies n) o us
   body_makes_same n None ts us same h = refl
   body_makes_same n (Some body) ts us same h =
-      making_same d (defined d bodies n) (λ t xs ys e. laws.occurring d (uses_below d bodies n) (given d bodies n) t xs ys (laws.used d bodies n) e) same body (bind ts []) (bind us [])
+      making_same d (defined d bodies n) (λ t xs ys e. theorems.occurring d (uses_below d bodies n) (given d bodies n) t xs ys (theorems.used d bodies n) e) same body (bind ts []) (bind us [])
       (bind_same (occurs d (uses_below d bodies n) body) ts us [] [] h (λ i e. refl))
 
   pub makes_same_below : (n : ℕ) → MakeSame (defined d bodies n)

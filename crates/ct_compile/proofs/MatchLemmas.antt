@@ -27,7 +27,7 @@ use Rattle.ct_compile.specs.declared.bound.Bound.{Bound}
 use Rattle.ct_compile.specs.declared.stop.Stop.{Stop}
 use Rattle.ct_compile.specs.Deferral.{ended, Defers, DefersCases}
 use Rattle.ct_compile.specs.declared.bound.Bound.TheVariants.{Term, Field, Absent}
-use Rattle.ct_operators.specs.Laws.{Laws}
+use Rattle.ct_operators.specs.Theorems.{Theorems}
 use Rattle.ct_operators.specs.Effect.{Stands, IsKept, IsPrefix, Within, Effect}
 use Rattle.ct_compile.specs.Ready.{given, IsBound, IsThere, ArePresent, IsReady, MayCompile, Compiles}
 use Rattle.ct_occurrence.specs.Marks.{listed, Rows}
@@ -126,9 +126,9 @@ pattern_bound : (d : Declarations) (table : Terms) (b : Bound) (tree : CoreTree)
 pattern_bound d table b tree Any h = (h, tt)
 pattern_bound d table b tree (Ctor c) h = fields_bound table b tree h (sels_of d c)
 
-pattern_fits : (laws : Laws) (d : Declarations) (tree : CoreTree) (side : SortId) (p : Pattern) (sorts : List SortId) → IsConsistent d → BindsSorts d side p sorts → HasTreeSort d tree side → AllZip (HasTreeSort d) (trees_by d p tree) sorts
-pattern_fits laws d tree side Any sorts consistent binds h = subst (λ (ss : List SortId). AllZip (HasTreeSort d) (tree ∷ []) ss) (sym binds) (h, tt)
-pattern_fits laws d tree side (Ctor c) sorts consistent binds h = laws.fields d c binds.0 tree sorts consistent binds.1 (subst (HasTreeSort d tree) (sym binds.2) h) binds.3
+pattern_fits : (theorems : Theorems) (d : Declarations) (tree : CoreTree) (side : SortId) (p : Pattern) (sorts : List SortId) → IsConsistent d → BindsSorts d side p sorts → HasTreeSort d tree side → AllZip (HasTreeSort d) (trees_by d p tree) sorts
+pattern_fits theorems d tree side Any sorts consistent binds h = subst (λ (ss : List SortId). AllZip (HasTreeSort d) (tree ∷ []) ss) (sym binds) (h, tt)
+pattern_fits theorems d tree side (Ctor c) sorts consistent binds h = theorems.fields d c binds.0 tree sorts consistent binds.1 (subst (HasTreeSort d tree) (sym binds.2) h) binds.3
 
 -- a test that holds below a bound
 below_any : (q : ℕ → Bool) (n j : ℕ) → j < n → q j ≡ true → any_below q n ≡ true
@@ -255,7 +255,7 @@ module _ (d : Declarations) (bodies : List Formula) (n : ℕ) (env : List Bound)
       sound = h.setting.sound;
       kept = h.setting.kept;
       bound = bind_zip (IsBound table) (bound_by d p matched) (trees_by d p tree) env trees (pattern_bound d table matched tree p h.bound) h.setting.bound;
-      fitting = bind_zip (HasTreeSort d) (trees_by d p tree) h.sorted.0.0 trees sorts (pattern_fits h.setting.kept.laws d tree side p h.sorted.0.0 h.setting.consistent h.sorted.0.1 h.fits) h.setting.fitting;
+      fitting = bind_zip (HasTreeSort d) (trees_by d p tree) h.sorted.0.0 trees sorts (pattern_fits h.setting.kept.theorems d tree side p h.sorted.0.0 h.setting.consistent h.sorted.0.1 h.fits) h.setting.fitting;
     };
     mentions = h.mentions.0;
     sorted = h.sorted.0.2;
@@ -328,7 +328,7 @@ module _ (d : Declarations) (bodies : List Formula) (n : ℕ) (env : List Bound)
 
     module _ (m1 : Terms) (full : Type 0) (tests : (tree : CoreTree) (allowed : List CoreTree) → IsBound old matched tree → Contains allowed (test c tree) → Effect d allowed old m1 full) where
       test_effect : (tree : CoreTree) (side : SortId) (trees : List CoreTree) (sorts : List SortId) (sort : SortId) (allowed : List CoreTree) → AreCases d bodies old n env matched earlier all tree side trees sorts sort → Within allowed (whole tree trees) → Effect d allowed old m1 full
-      test_effect tree side trees sorts sort allowed h w = tests tree allowed h.bound (within_itself h.setting.kept.laws allowed (test c tree) (within tree trees allowed w).0)
+      test_effect tree side trees sorts sort allowed h w = tests tree allowed h.bound (within_itself h.setting.kept.theorems allowed (test c tree) (within tree trees allowed w).0)
 
       pub test_failed : (x : TermError) → (IsErrOf {T = TermId} {E = TermError} (Err x) Full → full) → CompilesCases d bodies n old m1 env matched earlier all (Err x)
       test_failed x why = record {
@@ -349,7 +349,7 @@ module _ (d : Declarations) (bodies : List Formula) (n : ℕ) (env : List Bound)
       -- the test is made
       test_made : (a : TermId) → ((tree : CoreTree) → IsBound old matched tree → Stands m1 a (test c tree)) → (tree : CoreTree) (side : SortId) (trees : List CoreTree) (sorts : List SortId) (sort : SortId) → AreCases d bodies old n env matched earlier all tree side trees sorts sort → Makes old (test c tree ∷ []) m1
       test_made a made tree side trees sorts sort h =
-          makes_one d old m1 (test c tree) full (tests tree (subtrees (test c tree)) h.bound (within_itself h.setting.kept.laws (subtrees (test c tree)) (test c tree) (within_subtrees (test c tree))))
+          makes_one d old m1 (test c tree) full (tests tree (subtrees (test c tree)) h.bound (within_itself h.setting.kept.theorems (subtrees (test c tree)) (test c tree) (within_subtrees (test c tree))))
           (term_tree old matched tree (tested_there d (uses_below d bodies n) env matched earlier body rest p c e h.there) h.bound, tt) (a, made tree h.bound)
 
       -- a call under the body is put off
@@ -429,7 +429,7 @@ cases_sorted d bodies table n env matched (with_case p body rest) earlier tree s
     body_sort =
         let k = body_ready d bodies n env matched earlier p body rest table tree side trees sorts sort h in
         let s = k.setting in
-        s.kept.laws.compiled_sorted d n (given d bodies n) (bind (trees_by d p tree) trees) (bind h.sorted.0.0 sorts) body sort s.consistent (s.kept.laws.calls_sorted d bodies n s.consistent s.sound) s.fitting k.mentions k.sorted
+        s.kept.theorems.compiled_sorted d n (given d bodies n) (bind (trees_by d p tree) trees) (bind h.sorted.0.0 sorts) body sort s.consistent (s.kept.theorems.calls_sorted d bodies n s.consistent s.sound) s.fitting k.mentions k.sorted
 
     by : (o : Option CtorId) → tested_by d earlier p (are_none rest) ≡ o → ((c : CtorId) → tested_by d earlier p (are_none rest) ≡ Some c → HasTreeSort d (compiled_cases d (given d bodies n) trees tree (c ∷ earlier) rest) sort) → HasTreeSort d (compiled_cases d (given d bodies n) trees tree earlier (with_case p body rest)) sort
     by None e later = subst (λ (x : CoreTree). HasTreeSort d x sort) (sym (case_none d (given d bodies n) trees tree earlier body rest p e)) body_sort
@@ -449,19 +449,19 @@ sel_there q t (s ∷ sels) env h = by (q (length sels)) refl (λ k. sel_there q 
     by false e rest = rest (sym (ap (λ (b : Bool). b || any_below q (length sels)) e) ∙ h)
 
 -- where it occurs in the cases it is a subterm of their core term
-pub matched_under : (laws : Laws) (d : Declarations) (uses : DefId → ℕ → Bool) (call : DefId → List CoreTree → CoreTree) (env : List CoreTree) (sorts : List SortId) (side sort : SortId) (t : CoreTree) (earlier : List CtorId) (cases : Cases) → GiveUsed uses call → AreSortedCases d sorts side cases sort → matched_occurs d uses earlier cases ≡ true → Contains (subtrees (compiled_cases d call env t earlier cases)) t
-matched_under laws d uses call env sorts side sort t earlier no_cases give h o = absurd (true≢false (sym o))
-matched_under laws d uses call env sorts side sort t earlier (with_case Any body rest) give h o =
-    laws.occurring_subterm d uses call (t ∷ env) (bind h.0.0 sorts) body sort 0 t give h.0.2 o refl
-matched_under laws d uses call env sorts side sort t earlier (with_case (Ctor c) body rest) give h o = by (surely_fits d earlier c || are_none rest) refl
+pub matched_under : (theorems : Theorems) (d : Declarations) (uses : DefId → ℕ → Bool) (call : DefId → List CoreTree → CoreTree) (env : List CoreTree) (sorts : List SortId) (side sort : SortId) (t : CoreTree) (earlier : List CtorId) (cases : Cases) → GiveUsed uses call → AreSortedCases d sorts side cases sort → matched_occurs d uses earlier cases ≡ true → Contains (subtrees (compiled_cases d call env t earlier cases)) t
+matched_under theorems d uses call env sorts side sort t earlier no_cases give h o = absurd (true≢false (sym o))
+matched_under theorems d uses call env sorts side sort t earlier (with_case Any body rest) give h o =
+    theorems.occurring_subterm d uses call (t ∷ env) (bind h.0.0 sorts) body sort 0 t give h.0.2 o refl
+matched_under theorems d uses call env sorts side sort t earlier (with_case (Ctor c) body rest) give h o = by (surely_fits d earlier c || are_none rest) refl
   where
     by : (x : Bool) → (surely_fits d earlier c || are_none rest) ≡ x → Contains (subtrees (if surely_fits d earlier c || are_none rest then (compiled d call (bind (fields_of d c t) env) body) else choice (test c t) (compiled d call (bind (fields_of d c t) env) body) (compiled_cases d call env t (c ∷ earlier) rest))) t
     by true e =
         let f = sel_there (occurs d uses body) t (sels_of d c) env (sym (ap (λ (x : Bool). not x || any_below (occurs d uses body) (field_count d c)) e) ∙ o) in
-        let inside : Contains (subtrees (compiled d call (bind (fields_of d c t) env) body)) (sel f.1 t) = laws.occurring_subterm d uses call (bind (fields_of d c t) env) (bind h.0.0 sorts) body sort f.0 (sel f.1 t) give h.0.2 f.2 f.3 in
+        let inside : Contains (subtrees (compiled d call (bind (fields_of d c t) env) body)) (sel f.1 t) = theorems.occurring_subterm d uses call (bind (fields_of d c t) env) (bind h.0.0 sorts) body sort f.0 (sel f.1 t) give h.0.2 f.2 f.3 in
         subst (λ (x : Bool). Contains (subtrees (if x then (compiled d call (bind (fields_of d c t) env) body) else choice (test c t) (compiled d call (bind (fields_of d c t) env) body) (compiled_cases d call env t (c ∷ earlier) rest))) t) (sym e)
-        (laws.subterms_of_subterms (compiled d call (bind (fields_of d c t) env) body) (sel f.1 t) t inside (Contains-rest (sel f.1 t) (subtrees t) t (within_itself laws (subtrees t) t (within_subtrees t))))
+        (theorems.subterms_of_subterms (compiled d call (bind (fields_of d c t) env) body) (sel f.1 t) t inside (Contains-rest (sel f.1 t) (subtrees t) t (within_itself theorems (subtrees t) t (within_subtrees t))))
     by false e =
         let whole = choice (test c t) (compiled d call (bind (fields_of d c t) env) body) (compiled_cases d call env t (c ∷ earlier) rest) in
         subst (λ (x : Bool). Contains (subtrees (if x then (compiled d call (bind (fields_of d c t) env) body) else choice (test c t) (compiled d call (bind (fields_of d c t) env) body) (compiled_cases d call env t (c ∷ earlier) rest))) t) (sym e)
-        (within_itself laws (subtrees whole) t (within_test (subtrees whole) c t (within_choice (subtrees whole) (test c t) (compiled d call (bind (fields_of d c t) env) body) (compiled_cases d call env t (c ∷ earlier) rest) (within_subtrees whole)).0))
+        (within_itself theorems (subtrees whole) t (within_test (subtrees whole) c t (within_choice (subtrees whole) (test c t) (compiled d call (bind (fields_of d c t) env) body) (compiled_cases d call env t (c ∷ earlier) rest) (within_subtrees whole)).0))

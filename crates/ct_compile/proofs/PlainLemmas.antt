@@ -20,13 +20,13 @@ module _ (d : Declarations) (bodies : List Formula) (table : Terms) (n : ℕ) (e
   pub whole_sorted : (t : Formula) (sort : SortId) → IsReady d bodies table n env t trees sorts sort → HasTreeSort d (core t) sort
   whole_sorted t sort h =
       let s = h.setting in
-      s.kept.laws.compiled_sorted d n (given d bodies n) trees sorts t sort s.consistent (s.kept.laws.calls_sorted d bodies n s.consistent s.sound) s.fitting h.mentions h.sorted
+      s.kept.theorems.compiled_sorted d n (given d bodies n) trees sorts t sort s.consistent (s.kept.theorems.calls_sorted d bodies n s.consistent s.sound) s.fitting h.mentions h.sorted
 
   all_sorted : (t : Formula) (sort : SortId) → IsReady d bodies table n env t trees sorts sort → (ts : Formulas) (side : SortId) → AllMentionBelow n ts → AreOfSort d sorts ts side → AllHaveSort d side (compiled_all d (given d bodies n) trees ts)
   all_sorted t sort h no_formulas side mentions of = tt
   all_sorted t sort h (with_formula u us) side mentions of =
       let s = h.setting in (
-        s.kept.laws.compiled_sorted d n (given d bodies n) trees sorts u side s.consistent (s.kept.laws.calls_sorted d bodies n s.consistent s.sound) s.fitting mentions.0 of.0,
+        s.kept.theorems.compiled_sorted d n (given d bodies n) trees sorts u side s.consistent (s.kept.theorems.calls_sorted d bodies n s.consistent s.sound) s.fitting mentions.0 of.0,
         all_sorted t sort h us side mentions.1 of.1,
       )
 

@@ -69,7 +69,7 @@ parts_fit d bodies table n env trees sorts s no_formulas [] mentions sorted = tt
 parts_fit d bodies table n env trees sorts s no_formulas (x ∷ each) mentions sorted = absurd sorted
 parts_fit d bodies table n env trees sorts s (with_formula t ts) [] mentions sorted = absurd sorted
 parts_fit d bodies table n env trees sorts s (with_formula t ts) (x ∷ each) mentions sorted = (
-  s.kept.laws.compiled_sorted d n (given d bodies n) trees sorts t x s.consistent (s.kept.laws.calls_sorted d bodies n s.consistent s.sound) s.fitting mentions.0 sorted.0,
+  s.kept.theorems.compiled_sorted d n (given d bodies n) trees sorts t x s.consistent (s.kept.theorems.calls_sorted d bodies n s.consistent s.sound) s.fitting mentions.0 sorted.0,
   parts_fit d bodies table n env trees sorts s ts each mentions.1 sorted.1,
 )
 
@@ -88,13 +88,13 @@ module _ (d : Declarations) (bodies : List Formula) (n m : ℕ) (old : Terms) (e
   within_parts : (trees : List CoreTree) (sorts : List SortId) (sort : SortId) (h : IsReady d bodies old n env t trees sorts sort) (allowed : List CoreTree) → Within allowed (compiled d (given d bodies n) trees t) → WithinWhere allowed flags (parts trees)
   within_parts trees sorts sort h allowed w =
       let u = view trees sorts sort h in
-      let laws = h.setting.kept.laws in
+      let theorems = h.setting.kept.theorems in
       let is : flags ≡ listed p (length (parts trees)) = u.flags_are ∙ ap (listed p) (sym (count_terms d (given d bodies n) trees ts)) in
       subst (λ (bs : List Bool). WithinWhere allowed bs (parts trees)) (sym is)
       (where_within allowed p (parts trees) u.others (λ i x e at s inside.
       w s (subst (λ (y : CoreTree). Contains (subtrees y) s) (sym u.same)
-      (laws.subterms_of_subterms _ x s
-      (laws.occurring_subterm d (uses_below d bodies m) (given d bodies m) (bind (parts trees) u.others) (bind u.each u.other_sorts) body sort i x (laws.used_subterm d bodies m h.setting.sound) u.sorted e at) inside))))
+      (theorems.subterms_of_subterms _ x s
+      (theorems.occurring_subterm d (uses_below d bodies m) (given d bodies m) (bind (parts trees) u.others) (bind u.each u.other_sorts) body sort i x (theorems.used_subterm d bodies m h.setting.sound) u.sorted e at) inside))))
 
   pub under_failed : (new : Terms) (e : TermError) → Binds d bodies n old new env flags ts (Err e) → Compiles d bodies n old new env t (Err e)
   under_failed new e all = record {
@@ -204,7 +204,7 @@ module _ (d : Declarations) (bodies : List Formula) (n m : ℕ) (old : Terms) (e
     pub under_has : (new : Terms) (x : TermId) → IsKept d new → Compiles d bodies m mid new (bind bs outer) body (Ok x) → (trees : List CoreTree) (sorts : List SortId) (sort : SortId) (h : IsReady d bodies old n env t trees sorts sort) → HasTrees new (making d (defined d bodies m) (bind (parts trees) (view trees sorts sort h).others) body)
     under_has new x kept one trees sorts sort h =
         let u = view trees sorts sort h in
-        makes_has kept.laws (making d (defined d bodies m) (bind (parts trees) u.others) body) mid new kept.ordered (one.order (bind (parts trees) u.others) (bind u.each u.other_sorts) sort (body_ready trees sorts sort h))
+        makes_has kept.theorems (making d (defined d bodies m) (bind (parts trees) u.others) body) mid new kept.ordered (one.order (bind (parts trees) u.others) (bind u.each u.other_sorts) sort (body_ready trees sorts sort h))
 
     -- the same, and then there is no memory to put it down
     pub under_lost : (new : Terms) (x : TermId) (e : TermError) → e ≡ NoMemory → Compiles d bodies m mid new (bind bs outer) body (Ok x) → Compiles d bodies n old new env t (Err e)

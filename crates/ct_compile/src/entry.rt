@@ -14,7 +14,7 @@ ghost use Rattle.ct_compile.specs.Making.{making_of};
 use crate::deferring::compile_deferring;
 use crate::scope::Scope;
 use ct_occurrence::{no_definitions, notes_on, work_out_named};
-use ct_operators::laws;
+use ct_operators::term_theorems;
 use ct_terms::{TermError, TermId, TermTable, Tree};
 use indexmap::IndexMap;
 use std::alloc::Global;
@@ -58,7 +58,7 @@ pub fn compile(
 {
     // These say what a formula needs to be compiled: the theorems, that the declarations agree with
     // each other, and that terms come after the terms under them.
-    laws();
+    term_theorems();
     scope.sig.sorts();
     table.len();
     let below = scope.bodies.len();

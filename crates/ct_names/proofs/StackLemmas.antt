@@ -10,7 +10,7 @@ use Rattle.ct_terms.specs.Formula.{bind}
 use Rattle.ct_sorts.specs.declared.ids.SortId.{SortId}
 use Rattle.ct_names.specs.declared.stack.Entry.{Entry}
 use Rattle.ct_names.specs.declared.stack.Place.{Place}
-use Rattle.ct_names.specs.declared.variables.Bound.{Bound}
+use Rattle.ct_names.specs.declared.variables.BoundVariable.{BoundVariable}
 use Rattle.ct_names.specs.Bounds.{variable_of, held_name}
 use Rattle.ct_names.specs.Variables.{Variable, is_named, find, find_from}
 use Rattle.ct_names.specs.Stack.{place_of, shadowed_by, flat, placed, placed_at, IsUnplaced, variables_of, AreShadowing, ArePlaces, IsStack}
@@ -115,7 +115,7 @@ placed-put places more own place updates other = ap flat (hash_map_updates_str o
 abbrev Puts : {S : Type 0} → IndexMap (Bor (List ℕ)) (Option Place) S → IndexMap (Bor (List ℕ)) (Option Place) S → Option (List ℕ) → Option Place → Type 0
 Puts places more name place = (other : List ℕ) → placed more other ≡ (if is_named other name then place else placed places other)
 
-pub IsStack-push : {S : Type 0} (entries : List Entry) (places more : IndexMap (Bor (List ℕ)) (Option Place) S) (bound : Bound) (shadowed : Option Place) (before : ℕ) → IsStack entries places → before ≡ length entries → shadowed ≡ placed_at places (held_name bound.name) → Puts places more (held_name bound.name) (Some (record { before = before; sort = bound.sort })) → IsStack (entries ++ (record { bound = bound; shadowed = shadowed }) ∷ []) more
+pub IsStack-push : {S : Type 0} (entries : List Entry) (places more : IndexMap (Bor (List ℕ)) (Option Place) S) (bound : BoundVariable) (shadowed : Option Place) (before : ℕ) → IsStack entries places → before ≡ length entries → shadowed ≡ placed_at places (held_name bound.name) → Puts places more (held_name bound.name) (Some (record { before = before; sort = bound.sort })) → IsStack (entries ++ (record { bound = bound; shadowed = shadowed }) ∷ []) more
 IsStack-push entries places more bound shadowed before is at had writes =
     let es = bind entries [] in
     let name = held_name bound.name in

@@ -2,7 +2,7 @@
 use Rattle.std.specs.Prelude.{ℕ, List, [], map, Option, Some, option_map}
 use Rattle.std.specs.Borrow.{Bor}
 use Rattle.ct_terms.specs.Formula.{bind}
-use Rattle.ct_names.specs.declared.variables.Bound.{Bound}
+use Rattle.ct_names.specs.declared.variables.BoundVariable.{BoundVariable}
 use Rattle.ct_names.specs.declared.variables.Param.{Param}
 use Rattle.ct_names.specs.Variables.{Variable}
 use Rattle.ct_terms.specs.declared.tree.Pattern.{Pattern}
@@ -14,7 +14,7 @@ abbrev pub held_name : Option (Bor (List ℕ)) → Option (List ℕ)
 held_name name = option_map (λ (text : Bor (List ℕ)). text.now) name
 
 -- the variable that is held
-abbrev pub variable_of : Bound → Variable
+abbrev pub variable_of : BoundVariable → Variable
 variable_of b = record { name = held_name b.name; sort = b.sort }
 
 -- the variable that a parameter is
@@ -26,5 +26,5 @@ abbrev pub parameters : List Param → List Variable
 parameters params = bind (map variable_of_param params) []
 
 -- the pattern with the variables that it binds
-abbrev pub held_binding : Pattern × Vec Bound → Binding
+abbrev pub held_binding : Pattern × Vec BoundVariable → Binding
 held_binding b = (b.0, map variable_of b.1.items)

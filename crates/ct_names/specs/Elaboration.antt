@@ -16,8 +16,8 @@ use Rattle.ct_sexpr.specs.Readable.{name_of_atom}
 use Rattle.ct_terms.specs.declared.tree.Pattern.{Pattern}
 use Rattle.ct_terms.specs.Formula as formula
 use Rattle.ct_terms.specs.Formula.{Formula, Formulas, Cases, no_formulas, with_formula, no_cases, with_case, bind}
-use Rattle.ct_names.specs.declared.operator.Operator.{Operator}
-use Rattle.ct_names.specs.declared.operator.Operator.TheVariants.{Not, And, Or, Xor, Implies, Equal, Distinct, Ite}
+use Rattle.ct_names.specs.declared.operator.CoreOperator.{CoreOperator}
+use Rattle.ct_names.specs.declared.operator.CoreOperator.TheVariants.{Not, And, Or, Xor, Implies, Equal, Distinct, Ite}
 use Rattle.ct_names.specs.Refusals.{unknown_sort, unknown_symbol, wrong_count, wrong_sort, not_exhaustive, repeated_variable, out_of_scope}
 use Rattle.ct_names.specs.Outcome.{Outcome, Sorted, and_then, unless_refused, is_sort, of_sort}
 use Rattle.ct_names.specs.Parts.{Part, Parts, atom_part, list_part, no_parts, with_part, count, name_of}
@@ -44,7 +44,7 @@ abbrev pub lone_symbol : Declarations → Symbol → Outcome Sorted
 lone_symbol d s = unless_refused (length (argument_sorts d s) == 0) wrong_count (Ok (applied s no_formulas, result_sort d s))
 
 -- a name that is no variable and no symbol: an operator takes arguments
-abbrev pub lone_operator : Option Operator → Outcome Sorted
+abbrev pub lone_operator : Option CoreOperator → Outcome Sorted
 lone_operator None = Err unknown_symbol
 lone_operator (Some o) = Err wrong_count
 
@@ -64,7 +64,7 @@ lone d scope None = Err out_of_scope
 lone d scope (Some name) = lone_name d name (find scope name)
 
 -- the fewest and the most arguments of an operator; none where there may be any number
-abbrev pub fewest : Operator → ℕ
+abbrev pub fewest : CoreOperator → ℕ
 fewest Not = 1
 fewest And = 1
 fewest Or = 1
@@ -74,7 +74,7 @@ fewest Equal = 2
 fewest Distinct = 2
 fewest Ite = 3
 
-abbrev pub takes_at_most : Operator → ℕ → Bool
+abbrev pub takes_at_most : CoreOperator → ℕ → Bool
 takes_at_most Not n = nat_le n 1
 takes_at_most Ite n = nat_le n 3
 takes_at_most And n = true
@@ -84,7 +84,7 @@ takes_at_most Implies n = true
 takes_at_most Equal n = true
 takes_at_most Distinct n = true
 
-abbrev pub takes : Operator → ℕ → Bool
+abbrev pub takes : CoreOperator → ℕ → Bool
 takes o n = nat_le (fewest o) n && takes_at_most o n
 
 -- a negation of the first of the formulas, which is the only one
@@ -93,7 +93,7 @@ negated no_formulas = formula.And no_formulas
 negated (with_formula t ts) = formula.Not t
 
 -- the formula of a Boolean operator
-abbrev pub connected : Operator → Formulas → Formula
+abbrev pub connected : CoreOperator → Formulas → Formula
 connected Not ts = negated ts
 connected And ts = formula.And ts
 connected Or ts = formula.Or ts
@@ -218,11 +218,11 @@ choice d scope (with_part c (with_part t (with_part u no_parts))) =
 choice d scope ps = Err wrong_count
 
 -- a connective of Boolean arguments
-abbrev pub connective : Declarations → List Variable → Operator → Parts → Outcome Sorted
+abbrev pub connective : Declarations → List Variable → CoreOperator → Parts → Outcome Sorted
 connective d scope o ps = and_then (all_of_sort d scope bool_sort ps) (λ ts. Ok (connected o ts, bool_sort))
 
 -- an operator, of as many arguments as it takes
-abbrev pub operated : Declarations → List Variable → Operator → Parts → Outcome Sorted
+abbrev pub operated : Declarations → List Variable → CoreOperator → Parts → Outcome Sorted
 operated d scope Not ps = connective d scope Not ps
 operated d scope And ps = connective d scope And ps
 operated d scope Or ps = connective d scope Or ps
@@ -241,7 +241,7 @@ applied_symbol d scope s ps =
     Ok (applied s ts, result_sort d s))))
 
 -- an operator or a symbol, with arguments
-abbrev pub global : Declarations → List Variable → Option Operator → Option Symbol → Parts → Outcome Sorted
+abbrev pub global : Declarations → List Variable → Option CoreOperator → Option Symbol → Parts → Outcome Sorted
 global d scope (Some o) s ps = unless_refused (takes o (count ps)) wrong_count (operated d scope o ps)
 global d scope None None ps = Err unknown_symbol
 global d scope None (Some s) ps = applied_symbol d scope s ps

@@ -8,8 +8,8 @@ use Rattle.ct_sorts.specs.declared.ids.Symbol.{Symbol}
 use Rattle.ct_sorts.specs.declared.ids.Symbol.TheVariants.{Ctor, Sel, Fun, Def}
 use Rattle.ct_sorts.specs.Declarations.{Declarations, Constructor, Selector, Function, sort_names, ctor_names, sel_names, function_names, definition_names}
 use Rattle.ct_terms.specs.Formula.{Formula, Formulas, Con, Apply, Def as DefFormula, Sel as SelFormula, no_formulas, with_formula}
-use Rattle.ct_names.specs.declared.operator.Operator.{Operator}
-use Rattle.ct_names.specs.declared.operator.Operator.TheVariants.{Not, And, Or, Xor, Implies, Equal, Distinct, Ite}
+use Rattle.ct_names.specs.declared.operator.CoreOperator.{CoreOperator}
+use Rattle.ct_names.specs.declared.operator.CoreOperator.TheVariants.{Not, And, Or, Xor, Implies, Equal, Distinct, Ite}
 
 -- the sort with this name
 abbrev pub sort_of_name : Declarations → List ℕ → Option SortId
@@ -41,17 +41,17 @@ abbrev pub ctor_named : Declarations → List ℕ → Option CtorId
 ctor_named d name = ctor_of (symbol_of d name)
 
 -- the operators by their words
-abbrev pub operators : List (List ℕ × Operator)
+abbrev pub operators : List (List ℕ × CoreOperator)
 operators =
     (codes "not", Not) ∷ ((codes "and", And) ∷ ((codes "or", Or) ∷ ((codes "xor", Xor) ∷ ((codes "=>", Implies) ∷ ((codes "=", Equal) ∷ ((codes "distinct", Distinct) ∷ ((codes "ite", Ite) ∷ [])))))))
 
 -- the operator that stands beside the word in the list
-abbrev pub operator_in : List (List ℕ × Operator) → List ℕ → Option Operator
+abbrev pub operator_in : List (List ℕ × CoreOperator) → List ℕ → Option CoreOperator
 operator_in [] word = None
 operator_in (entry ∷ entries) word = if bytes_eq entry.0 word then Some entry.1 else operator_in entries word
 
 -- the operator that the word is
-abbrev pub operator_of : List ℕ → Option Operator
+abbrev pub operator_of : List ℕ → Option CoreOperator
 operator_of word = operator_in operators word
 
 -- the sort of a field, and those of all fields of a constructor; every number that is asked for is declared

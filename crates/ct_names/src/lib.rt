@@ -16,7 +16,7 @@ mod variables;
 pub use atoms::{is_word, name_of, named_sort};
 pub use error::CheckError;
 pub use forms::{are_attributes, are_bindings, are_cases};
-pub use operator::Operator;
+pub use operator::CoreOperator;
 pub use patterns::{bound_names, bounds, matchable, pattern};
 pub use refusals::{
     FOREIGN_PATTERN, NOT_EXHAUSTIVE, OUT_OF_SCOPE, REPEATED_VARIABLE, UNKNOWN_SORT, UNKNOWN_SYMBOL,
@@ -27,4 +27,4 @@ pub use stack::Variables;
 pub use symbols::{
     argument_count, argument_sorts, ctor_named, operator_of, result_sort, symbol_named,
 };
-pub use variables::{Bound, Found, Param, parameters};
+pub use variables::{BoundVariable, Found, Param, parameters};

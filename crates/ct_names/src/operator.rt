@@ -2,7 +2,7 @@
 
 /// An operator of the core theory (SMT-LIB 2.7, section 3.7.1, theory Core).
 #[derive(Clone, Copy, Debug, PartialEq, Eq)]
-pub enum Operator {
+pub enum CoreOperator {
     /// `not`, of one.
     Not,
     /// `and`, of one or more.

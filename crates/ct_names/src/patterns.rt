@@ -21,7 +21,7 @@ use crate::refusals::{
 };
 use crate::repeats::has_repeated;
 use crate::symbols::{ctor_fields, ctor_named};
-use crate::variables::Bound;
+use crate::variables::BoundVariable;
 use ct_sexpr::Sexpr;
 use ct_sorts::{CtorId, Kind, Signature, SortId};
 use ct_terms::Pattern;
@@ -38,7 +38,7 @@ pub fn pattern<'e>(
     sig: &Signature,
     side: SortId,
     expr: &'e Sexpr,
-) -> Result<(Pattern, Vec<Bound<'e>>), CheckError>
+) -> Result<(Pattern, Vec<BoundVariable<'e>>), CheckError>
     ensures value { Answers held_binding (pattern sig.now side (part_of sig.now
         (expression_of expr.now))) result }
 {
@@ -61,7 +61,7 @@ fn leaf_pattern<'e>(
     sig: &Signature,
     side: SortId,
     expr: &'e Sexpr,
-) -> Result<(Pattern, Vec<Bound<'e>>), CheckError>
+) -> Result<(Pattern, Vec<BoundVariable<'e>>), CheckError>
     ensures value { Answers held_binding (leaf_pattern sig.now side (name_of (part_of sig.now
         (expression_of expr.now)))) result }
 {
@@ -77,7 +77,7 @@ fn lone_pattern<'e>(
     sig: &Signature,
     side: SortId,
     name: &'e [u8],
-) -> Result<(Pattern, Vec<Bound<'e>>), CheckError>
+) -> Result<(Pattern, Vec<BoundVariable<'e>>), CheckError>
     ensures value { Answers held_binding (lone_pattern sig.now side name.now
         (ctor_named sig.now name.now)) result }
 {
@@ -92,12 +92,12 @@ fn any_pattern<'e>(
     alloc: Global,
     side: SortId,
     name: Option<&'e [u8]>,
-) -> Result<(Pattern, Vec<Bound<'e>>), CheckError>
+) -> Result<(Pattern, Vec<BoundVariable<'e>>), CheckError>
     ensures ok { IfOk result (λ b. held_binding b ≡ any_pattern side (held_name name.entry)) }
     ensures err { IfErr result (λ e. e ≡ CheckError.NoMemory) }
 {
     let mut variables = Vec::new(alloc);
-    variables.push(Bound { name, sort: side })?;
+    variables.push(BoundVariable { name, sort: side })?;
     Ok((Pattern::Any, variables))
 }
 
@@ -107,7 +107,7 @@ fn lone_ctor<'e>(
     sig: &Signature,
     side: SortId,
     c: CtorId,
-) -> Result<(Pattern, Vec<Bound<'e>>), CheckError>
+) -> Result<(Pattern, Vec<BoundVariable<'e>>), CheckError>
     requires inside { IsSymbol sig.now (Ctor c) }
     ensures value { Answers held_binding (lone_ctor sig.now side c) result }
 {
@@ -126,7 +126,7 @@ fn list_pattern<'e>(
     sig: &Signature,
     side: SortId,
     items: &'e [Sexpr],
-) -> Result<(Pattern, Vec<Bound<'e>>), CheckError>
+) -> Result<(Pattern, Vec<BoundVariable<'e>>), CheckError>
     ensures value { (m : List Variable → Outcome Sorted)
         → Answers held_binding (pattern sig.now side (list_part (parts_of sig.now
         (expressions_of items.now)) m)) result }
@@ -167,7 +167,7 @@ fn ctor_with<'e>(
     side: SortId,
     names: &[Option<&'e [u8]>],
     c: CtorId,
-) -> Result<(Pattern, Vec<Bound<'e>>), CheckError>
+) -> Result<(Pattern, Vec<BoundVariable<'e>>), CheckError>
     requires inside { IsSymbol sig.now (Ctor c) }
     ensures value { Answers held_binding (ctor_with sig.now side (map held_name names.now) c)
         result }
@@ -240,7 +240,7 @@ pub fn bounds<'e>(
     alloc: Global,
     names: &[Option<&'e [u8]>],
     sorts: &[SortId],
-) -> Result<Vec<Bound<'e>>, CheckError>
+) -> Result<Vec<BoundVariable<'e>>, CheckError>
     ensures ok { IfOk result (λ bounds. map variable_of bounds.items ≡ variables
         (map held_name names.now) sorts.now) }
     ensures err { IfErr result (λ e. e ≡ CheckError.NoMemory) }
@@ -252,7 +252,7 @@ pub fn bounds<'e>(
         let [sort, more_sorts @ ..] = sorts_left else {
             return Ok(bounds);
         };
-        bounds.push(Bound {
+        bounds.push(BoundVariable {
             name: *name,
             sort: *sort,
         })?;

@@ -7,7 +7,7 @@ ghost use Rattle.ct_names.specs.Stack.{placed, placed_at, flat, IsUnplaced};
 ghost use Rattle.ct_names.specs.declared.variables.Found.{Found};
 
 use crate::error::CheckError;
-use crate::variables::{Bound, Found};
+use crate::variables::{BoundVariable, Found};
 use ct_sorts::SortId;
 use indexmap::IndexMap;
 use std::alloc::Global;
@@ -23,7 +23,7 @@ struct Place {
 /// A variable on the stack, with the place that its name had before.
 #[derive(Clone, Copy)]
 struct Entry<'e> {
-    bound: Bound<'e>,
+    bound: BoundVariable<'e>,
     shadowed: Option<Place>,
 }
 
@@ -79,7 +79,7 @@ impl<'e> Variables<'e> {
     }
 
     /// Binds a variable as the new innermost.
-    fn push(&mut self, variable: Bound<'e>) -> Result<(), CheckError>
+    fn push(&mut self, variable: BoundVariable<'e>) -> Result<(), CheckError>
         ensures pushed { OnOk result (self.new ≡ variable_of variable.entry ∷ self.old) }
         ensures unchanged { OnErr result (self.new ≡ self.old) }
         ensures err { IfErr result (λ e. e ≡ CheckError.NoMemory) }
@@ -120,7 +120,7 @@ impl<'e> Variables<'e> {
     }
 
     /// Binds variables in order, each as the new innermost, or none of them, where memory runs out.
-    pub fn enter(&mut self, inner: &[Bound<'e>]) -> Result<(), CheckError>
+    pub fn enter(&mut self, inner: &[BoundVariable<'e>]) -> Result<(), CheckError>
         ensures bound { OnOk result (self.new ≡ bind (map variable_of inner.now) self.old) }
         ensures unchanged { OnErr result (self.new ≡ self.old) }
         ensures err { IfErr result (λ e. e ≡ CheckError.NoMemory) }

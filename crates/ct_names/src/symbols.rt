@@ -6,7 +6,7 @@ ghost use Rattle.ct_names.specs.Symbols.{sort_of_name, symbol_of, ctor_named, ar
 ghost use Rattle.ct_sorts.specs.declared.ids.Symbol.TheVariants.{Ctor};
 
 use crate::error::CheckError;
-use crate::operator::Operator;
+use crate::operator::CoreOperator;
 use ct_sorts::{CtorId, Signature, SortId, Symbol, naming};
 use std::alloc::Global;
 
@@ -43,18 +43,18 @@ pub fn ctor_named(sig: &Signature, name: &[u8]) -> Option<CtorId>
 
 /// The operator that the word is: what an application has at its head, where no variable has this
 /// name.
-pub fn operator_of(word: &[u8]) -> Option<Operator>
+pub fn operator_of(word: &[u8]) -> Option<CoreOperator>
     ensures value { result ≡ operator_of word.now }
 {
     match word {
-        b"not" => Some(Operator::Not),
-        b"and" => Some(Operator::And),
-        b"or" => Some(Operator::Or),
-        b"xor" => Some(Operator::Xor),
-        b"=>" => Some(Operator::Implies),
-        b"=" => Some(Operator::Equal),
-        b"distinct" => Some(Operator::Distinct),
-        b"ite" => Some(Operator::Ite),
+        b"not" => Some(CoreOperator::Not),
+        b"and" => Some(CoreOperator::And),
+        b"or" => Some(CoreOperator::Or),
+        b"xor" => Some(CoreOperator::Xor),
+        b"=>" => Some(CoreOperator::Implies),
+        b"=" => Some(CoreOperator::Equal),
+        b"distinct" => Some(CoreOperator::Distinct),
+        b"ite" => Some(CoreOperator::Ite),
         _ => None,
     }
 }

@@ -18,7 +18,7 @@ pub struct Param {
 
 /// A variable as it is bound.
 #[derive(Clone, Copy)]
-pub struct Bound<'e> {
+pub struct BoundVariable<'e> {
     /// Its name, none where `_` was written.
     pub name: Option<&'e [u8]>,
     /// Its sort.
@@ -35,14 +35,14 @@ pub struct Found {
 }
 
 /// The parameters as variables, in order. It fails only where memory runs out.
-pub fn parameters<'e>(alloc: Global, params: &'e [Param]) -> Result<Vec<Bound<'e>>, CheckError>
+pub fn parameters<'e>(alloc: Global, params: &'e [Param]) -> Result<Vec<BoundVariable<'e>>, CheckError>
     ensures ok { IfOk result (λ variables. map variable_of variables.items
         ≡ map variable_of_param params.now) }
     ensures err { IfErr result (λ e. e ≡ CheckError.NoMemory) }
 {
     let mut variables = Vec::with_capacity(alloc, params.len())?;
     for param in params {
-        variables.push(Bound {
+        variables.push(BoundVariable {
             name: Some(param.name.as_slice()),
             sort: param.sort,
         })?;

@@ -83,11 +83,11 @@ module _ (d : Declarations) (old table : Terms) (guarded : List Guarded) (last t
 
   -- the next choice is a subterm of the whole
   pub choosing_inside : (allowed : List CoreTree) → Within allowed (chosen_from (term_at old) guarded (term_at old last)) → Contains allowed step
-  choosing_inside allowed w = within_itself h.kept.laws allowed step (within_chosen allowed (term_at table) more step (subst (Within allowed) (sym step_is) w))
+  choosing_inside allowed w = within_itself h.kept.theorems allowed step (within_chosen allowed (term_at table) more step (subst (Within allowed) (sym step_is) w))
 
   pub choosing_step : (new : Terms) (t : TermId) (full : Type 0) → Stands new t step → ((allowed : List CoreTree) → Contains allowed step → Effect d allowed table new full) → Choosing d old new guarded last t more
   choosing_step new t full stands effect =
-      let e = effect (subtrees step) (within_itself h.kept.laws (subtrees step) step (within_subtrees step)) in
+      let e = effect (subtrees step) (within_itself h.kept.theorems (subtrees step) step (within_subtrees step)) in
       let is : chosen_from (term_at new) more (term_at new t) ≡ chosen_from (term_at table) more step = ap (chosen_from (term_at new) more) stands.1 ∙ same_chosen d table new more step e.grown e.kept before.0 in
       record {
         kept = e.kept;

@@ -22,7 +22,7 @@ prefix_itself a = ([], sym (append-nil a))
 -- a tree stays at its number
 pub same_tree : (d : Declarations) (old new : Terms) (t : TermId) → IsPrefix old new → IsKept d new → t.0 < length old → term_at new t ≡ term_at old t
 same_tree d old new t grown kept within =
-    ap (λ (ts : Terms). term_at ts t) grown.1 ∙ kept.laws.longer old grown.0 t (subst AreOrdered grown.1 kept.ordered) within
+    ap (λ (ts : Terms). term_at ts t) grown.1 ∙ kept.theorems.longer old grown.0 t (subst AreOrdered grown.1 kept.ordered) within
 
 pub stands_stays : (d : Declarations) (old new : Terms) (t : TermId) (tree : CoreTree) → IsPrefix old new → IsKept d new → Stands old t tree → Stands new t tree
 stands_stays d old new t tree grown kept h = (omega (arith, h.0, prefix_length old new grown), same_tree d old new t grown kept h.0 ∙ h.1)

@@ -184,7 +184,7 @@ module _ (d : Declarations) (old : Terms) (before term : TermId) where
 
   module _ (new : Terms) (full : Type 0) (effect : (allowed : List CoreTree) → Contains allowed (equality d (term_at old before) (term_at old term)) → Effect d allowed old new full) where
     equality_effect : (us later allowed : List CoreTree) → IsFollowing d old Equality (Some before) term us later → Within allowed (combined d Equality (us ++ term_at old term ∷ later)) → Effect d allowed old new full
-    equality_effect us later allowed h w = effect allowed (subst (λ (u : CoreTree). Contains allowed (equality d u (term_at old term))) (sym h.leads.1.1) (within_itself h.kept.laws allowed _ (equality_within allowed d us (term_at old term) later h.leads.0 w)))
+    equality_effect us later allowed h w = effect allowed (subst (λ (u : CoreTree). Contains allowed (equality d u (term_at old term))) (sym h.leads.1.1) (within_itself h.kept.theorems allowed _ (equality_within allowed d us (term_at old term) later h.leads.0 w)))
 
     pub equality_failed : (e : TermError) (ends : Bool) → (IsErrOf {T = TermId} {E = TermError} (Err e) Full → full) → Follows d old new Equality (Some before) term ends (Err e)
     equality_failed e ends why = record {
@@ -201,7 +201,7 @@ module _ (d : Declarations) (old : Terms) (before term : TermId) where
       effect = λ us later allowed h more w. effect_because d allowed old new full _ (λ x. cc) (equality_effect us later allowed h w);
       order = λ us later h more last.
           let x = equality d (term_at old before) (term_at old term) in
-          let e = effect (subtrees x) (within_itself h.kept.laws (subtrees x) x (within_subtrees x)) in
+          let e = effect (subtrees x) (within_itself h.kept.theorems (subtrees x) x (within_subtrees x)) in
           subst (λ (xs : List CoreTree). Makes old xs new) (ap (λ (u : CoreTree). equality d u (term_at old term) ∷ []) h.leads.1.1 ∙ sym (between_equality d us (term_at old term) later h.leads.0))
           (makes_one d old new x full e (equality_under d old (term_at old before) (term_at old term) (before, (h.leads.1.0, refl)) (term, (h.inside, refl))) made);
     }
@@ -280,7 +280,7 @@ module _ (d : Declarations) (old : Terms) (term : TermId) where
     pub implication_failed : (lead : Option TermId) (e : TermError) → (IsErrOf {T = TermId} {E = TermError} (Err e) Full → full) → Follows d old new Implication lead term ends (Err e)
     implication_failed lead e why = record {
       next = λ us later h. tt;
-      effect = λ us later allowed h more w. effect_because d allowed old new full _ why (effect allowed (within_itself h.kept.laws allowed _ (implication_within allowed us (term_at old term) later (more more_come) w)));
+      effect = λ us later allowed h more w. effect_because d allowed old new full _ why (effect allowed (within_itself h.kept.theorems allowed _ (implication_within allowed us (term_at old term) later (more more_come) w)));
       order = λ us later h more last. tt;
     }
 
@@ -289,9 +289,9 @@ module _ (d : Declarations) (old : Terms) (term : TermId) where
       next = λ us later h.
           let e = effect (negation (term_at old term) ∷ []) (one_tree (negation (term_at old term))) in
           stands_as new term _ _ (sym (last_of_push us (term_at old term))) (stands_stays d old new term (term_at old term) e.grown e.kept (h.inside, refl));
-      effect = λ us later allowed h more w. effect_because d allowed old new full _ (λ x. cc) (effect allowed (within_itself h.kept.laws allowed _ (implication_within allowed us (term_at old term) later (more more_come) w)));
+      effect = λ us later allowed h more w. effect_because d allowed old new full _ (λ x. cc) (effect allowed (within_itself h.kept.theorems allowed _ (implication_within allowed us (term_at old term) later (more more_come) w)));
       order = λ us later h more last.
           let x = negation (term_at old term) in
           subst (λ (xs : List CoreTree). Makes old xs new) (sym (between_implication d us (term_at old term) later (more more_come)))
-          (makes_one d old new x full (effect (subtrees x) (within_itself h.kept.laws (subtrees x) x (within_subtrees x))) ((term, (h.inside, refl)), tt) made);
+          (makes_one d old new x full (effect (subtrees x) (within_itself h.kept.theorems (subtrees x) x (within_subtrees x))) ((term, (h.inside, refl)), tt) made);
     }

@@ -49,8 +49,8 @@ slice_get-push_cases (z ∷ zs) x y (suc i) e =
 pub sort_back : (d : Declarations) (table : Terms) (t : TermId) (sort : SortId) → IsKept d table → t.0 < length table → HasTreeSort d (term_at table t) sort → IsOfSort table t sort
 sort_back d table t sort kept within h =
     let at = slice_get-there table t.0 within in
-    let has : HasTreeSort d (term_at table t) at.0.1 = kept.laws.sorted d table t at.0.1 kept.ordered kept.sorted (at.0.0, at.1) in
-    (at.0.0, at.1 ∙ ap (λ (s : SortId). Some (at.0.0, s)) (kept.laws.one_sort d (term_at table t) at.0.1 sort has h))
+    let has : HasTreeSort d (term_at table t) at.0.1 = kept.theorems.sorted d table t at.0.1 kept.ordered kept.sorted (at.0.0, at.1) in
+    (at.0.0, at.1 ∙ ap (λ (s : SortId). Some (at.0.0, s)) (kept.theorems.one_sort d (term_at table t) at.0.1 sort has h))
 
 module _ (d : Declarations) (table : Terms) (kept : IsKept d table) where
   args_back : (args : List TermId) (sorts : List SortId) → AllByRecursion (λ t. t.0 < length table) args → HaveTreeSorts d (trees_of (map (term_at table) args)) sorts → AllZip (IsOfSort table) args sorts
@@ -148,11 +148,11 @@ module _ (d : Declarations) (old : Terms) (core : Core) (sort : SortId) (kept : 
   new_id = record { 0 = length old }
 
   old_tree : (t : TermId) → t.0 < length old → term_at pushed t ≡ term_at old t
-  old_tree t h = kept.laws.longer old ((core, sort) ∷ []) t push_ordered h
+  old_tree t h = kept.theorems.longer old ((core, sort) ∷ []) t push_ordered h
 
   pub new_tree : term_at pushed new_id ≡ tree_layer (term_at old) core
   new_tree =
-      kept.laws.unfolds pushed new_id core sort push_ordered (slice_get-last old (core, sort))
+      kept.theorems.unfolds pushed new_id core sort push_ordered (slice_get-last old (core, sort))
       ∙ layer_agrees (term_at pushed) (term_at old) (length old) old_tree core below
 
   pub long : length pushed ≡ length old + 1
@@ -161,13 +161,13 @@ module _ (d : Declarations) (old : Terms) (core : Core) (sort : SortId) (kept : 
   -- its tree was not there
   pub was_missing : (t : TermId) → t.0 < length old → term_at old t ≡ tree_layer (term_at old) core → ⊥
   was_missing t h e =
-      let same : t ≡ new_id = kept.laws.one pushed t new_id push_ordered push_single (omega (arith, h, long)) (omega (arith, long)) (old_tree t h ∙ e ∙ sym new_tree) in
+      let same : t ≡ new_id = kept.theorems.one pushed t new_id push_ordered push_single (omega (arith, h, long)) (omega (arith, long)) (old_tree t h ∙ e ∙ sym new_tree) in
       omega (arith, h, ap (λ (k : TermId). k.0) same)
 
   pub push_effect : (allowed : List CoreTree) (full : Type 0) → AreSorted d pushed → (full → ⊥) → Contains allowed (tree_layer (term_at old) core) → Effect d allowed old pushed full
   push_effect allowed full sorted never inside = record {
     grown = ((core, sort) ∷ [], refl);
-    kept = record { laws = kept.laws; sorted = sorted; ordered = push_ordered; single = push_single };
+    kept = record { theorems = kept.theorems; sorted = sorted; ordered = push_ordered; single = push_single };
     adds = λ t from under.
         let number : t.0 ≡ length old = omega (arith, from, under, long) in
         let id : ℕ → TermId = λ k. record { 0 = k } in
@@ -182,7 +182,7 @@ module _ (d : Declarations) (old new : Terms) (core : Core) (t : TermId) (kept :
   pub made_stands : Makes d old new core t.0 → Stands new t (tree_layer (term_at old) core)
   made_stands (inl h) = (
     subst (λ (ts : Terms). t.0 < length ts) (sym h.0) (slice_get-below old t.0 (core, h.1.0) h.1.1),
-    ap (λ (ts : Terms). term_at ts t) h.0 ∙ kept.laws.unfolds old t core h.1.0 kept.ordered h.1.1,
+    ap (λ (ts : Terms). term_at ts t) h.0 ∙ kept.theorems.unfolds old t core h.1.0 kept.ordered h.1.1,
   )
   made_stands (inr h) =
       let sort = h.2.0 in

@@ -11,7 +11,7 @@ use Rattle.ct_terms.specs.declared.ids.TermId.{TermId}
 use Rattle.ct_terms.specs.declared.term.Core.{Core}
 use Rattle.ct_terms.specs.Terms.{Terms, AreOrdered, AreSingle}
 use Rattle.ct_terms.specs.CoreTree.{CoreTree, tree_children, subtrees, term_at}
-use Rattle.ct_operators.specs.Laws.{Laws}
+use Rattle.ct_operators.specs.Theorems.{Theorems}
 use Rattle.ct_operators.specs.Effect.{Stands, IsPrefix, Effect}
 use Rattle.ct_operators.specs.Made.{HasTree, HasTrees, Makes}
 use Rattle.ct_operators.proofs.EffectLemmas.{prefix_length, prefix_trans}
@@ -30,15 +30,15 @@ slice_front (z ∷ zs) ys (suc k) x e = slice_front zs ys k x e
 pub prefix_ordered : (old new : Terms) → IsPrefix old new → AreOrdered new → AreOrdered old
 prefix_ordered old new grown ordered t core has = ordered t core (has.0, subst (λ (ts : Terms). slice_get ts t ≡ Some (core, has.0)) (sym grown.1) (slice_front old grown.0 t (core, has.0) has.1))
 
-pub longer_tree : (laws : Laws) (old new : Terms) (t : TermId) → IsPrefix old new → AreOrdered new → t.0 < length old → term_at new t ≡ term_at old t
-longer_tree laws old new t grown ordered within = ap (λ (ts : Terms). term_at ts t) grown.1 ∙ laws.longer old grown.0 t (subst AreOrdered grown.1 ordered) within
+pub longer_tree : (theorems : Theorems) (old new : Terms) (t : TermId) → IsPrefix old new → AreOrdered new → t.0 < length old → term_at new t ≡ term_at old t
+longer_tree theorems old new t grown ordered within = ap (λ (ts : Terms). term_at ts t) grown.1 ∙ theorems.longer old grown.0 t (subst AreOrdered grown.1 ordered) within
 
-pub has_stays : (laws : Laws) (old new : Terms) (t : CoreTree) → IsPrefix old new → AreOrdered new → HasTree old t → HasTree new t
-has_stays laws old new t grown ordered h = (h.0, (omega (arith, h.1.0, prefix_length old new grown), longer_tree laws old new h.0 grown ordered h.1.0 ∙ h.1.1))
+pub has_stays : (theorems : Theorems) (old new : Terms) (t : CoreTree) → IsPrefix old new → AreOrdered new → HasTree old t → HasTree new t
+has_stays theorems old new t grown ordered h = (h.0, (omega (arith, h.1.0, prefix_length old new grown), longer_tree theorems old new h.0 grown ordered h.1.0 ∙ h.1.1))
 
-pub have_stay : (laws : Laws) (old new : Terms) (ts : List CoreTree) → IsPrefix old new → AreOrdered new → HasTrees old ts → HasTrees new ts
-have_stay laws old new [] grown ordered h = tt
-have_stay laws old new (t ∷ ts) grown ordered h = (has_stays laws old new t grown ordered h.0, have_stay laws old new ts grown ordered h.1)
+pub have_stay : (theorems : Theorems) (old new : Terms) (ts : List CoreTree) → IsPrefix old new → AreOrdered new → HasTrees old ts → HasTrees new ts
+have_stay theorems old new [] grown ordered h = tt
+have_stay theorems old new (t ∷ ts) grown ordered h = (has_stays theorems old new t grown ordered h.0, have_stay theorems old new ts grown ordered h.1)
 
 pub have_both : (table : Terms) (xs ys : List CoreTree) → HasTrees table xs → HasTrees table ys → HasTrees table (xs ++ ys)
 have_both table [] ys h k = k
@@ -82,12 +82,12 @@ makes_split (x ∷ xs) ys a c (inl h) = let r = makes_split xs ys a c h.1 in (r.
 makes_split (x ∷ xs) ys a c (inr h) = let r = makes_split xs ys (a ++ h.1.0 ∷ []) c h.1.2 in (r.0, (inr (h.0, (h.1.0, h.1.1, r.1.0)), r.1.1))
 
 -- what was made is there
-pub makes_has : (laws : Laws) (xs : List CoreTree) (a b : Terms) → AreOrdered b → Makes a xs b → HasTrees b xs
-makes_has laws [] a b ordered h = tt
-makes_has laws (x ∷ xs) a b ordered (inl h) = (has_stays laws a b x (makes_grown xs a b h.1) ordered h.0, makes_has laws xs a b ordered h.1)
-makes_has laws (x ∷ xs) a b ordered (inr h) = (
-  has_stays laws (a ++ h.1.0 ∷ []) b x (makes_grown xs (a ++ h.1.0 ∷ []) b h.1.2) ordered (id (length a), h.1.1),
-  makes_has laws xs (a ++ h.1.0 ∷ []) b ordered h.1.2,
+pub makes_has : (theorems : Theorems) (xs : List CoreTree) (a b : Terms) → AreOrdered b → Makes a xs b → HasTrees b xs
+makes_has theorems [] a b ordered h = tt
+makes_has theorems (x ∷ xs) a b ordered (inl h) = (has_stays theorems a b x (makes_grown xs a b h.1) ordered h.0, makes_has theorems xs a b ordered h.1)
+makes_has theorems (x ∷ xs) a b ordered (inr h) = (
+  has_stays theorems (a ++ h.1.0 ∷ []) b x (makes_grown xs (a ++ h.1.0 ∷ []) b h.1.2) ordered (id (length a), h.1.1),
+  makes_has theorems xs (a ++ h.1.0 ∷ []) b ordered h.1.2,
 )
 
 -- ---- growth whose order has no choice: each tree is a subterm of the later ones
@@ -110,9 +110,9 @@ all_at : (P : CoreTree → Type 0) (xs : List CoreTree) (x : CoreTree) → AllBy
 all_at P [] x h c = absurd (Contains-none x c)
 all_at P (y ∷ ys) x h c = elim (Contains-cons y ys x c) [ inl e ↦ subst P e h.0 | inr rest ↦ all_at P ys x h.1 rest ]
 
-module _ (laws : Laws) (new : Terms) (ordered : AreOrdered new) (single : AreSingle new) where
+module _ (theorems : Theorems) (new : Terms) (ordered : AreOrdered new) (single : AreSingle new) where
   one_number : (s t : TermId) → s.0 < length new → t.0 < length new → term_at new s ≡ term_at new t → s.0 ≡ t.0
-  one_number s t s_in t_in e = ap (λ (u : TermId). u.0) (laws.one new s t ordered single s_in t_in e)
+  one_number s t s_in t_in e = ap (λ (u : TermId). u.0) (theorems.one new s t ordered single s_in t_in e)
 
   -- every new term is in the list
   abbrev pub AllNew : Terms → List CoreTree → Type 0
@@ -133,7 +133,7 @@ module _ (laws : Laws) (new : Terms) (ordered : AreOrdered new) (single : AreSin
       let grown : IsPrefix (old ++ m ∷ []) new = (ms, e ∙ sym (append_assoc old (m ∷ []) ms)) in
       let inside : length old < length (old ++ m ∷ []) = omega (arith, length-append old (m ∷ [])) in
       let number : u.0 ≡ length old = omega (arith, over, under) in
-      (m, (inside, sym (longer_tree laws (old ++ m ∷ []) new (id (length old)) grown ordered inside) ∙ ap (λ (k : ℕ). term_at new (id k)) (sym number) ∙ stands.1), rest m grown)
+      (m, (inside, sym (longer_tree theorems (old ++ m ∷ []) new (id (length old)) grown ordered inside) ∙ ap (λ (k : ℕ). term_at new (id k)) (sym number) ∙ stands.1), rest m grown)
 
   pub forced : (xs : List CoreTree) (old : Terms) → IsPrefix old new → AllNew old xs → HasTrees new xs → Climbs xs → Makes old xs new
   forced [] old grown adds there climbs = nothing_new old grown.0 grown.1 adds
@@ -142,7 +142,7 @@ module _ (laws : Laws) (new : Terms) (ordered : AreOrdered new) (single : AreSin
       let stands : Stands new u x = there.0.1 in
       elim (cases_lt u.0 (length old)) [
         | inl below ↦ inl (
-          (u, (below, sym (longer_tree laws old new u grown ordered below) ∙ stands.1)),
+          (u, (below, sym (longer_tree theorems old new u grown ordered below) ∙ stands.1)),
           forced xs old grown
               (λ t from to. elim (Contains-cons x xs (term_at new t) (adds t from to)) [
                 | inl e ↦ absurd (let same = one_number u t stands.0 to (stands.1 ∙ e) in omega (arith, same, below, from))
@@ -155,12 +155,12 @@ module _ (laws : Laws) (new : Terms) (ordered : AreOrdered new) (single : AreSin
               | inl e ↦ (let same = one_number u (id (length old)) stands.0 (omega (arith, over, stands.0)) (stands.1 ∙ e) in omega (arith, same))
               | inr rest ↦
                   (let inside : Contains (subtrees (term_at new (id (length old)))) x = all_at (λ y. Contains (subtrees y) x) xs (term_at new (id (length old))) climbs.0 rest in
-                  let v = laws.subterms_stand new (id (length old)) x ordered (omega (arith, over, stands.0)) inside in
+                  let v = theorems.subterms_stand new (id (length old)) x ordered (omega (arith, over, stands.0)) inside in
                   let same = one_number u v.0 stands.0 (omega (arith, v.1, over, stands.0)) (stands.1 ∙ sym v.2) in
                   omega (arith, same, v.1))
             ] in
             inr (
-              (λ t within e. absurd (let same = one_number u t stands.0 (omega (arith, within, prefix_length old new grown)) (stands.1 ∙ sym e ∙ sym (longer_tree laws old new t grown ordered within)) in omega (arith, same, within, over))),
+              (λ t within e. absurd (let same = one_number u t stands.0 (omega (arith, within, prefix_length old new grown)) (stands.1 ∙ sym e ∙ sym (longer_tree theorems old new t grown ordered within)) in omega (arith, same, within, over))),
               next_new x xs old grown.0 u grown.1 over stands first (λ entry longer.
                   forced xs (old ++ entry ∷ []) longer
                   (λ t from to.
@@ -183,67 +183,67 @@ flat_contains {X} f (x ∷ xs) y h = elim (Contains-append_cases (f x) (flat_map
 ]
 
 -- a subterm of a tree that is there is there
-pub has_subterm : (laws : Laws) (table : Terms) (t s : CoreTree) → AreOrdered table → HasTree table t → Contains (subtrees t) s → HasTree table s
-has_subterm laws table t s ordered h inside =
-    let v = laws.subterms_stand table h.0 s ordered h.1.0 (subst (λ (x : CoreTree). Contains (subtrees x) s) (sym h.1.1) inside) in
+pub has_subterm : (theorems : Theorems) (table : Terms) (t s : CoreTree) → AreOrdered table → HasTree table t → Contains (subtrees t) s → HasTree table s
+has_subterm theorems table t s ordered h inside =
+    let v = theorems.subterms_stand table h.0 s ordered h.1.0 (subst (λ (x : CoreTree). Contains (subtrees x) s) (sym h.1.1) inside) in
     (v.0, (omega (arith, v.1, h.1.0), v.2))
 
 -- a subterm is the tree, or is one of a tree right under it
-pub subterm_cases : (laws : Laws) (t s : CoreTree) → Contains (subtrees t) s → (t ≡ s) ⊎ ((u : CoreTree) × (Contains (tree_children t) u × Contains (subtrees u) s))
-subterm_cases laws t s h =
-    elim (Contains-cons t (flat_map subtrees (tree_children t)) s (subst (λ (xs : List CoreTree). Contains xs s) (laws.subterms t) h)) [
+pub subterm_cases : (theorems : Theorems) (t s : CoreTree) → Contains (subtrees t) s → (t ≡ s) ⊎ ((u : CoreTree) × (Contains (tree_children t) u × Contains (subtrees u) s))
+subterm_cases theorems t s h =
+    elim (Contains-cons t (flat_map subtrees (tree_children t)) s (subst (λ (xs : List CoreTree). Contains xs s) (theorems.subterms t) h)) [
       | inl e ↦ inl e
       | inr deeper ↦ inr (flat_contains subtrees (tree_children t) s deeper)
     ]
 
 -- a tree that is not new
-not_new : (laws : Laws) (old new : Terms) → IsPrefix old new → AreOrdered new → AreSingle new → (t : TermId) → length old ≤ t.0 → t.0 < length new → HasTree old (term_at new t) → ⊥
-not_new laws old new grown ordered single t from to h =
-    let same = one_number laws new ordered single h.0 t (omega (arith, h.1.0, prefix_length old new grown)) to (longer_tree laws old new h.0 grown ordered h.1.0 ∙ h.1.1) in
+not_new : (theorems : Theorems) (old new : Terms) → IsPrefix old new → AreOrdered new → AreSingle new → (t : TermId) → length old ≤ t.0 → t.0 < length new → HasTree old (term_at new t) → ⊥
+not_new theorems old new grown ordered single t from to h =
+    let same = one_number theorems new ordered single h.0 t (omega (arith, h.1.0, prefix_length old new grown)) to (longer_tree theorems old new h.0 grown ordered h.1.0 ∙ h.1.1) in
     omega (arith, same, h.1.0, from)
 
 module _ (d : Declarations) (old new : Terms) (core : CoreTree) (full : Type 0) (effect : Effect d (subtrees core) old new full) where
   -- all that it stands over is there: it alone is made
   pub makes_one : HasTrees old (tree_children core) → HasTree new core → Makes old (core ∷ []) new
   makes_one under there =
-      let laws = effect.kept.laws in
+      let theorems = effect.kept.theorems in
       let before = prefix_ordered old new effect.grown effect.kept.ordered in
-      forced laws new effect.kept.ordered effect.kept.single (core ∷ []) old effect.grown
-      (λ t from to. elim (subterm_cases laws core (term_at new t) (effect.adds t from to)) [
+      forced theorems new effect.kept.ordered effect.kept.single (core ∷ []) old effect.grown
+      (λ t from to. elim (subterm_cases theorems core (term_at new t) (effect.adds t from to)) [
         | inl e ↦ subst (λ (x : CoreTree). Contains (core ∷ []) x) e (Contains-first core [])
-        | inr deeper ↦ absurd (not_new laws old new effect.grown effect.kept.ordered effect.kept.single t from to
-            (has_subterm laws old deeper.0 (term_at new t) before (all_at (HasTree old) (tree_children core) deeper.0 under deeper.1.0) deeper.1.1))
+        | inr deeper ↦ absurd (not_new theorems old new effect.grown effect.kept.ordered effect.kept.single t from to
+            (has_subterm theorems old deeper.0 (term_at new t) before (all_at (HasTree old) (tree_children core) deeper.0 under deeper.1.0) deeper.1.1))
       ])
       (there, tt) (tt, tt)
 
   -- it is there: nothing is made
   pub makes_same : HasTree old core → Makes old [] new
   makes_same h =
-      let laws = effect.kept.laws in
+      let theorems = effect.kept.theorems in
       let before = prefix_ordered old new effect.grown effect.kept.ordered in
-      forced laws new effect.kept.ordered effect.kept.single [] old effect.grown
-      (λ t from to. absurd (not_new laws old new effect.grown effect.kept.ordered effect.kept.single t from to (has_subterm laws old core (term_at new t) before h (effect.adds t from to))))
+      forced theorems new effect.kept.ordered effect.kept.single [] old effect.grown
+      (λ t from to. absurd (not_new theorems old new effect.grown effect.kept.ordered effect.kept.single t from to (has_subterm theorems old core (term_at new t) before h (effect.adds t from to))))
       tt tt
 
 -- a term over another one, which is over others that are there: both are made
 pub makes_two : (d : Declarations) (old new : Terms) (x y : CoreTree) (full : Type 0) → Effect d (subtrees y) old new full → tree_children y ≡ x ∷ [] → HasTrees old (tree_children x) → HasTree new y → Makes old (x ∷ (y ∷ [])) new
 makes_two d old new x y full effect is under there =
-    let laws = effect.kept.laws in
+    let theorems = effect.kept.theorems in
     let before = prefix_ordered old new effect.grown effect.kept.ordered in
-    let inside : Contains (subtrees y) x = subst (λ (xs : List CoreTree). Contains xs x) (sym (laws.subterms y ∙ ap (λ (us : List CoreTree). y ∷ flat_map subtrees us) is)) (second x y (laws.subterms x)) in
-    forced laws new effect.kept.ordered effect.kept.single (x ∷ (y ∷ [])) old effect.grown
-    (λ t from to. elim (subterm_cases laws y (term_at new t) (effect.adds t from to)) [
+    let inside : Contains (subtrees y) x = subst (λ (xs : List CoreTree). Contains xs x) (sym (theorems.subterms y ∙ ap (λ (us : List CoreTree). y ∷ flat_map subtrees us) is)) (second x y (theorems.subterms x)) in
+    forced theorems new effect.kept.ordered effect.kept.single (x ∷ (y ∷ [])) old effect.grown
+    (λ t from to. elim (subterm_cases theorems y (term_at new t) (effect.adds t from to)) [
       | inl e ↦ (1, omega arith, e)
       | inr deeper ↦
           let one : Contains (x ∷ []) deeper.0 = subst (λ (us : List CoreTree). Contains us deeper.0) is deeper.1.0 in
           let same : x ≡ deeper.0 = elim (Contains-cons x [] deeper.0 one) [ inl e ↦ e | inr none ↦ absurd (Contains-none deeper.0 none) ] in
-          elim (subterm_cases laws x (term_at new t) (subst (λ (w : CoreTree). Contains (subtrees w) (term_at new t)) (sym same) deeper.1.1)) [
+          elim (subterm_cases theorems x (term_at new t) (subst (λ (w : CoreTree). Contains (subtrees w) (term_at new t)) (sym same) deeper.1.1)) [
             | inl e ↦ subst (λ (w : CoreTree). Contains (x ∷ (y ∷ [])) w) e (Contains-first x (y ∷ []))
-            | inr further ↦ absurd (not_new laws old new effect.grown effect.kept.ordered effect.kept.single t from to
-                (has_subterm laws old further.0 (term_at new t) before (all_at (HasTree old) (tree_children x) further.0 under further.1.0) further.1.1))
+            | inr further ↦ absurd (not_new theorems old new effect.grown effect.kept.ordered effect.kept.single t from to
+                (has_subterm theorems old further.0 (term_at new t) before (all_at (HasTree old) (tree_children x) further.0 under further.1.0) further.1.1))
           ]
     ])
-    (has_subterm laws new y x effect.kept.ordered there inside, (there, tt))
+    (has_subterm theorems new y x effect.kept.ordered there inside, (there, tt))
     ((inside, tt), (tt, tt))
   where
     second : (a b : CoreTree) → subtrees a ≡ a ∷ flat_map subtrees (tree_children a) → Contains (b ∷ flat_map subtrees (a ∷ [])) a
@@ -256,31 +256,31 @@ abbrev pub Rises : Terms → CoreTree → List CoreTree → CoreTree → Type 0
 Rises table x [] y = x ≡ y
 Rises table x (z ∷ zs) y = (Contains (subtrees z) x) × (((s : CoreTree) → Contains (subtrees z) s → (z ≡ s) ⊎ (Contains (subtrees x) s ⊎ HasTree table s)) × Rises table z zs y)
 
-pub rises_stay : (laws : Laws) (old new : Terms) (x : CoreTree) (zs : List CoreTree) (y : CoreTree) → IsPrefix old new → AreOrdered new → Rises old x zs y → Rises new x zs y
-rises_stay laws old new x [] y grown ordered h = h
-rises_stay laws old new x (z ∷ zs) y grown ordered h = (
+pub rises_stay : (theorems : Theorems) (old new : Terms) (x : CoreTree) (zs : List CoreTree) (y : CoreTree) → IsPrefix old new → AreOrdered new → Rises old x zs y → Rises new x zs y
+rises_stay theorems old new x [] y grown ordered h = h
+rises_stay theorems old new x (z ∷ zs) y grown ordered h = (
   h.0,
   (
     λ s c. elim (h.1.0 s c) [
       | inl e ↦ inl e
-      | inr k ↦ inr (elim k [ inl under ↦ inl under | inr there ↦ inr (has_stays laws old new s grown ordered there) ])
+      | inr k ↦ inr (elim k [ inl under ↦ inl under | inr there ↦ inr (has_stays theorems old new s grown ordered there) ])
     ],
-    rises_stay laws old new z zs y grown ordered h.1.1,
+    rises_stay theorems old new z zs y grown ordered h.1.1,
   ),
 )
 
-module _ (laws : Laws) (table : Terms) where
+module _ (theorems : Theorems) (table : Terms) where
   -- a subterm of the first is one of all
   rises_all : (x : CoreTree) (zs : List CoreTree) (y s : CoreTree) → Rises table x zs y → Contains (subtrees x) s → AllByRecursion (λ z. Contains (subtrees z) s) zs
   rises_all x [] y s h c = tt
-  rises_all x (z ∷ zs) y s h c = let k = laws.subterms_of_subterms z x s h.0 c in (k, rises_all z zs y s h.1.1 k)
+  rises_all x (z ∷ zs) y s h c = let k = theorems.subterms_of_subterms z x s h.0 c in (k, rises_all z zs y s h.1.1 k)
 
   rises_top : (x : CoreTree) (zs : List CoreTree) (y s : CoreTree) → Rises table x zs y → Contains (subtrees x) s → Contains (subtrees y) s
   rises_top x [] y s h c = subst (λ (w : CoreTree). Contains (subtrees w) s) h c
-  rises_top x (z ∷ zs) y s h c = rises_top z zs y s h.1.1 (laws.subterms_of_subterms z x s h.0 c)
+  rises_top x (z ∷ zs) y s h c = rises_top z zs y s h.1.1 (theorems.subterms_of_subterms z x s h.0 c)
 
   itself : (t : CoreTree) → Contains (subtrees t) t
-  itself t = subst (λ (xs : List CoreTree). Contains xs t) (sym (laws.subterms t)) (Contains-first t (flat_map subtrees (tree_children t)))
+  itself t = subst (λ (xs : List CoreTree). Contains xs t) (sym (theorems.subterms t)) (Contains-first t (flat_map subtrees (tree_children t)))
 
   pub rises_climbs : (x : CoreTree) (zs : List CoreTree) (y : CoreTree) → Rises table x zs y → Climbs zs
   rises_climbs x [] y h = tt
@@ -288,7 +288,7 @@ module _ (laws : Laws) (table : Terms) where
 
   rises_have : (new : Terms) (x : CoreTree) (zs : List CoreTree) (y : CoreTree) → AreOrdered new → HasTree new y → Rises table x zs y → HasTrees new zs
   rises_have new x [] y ordered there h = tt
-  rises_have new x (z ∷ zs) y ordered there h = (has_subterm laws new y z ordered there (rises_top z zs y z h.1.1 (itself z)), rises_have new z zs y ordered there h.1.1)
+  rises_have new x (z ∷ zs) y ordered there h = (has_subterm theorems new y z ordered there (rises_top z zs y z h.1.1 (itself z)), rises_have new z zs y ordered there h.1.1)
 
   -- a subterm of the last is in the list, is under the first, or is there
   rises_cases : (x : CoreTree) (zs : List CoreTree) (y s : CoreTree) → Rises table x zs y → Contains (subtrees y) s → Contains zs s ⊎ (Contains (subtrees x) s ⊎ HasTree table s)
@@ -306,13 +306,13 @@ module _ (laws : Laws) (table : Terms) where
 
 pub makes_rising : (d : Declarations) (old new : Terms) (x : CoreTree) (zs : List CoreTree) (y : CoreTree) (full : Type 0) → Effect d (subtrees y) old new full → Rises old x zs y → HasTree old x → HasTree new y → Makes old zs new
 makes_rising d old new x zs y full effect rises first last =
-    let laws = effect.kept.laws in
+    let theorems = effect.kept.theorems in
     let before = prefix_ordered old new effect.grown effect.kept.ordered in
-    forced laws new effect.kept.ordered effect.kept.single zs old effect.grown
-    (λ t from to. elim (rises_cases laws old x zs y (term_at new t) rises (effect.adds t from to)) [
+    forced theorems new effect.kept.ordered effect.kept.single zs old effect.grown
+    (λ t from to. elim (rises_cases theorems old x zs y (term_at new t) rises (effect.adds t from to)) [
       | inl inside ↦ inside
-      | inr k ↦ absurd (not_new laws old new effect.grown effect.kept.ordered effect.kept.single t from to
-          (elim k [ inl under ↦ has_subterm laws old x (term_at new t) before first under | inr there ↦ there ]))
+      | inr k ↦ absurd (not_new theorems old new effect.grown effect.kept.ordered effect.kept.single t from to
+          (elim k [ inl under ↦ has_subterm theorems old x (term_at new t) before first under | inr there ↦ there ]))
     ])
-    (rises_have laws old new x zs y effect.kept.ordered last rises)
-    (rises_climbs laws old x zs y rises)
+    (rises_have theorems old new x zs y effect.kept.ordered last rises)
+    (rises_climbs theorems old x zs y rises)

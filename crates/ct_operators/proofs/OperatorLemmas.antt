@@ -52,12 +52,12 @@ within_fold allowed x (u ∷ us) w = (within_equivalence allowed x u (within_neg
 -- the sort that is stored tells which equality it is
 pub equality_of_bool : (d : Declarations) (table : Terms) (kept : IsKept d table) (a b : TermId) (s : SortId) → IsOfSort table a s → s.0 ≡ 0 → equality d (term_at table a) (term_at table b) ≡ equivalence (term_at table a) (term_at table b)
 equality_of_bool d table kept a b s of zero_sort =
-    let read : tree_sort d (term_at table a) ≡ s = kept.laws.read d (term_at table a) s (kept.laws.sorted d table a s kept.ordered kept.sorted of) in
+    let read : tree_sort d (term_at table a) ≡ s = kept.theorems.read d (term_at table a) s (kept.theorems.sorted d table a s kept.ordered kept.sorted of) in
     ap (λ (x : Bool). if x then equivalence (term_at table a) (term_at table b) else equation (term_at table a) (term_at table b)) ((Decides-eqb (tree_sort d (term_at table a)).0 0).1 (ap (λ (r : SortId). r.0) read ∙ zero_sort))
 
 pub equality_of_other : (d : Declarations) (table : Terms) (kept : IsKept d table) (a b : TermId) (s : SortId) → IsOfSort table a s → (s.0 ≡ 0 → ⊥) → equality d (term_at table a) (term_at table b) ≡ equation (term_at table a) (term_at table b)
 equality_of_other d table kept a b s of other =
-    let read : tree_sort d (term_at table a) ≡ s = kept.laws.read d (term_at table a) s (kept.laws.sorted d table a s kept.ordered kept.sorted of) in
+    let read : tree_sort d (term_at table a) ≡ s = kept.theorems.read d (term_at table a) s (kept.theorems.sorted d table a s kept.ordered kept.sorted of) in
     by ((tree_sort d (term_at table a)).0 == 0) refl read
   where
     by : (x : Bool) → ((tree_sort d (term_at table a)).0 == 0) ≡ x → tree_sort d (term_at table a) ≡ s → (if x then equivalence (term_at table a) (term_at table b) else equation (term_at table a) (term_at table b)) ≡ equation (term_at table a) (term_at table b)
@@ -67,7 +67,7 @@ equality_of_other d table kept a b s of other =
 -- both equalities are well sorted, each where the sort that is stored asks for it
 module _ (d : Declarations) (table : Terms) (kept : IsKept d table) (a b : TermId) (side s : SortId) (of : IsOfSort table a s) (sorted : AllByRecursion (λ t. HasTreeSort d (term_at table t) side) (a ∷ (b ∷ []))) where
   side_is : side ≡ s
-  side_is = kept.laws.one_sort d (term_at table a) side s sorted.0 (kept.laws.sorted d table a s kept.ordered kept.sorted of)
+  side_is = kept.theorems.one_sort d (term_at table a) side s sorted.0 (kept.theorems.sorted d table a s kept.ordered kept.sorted of)
 
   pub equivalence_sorted : s.0 ≡ 0 → HasTreeSort d (equivalence (term_at table a) (term_at table b)) bool_sort
   equivalence_sorted zero_sort =

@@ -10,7 +10,7 @@ use Rattle.ct_terms.specs.CoreTree.{CoreTree, equivalence, equation, subtrees, t
 use Rattle.ct_terms.specs.CoreSorts.{HasTreeSort, tree_sort}
 use Rattle.ct_terms.specs.Pairs.{neighbours_from, neighbours, pairs}
 use Rattle.ct_terms.specs.Compiled.{all_of, equality, inequality}
-use Rattle.ct_operators.specs.Laws.{Laws}
+use Rattle.ct_operators.specs.Theorems.{Theorems}
 use Rattle.ct_operators.specs.Effect.{Stands, AllStand, IsKept, Effect}
 use Rattle.ct_operators.specs.Made.{HasTrees, Makes, Made, leaf, terms, made_for, made_all, made_inequality}
 use Rattle.ct_operators.specs.Forms.{AllHaveSort}
@@ -57,11 +57,11 @@ pairs_compared d f (t ∷ ts) =
     ∙ ap₂ (λ (xs ys : List CoreTree). xs ++ ys) (first_compared d f t ts) (pairs_compared d f ts)
 
 -- what is compared is Boolean
-equality_sorted : (laws : Laws) (d : Declarations) (a b : CoreTree) (side : SortId) → HasTreeSort d a side → HasTreeSort d b side → HasTreeSort d (equality d a b) bool_sort
-equality_sorted laws d a b side h k = by ((tree_sort d a).0 == 0) refl
+equality_sorted : (theorems : Theorems) (d : Declarations) (a b : CoreTree) (side : SortId) → HasTreeSort d a side → HasTreeSort d b side → HasTreeSort d (equality d a b) bool_sort
+equality_sorted theorems d a b side h k = by ((tree_sort d a).0 == 0) refl
   where
     read : tree_sort d a ≡ side
-    read = laws.read d a side h
+    read = theorems.read d a side h
 
     by : (x : Bool) → ((tree_sort d a).0 == 0) ≡ x → HasTreeSort d (if x then equivalence a b else equation a b) bool_sort
     by true e =
@@ -72,10 +72,10 @@ equality_sorted laws d a b side h k = by ((tree_sort d a).0 == 0) refl
         let other : side ≡ bool_sort → ⊥ = λ is. true≢false (sym ((Decides-eqb (tree_sort d a).0 0).1 (ap (λ (s : SortId). s.0) (read ∙ is))) ∙ e) in
         (side, h, k, other, refl)
 
-pub compared_sorted : (laws : Laws) (d : Declarations) (different : Bool) (table : Terms) (side : SortId) (ps : List (TermId × TermId)) → AllByRecursion (IsPair d table side) ps → AllHaveSort d bool_sort (compared_all d different (term_at table) ps)
-compared_sorted laws d different table side [] h = tt
-compared_sorted laws d true table side (p ∷ ps) h = ((equality_sorted laws d (term_at table p.0) (term_at table p.1) side h.0.2 h.0.3, refl), compared_sorted laws d true table side ps h.1)
-compared_sorted laws d false table side (p ∷ ps) h = (equality_sorted laws d (term_at table p.0) (term_at table p.1) side h.0.2 h.0.3, compared_sorted laws d false table side ps h.1)
+pub compared_sorted : (theorems : Theorems) (d : Declarations) (different : Bool) (table : Terms) (side : SortId) (ps : List (TermId × TermId)) → AllByRecursion (IsPair d table side) ps → AllHaveSort d bool_sort (compared_all d different (term_at table) ps)
+compared_sorted theorems d different table side [] h = tt
+compared_sorted theorems d true table side (p ∷ ps) h = ((equality_sorted theorems d (term_at table p.0) (term_at table p.1) side h.0.2 h.0.3, refl), compared_sorted theorems d true table side ps h.1)
+compared_sorted theorems d false table side (p ∷ ps) h = (equality_sorted theorems d (term_at table p.0) (term_at table p.1) side h.0.2 h.0.3, compared_sorted theorems d false table side ps h.1)
 
 pub some_neighbours : (t : TermId) (ts : List TermId) → 1 < length (t ∷ ts) → 0 < length (neighbours_from both t ts)
 some_neighbours t [] h = absurd (omega (arith, h))
@@ -103,7 +103,7 @@ module _ (d : Declarations) (different : Bool) (old mid : Terms) (side : SortId)
   parts_sorted some =
       let count = compared_count d different (term_at old) ps in
       subst (λ (us : List CoreTree). HasTreeSort d (all_of us) bool_sort) (sym (all_trees mid parts trees stand))
-      (conjunction_sorted d trees (omega (arith, some, count)) (compared_sorted kept.laws d different old side ps fitting))
+      (conjunction_sorted d trees (omega (arith, some, count)) (compared_sorted kept.theorems d different old side ps fitting))
 
   pub parts_are : all_of (map (term_at mid) parts) ≡ all_of trees
   parts_are = ap all_of (all_trees mid parts trees stand)

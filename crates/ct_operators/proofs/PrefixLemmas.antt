@@ -9,7 +9,7 @@ use Rattle.ct_terms.specs.Pairs.{neighbours_from, pairs}
 use Rattle.ct_terms.specs.Compiled.{equality}
 use Rattle.ct_operators.specs.declared.operator.Operator.{Operator}
 use Rattle.ct_operators.specs.declared.operator.Operator.TheVariants.{Construct, Select, Inspect, Call, Negation, Conjunction, Disjunction, Exclusion, Implication, Equality, Inequality}
-use Rattle.ct_operators.specs.Laws.{Laws}
+use Rattle.ct_operators.specs.Theorems.{Theorems}
 use Rattle.ct_operators.specs.Forms.{first_of, AreOperands}
 use Rattle.ct_operators.specs.Following.{between, woven}
 use Rattle.ct_operators.specs.Made.{HasTrees, Makes, Made, terms, made_for, over, made_negation, made_equality, made_inequality, made_exclusive, made_implied, made_all, made_any, made_by}
@@ -195,13 +195,13 @@ equal_at d x xs p later =
     subst (λ (ms : List Made). Reaches (made_all ms).making (made_for first ++ z.making) p.making) (sym (neighbours_append d x xs p later))
     (reach_in (made_all (first ++ made_equality d z p ∷ more)).making (made_for first) (made_equality d z p).making z.making p.making (e ∷ []) (inner_first z.making p.making (e ∷ [])) (all_at first (made_equality d z p) more))
 
-equal_makes : (laws : Laws) (d : Declarations) (x : Made) (xs : List Made) (a c : Terms) → AreOrdered c → Makes a (woven d Equality [] (x ∷ xs)) c → Makes a (made_for (neighbours_from (made_equality d) x xs) ++ (last_made x xs).making) c
-equal_makes laws d x [] a c ordered h = without_nil x.making a c h
-equal_makes laws d x (y ∷ ys) a c ordered h =
+equal_makes : (theorems : Theorems) (d : Declarations) (x : Made) (xs : List Made) (a c : Terms) → AreOrdered c → Makes a (woven d Equality [] (x ∷ xs)) c → Makes a (made_for (neighbours_from (made_equality d) x xs) ++ (last_made x xs).making) c
+equal_makes theorems d x [] a c ordered h = without_nil x.making a c h
+equal_makes theorems d x (y ∷ ys) a c ordered h =
     let one = makes_split x.making (woven d Equality (x.term ∷ []) (y ∷ ys)) a c h in
-    let there = woven_has d Equality c [] (x ∷ (y ∷ ys)) (makes_has laws (woven d Equality [] (x ∷ (y ∷ ys))) a c ordered h) in
+    let there = woven_has d Equality c [] (x ∷ (y ∷ ys)) (makes_has theorems (woven d Equality [] (x ∷ (y ∷ ys))) a c ordered h) in
     makes_then (made_for (neighbours_from (made_equality d) x (y ∷ ys))) (last_made x (y ∷ ys)).making a c c
-    (equal_woven laws d x y ys x.term [] a one.0 c ordered refl one.1.0 one.1.1)
+    (equal_woven theorems d x y ys x.term [] a one.0 c ordered refl one.1.0 one.1.1)
     (makes_none (last_made x (y ∷ ys)).making c (last_has c x (y ∷ ys) there))
 
 -- ---- inequality
@@ -224,13 +224,13 @@ unequal_at d x xs p later =
     subst (λ (ms : List Made). Reaches (made_all ms).making (made_for first ++ x.making) p.making) (sym (row_append d x xs p later others))
     (reach_in (made_all (first ++ made_inequality d x p ∷ more)).making (made_for first) (made_inequality d x p).making x.making p.making (e ∷ (negation e ∷ [])) (negated_making x p e) (all_at first (made_inequality d x p) more))
 
-unequal_makes : (laws : Laws) (d : Declarations) (x : Made) (xs : List Made) (a c : Terms) → AreOrdered c → Makes a (woven d Inequality [] (x ∷ xs)) c → Makes a (made_for (map (made_inequality d x) xs) ++ x.making) c
-unequal_makes laws d x [] a c ordered h = without_nil x.making a c h
-unequal_makes laws d x (y ∷ ys) a c ordered h =
+unequal_makes : (theorems : Theorems) (d : Declarations) (x : Made) (xs : List Made) (a c : Terms) → AreOrdered c → Makes a (woven d Inequality [] (x ∷ xs)) c → Makes a (made_for (map (made_inequality d x) xs) ++ x.making) c
+unequal_makes theorems d x [] a c ordered h = without_nil x.making a c h
+unequal_makes theorems d x (y ∷ ys) a c ordered h =
     let one = makes_split x.making (woven d Inequality (x.term ∷ []) (y ∷ ys)) a c h in
-    let there = woven_has d Inequality c [] (x ∷ (y ∷ ys)) (makes_has laws (woven d Inequality [] (x ∷ (y ∷ ys))) a c ordered h) in
+    let there = woven_has d Inequality c [] (x ∷ (y ∷ ys)) (makes_has theorems (woven d Inequality [] (x ∷ (y ∷ ys))) a c ordered h) in
     makes_then (made_for (map (made_inequality d x) (y ∷ ys))) x.making a c c
-    (row_woven laws d x y ys [] a one.0 c ordered one.1.0 one.1.1)
+    (row_woven theorems d x y ys [] a one.0 c ordered one.1.0 one.1.1)
     (makes_none x.making c (have_left c x.making (made_for (y ∷ ys)) there))
 
 -- ---- for each operator
@@ -239,7 +239,7 @@ unequal_makes laws d x (y ∷ ys) a c ordered h =
 abbrev pub IsNext : List CoreTree → List CoreTree → Terms → Terms → Type 0
 IsNext whole part old table = (before : List CoreTree) × (Reaches whole before part) × Makes old before table
 
-module _ (laws : Laws) (d : Declarations) (p : Made) (later : List Made) (old table : Terms) (ordered : AreOrdered table) where
+module _ (theorems : Theorems) (d : Declarations) (p : Made) (later : List Made) (old table : Terms) (ordered : AreOrdered table) where
   next_over : (o : Operator) (done : List Made) (t : CoreTree) → ((us : List CoreTree) (u : CoreTree) (vs : List CoreTree) → between d o us u vs ≡ []) → Makes old (woven_prefix d o [] done (p.term ∷ terms later)) table → IsNext (over (done ++ p ∷ later) t).making p.making old table
   next_over o done t none h = (
     made_for done,
@@ -267,7 +267,7 @@ module _ (laws : Laws) (d : Declarations) (p : Made) (later : List Made) (old ta
   next_equal [] (q ∷ qs) some h = ([], equal_begins d p q qs, h)
   next_equal (x ∷ xs) ps some h =
       let k = subst (λ (vs : List CoreTree). Makes old vs table) (prefix_free d Equality free [] (x ∷ xs) (p.term ∷ terms ps)) h in
-      (made_for (neighbours_from (made_equality d) x xs) ++ (last_made x xs).making, equal_at d x xs p ps, equal_makes laws d x xs old table ordered k)
+      (made_for (neighbours_from (made_equality d) x xs) ++ (last_made x xs).making, equal_at d x xs p ps, equal_makes theorems d x xs old table ordered k)
     where
       free : (us : List CoreTree) (u : CoreTree) (vs ws : List CoreTree) → between d Equality us u vs ≡ between d Equality us u ws
       free [] u vs ws = refl
@@ -278,7 +278,7 @@ module _ (laws : Laws) (d : Declarations) (p : Made) (later : List Made) (old ta
   next_unequal [] (q ∷ qs) some h = ([], unequal_begins d p q qs, h)
   next_unequal (x ∷ xs) ps some h =
       let k = subst (λ (vs : List CoreTree). Makes old vs table) (prefix_free d Inequality free [] (x ∷ xs) (p.term ∷ terms ps)) h in
-      (made_for (map (made_inequality d x) xs) ++ x.making, unequal_at d x xs p ps, unequal_makes laws d x xs old table ordered k)
+      (made_for (map (made_inequality d x) xs) ++ x.making, unequal_at d x xs p ps, unequal_makes theorems d x xs old table ordered k)
     where
       free : (us : List CoreTree) (u : CoreTree) (vs ws : List CoreTree) → between d Inequality us u vs ≡ between d Inequality us u ws
       free [] u vs ws = refl

@@ -5,7 +5,7 @@ use Rattle.ct_sorts.specs.declared.ids.CtorId.{CtorId}
 use Rattle.ct_sorts.specs.declared.ids.FunId.{FunId}
 use Rattle.ct_sorts.specs.declared.ids.SelId.{SelId}
 use Rattle.ct_terms.specs.CoreTree.{CoreTree, con, sel, test, apply, negation, conjunction, disjunction, equivalence, choice, trees_of, subtrees, subtrees_of_all}
-use Rattle.ct_operators.specs.Laws.{Laws}
+use Rattle.ct_operators.specs.Theorems.{Theorems}
 use Rattle.ct_operators.specs.Effect.{Within, AllWithin}
 
 pub Contains-first : {X : Type 0} (x : X) (xs : List X) → Contains (x ∷ xs) x
@@ -15,8 +15,8 @@ pub Contains-rest : {X : Type 0} (x : X) (xs : List X) (y : X) → Contains xs y
 Contains-rest x xs y h = (suc h.0, omega (arith, h.1), h.2)
 
 -- a tree is a subterm of itself
-pub within_itself : (laws : Laws) (allowed : List CoreTree) (t : CoreTree) → Within allowed t → Contains allowed t
-within_itself laws allowed t w = w t (subst (λ (ts : List CoreTree). Contains ts t) (sym (laws.subterms t)) (Contains-first t _))
+pub within_itself : (theorems : Theorems) (allowed : List CoreTree) (t : CoreTree) → Within allowed t → Contains allowed t
+within_itself theorems allowed t w = w t (subst (λ (ts : List CoreTree). Contains ts t) (sym (theorems.subterms t)) (Contains-first t _))
 
 -- the subterms of a tree are its subterms
 pub within_subtrees : (t : CoreTree) → Within (subtrees t) t

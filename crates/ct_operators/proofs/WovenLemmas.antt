@@ -9,7 +9,7 @@ use Rattle.ct_terms.specs.Pairs.{neighbours_from, pairs}
 use Rattle.ct_terms.specs.Compiled.{exclusive, exclusive_of, implied_from, equality, inequality}
 use Rattle.ct_operators.specs.declared.operator.Operator.{Operator}
 use Rattle.ct_operators.specs.declared.operator.Operator.TheVariants.{Construct, Select, Inspect, Call, Negation, Conjunction, Disjunction, Exclusion, Implication, Equality, Inequality}
-use Rattle.ct_operators.specs.Laws.{Laws}
+use Rattle.ct_operators.specs.Theorems.{Theorems}
 use Rattle.ct_operators.specs.Effect.{Effect}
 use Rattle.ct_operators.specs.Forms.{first_of, combined, AreOperands}
 use Rattle.ct_operators.specs.Following.{last_from, last_of, between, woven}
@@ -80,19 +80,19 @@ refuted d table us p (q ∷ qs) h =
     let k = have_right table p.making (negation p.term ∷ woven d Implication (us ++ p.term ∷ []) (q ∷ qs)) h in
     (k.0, refuted d table (us ++ p.term ∷ []) q qs k.1)
 
-rises_implied : (laws : Laws) (table : Terms) (u : CoreTree) (us ends : List CoreTree) (whole : CoreTree) → AreOrdered table → Refuted table u us → Rises table (implied_from u us) ends whole → Rises table (last_from u us) (or_steps u us ++ ends) whole
-rises_implied laws table u [] ends whole ordered h r = r
-rises_implied laws table u (v ∷ vs) ends whole ordered h r =
+rises_implied : (theorems : Theorems) (table : Terms) (u : CoreTree) (us ends : List CoreTree) (whole : CoreTree) → AreOrdered table → Refuted table u us → Rises table (implied_from u us) ends whole → Rises table (last_from u us) (or_steps u us ++ ends) whole
+rises_implied theorems table u [] ends whole ordered h r = r
+rises_implied theorems table u (v ∷ vs) ends whole ordered h r =
     let w = implied_from v vs in
     let up = implied_from u (v ∷ vs) in
     let under = within_disjunction (subtrees up) (negation u ∷ (w ∷ [])) (within_subtrees up) in
     let first : Rises table w (up ∷ ends) whole = (
-      within_itself laws (subtrees up) w under.1.0,
+      within_itself theorems (subtrees up) w under.1.0,
       (
-        λ s c. elim (subterm_cases laws up s c) [
+        λ s c. elim (subterm_cases theorems up s c) [
           | inl e ↦ inl e
           | inr deeper ↦ inr (elim (Contains-cons (negation u) (w ∷ []) deeper.0 deeper.1.0) [
-            | inl e ↦ inr (has_subterm laws table (negation u) s ordered h.0 (subst (λ (x : CoreTree). Contains (subtrees x) s) (sym e) deeper.1.1))
+            | inl e ↦ inr (has_subterm theorems table (negation u) s ordered h.0 (subst (λ (x : CoreTree). Contains (subtrees x) s) (sym e) deeper.1.1))
             | inr later ↦ elim (Contains-cons w [] deeper.0 later) [
               | inl e ↦ inl (subst (λ (x : CoreTree). Contains (subtrees x) s) (sym e) deeper.1.1)
               | inr none ↦ absurd (Contains-none deeper.0 none)
@@ -103,7 +103,7 @@ rises_implied laws table u (v ∷ vs) ends whole ordered h r =
       ),
     ) in
     subst (λ (zs : List CoreTree). Rises table (last_from v vs) zs whole) (sym (append_assoc (or_steps v vs) (up ∷ []) ends))
-    (rises_implied laws table v vs (up ∷ ends) whole ordered h.1 first)
+    (rises_implied theorems table v vs (up ∷ ends) whole ordered h.1 first)
 
 implied_term : (p : Made) (ps : List Made) → (made_implied p ps).term ≡ implied_from p.term (terms ps)
 implied_term p [] = refl
@@ -130,18 +130,18 @@ equal_first d p q x rest a b c is h k =
     let two = makes_split (equality d x q.term ∷ []) rest one.0 c one.1.1 in
     (one.0, two.0, one.1.0, two.1.0, two_over p q (equality d p.term q.term) a b one.0 two.0 h one.1.0 (subst (λ (w : CoreTree). Makes one.0 (equality d w q.term ∷ []) two.0) is two.1.0), two.1.1)
 
-pub equal_woven : (laws : Laws) (d : Declarations) (p q : Made) (qs : List Made) (v : CoreTree) (vs : List CoreTree) (a b c : Terms) → AreOrdered c → last_of (v ∷ vs) ≡ p.term → Makes a p.making b → Makes b (woven d Equality (v ∷ vs) (q ∷ qs)) c → Makes a (made_for (neighbours_from (made_equality d) p (q ∷ qs))) c
-equal_woven laws d p q [] v vs a b c ordered is h k =
+pub equal_woven : (theorems : Theorems) (d : Declarations) (p q : Made) (qs : List Made) (v : CoreTree) (vs : List CoreTree) (a b c : Terms) → AreOrdered c → last_of (v ∷ vs) ≡ p.term → Makes a p.making b → Makes b (woven d Equality (v ∷ vs) (q ∷ qs)) c → Makes a (made_for (neighbours_from (made_equality d) p (q ∷ qs))) c
+equal_woven theorems d p q [] v vs a b c ordered is h k =
     let f = equal_first d p q (last_of (v ∷ vs)) [] a b c is h k in
     makes_then (made_equality d p q).making [] a f.1 c f.4 f.5
-equal_woven laws d p q (r ∷ rs) v vs a b c ordered is h k =
+equal_woven theorems d p q (r ∷ rs) v vs a b c ordered is h k =
     let rest = woven d Equality ((v ∷ vs) ++ q.term ∷ []) (r ∷ rs) in
     let f = equal_first d p q (last_of (v ∷ vs)) rest a b c is h k in
     let n_ordered = prefix_ordered f.1 c (makes_grown rest f.1 c f.5) ordered in
     let grown = makes_grown (equality d (last_of (v ∷ vs)) q.term ∷ []) f.0 f.1 f.3 in
-    let there = have_stay laws f.0 f.1 q.making grown n_ordered (makes_has laws q.making b f.0 (prefix_ordered f.0 f.1 grown n_ordered) f.2) in
+    let there = have_stay theorems f.0 f.1 q.making grown n_ordered (makes_has theorems q.making b f.0 (prefix_ordered f.0 f.1 grown n_ordered) f.2) in
     makes_then (made_equality d p q).making (made_for (neighbours_from (made_equality d) q (r ∷ rs))) a f.1 c f.4
-    (equal_woven laws d q r rs v (vs ++ q.term ∷ []) f.1 f.1 c ordered (last_of_push (v ∷ vs) q.term) (makes_none q.making f.1 there) f.5)
+    (equal_woven theorems d q r rs v (vs ++ q.term ∷ []) f.1 f.1 c ordered (last_of_push (v ∷ vs) q.term) (makes_none q.making f.1 there) f.5)
 
 terms_neighbours : (d : Declarations) (p : Made) (ps : List Made) → terms (neighbours_from (made_equality d) p ps) ≡ neighbours_from (equality d) p.term (terms ps)
 terms_neighbours d p [] = refl
@@ -170,17 +170,17 @@ row_has d p q n h =
     let equal = have_left n (made_equality d p q).making [] outer in
     have_left n p.making (q.making ++ []) (have_left n (made_for (p ∷ (q ∷ []))) (equality d p.term q.term ∷ []) equal)
 
-pub row_woven : (laws : Laws) (d : Declarations) (p q : Made) (qs : List Made) (us : List CoreTree) (a b c : Terms) → AreOrdered c → Makes a p.making b → Makes b (woven d Inequality (p.term ∷ us) (q ∷ qs)) c → Makes a (made_for (map (made_inequality d p) (q ∷ qs))) c
-row_woven laws d p q [] us a b c ordered h k =
+pub row_woven : (theorems : Theorems) (d : Declarations) (p q : Made) (qs : List Made) (us : List CoreTree) (a b c : Terms) → AreOrdered c → Makes a p.making b → Makes b (woven d Inequality (p.term ∷ us) (q ∷ qs)) c → Makes a (made_for (map (made_inequality d p) (q ∷ qs))) c
+row_woven theorems d p q [] us a b c ordered h k =
     let f = row_first d p q [] a b c h k in
     makes_then (made_inequality d p q).making [] a f.0 c f.1 f.2
-row_woven laws d p q (r ∷ rs) us a b c ordered h k =
+row_woven theorems d p q (r ∷ rs) us a b c ordered h k =
     let rest = woven d Inequality (p.term ∷ (us ++ q.term ∷ [])) (r ∷ rs) in
     let f = row_first d p q rest a b c h k in
     let n_ordered = prefix_ordered f.0 c (makes_grown rest f.0 c f.2) ordered in
-    let there = row_has d p q f.0 (makes_has laws (made_inequality d p q).making a f.0 n_ordered f.1) in
+    let there = row_has d p q f.0 (makes_has theorems (made_inequality d p q).making a f.0 n_ordered f.1) in
     makes_then (made_inequality d p q).making (made_for (map (made_inequality d p) (r ∷ rs))) a f.0 c f.1
-    (row_woven laws d p r rs (us ++ q.term ∷ []) f.0 f.0 c ordered (makes_none p.making f.0 there) f.2)
+    (row_woven theorems d p r rs (us ++ q.term ∷ []) f.0 f.0 c ordered (makes_none p.making f.0 there) f.2)
 
 pub made_append : (ps qs : List Made) → made_for (ps ++ qs) ≡ made_for ps ++ made_for qs
 made_append [] qs = refl
@@ -203,9 +203,9 @@ terms_leaves [] = refl
 terms_leaves (u ∷ us) = ap (λ (xs : List CoreTree). u ∷ xs) (terms_leaves us)
 
 -- a row over terms that are there is one over what is made for them
-row_filled : (laws : Laws) (d : Declarations) (p : Made) (qs : List Made) (a c : Terms) → AreOrdered c → HasTrees a p.making → HasTrees a (made_for qs) → Makes a (made_for (map (made_inequality d (leaf p.term)) (map leaf (terms qs)))) c → Makes a (made_for (map (made_inequality d p) qs)) c
-row_filled laws d p [] a c ordered h k m = m
-row_filled laws d p (q ∷ qs) a c ordered h k m =
+row_filled : (theorems : Theorems) (d : Declarations) (p : Made) (qs : List Made) (a c : Terms) → AreOrdered c → HasTrees a p.making → HasTrees a (made_for qs) → Makes a (made_for (map (made_inequality d (leaf p.term)) (map leaf (terms qs)))) c → Makes a (made_for (map (made_inequality d p) qs)) c
+row_filled theorems d p [] a c ordered h k m = m
+row_filled theorems d p (q ∷ qs) a c ordered h k m =
     let e = equality d p.term q.term in
     let rest = made_for (map (made_inequality d (leaf p.term)) (map leaf (terms qs))) in
     let one = makes_split (e ∷ []) (negation e ∷ rest) a c m in
@@ -214,20 +214,20 @@ row_filled laws d p (q ∷ qs) a c ordered h k m =
     let both = one_over (made_equality d p q) (negation e) a one.0 two.0 (two_over p q e a a a one.0 (makes_none p.making a h) (makes_none q.making a (have_left a q.making (made_for qs) k)) one.1.0) two.1.0 in
     let grown = makes_grown (made_inequality d p q).making a two.0 both in
     makes_then (made_inequality d p q).making (made_for (map (made_inequality d p) qs)) a two.0 c both
-    (row_filled laws d p qs two.0 c ordered (have_stay laws a two.0 p.making grown ordered_2 h) (have_stay laws a two.0 (made_for qs) grown ordered_2 (have_right a q.making (made_for qs) k)) two.1.1)
+    (row_filled theorems d p qs two.0 c ordered (have_stay theorems a two.0 p.making grown ordered_2 h) (have_stay theorems a two.0 (made_for qs) grown ordered_2 (have_right a q.making (made_for qs) k)) two.1.1)
 
-pairs_filled : (laws : Laws) (d : Declarations) (ps : List Made) (a c : Terms) → AreOrdered c → HasTrees a (made_for ps) → Makes a (made_for (pairs (made_inequality d) (map leaf (terms ps)))) c → Makes a (made_for (pairs (made_inequality d) ps)) c
-pairs_filled laws d [] a c ordered h m = m
-pairs_filled laws d (p ∷ ps) a c ordered h m =
+pairs_filled : (theorems : Theorems) (d : Declarations) (ps : List Made) (a c : Terms) → AreOrdered c → HasTrees a (made_for ps) → Makes a (made_for (pairs (made_inequality d) (map leaf (terms ps)))) c → Makes a (made_for (pairs (made_inequality d) ps)) c
+pairs_filled theorems d [] a c ordered h m = m
+pairs_filled theorems d (p ∷ ps) a c ordered h m =
     let row = map (made_inequality d (leaf p.term)) (map leaf (terms ps)) in
     let rest = pairs (made_inequality d) (map leaf (terms ps)) in
     let two = makes_split (made_for row) (made_for rest) a c (subst (λ (xs : List CoreTree). Makes a xs c) (made_append row rest) m) in
     let ordered_1 = prefix_ordered two.0 c (makes_grown (made_for rest) two.0 c two.1.1) ordered in
     let grown = makes_grown (made_for row) a two.0 two.1.0 in
-    let first = row_filled laws d p ps a two.0 ordered_1 (have_left a p.making (made_for ps) h) (have_right a p.making (made_for ps) h) two.1.0 in
+    let first = row_filled theorems d p ps a two.0 ordered_1 (have_left a p.making (made_for ps) h) (have_right a p.making (made_for ps) h) two.1.0 in
     subst (λ (xs : List CoreTree). Makes a xs c) (sym (made_append (map (made_inequality d p) ps) (pairs (made_inequality d) ps)))
     (makes_then (made_for (map (made_inequality d p) ps)) (made_for (pairs (made_inequality d) ps)) a two.0 c first
-    (pairs_filled laws d ps two.0 c ordered (have_stay laws a two.0 (made_for ps) grown ordered_1 (have_right a p.making (made_for ps) h)) two.1.1))
+    (pairs_filled theorems d ps two.0 c ordered (have_stay theorems a two.0 (made_for ps) grown ordered_1 (have_right a p.making (made_for ps) h)) two.1.1))
 
 -- what is there with what is made for its terms is there without
 row_there : (d : Declarations) (table : Terms) (p : Made) (qs : List Made) → HasTrees table (made_for (map (made_inequality d p) qs)) → HasTrees table (made_for (map (made_inequality d (leaf p.term)) (map leaf (terms qs))))
@@ -290,16 +290,16 @@ module _ (d : Declarations) (old mid new : Terms) where
       let one = makes_split p.making (woven d Exclusion (p.term ∷ []) ps) old mid h in
       let made = exclusive_woven d p p.term [] ps old one.0 mid refl one.1.0 one.1.1 in
       let core = fold exclusive p.term (terms ps) in
-      let there : HasTree mid core = subst (HasTree mid) (exclusive_term p ps) (exclusive_there mid p ps (λ k. stand.0) (makes_has effect.kept.laws (fold made_exclusive p ps).making old mid ordered made)) in
+      let there : HasTree mid core = subst (HasTree mid) (exclusive_term p ps) (exclusive_there mid p ps (λ k. stand.0) (makes_has effect.kept.theorems (fold made_exclusive p ps).making old mid ordered made)) in
       and_nothing (fold made_exclusive p ps).making old mid new made (makes_same d mid new core full effect there)
 
   implied : (ps : List Made) (full : Type 0) → 0 < length (terms ps) → HasTrees mid (terms ps) → AreOrdered mid → Effect d (subtrees (combined d Implication (terms ps))) mid new full → HasTree new (combined d Implication (terms ps)) → Makes old (woven d Implication [] ps) mid → Makes old (made_by d Implication ps).making new
   implied [] full some stand ordered effect there h = absurd (omega (arith, some))
   implied (p ∷ ps) full some stand ordered effect there h =
-      let laws = effect.kept.laws in
+      let theorems = effect.kept.theorems in
       let core = implied_from p.term (terms ps) in
-      let not_there = refuted d mid [] p ps (makes_has laws (woven d Implication [] (p ∷ ps)) old mid ordered h) in
-      let rises = rises_implied laws mid p.term (terms ps) [] core ordered not_there refl in
+      let not_there = refuted d mid [] p ps (makes_has theorems (woven d Implication [] (p ∷ ps)) old mid ordered h) in
+      let rises = rises_implied theorems mid p.term (terms ps) [] core ordered not_there refl in
       implied_woven d p ps [] old mid new h
       (without_nil (or_steps p.term (terms ps)) mid new (makes_rising d mid new (last_from p.term (terms ps)) (or_steps p.term (terms ps) ++ []) core full effect rises (last_there p.term (terms ps) stand) there))
     where
@@ -311,39 +311,39 @@ module _ (d : Declarations) (old mid new : Terms) where
   equal [] full some ordered effect there h = absurd (omega (arith, some))
   equal (p ∷ []) full some ordered effect there h = absurd (omega (arith, some))
   equal (p ∷ (q ∷ [])) full some ordered effect there h =
-      let laws = effect.kept.laws in
+      let theorems = effect.kept.theorems in
       let one = makes_split p.making (woven d Equality (p.term ∷ []) (q ∷ [])) old mid h in
-      let made = without_nil (made_equality d p q).making old mid (equal_woven laws d p q [] p.term [] old one.0 mid ordered refl one.1.0 one.1.1) in
-      let here = (have_right mid (made_for (p ∷ (q ∷ []))) (equality d p.term q.term ∷ []) (makes_has laws (made_equality d p q).making old mid ordered made)).0 in
+      let made = without_nil (made_equality d p q).making old mid (equal_woven theorems d p q [] p.term [] old one.0 mid ordered refl one.1.0 one.1.1) in
+      let here = (have_right mid (made_for (p ∷ (q ∷ []))) (equality d p.term q.term ∷ []) (makes_has theorems (made_equality d p q).making old mid ordered made)).0 in
       and_nothing (made_equality d p q).making old mid new made (makes_same d mid new (equality d p.term q.term) full effect here)
   equal (p ∷ (q ∷ (r ∷ rs))) full some ordered effect there h =
-      let laws = effect.kept.laws in
+      let theorems = effect.kept.theorems in
       let qs = q ∷ (r ∷ rs) in
       let one = makes_split p.making (woven d Equality (p.term ∷ []) qs) old mid h in
-      let made = equal_woven laws d p q (r ∷ rs) p.term [] old one.0 mid ordered refl one.1.0 one.1.1 in
+      let made = equal_woven theorems d p q (r ∷ rs) p.term [] old one.0 mid ordered refl one.1.0 one.1.1 in
       let us = neighbours_from (equality d) p.term (terms qs) in
-      let here = neighbours_there d mid p qs (makes_has laws (made_for (neighbours_from (made_equality d) p qs)) old mid ordered made) in
+      let here = neighbours_there d mid p qs (makes_has theorems (made_for (neighbours_from (made_equality d) p qs)) old mid ordered made) in
       let last = makes_one d mid new (conjunction (trees_of us)) full effect (all_there us here) there in
       makes_then (made_for (neighbours_from (made_equality d) p qs)) (conjunction (trees_of (terms (neighbours_from (made_equality d) p qs))) ∷ []) old mid new made
       (subst (λ (xs : List CoreTree). Makes mid (conjunction (trees_of xs) ∷ []) new) (sym (terms_neighbours d p qs)) last)
 
-  different : (laws : Laws) (ps : List Made) → 1 < length (terms ps) → AreOrdered mid → AreOrdered new → Makes mid (made_by d Inequality (map leaf (terms ps))).making new → Makes old (woven d Inequality [] ps) mid → Makes old (made_by d Inequality ps).making new
-  different laws [] some ordered ordered_2 k h = absurd (omega (arith, some))
-  different laws (p ∷ []) some ordered ordered_2 k h = absurd (omega (arith, some))
-  different laws (p ∷ (q ∷ [])) some ordered ordered_2 k h =
+  different : (theorems : Theorems) (ps : List Made) → 1 < length (terms ps) → AreOrdered mid → AreOrdered new → Makes mid (made_by d Inequality (map leaf (terms ps))).making new → Makes old (woven d Inequality [] ps) mid → Makes old (made_by d Inequality ps).making new
+  different theorems [] some ordered ordered_2 k h = absurd (omega (arith, some))
+  different theorems (p ∷ []) some ordered ordered_2 k h = absurd (omega (arith, some))
+  different theorems (p ∷ (q ∷ [])) some ordered ordered_2 k h =
       let one = makes_split p.making (woven d Inequality (p.term ∷ []) (q ∷ [])) old mid h in
-      let row = row_woven laws d p q [] [] old one.0 mid ordered one.1.0 one.1.1 in
-      let there = row_there d mid p (q ∷ []) (makes_has laws (made_for (map (made_inequality d p) (q ∷ []))) old mid ordered row) in
+      let row = row_woven theorems d p q [] [] old one.0 mid ordered one.1.0 one.1.1 in
+      let there = row_there d mid p (q ∷ []) (makes_has theorems (made_for (map (made_inequality d p) (q ∷ []))) old mid ordered row) in
       let same = makes_nothing (equality d p.term q.term ∷ (negation (equality d p.term q.term) ∷ [])) mid new there k in
       subst (λ (ts : Terms). Makes old (made_inequality d p q).making ts) (sym same) (without_nil (made_inequality d p q).making old mid row)
-  different laws (p ∷ (q ∷ (r ∷ rs))) some ordered ordered_2 k h =
+  different theorems (p ∷ (q ∷ (r ∷ rs))) some ordered ordered_2 k h =
       let qs = q ∷ (r ∷ rs) in
       let leaves = map leaf (terms qs) in
       let woven_all = woven d Inequality [] (p ∷ qs) in
       let one = makes_split p.making (woven d Inequality (p.term ∷ []) qs) old mid h in
-      let row = row_woven laws d p q (r ∷ rs) [] old one.0 mid ordered one.1.0 one.1.1 in
+      let row = row_woven theorems d p q (r ∷ rs) [] old one.0 mid ordered one.1.0 one.1.1 in
       let row_trees = made_for (map (made_inequality d p) qs) in
-      let there = row_there d mid p qs (makes_has laws row_trees old mid ordered row) in
+      let there = row_there d mid p qs (makes_has theorems row_trees old mid ordered row) in
       let leaf_row = map (made_inequality d (leaf p.term)) leaves in
       let leaf_rest = pairs (made_inequality d) leaves in
       let whole : CoreTree = conjunction (trees_of (terms (leaf_row ++ leaf_rest))) in
@@ -351,8 +351,8 @@ module _ (d : Declarations) (old mid new : Terms) where
       let rows = makes_split (made_for leaf_row) (made_for leaf_rest) mid last.0 (subst (λ (xs : List CoreTree). Makes mid xs last.0) (made_append leaf_row leaf_rest) last.1.0) in
       let same : rows.0 ≡ mid = makes_nothing (made_for leaf_row) mid rows.0 there rows.1.0 in
       let ordered_1 = prefix_ordered last.0 new (makes_grown (whole ∷ []) last.0 new last.1.1) ordered_2 in
-      let under = woven_has d Inequality mid [] (p ∷ qs) (makes_has laws woven_all old mid ordered h) in
-      let rest = pairs_filled laws d qs mid last.0 ordered_1 (have_right mid p.making (made_for qs) under) (subst (λ (ts : Terms). Makes ts (made_for leaf_rest) last.0) same rows.1.1) in
+      let under = woven_has d Inequality mid [] (p ∷ qs) (makes_has theorems woven_all old mid ordered h) in
+      let rest = pairs_filled theorems d qs mid last.0 ordered_1 (have_right mid p.making (made_for qs) under) (subst (λ (ts : Terms). Makes ts (made_for leaf_rest) last.0) same rows.1.1) in
       let all : Makes old (made_for (pairs (made_inequality d) (p ∷ qs))) last.0 = subst (λ (xs : List CoreTree). Makes old xs last.0) (sym (made_append (map (made_inequality d p) qs) (pairs (made_inequality d) qs))) (makes_then row_trees (made_for (pairs (made_inequality d) qs)) old mid last.0 row rest) in
       let is : terms (leaf_row ++ leaf_rest) ≡ terms (pairs (made_inequality d) (p ∷ qs)) = terms_pairs d (map leaf (terms (p ∷ qs))) ∙ ap (pairs (inequality d)) (terms_leaves (terms (p ∷ qs))) ∙ sym (terms_pairs d (p ∷ qs)) in
       makes_then (made_for (pairs (made_inequality d) (p ∷ qs))) (conjunction (trees_of (terms (pairs (made_inequality d) (p ∷ qs)))) ∷ []) old last.0 new all
@@ -377,4 +377,4 @@ module _ (d : Declarations) (old mid new : Terms) where
   operator_made Exclusion ps full operands stand ordered effect there pairs_made h = excluded ps full operands.0 stand ordered effect h
   operator_made Implication ps full operands stand ordered effect there pairs_made h = implied ps full operands.0 stand ordered effect there h
   operator_made Equality ps full operands stand ordered effect there pairs_made h = equal ps full operands.1 ordered effect there h
-  operator_made Inequality ps full operands stand ordered effect there pairs_made h = different effect.kept.laws ps operands.1 ordered effect.kept.ordered (pairs_made refl) h
+  operator_made Inequality ps full operands stand ordered effect there pairs_made h = different effect.kept.theorems ps operands.1 ordered effect.kept.ordered (pairs_made refl) h

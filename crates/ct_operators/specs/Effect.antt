@@ -5,7 +5,7 @@ use Rattle.ct_sorts.specs.Declarations.{Declarations}
 use Rattle.ct_terms.specs.declared.ids.TermId.{TermId}
 use Rattle.ct_terms.specs.Terms.{Terms, AreSorted, AreOrdered, AreSingle, most_terms}
 use Rattle.ct_terms.specs.CoreTree.{CoreTree, subtrees, term_at}
-use Rattle.ct_operators.specs.Laws.{Laws}
+use Rattle.ct_operators.specs.Theorems.{Theorems}
 
 -- the tree stands at the number
 abbrev pub Stands : Terms → TermId → CoreTree → Type 0
@@ -17,7 +17,7 @@ AllStand table ts trees = AllZip (Stands table) ts trees
 
 -- the table is well sorted, its terms come after the terms under them, and each has one number; and the theorems hold
 pub record IsKept (d : Declarations) (table : Terms) : Type 0 where
-  pub laws : Laws
+  pub theorems : Theorems
   pub sorted : AreSorted d table
   pub ordered : AreOrdered table
   pub single : AreSingle table

@@ -1,4 +1,4 @@
-pub mod Laws
+pub mod Theorems
 pub mod Effect
 pub mod Forms
 pub mod Made

@@ -32,6 +32,9 @@ pub fn combine(
     ensures effect { (allowed : List CoreTree)
         → Within allowed (combined sig.now operator (map (term_at table.old) args))
         → Effect sig.now allowed table.old table.new (IsErrOf result TermError.Full) }
+
+    // The terms of `distinct` are made here, in this order. What the other operators have between their formulas is made by
+    // `follow`, after each of them.
     ensures order { operator ≡ Operator.Inequality → IfOk result (λ t. Makes table.old (made_by sig.now Operator.Inequality (map leaf (map (term_at table.old) args))).making table.new) }
 {
     match operator {

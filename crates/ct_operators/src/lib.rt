@@ -15,4 +15,4 @@ pub use combining::combine;
 pub use following::follow;
 pub use making::make;
 pub use operator::Operator;
-pub use theorems::laws;
+pub use theorems::term_theorems;

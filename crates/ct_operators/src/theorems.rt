@@ -1,11 +1,11 @@
 //! The theorems on terms and formulas that compiling stands on.
-ghost use Rattle.ct_operators.specs.Laws.{Laws};
+ghost use Rattle.ct_operators.specs.Theorems.{Theorems};
 
 use ct_terms::{core_trees, formulas};
 
 /// The theorems, as one. The function does nothing.
-pub fn laws()
-    ensures hold { Laws }
+pub fn term_theorems()
+    ensures hold { Theorems }
 {
     core_trees();
     formulas();

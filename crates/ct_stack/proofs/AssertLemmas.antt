@@ -15,7 +15,7 @@ use Rattle.ct_command.specs.declared.error.CommandError.{CommandError}
 use Rattle.ct_command.specs.declared.error.CommandError.TheVariants.{Refused}
 use Rattle.ct_compile.specs.declared.scope.Scope.{Scope}
 use Rattle.ct_compile.specs.Effect.{IsPrefix}
-use Rattle.ct_stack.specs.Laws.{Laws}
+use Rattle.ct_stack.specs.Theorems.{Theorems}
 use Rattle.ct_stack.specs.Numbers.{too_many_terms}
 use Rattle.ct_stack.specs.Stack.{Level, Stack, core, cores, asserting}
 use Rattle.ct_stack.specs.Elaborations.{asserted_formula}
@@ -56,11 +56,11 @@ module _ (d : Declarations) (bodies : List Formula) (before : List Tree) (marks 
         (refused_value (asserted_formula d e) (later (level d bodies (map formula_of before))) (formula_of tree) n value
         (last_cause too_many_terms (HasManyTerms (cores (record { declarations = d; bodies = bodies }) (map formula_of before) ++ core (record { declarations = d; bodies = bodies }) (formula_of tree) ∷ [])) n h.0 h.1))
 
-    pub assert_ok : Laws → {T E : Type 0} (r : Result T E) (now : List Tree) (table_now table : Terms) (numbers_now numbers : List TermId) → AreHeld (whole d bodies (map formula_of before) table numbers) marks → IsPrefix table table_now → Begins numbers numbers_now → OnOk r (now ≡ before ++ tree ∷ []) → OnOk r (Gives (asserted_formula s.top.context.declarations e) (λ formula. stack_of (level d bodies (map formula_of now)) marks ≡ asserting s formula))
-    assert_ok laws (Ok x) now table_now table numbers_now numbers held grown longer h =
+    pub assert_ok : Theorems → {T E : Type 0} (r : Result T E) (now : List Tree) (table_now table : Terms) (numbers_now numbers : List TermId) → AreHeld (whole d bodies (map formula_of before) table numbers) marks → IsPrefix table table_now → Begins numbers numbers_now → OnOk r (now ≡ before ++ tree ∷ []) → OnOk r (Gives (asserted_formula s.top.context.declarations e) (λ formula. stack_of (level d bodies (map formula_of now)) marks ≡ asserting s formula))
+    assert_ok theorems (Ok x) now table_now table numbers_now numbers held grown longer h =
         given (asserted_formula s.top.context.declarations e) (λ formula. stack_of (level d bodies (map formula_of now)) marks ≡ asserting s formula) (formula_of tree) (ap (λ (l : Level). asserted_formula l.context.declarations e) (sym one) ∙ value)
-        (asserted laws d bodies now before tree table_now table numbers_now numbers marks held grown longer s is h)
-    assert_ok laws (Err f) now table_now table numbers_now numbers held grown longer h = tt
+        (asserted theorems d bodies now before tree table_now table numbers_now numbers marks held grown longer s is h)
+    assert_ok theorems (Err f) now table_now table numbers_now numbers held grown longer h = tt
 
   pub assert_unchanged : {T E : Type 0} (r : Result T E) (now : List Tree) → OnErr r (now ≡ before) → OnErr r (stack_of (level d bodies (map formula_of now)) marks ≡ s)
   assert_unchanged (Ok x) now h = tt

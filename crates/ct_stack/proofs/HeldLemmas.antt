@@ -18,12 +18,12 @@ use Rattle.ct_terms.specs.FormulaSorts.{IsSorted, AreSound}
 use Rattle.ct_closure.specs.Closed.{truth_trees}
 use Rattle.ct_closure.specs.ClosedTable.{Stands, terms_at}
 use Rattle.ct_compile.specs.Effect.{IsPrefix}
-use Rattle.ct_stack.specs.Laws.{Laws}
+use Rattle.ct_stack.specs.Theorems.{Theorems}
 use Rattle.ct_stack.specs.Stack.{Context, core, cores}
 use Rattle.ct_stack.specs.Held.{IsTableOf, IsHeld}
 use Rattle.ct_stack.proofs.ListLemmas.{Contains-cons, Contains-first, Contains-none, entry_at, slice_get-append_left}
 
-module _ (laws : Laws) (later earlier : Declarations) (bodies more : List Formula) (consistent : IsConsistent later) (before : IsConsistent earlier) (extends : Extends later earlier) (sound : AreSound earlier bodies) where
+module _ (theorems : Theorems) (later earlier : Declarations) (bodies more : List Formula) (consistent : IsConsistent later) (before : IsConsistent earlier) (extends : Extends later earlier) (sound : AreSound earlier bodies) where
   abbrev old : Context
   old = record { declarations = earlier; bodies = bodies }
 
@@ -35,7 +35,7 @@ module _ (laws : Laws) (later earlier : Declarations) (bodies more : List Formul
   cores_stay [] all = refl
   cores_stay (t ∷ asserts) all =
       let first : core new t ≡ core old t =
-      laws.core_lasting later earlier bodies more [] [] t bool_sort before extends sound tt (All-head (λ t. IsSorted earlier [] t bool_sort) t asserts all)
+      theorems.core_lasting later earlier bodies more [] [] t bool_sort before extends sound tt (All-head (λ t. IsSorted earlier [] t bool_sort) t asserts all)
       in
       let rest = cores_stay asserts (All-tail (λ t. IsSorted earlier [] t bool_sort) t asserts all) in
       ap (λ (c : CoreTree). c ∷ cores new asserts) first ∙ ap (λ (cs : List CoreTree). core old t ∷ cs) rest
@@ -48,13 +48,13 @@ module _ (laws : Laws) (later earlier : Declarations) (bodies more : List Formul
         sound =
             record {
               bodies = sound_now;
-              asserts = All-weaker (λ t. IsSorted earlier [] t bool_sort) (λ t. IsSorted later [] t bool_sort) (λ t h. laws.sorted_lasting later earlier [] t bool_sort consistent before extends h) asserts held.sound.asserts;
+              asserts = All-weaker (λ t. IsSorted earlier [] t bool_sort) (λ t. IsSorted later [] t bool_sort) (λ t h. theorems.sorted_lasting later earlier [] t bool_sort consistent before extends h) asserts held.sound.asserts;
             };
         in_table =
             record {
               exact =
                   record {
-                    sorted = laws.table_lasting later earlier table extends held.in_table.exact.sorted;
+                    sorted = theorems.table_lasting later earlier table extends held.in_table.exact.sorted;
                     covered = subst (λ (roots : List CoreTree). (t : TermId) → t.0 < length table → (root : CoreTree) × Contains (truth_trees ++ roots) root × Contains (subtrees root) (term_at table t)) (sym stay) held.in_table.exact.covered;
                     complete = subst (λ (roots : List CoreTree). (root s : CoreTree) → Contains (truth_trees ++ roots) root → Contains (subtrees root) s → Stands table s) (sym stay) held.in_table.exact.complete;
                   };
@@ -64,16 +64,16 @@ module _ (laws : Laws) (later earlier : Declarations) (bodies more : List Formul
       }
 
 -- with more declarations alone the definitions stay
-pub held_declared : Laws → (later earlier : Declarations) (bodies asserts : List Formula) (table : Terms) (numbers : List TermId) → IsConsistent later → IsConsistent earlier → Extends later earlier → later.definitions ≡ earlier.definitions → IsHeld (record { context = record { declarations = earlier; bodies = bodies }; assertions = asserts }) table numbers → IsHeld (record { context = record { declarations = later; bodies = bodies }; assertions = asserts }) table numbers
-held_declared laws later earlier bodies asserts table numbers consistent before extends same held =
-    let sound : AreSound later bodies = laws.sound_lasting later earlier bodies consistent before extends same held.sound.bodies in
+pub held_declared : Theorems → (later earlier : Declarations) (bodies asserts : List Formula) (table : Terms) (numbers : List TermId) → IsConsistent later → IsConsistent earlier → Extends later earlier → later.definitions ≡ earlier.definitions → IsHeld (record { context = record { declarations = earlier; bodies = bodies }; assertions = asserts }) table numbers → IsHeld (record { context = record { declarations = later; bodies = bodies }; assertions = asserts }) table numbers
+held_declared theorems later earlier bodies asserts table numbers consistent before extends same held =
+    let sound : AreSound later bodies = theorems.sound_lasting later earlier bodies consistent before extends same held.sound.bodies in
     subst (λ (all : List Formula). IsHeld (record { context = record { declarations = later; bodies = all }; assertions = asserts }) table numbers) (append-nil bodies)
-    (held_lasting laws later earlier bodies [] consistent before extends held.sound.bodies asserts table numbers (subst (AreSound later) (sym (append-nil bodies)) sound) held)
+    (held_lasting theorems later earlier bodies [] consistent before extends held.sound.bodies asserts table numbers (subst (AreSound later) (sym (append-nil bodies)) sound) held)
 
 -- with one definition more
-pub held_defined : Laws → (d : Declarations) (f : Function) (bodies asserts : List Formula) (body : Formula) (table : Terms) (numbers : List TermId) → IsConsistent (with_definition d f) → IsConsistent d → Extends (with_definition d f) d → IsSorted d (bind f.args []) body f.result → IsHeld (record { context = record { declarations = d; bodies = bodies }; assertions = asserts }) table numbers → IsHeld (record { context = record { declarations = with_definition d f; bodies = bodies ++ body ∷ [] }; assertions = asserts }) table numbers
-held_defined laws d f bodies asserts body table numbers consistent before extends sorted held =
-    held_lasting laws (with_definition d f) d bodies (body ∷ []) consistent before extends held.sound.bodies asserts table numbers (laws.sound_with d f bodies body held.sound.bodies sorted) held
+pub held_defined : Theorems → (d : Declarations) (f : Function) (bodies asserts : List Formula) (body : Formula) (table : Terms) (numbers : List TermId) → IsConsistent (with_definition d f) → IsConsistent d → Extends (with_definition d f) d → IsSorted d (bind f.args []) body f.result → IsHeld (record { context = record { declarations = d; bodies = bodies }; assertions = asserts }) table numbers → IsHeld (record { context = record { declarations = with_definition d f; bodies = bodies ++ body ∷ [] }; assertions = asserts }) table numbers
+held_defined theorems d f bodies asserts body table numbers consistent before extends sorted held =
+    held_lasting theorems (with_definition d f) d bodies (body ∷ []) consistent before extends held.sound.bodies asserts table numbers (theorems.sound_with d f bodies body held.sound.bodies sorted) held
 
 -- a scope without definitions is sound
 no_definitions : (d : Declarations) → d.definitions ≡ [] → AreSound d []
@@ -84,22 +84,22 @@ no_definitions d none =
       earlier = λ k body at. absurd (none-some body at);
     }
 
-module _ (laws : Laws) where
+module _ (theorems : Theorems) where
   -- the terms of the first table are `true` and `false`
   truth_at : (table : Terms) → table ≡ truths → AreOrdered table → (k : ℕ) → k < 2 → Contains truth_trees (term_at table (record { 0 = k }))
   truth_at table e ordered zero h =
-      subst (Contains truth_trees) (sym (laws.unfolds table (record { 0 = 0 }) (Con (record { 0 = 0 }) []) bool_sort ordered (ap (λ (ts : Terms). slice_get ts 0) e))) (0, omega arith, refl)
+      subst (Contains truth_trees) (sym (theorems.unfolds table (record { 0 = 0 }) (Con (record { 0 = 0 }) []) bool_sort ordered (ap (λ (ts : Terms). slice_get ts 0) e))) (0, omega arith, refl)
   truth_at table e ordered (suc zero) h =
-      subst (Contains truth_trees) (sym (laws.unfolds table (record { 0 = 1 }) (Con (record { 0 = 1 }) []) bool_sort ordered (ap (λ (ts : Terms). slice_get ts 1) e))) (1, omega arith, refl)
+      subst (Contains truth_trees) (sym (theorems.unfolds table (record { 0 = 1 }) (Con (record { 0 = 1 }) []) bool_sort ordered (ap (λ (ts : Terms). slice_get ts 1) e))) (1, omega arith, refl)
   truth_at table e ordered (suc (suc k)) h = absurd (omega (arith, h))
 
   -- a truth value stands in the first table
   truth_stands : (table : Terms) → table ≡ truths → AreOrdered table → (t : CoreTree) → Contains truth_trees t → Stands table t
   truth_stands table e ordered t h =
       elim (Contains-cons (con (record { 0 = 0 }) no_trees) (con (record { 0 = 1 }) no_trees ∷ []) t h) [
-        | inl same ↦ subst (Stands table) same (at 0 (omega arith) (laws.unfolds table (record { 0 = 0 }) (Con (record { 0 = 0 }) []) bool_sort ordered (ap (λ (ts : Terms). slice_get ts 0) e)))
+        | inl same ↦ subst (Stands table) same (at 0 (omega arith) (theorems.unfolds table (record { 0 = 0 }) (Con (record { 0 = 0 }) []) bool_sort ordered (ap (λ (ts : Terms). slice_get ts 0) e)))
         | inr rest ↦ elim (Contains-cons (con (record { 0 = 1 }) no_trees) [] t rest) [
-          | inl same ↦ subst (Stands table) same (at 1 (omega arith) (laws.unfolds table (record { 0 = 1 }) (Con (record { 0 = 1 }) []) bool_sort ordered (ap (λ (ts : Terms). slice_get ts 1) e)))
+          | inl same ↦ subst (Stands table) same (at 1 (omega arith) (theorems.unfolds table (record { 0 = 1 }) (Con (record { 0 = 1 }) []) bool_sort ordered (ap (λ (ts : Terms). slice_get ts 1) e)))
           | inr none ↦ absurd (Contains-none t none)
         ]
       ]
@@ -149,7 +149,7 @@ module _ (laws : Laws) where
       }
     where
       itself : (t : CoreTree) → Contains (subtrees t) t
-      itself t = subst (λ (ts : List CoreTree). Contains ts t) (sym (laws.subterms t)) (Contains-first t (flat_map subtrees (tree_children t)))
+      itself t = subst (λ (ts : List CoreTree). Contains ts t) (sym (theorems.subterms t)) (Contains-first t (flat_map subtrees (tree_children t)))
 
       first : {root : CoreTree} → Contains (truth_trees ++ []) root → Contains truth_trees root
       first {root} h = elim (Contains-append_cases truth_trees [] root h) [ inl truth ↦ truth | inr none ↦ absurd (Contains-none root none) ]
@@ -163,7 +163,7 @@ module _ (laws : Laws) where
   boolean_term : (d : Declarations) (table : Terms) (t : TermId) → AreOrdered table → AreSorted d table → t.0 < length table → HasTreeSort d (term_at table t) bool_sort → IsBoolean table t
   boolean_term d table t ordered sorted within boolean =
       let found = entry_at table t.0 within in
-      let same : found.0.1 ≡ bool_sort = laws.one_sort d (term_at table t) found.0.1 bool_sort (laws.tree_sorted d table t found.0.1 ordered sorted (found.0.0, found.1)) boolean in
+      let same : found.0.1 ≡ bool_sort = theorems.one_sort d (term_at table t) found.0.1 bool_sort (theorems.tree_sorted d table t found.0.1 ordered sorted (found.0.0, found.1)) boolean in
       (found.0.0, subst (λ (s : SortId). slice_get table t.0 ≡ Some (found.0.0, s)) same found.1)
 
   -- with one assertion more
@@ -172,7 +172,7 @@ module _ (laws : Laws) where
     all_cores = map-append (core c) asserts (formula ∷ [])
 
     stays : (u : TermId) → u.0 < length old → term_at new u ≡ term_at old u
-    stays u within = ap (λ (ts : Terms). term_at ts u) grown.1 ∙ laws.longer old grown.0 u (subst AreOrdered grown.1 ordered) within
+    stays u within = ap (λ (ts : Terms). term_at ts u) grown.1 ∙ theorems.longer old grown.0 u (subst AreOrdered grown.1 ordered) within
 
     boolean_stays : (u : TermId) → IsBoolean old u → IsBoolean new u
     boolean_stays u h =
@@ -188,7 +188,7 @@ module _ (laws : Laws) where
     boolean : IsBoolean new t
     boolean =
         boolean_term c.declarations new t ordered exact.sorted stands.0
-        (subst (λ (tree : CoreTree). HasTreeSort c.declarations tree bool_sort) (sym stands.1) (laws.core_sorted c.declarations c.bodies [] [] formula bool_sort consistent held.sound.bodies tt sorted))
+        (subst (λ (tree : CoreTree). HasTreeSort c.declarations tree bool_sort) (sym stands.1) (theorems.core_sorted c.declarations c.bodies [] [] formula bool_sort consistent held.sound.bodies tt sorted))
 
     pub held_asserted : IsHeld (record { context = c; assertions = asserts ++ formula ∷ [] }) new (numbers ++ t ∷ [])
     held_asserted =

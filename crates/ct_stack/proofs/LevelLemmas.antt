@@ -13,7 +13,7 @@ use Rattle.ct_terms.specs.declared.ids.TermId.{TermId}
 use Rattle.ct_terms.specs.Terms.{Terms}
 use Rattle.ct_terms.specs.Formula.{Formula}
 use Rattle.ct_terms.specs.FormulaSorts.{AreSound}
-use Rattle.ct_stack.specs.Laws.{Laws}
+use Rattle.ct_stack.specs.Theorems.{Theorems}
 use Rattle.ct_stack.specs.Stack.{Context, Level, Stack, in_force, in_context, declaring, asserting}
 use Rattle.ct_stack.specs.Levels.{pushed, pushed_by, popped}
 use Rattle.ct_stack.specs.Held.{IsHeld, alone, as_one}
@@ -77,14 +77,14 @@ pub record Grows (later w : Whole) : Type 0 where
 abbrev pub whole_left : LevelMark → Whole → Whole
 whole_left m w = record { level = record w.level { assertions = take m.asserts w.level.assertions }; table = take m.terms w.table; numbers = take m.asserts w.numbers }
 
-module _ (laws : Laws) where
+module _ (theorems : Theorems) where
   -- where more is in force, what was there at a mark is the same
   module _ (later w : Whole) (g : Grows later w) (m : LevelMark) (mark : IsMarkOf m w) where
     cut_stays : cut later.level.context.declarations m.declared ≡ cut w.level.context.declarations m.declared
     cut_stays =
         let d = cut w.level.context.declarations m.declared in
         ap (λ (n : Lengths). cut later.level.context.declarations n) (sym mark.exact)
-        ∙ laws.cut_back later.level.context.declarations d (laws.further later.level.context.declarations w.level.context.declarations d g.declarations mark.extends)
+        ∙ theorems.cut_back later.level.context.declarations d (theorems.further later.level.context.declarations w.level.context.declarations d g.declarations mark.extends)
 
     level_stays : level_at m later.level ≡ level_at m w.level
     level_stays =
@@ -103,7 +103,7 @@ module _ (laws : Laws) where
         let d = cut w.level.context.declarations m.declared in
         record {
           consistent = subst IsConsistent (sym cut_stays) mark.consistent;
-          extends = subst (λ (e : Declarations). Extends later.level.context.declarations e) (sym cut_stays) (laws.further later.level.context.declarations w.level.context.declarations d g.declarations mark.extends);
+          extends = subst (λ (e : Declarations). Extends later.level.context.declarations e) (sym cut_stays) (theorems.further later.level.context.declarations w.level.context.declarations d g.declarations mark.extends);
           exact = ap lengths cut_stays ∙ mark.exact;
           bodies = long_stays m.declared.definitions w.level.context.bodies later.level.context.bodies g.bodies mark.bodies;
           asserts = long_stays m.asserts w.level.assertions later.level.assertions g.assertions mark.asserts;
@@ -145,7 +145,7 @@ module _ (laws : Laws) where
   -- a mark of all that is there
   module _ (w : Whole) (m : LevelMark) (declared : m.declared ≡ lengths w.level.context.declarations) (one_each : length w.level.context.bodies ≡ length w.level.context.declarations.definitions) (asserts : m.asserts ≡ length w.level.assertions) (numbers : length w.numbers ≡ length w.level.assertions) (terms : m.terms ≡ length w.table) (truths : 2 ≤ length w.table) (consistent : IsConsistent w.level.context.declarations) where
     cut_none : cut w.level.context.declarations m.declared ≡ w.level.context.declarations
-    cut_none = ap (λ (n : Lengths). cut w.level.context.declarations n) declared ∙ laws.cut_back w.level.context.declarations w.level.context.declarations (laws.itself w.level.context.declarations)
+    cut_none = ap (λ (n : Lengths). cut w.level.context.declarations n) declared ∙ theorems.cut_back w.level.context.declarations w.level.context.declarations (theorems.itself w.level.context.declarations)
 
     many : m.declared.definitions ≡ length w.level.context.bodies
     many = ap (λ (n : Lengths). n.definitions) declared ∙ sym one_each
@@ -166,7 +166,7 @@ module _ (laws : Laws) where
     mark_whole =
         record {
           consistent = subst IsConsistent (sym cut_none) consistent;
-          extends = subst (λ (d : Declarations). Extends w.level.context.declarations d) (sym cut_none) (laws.itself w.level.context.declarations);
+          extends = subst (λ (d : Declarations). Extends w.level.context.declarations d) (sym cut_none) (theorems.itself w.level.context.declarations);
           exact = ap lengths cut_none ∙ sym declared;
           bodies = omega (arith, many);
           asserts = omega (arith, asserts);
@@ -214,7 +214,7 @@ module _ (laws : Laws) where
     now =
         let before = held_now (whole_at m w) marks held.2 in
         subst (λ (bs : List Formula). IsHeld (record { context = record { declarations = w.level.context.declarations; bodies = bs }; assertions = take m.asserts w.level.assertions }) (take m.terms w.table) (take m.asserts w.numbers)) rejoined
-        (held_lasting laws w.level.context.declarations (cut w.level.context.declarations m.declared) (take m.declared.definitions w.level.context.bodies) (drop m.declared.definitions w.level.context.bodies) consistent held.1.consistent held.1.extends before.sound.bodies (take m.asserts w.level.assertions) (take m.terms w.table) (take m.asserts w.numbers)
+        (held_lasting theorems w.level.context.declarations (cut w.level.context.declarations m.declared) (take m.declared.definitions w.level.context.bodies) (drop m.declared.definitions w.level.context.bodies) consistent held.1.consistent held.1.extends before.sound.bodies (take m.asserts w.level.assertions) (take m.terms w.table) (take m.asserts w.numbers)
         (subst (AreSound w.level.context.declarations) (sym rejoined) held.0.sound.bodies) before)
 
     pub held_left : AreHeld (whole_left m w) marks

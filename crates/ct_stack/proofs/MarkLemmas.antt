@@ -13,7 +13,7 @@ use Rattle.ct_terms.specs.Formula.{Formula}
 use Rattle.ct_terms.specs.TreeFormula.{formula_of}
 use Rattle.ct_terms.specs.CoreTree.{CoreTree, term_at}
 use Rattle.ct_compile.specs.declared.scope.Scope.{Scope}
-use Rattle.ct_stack.specs.Laws.{Laws}
+use Rattle.ct_stack.specs.Theorems.{Theorems}
 use Rattle.ct_stack.specs.Numbers.{too_many_levels, most_levels}
 use Rattle.ct_stack.specs.Refusal.{IsPushRefusal}
 use Rattle.ct_stack.specs.Stack.{Context, Level, Stack, core, in_force, first_stack}
@@ -43,7 +43,7 @@ levels_are l marks s is = ap (λ (t : Stack). length t.below) (sym is) ∙ as_ma
 pub last_first : (marks rest : List LevelMark) (m : LevelMark) → marks ≡ rest ++ m ∷ [] → reverse marks ≡ m ∷ reverse rest
 last_first marks rest m e = ap (λ (ms : List LevelMark). reverse ms) e ∙ reverse-append rest (m ∷ [])
 
-module _ (laws : Laws) (scope : Scope) (asserts : List Tree) (table : Terms) (numbers : List TermId) (marks rest : List LevelMark) (m : LevelMark) (first : Lengths) (consistent : IsConsistent scope.sig) (kept : IsKept (whole_in scope asserts table numbers) (reverse marks) first) (parted : marks ≡ rest ++ m ∷ []) where
+module _ (theorems : Theorems) (scope : Scope) (asserts : List Tree) (table : Terms) (numbers : List TermId) (marks rest : List LevelMark) (m : LevelMark) (first : Lengths) (consistent : IsConsistent scope.sig) (kept : IsKept (whole_in scope asserts table numbers) (reverse marks) first) (parted : marks ≡ rest ++ m ∷ []) where
   held : AreHeld (whole_in scope asserts table numbers) (m ∷ reverse rest)
   held = subst (λ (ms : List LevelMark). AreHeld (whole_in scope asserts table numbers) ms) (last_first marks rest m parted) kept.held
 
@@ -60,7 +60,7 @@ module _ (laws : Laws) (scope : Scope) (asserts : List Tree) (table : Terms) (nu
     pub kept_global : IsKept (whole_in scope asserts_now table_now numbers_now) (reverse rest) first
     kept_global =
         record {
-          held = subst (λ (w : Whole). AreHeld w (reverse rest)) (sym global_is) (held_left laws (whole_in scope asserts table numbers) m (reverse rest) consistent held);
+          held = subst (λ (w : Whole). AreHeld w (reverse rest)) (sym global_is) (held_left theorems (whole_in scope asserts table numbers) m (reverse rest) consistent held);
           first_is = kept.first_is;
           first_consistent = kept.first_consistent;
           first_sorted = kept.first_sorted;
@@ -73,7 +73,7 @@ module _ (laws : Laws) (scope : Scope) (asserts : List Tree) (table : Terms) (nu
     pub popped_global : (global : Bool) (s : Stack) → global ≡ true → stack_of (level_in scope asserts) (reverse marks) ≡ s → stack_of (level_in scope asserts_now) (reverse rest) ≡ popped global s
     popped_global global s e is =
         ap (λ (w : Whole). stack_of w.level (reverse rest)) global_is
-        ∙ stack_left_global laws (whole_in scope asserts table numbers) m (reverse rest) consistent held
+        ∙ stack_left_global theorems (whole_in scope asserts table numbers) m (reverse rest) consistent held
         ∙ one_fewer true s is
         ∙ ap (λ (b : Bool). popped b s) (sym e)
 
@@ -109,10 +109,10 @@ module _ (laws : Laws) (scope : Scope) (asserts : List Tree) (table : Terms) (nu
   pub can_cut_back : CanCut scope.sig m.declared
   can_cut_back =
       let d = cut scope.sig m.declared in
-      subst (λ (n : Lengths). CanCut scope.sig n) held.1.exact (laws.can_cut scope.sig d held.1.consistent held.1.extends)
+      subst (λ (n : Lengths). CanCut scope.sig n) held.1.exact (theorems.can_cut scope.sig d held.1.consistent held.1.extends)
 
 -- marks of all that is there
-module _ (laws : Laws) (scope : Scope) (asserts : List Tree) (table : Terms) (numbers : List TermId) (marks : List LevelMark) (first : Lengths) (consistent : IsConsistent scope.sig) (kept : IsKept (whole_in scope asserts table numbers) (reverse marks) first) (begins : BeginsWithTruths table) (m : LevelMark) (declared : m.declared ≡ lengths scope.sig) (asserts_are : m.asserts ≡ length asserts) (terms_are : m.terms ≡ length table) (n : ℕ) (later now : List LevelMark) (put : reverse later ≡ replicate n m ++ reverse now) (same : now ≡ marks) where
+module _ (theorems : Theorems) (scope : Scope) (asserts : List Tree) (table : Terms) (numbers : List TermId) (marks : List LevelMark) (first : Lengths) (consistent : IsConsistent scope.sig) (kept : IsKept (whole_in scope asserts table numbers) (reverse marks) first) (begins : BeginsWithTruths table) (m : LevelMark) (declared : m.declared ≡ lengths scope.sig) (asserts_are : m.asserts ≡ length asserts) (terms_are : m.terms ≡ length table) (n : ℕ) (later now : List LevelMark) (put : reverse later ≡ replicate n m ++ reverse now) (same : now ≡ marks) where
   before : IsHeld (level_in scope asserts) table numbers
   before = held_now (whole_in scope asserts table numbers) (reverse marks) kept.held
 
@@ -126,7 +126,7 @@ module _ (laws : Laws) (scope : Scope) (asserts : List Tree) (table : Terms) (nu
   kept_pushed =
       record {
         held = subst (λ (ms : List LevelMark). AreHeld (whole_in scope asserts table numbers) ms) (sym marks_are)
-            (held_pushed laws (whole_in scope asserts table numbers) m declared before.sound.bodies.one_each many (numbered (level_in scope asserts) table numbers before) terms_are (two_at_least table begins) consistent n (reverse marks) kept.held);
+            (held_pushed theorems (whole_in scope asserts table numbers) m declared before.sound.bodies.one_each many (numbered (level_in scope asserts) table numbers before) terms_are (two_at_least table begins) consistent n (reverse marks) kept.held);
         first_is = kept.first_is;
         first_consistent = kept.first_consistent;
         first_sorted = kept.first_sorted;
@@ -135,7 +135,7 @@ module _ (laws : Laws) (scope : Scope) (asserts : List Tree) (table : Terms) (nu
   pub stack_pushed_by : (s : Stack) → stack_of (level_in scope asserts) (reverse marks) ≡ s → stack_of (level_in scope asserts) (reverse later) ≡ pushed_by n s
   stack_pushed_by s is =
       ap (λ (ms : List LevelMark). stack_of (level_in scope asserts) ms) marks_are
-      ∙ stack_pushed laws (whole_in scope asserts table numbers) m declared before.sound.bodies.one_each many (numbered (level_in scope asserts) table numbers before) terms_are (two_at_least table begins) consistent n (reverse marks)
+      ∙ stack_pushed theorems (whole_in scope asserts table numbers) m declared before.sound.bodies.one_each many (numbered (level_in scope asserts) table numbers before) terms_are (two_at_least table begins) consistent n (reverse marks)
       ∙ ap (λ (t : Stack). pushed_by n t) is
 
 -- when levels are refused
@@ -148,7 +148,7 @@ module _ (l : Level) (marks : List LevelMark) (s : Stack) (is : stack_of l (reve
   push_accepted room k (inr h) = h.1
 
 -- where nothing is asserted and the outermost level is alone
-module _ (laws : Laws) (scope : Scope) (asserts : List Tree) (table : Terms) (numbers : List TermId) (marks : List LevelMark) (no_asserts : asserts ≡ []) (no_numbers : numbers ≡ []) (no_marks : marks ≡ []) where
+module _ (theorems : Theorems) (scope : Scope) (asserts : List Tree) (table : Terms) (numbers : List TermId) (marks : List LevelMark) (no_asserts : asserts ≡ []) (no_numbers : numbers ≡ []) (no_marks : marks ≡ []) where
   abbrev alone_held : Type 0
   alone_held = IsHeld (record { context = context_in scope; assertions = [] }) table []
 
@@ -169,47 +169,47 @@ module _ (laws : Laws) (scope : Scope) (asserts : List Tree) (table : Terms) (nu
   -- at the start
   pub kept_first : (first : Lengths) → scope.sig ≡ start → scope.bodies ≡ [] → table ≡ truths → AreOrdered table → AreSorted start table → first ≡ lengths scope.sig → IsConsistent scope.sig → IsKept (whole_in scope asserts table numbers) (reverse marks) first
   kept_first first declared defined terms ordered sorted is consistent =
-      kept_alone first (first_held laws scope.sig (map formula_of scope.bodies) table declared (ap (map formula_of) defined) terms ordered (subst (λ (d : Declarations). AreSorted d table) (sym declared) sorted)) (is ∙ ap lengths declared) (subst IsConsistent declared consistent) (subst (AreSorted start) terms sorted)
+      kept_alone first (first_held theorems scope.sig (map formula_of scope.bodies) table declared (ap (map formula_of) defined) terms ordered (subst (λ (d : Declarations). AreSorted d table) (sym declared) sorted)) (is ∙ ap lengths declared) (subst IsConsistent declared consistent) (subst (AreSorted start) terms sorted)
 
 -- where all assertions go
-module _ (laws : Laws) (scope : Scope) (asserts : List Tree) (table : Terms) (numbers : List TermId) (marks : List LevelMark) (first : Lengths) (consistent : IsConsistent scope.sig) (kept : IsKept (whole_in scope asserts table numbers) (reverse marks) first) (asserts_now : List Tree) (table_now : Terms) (numbers_now : List TermId) (marks_now : List LevelMark) (no_asserts : asserts_now ≡ []) (no_numbers : numbers_now ≡ []) (no_marks : marks_now ≡ []) (terms : table_now ≡ truths) (ordered : AreOrdered table_now) where
+module _ (theorems : Theorems) (scope : Scope) (asserts : List Tree) (table : Terms) (numbers : List TermId) (marks : List LevelMark) (first : Lengths) (consistent : IsConsistent scope.sig) (kept : IsKept (whole_in scope asserts table numbers) (reverse marks) first) (asserts_now : List Tree) (table_now : Terms) (numbers_now : List TermId) (marks_now : List LevelMark) (no_asserts : asserts_now ≡ []) (no_numbers : numbers_now ≡ []) (no_marks : marks_now ≡ []) (terms : table_now ≡ truths) (ordered : AreOrdered table_now) where
   -- and what is declared stays
   pub kept_global_empty : ((d : Declarations) → AreSorted d table → AreSorted d table_now) → IsKept (whole_in scope asserts_now table_now numbers_now) (reverse marks_now) first
   kept_global_empty sorted =
       let before = held_now (whole_in scope asserts table numbers) (reverse marks) kept.held in
-      kept_alone laws scope asserts_now table_now numbers_now marks_now no_asserts no_numbers no_marks first
-      (nothing_held laws scope.sig (map formula_of scope.bodies) table_now before.sound.bodies terms ordered (sorted scope.sig before.in_table.exact.sorted)) kept.first_is kept.first_consistent kept.first_sorted
+      kept_alone theorems scope asserts_now table_now numbers_now marks_now no_asserts no_numbers no_marks first
+      (nothing_held theorems scope.sig (map formula_of scope.bodies) table_now before.sound.bodies terms ordered (sorted scope.sig before.in_table.exact.sorted)) kept.first_is kept.first_consistent kept.first_sorted
 
   pub emptied_global : (global : Bool) (s : Stack) → global ≡ true → stack_of (level_in scope asserts) (reverse marks) ≡ s → stack_of (level_in scope asserts_now) (reverse marks_now) ≡ emptied global s
   emptied_global global s e is =
-      stack_alone laws scope asserts_now table_now numbers_now marks_now no_asserts no_numbers no_marks
+      stack_alone theorems scope asserts_now table_now numbers_now marks_now no_asserts no_numbers no_marks
       ∙ ap (λ (c : Context). record { top = record { context = c; assertions = [] }; below = [] }) (sym (context_now (level_in scope asserts) (reverse marks)) ∙ ap (λ (t : Stack). t.top.context) is)
       ∙ ap (λ (b : Bool). emptied b s) (sym e)
 
   -- and so does what is declared
   module _ (scope_now : Scope) (declared : scope_now.sig ≡ cut scope.sig first) (defined : scope_now.bodies ≡ take first.definitions scope.bodies) where
     first_declared : scope_now.sig ≡ start
-    first_declared = declared ∙ ap (λ (n : Lengths). cut scope.sig n) kept.first_is ∙ laws.cut_back scope.sig start (laws.from_start scope.sig consistent)
+    first_declared = declared ∙ ap (λ (n : Lengths). cut scope.sig n) kept.first_is ∙ theorems.cut_back scope.sig start (theorems.from_start scope.sig consistent)
 
     none_defined : scope_now.bodies ≡ []
     none_defined = defined ∙ ap (λ (n : Lengths). take n.definitions scope.bodies) kept.first_is
 
     pub kept_empty : IsKept (whole_in scope_now asserts_now table_now numbers_now) (reverse marks_now) first
     kept_empty =
-        kept_alone laws scope_now asserts_now table_now numbers_now marks_now no_asserts no_numbers no_marks first
-        (first_held laws scope_now.sig (map formula_of scope_now.bodies) table_now first_declared (ap (map formula_of) none_defined) terms ordered
+        kept_alone theorems scope_now asserts_now table_now numbers_now marks_now no_asserts no_numbers no_marks first
+        (first_held theorems scope_now.sig (map formula_of scope_now.bodies) table_now first_declared (ap (map formula_of) none_defined) terms ordered
         (subst (λ (d : Declarations). AreSorted d table_now) (sym first_declared) (subst (AreSorted start) (sym terms) kept.first_sorted)))
         kept.first_is kept.first_consistent kept.first_sorted
 
 -- whether all is as at the start
-module _ (laws : Laws) (scope : Scope) (asserts : List Tree) (table : Terms) (numbers : List TermId) (marks : List LevelMark) (first : Lengths) (consistent : IsConsistent scope.sig) (kept : IsKept (whole_in scope asserts table numbers) (reverse marks) first) (s : Stack) (is : stack_of (level_in scope asserts) (reverse marks) ≡ s) (declared : Lengths) (declared_is : declared ≡ lengths scope.sig) where
+module _ (theorems : Theorems) (scope : Scope) (asserts : List Tree) (table : Terms) (numbers : List TermId) (marks : List LevelMark) (first : Lengths) (consistent : IsConsistent scope.sig) (kept : IsKept (whole_in scope asserts table numbers) (reverse marks) first) (s : Stack) (is : stack_of (level_in scope asserts) (reverse marks) ≡ s) (declared : Lengths) (declared_is : declared ≡ lengths scope.sig) where
   pub first_from : (marks ≡ []) × (asserts ≡ []) × (declared ≡ first) → s ≡ first_stack
   first_from h =
       let before = held_now (whole_in scope asserts table numbers) (reverse marks) kept.held in
       let sig : scope.sig ≡ start =
-      sym (laws.cut_back scope.sig scope.sig (laws.itself scope.sig))
+      sym (theorems.cut_back scope.sig scope.sig (theorems.itself scope.sig))
       ∙ ap (λ (n : Lengths). cut scope.sig n) (sym declared_is ∙ h.2 ∙ kept.first_is)
-      ∙ laws.cut_back scope.sig start (laws.from_start scope.sig consistent)
+      ∙ theorems.cut_back scope.sig start (theorems.from_start scope.sig consistent)
       in
       let none : map formula_of scope.bodies ≡ [] = none_of (map formula_of scope.bodies) (before.sound.bodies.one_each ∙ ap (λ (d : Declarations). length d.definitions) sig) in
       sym is

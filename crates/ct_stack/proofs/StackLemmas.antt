@@ -13,7 +13,7 @@ use Rattle.ct_terms.specs.TreeFormula.{formula_of}
 use Rattle.ct_names.specs.Outcome.{Outcome}
 use Rattle.ct_compile.specs.declared.scope.Scope.{Scope}
 use Rattle.ct_compile.specs.Effect.{IsPrefix}
-use Rattle.ct_stack.specs.Laws.{Laws}
+use Rattle.ct_stack.specs.Theorems.{Theorems}
 use Rattle.ct_stack.specs.Stack.{Context, Level, Stack, declaring, in_context, asserting, defined_in}
 use Rattle.ct_stack.specs.Outcomes.{Gives}
 use Rattle.ct_stack.specs.Held.{IsHeld, as_one, level_in}
@@ -36,7 +36,7 @@ gives_more (Ok x) P Q more h = more x h
 gives_more (Err n) P Q more h = absurd h
 
 -- with other declarations and definitions
-module _ (laws : Laws) (later earlier : Declarations) (bodies asserts : List Formula) (table : Terms) (numbers : List TermId) (marks : List LevelMark) (held : AreHeld (whole earlier bodies asserts table numbers) marks) where
+module _ (theorems : Theorems) (later earlier : Declarations) (bodies asserts : List Formula) (table : Terms) (numbers : List TermId) (marks : List LevelMark) (held : AreHeld (whole earlier bodies asserts table numbers) marks) where
   grows : (bodies_now : List Formula) → Begins bodies bodies_now → Extends later earlier → Grows (whole later bodies_now asserts table numbers) (whole earlier bodies asserts table numbers)
   grows bodies_now more extends =
       record { declarations = extends; bodies = more; assertions = itself asserts; table = itself table; numbers = itself numbers }
@@ -51,8 +51,8 @@ module _ (laws : Laws) (later earlier : Declarations) (bodies asserts : List For
     held_more : (grown : Declarations) → later ≡ grown → Extends grown earlier → grown.definitions ≡ earlier.definitions → AreHeld (whole later bodies asserts table numbers) marks
     held_more grown e more same =
         let extends : Extends later earlier = subst (λ (d : Declarations). Extends d earlier) (sym e) more in
-        held_grown laws (whole later bodies asserts table numbers) (whole earlier bodies asserts table numbers) marks (grows bodies (itself bodies) extends)
-        (held_declared laws later earlier bodies asserts table numbers consistent consistent_before extends (ap (λ (d : Declarations). d.definitions) e ∙ same) (held_now (whole earlier bodies asserts table numbers) marks held)) held
+        held_grown theorems (whole later bodies asserts table numbers) (whole earlier bodies asserts table numbers) marks (grows bodies (itself bodies) extends)
+        (held_declared theorems later earlier bodies asserts table numbers consistent consistent_before extends (ap (λ (d : Declarations). d.definitions) e ∙ same) (held_now (whole earlier bodies asserts table numbers) marks held)) held
 
     -- after a declaration that may be refused
     pub held_after : {T E : Type 0} (r : Result T E) (grown : Declarations) → OnOk r (later ≡ grown) → OnErr r (later ≡ earlier) → Extends grown earlier → grown.definitions ≡ earlier.definitions → AreHeld (whole later bodies asserts table numbers) marks
@@ -72,9 +72,9 @@ module _ (laws : Laws) (later earlier : Declarations) (bodies asserts : List For
         let now : IsHeld (level later bodies_now asserts) table numbers =
         subst (λ (d : Declarations). IsHeld (level d bodies_now asserts) table numbers) (sym ok.0)
         (subst (λ (bs : List Formula). IsHeld (level (with_definition earlier f.0) bs asserts) table numbers) (sym ok.1)
-        (held_defined laws earlier f.0 bodies asserts f.1 table numbers (subst IsConsistent ok.0 consistent) consistent_before (more f.0) ok.2 (held_now (whole earlier bodies asserts table numbers) marks held)))
+        (held_defined theorems earlier f.0 bodies asserts f.1 table numbers (subst IsConsistent ok.0 consistent) consistent_before (more f.0) ok.2 (held_now (whole earlier bodies asserts table numbers) marks held)))
         in
-        held_grown laws (whole later bodies_now asserts table numbers) (whole earlier bodies asserts table numbers) marks (grows bodies_now (f.1 ∷ [], ok.1) extends) now held
+        held_grown theorems (whole later bodies_now asserts table numbers) (whole earlier bodies asserts table numbers) marks (grows bodies_now (f.1 ∷ [], ok.1) extends) now held
     held_after_definition (Ok x) (Err n) bodies_now ok err more = absurd ok
     held_after_definition (Err e) o bodies_now ok err more = held_with bodies_now err.0 err.1
 
@@ -82,7 +82,7 @@ module _ (laws : Laws) (later earlier : Declarations) (bodies asserts : List For
   module _ (s : Stack) (is : stack_of (level earlier bodies asserts) marks ≡ s) where
     declared_here : (grown : Declarations) → later ≡ grown → Extends grown earlier → stack_of (level later bodies asserts) marks ≡ declaring (stack_of (level earlier bodies asserts) marks) grown
     declared_here grown e more =
-        declaring_now laws (whole later bodies asserts table numbers) (whole earlier bodies asserts table numbers) marks later (grows bodies (itself bodies) (subst (λ (d : Declarations). Extends d earlier) (sym e) more)) refl held
+        declaring_now theorems (whole later bodies asserts table numbers) (whole earlier bodies asserts table numbers) marks later (grows bodies (itself bodies) (subst (λ (d : Declarations). Extends d earlier) (sym e) more)) refl held
         ∙ ap (λ (d : Declarations). declaring (stack_of (level earlier bodies asserts) marks) d) e
 
     -- what is declared at the innermost level
@@ -109,7 +109,7 @@ module _ (laws : Laws) (later earlier : Declarations) (bodies asserts : List For
 
     defined_here : (f : Function × Formula) (bodies_now : List Formula) → later ≡ with_definition earlier f.0 → bodies_now ≡ bodies ++ f.1 ∷ [] → Extends (with_definition earlier f.0) earlier → stack_of (level later bodies_now asserts) marks ≡ in_context (stack_of (level earlier bodies asserts) marks) (defined_in (record { declarations = earlier; bodies = bodies }) f)
     defined_here f bodies_now e b more =
-        in_context_now laws (whole later bodies_now asserts table numbers) (whole earlier bodies asserts table numbers) marks (grows bodies_now (f.1 ∷ [], b) (subst (λ (d : Declarations). Extends d earlier) (sym e) more)) refl held
+        in_context_now theorems (whole later bodies_now asserts table numbers) (whole earlier bodies asserts table numbers) marks (grows bodies_now (f.1 ∷ [], b) (subst (λ (d : Declarations). Extends d earlier) (sym e) more)) refl held
         ∙ ap (λ (d : Declarations). in_context (stack_of (level earlier bodies asserts) marks) (record { declarations = d; bodies = bodies_now })) e
         ∙ ap (λ (bs : List Formula). in_context (stack_of (level earlier bodies asserts) marks) (record { declarations = with_definition earlier f.0; bodies = bs })) b
 
@@ -135,23 +135,23 @@ pub declared_in : (l : Level) (marks : List LevelMark) (s : Stack) → stack_of 
 declared_in l marks s is = ap (λ (c : Context). c.declarations) (sym (context_now l marks)) ∙ ap (λ (t : Stack). t.top.context.declarations) is
 
 -- with one assertion more, or as before
-module _ (laws : Laws) (d : Declarations) (bodies : List Formula) (asserts_now asserts : List Tree) (t : Tree) (table_now table : Terms) (numbers_now numbers : List TermId) (marks : List LevelMark) (held : AreHeld (whole d bodies (map formula_of asserts) table numbers) marks) (grown : IsPrefix table table_now) (longer : Begins numbers numbers_now) where
+module _ (theorems : Theorems) (d : Declarations) (bodies : List Formula) (asserts_now asserts : List Tree) (t : Tree) (table_now table : Terms) (numbers_now numbers : List TermId) (marks : List LevelMark) (held : AreHeld (whole d bodies (map formula_of asserts) table numbers) marks) (grown : IsPrefix table table_now) (longer : Begins numbers numbers_now) where
   begins : {T E : Type 0} (r : Result T E) → OnOk r (asserts_now ≡ asserts ++ t ∷ []) → OnErr r (asserts_now ≡ asserts) → Begins (map formula_of asserts) (map formula_of asserts_now)
   begins (Ok x) ok err = (formula_of t ∷ [], ap (map formula_of) ok ∙ map-append formula_of asserts (t ∷ []))
   begins (Err e) ok err = ([], ap (map formula_of) err ∙ sym (append-nil (map formula_of asserts)))
 
   grows_asserted : Begins (map formula_of asserts) (map formula_of asserts_now) → Grows (whole d bodies (map formula_of asserts_now) table_now numbers_now) (whole d bodies (map formula_of asserts) table numbers)
   grows_asserted more =
-      record { declarations = laws.itself d; bodies = itself bodies; assertions = more; table = grown; numbers = longer }
+      record { declarations = theorems.itself d; bodies = itself bodies; assertions = more; table = grown; numbers = longer }
 
   pub held_asserted_now : {T E : Type 0} (r : Result T E) → OnOk r (asserts_now ≡ asserts ++ t ∷ []) → OnErr r (asserts_now ≡ asserts) → IsHeld (level d bodies (map formula_of asserts_now)) table_now numbers_now → AreHeld (whole d bodies (map formula_of asserts_now) table_now numbers_now) marks
   held_asserted_now r ok err now =
-      held_grown laws (whole d bodies (map formula_of asserts_now) table_now numbers_now) (whole d bodies (map formula_of asserts) table numbers) marks (grows_asserted (begins r ok err)) now held
+      held_grown theorems (whole d bodies (map formula_of asserts_now) table_now numbers_now) (whole d bodies (map formula_of asserts) table numbers) marks (grows_asserted (begins r ok err)) now held
 
   pub asserted : (s : Stack) → stack_of (level d bodies (map formula_of asserts)) marks ≡ s → asserts_now ≡ asserts ++ t ∷ [] → stack_of (level d bodies (map formula_of asserts_now)) marks ≡ asserting s (formula_of t)
   asserted s is e =
       let more = ap (map formula_of) e ∙ map-append formula_of asserts (t ∷ []) in
-      asserting_now laws (whole d bodies (map formula_of asserts_now) table_now numbers_now) (whole d bodies (map formula_of asserts) table numbers) marks (formula_of t) (grows_asserted (formula_of t ∷ [], more)) refl more held
+      asserting_now theorems (whole d bodies (map formula_of asserts_now) table_now numbers_now) (whole d bodies (map formula_of asserts) table numbers) marks (formula_of t) (grows_asserted (formula_of t ∷ [], more)) refl more held
       ∙ ap (λ (u : Stack). asserting u (formula_of t)) is
 
 -- what is held of the same values

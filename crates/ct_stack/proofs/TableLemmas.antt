@@ -11,7 +11,7 @@ use Rattle.ct_terms.specs.CoreTree.{CoreTree, subtrees, term_at}
 use Rattle.ct_closure.specs.Closed.{truth_trees}
 use Rattle.ct_closure.specs.ClosedTable.{Stands}
 use Rattle.ct_compile.specs.Effect.{IsPrefix, DoNotFit}
-use Rattle.ct_stack.specs.Laws.{Laws}
+use Rattle.ct_stack.specs.Theorems.{Theorems}
 use Rattle.ct_stack.specs.Refusal.{HasManyTerms}
 use Rattle.ct_stack.specs.Held.{IsTableOf}
 use Rattle.ct_stack.proofs.ListLemmas.{before_or_last, Contains-cons, Contains-first, Contains-none, index_of, contained, slice_get-append_left, slice_get-last, slice_get-prefix, no_longer}
@@ -105,7 +105,7 @@ below_or_not zero (suc n) = inl (omega arith)
 below_or_not (suc k) (suc n) =
     elim (below_or_not k n) [ inl below ↦ inl (omega (arith, below)) | inr past ↦ inr (omega (arith, past)) ]
 
-module _ (laws : Laws) (d : Declarations) (roots : List CoreTree) (old : Terms) (of : IsTableOf d roots old) (ordered : AreOrdered old) (single : AreSingle old) (c : CoreTree) where
+module _ (theorems : Theorems) (d : Declarations) (roots : List CoreTree) (old : Terms) (of : IsTableOf d roots old) (ordered : AreOrdered old) (single : AreSingle old) (c : CoreTree) where
   -- terms that do not fit are too many
   module _ (trees : List CoreTree) (unfit : DoNotFit (subtrees c) old trees) where
     all : List CoreTree
@@ -129,7 +129,7 @@ module _ (laws : Laws) (d : Declarations) (roots : List CoreTree) (old : Terms) 
 
     apart : (i j : ℕ) (t : CoreTree) → Split i t → Split j t → i ≡ j
     apart i j t (inl a) (inl b) =
-        ap (λ (n : TermId). n.0) (laws.one old (id i) (id j) ordered single a.0 b.0 (a.1 ∙ sym b.1))
+        ap (λ (n : TermId). n.0) (theorems.one old (id i) (id j) ordered single a.0 b.0 (a.1 ∙ sym b.1))
     apart i j t (inl a) (inr b) = absurd (unfit.missing b.0 t b.2 (id i) a.0 a.1)
     apart i j t (inr a) (inl b) = absurd (unfit.missing a.0 t a.2 (id j) b.0 b.1)
     apart i j t (inr a) (inr b) = omega (arith, a.1, b.1, unfit.different a.0 b.0 t a.2 b.2)
@@ -164,7 +164,7 @@ module _ (laws : Laws) (d : Declarations) (roots : List CoreTree) (old : Terms) 
     long = ap (λ (ts : Terms). length ts) grown.1 ∙ length-append old grown.0
 
     stays : (u : TermId) → u.0 < length old → term_at new u ≡ term_at old u
-    stays u within = ap (λ (ts : Terms). term_at ts u) grown.1 ∙ laws.longer old grown.0 u (subst AreOrdered grown.1 ordered_new) within
+    stays u within = ap (λ (ts : Terms). term_at ts u) grown.1 ∙ theorems.longer old grown.0 u (subst AreOrdered grown.1 ordered_new) within
 
     stands_still : (s : CoreTree) → Stands old s → Stands new s
     stands_still s (u, within, e) = (u, omega (arith, within, long), stays u within ∙ e)

@@ -4,11 +4,11 @@
 mod block;
 mod define;
 mod function;
-mod laws;
 mod levels;
 mod sorts;
 mod stack;
 mod terms;
+mod theorems;
 mod value;
 
 pub use stack::AssertionStack;

@@ -18,7 +18,7 @@ ghost use Rattle.ct_stack.specs.Values.{AreValues};
 use crate::block::{declare_block, declare_sort};
 use crate::define::define_function;
 use crate::function::declare_function;
-use crate::laws::laws;
+use crate::theorems::stack_theorems;
 use crate::levels::{LevelMark, cut_scope, has_room, is_start, put_marks};
 use crate::terms::{add_assertion, asserted_formula};
 use crate::value::values_text;
@@ -83,7 +83,7 @@ impl AssertionStack {
         let Ok(table) = TermTable::new(alloc) else {
             return Err(AllocError);
         };
-        laws();
+        stack_theorems();
         table.len();
         sig.sorts();
         let first = sig.mark();
@@ -131,7 +131,7 @@ impl AssertionStack {
         ensures refused { (n : ℕ) → IsErrOf result (CommandError.Refused n) → IsSortRefusal self.old.top.context.declarations (head_seen head.entry) n }
         ensures unchanged { OnErr result (self.new ≡ self.old) }
     {
-        laws();
+        stack_theorems();
         growth();
         self.scope.sig.sorts();
         let declared = declare_sort(alloc, &mut self.scope.sig, head);
@@ -153,7 +153,7 @@ impl AssertionStack {
             → IsTypesRefusal self.old.top.context.declarations family (map head_seen heads.now) (map body_seen bodies.now) n }
         ensures unchanged { OnErr result (self.new ≡ self.old) }
     {
-        laws();
+        stack_theorems();
         growth();
         self.scope.sig.sorts();
         let declared = declare_block(alloc, &mut self.scope.sig, family, heads, bodies);
@@ -176,7 +176,7 @@ impl AssertionStack {
             → IsFunctionRefusal self.old.top.context.declarations name.now (all_seen args.now) (expression_of sort.now) n }
         ensures unchanged { OnErr result (self.new ≡ self.old) }
     {
-        laws();
+        stack_theorems();
         growth();
         self.scope.sig.sorts();
         let declared = declare_function(alloc, &mut self.scope, name, args, sort);
@@ -200,7 +200,7 @@ impl AssertionStack {
             → IsDefinitionRefusal self.old.top.context.declarations name.now (map named_seen params.now) (expression_of sort.now) (expression_of term.now) n }
         ensures unchanged { OnErr result (self.new ≡ self.old) }
     {
-        laws();
+        stack_theorems();
         growth();
         self.scope.sig.sorts();
         let defined = define_function(alloc, &mut self.scope, name, params, sort, term);
@@ -215,7 +215,7 @@ impl AssertionStack {
         ensures refused { (n : ℕ) → IsErrOf result (CommandError.Refused n) → IsAssertionRefusal self.old (expression_of expr.now) n }
         ensures unchanged { OnErr result (self.new ≡ self.old) }
     {
-        laws();
+        stack_theorems();
         let tree = asserted_formula(alloc, &self.scope, expr)?;
         add_assertion(
             alloc,
@@ -251,7 +251,7 @@ impl AssertionStack {
         ensures refused { (k : ℕ) → IsErrOf result (CommandError.Refused k) → IsPushRefusal self.old n k }
         ensures unchanged { OnErr result (self.new ≡ self.old) }
     {
-        laws();
+        stack_theorems();
         self.scope.sig.sorts();
         if !has_room(self.levels.len(), n) {
             return Err(CommandError::Refused(TOO_MANY_LEVELS));
@@ -287,7 +287,7 @@ impl AssertionStack {
     pub fn empty(&mut self, global: bool)
         ensures emptied { self.new ≡ emptied global self.old }
     {
-        laws();
+        stack_theorems();
         self.scope.sig.sorts();
         self.table.len();
         self.levels.truncate(0);
@@ -319,7 +319,7 @@ impl AssertionStack {
     pub fn is_first(&self) -> bool
         ensures first { IsTrue result ↔ (self.now ≡ first_stack) }
     {
-        laws();
+        stack_theorems();
         self.scope.sig.sorts();
         let declared = self.scope.sig.mark();
         let levels = self.levels.as_slice();
@@ -342,7 +342,7 @@ impl AssertionStack {
     fn leave_one(&mut self, global: bool)
         ensures popped { self.new ≡ popped global self.old }
     {
-        laws();
+        stack_theorems();
         self.scope.sig.sorts();
         let Some(mark) = self.levels.pop() else {
             return;

@@ -16,7 +16,7 @@ ghost use Rattle.ct_stack.specs.Outcomes.{Comes};
 ghost use Rattle.ct_stack.specs.Refusal.{HasManyTerms};
 ghost use Rattle.ct_stack.specs.Held.{IsHeld, IsTableOf, context_in, level_in};
 
-use crate::laws::laws;
+use crate::theorems::stack_theorems;
 use crate::sorts::{is_sort, term_of};
 use ct_check::{Scope, elaboration};
 use ct_command::CommandError;
@@ -73,7 +73,7 @@ pub(crate) fn add_assertion(
     ensures grown { IsPrefix table.old table.new }
     ensures longer { Begins numbers.old.items numbers.new.items }
 {
-    laws();
+    stack_theorems();
     scope.sig.sorts();
     let before = table.len();
     reserve(numbers, asserts)?;
@@ -133,7 +133,7 @@ pub(crate) fn core_number(
         × ((roots : List CoreTree) → IsTableOf scope.now.sig roots table.old
         → HasManyTerms (roots ++ core (context_in scope.now) (formula_of tree.now) ∷ [])) }
 {
-    laws();
+    stack_theorems();
     table.len();
     match compile(alloc, scope, table, tree) {
         Ok(number) => {

@@ -24,7 +24,7 @@ returns-in_err-number-clause-full c =
     let p = err_from_is_err_and c.from_residual.result c.from_residual.ensures.1 in
     rw (p.1, p.2) (λ full.
     let unfit = c.in_err-number.ensures.full (other_err c.in_err-number.field-0.0 Full full) in
-    too_many c.laws.ensures.hold (context_in c.args.scope.now) all (map formula_of others) (formula_of c.tree-item.result) c.args.table.now loop.table loop.numbers.items growing c.len-in-len1-up.ensures.ordered c.len-in-len1-up.ensures.single unfit.0 unfit.1)
+    too_many c.term_theorems.ensures.hold (context_in c.args.scope.now) all (map formula_of others) (formula_of c.tree-item.result) c.args.table.now loop.table loop.numbers.items growing c.len-in-len1-up.ensures.ordered c.len-in-len1-up.ensures.single unfit.0 unfit.1)
 
 pub loop-rest-preserved : goal.loop-rest-preserved
 loop-rest-preserved c =
@@ -38,7 +38,7 @@ loop-rest-preserved c =
     record {
       growing =
           subst (λ (ns : List TermId). IsGrowing (context_in c.args.scope.now) all (map formula_of others) c.args.table.now c.compile.new.table ns) (sym c.in_ok-push.ensures.items)
-          (goes_on (context_in c.args.scope.now) all (map formula_of others) (formula_of c.tree-item.result) c.args.table.now loop.table loop.numbers.items growing c.laws.ensures.hold c.compile.new.table c.in_ok-number.number ordered c.compile.ensures.grown c.compile.ensures.sorted c.sorts.ensures.consistent c.requires.sound.bodies (All-head (λ t. IsSorted c.args.scope.now.sig [] t bool_sort) (formula_of c.tree-item.result) (map formula_of others) booleans) c.in_ok-number.ensures.core c.compile.ensures.nothing_else);
+          (goes_on (context_in c.args.scope.now) all (map formula_of others) (formula_of c.tree-item.result) c.args.table.now loop.table loop.numbers.items growing c.term_theorems.ensures.hold c.compile.new.table c.in_ok-number.number ordered c.compile.ensures.grown c.compile.ensures.sorted c.sorts.ensures.consistent c.requires.sound.bodies (All-head (λ t. IsSorted c.args.scope.now.sig [] t bool_sort) (formula_of c.tree-item.result) (map formula_of others) booleans) c.in_ok-number.ensures.core c.compile.ensures.nothing_else);
       booleans = All-tail (λ t. IsSorted c.args.scope.now.sig [] t bool_sort) (formula_of c.tree-item.result) (map formula_of others) booleans;
     }
 

@@ -1,5 +1,5 @@
 use Rattle.std.proofs.Common.{refl, sym, ap, ◌∙◌}
-use Rattle.ct_names.specs.declared.operator.Operator.TheVariants.{And, Or, Xor, Implies}
+use Rattle.ct_names.specs.declared.operator.CoreOperator.TheVariants.{And, Or, Xor, Implies}
 use Rattle.ct_names.specs.Elaboration.{takes}
 use Rattle.ct_check.proofs.HeadLemmas.{operator-called}
 use Rattle.ct_check.proofs.heads.operator_head.Goals as goal

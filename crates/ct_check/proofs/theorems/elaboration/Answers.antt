@@ -9,14 +9,14 @@ use Rattle.ct_names.specs.declared.variables.Param.{Param}
 use Rattle.ct_names.specs.Bounds.{parameters, variable_of_param}
 use Rattle.ct_names.specs.Elaboration.{elaborated}
 use Rattle.ct_names.specs.Variables.{Variable, variable_sorts}
-use Rattle.ct_check.proofs.SymbolSorts.{Laws}
+use Rattle.ct_check.proofs.SymbolSorts.{Theorems}
 use Rattle.ct_check.proofs.SoundForms.{map-bind}
 use Rattle.ct_check.proofs.SoundExpressions.{elaborated_sound}
 use Rattle.ct_check.proofs.theorems.elaboration.Goals as goal
 
 -- what holds of consistent declarations
-laws : goal.After-formulas → (d : Declarations) → IsConsistent d → Laws d
-laws c d h = record {
+theorems : goal.After-formulas → (d : Declarations) → IsConsistent d → Theorems d
+theorems c d h = record {
   own_constructors = c.structure.ensures.own_constructors d h;
   of_their_sorts = c.structure.ensures.of_their_sorts d h;
   own_selectors = c.structure.ensures.own_selectors d h;
@@ -25,7 +25,7 @@ laws c d h = record {
 }
 
 sorted : goal.After-formulas → (d : Declarations) (scope : List Variable) (e : Expression) (t : Formula) (sort : SortId) → IsConsistent d → elaborated d scope e ≡ Ok (t, sort) → IsSorted d (variable_sorts scope) t sort
-sorted c d scope e t sort h is = elaborated_sound d (laws c d h) scope e (t, sort) is
+sorted c d scope e t sort h is = elaborated_sound d (theorems c d h) scope e (t, sort) is
 
 -- the sorts of parameters
 parameter_sorts : (params : List Param) → map (λ (v : Variable). v.sort) (map variable_of_param params) ≡ map (λ (p : Param). p.sort) params

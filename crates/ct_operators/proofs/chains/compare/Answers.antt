@@ -11,4 +11,4 @@ returns-then-different-clause-effect c = λ allowed within.
 
 pub returns-else-different-clause-effect : goal.returns-else-different-clause-effect
 returns-else-different-clause-effect c = λ allowed within.
-    c.equality.ensures.effect allowed (within_itself c.requires.kept.laws allowed _ (subst (λ (x : Bool). Within allowed (compared_as c.args.sig.now x (term_at c.args.table.now c.args.pair.0) (term_at c.args.table.now c.args.pair.1))) c.if-different.false within))
+    c.equality.ensures.effect allowed (within_itself c.requires.kept.theorems allowed _ (subst (λ (x : Bool). Within allowed (compared_as c.args.sig.now x (term_at c.args.table.now c.args.pair.0) (term_at c.args.table.now c.args.pair.1))) c.if-different.false within))

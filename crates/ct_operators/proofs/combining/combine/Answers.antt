@@ -24,7 +24,7 @@ returns-in-Construct-clause-effect c = λ allowed w.
     let f = term_at c.args.table.now in
     let us = map f c.args.args in
     let inside : Within allowed (combined d (Construct c.in-Construct.c) us) = subst (λ (x : Operator). Within allowed (combined d x us)) c.in-Construct.is w in
-    c.make.ensures.effect allowed (within_itself c.requires.kept.laws allowed _ inside)
+    c.make.ensures.effect allowed (within_itself c.requires.kept.theorems allowed _ inside)
 
 pub returns-in-Call-clause-effect : goal.returns-in-Call-clause-effect
 returns-in-Call-clause-effect c = λ allowed w.
@@ -32,7 +32,7 @@ returns-in-Call-clause-effect c = λ allowed w.
     let f = term_at c.args.table.now in
     let us = map f c.args.args in
     let inside : Within allowed (combined d (Call c.in-Call.f) us) = subst (λ (x : Operator). Within allowed (combined d x us)) c.in-Call.is w in
-    c.make-in-Call.ensures.effect allowed (within_itself c.requires.kept.laws allowed _ inside)
+    c.make-in-Call.ensures.effect allowed (within_itself c.requires.kept.theorems allowed _ inside)
 
 pub all_of-requires-clause-sorted : goal.all_of-requires-clause-sorted
 all_of-requires-clause-sorted c =
@@ -170,7 +170,7 @@ returns-in-Select-clause-effect c = λ allowed w.
     let f = term_at c.args.table.now in
     let us = map f c.args.args in
     let inside : Within allowed (combined d (Select c.in-Select.s) us) = subst (λ (x : Operator). Within allowed (combined d x us)) c.in-Select.is w in
-    c.make-in-Select.ensures.effect allowed (subst (λ (u : CoreTree). Contains allowed (sel c.in-Select.s u)) (first_tree f c.args.args c.first.result _ c.first.ensures.value) (within_itself c.requires.kept.laws allowed _ inside))
+    c.make-in-Select.ensures.effect allowed (subst (λ (u : CoreTree). Contains allowed (sel c.in-Select.s u)) (first_tree f c.args.args c.first.result _ c.first.ensures.value) (within_itself c.requires.kept.theorems allowed _ inside))
 
 pub first-requires-in-Inspect : goal.first-requires-in-Inspect
 first-requires-in-Inspect c =
@@ -208,7 +208,7 @@ returns-in-Inspect-clause-effect c = λ allowed w.
     let f = term_at c.args.table.now in
     let us = map f c.args.args in
     let inside : Within allowed (combined d (Inspect c.in-Inspect.c) us) = subst (λ (x : Operator). Within allowed (combined d x us)) c.in-Inspect.is w in
-    c.make-in-Inspect.ensures.effect allowed (subst (λ (u : CoreTree). Contains allowed (test c.in-Inspect.c u)) (first_tree f c.args.args c.first-in-Inspect.result _ c.first-in-Inspect.ensures.value) (within_itself c.requires.kept.laws allowed _ inside))
+    c.make-in-Inspect.ensures.effect allowed (subst (λ (u : CoreTree). Contains allowed (test c.in-Inspect.c u)) (first_tree f c.args.args c.first-in-Inspect.result _ c.first-in-Inspect.ensures.value) (within_itself c.requires.kept.theorems allowed _ inside))
 
 pub first-requires-in-Negation : goal.first-requires-in-Negation
 first-requires-in-Negation c =
@@ -245,7 +245,7 @@ returns-in-Negation-clause-effect c = λ allowed w.
     let f = term_at c.args.table.now in
     let us = map f c.args.args in
     let inside : Within allowed (combined d Negation us) = subst (λ (x : Operator). Within allowed (combined d x us)) c.in-Negation.is w in
-    c.negated.ensures.effect allowed (subst (λ (u : CoreTree). Contains allowed (negation u)) (first_tree f c.args.args c.first-in-Negation.result _ c.first-in-Negation.ensures.value) (within_itself c.requires.kept.laws allowed _ inside))
+    c.negated.ensures.effect allowed (subst (λ (u : CoreTree). Contains allowed (negation u)) (first_tree f c.args.args c.first-in-Negation.result _ c.first-in-Negation.ensures.value) (within_itself c.requires.kept.theorems allowed _ inside))
 
 pub returns-in-Inequality-clause-order : goal.returns-in-Inequality-clause-order
 returns-in-Inequality-clause-order c = λ e.

@@ -10,4 +10,4 @@ returns-clause-effect c = λ allowed within.
     let f = term_at c.args.table.now in
     c.make.ensures.effect allowed
     (subst (Contains allowed) (disjunction_not_one f c.args.args (subst (λ (ts : List TermId). length ts ≡ 1 → ⊥) c.as_slice-terms.ensures.value c.if-terms-eq1.false))
-    (within_itself c.requires.kept.laws allowed _ within))
+    (within_itself c.requires.kept.theorems allowed _ within))

@@ -9,7 +9,7 @@ pub returns-in_err-same-clause-effect : goal.returns-in_err-same-clause-effect
 returns-in_err-same-clause-effect c = λ allowed within.
     let both : CoreTree = equivalence (term_at c.args.table.now c.args.a) (term_at c.args.table.now c.args.b) in
     let p = err_from_is_err_and c.from_residual.result c.from_residual.ensures.1 in
-    rw (p.1, p.2) (c.in_err-same.ensures.effect allowed (within_itself c.requires.kept.laws allowed both (within_negation allowed both within)))
+    rw (p.1, p.2) (c.in_err-same.ensures.effect allowed (within_itself c.requires.kept.theorems allowed both (within_negation allowed both within)))
 
 pub negated-requires-clause-kept : goal.negated-requires-clause-kept
 negated-requires-clause-kept c =
@@ -19,7 +19,7 @@ negated-requires-clause-kept c =
 pub returns-clause-effect : goal.returns-clause-effect
 returns-clause-effect c = λ allowed within.
     let both : CoreTree = equivalence (term_at c.args.table.now c.args.a) (term_at c.args.table.now c.args.b) in
-    let laws = c.requires.kept.laws in
-    let first = c.in_ok-same.ensures.effect allowed (within_itself laws allowed both (within_negation allowed both within)) in
-    let second = c.negated.ensures.effect allowed (subst (λ (u : CoreTree). Contains allowed (negation u)) (sym c.in_ok-same.ensures.core.1) (within_itself laws allowed (negation both) within)) in
+    let theorems = c.requires.kept.theorems in
+    let first = c.in_ok-same.ensures.effect allowed (within_itself theorems allowed both (within_negation allowed both within)) in
+    let second = c.negated.ensures.effect allowed (subst (λ (u : CoreTree). Contains allowed (negation u)) (sym c.in_ok-same.ensures.core.1) (within_itself theorems allowed (negation both) within)) in
     effect_then c.args.sig.now allowed c.args.table.now c.make.new.table c.negated.new.table _ _ first second

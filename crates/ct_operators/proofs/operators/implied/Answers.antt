@@ -17,14 +17,14 @@ returns-in_err-refuted-clause-effect c = λ allowed within.
     let a = term_at c.args.table.now c.args.a in
     let b = term_at c.args.table.now c.args.b in
     let p = err_from_is_err_and c.from_residual.result c.from_residual.ensures.1 in
-    rw (p.1, p.2) (c.in_err-refuted.ensures.effect allowed (within_itself c.requires.kept.laws allowed (negation a) (within_disjunction allowed (negation a ∷ (b ∷ [])) within).0))
+    rw (p.1, p.2) (c.in_err-refuted.ensures.effect allowed (within_itself c.requires.kept.theorems allowed (negation a) (within_disjunction allowed (negation a ∷ (b ∷ [])) within).0))
 
 pub returns-in_err-args-clause-effect : goal.returns-in_err-args-clause-effect
 returns-in_err-args-clause-effect c = λ allowed within.
     let a = term_at c.args.table.now c.args.a in
     let b = term_at c.args.table.now c.args.b in
     let p = err_from_is_err_and c.from_residual-in_err-args.result c.from_residual-in_err-args.ensures.1 in
-    rw (p.1, p.2) (effect_because c.args.sig.now allowed c.args.table.now c.negated.new.table _ _ (λ e. cc) (c.in_ok-refuted.ensures.effect allowed (within_itself c.requires.kept.laws allowed (negation a) (within_disjunction allowed (negation a ∷ (b ∷ [])) within).0)))
+    rw (p.1, p.2) (effect_because c.args.sig.now allowed c.args.table.now c.negated.new.table _ _ (λ e. cc) (c.in_ok-refuted.ensures.effect allowed (within_itself c.requires.kept.theorems allowed (negation a) (within_disjunction allowed (negation a ∷ (b ∷ [])) within).0)))
 
 pub make-requires-clause-kept : goal.make-requires-clause-kept
 make-requires-clause-kept c =
@@ -60,7 +60,7 @@ returns-clause-effect c = λ allowed within.
     let layer = implied_made c.args.sig.now c.args.table.now c.negated.new.table c.args.a c.args.b c.in_ok-refuted.refuted c.in_ok-args.args c.in_ok-args.ensures.both c.in_ok-refuted.ensures.core h.grown h.kept c.requires.below.1.0 in
     let a = term_at c.args.table.now c.args.a in
     let b = term_at c.args.table.now c.args.b in
-    let laws = c.requires.kept.laws in
-    let first = c.in_ok-refuted.ensures.effect allowed (within_itself laws allowed (negation a) (within_disjunction allowed (negation a ∷ (b ∷ [])) within).0) in
-    let second = c.make.ensures.effect allowed (subst (Contains allowed) (sym layer) (within_itself laws allowed (implication a b) within)) in
+    let theorems = c.requires.kept.theorems in
+    let first = c.in_ok-refuted.ensures.effect allowed (within_itself theorems allowed (negation a) (within_disjunction allowed (negation a ∷ (b ∷ [])) within).0) in
+    let second = c.make.ensures.effect allowed (subst (Contains allowed) (sym layer) (within_itself theorems allowed (implication a b) within)) in
     effect_then c.args.sig.now allowed c.args.table.now c.negated.new.table c.make.new.table _ _ first second

@@ -26,7 +26,7 @@ returns-in-Ok-clause-held c =
     held_put c.args.scope.now c.put.new.asserts.items c.args.asserts.now.items c.args.tree c.core_number.new.table c.put.new.numbers.items c.args.numbers.now.items c.in-Ok.number
     (c.put.ensures.asserts ∙ ap (λ (ts : List Tree). ts ++ c.args.tree ∷ []) c.reserve.ensures.asserts)
     (c.put.ensures.numbers ∙ ap (λ (ns : List TermId). ns ++ c.in-Ok.number ∷ []) c.reserve.ensures.numbers)
-    (held_asserted c.laws.ensures.hold ctx formulas (formula_of c.args.tree) c.args.table.now c.core_number.new.table c.args.numbers.now.items c.in-Ok.number c.sorts.ensures.consistent c.requires.held c.requires.sorted (c.in-Ok.ensures.made (cores ctx formulas) c.requires.held.in_table.exact) c.in-Ok.ensures.stands c.in-Ok.ensures.grown c.len.ensures.ordered)
+    (held_asserted c.stack_theorems.ensures.hold ctx formulas (formula_of c.args.tree) c.args.table.now c.core_number.new.table c.args.numbers.now.items c.in-Ok.number c.sorts.ensures.consistent c.requires.held c.requires.sorted (c.in-Ok.ensures.made (cores ctx formulas) c.requires.held.in_table.exact) c.in-Ok.ensures.stands c.in-Ok.ensures.grown c.len.ensures.ordered)
 
 pub returns-in-Ok-clause-ok : goal.returns-in-Ok-clause-ok
 returns-in-Ok-clause-ok c = c.put.ensures.asserts ∙ ap (λ (ts : List Tree). ts ++ c.args.tree ∷ []) c.reserve.ensures.asserts

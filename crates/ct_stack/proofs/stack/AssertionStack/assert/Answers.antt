@@ -18,7 +18,7 @@ invariant_of-self c =
     let s = c.self.inside in
     let new = c.add_assertion.new in
     record {
-      held = held_asserted_now c.laws.ensures.hold s.scope.sig (map formula_of s.scope.bodies) new.asserts.items s.asserts.items c.in_ok-tree.tree new.table s.table new.numbers.items s.numbers.items (reverse s.levels.items) c.self.invariant.held c.add_assertion.ensures.grown c.add_assertion.ensures.longer c.add_assertion.result c.add_assertion.ensures.ok c.add_assertion.ensures.unchanged c.add_assertion.ensures.held;
+      held = held_asserted_now c.stack_theorems.ensures.hold s.scope.sig (map formula_of s.scope.bodies) new.asserts.items s.asserts.items c.in_ok-tree.tree new.table s.table new.numbers.items s.numbers.items (reverse s.levels.items) c.self.invariant.held c.add_assertion.ensures.grown c.add_assertion.ensures.longer c.add_assertion.result c.add_assertion.ensures.ok c.add_assertion.ensures.unchanged c.add_assertion.ensures.held;
       first_is = c.self.invariant.first_is;
       first_consistent = c.self.invariant.first_consistent;
       first_sorted = c.self.invariant.first_sorted;
@@ -36,7 +36,7 @@ returns c =
     let new = c.add_assertion.new in
     let r = c.add_assertion.result in
     record {
-      ok = assert_ok s.scope.sig (map formula_of s.scope.bodies) s.asserts.items (reverse s.levels.items) c.args.self.now c.self.view_is (expression_of c.args.expr.now) c.in_ok-tree.tree c.in_ok-tree.ensures.value c.laws.ensures.hold r new.asserts.items new.table s.table new.numbers.items s.numbers.items c.self.invariant.held c.add_assertion.ensures.grown c.add_assertion.ensures.longer c.add_assertion.ensures.ok;
+      ok = assert_ok s.scope.sig (map formula_of s.scope.bodies) s.asserts.items (reverse s.levels.items) c.args.self.now c.self.view_is (expression_of c.args.expr.now) c.in_ok-tree.tree c.in_ok-tree.ensures.value c.stack_theorems.ensures.hold r new.asserts.items new.table s.table new.numbers.items s.numbers.items c.self.invariant.held c.add_assertion.ensures.grown c.add_assertion.ensures.longer c.add_assertion.ensures.ok;
       accepted = assert_accepted s.scope.sig (map formula_of s.scope.bodies) s.asserts.items (reverse s.levels.items) c.args.self.now c.self.view_is (expression_of c.args.expr.now) c.in_ok-tree.tree c.in_ok-tree.ensures.value r c.add_assertion.ensures.fits;
       refused = λ n e. assert_refused s.scope.sig (map formula_of s.scope.bodies) s.asserts.items (reverse s.levels.items) c.args.self.now c.self.view_is (expression_of c.args.expr.now) c.in_ok-tree.tree c.in_ok-tree.ensures.value n (c.add_assertion.ensures.refused n e);
       unchanged = assert_unchanged s.scope.sig (map formula_of s.scope.bodies) s.asserts.items (reverse s.levels.items) c.args.self.now c.self.view_is (expression_of c.args.expr.now) r new.asserts.items c.add_assertion.ensures.unchanged;

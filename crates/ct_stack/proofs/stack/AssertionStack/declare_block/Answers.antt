@@ -16,7 +16,7 @@ invariant_of-self c =
     let kind = kind_of c.args.family in
     let block = block_of (map head_seen c.args.heads.now) (map body_seen c.args.bodies.now) in
     record {
-      held = held_after c.laws.ensures.hold c.declare_block-declared.new.sig s.scope.sig (map formula_of s.scope.bodies) (map formula_of s.asserts.items) s.table s.numbers.items (reverse s.levels.items) c.self.invariant.held c.sorts-2.ensures.consistent c.sorts.ensures.consistent c.declare_block-declared.result (with_block s.scope.sig kind block) c.declare_block-declared.ensures.ok c.declare_block-declared.ensures.unchanged (c.growth.ensures.block s.scope.sig kind block) refl;
+      held = held_after c.stack_theorems.ensures.hold c.declare_block-declared.new.sig s.scope.sig (map formula_of s.scope.bodies) (map formula_of s.asserts.items) s.table s.numbers.items (reverse s.levels.items) c.self.invariant.held c.sorts-2.ensures.consistent c.sorts.ensures.consistent c.declare_block-declared.result (with_block s.scope.sig kind block) c.declare_block-declared.ensures.ok c.declare_block-declared.ensures.unchanged (c.growth.ensures.block s.scope.sig kind block) refl;
       first_is = c.self.invariant.first_is;
       first_consistent = c.self.invariant.first_consistent;
       first_sorted = c.self.invariant.first_sorted;
@@ -30,8 +30,8 @@ returns c =
     let heads = map head_seen c.args.heads.now in
     let bodies = map body_seen c.args.bodies.now in
     record {
-      ok = declared_ok c.laws.ensures.hold c.declare_block-declared.new.sig s.scope.sig (map formula_of s.scope.bodies) (map formula_of s.asserts.items) s.table s.numbers.items (reverse s.levels.items) c.self.invariant.held c.args.self.now c.self.view_is r (λ d. with_block d (kind_of c.args.family) (block_of heads bodies)) c.declare_block-declared.ensures.ok (c.growth.ensures.block s.scope.sig (kind_of c.args.family) (block_of heads bodies));
+      ok = declared_ok c.stack_theorems.ensures.hold c.declare_block-declared.new.sig s.scope.sig (map formula_of s.scope.bodies) (map formula_of s.asserts.items) s.table s.numbers.items (reverse s.levels.items) c.self.invariant.held c.args.self.now c.self.view_is r (λ d. with_block d (kind_of c.args.family) (block_of heads bodies)) c.declare_block-declared.ensures.ok (c.growth.ensures.block s.scope.sig (kind_of c.args.family) (block_of heads bodies));
       accepted = subst (λ (d : Declarations). OnOk r ((n : ℕ) → IsTypesRefusal d c.args.family heads bodies n → ⊥)) is c.declare_block-declared.ensures.accepted;
       refused = subst (λ (d : Declarations). (n : ℕ) → IsErrOf r (Refused n) → IsTypesRefusal d c.args.family heads bodies n) is c.declare_block-declared.ensures.refused;
-      unchanged = declared_err c.laws.ensures.hold c.declare_block-declared.new.sig s.scope.sig (map formula_of s.scope.bodies) (map formula_of s.asserts.items) s.table s.numbers.items (reverse s.levels.items) c.self.invariant.held c.args.self.now c.self.view_is r c.declare_block-declared.ensures.unchanged;
+      unchanged = declared_err c.stack_theorems.ensures.hold c.declare_block-declared.new.sig s.scope.sig (map formula_of s.scope.bodies) (map formula_of s.asserts.items) s.table s.numbers.items (reverse s.levels.items) c.self.invariant.held c.args.self.now c.self.view_is r c.declare_block-declared.ensures.unchanged;
     }

@@ -21,7 +21,7 @@ invariant_of-self c =
     record {
       held =
           subst (λ (bs : List Tree). AreHeld (whole new.sig (map formula_of bs) (map formula_of s.asserts.items) s.table s.numbers.items) (reverse s.levels.items)) (sym c.declare_function-declared.ensures.bodies)
-          (held_after_function c.laws.ensures.hold new.sig s.scope.sig (map formula_of s.scope.bodies) (map formula_of s.asserts.items) s.table s.numbers.items (reverse s.levels.items) c.self.invariant.held c.sorts-2.ensures.consistent c.sorts.ensures.consistent c.declare_function-declared.result (declared_function s.scope.sig c.args.name.now (all_seen c.args.args.now) (expression_of c.args.sort.now)) c.declare_function-declared.ensures.ok c.declare_function-declared.ensures.unchanged (c.growth.ensures.function s.scope.sig));
+          (held_after_function c.stack_theorems.ensures.hold new.sig s.scope.sig (map formula_of s.scope.bodies) (map formula_of s.asserts.items) s.table s.numbers.items (reverse s.levels.items) c.self.invariant.held c.sorts-2.ensures.consistent c.sorts.ensures.consistent c.declare_function-declared.result (declared_function s.scope.sig c.args.name.now (all_seen c.args.args.now) (expression_of c.args.sort.now)) c.declare_function-declared.ensures.ok c.declare_function-declared.ensures.unchanged (c.growth.ensures.function s.scope.sig));
       first_is = c.self.invariant.first_is;
       first_consistent = c.self.invariant.first_consistent;
       first_sorted = c.self.invariant.first_sorted;
@@ -38,9 +38,9 @@ returns c =
     let sort = expression_of c.args.sort.now in
     record {
       ok = subst (λ (bs : List Tree). OnOk r (Gives (declared_function c.args.self.now.top.context.declarations name args sort) (λ f. stack_of (level new.sig (map formula_of bs) (map formula_of s.asserts.items)) (reverse s.levels.items) ≡ declaring c.args.self.now (with_function c.args.self.now.top.context.declarations f)))) (sym c.declare_function-declared.ensures.bodies)
-          (function_ok c.laws.ensures.hold new.sig s.scope.sig (map formula_of s.scope.bodies) (map formula_of s.asserts.items) s.table s.numbers.items (reverse s.levels.items) c.self.invariant.held c.args.self.now c.self.view_is r (λ d. declared_function d name args sort) c.declare_function-declared.ensures.ok (c.growth.ensures.function s.scope.sig));
+          (function_ok c.stack_theorems.ensures.hold new.sig s.scope.sig (map formula_of s.scope.bodies) (map formula_of s.asserts.items) s.table s.numbers.items (reverse s.levels.items) c.self.invariant.held c.args.self.now c.self.view_is r (λ d. declared_function d name args sort) c.declare_function-declared.ensures.ok (c.growth.ensures.function s.scope.sig));
       accepted = subst (λ (d : Declarations). OnOk r ((n : ℕ) → IsFunctionRefusal d name args sort n → ⊥)) is c.declare_function-declared.ensures.accepted;
       refused = subst (λ (d : Declarations). (n : ℕ) → IsErrOf r (Refused n) → IsFunctionRefusal d name args sort n) is c.declare_function-declared.ensures.refused;
       unchanged = subst (λ (bs : List Tree). OnErr r (stack_of (level new.sig (map formula_of bs) (map formula_of s.asserts.items)) (reverse s.levels.items) ≡ c.args.self.now)) (sym c.declare_function-declared.ensures.bodies)
-          (declared_err c.laws.ensures.hold new.sig s.scope.sig (map formula_of s.scope.bodies) (map formula_of s.asserts.items) s.table s.numbers.items (reverse s.levels.items) c.self.invariant.held c.args.self.now c.self.view_is r c.declare_function-declared.ensures.unchanged);
+          (declared_err c.stack_theorems.ensures.hold new.sig s.scope.sig (map formula_of s.scope.bodies) (map formula_of s.asserts.items) s.table s.numbers.items (reverse s.levels.items) c.self.invariant.held c.args.self.now c.self.view_is r c.declare_function-declared.ensures.unchanged);
     }

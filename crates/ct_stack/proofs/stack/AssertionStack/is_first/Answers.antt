@@ -6,7 +6,7 @@ returns c =
     let s = c.self.inside in
     record {
       first = (
-        λ yes. first_from c.laws.ensures.hold s.scope s.asserts.items s.table s.numbers.items s.levels.items s.first c.sorts.ensures.consistent c.self.invariant c.args.self.now c.self.view_is c.mark-declared.result c.mark-declared.ensures.lengths (rw (c.as_slice-levels.ensures.value, c.as_slice-asserts.ensures.value) at c.is_start.ensures.start.0 yes),
-        λ e. c.is_start.ensures.start.1 (rw (c.as_slice-levels.ensures.value, c.as_slice-asserts.ensures.value) (first_to c.laws.ensures.hold s.scope s.asserts.items s.table s.numbers.items s.levels.items s.first c.sorts.ensures.consistent c.self.invariant c.args.self.now c.self.view_is c.mark-declared.result c.mark-declared.ensures.lengths e)),
+        λ yes. first_from c.stack_theorems.ensures.hold s.scope s.asserts.items s.table s.numbers.items s.levels.items s.first c.sorts.ensures.consistent c.self.invariant c.args.self.now c.self.view_is c.mark-declared.result c.mark-declared.ensures.lengths (rw (c.as_slice-levels.ensures.value, c.as_slice-asserts.ensures.value) at c.is_start.ensures.start.0 yes),
+        λ e. c.is_start.ensures.start.1 (rw (c.as_slice-levels.ensures.value, c.as_slice-asserts.ensures.value) (first_to c.stack_theorems.ensures.hold s.scope s.asserts.items s.table s.numbers.items s.levels.items s.first c.sorts.ensures.consistent c.self.invariant c.args.self.now c.self.view_is c.mark-declared.result c.mark-declared.ensures.lengths e)),
       );
     }

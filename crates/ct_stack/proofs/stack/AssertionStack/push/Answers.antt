@@ -18,12 +18,12 @@ returns-then-not-has_room-clause-refused c =
 pub invariant_of-self-2 : goal.invariant_of-self-2
 invariant_of-self-2 c =
     let s = c.self.inside in
-    kept_pushed c.laws.ensures.hold s.scope s.asserts.items s.table s.numbers.items s.levels.items s.first c.sorts.ensures.consistent c.self.invariant c.len-terms.ensures.begins (mark_of c.mark-declared.result c.len-asserts.result c.len-terms.result) c.mark-declared.ensures.lengths (omega (arith, c.len-asserts.ensures, s.asserts.ok.0)) c.len-terms.ensures.count c.args.n c.put_marks.new.levels.items c.reserve.new.self.items c.put_marks.ensures.put c.reserve.ensures.items
+    kept_pushed c.stack_theorems.ensures.hold s.scope s.asserts.items s.table s.numbers.items s.levels.items s.first c.sorts.ensures.consistent c.self.invariant c.len-terms.ensures.begins (mark_of c.mark-declared.result c.len-asserts.result c.len-terms.result) c.mark-declared.ensures.lengths (omega (arith, c.len-asserts.ensures, s.asserts.ok.0)) c.len-terms.ensures.count c.args.n c.put_marks.new.levels.items c.reserve.new.self.items c.put_marks.ensures.put c.reserve.ensures.items
 
 pub returns-clause-ok : goal.returns-clause-ok
 returns-clause-ok c =
     let s = c.self.inside in
-    stack_pushed_by c.laws.ensures.hold s.scope s.asserts.items s.table s.numbers.items s.levels.items s.first c.sorts.ensures.consistent c.self.invariant c.len-terms.ensures.begins (mark_of c.mark-declared.result c.len-asserts.result c.len-terms.result) c.mark-declared.ensures.lengths (omega (arith, c.len-asserts.ensures, s.asserts.ok.0)) c.len-terms.ensures.count c.args.n c.put_marks.new.levels.items c.reserve.new.self.items c.put_marks.ensures.put c.reserve.ensures.items c.args.self.now c.self.view_is
+    stack_pushed_by c.stack_theorems.ensures.hold s.scope s.asserts.items s.table s.numbers.items s.levels.items s.first c.sorts.ensures.consistent c.self.invariant c.len-terms.ensures.begins (mark_of c.mark-declared.result c.len-asserts.result c.len-terms.result) c.mark-declared.ensures.lengths (omega (arith, c.len-asserts.ensures, s.asserts.ok.0)) c.len-terms.ensures.count c.args.n c.put_marks.new.levels.items c.reserve.new.self.items c.put_marks.ensures.put c.reserve.ensures.items c.args.self.now c.self.view_is
 
 pub returns-clause-accepted : goal.returns-clause-accepted
 returns-clause-accepted c =

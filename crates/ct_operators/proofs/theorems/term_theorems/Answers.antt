@@ -1,4 +1,4 @@
-use Rattle.ct_operators.proofs.theorems.laws.Goals as goal
+use Rattle.ct_operators.proofs.theorems.term_theorems.Goals as goal
 
 pub returns : goal.returns
 returns c = record {

@@ -1,12 +1,12 @@
 //! The theorems on terms, formulas and declarations that a session stands on.
-ghost use Rattle.ct_stack.specs.Laws.{Laws};
+ghost use Rattle.ct_stack.specs.Theorems.{Theorems};
 
 use ct_sorts::growth;
 use ct_terms::{core_trees, formulas, one_lasting_sort, scopes};
 
 /// The theorems, as one. The function does nothing.
-pub(crate) fn laws()
-    ensures hold { Laws }
+pub(crate) fn stack_theorems()
+    ensures hold { Theorems }
 {
     growth();
     core_trees();

@@ -17,7 +17,7 @@ use Rattle.ct_terms.specs.Calls.{calls_below}
 use Rattle.ct_terms.specs.Compiled.{fields_of, compiled, GiveSorted}
 use Rattle.ct_terms.specs.Occurrence.{occurs, uses_below, AreSameAt, UseSame, GiveUsed}
 
-pub record Laws : Type 0 where
+pub record Theorems : Type 0 where
   pub unfolds : (table : Terms) (t : TermId) (core : Core) (sort : SortId) → AreOrdered table → slice_get table t.0 ≡ Some (core, sort) → term_at table t ≡ tree_layer (term_at table) core
   pub one : (table : Terms) (s t : TermId) → AreOrdered table → AreSingle table → s.0 < length table → t.0 < length table → term_at table s ≡ term_at table t → s ≡ t
   pub longer : (table more : Terms) (t : TermId) → AreOrdered (table ++ more) → t.0 < length table → term_at (table ++ more) t ≡ term_at table t

@@ -1,4 +1,4 @@
-use Rattle.ct_stack.proofs.laws.laws.Goals as goal
+use Rattle.ct_stack.proofs.theorems.stack_theorems.Goals as goal
 
 pub returns : goal.returns
 returns c = record {

@@ -15,7 +15,7 @@ use Rattle.ct_terms.specs.Formula.{Formula, bind}
 use Rattle.ct_terms.specs.FormulaSorts.{IsSorted, AreSound}
 use Rattle.ct_terms.specs.Compiled.{core_of}
 
-pub record Laws : Type 0 where
+pub record Theorems : Type 0 where
   pub itself : (d : Declarations) → Extends d d
   pub further : (last later earlier : Declarations) → Extends last later → Extends later earlier → Extends last earlier
   pub from_start : (d : Declarations) → IsConsistent d → Extends d start
