@@ -38,7 +38,8 @@ pub(crate) fn takes(operator: CoreOperator, count: usize) -> bool
     match operator {
         CoreOperator::Not => count == 1,
         CoreOperator::And | CoreOperator::Or => 1 <= count,
-        CoreOperator::Xor | CoreOperator::Implies | CoreOperator::Equal | CoreOperator::Distinct => 2 <= count,
+        CoreOperator::Xor | CoreOperator::Implies | CoreOperator::Equal | CoreOperator::Distinct =>
+            2 <= count,
         CoreOperator::Ite => count == 3,
     }
 }

@@ -16,7 +16,7 @@ ghost use Rattle.ct_sexpr.specs.Atom.{symbol};
 
 use crate::callees::{Callee, takes};
 use ct_names::{
-    CheckError, OUT_OF_SCOPE, CoreOperator, UNKNOWN_SYMBOL, Variables, WRONG_COUNT, WRONG_SORT,
+    CheckError, CoreOperator, OUT_OF_SCOPE, UNKNOWN_SYMBOL, Variables, WRONG_COUNT, WRONG_SORT,
     argument_count, ctor_named, is_word, name_of, named_sort, operator_of, result_sort,
     symbol_named,
 };

@@ -13,7 +13,7 @@ mod terms;
 mod theorems;
 mod trees;
 
-pub use ct_compile::Scope;
 pub use ct_names::{CheckError, CoreOperator, Param};
+pub use ct_scope::Scope;
 pub use sorting::{elaborate, sort_of};
 pub use theorems::elaboration;

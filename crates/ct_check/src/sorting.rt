@@ -6,8 +6,8 @@ ghost use Rattle.ct_names.specs.Bounds.{parameters};
 ghost use Rattle.ct_names.specs.Elaboration.{elaborated, sort_of};
 
 use crate::terms::term;
-use ct_compile::Scope;
 use ct_names::{CheckError, Param, Variables, named_sort, parameters};
+use ct_scope::Scope;
 use ct_sexpr::Sexpr;
 use ct_sorts::SortId;
 use ct_terms::Tree;

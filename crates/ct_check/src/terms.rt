@@ -13,8 +13,8 @@ use crate::binders::{Checked, add_case, binding_names, goes_with, let_tree, matc
 use crate::heads::{Head, head_of};
 use crate::leaves::{lone, lone_symbol};
 use ct_names::{
-    BoundVariable, CheckError, OUT_OF_SCOPE, Variables, WRONG_SORT, are_attributes, are_cases, bounds,
-    matchable, pattern,
+    BoundVariable, CheckError, OUT_OF_SCOPE, Variables, WRONG_SORT, are_attributes, are_cases,
+    bounds, matchable, pattern,
 };
 use ct_sexpr::Sexpr;
 use ct_sorts::{Signature, SortId};

@@ -18,27 +18,27 @@ use Rattle.ct_terms.specs.CoreTree.{CoreTree, subtrees}
 use Rattle.ct_terms.specs.Formula.{Formula, bind}
 use Rattle.ct_terms.specs.Compiled.{compiled}
 use Rattle.ct_occurrence.specs.declared.definitions.Worked.{Worked}
-use Rattle.ct_compile.specs.declared.known.Called.{Called}
-use Rattle.ct_compile.specs.declared.stop.DeferredCall.{DeferredCall}
-use Rattle.ct_compile.specs.declared.stop.Stop.{Stop}
-use Rattle.ct_compile.specs.declared.stop.Stop.TheVariants.{Failed, TooDeep}
+use Rattle.ct_scope.specs.declared.known.Called.{Called}
+use Rattle.ct_scope.specs.declared.stop.DeferredCall.{DeferredCall}
+use Rattle.ct_scope.specs.declared.stop.Stop.{Stop}
+use Rattle.ct_scope.specs.declared.stop.Stop.TheVariants.{Failed, TooDeep}
 use Rattle.ct_operators.specs.Theorems.{Theorems}
 use Rattle.ct_operators.specs.Effect.{Stands, IsKept, IsPrefix, Within, Effect}
 use Rattle.ct_operators.specs.Made.{HasTrees, Makes}
-use Rattle.ct_compile.specs.Making.{making, makes_below, defined}
+use Rattle.ct_scope.specs.Making.{making, makes_below, defined}
 use Rattle.ct_occurrence.specs.Marks.{Rows, row_in, IsKnown}
-use Rattle.ct_compile.specs.Ready.{given, IsBound, IsReady, MayCompile, Compiles}
-use Rattle.ct_compile.specs.Calling.{same_call, call_of, IsRecalled, IsState}
-use Rattle.ct_compile.specs.Deferral.{ended, GoesOn, WhenTooDeep, IsCall, Waits, Defers}
+use Rattle.ct_scope.specs.Ready.{given, IsBound, IsReady, MayCompile, Compiles}
+use Rattle.ct_scope.specs.Calling.{same_call, call_of, IsRecalled, IsState}
+use Rattle.ct_scope.specs.Deferral.{ended, GoesOn, WhenTooDeep, IsCall, Waits, Defers}
 use Rattle.ct_compile.specs.Attempts.{MakesFirst, closed_core, closed_making, IsWaiting, AreWaiting, IsLastKnown}
 use Rattle.ct_operators.proofs.EffectLemmas.{prefix_itself, effect_none, effect_then, effect_because}
-use Rattle.ct_compile.proofs.ReadyLemmas.{bounds_stay, ready_stays}
+use Rattle.ct_scope.proofs.ReadyLemmas.{bounds_stay, ready_stays}
 use Rattle.ct_operators.proofs.OperatorLemmas.{stands_as}
 use Rattle.ct_operators.proofs.MakesLemmas.{prefix_ordered, have_stay, have_left, have_right, makes_then, makes_none, makes_nothing, makes_split, makes_has, Contains-cons, Contains-none}
-use Rattle.ct_compile.proofs.MakingLemmas.{makes_is}
-use Rattle.ct_compile.proofs.DefinitionLemmas.{given_is}
+use Rattle.ct_scope.proofs.MakingLemmas.{makes_is}
+use Rattle.ct_scope.proofs.DefinitionLemmas.{given_is}
 use Rattle.ct_operators.proofs.WithinLemmas.{within_subtrees}
-use Rattle.ct_compile.proofs.DeferralLemmas.{waits_under}
+use Rattle.ct_scope.proofs.DeferralLemmas.{waits_under}
 
 -- ---- first parts
 

@@ -15,25 +15,25 @@ use Rattle.ct_terms.specs.CoreTree.{CoreTree, choice, tree_children, subtrees, t
 use Rattle.ct_terms.specs.CoreSorts.{HasTreeSort}
 use Rattle.ct_terms.specs.Formula.{Formula, Cases, no_cases, with_case}
 use Rattle.ct_terms.specs.Compiled.{compiled_cases}
-use Rattle.ct_compile.specs.declared.bound.Bound.{Bound}
-use Rattle.ct_compile.specs.declared.stop.Stop.{Stop}
-use Rattle.ct_compile.specs.Deferral.{ended, DefersCases}
+use Rattle.ct_scope.specs.declared.bound.Bound.{Bound}
+use Rattle.ct_scope.specs.declared.stop.Stop.{Stop}
+use Rattle.ct_scope.specs.Deferral.{ended, DefersCases}
 use Rattle.ct_occurrence.specs.Marks.{Rows}
 use Rattle.ct_operators.specs.declared.choosing.Guarded.{Guarded}
 use Rattle.ct_operators.specs.Theorems.{Theorems}
 use Rattle.ct_operators.specs.Made.{HasTree, Makes}
-use Rattle.ct_compile.specs.Making.{making_cases, defined}
+use Rattle.ct_scope.specs.Making.{making_cases, defined}
 use Rattle.ct_operators.specs.Effect.{Stands, IsKept, Within, Effect}
-use Rattle.ct_compile.specs.Ready.{given}
+use Rattle.ct_scope.specs.Ready.{given}
 use Rattle.ct_operators.specs.Chosen.{chosen_from, IsGuardedIn}
-use Rattle.ct_compile.specs.Matching.{AreCases, MayCases, CompilesCases}
-use Rattle.ct_compile.proofs.Weight.{weight, case_weights, weights_below}
+use Rattle.ct_scope.specs.Matching.{AreCases, MayCases, CompilesCases}
+use Rattle.ct_scope.proofs.Weight.{weight, case_weights, weights_below}
 use Rattle.ct_operators.proofs.EffectLemmas.{effect_none, effect_then}
 use Rattle.ct_operators.proofs.WithinLemmas.{within_subtrees, within_itself, within_choice}
 use Rattle.ct_operators.proofs.MakesLemmas.{makes_then, Contains-cons, Contains-none, has_subterm, subterm_cases, Rises, rises_stay, makes_rising}
 use Rattle.ct_operators.proofs.OperatorLemmas.{stands_as}
-use Rattle.ct_compile.proofs.DeferralLemmas.{ended_by, too_deep_by, waits_under}
-use Rattle.ct_compile.proofs.MatchLemmas.{IsChosen, cases_sorted}
+use Rattle.ct_scope.proofs.DeferralLemmas.{ended_by, too_deep_by, waits_under}
+use Rattle.ct_scope.proofs.MatchLemmas.{IsChosen, cases_sorted}
 use Rattle.ct_operators.proofs.ChosenLemmas.{chosen_last, within_chosen, guarded_stay, same_chosen, all_after}
 
 -- for these terms of the variables: the choices that are made, before what the cases that are left give, are the whole

@@ -12,31 +12,31 @@ use Rattle.ct_terms.specs.Terms.{Terms}
 use Rattle.ct_terms.specs.CoreTree.{CoreTree, subtrees, term_at}
 use Rattle.ct_terms.specs.Formula.{Formula, Formulas, no_formulas, with_formula}
 use Rattle.ct_terms.specs.Compiled.{compiled, compiled_all}
-use Rattle.ct_compile.specs.declared.bound.Bound.{Bound}
+use Rattle.ct_scope.specs.declared.bound.Bound.{Bound}
 use Rattle.ct_terms.specs.Occurrence.{count_of}
 use Rattle.ct_operators.specs.Effect.{Stands, AllStand, IsKept, Within, AllWithin, IsPrefix, Effect}
-use Rattle.ct_compile.specs.declared.stop.DeferredCall.{DeferredCall}
+use Rattle.ct_scope.specs.declared.stop.DeferredCall.{DeferredCall}
 use Rattle.ct_occurrence.specs.Marks.{Rows}
 use Rattle.ct_operators.specs.Made.{HasTree, HasTrees, Makes, Made, leaf, terms, made_by}
-use Rattle.ct_compile.specs.Making.{making, made_each, defined}
+use Rattle.ct_scope.specs.Making.{making, made_each, defined}
 use Rattle.ct_operators.specs.Following.{leading, between, woven, IsLeading, IsFollowing, MayFollow, Follows}
 use Rattle.ct_operators.specs.declared.operator.Operator.{Operator}
 use Rattle.ct_operators.specs.declared.operator.Operator.TheVariants.{Inequality}
 use Rattle.ct_occurrence.specs.Plain.{is_plain, children_of}
 use Rattle.ct_operators.specs.Forms.{operator_for, combined, AreOperands}
-use Rattle.ct_compile.proofs.Weight.{weight, weights, weights_below}
-use Rattle.ct_compile.specs.Ready.{given, IsReady, AreReady, AreUnder, MayCompile, MayCompileAll, Compiles, CompilesAll}
+use Rattle.ct_scope.proofs.Weight.{weight, weights, weights_below}
+use Rattle.ct_scope.specs.Ready.{given, IsReady, AreReady, AreUnder, MayCompile, MayCompileAll, Compiles, CompilesAll}
 use Rattle.ct_operators.proofs.EffectLemmas.{same_error, stands_stays, all_stay, effect_none, effect_then, effect_because}
 use Rattle.ct_operators.proofs.WithinLemmas.{within_subtrees}
 use Rattle.ct_operators.proofs.MakesLemmas.{makes_then}
 use Rattle.ct_operators.proofs.WovenLemmas.{operator_made, terms_append}
 use Rattle.ct_operators.proofs.PrefixLemmas.{woven_prefix, prefix_end, prefix_more, operator_next}
-use Rattle.ct_compile.proofs.DeferralLemmas.{IsPutOff, ArePutOff, waits_under}
-use Rattle.ct_compile.proofs.MakingLemmas.{terms_each, making_plain}
+use Rattle.ct_scope.proofs.DeferralLemmas.{IsPutOff, ArePutOff, waits_under}
+use Rattle.ct_scope.proofs.MakingLemmas.{terms_each, making_plain}
 use Rattle.ct_operators.proofs.OperatorLemmas.{stands_as}
-use Rattle.ct_compile.proofs.ReadyLemmas.{children_ready, compiled_plain, first_ready, rest_ready, all_ready_stay}
+use Rattle.ct_scope.proofs.ReadyLemmas.{children_ready, compiled_plain, first_ready, rest_ready, all_ready_stay}
 use Rattle.ct_operators.proofs.OperandLemmas.{within_plain, all_trees, all_below}
-use Rattle.ct_compile.proofs.PlainLemmas.{operands_of}
+use Rattle.ct_scope.proofs.PlainLemmas.{operands_of}
 
 -- nothing done, out of memory
 pub compiles_nothing : (d : Declarations) (bodies : List Formula) (n : ℕ) (table : Terms) (env : List Bound) (t : Formula) (e : TermError) → e ≡ NoMemory → Compiles d bodies n table table env t (Err e)

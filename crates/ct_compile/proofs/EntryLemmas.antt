@@ -11,14 +11,14 @@ use Rattle.ct_terms.specs.CoreTree.{CoreTree, subtrees, term_at}
 use Rattle.ct_terms.specs.Formula.{Formula, MentionsBelow}
 use Rattle.ct_terms.specs.FormulaSorts.{IsSorted, AreSound}
 use Rattle.ct_terms.specs.TreeFormula.{formula_of}
-use Rattle.ct_compile.specs.declared.bound.Bound.{Bound}
+use Rattle.ct_scope.specs.declared.bound.Bound.{Bound}
 use Rattle.ct_terms.specs.Occurrence.{uses_below}
 use Rattle.ct_occurrence.specs.Calls.{CallsAre}
 use Rattle.ct_occurrence.specs.Marks.{Rows, IsKnown, HaveRows, MayMark}
 use Rattle.ct_occurrence.specs.Working.{AreRight}
 use Rattle.ct_operators.specs.Theorems.{Theorems}
 use Rattle.ct_operators.specs.Effect.{Stands, IsKept}
-use Rattle.ct_compile.specs.Ready.{IsReady}
+use Rattle.ct_scope.specs.Ready.{IsReady}
 
 -- a list of formulas is as long as that of their trees
 map_length : (ts : List Tree) → length (map formula_of ts) ≡ length ts

@@ -1,6 +1,6 @@
 -- What loops over formulas keep.
 use Rattle.std.proofs.Common.{◌≡◌, List}
-use Rattle.ct_compile.specs.declared.bound.Bound.{Bound}
+use Rattle.ct_scope.specs.declared.bound.Bound.{Bound}
 
 -- what is said of all that was done so far, of the calls that are known and of the notes on what is left, and that the
 -- environment is the one from the start

@@ -2,9 +2,9 @@
 use Rattle.std.proofs.Common.{◌≡◌, ◌-◌, ◌≤◌, List, [], ◌∷◌, ◌++◌, length, map, reverse, take, drop, get_or, refl, sym, ap, ◌∙◌}
 use Rattle.std.proofs.lemmas.List.{append_assoc, reverse-append}
 use Rattle.ct_terms.specs.declared.ids.TermId.{TermId}
-use Rattle.ct_compile.specs.declared.bound.Bound.{Bound}
-use Rattle.ct_compile.specs.declared.bound.Bound.TheVariants.{Term, Field, Absent}
-use Rattle.ct_compile.specs.Calling.{terms_of}
+use Rattle.ct_scope.specs.declared.bound.Bound.{Bound}
+use Rattle.ct_scope.specs.declared.bound.Bound.TheVariants.{Term, Field, Absent}
+use Rattle.ct_scope.specs.Calling.{terms_of}
 use Rattle.ct_operators.proofs.RestLemmas.{rest_step}
 
 abbrev rest_of : {X : Type 0} → List X → List X

@@ -7,15 +7,15 @@ use Rattle.ct_terms.specs.Terms.{Terms}
 use Rattle.ct_terms.specs.CoreTree.{CoreTree}
 use Rattle.ct_terms.specs.Formula.{Formula}
 use Rattle.ct_terms.specs.Compiled.{compiled}
-use Rattle.ct_compile.specs.declared.known.Called.{Called}
-use Rattle.ct_compile.specs.declared.stop.DeferredCall.{DeferredCall}
-use Rattle.ct_compile.specs.Calling.{same_call, call_of}
-use Rattle.ct_compile.specs.Deferral.{Waits}
+use Rattle.ct_scope.specs.declared.known.Called.{Called}
+use Rattle.ct_scope.specs.declared.stop.DeferredCall.{DeferredCall}
+use Rattle.ct_scope.specs.Calling.{same_call, call_of}
+use Rattle.ct_scope.specs.Deferral.{Waits}
 use Rattle.ct_operators.specs.Effect.{Within}
 use Rattle.ct_operators.specs.Made.{Makes}
-use Rattle.ct_compile.specs.Making.{making, defined}
+use Rattle.ct_scope.specs.Making.{making, defined}
 use Rattle.ct_occurrence.specs.Marks.{Rows}
-use Rattle.ct_compile.specs.Ready.{given}
+use Rattle.ct_scope.specs.Ready.{given}
 
 -- the table has grown, in order, by a first part of these trees
 abbrev pub MakesFirst : Terms → List CoreTree → Terms → Type 0

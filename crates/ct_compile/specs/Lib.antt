@@ -1,9 +1,4 @@
 pub use Rattle.ct_operators.specs.Effect
 pub use Rattle.ct_operators.specs.Made
-pub mod Deferral
-pub mod Ready
-pub mod Binding
-pub mod Calling
-pub mod Matching
-pub mod Making
+pub use Rattle.ct_scope.specs.Making
 pub mod Attempts

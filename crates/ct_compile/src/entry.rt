@@ -9,12 +9,12 @@ ghost use Rattle.ct_terms.specs.TreeFormula.{formula_of};
 ghost use Rattle.ct_terms.specs.Compiled.{core_of};
 ghost use Rattle.ct_operators.specs.Effect.{IsPrefix, DoNotFit};
 ghost use Rattle.ct_operators.specs.Made.{Makes};
-ghost use Rattle.ct_compile.specs.Making.{making_of};
+ghost use Rattle.ct_scope.specs.Making.{making_of};
 
 use crate::deferring::compile_deferring;
-use crate::scope::Scope;
 use ct_occurrence::{no_definitions, notes_on, work_out_named};
 use ct_operators::term_theorems;
+use ct_scope::Scope;
 use ct_terms::{TermError, TermId, TermTable, Tree};
 use indexmap::IndexMap;
 use std::alloc::Global;

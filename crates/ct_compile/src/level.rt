@@ -1,7 +1,7 @@
 //! What stays the same while a formula is compiled, or the body of a definition: the scope, what is worked out of the
 //! definitions, and how much room is left for calls under calls.
-use crate::scope::Scope;
 use ct_occurrence::{Definitions, height_at};
+use ct_scope::Scope;
 use ct_sorts::DefId;
 use std::alloc::Global;
 

@@ -6,11 +6,11 @@ ghost use Rattle.ct_terms.specs.CoreSorts.{HasTreeSort};
 ghost use Rattle.ct_operators.specs.Effect.{Stands, IsKept, IsPrefix, Effect};
 ghost use Rattle.ct_terms.specs.Formula.{Var, Ite, Def, Let, Match, no_formulas, with_formula, bind as bound_over};
 ghost use Rattle.ct_terms.specs.TreeFormula.{formula_of, formulas_of_trees};
-ghost use Rattle.ct_compile.specs.Binding.{MayBind, Binds};
-ghost use Rattle.ct_compile.specs.Calling.{IsState, IsUnknown};
-ghost use Rattle.ct_compile.specs.Deferral.{ended, GoesOn, WhenTooDeep, Defers, DefersAll, DefersBound, DefersCases};
+ghost use Rattle.ct_scope.specs.Binding.{MayBind, Binds};
+ghost use Rattle.ct_scope.specs.Calling.{IsState, IsUnknown};
+ghost use Rattle.ct_scope.specs.Deferral.{ended, GoesOn, WhenTooDeep, Defers, DefersAll, DefersBound, DefersCases};
 ghost use Rattle.ct_occurrence.specs.CaseFormula.{cases_of_trees};
-ghost use Rattle.ct_compile.specs.Matching.{bound_by, MayCases, CompilesCases};
+ghost use Rattle.ct_scope.specs.Matching.{bound_by, MayCases, CompilesCases};
 ghost use Rattle.ct_occurrence.specs.Matching.{IsDeclared};
 ghost use Rattle.ct_terms.specs.Occurrence.{uses_below};
 ghost use Rattle.ct_occurrence.specs.declared.notes.Notes.{Notes};
@@ -18,19 +18,16 @@ ghost use Rattle.ct_occurrence.specs.Marks.{worked_in};
 ghost use Rattle.ct_occurrence.specs.Noted.{IsOfFirst, IsNoted, AreNoted, AreNotedWhere, CasesNoted, HaveNotes};
 ghost use Rattle.ct_occurrence.specs.Plain.{is_plain, children_of};
 ghost use Rattle.ct_operators.specs.Forms.{operator_for};
-ghost use Rattle.ct_compile.specs.Ready.{MayCompile, MayCompileAll, Compiles, CompilesAll, IsBound, IsThere};
+ghost use Rattle.ct_scope.specs.Ready.{MayCompile, MayCompileAll, Compiles, CompilesAll, IsBound, IsThere};
 
-use crate::bindings::pattern_bounds;
-use crate::bound::Bound;
-use crate::environment::Environment;
 use crate::forms::operands;
-use crate::known::{Known, call_with, known_term, remember};
 use crate::level::{Level, room_under};
-use crate::matching::make_test;
-use crate::scope::body_at;
-use crate::stop::{DeferredCall, Stop};
 use ct_occurrence::{Earlier, Notes, body_of, notes_at, pattern_of, row_at, tested};
 use ct_operators::{Guarded, Operator, choices, combine, follow, make};
+use ct_scope::{
+    Bound, DeferredCall, Environment, Known, Stop, body_at, call_with, known_term, make_test,
+    pattern_bounds, remember,
+};
 use ct_sorts::{DefId, Items, Signature};
 use ct_terms::{Args, Case, Core, Pattern, TermError, TermId, TermTable, Tree};
 use std::slice;

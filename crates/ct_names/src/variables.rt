@@ -35,7 +35,10 @@ pub struct Found {
 }
 
 /// The parameters as variables, in order. It fails only where memory runs out.
-pub fn parameters<'e>(alloc: Global, params: &'e [Param]) -> Result<Vec<BoundVariable<'e>>, CheckError>
+pub fn parameters<'e>(
+    alloc: Global,
+    params: &'e [Param],
+) -> Result<Vec<BoundVariable<'e>>, CheckError>
     ensures ok { IfOk result (λ variables. map variable_of variables.items
         ≡ map variable_of_param params.now) }
     ensures err { IfErr result (λ e. e ≡ CheckError.NoMemory) }

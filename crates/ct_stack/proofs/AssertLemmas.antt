@@ -13,7 +13,7 @@ use Rattle.ct_terms.specs.Formula.{Formula}
 use Rattle.ct_terms.specs.TreeFormula.{formula_of}
 use Rattle.ct_command.specs.declared.error.CommandError.{CommandError}
 use Rattle.ct_command.specs.declared.error.CommandError.TheVariants.{Refused}
-use Rattle.ct_compile.specs.declared.scope.Scope.{Scope}
+use Rattle.ct_scope.specs.declared.scope.Scope.{Scope}
 use Rattle.ct_compile.specs.Effect.{IsPrefix}
 use Rattle.ct_stack.specs.Theorems.{Theorems}
 use Rattle.ct_stack.specs.Numbers.{too_many_terms}

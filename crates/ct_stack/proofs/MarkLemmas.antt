@@ -12,7 +12,7 @@ use Rattle.ct_terms.specs.Terms.{Terms, BeginsWithTruths, AreSorted, AreOrdered,
 use Rattle.ct_terms.specs.Formula.{Formula}
 use Rattle.ct_terms.specs.TreeFormula.{formula_of}
 use Rattle.ct_terms.specs.CoreTree.{CoreTree, term_at}
-use Rattle.ct_compile.specs.declared.scope.Scope.{Scope}
+use Rattle.ct_scope.specs.declared.scope.Scope.{Scope}
 use Rattle.ct_stack.specs.Theorems.{Theorems}
 use Rattle.ct_stack.specs.Numbers.{too_many_levels, most_levels}
 use Rattle.ct_stack.specs.Refusal.{IsPushRefusal}

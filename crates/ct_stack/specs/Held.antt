@@ -9,7 +9,7 @@ use Rattle.ct_terms.specs.TreeFormula.{formula_of}
 use Rattle.ct_terms.specs.CoreTree.{CoreTree, subtrees, term_at}
 use Rattle.ct_closure.specs.Closed.{truth_trees}
 use Rattle.ct_closure.specs.ClosedTable.{Stands, terms_at}
-use Rattle.ct_compile.specs.declared.scope.Scope.{Scope}
+use Rattle.ct_scope.specs.declared.scope.Scope.{Scope}
 use Rattle.ct_stack.specs.Stack.{Context, Level, Stack, cores, in_force}
 
 -- the context that a scope is

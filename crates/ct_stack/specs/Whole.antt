@@ -8,7 +8,7 @@ use Rattle.ct_sorts.specs.Grown.{Extends}
 use Rattle.ct_terms.specs.declared.ids.TermId.{TermId}
 use Rattle.ct_terms.specs.declared.tree.Tree.{Tree}
 use Rattle.ct_terms.specs.Terms.{Terms, AreSorted, truths}
-use Rattle.ct_compile.specs.declared.scope.Scope.{Scope}
+use Rattle.ct_scope.specs.declared.scope.Scope.{Scope}
 use Rattle.ct_stack.specs.Stack.{Level, Stack}
 use Rattle.ct_stack.specs.Held.{level_in, alone, IsHeld}
 use Rattle.ct_stack.specs.declared.levels.LevelMark.{LevelMark}

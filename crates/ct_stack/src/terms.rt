@@ -16,8 +16,8 @@ ghost use Rattle.ct_stack.specs.Outcomes.{Comes};
 ghost use Rattle.ct_stack.specs.Refusal.{HasManyTerms};
 ghost use Rattle.ct_stack.specs.Held.{IsHeld, IsTableOf, context_in, level_in};
 
-use crate::theorems::stack_theorems;
 use crate::sorts::{is_sort, term_of};
+use crate::theorems::stack_theorems;
 use ct_check::{Scope, elaboration};
 use ct_command::CommandError;
 use ct_compile::compile;

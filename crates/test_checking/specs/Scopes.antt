@@ -1,6 +1,6 @@
 -- Scopes that the cases declare.
 use Rattle.std.specs.Prelude.{map}
-use Rattle.ct_compile.specs.declared.scope.Scope.{Scope}
+use Rattle.ct_scope.specs.declared.scope.Scope.{Scope}
 use Rattle.ct_terms.specs.FormulaSorts.{AreSound}
 use Rattle.ct_terms.specs.TreeFormula.{formula_of}
 

@@ -7,7 +7,7 @@ use Rattle.ct_terms.specs.declared.tree.Tree.{Tree}
 use Rattle.ct_terms.specs.Formula.{Formula, bind}
 use Rattle.ct_terms.specs.FormulaSorts.{IsSorted, AreSound}
 use Rattle.ct_terms.specs.TreeFormula.{formula_of}
-use Rattle.ct_compile.specs.declared.scope.Scope.{Scope}
+use Rattle.ct_scope.specs.declared.scope.Scope.{Scope}
 use Rattle.test_engine.specs.Scopes.{IsSound}
 
 -- a scope stays sound with one more definition, whose body is of its sort

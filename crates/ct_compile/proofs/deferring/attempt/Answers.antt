@@ -1,8 +1,8 @@
 use Rattle.std.proofs.Common.{◌-◌, suc, length, map, sym, arith}
 use Rattle.ct_terms.specs.TreeFormula.{formula_of}
 use Rattle.ct_occurrence.specs.Marks.{worked_in}
-use Rattle.ct_compile.specs.Ready.{given}
-use Rattle.ct_compile.proofs.CallingLemmas.{state_below}
+use Rattle.ct_scope.specs.Ready.{given}
+use Rattle.ct_scope.proofs.CallingLemmas.{state_below}
 use Rattle.ct_operators.proofs.WithinLemmas.{within_subtrees}
 use Rattle.ct_compile.proofs.AttemptLemmas.{called_makes, called_waits, closed_effect, closed_makes, closed_waits, closed_all, last_known, last_none}
 use Rattle.ct_compile.proofs.deferring.attempt.Goals as goal

@@ -3,13 +3,13 @@ use Rattle.std.proofs.lemmas.Result.{err_from_is_err_and}
 use Rattle.indexmap.specs.IndexMap.{get}
 use Rattle.ct_terms.specs.Formula.{bind}
 use Rattle.ct_terms.specs.TreeFormula.{formula_of}
-use Rattle.ct_compile.specs.declared.bound.Bound.{Bound}
-use Rattle.ct_compile.specs.declared.known.Called.{Called}
-use Rattle.ct_compile.specs.Calling.{same_call, call_of, IsRecalled}
-use Rattle.ct_compile.specs.Deferral.{ended, Defers}
+use Rattle.ct_scope.specs.declared.bound.Bound.{Bound}
+use Rattle.ct_scope.specs.declared.known.Called.{Called}
+use Rattle.ct_scope.specs.Calling.{same_call, call_of, IsRecalled}
+use Rattle.ct_scope.specs.Deferral.{ended, Defers}
 use Rattle.ct_occurrence.specs.Marks.{worked_in}
-use Rattle.ct_compile.specs.Ready.{Compiles}
-use Rattle.ct_compile.proofs.CallingLemmas.{state_with}
+use Rattle.ct_scope.specs.Ready.{Compiles}
+use Rattle.ct_scope.proofs.CallingLemmas.{state_with}
 use Rattle.ct_compile.proofs.AttemptLemmas.{call_effect, call_makes, call_known, call_defers, call_lost, row_known}
 use Rattle.ct_compile.proofs.deferring.compile_call_first.Goals as goal
 

@@ -8,12 +8,12 @@ use Rattle.ct_terms.specs.TreeFormula.{formula_of}
 use Rattle.ct_terms.specs.Compiled.{compiled, core_of}
 use Rattle.ct_operators.specs.Effect.{Stands, DoNotFit}
 use Rattle.ct_operators.specs.Made.{Makes}
-use Rattle.ct_compile.specs.Making.{making, defined, making_of}
+use Rattle.ct_scope.specs.Making.{making, defined, making_of}
 use Rattle.ct_terms.specs.Occurrence.{uses_below}
 use Rattle.ct_occurrence.specs.Marks.{worked_in, HaveRows}
 use Rattle.ct_occurrence.specs.Working.{AreRight}
-use Rattle.ct_compile.specs.Ready.{given}
-use Rattle.ct_compile.proofs.CallingLemmas.{state_start}
+use Rattle.ct_scope.specs.Ready.{given}
+use Rattle.ct_scope.proofs.CallingLemmas.{state_start}
 use Rattle.ct_operators.proofs.WithinLemmas.{within_subtrees}
 use Rattle.ct_operators.proofs.OperatorLemmas.{stands_as}
 use Rattle.ct_compile.proofs.FullLemmas.{do_not_fit}

@@ -19,32 +19,32 @@ use Rattle.ct_terms.specs.Formula.{Cases, Def, Ite, Let, Match, with_case, bind}
 use Rattle.ct_terms.specs.Compiled.{are_none}
 use Rattle.ct_terms.specs.Occurrence.{count_of, occurs, uses_below}
 use Rattle.ct_terms.specs.TreeFormula.{formula_of, formulas_of_trees}
-use Rattle.ct_compile.specs.declared.bound.Bound.{Bound}
-use Rattle.ct_compile.specs.declared.known.Called.{Called}
-use Rattle.ct_compile.specs.Binding.{Binds}
-use Rattle.ct_compile.specs.Calling.{call_of, IsRecalled, IsState, IsUnknown}
+use Rattle.ct_scope.specs.declared.bound.Bound.{Bound}
+use Rattle.ct_scope.specs.declared.known.Called.{Called}
+use Rattle.ct_scope.specs.Binding.{Binds}
+use Rattle.ct_scope.specs.Calling.{call_of, IsRecalled, IsState, IsUnknown}
 use Rattle.ct_occurrence.specs.CaseFormula.{cases_of_trees}
 use Rattle.ct_operators.specs.Forms.{combined}
 use Rattle.ct_occurrence.specs.Marks.{worked_in, listed}
-use Rattle.ct_compile.specs.Matching.{bound_by}
+use Rattle.ct_scope.specs.Matching.{bound_by}
 use Rattle.ct_occurrence.specs.Matching.{tested_by}
-use Rattle.ct_compile.specs.Ready.{MayCompile, Compiles, CompilesAll}
+use Rattle.ct_scope.specs.Ready.{MayCompile, Compiles, CompilesAll}
 use Rattle.ct_occurrence.specs.Noted.{IsOfFirst, IsNoted, AreNoted, CasesNoted}
-use Rattle.ct_compile.proofs.Weight.{weights_below}
+use Rattle.ct_scope.proofs.Weight.{weights_below}
 use Rattle.ct_operators.proofs.RestLemmas.{rest_item}
-use Rattle.ct_compile.proofs.BindLemmas.{bind_left}
+use Rattle.ct_scope.proofs.BindLemmas.{bind_left}
 use Rattle.ct_compile.proofs.NoteLemmas.{first_inside, call_known, plain_notes, condition_notes, then_notes, else_notes, let_flags, let_under, let_inner, call_notes, match_inside, match_flag, match_under, match_inner, case_notes, later_cases, where_split}
 use Rattle.ct_compile.proofs.CycleLemmas.{compiles_nothing, compiles_grown, plain_children, plain_waits, plain_failed, plain_kept, plain_below, plain_operands, plain_made, Collects, collects_start, collects_next, collects_lighter, collects_waits, collects_failed, collects_follows, collects_broken, collects_out, collects_grown, collects_more, collects_end}
-use Rattle.ct_compile.proofs.ChoiceLemmas.{choice_condition, choice_then, choice_else, choice_waits_1, choice_failed_1, choice_waits_2, choice_failed_2, choice_waits_3, choice_failed_3, choice_kept, choice_below, choice_sorted, choice_made}
-use Rattle.ct_compile.proofs.BindingLemmas.{completes_stopped, completes_waits, Completes, completes_start, completes_flag, completes_split, completes_all, completes_out, completes_absent, completes_lighter, completes_next, completes_term, flags_split}
-use Rattle.ct_compile.proofs.DefinitionLemmas.{weights_is}
-use Rattle.ct_compile.proofs.UnderLemmas.{under_may, under_stopped, under_waits, under_later, under_out, under_known, under_body, under_made, under_has, under_lost, let_view}
-use Rattle.ct_compile.proofs.CallingLemmas.{state_stays, state_within, state_made, state_below, state_back, state_with, row_is, call_under, known_stands, known_made, call_recalled, call_waits}
-use Rattle.ct_compile.proofs.MatchLemmas.{case_declared, case_body, case_ends, test_kept, test_there, test_bound, test_failed, test_grown, first_may, first_failed, case_chosen, ends_waits, first_stopped, first_waits}
+use Rattle.ct_scope.proofs.ChoiceLemmas.{choice_condition, choice_then, choice_else, choice_waits_1, choice_failed_1, choice_waits_2, choice_failed_2, choice_waits_3, choice_failed_3, choice_kept, choice_below, choice_sorted, choice_made}
+use Rattle.ct_scope.proofs.BindingLemmas.{completes_stopped, completes_waits, Completes, completes_start, completes_flag, completes_split, completes_all, completes_out, completes_absent, completes_lighter, completes_next, completes_term, flags_split}
+use Rattle.ct_scope.proofs.DefinitionLemmas.{weights_is}
+use Rattle.ct_scope.proofs.UnderLemmas.{under_may, under_stopped, under_waits, under_later, under_out, under_known, under_body, under_made, under_has, under_lost, let_view}
+use Rattle.ct_scope.proofs.CallingLemmas.{state_stays, state_within, state_made, state_below, state_back, state_with, row_is, call_under, known_stands, known_made, call_recalled, call_waits}
+use Rattle.ct_scope.proofs.MatchLemmas.{case_declared, case_body, case_ends, test_kept, test_there, test_bound, test_failed, test_grown, first_may, first_failed, case_chosen, ends_waits, first_stopped, first_waits}
 use Rattle.ct_compile.proofs.ChoosesLemmas.{chooses_stopped, chooses_waits, Chooses, chooses_start, chooses_may, chooses_failed, last_kept, last_below, last_inside, last_sorted, chooses_end, chooses_lighter, chooses_more, chooses_none}
-use Rattle.ct_compile.proofs.FormLemmas.{match_may, match_stopped, match_waits, match_later, defers_as, match_some, match_cases, match_made, may_bind_as, binds_as, one_weight, cases_is, none_is, not_full}
-use Rattle.ct_compile.specs.Deferral.{ended, Defers}
-use Rattle.ct_compile.proofs.DeferralLemmas.{ended_by, goes_on_by, too_deep_by, IsPutOff, ArePutOff}
+use Rattle.ct_scope.proofs.FormLemmas.{match_may, match_stopped, match_waits, match_later, defers_as, match_some, match_cases, match_made, may_bind_as, binds_as, one_weight, cases_is, none_is, not_full}
+use Rattle.ct_scope.specs.Deferral.{ended, Defers}
+use Rattle.ct_scope.proofs.DeferralLemmas.{ended_by, goes_on_by, too_deep_by, IsPutOff, ArePutOff}
 use Rattle.ct_compile.proofs.terms.+compile.Goals as goal
 
 -- a list without elements

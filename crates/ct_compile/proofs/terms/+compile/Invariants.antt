@@ -2,11 +2,11 @@ use Rattle.std.proofs.Common.{◌+◌, map, length, reverse}
 use Rattle.ct_terms.specs.TreeFormula.{formula_of, formulas_of_trees}
 use Rattle.ct_terms.specs.Occurrence.{uses_below}
 use Rattle.ct_occurrence.specs.Noted.{AreNoted, AreNotedWhere, CasesNoted}
-use Rattle.ct_compile.specs.Calling.{IsState}
+use Rattle.ct_scope.specs.Calling.{IsState}
 use Rattle.ct_occurrence.specs.Marks.{worked_in}
 use Rattle.ct_occurrence.specs.CaseFormula.{cases_of_trees}
-use Rattle.ct_compile.proofs.Weight.{weight, weights, case_weights, weights_below}
-use Rattle.ct_compile.proofs.BindingLemmas.{Completes}
+use Rattle.ct_scope.proofs.Weight.{weight, weights, case_weights, weights_below}
+use Rattle.ct_scope.proofs.BindingLemmas.{Completes}
 use Rattle.ct_compile.proofs.CycleLemmas.{Collects}
 use Rattle.ct_compile.proofs.ChoosesLemmas.{Chooses}
 use Rattle.ct_compile.proofs.LoopLemmas.{Keeps}

@@ -1,0 +1,15 @@
+pub mod Weight
+pub mod ReadyLemmas
+pub mod PlainLemmas
+pub mod ChoiceLemmas
+pub mod BindLemmas
+mod StackLemmas
+pub mod BindingLemmas
+pub mod DefinitionLemmas
+pub mod UnderLemmas
+pub mod CallingLemmas
+pub mod MatchLemmas
+mod KnownLemmas
+pub mod FormLemmas
+pub mod MakingLemmas
+pub mod DeferralLemmas

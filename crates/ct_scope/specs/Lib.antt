@@ -1,0 +1,6 @@
+pub mod Ready
+pub mod Binding
+pub mod Matching
+pub mod Making
+pub mod Deferral
+pub mod Calling

@@ -1,0 +1,19 @@
+//! What a formula is compiled in: the scope, what its variables stand for, and the calls that are compiled already. The
+//! definitions of this crate say what compiling a formula gives.
+#![tactic(auto)]
+
+mod bindings;
+mod bound;
+mod environment;
+mod known;
+mod matching;
+mod scope;
+mod stop;
+
+pub use bindings::pattern_bounds;
+pub use bound::Bound;
+pub use environment::Environment;
+pub use known::{Called, Known, call_with, known_term, remember};
+pub use matching::make_test;
+pub use scope::{Scope, body_at};
+pub use stop::{DeferredCall, Stop};
