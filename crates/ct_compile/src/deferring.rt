@@ -14,6 +14,7 @@ ghost use Rattle.ct_scope.specs.Making.{makes_below};
 ghost use Rattle.ct_occurrence.specs.Marks.{worked_in};
 ghost use Rattle.ct_occurrence.specs.Noted.{IsOfFirst, IsNoted, HaveNotes};
 ghost use Rattle.ct_scope.specs.Ready.{given, MayCompile, Compiles};
+ghost use Rattle.ct_compile.specs.AtLevel.{IsNotedAt, IsStateAt, MayCompileAt};
 
 use crate::level::{Level, room_under};
 use crate::terms::compile_tree;
@@ -76,15 +77,15 @@ fn attempt(
     notes: &[Notes],
     calls: &[DeferredCall],
 ) -> Result<TermId, Stop>
-    requires state { IsState level.now.scope.now.sig (map formula_of level.now.scope.now.bodies) level.now.below (worked_in level.now.definitions.now) table.old known.old }
-    requires ready { MayCompile level.now.scope.now.sig (map formula_of level.now.scope.now.bodies) table.old level.now.below [] (formula_of tree.now) }
-    requires noted { HaveNotes level.now.scope.now.sig (map formula_of level.now.scope.now.bodies) (worked_in level.now.definitions.now) × IsOfFirst (IsNoted level.now.scope.now.sig (worked_in level.now.definitions.now) (uses_below level.now.scope.now.sig (map formula_of level.now.scope.now.bodies) level.now.below) (formula_of tree.now)) notes.now }
+    requires state { IsStateAt level.now table.old known.old }
+    requires ready { MayCompileAt level.now table.old [] (formula_of tree.now) }
+    requires noted { IsNotedAt level.now (formula_of tree.now) notes.now }
     requires waiting { AreWaiting level.now.scope.now.sig (map formula_of level.now.scope.now.bodies) (worked_in level.now.definitions.now) level.now.below (formula_of tree.now) table.old calls.now }
     ensures effect { (allowed : List CoreTree)
         → Within allowed (closed_core level.now.scope.now.sig (map formula_of level.now.scope.now.bodies) level.now.below (formula_of tree.now))
         → Effect level.now.scope.now.sig allowed table.old table.new (IsErrOf (ended result) TermError.Full) }
     ensures makes { GoesOn result (MakesFirst table.old (closed_making level.now.scope.now.sig (map formula_of level.now.scope.now.bodies) level.now.below (formula_of tree.now)) table.new) }
-    ensures state { GoesOn result (IsState level.now.scope.now.sig (map formula_of level.now.scope.now.bodies) level.now.below (worked_in level.now.definitions.now) table.new known.new) }
+    ensures state { GoesOn result (IsStateAt level.now table.new known.new) }
     ensures waits { WhenTooDeep result (IsWaiting level.now.scope.now.sig (map formula_of level.now.scope.now.bodies) (worked_in level.now.definitions.now) level.now.below (formula_of tree.now) table.new) }
     ensures all { calls.now ≡ [] → IfOk result (λ u. Stands table.new u (closed_core level.now.scope.now.sig (map formula_of level.now.scope.now.bodies) level.now.below (formula_of tree.now))
         × HasTrees table.new (closed_making level.now.scope.now.sig (map formula_of level.now.scope.now.bodies) level.now.below (formula_of tree.now))) }

@@ -1,24 +1,21 @@
 //! The core term of a formula, by recursion on the formula and on the definitions that it names.
-ghost use Rattle.std.specs.Prelude.{◌≡◌, ◌<◌, true, map, length, List, [], ◌∷◌, drop, Contains, Some, slice_get, IfOk, IsErrOf};
+ghost use Rattle.std.specs.Prelude.{◌≡◌, ◌<◌, true, length, List, [], ◌∷◌, drop, Contains, Some, slice_get, IfOk, IsErrOf};
 ghost use Rattle.ct_sorts.specs.declared.ids.SortId.{SortId};
 ghost use Rattle.ct_terms.specs.CoreTree.{CoreTree};
 ghost use Rattle.ct_terms.specs.CoreSorts.{HasTreeSort};
 ghost use Rattle.ct_operators.specs.Effect.{Stands, IsKept, IsPrefix, Effect};
 ghost use Rattle.ct_terms.specs.Formula.{Var, Ite, Def, Let, Match, no_formulas, with_formula, bind as bound_over};
 ghost use Rattle.ct_terms.specs.TreeFormula.{formula_of, formulas_of_trees};
-ghost use Rattle.ct_scope.specs.Binding.{MayBind, Binds};
-ghost use Rattle.ct_scope.specs.Calling.{IsState, IsUnknown};
-ghost use Rattle.ct_scope.specs.Deferral.{ended, GoesOn, WhenTooDeep, Defers, DefersAll, DefersBound, DefersCases};
+ghost use Rattle.ct_scope.specs.Calling.{IsUnknown};
+ghost use Rattle.ct_scope.specs.Deferral.{ended, GoesOn, WhenTooDeep};
 ghost use Rattle.ct_occurrence.specs.CaseFormula.{cases_of_trees};
-ghost use Rattle.ct_scope.specs.Matching.{bound_by, MayCases, CompilesCases};
+ghost use Rattle.ct_scope.specs.Matching.{bound_by};
 ghost use Rattle.ct_occurrence.specs.Matching.{IsDeclared};
-ghost use Rattle.ct_terms.specs.Occurrence.{uses_below};
 ghost use Rattle.ct_occurrence.specs.declared.notes.Notes.{Notes};
-ghost use Rattle.ct_occurrence.specs.Marks.{worked_in};
-ghost use Rattle.ct_occurrence.specs.Noted.{IsOfFirst, IsNoted, AreNoted, AreNotedWhere, CasesNoted, HaveNotes};
 ghost use Rattle.ct_occurrence.specs.Plain.{is_plain, children_of};
 ghost use Rattle.ct_operators.specs.Forms.{operator_for};
-ghost use Rattle.ct_scope.specs.Ready.{MayCompile, MayCompileAll, Compiles, CompilesAll, IsBound, IsThere};
+ghost use Rattle.ct_scope.specs.Ready.{IsBound, IsThere};
+ghost use Rattle.ct_compile.specs.AtLevel.{AreNotedAt, AreNotedCasesAt, AreNotedWhereAt, BindsAt, CompilesAllAt, CompilesAt, CompilesCasesAt, DefersAllAt, DefersAt, DefersBoundAt, DefersCasesAt, IsNotedAt, IsStateAt, MayBindAt, MayCasesAt, MayCompileAllAt, MayCompileAt};
 
 use crate::forms::operands;
 use crate::level::{Level, room_under};
@@ -42,12 +39,12 @@ pub(crate) fn compile_tree(
     tree: &Tree,
     notes: &[Notes],
 ) -> Result<TermId, Stop>
-    requires state { IsState level.now.scope.now.sig (map formula_of level.now.scope.now.bodies) level.now.below (worked_in level.now.definitions.now) table.old known.old }
-    requires ready { MayCompile level.now.scope.now.sig (map formula_of level.now.scope.now.bodies) table.old level.now.below env.old (formula_of tree.now) }
-    requires noted { HaveNotes level.now.scope.now.sig (map formula_of level.now.scope.now.bodies) (worked_in level.now.definitions.now) × IsOfFirst (IsNoted level.now.scope.now.sig (worked_in level.now.definitions.now) (uses_below level.now.scope.now.sig (map formula_of level.now.scope.now.bodies) level.now.below) (formula_of tree.now)) notes.now }
-    ensures outcome { Compiles level.now.scope.now.sig (map formula_of level.now.scope.now.bodies) level.now.below table.old table.new env.old (formula_of tree.now) (ended result) }
-    ensures waits { Defers level.now.scope.now.sig (map formula_of level.now.scope.now.bodies) (worked_in level.now.definitions.now) level.now.below table.old table.new env.old (formula_of tree.now) result }
-    ensures state { GoesOn result (IsState level.now.scope.now.sig (map formula_of level.now.scope.now.bodies) level.now.below (worked_in level.now.definitions.now) table.new known.new) }
+    requires state { IsStateAt level.now table.old known.old }
+    requires ready { MayCompileAt level.now table.old env.old (formula_of tree.now) }
+    requires noted { IsNotedAt level.now (formula_of tree.now) notes.now }
+    ensures outcome { CompilesAt level.now table.old table.new env.old (formula_of tree.now) (ended result) }
+    ensures waits { DefersAt level.now table.old table.new env.old (formula_of tree.now) result }
+    ensures state { GoesOn result (IsStateAt level.now table.new known.new) }
     ensures unknown { WhenTooDeep result (λ call. IsUnknown known.new call) }
     ensures back { env.new ≡ env.old }
 {
@@ -89,12 +86,12 @@ fn compile_plain(
     requires operator { operator_for (formula_of tree.now) ≡ operator }
     requires plain { is_plain (formula_of tree.now) ≡ true }
     requires under { children_of (formula_of tree.now) ≡ formulas_of_trees trees.now }
-    requires state { IsState level.now.scope.now.sig (map formula_of level.now.scope.now.bodies) level.now.below (worked_in level.now.definitions.now) table.old known.old }
-    requires ready { MayCompile level.now.scope.now.sig (map formula_of level.now.scope.now.bodies) table.old level.now.below env.old (formula_of tree.now) }
-    requires noted { HaveNotes level.now.scope.now.sig (map formula_of level.now.scope.now.bodies) (worked_in level.now.definitions.now) × IsOfFirst (IsNoted level.now.scope.now.sig (worked_in level.now.definitions.now) (uses_below level.now.scope.now.sig (map formula_of level.now.scope.now.bodies) level.now.below) (formula_of tree.now)) notes.now }
-    ensures outcome { Compiles level.now.scope.now.sig (map formula_of level.now.scope.now.bodies) level.now.below table.old table.new env.old (formula_of tree.now) (ended result) }
-    ensures waits { Defers level.now.scope.now.sig (map formula_of level.now.scope.now.bodies) (worked_in level.now.definitions.now) level.now.below table.old table.new env.old (formula_of tree.now) result }
-    ensures state { GoesOn result (IsState level.now.scope.now.sig (map formula_of level.now.scope.now.bodies) level.now.below (worked_in level.now.definitions.now) table.new known.new) }
+    requires state { IsStateAt level.now table.old known.old }
+    requires ready { MayCompileAt level.now table.old env.old (formula_of tree.now) }
+    requires noted { IsNotedAt level.now (formula_of tree.now) notes.now }
+    ensures outcome { CompilesAt level.now table.old table.new env.old (formula_of tree.now) (ended result) }
+    ensures waits { DefersAt level.now table.old table.new env.old (formula_of tree.now) result }
+    ensures state { GoesOn result (IsStateAt level.now table.new known.new) }
     ensures unknown { WhenTooDeep result (λ call. IsUnknown known.new call) }
     ensures back { env.new ≡ env.old }
 {
@@ -114,12 +111,12 @@ fn compile_all(
     trees: &[Tree],
     notes: &[Notes],
 ) -> Result<Args, Stop>
-    requires state { IsState level.now.scope.now.sig (map formula_of level.now.scope.now.bodies) level.now.below (worked_in level.now.definitions.now) table.old known.old }
-    requires ready { MayCompileAll level.now.scope.now.sig (map formula_of level.now.scope.now.bodies) table.old level.now.below env.old operator (formulas_of_trees trees.now) }
-    requires noted { HaveNotes level.now.scope.now.sig (map formula_of level.now.scope.now.bodies) (worked_in level.now.definitions.now) × AreNoted level.now.scope.now.sig (worked_in level.now.definitions.now) (uses_below level.now.scope.now.sig (map formula_of level.now.scope.now.bodies) level.now.below) (formulas_of_trees trees.now) notes.now }
-    ensures outcome { CompilesAll level.now.scope.now.sig (map formula_of level.now.scope.now.bodies) level.now.below table.old table.new env.old operator (formulas_of_trees trees.now) (ended result) }
-    ensures waits { DefersAll level.now.scope.now.sig (map formula_of level.now.scope.now.bodies) (worked_in level.now.definitions.now) level.now.below table.old table.new env.old operator (formulas_of_trees trees.now) result }
-    ensures state { GoesOn result (IsState level.now.scope.now.sig (map formula_of level.now.scope.now.bodies) level.now.below (worked_in level.now.definitions.now) table.new known.new) }
+    requires state { IsStateAt level.now table.old known.old }
+    requires ready { MayCompileAllAt level.now table.old env.old operator (formulas_of_trees trees.now) }
+    requires noted { AreNotedAt level.now (formulas_of_trees trees.now) notes.now }
+    ensures outcome { CompilesAllAt level.now table.old table.new env.old operator (formulas_of_trees trees.now) (ended result) }
+    ensures waits { DefersAllAt level.now table.old table.new env.old operator (formulas_of_trees trees.now) result }
+    ensures state { GoesOn result (IsStateAt level.now table.new known.new) }
     ensures unknown { WhenTooDeep result (λ call. IsUnknown known.new call) }
     ensures back { env.new ≡ env.old }
 {
@@ -158,12 +155,12 @@ fn compile_choice(
     second: &Tree,
     notes: &[Notes],
 ) -> Result<TermId, Stop>
-    requires state { IsState level.now.scope.now.sig (map formula_of level.now.scope.now.bodies) level.now.below (worked_in level.now.definitions.now) table.old known.old }
-    requires ready { MayCompile level.now.scope.now.sig (map formula_of level.now.scope.now.bodies) table.old level.now.below env.old (Ite (formula_of condition.now) (formula_of first.now) (formula_of second.now)) }
-    requires noted { HaveNotes level.now.scope.now.sig (map formula_of level.now.scope.now.bodies) (worked_in level.now.definitions.now) × IsOfFirst (IsNoted level.now.scope.now.sig (worked_in level.now.definitions.now) (uses_below level.now.scope.now.sig (map formula_of level.now.scope.now.bodies) level.now.below) (Ite (formula_of condition.now) (formula_of first.now) (formula_of second.now))) notes.now }
-    ensures outcome { Compiles level.now.scope.now.sig (map formula_of level.now.scope.now.bodies) level.now.below table.old table.new env.old (Ite (formula_of condition.now) (formula_of first.now) (formula_of second.now)) (ended result) }
-    ensures waits { Defers level.now.scope.now.sig (map formula_of level.now.scope.now.bodies) (worked_in level.now.definitions.now) level.now.below table.old table.new env.old (Ite (formula_of condition.now) (formula_of first.now) (formula_of second.now)) result }
-    ensures state { GoesOn result (IsState level.now.scope.now.sig (map formula_of level.now.scope.now.bodies) level.now.below (worked_in level.now.definitions.now) table.new known.new) }
+    requires state { IsStateAt level.now table.old known.old }
+    requires ready { MayCompileAt level.now table.old env.old (Ite (formula_of condition.now) (formula_of first.now) (formula_of second.now)) }
+    requires noted { IsNotedAt level.now (Ite (formula_of condition.now) (formula_of first.now) (formula_of second.now)) notes.now }
+    ensures outcome { CompilesAt level.now table.old table.new env.old (Ite (formula_of condition.now) (formula_of first.now) (formula_of second.now)) (ended result) }
+    ensures waits { DefersAt level.now table.old table.new env.old (Ite (formula_of condition.now) (formula_of first.now) (formula_of second.now)) result }
+    ensures state { GoesOn result (IsStateAt level.now table.new known.new) }
     ensures unknown { WhenTooDeep result (λ call. IsUnknown known.new call) }
     ensures back { env.new ≡ env.old }
 {
@@ -185,8 +182,8 @@ fn variable(
     env: &Environment,
     i: u64,
 ) -> Result<TermId, TermError>
-    requires ready { MayCompile level.now.scope.now.sig (map formula_of level.now.scope.now.bodies) table.old level.now.below env.now (Var i) }
-    ensures outcome { Compiles level.now.scope.now.sig (map formula_of level.now.scope.now.bodies) level.now.below table.old table.new env.now (Var i) result }
+    requires ready { MayCompileAt level.now table.old env.now (Var i) }
+    ensures outcome { CompilesAt level.now table.old table.new env.now (Var i) result }
     ensures grown { IsPrefix table.old table.new × IsKept level.now.scope.now.sig table.new }
 {
     let bound = env.at(i as usize);
@@ -205,12 +202,12 @@ fn compile_let(
     body: &Tree,
     notes: &[Notes],
 ) -> Result<TermId, Stop>
-    requires state { IsState level.now.scope.now.sig (map formula_of level.now.scope.now.bodies) level.now.below (worked_in level.now.definitions.now) table.old known.old }
-    requires ready { MayCompile level.now.scope.now.sig (map formula_of level.now.scope.now.bodies) table.old level.now.below env.old (Let (formulas_of_trees trees.now) (formula_of body.now)) }
-    requires noted { HaveNotes level.now.scope.now.sig (map formula_of level.now.scope.now.bodies) (worked_in level.now.definitions.now) × IsOfFirst (IsNoted level.now.scope.now.sig (worked_in level.now.definitions.now) (uses_below level.now.scope.now.sig (map formula_of level.now.scope.now.bodies) level.now.below) (Let (formulas_of_trees trees.now) (formula_of body.now))) notes.now }
-    ensures outcome { Compiles level.now.scope.now.sig (map formula_of level.now.scope.now.bodies) level.now.below table.old table.new env.old (Let (formulas_of_trees trees.now) (formula_of body.now)) (ended result) }
-    ensures waits { Defers level.now.scope.now.sig (map formula_of level.now.scope.now.bodies) (worked_in level.now.definitions.now) level.now.below table.old table.new env.old (Let (formulas_of_trees trees.now) (formula_of body.now)) result }
-    ensures state { GoesOn result (IsState level.now.scope.now.sig (map formula_of level.now.scope.now.bodies) level.now.below (worked_in level.now.definitions.now) table.new known.new) }
+    requires state { IsStateAt level.now table.old known.old }
+    requires ready { MayCompileAt level.now table.old env.old (Let (formulas_of_trees trees.now) (formula_of body.now)) }
+    requires noted { IsNotedAt level.now (Let (formulas_of_trees trees.now) (formula_of body.now)) notes.now }
+    ensures outcome { CompilesAt level.now table.old table.new env.old (Let (formulas_of_trees trees.now) (formula_of body.now)) (ended result) }
+    ensures waits { DefersAt level.now table.old table.new env.old (Let (formulas_of_trees trees.now) (formula_of body.now)) result }
+    ensures state { GoesOn result (IsStateAt level.now table.new known.new) }
     ensures unknown { WhenTooDeep result (λ call. IsUnknown known.new call) }
     ensures back { env.new ≡ env.old }
 {
@@ -236,12 +233,12 @@ fn compile_call(
     trees: &[Tree],
     notes: &[Notes],
 ) -> Result<TermId, Stop>
-    requires state { IsState level.now.scope.now.sig (map formula_of level.now.scope.now.bodies) level.now.below (worked_in level.now.definitions.now) table.old known.old }
-    requires ready { MayCompile level.now.scope.now.sig (map formula_of level.now.scope.now.bodies) table.old level.now.below env.old (Def k (formulas_of_trees trees.now)) }
-    requires noted { HaveNotes level.now.scope.now.sig (map formula_of level.now.scope.now.bodies) (worked_in level.now.definitions.now) × IsOfFirst (IsNoted level.now.scope.now.sig (worked_in level.now.definitions.now) (uses_below level.now.scope.now.sig (map formula_of level.now.scope.now.bodies) level.now.below) (Def k (formulas_of_trees trees.now))) notes.now }
-    ensures outcome { Compiles level.now.scope.now.sig (map formula_of level.now.scope.now.bodies) level.now.below table.old table.new env.old (Def k (formulas_of_trees trees.now)) (ended result) }
-    ensures waits { Defers level.now.scope.now.sig (map formula_of level.now.scope.now.bodies) (worked_in level.now.definitions.now) level.now.below table.old table.new env.old (Def k (formulas_of_trees trees.now)) result }
-    ensures state { GoesOn result (IsState level.now.scope.now.sig (map formula_of level.now.scope.now.bodies) level.now.below (worked_in level.now.definitions.now) table.new known.new) }
+    requires state { IsStateAt level.now table.old known.old }
+    requires ready { MayCompileAt level.now table.old env.old (Def k (formulas_of_trees trees.now)) }
+    requires noted { IsNotedAt level.now (Def k (formulas_of_trees trees.now)) notes.now }
+    ensures outcome { CompilesAt level.now table.old table.new env.old (Def k (formulas_of_trees trees.now)) (ended result) }
+    ensures waits { DefersAt level.now table.old table.new env.old (Def k (formulas_of_trees trees.now)) result }
+    ensures state { GoesOn result (IsStateAt level.now table.new known.new) }
     ensures unknown { WhenTooDeep result (λ call. IsUnknown known.new call) }
     ensures back { env.new ≡ env.old }
 {
@@ -284,12 +281,12 @@ fn compile_bound(
     trees: &[Tree],
     notes: &[Notes],
 ) -> Result<Items<Bound>, Stop>
-    requires state { IsState level.now.scope.now.sig (map formula_of level.now.scope.now.bodies) level.now.below (worked_in level.now.definitions.now) table.old known.old }
-    requires ready { MayBind level.now.scope.now.sig (map formula_of level.now.scope.now.bodies) table.old level.now.below env.old flags.now (formulas_of_trees trees.now) }
-    requires noted { HaveNotes level.now.scope.now.sig (map formula_of level.now.scope.now.bodies) (worked_in level.now.definitions.now) × AreNotedWhere level.now.scope.now.sig (worked_in level.now.definitions.now) (uses_below level.now.scope.now.sig (map formula_of level.now.scope.now.bodies) level.now.below) flags.now (formulas_of_trees trees.now) notes.now }
-    ensures outcome { Binds level.now.scope.now.sig (map formula_of level.now.scope.now.bodies) level.now.below table.old table.new env.old flags.now (formulas_of_trees trees.now) (ended result) }
-    ensures waits { DefersBound level.now.scope.now.sig (map formula_of level.now.scope.now.bodies) (worked_in level.now.definitions.now) level.now.below table.old table.new env.old flags.now (formulas_of_trees trees.now) result }
-    ensures state { GoesOn result (IsState level.now.scope.now.sig (map formula_of level.now.scope.now.bodies) level.now.below (worked_in level.now.definitions.now) table.new known.new) }
+    requires state { IsStateAt level.now table.old known.old }
+    requires ready { MayBindAt level.now table.old env.old flags.now (formulas_of_trees trees.now) }
+    requires noted { AreNotedWhereAt level.now flags.now (formulas_of_trees trees.now) notes.now }
+    ensures outcome { BindsAt level.now table.old table.new env.old flags.now (formulas_of_trees trees.now) (ended result) }
+    ensures waits { DefersBoundAt level.now table.old table.new env.old flags.now (formulas_of_trees trees.now) result }
+    ensures state { GoesOn result (IsStateAt level.now table.new known.new) }
     ensures unknown { WhenTooDeep result (λ call. IsUnknown known.new call) }
     ensures back { env.new ≡ env.old }
 {
@@ -325,12 +322,12 @@ fn compile_match(
     cases: &[Case],
     notes: &[Notes],
 ) -> Result<TermId, Stop>
-    requires state { IsState level.now.scope.now.sig (map formula_of level.now.scope.now.bodies) level.now.below (worked_in level.now.definitions.now) table.old known.old }
-    requires ready { MayCompile level.now.scope.now.sig (map formula_of level.now.scope.now.bodies) table.old level.now.below env.old (Match (formula_of tree.now) (cases_of_trees cases.now)) }
-    requires noted { HaveNotes level.now.scope.now.sig (map formula_of level.now.scope.now.bodies) (worked_in level.now.definitions.now) × IsOfFirst (IsNoted level.now.scope.now.sig (worked_in level.now.definitions.now) (uses_below level.now.scope.now.sig (map formula_of level.now.scope.now.bodies) level.now.below) (Match (formula_of tree.now) (cases_of_trees cases.now))) notes.now }
-    ensures outcome { Compiles level.now.scope.now.sig (map formula_of level.now.scope.now.bodies) level.now.below table.old table.new env.old (Match (formula_of tree.now) (cases_of_trees cases.now)) (ended result) }
-    ensures waits { Defers level.now.scope.now.sig (map formula_of level.now.scope.now.bodies) (worked_in level.now.definitions.now) level.now.below table.old table.new env.old (Match (formula_of tree.now) (cases_of_trees cases.now)) result }
-    ensures state { GoesOn result (IsState level.now.scope.now.sig (map formula_of level.now.scope.now.bodies) level.now.below (worked_in level.now.definitions.now) table.new known.new) }
+    requires state { IsStateAt level.now table.old known.old }
+    requires ready { MayCompileAt level.now table.old env.old (Match (formula_of tree.now) (cases_of_trees cases.now)) }
+    requires noted { IsNotedAt level.now (Match (formula_of tree.now) (cases_of_trees cases.now)) notes.now }
+    ensures outcome { CompilesAt level.now table.old table.new env.old (Match (formula_of tree.now) (cases_of_trees cases.now)) (ended result) }
+    ensures waits { DefersAt level.now table.old table.new env.old (Match (formula_of tree.now) (cases_of_trees cases.now)) result }
+    ensures state { GoesOn result (IsStateAt level.now table.new known.new) }
     ensures unknown { WhenTooDeep result (λ call. IsUnknown known.new call) }
     ensures back { env.new ≡ env.old }
 {
@@ -356,12 +353,12 @@ fn compile_cases(
     cases: &[Case],
     notes: &[Notes],
 ) -> Result<TermId, Stop>
-    requires state { IsState level.now.scope.now.sig (map formula_of level.now.scope.now.bodies) level.now.below (worked_in level.now.definitions.now) table.old known.old }
-    requires ready { MayCases level.now.scope.now.sig (map formula_of level.now.scope.now.bodies) table.old level.now.below env.old matched [] (cases_of_trees cases.now) }
-    requires noted { HaveNotes level.now.scope.now.sig (map formula_of level.now.scope.now.bodies) (worked_in level.now.definitions.now) × CasesNoted level.now.scope.now.sig (worked_in level.now.definitions.now) (uses_below level.now.scope.now.sig (map formula_of level.now.scope.now.bodies) level.now.below) [] (cases_of_trees cases.now) notes.now }
-    ensures outcome { CompilesCases level.now.scope.now.sig (map formula_of level.now.scope.now.bodies) level.now.below table.old table.new env.old matched [] (cases_of_trees cases.now) (ended result) }
-    ensures waits { DefersCases level.now.scope.now.sig (map formula_of level.now.scope.now.bodies) (worked_in level.now.definitions.now) level.now.below table.old table.new env.old matched [] (cases_of_trees cases.now) result }
-    ensures state { GoesOn result (IsState level.now.scope.now.sig (map formula_of level.now.scope.now.bodies) level.now.below (worked_in level.now.definitions.now) table.new known.new) }
+    requires state { IsStateAt level.now table.old known.old }
+    requires ready { MayCasesAt level.now table.old env.old matched [] (cases_of_trees cases.now) }
+    requires noted { AreNotedCasesAt level.now [] (cases_of_trees cases.now) notes.now }
+    ensures outcome { CompilesCasesAt level.now table.old table.new env.old matched [] (cases_of_trees cases.now) (ended result) }
+    ensures waits { DefersCasesAt level.now table.old table.new env.old matched [] (cases_of_trees cases.now) result }
+    ensures state { GoesOn result (IsStateAt level.now table.new known.new) }
     ensures unknown { WhenTooDeep result (λ call. IsUnknown known.new call) }
     ensures back { env.new ≡ env.old }
 {
@@ -403,13 +400,13 @@ fn compile_case(
     body: &Tree,
     notes: &[Notes],
 ) -> Result<TermId, Stop>
-    requires state { IsState level.now.scope.now.sig (map formula_of level.now.scope.now.bodies) level.now.below (worked_in level.now.definitions.now) table.old known.old }
+    requires state { IsStateAt level.now table.old known.old }
     requires declared { IsDeclared level.now.scope.now.sig pattern }
-    requires ready { MayCompile level.now.scope.now.sig (map formula_of level.now.scope.now.bodies) table.old level.now.below (bound_over (bound_by level.now.scope.now.sig pattern matched) env.old) (formula_of body.now) }
-    requires noted { HaveNotes level.now.scope.now.sig (map formula_of level.now.scope.now.bodies) (worked_in level.now.definitions.now) × IsOfFirst (IsNoted level.now.scope.now.sig (worked_in level.now.definitions.now) (uses_below level.now.scope.now.sig (map formula_of level.now.scope.now.bodies) level.now.below) (formula_of body.now)) notes.now }
-    ensures outcome { Compiles level.now.scope.now.sig (map formula_of level.now.scope.now.bodies) level.now.below table.old table.new (bound_over (bound_by level.now.scope.now.sig pattern matched) env.old) (formula_of body.now) (ended result) }
-    ensures waits { Defers level.now.scope.now.sig (map formula_of level.now.scope.now.bodies) (worked_in level.now.definitions.now) level.now.below table.old table.new (bound_over (bound_by level.now.scope.now.sig pattern matched) env.old) (formula_of body.now) result }
-    ensures state { GoesOn result (IsState level.now.scope.now.sig (map formula_of level.now.scope.now.bodies) level.now.below (worked_in level.now.definitions.now) table.new known.new) }
+    requires ready { MayCompileAt level.now table.old (bound_over (bound_by level.now.scope.now.sig pattern matched) env.old) (formula_of body.now) }
+    requires noted { IsNotedAt level.now (formula_of body.now) notes.now }
+    ensures outcome { CompilesAt level.now table.old table.new (bound_over (bound_by level.now.scope.now.sig pattern matched) env.old) (formula_of body.now) (ended result) }
+    ensures waits { DefersAt level.now table.old table.new (bound_over (bound_by level.now.scope.now.sig pattern matched) env.old) (formula_of body.now) result }
+    ensures state { GoesOn result (IsStateAt level.now table.new known.new) }
     ensures unknown { WhenTooDeep result (λ call. IsUnknown known.new call) }
     ensures back { env.new ≡ env.old }
 {
