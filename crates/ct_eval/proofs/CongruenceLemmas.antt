@@ -14,11 +14,12 @@ use Rattle.ct_values.specs.TruthValue.{truth, is_head, is_built, is_true}
 use Rattle.ct_terms.specs.declared.ids.TermId.{TermId}
 use Rattle.ct_terms.specs.declared.term.Core.{Core}
 use Rattle.ct_terms.specs.declared.term.Core.TheVariants.{Con, Sel, Test, Apply, Eq, Not, And, Or, Iff, Ite}
+use Rattle.ct_terms.specs.Children.{con_head, sel_head, test_head, apply_head, core_head, core_children}
 use Rattle.ct_eval.specs.declared.interp.Row.{Row}
 use Rattle.ct_eval.specs.declared.interp.Table.{Table}
 use Rattle.ct_eval.specs.declared.interp.Interp.{Interp}
 use Rattle.ct_eval.specs.LookUp.{are_same, row_for, look_up}
-use Rattle.ct_eval.specs.Evaluation.{is_same, given, select, core_value}
+use Rattle.ct_eval.specs.Evaluation.{is_same, table_value, select, core_value}
 use Rattle.ct_eval.specs.Congruence.{AreCongruent, HaveOneValue}
 use Rattle.ct_eval.proofs.StepTruth.{one_answer}
 
@@ -29,6 +30,19 @@ pub record Alike : Type 0 where
   pub chained : (p q r : Point) → AgreeAlways p q → AgreeAlways q r → AgreeAlways p r
   pub always : (p q : Point) → AgreeAlways p q ↔ ((head p ≡ head q) × AllZip AgreeAlways (children p) (children q))
   pub every_depth : (p q : Point) → IsClosed p.graph → IsClosed q.graph → IsTrue (same p q) ↔ AgreeAlways p q
+
+-- heads that are one are those of one constructor, selector or function
+con_same : (c k : CtorId) → con_head c ≡ con_head k → c ≡ k
+con_same c k e = cc
+
+sel_same : (s r : SelId) → sel_head s ≡ sel_head r → s ≡ r
+sel_same s r e = cc
+
+test_same : (c k : CtorId) → test_head c ≡ test_head k → c ≡ k
+test_same c k e = cc
+
+apply_same : (f h : FunId) → apply_head f ≡ apply_head h → f ≡ h
+apply_same f h e = cc
 
 module _ (theorems : Alike) where
   -- values that are built alike
@@ -95,7 +109,7 @@ module _ (theorems : Alike) where
     equal_same : (v w : Value) → v ≡ w → Same v w
     equal_same v w e = subst (Same v) e (theorems.itself (point i.graph v))
 
-    given_alike : (o : Option Table) (vs ws : List Value) → AllZip AgreeAlways (map (point i.graph) vs) (map (point i.graph) ws) → given i o vs ≡ given i o ws
+    given_alike : (o : Option Table) (vs ws : List Value) → AllZip AgreeAlways (map (point i.graph) vs) (map (point i.graph) ws) → table_value i o vs ≡ table_value i o ws
     given_alike None vs ws alike = refl
     given_alike (Some table) vs ws alike = ap reference (look_up_within_one i.graph closed table vs ws alike)
 
@@ -162,23 +176,26 @@ module _ (theorems : Alike) where
       one_true (t ∷ ts) [] all = absurd all
       one_true (t ∷ ts) (u ∷ us) all = ap₂ (λ a b. a || b) (true_alike (value t) (other u) all.0) (one_true ts us all.1)
 
-      -- one layer of terms with one head is the same
-      pub core_alike : (d : Declarations) (core more : Core) → AreCongruent Both core more → Same (core_value d i value core) (core_value d i other more)
-      core_alike d (Con c args) (Con k others) h =
+      -- one layer of terms with one head, over terms with the same values, is the same
+      layer_alike : (d : Declarations) (core more : Core) → core_head core ≡ core_head more → AllZip Both (core_children core) (core_children more) → Same (core_value d i value core) (core_value d i other more)
+      layer_alike d (Con c args) (Con k others) e all =
           (theorems.always (point i.graph (core_value d i value (Con c args))) (point i.graph (core_value d i other (Con k others)))).1
-          (ap (λ (x : CtorId). Some (heads.Con x)) h.0, arguments_alike args others h.1)
-      core_alike d (Sel s t) (Sel r u) h =
-          subst (λ (x : SelId). Same (select i s (slice_get d.sels s.0) (value t)) (select i x (slice_get d.sels x.0) (other u))) h.0 (select_alike s (slice_get d.sels s.0) (value t) (other u) h.1)
-      core_alike d (Test c t) (Test k u) h =
-          truths_alike _ _ (built_alike i.graph i.graph c (value t) (other u) h.1 ∙ ap (λ (x : CtorId). is_built i.graph x (other u)) h.0)
-      core_alike d (Apply f args) (Apply k others) h =
-          equal_same _ _ (given_alike (slice_get i.funs f.0) (map value args) (map other others) (values_alike args others h.1) ∙ ap (λ (x : FunId). given i (slice_get i.funs x.0) (map other others)) h.0)
-      core_alike d (Eq a b) (Eq x y) h = truths_alike _ _ (is_same_alike (value a) (value b) (other x) (other y) h.0 h.1)
-      core_alike d (Not t) (Not u) h = truths_alike _ _ (ap not (true_alike (value t) (other u) h))
-      core_alike d (And args) (And others) h = truths_alike _ _ (all_true args others h)
-      core_alike d (Or args) (Or others) h = truths_alike _ _ (one_true args others h)
-      core_alike d (Iff a b) (Iff x y) h =
-          truths_alike _ _ (ap₂ (λ (p q : Bool). if p then q else not q) (true_alike (value a) (other x) h.0) (true_alike (value b) (other y) h.1))
-      core_alike d (Ite c a b) (Ite k x y) h =
-          chosen (is_true i.graph (value c)) (is_true i.graph (other k)) (value a) (value b) (other x) (other y) (true_alike (value c) (other k) h.0) h.1 h.2
-      core_alike d core more h = absurd h
+          (ap (λ (x : CtorId). Some (heads.Con x)) (con_same c k e), arguments_alike args others all)
+      layer_alike d (Sel s t) (Sel r u) e all =
+          subst (λ (x : SelId). Same (select i s (slice_get d.sels s.0) (value t)) (select i x (slice_get d.sels x.0) (other u))) (sel_same s r e) (select_alike s (slice_get d.sels s.0) (value t) (other u) all.0)
+      layer_alike d (Test c t) (Test k u) e all =
+          truths_alike _ _ (built_alike i.graph i.graph c (value t) (other u) all.0 ∙ ap (λ (x : CtorId). is_built i.graph x (other u)) (test_same c k e))
+      layer_alike d (Apply f args) (Apply k others) e all =
+          equal_same _ _ (given_alike (slice_get i.funs f.0) (map value args) (map other others) (values_alike args others all) ∙ ap (λ (x : FunId). table_value i (slice_get i.funs x.0) (map other others)) (apply_same f k e))
+      layer_alike d (Eq a b) (Eq x y) e all = truths_alike _ _ (is_same_alike (value a) (value b) (other x) (other y) all.0 all.1.0)
+      layer_alike d (Not t) (Not u) e all = truths_alike _ _ (ap not (true_alike (value t) (other u) all.0))
+      layer_alike d (And args) (And others) e all = truths_alike _ _ (all_true args others all)
+      layer_alike d (Or args) (Or others) e all = truths_alike _ _ (one_true args others all)
+      layer_alike d (Iff a b) (Iff x y) e all =
+          truths_alike _ _ (ap₂ (λ (p q : Bool). if p then q else not q) (true_alike (value a) (other x) all.0) (true_alike (value b) (other y) all.1.0))
+      layer_alike d (Ite c a b) (Ite k x y) e all =
+          chosen (is_true i.graph (value c)) (is_true i.graph (other k)) (value a) (value b) (other x) (other y) (true_alike (value c) (other k) all.0) all.1.0 all.1.1.0
+      layer_alike d core more e all = absurd (cc)
+
+      pub core_alike : (d : Declarations) (core more : Core) → AreCongruent Both core more → Same (core_value d i value core) (core_value d i other more)
+      core_alike d core more h = layer_alike d core more h.0 h.1

@@ -5,23 +5,12 @@ use Rattle.ct_values.specs.Agreement.{point, AgreeAlways}
 use Rattle.ct_values.specs.Value.{Value}
 use Rattle.ct_terms.specs.declared.ids.TermId.{TermId}
 use Rattle.ct_terms.specs.declared.term.Core.{Core}
-use Rattle.ct_terms.specs.declared.term.Core.TheVariants.{Con, Sel, Test, Apply, Eq, Not, And, Or}
-use Rattle.ct_terms.specs.declared.term.Core.TheVariants.{Iff, Ite}
+use Rattle.ct_terms.specs.Children.{core_head, core_children}
 use Rattle.ct_eval.specs.declared.interp.Interp.{Interp}
 
 -- the terms have one head, and as many terms under them, related one for one
 abbrev pub AreCongruent : (TermId → TermId → Type 0) → Core → Core → Type 0
-AreCongruent R (Con c args) (Con k others) = (c ≡ k) × AllZip R args others
-AreCongruent R (Sel s t) (Sel r u) = (s ≡ r) × R t u
-AreCongruent R (Test c t) (Test k u) = (c ≡ k) × R t u
-AreCongruent R (Apply f args) (Apply h others) = (f ≡ h) × AllZip R args others
-AreCongruent R (Eq a b) (Eq x y) = R a x × R b y
-AreCongruent R (Not t) (Not u) = R t u
-AreCongruent R (And args) (And others) = AllZip R args others
-AreCongruent R (Or args) (Or others) = AllZip R args others
-AreCongruent R (Iff a b) (Iff x y) = R a x × R b y
-AreCongruent R (Ite c a b) (Ite k x y) = R c k × R a x × R b y
-AreCongruent R core other = ⊥
+AreCongruent R core other = (core_head core ≡ core_head other) × AllZip R (core_children core) (core_children other)
 
 -- the terms have values that are the same, each by its own valuation
 abbrev pub HaveOneValue : Interp → (TermId → Value) → (TermId → Value) → TermId → TermId → Type 0
