@@ -1,4 +1,3 @@
-pub mod Each
 pub mod WriteLemmas
 pub mod NumbersBack
 pub mod StepsBack

@@ -10,13 +10,13 @@ use Rattle.ct_log.specs.declared.rules.Gate.TheVariants.{True, False, AndPos, An
 use Rattle.ct_log.specs.declared.line.Line.{Line}
 use Rattle.ct_log.specs.declared.line.Step.{Step}
 use Rattle.ct_log.specs.declared.line.Step.TheVariants as steps
-use Rattle.ct_log_text.specs.Forms.{number_bound, first_of, term_numbered}
-use Rattle.ct_log_text.specs.Gates.{gate_name, gate_in, gate_over, has_term, has_place}
-use Rattle.ct_log_text.specs.Equalities.{literal_in, step_in}
-use Rattle.ct_log_text.specs.Lines.{rule_step, line_in, is_end, not_zero, header_in}
+use Rattle.ct_log_lines.specs.Forms.{number_bound, first_with_rest, term_numbered}
+use Rattle.ct_log_lines.specs.Gates.{gate_name, gate_in, gate_over, has_term, has_place}
+use Rattle.ct_log_lines.specs.Equalities.{literal_in, step_in}
+use Rattle.ct_log_lines.specs.Lines.{rule_step, line_in, is_end, not_zero, header_in}
 use Rattle.ct_log_text.specs.Fitting.{is_term, has_terms_step, has_terms_close, has_terms_rule, has_terms, has_stripped}
 use Rattle.ct_log_text.specs.Reading.{read_lines}
-use Rattle.ct_log_text.specs.Written.{all_of, literal, step_item, close_item, gate_numbers, rule_parts, line_item, header_item, end_item, line_items}
+use Rattle.ct_log_text.specs.Written.{items_as, literal, step_item, close_item, gate_numbers, rule_parts, line_item, header_item, end_item, line_items}
 use Rattle.ct_log_text.specs.Writable.{is_bare, is_writable, is_short, are_short}
 use Rattle.ct_log_text.proofs.NumbersBack.{both_true, number_back, numbers_back, numbered_back, term_back, literal_back, each_back}
 use Rattle.ct_log_text.proofs.StepsBack.{step_back, close_back}
@@ -56,7 +56,7 @@ gate_over_back gate t place false false p q same term_bare place_bare =
 
 module _ (count : ℕ) (few : count ≤ most_terms) where
   gate_back : (gate : Gate) (t : TermId) (place : ℕ) → is_term count t ≡ true → is_bare (steps.Gate gate t place) ≡ true → are_short (rule_parts (steps.Gate gate t place)) ≡ true
-      → option_and_then rule_step (first_of (rule_parts (steps.Gate gate t place))) ≡ Some (steps.Gate gate t place)
+      → option_and_then rule_step (first_with_rest (rule_parts (steps.Gate gate t place))) ≡ Some (steps.Gate gate t place)
   gate_back gate t place fits bare short =
       let parts = both_true (has_term gate || t.0 == 0) (has_place gate || place == 0) bare in
       rw (gate_name_back gate, numbers_back (gate_numbers gate t place) short)
@@ -64,13 +64,13 @@ module _ (count : ℕ) (few : count ≤ most_terms) where
 
   -- the rule of a line
   pub rule_back : (step : Step) → has_terms_rule count step ≡ true → is_bare step ≡ true → are_short (rule_parts step) ≡ true
-      → option_and_then rule_step (first_of (rule_parts step)) ≡ Some step
+      → option_and_then rule_step (first_with_rest (rule_parts step)) ≡ Some step
   rule_back (steps.Input t) fits bare short = rw (term_back count t few fits) refl
   rule_back (steps.Gate gate t place) fits bare short = gate_back gate t place fits bare short
   rule_back (steps.Exhaust t) fits bare short = rw (term_back count t few fits) refl
   rule_back (steps.Theory all close) fits bare short =
       let terms = both_true (list_all (has_terms_step count) all) (has_terms_close count close) fits in
-      let first = both_true (are_short (all_of step_item all)) (is_short (close_item close) && true) short in
+      let first = both_true (are_short (items_as step_item all)) (is_short (close_item close) && true) short in
       let second = both_true (is_short (close_item close)) true first.1 in
       rw (each_back step_in step_item (has_terms_step count) (step_back count few) all terms.0 first.0, close_back count few close terms.1 second.0) refl
   rule_back (steps.Learn hints) fits bare short = rw (numbers_back hints short) refl
@@ -79,8 +79,8 @@ module _ (count : ℕ) (few : count ≤ most_terms) where
   pub line_back : (n : ℕ) (line : Line) → has_terms count line ≡ true → is_bare line.step ≡ true → is_short (line_item n line) ≡ true → line_in n (line_item n line) ≡ Some line
   line_back n line fits bare short =
       let terms = both_true (list_all (λ l. is_term count l.term) line.clause) (has_terms_rule count line.step) fits in
-      let first = both_true (nat_lt n number_bound) (are_short (all_of literal line.clause) && are_short (rule_parts line.step)) short in
-      let second = both_true (are_short (all_of literal line.clause)) (are_short (rule_parts line.step)) first.1 in
+      let first = both_true (nat_lt n number_bound) (are_short (items_as literal line.clause) && are_short (rule_parts line.step)) short in
+      let second = both_true (are_short (items_as literal line.clause)) (are_short (rule_parts line.step)) first.1 in
       rw (number_back n first.0, same_number n)
       (rw (each_back literal_in literal (λ l. is_term count l.term) (λ l good _. literal_back count l few good) line.clause terms.0 second.0, rule_back line.step terms.1 bare second.1) refl)
 

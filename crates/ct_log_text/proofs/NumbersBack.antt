@@ -7,10 +7,10 @@ use Rattle.ct_sexpr.specs.Written.{is_reserved, forms_symbol}
 use Rattle.ct_terms.specs.declared.ids.TermId.{TermId}
 use Rattle.ct_terms.specs.declared.ids.Lit.{Lit}
 use Rattle.ct_terms.specs.Terms.{most_terms}
-use Rattle.ct_log_text.specs.Forms.{number_bound, number_in, numbers_in, term_numbered, term_in, name_in, each}
-use Rattle.ct_log_text.specs.Equalities.{literal_in}
+use Rattle.ct_log_lines.specs.Forms.{number_bound, number_in, numbers_in, term_numbered, term_in, name_in, each}
+use Rattle.ct_log_lines.specs.Equalities.{literal_in}
 use Rattle.ct_log_text.specs.Fitting.{is_term}
-use Rattle.ct_log_text.specs.Written.{number, numbers, name, literal, all_of}
+use Rattle.ct_log_text.specs.Written.{number, numbers, name, literal, items_as}
 use Rattle.ct_log_text.specs.Writable.{is_short, are_short}
 
 -- both parts of a test
@@ -64,9 +64,9 @@ name_back bytes = name_back_of bytes (forms_symbol bytes) (is_reserved bytes) re
 
 -- things of one form, of which each is read back
 module _ {X : Type 0} (read : Expression → Option X) (item : X → Expression) (fits : X → Bool) (back : (x : X) → fits x ≡ true → is_short (item x) ≡ true → read (item x) ≡ Some x) where
-  pub each_back : (xs : List X) → list_all fits xs ≡ true → are_short (all_of item xs) ≡ true → each read (all_of item xs) ≡ Some xs
+  pub each_back : (xs : List X) → list_all fits xs ≡ true → are_short (items_as item xs) ≡ true → each read (items_as item xs) ≡ Some xs
   each_back [] h k = refl
   each_back (x ∷ xs) h k =
       let good = both_true (fits x) (list_all fits xs) h in
-      let short = both_true (is_short (item x)) (are_short (all_of item xs)) k in
+      let short = both_true (is_short (item x)) (are_short (items_as item xs)) k in
       rw (back x good.0 short.0, each_back xs good.1 short.1) refl

@@ -9,12 +9,12 @@ use Rattle.ct_sorts.specs.declared.ids.SortId.{SortId}
 use Rattle.ct_sorts.specs.declared.ids.Symbol.{Symbol}
 use Rattle.ct_terms.specs.declared.term.Core.{Core}
 use Rattle.ct_terms.specs.Terms.{Terms, HasSort}
-use Rattle.ct_log_text.specs.declared.term_line.TermLine.{TermLine}
-use Rattle.ct_log_text.specs.Forms.{parts_after}
-use Rattle.ct_log_text.specs.Cores.{core_of}
-use Rattle.ct_log_text.specs.TermLines.{has_name, term_line}
+use Rattle.ct_log_lines.specs.declared.term_lines.TermLine.{TermLine}
+use Rattle.ct_log_lines.specs.Forms.{parts_after}
+use Rattle.ct_log_text.specs.Cores.{core_with}
+use Rattle.ct_log_lines.specs.TermLines.{has_name, term_line}
 use Rattle.ct_log_text.specs.Fitting.{is_term}
-use Rattle.ct_log_text.specs.Reading.{not_yet, Outcome, terms_of, Adds, StandsFor, GivesNamed, GivesLine, GivesTerm, read_lines, ReadsTerms, AfterItem, Reads, items_in, after_constant}
+use Rattle.ct_log_text.specs.Reading.{not_yet, ReadOutcome, terms_of, Adds, StandsFor, GivesNamed, GivesLine, GivesTerm, read_lines, ReadsTerms, AfterItem, Reads, items_in, after_constant}
 
 both_bool : (test : Bool) (X Y V W Z : Type 0) → MatchBool test X Y → MatchBool test V W → (X → V → Z) → (Y → W → Z) → Z
 both_bool true X Y V W Z h k f g = f h k
@@ -25,13 +25,13 @@ both_results : (given : Result Terms ℕ) (P R : Terms → Type 0) (Q S : ℕ �
 both_results (Ok new) P R Q S Z h k f g = f new h k
 both_results (Err code) P R Q S Z h k f g = g code h k
 
-both_items : (place : ℕ) (one other : Outcome) (Next After : Expressions → Type 0) (o : Option Expressions) → AfterItem place one Next o → AfterItem place other After o
+both_items : (place : ℕ) (one other : ReadOutcome) (Next After : Expressions → Type 0) (o : Option Expressions) → AfterItem place one Next o → AfterItem place other After o
     → ((items : Expressions) → Next items → After items → one ≡ other) → one ≡ other
 both_items place one other Next After None h k each = h ∙ sym k
 both_items place one other Next After (Some items) h k each = each items h k
 
 -- what comes of a term line and the items after it
-abbrev TermThen : Declarations → ℕ → Terms → Expression → Expressions → Outcome → Type 0
+abbrev TermThen : Declarations → ℕ → Terms → Expression → Expressions → ReadOutcome → Type 0
 TermThen d place terms item items outcome =
     (given : Result Terms ℕ) × GivesTerm d terms item given × MatchResult given (λ new. ReadsTerms d (place + 1) new items outcome) (λ code. outcome ≡ Err (place, code))
 
@@ -62,8 +62,8 @@ module _ (d : Declarations) (symbols : OneSymbol d) (sorts : OneSort d) where
 
   one_named : (terms : Terms) (line : TermLine) (one other : Result Terms ℕ) → GivesNamed d terms line one → GivesNamed d terms line other → one ≡ other
   one_named terms line one other h k =
-      one_added terms (core_of line.kind h.0 (terms_of line)) one other h.2
-      (subst (λ symbol. Adds d terms (core_of line.kind symbol (terms_of line)) other) (one_meaning line h.0 k.0 h.1 k.1) k.2)
+      one_added terms (core_with line.kind h.0 (terms_of line)) one other h.2
+      (subst (λ symbol. Adds d terms (core_with line.kind symbol (terms_of line)) other) (one_meaning line h.0 k.0 h.1 k.1) k.2)
 
   one_line : (terms : Terms) (line : Option TermLine) (one other : Result Terms ℕ) → GivesLine d terms line one → GivesLine d terms line other → one ≡ other
   one_line terms None one other h k = h ∙ sym k
@@ -71,7 +71,7 @@ module _ (d : Declarations) (symbols : OneSymbol d) (sorts : OneSort d) where
       both_bool (list_all (is_term (length terms)) (terms_of line)) (GivesNamed d terms line one) (one ≡ Err not_yet) (GivesNamed d terms line other) (other ≡ Err not_yet) (one ≡ other) h k
       (one_named terms line one other) (λ p q. p ∙ sym q)
 
-  one_end : (items : Expressions) (place : ℕ) (terms : Terms) (one other : Outcome) → ReadsTerms d place terms items one → ReadsTerms d place terms items other → one ≡ other
+  one_end : (items : Expressions) (place : ℕ) (terms : Terms) (one other : ReadOutcome) → ReadsTerms d place terms items one → ReadsTerms d place terms items other → one ≡ other
   one_end none place terms one other h k = h ∙ sym k
   one_end (more item items) place terms one other h k =
       both_bool (is_some (parts_after (codes "t") item)) (TermThen d place terms item items one) (one ≡ read_lines place terms [] (more item items))
@@ -82,7 +82,7 @@ module _ (d : Declarations) (symbols : OneSymbol d) (sorts : OneSort d) where
       (λ new first also. one_end items (place + 1) new one other first also) (λ code p q. p ∙ sym q))
       (λ p q. p ∙ sym q)
 
-  pub one_reading : (e : Expression) (one other : Outcome) → Reads d e one → Reads d e other → one ≡ other
+  pub one_reading : (e : Expression) (one other : ReadOutcome) → Reads d e one → Reads d e other → one ≡ other
   one_reading e one other h k =
       both_items 0 one other _ _ (items_in e) h k (λ items first also.
       both_items 1 one other _ _ (after_constant 0 (codes "true") items) first also (λ later second too.

@@ -1,5 +1,5 @@
 -- Derivations that are written are readable expressions that nest little, with names quoted only where they need to be.
-use Rattle.std.proofs.Common.{◌≡◌, ℕ, zero, suc, ◌+◌, ◌<◌, ◌≤◌, Bool, true, false, not, ◌&&◌, ◌==◌, nat_lt, List, [], ◌∷◌, length, drop, Some, slice_get, unwrap_or, codes, inl, inr, refl, sym, ap, ap₂, subst, ◌∙◌, arith}
+use Rattle.std.proofs.Common.{◌≡◌, ℕ, zero, suc, ◌+◌, ◌<◌, ◌≤◌, Bool, true, false, ◌&&◌, ◌==◌, nat_lt, List, [], ◌∷◌, length, drop, Some, slice_get, unwrap_or, codes, inl, inr, refl, sym, ap, ap₂, subst, ◌∙◌, arith}
 use Rattle.std.proofs.lemmas.Bool.{ltb-true, eqb-true}
 use Rattle.std.proofs.lemmas.Option.{none-some, same_Some}
 use Rattle.std.specs.List.{list_all}
@@ -30,12 +30,12 @@ use Rattle.ct_log.specs.declared.line.Line.{Line}
 use Rattle.ct_log.specs.declared.line.Step.{Step}
 use Rattle.ct_log.specs.declared.line.Step.TheVariants as steps
 use Rattle.ct_log.specs.Recorded.{Recorded}
-use Rattle.ct_log_text.specs.declared.term_line.TermKind.{TermKind}
-use Rattle.ct_log_text.specs.declared.term_line.TermKind.TheVariants as kind
-use Rattle.ct_log_text.specs.Forms.{number_bound}
-use Rattle.ct_log_text.specs.TermLines.{kind_word}
-use Rattle.ct_log_text.specs.Gates.{gate_name}
-use Rattle.ct_log_text.specs.Written.{number, numbers, term_numbers, name, row, all_of, kind_of, core_parts, term_item, literal, entry_item, pair_item, hop_item, step_item, close_item, gate_numbers, rule_parts, line_item, end_item, term_items, line_items, expression_of_record, IsNamed}
+use Rattle.ct_log_lines.specs.declared.term_lines.TermKind.{TermKind}
+use Rattle.ct_log_lines.specs.declared.term_lines.TermKind.TheVariants as kind
+use Rattle.ct_log_lines.specs.Forms.{number_bound}
+use Rattle.ct_log_lines.specs.TermLines.{kind_word}
+use Rattle.ct_log_lines.specs.Gates.{gate_name}
+use Rattle.ct_log_text.specs.Written.{number, numbers, term_numbers, name, row, items_as, kind_of, core_parts, term_item, literal, entry_item, pair_item, hop_item, step_item, close_item, gate_numbers, rule_parts, line_item, end_item, term_items, line_items, expression_of_record, IsNamed}
 use Rattle.ct_log_text.specs.Writable.{is_short, are_short, CanBeRead}
 use Rattle.ct_log_text.proofs.NumbersBack.{both_true}
 use Rattle.ct_log_text.proofs.WriteLemmas.{named}
@@ -88,11 +88,11 @@ plain_row : (k : ℕ) (w : List ℕ) (es : Expressions) → forms_symbol w ≡ t
 plain_row k w es h p = plain_list k (more (word w) es) (plain_more k (word w) es (plain_word k w h) p)
 
 module _ {X : Type 0} (item : X → Expression) (k : ℕ) (plain : (x : X) → is_short (item x) ≡ true → IsPlain k (item x)) where
-  plain_all : (xs : List X) → are_short (all_of item xs) ≡ true → ArePlain k (all_of item xs)
+  plain_all : (xs : List X) → are_short (items_as item xs) ≡ true → ArePlain k (items_as item xs)
   plain_all [] h = plain_none k
   plain_all (x ∷ xs) h =
-      let parts = both_true (is_short (item x)) (are_short (all_of item xs)) h in
-      plain_more k (item x) (all_of item xs) (plain x parts.0) (plain_all xs parts.1)
+      let parts = both_true (is_short (item x)) (are_short (items_as item xs)) h in
+      plain_more k (item x) (items_as item xs) (plain x parts.0) (plain_all xs parts.1)
 
 plain_literal_of : (k : ℕ) (t : TermId) (positive : Bool) → is_short (literal (record { term = t; positive = positive })) ≡ true → IsPlain (k + 1) (literal (record { term = t; positive = positive }))
 plain_literal_of k t true h = plain_number (k + 1) t.0 h
@@ -107,8 +107,8 @@ plain_entry k (entries.Pair p i j) h = plain_row k (codes "pair") (numbers (p �
 
 plain_pair : (pair : Pair) → is_short (pair_item pair) ≡ true → IsPlain 2 (pair_item pair)
 plain_pair pair h =
-    let first = both_true (nat_lt pair.left.0 number_bound) (nat_lt pair.right.0 number_bound && are_short (all_of entry_item pair.entries)) h in
-    let second = both_true (nat_lt pair.right.0 number_bound) (are_short (all_of entry_item pair.entries)) first.1 in
+    let first = both_true (nat_lt pair.left.0 number_bound) (nat_lt pair.right.0 number_bound && are_short (items_as entry_item pair.entries)) h in
+    let second = both_true (nat_lt pair.right.0 number_bound) (are_short (items_as entry_item pair.entries)) first.1 in
     plain_list 1 _ (plain_more 1 _ _ (plain_number 1 pair.left.0 first.0) (plain_more 1 _ _ (plain_number 1 pair.right.0 second.0) (plain_all entry_item 1 (plain_entry 0) pair.entries second.1)))
 
 plain_hop : (hop : Hop) → is_short (hop_item hop) ≡ true → IsPlain 2 (hop_item hop)
@@ -129,12 +129,12 @@ plain_step (EqualOut i) h = plain_row 2 (codes "equal-out") (numbers (i ∷ []))
 plain_step (Neg t i) h = plain_row 2 (codes "neg") (numbers (t.0 ∷ (i ∷ []))) refl (plain_numbers 2 (t.0 ∷ (i ∷ [])) h)
 plain_step (Single x y) h = plain_row 2 (codes "single") (numbers (x.0 ∷ (y.0 ∷ []))) refl (plain_numbers 2 (x.0 ∷ (y.0 ∷ [])) h)
 plain_step (Unique p pairs) h =
-    let parts = both_true (nat_lt p number_bound) (are_short (all_of pair_item pairs)) h in
-    plain_row 2 (codes "unique") (more (number p) (all_of pair_item pairs)) refl (plain_more 2 _ _ (plain_number 2 p parts.0) (plain_all pair_item 2 plain_pair pairs parts.1))
+    let parts = both_true (nat_lt p number_bound) (are_short (items_as pair_item pairs)) h in
+    plain_row 2 (codes "unique") (more (number p) (items_as pair_item pairs)) refl (plain_more 2 _ _ (plain_number 2 p parts.0) (plain_all pair_item 2 plain_pair pairs parts.1))
 
 plain_close : (close : Close) → is_short (close_item close) ≡ true → IsPlain 3 (close_item close)
 plain_close (Clash i) h = plain_row 2 (codes "clash") (numbers (i ∷ [])) refl (plain_numbers 2 (i ∷ []) h)
-plain_close (Cycle hops) h = plain_row 2 (codes "cycle") (all_of hop_item hops) refl (plain_all hop_item 2 plain_hop hops h)
+plain_close (Cycle hops) h = plain_row 2 (codes "cycle") (items_as hop_item hops) refl (plain_all hop_item 2 plain_hop hops h)
 
 gate_symbol : (gate : Gate) → forms_symbol (gate_name gate) ≡ true
 gate_symbol True = refl
@@ -160,7 +160,7 @@ plain_rule (steps.Gate gate t place) h =
     plain_more 4 _ _ (plain_word 4 (codes "gate") refl) (plain_more 4 _ _ (plain_word 4 (gate_name gate) (gate_symbol gate)) (plain_numbers 4 (gate_numbers gate t place) h))
 plain_rule (steps.Exhaust t) h = plain_more 4 _ _ (plain_word 4 (codes "exhaust") refl) (plain_numbers 4 (t.0 ∷ []) h)
 plain_rule (steps.Theory all close) h =
-    let first = both_true (are_short (all_of step_item all)) (is_short (close_item close) && true) h in
+    let first = both_true (are_short (items_as step_item all)) (is_short (close_item close) && true) h in
     let second = both_true (is_short (close_item close)) true first.1 in
     plain_more 4 _ _ (plain_word 4 (codes "theory") refl)
     (plain_more 4 _ _ (plain_list 3 _ (plain_all step_item 3 plain_step all first.0))
@@ -169,8 +169,8 @@ plain_rule (steps.Learn hints) h = plain_more 4 _ _ (plain_word 4 (codes "learn"
 
 plain_line : (n : ℕ) (line : Line) → is_short (line_item n line) ≡ true → IsPlain 5 (line_item n line)
 plain_line n line h =
-    let first = both_true (nat_lt n number_bound) (are_short (all_of literal line.clause) && are_short (rule_parts line.step)) h in
-    let second = both_true (are_short (all_of literal line.clause)) (are_short (rule_parts line.step)) first.1 in
+    let first = both_true (nat_lt n number_bound) (are_short (items_as literal line.clause) && are_short (rule_parts line.step)) h in
+    let second = both_true (are_short (items_as literal line.clause)) (are_short (rule_parts line.step)) first.1 in
     plain_row 4 (codes "s") _ refl
     (plain_more 4 _ _ (plain_number 4 n first.0) (plain_more 4 _ _ (plain_list 3 _ (plain_all literal 3 (plain_literal 2) line.clause second.0)) (plain_rule line.step second.1)))
 

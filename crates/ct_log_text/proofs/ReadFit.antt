@@ -14,12 +14,12 @@ use Rattle.ct_log.specs.declared.line.Line.{Line}
 use Rattle.ct_log.specs.declared.line.Step.{Step}
 use Rattle.ct_log.specs.declared.line.Step.TheVariants as steps
 use Rattle.ct_log.specs.Recorded.{Recorded}
-use Rattle.ct_log_text.specs.Forms.{option_both, is_word, first_of, two_of, parts_after, parts_numbered, numbers_in, term_numbered}
-use Rattle.ct_log_text.specs.Gates.{gate_in, gate_over, gate_after_name, has_term, has_place}
-use Rattle.ct_log_text.specs.Equalities.{close_in}
-use Rattle.ct_log_text.specs.Lines.{one_term_in, steps_in, theory_of, clause_in, rule_step, line_after_clause, line_in, is_end}
+use Rattle.ct_log_lines.specs.Forms.{option_both, is_word, first_with_rest, two_of, parts_after, parts_numbered, numbers_in, term_numbered}
+use Rattle.ct_log_lines.specs.Gates.{gate_in, gate_over, gate_after_name, has_term, has_place}
+use Rattle.ct_log_lines.specs.Equalities.{close_in}
+use Rattle.ct_log_lines.specs.Lines.{one_term_in, steps_in, theory_of, clause_in, rule_step, line_after_clause, line_in, is_end}
 use Rattle.ct_log_text.specs.Fitting.{has_terms, has_stripped}
-use Rattle.ct_log_text.specs.Reading.{Outcome, GivesTerm, checked_line, ended, after_line, read_lines, ReadsTerms, AfterItem, Reads, items_in, after_constant}
+use Rattle.ct_log_text.specs.Reading.{ReadOutcome, GivesTerm, checked_line, ended_derivation, after_line, read_lines, ReadsTerms, AfterItem, Reads, items_in, after_constant}
 use Rattle.ct_log_text.specs.Writable.{is_bare, is_writable}
 use Rattle.ct_log_text.proofs.NumbersBack.{both_true}
 
@@ -95,7 +95,7 @@ bare_rule : (parts : Expression × Expressions) → Bare (rule_step parts)
 bare_rule parts =
     bare_if (is_word (codes "input") parts.0) _ _ (bare_map (λ t. steps.Input t) (λ t. refl) (one_term_in parts.1))
     (bare_if (is_word (codes "gate") parts.0) _ _
-    (bare_then gate_after_name (λ named. bare_then (λ gate. option_and_then (gate_over gate) (numbers_in named.1)) (λ gate. bare_then (gate_over gate) (bare_gate gate) (numbers_in named.1)) (gate_in named.0)) (first_of parts.1))
+    (bare_then gate_after_name (λ named. bare_then (λ gate. option_and_then (gate_over gate) (numbers_in named.1)) (λ gate. bare_then (gate_over gate) (bare_gate gate) (numbers_in named.1)) (gate_in named.0)) (first_with_rest parts.1))
     (bare_if (is_word (codes "exhaust") parts.0) _ _ (bare_map (λ t. steps.Exhaust t) (λ t. refl) (one_term_in parts.1))
     (bare_if (is_word (codes "theory") parts.0) _ _ (bare_then theory_of (λ two. bare_theory_of (steps_in two.0) (close_in two.1)) (two_of parts.1))
     (bare_if (is_word (codes "learn") parts.0) _ _ (bare_map (λ hints. steps.Learn hints) (λ hints. refl) (numbers_in parts.1)) tt))))
@@ -111,10 +111,10 @@ bare_both (Some c) (Some s) h = h
 
 bare_after : (o : Option (Expression × Expressions)) → BareLine (option_and_then line_after_clause o)
 bare_after None = tt
-bare_after (Some parts) = bare_both (clause_in parts.0) (option_and_then rule_step (first_of parts.1)) (bare_then rule_step bare_rule (first_of parts.1))
+bare_after (Some parts) = bare_both (clause_in parts.0) (option_and_then rule_step (first_with_rest parts.1)) (bare_then rule_step bare_rule (first_with_rest parts.1))
 
 bare_line : (n : ℕ) (e : Expression) → BareLine (line_in n e)
-bare_line n e = bare_after (option_and_then first_of (parts_numbered (codes "s") n e))
+bare_line n e = bare_after (option_and_then first_with_rest (parts_numbered (codes "s") n e))
 
 -- a line that is read can be written
 abbrev checked_by : Bool → Bool → Line → Result Line ℕ
@@ -131,7 +131,7 @@ checked terms None bare = tt
 checked terms (Some line) bare = checked_of terms line (has_terms (length terms) line) (has_stripped terms line) refl refl bare
 
 -- the lines of a record that is given can be written
-abbrev AllFit : Outcome → Type 0
+abbrev AllFit : ReadOutcome → Type 0
 AllFit (Ok rec) = list_all (is_writable rec.terms) rec.lines ≡ true
 AllFit (Err at) = Unit {0}
 
@@ -141,22 +141,22 @@ fit_push terms (l ∷ done) line h k =
     let parts = both_true (is_writable terms l) (list_all (is_writable terms) done) h in
     both_are (is_writable terms l) (list_all (is_writable terms) (done ++ line ∷ [])) parts.0 (fit_push terms done line parts.1 k)
 
-fit_if : (test : Bool) (x y : Outcome) → AllFit x → AllFit y → AllFit (if test then x else y)
+fit_if : (test : Bool) (x y : ReadOutcome) → AllFit x → AllFit y → AllFit (if test then x else y)
 fit_if true x y p q = p
 fit_if false x y p q = q
 
-fit_ended : (place : ℕ) (rec : Recorded) (o : Option (Expression × Expressions)) → list_all (is_writable rec.terms) rec.lines ≡ true → AllFit (ended place rec o)
+fit_ended : (place : ℕ) (rec : Recorded) (o : Option (Expression × Expressions)) → list_all (is_writable rec.terms) rec.lines ≡ true → AllFit (ended_derivation place rec o)
 fit_ended place rec None h = h
 fit_ended place rec (Some parts) h = tt
 
-fit_after : (P : Line → Type 0) (place : ℕ) (next : Line → Outcome) (r : Result Line ℕ) → IfOk r P → ((line : Line) → P line → AllFit (next line)) → AllFit (after_line place next r)
+fit_after : (P : Line → Type 0) (place : ℕ) (next : Line → ReadOutcome) (r : Result Line ℕ) → IfOk r P → ((line : Line) → P line → AllFit (next line)) → AllFit (after_line place next r)
 fit_after P place next (Ok line) h each = each line h
 fit_after P place next (Err code) h each = tt
 
 lines_fit : (terms : Terms) (items : Expressions) (place : ℕ) (done : List Line) → list_all (is_writable terms) done ≡ true → AllFit (read_lines place terms done items)
 lines_fit terms none place done h = tt
 lines_fit terms (more item items) place done h =
-    fit_if (is_end (length done) item) _ _ (fit_ended (place + 1) (record { terms = terms; lines = done }) (first_of items) h)
+    fit_if (is_end (length done) item) _ _ (fit_ended (place + 1) (record { terms = terms; lines = done }) (first_with_rest items) h)
     (fit_after (λ l. is_writable terms l ≡ true) place (λ line. read_lines (place + 1) terms (done ++ line ∷ []) items) (checked_line terms (line_in (length done + 1) item))
     (checked terms (line_in (length done + 1) item) (bare_line (length done + 1) item))
     (λ line fits. lines_fit terms items (place + 1) (done ++ line ∷ []) (fit_push terms done line h fits)))
@@ -170,11 +170,11 @@ by_result (Ok new) P Q Z h f g = f new h
 by_result (Err code) P Q Z h f g = g code h
 
 -- what comes of a term line and the items after it
-abbrev TermThen : Declarations → ℕ → Terms → Expression → Expressions → Outcome → Type 0
+abbrev TermThen : Declarations → ℕ → Terms → Expression → Expressions → ReadOutcome → Type 0
 TermThen d place terms item items outcome =
     (given : Result Terms ℕ) × GivesTerm d terms item given × MatchResult given (λ new. ReadsTerms d (place + 1) new items outcome) (λ code. outcome ≡ Err (place, code))
 
-terms_fit : (d : Declarations) (items : Expressions) (place : ℕ) (terms : Terms) (outcome : Outcome) → ReadsTerms d place terms items outcome → AllFit outcome
+terms_fit : (d : Declarations) (items : Expressions) (place : ℕ) (terms : Terms) (outcome : ReadOutcome) → ReadsTerms d place terms items outcome → AllFit outcome
 terms_fit d none place terms outcome h = subst AllFit (sym h) tt
 terms_fit d (more item items) place terms outcome h =
     by_bool (is_some (parts_after (codes "t") item)) (TermThen d place terms item items outcome) (outcome ≡ read_lines place terms [] (more item items)) (AllFit outcome) h
@@ -182,7 +182,7 @@ terms_fit d (more item items) place terms outcome h =
     (λ new next. terms_fit d items (place + 1) new outcome next) (λ code is. subst AllFit (sym is) tt))
     (λ is. subst AllFit (sym is) (lines_fit terms (more item items) place [] refl))
 
-item_fit : (place : ℕ) (outcome : Outcome) (Next : Expressions → Type 0) (o : Option Expressions) → AfterItem place outcome Next o → ((items : Expressions) → Next items → AllFit outcome) → AllFit outcome
+item_fit : (place : ℕ) (outcome : ReadOutcome) (Next : Expressions → Type 0) (o : Option Expressions) → AfterItem place outcome Next o → ((items : Expressions) → Next items → AllFit outcome) → AllFit outcome
 item_fit place outcome Next None h each = subst AllFit (sym h) tt
 item_fit place outcome Next (Some items) h each = each items h
 

@@ -1,5 +1,5 @@
 -- A text with one item a line is a text of its expression, with whitespace between the items, and is read as the expression.
-use Rattle.std.proofs.Common.{◌≡◌, ℕ, ◌≤◌, List, [], ◌∷◌, ◌++◌, refl, ap, append_assoc, arith}
+use Rattle.std.proofs.Common.{ℕ, ◌≤◌, List, [], ◌∷◌, ◌++◌, refl, ap, append_assoc, arith}
 use Rattle.ct_sexpr.specs.Expression.{Expression, list, Expressions, none, more, nesting}
 use Rattle.ct_sexpr.specs.Reading.{nesting_limit, BeginsCommand}
 use Rattle.ct_sexpr.specs.Readable.{IsReadable}

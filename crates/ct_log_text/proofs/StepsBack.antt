@@ -10,10 +10,10 @@ use Rattle.ct_log.specs.declared.rules.EqStep.{EqStep}
 use Rattle.ct_log.specs.declared.rules.EqStep.TheVariants.{Hyp, Refl, Sym, Trans, Cong, Inject, Sel, Test, Expand, EqualIn, EqualOut, Neg, Single, Unique}
 use Rattle.ct_log.specs.declared.rules.Close.{Close}
 use Rattle.ct_log.specs.declared.rules.Close.TheVariants.{Clash, Cycle}
-use Rattle.ct_log_text.specs.Forms.{number_bound}
-use Rattle.ct_log_text.specs.Equalities.{entry_in, pair_in, hop_in, step_in, close_in}
+use Rattle.ct_log_lines.specs.Forms.{number_bound}
+use Rattle.ct_log_lines.specs.Equalities.{entry_in, pair_in, hop_in, step_in, close_in}
 use Rattle.ct_log_text.specs.Fitting.{is_term, has_terms_pair, has_terms_step, has_terms_close}
-use Rattle.ct_log_text.specs.Written.{all_of, entry_item, pair_item, hop_item, step_item, close_item}
+use Rattle.ct_log_text.specs.Written.{items_as, entry_item, pair_item, hop_item, step_item, close_item}
 use Rattle.ct_log_text.specs.Writable.{is_short, are_short}
 use Rattle.ct_log_text.proofs.NumbersBack.{both_true, number_back, numbers_back, numbered_back, term_back, literal_back, each_back}
 
@@ -35,8 +35,8 @@ module _ (count : ℕ) (few : count ≤ most_terms) where
   pub pair_back : (pair : Pair) → has_terms_pair count pair ≡ true → is_short (pair_item pair) ≡ true → pair_in (pair_item pair) ≡ Some pair
   pair_back pair fits short =
       let sides = both_true (is_term count pair.left) (is_term count pair.right) fits in
-      let first = both_true (nat_lt pair.left.0 number_bound) (nat_lt pair.right.0 number_bound && are_short (all_of entry_item pair.entries)) short in
-      let second = both_true (nat_lt pair.right.0 number_bound) (are_short (all_of entry_item pair.entries)) first.1 in
+      let first = both_true (nat_lt pair.left.0 number_bound) (nat_lt pair.right.0 number_bound && are_short (items_as entry_item pair.entries)) short in
+      let second = both_true (nat_lt pair.right.0 number_bound) (are_short (items_as entry_item pair.entries)) first.1 in
       rw (term_back count pair.left few sides.0, term_back count pair.right few sides.1, each_back entry_in entry_item (λ e. true) entry_back pair.entries (entries_fit pair.entries) second.1) refl
 
   -- a constructor term of a cycle
@@ -68,7 +68,7 @@ module _ (count : ℕ) (few : count ≤ most_terms) where
       let sides = both_true (is_term count x) (is_term count y) fits in
       rw (numbers_back (x.0 ∷ (y.0 ∷ [])) short) (ap₂ (λ u v. Some (Single u v)) (numbered_back count x few sides.0) (numbered_back count y few sides.1))
   step_back (Unique p pairs) fits short =
-      let parts = both_true (nat_lt p number_bound) (are_short (all_of pair_item pairs)) short in
+      let parts = both_true (nat_lt p number_bound) (are_short (items_as pair_item pairs)) short in
       rw (number_back p parts.0, each_back pair_in pair_item (has_terms_pair count) pair_back pairs fits parts.1) refl
 
   -- the end of a theory line

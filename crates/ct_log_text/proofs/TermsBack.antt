@@ -13,14 +13,14 @@ use Rattle.ct_terms.specs.declared.term.Core.{Core}
 use Rattle.ct_terms.specs.declared.term.Core.TheVariants.{Con, Sel, Test, Apply, Eq, Not, And, Or, Iff, Ite}
 use Rattle.ct_terms.specs.Children.{core_children, HasArgumentsBelow}
 use Rattle.ct_terms.specs.Terms.{Terms, AreSorted, AreOrdered, AreSingle, IsAbsent, Has, most_terms}
-use Rattle.ct_log_text.specs.declared.term_line.TermLine.{TermLine}
-use Rattle.ct_log_text.specs.Forms.{number_bound, term_numbered}
-use Rattle.ct_log_text.specs.TermLines.{line_after_kind, term_line}
-use Rattle.ct_log_text.specs.Cores.{core_of}
+use Rattle.ct_log_lines.specs.declared.term_lines.TermLine.{TermLine}
+use Rattle.ct_log_lines.specs.Forms.{number_bound, term_numbered}
+use Rattle.ct_log_lines.specs.TermLines.{line_after_kind, term_line}
+use Rattle.ct_log_text.specs.Cores.{core_with}
 use Rattle.ct_log_text.specs.Fitting.{is_term}
 use Rattle.ct_log_text.specs.Reading.{StandsFor, GivesTerm}
 use Rattle.ct_log_text.specs.Written.{numbers, name, term_numbers, kind_of, core_parts, term_item, IsNamed}
-use Rattle.ct_log_text.specs.TermLines.{kind_word}
+use Rattle.ct_log_lines.specs.TermLines.{kind_word}
 use Rattle.ct_log_text.specs.Writable.{is_short, are_short}
 use Rattle.ct_log_text.proofs.NumbersBack.{both_true, number_back, numbers_back, name_back, numbered_back}
 use Rattle.ct_log_text.proofs.WriteLemmas.{named}
@@ -86,7 +86,7 @@ symbol_in (Test c t) = Some (symbols.Ctor c)
 symbol_in (Apply f args) = Some (symbols.Fun f)
 symbol_in core = None
 
-core_back : (core : Core) → core_of (kind_of core) (symbol_in core) (core_children core) ≡ Some core
+core_back : (core : Core) → core_with (kind_of core) (symbol_in core) (core_children core) ≡ Some core
 core_back (Con c args) = refl
 core_back (Sel s t) = refl
 core_back (Test c t) = refl

@@ -6,12 +6,12 @@ use Rattle.ct_sorts.specs.declared.ids.CtorId.{CtorId}
 use Rattle.ct_sorts.specs.Declarations.{Declarations, Constructor, ctor_names}
 use Rattle.ct_sorts.specs.Consistent.{IsConsistent}
 use Rattle.ct_terms.specs.declared.term.Core.TheVariants.{Con}
-use Rattle.ct_terms.specs.Terms.{Terms, IsTermTable, AreSorted, AreOrdered, AreSingle, most_terms, truths}
+use Rattle.ct_terms.specs.Terms.{Terms, IsTermTable, AreSorted, AreOrdered, AreSingle, most_terms, truth_terms}
 use Rattle.ct_log.specs.declared.line.Line.{Line}
 use Rattle.ct_log.specs.Recorded.{Recorded}
-use Rattle.ct_log_text.specs.Forms.{number_bound}
-use Rattle.ct_log_text.specs.TermLines.{term_line, is_alone}
-use Rattle.ct_log_text.specs.Reading.{Outcome, GivesTerm, read_lines, ReadsTerms, Reads, number_of}
+use Rattle.ct_log_lines.specs.Forms.{number_bound}
+use Rattle.ct_log_lines.specs.TermLines.{term_line, is_alone}
+use Rattle.ct_log_text.specs.Reading.{ReadOutcome, GivesTerm, read_lines, ReadsTerms, Reads, number_of}
 use Rattle.ct_log_text.specs.Written.{term_item, header_item, end_item, term_items, line_items, expression_of_record}
 use Rattle.ct_log_text.specs.Writable.{is_writable, is_short, are_short, CanBeRead}
 use Rattle.ct_log_text.proofs.NumbersBack.{both_true}
@@ -20,7 +20,7 @@ use Rattle.ct_log_text.proofs.TermsBack.{term_line_back, term_back}
 
 module _ (d : Declarations) (terms : Terms) (table : IsTermTable terms) (sorted : AreSorted d terms) (lines : List Line) (m : ℕ) (count : length lines ≡ m) (writable : list_all (is_writable terms) lines ≡ true) where
   -- where the term lines end
-  at_lines : (place : ℕ) (ls : List Line) (outcome : Outcome) → outcome ≡ read_lines place terms [] (line_items 1 ls (more (end_item m) none)) → ReadsTerms d place terms (line_items 1 ls (more (end_item m) none)) outcome
+  at_lines : (place : ℕ) (ls : List Line) (outcome : ReadOutcome) → outcome ≡ read_lines place terms [] (line_items 1 ls (more (end_item m) none)) → ReadsTerms d place terms (line_items 1 ls (more (end_item m) none)) outcome
   at_lines place [] outcome h = h
   at_lines place (line ∷ ls) outcome h = h
 
@@ -67,9 +67,9 @@ alone_back : (d : Declarations) (n : ℕ) (c : CtorId) (text : List ℕ) → n <
 alone_back d n c text few at same short = rw (term_line_back d n (Con c []) few short) (rw at (rw same refl))
 
 -- the items of a record
-record_back : (d : Declarations) (k : ℕ) (others : Terms) (lines : List Line) → IsConsistent d → 1 ≤ k → IsTermTable (truths ++ others) → AreSorted d (truths ++ others) → list_all (is_writable (truths ++ others)) lines ≡ true
-    → is_short (expression_of_record d k (record { terms = truths ++ others; lines = lines })) ≡ true
-    → Reads d (expression_of_record d k (record { terms = truths ++ others; lines = lines })) (Ok (record { terms = truths ++ others; lines = lines }))
+record_back : (d : Declarations) (k : ℕ) (others : Terms) (lines : List Line) → IsConsistent d → 1 ≤ k → IsTermTable (truth_terms ++ others) → AreSorted d (truth_terms ++ others) → list_all (is_writable (truth_terms ++ others)) lines ≡ true
+    → is_short (expression_of_record d k (record { terms = truth_terms ++ others; lines = lines })) ≡ true
+    → Reads d (expression_of_record d k (record { terms = truth_terms ++ others; lines = lines })) (Ok (record { terms = truth_terms ++ others; lines = lines }))
 record_back d k others lines consistent some table sorted writable short =
     let tail = line_items 1 lines (more (end_item (length lines)) none) in
     let yes = term_item d 0 (Con (record { 0 = 0 }) []) in
@@ -82,12 +82,12 @@ record_back d k others lines consistent some table sorted writable short =
     rw (header_back k some number.0)
     (rw (alone_back d 0 (record { 0 = 0 }) (codes "true") (omega arith) (true_name d consistent) refl second.0)
     (rw (alone_back d 1 (record { 0 = 1 }) (codes "false") (omega arith) (false_name d consistent) refl third.0)
-    (terms_back d (truths ++ others) table sorted lines (length lines) refl writable truths 2 others 3 refl refl third.1)))
+    (terms_back d (truth_terms ++ others) table sorted lines (length lines) refl writable truth_terms 2 others 3 refl refl third.1)))
 
 -- what is written with a number is read back
 pub read_back : (d : Declarations) (k : ℕ) (rec : Recorded) → IsConsistent d → CanBeRead d k rec → Reads d (expression_of_record d k rec) (Ok rec)
 read_back d k rec consistent can =
-    let is : truths ++ drop 2 rec.terms ≡ rec.terms = ap (λ ts. ts ++ drop 2 rec.terms) (sym can.table.begins) ∙ take-append-drop 2 rec.terms in
+    let is : truth_terms ++ drop 2 rec.terms ≡ rec.terms = ap (λ ts. ts ++ drop 2 rec.terms) (sym can.table.begins) ∙ take-append-drop 2 rec.terms in
     let back = sym is in
     subst (λ ts. Reads d (expression_of_record d k (record { terms = ts; lines = rec.lines })) (Ok (record { terms = ts; lines = rec.lines }))) is
     (record_back d k (drop 2 rec.terms) rec.lines consistent can.some (subst IsTermTable back can.table) (subst (AreSorted d) back can.sorted)

@@ -5,8 +5,8 @@ use Rattle.ct_sorts.specs.declared.ids.Symbol.TheVariants as symbols
 use Rattle.ct_terms.specs.declared.ids.TermId.{TermId}
 use Rattle.ct_terms.specs.declared.term.Core.{Core}
 use Rattle.ct_terms.specs.declared.term.Core.TheVariants as cores
-use Rattle.ct_log_text.specs.declared.term_line.TermKind.{TermKind}
-use Rattle.ct_log_text.specs.declared.term_line.TermKind.TheVariants.{Con, Apply, Sel, Test, Eq, Not, And, Or, Iff, Ite}
+use Rattle.ct_log_lines.specs.declared.term_lines.TermKind.{TermKind}
+use Rattle.ct_log_lines.specs.declared.term_lines.TermKind.TheVariants.{Con, Apply, Sel, Test, Eq, Not, And, Or, Iff, Ite}
 
 -- the terms, where there are so many
 abbrev pub one_term : List TermId → Option TermId
@@ -63,14 +63,14 @@ abbrev pub ite_of : List TermId → Option Core
 ite_of args = option_map (λ parts. cores.Ite parts.0 parts.1 parts.2) (three_terms args)
 
 -- the term of a line of this kind, where this is what its name stands for; there is none where the name has another role
-abbrev pub core_of : TermKind → Option Symbol → List TermId → Option Core
-core_of Con symbol args = con_of symbol args
-core_of Apply symbol args = apply_of symbol args
-core_of Sel symbol args = sel_of symbol args
-core_of Test symbol args = test_of symbol args
-core_of Eq symbol args = eq_of args
-core_of Not symbol args = not_of args
-core_of And symbol args = Some (cores.And args)
-core_of Or symbol args = Some (cores.Or args)
-core_of Iff symbol args = iff_of args
-core_of Ite symbol args = ite_of args
+abbrev pub core_with : TermKind → Option Symbol → List TermId → Option Core
+core_with Con symbol args = con_of symbol args
+core_with Apply symbol args = apply_of symbol args
+core_with Sel symbol args = sel_of symbol args
+core_with Test symbol args = test_of symbol args
+core_with Eq symbol args = eq_of args
+core_with Not symbol args = not_of args
+core_with And symbol args = Some (cores.And args)
+core_with Or symbol args = Some (cores.Or args)
+core_with Iff symbol args = iff_of args
+core_with Ite symbol args = ite_of args

@@ -1,8 +1,3 @@
-pub mod Forms
-pub mod TermLines
-pub mod Gates
-pub mod Equalities
-pub mod Lines
 pub mod Fitting
 pub mod Cores
 pub mod Reading

@@ -8,14 +8,14 @@ use Rattle.ct_sorts.specs.declared.ids.SortId.{SortId}
 use Rattle.ct_sorts.specs.declared.ids.Symbol.{Symbol}
 use Rattle.ct_terms.specs.declared.ids.TermId.{TermId}
 use Rattle.ct_terms.specs.declared.term.Core.{Core}
-use Rattle.ct_terms.specs.Terms.{Terms, HasSort, IsWellSorted, IsAbsent, Has, truths}
+use Rattle.ct_terms.specs.Terms.{Terms, HasSort, IsWellSorted, IsAbsent, Has, truth_terms}
 use Rattle.ct_log.specs.declared.line.Line.{Line}
 use Rattle.ct_log.specs.Recorded.{Recorded}
-use Rattle.ct_log_text.specs.declared.term_line.TermLine.{TermLine}
-use Rattle.ct_log_text.specs.Forms.{parts_of, parts_after, first_of, term_numbered}
-use Rattle.ct_log_text.specs.Cores.{core_of}
-use Rattle.ct_log_text.specs.TermLines.{has_name, term_line, is_alone}
-use Rattle.ct_log_text.specs.Lines.{line_in, is_end, header_in}
+use Rattle.ct_log_lines.specs.declared.term_lines.TermLine.{TermLine}
+use Rattle.ct_log_lines.specs.Forms.{list_items, parts_after, first_with_rest, term_numbered}
+use Rattle.ct_log_text.specs.Cores.{core_with}
+use Rattle.ct_log_lines.specs.TermLines.{has_name, term_line, is_alone}
+use Rattle.ct_log_lines.specs.Lines.{line_in, is_end, header_in}
 use Rattle.ct_log_text.specs.Fitting.{is_term, has_terms, has_stripped}
 
 -- the numbers of the errors: an item departs from its form, a term number is not yet that of a term, and a term line does
@@ -45,7 +45,7 @@ StandsFor d line symbol = MatchBool (has_name line.kind) (ResolvesTo d line.name
 
 -- what a term line gives whose numbers are those of terms
 abbrev pub GivesNamed : Declarations → Terms → TermLine → Result Terms ℕ → Type 0
-GivesNamed d terms line outcome = (symbol : Option Symbol) × StandsFor d line symbol × Adds d terms (core_of line.kind symbol (terms_of line)) outcome
+GivesNamed d terms line outcome = (symbol : Option Symbol) × StandsFor d line symbol × Adds d terms (core_with line.kind symbol (terms_of line)) outcome
 
 -- what an item gives after these terms, where it is this term line
 abbrev pub GivesLine : Declarations → Terms → Option TermLine → Result Terms ℕ → Type 0
@@ -63,29 +63,29 @@ checked_line terms None = Err departs
 checked_line terms (Some line) = if has_terms (length terms) line then (if has_stripped terms line then Ok line else Err misfits) else Err not_yet
 
 -- a record, or the item that is refused, counted from 0, and the number of the error
-abbrev pub Outcome : Type 0
-Outcome = Result Recorded (ℕ × ℕ)
+abbrev pub ReadOutcome : Type 0
+ReadOutcome = Result Recorded (ℕ × ℕ)
 
 -- nothing may come after the item that ends a derivation
-abbrev pub ended : ℕ → Recorded → Option (Expression × Expressions) → Outcome
-ended place rec None = Ok rec
-ended place rec (Some parts) = Err (place, departs)
+abbrev pub ended_derivation : ℕ → Recorded → Option (Expression × Expressions) → ReadOutcome
+ended_derivation place rec None = Ok rec
+ended_derivation place rec (Some parts) = Err (place, departs)
 
 -- what comes of an item that is a line, or is refused
-abbrev pub after_line : ℕ → (Line → Outcome) → Result Line ℕ → Outcome
+abbrev pub after_line : ℕ → (Line → ReadOutcome) → Result Line ℕ → ReadOutcome
 after_line place next (Ok line) = next line
 after_line place next (Err code) = Err (place, code)
 
 -- what the items from this place on give after these terms and lines: further lines, and the end
-abbrev pub read_lines : ℕ → Terms → List Line → Expressions → Outcome
+abbrev pub read_lines : ℕ → Terms → List Line → Expressions → ReadOutcome
 read_lines place terms lines none = Err (place, departs)
 read_lines place terms lines (more item items) =
     if is_end (length lines) item
-    then ended (place + 1) (record { terms = terms; lines = lines }) (first_of items)
+    then ended_derivation (place + 1) (record { terms = terms; lines = lines }) (first_with_rest items)
     else after_line place (λ line. read_lines (place + 1) terms (lines ++ line ∷ []) items) (checked_line terms (line_in (length lines + 1) item))
 
 -- what the items from this place on give after these terms: further terms, and then the lines
-abbrev pub ReadsTerms : Declarations → ℕ → Terms → Expressions → Outcome → Type 0
+abbrev pub ReadsTerms : Declarations → ℕ → Terms → Expressions → ReadOutcome → Type 0
 ReadsTerms d place terms none outcome = outcome ≡ Err (place, departs)
 ReadsTerms d place terms (more item items) outcome =
     MatchBool (is_some (parts_after (codes "t") item))
@@ -94,31 +94,31 @@ ReadsTerms d place terms (more item items) outcome =
 
 -- the number with which a derivation begins, and the items after it
 abbrev pub number_of : Expression → Option ℕ
-number_of e = option_and_then (λ parts. header_in parts.0) (option_and_then first_of (parts_of e))
+number_of e = option_and_then (λ parts. header_in parts.0) (option_and_then first_with_rest (list_items e))
 
 abbrev pub after_header : Expression × Expressions → Option Expressions
 after_header parts = option_map (λ number. parts.1) (header_in parts.0)
 
 abbrev pub items_in : Expression → Option Expressions
-items_in e = option_and_then after_header (option_and_then first_of (parts_of e))
+items_in e = option_and_then after_header (option_and_then first_with_rest (list_items e))
 
 -- the items after the term line with this number, of a constructor with this name alone
 abbrev pub after_alone : ℕ → List ℕ → Expression × Expressions → Option Expressions
 after_alone n name parts = if is_alone name (term_line n parts.0) then Some parts.1 else None
 
 abbrev pub after_constant : ℕ → List ℕ → Expressions → Option Expressions
-after_constant n name items = option_and_then (after_alone n name) (first_of items)
+after_constant n name items = option_and_then (after_alone n name) (first_with_rest items)
 
 -- what comes of the items after the item at this place, which is refused where there are none
-abbrev pub AfterItem : ℕ → Outcome → (Expressions → Type 0) → Option Expressions → Type 0
+abbrev pub AfterItem : ℕ → ReadOutcome → (Expressions → Type 0) → Option Expressions → Type 0
 AfterItem place outcome Next None = outcome ≡ Err (place, departs)
 AfterItem place outcome Next (Some items) = Next items
 
 -- The expression is a derivation that gives this record over these declarations, or the item of this place is refused
 -- with this number. After the first item the terms 0 and 1 are `true` and `false`.
-abbrev pub Reads : Declarations → Expression → Outcome → Type 0
+abbrev pub Reads : Declarations → Expression → ReadOutcome → Type 0
 Reads d e outcome =
     AfterItem 0 outcome (λ items.
     AfterItem 1 outcome (λ later.
-    AfterItem 2 outcome (λ last. ReadsTerms d 3 truths last outcome)
+    AfterItem 2 outcome (λ last. ReadsTerms d 3 truth_terms last outcome)
     (after_constant 1 (codes "false") later)) (after_constant 0 (codes "true") items)) (items_in e)

@@ -11,8 +11,8 @@ use Rattle.ct_log_text.specs.Written.{expression_of_record}
 use Rattle.ct_log.specs.declared.line.Line.{Line}
 use Rattle.ct_log.specs.declared.line.Step.{Step}
 use Rattle.ct_log.specs.declared.line.Step.TheVariants.{Gate}
-use Rattle.ct_log_text.specs.Forms.{number_bound}
-use Rattle.ct_log_text.specs.Gates.{has_term, has_place}
+use Rattle.ct_log_lines.specs.Forms.{number_bound}
+use Rattle.ct_log_lines.specs.Gates.{has_term, has_place}
 use Rattle.ct_log_text.specs.Fitting.{has_terms, has_stripped}
 
 -- a gate has no term and no place but those that are written

@@ -8,6 +8,7 @@ use Rattle.ct_terms.specs.declared.ids.TermId.{TermId}
 use Rattle.ct_terms.specs.declared.ids.Lit.{Lit}
 use Rattle.ct_terms.specs.declared.term.Core.{Core}
 use Rattle.ct_terms.specs.declared.term.Core.TheVariants as cores
+use Rattle.ct_terms.specs.Children.{CoreHead, con_head, sel_head, test_head, apply_head, eq_head, not_head, and_head, or_head, iff_head, ite_head, core_head, core_children}
 use Rattle.ct_terms.specs.Terms.{Terms}
 use Rattle.ct_log.specs.declared.rules.Gate.{Gate}
 use Rattle.ct_log.specs.declared.rules.Entry.{Entry}
@@ -22,10 +23,10 @@ use Rattle.ct_log.specs.declared.line.Line.{Line}
 use Rattle.ct_log.specs.declared.line.Step.{Step}
 use Rattle.ct_log.specs.declared.line.Step.TheVariants as steps
 use Rattle.ct_log.specs.Recorded.{Recorded}
-use Rattle.ct_log_text.specs.declared.term_line.TermKind.{TermKind}
-use Rattle.ct_log_text.specs.declared.term_line.TermKind.TheVariants as kind
-use Rattle.ct_log_text.specs.TermLines.{kind_word}
-use Rattle.ct_log_text.specs.Gates.{gate_name, has_term, has_place}
+use Rattle.ct_log_lines.specs.declared.term_lines.TermKind.{TermKind}
+use Rattle.ct_log_lines.specs.declared.term_lines.TermKind.TheVariants as kind
+use Rattle.ct_log_lines.specs.TermLines.{kind_word}
+use Rattle.ct_log_lines.specs.Gates.{gate_name, has_term, has_place}
 
 -- numbers
 abbrev pub number : ℕ → Expression
@@ -48,34 +49,41 @@ abbrev pub row : List ℕ → Expressions → Expression
 row text parts = list (more (word text) parts)
 
 -- what stands for each, one after another
-abbrev pub all_of : {X : Type 0} → (X → Expression) → List X → Expressions
-all_of item [] = none
-all_of item (x ∷ xs) = more (item x) (all_of item xs)
+abbrev pub items_as : {X : Type 0} → (X → Expression) → List X → Expressions
+items_as item [] = none
+items_as item (x ∷ xs) = more (item x) (items_as item xs)
 
--- the kind of a term, and what stands after its word
+-- the kind of a term
+abbrev pub kind_of_head : CoreHead → TermKind
+kind_of_head (con_head c) = kind.Con
+kind_of_head (sel_head s) = kind.Sel
+kind_of_head (test_head c) = kind.Test
+kind_of_head (apply_head f) = kind.Apply
+kind_of_head eq_head = kind.Eq
+kind_of_head not_head = kind.Not
+kind_of_head and_head = kind.And
+kind_of_head or_head = kind.Or
+kind_of_head iff_head = kind.Iff
+kind_of_head ite_head = kind.Ite
+
 abbrev pub kind_of : Core → TermKind
-kind_of (cores.Con c args) = kind.Con
-kind_of (cores.Sel s t) = kind.Sel
-kind_of (cores.Test c t) = kind.Test
-kind_of (cores.Apply f args) = kind.Apply
-kind_of (cores.Eq a b) = kind.Eq
-kind_of (cores.Not t) = kind.Not
-kind_of (cores.And args) = kind.And
-kind_of (cores.Or args) = kind.Or
-kind_of (cores.Iff a b) = kind.Iff
-kind_of (cores.Ite c a b) = kind.Ite
+kind_of core = kind_of_head (core_head core)
+
+-- what stands after the word of a term: the name at its head, where it has one, and the numbers of the terms under it
+abbrev pub with_head_name : Declarations → CoreHead → Expressions → Expressions
+with_head_name d (con_head c) parts = more (name (unwrap_or (slice_get (ctor_names d) c.0) [])) parts
+with_head_name d (sel_head s) parts = more (name (unwrap_or (slice_get (sel_names d) s.0) [])) parts
+with_head_name d (test_head c) parts = more (name (unwrap_or (slice_get (ctor_names d) c.0) [])) parts
+with_head_name d (apply_head f) parts = more (name (unwrap_or (slice_get (function_names d) f.0) [])) parts
+with_head_name d eq_head parts = parts
+with_head_name d not_head parts = parts
+with_head_name d and_head parts = parts
+with_head_name d or_head parts = parts
+with_head_name d iff_head parts = parts
+with_head_name d ite_head parts = parts
 
 abbrev pub core_parts : Declarations → Core → Expressions
-core_parts d (cores.Con c args) = more (name (unwrap_or (slice_get (ctor_names d) c.0) [])) (numbers (term_numbers args))
-core_parts d (cores.Sel s t) = more (name (unwrap_or (slice_get (sel_names d) s.0) [])) (numbers (t.0 ∷ []))
-core_parts d (cores.Test c t) = more (name (unwrap_or (slice_get (ctor_names d) c.0) [])) (numbers (t.0 ∷ []))
-core_parts d (cores.Apply f args) = more (name (unwrap_or (slice_get (function_names d) f.0) [])) (numbers (term_numbers args))
-core_parts d (cores.Eq a b) = numbers (a.0 ∷ (b.0 ∷ []))
-core_parts d (cores.Not t) = numbers (t.0 ∷ [])
-core_parts d (cores.And args) = numbers (term_numbers args)
-core_parts d (cores.Or args) = numbers (term_numbers args)
-core_parts d (cores.Iff a b) = numbers (a.0 ∷ (b.0 ∷ []))
-core_parts d (cores.Ite c a b) = numbers (c.0 ∷ (a.0 ∷ (b.0 ∷ [])))
+core_parts d core = with_head_name d (core_head core) (numbers (term_numbers (core_children core)))
 
 -- the term line with the number n
 abbrev pub term_item : Declarations → ℕ → Core → Expression
@@ -91,7 +99,7 @@ entry_item (entries.Step i) = number i
 entry_item (entries.Pair k i j) = row (codes "pair") (numbers (k ∷ (i ∷ (j ∷ []))))
 
 abbrev pub pair_item : Pair → Expression
-pair_item pair = list (more (number pair.left.0) (more (number pair.right.0) (all_of entry_item pair.entries)))
+pair_item pair = list (more (number pair.left.0) (more (number pair.right.0) (items_as entry_item pair.entries)))
 
 abbrev pub hop_item : Hop → Expression
 hop_item hop = list (numbers (hop.con.0 ∷ (hop.place ∷ (hop.step ∷ []))))
@@ -111,12 +119,12 @@ step_item (EqualIn t i) = row (codes "equal-in") (numbers (t.0 ∷ (i ∷ [])))
 step_item (EqualOut i) = row (codes "equal-out") (numbers (i ∷ []))
 step_item (Neg t i) = row (codes "neg") (numbers (t.0 ∷ (i ∷ [])))
 step_item (Single x y) = row (codes "single") (numbers (x.0 ∷ (y.0 ∷ [])))
-step_item (Unique p pairs) = row (codes "unique") (more (number p) (all_of pair_item pairs))
+step_item (Unique p pairs) = row (codes "unique") (more (number p) (items_as pair_item pairs))
 
 -- how a theory line ends
 abbrev pub close_item : Close → Expression
 close_item (Clash i) = row (codes "clash") (numbers (i ∷ []))
-close_item (Cycle hops) = row (codes "cycle") (all_of hop_item hops)
+close_item (Cycle hops) = row (codes "cycle") (items_as hop_item hops)
 
 -- the term and the place of a gate, where it has them
 abbrev pub gate_numbers : Gate → TermId → ℕ → List ℕ
@@ -127,12 +135,12 @@ abbrev pub rule_parts : Step → Expressions
 rule_parts (steps.Input t) = more (word (codes "input")) (numbers (t.0 ∷ []))
 rule_parts (steps.Gate gate t place) = more (word (codes "gate")) (more (word (gate_name gate)) (numbers (gate_numbers gate t place)))
 rule_parts (steps.Exhaust t) = more (word (codes "exhaust")) (numbers (t.0 ∷ []))
-rule_parts (steps.Theory all close) = more (word (codes "theory")) (more (list (all_of step_item all)) (more (close_item close) none))
+rule_parts (steps.Theory all close) = more (word (codes "theory")) (more (list (items_as step_item all)) (more (close_item close) none))
 rule_parts (steps.Learn hints) = more (word (codes "learn")) (numbers hints)
 
 -- the line with the number n
 abbrev pub line_item : ℕ → Line → Expression
-line_item n line = row (codes "s") (more (number n) (more (list (all_of literal line.clause)) (rule_parts line.step)))
+line_item n line = row (codes "s") (more (number n) (more (list (items_as literal line.clause)) (rule_parts line.step)))
 
 -- the first and the last item
 abbrev pub header_item : ℕ → Expression

@@ -1,10 +1,9 @@
 //! The term of a term line, over what its name stands for.
 ghost use Rattle.std.specs.Prelude.{◌≡◌, map, Some, IfOk};
-ghost use Rattle.ct_log_text.specs.Forms.{term_numbered};
-ghost use Rattle.ct_log_text.specs.Cores.{one_term, two_terms, three_terms, con_of, apply_of, sel_of, test_of, eq_of, iff_of, not_of, ite_of, core_of};
+ghost use Rattle.ct_log_lines.specs.Forms.{term_numbered};
+ghost use Rattle.ct_log_text.specs.Cores.{one_term, two_terms, three_terms, con_of, apply_of, sel_of, test_of, eq_of, iff_of, not_of, ite_of, core_with};
 
-use crate::form::term_numbered;
-use crate::term_line::TermKind;
+use ct_log_lines::{TermKind, term_numbered};
 use ct_sorts::Symbol;
 use ct_terms::{Args, Core, TermId};
 use std::alloc::{AllocError, Global};
@@ -126,7 +125,7 @@ fn ite_of(args: &[TermId]) -> Option<Core>
 
 /// The term of a line of this kind, where this is what its name stands for.
 pub(crate) fn core_of(kind: TermKind, symbol: Option<Symbol>, args: Args) -> Option<Core>
-    ensures value { result ≡ core_of kind symbol args }
+    ensures value { result ≡ core_with kind symbol args }
 {
     match kind {
         TermKind::Con => con_of(symbol, args),

@@ -2,19 +2,11 @@
 #![tactic(auto)]
 
 mod built;
-mod closing;
-mod equality;
 mod fitting;
-mod form;
-mod gates;
-mod line;
-mod literal;
-mod pair;
 mod put;
 mod put_line;
 mod put_term;
 mod read;
-mod term_line;
 mod text;
 mod theorems;
 

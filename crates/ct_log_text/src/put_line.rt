@@ -5,11 +5,11 @@ ghost use Rattle.ct_sexpr.specs.Written.{written, written_after, written_items};
 ghost use Rattle.ct_log.specs.declared.rules.EqStep.TheVariants as EqStep;
 ghost use Rattle.ct_log.specs.declared.rules.Close.TheVariants as Close;
 ghost use Rattle.ct_log.specs.declared.line.Step.TheVariants as Step;
-ghost use Rattle.ct_log_text.specs.Written.{numbers, all_of, literal, entry_item, pair_item, hop_item, step_item, close_item, gate_numbers, rule_parts, line_item};
+ghost use Rattle.ct_log_text.specs.Written.{numbers, items_as, literal, entry_item, pair_item, hop_item, step_item, close_item, gate_numbers, rule_parts, line_item};
 
-use crate::gates::{gate_name, has_place, has_term};
 use crate::put::{open_row, put_number, put_number_after, put_numbers, put_row, put_word_after};
 use ct_log::{Close, Entry, EqStep, Gate, Hop, Line, Pair, Step};
+use ct_log_lines::{gate_name, has_place, has_term};
 use ct_terms::{Lit, TermId};
 use std::alloc::{AllocError, Global};
 
@@ -25,7 +25,7 @@ fn put_literal(alloc: Global, l: Lit, out: &mut Vec<u8>) -> Result<(), AllocErro
 
 /// Writes literals, each after a space.
 fn put_literals_after(alloc: Global, literals: &[Lit], out: &mut Vec<u8>) -> Result<(), AllocError>
-    ensures ok { OnOk result (out.new.items ≡ out.old.items ++ written_after (all_of literal literals.now)) }
+    ensures ok { OnOk result (out.new.items ≡ out.old.items ++ written_after (items_as literal literals.now)) }
 {
     let mut rest = literals;
     while let [l, others @ ..] = rest {
@@ -38,7 +38,7 @@ fn put_literals_after(alloc: Global, literals: &[Lit], out: &mut Vec<u8>) -> Res
 
 /// Writes literals, with a space between two.
 fn put_literals(alloc: Global, literals: &[Lit], out: &mut Vec<u8>) -> Result<(), AllocError>
-    ensures ok { OnOk result (out.new.items ≡ out.old.items ++ written_items (all_of literal literals.now)) }
+    ensures ok { OnOk result (out.new.items ≡ out.old.items ++ written_items (items_as literal literals.now)) }
 {
     match literals {
         [] => Ok(()),
@@ -51,7 +51,7 @@ fn put_literals(alloc: Global, literals: &[Lit], out: &mut Vec<u8>) -> Result<()
 
 /// Writes a clause.
 fn put_clause(alloc: Global, clause: &[Lit], out: &mut Vec<u8>) -> Result<(), AllocError>
-    ensures ok { OnOk result (out.new.items ≡ out.old.items ++ written (list (all_of literal clause.now))) }
+    ensures ok { OnOk result (out.new.items ≡ out.old.items ++ written (list (items_as literal clause.now))) }
 {
     out.push(b'(')?;
     put_literals(alloc, clause, out)?;
@@ -70,7 +70,7 @@ fn put_entry(alloc: Global, entry: Entry, out: &mut Vec<u8>) -> Result<(), Alloc
 
 /// Writes entries, each after a space.
 fn put_entries(alloc: Global, entries: &[Entry], out: &mut Vec<u8>) -> Result<(), AllocError>
-    ensures ok { OnOk result (out.new.items ≡ out.old.items ++ written_after (all_of entry_item entries.now)) }
+    ensures ok { OnOk result (out.new.items ≡ out.old.items ++ written_after (items_as entry_item entries.now)) }
 {
     let mut rest = entries;
     while let [entry, others @ ..] = rest {
@@ -94,7 +94,7 @@ fn put_pair(alloc: Global, pair: &Pair, out: &mut Vec<u8>) -> Result<(), AllocEr
 
 /// Writes pairs, each after a space.
 fn put_pairs(alloc: Global, pairs: &[Pair], out: &mut Vec<u8>) -> Result<(), AllocError>
-    ensures ok { OnOk result (out.new.items ≡ out.old.items ++ written_after (all_of pair_item pairs.now)) }
+    ensures ok { OnOk result (out.new.items ≡ out.old.items ++ written_after (items_as pair_item pairs.now)) }
 {
     let mut rest = pairs;
     while let [pair, others @ ..] = rest {
@@ -171,7 +171,7 @@ fn put_step(alloc: Global, step: &EqStep, out: &mut Vec<u8>) -> Result<(), Alloc
 
 /// Writes equality steps, each after a space.
 fn put_steps_after(alloc: Global, steps: &[EqStep], out: &mut Vec<u8>) -> Result<(), AllocError>
-    ensures ok { OnOk result (out.new.items ≡ out.old.items ++ written_after (all_of step_item steps.now)) }
+    ensures ok { OnOk result (out.new.items ≡ out.old.items ++ written_after (items_as step_item steps.now)) }
 {
     let mut rest = steps;
     while let [step, others @ ..] = rest {
@@ -184,7 +184,7 @@ fn put_steps_after(alloc: Global, steps: &[EqStep], out: &mut Vec<u8>) -> Result
 
 /// Writes equality steps, with a space between two.
 fn put_steps(alloc: Global, steps: &[EqStep], out: &mut Vec<u8>) -> Result<(), AllocError>
-    ensures ok { OnOk result (out.new.items ≡ out.old.items ++ written_items (all_of step_item steps.now)) }
+    ensures ok { OnOk result (out.new.items ≡ out.old.items ++ written_items (items_as step_item steps.now)) }
 {
     match steps {
         [] => Ok(()),
@@ -208,7 +208,7 @@ fn put_hop(alloc: Global, hop: Hop, out: &mut Vec<u8>) -> Result<(), AllocError>
 
 /// Writes terms of a cycle, each after a space.
 fn put_hops(alloc: Global, hops: &[Hop], out: &mut Vec<u8>) -> Result<(), AllocError>
-    ensures ok { OnOk result (out.new.items ≡ out.old.items ++ written_after (all_of hop_item hops.now)) }
+    ensures ok { OnOk result (out.new.items ≡ out.old.items ++ written_after (items_as hop_item hops.now)) }
 {
     let mut rest = hops;
     while let [hop, others @ ..] = rest {

@@ -6,7 +6,7 @@ ghost use Rattle.ct_sorts.specs.Declarations.{IsConstructor, IsSelector, IsFunct
 ghost use Rattle.ct_log_text.specs.Written.{name, numbers, term_numbers, kind_of, core_parts, term_item, IsNamed};
 
 use crate::put::{open_row, put_name_after, put_number_after, put_terms, put_word_after};
-use crate::term_line::{TermKind, kind_word};
+use ct_log_lines::{TermKind, kind_word};
 use ct_sorts::{CtorId, FunId, SelId, Signature};
 use ct_terms::{Core, TermId};
 use std::alloc::{AllocError, Global};

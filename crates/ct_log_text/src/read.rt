@@ -1,18 +1,19 @@
 //! Reading a derivation: the items one after another, and the first that is refused.
 ghost use Rattle.std.specs.Prelude.{◌≡◌, ℕ, ◌+◌, ◌<◌, ◌^◌, [], Ok, Err, Some, None, true, is_some, length, option_and_then, MatchOption, IfOk, IfErr, OnOk, IsErrOf};
 ghost use Rattle.ct_sexpr.specs.View.{expression_of, expressions_of};
-ghost use Rattle.ct_terms.specs.Terms.{most_terms, truths, AreSorted};
+ghost use Rattle.ct_terms.specs.Terms.{most_terms, truth_terms, AreSorted};
 ghost use Rattle.ct_log.specs.declared.error.LogError.TheVariants.{Form, NoMemory};
-ghost use Rattle.ct_log_text.specs.Forms.{first_of};
-ghost use Rattle.ct_log_text.specs.Lines.{line_in};
-ghost use Rattle.ct_log_text.specs.Reading.{departs, Adds, StandsFor, GivesLine, GivesTerm, checked_line, read_lines, ReadsTerms, after_header, number_of, items_in, after_constant, Reads, Outcome};
+ghost use Rattle.ct_log_lines.specs.Forms.{first_with_rest};
+ghost use Rattle.ct_log_lines.specs.Lines.{line_in};
+ghost use Rattle.ct_log_text.specs.Reading.{departs, Adds, StandsFor, GivesLine, GivesTerm, checked_line, read_lines, ReadsTerms, after_header, number_of, items_in, after_constant, Reads, ReadOutcome};
 
 use crate::built::{core_of, terms_of};
 use crate::fitting::{are_terms, has_stripped, has_terms};
-use crate::form::{first_of, parts_after, parts_of};
-use crate::line::{header_in, is_end, line_in};
-use crate::term_line::{TermLine, has_name, is_constant_line, term_line};
 use ct_log::{Line, LogError, Record};
+use ct_log_lines::{
+    TermLine, first_of, has_name, header_in, is_constant_line, is_end, line_in, parts_after,
+    parts_of, term_line,
+};
 use ct_sexpr::Sexpr;
 use ct_sorts::{Signature, Symbol, growth};
 use ct_terms::{Core, TermTable, is_well_sorted};
@@ -91,8 +92,8 @@ fn items_in(expr: &Sexpr) -> Result<&[Sexpr], LogError>
 
 /// The same, of all items.
 fn after_header(items: &[Sexpr]) -> Result<&[Sexpr], LogError>
-    ensures ok { IfOk result (λ others. option_and_then after_header (first_of (expressions_of items.now)) ≡ Some (expressions_of others.now)) }
-    ensures err { IfErr result (λ e. (e ≡ Form 0 departs) × (option_and_then after_header (first_of (expressions_of items.now)) ≡ None)) }
+    ensures ok { IfOk result (λ others. option_and_then after_header (first_with_rest (expressions_of items.now)) ≡ Some (expressions_of others.now)) }
+    ensures err { IfErr result (λ e. (e ≡ Form 0 departs) × (option_and_then after_header (first_with_rest (expressions_of items.now)) ≡ None)) }
 {
     match first_of(items) {
         None => Err(departs_at(0)),
@@ -127,9 +128,9 @@ fn after_constant<'a>(
 
 /// The record of the items after the terms 0 and 1.
 fn read_record(alloc: Global, sig: &Signature, items: &[Sexpr]) -> Result<Record, LogError>
-    ensures ok { IfOk result (λ rec. ReadsTerms sig.now 3 truths (expressions_of items.now) (Ok rec)) }
+    ensures ok { IfOk result (λ rec. ReadsTerms sig.now 3 truth_terms (expressions_of items.now) (Ok rec)) }
     ensures sorted { IfOk result (λ rec. AreSorted sig.now rec.terms) }
-    ensures form { (item code : ℕ) → IsErrOf result (Form item code) → ReadsTerms sig.now 3 truths (expressions_of items.now) (Err (item, code)) }
+    ensures form { (item code : ℕ) → IsErrOf result (Form item code) → ReadsTerms sig.now 3 truth_terms (expressions_of items.now) (Err (item, code)) }
 {
     let mut table = new_table(alloc, sig)?;
     match read_into(alloc, sig, &mut table, items) {
@@ -143,7 +144,7 @@ fn read_record(alloc: Global, sig: &Signature, items: &[Sexpr]) -> Result<Record
 
 /// The table of `true` and `false`.
 fn new_table(alloc: Global, sig: &Signature) -> Result<TermTable, LogError>
-    ensures ok { IfOk result (λ table. table ≡ truths) }
+    ensures ok { IfOk result (λ table. table ≡ truth_terms) }
     ensures sorted { IfOk result (λ table. AreSorted sig.now table) }
     ensures err { IfErr result (λ e. e ≡ NoMemory) }
 {
@@ -177,7 +178,7 @@ fn add_terms<'a>(
     table: &mut TermTable,
     items: &'a [Sexpr],
 ) -> Result<(u64, &'a [Sexpr]), LogError>
-    ensures ok { IfOk result (λ at. (outcome : Outcome) → outcome ≡ read_lines at.0 table.new [] (expressions_of at.1.now)
+    ensures ok { IfOk result (λ at. (outcome : ReadOutcome) → outcome ≡ read_lines at.0 table.new [] (expressions_of at.1.now)
         → ReadsTerms sig.now 3 table.old (expressions_of items.now) outcome) }
     ensures place { IfOk result (λ at. at.0 + length at.1.now ≡ 3 + length items.now) }
     ensures sorted { AreSorted sig.now table.old → OnOk result (AreSorted sig.now table.new) }
@@ -308,8 +309,8 @@ fn read_lines(
 
 /// The lines, where nothing comes after the end.
 fn finish(place: u64, lines: Vec<Line>, others: &[Sexpr]) -> Result<Vec<Line>, LogError>
-    ensures ok { IfOk result (λ same. (same.items ≡ lines.items) × (first_of (expressions_of others.now) ≡ None)) }
-    ensures err { IfErr result (λ e. (e ≡ Form place departs) × (is_some (first_of (expressions_of others.now)) ≡ true)) }
+    ensures ok { IfOk result (λ same. (same.items ≡ lines.items) × (first_with_rest (expressions_of others.now) ≡ None)) }
+    ensures err { IfErr result (λ e. (e ≡ Form place departs) × (is_some (first_with_rest (expressions_of others.now)) ≡ true)) }
 {
     match first_of(others) {
         None => Ok(lines),

@@ -8,7 +8,7 @@ ghost use Rattle.ct_sexpr.specs.Written.{canonical};
 ghost use Rattle.ct_sorts.specs.Declarations.{Declarations};
 ghost use Rattle.ct_sorts.specs.Consistent.{IsConsistent};
 ghost use Rattle.ct_log.specs.Recorded.{Recorded};
-ghost use Rattle.ct_log_text.specs.Reading.{Outcome, Reads, number_of};
+ghost use Rattle.ct_log_text.specs.Reading.{ReadOutcome, Reads, number_of};
 ghost use Rattle.ct_log_text.specs.Written.{expression_of_record, text_of};
 ghost use Rattle.ct_log_text.specs.Writable.{CanBeRead, is_writable};
 
@@ -33,7 +33,7 @@ pub fn reads_back()
         → number_of (expression_of_record d k rec) ≡ Some k }
     ensures writable { (d : Declarations) (e : Expression) (rec : Recorded) → Reads d e (Ok rec)
         → list_all (is_writable rec.terms) rec.lines ≡ true }
-    ensures one_outcome { (d : Declarations) (e : Expression) (one other : Outcome) → IsConsistent d
+    ensures one_outcome { (d : Declarations) (e : Expression) (one other : ReadOutcome) → IsConsistent d
         → Reads d e one → Reads d e other → one ≡ other }
 {
     naming();

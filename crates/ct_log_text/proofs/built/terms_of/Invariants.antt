@@ -1,5 +1,5 @@
 use Rattle.std.proofs.Common.{◌≡◌, take, map}
-use Rattle.ct_log_text.specs.Forms.{term_numbered}
+use Rattle.ct_log_lines.specs.Forms.{term_numbered}
 use Rattle.ct_log_text.proofs.built.terms_of.Given as goal
 
 abbrev pub invariant-loop-n : goal.invariant-loop-n

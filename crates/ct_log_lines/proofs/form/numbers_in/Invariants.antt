@@ -1,0 +1,11 @@
+use Rattle.std.proofs.Common.{◌≡◌, length}
+use Rattle.ct_sexpr.specs.View.{expressions_of}
+use Rattle.ct_log_lines.specs.Forms.{number_in, each}
+use Rattle.ct_log_lines.proofs.Each.{each_from}
+use Rattle.ct_log_lines.proofs.form.numbers_in.Given as goal
+
+abbrev pub invariant-loop-rest : goal.invariant-loop-rest
+invariant-loop-rest l = each_from number_in l.numbers.items (expressions_of l.rest) ≡ each number_in (expressions_of l.items)
+
+abbrev pub decreases-loop-rest : goal.decreases-loop-rest
+decreases-loop-rest l = length l.rest
