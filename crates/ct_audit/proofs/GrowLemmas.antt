@@ -17,7 +17,7 @@ use Rattle.ct_terms.specs.CoreSorts.{HasTreeSort}
 use Rattle.ct_terms.specs.Formula.{Formula}
 use Rattle.ct_terms.specs.FormulaSorts.{IsSorted, AreSound}
 use Rattle.ct_closure.specs.ClosedTable.{terms_at}
-use Rattle.ct_compile.specs.Effect.{IsPrefix, IsMissing, AreDifferent, DoNotFit, Adds}
+use Rattle.ct_compile.specs.Effect.{IsPrefix, IsMissing, AreDifferent, DoNotFit, AddsTrees}
 use Rattle.ct_stack.specs.Stack.{Context, core, cores}
 use Rattle.ct_audit.specs.Grown.{terms_of, IsGrownBy, AreTooMany}
 use Rattle.ct_audit.specs.Growing.{Theorems, IsGrowing}
@@ -77,7 +77,7 @@ module _ (c : Context) (all rest : List Formula) (f : Formula) (old now : Terms)
         let here : term_at new n ≡ term_at now n = stays n (slice_get_within now n.0 (first.0, bool_sort) first.1) in
         ap (λ (tree : CoreTree). tree ∷ terms_at new ns) here ∙ ap (λ (trees : List CoreTree). term_at now n ∷ trees) (all_stay ns (All-tail (IsBoolean now) n ns all))
 
-    module _ (sorted : AreSorted c.declarations new) (consistent : IsConsistent c.declarations) (sound : AreSound c.declarations c.bodies) (boolean : IsSorted c.declarations [] f bool_sort) (stands : (t.0 < length new) × (term_at new t ≡ core c f)) (adds : Adds (subtrees (core c f)) now new) where
+    module _ (sorted : AreSorted c.declarations new) (consistent : IsConsistent c.declarations) (sound : AreSound c.declarations c.bodies) (boolean : IsSorted c.declarations [] f bool_sort) (stands : (t.0 < length new) × (term_at new t ≡ core c f)) (adds : AddsTrees (subtrees (core c f)) now new) where
       -- the core term is Boolean
       is_boolean : IsBoolean new t
       is_boolean =
@@ -88,7 +88,7 @@ module _ (c : Context) (all rest : List Formula) (f : Formula) (old now : Terms)
           let same : found.0.1 ≡ bool_sort = theorems.one_sort c.declarations (term_at new t) found.0.1 bool_sort (theorems.tree_sorted c.declarations new t found.0.1 ordered sorted (found.0.0, found.1)) tree in
           (found.0.0, subst (λ (s : SortId). slice_get new t.0 ≡ Some (found.0.0, s)) same found.1)
 
-      added : Adds (terms_of c all) old new
+      added : AddsTrees (terms_of c all) old new
       added u from below =
           elim (cases_lt u.0 (length now)) [
             | inl before ↦ subst (Contains (terms_of c all)) (sym (stays u before)) (growing.adds u from before)
@@ -134,7 +134,7 @@ at_index table k (suc m) (suc i) t e =
     (omega (arith, h.0), ap (λ (x : ℕ). term_at table (id x)) n ∙ h.1)
 
 -- where terms do not fit into a table that has grown, they did not fit with those that it has grown by
-module _ (theorems : Theorems) (allowed next : List CoreTree) (old now : Terms) (ordered : AreOrdered now) (single : AreSingle now) (grown : IsPrefix old now) (adds : Adds allowed old now) (among : (t : CoreTree) → Contains next t → Contains allowed t) (trees : List CoreTree) (unfit : DoNotFit next now trees) where
+module _ (theorems : Theorems) (allowed next : List CoreTree) (old now : Terms) (ordered : AreOrdered now) (single : AreSingle now) (grown : IsPrefix old now) (adds : AddsTrees allowed old now) (among : (t : CoreTree) → Contains next t → Contains allowed t) (trees : List CoreTree) (unfit : DoNotFit next now trees) where
   abbrev more : ℕ
   more = length grown.0
 

@@ -16,7 +16,7 @@ use Rattle.ct_eval.specs.Interpretation.{IsProper}
 use Rattle.ct_eval.specs.Truth.{Holds, AllTrue}
 use Rattle.ct_stack.specs.Stack.{Context, core, cores}
 use Rattle.ct_stack.specs.Held.{IsSoundLevel}
-use Rattle.ct_script.specs.Verdict.{Satisfies}
+use Rattle.ct_step.specs.Verdict.{Satisfies}
 
 -- the theorem on core terms of assertions
 abbrev pub Assertions : Type 0

@@ -7,7 +7,7 @@ use Rattle.ct_sexpr.specs.Unread.{Unread}
 use Rattle.ct_sexpr.specs.Answer.{IsFirstCommand}
 use Rattle.ct_command.specs.Reading.{command}
 use Rattle.ct_script.specs.declared.replay.Replayed.{Replayed}
-use Rattle.ct_script.specs.State.{State}
+use Rattle.ct_step.specs.State.{State}
 use Rattle.ct_script.specs.Replay.{Replays}
 use Rattle.ct_script.specs.Session.{Course}
 use Rattle.ct_audit.specs.Found.{Finds, is_wanted}

@@ -12,7 +12,7 @@ use Rattle.ct_log.specs.Recorded.{Recorded}
 use Rattle.ct_log_text.specs.Reading.{departs, number_of, Reads as ReadsRecord}
 use Rattle.ct_stack.specs.Stack.{Context}
 use Rattle.ct_stack.specs.Held.{IsSoundLevel}
-use Rattle.ct_script.specs.State.{State}
+use Rattle.ct_step.specs.State.{State}
 use Rattle.ct_script.specs.Session.{Course}
 use Rattle.ct_audit.specs.declared.answer.AuditAnswer.{AuditAnswer}
 use Rattle.ct_audit.specs.declared.answer.AuditAnswer.TheVariants.{Wrong}

@@ -8,8 +8,8 @@ use Rattle.ct_sexpr.specs.Expression.{Expression}
 use Rattle.ct_command.specs.Reading.{command}
 use Rattle.ct_engine.specs.declared.verdict.Verdict.{Verdict}
 use Rattle.ct_script.specs.declared.replay.Replayed.{Replayed}
-use Rattle.ct_script.specs.State.{State, first_state}
-use Rattle.ct_script.specs.Step.{counted}
+use Rattle.ct_step.specs.State.{State, first_state}
+use Rattle.ct_step.specs.Step.{counted}
 use Rattle.ct_script.specs.Answers.{Answers, Leads}
 use Rattle.ct_script.specs.Session.{Course}
 use Rattle.ct_script.specs.Replay.{is_check, IsCounted, IsStepped, Replays, GoesThrough, HaveOneStack, AnswersThrough}

@@ -3,8 +3,8 @@ use Rattle.std.specs.Prelude.{◌≡◌, ℕ, true, List, ◌∷◌, ◌++◌}
 use Rattle.ct_sexpr.specs.Text.{Located, Ending}
 use Rattle.ct_command.specs.Reading.{command}
 use Rattle.ct_engine.specs.declared.verdict.Verdict.{Verdict}
-use Rattle.ct_script.specs.State.{State, first_state}
-use Rattle.ct_script.specs.Step.{counted}
+use Rattle.ct_step.specs.State.{State, first_state}
+use Rattle.ct_step.specs.Step.{counted}
 use Rattle.ct_script.specs.Replay.{is_check, HaveOneStack, AnswersThrough}
 
 -- the script has a check with this number, and the answers to the script come to it in a state that has the stack and the options

@@ -4,7 +4,7 @@ use Rattle.ct_sexpr.specs.Expression.{Expression}
 use Rattle.ct_sexpr.specs.Text.{Located, Ending, clean, lexical, Reads}
 use Rattle.ct_log_text.specs.Reading.{departs, number_of}
 use Rattle.ct_stack.specs.Stack.{in_force}
-use Rattle.ct_script.specs.State.{State, context_of}
+use Rattle.ct_step.specs.State.{State, context_of}
 use Rattle.ct_audit.specs.declared.answer.AuditAnswer.{AuditAnswer}
 use Rattle.ct_audit.specs.declared.answer.AuditAnswer.TheVariants.{Wrong}
 use Rattle.ct_audit.specs.Found.{first_course, Finds}

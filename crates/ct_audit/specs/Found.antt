@@ -4,7 +4,7 @@ use Rattle.std.specs.Bool.{MatchBool}
 use Rattle.ct_sexpr.specs.Text.{Located}
 use Rattle.ct_command.specs.Reading.{command}
 use Rattle.ct_script.specs.declared.replay.Replayed.{Replayed}
-use Rattle.ct_script.specs.State.{State, first_state}
+use Rattle.ct_step.specs.State.{State, first_state}
 use Rattle.ct_script.specs.Replay.{Replays}
 use Rattle.ct_script.specs.Session.{Course}
 

@@ -12,7 +12,7 @@ use Rattle.ct_terms.specs.Formula.{Formula}
 use Rattle.ct_terms.specs.FormulaSorts.{IsSorted as IsSortedFormula, AreSound}
 use Rattle.ct_terms.specs.Compiled.{core_of}
 use Rattle.ct_closure.specs.ClosedTable.{terms_at}
-use Rattle.ct_compile.specs.Effect.{IsPrefix, Adds}
+use Rattle.ct_compile.specs.Effect.{IsPrefix, AddsTrees}
 use Rattle.ct_stack.specs.Stack.{Context, cores}
 use Rattle.ct_audit.specs.Grown.{terms_of}
 
@@ -30,7 +30,7 @@ pub record IsGrowing (c : Context) (all left : List Formula) (old now : Terms) (
   pub sorted : AreSorted c.declarations now
   pub booleans : All (IsBoolean now) numbers
   pub asserted : terms_at now numbers ++ cores c left ≡ cores c all
-  pub adds : Adds (terms_of c all) old now
+  pub adds : AddsTrees (terms_of c all) old now
 
 -- the formulas are closed and Boolean
 abbrev pub AreBoolean : Context → List Formula → Type 0

@@ -6,7 +6,7 @@ use Rattle.ct_terms.specs.Terms.{Terms, AreOrdered, AreSingle, AreSorted, most_t
 use Rattle.ct_terms.specs.CoreTree.{CoreTree, subtrees}
 use Rattle.ct_terms.specs.Formula.{Formula}
 use Rattle.ct_closure.specs.ClosedTable.{terms_at}
-use Rattle.ct_compile.specs.Effect.{IsPrefix, Adds, DoNotFit}
+use Rattle.ct_compile.specs.Effect.{IsPrefix, AddsTrees, DoNotFit}
 use Rattle.ct_stack.specs.Stack.{Context, cores}
 
 -- the core terms of formulas and all terms under them
@@ -22,7 +22,7 @@ pub record IsGrownBy (c : Context) (formulas : List Formula) (old new : Terms) (
   pub ordered : AreOrdered new
   pub single : AreSingle new
   pub asserted : terms_at new numbers ≡ cores c formulas
-  pub nothing_else : Adds (terms_of c formulas) old new
+  pub nothing_else : AddsTrees (terms_of c formulas) old new
 
 -- the terms that the table lacks of them are more than it has room for
 abbrev pub AreTooMany : Context → List Formula → Terms → Type 0

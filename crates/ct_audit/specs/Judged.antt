@@ -7,11 +7,11 @@ use Rattle.ct_terms.specs.Formula.{Formula}
 use Rattle.ct_eval.specs.declared.interp.Interp.{Interp}
 use Rattle.ct_log.specs.declared.line.Line.{Line}
 use Rattle.ct_log.specs.Acceptance.{Passes}
-use Rattle.ct_log_text.specs.Reading.{Outcome, Reads, departs}
+use Rattle.ct_log_text.specs.Reading.{ReadOutcome, Reads, departs}
 use Rattle.ct_checker.specs.declared.reject.Why.{Why}
 use Rattle.ct_checker.specs.Rejection.{IsRejectedAt}
 use Rattle.ct_stack.specs.Stack.{Context}
-use Rattle.ct_script.specs.Verdict.{Satisfies}
+use Rattle.ct_step.specs.Verdict.{Satisfies}
 use Rattle.ct_audit.specs.declared.answer.AuditAnswer.{AuditAnswer}
 use Rattle.ct_audit.specs.declared.answer.AuditAnswer.TheVariants.{Verified, Rejected, Wrong}
 use Rattle.ct_audit.specs.Grown.{IsGrownBy, AreTooMany}
@@ -39,11 +39,11 @@ pub record JudgesGrown (c : Context) (formulas : List Formula) (terms : Terms) (
   pub judged : JudgesLines c formulas grown numbers lines answer
 
 -- what comes of what a derivation is read as: the error of its reading, too many terms of the assertions, or a judgement
-abbrev pub JudgesRead : Context → List Formula → Outcome → AuditAnswer → Type 0
+abbrev pub JudgesRead : Context → List Formula → ReadOutcome → AuditAnswer → Type 0
 JudgesRead c formulas (Err (item, code)) answer = answer ≡ Wrong item code
 JudgesRead c formulas (Ok rec) answer =
     (AreTooMany c formulas rec.terms × (answer ≡ Wrong 0 departs)) ⊎ JudgesGrown c formulas rec.terms rec.lines answer
 
 -- the expression is judged as a derivation over these assertions
 abbrev pub Judges : Context → List Formula → Expression → AuditAnswer → Type 0
-Judges c formulas e answer = (outcome : Outcome) × Reads c.declarations e outcome × JudgesRead c formulas outcome answer
+Judges c formulas e answer = (outcome : ReadOutcome) × Reads c.declarations e outcome × JudgesRead c formulas outcome answer

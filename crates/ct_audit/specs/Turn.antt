@@ -1,7 +1,7 @@
 -- How the search for a check stands after a command.
 use Rattle.std.specs.Prelude.{◌≡◌, ℕ, List, Option, None, Some}
 use Rattle.ct_sexpr.specs.Text.{Located}
-use Rattle.ct_script.specs.State.{State}
+use Rattle.ct_step.specs.State.{State}
 use Rattle.ct_script.specs.Session.{Course}
 use Rattle.ct_audit.specs.declared.replay.Turn.{Turn}
 use Rattle.ct_audit.specs.declared.replay.Turn.TheVariants as turn

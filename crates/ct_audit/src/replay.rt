@@ -2,7 +2,7 @@
 ghost use Rattle.std.specs.Prelude.{◌≡◌, ◌==◌, ◌&&◌, ◌∷◌, [], true, List, Option, IfOk};
 ghost use Rattle.ct_sexpr.specs.Text.{Located, Ending, Reads};
 ghost use Rattle.ct_sexpr.specs.View.{expression_of};
-ghost use Rattle.ct_script.specs.State.{State};
+ghost use Rattle.ct_step.specs.State.{State};
 ghost use Rattle.ct_audit.specs.Found.{Finds, is_wanted, state_where};
 ghost use Rattle.ct_audit.specs.Turn.{FindsAfter};
 

@@ -2,7 +2,7 @@
 ghost use Rattle.std.specs.Prelude.{ℕ, List, Some};
 ghost use Rattle.ct_sexpr.specs.Text.{Located, Ending};
 ghost use Rattle.ct_engine.specs.declared.verdict.Verdict.{Verdict};
-ghost use Rattle.ct_script.specs.State.{State, first_state};
+ghost use Rattle.ct_step.specs.State.{State, first_state};
 ghost use Rattle.ct_script.specs.Answers.{Answers};
 ghost use Rattle.ct_audit.specs.Found.{Finds, first_course};
 ghost use Rattle.ct_audit.specs.AtCheck.{IsAtCheck};

@@ -3,17 +3,17 @@ use Rattle.std.proofs.Common.{◌≡◌, ℕ, Bool, true, false, List, [], ◌�
 use Rattle.std.specs.Bool.{MatchBool}
 use Rattle.ct_sexpr.specs.Text.{Located, Ending, clean, EndingSoFar}
 use Rattle.ct_engine.specs.declared.verdict.Verdict.{Verdict}
-use Rattle.ct_script.specs.State.{State}
-use Rattle.ct_script.specs.Step.{Effect, Step, counted, refusal_text}
+use Rattle.ct_step.specs.State.{State}
+use Rattle.ct_step.specs.Step.{CommandEffect, Step, counted, refusal_text}
 use Rattle.ct_script.specs.Answers.{Answers, Leads, IsSilent, IsFollowed, lines_of, errors_of}
-use Rattle.ct_run.specs.SoFar.{AnswersSoFar, Outcome, ends, stands, AnswersTo, refusal}
+use Rattle.ct_run.specs.SoFar.{AnswersSoFar, TextState, ends, stands, AnswersTo, refusal}
 use Rattle.ct_run.proofs.WritingLemmas.{append_nil}
 
 pub silence : IsSilent [] [] []
 silence = record { no_verdict = refl; no_error = refl; no_line = refl }
 
 -- what follows an effect, and more after that
-followed_on : (line : ℕ) (e : Effect) (vs vs' more_vs : List Verdict) (es es' more_es : List (ℕ × ℕ)) (ls ls' more_ls : List (List ℕ)) → IsFollowed line e vs vs' es es' ls ls' → IsFollowed line e (vs ++ more_vs) (vs' ++ more_vs) (es ++ more_es) (es' ++ more_es) (ls ++ more_ls) (ls' ++ more_ls)
+followed_on : (line : ℕ) (e : CommandEffect) (vs vs' more_vs : List Verdict) (es es' more_es : List (ℕ × ℕ)) (ls ls' more_ls : List (List ℕ)) → IsFollowed line e vs vs' es es' ls ls' → IsFollowed line e (vs ++ more_vs) (vs' ++ more_vs) (es ++ more_es) (es' ++ more_es) (ls ++ more_ls) (ls' ++ more_ls)
 followed_on line e vs vs' more_vs es es' more_es ls ls' more_ls f = record {
   verdicts_are = ap (λ (xs : List Verdict). xs ++ more_vs) f.verdicts_are ∙ append_assoc e.verdicts vs' more_vs;
   errors_are = ap (λ (xs : List (ℕ × ℕ)). xs ++ more_es) f.errors_are ∙ append_assoc (errors_of line e.error) es' more_es;
@@ -21,7 +21,7 @@ followed_on line e vs vs' more_vs es es' more_es ls ls' more_ls f = record {
 }
 
 -- an effect that nothing follows
-followed_by_nothing : (line : ℕ) (e : Effect) → IsFollowed line e e.verdicts [] (errors_of line e.error) [] (lines_of e.text) []
+followed_by_nothing : (line : ℕ) (e : CommandEffect) → IsFollowed line e e.verdicts [] (errors_of line e.error) [] (lines_of e.text) []
 followed_by_nothing line e = record {
   verdicts_are = sym (append_nil e.verdicts);
   errors_are = sym (append_nil (errors_of line e.error));
@@ -68,7 +68,7 @@ Leads-after s mid last n k m (c ∷ cs) ds vs ws es fs ls ms (e, vs', es', ls', 
 )
 
 -- one command leads to the state after it
-pub Leads-one : (s : State) (n : ℕ) (c : Located) (e : Effect) → Step s n c.line c.command e → e.stop ≡ false → Leads s n (c ∷ []) e.state (counted n c.command) e.verdicts (errors_of c.line e.error) (lines_of e.text)
+pub Leads-one : (s : State) (n : ℕ) (c : Located) (e : CommandEffect) → Step s n c.line c.command e → e.stop ≡ false → Leads s n (c ∷ []) e.state (counted n c.command) e.verdicts (errors_of c.line e.error) (lines_of e.text)
 Leads-one s n c e step goes_on = (e, [], [], [], step, followed_by_nothing c.line e, goes_on, (refl, refl, silence))
 
 silent_after : (stop : Bool) (rest : Type 0) → rest → MatchBool stop (IsSilent [] [] []) rest
@@ -76,11 +76,11 @@ silent_after true rest r = silence
 silent_after false rest r = r
 
 -- one command is answered, after which there is no other
-pub Answers-one : (s : State) (n : ℕ) (c : Located) (e : Effect) → Step s n c.line c.command e → Answers s n (c ∷ []) clean e.verdicts (errors_of c.line e.error) (lines_of e.text)
+pub Answers-one : (s : State) (n : ℕ) (c : Located) (e : CommandEffect) → Step s n c.line c.command e → Answers s n (c ∷ []) clean e.verdicts (errors_of c.line e.error) (lines_of e.text)
 Answers-one s n c e step = (e, [], [], [], step, followed_by_nothing c.line e, silent_after e.stop (IsSilent [] [] []) silence)
 
 -- a command is answered that ends the script, whatever follows
-Answers-last : (s : State) (n : ℕ) (c : Located) (cs : List Located) (x : Ending) (e : Effect) → Step s n c.line c.command e → e.stop ≡ true → Answers s n (c ∷ cs) x e.verdicts (errors_of c.line e.error) (lines_of e.text)
+Answers-last : (s : State) (n : ℕ) (c : Located) (cs : List Located) (x : Ending) (e : CommandEffect) → Step s n c.line c.command e → e.stop ≡ true → Answers s n (c ∷ cs) x e.verdicts (errors_of c.line e.error) (lines_of e.text)
 Answers-last s n c cs x e step stops = (
   e,
   [],
@@ -116,7 +116,7 @@ AnswersSoFar-after s mid n k (c ∷ cs) ds x vs ws es fs ls ms (e, vs', es', ls'
       subst (λ (b : Bool). MatchBool b (IsSilent (vs' ++ ws) (es' ++ fs) (ls' ++ ms)) (AnswersSoFar e.state (counted n c.command) (cs ++ ds) x (vs' ++ ws) (es' ++ fs) (ls' ++ ms))) (sym goes_on) later,
     )
 
-AnswersSoFar-last : (s : State) (n : ℕ) (c : Located) (cs : List Located) (x : EndingSoFar) (e : Effect) → Step s n c.line c.command e → e.stop ≡ true → AnswersSoFar s n (c ∷ cs) x e.verdicts (errors_of c.line e.error) (lines_of e.text)
+AnswersSoFar-last : (s : State) (n : ℕ) (c : Located) (cs : List Located) (x : EndingSoFar) (e : CommandEffect) → Step s n c.line c.command e → e.stop ≡ true → AnswersSoFar s n (c ∷ cs) x e.verdicts (errors_of c.line e.error) (lines_of e.text)
 AnswersSoFar-last s n c cs x e step stops = (
   e,
   [],
@@ -128,10 +128,10 @@ AnswersSoFar-last s n c cs x e step stops = (
 )
 
 -- the same of a text that ends or may go on
-pub AnswersTo-after : (s mid : State) (n k : ℕ) (cs ds : List Located) (x : Outcome) (vs ws : List Verdict) (es fs : List (ℕ × ℕ)) (ls ms : List (List ℕ)) → Leads s n cs mid k vs es ls → AnswersTo mid k ds x ws fs ms → AnswersTo s n (cs ++ ds) x (vs ++ ws) (es ++ fs) (ls ++ ms)
+pub AnswersTo-after : (s mid : State) (n k : ℕ) (cs ds : List Located) (x : TextState) (vs ws : List Verdict) (es fs : List (ℕ × ℕ)) (ls ms : List (List ℕ)) → Leads s n cs mid k vs es ls → AnswersTo mid k ds x ws fs ms → AnswersTo s n (cs ++ ds) x (vs ++ ws) (es ++ fs) (ls ++ ms)
 AnswersTo-after s mid n k cs ds (ends x) vs ws es fs ls ms leads answers = Answers-after s mid n k cs ds x vs ws es fs ls ms leads answers
 AnswersTo-after s mid n k cs ds (stands x) vs ws es fs ls ms leads answers = AnswersSoFar-after s mid n k cs ds x vs ws es fs ls ms leads answers
 
-pub AnswersTo-last : (s : State) (n : ℕ) (c : Located) (cs : List Located) (x : Outcome) (e : Effect) → Step s n c.line c.command e → e.stop ≡ true → AnswersTo s n (c ∷ cs) x e.verdicts (errors_of c.line e.error) (lines_of e.text)
+pub AnswersTo-last : (s : State) (n : ℕ) (c : Located) (cs : List Located) (x : TextState) (e : CommandEffect) → Step s n c.line c.command e → e.stop ≡ true → AnswersTo s n (c ∷ cs) x e.verdicts (errors_of c.line e.error) (lines_of e.text)
 AnswersTo-last s n c cs (ends x) e step stops = Answers-last s n c cs x e step stops
 AnswersTo-last s n c cs (stands x) e step stops = AnswersSoFar-last s n c cs x e step stops

@@ -8,14 +8,14 @@ use Rattle.ct_io.specs.declared.sink.SinkError.TheVariants as sink
 use Rattle.ct_sexpr.specs.Text.{Located, Ending, clean, Reads, EndingSoFar, waiting, ReadsSoFar}
 use Rattle.ct_sexpr.specs.Unread.{Unread}
 use Rattle.ct_engine.specs.declared.verdict.Verdict.{Verdict}
-use Rattle.ct_script.specs.State.{first_state}
+use Rattle.ct_step.specs.State.{first_state}
 use Rattle.ct_script.specs.Session.{Course}
 use Rattle.ct_script.specs.Answers.{Answers, Leads}
 use Rattle.ct_run.specs.declared.turn.Ending.{Ending as Ended}
 use Rattle.ct_run.specs.declared.turn.Ending.TheVariants as ended
 use Rattle.ct_input.specs.Slot.{head, IsReadWhole, IsReadInPart, IsReadOf}
 use Rattle.ct_run.specs.Output.{IsLeft}
-use Rattle.ct_run.specs.SoFar.{Outcome, ends, stands, Has, AnswersTo, refusal}
+use Rattle.ct_run.specs.SoFar.{TextState, ends, stands, HasReadSoFar, AnswersTo, refusal}
 use Rattle.ct_run.specs.Progress.{Progress, progress, WentOn, CameToEnd, EndsWith, BrokeOff}
 use Rattle.ct_run.specs.Refusal.{status_of_error, status_of_script, refusal_line, IsRefused, IsConcluded}
 use Rattle.ct_run.specs.Run.{IsAnswered, IsAnsweredSoFar, Finishes, Solves}
@@ -75,7 +75,7 @@ module _ (bytes : List ℕ) (u : Unread) (of : IsReadOf bytes u) (old : Option (
   start = progress first_course u old
 
   -- the script is answered to its end, as it ends or so far
-  answered_by : (cs : List Located) (x : Outcome) (vs : List Verdict) (es : List (ℕ × ℕ)) (ls : List (List ℕ)) → Has u cs x → AnswersTo first_state 0 cs x vs es ls → IsAnswered bytes vs es ls
+  answered_by : (cs : List Located) (x : TextState) (vs : List Verdict) (es : List (ℕ × ℕ)) (ls : List (List ℕ)) → HasReadSoFar u cs x → AnswersTo first_state 0 cs x vs es ls → IsAnswered bytes vs es ls
   answered_by cs (ends x) vs es ls (ended, reads) answers =
       let w = whole bytes u of ended in
       inl (record { short = w.has.short; commands = cs; ending = x; read = read_all bytes u of.line w cs x reads; answered = answers })
@@ -84,7 +84,7 @@ module _ (bytes : List ℕ) (u : Unread) (of : IsReadOf bytes u) (old : Option (
       inr (record { long = w.has.long; commands = cs; so_far = x; read = read_head bytes u of.line w cs x reads; answered = answers })
 
   -- its first commands are answered
-  begun_by : (cs ds : List Located) (x : Outcome) (vs : List Verdict) (es : List (ℕ × ℕ)) (ls : List (List ℕ)) → Has u (cs ++ ds) x → Answers first_state 0 cs clean vs es ls → IsAnsweredSoFar bytes vs es ls
+  begun_by : (cs ds : List Located) (x : TextState) (vs : List Verdict) (es : List (ℕ × ℕ)) (ls : List (List ℕ)) → HasReadSoFar u (cs ++ ds) x → Answers first_state 0 cs clean vs es ls → IsAnsweredSoFar bytes vs es ls
   begun_by cs ds (ends x) vs es ls (ended, reads) answers =
       let w = whole bytes u of ended in
       inl (record { short = w.has.short; commands = cs; rest = ds; ending = x; read = read_all bytes u of.line w (cs ++ ds) x reads; answered = answers })
@@ -103,9 +103,9 @@ module _ (bytes : List ℕ) (u : Unread) (of : IsReadOf bytes u) (old : Option (
   })
 
   -- the script goes on beyond what was read of it
-  pub Solves-cut : (now : Progress) → WentOn start now → Has now.unread [] (stands waiting) → Solves bytes status.TooLong now.course.verdicts now.course.errors old now.written
+  pub Solves-cut : (now : Progress) → WentOn start now → HasReadSoFar now.unread [] (stands waiting) → Solves bytes status.TooLong now.course.verdicts now.course.errors old now.written
   Solves-cut now went waits =
-      let has : Has u (went.commands ++ []) (stands waiting) = went.read [] (stands waiting) waits in
+      let has : HasReadSoFar u (went.commands ++ []) (stands waiting) = went.read [] (stands waiting) waits in
       let w = in_part bytes u of has.0 in
       record {
         long = w.has.long;
@@ -133,7 +133,7 @@ module _ (bytes : List ℕ) (u : Unread) (of : IsReadOf bytes u) (old : Option (
       broke.left
 
   -- the script ends with an error of its text
-  module _ (now : Progress) (error : ℕ × ℕ) (went : WentOn start now) (stopped : Has now.unread [] (refusal now.unread.ended error)) where
+  module _ (now : Progress) (error : ℕ × ℕ) (went : WentOn start now) (stopped : HasReadSoFar now.unread [] (refusal now.unread.ended error)) where
     reported : (errors : List (ℕ × ℕ)) → errors ≡ now.course.errors ++ error ∷ [] → IsAnswered bytes now.course.verdicts errors (went.lines ++ refusal_line error)
     reported errors is = answered_by (went.commands ++ []) (refusal now.unread.ended error) now.course.verdicts errors (went.lines ++ refusal_line error)
         (went.read [] (refusal now.unread.ended error) stopped)
@@ -193,13 +193,13 @@ module _ (bytes : List ℕ) (u : Unread) (of : IsReadOf bytes u) (old : Option (
       same_report (status_of_error e) s now.course.verdicts vs now.course.errors es now.written is same_verdicts same_errors
       (Solves-broke bytes u of old e now (subst (λ (c : Course). BrokeOff e (progress c u old) now) fresh broke))
 
-  pub report_refused : (now : Progress) (error : ℕ × ℕ) (s : Status) (vs : List Verdict) (stored es : List (ℕ × ℕ)) (new : Option (List ℕ)) → vs ≡ now.course.verdicts → stored ≡ now.course.errors → IsRefused error s stored es now.written new → WentOn (progress session u old) now × Has now.unread [] (refusal now.unread.ended error) → Solves bytes s vs es old new
+  pub report_refused : (now : Progress) (error : ℕ × ℕ) (s : Status) (vs : List Verdict) (stored es : List (ℕ × ℕ)) (new : Option (List ℕ)) → vs ≡ now.course.verdicts → stored ≡ now.course.errors → IsRefused error s stored es now.written new → WentOn (progress session u old) now × HasReadSoFar now.unread [] (refusal now.unread.ended error) → Solves bytes s vs es old new
   report_refused now error s vs stored es new same_verdicts same_errors refused stopped =
       same_report s s now.course.verdicts vs es es new refl same_verdicts refl
       (Solves-refused bytes u of old now error (subst (λ (c : Course). WentOn (progress c u old) now) fresh stopped.0) stopped.1 s es new
       (subst (λ (errors : List (ℕ × ℕ)). IsRefused error s errors es now.written new) same_errors refused))
 
-  pub report_cut : (now : Progress) (s : Status) (vs : List Verdict) (es : List (ℕ × ℕ)) → s ≡ status.TooLong → vs ≡ now.course.verdicts → es ≡ now.course.errors → WentOn (progress session u old) now × Has now.unread [] (stands waiting) → Solves bytes s vs es old now.written
+  pub report_cut : (now : Progress) (s : Status) (vs : List Verdict) (es : List (ℕ × ℕ)) → s ≡ status.TooLong → vs ≡ now.course.verdicts → es ≡ now.course.errors → WentOn (progress session u old) now × HasReadSoFar now.unread [] (stands waiting) → Solves bytes s vs es old now.written
   report_cut now s vs es is same_verdicts same_errors cut =
       same_report status.TooLong s now.course.verdicts vs now.course.errors es now.written is same_verdicts same_errors
       (Solves-cut bytes u of old now (subst (λ (c : Course). WentOn (progress c u old) now) fresh cut.0) cut.1)

@@ -7,20 +7,20 @@ use Rattle.ct_sexpr.specs.Text.{Located, Ending, clean, Reads, EndingSoFar, refu
 use Rattle.ct_sexpr.specs.Unread.{Unread}
 use Rattle.ct_sexpr.specs.Answer.{IsFirstCommand, IsLast}
 use Rattle.ct_engine.specs.declared.verdict.Verdict.{Verdict}
-use Rattle.ct_script.specs.Step.{Effect}
+use Rattle.ct_step.specs.Step.{CommandEffect}
 use Rattle.ct_script.specs.Session.{Course}
 use Rattle.ct_script.specs.Answers.{Leads, lines_of, errors_of}
 use Rattle.ct_run.specs.Output.{wrote, IsLeft}
-use Rattle.ct_run.specs.SoFar.{Outcome, ends, stands, Has, refusal}
+use Rattle.ct_run.specs.SoFar.{TextState, ends, stands, HasReadSoFar, refusal}
 use Rattle.ct_run.specs.Progress.{Progress, AnsweredWith, IsUnanswered, IsCutOff, Adds, WentOn, CameToEnd, BrokeOff}
 use Rattle.ct_run.proofs.WritingLemmas.{append_nil, appended-nothing, nothing_written, wrote-later, IsLeft-later}
 use Rattle.ct_run.proofs.AnswerLemmas.{silence, Answers-after, Leads-after, Leads-one, Answers-one, Answers-none, AnswersTo-after, AnswersTo-last}
 
 -- what a reader was fed has some reading
 abbrev pub SomeReading : Type 0
-SomeReading = (u : Unread) → (cs : List Located) × (x : Outcome) × Has u cs x
+SomeReading = (u : Unread) → (cs : List Located) × (x : TextState) × HasReadSoFar u cs x
 
-some_reading_where : ((line : ℕ) (bytes : List ℕ) → (cs : List Located) × (x : Ending) × Reads line bytes cs x) → ((line : ℕ) (bytes : List ℕ) → (cs : List Located) × (x : EndingSoFar) × ReadsSoFar line bytes cs x) → (u : Unread) (b : Bool) → u.ended ≡ b → (cs : List Located) × (x : Outcome) × Has u cs x
+some_reading_where : ((line : ℕ) (bytes : List ℕ) → (cs : List Located) × (x : Ending) × Reads line bytes cs x) → ((line : ℕ) (bytes : List ℕ) → (cs : List Located) × (x : EndingSoFar) × ReadsSoFar line bytes cs x) → (u : Unread) (b : Bool) → u.ended ≡ b → (cs : List Located) × (x : TextState) × HasReadSoFar u cs x
 some_reading_where whole so_far u true ended = let r = whole u.line u.bytes in (r.0, ends r.1, (ended, r.2))
 some_reading_where whole so_far u false ended = let r = so_far u.line u.bytes in (r.0, stands r.1, (ended, r.2))
 
@@ -28,14 +28,14 @@ pub some_reading : ((line : ℕ) (bytes : List ℕ) → (cs : List Located) × (
 some_reading whole so_far u = some_reading_where whole so_far u u.ended refl
 
 -- an error of the text alone is how it ends, or how it stands so far
-refused_where : (u : Unread) (code line : ℕ) → IsLast u code line → (b : Bool) → u.ended ≡ b → Has u [] (refusal b (line, code))
+refused_where : (u : Unread) (code line : ℕ) → IsLast u code line → (b : Bool) → u.ended ≡ b → HasReadSoFar u [] (refusal b (line, code))
 refused_where u code line last true ended = (ended, last.ended)
 refused_where u code line last false ended = (
   ended,
   subst (λ (b : List ℕ). ReadsSoFar u.line b [] (refused code line)) (append_nil u.bytes) (last.so_far (last.definite ended) []),
 )
 
-pub refused_text : (u : Unread) (code line : ℕ) → IsLast u code line → Has u [] (refusal u.ended (line, code))
+pub refused_text : (u : Unread) (code line : ℕ) → IsLast u code line → HasReadSoFar u [] (refusal u.ended (line, code))
 refused_text u code line last = refused_where u code line last u.ended refl
 
 -- nothing was added yet
@@ -50,7 +50,7 @@ adds_more old mid new vs ws es fs first second = record {
 }
 
 -- what an effect adds
-adds_effect : (old new : Course) (line : ℕ) (e : Expression) (effect : Effect) → AnsweredWith old new line e effect → Adds old new effect.verdicts (errors_of line effect.error)
+adds_effect : (old new : Course) (line : ℕ) (e : Expression) (effect : CommandEffect) → AnsweredWith old new line e effect → Adds old new effect.verdicts (errors_of line effect.error)
 adds_effect old new line e effect answered = record {
   verdicts_are = ap (λ (c : Course). c.verdicts) answered.course;
   errors_are = ap (λ (c : Course). c.errors) answered.course;
@@ -70,7 +70,7 @@ WentOn-start p = record {
 }
 
 -- what a reader was fed is read: its first command, and then the others
-first_read : (u v : Unread) (first : Located) → IsFirstCommand u v first → v.ended ≡ u.ended → (cs : List Located) (x : Outcome) → Has v cs x → Has u (first ∷ cs) x
+first_read : (u v : Unread) (first : Located) → IsFirstCommand u v first → v.ended ≡ u.ended → (cs : List Located) (x : TextState) → HasReadSoFar v cs x → HasReadSoFar u (first ∷ cs) x
 first_read u v first is same cs (ends x) (ended, reads) = (
   sym same ∙ ended,
   subst (λ (b : List ℕ). Reads u.line b (first ∷ cs) x) (append_nil u.bytes)
@@ -84,7 +84,7 @@ first_read u v first is same cs (stands x) (goes_on, reads) = (
 
 module _ (old mid : Progress) (went : WentOn old mid) where
   -- nothing is left of the text
-  pub ends_there : (new : Course) → new ≡ mid.course → Has mid.unread [] (ends clean) → (unread : Unread) → CameToEnd old (record { course = new; unread = unread; written = mid.written })
+  pub ends_there : (new : Course) → new ≡ mid.course → HasReadSoFar mid.unread [] (ends clean) → (unread : Unread) → CameToEnd old (record { course = new; unread = unread; written = mid.written })
   ends_there new same reads unread = record {
     commands = went.commands ++ [];
     outcome = ends clean;
@@ -108,13 +108,13 @@ module _ (old mid : Progress) (went : WentOn old mid) where
         verdicts = went.verdicts ++ [];
         errors = went.errors ++ [];
         lines = went.lines ++ [];
-        read = subst (λ (cs : List Located). Has old.unread (cs ++ rest.0) rest.1) (sym (append_nil went.commands)) (went.read rest.0 rest.1 rest.2);
+        read = subst (λ (cs : List Located). HasReadSoFar old.unread (cs ++ rest.0) rest.1) (sym (append_nil went.commands)) (went.read rest.0 rest.1 rest.2);
         answered = Answers-after old.course.state mid.course.state old.course.number mid.course.number went.commands [] clean went.verdicts [] went.errors [] went.lines [] went.answered (Answers-none mid.course.state mid.course.number);
         adds = adds_more old.course mid.course new went.verdicts [] went.errors [] went.adds (subst (λ (c : Course). Adds mid.course c [] []) (sym same) (adds_nothing mid.course));
         left = IsLeft-later sink.NoMemory went.lines [] old.written mid.written now went.written (nothing_written [] mid.written now unwritten);
       }
 
-  module _ (new : Progress) (first : Located) (is : IsFirstCommand mid.unread new.unread first) (same : new.unread.ended ≡ mid.unread.ended) (effect : Effect) (done : AnsweredWith mid.course new.course first.line first.command effect) where
+  module _ (new : Progress) (first : Located) (is : IsFirstCommand mid.unread new.unread first) (same : new.unread.ended ≡ mid.unread.ended) (effect : CommandEffect) (done : AnsweredWith mid.course new.course first.line first.command effect) where
     adds_all : Adds old.course new.course (went.verdicts ++ effect.verdicts) (went.errors ++ errors_of first.line effect.error)
     adds_all = adds_more old.course mid.course new.course went.verdicts effect.verdicts went.errors (errors_of first.line effect.error) went.adds (adds_effect mid.course new.course first.line first.command effect done)
 
@@ -126,7 +126,7 @@ module _ (old mid : Progress) (went : WentOn old mid) where
       errors = went.errors ++ errors_of first.line effect.error;
       lines = went.lines ++ lines_of effect.text;
       read = λ cs x reads.
-          subst (λ (ds : List Located). Has old.unread ds x) (sym (append_assoc went.commands (first ∷ []) cs))
+          subst (λ (ds : List Located). HasReadSoFar old.unread ds x) (sym (append_assoc went.commands (first ∷ []) cs))
           (went.read (first ∷ cs) x (first_read mid.unread new.unread first is same cs x reads));
       answered = Leads-after old.course.state mid.course.state new.course.state old.course.number mid.course.number new.course.number went.commands (first ∷ []) went.verdicts effect.verdicts went.errors (errors_of first.line effect.error) went.lines (lines_of effect.text) went.answered
           (subst (λ (c : Course). Leads mid.course.state mid.course.number (first ∷ []) c.state c.number effect.verdicts (errors_of first.line effect.error) (lines_of effect.text)) (sym done.course)
@@ -164,7 +164,7 @@ module _ (old mid : Progress) (went : WentOn old mid) where
           errors = went.errors ++ errors_of first.line effect.error;
           lines = went.lines ++ lines_of effect.text;
           read =
-              subst (λ (ds : List Located). Has old.unread ds rest.1) (sym (append_assoc went.commands (first ∷ []) rest.0))
+              subst (λ (ds : List Located). HasReadSoFar old.unread ds rest.1) (sym (append_assoc went.commands (first ∷ []) rest.0))
               (went.read (first ∷ rest.0) rest.1 (first_read mid.unread new.unread first is same rest.0 rest.1 rest.2));
           answered = Answers-after old.course.state mid.course.state old.course.number mid.course.number went.commands (first ∷ []) clean went.verdicts effect.verdicts went.errors (errors_of first.line effect.error) went.lines (lines_of effect.text) went.answered
               (Answers-one mid.course.state mid.course.number first effect done.step);

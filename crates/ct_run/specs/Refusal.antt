@@ -5,7 +5,7 @@ use Rattle.ct_io.specs.declared.sink.SinkError.TheVariants as sink
 use Rattle.ct_io.specs.declared.status.Status.{Status}
 use Rattle.ct_io.specs.declared.status.Status.TheVariants as status
 use Rattle.ct_script.specs.Answers.{lines_of}
-use Rattle.ct_script.specs.Step.{refusal_text}
+use Rattle.ct_step.specs.Step.{refusal_text}
 use Rattle.ct_run.specs.declared.turn.Ending.{Ending}
 use Rattle.ct_run.specs.declared.turn.Ending.TheVariants as ended
 use Rattle.ct_run.specs.Output.{wrote, IsLeft}

@@ -7,7 +7,7 @@ use Rattle.ct_io.specs.declared.status.Status.TheVariants.{Done, Refused, Usage,
 use Rattle.ct_sexpr.specs.Text.{Located, Ending, clean, Reads, EndingSoFar, waiting, ReadsSoFar}
 use Rattle.ct_input.specs.Slot.{most_bytes, head}
 use Rattle.ct_engine.specs.declared.verdict.Verdict.{Verdict}
-use Rattle.ct_script.specs.State.{State, first_state}
+use Rattle.ct_step.specs.State.{State, first_state}
 use Rattle.ct_script.specs.Answers.{Answers, Leads}
 use Rattle.ct_run.specs.Output.{wrote, BreaksInLine, usage_line}
 use Rattle.ct_run.specs.SoFar.{AnswersSoFar}

@@ -4,8 +4,8 @@ use Rattle.std.specs.Bool.{MatchBool}
 use Rattle.ct_sexpr.specs.Text.{Located, Ending, lexical, Reads, EndingSoFar, waiting, refused, ReadsSoFar}
 use Rattle.ct_sexpr.specs.Unread.{Unread}
 use Rattle.ct_engine.specs.declared.verdict.Verdict.{Verdict}
-use Rattle.ct_script.specs.State.{State}
-use Rattle.ct_script.specs.Step.{Effect, Step, counted}
+use Rattle.ct_step.specs.State.{State}
+use Rattle.ct_step.specs.Step.{CommandEffect, Step, counted}
 use Rattle.ct_script.specs.Answers.{Answers, IsSilent, IsFollowed, IsEnding}
 
 -- as `Answers`, of a text that may go on: all of it is answered only where a command ends the script, or an error is definite
@@ -13,26 +13,26 @@ abbrev pub AnswersSoFar : State → ℕ → List Located → EndingSoFar → Lis
 AnswersSoFar s number [] waiting verdicts errors lines = ⊥
 AnswersSoFar s number [] (refused code line) verdicts errors lines = IsEnding (lexical code line) verdicts errors lines
 AnswersSoFar s number (c ∷ cs) so_far verdicts errors lines =
-    (e : Effect) × (later_verdicts : List Verdict) × (later_errors : List (ℕ × ℕ)) × (later_lines : List (List ℕ))
+    (e : CommandEffect) × (later_verdicts : List Verdict) × (later_errors : List (ℕ × ℕ)) × (later_lines : List (List ℕ))
     × Step s number c.line c.command e × IsFollowed c.line e verdicts later_verdicts errors later_errors lines later_lines
     × MatchBool e.stop (IsSilent later_verdicts later_errors later_lines) (AnswersSoFar e.state (counted number c.command) cs so_far later_verdicts later_errors later_lines)
 
 -- how a text stands, which ends or may go on
-pub data Outcome : Type 0 where
-  ends : Ending → Outcome
-  stands : EndingSoFar → Outcome
+pub data TextState : Type 0 where
+  ends : Ending → TextState
+  stands : EndingSoFar → TextState
 
 -- what a reader was fed has these commands, and stands so after them: as it ends, where the input has ended, and else so far
-abbrev pub Has : Unread → List Located → Outcome → Type 0
-Has u cs (ends x) = (u.ended ≡ true) × Reads u.line u.bytes cs x
-Has u cs (stands x) = (u.ended ≡ false) × ReadsSoFar u.line u.bytes cs x
+abbrev pub HasReadSoFar : Unread → List Located → TextState → Type 0
+HasReadSoFar u cs (ends x) = (u.ended ≡ true) × Reads u.line u.bytes cs x
+HasReadSoFar u cs (stands x) = (u.ended ≡ false) × ReadsSoFar u.line u.bytes cs x
 
 -- the answers to these commands and this outcome
-abbrev pub AnswersTo : State → ℕ → List Located → Outcome → List Verdict → List (ℕ × ℕ) → List (List ℕ) → Type 0
+abbrev pub AnswersTo : State → ℕ → List Located → TextState → List Verdict → List (ℕ × ℕ) → List (List ℕ) → Type 0
 AnswersTo s number cs (ends x) verdicts errors lines = Answers s number cs x verdicts errors lines
 AnswersTo s number cs (stands x) verdicts errors lines = AnswersSoFar s number cs x verdicts errors lines
 
 -- the outcome of a text that is refused at this error, by its line and its number, where the input has ended or not
-abbrev pub refusal : Bool → ℕ × ℕ → Outcome
+abbrev pub refusal : Bool → ℕ × ℕ → TextState
 refusal true error = ends (lexical error.1 error.0)
 refusal false error = stands (refused error.1 error.0)

@@ -3,7 +3,7 @@ ghost use Rattle.std.specs.Prelude.{◌≡◌, ◌⊎◌, IfOk, OnOk, IfErr};
 ghost use Rattle.ct_io.specs.Fault.{HasCause};
 ghost use Rattle.ct_sexpr.specs.View.{expression_of};
 ghost use Rattle.ct_script.specs.Answers.{lines_of};
-ghost use Rattle.ct_script.specs.Step.{Effect};
+ghost use Rattle.ct_step.specs.Step.{CommandEffect};
 ghost use Rattle.ct_run.specs.Output.{wrote, IsLeft};
 ghost use Rattle.ct_run.specs.Progress.{AnsweredWith, IsUnanswered, IsCutOff};
 
@@ -18,7 +18,7 @@ pub fn answer<K: Sink>(
     expr: &Sexpr,
     out: &mut K,
 ) -> Result<bool, SinkError>
-    ensures answered { IfOk result (λ stop. (e : Effect) × AnsweredWith session.old session.new line (expression_of expr.now) e
+    ensures answered { IfOk result (λ stop. (e : CommandEffect) × AnsweredWith session.old session.new line (expression_of expr.now) e
         × (stop ≡ e.stop) × (K.written out.new ≡ wrote (lines_of e.text) (K.written out.old))) }
     ensures broke { IfErr result (λ error. IsUnanswered error session.old session.new (K.written out.old) (K.written out.new)
         ⊎ IsCutOff error session.old session.new line (expression_of expr.now) (K.written out.old) (K.written out.new)) }

@@ -1,11 +1,3 @@
-pub mod AnswerLemmas
-pub mod ListLemmas
-pub mod CauseLemmas
-pub mod VerdictLemmas
-pub mod CheckLemmas
-pub mod DoneLemmas
-pub mod SoundLemmas
-pub mod AskLemmas
 pub mod SessionLemmas
 pub mod CourseLemmas
 pub mod ReplayLemmas

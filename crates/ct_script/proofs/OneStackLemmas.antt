@@ -14,31 +14,31 @@ use Rattle.ct_stack.specs.Stack.{Stack, declaring, in_context, asserting, define
 use Rattle.ct_stack.specs.Outcomes.{Gives}
 use Rattle.ct_stack.specs.Elaborations.{declared_function, defined_function, asserted_formula}
 use Rattle.ct_stack.specs.Values.{AreValues}
-use Rattle.ct_script.specs.declared.options.Options.{Options}
+use Rattle.ct_step.specs.declared.options.Options.{Options}
 use Rattle.ct_script.specs.declared.replay.Replayed.{Replayed}
-use Rattle.ct_script.specs.State.{State, Kept, declared, context_of, changed, model_kept, derivation_kept}
-use Rattle.ct_script.specs.Refusal.{IsRefusal}
-use Rattle.ct_script.specs.Step.{Effect, Does, Steps, said, quiet, Step, counted, counted_by, one_more}
+use Rattle.ct_step.specs.State.{State, Kept, declared, context_of, changed, model_kept, derivation_kept}
+use Rattle.ct_step.specs.Refusal.{IsRefusal}
+use Rattle.ct_step.specs.Step.{CommandEffect, Does, Steps, said, quiet, Step, counted, counted_by, one_more}
 use Rattle.ct_script.specs.Answers.{Answers, Leads, IsSilent, IsFollowed, errors_of, lines_of}
 use Rattle.ct_script.specs.Session.{Course}
 use Rattle.ct_script.specs.Replay.{is_check, IsCounted, IsStepped, Replays, GoesThrough, HaveOneStack, AnswersThrough}
-use Rattle.ct_script.proofs.SoundLemmas.{only_of}
+use Rattle.ct_step.proofs.SoundLemmas.{only_of}
 
 -- both effects leave one stack and the same options, and both end the script, or neither
-abbrev pub AreAlike : Effect → Effect → Type 0
+abbrev pub AreAlike : CommandEffect → CommandEffect → Type 0
 AreAlike e f = HaveOneStack e.state f.state × (f.stop ≡ e.stop)
 
 -- the effect leaves the stack and the options, and the script goes on
-abbrev pub Rests : State → Effect → Type 0
+abbrev pub Rests : State → CommandEffect → Type 0
 Rests s e = HaveOneStack s e.state × (e.stop ≡ false)
 
 -- what equals alike effects is alike
-alike : {a b : Effect} (e f : Effect) → e ≡ a → f ≡ b → b.state.stack ≡ a.state.stack → b.state.options ≡ a.state.options → b.stop ≡ a.stop → AreAlike e f
+alike : {a b : CommandEffect} (e f : CommandEffect) → e ≡ a → f ≡ b → b.state.stack ≡ a.state.stack → b.state.options ≡ a.state.options → b.stop ≡ a.stop → AreAlike e f
 alike {a = a} {b = b} e f is same stack options stop =
-    subst (λ (x : Effect). AreAlike x f) (sym is) (subst (λ (y : Effect). AreAlike a y) (sym same) (record { stack = stack; options = options }, stop))
+    subst (λ (x : CommandEffect). AreAlike x f) (sym is) (subst (λ (y : CommandEffect). AreAlike a y) (sym same) (record { stack = stack; options = options }, stop))
 
 -- what equals an effect that rests does so too
-rests : {a : Effect} (s : State) (e : Effect) → e ≡ a → a.state.stack ≡ s.stack → a.state.options ≡ s.options → a.stop ≡ false → Rests s e
+rests : {a : CommandEffect} (s : State) (e : CommandEffect) → e ≡ a → a.state.stack ≡ s.stack → a.state.options ≡ s.options → a.stop ≡ false → Rests s e
 rests s e is stack options stop = subst (Rests s) (sym is) (record { stack = stack; options = options }, stop)
 
 -- the command only asks for something, or is a check
@@ -50,7 +50,7 @@ asks get_proof = true
 asks c = false
 
 -- then it leaves the stack and the options
-done_rests : (s : State) (number : ℕ) (c : Command) (e : Effect) → asks c ≡ true → Does s number c e → Rests s e
+done_rests : (s : State) (number : ℕ) (c : Command) (e : CommandEffect) → asks c ≡ true → Does s number c e → Rests s e
 done_rests s number check_sat e asking is = rests s e is.2 refl refl refl
 done_rests s number get_model e asking is = only_of (model_kept s.kept) (λ i. (text : List ℕ) × IsModelText (declared s) i text × (e ≡ said s text)) (Rests s e) (λ i h. rests s e h.2 refl refl refl) is
 done_rests s number (get_value ts) e asking is = only_of (model_kept s.kept) (λ i. (text : List ℕ) × AreValues (context_of s) i ts text × (e ≡ said s text)) (Rests s e) (λ i h. rests s e h.2 refl refl refl) is
@@ -58,7 +58,7 @@ done_rests s number get_proof e asking is = only_of (derivation_kept s.kept) (λ
 done_rests s number c e asking is = absurd (true≢false (sym asking))
 
 -- where it is refused too
-asking_rests : (s : State) (number line : ℕ) (c : Command) (e : Effect) → asks c ≡ true → Steps s number line (Ok c) e → Rests s e
+asking_rests : (s : State) (number line : ℕ) (c : Command) (e : CommandEffect) → asks c ≡ true → Steps s number line (Ok c) e → Rests s e
 asking_rests s number line c e asking (inl h) = rests s e h.2 refl refl refl
 asking_rests s number line c e asking (inr h) = done_rests s number c e asking h.1
 
@@ -72,12 +72,12 @@ module _ (s : State) (kept : Option Kept) where
   refused_too c n other h = h
 
   -- a stack that is formed
-  formed : {X : Type 0} (o : Outcome X) (stack : X → Stack) (e f : Effect) → Gives o (λ x. e ≡ quiet (changed s (stack x))) → Gives o (λ x. f ≡ quiet (changed s (stack x))) → AreAlike e f
+  formed : {X : Type 0} (o : Outcome X) (stack : X → Stack) (e f : CommandEffect) → Gives o (λ x. e ≡ quiet (changed s (stack x))) → Gives o (λ x. f ≡ quiet (changed s (stack x))) → AreAlike e f
   formed (Ok x) stack e f is same = alike e f is same refl refl refl
   formed (Err n) stack e f is same = absurd is
 
   -- and does the same
-  done_alike : (number count : ℕ) (c : Command) (e f : Effect) → asks c ≡ false → Does s number c e → Does (record s { kept = kept }) count c f → AreAlike e f
+  done_alike : (number count : ℕ) (c : Command) (e f : CommandEffect) → asks c ≡ false → Does s number c e → Does (record s { kept = kept }) count c f → AreAlike e f
   done_alike number count (declare_fun name args sort) e f other is same = formed (declared_function (declared s) name args sort) (λ x. declaring s.stack (with_function (declared s) x)) e f is same
   done_alike number count (define_fun name params sort t) e f other is same = formed (defined_function (declared s) name params sort t) (λ x. in_context s.stack (defined_in (context_of s) x)) e f is same
   done_alike number count (assert t) e f other is same = formed (asserted_formula (declared s) t) (asserting s.stack) e f is same
@@ -88,23 +88,23 @@ module _ (s : State) (kept : Option Kept) where
   done_alike number count c e f other is same = alike e f is same refl refl refl
 
 -- so it does where it is refused too
-other_alike : (s : State) (kept : Option Kept) (number count line : ℕ) (c : Command) (e f : Effect) → asks c ≡ false → Steps s number line (Ok c) e → Steps (record s { kept = kept }) count line (Ok c) f → AreAlike e f
+other_alike : (s : State) (kept : Option Kept) (number count line : ℕ) (c : Command) (e f : CommandEffect) → asks c ≡ false → Steps s number line (Ok c) e → Steps (record s { kept = kept }) count line (Ok c) f → AreAlike e f
 other_alike s kept number count line c e f other (inl h) (inl k) = alike e f h.2 k.2 refl refl refl
 other_alike s kept number count line c e f other (inl h) (inr k) = absurd (k.0 h.0 (refused_too s kept c h.0 other h.1))
 other_alike s kept number count line c e f other (inr h) (inl k) = absurd (h.0 k.0 (refused_too (record s { kept = kept }) s.kept c k.0 other k.1))
 other_alike s kept number count line c e f other (inr h) (inr k) = done_alike s kept number count c e f other h.1 k.1
 
 -- effects that rest are alike
-resting : (s : State) (kept : Option Kept) (e f : Effect) → Rests s e → Rests (record s { kept = kept }) f → AreAlike e f
+resting : (s : State) (kept : Option Kept) (e f : CommandEffect) → Rests s e → Rests (record s { kept = kept }) f → AreAlike e f
 resting s kept e f h k = (record { stack = k.0.stack ∙ sym h.0.stack; options = k.0.options ∙ sym h.0.options }, k.1 ∙ sym h.1)
 
 -- a command, whether it asks or not
-command_alike : (s : State) (kept : Option Kept) (number count line : ℕ) (c : Command) (e f : Effect) (asking : Bool) → asks c ≡ asking → Steps s number line (Ok c) e → Steps (record s { kept = kept }) count line (Ok c) f → AreAlike e f
+command_alike : (s : State) (kept : Option Kept) (number count line : ℕ) (c : Command) (e f : CommandEffect) (asking : Bool) → asks c ≡ asking → Steps s number line (Ok c) e → Steps (record s { kept = kept }) count line (Ok c) f → AreAlike e f
 command_alike s kept number count line c e f true is h k = resting s kept e f (asking_rests s number line c e is h) (asking_rests (record s { kept = kept }) count line c f is k)
 command_alike s kept number count line c e f false is h k = other_alike s kept number count line c e f is h k
 
 -- what was read, whether it is a command or not
-read_alike : (s : State) (kept : Option Kept) (number count line : ℕ) (read : Read) (e f : Effect) → Steps s number line read e → Steps (record s { kept = kept }) count line read f → AreAlike e f
+read_alike : (s : State) (kept : Option Kept) (number count line : ℕ) (read : Read) (e f : CommandEffect) → Steps s number line read e → Steps (record s { kept = kept }) count line read f → AreAlike e f
 read_alike s kept number count line (Err n) e f h k = alike e f h k refl refl refl
 read_alike s kept number count line (Ok c) e f h k = command_alike s kept number count line c e f (asks c) refl h k
 
@@ -116,7 +116,7 @@ same_but_kept s t one = sym (
     )
 
 -- one stack and one list of options lead to one stack and one list of options
-pub steps_alike : (s t : State) (number count line : ℕ) (read : Read) (e f : Effect) → HaveOneStack s t → Steps s number line read e → Steps t count line read f → HaveOneStack e.state f.state × (f.stop ≡ e.stop)
+pub steps_alike : (s t : State) (number count line : ℕ) (read : Read) (e f : CommandEffect) → HaveOneStack s t → Steps s number line read e → Steps t count line read f → HaveOneStack e.state f.state × (f.stop ≡ e.stop)
 steps_alike s t number count line read e f one h k =
     read_alike s t.kept number count line read e f h (subst (λ (x : State). Steps x count line read f) (sym (same_but_kept s t one)) k)
 
@@ -126,12 +126,12 @@ check_asks check_sat check = refl
 check_asks c check = absurd (true≢false (sym check))
 
 -- so it leaves the stack and the options
-pub check_rests : (s : State) (number line : ℕ) (read : Read) (e : Effect) → is_check read ≡ true → Steps s number line read e → HaveOneStack s e.state × (e.stop ≡ false)
+pub check_rests : (s : State) (number line : ℕ) (read : Read) (e : CommandEffect) → is_check read ≡ true → Steps s number line read e → HaveOneStack s e.state × (e.stop ≡ false)
 check_rests s number line (Err n) e check h = absurd (true≢false (sym check))
 check_rests s number line (Ok c) e check h = asking_rests s number line c e (check_asks c check) h
 
 -- what is read is replayed beside its step
-module _ (s : State) (number : ℕ) (old new : Course) (line : ℕ) (read : Read) (e : Effect) (r : Replayed) (one : HaveOneStack s old.state) (steps : Steps s number line read e) where
+module _ (s : State) (number : ℕ) (old new : Course) (line : ℕ) (read : Read) (e : CommandEffect) (r : Replayed) (one : HaveOneStack s old.state) (steps : Steps s number line read e) where
   replayed_by : (check : Bool) → is_check read ≡ check → MatchBool check (IsCounted old new r) (IsStepped old line read new r) → HaveOneStack e.state new.state × (r.stop ≡ e.stop)
   replayed_by true check (is, checked, stop) =
       let rest : Rests s e = check_rests s number line read e check steps in
@@ -196,7 +196,7 @@ leads_counted s last number count (c ∷ cs) verdicts errors lines old new (e, v
     (replayed_counted old next c.line (command c.command) r replays ∙ ap (λ (n : ℕ). counted_by n (command c.command)) same)
 
 -- answers through the commands after one that does not end the script
-through_one : (s : State) (number : ℕ) (c : Located) (first others : List Located) (ending : Ending) (verdicts vs : List Verdict) (errors es : List (ℕ × ℕ)) (lines ls : List (List ℕ)) (e : Effect) (last : State) (count : ℕ) → Step s number c.line c.command e → IsFollowed c.line e verdicts vs errors es lines ls → e.stop ≡ false → AnswersThrough e.state (counted number c.command) first others ending vs es ls last count → AnswersThrough s number (c ∷ first) others ending verdicts errors lines last count
+through_one : (s : State) (number : ℕ) (c : Located) (first others : List Located) (ending : Ending) (verdicts vs : List Verdict) (errors es : List (ℕ × ℕ)) (lines ls : List (List ℕ)) (e : CommandEffect) (last : State) (count : ℕ) → Step s number c.line c.command e → IsFollowed c.line e verdicts vs errors es lines ls → e.stop ≡ false → AnswersThrough e.state (counted number c.command) first others ending vs es ls last count → AnswersThrough s number (c ∷ first) others ending verdicts errors lines last count
 through_one s number c first others ending verdicts vs errors es lines ls e last count step followed goes_on later = record {
   first_verdicts = e.verdicts ++ later.first_verdicts;
   later_verdicts = later.later_verdicts;

@@ -12,22 +12,23 @@ use Rattle.ct_engine.specs.declared.verdict.Verdict.{Verdict}
 use Rattle.ct_stack.specs.Stack.{declaring, in_context, asserting, defined_in}
 use Rattle.ct_stack.specs.Elaborations.{declared_function, defined_function, asserted_formula}
 use Rattle.ct_stack.specs.Values.{AreValues}
-use Rattle.ct_script.specs.declared.answer.Answer.{Answer}
+use Rattle.ct_step.specs.declared.answer.Answer.{Answer}
 use Rattle.ct_script.specs.declared.replay.Replayed.{Replayed}
-use Rattle.ct_script.specs.declared.state.SessionState.{SessionState}
-use Rattle.ct_script.specs.State.{State, declared, context_of, changed, model_kept, derivation_kept}
-use Rattle.ct_script.specs.Step.{Effect, Does, Steps, said, quiet, refused, counted_with, one_more}
-use Rattle.ct_script.specs.Session.{Course, IsAnswer, state_of, reached}
+use Rattle.ct_step.specs.declared.state.SessionState.{SessionState}
+use Rattle.ct_step.specs.State.{State, declared, context_of, changed, model_kept, derivation_kept}
+use Rattle.ct_step.specs.Step.{CommandEffect, Does, Steps, said, quiet, refused, counted_with, one_more}
+use Rattle.ct_step.specs.Done.{IsAnswer, state_of}
+use Rattle.ct_script.specs.Session.{Course, reached}
 use Rattle.ct_script.specs.Replay.{is_check, IsCounted, IsStepped, Replays}
-use Rattle.ct_script.proofs.SoundLemmas.{only, only_of}
+use Rattle.ct_step.proofs.SoundLemmas.{only, only_of}
 use Rattle.ct_script.proofs.SessionLemmas.{course, Comes, comes_unread}
 
 -- the verdicts of an effect that gives none
-given_none : (e t : Effect) → t.verdicts ≡ [] → e ≡ t → e.verdicts ≡ []
-given_none e t none is = ap (λ (x : Effect). x.verdicts) is ∙ none
+given_none : (e t : CommandEffect) → t.verdicts ≡ [] → e ≡ t → e.verdicts ≡ []
+given_none e t none is = ap (λ (x : CommandEffect). x.verdicts) is ∙ none
 
 -- a command that is no check gives no verdict
-no_verdict : (s : State) (number : ℕ) (c : Command) (e : Effect) → is_check (Ok c) ≡ false → Does s number c e → e.verdicts ≡ []
+no_verdict : (s : State) (number : ℕ) (c : Command) (e : CommandEffect) → is_check (Ok c) ≡ false → Does s number c e → e.verdicts ≡ []
 no_verdict s number (set_logic name) e other is = given_none e _ refl is
 no_verdict s number (set_option setting) e other is = given_none e _ refl is
 no_verdict s number (get_option option) e other is = given_none e _ refl is
@@ -35,17 +36,17 @@ no_verdict s number set_info e other is = given_none e _ refl is
 no_verdict s number (get_info info) e other is = given_none e _ refl is
 no_verdict s number (declare_sort head) e other is = given_none e _ refl is
 no_verdict s number (declare_block family heads bodies) e other is = given_none e _ refl is
-no_verdict s number (declare_fun name args sort) e other is = only (declared_function (declared s) name args sort) (λ f. e ≡ quiet (changed s (declaring s.stack (with_function (declared s) f)))) (e.verdicts ≡ []) (λ f h. ap (λ (x : Effect). x.verdicts) h) is
-no_verdict s number (define_fun name params sort t) e other is = only (defined_function (declared s) name params sort t) (λ f. e ≡ quiet (changed s (in_context s.stack (defined_in (context_of s) f)))) (e.verdicts ≡ []) (λ f h. ap (λ (x : Effect). x.verdicts) h) is
-no_verdict s number (assert t) e other is = only (asserted_formula (declared s) t) (λ formula. e ≡ quiet (changed s (asserting s.stack formula))) (e.verdicts ≡ []) (λ f h. ap (λ (x : Effect). x.verdicts) h) is
+no_verdict s number (declare_fun name args sort) e other is = only (declared_function (declared s) name args sort) (λ f. e ≡ quiet (changed s (declaring s.stack (with_function (declared s) f)))) (e.verdicts ≡ []) (λ f h. ap (λ (x : CommandEffect). x.verdicts) h) is
+no_verdict s number (define_fun name params sort t) e other is = only (defined_function (declared s) name params sort t) (λ f. e ≡ quiet (changed s (in_context s.stack (defined_in (context_of s) f)))) (e.verdicts ≡ []) (λ f h. ap (λ (x : CommandEffect). x.verdicts) h) is
+no_verdict s number (assert t) e other is = only (asserted_formula (declared s) t) (λ formula. e ≡ quiet (changed s (asserting s.stack formula))) (e.verdicts ≡ []) (λ f h. ap (λ (x : CommandEffect). x.verdicts) h) is
 no_verdict s number check_sat e other is = absurd (true≢false other)
 no_verdict s number (push n) e other is = given_none e _ refl is
 no_verdict s number (pop n) e other is = given_none e _ refl is
 no_verdict s number reset_assertions e other is = given_none e _ refl is
 no_verdict s number reset e other is = given_none e _ refl is
-no_verdict s number get_model e other is = only_of (model_kept s.kept) (λ i. (text : List ℕ) × IsModelText (declared s) i text × (e ≡ said s text)) (e.verdicts ≡ []) (λ i h. ap (λ (x : Effect). x.verdicts) h.2) is
-no_verdict s number (get_value ts) e other is = only_of (model_kept s.kept) (λ i. (text : List ℕ) × AreValues (context_of s) i ts text × (e ≡ said s text)) (e.verdicts ≡ []) (λ i h. ap (λ (x : Effect). x.verdicts) h.2) is
-no_verdict s number get_proof e other is = only_of (derivation_kept s.kept) (λ p. e ≡ said s (text_of (expression_of_record (declared s) p.0 p.1.rec))) (e.verdicts ≡ []) (λ p h. ap (λ (x : Effect). x.verdicts) h) is
+no_verdict s number get_model e other is = only_of (model_kept s.kept) (λ i. (text : List ℕ) × IsModelText (declared s) i text × (e ≡ said s text)) (e.verdicts ≡ []) (λ i h. ap (λ (x : CommandEffect). x.verdicts) h.2) is
+no_verdict s number (get_value ts) e other is = only_of (model_kept s.kept) (λ i. (text : List ℕ) × AreValues (context_of s) i ts text × (e ≡ said s text)) (e.verdicts ≡ []) (λ i h. ap (λ (x : CommandEffect). x.verdicts) h.2) is
+no_verdict s number get_proof e other is = only_of (derivation_kept s.kept) (λ p. e ≡ said s (text_of (expression_of_record (declared s) p.0 p.1.rec))) (e.verdicts ≡ []) (λ p h. ap (λ (x : CommandEffect). x.verdicts) h) is
 no_verdict s number (echo x) e other is = given_none e _ refl is
 no_verdict s number exit e other is = given_none e _ refl is
 no_verdict s number unsupported e other is = given_none e _ refl is
@@ -75,12 +76,12 @@ uncounted number exit other = refl
 uncounted number unsupported other = refl
 
 -- a command that is refused, or is no check, gives no verdict
-silent : (s : State) (number line : ℕ) (c : Command) (e : Effect) → is_check (Ok c) ≡ false → Steps s number line (Ok c) e → e.verdicts ≡ []
-silent s number line c e other (inl refused) = ap (λ (x : Effect). x.verdicts) refused.2
+silent : (s : State) (number line : ℕ) (c : Command) (e : CommandEffect) → is_check (Ok c) ≡ false → Steps s number line (Ok c) e → e.verdicts ≡ []
+silent s number line c e other (inl refused) = ap (λ (x : CommandEffect). x.verdicts) refused.2
 silent s number line c e other (inr accepted) = no_verdict s number c e other accepted.1
 
 -- what a command that was done says of it as one that is replayed
-pub replays : (old new : Course) (line : ℕ) (c : Command) (a : Answer) (r : Replayed) → is_check (Ok c) ≡ false → (e : Effect) × Steps old.state (counted_with old.number c) line (Ok c) e × (new ≡ reached old line (counted_with old.number c) e) × IsAnswer e a → r.check ≡ false → r.stop ≡ a.stop → Replays old line (Ok c) new r
+pub replays : (old new : Course) (line : ℕ) (c : Command) (a : Answer) (r : Replayed) → is_check (Ok c) ≡ false → (e : CommandEffect) × Steps old.state (counted_with old.number c) line (Ok c) e × (new ≡ reached old line (counted_with old.number c) e) × IsAnswer e a → r.check ≡ false → r.stop ≡ a.stop → Replays old line (Ok c) new r
 replays old new line c a r other (e, steps, is, answer) check stop =
     subst (λ (b : Bool). MatchBool b (IsCounted old new r) (IsStepped old line (Ok c) new r)) (sym other)
     (e, subst (λ (n : ℕ). Steps old.state n line (Ok c) e) same steps, is ∙ ap (λ (n : ℕ). reached old line n e) same, check, stop ∙ answer.stop)
@@ -89,7 +90,7 @@ replays old new line c a r other (e, steps, is, answer) check stop =
     same = uncounted old.number c other
 
 -- and of the verdicts
-pub none_given : (old new : Course) (line : ℕ) (c : Command) (a : Answer) → is_check (Ok c) ≡ false → (e : Effect) × Steps old.state (counted_with old.number c) line (Ok c) e × (new ≡ reached old line (counted_with old.number c) e) × IsAnswer e a → old.verdicts ≡ [] → new.verdicts ≡ []
+pub none_given : (old new : Course) (line : ℕ) (c : Command) (a : Answer) → is_check (Ok c) ≡ false → (e : CommandEffect) × Steps old.state (counted_with old.number c) line (Ok c) e × (new ≡ reached old line (counted_with old.number c) e) × IsAnswer e a → old.verdicts ≡ [] → new.verdicts ≡ []
 none_given old new line c a other (e, steps, is, answer) none =
     ap (λ (x : Course). x.verdicts) is
     ∙ ap (λ (vs : List Verdict). old.verdicts ++ vs) (silent old.state (counted_with old.number c) line c e other steps)

@@ -11,20 +11,21 @@ use Rattle.ct_engine.specs.declared.verdict.Verdict.{Verdict}
 use Rattle.ct_stack.specs.Stack.{declaring, in_context, asserting, defined_in}
 use Rattle.ct_stack.specs.Elaborations.{declared_function, defined_function, asserted_formula}
 use Rattle.ct_stack.specs.Values.{AreValues}
-use Rattle.ct_script.specs.declared.answer.Answer.{Answer}
-use Rattle.ct_script.specs.declared.state.SessionState.{SessionState}
-use Rattle.ct_script.specs.State.{State, declared, context_of, changed, model_kept, derivation_kept}
-use Rattle.ct_script.specs.Refusal.{IsRefusal}
-use Rattle.ct_script.specs.Step.{Effect, Does, Steps, Step, refused, said, quiet, counted_by}
+use Rattle.ct_step.specs.declared.answer.Answer.{Answer}
+use Rattle.ct_step.specs.declared.state.SessionState.{SessionState}
+use Rattle.ct_step.specs.State.{State, declared, context_of, changed, model_kept, derivation_kept}
+use Rattle.ct_step.specs.Refusal.{IsRefusal}
+use Rattle.ct_step.specs.Step.{CommandEffect, Does, Steps, Step, refused, said, quiet, counted_by}
 use Rattle.ct_script.specs.Answers.{errors_of}
-use Rattle.ct_script.specs.Session.{Course, IsAnswer, Performs, IsSame, state_of, reached, after}
-use Rattle.ct_script.proofs.SoundLemmas.{only, only_of, same_state}
+use Rattle.ct_step.specs.Done.{IsAnswer, Performs, IsSame, state_of}
+use Rattle.ct_script.specs.Session.{Course, reached, after}
+use Rattle.ct_step.proofs.SoundLemmas.{only, only_of, same_state}
 
-error_of : (e t : Effect) → t.error ≡ None → e ≡ t → e.error ≡ None
-error_of e t none is = ap (λ (x : Effect). x.error) is ∙ none
+error_of : (e t : CommandEffect) → t.error ≡ None → e ≡ t → e.error ≡ None
+error_of e t none is = ap (λ (x : CommandEffect). x.error) is ∙ none
 
 -- a command that is accepted has no error
-no_error : (s : State) (number : ℕ) (c : Command) (e : Effect) → Does s number c e → e.error ≡ None
+no_error : (s : State) (number : ℕ) (c : Command) (e : CommandEffect) → Does s number c e → e.error ≡ None
 no_error s number (set_logic name) e is = error_of e _ refl is
 no_error s number (set_option setting) e is = error_of e _ refl is
 no_error s number (get_option option) e is = error_of e _ refl is
@@ -32,17 +33,17 @@ no_error s number set_info e is = error_of e _ refl is
 no_error s number (get_info info) e is = error_of e _ refl is
 no_error s number (declare_sort head) e is = error_of e _ refl is
 no_error s number (declare_block family heads bodies) e is = error_of e _ refl is
-no_error s number (declare_fun name args sort) e is = only (declared_function (declared s) name args sort) (λ f. e ≡ quiet (changed s (declaring s.stack (with_function (declared s) f)))) (e.error ≡ None) (λ f h. ap (λ (x : Effect). x.error) h) is
-no_error s number (define_fun name params sort t) e is = only (defined_function (declared s) name params sort t) (λ f. e ≡ quiet (changed s (in_context s.stack (defined_in (context_of s) f)))) (e.error ≡ None) (λ f h. ap (λ (x : Effect). x.error) h) is
-no_error s number (assert t) e is = only (asserted_formula (declared s) t) (λ formula. e ≡ quiet (changed s (asserting s.stack formula))) (e.error ≡ None) (λ f h. ap (λ (x : Effect). x.error) h) is
-no_error s number check_sat e is = ap (λ (x : Effect). x.error) is.2
+no_error s number (declare_fun name args sort) e is = only (declared_function (declared s) name args sort) (λ f. e ≡ quiet (changed s (declaring s.stack (with_function (declared s) f)))) (e.error ≡ None) (λ f h. ap (λ (x : CommandEffect). x.error) h) is
+no_error s number (define_fun name params sort t) e is = only (defined_function (declared s) name params sort t) (λ f. e ≡ quiet (changed s (in_context s.stack (defined_in (context_of s) f)))) (e.error ≡ None) (λ f h. ap (λ (x : CommandEffect). x.error) h) is
+no_error s number (assert t) e is = only (asserted_formula (declared s) t) (λ formula. e ≡ quiet (changed s (asserting s.stack formula))) (e.error ≡ None) (λ f h. ap (λ (x : CommandEffect). x.error) h) is
+no_error s number check_sat e is = ap (λ (x : CommandEffect). x.error) is.2
 no_error s number (push n) e is = error_of e _ refl is
 no_error s number (pop n) e is = error_of e _ refl is
 no_error s number reset_assertions e is = error_of e _ refl is
 no_error s number reset e is = error_of e _ refl is
-no_error s number get_model e is = only_of (model_kept s.kept) (λ i. (text : List ℕ) × IsModelText (declared s) i text × (e ≡ said s text)) (e.error ≡ None) (λ i h. ap (λ (x : Effect). x.error) h.2) is
-no_error s number (get_value ts) e is = only_of (model_kept s.kept) (λ i. (text : List ℕ) × AreValues (context_of s) i ts text × (e ≡ said s text)) (e.error ≡ None) (λ i h. ap (λ (x : Effect). x.error) h.2) is
-no_error s number get_proof e is = only_of (derivation_kept s.kept) (λ p. e ≡ said s (text_of (expression_of_record (declared s) p.0 p.1.rec))) (e.error ≡ None) (λ p h. ap (λ (x : Effect). x.error) h) is
+no_error s number get_model e is = only_of (model_kept s.kept) (λ i. (text : List ℕ) × IsModelText (declared s) i text × (e ≡ said s text)) (e.error ≡ None) (λ i h. ap (λ (x : CommandEffect). x.error) h.2) is
+no_error s number (get_value ts) e is = only_of (model_kept s.kept) (λ i. (text : List ℕ) × AreValues (context_of s) i ts text × (e ≡ said s text)) (e.error ≡ None) (λ i h. ap (λ (x : CommandEffect). x.error) h.2) is
+no_error s number get_proof e is = only_of (derivation_kept s.kept) (λ p. e ≡ said s (text_of (expression_of_record (declared s) p.0 p.1.rec))) (e.error ≡ None) (λ p h. ap (λ (x : CommandEffect). x.error) h) is
 no_error s number (echo x) e is = error_of e _ refl is
 no_error s number exit e is = error_of e _ refl is
 no_error s number unsupported e is = error_of e _ refl is
@@ -54,7 +55,7 @@ course s number errors = record { state = state_of s; number = number; verdicts 
 -- the session comes to this course by an effect of what was read on this line
 abbrev pub Comes : Course → ℕ → Read → Course → Answer → Type 0
 Comes old line r new a =
-    (e : Effect) × Steps old.state (counted_by old.number r) line r e × (new ≡ reached old line (counted_by old.number r) e) × IsAnswer e a
+    (e : CommandEffect) × Steps old.state (counted_by old.number r) line r e × (new ≡ reached old line (counted_by old.number r) e) × IsAnswer e a
 
 module _ (old : SessionState) (old_number : ℕ) (errors : List (ℕ × ℕ)) (line : ℕ) where
   abbrev before : Course
@@ -64,7 +65,7 @@ module _ (old : SessionState) (old_number : ℕ) (errors : List (ℕ × ℕ)) (l
     -- by a command that is done
     pub comes_done : (a : Answer) → Performs old number c new a → Comes before line (Ok c) (course new number errors) a
     comes_done a p =
-        subst (λ (n : ℕ). (e : Effect) × Steps before.state n line (Ok c) e × (course new number errors ≡ reached before line n e) × IsAnswer e a) count
+        subst (λ (n : ℕ). (e : CommandEffect) × Steps before.state n line (Ok c) e × (course new number errors ≡ reached before line n e) × IsAnswer e a) count
         (p.effect, inr p.accepted, same, p.answer)
       where
         none : errors ++ errors_of line p.effect.error ≡ errors
@@ -79,7 +80,7 @@ module _ (old : SessionState) (old_number : ℕ) (errors : List (ℕ × ℕ)) (l
     -- by a command that is refused
     pub comes_refused : (code : ℕ) (a : Answer) (new_errors : List (ℕ × ℕ)) → IsRefusal (state_of old) c code → IsSame old new → new_errors ≡ errors ++ (line, code) ∷ [] → IsAnswer (refused (state_of old) line code) a → Comes before line (Ok c) (course new number new_errors) a
     comes_refused code a new_errors refusal unchanged stored answer =
-        subst (λ (n : ℕ). (e : Effect) × Steps before.state n line (Ok c) e × (course new number new_errors ≡ reached before line n e) × IsAnswer e a) count
+        subst (λ (n : ℕ). (e : CommandEffect) × Steps before.state n line (Ok c) e × (course new number new_errors ≡ reached before line n e) × IsAnswer e a) count
         (refused (state_of old) line code, inl (code, refusal, refl), same, answer)
       where
         same : course new number new_errors ≡ reached before line number (refused (state_of old) line code)
@@ -99,5 +100,5 @@ module _ (old : SessionState) (old_number : ℕ) (errors : List (ℕ × ℕ)) (l
           ∙ ap (λ (vs : List Verdict). record { state = state_of old; number = old_number; verdicts = vs; errors = errors ++ (line, code) ∷ [] }) (sym (append-nil old.verdicts.items))
 
 -- what comes of what was read comes of the expression that was read so
-pub comes_of : (old : Course) (line : ℕ) (x : Expression) (r : Read) (new : Course) (a : Answer) → command x ≡ r → Comes old line r new a → (e : Effect) × Step old.state old.number line x e × (new ≡ after old line x e) × IsAnswer e a
+pub comes_of : (old : Course) (line : ℕ) (x : Expression) (r : Read) (new : Course) (a : Answer) → command x ≡ r → Comes old line r new a → (e : CommandEffect) × Step old.state old.number line x e × (new ≡ after old line x e) × IsAnswer e a
 comes_of old line x r new a is h = subst (λ (r : Read). Comes old line r new a) (sym is) h

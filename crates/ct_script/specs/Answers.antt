@@ -3,8 +3,8 @@ use Rattle.std.specs.Prelude.{◌≡◌, ℕ, false, List, [], ◌∷◌, ◌++�
 use Rattle.std.specs.Bool.{MatchBool}
 use Rattle.ct_sexpr.specs.Text.{Located, Ending, clean, lexical}
 use Rattle.ct_engine.specs.declared.verdict.Verdict.{Verdict}
-use Rattle.ct_script.specs.State.{State}
-use Rattle.ct_script.specs.Step.{Effect, Step, counted, refusal_text}
+use Rattle.ct_step.specs.State.{State}
+use Rattle.ct_step.specs.Step.{CommandEffect, Step, counted, refusal_text}
 
 -- a text on a line of its own, which the byte 10 ends; nothing where the text is empty
 abbrev pub lines_of : List ℕ → List (List ℕ)
@@ -23,7 +23,7 @@ pub record IsSilent (verdicts : List Verdict) (errors : List (ℕ × ℕ)) (line
   pub no_line : lines ≡ []
 
 -- these are answers to an effect of a command on this line, and then to what follows
-pub record IsFollowed (line : ℕ) (e : Effect) (verdicts later_verdicts : List Verdict) (errors later_errors : List (ℕ × ℕ)) (lines later_lines : List (List ℕ)) : Type 0 where
+pub record IsFollowed (line : ℕ) (e : CommandEffect) (verdicts later_verdicts : List Verdict) (errors later_errors : List (ℕ × ℕ)) (lines later_lines : List (List ℕ)) : Type 0 where
   pub verdicts_are : verdicts ≡ e.verdicts ++ later_verdicts
   pub errors_are : errors ≡ errors_of line e.error ++ later_errors
   pub lines_are : lines ≡ lines_of e.text ++ later_lines
@@ -38,7 +38,7 @@ IsEnding (lexical code line) verdicts errors lines = (verdicts ≡ []) × (error
 abbrev pub Answers : State → ℕ → List Located → Ending → List Verdict → List (ℕ × ℕ) → List (List ℕ) → Type 0
 Answers s number [] ending verdicts errors lines = IsEnding ending verdicts errors lines
 Answers s number (c ∷ cs) ending verdicts errors lines =
-    (e : Effect) × (later_verdicts : List Verdict) × (later_errors : List (ℕ × ℕ)) × (later_lines : List (List ℕ))
+    (e : CommandEffect) × (later_verdicts : List Verdict) × (later_errors : List (ℕ × ℕ)) × (later_lines : List (List ℕ))
     × Step s number c.line c.command e × IsFollowed c.line e verdicts later_verdicts errors later_errors lines later_lines
     × MatchBool e.stop (IsSilent later_verdicts later_errors later_lines) (Answers e.state (counted number c.command) cs ending later_verdicts later_errors later_lines)
 
@@ -46,6 +46,6 @@ Answers s number (c ∷ cs) ending verdicts errors lines =
 abbrev pub Leads : State → ℕ → List Located → State → ℕ → List Verdict → List (ℕ × ℕ) → List (List ℕ) → Type 0
 Leads s number [] last count verdicts errors lines = (last ≡ s) × (count ≡ number) × IsSilent verdicts errors lines
 Leads s number (c ∷ cs) last count verdicts errors lines =
-    (e : Effect) × (later_verdicts : List Verdict) × (later_errors : List (ℕ × ℕ)) × (later_lines : List (List ℕ))
+    (e : CommandEffect) × (later_verdicts : List Verdict) × (later_errors : List (ℕ × ℕ)) × (later_lines : List (List ℕ))
     × Step s number c.line c.command e × IsFollowed c.line e verdicts later_verdicts errors later_errors lines later_lines
     × (e.stop ≡ false) × Leads e.state (counted number c.command) cs last count later_verdicts later_errors later_lines

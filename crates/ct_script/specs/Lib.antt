@@ -1,10 +1,3 @@
-pub mod Numbers
-pub mod Options
-pub mod State
-pub mod Infos
-pub mod Refusal
-pub mod Verdict
-pub mod Step
 pub mod Answers
 pub mod Session
 pub mod Replay

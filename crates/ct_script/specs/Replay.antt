@@ -6,8 +6,8 @@ use Rattle.ct_command.specs.Command.{check_sat}
 use Rattle.ct_command.specs.Reading.{Read, command}
 use Rattle.ct_engine.specs.declared.verdict.Verdict.{Verdict}
 use Rattle.ct_script.specs.declared.replay.Replayed.{Replayed}
-use Rattle.ct_script.specs.State.{State}
-use Rattle.ct_script.specs.Step.{Effect, Steps, one_more}
+use Rattle.ct_step.specs.State.{State}
+use Rattle.ct_step.specs.Step.{CommandEffect, Steps, one_more}
 use Rattle.ct_script.specs.Answers.{Answers, Leads}
 use Rattle.ct_script.specs.Session.{Course, reached}
 
@@ -22,7 +22,7 @@ IsCounted old new r = (new ≡ record old { number = one_more old.number }) × (
 
 -- everything else does its step
 abbrev pub IsStepped : Course → ℕ → Read → Course → Replayed → Type 0
-IsStepped old line read new r = (e : Effect) × Steps old.state old.number line read e × (new ≡ reached old line old.number e) × (r.check ≡ false) × (r.stop ≡ e.stop)
+IsStepped old line read new r = (e : CommandEffect) × Steps old.state old.number line read e × (new ≡ reached old line old.number e) × (r.check ≡ false) × (r.stop ≡ e.stop)
 
 -- what was read on this line is replayed so
 abbrev pub Replays : Course → ℕ → Read → Course → Replayed → Type 0

@@ -6,22 +6,20 @@ ghost use Rattle.ct_command.specs.Reading.{command};
 ghost use Rattle.ct_command.specs.Seen.{command_seen};
 ghost use Rattle.ct_stack.specs.Stack.{in_force};
 ghost use Rattle.ct_stack.specs.Held.{context_in, as_one, IsSoundLevel};
-ghost use Rattle.ct_script.specs.State.{first_state, context_of};
+ghost use Rattle.ct_step.specs.State.{first_state, context_of};
 ghost use Rattle.ct_script.specs.Replay.{Replays, is_check};
-ghost use Rattle.ct_script.specs.Session.{IsAnswer, after, reached};
-ghost use Rattle.ct_script.specs.Step.{Effect, Step, Steps, counted_with, one_more};
+ghost use Rattle.ct_step.specs.Done.{IsAnswer};
+ghost use Rattle.ct_script.specs.Session.{after, reached};
+ghost use Rattle.ct_step.specs.Step.{CommandEffect, Step, Steps, counted_with, one_more};
 
-use crate::answer::{Answer, refused};
 use crate::error::SessionError;
-use crate::options::Options;
-use crate::perform::perform;
 use crate::replay::Replayed;
-use crate::state::SessionState;
 use ct_check::Scope;
 use ct_command::{Command, CommandError, command_of};
 use ct_engine::Verdict;
 use ct_sexpr::Sexpr;
 use ct_stack::AssertionStack;
+use ct_step::{Answer, Options, SessionState, perform, refused};
 use ct_terms::Tree;
 use std::alloc::Global;
 use std::marker::Model;
@@ -40,7 +38,8 @@ pub struct Session {
 }
 
 impl Model for Session {
-    ghost use Rattle.ct_script.specs.Session.{Course, state_of, IsSound};
+    ghost use Rattle.ct_step.specs.Done.{state_of, IsSound};
+    ghost use Rattle.ct_script.specs.Session.{Course};
 
     ghost Value = { Course };
 
@@ -76,7 +75,7 @@ impl Session {
     /// Answers a command that begins on this line. A refused command changes nothing but the list of errors; and a check, also
     /// one that is refused, is counted. Where memory runs out nothing has changed.
     pub fn command(&mut self, line: u64, expr: &Sexpr) -> Result<Answer, SessionError>
-        ensures stepped { IfOk result (λ a. (e : Effect) × Step self.old.state self.old.number line (expression_of expr.now) e
+        ensures stepped { IfOk result (λ a. (e : CommandEffect) × Step self.old.state self.old.number line (expression_of expr.now) e
             × (self.new ≡ after self.old line (expression_of expr.now) e) × IsAnswer e a) }
         ensures unchanged { OnErr result (self.new ≡ self.old) }
     {
@@ -146,6 +145,7 @@ impl Session {
         ensures errors { result.1.items ≡ self.errors }
     {
         let state = self.state;
+        drop(state.stack);
         (state.verdicts, self.errors)
     }
 
@@ -171,7 +171,7 @@ impl Session {
 
     // Does a command, or answers why it is refused.
     fn perform(&mut self, line: u64, command: Command<'_>) -> Result<Answer, SessionError>
-        ensures stepped { IfOk result (λ a. (e : Effect) × Steps self.old.state (counted_with self.old.number (command_seen command.entry)) line (Ok (command_seen command.entry)) e
+        ensures stepped { IfOk result (λ a. (e : CommandEffect) × Steps self.old.state (counted_with self.old.number (command_seen command.entry)) line (Ok (command_seen command.entry)) e
             × (self.new ≡ reached self.old line (counted_with self.old.number (command_seen command.entry)) e) × IsAnswer e a) }
         ensures unchanged { OnErr result (self.new ≡ self.old) }
     {

@@ -5,8 +5,8 @@ ghost use Rattle.ct_sexpr.specs.Expression.{Expression};
 ghost use Rattle.ct_command.specs.Reading.{Read, command};
 ghost use Rattle.ct_engine.specs.declared.verdict.Verdict.{Verdict};
 ghost use Rattle.ct_script.specs.declared.replay.Replayed.{Replayed};
-ghost use Rattle.ct_script.specs.State.{State};
-ghost use Rattle.ct_script.specs.Step.{Effect, Steps, Step, counted};
+ghost use Rattle.ct_step.specs.State.{State};
+ghost use Rattle.ct_step.specs.Step.{CommandEffect, Steps, Step, counted};
 ghost use Rattle.ct_script.specs.Answers.{Answers, Leads};
 ghost use Rattle.ct_script.specs.Session.{Course};
 ghost use Rattle.ct_script.specs.Replay.{is_check, Replays, GoesThrough, HaveOneStack, AnswersThrough};
@@ -16,21 +16,21 @@ ghost use Rattle.ct_script.specs.Replay.{is_check, Replays, GoesThrough, HaveOne
 pub fn replayed_scripts()
     // What was read on a line makes of one stack and the same options one stack and the same
     // options, and ends the script or does not, whatever was kept and however many checks there were.
-    ensures step { (s t : State) (number count line : ℕ) (read : Read) (e f : Effect)
+    ensures step { (s t : State) (number count line : ℕ) (read : Read) (e f : CommandEffect)
         → HaveOneStack s t
         → Steps s number line read e
         → Steps t count line read f
         → HaveOneStack e.state f.state × (f.stop ≡ e.stop) }
 
     // A check leaves them, and does not end the script.
-    ensures check { (s : State) (number line : ℕ) (read : Read) (e : Effect)
+    ensures check { (s : State) (number line : ℕ) (read : Read) (e : CommandEffect)
         → is_check read ≡ true
         → Steps s number line read e
         → HaveOneStack s e.state × (e.stop ≡ false) }
 
     // So an expression that is replayed makes of them what its step makes of them, and counts as
     // its step does.
-    ensures replayed { (s : State) (number line : ℕ) (x : Expression) (e : Effect) (old new : Course)
+    ensures replayed { (s : State) (number line : ℕ) (x : Expression) (e : CommandEffect) (old new : Course)
         (r : Replayed)
         → HaveOneStack s old.state
         → Step s number line x e

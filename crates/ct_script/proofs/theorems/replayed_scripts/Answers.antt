@@ -1,5 +1,5 @@
 use Rattle.ct_command.specs.Reading.{command}
-use Rattle.ct_script.specs.Step.{counted}
+use Rattle.ct_step.specs.Step.{counted}
 use Rattle.ct_script.proofs.OneStackLemmas.{steps_alike, check_rests, replayed_alike, replayed_counted, replayed_told, leads_alike, leads_counted, answers_through}
 use Rattle.ct_script.proofs.theorems.replayed_scripts.Goals as goal
 

@@ -1,6 +1,6 @@
 use Rattle.ct_sexpr.specs.View.{expression_of}
 use Rattle.ct_command.specs.Seen.{command_seen}
-use Rattle.ct_script.specs.Session.{state_of}
+use Rattle.ct_step.specs.Done.{state_of}
 use Rattle.ct_script.proofs.CourseLemmas.{stepped, unread}
 use Rattle.ct_script.proofs.session.Session.command.Goals as goal
 

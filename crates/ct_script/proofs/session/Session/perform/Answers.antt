@@ -1,8 +1,8 @@
 use Rattle.std.proofs.Common.{refl}
 use Rattle.std.proofs.lemmas.Result.{err_from_is_err_and}
 use Rattle.ct_command.specs.Seen.{command_seen}
-use Rattle.ct_script.specs.Session.{state_of}
-use Rattle.ct_script.proofs.SoundLemmas.{sound_still}
+use Rattle.ct_step.specs.Done.{state_of}
+use Rattle.ct_step.proofs.SoundLemmas.{sound_still}
 use Rattle.ct_script.proofs.CourseLemmas.{done, not_done, unchanged}
 use Rattle.ct_script.proofs.session.Session.perform.Goals as goal
 

@@ -1,6 +1,6 @@
 use Rattle.std.proofs.Common.{refl}
 use Rattle.ct_sexpr.specs.View.{expression_of}
-use Rattle.ct_script.specs.Session.{state_of}
+use Rattle.ct_step.specs.Done.{state_of}
 use Rattle.ct_script.proofs.ReplayLemmas.{unread}
 use Rattle.ct_script.proofs.session.Session.replay.Goals as goal
 

@@ -1,8 +1,0 @@
-use Rattle.ct_script.proofs.DoneLemmas.{resets}
-use Rattle.ct_script.proofs.levels.reset.Goals as goal
-
-pub returns : goal.returns
-returns c =
-    record {
-      done = λ number. resets c.args.state.now number c.reset.new.self c.new-options.result c.in_ok-answer.answer c.reset.ensures.reset c.new-options.ensures.value c.in_ok-answer.ensures.answer;
-    }

@@ -1,5 +1,0 @@
-use Rattle.ct_script.proofs.DoneLemmas.{ends}
-use Rattle.ct_script.proofs.settings.exit.Goals as goal
-
-pub returns : goal.returns
-returns c = record { done = λ number. ends c.args.state.now number c.in_ok-answer.answer c.in_ok-answer.ensures.answer }

@@ -1,0 +1,47 @@
+-- What a check of the core terms in a table says of the stack that holds them.
+use Rattle.std.proofs.Common.{◌≡◌, ℕ, List, ◌++◌, Contains, refl, sym, subst}
+use Rattle.ct_sorts.specs.Declarations.{Declarations}
+use Rattle.ct_sorts.specs.Consistent.{IsConsistent}
+use Rattle.ct_terms.specs.declared.ids.TermId.{TermId}
+use Rattle.ct_terms.specs.Terms.{Terms, AreSorted}
+use Rattle.ct_terms.specs.CoreTree.{CoreTree, subtrees, term_at}
+use Rattle.ct_closure.specs.Closed.{HasMoreThan, most_closure_terms, truth_trees}
+use Rattle.ct_closure.specs.ClosedTable.{AreSubtermsOf, terms_at}
+use Rattle.ct_engine.specs.declared.verdict.Verdict.{Verdict}
+use Rattle.ct_engine.specs.Verdict.{IsVerdict}
+use Rattle.ct_stack.specs.Stack.{Stack, in_force, cores}
+use Rattle.ct_stack.specs.Held.{IsHeld, as_one}
+use Rattle.ct_step.specs.Numbers.{closure_too_large}
+use Rattle.ct_step.specs.Refusal.{IsCheckRefusal}
+use Rattle.ct_step.specs.Verdict.{IsRight}
+use Rattle.ct_step.proofs.CauseLemmas.{no_last, last_cause}
+use Rattle.ct_step.proofs.VerdictLemmas.{Assertions, right}
+
+module _ (s : Stack) (d : Declarations) (table : Terms) (numbers : List TermId) (is : d ≡ s.top.context.declarations) (held : IsHeld (as_one s) table numbers) where
+  pub sorted : AreSorted d table
+  sorted = subst (λ (x : Declarations). AreSorted x table) (sym is) held.in_table.exact.sorted
+
+  pub exact : AreSubtermsOf table numbers
+  exact = λ t within. subst (λ (rs : List CoreTree). (root : CoreTree) × Contains (truth_trees ++ rs) root × Contains (subtrees root) (term_at table t)) (sym held.in_table.stand) (held.in_table.exact.covered t within)
+
+  -- too many terms of the roots are too many of the core terms of the assertions
+  more : HasMoreThan d (terms_at table numbers) most_closure_terms → HasMoreThan s.top.context.declarations (cores s.top.context (in_force s)) most_closure_terms
+  more h =
+      subst (λ (rs : List CoreTree). HasMoreThan s.top.context.declarations rs most_closure_terms) held.in_table.stand
+      (subst (λ (x : Declarations). HasMoreThan x (terms_at table numbers) most_closure_terms) is h)
+
+  no_more : HasMoreThan s.top.context.declarations (cores s.top.context (in_force s)) most_closure_terms → HasMoreThan d (terms_at table numbers) most_closure_terms
+  no_more h =
+      subst (λ (x : Declarations). HasMoreThan x (terms_at table numbers) most_closure_terms) (sym is)
+      (subst (λ (rs : List CoreTree). HasMoreThan s.top.context.declarations rs most_closure_terms) (sym held.in_table.stand) h)
+
+  pub check_fits : (HasMoreThan d (terms_at table numbers) most_closure_terms → ⊥) → (n : ℕ) → IsCheckRefusal s n → ⊥
+  check_fits fits = no_last closure_too_large (HasMoreThan s.top.context.declarations (cores s.top.context (in_force s)) most_closure_terms) (λ h. fits (no_more h))
+
+  pub check_too_large : HasMoreThan d (terms_at table numbers) most_closure_terms → IsCheckRefusal s closure_too_large
+  check_too_large many = last_cause closure_too_large (HasMoreThan s.top.context.declarations (cores s.top.context (in_force s)) most_closure_terms) closure_too_large refl (more many)
+
+  pub check_right : Assertions → IsConsistent d → (budget : ℕ) (v : Verdict) → IsVerdict d table numbers budget v → IsRight s.top.context (in_force s) budget v
+  check_right assertions consistent budget v verdict =
+      right assertions s.top.context (in_force s) table numbers (subst IsConsistent is consistent) held budget v
+      (subst (λ (x : Declarations). IsVerdict x table numbers budget v) is verdict)

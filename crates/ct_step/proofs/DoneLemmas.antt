@@ -1,0 +1,112 @@
+-- What becomes of a command: it is done, or refused, or memory runs out.
+use Rattle.std.proofs.Common.{◌≡◌, ◌∙◌, ℕ, true, List, None, Result, Ok, Err, IsErrOf, refl, sym, ap, subst}
+use Rattle.std.proofs.lemmas.List.{append-nil}
+use Rattle.ct_names.specs.Outcome.{Outcome}
+use Rattle.ct_command.specs.declared.error.CommandError.{CommandError}
+use Rattle.ct_command.specs.declared.error.CommandError.TheVariants.{Refused, NoMemory}
+use Rattle.ct_command.specs.declared.command.Command.{Command as ReadCommand}
+use Rattle.ct_command.specs.declared.option.Setting.{Setting}
+use Rattle.ct_command.specs.Seen.{command_seen}
+use Rattle.ct_command.specs.Command.{Command, set_option, reset, exit}
+use Rattle.ct_stack.specs.Stack.{Stack, first_stack}
+use Rattle.ct_stack.specs.Outcomes.{Gives}
+use Rattle.ct_step.specs.declared.answer.Answer.{Answer}
+use Rattle.ct_step.specs.declared.state.SessionState.{SessionState}
+use Rattle.ct_step.specs.declared.options.Options.{Options}
+use Rattle.ct_step.specs.Options.{first_options, with_setting}
+use Rattle.ct_step.specs.State.{State, first_state, changed}
+use Rattle.ct_step.specs.Refusal.{IsRefusal}
+use Rattle.ct_step.specs.Step.{Does, said, quiet, success}
+use Rattle.ct_step.specs.Done.{IsAnswer, Performs, IsSame, IsDone, state_of}
+
+-- what holds of a value holds where more follows from it
+pub Gives-map : {X : Type 0} (o : Outcome X) (P Q : X → Type 0) → ((x : X) → P x → Q x) → Gives o P → Gives o Q
+Gives-map (Ok x) P Q more h = more x h
+Gives-map (Err n) P Q more h = absurd h
+
+module _ (old new : SessionState) (number : ℕ) (c : Command) where
+  -- an error that is passed on
+  pub not_done : {T : Type 0} (e : CommandError) → ((n : ℕ) → IsErrOf {T = T} {E = CommandError} (Err e) (Refused n) → IsRefusal (state_of old) c n) → IsSame old new → IsDone old number c new (Err e)
+  not_done (Refused n) why unchanged = (why n refl, unchanged)
+  not_done NoMemory why unchanged = unchanged
+
+module _ (old : SessionState) (number : ℕ) (c : Command) (accepted : (n : ℕ) → IsRefusal (state_of old) c n → ⊥) (a : Answer) where
+  -- a command that changes the stack
+  pub changes : (stack : Stack) → Does (state_of old) number c (quiet (changed (state_of old) stack)) → ((s : State) → IsAnswer (said s (success old.options)) a) → Performs old number c (record old { stack = stack; kept = None }) a
+  changes stack does answer =
+      record {
+        effect = quiet (changed (state_of old) stack);
+        accepted = (accepted, does);
+        state = refl;
+        given = sym (append-nil old.verdicts.items);
+        answer = answer (changed (state_of old) stack);
+      }
+
+  -- a command that changes nothing
+  pub answers : (text : List ℕ) → Does (state_of old) number c (said (state_of old) text) → ((s : State) → IsAnswer (said s text) a) → Performs old number c old a
+  answers text does answer =
+      record {
+        effect = said (state_of old) text;
+        accepted = (accepted, does);
+        state = refl;
+        given = sym (append-nil old.verdicts.items);
+        answer = answer (state_of old);
+      }
+
+-- nothing refuses the command
+pub never : (n : ℕ) → ⊥ → ⊥
+never n none = none
+
+-- where the stack has not changed
+pub same_stack : (old : SessionState) (stack : Stack) → stack ≡ old.stack → IsSame old (record old { stack = stack })
+same_stack old stack is = record { stack = is; options = refl; verdicts = refl; kept = refl }
+
+-- the same change of the stack has the same effect
+pub quietly : (s : State) (new stack : Stack) → new ≡ stack → quiet (changed s new) ≡ quiet (changed s stack)
+quietly s new stack is = ap (λ (t : Stack). quiet (changed s t)) is
+
+-- what is done is done of the same command, and what is not done is not
+pub done_as : (old new : SessionState) (number : ℕ) (a : Answer) (c d : Command) → c ≡ d → Performs old number c new a → Performs old number d new a
+done_as old new number a c d is done = subst (λ (x : Command). Performs old number x new a) is done
+
+pub not_done_as : {T : Type 0} (old new : SessionState) (number : ℕ) (c d : Command) (e : CommandError) → c ≡ d → ((n : ℕ) → IsErrOf {T = T} {E = CommandError} (Err e) (Refused n) → IsRefusal (state_of old) c n) → IsSame old new → IsDone old number d new (Err e)
+not_done_as old new number c d e is why unchanged = subst (λ (x : Command). IsDone old number x new (Err e)) is (not_done old new number c e why unchanged)
+
+-- everything is as at the start
+pub resets : (old : SessionState) (number : ℕ) (stack : Stack) (options : Options) (a : Answer) → stack ≡ first_stack → options ≡ first_options → ((s : State) → IsAnswer (said s (success options)) a) → Performs old number reset (record { stack = stack; options = options; verdicts = old.verdicts; kept = None }) a
+resets old number stack options a same_stack same_options answer =
+    record {
+      effect = quiet first_state;
+      accepted = (never, refl);
+      state =
+          ap (λ (s : Stack). record { stack = s; options = options; kept = None }) same_stack
+          ∙ ap (λ (o : Options). record { stack = first_stack; options = o; kept = None }) same_options;
+      given = sym (append-nil old.verdicts.items);
+      answer = subst (λ (o : Options). IsAnswer (said first_state (success o)) a) same_options (answer first_state);
+    }
+
+-- the script ends
+pub ends : (old : SessionState) (number : ℕ) (a : Answer) → ((s : State) → IsAnswer (said s (success old.options)) a) → Performs old number exit old (record a { stop = true })
+ends old number a answer =
+    record {
+      effect = record (quiet (state_of old)) { stop = true };
+      accepted = (never, refl);
+      state = refl;
+      given = sym (append-nil old.verdicts.items);
+      answer = record { text = (answer (state_of old)).text; error = (answer (state_of old)).error; stop = refl };
+    }
+
+-- an option is set
+pub sets : (old : SessionState) (number : ℕ) (setting : Setting) (options : Options) (a : Answer) → ((n : ℕ) → IsRefusal (state_of old) (set_option setting) n → ⊥) → options ≡ with_setting old.options setting → ((s : State) → IsAnswer (said s (success options)) a) → Performs old number (set_option setting) (record old { options = options }) a
+sets old number setting options a accepted is answer =
+    record {
+      effect = quiet (record (state_of old) { options = options });
+      accepted = (accepted, ap (λ (o : Options). quiet (record (state_of old) { options = o })) is);
+      state = refl;
+      given = sym (append-nil old.verdicts.items);
+      answer = answer (record (state_of old) { options = options });
+    }
+
+-- what becomes of a command as it was read
+pub seen_as : (old new : SessionState) (number : ℕ) (r : Result Answer CommandError) (c d : ReadCommand) → c ≡ d → IsDone old number (command_seen d) new r → IsDone old number (command_seen c) new r
+seen_as old new number r c d is done = subst (λ (x : ReadCommand). IsDone old number (command_seen x) new r) (sym is) done

@@ -1,0 +1,8 @@
+mod AnswerLemmas
+mod ListLemmas
+mod CauseLemmas
+mod VerdictLemmas
+mod CheckLemmas
+mod DoneLemmas
+pub mod SoundLemmas
+mod AskLemmas

@@ -1,0 +1,73 @@
+-- What a session stores, and what becomes of a command: it is done, or refused, or memory runs out.
+use Rattle.std.specs.Prelude.{◌≡◌, ℕ, List, ◌++◌, length, Option, None, Some, Result, Ok, Err, option_map, slice_get, ◌-◌}
+use Rattle.std.specs.Borrow.{Bor}
+use Rattle.ct_sorts.specs.Declarations.{Declarations}
+use Rattle.ct_log.specs.Recorded.{Derived}
+use Rattle.ct_eval.specs.declared.interp.Interp.{Interp}
+use Rattle.ct_eval.specs.Interpretation.{IsProper}
+use Rattle.ct_engine.specs.declared.verdict.Verdict.{Verdict}
+use Rattle.ct_command.specs.declared.error.CommandError.{CommandError}
+use Rattle.ct_command.specs.declared.error.CommandError.TheVariants.{Refused, NoMemory}
+use Rattle.ct_command.specs.Command.{Command}
+use Rattle.ct_step.specs.declared.answer.Answer.{Answer}
+use Rattle.ct_step.specs.declared.state.SessionState.{SessionState}
+use Rattle.ct_step.specs.State.{State, Kept, declared, model_kept, derivation_kept}
+use Rattle.ct_step.specs.Refusal.{IsRefusal}
+use Rattle.ct_step.specs.Step.{CommandEffect, IsAccepted}
+
+-- the last verdict
+abbrev pub last_of : List Verdict → Option Verdict
+last_of verdicts = slice_get verdicts (length verdicts - 1)
+
+-- what is kept of the last verdict, where it stands, by the number of its check
+abbrev pub kept_of : List Verdict → Option ℕ → Option Kept
+kept_of verdicts None = None
+kept_of verdicts (Some number) = option_map (λ v. record { verdict = v; number = number }) (last_of verdicts)
+
+abbrev pub state_of : SessionState → State
+state_of s = record { stack = s.stack; options = s.options; kept = kept_of s.verdicts.items s.kept }
+
+-- what is kept is of what is declared: the model is proper, and the derivation is over the declarations
+pub record KeepsOwn (d : Declarations) (kept : Option Kept) : Type 0 where
+  pub proper : (i : Interp) → model_kept kept ≡ Some i → IsProper d i
+  pub derived : (derivation : ℕ × Derived) → derivation_kept kept ≡ Some derivation → derivation.1.declarations ≡ d
+
+-- what a session always holds
+abbrev pub IsSound : State → Type 0
+IsSound s = KeepsOwn (declared s) s.kept
+
+-- the interpretation that is lent, where there is one
+abbrev pub interp_seen : Option (Bor Interp) → Option Interp
+interp_seen o = option_map (λ (b : Bor Interp). b.now) o
+
+-- the derivation that is lent with the number of its check, where there is one
+abbrev pub derivation_seen : Option (ℕ × Bor Derived) → Option (ℕ × Derived)
+derivation_seen o = option_map (λ (p : ℕ × Bor Derived). (p.0, p.1.now)) o
+
+-- the answer is that of the effect
+pub record IsAnswer (e : CommandEffect) (a : Answer) : Type 0 where
+  pub text : a.text.items ≡ e.text
+  pub error : a.error ≡ e.error
+  pub stop : a.stop ≡ e.stop
+
+-- the command is accepted, does this, and is answered so
+pub record Performs (old : SessionState) (number : ℕ) (c : Command) (new : SessionState) (a : Answer) : Type 0 where
+  pub effect : CommandEffect
+  pub accepted : IsAccepted (state_of old) number c effect
+  pub state : state_of new ≡ effect.state
+  pub given : new.verdicts.items ≡ old.verdicts.items ++ effect.verdicts
+  pub answer : IsAnswer effect a
+
+-- nothing has changed
+pub record IsSame (old new : SessionState) : Type 0 where
+  pub stack : new.stack ≡ old.stack
+  pub options : new.options ≡ old.options
+  pub verdicts : new.verdicts.items ≡ old.verdicts.items
+  pub kept : new.kept ≡ old.kept
+
+-- what becomes of a command, which is the check of this number if it is a check: it is done, or it is refused or memory runs out,
+-- and then nothing has changed
+abbrev pub IsDone : SessionState → ℕ → Command → SessionState → Result Answer CommandError → Type 0
+IsDone old number c new (Ok a) = Performs old number c new a
+IsDone old number c new (Err (Refused n)) = IsRefusal (state_of old) c n × IsSame old new
+IsDone old number c new (Err NoMemory) = IsSame old new

@@ -1,0 +1,70 @@
+-- When a command is refused, and with which error: of the causes of its line, in their order, the first that applies.
+use Rattle.std.specs.Prelude.{◌≡◌, ◌≢◌, ℕ, Bool, true, false, List, [], ◌∷◌, None, codes}
+use Rattle.std.specs.List.{list_any}
+use Rattle.std.specs.Str.{bytes_eq}
+use Rattle.ct_sexpr.specs.Expression.{Expression}
+use Rattle.ct_sorts.specs.Refusals.{IsFirstCause, IsNone}
+use Rattle.ct_closure.specs.Closed.{HasMoreThan, most_closure_terms}
+use Rattle.ct_command.specs.declared.option.Setting.{Setting}
+use Rattle.ct_command.specs.Command.{Command, set_logic, set_option, get_option, set_info, get_info, declare_sort, declare_block, declare_fun, define_fun, assert, check_sat, push, pop, reset_assertions, reset, get_model, get_value, get_proof, echo, exit, unsupported}
+use Rattle.ct_stack.specs.Stack.{Stack, first_stack, in_force, cores}
+use Rattle.ct_stack.specs.Refusal.{IsSortRefusal, IsTypesRefusal, IsFunctionRefusal, IsDefinitionRefusal, IsAssertionRefusal, IsTermsRefusal, IsPushRefusal, IsPopRefusal}
+use Rattle.ct_step.specs.Numbers.{closure_too_large, no_model, no_derivation, not_now, unknown_logic}
+use Rattle.ct_step.specs.Options.{sets_global}
+use Rattle.ct_step.specs.State.{State, context_of, declared, model_kept, derivation_kept}
+
+-- the logics whose formulas are all among those of the solver
+abbrev pub logics : List (List ℕ)
+logics = codes "QF_UF" ∷ (codes "QF_DT" ∷ (codes "QF_UFDT" ∷ (codes "ALL" ∷ [])))
+
+abbrev pub is_logic : List ℕ → Bool
+is_logic name = list_any (λ logic. bytes_eq logic name) logics
+
+abbrev pub IsLogicRefusal : List ℕ → ℕ → Type 0
+IsLogicRefusal name = IsFirstCause unknown_logic (is_logic name ≡ false) IsNone
+
+-- to which level declarations belong is set before anything is declared, defined or asserted and before a level is added
+abbrev pub IsOptionRefusal : State → Setting → ℕ → Type 0
+IsOptionRefusal s setting = IsFirstCause not_now ((sets_global setting ≡ true) × (s.stack ≢ first_stack)) IsNone
+
+-- a check of the assertions in force
+abbrev pub IsCheckRefusal : Stack → ℕ → Type 0
+IsCheckRefusal stack =
+    IsFirstCause closure_too_large (HasMoreThan stack.top.context.declarations (cores stack.top.context (in_force stack)) most_closure_terms) IsNone
+
+-- what asks for the model
+abbrev pub IsModelRefusal : State → ℕ → Type 0
+IsModelRefusal s = IsFirstCause no_model (model_kept s.kept ≡ None) IsNone
+
+-- the values of terms in the model
+abbrev pub IsValueRefusal : State → List Expression → ℕ → Type 0
+IsValueRefusal s ts =
+    IsFirstCause no_model (model_kept s.kept ≡ None) (IsTermsRefusal (context_of s) (cores (context_of s) (in_force s.stack)) ts)
+
+-- what asks for the derivation
+abbrev pub IsProofRefusal : State → ℕ → Type 0
+IsProofRefusal s = IsFirstCause no_derivation (derivation_kept s.kept ≡ None) IsNone
+
+-- the command is refused with the error of this number
+abbrev pub IsRefusal : State → Command → ℕ → Type 0
+IsRefusal s (set_logic name) = IsLogicRefusal name
+IsRefusal s (set_option setting) = IsOptionRefusal s setting
+IsRefusal s (get_option option) = IsNone
+IsRefusal s set_info = IsNone
+IsRefusal s (get_info info) = IsNone
+IsRefusal s (declare_sort head) = IsSortRefusal (declared s) head
+IsRefusal s (declare_block family heads bodies) = IsTypesRefusal (declared s) family heads bodies
+IsRefusal s (declare_fun name args sort) = IsFunctionRefusal (declared s) name args sort
+IsRefusal s (define_fun name params sort t) = IsDefinitionRefusal (declared s) name params sort t
+IsRefusal s (assert t) = IsAssertionRefusal s.stack t
+IsRefusal s check_sat = IsCheckRefusal s.stack
+IsRefusal s (push n) = IsPushRefusal s.stack n
+IsRefusal s (pop n) = IsPopRefusal s.stack n
+IsRefusal s reset_assertions = IsNone
+IsRefusal s reset = IsNone
+IsRefusal s get_model = IsModelRefusal s
+IsRefusal s (get_value ts) = IsValueRefusal s ts
+IsRefusal s get_proof = IsProofRefusal s
+IsRefusal s (echo e) = IsNone
+IsRefusal s exit = IsNone
+IsRefusal s unsupported = IsNone

@@ -1,0 +1,93 @@
+//! The commands that declare, define and assert (SMT-LIB 2.7, sections 4.2.3 and 4.2.4).
+ghost use Rattle.std.specs.Prelude.{ℕ};
+ghost use Rattle.ct_sexpr.specs.View.{expression_of};
+ghost use Rattle.ct_command.specs.Command.{declare_sort, declare_block, declare_fun, define_fun, assert};
+ghost use Rattle.ct_command.specs.Seen.{all_seen, head_seen, heads_seen, bodies_seen, nameds_seen};
+ghost use Rattle.ct_step.specs.Done.{IsDone};
+
+use crate::answer::{Answer, quiet};
+use crate::state::SessionState;
+use ct_command::{Body, CommandError, Family, Named, SortHead};
+use ct_sexpr::Sexpr;
+use std::alloc::Global;
+
+/// Declares an uninterpreted sort.
+pub(crate) fn declare_sort(
+    alloc: Global,
+    state: &mut SessionState,
+    head: SortHead<'_>,
+) -> Result<Answer, CommandError>
+    ensures done { (number : ℕ) → IsDone state.old number (declare_sort (head_seen head.entry)) state.new result }
+{
+    let answer = quiet(alloc, state.options)?;
+    state.stack.declare_sort(alloc, head)?;
+    state.kept = None;
+    Ok(answer)
+}
+
+/// Declares a block of sorts.
+pub(crate) fn declare_block(
+    alloc: Global,
+    state: &mut SessionState,
+    family: Family,
+    heads: Vec<SortHead<'_>>,
+    bodies: Vec<Body<'_>>,
+) -> Result<Answer, CommandError>
+    ensures done { (number : ℕ) → IsDone state.old number (declare_block family (heads_seen heads.entry) (bodies_seen bodies.entry)) state.new result }
+{
+    let answer = quiet(alloc, state.options)?;
+    state
+        .stack
+        .declare_block(alloc, family, heads.as_slice(), bodies.as_slice())?;
+    state.kept = None;
+    Ok(answer)
+}
+
+/// Declares a function.
+pub(crate) fn declare_function(
+    alloc: Global,
+    state: &mut SessionState,
+    name: &[u8],
+    args: &[Sexpr],
+    sort: &Sexpr,
+) -> Result<Answer, CommandError>
+    ensures done { (number : ℕ) → IsDone state.old number (declare_fun name.now (all_seen args.now) (expression_of sort.now)) state.new result }
+{
+    let answer = quiet(alloc, state.options)?;
+    state.stack.declare_function(alloc, name, args, sort)?;
+    state.kept = None;
+    Ok(answer)
+}
+
+/// Adds a definition.
+pub(crate) fn define_function(
+    alloc: Global,
+    state: &mut SessionState,
+    name: &[u8],
+    params: Vec<Named<'_>>,
+    sort: &Sexpr,
+    term: &Sexpr,
+) -> Result<Answer, CommandError>
+    ensures done { (number : ℕ) → IsDone state.old number (define_fun name.now (nameds_seen params.entry) (expression_of sort.now) (expression_of term.now)) state.new result }
+{
+    let answer = quiet(alloc, state.options)?;
+    state
+        .stack
+        .define_function(alloc, name, params.as_slice(), sort, term)?;
+    state.kept = None;
+    Ok(answer)
+}
+
+/// Adds an assertion.
+pub(crate) fn assert(
+    alloc: Global,
+    state: &mut SessionState,
+    term: &Sexpr,
+) -> Result<Answer, CommandError>
+    ensures done { (number : ℕ) → IsDone state.old number (assert (expression_of term.now)) state.new result }
+{
+    let answer = quiet(alloc, state.options)?;
+    state.stack.assert(alloc, term)?;
+    state.kept = None;
+    Ok(answer)
+}

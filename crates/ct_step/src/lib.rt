@@ -1,0 +1,18 @@
+//! What one command does to what a session stores, and what it answers.
+#![tactic(auto)]
+
+mod answer;
+mod ask;
+mod check;
+mod declare;
+mod infos;
+mod levels;
+mod options;
+mod performing;
+mod settings;
+mod state;
+
+pub use answer::{Answer, refusal_text, refused};
+pub use options::Options;
+pub use performing::perform;
+pub use state::SessionState;
