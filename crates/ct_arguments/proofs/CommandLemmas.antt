@@ -11,7 +11,7 @@ use Rattle.clap.specs.Faults.{check_fault, defaults_fault, entered_fault, level_
 use Rattle.clap.specs.declared.error.kind.ErrorKind.{ErrorKind}
 use Rattle.clap.specs.declared.error.kind.ErrorKind.TheVariants.{OutOfMemory}
 use Rattle.ct_arguments.specs.Command.{cosmt}
-use Rattle.ct_arguments.specs.Arguments.{is_help, meaning, refusal, task_of}
+use Rattle.ct_arguments.specs.Arguments.{is_help, asked_for, refusal, task_of}
 use Rattle.ct_arguments.proofs.Judgement.{Agrees, no_default_fault, settle_agrees, then, walk_agrees}
 
 pub cosmt_is_simple : is_simple cosmt ≡ true
@@ -75,7 +75,7 @@ not_true true never = absurd (never refl)
 not_true false never = refl
 
 -- accepted arguments mean what their matches mean
-pub accepted : (words : List Text) → fault_of cosmt words ≡ [] → meaning (matches_of cosmt words) ≡ task_of words
+pub accepted : (words : List Text) → fault_of cosmt words ≡ [] → asked_for (matches_of cosmt words) ≡ task_of words
 unfolding task_of
 accepted words none = rw (passes_of_none (fault_of cosmt words) (takes cosmt words) (judged words) none) refl
 

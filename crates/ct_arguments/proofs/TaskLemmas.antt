@@ -9,7 +9,7 @@ use Rattle.std.proofs.Math.Dec.{leb}
 use Rattle.std.proofs.lemmas.Bool.{leb-true}
 use Rattle.clap.specs.Words.{fault_of, first_of, matches_of, takes}
 use Rattle.ct_arguments.specs.Command.{cosmt}
-use Rattle.ct_arguments.specs.Arguments.{Asked, IsWithin, faulty, generates, generation, asked_by, meaning, is_help, refusal, task_of}
+use Rattle.ct_arguments.specs.Arguments.{Asked, IsWithin, faulty, generates, generation, asked_by, asked_for, is_help, refusal, task_of}
 
 within_where : (b c d : Bool) (n : ℕ) → leb 1 n ≡ c → leb n 2000 ≡ d → IsWithin (option_map_or generates (if b && (c && d) then Some n else None) faulty)
 within_where true true true n some few = (leb-true 1 n some, leb-true n 2000 few)
@@ -39,7 +39,7 @@ taken_within false asked other first second = second
 
 task_within : (words : List (List ℕ)) → IsWithin (task_of words)
 unfolding task_of
-task_within words = taken_within (takes cosmt words) (meaning (matches_of cosmt words)) (refusal (list_any is_help (fault_of cosmt words)))
+task_within words = taken_within (takes cosmt words) (asked_for (matches_of cosmt words)) (refusal (list_any is_help (fault_of cosmt words)))
     (asked_within (first_of (codes "gen") (matches_of cosmt words)) (first_of (codes "audit") (matches_of cosmt words)) (first_of (codes "file") (matches_of cosmt words)))
     (refusal_within (list_any is_help (fault_of cosmt words)))
 

@@ -39,8 +39,8 @@ asked_by None None (Some script) = solves script
 asked_by None None None = solves []
 
 -- what accepted arguments ask for, by their values
-abbrev pub meaning : List Row → Asked
-meaning rows = asked_by (first_of (codes "gen") rows) (first_of (codes "audit") rows) (first_of (codes "file") rows)
+abbrev pub asked_for : List Row → Asked
+asked_for rows = asked_by (first_of (codes "gen") rows) (first_of (codes "audit") rows) (first_of (codes "file") rows)
 
 -- `--help` or `-h` was met
 abbrev pub is_help : ErrorKind → Bool
@@ -53,7 +53,7 @@ refusal help = if help then helps else faulty
 
 -- the task that the arguments ask for
 unfoldable pub task_of : List (List ℕ) → Asked
-task_of words = if takes cosmt words then meaning (matches_of cosmt words) else refusal (list_any is_help (fault_of cosmt words))
+task_of words = if takes cosmt words then asked_for (matches_of cosmt words) else refusal (list_any is_help (fault_of cosmt words))
 
 -- a script that is to be generated has from 1 to 2,000 blocks
 abbrev pub IsWithin : Asked → Type 0

@@ -63,7 +63,7 @@ fn command<'a>(alloc: Global) -> Result<Command<'a>, AllocError>
 
 /// What the arguments ask for that were accepted.
 fn meaning<'a>(matches: &ArgMatches<'a>) -> Task<'a>
-    ensures task { task_seen result ≡ spec.meaning (rows_of (found_of matches.now)) }
+    ensures task { task_seen result ≡ spec.asked_for (rows_of (found_of matches.now)) }
 {
     asked_by(
         matches.get_str("gen"),

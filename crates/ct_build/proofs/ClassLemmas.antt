@@ -17,7 +17,7 @@ use Rattle.ct_terms.specs.Terms.{IsOfSort, IsOfField, AreSorted}
 use Rattle.ct_rules.specs.Cycle.{IsOfDatatype}
 use Rattle.ct_congr.specs.State.{State, AreEqual}
 use Rattle.ct_acyclic.specs.Order.{IsClassOrder}
-use Rattle.ct_build.specs.Nodes.{HaveNodes, IsClassList, AreNumbered, AreClassNodes, node_under}
+use Rattle.ct_build.specs.Nodes.{HaveSortedNodes, IsClassList, AreNumbered, AreClassNodes, node_under}
 use Rattle.ct_build.proofs.ListLemmas.{append_split, append_after, map_source, there, AllZip-map}
 use Rattle.ct_build.proofs.GraphLemmas.{longer_sort, longer_fits, fits_within, fitting_below, well_formed_longer, sort_within, one_node_sort}
 use Rattle.ct_build.proofs.TermLemmas.{one_term_sort}
@@ -187,5 +187,5 @@ module _ (state : State) (sorted : AreSorted state.declarations state.terms) (on
   pub class_nodes_below : All (HasChildrenBelow (length g + length added)) added
   class_nodes_below = fitting_below d g added class_node_fits
 
-  pub class_nodes_have : HaveNodes d state.terms longer nodes_of
+  pub class_nodes_have : HaveSortedNodes d state.terms longer nodes_of
   class_nodes_have = record { long = numbered.long; sorted = has_node }

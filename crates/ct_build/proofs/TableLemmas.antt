@@ -14,7 +14,7 @@ use Rattle.ct_terms.specs.Terms.{Terms, IsOfSort, Has, AreSorted}
 use Rattle.ct_eval.specs.declared.interp.Row.{Row}
 use Rattle.ct_eval.specs.declared.interp.Table.{Table}
 use Rattle.ct_eval.specs.Interpretation.{FitsRow, FitsTable, HasFunctions, HasSelectors}
-use Rattle.ct_build.specs.Nodes.{HaveNodes, node_under}
+use Rattle.ct_build.specs.Nodes.{HaveSortedNodes, node_under}
 use Rattle.ct_build.specs.Tables.{with_row, AddsFirst}
 use Rattle.ct_build.proofs.ListLemmas.{pushed_at, length-push, set_at, set_length, AllZip-map}
 
@@ -87,7 +87,7 @@ module _ (d : Declarations) (g : Nodes) where
   }
 
   -- the row of an application
-  pub application_fits : (terms : Terms) (nodes : List NodeId) → AreSorted d terms → HaveNodes d terms g nodes → (t : TermId) (f : FunId) (args : List TermId) (s : SortId) (n : NodeId) → slice_get terms t.0 ≡ Some (Apply f args, s) → slice_get nodes t.0 ≡ Some n → (function : Function) → slice_get d.functions f.0 ≡ Some function → FitsRow d g function.args function.result (record { args = map (node_under nodes) args; result = n })
+  pub application_fits : (terms : Terms) (nodes : List NodeId) → AreSorted d terms → HaveSortedNodes d terms g nodes → (t : TermId) (f : FunId) (args : List TermId) (s : SortId) (n : NodeId) → slice_get terms t.0 ≡ Some (Apply f args, s) → slice_get nodes t.0 ≡ Some n → (function : Function) → slice_get d.functions f.0 ≡ Some function → FitsRow d g function.args function.result (record { args = map (node_under nodes) args; result = n })
   application_fits terms nodes sorted have t f args s n stands at function declared =
       let applies = sorted t.0 (Apply f args) s stands in
       let same : applies.function ≡ function = same_Some _ _ (sym applies.declared ∙ declared) in
@@ -96,11 +96,11 @@ module _ (d : Declarations) (g : Nodes) where
         result_fits = subst (HasNodeSort d g n) applies.result (have.sorted t s n (Apply f args, stands) at);
       })
     where
-      node_fits : (terms : Terms) (nodes : List NodeId) → HaveNodes d terms g nodes → (a : TermId) (q : SortId) → IsOfSort terms a q → HasNodeSort d g (node_under nodes a) q
+      node_fits : (terms : Terms) (nodes : List NodeId) → HaveSortedNodes d terms g nodes → (a : TermId) (q : SortId) → IsOfSort terms a q → HasNodeSort d g (node_under nodes a) q
       node_fits terms nodes have a q has = have.sorted a q (node_under nodes a) has (slice_get-get_or nodes a.0 (record { 0 = 0 }) (omega (arith, have.long, slice_get_within terms a.0 (has.0, q) has.1)))
 
   -- the row of a selection
-  pub selection_fits : (terms : Terms) (nodes : List NodeId) → AreSorted d terms → HaveNodes d terms g nodes → (t of : TermId) (s : SelId) (r : SortId) (n m : NodeId) → slice_get terms t.0 ≡ Some (Sel s of, r) → slice_get nodes of.0 ≡ Some n → slice_get nodes t.0 ≡ Some m → (selector : Selector) (ctor : Constructor) → slice_get d.sels s.0 ≡ Some selector → slice_get d.ctors selector.ctor.0 ≡ Some ctor → FitsRow d g (ctor.sort ∷ []) selector.sort (record { args = n ∷ []; result = m })
+  pub selection_fits : (terms : Terms) (nodes : List NodeId) → AreSorted d terms → HaveSortedNodes d terms g nodes → (t of : TermId) (s : SelId) (r : SortId) (n m : NodeId) → slice_get terms t.0 ≡ Some (Sel s of, r) → slice_get nodes of.0 ≡ Some n → slice_get nodes t.0 ≡ Some m → (selector : Selector) (ctor : Constructor) → slice_get d.sels s.0 ≡ Some selector → slice_get d.ctors selector.ctor.0 ≡ Some ctor → FitsRow d g (ctor.sort ∷ []) selector.sort (record { args = n ∷ []; result = m })
   selection_fits terms nodes sorted have t of s r n m stands at_of at selector ctor declared built =
       let selects = sorted t.0 (Sel s of) r stands in
       let same : selects.selector ≡ selector = same_Some _ _ (sym selects.declared ∙ declared) in

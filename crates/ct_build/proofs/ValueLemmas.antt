@@ -10,7 +10,7 @@ use Rattle.ct_values.specs.Fitting.{HasNodeSort}
 use Rattle.ct_terms.specs.declared.ids.TermId.{TermId}
 use Rattle.ct_terms.specs.Terms.{Terms, IsOfSort}
 use Rattle.ct_congr.specs.State.{State}
-use Rattle.ct_build.specs.Nodes.{HaveNodes, AreNumbered, IsReserved}
+use Rattle.ct_build.specs.Nodes.{HaveSortedNodes, AreNumbered, IsReserved}
 use Rattle.ct_build.proofs.ListLemmas.{pushed_at, length-push, set_at, set_length, all_from, there}
 use Rattle.ct_build.proofs.GraphLemmas.{begins_sort, sort_within}
 use Rattle.ct_build.proofs.TermLemmas.{one_term_sort}
@@ -37,11 +37,11 @@ module _ (d : Declarations) (terms : Terms) where
     ];
   }
 
-  pub have_all : (g : Nodes) (count : ℕ) (list : List NodeId) → count ≡ length terms → HaveFirst g count list → HaveNodes d terms g list
+  pub have_all : (g : Nodes) (count : ℕ) (list : List NodeId) → count ≡ length terms → HaveFirst g count list → HaveSortedNodes d terms g list
   have_all g count list e have = record { long = have.long ∙ e; sorted = have.sorted }
 
   -- one node is another of the same sort
-  pub have_set : (g : Nodes) (list : List NodeId) (t : TermId) (s : SortId) (n : NodeId) → HaveNodes d terms g list → IsOfSort terms t s → HasNodeSort d g n s → HaveNodes d terms g (set list t.0 n)
+  pub have_set : (g : Nodes) (list : List NodeId) (t : TermId) (s : SortId) (n : NodeId) → HaveSortedNodes d terms g list → IsOfSort terms t s → HasNodeSort d g n s → HaveSortedNodes d terms g (set list t.0 n)
   have_set g list t s n old has node = record {
     long = set_length list t.0 n ∙ old.long;
     sorted = λ u q m is at. elim (set_at list t.0 u.0 n m at) [
@@ -53,11 +53,11 @@ module _ (d : Declarations) (terms : Terms) where
     ];
   }
 
-  pub have_longer : (g longer : Nodes) (list : List NodeId) → Begins g longer → HaveNodes d terms g list → HaveNodes d terms longer list
+  pub have_longer : (g longer : Nodes) (list : List NodeId) → Begins g longer → HaveSortedNodes d terms g list → HaveSortedNodes d terms longer list
   have_longer g longer list begins old = record { long = old.long; sorted = λ t s n is at. begins_sort d g longer n s begins (old.sorted t s n is at) }
 
 -- nodes of terms are in the graph
-pub nodes_within : (d : Declarations) (terms : Terms) (g : Nodes) (list : List NodeId) → HaveNodes d terms g list → All (λ (n : NodeId). n.0 < length g) list
+pub nodes_within : (d : Declarations) (terms : Terms) (g : Nodes) (list : List NodeId) → HaveSortedNodes d terms g list → All (λ (n : NodeId). n.0 < length g) list
 nodes_within d terms g list have = all_from (λ (n : NodeId). n.0 < length g) list (λ k n at.
     let entry = there terms k (omega (arith, have.long, slice_get_within list k n at)) in
     sort_within d g n entry.0.1 (have.sorted (record { 0 = k }) entry.0.1 n (entry.0.0, entry.1) at))
@@ -71,7 +71,7 @@ module _ (state : State) where
   pub numbered_none : (g : Nodes) (list : List TermId) → AreFirstNumbered g list 0 []
   numbered_none g list = record { long = refl; each = λ t r s n rep has at. absurd (none-some n at) }
 
-  pub numbered_more : (g : Nodes) (list : List TermId) (count : ℕ) (nodes values : List NodeId) (rep : TermId) (n : NodeId) → HaveOneSort state → HaveNodes state.declarations state.terms g values → slice_get state.reps count ≡ Some rep → slice_get state.reps rep.0 ≡ Some rep → (slice_get values rep.0 ≡ Some n) ⊎ IsReserved list (length g) rep n → AreFirstNumbered g list count nodes → AreFirstNumbered g list (count + 1) (nodes ++ n ∷ [])
+  pub numbered_more : (g : Nodes) (list : List TermId) (count : ℕ) (nodes values : List NodeId) (rep : TermId) (n : NodeId) → HaveOneSort state → HaveSortedNodes state.declarations state.terms g values → slice_get state.reps count ≡ Some rep → slice_get state.reps rep.0 ≡ Some rep → (slice_get values rep.0 ≡ Some n) ⊎ IsReserved list (length g) rep n → AreFirstNumbered g list count nodes → AreFirstNumbered g list (count + 1) (nodes ++ n ∷ [])
   numbered_more g list count nodes values rep n one_sort have at_rep own found old = record {
     long = length-push nodes n ∙ ap (λ k. k + 1) old.long;
     each = λ t r s m at_r has at. elim (pushed_at nodes n m t.0 at) [

@@ -27,7 +27,7 @@ pub record AreOfAllSorts (d : Declarations) (g : Nodes) (list : List NodeId) : T
   pub sorted : (s : ℕ) (n : NodeId) → slice_get list s ≡ Some n → HasNodeSort d g n (record { 0 = s })
 
 -- a node for each term, of the term's sort
-pub record HaveNodes (d : Declarations) (terms : Terms) (g : Nodes) (list : List NodeId) : Type 0 where
+pub record HaveSortedNodes (d : Declarations) (terms : Terms) (g : Nodes) (list : List NodeId) : Type 0 where
   pub long : length list ≡ length terms
   pub sorted : (t : TermId) (s : SortId) (n : NodeId) → IsOfSort terms t s → slice_get list t.0 ≡ Some n → HasNodeSort d g n s
 

@@ -2,7 +2,7 @@
 ghost use Rattle.std.specs.Prelude.{◌≡◌, ℕ, ◌<◌, ◌⊎◌, length, map, Some, slice_get, IfOk};
 ghost use Rattle.std.specs.List.{AllByRecursion};
 ghost use Rattle.ct_terms.specs.declared.ids.TermId.{TermId};
-ghost use Rattle.ct_build.specs.Nodes.{HaveNodes, node_under, IsOfTerm, IsCopied, AreClassNodes};
+ghost use Rattle.ct_build.specs.Nodes.{HaveSortedNodes, node_under, IsOfTerm, IsCopied, AreClassNodes};
 
 use crate::error::BuildError;
 use ct_congr::Classes;
@@ -19,7 +19,7 @@ pub(crate) fn class_nodes(
     list: &[TermId],
     nodes: &[NodeId],
 ) -> Result<Vec<Node>, BuildError>
-    requires values { HaveNodes classes.now.declarations classes.now.terms g.now values.now }
+    requires values { HaveSortedNodes classes.now.declarations classes.now.terms g.now values.now }
     requires long { length nodes.now ≡ length classes.now.terms }
     requires inside { (i : ℕ) (r : TermId) → slice_get list.now i ≡ Some r → r.0 < length classes.now.terms }
     ensures added { IfOk result (λ added. AreClassNodes classes.now g.now list.now nodes.now added.items) }
@@ -40,7 +40,7 @@ fn class_node(
     r: TermId,
     nodes: &[NodeId],
 ) -> Result<Node, BuildError>
-    requires values { HaveNodes classes.now.declarations classes.now.terms g.now values.now }
+    requires values { HaveSortedNodes classes.now.declarations classes.now.terms g.now values.now }
     requires long { length nodes.now ≡ length classes.now.terms }
     requires inside { r.0 < length classes.now.terms }
     ensures node { IfOk result (λ node. IsOfTerm classes.now nodes.now r node ⊎ IsCopied classes.now g.now r node) }

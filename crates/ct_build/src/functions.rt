@@ -3,7 +3,7 @@ ghost use Rattle.std.specs.Prelude.{◌≡◌, ◌<◌, length, IfOk, OnOk};
 ghost use Rattle.ct_values.specs.Graph.{Nodes};
 ghost use Rattle.ct_terms.specs.Terms.{AreSorted};
 ghost use Rattle.ct_eval.specs.Interpretation.{HasFunctions};
-ghost use Rattle.ct_build.specs.Nodes.{AreOfAllSorts, HaveNodes};
+ghost use Rattle.ct_build.specs.Nodes.{AreOfAllSorts, HaveSortedNodes};
 
 use crate::class_nodes::nodes_of;
 use crate::error::BuildError;
@@ -29,7 +29,7 @@ pub(crate) fn function_tables(
     requires defaults { length defaults.now ≡ length sig.now.sorts }
     ensures functions { IfOk result (λ tables. (g : Nodes)
         → AreOfAllSorts sig.now g defaults.now
-        → HaveNodes sig.now table.now g nodes.now
+        → HaveSortedNodes sig.now table.now g nodes.now
         → HasFunctions sig.now g tables.items) }
 {
     let mut tables = empty_tables(alloc, sig, defaults)?;
@@ -77,7 +77,7 @@ fn add_application(
     requires one_each { length tables.old.items ≡ length sig.now.functions }
     ensures one_each { OnOk result (length tables.new.items ≡ length sig.now.functions) }
     ensures functions { OnOk result ((g : Nodes)
-        → HaveNodes sig.now table.now g nodes.now
+        → HaveSortedNodes sig.now table.now g nodes.now
         → HasFunctions sig.now g tables.old.items
         → HasFunctions sig.now g tables.new.items) }
 {

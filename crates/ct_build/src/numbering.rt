@@ -3,7 +3,7 @@ ghost use Rattle.std.specs.Prelude.{◌≡◌, ℕ, ◌+◌, ◌<◌, ◌^◌, �
 ghost use Rattle.ct_terms.specs.declared.ids.TermId.{TermId};
 ghost use Rattle.ct_values.specs.declared.node.NodeId.{NodeId};
 ghost use Rattle.ct_values.specs.Graph.{Nodes};
-ghost use Rattle.ct_build.specs.Nodes.{HaveNodes, AreNumbered, IsReserved};
+ghost use Rattle.ct_build.specs.Nodes.{HaveSortedNodes, AreNumbered, IsReserved};
 
 use crate::error::BuildError;
 use crate::facts::facts;
@@ -25,7 +25,7 @@ pub(crate) fn numbered(
     requires room { base + length list.now < 2 ^ 64 }
     ensures numbered { IfOk result (λ nodes. (g : Nodes)
         → length g ≡ base
-        → HaveNodes classes.now.declarations classes.now.terms g values.now
+        → HaveSortedNodes classes.now.declarations classes.now.terms g values.now
         → AreNumbered classes.now g list.now nodes.items) }
 {
     let mut reserved = Vec::from_slice(alloc, values)?;

@@ -5,7 +5,7 @@ ghost use Rattle.ct_values.specs.Graph.{Nodes};
 ghost use Rattle.ct_terms.specs.Terms.{Has};
 ghost use Rattle.ct_terms.specs.declared.term.Core.TheVariants as Core;
 ghost use Rattle.ct_eval.specs.Interpretation.{HasSelectors};
-ghost use Rattle.ct_build.specs.Nodes.{AreOfAllSorts, HaveNodes};
+ghost use Rattle.ct_build.specs.Nodes.{AreOfAllSorts, HaveSortedNodes};
 
 use crate::error::BuildError;
 use crate::rows::{RowKey, add_first};
@@ -29,7 +29,7 @@ pub(crate) fn selector_tables(
     requires defaults { length defaults.now ≡ length classes.now.declarations.sorts }
     ensures selectors { IfOk result (λ tables. (g : Nodes)
         → AreOfAllSorts classes.now.declarations g defaults.now
-        → HaveNodes classes.now.declarations classes.now.terms g nodes.now
+        → HaveSortedNodes classes.now.declarations classes.now.terms g nodes.now
         → HasSelectors classes.now.declarations g tables.items) }
 {
     let mut tables = empty_tables(alloc, classes.signature(), defaults)?;
@@ -75,7 +75,7 @@ fn add_selection(
     requires one_each { length tables.old.items ≡ length classes.now.declarations.sels }
     ensures one_each { OnOk result (length tables.new.items ≡ length classes.now.declarations.sels) }
     ensures selectors { OnOk result ((g : Nodes)
-        → HaveNodes classes.now.declarations classes.now.terms g nodes.now
+        → HaveSortedNodes classes.now.declarations classes.now.terms g nodes.now
         → HasSelectors classes.now.declarations g tables.old.items
         → HasSelectors classes.now.declarations g tables.new.items) }
 {

@@ -3,7 +3,7 @@ ghost use Rattle.std.specs.Prelude.{◌≡◌, length, IfOk};
 ghost use Rattle.ct_values.specs.WellFormed.{IsWellFormedGraph};
 ghost use Rattle.ct_card.specs.Sizes.{AreSizes};
 ghost use Rattle.ct_acyclic.specs.Order.{IsClassOrder};
-ghost use Rattle.ct_build.specs.Nodes.{AreOpenClasses, AreOfAllSorts, HaveNodes};
+ghost use Rattle.ct_build.specs.Nodes.{AreOpenClasses, AreOfAllSorts, HaveSortedNodes};
 
 use crate::class_list::class_list;
 use crate::class_nodes::class_nodes;
@@ -45,7 +45,7 @@ pub(crate) fn valued(
     requires long { length numbers.now ≡ length unbuilt.now }
     requires well_formed { IsWellFormedGraph classes.now.declarations g.old }
     ensures well_formed { IfOk result (λ v. IsWellFormedGraph classes.now.declarations g.new) }
-    ensures nodes { IfOk result (λ v. HaveNodes classes.now.declarations classes.now.terms g.new v.nodes.items) }
+    ensures nodes { IfOk result (λ v. HaveSortedNodes classes.now.declarations classes.now.terms g.new v.nodes.items) }
     ensures defaults { IfOk result (λ v. AreOfAllSorts classes.now.declarations g.new v.defaults.items) }
 {
     facts(classes);

@@ -8,7 +8,7 @@ ghost use Rattle.ct_values.specs.WellFormed.{IsWellFormedGraph};
 ghost use Rattle.ct_card.specs.declared.size.Size.TheVariants.{Infinite};
 ghost use Rattle.ct_card.specs.Cardinality.{HasSize};
 ghost use Rattle.ct_card.specs.Sizes.{AreSizes};
-ghost use Rattle.ct_build.specs.Nodes.{AreOpenClasses, AreOfAllSorts, HaveNodes};
+ghost use Rattle.ct_build.specs.Nodes.{AreOpenClasses, AreOfAllSorts, HaveSortedNodes};
 
 use crate::error::BuildError;
 use crate::open_classes::{OpenClass, term_sort};
@@ -36,7 +36,7 @@ pub(crate) fn values(
     requires defaults { AreOfAllSorts classes.now.declarations g.old defaults.now }
     ensures grown { Begins g.old g.new }
     ensures well_formed { IsWellFormedGraph classes.now.declarations g.old → IsWellFormedGraph classes.now.declarations g.new }
-    ensures nodes { IfOk result (λ list. HaveNodes classes.now.declarations classes.now.terms g.new list.items) }
+    ensures nodes { IfOk result (λ list. HaveSortedNodes classes.now.declarations classes.now.terms g.new list.items) }
 {
     let mut list = defaults_of_terms(alloc, classes, defaults)?;
     for i in 0..unbuilt.len() {
@@ -55,7 +55,7 @@ fn defaults_of_terms(
     defaults: &[NodeId],
 ) -> Result<Vec<NodeId>, BuildError>
     requires long { length defaults.now ≡ length classes.now.declarations.sorts }
-    ensures nodes { IfOk result (λ list. (g : Nodes) → AreOfAllSorts classes.now.declarations g defaults.now → HaveNodes classes.now.declarations classes.now.terms g list.items) }
+    ensures nodes { IfOk result (λ list. (g : Nodes) → AreOfAllSorts classes.now.declarations g defaults.now → HaveSortedNodes classes.now.declarations classes.now.terms g list.items) }
 {
     let mut list = Vec::new(alloc);
     for t in 0..classes.table().len() {

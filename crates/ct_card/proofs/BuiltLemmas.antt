@@ -18,7 +18,7 @@ use Rattle.ct_values.specs.Fitting.{HasNodeSort, IsNodeOfField, FitsNode, node_s
 use Rattle.ct_card.specs.declared.departure.Step.{Step}
 use Rattle.ct_card.specs.Fields.{field_sort, sels_of, ctor_fields, ctors_of}
 use Rattle.ct_card.specs.Defaults.{is_free_sort, node_of_sort, AreChosen}
-use Rattle.ct_card.specs.Built.{AreSorted, node_over, node_with}
+use Rattle.ct_card.specs.Built.{HaveTheirSorts, node_over, node_with}
 use Rattle.ct_card.proofs.ListLemmas.{map_source, map_target, all_from}
 use Rattle.ct_card.proofs.SizeLemmas.{there}
 use Rattle.ct_card.proofs.RuleLemmas.{sels_at, ctors_at, field_at, ctor_field}
@@ -78,7 +78,7 @@ module _ (d : Declarations) (consistent : IsConsistent d) (own : HaveOwnConstruc
       let field = ctor_field d consistent own own_sels of_sorts of_ctors c ctor.0 k t ctor.1 listed in
       subst (λ n. n < length d.sorts) field.sorted (consistent.fields field.id.0 field.selector field.declared)
 
-  module _ (ranks : List ℕ) (base : ℕ) (g : Nodes) (sorted : AreSorted d ranks base g) where
+  module _ (ranks : List ℕ) (base : ℕ) (g : Nodes) (sorted : HaveTheirSorts d ranks base g) where
     default_fields : (sels : List SelId) → ((index : ℕ) (id : SelId) → slice_get sels index ≡ Some id → (sel : Selector) × (slice_get d.sels id.0 ≡ Some sel)) → AllZip (IsNodeOfField d g) (map (node_of_sort base ranks) (map (field_sort d) sels)) sels
     default_fields [] each = tt
     default_fields (id ∷ sels) each =

@@ -15,8 +15,8 @@ use Rattle.ct_card.specs.Rules.{IsDerived}
 use Rattle.ct_card.specs.Defaults.{is_free_sort, node_of_sort}
 
 -- the nodes from the base on, in the order of ranks, have the sorts
-abbrev pub AreSorted : Declarations → List ℕ → ℕ → Nodes → Type 0
-AreSorted d ranks base g = (s : ℕ) → s < length d.sorts → HasNodeSort d g (node_of_sort base ranks s) (record { 0 = s })
+abbrev pub HaveTheirSorts : Declarations → List ℕ → ℕ → Nodes → Type 0
+HaveTheirSorts d ranks base g = (s : ℕ) → s < length d.sorts → HasNodeSort d g (node_of_sort base ranks s) (record { 0 = s })
 
 -- the constructor over default values
 abbrev pub node_over : Declarations → List ℕ → ℕ → CtorId → Node

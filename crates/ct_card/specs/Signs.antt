@@ -14,7 +14,7 @@ use Rattle.ct_card.specs.declared.departure.Departure.TheVariants.{Constructor, 
 use Rattle.ct_card.specs.Defaults.{is_free_sort, node_of_sort, HasDefaults}
 use Rattle.ct_card.specs.Rules.{IsDerived}
 use Rattle.ct_card.specs.Paths.{HasHeadAt}
-use Rattle.ct_card.specs.Built.{AreSorted}
+use Rattle.ct_card.specs.Built.{HaveTheirSorts}
 
 -- the head of the default value, where the second value has another one: the element 0, or a constructor of several
 abbrev pub IsTopSign : Declarations → List CtorId → List Departure → ℕ → Head → Type 0
@@ -40,7 +40,7 @@ pub record IsSecondValue (d : Declarations) (ctors : List CtorId) (seconds : Lis
 -- the default values of all sorts stand in the graph, from the base on
 pub record HasAllDefaults (d : Declarations) (ranks : List ℕ) (ctors : List CtorId) (base : ℕ) (g : Nodes) : Type 0 where
   pub stand : HasDefaults d ranks ctors g base
-  pub sorted : AreSorted d ranks base g
+  pub sorted : HaveTheirSorts d ranks base g
 
 -- and second values of the sorts of several values up to this rank, from the second number on
 abbrev pub HasSeconds : Declarations → List ℕ → List CtorId → List Departure → ℕ → Nodes → ℕ → Type 0

@@ -6,7 +6,7 @@ ghost use Rattle.ct_values.specs.Fitting.{HasNodeSort, FitsNode};
 ghost use Rattle.ct_card.specs.Fields.{ctor_fields};
 ghost use Rattle.ct_card.specs.Rules.{IsDerived};
 ghost use Rattle.ct_card.specs.Defaults.{node_of_sort, is_free_sort, AreRanked};
-ghost use Rattle.ct_card.specs.Built.{AreSorted, node_over, node_with, IsEndNode, IsDepartingNode, CanDepart};
+ghost use Rattle.ct_card.specs.Built.{HaveTheirSorts, node_over, node_with, IsEndNode, IsDepartingNode, CanDepart};
 
 use crate::choice::rank_of;
 use crate::defaults::{default_children, is_free};
@@ -28,7 +28,7 @@ pub(crate) fn push_over(
     requires inside { IsConstructor sig.now c }
     requires long { length ranks.now ≡ length sig.now.sorts }
     requires ranked { AreRanked ranks.now base }
-    requires sorted { AreSorted sig.now ranks.now base g.old }
+    requires sorted { HaveTheirSorts sig.now ranks.now base g.old }
     ensures number { IfOk result (λ n. n.0 ≡ length g.old) }
     ensures pushed { IfOk result (λ n. g.new ≡ g.old ++ node_over sig.now ranks.now base c ∷ []) }
     ensures fits { IfOk result (λ n. FitsNode sig.now g.old (node_over sig.now ranks.now base c)) }
@@ -55,7 +55,7 @@ pub(crate) fn push_with(
     requires inside { IsConstructor sig.now step.ctor }
     requires long { length ranks.now ≡ length sig.now.sorts }
     requires ranked { AreRanked ranks.now base }
-    requires sorted { AreSorted sig.now ranks.now base g.old }
+    requires sorted { HaveTheirSorts sig.now ranks.now base g.old }
     requires field { slice_get (ctor_fields sig.now step.ctor) step.place ≡ Some step.next }
     requires child { HasNodeSort sig.now g.old child (record { 0 = step.next }) }
     ensures number { IfOk result (λ n. n.0 ≡ length g.old) }
@@ -88,7 +88,7 @@ pub(crate) fn push_end(
     requires inside { s < length sig.now.sorts }
     requires long { length ranks.now ≡ length sig.now.sorts }
     requires ranked { AreRanked ranks.now base }
-    requires sorted { AreSorted sig.now ranks.now base g.old }
+    requires sorted { HaveTheirSorts sig.now ranks.now base g.old }
     requires can { is_free_sort sig.now s ≡ false → CanDepart sig.now several.now second g.old departure }
     ensures number { IfOk result (λ n. n.0 ≡ length g.old) }
     ensures pushed { IfOk result (λ n. (node : Node) × IsEndNode sig.now several.now ranks.now base second s number departure node × FitsNode sig.now g.old node × (g.new ≡ g.old ++ node ∷ [])) }
@@ -117,7 +117,7 @@ fn push_departing(
 ) -> Result<NodeId, CardError>
     requires long { length ranks.now ≡ length sig.now.sorts }
     requires ranked { AreRanked ranks.now base }
-    requires sorted { AreSorted sig.now ranks.now base g.old }
+    requires sorted { HaveTheirSorts sig.now ranks.now base g.old }
     requires can { CanDepart sig.now several.now second g.old departure }
     ensures number { IfOk result (λ n. n.0 ≡ length g.old) }
     ensures pushed { IfOk result (λ n. (node : Node) × IsDepartingNode sig.now several.now ranks.now base second departure node × FitsNode sig.now g.old node × (g.new ≡ g.old ++ node ∷ [])) }

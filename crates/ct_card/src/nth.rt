@@ -11,7 +11,7 @@ ghost use Rattle.ct_card.specs.Rules.{IsDerived};
 ghost use Rattle.ct_card.specs.Ranked.{AreSeveral};
 ghost use Rattle.ct_card.specs.Defaults.{AreRanked, node_of_sort};
 ghost use Rattle.ct_card.specs.Departures.{AreSeconds, AreLayers};
-ghost use Rattle.ct_card.specs.Built.{AreSorted};
+ghost use Rattle.ct_card.specs.Built.{HaveTheirSorts};
 ghost use Rattle.ct_card.specs.Signs.{HasAllDefaults, HasAllSeconds};
 ghost use Rattle.ct_card.specs.Nth.{IsNthIn};
 
@@ -43,7 +43,7 @@ pub(crate) fn append_nth(
     requires layered { AreLayers sig.now several.now layers.now }
     requires long { length ranks.now ≡ length sig.now.sorts }
     requires ranked { AreRanked ranks.now base }
-    requires sorted { AreSorted sig.now ranks.now base g.old }
+    requires sorted { HaveTheirSorts sig.now ranks.now base g.old }
     requires seconds { (t : ℕ) → IsDerived several.now t → HasNodeSort sig.now g.old (node_of_sort second several.now t) (record { 0 = t }) }
     requires room { (t : ℕ) → IsDerived several.now t → second + get_or several.now t 0 < 2 ^ 64 }
     ensures grown { Begins g.old g.new }

@@ -11,10 +11,10 @@ use Rattle.ct_terms.specs.TreeFormula.{formula_of, formulas_of_trees}
 use Rattle.ct_names.specs.declared.error.CheckError.{CheckError}
 use Rattle.ct_names.specs.declared.error.CheckError.TheVariants.{Refused, NoMemory}
 use Rattle.ct_names.specs.Outcome.{Outcome, Sorted, and_then}
-use Rattle.ct_names.specs.Answer.{Answers}
+use Rattle.ct_names.specs.Answer.{IsAnswerFor}
 use Rattle.ct_names.specs.Variables.{Variable}
 use Rattle.ct_names.specs.Parts.{list_part, with_part}
-use Rattle.ct_names.specs.Elaboration.{part_of, parts_of, meaning, bound_terms, formulas_of, sorts_of}
+use Rattle.ct_names.specs.Elaboration.{part_of, parts_of, meaning_of_part, bound_terms, without_sorts, sorts_of}
 use Rattle.ct_check.specs.Trees.{sorted_of, sorted_trees, sorted_list}
 use Rattle.ct_names.proofs.AnswerLemmas.{and_then-self}
 use Rattle.ct_names.proofs.PartLemmas.{drop_item}
@@ -28,7 +28,7 @@ sorted_trees-push (u ∷ ts) [] t s e = absurd (omega (arith, e))
 sorted_trees-push (u ∷ ts) (r ∷ ss) t s e = ap (λ rest. (formula_of u, r) ∷ rest) (sorted_trees-push ts ss t s (omega (arith, e)))
 
 -- their formulas, and their sorts
-pub formulas_of-sorted : (ts : List Tree) (ss : List SortId) → length ts ≡ length ss → formulas_of (sorted_trees ts ss) ≡ formulas_of_trees ts
+pub formulas_of-sorted : (ts : List Tree) (ss : List SortId) → length ts ≡ length ss → without_sorts (sorted_trees ts ss) ≡ formulas_of_trees ts
 formulas_of-sorted [] ss e = refl
 formulas_of-sorted (t ∷ ts) [] e = absurd (omega (arith, e))
 formulas_of-sorted (t ∷ ts) (s ∷ ss) e = ap (λ rest. with_formula (formula_of t) rest) (formulas_of-sorted ts ss (omega (arith, e)))
@@ -66,13 +66,13 @@ pub record IsBinding (d : Declarations) (binding : Sexpr) (x t : Sexpr) : Type 0
   pub m : List Variable → Outcome Sorted
   pub is : part_of d (expression_of binding) ≡ list_part (parts_of d (expressions_of (x ∷ (t ∷ [])))) m
 
-left-item : (d : Declarations) (scope : List Variable) (bindings : List Sexpr) (i : ℕ) (b x t : Sexpr) → i < length bindings → b ≡ get_or bindings i b → IsBinding d b x t → left_from d scope bindings i ≡ and_then (meaning d scope (part_of d (expression_of t))) (λ u. and_then (left_from d scope bindings (i + 1)) (first u))
+left-item : (d : Declarations) (scope : List Variable) (bindings : List Sexpr) (i : ℕ) (b x t : Sexpr) → i < length bindings → b ≡ get_or bindings i b → IsBinding d b x t → left_from d scope bindings i ≡ and_then (meaning_of_part d scope (part_of d (expression_of t))) (λ u. and_then (left_from d scope bindings (i + 1)) (first u))
 left-item d scope bindings i b x t ib eb form =
     ap (λ xs. bound_terms d scope (parts_of d (expressions_of xs))) (drop_item bindings i b ib eb)
     ∙ ap (λ p. bound_terms d scope (with_part p (parts_of d (expressions_of (drop (i + 1) bindings))))) form.is
 
 module _ (d : Declarations) (scope : List Variable) (bindings : List Sexpr) (i : ℕ) (ts : List Tree) (ss : List SortId) (at : IsAt d scope bindings i ts ss) where
-  pub at_next : (b x e : Sexpr) (t : Tree) (s : SortId) (long : length (ts ++ t ∷ []) ≡ length (ss ++ s ∷ [])) → i < length bindings → b ≡ get_or bindings i b → IsBinding d b x e → meaning d scope (part_of d (expression_of e)) ≡ Ok (formula_of t, s) → IsAt d scope bindings (i + 1) (ts ++ t ∷ []) (ss ++ s ∷ [])
+  pub at_next : (b x e : Sexpr) (t : Tree) (s : SortId) (long : length (ts ++ t ∷ []) ≡ length (ss ++ s ∷ [])) → i < length bindings → b ≡ get_or bindings i b → IsBinding d b x e → meaning_of_part d scope (part_of d (expression_of e)) ≡ Ok (formula_of t, s) → IsAt d scope bindings (i + 1) (ts ++ t ∷ []) (ss ++ s ∷ [])
   at_next b x e t s long ib eb form means = record {
     long = long;
     whole =
@@ -82,7 +82,7 @@ module _ (d : Declarations) (scope : List Variable) (bindings : List Sexpr) (i :
         ∙ shifted (left_from d scope bindings (i + 1)) ts ss t s at.long;
   }
 
-  pub at_error : (b x t : Sexpr) (e : CheckError) → i < length bindings → b ≡ get_or bindings i b → IsBinding d b x t → Answers sorted_of (meaning d scope (part_of d (expression_of t))) (Err e) → Answers sorted_list (bound_terms d scope (parts_of d (expressions_of bindings))) (Err e)
+  pub at_error : (b x t : Sexpr) (e : CheckError) → i < length bindings → b ≡ get_or bindings i b → IsBinding d b x t → IsAnswerFor sorted_of (meaning_of_part d scope (part_of d (expression_of t))) (Err e) → IsAnswerFor sorted_list (bound_terms d scope (parts_of d (expressions_of bindings))) (Err e)
   at_error b x t (Refused n) ib eb form h =
       at.whole
       ∙ ap (λ o. and_then o (after ts ss)) (left-item d scope bindings i b x t ib eb form)

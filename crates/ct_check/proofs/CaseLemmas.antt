@@ -12,7 +12,7 @@ use Rattle.ct_names.specs.Refusals.{wrong_sort}
 use Rattle.ct_names.specs.Variables.{Variable}
 use Rattle.ct_names.specs.Parts.{Part, with_part}
 use Rattle.ct_names.specs.Patterns.{Binding, pattern}
-use Rattle.ct_names.specs.Elaboration.{Checked, one_more, goes_with, part_of, parts_of, meaning, checked_cases}
+use Rattle.ct_names.specs.Elaboration.{Checked, with_case_before, goes_with, part_of, parts_of, meaning_of_part, checked_cases}
 use Rattle.ct_names.proofs.AnswerLemmas.{and_then-self}
 use Rattle.ct_names.proofs.PartLemmas.{drop_item}
 use Rattle.ct_check.proofs.JoinedFormulas.{drop_past}
@@ -39,7 +39,7 @@ abbrev pub after : List (Pattern × Formula) → List Pattern → Checked → Ou
 after cs ps checked = Ok (with_left cs ps checked)
 
 abbrev first : Pattern → Formula → Checked → Outcome Checked
-first p body checked = Ok (one_more p body checked)
+first p body checked = Ok (with_case_before p body checked)
 
 append-push : (ps : List Pattern) (p : Pattern) (qs : List Pattern) → (ps ++ p ∷ []) ++ qs ≡ ps ++ p ∷ qs
 append-push [] p qs = refl
@@ -49,7 +49,7 @@ append-none : (ps : List Pattern) → ps ++ [] ≡ ps
 append-none [] = refl
 append-none (p ∷ ps) = ap (λ rest. p ∷ rest) (append-none ps)
 
-with_left-push : (cs : List (Pattern × Formula)) (ps : List Pattern) (p : Pattern) (body : Formula) (checked : Checked) → with_left cs ps (one_more p body checked) ≡ with_left (cs ++ (p, body) ∷ []) (ps ++ p ∷ []) checked
+with_left-push : (cs : List (Pattern × Formula)) (ps : List Pattern) (p : Pattern) (body : Formula) (checked : Checked) → with_left cs ps (with_case_before p body checked) ≡ with_left (cs ++ (p, body) ∷ []) (ps ++ p ∷ []) checked
 with_left-push cs ps p body checked =
     ap (λ (cases : Cases). record { cases = cases; patterns = ps ++ p ∷ checked.patterns; sort = checked.sort }) (sym (joined-push cs (p, body) checked.cases))
     ∙ ap (λ (patterns : List Pattern). record { cases = joined (cs ++ (p, body) ∷ []) checked.cases; patterns = patterns; sort = checked.sort }) (sym (append-push ps p checked.patterns))
@@ -72,7 +72,7 @@ at_start d scope side cases = record { whole = sym (and_then-self (checked_cases
 abbrev case_outcome : Declarations → List Variable → SortId → Option SortId → List Sexpr → ℕ → Part → Part → Outcome Checked
 case_outcome d scope side sort cases i p body =
     and_then (pattern d side p) (λ binding.
-    and_then (meaning d (bind binding.1 scope) body) (λ u.
+    and_then (meaning_of_part d (bind binding.1 scope) body) (λ u.
     unless_refused (goes_with sort u.1) wrong_sort
     (and_then (left_from d scope side (Some u.1) cases i) (first binding.0 u.0))))
 
@@ -87,11 +87,11 @@ module _ (d : Declarations) (scope : List Variable) (side : SortId) (cases : Lis
   at_case c p body ic ec form = at.whole ∙ ap (λ o. and_then o (after cs ps)) (left-item d scope side sort cases i c p body ic ec form)
 
   -- one case more
-  pub at_next : (c p body : Sexpr) (binding : Binding) (u : Sorted) → i < length cases → c ≡ get_or cases i c → IsBinding d c p body → pattern d side (part_of d (expression_of p)) ≡ Ok binding → meaning d (bind binding.1 scope) (part_of d (expression_of body)) ≡ Ok u → goes_with sort u.1 ≡ true → IsAt d scope side cases (i + 1) (Some u.1) (cs ++ (binding.0, u.0) ∷ []) (ps ++ binding.0 ∷ [])
+  pub at_next : (c p body : Sexpr) (binding : Binding) (u : Sorted) → i < length cases → c ≡ get_or cases i c → IsBinding d c p body → pattern d side (part_of d (expression_of p)) ≡ Ok binding → meaning_of_part d (bind binding.1 scope) (part_of d (expression_of body)) ≡ Ok u → goes_with sort u.1 ≡ true → IsAt d scope side cases (i + 1) (Some u.1) (cs ++ (binding.0, u.0) ∷ []) (ps ++ binding.0 ∷ [])
   at_next c p body binding u ic ec form fits means goes = record {
     whole =
         at_case c p body ic ec form
-        ∙ ap (λ o. and_then (and_then o (λ b. and_then (meaning d (bind b.1 scope) (part_of d (expression_of body))) (λ v. unless_refused (goes_with sort v.1) wrong_sort (and_then (left_from d scope side (Some v.1) cases (i + 1)) (first b.0 v.0))))) (after cs ps)) fits
+        ∙ ap (λ o. and_then (and_then o (λ b. and_then (meaning_of_part d (bind b.1 scope) (part_of d (expression_of body))) (λ v. unless_refused (goes_with sort v.1) wrong_sort (and_then (left_from d scope side (Some v.1) cases (i + 1)) (first b.0 v.0))))) (after cs ps)) fits
         ∙ ap (λ o. and_then (and_then o (λ v. unless_refused (goes_with sort v.1) wrong_sort (and_then (left_from d scope side (Some v.1) cases (i + 1)) (first binding.0 v.0)))) (after cs ps)) means
         ∙ ap (λ b. and_then (unless_refused b wrong_sort (and_then (left_from d scope side (Some u.1) cases (i + 1)) (first binding.0 u.0))) (after cs ps)) goes
         ∙ shifted (left_from d scope side (Some u.1) cases (i + 1)) cs ps binding.0 u.0;
@@ -101,20 +101,20 @@ module _ (d : Declarations) (scope : List Variable) (side : SortId) (cases : Lis
   pub at_pattern_error : (c p body : Sexpr) (n : ℕ) → i < length cases → c ≡ get_or cases i c → IsBinding d c p body → pattern d side (part_of d (expression_of p)) ≡ Err n → checked_cases d scope side None (parts_of d (expressions_of cases)) ≡ Err n
   at_pattern_error c p body n ic ec form fails =
       at_case c p body ic ec form
-      ∙ ap (λ o. and_then (and_then o (λ b. and_then (meaning d (bind b.1 scope) (part_of d (expression_of body))) (λ v. unless_refused (goes_with sort v.1) wrong_sort (and_then (left_from d scope side (Some v.1) cases (i + 1)) (first b.0 v.0))))) (after cs ps)) fails
+      ∙ ap (λ o. and_then (and_then o (λ b. and_then (meaning_of_part d (bind b.1 scope) (part_of d (expression_of body))) (λ v. unless_refused (goes_with sort v.1) wrong_sort (and_then (left_from d scope side (Some v.1) cases (i + 1)) (first b.0 v.0))))) (after cs ps)) fails
 
   -- a term has an error
-  pub at_term_error : (c p body : Sexpr) (binding : Binding) (n : ℕ) → i < length cases → c ≡ get_or cases i c → IsBinding d c p body → pattern d side (part_of d (expression_of p)) ≡ Ok binding → meaning d (bind binding.1 scope) (part_of d (expression_of body)) ≡ Err n → checked_cases d scope side None (parts_of d (expressions_of cases)) ≡ Err n
+  pub at_term_error : (c p body : Sexpr) (binding : Binding) (n : ℕ) → i < length cases → c ≡ get_or cases i c → IsBinding d c p body → pattern d side (part_of d (expression_of p)) ≡ Ok binding → meaning_of_part d (bind binding.1 scope) (part_of d (expression_of body)) ≡ Err n → checked_cases d scope side None (parts_of d (expressions_of cases)) ≡ Err n
   at_term_error c p body binding n ic ec form fits fails =
       at_case c p body ic ec form
-      ∙ ap (λ o. and_then (and_then o (λ b. and_then (meaning d (bind b.1 scope) (part_of d (expression_of body))) (λ v. unless_refused (goes_with sort v.1) wrong_sort (and_then (left_from d scope side (Some v.1) cases (i + 1)) (first b.0 v.0))))) (after cs ps)) fits
+      ∙ ap (λ o. and_then (and_then o (λ b. and_then (meaning_of_part d (bind b.1 scope) (part_of d (expression_of body))) (λ v. unless_refused (goes_with sort v.1) wrong_sort (and_then (left_from d scope side (Some v.1) cases (i + 1)) (first b.0 v.0))))) (after cs ps)) fits
       ∙ ap (λ o. and_then (and_then o (λ v. unless_refused (goes_with sort v.1) wrong_sort (and_then (left_from d scope side (Some v.1) cases (i + 1)) (first binding.0 v.0)))) (after cs ps)) fails
 
   -- a term has another sort than the first
-  pub at_wrong : (c p body : Sexpr) (binding : Binding) (u : Sorted) → i < length cases → c ≡ get_or cases i c → IsBinding d c p body → pattern d side (part_of d (expression_of p)) ≡ Ok binding → meaning d (bind binding.1 scope) (part_of d (expression_of body)) ≡ Ok u → goes_with sort u.1 ≡ false → checked_cases d scope side None (parts_of d (expressions_of cases)) ≡ Err wrong_sort
+  pub at_wrong : (c p body : Sexpr) (binding : Binding) (u : Sorted) → i < length cases → c ≡ get_or cases i c → IsBinding d c p body → pattern d side (part_of d (expression_of p)) ≡ Ok binding → meaning_of_part d (bind binding.1 scope) (part_of d (expression_of body)) ≡ Ok u → goes_with sort u.1 ≡ false → checked_cases d scope side None (parts_of d (expressions_of cases)) ≡ Err wrong_sort
   at_wrong c p body binding u ic ec form fits means goes =
       at_case c p body ic ec form
-      ∙ ap (λ o. and_then (and_then o (λ b. and_then (meaning d (bind b.1 scope) (part_of d (expression_of body))) (λ v. unless_refused (goes_with sort v.1) wrong_sort (and_then (left_from d scope side (Some v.1) cases (i + 1)) (first b.0 v.0))))) (after cs ps)) fits
+      ∙ ap (λ o. and_then (and_then o (λ b. and_then (meaning_of_part d (bind b.1 scope) (part_of d (expression_of body))) (λ v. unless_refused (goes_with sort v.1) wrong_sort (and_then (left_from d scope side (Some v.1) cases (i + 1)) (first b.0 v.0))))) (after cs ps)) fits
       ∙ ap (λ o. and_then (and_then o (λ v. unless_refused (goes_with sort v.1) wrong_sort (and_then (left_from d scope side (Some v.1) cases (i + 1)) (first binding.0 v.0)))) (after cs ps)) means
       ∙ ap (λ b. and_then (unless_refused b wrong_sort (and_then (left_from d scope side (Some u.1) cases (i + 1)) (first binding.0 u.0))) (after cs ps)) goes
 

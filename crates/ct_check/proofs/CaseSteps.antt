@@ -11,12 +11,12 @@ use Rattle.ct_terms.specs.Formula.{Formula, bind}
 use Rattle.ct_names.specs.declared.error.CheckError.{CheckError}
 use Rattle.ct_names.specs.declared.error.CheckError.TheVariants.{Refused, NoMemory}
 use Rattle.ct_names.specs.declared.variables.BoundVariable.{BoundVariable}
-use Rattle.ct_names.specs.Answer.{Answers}
+use Rattle.ct_names.specs.Answer.{IsAnswerFor}
 use Rattle.ct_names.specs.Bounds.{variable_of, held_name, held_binding}
 use Rattle.ct_check.specs.Trees.{sorted_of, checked_of}
 use Rattle.ct_names.specs.Variables.{Variable, variables}
 use Rattle.ct_names.specs.Patterns.{Binding, pattern}
-use Rattle.ct_names.specs.Elaboration.{part_of, parts_of, meaning, checked_cases}
+use Rattle.ct_names.specs.Elaboration.{part_of, parts_of, meaning_of_part, checked_cases}
 use Rattle.ct_check.proofs.BoundLemmas.{drop-bind}
 use Rattle.ct_check.proofs.BindingLemmas.{IsBinding}
 use Rattle.ct_check.proofs.BinderLemmas.{pair_form, two_of}
@@ -50,11 +50,11 @@ one_more_each (a ∷ xs) (b ∷ ys) x y e = ap suc (one_more_each xs ys x y (ome
 
 module _ (d : Declarations) (scope : List Variable) (side : SortId) (cases : List Sexpr) (i : ℕ) (sort : Option SortId) (cs : List (Pattern × Formula)) (ps : List Pattern) (at : IsAt d scope side cases i sort cs ps) where
   -- the pattern of a case has an error
-  pub case_pattern_error : (c p body : Sexpr) (e : CheckError) → i < length cases → c ≡ get_or cases i c → IsBinding d c p body → Answers held_binding (pattern d side (part_of d (expression_of p))) (Err e) → Answers checked_of (checked_cases d scope side None (parts_of d (expressions_of cases))) (Err e)
+  pub case_pattern_error : (c p body : Sexpr) (e : CheckError) → i < length cases → c ≡ get_or cases i c → IsBinding d c p body → IsAnswerFor held_binding (pattern d side (part_of d (expression_of p))) (Err e) → IsAnswerFor checked_of (checked_cases d scope side None (parts_of d (expressions_of cases))) (Err e)
   case_pattern_error c p body (Refused n) ic ec form fails = at_pattern_error d scope side cases i sort cs ps at c p body n ic ec form fails
   case_pattern_error c p body NoMemory ic ec form fails = tt
 
   -- the term of a case has an error
-  pub case_term_error : (c p body : Sexpr) (binding : Binding) (inner : List Variable) (e : CheckError) → i < length cases → c ≡ get_or cases i c → IsBinding d c p body → pattern d side (part_of d (expression_of p)) ≡ Ok binding → inner ≡ bind binding.1 scope → Answers sorted_of (meaning d inner (part_of d (expression_of body))) (Err e) → Answers checked_of (checked_cases d scope side None (parts_of d (expressions_of cases))) (Err e)
-  case_term_error c p body binding inner (Refused n) ic ec form fits same fails = at_term_error d scope side cases i sort cs ps at c p body binding n ic ec form fits (ap (λ sc. meaning d sc (part_of d (expression_of body))) (sym same) ∙ fails)
+  pub case_term_error : (c p body : Sexpr) (binding : Binding) (inner : List Variable) (e : CheckError) → i < length cases → c ≡ get_or cases i c → IsBinding d c p body → pattern d side (part_of d (expression_of p)) ≡ Ok binding → inner ≡ bind binding.1 scope → IsAnswerFor sorted_of (meaning_of_part d inner (part_of d (expression_of body))) (Err e) → IsAnswerFor checked_of (checked_cases d scope side None (parts_of d (expressions_of cases))) (Err e)
+  case_term_error c p body binding inner (Refused n) ic ec form fits same fails = at_term_error d scope side cases i sort cs ps at c p body binding n ic ec form fits (ap (λ sc. meaning_of_part d sc (part_of d (expression_of body))) (sym same) ∙ fails)
   case_term_error c p body binding inner NoMemory ic ec form fits same fails = tt

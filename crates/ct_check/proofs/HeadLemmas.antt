@@ -18,13 +18,13 @@ use Rattle.ct_names.specs.Symbols.{symbol_of, operator_of, ctor_sort}
 use Rattle.ct_names.specs.Variables.{Variable, find}
 use Rattle.ct_names.specs.Parts.{Part, Parts, with_part, no_parts, count}
 use Rattle.ct_names.specs.Forms.{is_word}
-use Rattle.ct_check.specs.Callees.{called, test_of}
-use Rattle.ct_names.specs.Elaboration.{part_of, parts_of, meaning, list_meaning, arguments, all_of_sort, connected, takes, operated, application, global, headed, reserved, applied_symbol, tested_term, qualified, qualified_symbol, tester}
+use Rattle.ct_check.specs.Callees.{called, tester_formula}
+use Rattle.ct_names.specs.Elaboration.{part_of, parts_of, meaning_of_part, list_meaning, arguments, all_of_sort, connected, takes, operated, application, global, headed, reserved, applied_symbol, tested_term, qualified, qualified_symbol, tester}
 
 -- arguments of one sort are arguments of that sort, so many times
 pub all_of_sort-arguments : (d : Declarations) (scope : List Variable) (s : SortId) (ps : Parts) → all_of_sort d scope s ps ≡ arguments d scope (replicate (count ps) s) ps
 all_of_sort-arguments d scope s no_parts = refl
-all_of_sort-arguments d scope s (with_part p ps) = ap (λ rest. and_then (of_sort s (meaning d scope p)) (λ t. and_then rest (λ ts. Ok (with_formula t ts)))) (all_of_sort-arguments d scope s ps)
+all_of_sort-arguments d scope s (with_part p ps) = ap (λ rest. and_then (of_sort s (meaning_of_part d scope p)) (λ t. and_then rest (λ ts. Ok (with_formula t ts)))) (all_of_sort-arguments d scope s ps)
 
 -- a connective takes Boolean arguments alone
 pub connective-called : (d : Declarations) (scope : List Variable) (o : CoreOperator) (ps : Parts) → and_then (all_of_sort d scope bool_sort ps) (λ ts. Ok (connected o ts, bool_sort)) ≡ called d scope (Connective o) ps
@@ -35,7 +35,7 @@ abbrev tested_sorted : CtorId → Formula → Outcome Sorted
 tested_sorted c t = Ok (formula.Test c t, bool_sort)
 
 abbrev tests_sorted : CtorId → Formulas → Outcome Sorted
-tests_sorted c ts = Ok (test_of c ts, bool_sort)
+tests_sorted c ts = Ok (tester_formula c ts, bool_sort)
 
 abbrev alone : Formula → Outcome Formulas
 alone t = and_then (Ok no_formulas) (λ ts. Ok (with_formula t ts))
@@ -46,7 +46,7 @@ tested-by c (Err e) = refl
 
 pub tester-called : (d : Declarations) (scope : List Variable) (c : CtorId) (ps : Parts) → count ps ≡ 1 → tested_term d scope c ps ≡ called d scope (Tester c) ps
 tester-called d scope c no_parts h = absurd (omega arith)
-tester-called d scope c (with_part p no_parts) h = tested-by c (of_sort (ctor_sort d c) (meaning d scope p))
+tester-called d scope c (with_part p no_parts) h = tested-by c (of_sort (ctor_sort d c) (meaning_of_part d scope p))
 tester-called d scope c (with_part p (with_part q ps)) h = absurd (omega (arith, h))
 
 pub tester-count : (d : Declarations) (scope : List Variable) (c : CtorId) (ps : Parts) → (count ps ≡ 1 → ⊥) → tested_term d scope c ps ≡ Err wrong_count

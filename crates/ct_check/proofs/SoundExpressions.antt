@@ -19,7 +19,7 @@ use Rattle.ct_names.specs.Symbols.{symbol_of, operator_of, ctor_named, ctor_sort
 use Rattle.ct_names.specs.Variables.{Variable, find, variable_sorts}
 use Rattle.ct_names.specs.Forms.{is_word, are_attributes}
 use Rattle.ct_names.specs.Parts.{Part, Parts, atom_part, list_part, no_parts, with_part, count, name_of}
-use Rattle.ct_names.specs.Elaboration.{meaning, takes, operated, applied_symbol, global, application, let_form, match_form, annotated, lone_symbol, may_qualify, qualified_name, qualified_symbol, sort_of_part, tested, tested_name, is_text, tester, tested_term, qualified, reserved, headed, list_meaning, part_of, parts_of, elaborated}
+use Rattle.ct_names.specs.Elaboration.{meaning_of_part, takes, operated, applied_symbol, global, application, let_form, match_form, annotated, lone_symbol, may_qualify, qualified_name, qualified_symbol, sort_of_part, testable, tested_name, is_text_of_name, tester, tested_term, qualified, reserved, headed, list_meaning, part_of, parts_of, elaborated}
 use Rattle.ct_check.proofs.Inversions.{and_then-inverse, unless-inverse, same_value, of_sort-inverse}
 use Rattle.ct_names.proofs.SymbolLemmas.{resolves}
 use Rattle.ct_check.proofs.SymbolSorts.{Theorems, there, owner_at}
@@ -57,7 +57,7 @@ module _ (d : Declarations) (theorems : Theorems d) where
   qualified_symbol_inside scope (with_part f (with_part sort (with_part p ps))) s e = absurd cc
 
   -- the constructor of a tester is declared
-  tested_inside : (name : List ℕ) (o : Option CtorId) → ctor_named d name ≡ o → (c : CtorId) → tested o ≡ Ok c → c.0 < length d.ctors
+  tested_inside : (name : List ℕ) (o : Option CtorId) → ctor_named d name ≡ o → (c : CtorId) → testable o ≡ Ok c → c.0 < length d.ctors
   tested_inside name None is c e = absurd cc
   tested_inside name (Some k) is c e =
       let test = unless-inverse (not (nat_le k.0 1)) out_of_scope (Ok k) c e in
@@ -68,7 +68,7 @@ module _ (d : Declarations) (theorems : Theorems d) where
   tested_name_inside (Some name) c e = tested_inside name (ctor_named d name) refl c e
 
   tester_inside : (ps : Parts) (c : CtorId) → tester d ps ≡ Ok c → c.0 < length d.ctors
-  tester_inside (with_part word (with_part k no_parts)) c e = tested_name_inside (name_of k) c (unless-inverse (is_text (codes "is") (name_of word)) out_of_scope (tested_name d (name_of k)) c e).1
+  tester_inside (with_part word (with_part k no_parts)) c e = tested_name_inside (name_of k) c (unless-inverse (is_text_of_name (codes "is") (name_of word)) out_of_scope (tested_name d (name_of k)) c e).1
   tester_inside no_parts c e = absurd cc
   tester_inside (with_part word no_parts) c e = absurd cc
   tester_inside (with_part word (with_part k (with_part p ps))) c e = absurd cc
@@ -78,10 +78,10 @@ module _ (d : Declarations) (theorems : Theorems d) where
     tested_term_sound c inside no_parts sound t e = absurd cc
     tested_term_sound c inside (with_part p (with_part q ps)) sound t e = absurd cc
     tested_term_sound c inside (with_part p no_parts) sound t e =
-        let step = and_then-inverse (of_sort (ctor_sort d c) (meaning d scope p)) (λ u. Ok (formula.Test c u, bool_sort)) t e in
+        let step = and_then-inverse (of_sort (ctor_sort d c) (meaning_of_part d scope p)) (λ u. Ok (formula.Test c u, bool_sort)) t e in
         let ctor = there d.ctors c.0 inside in
         let own : ctor_sort d c ≡ ctor.0.sort = ap owner_at ctor.1 in
-        let sorted = meaning_sound d theorems scope p sound.0 (step.0, ctor_sort d c) (of_sort-inverse (ctor_sort d c) (meaning d scope p) step.0 step.1) in
+        let sorted = meaning_sound d theorems scope p sound.0 (step.0, ctor_sort d c) (of_sort-inverse (ctor_sort d c) (meaning_of_part d scope p) step.0 step.1) in
         carried d (variable_sorts scope) (formula.Test c step.0, bool_sort) t step.2
         (ctor.0, ctor.1, subst (λ (s : SortId). IsSorted d (variable_sorts scope) step.0 s) own sorted, refl)
 
@@ -119,7 +119,7 @@ module _ (d : Declarations) (theorems : Theorems d) where
     annotated_sound : (ps : Parts) → AreSoundParts d ps → (t : Sorted) → annotated d scope ps ≡ Ok t → HasOwnSort d (variable_sorts scope) t
     annotated_sound no_parts sound t e = absurd cc
     annotated_sound (with_part p attributes) sound t e =
-        meaning_sound d theorems scope p sound.0 t (unless-inverse (are_attributes attributes) out_of_scope (meaning d scope p) t e).1
+        meaning_sound d theorems scope p sound.0 t (unless-inverse (are_attributes attributes) out_of_scope (meaning_of_part d scope p) t e).1
 
     -- `(as f S)` that stands alone
     whole_sound : (ps : Parts) (t : Sorted) → and_then (qualified_symbol d scope ps) (lone_symbol d) ≡ Ok t → HasOwnSort d (variable_sorts scope) t

@@ -8,16 +8,16 @@ use Rattle.ct_sorts.specs.Declarations.{Declarations, bool_sort}
 use Rattle.ct_sorts.specs.Lookup.{IsSymbol}
 use Rattle.ct_terms.specs.Formula as formula
 use Rattle.ct_terms.specs.Formula.{Formulas, no_formulas, with_formula, bind}
-use Rattle.ct_terms.specs.FormulaSorts.{IsSorted, AreSorted, AreOfSort, HasFormula, AreSeveral}
+use Rattle.ct_terms.specs.FormulaSorts.{IsSorted, AllSorted, AreOfSort, HasFormula, AreAtLeastTwo}
 use Rattle.ct_names.specs.declared.operator.CoreOperator.{CoreOperator}
 use Rattle.ct_names.specs.declared.operator.CoreOperator.TheVariants.{Not, And, Or, Xor, Implies, Equal, Distinct, Ite}
 use Rattle.ct_names.specs.Refusals.{wrong_count, repeated_variable, out_of_scope}
 use Rattle.ct_names.specs.Outcome.{Sorted, and_then, unless_refused, of_sort}
-use Rattle.ct_names.specs.Symbols.{argument_sorts, result_sort, applied}
-use Rattle.ct_names.specs.Variables.{Variable, variables, variable_sorts, has_repeated, names_in}
+use Rattle.ct_names.specs.Symbols.{argument_sorts, result_sort, symbol_applied}
+use Rattle.ct_names.specs.Variables.{Variable, variables, variable_sorts, has_repeated, present_names}
 use Rattle.ct_names.specs.Forms.{are_bindings, bound_names}
 use Rattle.ct_names.specs.Parts.{Part, Parts, atom_part, list_part, no_parts, with_part, count}
-use Rattle.ct_names.specs.Elaboration.{meaning, arguments, all_of_sort, of_one_sort, connective, choice, takes, operated, applied_symbol, connected, bound_terms, bound, formulas_of, sorts_of}
+use Rattle.ct_names.specs.Elaboration.{meaning_of_part, arguments, all_of_sort, of_one_sort, connective, choice_form, takes, operated, applied_symbol, connected, bound_terms, let_of, without_sorts, sorts_of}
 use Rattle.ct_check.proofs.Inversions.{and_then-inverse, unless-inverse, same_value, of_sort-inverse}
 use Rattle.ct_check.proofs.SymbolSorts.{Theorems, applied_sorted}
 use Rattle.ct_check.proofs.SoundLemmas.{IsSoundPart, AreSoundParts, HasOwnSort, carried, meaning_sound, arguments_sound, all_sound, all_some, all_several}
@@ -27,10 +27,10 @@ abbrev HasEnough : CoreOperator → Formulas → Type 0
 HasEnough Not ts = HasFormula ts
 HasEnough And ts = HasFormula ts
 HasEnough Or ts = HasFormula ts
-HasEnough Xor ts = AreSeveral ts
-HasEnough Implies ts = AreSeveral ts
-HasEnough Equal ts = AreSeveral ts
-HasEnough Distinct ts = AreSeveral ts
+HasEnough Xor ts = AreAtLeastTwo ts
+HasEnough Implies ts = AreAtLeastTwo ts
+HasEnough Equal ts = AreAtLeastTwo ts
+HasEnough Distinct ts = AreAtLeastTwo ts
 HasEnough Ite ts = HasFormula ts
 
 connected_sorted : (d : Declarations) (env : List SortId) (o : CoreOperator) (ts : Formulas) → HasEnough o ts → AreOfSort d env ts bool_sort → IsSorted d env (connected o ts) bool_sort
@@ -82,33 +82,33 @@ module _ (d : Declarations) (theorems : Theorems d) (scope : List Variable) wher
   -- two or more of one sort
   pub record OfOneSort (ts : Formulas) : Type 0 where
     pub side : SortId
-    pub several : AreSeveral ts
+    pub several : AreAtLeastTwo ts
     pub all : AreOfSort d (variable_sorts scope) ts side
 
   one_sort_sound : (ps : Parts) → AreSoundParts d ps → 2 ≤ count ps → (ts : Formulas) → of_one_sort d scope ps ≡ Ok ts → OfOneSort ts
   one_sort_sound no_parts sound h ts e = absurd (omega arith)
   one_sort_sound (with_part p ps) sound h ts e =
-      let one = and_then-inverse (meaning d scope p) (λ t. and_then (all_of_sort d scope t.1 ps) (λ us. Ok (with_formula t.0 us))) ts e in
+      let one = and_then-inverse (meaning_of_part d scope p) (λ t. and_then (all_of_sort d scope t.1 ps) (λ us. Ok (with_formula t.0 us))) ts e in
       let rest = and_then-inverse (all_of_sort d scope one.0.1 ps) (λ us. Ok (with_formula one.0.0 us)) ts one.2 in
       let same : with_formula one.0.0 rest.0 ≡ ts = same_value (with_formula one.0.0 rest.0) ts rest.2 in
       record {
         side = one.0.1;
-        several = subst (λ (us : Formulas). AreSeveral us) same (all_some d theorems scope one.0.1 ps rest.0 rest.1 (omega arith));
+        several = subst (λ (us : Formulas). AreAtLeastTwo us) same (all_some d theorems scope one.0.1 ps rest.0 rest.1 (omega arith));
         all = subst (λ (us : Formulas). AreOfSort d (variable_sorts scope) us one.0.1) same (meaning_sound d theorems scope p sound.0 one.0 one.1, all_sound d theorems scope one.0.1 ps sound.1 rest.0 rest.1);
       }
 
-  choice_sound : (ps : Parts) → AreSoundParts d ps → (t : Sorted) → choice d scope ps ≡ Ok t → HasOwnSort d (variable_sorts scope) t
+  choice_sound : (ps : Parts) → AreSoundParts d ps → (t : Sorted) → choice_form d scope ps ≡ Ok t → HasOwnSort d (variable_sorts scope) t
   choice_sound no_parts sound t e = absurd cc
   choice_sound (with_part c no_parts) sound t e = absurd cc
   choice_sound (with_part c (with_part a no_parts)) sound t e = absurd cc
   choice_sound (with_part c (with_part a (with_part b no_parts))) sound t e =
-      let first = and_then-inverse (of_sort bool_sort (meaning d scope c)) (λ k. and_then (meaning d scope a) (λ x. and_then (of_sort x.1 (meaning d scope b)) (λ y. Ok (formula.Ite k x.0 y, x.1)))) t e in
-      let second = and_then-inverse (meaning d scope a) (λ x. and_then (of_sort x.1 (meaning d scope b)) (λ y. Ok (formula.Ite first.0 x.0 y, x.1))) t first.2 in
-      let third = and_then-inverse (of_sort second.0.1 (meaning d scope b)) (λ y. Ok (formula.Ite first.0 second.0.0 y, second.0.1)) t second.2 in
+      let first = and_then-inverse (of_sort bool_sort (meaning_of_part d scope c)) (λ k. and_then (meaning_of_part d scope a) (λ x. and_then (of_sort x.1 (meaning_of_part d scope b)) (λ y. Ok (formula.Ite k x.0 y, x.1)))) t e in
+      let second = and_then-inverse (meaning_of_part d scope a) (λ x. and_then (of_sort x.1 (meaning_of_part d scope b)) (λ y. Ok (formula.Ite first.0 x.0 y, x.1))) t first.2 in
+      let third = and_then-inverse (of_sort second.0.1 (meaning_of_part d scope b)) (λ y. Ok (formula.Ite first.0 second.0.0 y, second.0.1)) t second.2 in
       carried d (variable_sorts scope) (formula.Ite first.0 second.0.0 third.0, second.0.1) t third.2 (
-        meaning_sound d theorems scope c sound.0 (first.0, bool_sort) (of_sort-inverse bool_sort (meaning d scope c) first.0 first.1),
+        meaning_sound d theorems scope c sound.0 (first.0, bool_sort) (of_sort-inverse bool_sort (meaning_of_part d scope c) first.0 first.1),
         meaning_sound d theorems scope a sound.1.0 second.0 second.1,
-        meaning_sound d theorems scope b sound.1.1.0 (third.0, second.0.1) (of_sort-inverse second.0.1 (meaning d scope b) third.0 third.1),
+        meaning_sound d theorems scope b sound.1.1.0 (third.0, second.0.1) (of_sort-inverse second.0.1 (meaning_of_part d scope b) third.0 third.1),
       )
   choice_sound (with_part c (with_part a (with_part b (with_part x ps)))) sound t e = absurd cc
 
@@ -129,20 +129,20 @@ module _ (d : Declarations) (theorems : Theorems d) (scope : List Variable) wher
 
   pub applied_sound : (s : Symbol) → IsSymbol d s → (ps : Parts) → AreSoundParts d ps → (t : Sorted) → applied_symbol d scope s ps ≡ Ok t → HasOwnSort d (variable_sorts scope) t
   applied_sound s inside ps sound t e =
-      let form = unless-inverse (not (length (argument_sorts d s) == 0 && count ps == 0)) out_of_scope (unless_refused (length (argument_sorts d s) == count ps) wrong_count (and_then (arguments d scope (argument_sorts d s) ps) (λ ts. Ok (applied s ts, result_sort d s)))) t e in
-      let enough = unless-inverse (length (argument_sorts d s) == count ps) wrong_count (and_then (arguments d scope (argument_sorts d s) ps) (λ ts. Ok (applied s ts, result_sort d s))) t form.1 in
-      let step = and_then-inverse (arguments d scope (argument_sorts d s) ps) (λ ts. Ok (applied s ts, result_sort d s)) t enough.1 in
-      carried d (variable_sorts scope) (applied s step.0, result_sort d s) t step.2
+      let form = unless-inverse (not (length (argument_sorts d s) == 0 && count ps == 0)) out_of_scope (unless_refused (length (argument_sorts d s) == count ps) wrong_count (and_then (arguments d scope (argument_sorts d s) ps) (λ ts. Ok (symbol_applied s ts, result_sort d s)))) t e in
+      let enough = unless-inverse (length (argument_sorts d s) == count ps) wrong_count (and_then (arguments d scope (argument_sorts d s) ps) (λ ts. Ok (symbol_applied s ts, result_sort d s))) t form.1 in
+      let step = and_then-inverse (arguments d scope (argument_sorts d s) ps) (λ ts. Ok (symbol_applied s ts, result_sort d s)) t enough.1 in
+      carried d (variable_sorts scope) (symbol_applied s step.0, result_sort d s) t step.2
       (applied_sorted d theorems (variable_sorts scope) s inside step.0 (arguments_sound d theorems scope (argument_sorts d s) ps sound step.0 step.1))
 
   -- the terms of bindings are well sorted, as many as there are bindings
-  pub terms_sound : (bs : Parts) → AreSoundParts d bs → (ts : List Sorted) → bound_terms d scope bs ≡ Ok ts → AreSorted d (variable_sorts scope) (formulas_of ts) (sorts_of ts) × (length ts ≡ count bs)
-  terms_sound no_parts sound ts e = subst (λ (us : List Sorted). AreSorted d (variable_sorts scope) (formulas_of us) (sorts_of us) × (length us ≡ 0)) (same_value [] ts e) (tt, refl)
+  pub terms_sound : (bs : Parts) → AreSoundParts d bs → (ts : List Sorted) → bound_terms d scope bs ≡ Ok ts → AllSorted d (variable_sorts scope) (without_sorts ts) (sorts_of ts) × (length ts ≡ count bs)
+  terms_sound no_parts sound ts e = subst (λ (us : List Sorted). AllSorted d (variable_sorts scope) (without_sorts us) (sorts_of us) × (length us ≡ 0)) (same_value [] ts e) (tt, refl)
   terms_sound (with_part (list_part (with_part x (with_part b no_parts)) m) bs) sound ts e =
-      let one = and_then-inverse (meaning d scope b) (λ u. and_then (bound_terms d scope bs) (λ us. Ok (u ∷ us))) ts e in
+      let one = and_then-inverse (meaning_of_part d scope b) (λ u. and_then (bound_terms d scope bs) (λ us. Ok (u ∷ us))) ts e in
       let rest = and_then-inverse (bound_terms d scope bs) (λ us. Ok (one.0 ∷ us)) ts one.2 in
       let others = terms_sound bs sound.1 rest.0 rest.1 in
-      subst (λ (us : List Sorted). AreSorted d (variable_sorts scope) (formulas_of us) (sorts_of us) × (length us ≡ suc (count bs))) (same_value (one.0 ∷ rest.0) ts rest.2)
+      subst (λ (us : List Sorted). AllSorted d (variable_sorts scope) (without_sorts us) (sorts_of us) × (length us ≡ suc (count bs))) (same_value (one.0 ∷ rest.0) ts rest.2)
       ((meaning_sound d theorems scope b sound.0.0.1.0 one.0 one.1, others.0), ap suc others.1)
   terms_sound (with_part (atom_part a) bs) sound ts e = absurd cc
   terms_sound (with_part (list_part no_parts m) bs) sound ts e = absurd cc
@@ -153,20 +153,20 @@ module _ (d : Declarations) (theorems : Theorems d) (scope : List Variable) wher
   names-count no_parts = refl
   names-count (with_part b bs) = ap suc (names-count bs)
 
-  some-terms : (ts : List Sorted) (bs : Parts) → length ts ≡ count bs → (are_bindings bs && not (count bs == 0)) ≡ true → HasFormula (formulas_of ts)
+  some-terms : (ts : List Sorted) (bs : Parts) → length ts ≡ count bs → (are_bindings bs && not (count bs == 0)) ≡ true → HasFormula (without_sorts ts)
   some-terms [] bs e h = absurd (grind (arith, nat_tests))
   some-terms (t ∷ ts) bs e h = tt
 
-  pub bound_sound : (bs : Parts) (body : Part) → AreSoundParts d bs → IsSoundPart d body → (t : Sorted) → bound d scope bs body ≡ Ok t → HasOwnSort d (variable_sorts scope) t
+  pub bound_sound : (bs : Parts) (body : Part) → AreSoundParts d bs → IsSoundPart d body → (t : Sorted) → let_of d scope bs body ≡ Ok t → HasOwnSort d (variable_sorts scope) t
   bound_sound bs body sound_bs sound_body t e =
       let form = unless-inverse (are_bindings bs && not (count bs == 0)) out_of_scope _ t e in
-      let fresh = unless-inverse (not (has_repeated (names_in (bound_names bs)))) repeated_variable _ t form.1 in
+      let fresh = unless-inverse (not (has_repeated (present_names (bound_names bs)))) repeated_variable _ t form.1 in
       let terms = and_then-inverse (bound_terms d scope bs) _ t fresh.1 in
       let sorted = terms_sound bs sound_bs terms.0 terms.1 in
       let inner = bind (variables (bound_names bs) (sorts_of terms.0)) scope in
-      let whole = and_then-inverse (meaning d inner body) (λ u. Ok (formula.Let (formulas_of terms.0) u.0, u.1)) t terms.2 in
+      let whole = and_then-inverse (meaning_of_part d inner body) (λ u. Ok (formula.Let (without_sorts terms.0) u.0, u.1)) t terms.2 in
       let long : length (bound_names bs) ≡ length (sorts_of terms.0) = names-count bs ∙ sym sorted.1 ∙ sym (length-map terms.0 (λ (u : Sorted). u.1)) in
-      carried d (variable_sorts scope) (formula.Let (formulas_of terms.0) whole.0.0, whole.0.1) t whole.2 (
+      carried d (variable_sorts scope) (formula.Let (without_sorts terms.0) whole.0.0, whole.0.1) t whole.2 (
         sorts_of terms.0,
         some-terms terms.0 bs sorted.1 form.0,
         sorted.0,

@@ -8,14 +8,14 @@ use Rattle.ct_sorts.specs.Lookup.{ResolvesTo, IsSymbol}
 use Rattle.ct_sexpr.specs.Readable.{name_of_atom}
 use Rattle.ct_terms.specs.Formula as formula
 use Rattle.ct_terms.specs.Formula.{Formulas, no_formulas, with_formula}
-use Rattle.ct_terms.specs.FormulaSorts.{IsSorted, AreSorted, AreOfSort, HasFormula, AreSeveral}
+use Rattle.ct_terms.specs.FormulaSorts.{IsSorted, AllSorted, AreOfSort, HasFormula, AreAtLeastTwo}
 use Rattle.ct_names.specs.declared.operator.CoreOperator.{CoreOperator}
 use Rattle.ct_names.specs.Refusals.{wrong_count}
 use Rattle.ct_names.specs.Outcome.{Outcome, Sorted, and_then, of_sort}
-use Rattle.ct_names.specs.Symbols.{symbol_of, operator_of, argument_sorts, result_sort, applied}
+use Rattle.ct_names.specs.Symbols.{symbol_of, operator_of, argument_sorts, result_sort, symbol_applied}
 use Rattle.ct_names.specs.Variables.{Variable, is_named, find_from, find, variable_sorts}
 use Rattle.ct_names.specs.Parts.{Part, Parts, atom_part, list_part, no_parts, with_part, count}
-use Rattle.ct_names.specs.Elaboration.{lone, lone_name, lone_global, lone_symbol, lone_operator, meaning, arguments, all_of_sort}
+use Rattle.ct_names.specs.Elaboration.{lone, lone_name, lone_global, lone_symbol, lone_operator, meaning_of_part, arguments, all_of_sort}
 use Rattle.ct_check.proofs.Inversions.{and_then-inverse, unless-inverse, same_value, of_sort-inverse}
 use Rattle.ct_check.proofs.SymbolSorts.{Theorems, applied_sorted}
 use Rattle.ct_names.proofs.SymbolLemmas.{resolves}
@@ -69,10 +69,10 @@ empty_from (x ∷ xs) e = absurd (grind (arith, nat_tests))
 module _ (d : Declarations) (theorems : Theorems d) where
   pub lone_symbol_sound : (env : List SortId) (s : Symbol) → IsSymbol d s → (t : Sorted) → lone_symbol d s ≡ Ok t → HasOwnSort d env t
   lone_symbol_sound env s inside t e =
-      let step = unless-inverse (length (argument_sorts d s) == 0) wrong_count (Ok (applied s no_formulas, result_sort d s)) t e in
+      let step = unless-inverse (length (argument_sorts d s) == 0) wrong_count (Ok (symbol_applied s no_formulas, result_sort d s)) t e in
       let none = empty_from (argument_sorts d s) step.0 in
-      carried d env (applied s no_formulas, result_sort d s) t step.1
-      (applied_sorted d theorems env s inside no_formulas (subst (λ (sorts : List SortId). AreSorted d env no_formulas sorts) (sym none) tt))
+      carried d env (symbol_applied s no_formulas, result_sort d s) t step.1
+      (applied_sorted d theorems env s inside no_formulas (subst (λ (sorts : List SortId). AllSorted d env no_formulas sorts) (sym none) tt))
 
   operator_refused : (o : Option CoreOperator) (t : Sorted) → lone_operator o ≡ Ok t → ⊥
   operator_refused None t e = cc
@@ -93,41 +93,41 @@ module _ (d : Declarations) (theorems : Theorems d) where
   lone_sound scope None t e = absurd cc
   lone_sound scope (Some name) t e = lone_name_sound scope name (find scope name) refl t e
 
-  pub meaning_sound : (scope : List Variable) (p : Part) → IsSoundPart d p → (t : Sorted) → meaning d scope p ≡ Ok t → HasOwnSort d (variable_sorts scope) t
+  pub meaning_sound : (scope : List Variable) (p : Part) → IsSoundPart d p → (t : Sorted) → meaning_of_part d scope p ≡ Ok t → HasOwnSort d (variable_sorts scope) t
   meaning_sound scope (atom_part a) sound t e = lone_sound scope (name_of_atom a) t e
   meaning_sound scope (list_part ps m) sound t e = sound.1 scope t e
 
   -- arguments of stated sorts
-  pub arguments_sound : (scope : List Variable) (sorts : List SortId) (ps : Parts) → AreSoundParts d ps → (ts : Formulas) → arguments d scope sorts ps ≡ Ok ts → AreSorted d (variable_sorts scope) ts sorts
-  arguments_sound scope [] no_parts sound ts e = subst (λ (us : Formulas). AreSorted d (variable_sorts scope) us []) (same_value no_formulas ts e) tt
+  pub arguments_sound : (scope : List Variable) (sorts : List SortId) (ps : Parts) → AreSoundParts d ps → (ts : Formulas) → arguments d scope sorts ps ≡ Ok ts → AllSorted d (variable_sorts scope) ts sorts
+  arguments_sound scope [] no_parts sound ts e = subst (λ (us : Formulas). AllSorted d (variable_sorts scope) us []) (same_value no_formulas ts e) tt
   arguments_sound scope [] (with_part p ps) sound ts e = absurd cc
   arguments_sound scope (s ∷ sorts) no_parts sound ts e = absurd cc
   arguments_sound scope (s ∷ sorts) (with_part p ps) sound ts e =
-      let one = and_then-inverse (of_sort s (meaning d scope p)) (λ t. and_then (arguments d scope sorts ps) (λ us. Ok (with_formula t us))) ts e in
+      let one = and_then-inverse (of_sort s (meaning_of_part d scope p)) (λ t. and_then (arguments d scope sorts ps) (λ us. Ok (with_formula t us))) ts e in
       let rest = and_then-inverse (arguments d scope sorts ps) (λ us. Ok (with_formula one.0 us)) ts one.2 in
-      subst (λ (us : Formulas). AreSorted d (variable_sorts scope) us (s ∷ sorts)) (same_value (with_formula one.0 rest.0) ts rest.2)
-      (meaning_sound scope p sound.0 (one.0, s) (of_sort-inverse s (meaning d scope p) one.0 one.1), arguments_sound scope sorts ps sound.1 rest.0 rest.1)
+      subst (λ (us : Formulas). AllSorted d (variable_sorts scope) us (s ∷ sorts)) (same_value (with_formula one.0 rest.0) ts rest.2)
+      (meaning_sound scope p sound.0 (one.0, s) (of_sort-inverse s (meaning_of_part d scope p) one.0 one.1), arguments_sound scope sorts ps sound.1 rest.0 rest.1)
 
   -- arguments of one sort
   pub all_sound : (scope : List Variable) (s : SortId) (ps : Parts) → AreSoundParts d ps → (ts : Formulas) → all_of_sort d scope s ps ≡ Ok ts → AreOfSort d (variable_sorts scope) ts s
   all_sound scope s no_parts sound ts e = subst (λ (us : Formulas). AreOfSort d (variable_sorts scope) us s) (same_value no_formulas ts e) tt
   all_sound scope s (with_part p ps) sound ts e =
-      let one = and_then-inverse (of_sort s (meaning d scope p)) (λ t. and_then (all_of_sort d scope s ps) (λ us. Ok (with_formula t us))) ts e in
+      let one = and_then-inverse (of_sort s (meaning_of_part d scope p)) (λ t. and_then (all_of_sort d scope s ps) (λ us. Ok (with_formula t us))) ts e in
       let rest = and_then-inverse (all_of_sort d scope s ps) (λ us. Ok (with_formula one.0 us)) ts one.2 in
       subst (λ (us : Formulas). AreOfSort d (variable_sorts scope) us s) (same_value (with_formula one.0 rest.0) ts rest.2)
-      (meaning_sound scope p sound.0 (one.0, s) (of_sort-inverse s (meaning d scope p) one.0 one.1), all_sound scope s ps sound.1 rest.0 rest.1)
+      (meaning_sound scope p sound.0 (one.0, s) (of_sort-inverse s (meaning_of_part d scope p) one.0 one.1), all_sound scope s ps sound.1 rest.0 rest.1)
 
   -- as many as there are parts
   pub all_some : (scope : List Variable) (s : SortId) (ps : Parts) (ts : Formulas) → all_of_sort d scope s ps ≡ Ok ts → 1 ≤ count ps → HasFormula ts
   all_some scope s no_parts ts e h = absurd (omega arith)
   all_some scope s (with_part p ps) ts e h =
-      let one = and_then-inverse (of_sort s (meaning d scope p)) (λ t. and_then (all_of_sort d scope s ps) (λ us. Ok (with_formula t us))) ts e in
+      let one = and_then-inverse (of_sort s (meaning_of_part d scope p)) (λ t. and_then (all_of_sort d scope s ps) (λ us. Ok (with_formula t us))) ts e in
       let rest = and_then-inverse (all_of_sort d scope s ps) (λ us. Ok (with_formula one.0 us)) ts one.2 in
       subst (λ (us : Formulas). HasFormula us) (same_value (with_formula one.0 rest.0) ts rest.2) tt
 
-  pub all_several : (scope : List Variable) (s : SortId) (ps : Parts) (ts : Formulas) → all_of_sort d scope s ps ≡ Ok ts → 2 ≤ count ps → AreSeveral ts
+  pub all_several : (scope : List Variable) (s : SortId) (ps : Parts) (ts : Formulas) → all_of_sort d scope s ps ≡ Ok ts → 2 ≤ count ps → AreAtLeastTwo ts
   all_several scope s no_parts ts e h = absurd (omega arith)
   all_several scope s (with_part p ps) ts e h =
-      let one = and_then-inverse (of_sort s (meaning d scope p)) (λ t. and_then (all_of_sort d scope s ps) (λ us. Ok (with_formula t us))) ts e in
+      let one = and_then-inverse (of_sort s (meaning_of_part d scope p)) (λ t. and_then (all_of_sort d scope s ps) (λ us. Ok (with_formula t us))) ts e in
       let rest = and_then-inverse (all_of_sort d scope s ps) (λ us. Ok (with_formula one.0 us)) ts one.2 in
-      subst (λ (us : Formulas). AreSeveral us) (same_value (with_formula one.0 rest.0) ts rest.2) (all_some scope s ps rest.0 rest.1 (omega arith))
+      subst (λ (us : Formulas). AreAtLeastTwo us) (same_value (with_formula one.0 rest.0) ts rest.2) (all_some scope s ps rest.0 rest.1 (omega arith))

@@ -11,14 +11,14 @@ use Rattle.ct_terms.specs.declared.tree.Pattern.{Pattern}
 use Rattle.ct_terms.specs.declared.tree.Pattern.TheVariants.{Ctor, Any}
 use Rattle.ct_terms.specs.Formula as formula
 use Rattle.ct_terms.specs.Formula.{Formula, Cases, no_cases, with_case, bind}
-use Rattle.ct_terms.specs.FormulaSorts.{IsSorted, AreSortedCases, HasPattern, IsExhaustive, HasCase, IsMatchable}
+use Rattle.ct_terms.specs.FormulaSorts.{IsSorted, AreSortedCases, HasPattern, IsExhaustive, HasSomeCase, IsMatchable}
 use Rattle.ct_names.specs.Refusals.{wrong_sort, not_exhaustive, out_of_scope}
 use Rattle.ct_names.specs.Outcome.{Sorted}
 use Rattle.ct_names.specs.Variables.{Variable, variable_sorts}
 use Rattle.ct_names.specs.Parts.{Part, Parts, atom_part, list_part, no_parts, with_part}
 use Rattle.ct_names.specs.Forms.{are_cases}
 use Rattle.ct_names.specs.Patterns.{pattern, matchable, are_exhaustive, fits_all, is_of_ctor, sort_ctors}
-use Rattle.ct_names.specs.Elaboration.{Checked, no_more, one_more, goes_with, meaning, checked_cases, matched, exhausted, cases_of}
+use Rattle.ct_names.specs.Elaboration.{Checked, no_more, with_case_before, goes_with, meaning_of_part, checked_cases, matched, exhausted, match_of}
 use Rattle.ct_check.proofs.Inversions.{and_then-inverse, unless-inverse, same_value, one_sort}
 use Rattle.ct_check.proofs.SymbolSorts.{Theorems}
 use Rattle.ct_check.proofs.SoundLemmas.{IsSoundPart, AreSoundParts, HasOwnSort, carried, meaning_sound}
@@ -82,7 +82,7 @@ record AreChecked (d : Declarations) (env : List SortId) (side : SortId) (given 
   sorted : (s : SortId) → k.sort ≡ Some s → AreSortedCases d env side k.cases s
   stays : (s : SortId) → given ≡ Some s → k.sort ≡ Some s
   patterns : patterns_of k.cases ≡ k.patterns
-  some : (s : SortId) → k.sort ≡ Some s → given ≡ None → HasCase k.cases
+  some : (s : SortId) → k.sort ≡ Some s → given ≡ None → HasSomeCase k.cases
 
 goes : (given : Option SortId) (s t : SortId) → goes_with given t ≡ true → given ≡ Some s → t ≡ s
 goes None s t e is = absurd cc
@@ -100,7 +100,7 @@ module _ (d : Declarations) (theorems : Theorems d) (scope : List Variable) (sid
   }
 
   -- one case before others
-  one_checked : (given : Option SortId) (p : Pattern) (vs : List Variable) (body : Sorted) (k : Checked) → Binds d side (p, vs) → goes_with given body.1 ≡ true → IsSorted d (bind (variable_sorts vs) (variable_sorts scope)) body.0 body.1 → AreChecked d (variable_sorts scope) side (Some body.1) k → AreChecked d (variable_sorts scope) side given (one_more p body.0 k)
+  one_checked : (given : Option SortId) (p : Pattern) (vs : List Variable) (body : Sorted) (k : Checked) → Binds d side (p, vs) → goes_with given body.1 ≡ true → IsSorted d (bind (variable_sorts vs) (variable_sorts scope)) body.0 body.1 → AreChecked d (variable_sorts scope) side (Some body.1) k → AreChecked d (variable_sorts scope) side given (with_case_before p body.0 k)
   one_checked given p vs body k binds follows sorted rest = record {
     sorted = λ s e.
         let same : body.1 ≡ s = let w : Some body.1 ≡ Some s = sym (rest.stays body.1 refl) ∙ e in cc in
@@ -115,11 +115,11 @@ module _ (d : Declarations) (theorems : Theorems d) (scope : List Variable) (sid
   cases_sound given (with_part (list_part (with_part p (with_part body no_parts)) m) cs) sound k e =
       let fits = and_then-inverse (pattern d side p) _ k e in
       let inner = bind fits.0.1 scope in
-      let means = and_then-inverse (meaning d inner body) _ k fits.2 in
+      let means = and_then-inverse (meaning_of_part d inner body) _ k fits.2 in
       let follows = unless-inverse (goes_with given means.0.1) wrong_sort _ k means.2 in
-      let rest = and_then-inverse (checked_cases d scope side (Some means.0.1) cs) (λ checked. Ok (one_more fits.0.0 means.0.0 checked)) k follows.1 in
+      let rest = and_then-inverse (checked_cases d scope side (Some means.0.1) cs) (λ checked. Ok (with_case_before fits.0.0 means.0.0 checked)) k follows.1 in
       let sorted : IsSorted d (variable_sorts inner) means.0.0 means.0.1 = meaning_sound d theorems inner body sound.0.0.1.0 means.0 means.1 in
-      subst (λ (x : Checked). AreChecked d (variable_sorts scope) side given x) (same_value (one_more fits.0.0 means.0.0 rest.0) k rest.2)
+      subst (λ (x : Checked). AreChecked d (variable_sorts scope) side given x) (same_value (with_case_before fits.0.0 means.0.0 rest.0) k rest.2)
       (one_checked given fits.0.0 fits.0.1 means.0 rest.0 (pattern_sound d theorems side p fits.0 fits.1) follows.0
       (subst (λ (env : List SortId). IsSorted d env means.0.0 means.0.1) (map-bind (λ (v : Variable). v.sort) fits.0.1 scope) sorted)
       (cases_sound (Some means.0.1) cs sound.1 rest.0 rest.1))
@@ -135,10 +135,10 @@ module _ (d : Declarations) (theorems : Theorems d) (scope : List Variable) (sid
       carried d (variable_sorts scope) (formula.Match subject k.cases, sort) t e
       (side, sorted, matches, are.some sort is refl, are.sorted sort is, exhaustive_sound d theorems side k.cases every)
 
-pub cases_of_sound : (d : Declarations) (theorems : Theorems d) (scope : List Variable) (p : Part) (cs : Parts) → IsSoundPart d p → AreSoundParts d cs → (t : Sorted) → cases_of d scope p cs ≡ Ok t → HasOwnSort d (variable_sorts scope) t
+pub cases_of_sound : (d : Declarations) (theorems : Theorems d) (scope : List Variable) (p : Part) (cs : Parts) → IsSoundPart d p → AreSoundParts d cs → (t : Sorted) → match_of d scope p cs ≡ Ok t → HasOwnSort d (variable_sorts scope) t
 cases_of_sound d theorems scope p cs sound_p sound_cs t e =
     let form = unless-inverse (are_cases cs) out_of_scope _ t e in
-    let subject = and_then-inverse (meaning d scope p) _ t form.1 in
+    let subject = and_then-inverse (meaning_of_part d scope p) _ t form.1 in
     let side = and_then-inverse (matchable d subject.0.1) _ t subject.2 in
     let checked = and_then-inverse (checked_cases d scope side.0 None cs) (λ k. exhausted d subject.0 k) t side.2 in
     let all = unless-inverse (are_exhaustive d subject.0.1 checked.0.patterns) not_exhaustive (matched subject.0.0 checked.0 checked.0.sort) t checked.2 in

@@ -15,8 +15,8 @@ use Rattle.ct_terms.specs.FormulaSorts.{IsMatchable, BindsSorts}
 use Rattle.ct_names.specs.Refusals.{foreign_pattern, wrong_count, out_of_scope, repeated_variable}
 use Rattle.ct_names.specs.Outcome.{Outcome, is_sort}
 use Rattle.ct_names.specs.Parts.{Part, atom_part, list_part, no_parts, with_part, name_of}
-use Rattle.ct_names.specs.Symbols.{symbol_of, ctor_of, ctor_named, ctor_sort, ctor_fields}
-use Rattle.ct_names.specs.Variables.{variables, variable_sorts, has_repeated, names_in}
+use Rattle.ct_names.specs.Symbols.{symbol_of, as_ctor, ctor_named, ctor_sort, ctor_field_sorts}
+use Rattle.ct_names.specs.Variables.{variables, variable_sorts, has_repeated, present_names}
 use Rattle.ct_names.specs.Patterns.{Binding, any_pattern, lone_ctor, lone_pattern, leaf_pattern, ctor_with, headed_pattern, ctor_at, variable_names, pattern, matchable, matchable_kind}
 use Rattle.ct_check.proofs.Inversions.{unless-inverse, same_value, one_sort}
 use Rattle.ct_names.proofs.SymbolLemmas.{resolves}
@@ -42,7 +42,7 @@ pub matchable_sound : (d : Declarations) (side given : SortId) → matchable d s
 matchable_sound d side given e = matchable_by d side given (slice_get d.sorts side.0) refl e
 
 -- a constructor with this name is declared
-ctor_by : (d : Declarations) (theorems : Theorems d) (name : List ℕ) (s : Option Symbol) → ResolvesTo d name s → (c : CtorId) → ctor_of s ≡ Some c → c.0 < length d.ctors
+ctor_by : (d : Declarations) (theorems : Theorems d) (name : List ℕ) (s : Option Symbol) → ResolvesTo d name s → (c : CtorId) → as_ctor s ≡ Some c → c.0 < length d.ctors
 ctor_by d theorems name None at c e = absurd cc
 ctor_by d theorems name (Some (Sel x)) at c e = absurd cc
 ctor_by d theorems name (Some (Fun x)) at c e = absurd cc
@@ -64,7 +64,7 @@ bound_as d side a b e h = subst (λ (x : Binding). Binds d side x) (same_value a
 
 module _ (d : Declarations) (theorems : Theorems d) (side : SortId) where
   -- a constructor of the sort binds variables of the sorts of its fields
-  ctor_binds : (c : CtorId) → c.0 < length d.ctors → is_sort (ctor_sort d c) side ≡ true → (sorts : List SortId) → sorts ≡ ctor_fields d c → BindsSorts d side (Ctor c) sorts
+  ctor_binds : (c : CtorId) → c.0 < length d.ctors → is_sort (ctor_sort d c) side ≡ true → (sorts : List SortId) → sorts ≡ ctor_field_sorts d c → BindsSorts d side (Ctor c) sorts
   ctor_binds c inside own sorts are =
       let ctor = there d.ctors c.0 inside in (
         ctor.0,
@@ -76,18 +76,18 @@ module _ (d : Declarations) (theorems : Theorems d) (side : SortId) where
   ctor_with_sound : (names : List (Option (List ℕ))) (c : CtorId) → c.0 < length d.ctors → (b : Binding) → ctor_with d side names c ≡ Ok b → Binds d side b
   ctor_with_sound names c inside b e =
       let own = unless-inverse (is_sort (ctor_sort d c) side) foreign_pattern _ b e in
-      let long = unless-inverse (length names == length (ctor_fields d c)) wrong_count _ b own.1 in
+      let long = unless-inverse (length names == length (ctor_field_sorts d c)) wrong_count _ b own.1 in
       let some = unless-inverse (not (length names == 0)) out_of_scope _ b long.1 in
-      let fresh = unless-inverse (not (has_repeated (names_in names))) repeated_variable _ b some.1 in
-      let same : length names ≡ length (ctor_fields d c) = (Decides-eqb (length names) (length (ctor_fields d c))).0 long.0 in
-      bound_as d side (Ctor c, variables names (ctor_fields d c)) b fresh.1
-      (ctor_binds c inside own.0 (variable_sorts (variables names (ctor_fields d c))) (sorts-variables names (ctor_fields d c) same))
+      let fresh = unless-inverse (not (has_repeated (present_names names))) repeated_variable _ b some.1 in
+      let same : length names ≡ length (ctor_field_sorts d c) = (Decides-eqb (length names) (length (ctor_field_sorts d c))).0 long.0 in
+      bound_as d side (Ctor c, variables names (ctor_field_sorts d c)) b fresh.1
+      (ctor_binds c inside own.0 (variable_sorts (variables names (ctor_field_sorts d c))) (sorts-variables names (ctor_field_sorts d c) same))
 
   lone_ctor_sound : (c : CtorId) → c.0 < length d.ctors → (b : Binding) → lone_ctor d side c ≡ Ok b → Binds d side b
   lone_ctor_sound c inside b e =
       let own = unless-inverse (is_sort (ctor_sort d c) side) foreign_pattern _ b e in
-      let empty = unless-inverse (length (ctor_fields d c) == 0) wrong_count _ b own.1 in
-      bound_as d side (Ctor c, []) b empty.1 (ctor_binds c inside own.0 [] (sym (empty_from (ctor_fields d c) empty.0)))
+      let empty = unless-inverse (length (ctor_field_sorts d c) == 0) wrong_count _ b own.1 in
+      bound_as d side (Ctor c, []) b empty.1 (ctor_binds c inside own.0 [] (sym (empty_from (ctor_field_sorts d c) empty.0)))
 
   any_sound : (name : Option (List ℕ)) (b : Binding) → (let o : Outcome Binding = Ok (any_pattern side name) in o) ≡ Ok b → Binds d side b
   any_sound name b e = bound_as d side (any_pattern side name) b e refl

@@ -16,8 +16,8 @@ use Rattle.ct_names.specs.Variables.{Variable}
 use Rattle.ct_names.specs.Parts.{Parts, no_parts, with_part, count}
 use Rattle.ct_check.specs.Callees.{called, callee_sorts, callee_formula, callee_result}
 use Rattle.ct_check.specs.Heads.{headed_by}
-use Rattle.ct_names.specs.Elaboration.{meaning, arguments, all_of_sort, of_one_sort, choice, connected, formulas_of, sorts_of}
-use Rattle.ct_check.specs.Arguments.{Met, met, met_first, AreHeld, misfit, unless_misfit, same_sorts, second_sort, choice_sorts, chosen}
+use Rattle.ct_names.specs.Elaboration.{meaning_of_part, arguments, all_of_sort, of_one_sort, choice_form, connected, without_sorts, sorts_of}
+use Rattle.ct_check.specs.Arguments.{Met, met, met_first, HoldsMetTerms, misfit, unless_misfit, same_sorts, second_sort, choice_sorts, chosen}
 use Rattle.ct_check.proofs.HeadLemmas.{all_of_sort-arguments}
 
 -- a reason against the arguments is the whole, and without one the whole goes on
@@ -40,10 +40,10 @@ with-test true x t ts = with-more x t ts
 with-test false x t ts = refl
 
 abbrev taken : List SortId → Met → Outcome Formulas
-taken wanted m = unless_misfit (misfit (sorts_of m.terms) wanted m.error) (formulas_of m.terms)
+taken wanted m = unless_misfit (misfit (sorts_of m.terms) wanted m.error) (without_sorts m.terms)
 
 one_more : (s : SortId) (wanted : List SortId) (o : Outcome Sorted) (m : Met) → and_then (of_sort s o) (λ t. and_then (taken wanted m) (λ ts. Ok (with_formula t ts))) ≡ taken (s ∷ wanted) (met_first o m)
-one_more s wanted (Ok t) m = with-test (is_sort t.1 s) (misfit (sorts_of m.terms) wanted m.error) t.0 (formulas_of m.terms)
+one_more s wanted (Ok t) m = with-test (is_sort t.1 s) (misfit (sorts_of m.terms) wanted m.error) t.0 (without_sorts m.terms)
 one_more s wanted (Err n) m = refl
 
 none_wanted : (o : Outcome Sorted) (m : Met) → taken [] (met_first o m) ≡ Err wrong_count
@@ -52,11 +52,11 @@ none_wanted (Err n) m = refl
 
 arguments-taken : (d : Declarations) (scope : List Variable) (wanted : List SortId) (ps : Parts) → arguments d scope wanted ps ≡ taken wanted (met d scope ps)
 arguments-taken d scope [] no_parts = refl
-arguments-taken d scope [] (with_part p ps) = sym (none_wanted (meaning d scope p) (met d scope ps))
+arguments-taken d scope [] (with_part p ps) = sym (none_wanted (meaning_of_part d scope p) (met d scope ps))
 arguments-taken d scope (s ∷ wanted) no_parts = refl
 arguments-taken d scope (s ∷ wanted) (with_part p ps) =
-    ap (λ rest. and_then (of_sort s (meaning d scope p)) (λ t. and_then rest (λ ts. Ok (with_formula t ts)))) (arguments-taken d scope wanted ps)
-    ∙ one_more s wanted (meaning d scope p) (met d scope ps)
+    ap (λ rest. and_then (of_sort s (meaning_of_part d scope p)) (λ t. and_then rest (λ ts. Ok (with_formula t ts)))) (arguments-taken d scope wanted ps)
+    ∙ one_more s wanted (meaning_of_part d scope p) (met d scope ps)
 
 same_sort : (s : SortId) → is_sort s s ≡ true
 same_sort s = (Decides-eqb s.0 s.0).1 refl
@@ -67,12 +67,12 @@ same-first d scope ps (Ok t) =
     let m = met d scope ps in
     let x = misfit (sorts_of m.terms) (replicate (count ps) t.1) m.error in
     ap (λ rest. and_then rest (λ ts. Ok (with_formula t.0 ts))) (all_of_sort-arguments d scope t.1 ps ∙ arguments-taken d scope (replicate (count ps) t.1) ps)
-    ∙ with-more x t.0 (formulas_of m.terms)
-    ∙ ap (λ b. unless_misfit (if b then x else Some wrong_sort) (with_formula t.0 (formulas_of m.terms))) (sym (same_sort t.1))
+    ∙ with-more x t.0 (without_sorts m.terms)
+    ∙ ap (λ b. unless_misfit (if b then x else Some wrong_sort) (with_formula t.0 (without_sorts m.terms))) (sym (same_sort t.1))
 
 one_sort-taken : (d : Declarations) (scope : List Variable) (ps : Parts) → of_one_sort d scope ps ≡ taken (same_sorts (sorts_of (met d scope ps).terms) (count ps)) (met d scope ps)
 one_sort-taken d scope no_parts = refl
-one_sort-taken d scope (with_part p ps) = same-first d scope ps (meaning d scope p)
+one_sort-taken d scope (with_part p ps) = same-first d scope ps (meaning_of_part d scope p)
 
 -- a choice by what its three terms come to
 early : {X Y Z : Type 0} (b : Bool) (v : X) (w : Y) (n : ℕ) (next : Y → Outcome Z) (other : X → Outcome Z) → ((x : X) → other x ≡ Err n) → and_then (unless_refused b wrong_sort (Ok v)) other ≡ and_then (unless_misfit (if b then Some n else Some wrong_sort) w) next
@@ -101,14 +101,14 @@ choice-three (Ok c) (Ok t) (Ok u) =
     late (is_sort c.1 bool_sort) (is_sort u.1 t.1) c.0 t.0 u.0 t.1
     ∙ ap (λ b. and_then {Y = Sorted} (unless_misfit (if is_sort c.1 bool_sort then (if b then (if is_sort u.1 t.1 then None else Some wrong_sort) else Some wrong_sort) else Some wrong_sort) (with_formula c.0 (with_formula t.0 (with_formula u.0 no_formulas)))) (λ ts. Ok (chosen ts, t.1))) (sym (same_sort t.1))
 
-choice-taken : (d : Declarations) (scope : List Variable) (ps : Parts) → count ps ≡ 3 → choice d scope ps ≡ choice_of (met d scope ps)
+choice-taken : (d : Declarations) (scope : List Variable) (ps : Parts) → count ps ≡ 3 → choice_form d scope ps ≡ choice_of (met d scope ps)
 choice-taken d scope no_parts h = absurd (omega (arith, h))
 choice-taken d scope (with_part c no_parts) h = absurd (omega (arith, h))
 choice-taken d scope (with_part c (with_part t no_parts)) h = absurd (omega (arith, h))
-choice-taken d scope (with_part c (with_part t (with_part u no_parts))) h = choice-three (meaning d scope c) (meaning d scope t) (meaning d scope u)
+choice-taken d scope (with_part c (with_part t (with_part u no_parts))) h = choice-three (meaning_of_part d scope c) (meaning_of_part d scope t) (meaning_of_part d scope u)
 choice-taken d scope (with_part c (with_part t (with_part u (with_part p ps)))) h = absurd (omega (arith, h))
 
-pub choice-count : (d : Declarations) (scope : List Variable) (ps : Parts) → (count ps ≡ 3 → ⊥) → choice d scope ps ≡ Err wrong_count
+pub choice-count : (d : Declarations) (scope : List Variable) (ps : Parts) → (count ps ≡ 3 → ⊥) → choice_form d scope ps ≡ Err wrong_count
 choice-count d scope no_parts h = refl
 choice-count d scope (with_part c no_parts) h = refl
 choice-count d scope (with_part c (with_part t no_parts)) h = refl
@@ -116,13 +116,13 @@ choice-count d scope (with_part c (with_part t (with_part u no_parts))) h = absu
 choice-count d scope (with_part c (with_part t (with_part u (with_part p ps)))) h = refl
 
 -- the same by what the program holds
-held-taken : (m : Met) (trees : List Tree) (sorts : List SortId) (error : Option ℕ) (wanted : List SortId) → AreHeld m trees sorts error → taken wanted m ≡ unless_misfit (misfit sorts wanted error) (formulas_of_trees trees)
+held-taken : (m : Met) (trees : List Tree) (sorts : List SortId) (error : Option ℕ) (wanted : List SortId) → HoldsMetTerms m trees sorts error → taken wanted m ≡ unless_misfit (misfit sorts wanted error) (formulas_of_trees trees)
 held-taken m trees sorts error wanted held =
-    ap (λ ss. unless_misfit (misfit ss wanted m.error) (formulas_of m.terms)) held.sorted
-    ∙ ap (λ e. unless_misfit (misfit sorts wanted e) (formulas_of m.terms)) held.refused
+    ap (λ ss. unless_misfit (misfit ss wanted m.error) (without_sorts m.terms)) held.sorted
+    ∙ ap (λ e. unless_misfit (misfit sorts wanted e) (without_sorts m.terms)) held.refused
     ∙ ap (λ fs. unless_misfit (misfit sorts wanted error) fs) held.formulas
 
-module _ (d : Declarations) (scope : List Variable) (ps : Parts) (n : ℕ) (trees : List Tree) (sorts : List SortId) (error : Option ℕ) (long : count ps ≡ n) (held : AreHeld (met d scope ps) trees sorts error) where
+module _ (d : Declarations) (scope : List Variable) (ps : Parts) (n : ℕ) (trees : List Tree) (sorts : List SortId) (error : Option ℕ) (long : count ps ≡ n) (held : HoldsMetTerms (met d scope ps) trees sorts error) where
   pub called-held : (f : Callee) → called d scope f ps ≡ and_then (unless_misfit (misfit sorts (callee_sorts d f n) error) (formulas_of_trees trees)) (λ ts. Ok (callee_formula f ts, callee_result d f))
   called-held f =
       ap (λ k. and_then (arguments d scope (callee_sorts d f k) ps) (λ ts. Ok (callee_formula f ts, callee_result d f))) long
@@ -136,7 +136,7 @@ module _ (d : Declarations) (scope : List Variable) (ps : Parts) (n : ℕ) (tree
       ∙ ap (λ k. taken (same_sorts sorts k) (met d scope ps)) long
       ∙ held-taken (met d scope ps) trees sorts error (same_sorts sorts n) held)
 
-  pub choice-held : n ≡ 3 → choice d scope ps ≡ and_then (unless_misfit (misfit sorts (choice_sorts (second_sort sorts)) error) (formulas_of_trees trees)) (λ ts. Ok (chosen ts, second_sort sorts))
+  pub choice-held : n ≡ 3 → choice_form d scope ps ≡ and_then (unless_misfit (misfit sorts (choice_sorts (second_sort sorts)) error) (formulas_of_trees trees)) (λ ts. Ok (chosen ts, second_sort sorts))
   choice-held is =
       choice-taken d scope ps (long ∙ is)
       ∙ ap (λ ss. and_then (taken (choice_sorts (second_sort ss)) (met d scope ps)) (λ ts. Ok (chosen ts, second_sort ss))) held.sorted

@@ -10,7 +10,7 @@ use Rattle.ct_names.specs.Outcome.{Outcome, Sorted, is_sort}
 use Rattle.ct_names.specs.Refusals.{wrong_count, wrong_sort}
 use Rattle.ct_names.specs.Variables.{Variable}
 use Rattle.ct_names.specs.Parts.{Parts, no_parts, with_part}
-use Rattle.ct_names.specs.Elaboration.{meaning, formulas_of, sorts_of}
+use Rattle.ct_names.specs.Elaboration.{meaning_of_part, without_sorts, sorts_of}
 
 -- the terms before the first error, and that error, where there is one
 pub record Met : Type 0 where
@@ -24,11 +24,11 @@ met_first (Err n) rest = record { terms = []; error = Some n }
 -- the terms of these parts, in order
 abbrev pub met : Declarations → List Variable → Parts → Met
 met d scope no_parts = record { terms = []; error = None }
-met d scope (with_part p ps) = met_first (meaning d scope p) (met d scope ps)
+met d scope (with_part p ps) = met_first (meaning_of_part d scope p) (met d scope ps)
 
 -- the program holds the terms, their sorts and the error
-pub record AreHeld (m : Met) (trees : List Tree) (sorts : List SortId) (error : Option ℕ) : Type 0 where
-  pub formulas : formulas_of m.terms ≡ formulas_of_trees trees
+pub record HoldsMetTerms (m : Met) (trees : List Tree) (sorts : List SortId) (error : Option ℕ) : Type 0 where
+  pub formulas : without_sorts m.terms ≡ formulas_of_trees trees
   pub sorted : sorts_of m.terms ≡ sorts
   pub refused : m.error ≡ error
 

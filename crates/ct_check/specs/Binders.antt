@@ -6,11 +6,11 @@ use Rattle.ct_terms.specs.Formula.{bind}
 use Rattle.ct_names.specs.Outcome.{Outcome, Sorted, and_then}
 use Rattle.ct_names.specs.Variables.{Variable, variables}
 use Rattle.ct_names.specs.Parts.{Part, Parts}
-use Rattle.ct_names.specs.Elaboration.{meaning, bound_terms, formulas_of, sorts_of}
+use Rattle.ct_names.specs.Elaboration.{meaning_of_part, bound_terms, without_sorts, sorts_of}
 
 -- bindings of these names, and a body
-abbrev pub bound_by : Declarations → List Variable → List (Option (List ℕ)) → Parts → Part → Outcome Sorted
-bound_by d scope names bindings body =
+abbrev pub let_of_names : Declarations → List Variable → List (Option (List ℕ)) → Parts → Part → Outcome Sorted
+let_of_names d scope names bindings body =
     and_then (bound_terms d scope bindings) (λ ts.
-    and_then (meaning d (bind (variables names (sorts_of ts)) scope) body) (λ u.
-    Ok (formula.Let (formulas_of ts) u.0, u.1)))
+    and_then (meaning_of_part d (bind (variables names (sorts_of ts)) scope) body) (λ u.
+    Ok (formula.Let (without_sorts ts) u.0, u.1)))

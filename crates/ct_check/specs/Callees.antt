@@ -9,7 +9,7 @@ use Rattle.ct_terms.specs.Formula.{Formula, Formulas, no_formulas, with_formula}
 use Rattle.ct_check.specs.declared.callees.Callee.{Callee}
 use Rattle.ct_check.specs.declared.callees.Callee.TheVariants.{Symbol, Tester, Connective}
 use Rattle.ct_names.specs.Outcome.{Outcome, Sorted, and_then}
-use Rattle.ct_names.specs.Symbols.{argument_sorts, result_sort, applied, ctor_sort}
+use Rattle.ct_names.specs.Symbols.{argument_sorts, result_sort, symbol_applied, ctor_sort}
 use Rattle.ct_names.specs.Variables.{Variable}
 use Rattle.ct_names.specs.Parts.{Parts, count}
 use Rattle.ct_names.specs.Elaboration.{arguments, connected}
@@ -27,14 +27,14 @@ callee_result d (Tester c) = bool_sort
 callee_result d (Connective o) = bool_sort
 
 -- a test of the first of the formulas, which is the only one
-abbrev pub test_of : CtorId → Formulas → Formula
-test_of c no_formulas = formula.And no_formulas
-test_of c (with_formula t ts) = formula.Test c t
+abbrev pub tester_formula : CtorId → Formulas → Formula
+tester_formula c no_formulas = formula.And no_formulas
+tester_formula c (with_formula t ts) = formula.Test c t
 
 -- its formula with arguments
 abbrev pub callee_formula : Callee → Formulas → Formula
-callee_formula (Symbol s) ts = applied s ts
-callee_formula (Tester c) ts = test_of c ts
+callee_formula (Symbol s) ts = symbol_applied s ts
+callee_formula (Tester c) ts = tester_formula c ts
 callee_formula (Connective o) ts = connected o ts
 
 -- it with these arguments

@@ -8,7 +8,7 @@ use Rattle.ct_names.specs.Outcome.{Outcome, Sorted, and_then}
 use Rattle.ct_names.specs.Variables.{Variable}
 use Rattle.ct_names.specs.Parts.{Parts}
 use Rattle.ct_check.specs.Callees.{called, IsCallee}
-use Rattle.ct_names.specs.Elaboration.{let_form, match_form, annotated, lone_symbol, of_one_sort, connected, choice}
+use Rattle.ct_names.specs.Elaboration.{let_form, match_form, annotated, lone_symbol, of_one_sort, connected, choice_form}
 
 -- the list means this, where its other items are these
 abbrev pub headed_by : Declarations → List Variable → Head → Parts → Outcome Sorted
@@ -18,14 +18,14 @@ headed_by d scope Annotation ps = annotated d scope ps
 headed_by d scope (Whole s) ps = lone_symbol d s
 headed_by d scope (Call f) ps = called d scope f ps
 headed_by d scope (Equation o) ps = and_then (of_one_sort d scope ps) (λ ts. Ok (connected o ts, bool_sort))
-headed_by d scope Choice ps = choice d scope ps
+headed_by d scope Choice ps = choice_form d scope ps
 
 -- the symbol at the head is declared
-abbrev pub IsDeclared : Declarations → Head → Type 0
-IsDeclared d Let = Unit {0}
-IsDeclared d Match = Unit {0}
-IsDeclared d Annotation = Unit {0}
-IsDeclared d (Whole s) = IsSymbol d s
-IsDeclared d (Call f) = IsCallee d f
-IsDeclared d (Equation o) = Unit {0}
-IsDeclared d Choice = Unit {0}
+abbrev pub IsHeadDeclared : Declarations → Head → Type 0
+IsHeadDeclared d Let = Unit {0}
+IsHeadDeclared d Match = Unit {0}
+IsHeadDeclared d Annotation = Unit {0}
+IsHeadDeclared d (Whole s) = IsSymbol d s
+IsHeadDeclared d (Call f) = IsCallee d f
+IsHeadDeclared d (Equation o) = Unit {0}
+IsHeadDeclared d Choice = Unit {0}

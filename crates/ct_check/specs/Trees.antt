@@ -3,11 +3,8 @@ use Rattle.std.specs.Prelude.{List, [], ◌∷◌, map}
 use Rattle.std.specs.Global.{Vec}
 use Rattle.ct_sorts.specs.declared.ids.SortId.{SortId}
 use Rattle.ct_terms.specs.declared.tree.Tree.{Tree}
-use Rattle.ct_terms.specs.Formula.{Formula}
-use Rattle.ct_terms.specs.TreeFormula.{formula_of, cases_of, formula_layer, case_layer}
-use Rattle.ct_terms.specs.declared.tree.Pattern.{Pattern}
-use Rattle.ct_terms.specs.declared.tree.Case.{Case}
-use Rattle.ct_terms.specs.declared.tree.Tree.TheFolds.{fold-Case}
+use Rattle.ct_terms.specs.TreeFormula.{formula_of, cases_of}
+use Rattle.ct_occurrence.specs.CaseFormula.{case_of}
 use Rattle.ct_check.specs.declared.binders.Checked.{Checked as CheckedTrees}
 use Rattle.ct_names.specs.Elaboration.{Checked}
 use Rattle.ct_names.specs.Outcome.{Sorted}
@@ -24,10 +21,6 @@ sorted_trees (t ∷ ts) (s ∷ sorts) = (formula_of t, s) ∷ sorted_trees ts so
 
 abbrev pub sorted_list : Vec Tree × Vec SortId → List Sorted
 sorted_list r = sorted_trees r.0.items r.1.items
-
--- the pattern and the formula of a case
-abbrev pub case_of : Case → Pattern × Formula
-case_of = fold-Case Formula (Pattern × Formula) formula_layer case_layer
 
 -- the cases that were checked
 abbrev pub checked_of : CheckedTrees → Checked

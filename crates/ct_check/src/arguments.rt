@@ -2,10 +2,10 @@
 ghost use Rattle.std.specs.Prelude.{◌≡◌, ◌∷◌, ℕ, List, [], Some, MatchOption, IfOk, IfErr};
 ghost use Rattle.ct_sorts.specs.Declarations.{Declarations};
 ghost use Rattle.ct_terms.specs.TreeFormula.{formula_of, formulas_of_trees};
-ghost use Rattle.ct_names.specs.Answer.{Answers};
-ghost use Rattle.ct_check.specs.Arguments.{met, AreHeld, misfit, same_sorts, second_sort, choice_sorts, chosen};
+ghost use Rattle.ct_names.specs.Answer.{IsAnswerFor};
+ghost use Rattle.ct_check.specs.Arguments.{met, HoldsMetTerms, misfit, same_sorts, second_sort, choice_sorts, chosen};
 ghost use Rattle.ct_check.specs.Callees.{called, IsCallee};
-ghost use Rattle.ct_names.specs.Elaboration.{choice};
+ghost use Rattle.ct_names.specs.Elaboration.{choice_form};
 ghost use Rattle.ct_check.specs.Heads.{headed_by};
 ghost use Rattle.ct_names.specs.Parts.{Parts, count};
 ghost use Rattle.ct_check.specs.Trees.{sorted_of};
@@ -93,8 +93,8 @@ pub(crate) fn called(
 ) -> Result<(Tree, SortId), CheckError>
     requires inside { IsCallee sig.now callee }
     ensures value { (scope : List Variable) (ps : Parts) → count ps ≡ args
-        → AreHeld (met sig.now scope ps) terms.trees.items terms.sorts.items terms.error
-        → Answers sorted_of (called sig.now scope callee ps) result }
+        → HoldsMetTerms (met sig.now scope ps) terms.trees.items terms.sorts.items terms.error
+        → IsAnswerFor sorted_of (called sig.now scope callee ps) result }
 {
     let wanted = callee_sorts(alloc, sig, callee, args)?;
     match misfit(terms.sorts.as_slice(), wanted.as_slice(), terms.error) {
@@ -114,8 +114,8 @@ pub(crate) fn equation(
     args: usize,
 ) -> Result<(Tree, SortId), CheckError>
     ensures value { (d : Declarations) (scope : List Variable) (ps : Parts) → count ps ≡ args
-        → AreHeld (met d scope ps) terms.trees.items terms.sorts.items terms.error
-        → Answers sorted_of (headed_by d scope (Equation operator) ps) result }
+        → HoldsMetTerms (met d scope ps) terms.trees.items terms.sorts.items terms.error
+        → IsAnswerFor sorted_of (headed_by d scope (Equation operator) ps) result }
 {
     let wanted = same_sorts(alloc, terms.sorts.as_slice(), args)?;
     match misfit(terms.sorts.as_slice(), wanted.as_slice(), terms.error) {
@@ -145,8 +145,8 @@ pub(crate) fn choice(
     args: usize,
 ) -> Result<(Tree, SortId), CheckError>
     ensures value { (d : Declarations) (scope : List Variable) (ps : Parts) → count ps ≡ args
-        → AreHeld (met d scope ps) terms.trees.items terms.sorts.items terms.error
-        → Answers sorted_of (choice d scope ps) result }
+        → HoldsMetTerms (met d scope ps) terms.trees.items terms.sorts.items terms.error
+        → IsAnswerFor sorted_of (choice_form d scope ps) result }
 {
     if args != 3 {
         return Err(CheckError::Refused(WRONG_COUNT));

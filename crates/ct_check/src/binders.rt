@@ -4,12 +4,13 @@ ghost use Rattle.ct_sexpr.specs.View.{expressions_of};
 ghost use Rattle.ct_sorts.specs.Declarations.{Declarations};
 ghost use Rattle.ct_terms.specs.Formula.{Let};
 ghost use Rattle.ct_terms.specs.TreeFormula.{formula_of, formulas_of_trees};
-ghost use Rattle.ct_names.specs.Answer.{Answers, Leads};
-ghost use Rattle.ct_check.specs.Binders.{bound_by};
+ghost use Rattle.ct_names.specs.Answer.{IsAnswerFor, ContinuesWith};
+ghost use Rattle.ct_check.specs.Binders.{let_of_names};
 ghost use Rattle.ct_names.specs.Bounds.{held_name};
-ghost use Rattle.ct_names.specs.Elaboration.{parts_of, bound, exhausted, goes_with};
+ghost use Rattle.ct_names.specs.Elaboration.{parts_of, let_of, exhausted, goes_with};
 ghost use Rattle.ct_names.specs.Parts.{Part};
-ghost use Rattle.ct_check.specs.Trees.{sorted_of, checked_of, case_of};
+ghost use Rattle.ct_check.specs.Trees.{sorted_of, checked_of};
+ghost use Rattle.ct_occurrence.specs.CaseFormula.{case_of};
 ghost use Rattle.ct_names.specs.Variables.{Variable};
 
 use crate::callees::is_sort;
@@ -36,9 +37,9 @@ pub(crate) fn binding_names<'e>(
     alloc: Global,
     bindings: &'e [Sexpr],
 ) -> Result<Vec<Option<&'e [u8]>>, CheckError>
-    ensures value { (d : Declarations) (scope : List Variable) (body : Part) → Leads (bound d scope
+    ensures value { (d : Declarations) (scope : List Variable) (body : Part) → ContinuesWith (let_of d scope
         (parts_of d (expressions_of bindings.now)) body)
-        (λ names. bound_by d scope (map held_name names.items) (parts_of d
+        (λ names. let_of_names d scope (map held_name names.items) (parts_of d
         (expressions_of bindings.now)) body) result }
 {
     if bindings.is_empty() {
@@ -72,7 +73,7 @@ pub(crate) fn match_tree(
     side: SortId,
     checked: Checked,
 ) -> Result<(Tree, SortId), CheckError>
-    ensures value { Answers sorted_of (exhausted sig.now (formula_of subject, side)
+    ensures value { IsAnswerFor sorted_of (exhausted sig.now (formula_of subject, side)
         (checked_of checked)) result }
 {
     let exhaustive = are_exhaustive(alloc, sig, side, checked.patterns.as_slice())?;

@@ -2,9 +2,9 @@
 ghost use Rattle.std.specs.Prelude.{◌≡◌, List, None, IfOk};
 ghost use Rattle.ct_sexpr.specs.View.{expression_of, expressions_of};
 ghost use Rattle.ct_sorts.specs.Lookup.{IsSymbol};
-ghost use Rattle.ct_names.specs.Answer.{Answers, Leads, same};
-ghost use Rattle.ct_names.specs.Elaboration.{part_of, parts_of, list_meaning, reserved, application, qualified, qualified_symbol, tester, headed, is_text, may_qualify, takes, operated, global, applied_symbol, tested_term};
-ghost use Rattle.ct_check.specs.Heads.{headed_by, IsDeclared};
+ghost use Rattle.ct_names.specs.Answer.{IsAnswerFor, ContinuesWith, as_it_is};
+ghost use Rattle.ct_names.specs.Elaboration.{part_of, parts_of, list_meaning, reserved, application, qualified, qualified_symbol, tester, headed, is_text_of_name, may_qualify, takes, operated, global, applied_symbol, tested_term};
+ghost use Rattle.ct_check.specs.Heads.{headed_by, IsHeadDeclared};
 ghost use Rattle.ct_names.specs.Parts.{Parts, with_part, no_parts, name_of, count};
 ghost use Rattle.ct_names.specs.Outcome.{unless_refused};
 ghost use Rattle.ct_names.specs.Refusals.{wrong_count};
@@ -49,12 +49,12 @@ pub(crate) fn head_of(
     head: &Sexpr,
     args: &[Sexpr],
 ) -> Result<Head, CheckError>
-    ensures value { Leads (list_meaning sig.now (with_part (part_of sig.now
+    ensures value { ContinuesWith (list_meaning sig.now (with_part (part_of sig.now
         (expression_of head.now)) (parts_of sig.now (expressions_of args.now)))
         variables.now)
         (λ h. headed_by sig.now variables.now h (parts_of sig.now
         (expressions_of args.now))) result }
-    ensures inside { IfOk result (IsDeclared sig.now) }
+    ensures inside { IfOk result (IsHeadDeclared sig.now) }
 {
     match head {
         Sexpr::List(items) => list_head(sig, variables, items.as_slice(), args.len()),
@@ -76,11 +76,11 @@ fn word_head(
     word: &[u8],
     args: &[Sexpr],
 ) -> Result<Head, CheckError>
-    ensures value { Leads (headed sig.now variables.now (symbol word.now)
+    ensures value { ContinuesWith (headed sig.now variables.now (symbol word.now)
         (parts_of sig.now (expressions_of args.now)))
         (λ h. headed_by sig.now variables.now h (parts_of sig.now
         (expressions_of args.now))) result }
-    ensures inside { IfOk result (IsDeclared sig.now) }
+    ensures inside { IfOk result (IsHeadDeclared sig.now) }
 {
     if is_reserved(word) {
         return reserved_head(sig, variables, word, args);
@@ -95,11 +95,11 @@ fn reserved_head(
     word: &[u8],
     args: &[Sexpr],
 ) -> Result<Head, CheckError>
-    ensures value { Leads (reserved sig.now variables.now word.now (parts_of sig.now
+    ensures value { ContinuesWith (reserved sig.now variables.now word.now (parts_of sig.now
         (expressions_of args.now)))
         (λ h. headed_by sig.now variables.now h (parts_of sig.now
         (expressions_of args.now))) result }
-    ensures inside { IfOk result (IsDeclared sig.now) }
+    ensures inside { IfOk result (IsHeadDeclared sig.now) }
 {
     match word {
         b"let" => Ok(Head::Let),
@@ -117,10 +117,10 @@ fn name_head(
     name: &[u8],
     args: usize,
 ) -> Result<Head, CheckError>
-    ensures value { (ps : Parts) → count ps ≡ args → Leads (application sig.now
+    ensures value { (ps : Parts) → count ps ≡ args → ContinuesWith (application sig.now
         variables.now name.now ps)
         (λ h. headed_by sig.now variables.now h ps) result }
-    ensures inside { IfOk result (IsDeclared sig.now) }
+    ensures inside { IfOk result (IsHeadDeclared sig.now) }
 {
     if variables.find(name).is_some() {
         return Err(CheckError::Refused(UNKNOWN_SYMBOL));
@@ -134,9 +134,9 @@ fn name_head(
 // A name that is no variable and no operator at the head of a list, with so many arguments.
 fn global_head(sig: &Signature, name: &[u8], args: usize) -> Result<Head, CheckError>
     ensures value { (scope : List Variable) (ps : Parts) → count ps ≡ args
-        → Leads (global sig.now scope None (symbol_of sig.now name.now) ps)
+        → ContinuesWith (global sig.now scope None (symbol_of sig.now name.now) ps)
         (λ h. headed_by sig.now scope h ps) result }
-    ensures inside { IfOk result (IsDeclared sig.now) }
+    ensures inside { IfOk result (IsHeadDeclared sig.now) }
 {
     match symbol_named(sig, name) {
         Some(symbol) => symbol_head(sig, symbol, args),
@@ -147,9 +147,9 @@ fn global_head(sig: &Signature, name: &[u8], args: usize) -> Result<Head, CheckE
 // An operator at the head of a list, with so many arguments.
 fn operator_head(operator: CoreOperator, args: usize) -> Result<Head, CheckError>
     ensures value { (d : Declarations) (scope : List Variable) (ps : Parts) → count ps ≡ args
-        → Leads (unless_refused (takes operator (count ps)) wrong_count
+        → ContinuesWith (unless_refused (takes operator (count ps)) wrong_count
         (operated d scope operator ps)) (λ h. headed_by d scope h ps) result }
-    ensures inside { (d : Declarations) → IfOk result (IsDeclared d) }
+    ensures inside { (d : Declarations) → IfOk result (IsHeadDeclared d) }
 {
     if !takes(operator, args) {
         return Err(CheckError::Refused(WRONG_COUNT));
@@ -170,9 +170,9 @@ fn operator_head(operator: CoreOperator, args: usize) -> Result<Head, CheckError
 fn symbol_head(sig: &Signature, symbol: Symbol, args: usize) -> Result<Head, CheckError>
     requires inside { IsSymbol sig.now symbol }
     ensures value { (scope : List Variable) (ps : Parts) → count ps ≡ args
-        → Leads (applied_symbol sig.now scope symbol ps) (λ h. headed_by sig.now scope h ps)
+        → ContinuesWith (applied_symbol sig.now scope symbol ps) (λ h. headed_by sig.now scope h ps)
         result }
-    ensures inside { IfOk result (IsDeclared sig.now) }
+    ensures inside { IfOk result (IsHeadDeclared sig.now) }
 {
     let wanted = argument_count(sig, symbol);
     if wanted == 0 && args == 0 {
@@ -187,8 +187,8 @@ fn symbol_head(sig: &Signature, symbol: Symbol, args: usize) -> Result<Head, Che
 // A tester at the head of a list, with so many arguments.
 fn tester_head(c: CtorId, args: usize) -> Result<Head, CheckError>
     ensures value { (d : Declarations) (scope : List Variable) (ps : Parts) → count ps ≡ args
-        → Leads (tested_term d scope c ps) (λ h. headed_by d scope h ps) result }
-    ensures inside { (d : Declarations) → IsSymbol d (Ctor c) → IfOk result (IsDeclared d) }
+        → ContinuesWith (tested_term d scope c ps) (λ h. headed_by d scope h ps) result }
+    ensures inside { (d : Declarations) → IsSymbol d (Ctor c) → IfOk result (IsHeadDeclared d) }
 {
     if args != 1 {
         return Err(CheckError::Refused(WRONG_COUNT));
@@ -203,10 +203,10 @@ fn list_head(
     items: &[Sexpr],
     args: usize,
 ) -> Result<Head, CheckError>
-    ensures value { (ps : Parts) → count ps ≡ args → Leads (qualified sig.now
+    ensures value { (ps : Parts) → count ps ≡ args → ContinuesWith (qualified sig.now
         variables.now (parts_of sig.now (expressions_of items.now)) ps)
         (λ h. headed_by sig.now variables.now h ps) result }
-    ensures inside { IfOk result (IsDeclared sig.now) }
+    ensures inside { IfOk result (IsHeadDeclared sig.now) }
 {
     let [word, others @ ..] = items else {
         return Err(CheckError::Refused(OUT_OF_SCOPE));
@@ -224,7 +224,7 @@ fn list_head(
 
 // The constructor of `(_ is C)`, by its items without `_`.
 fn tester(sig: &Signature, items: &[Sexpr]) -> Result<CtorId, CheckError>
-    ensures value { Answers same (tester sig.now (parts_of sig.now (expressions_of items.now)))
+    ensures value { IsAnswerFor as_it_is (tester sig.now (parts_of sig.now (expressions_of items.now)))
         result }
     ensures inside { IfOk result (λ c. IsSymbol sig.now (Ctor c)) }
 {
@@ -236,7 +236,7 @@ fn tester(sig: &Signature, items: &[Sexpr]) -> Result<CtorId, CheckError>
 
 // The constructor of `(_ is C)`, by the word and the constructor.
 fn tester_of(sig: &Signature, word: &Sexpr, ctor: &Sexpr) -> Result<CtorId, CheckError>
-    ensures value { Answers same (tester sig.now (with_part (part_of sig.now
+    ensures value { IsAnswerFor as_it_is (tester sig.now (with_part (part_of sig.now
         (expression_of word.now)) (with_part (part_of sig.now (expression_of ctor.now)) no_parts)))
         result }
     ensures inside { IfOk result (λ c. IsSymbol sig.now (Ctor c)) }
@@ -258,7 +258,7 @@ fn tester_of(sig: &Signature, word: &Sexpr, ctor: &Sexpr) -> Result<CtorId, Chec
 
 // Whether the expression is this name.
 fn is_named(wanted: &[u8], expr: &Sexpr) -> bool
-    ensures value { (d : Declarations) → result ≡ is_text wanted.now (name_of (part_of d
+    ensures value { (d : Declarations) → result ≡ is_text_of_name wanted.now (name_of (part_of d
         (expression_of expr.now))) }
 {
     match name_of(expr) {
@@ -273,7 +273,7 @@ fn qualified_symbol(
     variables: &Variables,
     items: &[Sexpr],
 ) -> Result<Symbol, CheckError>
-    ensures value { Answers same (qualified_symbol sig.now variables.now
+    ensures value { IsAnswerFor as_it_is (qualified_symbol sig.now variables.now
         (parts_of sig.now (expressions_of items.now))) result }
     ensures inside { IfOk result (IsSymbol sig.now) }
 {
@@ -290,7 +290,7 @@ fn qualified_name(
     f: &Sexpr,
     sort: &Sexpr,
 ) -> Result<Symbol, CheckError>
-    ensures value { Answers same (qualified_symbol sig.now variables.now (with_part
+    ensures value { IsAnswerFor as_it_is (qualified_symbol sig.now variables.now (with_part
         (part_of sig.now (expression_of f.now)) (with_part (part_of sig.now
         (expression_of sort.now)) no_parts))) result }
     ensures inside { IfOk result (IsSymbol sig.now) }
@@ -311,7 +311,7 @@ fn qualified_name(
 
 // The symbol that `as` may qualify: no selector.
 fn qualifiable(sig: &Signature, name: &[u8]) -> Result<Symbol, CheckError>
-    ensures value { Answers same (may_qualify (symbol_of sig.now name.now)) result }
+    ensures value { IsAnswerFor as_it_is (may_qualify (symbol_of sig.now name.now)) result }
     ensures inside { IfOk result (IsSymbol sig.now) }
 {
     match symbol_named(sig, name) {

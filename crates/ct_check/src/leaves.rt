@@ -1,7 +1,7 @@
 //! Names that stand alone.
 ghost use Rattle.ct_sexpr.specs.View.{expression_of};
 ghost use Rattle.ct_sorts.specs.Lookup.{IsSymbol};
-ghost use Rattle.ct_names.specs.Answer.{Answers};
+ghost use Rattle.ct_names.specs.Answer.{IsAnswerFor};
 ghost use Rattle.ct_names.specs.Parts.{name_of};
 ghost use Rattle.ct_names.specs.Symbols.{symbol_of};
 ghost use Rattle.ct_names.specs.Elaboration.{part_of, lone, lone_global, lone_symbol};
@@ -24,7 +24,7 @@ pub(crate) fn lone(
     variables: &Variables,
     expr: &Sexpr,
 ) -> Result<(Tree, SortId), CheckError>
-    ensures value { Answers sorted_of (lone sig.now variables.now (name_of
+    ensures value { IsAnswerFor sorted_of (lone sig.now variables.now (name_of
         (part_of sig.now (expression_of expr.now)))) result }
 {
     let Some(name) = name_of(expr) else {
@@ -38,7 +38,7 @@ pub(crate) fn lone(
 
 // A name that is no variable.
 fn lone_global(alloc: Global, sig: &Signature, name: &[u8]) -> Result<(Tree, SortId), CheckError>
-    ensures value { Answers sorted_of (lone_global sig.now name.now (symbol_of sig.now name.now))
+    ensures value { IsAnswerFor sorted_of (lone_global sig.now name.now (symbol_of sig.now name.now))
         result }
 {
     match symbol_named(sig, name) {
@@ -57,7 +57,7 @@ pub(crate) fn lone_symbol(
     symbol: Symbol,
 ) -> Result<(Tree, SortId), CheckError>
     requires inside { IsSymbol sig.now symbol }
-    ensures value { Answers sorted_of (lone_symbol sig.now symbol) result }
+    ensures value { IsAnswerFor sorted_of (lone_symbol sig.now symbol) result }
 {
     if argument_count(sig, symbol) != 0 {
         return Err(CheckError::Refused(WRONG_COUNT));

@@ -2,7 +2,7 @@
 ghost use Rattle.std.specs.Prelude.{◌≡◌, ℕ, Ok, Err, IfOk, IfErr, IsErrOf};
 ghost use Rattle.ct_sexpr.specs.View.{expression_of};
 ghost use Rattle.ct_terms.specs.TreeFormula.{formula_of};
-ghost use Rattle.ct_names.specs.Bounds.{parameters};
+ghost use Rattle.ct_names.specs.Bounds.{parameter_variables};
 ghost use Rattle.ct_names.specs.Elaboration.{elaborated, sort_of};
 
 use crate::terms::term;
@@ -42,10 +42,10 @@ pub fn elaborate(
     expr: &Sexpr,
 ) -> Result<(Tree, SortId), CheckError>
     ensures ok { IfOk result (λ t.
-        elaborated scope.now.sig (parameters params.now) (expression_of expr.now) ≡ Ok
+        elaborated scope.now.sig (parameter_variables params.now) (expression_of expr.now) ≡ Ok
         (formula_of t.0, t.1)) }
     ensures refused { (n : ℕ) → IsErrOf result (CheckError.Refused n)
-        → elaborated scope.now.sig (parameters params.now) (expression_of expr.now) ≡ Err n }
+        → elaborated scope.now.sig (parameter_variables params.now) (expression_of expr.now) ≡ Err n }
 {
     let bounds = parameters(alloc, params)?;
     let mut variables = Variables::new(alloc);

@@ -2,8 +2,8 @@
 ghost use Rattle.std.specs.Prelude.{◌≡◌, map, length, None, IfOk, IfErr};
 ghost use Rattle.ct_terms.specs.Formula.{bind};
 ghost use Rattle.ct_sexpr.specs.View.{expression_of, expressions_of};
-ghost use Rattle.ct_names.specs.Answer.{Answers};
-ghost use Rattle.ct_check.specs.Arguments.{met, AreHeld};
+ghost use Rattle.ct_names.specs.Answer.{IsAnswerFor};
+ghost use Rattle.ct_check.specs.Arguments.{met, HoldsMetTerms};
 ghost use Rattle.ct_names.specs.Bounds.{variable_of};
 ghost use Rattle.ct_names.specs.Elaboration.{elaborated, parts_of, list_meaning, annotated, let_form, bound_terms, match_form, checked_cases};
 ghost use Rattle.ct_check.specs.Trees.{sorted_of, sorted_list, checked_of};
@@ -29,7 +29,7 @@ pub(crate) fn term<'e>(
     variables: &mut Variables<'e>,
     expr: &'e Sexpr,
 ) -> Result<(Tree, SortId), CheckError>
-    ensures value { Answers sorted_of (elaborated sig.now variables.old
+    ensures value { IsAnswerFor sorted_of (elaborated sig.now variables.old
         (expression_of expr.now)) result }
     ensures restored { variables.new ≡ variables.old }
 {
@@ -54,7 +54,7 @@ fn list<'e>(
     variables: &mut Variables<'e>,
     items: &'e [Sexpr],
 ) -> Result<(Tree, SortId), CheckError>
-    ensures value { Answers sorted_of (list_meaning sig.now (parts_of sig.now
+    ensures value { IsAnswerFor sorted_of (list_meaning sig.now (parts_of sig.now
         (expressions_of items.now)) variables.old) result }
     ensures restored { variables.new ≡ variables.old }
 {
@@ -89,7 +89,7 @@ fn annotated<'e>(
     variables: &mut Variables<'e>,
     args: &'e [Sexpr],
 ) -> Result<(Tree, SortId), CheckError>
-    ensures value { Answers sorted_of (annotated sig.now variables.old (parts_of sig.now
+    ensures value { IsAnswerFor sorted_of (annotated sig.now variables.old (parts_of sig.now
         (expressions_of args.now))) result }
     ensures restored { variables.new ≡ variables.old }
 {
@@ -110,7 +110,7 @@ fn terms<'e>(
     variables: &mut Variables<'e>,
     exprs: &'e [Sexpr],
 ) -> Result<Elaborated, CheckError>
-    ensures held { IfOk result (λ t. AreHeld (met sig.now variables.old (parts_of sig.now
+    ensures held { IfOk result (λ t. HoldsMetTerms (met sig.now variables.old (parts_of sig.now
         (expressions_of exprs.now))) t.trees.items t.sorts.items t.error) }
     ensures err { IfErr result (λ e. e ≡ CheckError.NoMemory) }
     ensures restored { variables.new ≡ variables.old }
@@ -141,7 +141,7 @@ fn let_form<'e>(
     variables: &mut Variables<'e>,
     args: &'e [Sexpr],
 ) -> Result<(Tree, SortId), CheckError>
-    ensures value { Answers sorted_of (let_form sig.now variables.old (parts_of sig.now
+    ensures value { IsAnswerFor sorted_of (let_form sig.now variables.old (parts_of sig.now
         (expressions_of args.now))) result }
     ensures restored { variables.new ≡ variables.old }
 {
@@ -170,7 +170,7 @@ fn under<'e>(
     inner: &[BoundVariable<'e>],
     body: &'e Sexpr,
 ) -> Result<(Tree, SortId), CheckError>
-    ensures value { Answers sorted_of (elaborated sig.now (bind (map variable_of inner.now)
+    ensures value { IsAnswerFor sorted_of (elaborated sig.now (bind (map variable_of inner.now)
         variables.old) (expression_of body.now)) result }
     ensures restored { variables.new ≡ variables.old }
 {
@@ -188,7 +188,7 @@ fn bound_terms<'e>(
     variables: &mut Variables<'e>,
     bindings: &'e [Sexpr],
 ) -> Result<(Vec<Tree>, Vec<SortId>), CheckError>
-    ensures value { Answers sorted_list (bound_terms sig.now variables.old
+    ensures value { IsAnswerFor sorted_list (bound_terms sig.now variables.old
         (parts_of sig.now (expressions_of bindings.now))) result }
     ensures one_each { IfOk result (λ r. length r.0.items ≡ length r.1.items) }
     ensures restored { variables.new ≡ variables.old }
@@ -218,7 +218,7 @@ fn match_form<'e>(
     variables: &mut Variables<'e>,
     args: &'e [Sexpr],
 ) -> Result<(Tree, SortId), CheckError>
-    ensures value { Answers sorted_of (match_form sig.now variables.old (parts_of sig.now
+    ensures value { IsAnswerFor sorted_of (match_form sig.now variables.old (parts_of sig.now
         (expressions_of args.now))) result }
     ensures restored { variables.new ≡ variables.old }
 {
@@ -250,7 +250,7 @@ fn checked_cases<'e>(
     side: SortId,
     cases: &'e [Sexpr],
 ) -> Result<Checked, CheckError>
-    ensures value { Answers checked_of (checked_cases sig.now variables.old side None
+    ensures value { IsAnswerFor checked_of (checked_cases sig.now variables.old side None
         (parts_of sig.now (expressions_of cases.now))) result }
     ensures restored { variables.new ≡ variables.old }
 {

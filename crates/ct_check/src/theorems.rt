@@ -7,7 +7,7 @@ ghost use Rattle.ct_sorts.specs.Declarations.{Declarations};
 ghost use Rattle.ct_terms.specs.Formula.{Formula, MentionsBelow, bind};
 ghost use Rattle.ct_terms.specs.FormulaSorts.{IsSorted};
 ghost use Rattle.ct_names.specs.declared.variables.Param.{Param};
-ghost use Rattle.ct_names.specs.Bounds.{parameters};
+ghost use Rattle.ct_names.specs.Bounds.{parameter_variables};
 ghost use Rattle.ct_names.specs.Elaboration.{elaborated};
 ghost use Rattle.ct_names.specs.Variables.{Variable, variable_sorts};
 
@@ -34,7 +34,7 @@ pub fn elaboration()
     ensures body { (d : Declarations) (params : List Param) (e : Expression) (t : Formula)
         (sort : SortId)
         → IsConsistent d
-        → elaborated d (parameters params) e ≡ Ok (t, sort)
+        → elaborated d (parameter_variables params) e ≡ Ok (t, sort)
         → IsSorted d (bind (map (λ (p : Param). p.sort) params) []) t sort }
 {
     structure();

@@ -2,9 +2,9 @@
 ghost use Rattle.std.specs.Prelude.{◌≡◌, ◌∷◌, [], List, MatchOption, IfOk, IfErr};
 ghost use Rattle.ct_terms.specs.declared.tree.Tree.{Tree};
 ghost use Rattle.ct_terms.specs.TreeFormula.{formula_of, formulas_of_trees};
-ghost use Rattle.ct_names.specs.Symbols.{applied};
+ghost use Rattle.ct_names.specs.Symbols.{symbol_applied};
 ghost use Rattle.ct_names.specs.Elaboration.{connected};
-ghost use Rattle.ct_check.specs.Callees.{callee_formula, test_of};
+ghost use Rattle.ct_check.specs.Callees.{callee_formula, tester_formula};
 
 use crate::callees::Callee;
 use ct_names::{CheckError, CoreOperator};
@@ -35,7 +35,7 @@ pub(crate) fn symbol_tree(
     symbol: Symbol,
     args: Vec<Tree>,
 ) -> Result<Tree, CheckError>
-    ensures ok { IfOk result (λ t. formula_of t ≡ applied symbol (formulas_of_trees args.items)) }
+    ensures ok { IfOk result (λ t. formula_of t ≡ symbol_applied symbol (formulas_of_trees args.items)) }
     ensures err { IfErr result (λ e. e ≡ CheckError.NoMemory) }
 {
     match symbol {
@@ -70,7 +70,7 @@ pub(crate) fn operator_tree(
 
 // A field of the one argument.
 fn selection(alloc: Global, s: SelId, args: Vec<Tree>) -> Result<Tree, CheckError>
-    ensures ok { IfOk result (λ t. formula_of t ≡ applied (Symbol.Sel s)
+    ensures ok { IfOk result (λ t. formula_of t ≡ symbol_applied (Symbol.Sel s)
         (formulas_of_trees args.items)) }
     ensures err { IfErr result (λ e. e ≡ CheckError.NoMemory) }
 {
@@ -82,7 +82,7 @@ fn selection(alloc: Global, s: SelId, args: Vec<Tree>) -> Result<Tree, CheckErro
 
 // A test of the one argument.
 fn test(alloc: Global, c: CtorId, args: Vec<Tree>) -> Result<Tree, CheckError>
-    ensures ok { IfOk result (λ t. formula_of t ≡ test_of c (formulas_of_trees args.items)) }
+    ensures ok { IfOk result (λ t. formula_of t ≡ tester_formula c (formulas_of_trees args.items)) }
     ensures err { IfErr result (λ e. e ≡ CheckError.NoMemory) }
 {
     match first_of(args) {

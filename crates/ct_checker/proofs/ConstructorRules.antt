@@ -15,7 +15,7 @@ use Rattle.ct_terms.specs.declared.term.Core.TheVariants as core
 use Rattle.ct_terms.specs.Terms.{Terms, Has, IsBoolean}
 use Rattle.ct_eval.specs.declared.interp.Interp.{Interp}
 use Rattle.ct_eval.specs.Evaluation.{value_of}
-use Rattle.ct_eval.specs.Truth.{truth_of}
+use Rattle.ct_eval.specs.Truth.{truth_value}
 use Rattle.ct_rules.specs.Rules.{Equations, truth_term, IsInjection, IsSelection, IsTesting, IsSelected, IsExpansion}
 use Rattle.ct_checker.proofs.Setting.{Setting, Equal, value_point}
 use Rattle.ct_checker.proofs.ValueLemmas.{same_at, stated, read, equal_built, equal_children, argument_at}
@@ -62,11 +62,11 @@ module _ (d : Declarations) (i : Interp) (terms : Terms) (setting : Setting d i 
         let asked = setting.truths.test x rule.argument rule.tested rule.stands in
         elim rule.answer [
           | inl same ↦
-              let holds : truth_of d i terms x ≡ true =
+              let holds : truth_value d i terms x ≡ true =
               asked ∙ ap (λ (c : CtorId). is_built i.graph c (value_of d i terms rule.argument)) same.0 ∙ equal_built d i terms setting rule.argument rule.con rule.ctor rule.args rule.con_stands equal in
               subst (Equal d i terms x) (sym same.1) (stated d i terms setting x true boolean holds)
           | inr other ↦
-              let fails : truth_of d i terms x ≡ false =
+              let fails : truth_value d i terms x ≡ false =
               not_true _ (λ e. other.0 (one_builder rule.con rule.tested rule.ctor rule.args rule.con_stands (sym (setting.table.one_answer rule.tested rule.argument rule.con equal) ∙ sym asked ∙ e))) in
               subst (Equal d i terms x) (sym other.1) (stated d i terms setting x false boolean fails)
         ]

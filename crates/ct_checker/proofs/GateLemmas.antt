@@ -14,7 +14,7 @@ use Rattle.ct_terms.specs.Clause.{Clause, opposites, with_value, literal_value}
 use Rattle.ct_terms.specs.Terms.{Terms, Has}
 use Rattle.ct_eval.specs.declared.interp.Interp.{Interp}
 use Rattle.ct_eval.specs.Evaluation.{value_of}
-use Rattle.ct_eval.specs.Truth.{truth_of, TrueIn}
+use Rattle.ct_eval.specs.Truth.{truth_value, TrueIn}
 use Rattle.ct_rules.specs.Rules.{truth_term}
 use Rattle.ct_log.specs.declared.rules.Gate.{Gate}
 use Rattle.ct_log.specs.declared.rules.Gate.TheVariants.{True, False, AndPos, AndNeg, OrPos, OrNeg, Iff1, Iff2, Iff3, Iff4, Ite1, Ite2, Ite3, Ite4, Then, Else}
@@ -70,10 +70,10 @@ module _ {X : Type 0} (p : X → Bool) where
 module _ (d : Declarations) (i : Interp) (terms : Terms) (setting : Setting d i terms) where
   -- the truth of terms and of literals
   abbrev true_in : TermId → Bool
-  true_in = truth_of d i terms
+  true_in = truth_value d i terms
 
   abbrev lit_value : Lit → Bool
-  lit_value = literal_value (λ t. truth_of d i terms (record { 0 = t }))
+  lit_value = literal_value (λ t. truth_value d i terms (record { 0 = t }))
 
   -- a clause is true where its first literal is, or else its rest is
   of_first : (l : Lit) (clause : Clause) → lit_value l ≡ true → TrueIn d i terms (l ∷ clause)

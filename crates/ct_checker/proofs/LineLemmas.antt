@@ -15,7 +15,7 @@ use Rattle.ct_terms.specs.Propagation.{Rup}
 use Rattle.ct_terms.specs.Terms.{Terms}
 use Rattle.ct_eval.specs.declared.interp.Interp.{Interp}
 use Rattle.ct_eval.specs.Evaluation.{value_of}
-use Rattle.ct_eval.specs.Truth.{truth_of, Holds, TrueIn}
+use Rattle.ct_eval.specs.Truth.{truth_value, Holds, TrueIn}
 use Rattle.ct_log.specs.declared.line.Line.{Line}
 use Rattle.ct_log.specs.declared.line.Step.{Step}
 use Rattle.ct_log.specs.declared.line.Step.TheVariants.{Input, Gate, Exhaust, Theory, Learn}
@@ -35,16 +35,16 @@ module _ (d : Declarations) (i : Interp) (terms : Terms) (setting : Setting d i 
   -- the literal of an assertion is true
   input_sound : (asserts : List TermId) (t : TermId) → Holds d i terms asserts → Contains asserts t → TrueIn d i terms (literal_of terms t ∷ [])
   input_sound asserts t holds inside =
-      (literal_of terms t, Contains-first (literal_of terms t) [], literal_is d i terms setting t true (All-contains (λ (a : TermId). truth_of d i terms a ≡ true) asserts t holds inside))
+      (literal_of terms t, Contains-first (literal_of terms t) [], literal_is d i terms setting t true (All-contains (λ (a : TermId). truth_value d i terms a ≡ true) asserts t holds inside))
 
   -- of the tests of a term by each constructor of a list, that by its own is true
   test_true : (t : TermId) (c : CtorId) → is_built i.graph c (value_of d i terms t) ≡ true → (clause : Clause) (ctors : List CtorId) (index : ℕ) → AllZip (IsTestOf terms t) clause ctors → slice_get ctors index ≡ Some c → TrueIn d i terms clause
   test_true t c built clause [] index tests at = absurd (none-some c at)
   test_true t c built [] (k ∷ ctors) index tests at = absurd tests
   test_true t c built (l ∷ clause) (k ∷ ctors) zero tests at =
-      let holds : truth_of d i terms l.term ≡ true =
+      let holds : truth_value d i terms l.term ≡ true =
       setting.truths.test l.term t k tests.0.1 ∙ ap (λ (z : CtorId). is_built i.graph z (value_of d i terms t)) (same_Some k c at) ∙ built in
-      (l, Contains-first l clause, ap (λ (sign : Bool). with_value sign (truth_of d i terms l.term)) tests.0.0 ∙ holds)
+      (l, Contains-first l clause, ap (λ (sign : Bool). with_value sign (truth_value d i terms l.term)) tests.0.0 ∙ holds)
   test_true t c built (l ∷ clause) (k ∷ ctors) (suc index) tests at =
       let rest = test_true t c built clause ctors index tests.1 at in
       (rest.0, Contains-rest l clause rest.0 rest.1, rest.2)
@@ -61,7 +61,7 @@ module _ (d : Declarations) (i : Interp) (terms : Terms) (setting : Setting d i 
   -- what follows from earlier clauses by hints is true
   learned_sound : (earlier : List Clause) (hints : List ℕ) (clause : Clause) → All (TrueIn d i terms) earlier → Rup earlier hints clause → TrueIn d i terms clause
   learned_sound earlier hints clause all rup =
-      setting.truths.propagation earlier hints clause (λ t. truth_of d i terms (record { 0 = t })) rup
+      setting.truths.propagation earlier hints clause (λ t. truth_value d i terms (record { 0 = t })) rup
       (λ hint named inside numbered. All-at (TrueIn d i terms) earlier numbered.0 named all numbered.2)
 
   -- what a step justifies is true

@@ -7,7 +7,7 @@ use Rattle.ct_terms.specs.Literal.{IsStripped}
 use Rattle.ct_terms.specs.Clause.{Clause, literal_value, HoldsUnder}
 use Rattle.ct_terms.specs.Terms.{Terms}
 use Rattle.ct_eval.specs.declared.interp.Interp.{Interp}
-use Rattle.ct_eval.specs.Truth.{truth_of, TrueIn}
+use Rattle.ct_eval.specs.Truth.{truth_value, TrueIn}
 use Rattle.ct_rules.specs.declared.equation.Equation.{Equation}
 use Rattle.ct_rules.specs.Cycle.{LeadsTo, LeadBack}
 use Rattle.ct_log.specs.declared.rules.EqStep.{EqStep}
@@ -72,7 +72,7 @@ module _ (d : Declarations) (i : Interp) (terms : Terms) (setting : Setting d i 
 module _ (d : Declarations) (i : Interp) (terms : Terms) (setting : Setting d i terms) where
   pub refutation_sound : (clause : Clause) (steps : List EqStep) (close : Close) → All (λ l. IsStripped terms l.term) clause → IsRefuted d terms clause steps close → TrueIn d i terms clause
   refutation_sound clause steps close literals refuted =
-      elim (holds_or_not (λ t. truth_of d i terms (record { 0 = t })) clause) [
+      elim (holds_or_not (λ t. truth_value d i terms (record { 0 = t })) clause) [
         | inl holds ↦ holds
         | inr untrue ↦
             absurd (never_closes d i terms setting refuted.given (given_sound d i terms setting clause literals untrue steps refuted.given refuted.give) close refuted.closes)

@@ -25,7 +25,7 @@ use Rattle.ct_card.specs.Cardinality.{IsSingle}
 use Rattle.ct_eval.specs.declared.interp.Interp.{Interp}
 use Rattle.ct_eval.specs.Evaluation.{value_of}
 use Rattle.ct_eval.specs.Congruence.{AreCongruent, HaveOneValue}
-use Rattle.ct_eval.specs.Truth.{truth_of}
+use Rattle.ct_eval.specs.Truth.{truth_value}
 
 -- the value of a term, in the graph of the interpretation
 abbrev pub value_point : Declarations → Interp → Terms → TermId → Point
@@ -60,9 +60,9 @@ pub record TermFacts (d : Declarations) (i : Interp) (terms : Terms) : Type 0 wh
   pub begins : BeginsWithTruths terms
   pub sorts : AreSorted d terms
   pub sorted : (t : TermId) (sort : SortId) → IsOfSort terms t sort → HasValueSort d i.graph (value_of d i terms t) sort
-  pub boolean : (t : TermId) → IsBoolean terms t → AgreeAlways (value_point d i terms t) (point i.graph (truth (truth_of d i terms t)))
+  pub boolean : (t : TermId) → IsBoolean terms t → AgreeAlways (value_point d i terms t) (point i.graph (truth (truth_value d i terms t)))
   pub congruent : (t u : TermId) (left right : Core) → Has terms left t.0 → Has terms right u.0 → AreCongruent (Equal d i terms) left right → Equal d i terms t u
-  pub one_truth : (t u : TermId) → Equal d i terms t u → truth_of d i terms t ≡ truth_of d i terms u
+  pub one_truth : (t u : TermId) → Equal d i terms t u → truth_value d i terms t ≡ truth_value d i terms u
   pub one_answer : (c : CtorId) (t u : TermId) → Equal d i terms t u → is_built i.graph c (value_of d i terms t) ≡ is_built i.graph c (value_of d i terms u)
   pub ctor_head : (t : TermId) (c : CtorId) (args : List TermId) → Has terms (core.Con c args) t.0 → head (value_point d i terms t) ≡ Some (heads.Con c)
   pub ctor_children : (t : TermId) (c : CtorId) (args : List TermId) → Has terms (core.Con c args) t.0 → children_of i.graph (value_of d i terms t) ≡ map (value_of d i terms) args
@@ -70,14 +70,14 @@ pub record TermFacts (d : Declarations) (i : Interp) (terms : Terms) : Type 0 wh
 
 -- of the truth of terms, literals and clauses
 pub record TruthFacts (d : Declarations) (i : Interp) (terms : Terms) : Type 0 where
-  pub literal : (t : TermId) → truth_of d i terms t ≡ literal_value (λ k. truth_of d i terms (record { 0 = k })) (literal_of terms t)
-  pub test : (t a : TermId) (c : CtorId) → Has terms (core.Test c a) t.0 → truth_of d i terms t ≡ is_built i.graph c (value_of d i terms a)
-  pub equality : (t a b : TermId) → Has terms (core.Eq a b) t.0 → (truth_of d i terms t ≡ true) ↔ Equal d i terms a b
-  pub negation : (t a : TermId) → Has terms (core.Not a) t.0 → truth_of d i terms t ≡ not (truth_of d i terms a)
-  pub conjunction : (t : TermId) (args : List TermId) → Has terms (core.And args) t.0 → truth_of d i terms t ≡ list_all (truth_of d i terms) args
-  pub disjunction : (t : TermId) (args : List TermId) → Has terms (core.Or args) t.0 → truth_of d i terms t ≡ list_any (truth_of d i terms) args
-  pub equivalence : (t a b : TermId) → Has terms (core.Iff a b) t.0 → (truth_of d i terms t ≡ true) ↔ (truth_of d i terms a ≡ truth_of d i terms b)
-  pub choice : (t c a b : TermId) → Has terms (core.Ite c a b) t.0 → value_of d i terms t ≡ (if truth_of d i terms c then value_of d i terms a else value_of d i terms b)
+  pub literal : (t : TermId) → truth_value d i terms t ≡ literal_value (λ k. truth_value d i terms (record { 0 = k })) (literal_of terms t)
+  pub test : (t a : TermId) (c : CtorId) → Has terms (core.Test c a) t.0 → truth_value d i terms t ≡ is_built i.graph c (value_of d i terms a)
+  pub equality : (t a b : TermId) → Has terms (core.Eq a b) t.0 → (truth_value d i terms t ≡ true) ↔ Equal d i terms a b
+  pub negation : (t a : TermId) → Has terms (core.Not a) t.0 → truth_value d i terms t ≡ not (truth_value d i terms a)
+  pub conjunction : (t : TermId) (args : List TermId) → Has terms (core.And args) t.0 → truth_value d i terms t ≡ list_all (truth_value d i terms) args
+  pub disjunction : (t : TermId) (args : List TermId) → Has terms (core.Or args) t.0 → truth_value d i terms t ≡ list_any (truth_value d i terms) args
+  pub equivalence : (t a b : TermId) → Has terms (core.Iff a b) t.0 → (truth_value d i terms t ≡ true) ↔ (truth_value d i terms a ≡ truth_value d i terms b)
+  pub choice : (t c a b : TermId) → Has terms (core.Ite c a b) t.0 → value_of d i terms t ≡ (if truth_value d i terms c then value_of d i terms a else value_of d i terms b)
   pub propagation : (clauses : List Clause) (hints : List ℕ) (clause : Clause) (assigned : ℕ → Bool) → Rup clauses hints clause → ((hint : ℕ) (named : Clause) → Contains hints hint → IsNumbered clauses hint named → HoldsUnder assigned named) → HoldsUnder assigned clause
 
 -- all of it

@@ -11,7 +11,7 @@ use Rattle.ct_terms.specs.Clause.{Clause, with_value, literal_value}
 use Rattle.ct_terms.specs.Children.{core_children}
 use Rattle.ct_terms.specs.Terms.{Terms}
 use Rattle.ct_eval.specs.declared.interp.Interp.{Interp}
-use Rattle.ct_eval.specs.Truth.{truth_of}
+use Rattle.ct_eval.specs.Truth.{truth_value}
 use Rattle.ct_rules.specs.declared.equation.Equation.{Equation}
 use Rattle.ct_rules.specs.Rules.{Equations, truth_term, Follows, by_symmetry, by_transitivity, by_congruence, by_injection, by_selection, by_testing, by_expansion, by_equation_in, by_equation_out, by_negation, by_singleton}
 use Rattle.ct_rules.specs.Uniqueness.{AreMatched, IsPairMatched}
@@ -100,13 +100,13 @@ module _ (d : Declarations) (i : Interp) (terms : Terms) (setting : Setting d i 
               subst (λ (e : Equation). IsPairMatched terms (IsGiven given) (map sides pairs) e.left e.right) one.3 (pair_matched given pairs terms one.1 (unique.each one.0 one.1 one.2));
         }))
 
-    module _ (clause : Clause) (literals : All (λ l. IsStripped terms l.term) clause) (untrue : All (λ l. literal_value (λ t. truth_of d i terms (record { 0 = t })) l ≡ false) clause) where
+    module _ (clause : Clause) (literals : All (λ l. IsStripped terms l.term) clause) (untrue : All (λ l. literal_value (λ t. truth_value d i terms (record { 0 = t })) l ≡ false) clause) where
       -- what a literal states holds where its opposite is in the clause
       hypothesis_sound : (l : Lit) → Contains clause (opposite l) → Equal d i terms l.term (truth_term l.positive)
       hypothesis_sound l inside =
           let stripped = All-contains (λ (k : Lit). IsStripped terms k.term) clause (opposite l) literals inside in
-          let is = All-contains (λ (k : Lit). literal_value (λ t. truth_of d i terms (record { 0 = t })) k ≡ false) clause (opposite l) untrue inside in
-          stated d i terms setting l.term l.positive stripped.0 (sign_of l.positive (truth_of d i terms l.term) is)
+          let is = All-contains (λ (k : Lit). literal_value (λ t. truth_value d i terms (record { 0 = t })) k ≡ false) clause (opposite l) untrue inside in
+          stated d i terms setting l.term l.positive stripped.0 (sign_of l.positive (truth_value d i terms l.term) is)
 
       pub gives_sound : (step : EqStep) (x y : TermId) → Gives d terms clause given step x y → Equal d i terms x y
       gives_sound (Hyp l) x y gives = renamed x y l.term (truth_term l.positive) gives.1 gives.2 (hypothesis_sound l gives.0)
@@ -186,7 +186,7 @@ module _ (d : Declarations) (i : Interp) (terms : Terms) (setting : Setting d i 
       gives_sound (Unique number pairs) x y gives = unique_sound number pairs x y gives
 
   -- so all steps give terms that have one value, in the order of their numbers
-  module _ (clause : Clause) (literals : All (λ l. IsStripped terms l.term) clause) (untrue : All (λ l. literal_value (λ t. truth_of d i terms (record { 0 = t })) l ≡ false) clause) (steps : List EqStep) (given : List Equation) (all : GiveAll d terms clause steps given) where
+  module _ (clause : Clause) (literals : All (λ l. IsStripped terms l.term) clause) (untrue : All (λ l. literal_value (λ t. truth_value d i terms (record { 0 = t })) l ≡ false) clause) (steps : List EqStep) (given : List Equation) (all : GiveAll d terms clause steps given) where
     given_below : (bound number : ℕ) (x y : TermId) → number < bound → Gave given number x y → Equal d i terms x y
     given_below zero number x y within gave = absurd (omega arith)
     given_below (suc bound) number x y within gave =

@@ -16,7 +16,7 @@ use Rattle.ct_terms.specs.declared.term.Core.TheVariants as core
 use Rattle.ct_terms.specs.Terms.{Terms, IsBoolean, Has}
 use Rattle.ct_eval.specs.declared.interp.Interp.{Interp}
 use Rattle.ct_eval.specs.Evaluation.{value_of}
-use Rattle.ct_eval.specs.Truth.{truth_of}
+use Rattle.ct_eval.specs.Truth.{truth_value}
 use Rattle.ct_rules.specs.Rules.{truth_term}
 use Rattle.ct_checker.proofs.ListLemmas.{slice_get-take, map-at}
 use Rattle.ct_checker.proofs.Setting.{Setting, Equal, value_point}
@@ -43,12 +43,12 @@ module _ (d : Declarations) (i : Interp) (terms : Terms) (setting : Setting d i 
   truth_head true = refl
   truth_head false = refl
 
-  pub truth_of-truth : (b : Bool) → truth_of d i terms (truth_term b) ≡ b
+  pub truth_of-truth : (b : Bool) → truth_value d i terms (truth_term b) ≡ b
   truth_of-truth b =
       ap (is_head (truth_ctor true)) (setting.table.ctor_head (truth_term b) (truth_ctor b) [] (bool_sort, truth_stands b)) ∙ truth_head b
 
   -- a Boolean term equals the term of its truth value
-  pub stated : (t : TermId) (b : Bool) → IsBoolean terms t → truth_of d i terms t ≡ b → Equal d i terms t (truth_term b)
+  pub stated : (t : TermId) (b : Bool) → IsBoolean terms t → truth_value d i terms t ≡ b → Equal d i terms t (truth_term b)
   stated t b boolean is =
       let own : AgreeAlways (value_point d i terms t) (point i.graph (truth b)) =
       subst (λ (c : Bool). AgreeAlways (value_point d i terms t) (point i.graph (truth c))) is (setting.table.boolean t boolean) in
@@ -57,7 +57,7 @@ module _ (d : Declarations) (i : Interp) (terms : Terms) (setting : Setting d i 
       setting.same.chained _ _ _ own (setting.same.turned _ _ other)
 
   -- and what equals it has that truth value
-  pub read : (t : TermId) (b : Bool) → Equal d i terms t (truth_term b) → truth_of d i terms t ≡ b
+  pub read : (t : TermId) (b : Bool) → Equal d i terms t (truth_term b) → truth_value d i terms t ≡ b
   read t b equal = setting.table.one_truth t (truth_term b) equal ∙ truth_of-truth b
 
   -- a constructor term is built by its constructor

@@ -14,7 +14,7 @@ use Rattle.ct_terms.specs.declared.term.Core.TheVariants.{Con, Sel, Test, Eq, It
 use Rattle.ct_terms.specs.Terms.{Terms, Has, IsOfSort, IsOfField, HasSort, Selects}
 use Rattle.ct_terms.specs.CoreTree.{CoreTree, con, sel, test, equation, choice, trees_of, tree_layer, term_at}
 use Rattle.ct_terms.specs.CoreSorts.{HasTreeSort}
-use Rattle.ct_terms.specs.Compiled.{fields_of, ctors_of_sort}
+use Rattle.ct_terms.specs.Compiled.{fields_of, ctor_ids_of_sort}
 use Rattle.ct_closure.specs.Closed.{IsClosed, IsSplit, IsBuilt}
 use Rattle.ct_closure.specs.ClosedTable.{IsPresent, IsSplitTerm, IsFieldTerm, HasCase, HasCases, sels_of}
 use Rattle.ct_closure.specs.Steps.{IsSound, IsAdded, IsStep, IsCaseOf, IsConditionalTaken}
@@ -24,7 +24,7 @@ use Rattle.ct_closure.proofs.TreeLemmas.{list_of_trees_of, IsBuilt-layer, subtre
 use Rattle.ct_closure.proofs.GrowthLemmas.{AreInBelow, HasCase-stays, IsPresent-stays, step_then, step_added, stays_at, Has-stays, fields_stay}
 
 -- the constructors of a sort, and the selectors of a constructor, by the lists of the declarations
-pub ctors_are : (d : Declarations) (s : SortId) (sort : Sort) → slice_get d.sorts s.0 ≡ Some sort → ctors_of_sort d s ≡ sort.ctors
+pub ctors_are : (d : Declarations) (s : SortId) (sort : Sort) → slice_get d.sorts s.0 ≡ Some sort → ctor_ids_of_sort d s ≡ sort.ctors
 ctors_are d s sort at = ap (λ o. unwrap_or (option_map (λ (x : Sort). x.ctors) o) []) at
 
 pub sels_are : (d : Declarations) (c : CtorId) (ctor : Constructor) → slice_get d.ctors c.0 ≡ Some ctor → sels_of d c ≡ ctor.sels
@@ -35,7 +35,7 @@ module _ (d : Declarations) (ctors : HaveOwnConstructors d) (sels : HaveOwnSelec
   abbrev pub IsDeclaredOf : SortId → CtorId → Type 0
   IsDeclaredOf s c = (ctor : Constructor) × (slice_get d.ctors c.0 ≡ Some ctor) × (ctor.sort ≡ s)
 
-  pub declared_of : (table : Terms) (t : TermId) (s : SortId) (c : CtorId) → IsSplitTerm d table t s → Contains (ctors_of_sort d s) c → IsDeclaredOf s c
+  pub declared_of : (table : Terms) (t : TermId) (s : SortId) (c : CtorId) → IsSplitTerm d table t s → Contains (ctor_ids_of_sort d s) c → IsDeclaredOf s c
   declared_of table t s c split of_sort =
       let found = split.unsettled.structured in
       let at = index_of found.0.ctors c (subst (λ (cs : List CtorId). Contains cs c) (ctors_are d s found.0 found.1) of_sort) in
@@ -201,14 +201,14 @@ case_inside d ctors sels table t c case =
 pub case_at : (d : Declarations) (table : Terms) (t : TermId) (r s : SortId) (ctors : List CtorId) (k : ℕ) (c : CtorId) → IsOfSort table t r → option_map (λ (x : Sort). x.ctors) (slice_get d.sorts r.0) ≡ Some ctors → slice_get ctors k ≡ Some c → IsSplitTerm d table t s → IsCaseOf d table t c
 case_at d table t r s ctors k c at are here split =
     let same : r ≡ s = one_sort_at table t r s at (split.unsettled.core, split.unsettled.stands) in
-    let inside : Contains (ctors_of_sort d r) c = subst (λ (cs : List CtorId). Contains cs c) (sym (ap (λ (o : Option (List CtorId)). unwrap_or o []) are)) (contained ctors k c here) in
-    (s, split, subst (λ (u : SortId). Contains (ctors_of_sort d u) c) same inside)
+    let inside : Contains (ctor_ids_of_sort d r) c = subst (λ (cs : List CtorId). Contains cs c) (sym (ap (λ (o : Option (List CtorId)). unwrap_or o []) are)) (contained ctors k c here) in
+    (s, split, subst (λ (u : SortId). Contains (ctor_ids_of_sort d u) c) same inside)
 
 -- and all of them are all cases
 pub cases_at : (d : Declarations) (old new : Terms) (t : TermId) (r : SortId) (ctors : List CtorId) → IsOfSort old t r → option_map (λ (x : Sort). x.ctors) (slice_get d.sorts r.0) ≡ Some ctors → ((k : ℕ) (c : CtorId) → k < length ctors → slice_get ctors k ≡ Some c → HasCase d new t c) → (s : SortId) → IsSplitTerm d old t s → HasCases d new t s
 cases_at d old new t r ctors at are each s split c of_sort =
     let same : s ≡ r = one_sort_at old t s r (split.unsettled.core, split.unsettled.stands) at in
-    let inside : Contains ctors c = subst (λ (cs : List CtorId). Contains cs c) (ap (λ (o : Option (List CtorId)). unwrap_or o []) are) (subst (λ (u : SortId). Contains (ctors_of_sort d u) c) same of_sort) in
+    let inside : Contains ctors c = subst (λ (cs : List CtorId). Contains cs c) (ap (λ (o : Option (List CtorId)). unwrap_or o []) are) (subst (λ (u : SortId). Contains (ctor_ids_of_sort d u) c) same of_sort) in
     let found = index_of ctors c inside in
     each found.0 c (slice_get_within ctors found.0 c found.1) found.1
 

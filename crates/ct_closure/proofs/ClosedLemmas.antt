@@ -12,9 +12,9 @@ use Rattle.ct_terms.specs.declared.term.Core.TheVariants.{Con, Sel, Test, Eq, It
 use Rattle.ct_terms.specs.Terms.{Terms, HasArgumentsBelow}
 use Rattle.ct_terms.specs.CoreTree.{CoreTree, con, sel, test, equation, choice, trees_of, subtrees, tree_layer, term_at}
 use Rattle.ct_terms.specs.CoreSorts.{HasTreeSort}
-use Rattle.ct_terms.specs.Compiled.{fields_of, ctors_of_sort}
+use Rattle.ct_terms.specs.Compiled.{fields_of, ctor_ids_of_sort}
 use Rattle.ct_closure.specs.Closed.{IsBuilt, IsStructured, IsSplit}
-use Rattle.ct_closure.specs.ClosedTable.{Stands, IsClosedTable, IsPresent, IsOpen, IsSplitTerm, IsFieldTerm, HasCases, sels_of}
+use Rattle.ct_closure.specs.ClosedTable.{HasTree, IsClosedTable, IsPresent, IsOpen, IsSplitTerm, IsFieldTerm, HasCases, sels_of}
 use Rattle.ct_closure.specs.Steps.{IsSound, IsMarked, IsUnderWay}
 use Rattle.ct_closure.specs.Trees.{TreeTheorems}
 use Rattle.ct_closure.proofs.ListLemmas.{Contains-first, Contains-rest, Contains-map, entry_at}
@@ -25,10 +25,10 @@ module _ (th : TreeTheorems) (d : Declarations) (table : Terms) (sound : IsSound
   tree = term_at table
 
   -- a term is in the table where its tree is among the trees of the table
-  pub present : (core : Core) → HasArgumentsBelow (length table) core → Stands table (tree_layer (term_at table) core) → IsPresent table core
+  pub present : (core : Core) → HasArgumentsBelow (length table) core → HasTree table (tree_layer (term_at table) core) → IsPresent table core
   present core below stands = (stands.0.0, th.stands table stands.0 core sound.ordered sound.single stands.1 below stands.2)
 
-  pub stands : (core : Core) → IsPresent table core → Stands table (tree_layer (term_at table) core)
+  pub stands : (core : Core) → IsPresent table core → HasTree table (tree_layer (term_at table) core)
   stands core (n, has) = (record { 0 = n }, slice_get_within table n (core, has.0) has.1, layer_at th table sound.ordered core (record { 0 = n }) has)
 
   -- the sort of a tree is that of its term
@@ -47,7 +47,7 @@ module _ (th : TreeTheorems) (d : Declarations) (table : Terms) (sound : IsSound
       }
 
   -- a term is split where its tree is split among the trees of the table
-  pub split_tree : (t : TermId) (sort : SortId) → IsSplitTerm d table t sort → IsSplit d (Stands table) (term_at table t) sort
+  pub split_tree : (t : TermId) (sort : SortId) → IsSplitTerm d table t sort → IsSplit d (HasTree table) (term_at table t) sort
   split_tree t sort split =
       let u = split.unsettled in
       record {
@@ -62,7 +62,7 @@ module _ (th : TreeTheorems) (d : Declarations) (table : Terms) (sound : IsSound
         ];
       }
 
-  pub split_term : (t : TermId) (sort : SortId) → t.0 < length table → IsSplit d (Stands table) (term_at table t) sort → IsSplitTerm d table t sort
+  pub split_term : (t : TermId) (sort : SortId) → t.0 < length table → IsSplit d (HasTree table) (term_at table t) sort → IsSplitTerm d table t sort
   split_term t sort within split =
       record {
         unsettled = open_from t sort within split.sorted split.structured split.unbuilt;
@@ -84,8 +84,8 @@ module _ (th : TreeTheorems) (d : Declarations) (table : Terms) (sound : IsSound
         let below_b : b.0 < length table = omega (arith, below.1.1.0, within) in
         let sorted : HasTreeSort d (choice (tree c) (tree a) (tree b)) sort = subst (λ (u : CoreTree). HasTreeSort d u sort) layer (th.sorted d table t sort sound.ordered sound.sorted (Ite c a b, at)) in
         let both = closed.conditionals (tree c) (tree a) (tree b) sort (t, within, layer) sorted other in (
-          present (Eq t a) (within, (below_a, tt)) (subst (λ (u : CoreTree). Stands table (equation u (tree a))) (sym layer) both.0),
-          present (Eq t b) (within, (below_b, tt)) (subst (λ (u : CoreTree). Stands table (equation u (tree b))) (sym layer) both.1),
+          present (Eq t a) (within, (below_a, tt)) (subst (λ (u : CoreTree). HasTree table (equation u (tree a))) (sym layer) both.0),
+          present (Eq t b) (within, (below_b, tt)) (subst (λ (u : CoreTree). HasTree table (equation u (tree b))) (sym layer) both.1),
         )
 
     -- the fields of a term, where each selection is there
@@ -110,7 +110,7 @@ module _ (th : TreeTheorems) (d : Declarations) (table : Terms) (sound : IsSound
           tested = present (Test c t) (within, tt) both.0;
           args = selected.0;
           fields = selected.1;
-          built = present (Con c selected.0) selected.2 (subst (λ (ts : List CoreTree). Stands table (con c (trees_of ts))) (sym (fields_are th table sound.ordered t (sels_of d c) selected.0 selected.1)) both.1);
+          built = present (Con c selected.0) selected.2 (subst (λ (ts : List CoreTree). HasTree table (con c (trees_of ts))) (sym (fields_are th table sound.ordered t (sels_of d c) selected.0 selected.1)) both.1);
         }
 
   -- where all terms of the table are taken, the split ones are marked, and the table is closed
@@ -126,12 +126,12 @@ module _ (th : TreeTheorems) (d : Declarations) (table : Terms) (sound : IsSound
           | inr finite ↦ (under.taken t (taken_at t.0 (split.unsettled.core, sort) split.unsettled.stands)).finite sort split.unsettled finite
         ]
 
-    pub closed_subterms : (t s : CoreTree) → Stands table t → Contains (subtrees t) s → Stands table s
+    pub closed_subterms : (t s : CoreTree) → HasTree table t → Contains (subtrees t) s → HasTree table s
     closed_subterms t s (n, within, e) h =
         let found = th.stand table n s sound.ordered within (subst (λ (u : CoreTree). Contains (subtrees u) s) (sym e) h) in
         (found.0, omega (arith, found.1, within), found.2)
 
-    closed_conditionals : (c a b : CoreTree) (sort : SortId) → Stands table (choice c a b) → HasTreeSort d (choice c a b) sort → (sort ≡ bool_sort → ⊥) → Stands table (equation (choice c a b) a) × Stands table (equation (choice c a b) b)
+    closed_conditionals : (c a b : CoreTree) (sort : SortId) → HasTree table (choice c a b) → HasTreeSort d (choice c a b) sort → (sort ≡ bool_sort → ⊥) → HasTree table (equation (choice c a b) a) × HasTree table (equation (choice c a b) b)
     closed_conditionals c a b sort (n, within, e) sorted other =
         let here = entry_at table n.0 within in
         let layer : term_at table n ≡ tree_layer (term_at table) here.0.0 = layer_at th table sound.ordered here.0.0 n (here.0.1, here.1) in
@@ -139,24 +139,24 @@ module _ (th : TreeTheorems) (d : Declarations) (table : Terms) (sound : IsSound
         let same : here.0.1 ≡ sort = sort_at n here.0.0 here.0.1 sort here.1 (subst (λ (u : CoreTree). HasTreeSort d u sort) (sym e) sorted) in
         let at : slice_get table n.0 ≡ Some (Ite parts.0 parts.1 parts.2, here.0.1) = here.1 ∙ ap (λ (k : Core). Some (k, here.0.1)) parts.3 in
         let both = (under.taken n (taken_at n.0 here.0 here.1)).conditional parts.0 parts.1 parts.2 here.0.1 at (λ bool. other (sym same ∙ bool)) in (
-          subst (Stands table) (ap (λ (u : CoreTree). equation u (tree parts.1)) e ∙ ap (equation (choice c a b)) parts.4) (stands (Eq n parts.1) both.0),
-          subst (Stands table) (ap (λ (u : CoreTree). equation u (tree parts.2)) e ∙ ap (equation (choice c a b)) parts.5) (stands (Eq n parts.2) both.1),
+          subst (HasTree table) (ap (λ (u : CoreTree). equation u (tree parts.1)) e ∙ ap (equation (choice c a b)) parts.4) (stands (Eq n parts.1) both.0),
+          subst (HasTree table) (ap (λ (u : CoreTree). equation u (tree parts.2)) e ∙ ap (equation (choice c a b)) parts.5) (stands (Eq n parts.2) both.1),
         )
 
-    split_cases : (n : TermId) (sort : SortId) (c : CtorId) → IsSplitTerm d table n sort → Contains (ctors_of_sort d sort) c → Stands table (test c (term_at table n)) × Stands table (con c (trees_of (fields_of d c (term_at table n))))
+    split_cases : (n : TermId) (sort : SortId) (c : CtorId) → IsSplitTerm d table n sort → Contains (ctor_ids_of_sort d sort) c → HasTree table (test c (term_at table n)) × HasTree table (con c (trees_of (fields_of d c (term_at table n))))
     split_cases n sort c split of_sort =
         let marked = under.marked n (split_marked n sort split) in
         let same : marked.0 ≡ sort = ap (λ (e : Core × SortId). e.1) (same_Some (marked.1.unsettled.core, marked.0) (split.unsettled.core, sort) (sym marked.1.unsettled.stands ∙ split.unsettled.stands)) in
-        let case = marked.2 c (subst (λ (s : SortId). Contains (ctors_of_sort d s) c) (sym same) of_sort) in (
+        let case = marked.2 c (subst (λ (s : SortId). Contains (ctor_ids_of_sort d s) c) (sym same) of_sort) in (
           stands (Test c n) case.tested,
-          subst (λ (ts : List CoreTree). Stands table (con c (trees_of ts))) (fields_are th table sound.ordered n (sels_of d c) case.args case.fields) (stands (Con c case.args) case.built),
+          subst (λ (ts : List CoreTree). HasTree table (con c (trees_of ts))) (fields_are th table sound.ordered n (sels_of d c) case.args case.fields) (stands (Con c case.args) case.built),
         )
 
-    closed_splits : (t : CoreTree) (sort : SortId) (c : CtorId) → IsSplit d (Stands table) t sort → Contains (ctors_of_sort d sort) c → Stands table (test c t) × Stands table (con c (trees_of (fields_of d c t)))
+    closed_splits : (t : CoreTree) (sort : SortId) (c : CtorId) → IsSplit d (HasTree table) t sort → Contains (ctor_ids_of_sort d sort) c → HasTree table (test c t) × HasTree table (con c (trees_of (fields_of d c t)))
     closed_splits t sort c split of_sort =
         let at = split.member in
-        let here : IsSplit d (Stands table) (term_at table at.0) sort = subst (λ (u : CoreTree). IsSplit d (Stands table) u sort) (sym at.2) split in
-        subst (λ (u : CoreTree). Stands table (test c u) × Stands table (con c (trees_of (fields_of d c u)))) at.2
+        let here : IsSplit d (HasTree table) (term_at table at.0) sort = subst (λ (u : CoreTree). IsSplit d (HasTree table) u sort) (sym at.2) split in
+        subst (λ (u : CoreTree). HasTree table (test c u) × HasTree table (con c (trees_of (fields_of d c u)))) at.2
         (split_cases at.0 sort c (split_term at.0 sort at.1 here) of_sort)
 
     pub closed_when_taken : IsClosedTable d table

@@ -6,10 +6,10 @@ use Rattle.ct_sorts.specs.declared.ids.SortId.{SortId}
 use Rattle.ct_sorts.specs.Declarations.{Declarations, bool_sort}
 use Rattle.ct_terms.specs.declared.ids.TermId.{TermId}
 use Rattle.ct_terms.specs.declared.term.Core.TheVariants.{Con}
-use Rattle.ct_terms.specs.Terms.{Terms, IsBoolean, BeginsWithTruths, truths}
+use Rattle.ct_terms.specs.Terms.{Terms, IsBoolean, BeginsWithTruths, truth_terms}
 use Rattle.ct_terms.specs.CoreTree.{CoreTree, con, no_trees, term_at}
 use Rattle.ct_closure.specs.Closed.{IsSplit, IsClosed, InClosure, HasMoreThan, truth_trees}
-use Rattle.ct_closure.specs.ClosedTable.{Stands, IsClosedTable, AreSubtermsOf, terms_at}
+use Rattle.ct_closure.specs.ClosedTable.{HasTree, IsClosedTable, AreSubtermsOf, terms_at}
 use Rattle.ct_closure.specs.Steps.{IsStep}
 use Rattle.ct_closure.specs.Trees.{TreeTheorems}
 use Rattle.ct_closure.proofs.ListLemmas.{before_or_last, Contains-cons, Contains-none, index_of, contained, Contains-from_map, slice_get-append_left, slice_get-last, slice_get-take}
@@ -74,11 +74,11 @@ module _ (table : Terms) where
       let within : k < length table = omega (arith, slice_get_within (trees_below table (length table)) k t e, length-trees_below table (length table)) in
       (within, same_Some (term_at table (record { 0 = k })) t (sym (tree_below_at table (length table) k within) ∙ e))
 
-  pub Stands-listed : (t : CoreTree) → Stands table t → Contains (all_trees table) t
+  pub Stands-listed : (t : CoreTree) → HasTree table t → Contains (all_trees table) t
   unfolding all_trees
   Stands-listed t (n, within, e) = contained (trees_below table (length table)) n.0 t (tree_below_at table (length table) n.0 within ∙ ap Some e)
 
-  pub listed-Stands : (t : CoreTree) → Contains (all_trees table) t → Stands table t
+  pub listed-Stands : (t : CoreTree) → Contains (all_trees table) t → HasTree table t
   listed-Stands t h =
       let found = index_of (all_trees table) t h in
       let here = tree_at found.0 t found.1 in
@@ -90,45 +90,45 @@ module _ (table : Terms) where
 
 module _ (th : TreeTheorems) (d : Declarations) (old new : Terms) (asserts : List TermId) (exact : AreSubtermsOf old asserts) (booleans : All (IsBoolean old) asserts) (step : IsStep d old new) where
   -- what the table has is in each closed set with the roots
-  pub in_closure : (t : CoreTree) → Stands new t → InClosure d (terms_at old asserts) t
+  pub in_closure : (t : CoreTree) → HasTree new t → InClosure d (terms_at old asserts) t
   in_closure t (n, within, e) set closed =
       subst (Contains set) e
       (step.forced set closed.closed (λ u below. let root = exact u below in closed.closed.subterms root.0 (term_at old u) (closed.rooted root.0 root.1) root.2) n within)
 
   -- `true` and `false` stand in the table, and the roots do
-  truth_stands : BeginsWithTruths new → (t : CoreTree) → Contains truth_trees t → Stands new t
+  truth_stands : BeginsWithTruths new → (t : CoreTree) → Contains truth_trees t → HasTree new t
   truth_stands begins t h =
       elim (Contains-cons (con (record { 0 = 0 }) no_trees) (con (record { 0 = 1 }) no_trees ∷ []) t h) [
-        | inl same ↦ subst (Stands new) same (truth_at 0 refl)
+        | inl same ↦ subst (HasTree new) same (truth_at 0 refl)
         | inr rest ↦ elim (Contains-cons (con (record { 0 = 1 }) no_trees) [] t rest) [
-          | inl same ↦ subst (Stands new) same (truth_at 1 refl)
+          | inl same ↦ subst (HasTree new) same (truth_at 1 refl)
           | inr none ↦ absurd (Contains-none t none)
         ]
       ]
     where
-      truth_at : (n : ℕ) → slice_get truths n ≡ Some (Con (record { 0 = n }) [], bool_sort) → Stands new (con (record { 0 = n }) no_trees)
+      truth_at : (n : ℕ) → slice_get truth_terms n ≡ Some (Con (record { 0 = n }) [], bool_sort) → HasTree new (con (record { 0 = n }) no_trees)
       truth_at n first =
           let at : slice_get new n ≡ Some (Con (record { 0 = n }) [], bool_sort) = slice_get-take 2 new n (Con (record { 0 = n }) [], bool_sort) (ap (λ (ts : Terms). slice_get ts n) begins ∙ first) in
           (record { 0 = n }, slice_get_within new n (Con (record { 0 = n }) [], bool_sort) at, layer_at th new step.sound.ordered (Con (record { 0 = n }) []) (record { 0 = n }) (bool_sort, at))
 
-  root_stands : (a : TermId) → Contains asserts a → Stands new (term_at old a)
+  root_stands : (a : TermId) → Contains asserts a → HasTree new (term_at old a)
   root_stands a h =
       let boolean = All-contains (IsBoolean old) asserts a booleans h in
       let within : a.0 < length old = slice_get_within old a.0 (boolean.0, bool_sort) boolean.1 in
       (a, omega (arith, within, longer old new step.grown), term_stays th old new step.grown step.sound.ordered a within)
 
-  roots_stand : (t : CoreTree) → Contains (terms_at old asserts) t → Stands new t
+  roots_stand : (t : CoreTree) → Contains (terms_at old asserts) t → HasTree new t
   roots_stand t h =
       let found = Contains-from_map (term_at old) asserts t h in
-      subst (Stands new) found.2 (root_stands found.0 found.1)
+      subst (HasTree new) found.2 (root_stands found.0 found.1)
 
   -- a closed table has the whole closure
-  pub has_closure : BeginsWithTruths new → IsClosedTable d new → (t : CoreTree) → InClosure d (terms_at old asserts) t → Stands new t
+  pub has_closure : BeginsWithTruths new → IsClosedTable d new → (t : CoreTree) → InClosure d (terms_at old asserts) t → HasTree new t
   has_closure begins closed t h =
       listed-Stands new t
       (h (all_trees new) (record {
         rooted = λ u inside. Stands-listed new u (elim (Contains-append_cases truth_trees (terms_at old asserts) u inside) [ inl truth ↦ truth_stands begins u truth | inr root ↦ roots_stand u root ]);
-        closed = same_closed d (Stands new) (Contains (all_trees new)) (Stands-listed new) (listed-Stands new) closed;
+        closed = same_closed d (HasTree new) (Contains (all_trees new)) (Stands-listed new) (listed-Stands new) closed;
       }))
 
   -- where the table is long, the closure has as many terms

@@ -17,7 +17,7 @@ use Rattle.ct_terms.specs.Terms.{Terms}
 use Rattle.ct_terms.specs.CoreTree.{CoreTree, CoreTrees, con, no_trees, with_tree, tree_layer, term_at}
 use Rattle.ct_terms.specs.CoreSorts.{HasTreeSort, HaveTreeSorts, AreFieldSorts}
 use Rattle.ct_closure.specs.Closed.{IsBuilt, IsNegation, IsVariable, HasVariables, InClosure, AreDifferent, truth_trees}
-use Rattle.ct_closure.specs.ClosedTable.{Stands, IsConstruction}
+use Rattle.ct_closure.specs.ClosedTable.{HasTree, IsConstruction}
 use Rattle.ct_closure.specs.Steps.{IsSound}
 use Rattle.ct_closure.specs.Trees.{TreeTheorems}
 use Rattle.ct_closure.specs.Variables.{is_settled, is_variable, variable_count}
@@ -225,7 +225,7 @@ module _ (th : TreeTheorems) (d : Declarations) (consistent : IsConsistent d) (o
       subst HasVariableList next (variable_more n e.0 e.1 (variable_list n (omega (arith, h))) (is_variable e.0) refl)
 
   -- so many variables has the closure whose terms are those of the table
-  pub counted : (roots : List CoreTree) → ((t : CoreTree) → Stands table t → InClosure d roots t) → ((t : CoreTree) → InClosure d roots t → Stands table t) → HasVariables d roots (variable_count table)
+  pub counted : (roots : List CoreTree) → ((t : CoreTree) → HasTree table t → InClosure d roots t) → ((t : CoreTree) → InClosure d roots t → HasTree table t) → HasVariables d roots (variable_count table)
   counted roots inside stands =
       let all = variable_list (length table) (omega arith) in
       record {

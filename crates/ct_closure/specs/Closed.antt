@@ -10,7 +10,7 @@ use Rattle.ct_card.specs.declared.size.Size.TheVariants.{Finite}
 use Rattle.ct_card.specs.Cardinality.{HasSize}
 use Rattle.ct_terms.specs.CoreTree.{CoreTree, con, sel, test, equation, negation, choice, no_trees, trees_of, subtrees}
 use Rattle.ct_terms.specs.CoreSorts.{HasTreeSort}
-use Rattle.ct_terms.specs.Compiled.{fields_of, ctors_of_sort}
+use Rattle.ct_terms.specs.Compiled.{fields_of, ctor_ids_of_sort}
 
 -- `true` and `false`
 abbrev pub truth_trees : List CoreTree
@@ -43,7 +43,7 @@ pub record IsSplit (d : Declarations) (In : CoreTree → Type 0) (t : CoreTree) 
 pub record IsClosed (d : Declarations) (In : CoreTree → Type 0) : Type 0 where
   pub subterms : (t s : CoreTree) → In t → Contains (subtrees t) s → In s
   pub conditionals : (c a b : CoreTree) (sort : SortId) → In (choice c a b) → HasTreeSort d (choice c a b) sort → (sort ≡ bool_sort → ⊥) → In (equation (choice c a b) a) × In (equation (choice c a b) b)
-  pub splits : (t : CoreTree) (sort : SortId) (c : CtorId) → IsSplit d In t sort → Contains (ctors_of_sort d sort) c → In (test c t) × In (con c (trees_of (fields_of d c t)))
+  pub splits : (t : CoreTree) (sort : SortId) (c : CtorId) → IsSplit d In t sort → Contains (ctor_ids_of_sort d sort) c → In (test c t) × In (con c (trees_of (fields_of d c t)))
 
 -- the set is closed, and has `true`, `false` and these terms
 pub record IsClosedOver (d : Declarations) (roots : List CoreTree) (In : CoreTree → Type 0) : Type 0 where

@@ -12,16 +12,16 @@ use Rattle.ct_terms.specs.declared.term.Core.{Core}
 use Rattle.ct_terms.specs.declared.term.Core.TheVariants.{Con, Sel, Test}
 use Rattle.ct_terms.specs.Terms.{Terms, Has}
 use Rattle.ct_terms.specs.CoreTree.{CoreTree, subtrees, term_at}
-use Rattle.ct_terms.specs.Compiled.{ctors_of_sort}
+use Rattle.ct_terms.specs.Compiled.{ctor_ids_of_sort}
 use Rattle.ct_closure.specs.Closed.{IsStructured, IsClosed, truth_trees}
 
 -- the term stands in the table, at some number
-abbrev pub Stands : Terms → CoreTree → Type 0
-Stands table t = (n : TermId) × (n.0 < length table) × (term_at table n ≡ t)
+abbrev pub HasTree : Terms → CoreTree → Type 0
+HasTree table t = (n : TermId) × (n.0 < length table) × (term_at table n ≡ t)
 
 -- the terms of the table are closed
 abbrev pub IsClosedTable : Declarations → Terms → Type 0
-IsClosedTable d table = IsClosed d (Stands table)
+IsClosedTable d table = IsClosed d (HasTree table)
 
 -- the trees of the terms with these numbers
 abbrev pub terms_at : Terms → List TermId → List CoreTree
@@ -73,7 +73,7 @@ pub record HasCase (d : Declarations) (table : Terms) (t : TermId) (c : CtorId) 
 
 -- and so for each constructor of the sort
 abbrev pub HasCases : Declarations → Terms → TermId → SortId → Type 0
-HasCases d table t sort = (c : CtorId) → Contains (ctors_of_sort d sort) c → HasCase d table t c
+HasCases d table t sort = (c : CtorId) → Contains (ctor_ids_of_sort d sort) c → HasCase d table t c
 
 -- the numbers rise
 abbrev pub AreRising : List TermId → Type 0

@@ -12,7 +12,7 @@ use Rattle.ct_terms.specs.declared.term.Core.{Core}
 use Rattle.ct_terms.specs.declared.term.Core.TheVariants.{Sel, Test, Eq, Ite}
 use Rattle.ct_terms.specs.Terms.{Terms, HasSort, AreSorted, AreOrdered, AreSingle, Has}
 use Rattle.ct_terms.specs.CoreTree.{CoreTree, term_at}
-use Rattle.ct_terms.specs.Compiled.{ctors_of_sort}
+use Rattle.ct_terms.specs.Compiled.{ctor_ids_of_sort}
 use Rattle.ct_closure.specs.Closed.{IsClosed}
 use Rattle.ct_closure.specs.ClosedTable.{IsPresent, IsOpen, IsSplitTerm, HasCases}
 
@@ -38,7 +38,7 @@ pub record IsStep (d : Declarations) (old new : Terms) : Type 0 where
 
 -- a case of the term's split: the term is split, and the constructor is one of its sort's
 abbrev pub IsCaseOf : Declarations → Terms → TermId → CtorId → Type 0
-IsCaseOf d table t c = (sort : SortId) × IsSplitTerm d table t sort × Contains (ctors_of_sort d sort) c
+IsCaseOf d table t c = (sort : SortId) × IsSplitTerm d table t sort × Contains (ctor_ids_of_sort d sort) c
 
 -- the term is marked: its cases are there
 abbrev pub IsMarked : List Bool → TermId → Type 0

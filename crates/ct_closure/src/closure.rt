@@ -7,7 +7,7 @@ ghost use Rattle.ct_terms.specs.declared.ids.TermId.{TermId};
 ghost use Rattle.ct_terms.specs.Terms.{IsBoolean, AreSorted};
 ghost use Rattle.ct_terms.specs.CoreTree.{CoreTree};
 ghost use Rattle.ct_closure.specs.Closed.{InClosure, HasVariables, HasMoreThan, most_closure_terms};
-ghost use Rattle.ct_closure.specs.ClosedTable.{Stands, IsClosedTable, IsSplitTerm, AreSubtermsOf, AreRising, terms_at};
+ghost use Rattle.ct_closure.specs.ClosedTable.{HasTree, IsClosedTable, IsSplitTerm, AreSubtermsOf, AreRising, terms_at};
 ghost use Rattle.ct_closure.specs.Variables.{variable_count};
 
 use crate::add::MOST_TERMS;
@@ -82,7 +82,7 @@ pub fn close(
     ensures sorted { AreSorted sig.now table.new }
 
     // The table holds exactly the closure.
-    ensures closure { OnOk result ((t : CoreTree) → Stands table.new t ↔ InClosure sig.now (terms_at table.old asserts.now) t) }
+    ensures closure { OnOk result ((t : CoreTree) → HasTree table.new t ↔ InClosure sig.now (terms_at table.old asserts.now) t) }
     ensures closed { OnOk result (IsClosedTable sig.now table.new) }
     ensures few { OnOk result (length table.new ≤ most_closure_terms) }
 

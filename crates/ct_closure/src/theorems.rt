@@ -7,7 +7,7 @@ ghost use Rattle.ct_terms.specs.declared.term.Core.TheVariants.{Eq, Ite};
 ghost use Rattle.ct_terms.specs.Terms.{Terms, AreSorted, AreOrdered, AreSingle};
 ghost use Rattle.ct_terms.specs.CoreTree.{term_at};
 ghost use Rattle.ct_closure.specs.Closed.{IsSplit};
-ghost use Rattle.ct_closure.specs.ClosedTable.{Stands, IsClosedTable, IsPresent, IsSplitTerm, HasCases};
+ghost use Rattle.ct_closure.specs.ClosedTable.{HasTree, IsClosedTable, IsPresent, IsSplitTerm, HasCases};
 
 use crate::facts::trees;
 
@@ -40,7 +40,7 @@ pub fn closed_tables()
         → AreSingle table
         → AreSorted d table
         → t.0 < length table
-        → IsSplitTerm d table t sort ↔ IsSplit d (Stands table) (term_at table t) sort }
+        → IsSplitTerm d table t sort ↔ IsSplit d (HasTree table) (term_at table t) sort }
 {
     trees();
 }

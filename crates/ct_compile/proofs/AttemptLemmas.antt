@@ -23,16 +23,16 @@ use Rattle.ct_scope.specs.declared.stop.DeferredCall.{DeferredCall}
 use Rattle.ct_scope.specs.declared.stop.Stop.{Stop}
 use Rattle.ct_scope.specs.declared.stop.Stop.TheVariants.{Failed, TooDeep}
 use Rattle.ct_operators.specs.Theorems.{Theorems}
-use Rattle.ct_operators.specs.Effect.{Stands, IsKept, IsPrefix, Within, Effect}
-use Rattle.ct_operators.specs.Made.{HasTrees, Makes}
+use Rattle.ct_operators.specs.Effect.{Stands, IsSoundTable, IsPrefix, Within, Effect}
+use Rattle.ct_operators.specs.Made.{HasTrees, MakesInOrder}
 use Rattle.ct_scope.specs.Making.{making, makes_below, defined}
 use Rattle.ct_occurrence.specs.Marks.{Rows, row_in, IsKnown}
-use Rattle.ct_scope.specs.Ready.{given, IsBound, IsReady, MayCompile, Compiles}
+use Rattle.ct_scope.specs.Compilable.{compiled_calls, IsBound, IsCompilable, MayCompile, Compiles}
 use Rattle.ct_scope.specs.Calling.{same_call, call_of, IsRecalled, IsState}
-use Rattle.ct_scope.specs.Deferral.{ended, GoesOn, WhenTooDeep, IsCall, Waits, Defers}
+use Rattle.ct_scope.specs.Deferral.{ended, UnlessFailed, WhenTooDeep, IsCall, WaitsForCall, Defers}
 use Rattle.ct_compile.specs.Attempts.{MakesFirst, closed_core, closed_making, IsWaiting, AreWaiting, IsLastKnown}
 use Rattle.ct_operators.proofs.EffectLemmas.{prefix_itself, effect_none, effect_then, effect_because}
-use Rattle.ct_scope.proofs.ReadyLemmas.{bounds_stay, ready_stays}
+use Rattle.ct_scope.proofs.CompilableLemmas.{bounds_stay, ready_stays}
 use Rattle.ct_operators.proofs.OperatorLemmas.{stands_as}
 use Rattle.ct_operators.proofs.MakesLemmas.{prefix_ordered, have_stay, have_left, have_right, makes_then, makes_none, makes_nothing, makes_split, makes_has, Contains-cons, Contains-none}
 use Rattle.ct_scope.proofs.MakingLemmas.{makes_is}
@@ -70,28 +70,28 @@ makes_first_then theorems ts a b c ordered h k =
         k.0,
         k.1,
         k.2,
-        subst (λ (xs : List CoreTree). Makes a xs c) (sym r.1)
+        subst (λ (xs : List CoreTree). MakesInOrder a xs c) (sym r.1)
             (makes_then h.0 r.0 a b c h.3 (
-            let parts = makes_split h.0 r.0 b c (subst (λ (xs : List CoreTree). Makes b xs c) r.1 k.3) in
-            subst (λ (xs : Terms). Makes xs r.0 c) (makes_nothing h.0 b parts.0 there parts.1.0) parts.1.1)),
+            let parts = makes_split h.0 r.0 b c (subst (λ (xs : List CoreTree). MakesInOrder b xs c) r.1 k.3) in
+            subst (λ (xs : Terms). MakesInOrder xs r.0 c) (makes_nothing h.0 b parts.0 there parts.1.0) parts.1.1)),
       )
       | inr r ↦ (
         h.0,
         h.1,
         h.2,
-        subst (Makes a h.0) (sym (makes_nothing k.0 b c (have_left b k.0 r.0 (subst (HasTrees b) r.1 there)) k.3)) h.3,
+        subst (MakesInOrder a h.0) (sym (makes_nothing k.0 b c (have_left b k.0 r.0 (subst (HasTrees b) r.1 there)) k.3)) h.3,
       )
     ]
 
 -- where all of it is there all of it is made
-pub makes_first_all : (ts : List CoreTree) (a b : Terms) → HasTrees b ts → MakesFirst a ts b → Makes a ts b
+pub makes_first_all : (ts : List CoreTree) (a b : Terms) → HasTrees b ts → MakesFirst a ts b → MakesInOrder a ts b
 makes_first_all ts a b there h =
-    subst (λ (xs : List CoreTree). Makes a xs b) (sym h.2)
+    subst (λ (xs : List CoreTree). MakesInOrder a xs b) (sym h.2)
     (makes_then h.0 h.1 a b b h.3 (makes_none h.1 b (have_right b h.0 h.1 (subst (HasTrees b) h.2 there))))
 
 -- ---- tables that grow
 
-pub call_stays : (d : Declarations) (bodies : List Formula) (rows : Rows) (old new : Terms) (call : DeferredCall) (trees : List CoreTree) → IsPrefix old new → IsKept d new → IsCall d bodies rows old call trees → IsCall d bodies rows new call trees
+pub call_stays : (d : Declarations) (bodies : List Formula) (rows : Rows) (old new : Terms) (call : DeferredCall) (trees : List CoreTree) → IsPrefix old new → IsSoundTable d new → IsCall d bodies rows old call trees → IsCall d bodies rows new call trees
 call_stays d bodies rows old new call trees grown kept h = record {
   row = h.row;
   at_row = h.at_row;
@@ -105,7 +105,7 @@ call_stays d bodies rows old new call trees grown kept h = record {
 }
 
 -- what was made before the call is there from then on
-pub waits_stay : (d : Declarations) (bodies : List Formula) (rows : Rows) (n : ℕ) (a b c : Terms) (made : List CoreTree) (allows : List CoreTree → Type 0) (call : DeferredCall) → IsPrefix b c → IsKept d c → Waits d bodies rows n a b made allows call → Waits d bodies rows n c c made allows call
+pub waits_stay : (d : Declarations) (bodies : List Formula) (rows : Rows) (n : ℕ) (a b c : Terms) (made : List CoreTree) (allows : List CoreTree → Type 0) (call : DeferredCall) → IsPrefix b c → IsSoundTable d c → WaitsForCall d bodies rows n a b made allows call → WaitsForCall d bodies rows n c c made allows call
 waits_stay d bodies rows n a b c made allows call grown kept w = record {
   trees = w.trees;
   below = w.below;
@@ -117,7 +117,7 @@ waits_stay d bodies rows n a b c made allows call grown kept w = record {
   makes = makes_none w.before c (have_stay kept.theorems b c w.before grown kept.ordered (makes_has kept.theorems w.before a b (prefix_ordered b c grown kept.ordered) w.makes));
 }
 
-pub waiting_stay : (d : Declarations) (bodies : List Formula) (rows : Rows) (n : ℕ) (t : Formula) (old new : Terms) (calls : List DeferredCall) → IsPrefix old new → IsKept d new → AreWaiting d bodies rows n t old calls → AreWaiting d bodies rows n t new calls
+pub waiting_stay : (d : Declarations) (bodies : List Formula) (rows : Rows) (n : ℕ) (t : Formula) (old new : Terms) (calls : List DeferredCall) → IsPrefix old new → IsSoundTable d new → AreWaiting d bodies rows n t old calls → AreWaiting d bodies rows n t new calls
 waiting_stay d bodies rows n t old new calls grown kept h = λ call c. waits_stay d bodies rows n old old new (closed_making d bodies n t) (λ allowed. Within allowed (closed_core d bodies n t)) call grown kept (h call c)
 
 -- ---- a call that is compiled first
@@ -126,31 +126,31 @@ module _ (d : Declarations) (bodies : List Formula) (rows : Rows) (old : Terms) 
   abbrev k : ℕ
   k = call.definition.0
 
-  gives : (trees : List CoreTree) → given d bodies (suc k) call.definition trees ≡ compiled d (given d bodies k) (bind trees []) body
+  gives : (trees : List CoreTree) → compiled_calls d bodies (suc k) call.definition trees ≡ compiled d (compiled_calls d bodies k) (bind trees []) body
   gives trees = given_is bodies call.definition body at d (suc k) trees (omega arith)
 
   makes : (trees : List CoreTree) → makes_below d bodies (suc k) call.definition trees ≡ making d (defined d bodies k) (bind trees []) body
   makes trees = makes_is bodies call.definition body at d (suc k) trees (omega arith)
 
-  ready : (trees : List CoreTree) (h : IsCall d bodies rows old call trees) → IsReady d bodies old k (bind call.bounds []) body (bind trees []) (bind h.sorts []) h.sort
-  ready trees h = subst (λ (t : Formula). IsReady d bodies old k (bind call.bounds []) t (bind trees []) (bind h.sorts []) h.sort) (same_Some h.body body (sym h.at ∙ at)) h.ready
+  ready : (trees : List CoreTree) (h : IsCall d bodies rows old call trees) → IsCompilable d bodies old k (bind call.bounds []) body (bind trees []) (bind h.sorts []) h.sort
+  ready trees h = subst (λ (t : Formula). IsCompilable d bodies old k (bind call.bounds []) t (bind trees []) (bind h.sorts []) h.sort) (same_Some h.body body (sym h.at ∙ at)) h.ready
 
   pub call_may : (trees : List CoreTree) → IsCall d bodies rows old call trees → MayCompile d bodies old k (bind call.bounds []) body
   call_may trees h = (bind trees [], bind h.sorts [], h.sort, ready trees h)
 
   module _ (new : Terms) (r : Result TermId TermError) (one : Compiles d bodies k old new (bind call.bounds []) body r) where
-    pub call_effect : (trees : List CoreTree) (allowed : List CoreTree) → IsCall d bodies rows old call trees → Within allowed (given d bodies (suc k) call.definition trees) → Effect d allowed old new (IsErrOf r Full)
+    pub call_effect : (trees : List CoreTree) (allowed : List CoreTree) → IsCall d bodies rows old call trees → Within allowed (compiled_calls d bodies (suc k) call.definition trees) → Effect d allowed old new (IsErrOf r Full)
     call_effect trees allowed h w = one.effect (bind trees []) (bind h.sorts []) h.sort allowed (ready trees h) (subst (Within allowed) (gives trees) w)
 
-    pub call_grown : (trees : List CoreTree) → IsCall d bodies rows old call trees → IsPrefix old new × IsKept d new
+    pub call_grown : (trees : List CoreTree) → IsCall d bodies rows old call trees → IsPrefix old new × IsSoundTable d new
     call_grown trees h =
-        let e = call_effect trees _ h (within_subtrees (given d bodies (suc k) call.definition trees)) in
+        let e = call_effect trees _ h (within_subtrees (compiled_calls d bodies (suc k) call.definition trees)) in
         (e.grown, e.kept)
 
-    pub call_makes : (trees : List CoreTree) → IsCall d bodies rows old call trees → IfOk r (λ u. Makes old (makes_below d bodies (suc k) call.definition trees) new)
+    pub call_makes : (trees : List CoreTree) → IsCall d bodies rows old call trees → IfOk r (λ u. MakesInOrder old (makes_below d bodies (suc k) call.definition trees) new)
     call_makes trees h =
-        IfOk-weaker r (λ u. Makes old (making d (defined d bodies k) (bind trees []) body) new) (λ u. Makes old (makes_below d bodies (suc k) call.definition trees) new)
-        (λ u m. subst (λ (xs : List CoreTree). Makes old xs new) (sym (makes trees)) m)
+        IfOk-weaker r (λ u. MakesInOrder old (making d (defined d bodies k) (bind trees []) body) new) (λ u. MakesInOrder old (makes_below d bodies (suc k) call.definition trees) new)
+        (λ u m. subst (λ (xs : List CoreTree). MakesInOrder old xs new) (sym (makes trees)) m)
         (one.order (bind trees []) (bind h.sorts []) h.sort (ready trees h))
 
   -- its term is put down
@@ -170,7 +170,7 @@ module _ (d : Declarations) (bodies : List Formula) (rows : Rows) (old : Terms) 
       }
 
   -- a call under it is put off
-  pub call_waits : (new : Terms) (deeper : DeferredCall) → ((trees : List CoreTree) (sorts : List SortId) (sort : SortId) → IsReady d bodies old k (bind call.bounds []) body trees sorts sort → Waits d bodies rows k old new (making d (defined d bodies k) trees body) (λ allowed. Within allowed (compiled d (given d bodies k) trees body)) deeper) → (trees : List CoreTree) → IsCall d bodies rows old call trees → Waits d bodies rows k old new (makes_below d bodies (suc k) call.definition trees) (λ allowed. Within allowed (given d bodies (suc k) call.definition trees)) deeper
+  pub call_waits : (new : Terms) (deeper : DeferredCall) → ((trees : List CoreTree) (sorts : List SortId) (sort : SortId) → IsCompilable d bodies old k (bind call.bounds []) body trees sorts sort → WaitsForCall d bodies rows k old new (making d (defined d bodies k) trees body) (λ allowed. Within allowed (compiled d (compiled_calls d bodies k) trees body)) deeper) → (trees : List CoreTree) → IsCall d bodies rows old call trees → WaitsForCall d bodies rows k old new (makes_below d bodies (suc k) call.definition trees) (λ allowed. Within allowed (compiled_calls d bodies (suc k) call.definition trees)) deeper
   call_waits new deeper defers trees h =
       let w = defers (bind trees []) (bind h.sorts []) h.sort (ready trees h) in
       record {
@@ -184,13 +184,13 @@ module _ (d : Declarations) (bodies : List Formula) (rows : Rows) (old : Terms) 
         makes = w.makes;
       }
 
-  pub call_defers : (new : Terms) (r : Result TermId Stop) → Defers d bodies rows k old new (bind call.bounds []) body r → (trees : List CoreTree) → IsCall d bodies rows old call trees → WhenTooDeep r (Waits d bodies rows k old new (makes_below d bodies (suc k) call.definition trees) (λ allowed. Within allowed (given d bodies (suc k) call.definition trees)))
+  pub call_defers : (new : Terms) (r : Result TermId Stop) → Defers d bodies rows k old new (bind call.bounds []) body r → (trees : List CoreTree) → IsCall d bodies rows old call trees → WhenTooDeep r (WaitsForCall d bodies rows k old new (makes_below d bodies (suc k) call.definition trees) (λ allowed. Within allowed (compiled_calls d bodies (suc k) call.definition trees)))
   call_defers new (Ok t) defers trees h = tt
   call_defers new (Err (Failed e)) defers trees h = tt
   call_defers new (Err (TooDeep deeper)) defers trees h = call_waits new deeper defers trees h
 
   -- there is no memory to put down its term
-  pub call_lost : (new : Terms) (t : TermId) (e : TermError) → e ≡ NoMemory → Compiles d bodies k old new (bind call.bounds []) body (Ok t) → (trees : List CoreTree) (allowed : List CoreTree) → IsCall d bodies rows old call trees → Within allowed (given d bodies (suc k) call.definition trees) → Effect d allowed old new (IsErrOf {T = TermId} (Err e) Full)
+  pub call_lost : (new : Terms) (t : TermId) (e : TermError) → e ≡ NoMemory → Compiles d bodies k old new (bind call.bounds []) body (Ok t) → (trees : List CoreTree) (allowed : List CoreTree) → IsCall d bodies rows old call trees → Within allowed (compiled_calls d bodies (suc k) call.definition trees) → Effect d allowed old new (IsErrOf {T = TermId} (Err e) Full)
   call_lost new t e is one trees allowed h w = effect_because d allowed old new _ _ (λ x. cc) (call_effect new (Ok t) one trees allowed h w)
 
 -- a definition with a row is worked out
@@ -230,30 +230,30 @@ zip_none R [] h = refl
 zip_none R (y ∷ ys) h = absurd h
 
 module _ (d : Declarations) (bodies : List Formula) (rows : Rows) (n : ℕ) (t : Formula) where
-  no_trees : (table : Terms) (trees : List CoreTree) (sorts : List SortId) (sort : SortId) → IsReady d bodies table n [] t trees sorts sort → trees ≡ []
+  no_trees : (table : Terms) (trees : List CoreTree) (sorts : List SortId) (sort : SortId) → IsCompilable d bodies table n [] t trees sorts sort → trees ≡ []
   no_trees table trees sorts sort h = zip_none (IsBound table) trees h.setting.bound
 
-  pub closed_compiles : (old new : Terms) (r : Result TermId TermError) → IfOk r (λ u. Stands new u (closed_core d bodies n t)) → ((allowed : List CoreTree) → Within allowed (closed_core d bodies n t) → Effect d allowed old new (IsErrOf r Full)) → IfOk r (λ u. Makes old (closed_making d bodies n t) new) → Compiles d bodies n old new [] t r
+  pub closed_compiles : (old new : Terms) (r : Result TermId TermError) → IfOk r (λ u. Stands new u (closed_core d bodies n t)) → ((allowed : List CoreTree) → Within allowed (closed_core d bodies n t) → Effect d allowed old new (IsErrOf r Full)) → IfOk r (λ u. MakesInOrder old (closed_making d bodies n t) new) → Compiles d bodies n old new [] t r
   closed_compiles old new r core effect order = record {
-    core = λ trees sorts sort h. subst (λ (us : List CoreTree). IfOk r (λ u. Stands new u (compiled d (given d bodies n) us t))) (sym (no_trees old trees sorts sort h)) core;
-    effect = λ trees sorts sort allowed h w. effect allowed (subst (λ (us : List CoreTree). Within allowed (compiled d (given d bodies n) us t)) (no_trees old trees sorts sort h) w);
-    order = λ trees sorts sort h. subst (λ (us : List CoreTree). IfOk r (λ u. Makes old (making d (defined d bodies n) us t) new)) (sym (no_trees old trees sorts sort h)) order;
+    core = λ trees sorts sort h. subst (λ (us : List CoreTree). IfOk r (λ u. Stands new u (compiled d (compiled_calls d bodies n) us t))) (sym (no_trees old trees sorts sort h)) core;
+    effect = λ trees sorts sort allowed h w. effect allowed (subst (λ (us : List CoreTree). Within allowed (compiled d (compiled_calls d bodies n) us t)) (no_trees old trees sorts sort h) w);
+    order = λ trees sorts sort h. subst (λ (us : List CoreTree). IfOk r (λ u. MakesInOrder old (making d (defined d bodies n) us t) new)) (sym (no_trees old trees sorts sort h)) order;
   }
 
   -- it is ready
-  pub closed_ready : (old : Terms) → MayCompile d bodies old n [] t → (sorts : List SortId) × (sort : SortId) × IsReady d bodies old n [] t [] sorts sort
-  closed_ready old may = (may.1, may.2, subst (λ (us : List CoreTree). IsReady d bodies old n [] t us may.1 may.2) (no_trees old may.0 may.1 may.2 may.3) may.3)
+  pub closed_ready : (old : Terms) → MayCompile d bodies old n [] t → (sorts : List SortId) × (sort : SortId) × IsCompilable d bodies old n [] t [] sorts sort
+  closed_ready old may = (may.1, may.2, subst (λ (us : List CoreTree). IsCompilable d bodies old n [] t us may.1 may.2) (no_trees old may.0 may.1 may.2 may.3) may.3)
 
   -- a call under a call that is put off is put off
-  pub waits_deeper : (old new : Terms) (call deeper : DeferredCall) (w : IsWaiting d bodies rows n t old call) → Waits d bodies rows call.definition.0 old new (makes_below d bodies (suc call.definition.0) call.definition w.trees) (λ allowed. Within allowed (given d bodies (suc call.definition.0) call.definition w.trees)) deeper → Waits d bodies rows n old new (closed_making d bodies n t) (λ allowed. Within allowed (closed_core d bodies n t)) deeper
+  pub waits_deeper : (old new : Terms) (call deeper : DeferredCall) (w : IsWaiting d bodies rows n t old call) → WaitsForCall d bodies rows call.definition.0 old new (makes_below d bodies (suc call.definition.0) call.definition w.trees) (λ allowed. Within allowed (compiled_calls d bodies (suc call.definition.0) call.definition w.trees)) deeper → WaitsForCall d bodies rows n old new (closed_making d bodies n t) (λ allowed. Within allowed (closed_core d bodies n t)) deeper
   waits_deeper old new call deeper w v =
       waits_under d bodies rows call.definition.0 n old old new (closed_making d bodies n t) w.before (makes_below d bodies (suc call.definition.0) call.definition w.trees) w.after _ _ deeper (let b = w.below in omega (arith, b)) w.makes w.order w.within v
 
   -- what comes before a call that is put off is a first part, and with its terms it is one
-  pub waits_first : (old new : Terms) (call : DeferredCall) (w : Waits d bodies rows n old new (closed_making d bodies n t) (λ allowed. Within allowed (closed_core d bodies n t)) call) → MakesFirst old (closed_making d bodies n t) new
+  pub waits_first : (old new : Terms) (call : DeferredCall) (w : WaitsForCall d bodies rows n old new (closed_making d bodies n t) (λ allowed. Within allowed (closed_core d bodies n t)) call) → MakesFirst old (closed_making d bodies n t) new
   waits_first old new call w = (w.before, makes_below d bodies (suc call.definition.0) call.definition w.trees ++ w.after, w.order, w.makes)
 
-  pub made_first : (old new : Terms) (call : DeferredCall) (w : IsWaiting d bodies rows n t old call) → Makes old (makes_below d bodies (suc call.definition.0) call.definition w.trees) new → MakesFirst old (closed_making d bodies n t) new
+  pub made_first : (old new : Terms) (call : DeferredCall) (w : IsWaiting d bodies rows n t old call) → MakesInOrder old (makes_below d bodies (suc call.definition.0) call.definition w.trees) new → MakesFirst old (closed_making d bodies n t) new
   made_first old new call w m =
       let own = makes_below d bodies (suc call.definition.0) call.definition w.trees in
       (w.before ++ own, w.after, w.order ∙ sym (append_assoc w.before own w.after), makes_then w.before own old old new w.makes m)
@@ -265,7 +265,7 @@ module _ (d : Declarations) (bodies : List Formula) (rows : Rows) (n : ℕ) (t :
   core = closed_core d bodies n t
 
   -- what was made before a call is there
-  now_waiting : (old new : Terms) (call : DeferredCall) → IsKept d new → Waits d bodies rows n old new making_all (λ allowed. Within allowed core) call → IsWaiting d bodies rows n t new call
+  now_waiting : (old new : Terms) (call : DeferredCall) → IsSoundTable d new → WaitsForCall d bodies rows n old new making_all (λ allowed. Within allowed core) call → IsWaiting d bodies rows n t new call
   now_waiting old new call kept w = waits_stay d bodies rows n old new new making_all (λ allowed. Within allowed core) call (prefix_itself new) kept w
 
   -- the last of the calls is compiled
@@ -274,17 +274,17 @@ module _ (d : Declarations) (bodies : List Formula) (rows : Rows) (n : ℕ) (t :
     own = makes_below d bodies (suc call.definition.0) call.definition w.trees
 
     abbrev Deeper : DeferredCall → Type 0
-    Deeper deeper = Waits d bodies rows call.definition.0 old new own (λ allowed. Within allowed (given d bodies (suc call.definition.0) call.definition w.trees)) deeper
+    Deeper deeper = WaitsForCall d bodies rows call.definition.0 old new own (λ allowed. Within allowed (compiled_calls d bodies (suc call.definition.0) call.definition w.trees)) deeper
 
-    pub called_makes : IfOk r (λ u. Makes old own new) → WhenTooDeep r Deeper → GoesOn r (MakesFirst old making_all new)
+    pub called_makes : IfOk r (λ u. MakesInOrder old own new) → WhenTooDeep r Deeper → UnlessFailed r (MakesFirst old making_all new)
     called_makes = by r
       where
-        by : (r : Result TermId Stop) → IfOk r (λ u. Makes old own new) → WhenTooDeep r Deeper → GoesOn r (MakesFirst old making_all new)
+        by : (r : Result TermId Stop) → IfOk r (λ u. MakesInOrder old own new) → WhenTooDeep r Deeper → UnlessFailed r (MakesFirst old making_all new)
         by (Ok u) m v = made_first old new call w m
         by (Err (Failed e)) m v = tt
         by (Err (TooDeep deeper)) m v = waits_first old new deeper (waits_deeper old new call deeper w v)
 
-    pub called_waits : IsKept d new → WhenTooDeep r Deeper → WhenTooDeep r (IsWaiting d bodies rows n t new)
+    pub called_waits : IsSoundTable d new → WhenTooDeep r Deeper → WhenTooDeep r (IsWaiting d bodies rows n t new)
     called_waits kept = by r
       where
         by : (r : Result TermId Stop) → WhenTooDeep r Deeper → WhenTooDeep r (IsWaiting d bodies rows n t new)
@@ -297,10 +297,10 @@ module _ (d : Declarations) (bodies : List Formula) (rows : Rows) (n : ℕ) (t :
     pub closed_effect : (r : Result TermId Stop) → Compiles d bodies n old new [] t (ended r) → (allowed : List CoreTree) → Within allowed core → Effect d allowed old new (IsErrOf (ended r) Full)
     closed_effect r one allowed w = let h = closed_ready old may in one.effect [] h.0 h.1 allowed h.2 w
 
-    closed_kept : (r : Result TermId Stop) → Compiles d bodies n old new [] t (ended r) → IsKept d new
+    closed_kept : (r : Result TermId Stop) → Compiles d bodies n old new [] t (ended r) → IsSoundTable d new
     closed_kept r one = (closed_effect r one (subtrees core) (within_subtrees core)).kept
 
-    pub closed_makes : (r : Result TermId Stop) → Compiles d bodies n old new [] t (ended r) → Defers d bodies rows n old new [] t r → GoesOn r (MakesFirst old making_all new)
+    pub closed_makes : (r : Result TermId Stop) → Compiles d bodies n old new [] t (ended r) → Defers d bodies rows n old new [] t r → UnlessFailed r (MakesFirst old making_all new)
     closed_makes (Ok u) one v = let h = closed_ready old may in (making_all, [], sym (append-nil making_all), one.order [] h.0 h.1 h.2)
     closed_makes (Err (Failed e)) one v = tt
     closed_makes (Err (TooDeep call)) one v = let h = closed_ready old may in waits_first old new call (v [] h.0 h.1 h.2)

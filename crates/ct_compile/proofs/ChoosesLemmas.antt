@@ -21,10 +21,10 @@ use Rattle.ct_scope.specs.Deferral.{ended, DefersCases}
 use Rattle.ct_occurrence.specs.Marks.{Rows}
 use Rattle.ct_operators.specs.declared.choosing.Guarded.{Guarded}
 use Rattle.ct_operators.specs.Theorems.{Theorems}
-use Rattle.ct_operators.specs.Made.{HasTree, Makes}
+use Rattle.ct_operators.specs.Made.{HasTree, MakesInOrder}
 use Rattle.ct_scope.specs.Making.{making_cases, defined}
-use Rattle.ct_operators.specs.Effect.{Stands, IsKept, Within, Effect}
-use Rattle.ct_scope.specs.Ready.{given}
+use Rattle.ct_operators.specs.Effect.{Stands, IsSoundTable, Within, Effect}
+use Rattle.ct_scope.specs.Compilable.{compiled_calls}
 use Rattle.ct_operators.specs.Chosen.{chosen_from, IsGuardedIn}
 use Rattle.ct_scope.specs.Matching.{AreCases, MayCases, CompilesCases}
 use Rattle.ct_scope.proofs.Weight.{weight, case_weights, weights_below}
@@ -40,13 +40,13 @@ use Rattle.ct_operators.proofs.ChosenLemmas.{chosen_last, within_chosen, guarded
 pub record ChoosesFor (d : Declarations) (bodies : List Formula) (n : ℕ) (old table : Terms) (env : List Bound) (matched : Bound) (all : Cases) (made : List Guarded) (earlier : List CtorId) (rest : Cases) (tree : CoreTree) (side : SortId) (trees : List CoreTree) (sorts : List SortId) (sort : SortId) : Type 0 where
   pub ready : AreCases d bodies table n env matched earlier rest tree side trees sorts sort
   pub below : AllByRecursion (IsGuardedIn table) made
-  pub same : chosen_from (term_at table) made (compiled_cases d (given d bodies n) trees tree earlier rest) ≡ compiled_cases d (given d bodies n) trees tree [] all
-  pub effect : (allowed : List CoreTree) → Within allowed (compiled_cases d (given d bodies n) trees tree [] all) → Effect d allowed old table ⊥
+  pub same : chosen_from (term_at table) made (compiled_cases d (compiled_calls d bodies n) trees tree earlier rest) ≡ compiled_cases d (compiled_calls d bodies n) trees tree [] all
+  pub effect : (allowed : List CoreTree) → Within allowed (compiled_cases d (compiled_calls d bodies n) trees tree [] all) → Effect d allowed old table ⊥
   pub begun : List CoreTree
   pub ends : List CoreTree
   pub makes : making_cases d (defined d bodies n) trees tree [] all ≡ begun ++ (making_cases d (defined d bodies n) trees tree earlier rest ++ ends)
-  pub order : Makes old begun table
-  pub rises : Rises table (compiled_cases d (given d bodies n) trees tree earlier rest) ends (compiled_cases d (given d bodies n) trees tree [] all)
+  pub order : MakesInOrder old begun table
+  pub rises : Rises table (compiled_cases d (compiled_calls d bodies n) trees tree earlier rest) ends (compiled_cases d (compiled_calls d bodies n) trees tree [] all)
 
 pub record Chooses (d : Declarations) (bodies : List Formula) (n : ℕ) (old table : Terms) (env : List Bound) (matched : Bound) (all : Cases) (made : List Guarded) (earlier : List CtorId) (rest : Cases) : Type 0 where
   pub may : MayCases d bodies old n env matched [] all
@@ -72,10 +72,10 @@ chooses_start d bodies n old env matched all may = record {
 
 module _ (d : Declarations) (bodies : List Formula) (n : ℕ) (old table : Terms) (env : List Bound) (matched : Bound) (all : Cases) (made : List Guarded) (earlier : List CtorId) (rest : Cases) (h : Chooses d bodies n old table env matched all made earlier rest) where
   abbrev whole : CoreTree → List CoreTree → CoreTree
-  whole tree trees = compiled_cases d (given d bodies n) trees tree [] all
+  whole tree trees = compiled_cases d (compiled_calls d bodies n) trees tree [] all
 
   abbrev later : CoreTree → List CoreTree → CoreTree
-  later tree trees = compiled_cases d (given d bodies n) trees tree earlier rest
+  later tree trees = compiled_cases d (compiled_calls d bodies n) trees tree earlier rest
 
   -- the cases that are left may be compiled
   pub chooses_may : MayCases d bodies table n env matched earlier rest
@@ -119,7 +119,7 @@ module _ (d : Declarations) (bodies : List Formula) (n : ℕ) (old table : Terms
         let s : Stands mid v (later tree trees) = one.core tree side trees sorts sort f.ready in
         ap (chosen_from (term_at mid) made) s.1 ∙ same_chosen d table mid made (later tree trees) e.grown e.kept f.below ∙ f.same
 
-    pub last_kept : IsKept d mid
+    pub last_kept : IsSoundTable d mid
     last_kept = (last_effect h.may.0 h.may.1 h.may.2 h.may.3 h.may.4 h.may.5).kept
 
     pub last_below : AllByRecursion (IsGuardedIn mid) made
@@ -146,12 +146,12 @@ module _ (d : Declarations) (bodies : List Formula) (n : ℕ) (old table : Terms
           let is = layer tree side trees sorts sort k in
           let top = chosen_from (term_at mid) made (term_at mid v) in
           let rest_made = making_cases d (defined d bodies n) trees tree earlier rest in
-          IfOk-weaker r (λ x. Stands new x top) (λ x. Makes old (making_cases d (defined d bodies n) trees tree [] all) new)
+          IfOk-weaker r (λ x. Stands new x top) (λ x. MakesInOrder old (making_cases d (defined d bodies n) trees tree [] all) new)
           (λ x s.
           let e = subst (λ (y : CoreTree). Effect d (subtrees y) mid new (IsErrOf r Full)) is (effect (subtrees top) (within_subtrees top)) in
           let rises = rises_stay g.kept.theorems table mid (later tree trees) f.ends (whole tree trees) g.grown g.kept.ordered f.rises in
           let last = makes_rising d mid new (later tree trees) f.ends (whole tree trees) (IsErrOf r Full) e rises (v, one.core tree side trees sorts sort f.ready) (x, stands_as new x _ _ is s) in
-          subst (λ (xs : List CoreTree). Makes old xs new) (sym f.makes)
+          subst (λ (xs : List CoreTree). MakesInOrder old xs new) (sym f.makes)
           (makes_then f.begun (rest_made ++ f.ends) old table new f.order (makes_then rest_made f.ends table mid new (one.order tree side trees sorts sort f.ready) last)))
           core;
     }
@@ -200,8 +200,8 @@ module _ (d : Declarations) (bodies : List Formula) (n : ℕ) (old table : Terms
     for = λ tree side trees sorts sort k.
         let f = h.for tree side trees sorts sort k in
         let s = chosen tree side trees sorts sort f.ready in
-        let now = compiled_cases d (given d bodies n) trees tree earlier (with_case p body rest) in
-        let later = compiled_cases d (given d bodies n) trees tree (c ∷ earlier) rest in
+        let now = compiled_cases d (compiled_calls d bodies n) trees tree earlier (with_case p body rest) in
+        let later = compiled_cases d (compiled_calls d bodies n) trees tree (c ∷ earlier) rest in
         record {
           ready = s.ready;
           below = all_after (IsGuardedIn new) made g (guarded_stay table new made s.grown f.below) (s.condition, s.body);
@@ -218,7 +218,7 @@ module _ (d : Declarations) (bodies : List Formula) (n : ℕ) (old table : Terms
               ∙ ap (λ (xs : List CoreTree). f.begun ++ (xs ++ f.ends)) s.makes
               ∙ regroup f.begun s.begun (making_cases d (defined d bodies n) trees tree (c ∷ earlier) rest) now f.ends;
           order = makes_then f.begun s.begun old table new f.order s.order;
-          rises = choice_rises s.kept.theorems new g.condition g.body now later f.ends (compiled_cases d (given d bodies n) trees tree [] all) s.kept.ordered s.condition s.body s.same (rises_stay s.kept.theorems table new now f.ends (compiled_cases d (given d bodies n) trees tree [] all) s.grown s.kept.ordered f.rises);
+          rises = choice_rises s.kept.theorems new g.condition g.body now later f.ends (compiled_cases d (compiled_calls d bodies n) trees tree [] all) s.kept.ordered s.condition s.body s.same (rises_stay s.kept.theorems table new now f.ends (compiled_cases d (compiled_calls d bodies n) trees tree [] all) s.grown s.kept.ordered f.rises);
         };
     lighter = let k = h.lighter in omega (arith, k);
   }

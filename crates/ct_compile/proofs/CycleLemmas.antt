@@ -14,18 +14,18 @@ use Rattle.ct_terms.specs.Formula.{Formula, Formulas, no_formulas, with_formula}
 use Rattle.ct_terms.specs.Compiled.{compiled, compiled_all}
 use Rattle.ct_scope.specs.declared.bound.Bound.{Bound}
 use Rattle.ct_terms.specs.Occurrence.{count_of}
-use Rattle.ct_operators.specs.Effect.{Stands, AllStand, IsKept, Within, AllWithin, IsPrefix, Effect}
+use Rattle.ct_operators.specs.Effect.{Stands, AllStand, IsSoundTable, Within, AllWithin, IsPrefix, Effect}
 use Rattle.ct_scope.specs.declared.stop.DeferredCall.{DeferredCall}
 use Rattle.ct_occurrence.specs.Marks.{Rows}
-use Rattle.ct_operators.specs.Made.{HasTree, HasTrees, Makes, Made, leaf, terms, made_by}
+use Rattle.ct_operators.specs.Made.{HasTree, HasTrees, MakesInOrder, Made, leaf, terms, made_by}
 use Rattle.ct_scope.specs.Making.{making, made_each, defined}
-use Rattle.ct_operators.specs.Following.{leading, between, woven, IsLeading, IsFollowing, MayFollow, Follows}
+use Rattle.ct_operators.specs.Following.{leading, between, woven, IsLeading, IsFollowing, MayFollow, FollowGives}
 use Rattle.ct_operators.specs.declared.operator.Operator.{Operator}
 use Rattle.ct_operators.specs.declared.operator.Operator.TheVariants.{Inequality}
-use Rattle.ct_occurrence.specs.Plain.{is_plain, children_of}
+use Rattle.ct_occurrence.specs.Plain.{is_plain, formulas_under}
 use Rattle.ct_operators.specs.Forms.{operator_for, combined, AreOperands}
 use Rattle.ct_scope.proofs.Weight.{weight, weights, weights_below}
-use Rattle.ct_scope.specs.Ready.{given, IsReady, AreReady, AreUnder, MayCompile, MayCompileAll, Compiles, CompilesAll}
+use Rattle.ct_scope.specs.Compilable.{compiled_calls, IsCompilable, AreCompilable, AreUnder, MayCompile, MayCompileAll, Compiles, CompilesAll}
 use Rattle.ct_operators.proofs.EffectLemmas.{same_error, stands_stays, all_stay, effect_none, effect_then, effect_because}
 use Rattle.ct_operators.proofs.WithinLemmas.{within_subtrees}
 use Rattle.ct_operators.proofs.MakesLemmas.{makes_then}
@@ -34,7 +34,7 @@ use Rattle.ct_operators.proofs.PrefixLemmas.{woven_prefix, prefix_end, prefix_mo
 use Rattle.ct_scope.proofs.DeferralLemmas.{IsPutOff, ArePutOff, waits_under}
 use Rattle.ct_scope.proofs.MakingLemmas.{terms_each, making_plain}
 use Rattle.ct_operators.proofs.OperatorLemmas.{stands_as}
-use Rattle.ct_scope.proofs.ReadyLemmas.{children_ready, compiled_plain, first_ready, rest_ready, all_ready_stay}
+use Rattle.ct_scope.proofs.CompilableLemmas.{children_ready, compiled_plain, first_ready, rest_ready, all_ready_stay}
 use Rattle.ct_operators.proofs.OperandLemmas.{within_plain, all_trees, all_below}
 use Rattle.ct_scope.proofs.PlainLemmas.{operands_of}
 
@@ -47,9 +47,9 @@ compiles_nothing d bodies n table env t e is = record {
 }
 
 -- where a formula is compiled the table grows, and is kept
-pub compiles_grown : (d : Declarations) (bodies : List Formula) (n : ℕ) (old new : Terms) (env : List Bound) (t : Formula) (r : Result TermId TermError) → MayCompile d bodies old n env t → Compiles d bodies n old new env t r → IsPrefix old new × IsKept d new
+pub compiles_grown : (d : Declarations) (bodies : List Formula) (n : ℕ) (old new : Terms) (env : List Bound) (t : Formula) (r : Result TermId TermError) → MayCompile d bodies old n env t → Compiles d bodies n old new env t r → IsPrefix old new × IsSoundTable d new
 compiles_grown d bodies n old new env t r may one =
-    let core = compiled d (given d bodies n) may.0 t in
+    let core = compiled d (compiled_calls d bodies n) may.0 t in
     let e = one.effect may.0 may.1 may.2 (subtrees core) may.3 (within_subtrees core) in
     (e.grown, e.kept)
 
@@ -66,20 +66,20 @@ ok_with : (r : Result TermId TermError) (P Q : TermId → Type 0) (A : Type 0) �
 ok_with (Ok u) P Q A h k = (h, k)
 ok_with (Err e) P Q A h k = tt
 
-module _ (d : Declarations) (bodies : List Formula) (n : ℕ) (old : Terms) (env : List Bound) (t : Formula) (ts : Formulas) (plain : is_plain t ≡ true) (o : Operator) (is_operator : operator_for t ≡ o) (under : children_of t ≡ ts) where
+module _ (d : Declarations) (bodies : List Formula) (n : ℕ) (old : Terms) (env : List Bound) (t : Formula) (ts : Formulas) (plain : is_plain t ≡ true) (o : Operator) (is_operator : operator_for t ≡ o) (under : formulas_under t ≡ ts) where
   -- the core terms under it, and its own over them
   abbrev parts : List CoreTree → List CoreTree
-  parts trees = compiled_all d (given d bodies n) trees ts
+  parts trees = compiled_all d (compiled_calls d bodies n) trees ts
 
-  operands : (trees : List CoreTree) (sorts : List SortId) (sort : SortId) → IsReady d bodies old n env t trees sorts sort → AreOperands d o (parts trees)
-  operands trees sorts sort h = subst (λ (us : Formulas). AreOperands d o (compiled_all d (given d bodies n) trees us)) under (subst (λ (x : Operator). AreOperands d x (compiled_all d (given d bodies n) trees (children_of t))) is_operator (operands_of d bodies old n env trees sorts t sort plain h))
+  operands : (trees : List CoreTree) (sorts : List SortId) (sort : SortId) → IsCompilable d bodies old n env t trees sorts sort → AreOperands d o (parts trees)
+  operands trees sorts sort h = subst (λ (us : Formulas). AreOperands d o (compiled_all d (compiled_calls d bodies n) trees us)) under (subst (λ (x : Operator). AreOperands d x (compiled_all d (compiled_calls d bodies n) trees (formulas_under t))) is_operator (operands_of d bodies old n env trees sorts t sort plain h))
 
-  are_under : (trees : List CoreTree) (sorts : List SortId) (sort : SortId) → IsReady d bodies old n env t trees sorts sort → (each : List SortId) × AreUnder d bodies old n env o ts trees sorts each
+  are_under : (trees : List CoreTree) (sorts : List SortId) (sort : SortId) → IsCompilable d bodies old n env t trees sorts sort → (each : List SortId) × AreUnder d bodies old n env o ts trees sorts each
   are_under trees sorts sort h =
       let all = children_ready d bodies old n env trees sorts t sort plain h in (
         all.0,
         record {
-          ready = subst (λ (us : Formulas). AreReady d bodies old n env us trees sorts all.0) under all.1;
+          ready = subst (λ (us : Formulas). AreCompilable d bodies old n env us trees sorts all.0) under all.1;
           operands = operands trees sorts sort h;
         },
       )
@@ -87,14 +87,14 @@ module _ (d : Declarations) (bodies : List Formula) (n : ℕ) (old : Terms) (env
   pub plain_children : MayCompile d bodies old n env t → MayCompileAll d bodies old n env o ts
   plain_children may = let under = are_under may.0 may.1 may.2 may.3 in (may.0, may.1, under.0, under.1)
 
-  whole_is : (trees : List CoreTree) → compiled d (given d bodies n) trees t ≡ combined d o (parts trees)
-  whole_is trees = compiled_plain d bodies n trees t plain ∙ ap (λ (x : Operator). combined d x (compiled_all d (given d bodies n) trees (children_of t))) is_operator ∙ ap (λ (us : Formulas). combined d o (compiled_all d (given d bodies n) trees us)) under
+  whole_is : (trees : List CoreTree) → compiled d (compiled_calls d bodies n) trees t ≡ combined d o (parts trees)
+  whole_is trees = compiled_plain d bodies n trees t plain ∙ ap (λ (x : Operator). combined d x (compiled_all d (compiled_calls d bodies n) trees (formulas_under t))) is_operator ∙ ap (λ (us : Formulas). combined d o (compiled_all d (compiled_calls d bodies n) trees us)) under
 
   made_is : (trees : List CoreTree) → making d (defined d bodies n) trees t ≡ (made_by d o (made_each d (defined d bodies n) trees ts)).making
   made_is trees =
       let defs = defined d bodies n in
       making_plain d defs trees t plain
-      ∙ ap (λ (x : Operator). (made_by d x (made_each d defs trees (children_of t))).making) is_operator
+      ∙ ap (λ (x : Operator). (made_by d x (made_each d defs trees (formulas_under t))).making) is_operator
       ∙ ap (λ (us : Formulas). (made_by d o (made_each d defs trees us)).making) under
 
   -- where a call under it is put off
@@ -102,7 +102,7 @@ module _ (d : Declarations) (bodies : List Formula) (n : ℕ) (old : Terms) (env
   plain_waits rows new call all = λ trees sorts sort h.
       let ready = are_under trees sorts sort h in
       let part = (made_by d o (made_each d (defined d bodies n) trees ts)).making in
-      waits_under d bodies rows n n old old new (making d (defined d bodies n) trees t) [] part [] (λ allowed. Within allowed (combined d o (parts trees))) (λ allowed. Within allowed (compiled d (given d bodies n) trees t)) call (omega arith) refl
+      waits_under d bodies rows n n old old new (making d (defined d bodies n) trees t) [] part [] (λ allowed. Within allowed (combined d o (parts trees))) (λ allowed. Within allowed (compiled d (compiled_calls d bodies n) trees t)) call (omega arith) refl
       (made_is trees ∙ sym (append-nil part)) (λ allowed w. subst (Within allowed) (whole_is trees) w) (all trees sorts ready.0 ready.1)
 
   -- where a formula under it fails
@@ -116,15 +116,15 @@ module _ (d : Declarations) (bodies : List Formula) (n : ℕ) (old : Terms) (env
   }
 
   module _ (mid : Terms) (args : List TermId) (all : CompilesAll d bodies n old mid env o ts (Ok args)) where
-    effect_of : (trees : List CoreTree) (sorts : List SortId) (sort : SortId) → IsReady d bodies old n env t trees sorts sort → Effect d (subtrees (combined d o (parts trees))) old mid (IsErrOf (Ok args) Full)
+    effect_of : (trees : List CoreTree) (sorts : List SortId) (sort : SortId) → IsCompilable d bodies old n env t trees sorts sort → Effect d (subtrees (combined d o (parts trees))) old mid (IsErrOf (Ok args) Full)
     effect_of trees sorts sort h =
         let ready = are_under trees sorts sort h in
         all.effect trees sorts ready.0 (subtrees (combined d o (parts trees))) ready.1 (within_subtrees (combined d o (parts trees)))
 
-    stand : (trees : List CoreTree) (sorts : List SortId) (sort : SortId) → IsReady d bodies old n env t trees sorts sort → AllStand mid args (parts trees)
+    stand : (trees : List CoreTree) (sorts : List SortId) (sort : SortId) → IsCompilable d bodies old n env t trees sorts sort → AllStand mid args (parts trees)
     stand trees sorts sort h = let ready = are_under trees sorts sort h in all.core trees sorts ready.0 ready.1
 
-    pub plain_kept : MayCompile d bodies old n env t → IsKept d mid
+    pub plain_kept : MayCompile d bodies old n env t → IsSoundTable d mid
     plain_kept may = (effect_of may.0 may.1 may.2 may.3).kept
 
     pub plain_below : MayCompile d bodies old n env t → AllByRecursion (λ u. u.0 < length mid) args
@@ -133,37 +133,37 @@ module _ (d : Declarations) (bodies : List Formula) (n : ℕ) (old : Terms) (env
     pub plain_operands : MayCompile d bodies old n env t → AreOperands d o (map (term_at mid) args)
     plain_operands may = subst (AreOperands d o) (sym (all_trees mid args (parts may.0) (stand may.0 may.1 may.2 may.3))) (operands may.0 may.1 may.2 may.3)
 
-    pub plain_made : (new : Terms) (r : Result TermId TermError) → IfOk r (λ u. Stands new u (combined d o (map (term_at mid) args))) → ((allowed : List CoreTree) → Within allowed (combined d o (map (term_at mid) args)) → Effect d allowed mid new (IsErrOf r Full)) → (o ≡ Inequality → IfOk r (λ u. Makes mid (made_by d Inequality (map leaf (map (term_at mid) args))).making new)) → Compiles d bodies n old new env t r
+    pub plain_made : (new : Terms) (r : Result TermId TermError) → IfOk r (λ u. Stands new u (combined d o (map (term_at mid) args))) → ((allowed : List CoreTree) → Within allowed (combined d o (map (term_at mid) args)) → Effect d allowed mid new (IsErrOf r Full)) → (o ≡ Inequality → IfOk r (λ u. MakesInOrder mid (made_by d Inequality (map leaf (map (term_at mid) args))).making new)) → Compiles d bodies n old new env t r
     plain_made new r core effect compared = record {
       core = λ trees sorts sort h.
           let is = ap (combined d o) (all_trees mid args (parts trees) (stand trees sorts sort h)) ∙ sym (whole_is trees) in
-          IfOk-weaker r _ (λ u. Stands new u (compiled d (given d bodies n) trees t)) (λ u k. stands_as new u _ _ is k) core;
+          IfOk-weaker r _ (λ u. Stands new u (compiled d (compiled_calls d bodies n) trees t)) (λ u k. stands_as new u _ _ is k) core;
       effect = λ trees sorts sort allowed h w.
           let ready = are_under trees sorts sort h in
           let is = ap (combined d o) (all_trees mid args (parts trees) (stand trees sorts sort h)) ∙ sym (whole_is trees) in
           effect_then d allowed old mid new _ _ (all.effect trees sorts ready.0 allowed ready.1 (subst (Within allowed) (whole_is trees) w))
           (effect allowed (subst (Within allowed) (sym is) w));
       order = λ trees sorts sort h.
-          IfOk-weaker r (λ u. Stands new u (combined d o (map (term_at mid) args)) × (o ≡ Inequality → Makes mid (made_by d Inequality (map leaf (map (term_at mid) args))).making new)) (λ u. Makes old (making d (defined d bodies n) trees t) new)
+          IfOk-weaker r (λ u. Stands new u (combined d o (map (term_at mid) args)) × (o ≡ Inequality → MakesInOrder mid (made_by d Inequality (map leaf (map (term_at mid) args))).making new)) (λ u. MakesInOrder old (making d (defined d bodies n) trees t) new)
           (λ u k. in_order trees sorts sort h (IsErrOf r Full) (effect (subtrees (combined d o (map (term_at mid) args))) (within_subtrees (combined d o (map (term_at mid) args)))) (u, k.0) k.1)
-          (ok_with r (λ u. Stands new u (combined d o (map (term_at mid) args))) (λ u. Makes mid (made_by d Inequality (map leaf (map (term_at mid) args))).making new) (o ≡ Inequality) core compared);
+          (ok_with r (λ u. Stands new u (combined d o (map (term_at mid) args))) (λ u. MakesInOrder mid (made_by d Inequality (map leaf (map (term_at mid) args))).making new) (o ≡ Inequality) core compared);
     }
       where
-        in_order : (trees : List CoreTree) (sorts : List SortId) (sort : SortId) → IsReady d bodies old n env t trees sorts sort → (full : Type 0) → Effect d (subtrees (combined d o (map (term_at mid) args))) mid new full → HasTree new (combined d o (map (term_at mid) args)) → (o ≡ Inequality → Makes mid (made_by d Inequality (map leaf (map (term_at mid) args))).making new) → Makes old (making d (defined d bodies n) trees t) new
+        in_order : (trees : List CoreTree) (sorts : List SortId) (sort : SortId) → IsCompilable d bodies old n env t trees sorts sort → (full : Type 0) → Effect d (subtrees (combined d o (map (term_at mid) args))) mid new full → HasTree new (combined d o (map (term_at mid) args)) → (o ≡ Inequality → MakesInOrder mid (made_by d Inequality (map leaf (map (term_at mid) args))).making new) → MakesInOrder old (making d (defined d bodies n) trees t) new
         in_order trees sorts sort h full e there pairs_made =
             let ready = are_under trees sorts sort h in
             let defs = defined d bodies n in
             let ps = made_each d defs trees ts in
             let terms_are : terms ps ≡ parts trees = terms_each d defs trees ts in
             let all_is : map (term_at mid) args ≡ terms ps = all_trees mid args (parts trees) (stand trees sorts sort h) ∙ sym terms_are in
-            subst (λ (xs : List CoreTree). Makes old xs new) (sym (made_is trees))
+            subst (λ (xs : List CoreTree). MakesInOrder old xs new) (sym (made_is trees))
             (operator_made d old mid new o ps full
             (subst (AreOperands d o) (sym terms_are) (operands trees sorts sort h))
             (subst (HasTrees mid) (sym terms_are) (trees_stand mid args (parts trees) (stand trees sorts sort h)))
             (effect_of trees sorts sort h).kept.ordered
             (subst (λ (us : List CoreTree). Effect d (subtrees (combined d o us)) mid new full) all_is e)
             (subst (λ (us : List CoreTree). HasTree new (combined d o us)) all_is there)
-            (λ is. subst (λ (us : List CoreTree). Makes mid (made_by d Inequality (map leaf us)).making new) all_is (pairs_made is))
+            (λ is. subst (λ (us : List CoreTree). MakesInOrder mid (made_by d Inequality (map leaf us)).making new) all_is (pairs_made is))
             (all.order trees sorts ready.0 ready.1))
 
 -- ---- the formulas under an operator, as far as they are made
@@ -178,7 +178,7 @@ all_stand_push table [] (v ∷ vs) t u h k = absurd h
 all_stand_push table (s ∷ ss) [] t u h k = absurd h
 all_stand_push table (s ∷ ss) (v ∷ vs) t u h k = (h.0, all_stand_push table ss vs t u h.1 k)
 
-leads_stay : (d : Declarations) (old new : Terms) (o : Operator) (lead : Option TermId) (us : List CoreTree) → IsPrefix old new → IsKept d new → IsLeading old o lead us → IsLeading new o lead us
+leads_stay : (d : Declarations) (old new : Terms) (o : Operator) (lead : Option TermId) (us : List CoreTree) → IsPrefix old new → IsSoundTable d new → IsLeading old o lead us → IsLeading new o lead us
 leads_stay d old new o None us grown kept h = h
 leads_stay d old new o (Some t) us grown kept h = (h.0, stands_stays d old new t (leading o us) grown kept h.1)
 
@@ -189,17 +189,17 @@ more_length (u ∷ us) v = omega arith
 -- for these terms of the variables: what is made, and what is left
 pub record CollectsFor (d : Declarations) (bodies : List Formula) (n : ℕ) (old table : Terms) (env : List Bound) (o : Operator) (all : Formulas) (args : List TermId) (lead : Option TermId) (rest : Formulas) (trees : List CoreTree) (sorts : List SortId) : Type 0 where
   pub each : List SortId
-  pub ready : AreReady d bodies table n env rest trees sorts each
+  pub ready : AreCompilable d bodies table n env rest trees sorts each
   pub made : List CoreTree
   pub stand : AllStand table args made
   pub leads : IsLeading table o lead made
-  pub same : made ++ compiled_all d (given d bodies n) trees rest ≡ compiled_all d (given d bodies n) trees all
-  pub operands : AreOperands d o (made ++ compiled_all d (given d bodies n) trees rest)
-  pub effect : (allowed : List CoreTree) → Within allowed (combined d o (compiled_all d (given d bodies n) trees all)) → Effect d allowed old table ⊥
+  pub same : made ++ compiled_all d (compiled_calls d bodies n) trees rest ≡ compiled_all d (compiled_calls d bodies n) trees all
+  pub operands : AreOperands d o (made ++ compiled_all d (compiled_calls d bodies n) trees rest)
+  pub effect : (allowed : List CoreTree) → Within allowed (combined d o (compiled_all d (compiled_calls d bodies n) trees all)) → Effect d allowed old table ⊥
   pub done : List Made
   pub all_done : made_each d (defined d bodies n) trees all ≡ done ++ made_each d (defined d bodies n) trees rest
   pub made_is : terms done ≡ made
-  pub order : Makes old (woven_prefix d o [] done (terms (made_each d (defined d bodies n) trees rest))) table
+  pub order : MakesInOrder old (woven_prefix d o [] done (terms (made_each d (defined d bodies n) trees rest))) table
 
 pub record Collects (d : Declarations) (bodies : List Formula) (n : ℕ) (old table : Terms) (env : List Bound) (o : Operator) (all : Formulas) (args : List TermId) (lead : Option TermId) (rest : Formulas) : Type 0 where
   pub may : MayCompileAll d bodies old n env o all
@@ -233,7 +233,7 @@ module _ (d : Declarations) (bodies : List Formula) (n : ℕ) (old table : Terms
       let f = h.for h.may.0 h.may.1 h.may.2 h.may.3 in
       by f.each f.ready
     where
-      by : (each : List SortId) → AreReady d bodies table n env (with_formula t more) h.may.0 h.may.1 each → MayCompile d bodies table n env t
+      by : (each : List SortId) → AreCompilable d bodies table n env (with_formula t more) h.may.0 h.may.1 each → MayCompile d bodies table n env t
       by [] ready = absurd ready.sorted
       by (s ∷ each) ready = (h.may.0, h.may.1, s, first_ready d bodies table n env h.may.0 h.may.1 t more s each ready)
 
@@ -242,19 +242,19 @@ module _ (d : Declarations) (bodies : List Formula) (n : ℕ) (old table : Terms
 
   -- for these terms of the variables: the next tree, those after it, and that it is ready
   abbrev tree_for : List CoreTree → CoreTree
-  tree_for trees = compiled d (given d bodies n) trees t
+  tree_for trees = compiled d (compiled_calls d bodies n) trees t
 
   abbrev later_for : List CoreTree → List CoreTree
-  later_for trees = compiled_all d (given d bodies n) trees more
+  later_for trees = compiled_all d (compiled_calls d bodies n) trees more
 
-  split : {trees : List CoreTree} {sorts : List SortId} (each : List SortId) → AreReady d bodies table n env (with_formula t more) trees sorts each → (s : SortId) × (others : List SortId) × IsReady d bodies table n env t trees sorts s × AreReady d bodies table n env more trees sorts others
+  split : {trees : List CoreTree} {sorts : List SortId} (each : List SortId) → AreCompilable d bodies table n env (with_formula t more) trees sorts each → (s : SortId) × (others : List SortId) × IsCompilable d bodies table n env t trees sorts s × AreCompilable d bodies table n env more trees sorts others
   split [] ready = absurd ready.sorted
   split {trees} {sorts} (s ∷ others) ready = (s, others, first_ready d bodies table n env trees sorts t more s others ready, rest_ready d bodies table n env trees sorts t more s others ready)
 
-  tree_within : (trees : List CoreTree) (sorts each : List SortId) (under : AreUnder d bodies old n env o all trees sorts each) (allowed : List CoreTree) → Within allowed (combined d o (compiled_all d (given d bodies n) trees all)) → Within allowed (tree_for trees)
+  tree_within : (trees : List CoreTree) (sorts each : List SortId) (under : AreUnder d bodies old n env o all trees sorts each) (allowed : List CoreTree) → Within allowed (combined d o (compiled_all d (compiled_calls d bodies n) trees all)) → Within allowed (tree_for trees)
   tree_within trees sorts each under allowed w =
       let f = h.for trees sorts each under in
-      all_within_middle allowed f.made (tree_for trees) (later_for trees) (subst (AllWithin allowed) (sym f.same) (within_plain allowed d o (compiled_all d (given d bodies n) trees all) under.operands w))
+      all_within_middle allowed f.made (tree_for trees) (later_for trees) (subst (AllWithin allowed) (sym f.same) (within_plain allowed d o (compiled_all d (compiled_calls d bodies n) trees all) under.operands w))
 
   -- it fails
   pub collects_failed : (new : Terms) (e : TermError) → Compiles d bodies n table new env t (Err e) → CompilesAll d bodies n old new env o all (Err e)
@@ -282,7 +282,7 @@ module _ (d : Declarations) (bodies : List Formula) (n : ℕ) (old table : Terms
       let kept = f.ready.setting.kept in
       let operands : AreOperands d o (terms (f.done ++ one_made trees ∷ later)) = subst (λ (ps : List Made). AreOperands d o (terms ps)) f.all_done (subst (AreOperands d o) (sym (terms_each d defs trees all)) under.operands) in
       let next = operator_next kept.theorems d (one_made trees) later old table kept.ordered o f.done operands f.order in
-      waits_under d bodies rows n n old table new (made_by d o all_made).making next.0 (making d defs trees t) next.1.0 (λ allowed. Within allowed (tree_for trees)) (λ allowed. Within allowed (combined d o (compiled_all d (given d bodies n) trees all))) call (omega arith) next.2
+      waits_under d bodies rows n n old table new (made_by d o all_made).making next.0 (making d defs trees t) next.1.0 (λ allowed. Within allowed (tree_for trees)) (λ allowed. Within allowed (combined d o (compiled_all d (compiled_calls d bodies n) trees all))) call (omega arith) next.2
       (ap (λ (ps : List Made). (made_by d o ps).making) f.all_done ∙ next.1.1)
       (λ allowed w. tree_within trees sorts each under allowed w) (one trees sorts s.0 s.2)
 
@@ -313,31 +313,31 @@ module _ (d : Declarations) (bodies : List Formula) (n : ℕ) (old table : Terms
     pub collects_follows : MayFollow d mid o lead u
     collects_follows = ((h.for h.may.0 h.may.1 h.may.2 h.may.3).made, later_for h.may.0, following h.may.0 h.may.1 h.may.2 h.may.3)
 
-    module _ (ends : Bool) (is_end : ends ≡ false → 0 < count_of more) (is_last : ends ≡ true → count_of more ≡ 0) (new : Terms) (r : Result TermId TermError) (next : Follows d mid new o lead u ends r) where
-      later_length : (trees : List CoreTree) (ts : Formulas) → 0 < count_of ts → 0 < length (compiled_all d (given d bodies n) trees ts)
+    module _ (ends : Bool) (is_end : ends ≡ false → 0 < count_of more) (is_last : ends ≡ true → count_of more ≡ 0) (new : Terms) (r : Result TermId TermError) (next : FollowGives d mid new o lead u ends r) where
+      later_length : (trees : List CoreTree) (ts : Formulas) → 0 < count_of ts → 0 < length (compiled_all d (compiled_calls d bodies n) trees ts)
       later_length trees no_formulas some = absurd (omega (arith, some))
       later_length trees (with_formula v vs) some = omega arith
 
-      none_later : (trees : List CoreTree) (ts : Formulas) → count_of ts ≡ 0 → compiled_all d (given d bodies n) trees ts ≡ []
+      none_later : (trees : List CoreTree) (ts : Formulas) → count_of ts ≡ 0 → compiled_all d (compiled_calls d bodies n) trees ts ≡ []
       none_later trees no_formulas none = refl
       none_later trees (with_formula v vs) none = absurd (omega (arith, none))
 
       -- what is between it and the later ones is made
-      between_made : (trees : List CoreTree) (sorts each : List SortId) (under : AreUnder d bodies old n env o all trees sorts each) (v : TermId) → r ≡ Ok v → Makes mid (between d o (h.for trees sorts each under).made (tree_for trees) (terms (made_each d (defined d bodies n) trees more))) new
+      between_made : (trees : List CoreTree) (sorts each : List SortId) (under : AreUnder d bodies old n env o all trees sorts each) (v : TermId) → r ≡ Ok v → MakesInOrder mid (between d o (h.for trees sorts each under).made (tree_for trees) (terms (made_each d (defined d bodies n) trees more))) new
       between_made trees sorts each under v is =
           let f = h.for trees sorts each under in
           let c = core_one trees sorts each under in
-          let step : Makes mid (between d o f.made (term_at mid u) (later_for trees)) new = subst (λ (q : Result TermId TermError). IfOk q (λ z. Makes mid (between d o f.made (term_at mid u) (later_for trees)) new)) is
+          let step : MakesInOrder mid (between d o f.made (term_at mid u) (later_for trees)) new = subst (λ (q : Result TermId TermError). IfOk q (λ z. MakesInOrder mid (between d o f.made (term_at mid u) (later_for trees)) new)) is
           (next.order f.made (later_for trees) (following trees sorts each under) (λ e. later_length trees more (is_end e)) (λ e. none_later trees more (is_last e))) in
-          subst (λ (us : List CoreTree). Makes mid (between d o f.made (tree_for trees) us) new) (sym (terms_each d (defined d bodies n) trees more))
-          (subst (λ (w : CoreTree). Makes mid (between d o f.made w (later_for trees)) new) c.1 step)
+          subst (λ (us : List CoreTree). MakesInOrder mid (between d o f.made (tree_for trees) us) new) (sym (terms_each d (defined d bodies n) trees more))
+          (subst (λ (w : CoreTree). MakesInOrder mid (between d o f.made w (later_for trees)) new) c.1 step)
 
-      effect_both : (trees : List CoreTree) (sorts each : List SortId) (under : AreUnder d bodies old n env o all trees sorts each) (allowed : List CoreTree) → Within allowed (combined d o (compiled_all d (given d bodies n) trees all)) → Effect d allowed old new (IsErrOf r Full)
+      effect_both : (trees : List CoreTree) (sorts each : List SortId) (under : AreUnder d bodies old n env o all trees sorts each) (allowed : List CoreTree) → Within allowed (combined d o (compiled_all d (compiled_calls d bodies n) trees all)) → Effect d allowed old new (IsErrOf r Full)
       effect_both trees sorts each under allowed w =
           let f = h.for trees sorts each under in
           let s = split f.each f.ready in
           let c = core_one trees sorts each under in
-          let is : f.made ++ term_at mid u ∷ later_for trees ≡ compiled_all d (given d bodies n) trees all = ap (λ (v : CoreTree). f.made ++ v ∷ later_for trees) c.1 ∙ f.same in
+          let is : f.made ++ term_at mid u ∷ later_for trees ≡ compiled_all d (compiled_calls d bodies n) trees all = ap (λ (v : CoreTree). f.made ++ v ∷ later_for trees) c.1 ∙ f.same in
           effect_then d allowed old mid new _ _
           (effect_then d allowed old table mid ⊥ _ (f.effect allowed w) (one.effect trees sorts s.0 allowed s.2 (tree_within trees sorts each under allowed w)))
           (next.effect f.made (later_for trees) allowed (following trees sorts each under) (λ e. later_length trees more (is_end e)) (subst (λ (us : List CoreTree). Within allowed (combined d o us)) (sym is) w))
@@ -352,7 +352,7 @@ module _ (d : Declarations) (bodies : List Formula) (n : ℕ) (old table : Terms
       }
 
       -- the table has grown, and is kept
-      pub collects_grown : IsPrefix mid new × IsKept d new
+      pub collects_grown : IsPrefix mid new × IsSoundTable d new
       collects_grown =
           let f = h.for h.may.0 h.may.1 h.may.2 h.may.3 in
           let whole = combined d o (f.made ++ term_at mid u ∷ later_for h.may.0) in
@@ -386,10 +386,10 @@ module _ (d : Declarations) (bodies : List Formula) (n : ℕ) (old table : Terms
               made_is = terms_append f.done (one_made trees ∷ []) ∙ ap (λ (us : List CoreTree). us ++ tree_for trees ∷ []) f.made_is;
               order =
                   let later = terms (made_each d (defined d bodies n) trees more) in
-                  subst (λ (xs : List CoreTree). Makes old xs new) (sym (prefix_more d o [] f.done (one_made trees) later))
+                  subst (λ (xs : List CoreTree). MakesInOrder old xs new) (sym (prefix_more d o [] f.done (one_made trees) later))
                   (makes_then (woven_prefix d o [] f.done (tree_for trees ∷ later)) (making d (defined d bodies n) trees t ++ between d o (terms f.done) (tree_for trees) later) old table new f.order
                   (makes_then (making d (defined d bodies n) trees t) (between d o (terms f.done) (tree_for trees) later) table mid new (one.order trees sorts s.0 s.2)
-                  (subst (λ (us : List CoreTree). Makes mid (between d o us (tree_for trees) later) new) (sym f.made_is) (between_made trees sorts each under v is))));
+                  (subst (λ (us : List CoreTree). MakesInOrder mid (between d o us (tree_for trees) later) new) (sym f.made_is) (between_made trees sorts each under v is))));
             };
         lighter = let k = h.lighter in omega (arith, k);
       }
@@ -404,7 +404,7 @@ collects_end d bodies n old table env o all args lead h = record {
       effect_because d allowed old table ⊥ (IsErrOf (Ok args) Full) (λ x. cc) ((h.for trees sorts each under).effect allowed w);
   order = λ trees sorts each under.
       let f = h.for trees sorts each under in
-      subst (λ (xs : List CoreTree). Makes old xs table) (prefix_end d o [] f.done ∙ sym (ap (λ (ps : List Made). woven d o [] ps) (f.all_done ∙ append-nil f.done))) f.order;
+      subst (λ (xs : List CoreTree). MakesInOrder old xs table) (prefix_end d o [] f.done ∙ sym (ap (λ (ps : List Made). woven d o [] ps) (f.all_done ∙ append-nil f.done))) f.order;
 }
 
 -- there is no memory for one more

@@ -17,8 +17,8 @@ use Rattle.ct_occurrence.specs.Calls.{CallsAre}
 use Rattle.ct_occurrence.specs.Marks.{Rows, IsKnown, HaveRows, MayMark}
 use Rattle.ct_occurrence.specs.Working.{AreRight}
 use Rattle.ct_operators.specs.Theorems.{Theorems}
-use Rattle.ct_operators.specs.Effect.{Stands, IsKept}
-use Rattle.ct_scope.specs.Ready.{IsReady}
+use Rattle.ct_operators.specs.Effect.{Stands, IsSoundTable}
+use Rattle.ct_scope.specs.Compilable.{IsCompilable}
 
 -- a list of formulas is as long as that of their trees
 map_length : (ts : List Tree) → length (map formula_of ts) ≡ length ts
@@ -28,7 +28,7 @@ map_length (t ∷ ts) = ap suc (map_length ts)
 pub all_below : (ts : List Tree) (n : ℕ) → n ≡ length ts → n ≡ length (map formula_of ts)
 all_below ts n e = e ∙ sym (map_length ts)
 
-pub entry_ready : (theorems : Theorems) (d : Declarations) (bodies : List Formula) (table : Terms) (n : ℕ) (t : Formula) (sort : SortId) → IsConsistent d → AreSound d bodies → AreSortedTerms d table → AreOrdered table → AreSingle table → n ≡ length bodies → IsSorted d [] t sort → IsReady d bodies table n [] t [] [] sort
+pub entry_ready : (theorems : Theorems) (d : Declarations) (bodies : List Formula) (table : Terms) (n : ℕ) (t : Formula) (sort : SortId) → IsConsistent d → AreSound d bodies → AreSortedTerms d table → AreOrdered table → AreSingle table → n ≡ length bodies → IsSorted d [] t sort → IsCompilable d bodies table n [] t [] [] sort
 entry_ready theorems d bodies table n t sort consistent sound sorted ordered single is h = record {
   setting = record {
     consistent = consistent;
@@ -59,6 +59,6 @@ entry_mark theorems d trees rows t sort sound h have known = record {
 }
 
 -- where a tree stands its subterms do
-pub subterms_below : (d : Declarations) (table : Terms) (kept : IsKept d table) (core : CoreTree) (t : TermId) → Stands table t core → (s : CoreTree) → Contains (subtrees core) s → (u : TermId) × (u.0 ≤ t.0) × (term_at table u ≡ s)
+pub subterms_below : (d : Declarations) (table : Terms) (kept : IsSoundTable d table) (core : CoreTree) (t : TermId) → Stands table t core → (s : CoreTree) → Contains (subtrees core) s → (u : TermId) × (u.0 ≤ t.0) × (term_at table u ≡ s)
 subterms_below d table kept core t stands s inside =
     kept.theorems.subterms_stand table t s kept.ordered stands.0 (subst (λ (x : CoreTree). Contains (subtrees x) s) (sym stands.1) inside)

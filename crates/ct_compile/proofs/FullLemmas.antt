@@ -6,7 +6,7 @@ use Rattle.ct_sorts.specs.Declarations.{Declarations}
 use Rattle.ct_terms.specs.declared.ids.TermId.{TermId}
 use Rattle.ct_terms.specs.Terms.{Terms}
 use Rattle.ct_terms.specs.CoreTree.{CoreTree, term_at}
-use Rattle.ct_operators.specs.Effect.{IsKept, IsPrefix, Adds, IsMissing, Lacks, AreDifferent, DoNotFit}
+use Rattle.ct_operators.specs.Effect.{IsSoundTable, IsPrefix, AddsTrees, IsMissing, Lacks, AreDifferent, DoNotFit}
 use Rattle.ct_operators.proofs.EffectLemmas.{prefix_length, same_tree}
 
 abbrev id : ℕ → TermId
@@ -31,7 +31,7 @@ at_index table k (suc m) (suc i) t e =
     let n : k + suc i ≡ suc k + i = omega arith in
     (omega (arith, h.0), ap (λ (x : ℕ). term_at table (id x)) n ∙ h.1)
 
-module _ (d : Declarations) (allowed : List CoreTree) (old new : Terms) (grown : IsPrefix old new) (kept : IsKept d new) (adds : Adds allowed old new) (lacks : Lacks allowed new) where
+module _ (d : Declarations) (allowed : List CoreTree) (old new : Terms) (grown : IsPrefix old new) (kept : IsSoundTable d new) (adds : AddsTrees allowed old new) (lacks : Lacks allowed new) where
   abbrev more : ℕ
   more = length grown.0
 

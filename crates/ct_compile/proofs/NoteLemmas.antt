@@ -10,13 +10,13 @@ use Rattle.ct_terms.specs.Formula.{Formula, Formulas, Cases, Var, Con, Sel, Test
 use Rattle.ct_terms.specs.Compiled.{surely_fits, are_none}
 use Rattle.ct_terms.specs.Occurrence.{count_of, occurs, matched_occurs}
 use Rattle.ct_occurrence.specs.declared.notes.Notes.{Notes}
-use Rattle.ct_occurrence.specs.Plain.{is_plain, children_of}
-use Rattle.ct_occurrence.specs.Marks.{listed, Rows, IsKnown}
+use Rattle.ct_occurrence.specs.Plain.{is_plain, formulas_under}
+use Rattle.ct_occurrence.specs.Marks.{flags_below, Rows, IsKnown}
 use Rattle.ct_occurrence.specs.Matching.{tested_by}
 use Rattle.ct_occurrence.specs.Noted.{bound_of, under_of, inner_of, IsOfFirst, IsNoted, AreNoted, AreNotedWhere, CasesNoted}
 
 -- what is under an operator, from the operator
-pub noted_children : (d : Declarations) (rows : Rows) (uses : DefId → ℕ → Bool) (t : Formula) (m : Notes) → is_plain t ≡ true → IsNoted d rows uses t m → AreNoted d rows uses (children_of t) (under_of m)
+pub noted_children : (d : Declarations) (rows : Rows) (uses : DefId → ℕ → Bool) (t : Formula) (m : Notes) → is_plain t ≡ true → IsNoted d rows uses t m → AreNoted d rows uses (formulas_under t) (under_of m)
 noted_children d rows uses (Con c ts) m plain h = h
 noted_children d rows uses (Sel s t) m plain h = (h, tt)
 noted_children d rows uses (Test c t) m plain h = (h, tt)
@@ -45,7 +45,7 @@ first_noted P [] m h at = absurd h
 first_noted P (k ∷ ms) m h at = subst P (same_Some k m at) h
 
 module _ (d : Declarations) (rows : Rows) (uses : DefId → ℕ → Bool) (ms : List Notes) (m : Notes) (at : slice_get ms 0 ≡ Some m) where
-  pub plain_notes : (t : Formula) (ts : Formulas) (under : List Notes) → is_plain t ≡ true → children_of t ≡ ts → under ≡ under_of m → IsOfFirst (IsNoted d rows uses t) ms → AreNoted d rows uses ts under
+  pub plain_notes : (t : Formula) (ts : Formulas) (under : List Notes) → is_plain t ≡ true → formulas_under t ≡ ts → under ≡ under_of m → IsOfFirst (IsNoted d rows uses t) ms → AreNoted d rows uses ts under
   plain_notes t ts under plain is same h = subst (AreNoted d rows uses ts) (sym same) (subst (λ (us : Formulas). AreNoted d rows uses us (under_of m)) is (noted_children d rows uses t m plain (first_noted (IsNoted d rows uses t) ms m h at)))
 
   choice_noted : (c t u : Formula) → IsOfFirst (IsNoted d rows uses (Ite c t u)) ms → IsNoted d rows uses (Ite c t u) m
@@ -63,7 +63,7 @@ module _ (d : Declarations) (rows : Rows) (uses : DefId → ℕ → Bool) (ms : 
   let_noted : (ts : Formulas) (u : Formula) → IsOfFirst (IsNoted d rows uses (Let ts u)) ms → IsNoted d rows uses (Let ts u) m
   let_noted ts u h = first_noted (IsNoted d rows uses (Let ts u)) ms m h at
 
-  pub let_flags : (ts : Formulas) (u : Formula) (bound : List Bool) → bound ≡ bound_of m → IsOfFirst (IsNoted d rows uses (Let ts u)) ms → bound ≡ listed (occurs d uses u) (count_of ts)
+  pub let_flags : (ts : Formulas) (u : Formula) (bound : List Bool) → bound ≡ bound_of m → IsOfFirst (IsNoted d rows uses (Let ts u)) ms → bound ≡ flags_below (occurs d uses u) (count_of ts)
   let_flags ts u bound same h = same ∙ (let_noted ts u h).0
 
   pub let_under : (ts : Formulas) (u : Formula) (bound : List Bool) (under : List Notes) → bound ≡ bound_of m → under ≡ under_of m → IsOfFirst (IsNoted d rows uses (Let ts u)) ms → AreNotedWhere d rows uses bound ts under
@@ -72,7 +72,7 @@ module _ (d : Declarations) (rows : Rows) (uses : DefId → ℕ → Bool) (ms : 
   pub let_inner : (ts : Formulas) (u : Formula) (inner : List Notes) → inner ≡ inner_of m → IsOfFirst (IsNoted d rows uses (Let ts u)) ms → IsOfFirst (IsNoted d rows uses u) inner
   let_inner ts u inner same h = subst (IsOfFirst (IsNoted d rows uses u)) (sym same) (let_noted ts u h).2
 
-  pub call_notes : (k : DefId) (ts : Formulas) (row : List Bool) (under : List Notes) → row ≡ listed (uses k) (count_of ts) → under ≡ under_of m → IsOfFirst (IsNoted d rows uses (Def k ts)) ms → AreNotedWhere d rows uses row ts under
+  pub call_notes : (k : DefId) (ts : Formulas) (row : List Bool) (under : List Notes) → row ≡ flags_below (uses k) (count_of ts) → under ≡ under_of m → IsOfFirst (IsNoted d rows uses (Def k ts)) ms → AreNotedWhere d rows uses row ts under
   call_notes k ts row under is same h = subst (AreNotedWhere d rows uses row ts) (sym same) (subst (λ (bs : List Bool). AreNotedWhere d rows uses bs ts (under_of m)) (sym is) (first_noted (IsNoted d rows uses (Def k ts)) ms m h at).1)
 
   match_noted : (t : Formula) (cases : Cases) → IsOfFirst (IsNoted d rows uses (Match t cases)) ms → IsNoted d rows uses (Match t cases) m

@@ -4,7 +4,7 @@ use Rattle.std.proofs.lemmas.List.{append_assoc, reverse-append}
 use Rattle.ct_terms.specs.declared.ids.TermId.{TermId}
 use Rattle.ct_scope.specs.declared.bound.Bound.{Bound}
 use Rattle.ct_scope.specs.declared.bound.Bound.TheVariants.{Term, Field, Absent}
-use Rattle.ct_scope.specs.Calling.{terms_of}
+use Rattle.ct_scope.specs.Calling.{terms_bound}
 use Rattle.ct_operators.proofs.RestLemmas.{rest_step}
 
 abbrev rest_of : {X : Type 0} → List X → List X
@@ -26,17 +26,17 @@ map_step {X} {Y} f found new d rest goal some items inv =
     ∙ ap (λ (xs : List X). found ++ map f xs) (sym (rest_step rest d some))
     ∙ inv
 
-terms_first : (b : Bound) (bs : List Bound) → terms_of (b ∷ []) ++ terms_of bs ≡ terms_of (b ∷ bs)
+terms_first : (b : Bound) (bs : List Bound) → terms_bound (b ∷ []) ++ terms_bound bs ≡ terms_bound (b ∷ bs)
 terms_first (Term t) bs = refl
 terms_first (Field s t) bs = refl
 terms_first Absent bs = refl
 
 -- the term of each is added that has one
-pub terms_step : (found new : List TermId) (d : Bound) (rest : List Bound) (goal : List TermId) → 1 ≤ length rest → new ≡ found ++ terms_of (get_or rest 0 d ∷ []) → found ++ terms_of rest ≡ goal → new ++ terms_of (rest_of rest) ≡ goal
+pub terms_step : (found new : List TermId) (d : Bound) (rest : List Bound) (goal : List TermId) → 1 ≤ length rest → new ≡ found ++ terms_bound (get_or rest 0 d ∷ []) → found ++ terms_bound rest ≡ goal → new ++ terms_bound (rest_of rest) ≡ goal
 terms_step found new d rest goal some items inv =
-    ap (λ (ts : List TermId). ts ++ terms_of (rest_of rest)) items
-    ∙ append_assoc found (terms_of (get_or rest 0 d ∷ [])) (terms_of (rest_of rest))
-    ∙ ap (λ (ts : List TermId). found ++ ts) (terms_first (get_or rest 0 d) (rest_of rest) ∙ ap terms_of (sym (rest_step rest d some)))
+    ap (λ (ts : List TermId). ts ++ terms_bound (rest_of rest)) items
+    ∙ append_assoc found (terms_bound (get_or rest 0 d ∷ [])) (terms_bound (rest_of rest))
+    ∙ ap (λ (ts : List TermId). found ++ ts) (terms_first (get_or rest 0 d) (rest_of rest) ∙ ap terms_bound (sym (rest_step rest d some)))
     ∙ inv
 
 -- each is added from the last to the first

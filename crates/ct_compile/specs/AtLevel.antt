@@ -21,75 +21,75 @@ use Rattle.ct_scope.specs.Binding.{MayBind, Binds}
 use Rattle.ct_scope.specs.Calling.{IsState}
 use Rattle.ct_scope.specs.Deferral.{Defers, DefersAll, DefersBound, DefersCases}
 use Rattle.ct_scope.specs.Matching.{MayCases, CompilesCases}
-use Rattle.ct_scope.specs.Ready.{MayCompile, MayCompileAll, Compiles, CompilesAll}
+use Rattle.ct_scope.specs.Compilable.{MayCompile, MayCompileAll, Compiles, CompilesAll}
 use Rattle.ct_compile.specs.declared.level.Level.{Level}
 
 -- the declarations, the bodies of definitions, and what is worked out of these
-abbrev pub declared : Level → Declarations
-declared l = l.scope.now.sig
+abbrev pub declared_at : Level → Declarations
+declared_at l = l.scope.now.sig
 
-abbrev pub bodies : Level → List Formula
-bodies l = map formula_of l.scope.now.bodies
+abbrev pub bodies_at : Level → List Formula
+bodies_at l = map formula_of l.scope.now.bodies
 
-abbrev pub rows : Level → Rows
-rows l = worked_in l.definitions.now
+abbrev pub rows_at : Level → Rows
+rows_at l = worked_in l.definitions.now
 
 -- the variables that occur in a definition below the level's number
-abbrev pub uses : Level → DefId → ℕ → Bool
-uses l = uses_below (declared l) (bodies l) l.below
+abbrev pub uses_at : Level → DefId → ℕ → Bool
+uses_at l = uses_below (declared_at l) (bodies_at l) l.below
 
 -- what is known of calls is true
 abbrev pub IsStateAt : {S : Type 0} → Level → Terms → IndexMap Called TermId S → Type 0
-IsStateAt l table known = IsState (declared l) (bodies l) l.below (rows l) table known
+IsStateAt l table known = IsState (declared_at l) (bodies_at l) l.below (rows_at l) table known
 
 -- the notes say which variables occur
 abbrev pub IsNotedAt : Level → Formula → List Notes → Type 0
-IsNotedAt l t ms = HaveNotes (declared l) (bodies l) (rows l) × IsOfFirst (IsNoted (declared l) (rows l) (uses l) t) ms
+IsNotedAt l t ms = HaveNotes (declared_at l) (bodies_at l) (rows_at l) × IsOfFirst (IsNoted (declared_at l) (rows_at l) (uses_at l) t) ms
 
 abbrev pub AreNotedAt : Level → Formulas → List Notes → Type 0
-AreNotedAt l ts ms = HaveNotes (declared l) (bodies l) (rows l) × AreNoted (declared l) (rows l) (uses l) ts ms
+AreNotedAt l ts ms = HaveNotes (declared_at l) (bodies_at l) (rows_at l) × AreNoted (declared_at l) (rows_at l) (uses_at l) ts ms
 
 abbrev pub AreNotedWhereAt : Level → List Bool → Formulas → List Notes → Type 0
-AreNotedWhereAt l flags ts ms = HaveNotes (declared l) (bodies l) (rows l) × AreNotedWhere (declared l) (rows l) (uses l) flags ts ms
+AreNotedWhereAt l flags ts ms = HaveNotes (declared_at l) (bodies_at l) (rows_at l) × AreNotedWhere (declared_at l) (rows_at l) (uses_at l) flags ts ms
 
 abbrev pub AreNotedCasesAt : Level → List CtorId → Cases → List Notes → Type 0
-AreNotedCasesAt l earlier cases ms = HaveNotes (declared l) (bodies l) (rows l) × CasesNoted (declared l) (rows l) (uses l) earlier cases ms
+AreNotedCasesAt l earlier cases ms = HaveNotes (declared_at l) (bodies_at l) (rows_at l) × CasesNoted (declared_at l) (rows_at l) (uses_at l) earlier cases ms
 
 -- a formula may be compiled; several may, under an operator or to be bound; the cases of a `match` may
 abbrev pub MayCompileAt : Level → Terms → List Bound → Formula → Type 0
-MayCompileAt l table env t = MayCompile (declared l) (bodies l) table l.below env t
+MayCompileAt l table env t = MayCompile (declared_at l) (bodies_at l) table l.below env t
 
 abbrev pub MayCompileAllAt : Level → Terms → List Bound → Operator → Formulas → Type 0
-MayCompileAllAt l table env o ts = MayCompileAll (declared l) (bodies l) table l.below env o ts
+MayCompileAllAt l table env o ts = MayCompileAll (declared_at l) (bodies_at l) table l.below env o ts
 
 abbrev pub MayBindAt : Level → Terms → List Bound → List Bool → Formulas → Type 0
-MayBindAt l table env flags ts = MayBind (declared l) (bodies l) table l.below env flags ts
+MayBindAt l table env flags ts = MayBind (declared_at l) (bodies_at l) table l.below env flags ts
 
 abbrev pub MayCasesAt : Level → Terms → List Bound → Bound → List CtorId → Cases → Type 0
-MayCasesAt l table env matched earlier cases = MayCases (declared l) (bodies l) table l.below env matched earlier cases
+MayCasesAt l table env matched earlier cases = MayCases (declared_at l) (bodies_at l) table l.below env matched earlier cases
 
 -- what compiling them gives
 abbrev pub CompilesAt : Level → Terms → Terms → List Bound → Formula → Result TermId TermError → Type 0
-CompilesAt l old new env t r = Compiles (declared l) (bodies l) l.below old new env t r
+CompilesAt l old new env t r = Compiles (declared_at l) (bodies_at l) l.below old new env t r
 
 abbrev pub CompilesAllAt : Level → Terms → Terms → List Bound → Operator → Formulas → Result (List TermId) TermError → Type 0
-CompilesAllAt l old new env o ts r = CompilesAll (declared l) (bodies l) l.below old new env o ts r
+CompilesAllAt l old new env o ts r = CompilesAll (declared_at l) (bodies_at l) l.below old new env o ts r
 
 abbrev pub BindsAt : Level → Terms → Terms → List Bound → List Bool → Formulas → Result (List Bound) TermError → Type 0
-BindsAt l old new env flags ts r = Binds (declared l) (bodies l) l.below old new env flags ts r
+BindsAt l old new env flags ts r = Binds (declared_at l) (bodies_at l) l.below old new env flags ts r
 
 abbrev pub CompilesCasesAt : Level → Terms → Terms → List Bound → Bound → List CtorId → Cases → Result TermId TermError → Type 0
-CompilesCasesAt l old new env matched earlier cases r = CompilesCases (declared l) (bodies l) l.below old new env matched earlier cases r
+CompilesCasesAt l old new env matched earlier cases r = CompilesCases (declared_at l) (bodies_at l) l.below old new env matched earlier cases r
 
 -- where a call under them is put off, it waits
 abbrev pub DefersAt : Level → Terms → Terms → List Bound → Formula → Result TermId Stop → Type 0
-DefersAt l old new env t r = Defers (declared l) (bodies l) (rows l) l.below old new env t r
+DefersAt l old new env t r = Defers (declared_at l) (bodies_at l) (rows_at l) l.below old new env t r
 
 abbrev pub DefersAllAt : Level → Terms → Terms → List Bound → Operator → Formulas → Result (List TermId) Stop → Type 0
-DefersAllAt l old new env o ts r = DefersAll (declared l) (bodies l) (rows l) l.below old new env o ts r
+DefersAllAt l old new env o ts r = DefersAll (declared_at l) (bodies_at l) (rows_at l) l.below old new env o ts r
 
 abbrev pub DefersBoundAt : Level → Terms → Terms → List Bound → List Bool → Formulas → Result (List Bound) Stop → Type 0
-DefersBoundAt l old new env flags ts r = DefersBound (declared l) (bodies l) (rows l) l.below old new env flags ts r
+DefersBoundAt l old new env flags ts r = DefersBound (declared_at l) (bodies_at l) (rows_at l) l.below old new env flags ts r
 
 abbrev pub DefersCasesAt : Level → Terms → Terms → List Bound → Bound → List CtorId → Cases → Result TermId Stop → Type 0
-DefersCasesAt l old new env matched earlier cases r = DefersCases (declared l) (bodies l) (rows l) l.below old new env matched earlier cases r
+DefersCasesAt l old new env matched earlier cases r = DefersCases (declared_at l) (bodies_at l) (rows_at l) l.below old new env matched earlier cases r

@@ -7,14 +7,14 @@ ghost use Rattle.ct_terms.specs.Occurrence.{uses_below};
 ghost use Rattle.ct_scope.specs.declared.stop.DeferredCall.{DeferredCall};
 ghost use Rattle.ct_compile.specs.Attempts.{MakesFirst, closed_core, closed_making, IsWaiting, AreWaiting, IsLastKnown};
 ghost use Rattle.ct_scope.specs.Calling.{same_call, call_of, IsState, IsUnknown};
-ghost use Rattle.ct_scope.specs.Deferral.{ended, GoesOn, WhenTooDeep, IsCall, Waits};
+ghost use Rattle.ct_scope.specs.Deferral.{ended, UnlessFailed, WhenTooDeep, IsCall, WaitsForCall};
 ghost use Rattle.ct_operators.specs.Effect.{Stands, Within, Effect};
-ghost use Rattle.ct_operators.specs.Made.{HasTrees, Makes};
+ghost use Rattle.ct_operators.specs.Made.{HasTrees, MakesInOrder};
 ghost use Rattle.ct_scope.specs.Making.{makes_below};
 ghost use Rattle.ct_occurrence.specs.Marks.{worked_in};
 ghost use Rattle.ct_occurrence.specs.Noted.{IsOfFirst, IsNoted, HaveNotes};
-ghost use Rattle.ct_scope.specs.Ready.{given, MayCompile, Compiles};
-ghost use Rattle.ct_compile.specs.AtLevel.{IsNotedAt, IsStateAt, MayCompileAt};
+ghost use Rattle.ct_scope.specs.Compilable.{compiled_calls, MayCompile, Compiles};
+ghost use Rattle.ct_compile.specs.AtLevel.{IsNotedAt, IsStateAt, MayCompileAt, bodies_at, declared_at, rows_at};
 
 use crate::level::{Level, room_under};
 use crate::terms::compile_tree;
@@ -80,15 +80,15 @@ fn attempt(
     requires state { IsStateAt level.now table.old known.old }
     requires ready { MayCompileAt level.now table.old [] (formula_of tree.now) }
     requires noted { IsNotedAt level.now (formula_of tree.now) notes.now }
-    requires waiting { AreWaiting level.now.scope.now.sig (map formula_of level.now.scope.now.bodies) (worked_in level.now.definitions.now) level.now.below (formula_of tree.now) table.old calls.now }
+    requires waiting { AreWaiting (declared_at level.now) (bodies_at level.now) (rows_at level.now) level.now.below (formula_of tree.now) table.old calls.now }
     ensures effect { (allowed : List CoreTree)
-        → Within allowed (closed_core level.now.scope.now.sig (map formula_of level.now.scope.now.bodies) level.now.below (formula_of tree.now))
-        → Effect level.now.scope.now.sig allowed table.old table.new (IsErrOf (ended result) TermError.Full) }
-    ensures makes { GoesOn result (MakesFirst table.old (closed_making level.now.scope.now.sig (map formula_of level.now.scope.now.bodies) level.now.below (formula_of tree.now)) table.new) }
-    ensures state { GoesOn result (IsStateAt level.now table.new known.new) }
-    ensures waits { WhenTooDeep result (IsWaiting level.now.scope.now.sig (map formula_of level.now.scope.now.bodies) (worked_in level.now.definitions.now) level.now.below (formula_of tree.now) table.new) }
-    ensures all { calls.now ≡ [] → IfOk result (λ u. Stands table.new u (closed_core level.now.scope.now.sig (map formula_of level.now.scope.now.bodies) level.now.below (formula_of tree.now))
-        × HasTrees table.new (closed_making level.now.scope.now.sig (map formula_of level.now.scope.now.bodies) level.now.below (formula_of tree.now))) }
+        → Within allowed (closed_core (declared_at level.now) (bodies_at level.now) level.now.below (formula_of tree.now))
+        → Effect (declared_at level.now) allowed table.old table.new (IsErrOf (ended result) TermError.Full) }
+    ensures makes { UnlessFailed result (MakesFirst table.old (closed_making (declared_at level.now) (bodies_at level.now) level.now.below (formula_of tree.now)) table.new) }
+    ensures state { UnlessFailed result (IsStateAt level.now table.new known.new) }
+    ensures waits { WhenTooDeep result (IsWaiting (declared_at level.now) (bodies_at level.now) (rows_at level.now) level.now.below (formula_of tree.now) table.new) }
+    ensures all { calls.now ≡ [] → IfOk result (λ u. Stands table.new u (closed_core (declared_at level.now) (bodies_at level.now) level.now.below (formula_of tree.now))
+        × HasTrees table.new (closed_making (declared_at level.now) (bodies_at level.now) level.now.below (formula_of tree.now))) }
     ensures unknown { WhenTooDeep result (λ call. IsUnknown known.new call) }
     ensures recorded { IfOk result (λ term. IsLastKnown known.new calls.now term) }
 {
@@ -108,22 +108,22 @@ fn compile_call_first(
     table: &mut TermTable,
     call: &DeferredCall,
 ) -> Result<TermId, Stop>
-    requires state { IsState level.now.scope.now.sig (map formula_of level.now.scope.now.bodies) call.now.definition.0 (worked_in level.now.definitions.now) table.old known.old }
-    requires call { (trees : List CoreTree) × IsCall level.now.scope.now.sig (map formula_of level.now.scope.now.bodies) (worked_in level.now.definitions.now) table.old call.now trees }
-    requires noted { HaveNotes level.now.scope.now.sig (map formula_of level.now.scope.now.bodies) (worked_in level.now.definitions.now) }
+    requires state { IsState (declared_at level.now) (bodies_at level.now) call.now.definition.0 (rows_at level.now) table.old known.old }
+    requires call { (trees : List CoreTree) × IsCall (declared_at level.now) (bodies_at level.now) (rows_at level.now) table.old call.now trees }
+    requires noted { HaveNotes (declared_at level.now) (bodies_at level.now) (rows_at level.now) }
     ensures effect { (trees : List CoreTree) (allowed : List CoreTree)
-        → IsCall level.now.scope.now.sig (map formula_of level.now.scope.now.bodies) (worked_in level.now.definitions.now) table.old call.now trees
-        → Within allowed (given level.now.scope.now.sig (map formula_of level.now.scope.now.bodies) (suc call.now.definition.0) call.now.definition trees)
-        → Effect level.now.scope.now.sig allowed table.old table.new (IsErrOf (ended result) TermError.Full) }
+        → IsCall (declared_at level.now) (bodies_at level.now) (rows_at level.now) table.old call.now trees
+        → Within allowed (compiled_calls (declared_at level.now) (bodies_at level.now) (suc call.now.definition.0) call.now.definition trees)
+        → Effect (declared_at level.now) allowed table.old table.new (IsErrOf (ended result) TermError.Full) }
     ensures makes { (trees : List CoreTree)
-        → IsCall level.now.scope.now.sig (map formula_of level.now.scope.now.bodies) (worked_in level.now.definitions.now) table.old call.now trees
-        → IfOk result (λ u. Makes table.old (makes_below level.now.scope.now.sig (map formula_of level.now.scope.now.bodies) (suc call.now.definition.0) call.now.definition trees) table.new) }
+        → IsCall (declared_at level.now) (bodies_at level.now) (rows_at level.now) table.old call.now trees
+        → IfOk result (λ u. MakesInOrder table.old (makes_below (declared_at level.now) (bodies_at level.now) (suc call.now.definition.0) call.now.definition trees) table.new) }
     ensures waits { (trees : List CoreTree)
-        → IsCall level.now.scope.now.sig (map formula_of level.now.scope.now.bodies) (worked_in level.now.definitions.now) table.old call.now trees
-        → WhenTooDeep result (Waits level.now.scope.now.sig (map formula_of level.now.scope.now.bodies) (worked_in level.now.definitions.now) call.now.definition.0 table.old table.new
-        (makes_below level.now.scope.now.sig (map formula_of level.now.scope.now.bodies) (suc call.now.definition.0) call.now.definition trees)
-        (λ allowed. Within allowed (given level.now.scope.now.sig (map formula_of level.now.scope.now.bodies) (suc call.now.definition.0) call.now.definition trees))) }
-    ensures state { GoesOn result (IsState level.now.scope.now.sig (map formula_of level.now.scope.now.bodies) call.now.definition.0 (worked_in level.now.definitions.now) table.new known.new) }
+        → IsCall (declared_at level.now) (bodies_at level.now) (rows_at level.now) table.old call.now trees
+        → WhenTooDeep result (WaitsForCall (declared_at level.now) (bodies_at level.now) (rows_at level.now) call.now.definition.0 table.old table.new
+        (makes_below (declared_at level.now) (bodies_at level.now) (suc call.now.definition.0) call.now.definition trees)
+        (λ allowed. Within allowed (compiled_calls (declared_at level.now) (bodies_at level.now) (suc call.now.definition.0) call.now.definition trees))) }
+    ensures state { UnlessFailed result (IsState (declared_at level.now) (bodies_at level.now) call.now.definition.0 (rows_at level.now) table.new known.new) }
     ensures unknown { WhenTooDeep result (λ call. IsUnknown known.new call) }
     ensures recorded { IfOk result (λ term. get same_call known.new (call_of call.now.definition call.now.bounds) ≡ Some term) }
 {

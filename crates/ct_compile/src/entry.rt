@@ -8,7 +8,7 @@ ghost use Rattle.ct_terms.specs.FormulaSorts.{IsSorted, AreSound};
 ghost use Rattle.ct_terms.specs.TreeFormula.{formula_of};
 ghost use Rattle.ct_terms.specs.Compiled.{core_of};
 ghost use Rattle.ct_operators.specs.Effect.{IsPrefix, DoNotFit};
-ghost use Rattle.ct_operators.specs.Made.{Makes};
+ghost use Rattle.ct_operators.specs.Made.{MakesInOrder};
 ghost use Rattle.ct_scope.specs.Making.{making_of};
 
 use crate::deferring::compile_deferring;
@@ -50,7 +50,7 @@ pub fn compile(
         → (u : TermId) × (u.0 ≤ t.0) × (term_at table.new u ≡ s)) }
 
     // The terms are made in order: what is bound before the body, what stands under a term before the term, from left to right.
-    ensures order { IfOk result (λ t. Makes table.old (making_of scope.now.sig (map formula_of scope.now.bodies) [] (formula_of tree.now)) table.new) }
+    ensures order { IfOk result (λ t. MakesInOrder table.old (making_of scope.now.sig (map formula_of scope.now.bodies) [] (formula_of tree.now)) table.new) }
 
     // The subterms of the core term that the table did not have are too many.
     ensures full { IsErrOf result TermError.Full → (trees : List CoreTree)

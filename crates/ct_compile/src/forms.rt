@@ -1,7 +1,7 @@
 //! Operators: which one a formula is, and the formulas under it.
 ghost use Rattle.std.specs.Prelude.{◌≡◌, true, false, IfSome, IfNone};
 ghost use Rattle.ct_terms.specs.TreeFormula.{formula_of, formulas_of_trees};
-ghost use Rattle.ct_occurrence.specs.Plain.{is_plain, children_of};
+ghost use Rattle.ct_occurrence.specs.Plain.{is_plain, formulas_under};
 ghost use Rattle.ct_operators.specs.Forms.{operator_for};
 
 use ct_operators::Operator;
@@ -12,7 +12,7 @@ use std::slice;
 pub(crate) fn operands(tree: &Tree) -> Option<(Operator, &[Tree])>
     ensures plain { IfSome result (λ found. is_plain (formula_of tree.now) ≡ true) }
     ensures operator { IfSome result (λ found. operator_for (formula_of tree.now) ≡ found.0) }
-    ensures under { IfSome result (λ found. children_of (formula_of tree.now) ≡ formulas_of_trees found.1.now) }
+    ensures under { IfSome result (λ found. formulas_under (formula_of tree.now) ≡ formulas_of_trees found.1.now) }
     ensures other { IfNone result (is_plain (formula_of tree.now) ≡ false) }
 {
     match tree {

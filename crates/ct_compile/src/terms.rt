@@ -3,18 +3,18 @@ ghost use Rattle.std.specs.Prelude.{◌≡◌, ◌<◌, true, length, List, [], 
 ghost use Rattle.ct_sorts.specs.declared.ids.SortId.{SortId};
 ghost use Rattle.ct_terms.specs.CoreTree.{CoreTree};
 ghost use Rattle.ct_terms.specs.CoreSorts.{HasTreeSort};
-ghost use Rattle.ct_operators.specs.Effect.{Stands, IsKept, IsPrefix, Effect};
+ghost use Rattle.ct_operators.specs.Effect.{Stands, IsSoundTable, IsPrefix, Effect};
 ghost use Rattle.ct_terms.specs.Formula.{Var, Ite, Def, Let, Match, no_formulas, with_formula, bind as bound_over};
 ghost use Rattle.ct_terms.specs.TreeFormula.{formula_of, formulas_of_trees};
 ghost use Rattle.ct_scope.specs.Calling.{IsUnknown};
-ghost use Rattle.ct_scope.specs.Deferral.{ended, GoesOn, WhenTooDeep};
+ghost use Rattle.ct_scope.specs.Deferral.{ended, UnlessFailed, WhenTooDeep};
 ghost use Rattle.ct_occurrence.specs.CaseFormula.{cases_of_trees};
 ghost use Rattle.ct_scope.specs.Matching.{bound_by};
-ghost use Rattle.ct_occurrence.specs.Matching.{IsDeclared};
+ghost use Rattle.ct_occurrence.specs.Matching.{IsPatternDeclared};
 ghost use Rattle.ct_occurrence.specs.declared.notes.Notes.{Notes};
-ghost use Rattle.ct_occurrence.specs.Plain.{is_plain, children_of};
+ghost use Rattle.ct_occurrence.specs.Plain.{is_plain, formulas_under};
 ghost use Rattle.ct_operators.specs.Forms.{operator_for};
-ghost use Rattle.ct_scope.specs.Ready.{IsBound, IsThere};
+ghost use Rattle.ct_scope.specs.Compilable.{IsBound, IsThere};
 ghost use Rattle.ct_compile.specs.AtLevel.{AreNotedAt, AreNotedCasesAt, AreNotedWhereAt, BindsAt, CompilesAllAt, CompilesAt, CompilesCasesAt, DefersAllAt, DefersAt, DefersBoundAt, DefersCasesAt, IsNotedAt, IsStateAt, MayBindAt, MayCasesAt, MayCompileAllAt, MayCompileAt};
 
 use crate::forms::operands;
@@ -44,7 +44,7 @@ pub(crate) fn compile_tree(
     requires noted { IsNotedAt level.now (formula_of tree.now) notes.now }
     ensures outcome { CompilesAt level.now table.old table.new env.old (formula_of tree.now) (ended result) }
     ensures waits { DefersAt level.now table.old table.new env.old (formula_of tree.now) result }
-    ensures state { GoesOn result (IsStateAt level.now table.new known.new) }
+    ensures state { UnlessFailed result (IsStateAt level.now table.new known.new) }
     ensures unknown { WhenTooDeep result (λ call. IsUnknown known.new call) }
     ensures back { env.new ≡ env.old }
 {
@@ -85,13 +85,13 @@ fn compile_plain(
 ) -> Result<TermId, Stop>
     requires operator { operator_for (formula_of tree.now) ≡ operator }
     requires plain { is_plain (formula_of tree.now) ≡ true }
-    requires under { children_of (formula_of tree.now) ≡ formulas_of_trees trees.now }
+    requires under { formulas_under (formula_of tree.now) ≡ formulas_of_trees trees.now }
     requires state { IsStateAt level.now table.old known.old }
     requires ready { MayCompileAt level.now table.old env.old (formula_of tree.now) }
     requires noted { IsNotedAt level.now (formula_of tree.now) notes.now }
     ensures outcome { CompilesAt level.now table.old table.new env.old (formula_of tree.now) (ended result) }
     ensures waits { DefersAt level.now table.old table.new env.old (formula_of tree.now) result }
-    ensures state { GoesOn result (IsStateAt level.now table.new known.new) }
+    ensures state { UnlessFailed result (IsStateAt level.now table.new known.new) }
     ensures unknown { WhenTooDeep result (λ call. IsUnknown known.new call) }
     ensures back { env.new ≡ env.old }
 {
@@ -116,7 +116,7 @@ fn compile_all(
     requires noted { AreNotedAt level.now (formulas_of_trees trees.now) notes.now }
     ensures outcome { CompilesAllAt level.now table.old table.new env.old operator (formulas_of_trees trees.now) (ended result) }
     ensures waits { DefersAllAt level.now table.old table.new env.old operator (formulas_of_trees trees.now) result }
-    ensures state { GoesOn result (IsStateAt level.now table.new known.new) }
+    ensures state { UnlessFailed result (IsStateAt level.now table.new known.new) }
     ensures unknown { WhenTooDeep result (λ call. IsUnknown known.new call) }
     ensures back { env.new ≡ env.old }
 {
@@ -160,7 +160,7 @@ fn compile_choice(
     requires noted { IsNotedAt level.now (Ite (formula_of condition.now) (formula_of first.now) (formula_of second.now)) notes.now }
     ensures outcome { CompilesAt level.now table.old table.new env.old (Ite (formula_of condition.now) (formula_of first.now) (formula_of second.now)) (ended result) }
     ensures waits { DefersAt level.now table.old table.new env.old (Ite (formula_of condition.now) (formula_of first.now) (formula_of second.now)) result }
-    ensures state { GoesOn result (IsStateAt level.now table.new known.new) }
+    ensures state { UnlessFailed result (IsStateAt level.now table.new known.new) }
     ensures unknown { WhenTooDeep result (λ call. IsUnknown known.new call) }
     ensures back { env.new ≡ env.old }
 {
@@ -184,7 +184,7 @@ fn variable(
 ) -> Result<TermId, TermError>
     requires ready { MayCompileAt level.now table.old env.now (Var i) }
     ensures outcome { CompilesAt level.now table.old table.new env.now (Var i) result }
-    ensures grown { IsPrefix table.old table.new × IsKept level.now.scope.now.sig table.new }
+    ensures grown { IsPrefix table.old table.new × IsSoundTable level.now.scope.now.sig table.new }
 {
     let bound = env.at(i as usize);
     of_bound(&level.scope.sig, table, bound)
@@ -207,7 +207,7 @@ fn compile_let(
     requires noted { IsNotedAt level.now (Let (formulas_of_trees trees.now) (formula_of body.now)) notes.now }
     ensures outcome { CompilesAt level.now table.old table.new env.old (Let (formulas_of_trees trees.now) (formula_of body.now)) (ended result) }
     ensures waits { DefersAt level.now table.old table.new env.old (Let (formulas_of_trees trees.now) (formula_of body.now)) result }
-    ensures state { GoesOn result (IsStateAt level.now table.new known.new) }
+    ensures state { UnlessFailed result (IsStateAt level.now table.new known.new) }
     ensures unknown { WhenTooDeep result (λ call. IsUnknown known.new call) }
     ensures back { env.new ≡ env.old }
 {
@@ -238,7 +238,7 @@ fn compile_call(
     requires noted { IsNotedAt level.now (Def k (formulas_of_trees trees.now)) notes.now }
     ensures outcome { CompilesAt level.now table.old table.new env.old (Def k (formulas_of_trees trees.now)) (ended result) }
     ensures waits { DefersAt level.now table.old table.new env.old (Def k (formulas_of_trees trees.now)) result }
-    ensures state { GoesOn result (IsStateAt level.now table.new known.new) }
+    ensures state { UnlessFailed result (IsStateAt level.now table.new known.new) }
     ensures unknown { WhenTooDeep result (λ call. IsUnknown known.new call) }
     ensures back { env.new ≡ env.old }
 {
@@ -286,7 +286,7 @@ fn compile_bound(
     requires noted { AreNotedWhereAt level.now flags.now (formulas_of_trees trees.now) notes.now }
     ensures outcome { BindsAt level.now table.old table.new env.old flags.now (formulas_of_trees trees.now) (ended result) }
     ensures waits { DefersBoundAt level.now table.old table.new env.old flags.now (formulas_of_trees trees.now) result }
-    ensures state { GoesOn result (IsStateAt level.now table.new known.new) }
+    ensures state { UnlessFailed result (IsStateAt level.now table.new known.new) }
     ensures unknown { WhenTooDeep result (λ call. IsUnknown known.new call) }
     ensures back { env.new ≡ env.old }
 {
@@ -327,7 +327,7 @@ fn compile_match(
     requires noted { IsNotedAt level.now (Match (formula_of tree.now) (cases_of_trees cases.now)) notes.now }
     ensures outcome { CompilesAt level.now table.old table.new env.old (Match (formula_of tree.now) (cases_of_trees cases.now)) (ended result) }
     ensures waits { DefersAt level.now table.old table.new env.old (Match (formula_of tree.now) (cases_of_trees cases.now)) result }
-    ensures state { GoesOn result (IsStateAt level.now table.new known.new) }
+    ensures state { UnlessFailed result (IsStateAt level.now table.new known.new) }
     ensures unknown { WhenTooDeep result (λ call. IsUnknown known.new call) }
     ensures back { env.new ≡ env.old }
 {
@@ -358,7 +358,7 @@ fn compile_cases(
     requires noted { AreNotedCasesAt level.now [] (cases_of_trees cases.now) notes.now }
     ensures outcome { CompilesCasesAt level.now table.old table.new env.old matched [] (cases_of_trees cases.now) (ended result) }
     ensures waits { DefersCasesAt level.now table.old table.new env.old matched [] (cases_of_trees cases.now) result }
-    ensures state { GoesOn result (IsStateAt level.now table.new known.new) }
+    ensures state { UnlessFailed result (IsStateAt level.now table.new known.new) }
     ensures unknown { WhenTooDeep result (λ call. IsUnknown known.new call) }
     ensures back { env.new ≡ env.old }
 {
@@ -401,12 +401,12 @@ fn compile_case(
     notes: &[Notes],
 ) -> Result<TermId, Stop>
     requires state { IsStateAt level.now table.old known.old }
-    requires declared { IsDeclared level.now.scope.now.sig pattern }
+    requires declared { IsPatternDeclared level.now.scope.now.sig pattern }
     requires ready { MayCompileAt level.now table.old (bound_over (bound_by level.now.scope.now.sig pattern matched) env.old) (formula_of body.now) }
     requires noted { IsNotedAt level.now (formula_of body.now) notes.now }
     ensures outcome { CompilesAt level.now table.old table.new (bound_over (bound_by level.now.scope.now.sig pattern matched) env.old) (formula_of body.now) (ended result) }
     ensures waits { DefersAt level.now table.old table.new (bound_over (bound_by level.now.scope.now.sig pattern matched) env.old) (formula_of body.now) result }
-    ensures state { GoesOn result (IsStateAt level.now table.new known.new) }
+    ensures state { UnlessFailed result (IsStateAt level.now table.new known.new) }
     ensures unknown { WhenTooDeep result (λ call. IsUnknown known.new call) }
     ensures back { env.new ≡ env.old }
 {
@@ -476,7 +476,7 @@ fn bound_at(bounds: &[Bound], i: usize) -> Bound
 
 // The term of what is bound.
 fn of_bound(sig: &Signature, table: &mut TermTable, bound: Bound) -> Result<TermId, TermError>
-    requires kept { IsKept sig.now table.old }
+    requires kept { IsSoundTable sig.now table.old }
     requires there { IsThere bound }
     requires bound { (tree : CoreTree) × (sort : SortId) × IsBound table.old bound tree × HasTreeSort sig.now tree sort }
     ensures core { (tree : CoreTree) → IsBound table.old bound tree → IfOk result (λ t. Stands table.new t tree) }

@@ -11,7 +11,7 @@ use Rattle.ct_values.specs.Value.{Value}
 use Rattle.ct_values.specs.TruthValue.{is_true}
 use Rattle.ct_eval.specs.declared.interp.Interp.{Interp}
 use Rattle.ct_eval.specs.TreeValue.{tree_value}
-use Rattle.ct_eval.specs.Truth.{Holds, truth_of}
+use Rattle.ct_eval.specs.Truth.{Holds, truth_value}
 use Rattle.ct_log.specs.Acceptance.{Passes}
 use Rattle.ct_log.specs.Recorded.{Derived, IsDerivation}
 use Rattle.ct_checker.specs.Rejection.{EndsEmpty}
@@ -21,20 +21,20 @@ use Rattle.ct_engine.proofs.ListLemmas.{All-from, Contains-map, Contains-map_cas
 
 module _ (theorems : ModelTheorems) (d : Declarations) (i : Interp) where
   -- a term is true where its tree is
-  by_tree : (terms : Terms) (t : TermId) → truth_of d i terms t ≡ is_true i.graph (tree_value d i (term_at terms t))
+  by_tree : (terms : Terms) (t : TermId) → truth_value d i terms t ≡ is_true i.graph (tree_value d i (term_at terms t))
   by_tree terms t = ap (λ (v : Value). is_true i.graph v) (theorems.tree d i terms t)
 
   -- the trees of assertions that hold are true
   trees_hold : (terms : Terms) (asserts : List TermId) → Holds d i terms asserts → (tree : CoreTree) → Contains (terms_at terms asserts) tree → is_true i.graph (tree_value d i tree) ≡ true
   trees_hold terms asserts holds tree inside =
       let found = Contains-map_cases (term_at terms) asserts tree inside in
-      let here : truth_of d i terms found.0 ≡ true = All-contains (λ (t : TermId). truth_of d i terms t ≡ true) asserts found.0 holds found.1 in
+      let here : truth_value d i terms found.0 ≡ true = All-contains (λ (t : TermId). truth_value d i terms t ≡ true) asserts found.0 holds found.1 in
       subst (λ (s : CoreTree). is_true i.graph (tree_value d i s) ≡ true) found.2 (sym (by_tree terms found.0) ∙ here)
 
   -- assertions hold where they are the same terms
   Holds-same : (terms other : Terms) (asserts others : List TermId) → terms_at other others ≡ terms_at terms asserts → Holds d i terms asserts → Holds d i other others
   Holds-same terms other asserts others same holds =
-      All-from (λ (t : TermId). truth_of d i other t ≡ true) others (λ t inside.
+      All-from (λ (t : TermId). truth_value d i other t ≡ true) others (λ t inside.
       by_tree other t ∙ trees_hold terms asserts holds (term_at other t)
       (subst (λ (trees : List CoreTree). Contains trees (term_at other t)) same (Contains-map (term_at other) others t inside)))
 

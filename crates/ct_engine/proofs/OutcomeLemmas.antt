@@ -4,7 +4,7 @@ use Rattle.ct_sorts.specs.Declarations.{Declarations}
 use Rattle.ct_terms.specs.declared.ids.TermId.{TermId}
 use Rattle.ct_terms.specs.declared.ids.Lit.{Lit}
 use Rattle.ct_terms.specs.Terms.{Terms, AreSorted}
-use Rattle.ct_closure.specs.ClosedTable.{Stands, IsClosedTable, terms_at}
+use Rattle.ct_closure.specs.ClosedTable.{HasTree, IsClosedTable, terms_at}
 use Rattle.ct_closure.specs.Closed.{InClosure, HasVariables}
 use Rattle.ct_theory.specs.Entailment.{IsSaturation}
 use Rattle.ct_engine.specs.declared.course.Course.{Course}
@@ -53,7 +53,7 @@ pub IsTaskOf-kept : (d : Declarations) (table : Terms) (asserts : List TermId) (
 IsTaskOf-kept d table asserts budget old new same task = record {
   declarations = same.declarations ∙ task.declarations;
   asserted = ap (λ (ts : Terms). terms_at ts new.derivation.asserts) same.terms ∙ ap (λ (ids : List TermId). terms_at old.derivation.rec.terms ids) same.asserts ∙ task.asserted;
-  closure = λ t. subst (λ (ts : Terms). Stands ts t ↔ InClosure d (terms_at table asserts) t) (sym same.terms) (task.closure t);
+  closure = λ t. subst (λ (ts : Terms). HasTree ts t ↔ InClosure d (terms_at table asserts) t) (sym same.terms) (task.closure t);
   variables = subst (HasVariables d (terms_at table asserts)) (sym same.variables) task.variables;
   budget_is = same.budget ∙ task.budget_is;
   sorted = subst (AreSorted d) (sym same.terms) task.sorted;

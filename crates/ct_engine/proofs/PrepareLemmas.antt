@@ -10,7 +10,7 @@ use Rattle.ct_terms.specs.Literal.{IsStripped}
 use Rattle.ct_terms.specs.Terms.{Terms, IsBoolean, AreOrdered, AreSorted}
 use Rattle.ct_terms.specs.CoreTree.{CoreTree, term_at}
 use Rattle.ct_closure.specs.Closed.{InClosure, HasMoreThan, HasVariables, most_closure_terms}
-use Rattle.ct_closure.specs.ClosedTable.{Stands, IsClosedTable, ClosureValue, terms_at}
+use Rattle.ct_closure.specs.ClosedTable.{HasTree, IsClosedTable, ClosureValue, terms_at}
 use Rattle.ct_log.specs.declared.line.Line.{Line}
 use Rattle.ct_log.specs.Acceptance.{AreAccepted, clauses_of}
 use Rattle.ct_sat.specs.declared.clause.StepClause.{StepClause}
@@ -50,7 +50,7 @@ trees_longer theorem table longer asserts (rest, is) ordered all =
     (λ t within. ap (λ (ts : Terms). term_at ts t) is ∙ theorem table rest t (subst AreOrdered is ordered) within) all
 
 -- a closure that a table of so few terms holds has no more
-pub closure_fits : (d : Declarations) (roots : List CoreTree) (table : Terms) → ((t : CoreTree) → Stands table t ↔ InClosure d roots t) → length table ≤ most_closure_terms → HasMoreThan d roots most_closure_terms → ⊥
+pub closure_fits : (d : Declarations) (roots : List CoreTree) (table : Terms) → ((t : CoreTree) → HasTree table t ↔ InClosure d roots t) → length table ≤ most_closure_terms → HasMoreThan d roots most_closure_terms → ⊥
 closure_fits d roots table exact few more =
     let count : length more.members ≤ length table = few_trees table more.members more.different (λ t h. (exact t).1 (more.inside t h)) in
     let many : most_closure_terms < length more.members = more.many in
@@ -68,7 +68,7 @@ pub IsTaskOf-begun : (d : Declarations) (table closed : Terms) (asserts : List T
 IsTaskOf-begun d table closed asserts budget closure course same closed_is begun_is over counted = record {
   declarations = begun_is.declarations;
   asserted = ap (λ (ts : Terms). terms_at ts course.derivation.asserts) begun_is.terms_are ∙ ap (λ (ids : List TermId). terms_at closed ids) begun_is.asserts_are ∙ same;
-  closure = λ t. subst (λ (ts : Terms). Stands ts t ↔ InClosure d (terms_at table asserts) t) (sym begun_is.terms_are) (closed_is.exact t);
+  closure = λ t. subst (λ (ts : Terms). HasTree ts t ↔ InClosure d (terms_at table asserts) t) (sym begun_is.terms_are) (closed_is.exact t);
   variables = subst (HasVariables d (terms_at table asserts)) (sym counted) closed_is.variables;
   budget_is = ap (λ (s : SearchState). s.budget) over.only_begun;
   sorted = subst (AreSorted d) (sym begun_is.terms_are) closed_is.sorted;

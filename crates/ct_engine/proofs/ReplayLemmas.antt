@@ -16,7 +16,7 @@ use Rattle.ct_sat.specs.Up.{Up, IsContradictory, IsLowest, negative_of}
 use Rattle.ct_sat.specs.State.{SearchState, clauses_of as clauses_in, literals_of, IsSound, IsConflict, IsQuiet}
 use Rattle.ct_sat.specs.Decision.{with_decision}
 use Rattle.ct_sat.specs.Learning.{LearnsClause}
-use Rattle.ct_engine.specs.Moves.{Choice, Replay, FollowsIn, AreValued, IsTaught, Decides, Adds, Learns, decisions_of}
+use Rattle.ct_engine.specs.Moves.{Choice, Replay, FollowsIn, AreAssigned, IsTaught, Decides, Adds, Learns, decisions_of}
 use Rattle.ct_engine.specs.Progress.{IsReplayOf}
 use Rattle.ct_engine.specs.Theorems.{UnitTheorems}
 use Rattle.ct_engine.proofs.ListLemmas.{All-at, slice_get_some, slice_get-push_cases, slice_get-take, slice_get-take_below, take-push}
@@ -51,7 +51,7 @@ IsReplayOf-appended search more replay sound is = record {
   valued = λ k choice d at stands.
       let within : d.index < length search.trail = decided_within search k d sound stands in
       let part : take d.index (search.trail ++ more) ≡ take d.index search.trail = take-append-le d.index search.trail more (omega arith) in
-      subst (λ (trail : List Lit). AreValued search.variables (Contains trail) choice.valued) (sym part) (is.valued k choice d at stands);
+      subst (λ (trail : List Lit). AreAssigned search.variables (Contains trail) choice.valued) (sym part) (is.valued k choice d at stands);
 }
 
 -- a search with one more clause has the state with this clause
@@ -97,11 +97,11 @@ IsReplayOf-decided search replay t sound is = record {
     long : length replay.decided ≡ length search.decided
     long = decided_long search replay is
 
-    by : (k : ℕ) (c : Choice) (d : Decided) → (slice_get replay.decided k ≡ Some c) ⊎ ((k ≡ length replay.decided) × (choice ≡ c)) → (slice_get search.decided k ≡ Some d) ⊎ ((k ≡ length search.decided) × (decision ≡ d)) → AreValued search.variables (Contains (take d.index (search.trail ++ negative_of t ∷ []))) c.valued
+    by : (k : ℕ) (c : Choice) (d : Decided) → (slice_get replay.decided k ≡ Some c) ⊎ ((k ≡ length replay.decided) × (choice ≡ c)) → (slice_get search.decided k ≡ Some d) ⊎ ((k ≡ length search.decided) × (decision ≡ d)) → AreAssigned search.variables (Contains (take d.index (search.trail ++ negative_of t ∷ []))) c.valued
     by k c d (inl at) (inl stands) =
         let within : d.index < length search.trail = decided_within search k d sound stands in
         let part : take d.index (search.trail ++ negative_of t ∷ []) ≡ take d.index search.trail = take-append-le d.index search.trail (negative_of t ∷ []) (omega arith) in
-        subst (λ (trail : List Lit). AreValued search.variables (Contains trail) c.valued) (sym part) (is.valued k c d at stands)
+        subst (λ (trail : List Lit). AreAssigned search.variables (Contains trail) c.valued) (sym part) (is.valued k c d at stands)
     by k c d (inl at) (inr last) =
         let within : k < length replay.decided = slice_get_within replay.decided k c at in
         let same : k ≡ length search.decided = last.0 in
@@ -115,11 +115,11 @@ IsReplayOf-decided search replay t sound is = record {
     by k c d (inr one) (inr other) =
         let exact = valued_terms search.variables search.trail sound.trail_over in
         let part : take (length search.trail) (search.trail ++ negative_of t ∷ []) ≡ search.trail = take-push search.trail (negative_of t) in
-        let whole : AreValued search.variables (Contains (take (length search.trail) (search.trail ++ negative_of t ∷ []))) choice.valued =
-        subst (λ (trail : List Lit). AreValued search.variables (Contains trail) choice.valued) (sym part) exact in
-        let with_choice : AreValued search.variables (Contains (take decision.index (search.trail ++ negative_of t ∷ []))) c.valued =
-        subst (λ (x : Choice). AreValued search.variables (Contains (take decision.index (search.trail ++ negative_of t ∷ []))) x.valued) one.1 whole in
-        subst (λ (x : Decided). AreValued search.variables (Contains (take x.index (search.trail ++ negative_of t ∷ []))) c.valued) other.1 with_choice
+        let whole : AreAssigned search.variables (Contains (take (length search.trail) (search.trail ++ negative_of t ∷ []))) choice.valued =
+        subst (λ (trail : List Lit). AreAssigned search.variables (Contains trail) choice.valued) (sym part) exact in
+        let with_choice : AreAssigned search.variables (Contains (take decision.index (search.trail ++ negative_of t ∷ []))) c.valued =
+        subst (λ (x : Choice). AreAssigned search.variables (Contains (take decision.index (search.trail ++ negative_of t ∷ []))) x.valued) one.1 whole in
+        subst (λ (x : Decided). AreAssigned search.variables (Contains (take x.index (search.trail ++ negative_of t ∷ []))) c.valued) other.1 with_choice
 
 -- the lowest variable may be decided
 pub decides : UnitTheorems → (search : SearchState) (replay : Replay) (t : TermId) → IsSound search → IsQuiet search → IsReplayOf search replay → IsLowest search.variables (Contains search.trail) t → Decides search.variables replay t (record replay { decided = replay.decided ++ record { literal = negative_of t; valued = map (λ (l : Lit). l.term) search.trail } ∷ [] })
@@ -148,7 +148,7 @@ IsReplayOf-learned search replay number keep lits next sound stands is = record 
       let before : slice_get search.decided k ≡ Some d = slice_get-take keep search.decided k d there in
       let earlier : d.index < next.index = sound.decisions.in_order k keep d next below before stands in
       let part : take d.index (take next.index search.trail) ≡ take d.index search.trail = take-take d.index next.index search.trail (omega arith) in
-      subst (λ (trail : List Lit). AreValued search.variables (Contains trail) choice.valued) (sym part)
+      subst (λ (trail : List Lit). AreAssigned search.variables (Contains trail) choice.valued) (sym part)
       (is.valued k choice d (slice_get-take keep replay.decided k choice at) before);
 }
 

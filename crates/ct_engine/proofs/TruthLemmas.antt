@@ -13,7 +13,7 @@ use Rattle.ct_terms.specs.declared.term.Core.{Core}
 use Rattle.ct_terms.specs.declared.term.Core.TheVariants as core
 use Rattle.ct_terms.specs.Literal.{opposite, literal_step, literal_below, literal_of, IsStripped}
 use Rattle.ct_terms.specs.Clause.{Clause, opposites}
-use Rattle.ct_terms.specs.Compiled.{ctors_of_sort}
+use Rattle.ct_terms.specs.Compiled.{ctor_ids_of_sort}
 use Rattle.ct_terms.specs.Terms.{Terms, Has, IsBoolean, IsOfSort, AreOrdered, AreSingle, AreSorted, BeginsWithTruths}
 use Rattle.ct_rules.specs.declared.equation.Equation.{Equation}
 use Rattle.ct_rules.specs.Rules.{Follows, by_negation, by_equation_out, truth_term}
@@ -334,7 +334,7 @@ module _ (d : Declarations) (terms : Terms) (asserts : List TermId) (literals : 
   tested t sort split =
       let structured = split.unsettled.structured in
       let cases = given.splits t sort split in
-      let listed : ctors_of_sort d sort ≡ structured.0.ctors = ap (λ (o : Option Sort). unwrap_or (option_map (λ (x : Sort). x.ctors) o) []) structured.1 in
+      let listed : ctor_ids_of_sort d sort ≡ structured.0.ctors = ap (λ (o : Option Sort). unwrap_or (option_map (λ (x : Sort). x.ctors) o) []) structured.1 in
       let tests = tests_of t structured.0.ctors (λ c inside. (cases c (subst (λ (cs : List CtorId). Contains cs c) (sym listed) inside)).tested) in
       let found = given.initial (record { clause = tests.0; step = step.Exhaust t }) (record {
         initial = (sort, split);

@@ -7,9 +7,9 @@ use Rattle.ct_terms.specs.declared.ids.Lit.{Lit}
 use Rattle.ct_terms.specs.Literal.{opposite}
 use Rattle.ct_terms.specs.Clause.{Clause}
 use Rattle.ct_terms.specs.Propagation.{IsFalseIn, AreFalseIn}
-use Rattle.ct_sat.specs.Up.{HasValue, positive_of, negative_of}
+use Rattle.ct_sat.specs.Up.{IsAssigned, positive_of, negative_of}
 use Rattle.ct_sat.specs.State.{AreOver, IsConsistent}
-use Rattle.ct_engine.specs.Moves.{AreValued}
+use Rattle.ct_engine.specs.Moves.{AreAssigned}
 use Rattle.ct_engine.proofs.ListLemmas.{at-Contains, Contains-map, Contains-map_cases, Contains-first, Contains-rest}
 
 -- a sign and its opposite differ
@@ -31,52 +31,52 @@ with_sign : TermId → Bool → Lit
 with_sign t b = record { term = t; positive = b }
 
 -- the variable of a literal that is true has a value
-value_by : (has : Lit → Type 0) (t : TermId) (b : Bool) → has (record { term = t; positive = b }) → HasValue has t
+value_by : (has : Lit → Type 0) (t : TermId) (b : Bool) → has (record { term = t; positive = b }) → IsAssigned has t
 value_by has t true h = inl h
 value_by has t false h = inr h
 
-pub valued_by : (has : Lit → Type 0) (l : Lit) → has l → HasValue has l.term
+pub valued_by : (has : Lit → Type 0) (l : Lit) → has l → IsAssigned has l.term
 valued_by has l h = value_by has l.term l.positive h
 
 -- where the variable of a literal has a value, the literal is true or its opposite is
-true_or_false_by : (has : Lit → Type 0) (t : TermId) (b : Bool) → HasValue has t → has (record { term = t; positive = b }) ⊎ has (record { term = t; positive = not b })
+true_or_false_by : (has : Lit → Type 0) (t : TermId) (b : Bool) → IsAssigned has t → has (record { term = t; positive = b }) ⊎ has (record { term = t; positive = not b })
 true_or_false_by has t true (inl h) = inl h
 true_or_false_by has t true (inr h) = inr h
 true_or_false_by has t false (inl h) = inr h
 true_or_false_by has t false (inr h) = inl h
 
-pub true_or_false : (has : Lit → Type 0) (l : Lit) → HasValue has l.term → has l ⊎ has (opposite l)
+pub true_or_false : (has : Lit → Type 0) (l : Lit) → IsAssigned has l.term → has l ⊎ has (opposite l)
 true_or_false has l h = true_or_false_by has l.term l.positive h
 
 -- more is true, so at least the variables have a value that had one
-pub HasValue-more : (has more : Lit → Type 0) (t : TermId) → ((l : Lit) → has l → more l) → HasValue has t → HasValue more t
+pub HasValue-more : (has more : Lit → Type 0) (t : TermId) → ((l : Lit) → has l → more l) → IsAssigned has t → IsAssigned more t
 HasValue-more has more t wider (inl h) = inl (wider (positive_of t) h)
 HasValue-more has more t wider (inr h) = inr (wider (negative_of t) h)
 
 -- the terms of a trail over variables are exactly the variables with a value
-pub valued_terms : (variables : List TermId) (trail : List Lit) → AreOver variables trail → AreValued variables (Contains trail) (map (λ (l : Lit). l.term) trail)
+pub valued_terms : (variables : List TermId) (trail : List Lit) → AreOver variables trail → AreAssigned variables (Contains trail) (map (λ (l : Lit). l.term) trail)
 valued_terms variables trail over t = (forward, backward)
   where
-    forward : Contains (map (λ (l : Lit). l.term) trail) t → Contains variables t × HasValue (Contains trail) t
+    forward : Contains (map (λ (l : Lit). l.term) trail) t → Contains variables t × IsAssigned (Contains trail) t
     forward h =
         let found = Contains-map_cases (λ (l : Lit). l.term) trail t h in (
           subst (Contains variables) found.2 (All-contains (λ (l : Lit). Contains variables l.term) trail found.0 over found.1),
-          subst (HasValue (Contains trail)) found.2 (valued_by (Contains trail) found.0 found.1),
+          subst (IsAssigned (Contains trail)) found.2 (valued_by (Contains trail) found.0 found.1),
         )
 
-    backward : Contains variables t × HasValue (Contains trail) t → Contains (map (λ (l : Lit). l.term) trail) t
+    backward : Contains variables t × IsAssigned (Contains trail) t → Contains (map (λ (l : Lit). l.term) trail) t
     backward (inside, inl h) = Contains-map (λ (l : Lit). l.term) trail (positive_of t) h
     backward (inside, inr h) = Contains-map (λ (l : Lit). l.term) trail (negative_of t) h
 
 -- the same literals are true, so the same variables have a value
-pub AreValued-same : (variables : List TermId) (has other : Lit → Type 0) (valued : List TermId) → ((l : Lit) → has l → other l) → ((l : Lit) → other l → has l) → AreValued variables has valued → AreValued variables other valued
+pub AreValued-same : (variables : List TermId) (has other : Lit → Type 0) (valued : List TermId) → ((l : Lit) → has l → other l) → ((l : Lit) → other l → has l) → AreAssigned variables has valued → AreAssigned variables other valued
 AreValued-same variables has other valued to from exact t = (
   λ h. let both = (exact t).0 h in (both.0, HasValue-more has other t to both.1),
   λ h. (exact t).1 (h.0, HasValue-more other has t from h.1),
 )
 
 -- a clause has a true literal, or all of its literals are false, where all of its variables have a value
-pub true_literal : (trail : List Lit) (clause : Clause) → ((l : Lit) → Contains clause l → HasValue (Contains trail) l.term) → ((l : Lit) × Contains clause l × Contains trail l) ⊎ AreFalseIn trail clause
+pub true_literal : (trail : List Lit) (clause : Clause) → ((l : Lit) → Contains clause l → IsAssigned (Contains trail) l.term) → ((l : Lit) × Contains clause l × Contains trail l) ⊎ AreFalseIn trail clause
 true_literal trail [] valued = inr (All-nil (IsFalseIn trail))
 true_literal trail (l ∷ clause) valued =
     elim (true_or_false (Contains trail) l (valued l (Contains-first l clause))) [

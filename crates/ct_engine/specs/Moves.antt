@@ -11,7 +11,7 @@ use Rattle.ct_log.specs.declared.line.Line.{Line}
 use Rattle.ct_log.specs.declared.line.Step.{Step}
 use Rattle.ct_log.specs.declared.line.Step.TheVariants as step
 use Rattle.ct_log.specs.Acceptance.{clauses_of}
-use Rattle.ct_sat.specs.Up.{Up, IsContradictory, HasValue, IsLowest, negative_of}
+use Rattle.ct_sat.specs.Up.{Up, IsContradictory, IsAssigned, IsLowest, negative_of}
 use Rattle.ct_sat.specs.State.{AreVariables}
 use Rattle.ct_clauses.specs.Initial.{AreInitialLines}
 use Rattle.ct_engine.specs.declared.verdict.Move.{Move}
@@ -39,8 +39,8 @@ abbrev pub IsInconsistent : Replay → Type 0
 IsInconsistent replay = IsContradictory replay.clauses (FollowsIn replay)
 
 -- exactly these variables have a value
-abbrev pub AreValued : List TermId → (Lit → Type 0) → List TermId → Type 0
-AreValued variables has valued = (t : TermId) → Contains valued t ↔ (Contains variables t × HasValue has t)
+abbrev pub AreAssigned : List TermId → (Lit → Type 0) → List TermId → Type 0
+AreAssigned variables has valued = (t : TermId) → Contains valued t ↔ (Contains variables t × IsAssigned has t)
 
 -- the line has this number, counted from 1
 abbrev pub IsLineWith : List Line → ℕ → Line → Type 0
@@ -62,7 +62,7 @@ pub record Decides (variables : List TermId) (old : Replay) (t : TermId) (new : 
   pub consistent : IsInconsistent old → ⊥
   pub lowest : IsLowest variables (FollowsIn old) t
   pub valued : List TermId
-  pub exact : AreValued variables (FollowsIn old) valued
+  pub exact : AreAssigned variables (FollowsIn old) valued
   pub after : new ≡ record old { decided = old.decided ++ record { literal = negative_of t; valued = valued } ∷ [] }
 
 -- the clause of the line with this number is added: before any decision, or where all its literals are false
@@ -110,7 +110,7 @@ is_decision m = false
 
 -- some variable has no value
 abbrev pub LackValue : List TermId → (Lit → Type 0) → Type 0
-LackValue variables has = (t : TermId) × Contains variables t × (HasValue has t → ⊥)
+LackValue variables has = (t : TermId) × Contains variables t × (IsAssigned has t → ⊥)
 
 -- the record of a search that spent its budget of decisions. The lines are all initial lines over these terms and assertions,
 -- each once, and then lines of clauses that the theory gave or that were learned; the moves are legal from the clauses of the

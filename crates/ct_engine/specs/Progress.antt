@@ -7,7 +7,7 @@ use Rattle.ct_terms.specs.Clause.{Clause}
 use Rattle.ct_terms.specs.Terms.{Terms, AreSorted}
 use Rattle.ct_terms.specs.CoreTree.{CoreTree}
 use Rattle.ct_closure.specs.Closed.{InClosure, HasVariables}
-use Rattle.ct_closure.specs.ClosedTable.{Stands, IsClosedTable, AreRising, ClosureValue, terms_at}
+use Rattle.ct_closure.specs.ClosedTable.{HasTree, IsClosedTable, AreRising, ClosureValue, terms_at}
 use Rattle.ct_log.specs.declared.line.Line.{Line}
 use Rattle.ct_log.specs.Acceptance.{clauses_of}
 use Rattle.ct_log.specs.Recorded.{Derived}
@@ -26,7 +26,7 @@ use Rattle.ct_engine.specs.declared.outcome.Ending.TheVariants as ending
 use Rattle.ct_engine.specs.declared.outcome.Candidate.{Candidate}
 use Rattle.ct_engine.specs.declared.outcome.Outcome.{Outcome}
 use Rattle.ct_engine.specs.declared.outcome.Outcome.TheVariants as outcome
-use Rattle.ct_engine.specs.Moves.{Choice, Replay, AreValued, IsTaught, AreLegal, first_state, is_decision, decisions_of}
+use Rattle.ct_engine.specs.Moves.{Choice, Replay, AreAssigned, IsTaught, AreLegal, first_state, is_decision, decisions_of}
 use Rattle.ct_engine.specs.Saturated.{IsSaturated}
 use Rattle.ct_engine.specs.Verdict.{IsRefutation, IsSpending}
 
@@ -36,7 +36,7 @@ pub record IsReplayOf (search : SearchState) (replay : Replay) : Type 0 where
   pub clauses : replay.clauses ≡ clauses_in search.clauses
   pub decided : decisions_of replay.decided ≡ literals_of search.decided
   pub valued : (k : ℕ) (choice : Choice) (d : Decided) → slice_get replay.decided k ≡ Some choice → slice_get search.decided k ≡ Some d
-      → AreValued search.variables (Contains (take d.index search.trail)) choice.valued
+      → AreAssigned search.variables (Contains (take d.index search.trail)) choice.valued
 
 -- the lines are the initial lines and then those of clauses that were added, each clause of the search has the number of its
 -- line, and the moves are legal and led to the state of the search
@@ -96,7 +96,7 @@ IsEnded course (ending.Saturated classes order) =
 pub record IsTaskOf (d : Declarations) (table : Terms) (asserts : List TermId) (budget : ℕ) (course : Course) : Type 0 where
   pub declarations : course.derivation.declarations ≡ d
   pub asserted : terms_at course.derivation.rec.terms course.derivation.asserts ≡ terms_at table asserts
-  pub closure : (t : CoreTree) → Stands course.derivation.rec.terms t ↔ InClosure d (terms_at table asserts) t
+  pub closure : (t : CoreTree) → HasTree course.derivation.rec.terms t ↔ InClosure d (terms_at table asserts) t
   pub variables : HasVariables d (terms_at table asserts) course.variables
   pub budget_is : course.search.budget ≡ budget
   pub sorted : AreSorted d course.derivation.rec.terms
@@ -106,7 +106,7 @@ pub record IsTaskOf (d : Declarations) (table : Terms) (asserts : List TermId) (
 pub record IsClosureOf (d : Declarations) (table : Terms) (asserts : List TermId) (closed : Terms) (closure : ClosureValue) : Type 0 where
   pub grown : Begins table closed
   pub sorted : AreSorted d closed
-  pub exact : (t : CoreTree) → Stands closed t ↔ InClosure d (terms_at table asserts) t
+  pub exact : (t : CoreTree) → HasTree closed t ↔ InClosure d (terms_at table asserts) t
   pub is_closed : IsClosedTable d closed
   pub split : AreSplitTerms d closed closure.split
   pub rising : AreRising closure.split

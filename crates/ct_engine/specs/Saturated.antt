@@ -11,15 +11,15 @@ use Rattle.ct_terms.specs.CoreTree.{CoreTree}
 use Rattle.ct_rules.specs.Cycle.{IsCycle}
 use Rattle.ct_rules.specs.Uniqueness.{IsBisimulation}
 use Rattle.ct_closure.specs.Closed.{InClosure}
-use Rattle.ct_closure.specs.ClosedTable.{Stands, terms_at}
+use Rattle.ct_closure.specs.ClosedTable.{HasTree, terms_at}
 use Rattle.ct_log.specs.declared.line.Line.{Line}
-use Rattle.ct_sat.specs.Up.{HasValue}
+use Rattle.ct_sat.specs.Up.{IsAssigned}
 use Rattle.ct_clauses.specs.Initial.{IsInitialLine}
 use Rattle.ct_theory.specs.Entailment.{Entails}
 
 -- the literals are, for each variable of the table, exactly one of its two literals, and nothing else
 pub record AreComplete (terms : Terms) (literals : List Lit) : Type 0 where
-  pub each : (t : TermId) → IsStripped terms t → HasValue (Contains literals) t
+  pub each : (t : TermId) → IsStripped terms t → IsAssigned (Contains literals) t
   pub one : (l : Lit) → Contains literals l → Contains literals (opposite l) → ⊥
   pub only : (l : Lit) → Contains literals l → IsStripped terms l.term
 
@@ -40,6 +40,6 @@ pub record AreDecided (d : Declarations) (terms : Terms) (asserts : List TermId)
 
 -- the table holds exactly the closure of these roots, which have these numbers, and the literals decide it
 pub record IsSaturated (d : Declarations) (roots : List CoreTree) (terms : Terms) (asserts : List TermId) (literals : List Lit) : Type 0 where
-  pub closure : (t : CoreTree) → Stands terms t ↔ InClosure d roots t
+  pub closure : (t : CoreTree) → HasTree terms t ↔ InClosure d roots t
   pub asserted : terms_at terms asserts ≡ roots
   pub decided : AreDecided d terms asserts literals

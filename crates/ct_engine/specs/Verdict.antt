@@ -6,10 +6,10 @@ use Rattle.ct_terms.specs.declared.ids.Lit.{Lit}
 use Rattle.ct_terms.specs.Terms.{Terms}
 use Rattle.ct_terms.specs.CoreTree.{CoreTree}
 use Rattle.ct_closure.specs.Closed.{InClosure, HasVariables}
-use Rattle.ct_closure.specs.ClosedTable.{Stands, terms_at}
+use Rattle.ct_closure.specs.ClosedTable.{HasTree, terms_at}
 use Rattle.ct_eval.specs.declared.interp.Interp.{Interp}
 use Rattle.ct_eval.specs.Interpretation.{IsProper}
-use Rattle.ct_eval.specs.Truth.{Holds, truth_of}
+use Rattle.ct_eval.specs.Truth.{Holds, truth_value}
 use Rattle.ct_log.specs.Acceptance.{Passes}
 use Rattle.ct_log.specs.Recorded.{Derived}
 use Rattle.ct_engine.specs.declared.verdict.Spent.{Spent}
@@ -36,7 +36,7 @@ pub record IsRefutation (d : Declarations) (table : Terms) (asserts : List TermI
 pub record IsSpending (d : Declarations) (table : Terms) (asserts : List TermId) (budget : ℕ) (spent : Spent) : Type 0 where
   pub declarations : spent.derivation.declarations ≡ d
   pub asserted : terms_at spent.derivation.rec.terms spent.derivation.asserts ≡ terms_at table asserts
-  pub closure : (t : CoreTree) → Stands spent.derivation.rec.terms t ↔ InClosure d (terms_at table asserts) t
+  pub closure : (t : CoreTree) → HasTree spent.derivation.rec.terms t ↔ InClosure d (terms_at table asserts) t
   pub variables : HasVariables d (terms_at table asserts) spent.variables
   pub allowed : spent.budget ≡ budget
   pub recorded : IsSpentRecord d spent.derivation.rec.terms spent.derivation.asserts spent.derivation.rec.lines spent.moves budget
@@ -48,7 +48,7 @@ pub record IsStuck (d : Declarations) (table : Terms) (asserts : List TermId) (t
   pub proper : IsProper d i
   pub assert : TermId
   pub stands : slice_get asserts index ≡ Some assert
-  pub untrue : truth_of d i table assert ≡ false
+  pub untrue : truth_value d i table assert ≡ false
 
 abbrev pub IsVerdict : Declarations → Terms → List TermId → ℕ → Verdict → Type 0
 IsVerdict d table asserts budget (Sat i) = IsModel d table asserts i

@@ -22,8 +22,8 @@ use Rattle.ct_eval.specs.declared.interp.Table.{Table}
 use Rattle.ct_eval.specs.declared.interp.Interp.{Interp}
 use Rattle.ct_eval.specs.Interpretation.{FitsRow, FitsTable, IsProper}
 use Rattle.ct_eval.specs.LookUp.{are_same, row_for, look_up}
-use Rattle.ct_eval.specs.Evaluation.{is_same, given, select, core_value, layer, value_below, value_of}
-use Rattle.ct_eval.specs.Truth.{truth_of}
+use Rattle.ct_eval.specs.Evaluation.{is_same, table_value, select, core_value, layer, value_below, value_of}
+use Rattle.ct_eval.specs.Truth.{truth_value}
 use Rattle.ct_eval.specs.Appended.{IsRowOver, IsTableOver, AreTablesOver, IsClosedInterp, with_nodes}
 use Rattle.ct_eval.proofs.ListLemmas.{stands, AllZip-left_parts}
 use Rattle.ct_eval.proofs.CongruenceLemmas.{Alike, look_up_across, same_alike}
@@ -145,10 +145,10 @@ module _ (theorems : Alike) (growth : Growth) where
     abbrev Within : Value → Type 0
     Within v = IsOver i.graph v
 
-    given_appended : (tables : List Table) (k : ℕ) (vs : List Value) → AreTablesOver i.graph tables → AllByRecursion (IsOver i.graph) vs → (given longer (slice_get tables k) vs ≡ given i (slice_get tables k) vs) × Within (given i (slice_get tables k) vs)
+    given_appended : (tables : List Table) (k : ℕ) (vs : List Value) → AreTablesOver i.graph tables → AllByRecursion (IsOver i.graph) vs → (table_value longer (slice_get tables k) vs ≡ table_value i (slice_get tables k) vs) × Within (table_value i (slice_get tables k) vs)
     given_appended tables k vs stored within = by (slice_get tables k) refl
       where
-        by : (o : Option Table) → slice_get tables k ≡ o → (given longer o vs ≡ given i o vs) × Within (given i o vs)
+        by : (o : Option Table) → slice_get tables k ≡ o → (table_value longer o vs ≡ table_value i o vs) × Within (table_value i o vs)
         by None e = (refl, tt)
         by (Some table) e =
             (ap reference (look_up_appended i.graph more over.graph still table vs (stored k table e) within), look_up_within i.graph table vs (stored k table e))
@@ -160,10 +160,10 @@ module _ (theorems : Alike) (growth : Growth) where
         let child : List Value → Value = λ vs. unwrap_or (slice_get vs selector.place) v in
         let choice : Bool → Value → Value → Value = λ b x y. if b then x else y in
         let built : Bool = is_built i.graph selector.ctor v in (
-          ap (λ (b : Bool). choice b (child (children_of (i.graph ++ more) v)) (given longer (slice_get i.offs s.0) (v ∷ []))) (built_appended i.graph more over.graph still selector.ctor v within)
-              ∙ ap (λ (vs : List Value). choice built (child vs) (given longer (slice_get i.offs s.0) (v ∷ []))) (growth.children i.graph more v within)
+          ap (λ (b : Bool). choice b (child (children_of (i.graph ++ more) v)) (table_value longer (slice_get i.offs s.0) (v ∷ []))) (built_appended i.graph more over.graph still selector.ctor v within)
+              ∙ ap (λ (vs : List Value). choice built (child vs) (table_value longer (slice_get i.offs s.0) (v ∷ []))) (growth.children i.graph more v within)
               ∙ ap (choice built (child (children_of i.graph v))) wrongly_applied.0,
-          choice_over i.graph built (child (children_of i.graph v)) (given i (slice_get i.offs s.0) (v ∷ []))
+          choice_over i.graph built (child (children_of i.graph v)) (table_value i (slice_get i.offs s.0) (v ∷ []))
               (position_over i.graph (children_of i.graph v) selector.place v (growth.children_over i.graph v over.graph within) within) wrongly_applied.1,
         )
 
@@ -207,6 +207,6 @@ module _ (theorems : Alike) (growth : Growth) where
     pub value_within : (d : Declarations) (terms : Terms) (t : TermId) → Within (value_of d i terms t)
     value_within d terms t = (below_appended d terms (suc t.0) t).1
 
-    pub truth_appended : (d : Declarations) (terms : Terms) (t : TermId) → truth_of d longer terms t ≡ truth_of d i terms t
+    pub truth_appended : (d : Declarations) (terms : Terms) (t : TermId) → truth_value d longer terms t ≡ truth_value d i terms t
     truth_appended d terms t =
         ap (is_true (i.graph ++ more)) (value_appended d terms t) ∙ true_appended (value_of d i terms t) (value_within d terms t)

@@ -16,12 +16,12 @@ use Rattle.ct_terms.specs.declared.tree.Pattern.TheVariants.{Ctor, Any}
 use Rattle.ct_terms.specs.CoreTree.{CoreTree, sel, test, choice, trees_of, no_term}
 use Rattle.ct_terms.specs.CoreSorts.{IsFieldSort, AreFieldSorts, HasTreeSort, tree_sort}
 use Rattle.ct_terms.specs.Formula.{Formula, Formulas, Cases, Var, Con, Sel, Test, Apply, Def, Not, And, Or, Xor, Implies, Equal, Distinct, Ite, Let, Match, no_formulas, with_formula, no_cases, with_case, bind, MentionsBelow, AllMentionBelow, CasesMentionBelow}
-use Rattle.ct_terms.specs.FormulaSorts.{IsSorted, AreSorted, AreOfSort, AreSortedCases, AreSound}
+use Rattle.ct_terms.specs.FormulaSorts.{IsSorted, AllSorted, AreOfSort, AreSortedCases, AreSound}
 use Rattle.ct_terms.specs.Calls.{body_call, calls_below, calls}
-use Rattle.ct_terms.specs.Compiled.{fields_of, ctors_of_sort, siblings, is_among, surely_fits, are_none, compiled, compiled_all, compiled_cases, core_of}
+use Rattle.ct_terms.specs.Compiled.{fields_of, ctor_ids_of_sort, siblings, is_among, surely_fits, are_none, compiled, compiled_all, compiled_cases, core_of}
 use Rattle.ct_eval.specs.declared.interp.Interp.{Interp}
 use Rattle.ct_values.specs.TruthValue.{truth, is_head, is_built, is_true}
-use Rattle.ct_eval.specs.Evaluation.{select, given}
+use Rattle.ct_eval.specs.Evaluation.{select, table_value}
 use Rattle.ct_eval.specs.TreeValue.{tree_value, tree_values}
 use Rattle.ct_eval.specs.Meaning.{fits, meaning, meanings, case_meaning, eval, Agree, Means}
 use Rattle.ct_eval.proofs.MeaningFacts.{Facts, by_test, AllZip-bind, AllZip-either, agree_equal, agree_truth, built_agrees, true_agrees, given_agrees, select_agrees, choice_agrees}
@@ -76,9 +76,9 @@ module _ (d : Declarations) (i : Interp) (facts : Facts d i) where
   field_means c ctor t k s w declared built at there =
       let own = facts.own_selectors c.0 k ctor s declared at in
       let v : Value = tree_value d i t in
-      let picked : Selector → Value = λ f. if is_built i.graph f.ctor v then unwrap_or (slice_get (children_of i.graph v) f.place) v else given i (slice_get i.offs s.0) (v ∷ []) in
+      let picked : Selector → Value = λ f. if is_built i.graph f.ctor v then unwrap_or (slice_get (children_of i.graph v) f.place) v else table_value i (slice_get i.offs s.0) (v ∷ []) in
       ap (λ (o : Option Selector). select i s o v) own.1
-      ∙ ap (λ (b : Bool). if b then unwrap_or (slice_get (children_of i.graph v) own.0.place) v else given i (slice_get i.offs s.0) (v ∷ [])) (ap (λ (n : ℕ). is_head (record { 0 = n }) (head_of i.graph v)) own.2 ∙ built)
+      ∙ ap (λ (b : Bool). if b then unwrap_or (slice_get (children_of i.graph v) own.0.place) v else table_value i (slice_get i.offs s.0) (v ∷ [])) (ap (λ (n : ℕ). is_head (record { 0 = n }) (head_of i.graph v)) own.2 ∙ built)
       ∙ ap (λ (n : ℕ). unwrap_or (slice_get (children_of i.graph v) n) v) own.3
       ∙ ap (λ (o : Option Value). unwrap_or o v) there
 
@@ -108,8 +108,8 @@ module _ (d : Declarations) (i : Interp) (facts : Facts d i) where
   surely earlier c k ctor kctor at_c at_k one absent sure =
       let of = facts.of_their_sorts k.0 kctor at_k in
       let all : siblings d c ≡ of.0.ctors =
-      ap (λ (o : Option Constructor). unwrap_or (option_map (λ (g : Constructor). ctors_of_sort d g.sort) o) []) at_c
-      ∙ ap (λ (s : SortId). ctors_of_sort d s) (sym one)
+      ap (λ (o : Option Constructor). unwrap_or (option_map (λ (g : Constructor). ctor_ids_of_sort d g.sort) o) []) at_c
+      ∙ ap (λ (s : SortId). ctor_ids_of_sort d s) (sym one)
       ∙ ap (λ (o : Option Sort). unwrap_or (option_map (λ (s : Sort). s.ctors) o) []) of.2 in
       let test_k : ((k.0 == c.0) || is_among earlier k) ≡ true =
       all_at (λ (j : CtorId). (j.0 == c.0) || is_among earlier j) (siblings d c) of.1 k sure (ap (λ (cs : List CtorId). slice_get cs of.1) all ∙ of.3) in
@@ -158,13 +158,13 @@ module _ (d : Declarations) (i : Interp) (facts : Facts d i) where
     values_boolean (with_formula t ts) trees env sorts s e m h = (has_value t trees env sorts s e m.0 h.0, values_boolean ts trees env sorts s e m.1 h.1)
 
     -- the environment of several formulas
-    terms_of_all : (ts : Formulas) (trees : List CoreTree) (env : List Value) (sorts ss : List SortId) → Environment trees env sorts → AllMentionBelow n ts → AreSorted d sorts ts ss → AllZip (HasTreeSort d) (compiled_all d made trees ts) ss
+    terms_of_all : (ts : Formulas) (trees : List CoreTree) (env : List Value) (sorts ss : List SortId) → Environment trees env sorts → AllMentionBelow n ts → AllSorted d sorts ts ss → AllZip (HasTreeSort d) (compiled_all d made trees ts) ss
     terms_of_all no_formulas trees env sorts [] e m h = tt
     terms_of_all no_formulas trees env sorts (s ∷ ss) e m h = absurd h
     terms_of_all (with_formula t ts) trees env sorts [] e m h = absurd h
     terms_of_all (with_formula t ts) trees env sorts (s ∷ ss) e m h = (sorted t trees sorts s e.terms_sorted m.0 h.0, terms_of_all ts trees env sorts ss e m.1 h.1)
 
-    values_of_all : (ts : Formulas) (trees : List CoreTree) (env : List Value) (sorts ss : List SortId) → Environment trees env sorts → AllMentionBelow n ts → AreSorted d sorts ts ss → AllZip (HasValueSort d i.graph) (meanings d i call env ts) ss
+    values_of_all : (ts : Formulas) (trees : List CoreTree) (env : List Value) (sorts ss : List SortId) → Environment trees env sorts → AllMentionBelow n ts → AllSorted d sorts ts ss → AllZip (HasValueSort d i.graph) (meanings d i call env ts) ss
     values_of_all no_formulas trees env sorts [] e m h = tt
     values_of_all no_formulas trees env sorts (s ∷ ss) e m h = absurd h
     values_of_all (with_formula t ts) trees env sorts [] e m h = absurd h
@@ -253,7 +253,7 @@ module _ (d : Declarations) (i : Interp) (facts : Facts d i) where
           (record { term_sorted = sorted t trees sorts h.0 e.terms_sorted m.0 h.1; value_sorted = of; means = compiled_means t trees env sorts h.0 e m.0 h.1 })
           c.2 c.3 c.4 refl (elim h.5 [ inl any ↦ inl any | inr each ↦ inr (each c.0 c.1 c.3 c.4) ]) m.1 h.4
 
-      all_mean : (ts : Formulas) (trees : List CoreTree) (env : List Value) (sorts ss : List SortId) → Environment trees env sorts → AllMentionBelow n ts → AreSorted d sorts ts ss → AllZip (Means d i) (compiled_all d made trees ts) (meanings d i call env ts)
+      all_mean : (ts : Formulas) (trees : List CoreTree) (env : List Value) (sorts ss : List SortId) → Environment trees env sorts → AllMentionBelow n ts → AllSorted d sorts ts ss → AllZip (Means d i) (compiled_all d made trees ts) (meanings d i call env ts)
       all_mean no_formulas trees env sorts ss e m h = tt
       all_mean (with_formula t ts) trees env sorts [] e m h = absurd h
       all_mean (with_formula t ts) trees env sorts (s ∷ ss) e m h = (compiled_means t trees env sorts s e m.0 h.0, all_mean ts trees env sorts ss e m.1 h.1)

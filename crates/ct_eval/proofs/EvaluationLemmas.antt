@@ -12,7 +12,7 @@ use Rattle.ct_terms.specs.declared.term.Core.TheVariants.{Con, Sel, Test, Apply,
 use Rattle.ct_terms.specs.Terms.{Terms, HasArgumentsBelow, AreOrdered}
 use Rattle.ct_eval.specs.declared.interp.Interp.{Interp}
 use Rattle.ct_values.specs.TruthValue.{truth, is_built, is_true}
-use Rattle.ct_eval.specs.Evaluation.{is_same, given, select, core_value, layer, value_below, value_of}
+use Rattle.ct_eval.specs.Evaluation.{is_same, table_value, select, core_value, layer, value_below, value_of}
 use Rattle.ct_eval.proofs.ListLemmas.{slice_get-prefix}
 
 -- lists over which two functions agree
@@ -46,7 +46,7 @@ module _ (d : Declarations) (i : Interp) where
     core_value-agrees (Con c args) below = ap (λ (vs : List Value). construct c (values_of vs)) (lists args below)
     core_value-agrees (Sel s t) below = ap (select i s (slice_get d.sels s.0)) (agree t below.0)
     core_value-agrees (Test c t) below = ap (λ (v : Value). truth (is_built i.graph c v)) (agree t below.0)
-    core_value-agrees (Apply h args) below = ap (given i (slice_get i.funs h.0)) (lists args below)
+    core_value-agrees (Apply h args) below = ap (table_value i (slice_get i.funs h.0)) (lists args below)
     core_value-agrees (Eq a b) below =
         ap (λ (v : Value). truth (is_same i.graph v (f b))) (agree a below.0) ∙ ap (λ (v : Value). truth (is_same i.graph (g a) v)) (agree b below.1.0)
     core_value-agrees (Not t) below = ap (λ (v : Value). truth (not (is_true i.graph v))) (agree t below.0)

@@ -12,7 +12,7 @@ use Rattle.ct_terms.specs.Calls.{body_call, calls_below, calls}
 use Rattle.ct_eval.specs.declared.interp.Interp.{Interp}
 use Rattle.ct_values.specs.TruthValue.{truth, is_true}
 use Rattle.ct_eval.specs.Evaluation.{is_same}
-use Rattle.ct_eval.specs.Meaning.{xor_all, implies_all, all_true, are_chained, fits, bound, meaning, meanings, case_meaning, eval, Agree}
+use Rattle.ct_eval.specs.Meaning.{xor_all, implies_all, all_true, are_chained, fits, matched_values, meaning, meanings, case_meaning, eval, Agree}
 use Rattle.ct_eval.proofs.MeaningFacts.{Facts, AllZip-bind, AllZip-either, agree_equal, agree_truth, built_agrees, true_agrees, same_agrees, given_agrees, select_agrees, choice_agrees, truths_agree, all_agree, any_agree}
 
 module _ (d : Declarations) (i : Interp) (facts : Facts d i) where
@@ -49,7 +49,7 @@ module _ (d : Declarations) (i : Interp) (facts : Facts d i) where
   fits_agree (Ctor c) v w h = built_agrees d i facts c v w h
   fits_agree Any v w h = refl
 
-  bound_agree : (p : Pattern) (v w : Value) → Agree i v w → AllZip (Agree i) (bound i.graph p v) (bound i.graph p w)
+  bound_agree : (p : Pattern) (v w : Value) → Agree i v w → AllZip (Agree i) (matched_values i.graph p v) (matched_values i.graph p w)
   bound_agree (Ctor c) v w h = facts.children v w h
   bound_agree Any v w h = (h, tt)
 
@@ -88,9 +88,9 @@ module _ (d : Declarations) (i : Interp) (facts : Facts d i) where
       cases_agree : (cases : Cases) (env others : List Value) (v w : Value) → AllZip (Agree i) env others → Agree i v w → Agree i (case_meaning d i call env v cases) (case_meaning d i call others w cases)
       cases_agree no_cases env others v w h k = facts.itself (truth false)
       cases_agree (with_case p body cases) env others v w h k =
-          choice_agrees d i facts (fits i.graph p v) (fits i.graph p w) (meaning d i call (bind (bound i.graph p v) env) body) (case_meaning d i call env v cases) (meaning d i call (bind (bound i.graph p w) others) body) (case_meaning d i call others w cases)
+          choice_agrees d i facts (fits i.graph p v) (fits i.graph p w) (meaning d i call (bind (matched_values i.graph p v) env) body) (case_meaning d i call env v cases) (meaning d i call (bind (matched_values i.graph p w) others) body) (case_meaning d i call others w cases)
           (fits_agree p v w k)
-          (meaning_agrees body (bind (bound i.graph p v) env) (bind (bound i.graph p w) others) (AllZip-bind (Agree i) (bound i.graph p v) (bound i.graph p w) env others (bound_agree p v w k) h))
+          (meaning_agrees body (bind (matched_values i.graph p v) env) (bind (matched_values i.graph p w) others) (AllZip-bind (Agree i) (matched_values i.graph p v) (matched_values i.graph p w) env others (bound_agree p v w k) h))
           (cases_agree cases env others v w h k)
 
   -- so it is with definitions

@@ -21,7 +21,7 @@ use Rattle.ct_eval.specs.declared.interp.Row.{Row}
 use Rattle.ct_eval.specs.declared.interp.Table.{Table}
 use Rattle.ct_eval.specs.LookUp.{are_same, row_for}
 use Rattle.ct_values.specs.TruthValue.{truth, is_head, is_built, is_true}
-use Rattle.ct_eval.specs.Evaluation.{is_same, given, select}
+use Rattle.ct_eval.specs.Evaluation.{is_same, table_value, select}
 use Rattle.ct_eval.specs.Meaning.{Agree}
 use Rattle.ct_eval.proofs.StepTruth.{one_answer}
 
@@ -36,7 +36,7 @@ pub record Facts (d : Declarations) (i : Interp) : Type 0 where
   pub decided : (v w : Value) → IsTrue (is_same i.graph v w) ↔ Agree i v w
   pub boolean : (v : Value) → HasValueSort d i.graph v bool_sort → Agree i v (truth (is_true i.graph v))
   pub truth_sorted : (b : Bool) → HasValueSort d i.graph (truth b) bool_sort
-  pub given_sorted : (f : FunId) (function : Function) (values : List Value) → slice_get d.functions f.0 ≡ Some function → HasValueSort d i.graph (given i (slice_get i.funs f.0) values) function.result
+  pub given_sorted : (f : FunId) (function : Function) (values : List Value) → slice_get d.functions f.0 ≡ Some function → HasValueSort d i.graph (table_value i (slice_get i.funs f.0) values) function.result
   pub select_sorted : (s : SelId) (selector : Selector) (ctor : Constructor) (v : Value) → slice_get d.sels s.0 ≡ Some selector → slice_get d.ctors selector.ctor.0 ≡ Some ctor → HasValueSort d i.graph v ctor.sort → HasValueSort d i.graph (select i s (slice_get d.sels s.0) v) selector.sort
   pub construct_sorted : (c : CtorId) (ctor : Constructor) (sorts : List SortId) (vs : List Value) → slice_get d.ctors c.0 ≡ Some ctor → AreFieldSorts d ctor.sels sorts → AllZip (HasValueSort d i.graph) vs sorts → HasValueSort d i.graph (construct c (values_of vs)) ctor.sort
   pub matched : (v : Value) (s : SortId) (sort : Sort) → HasValueSort d i.graph v s → slice_get d.sorts s.0 ≡ Some sort → (sort.kind ≡ Data) ⊎ (sort.kind ≡ Codata) → (c : CtorId) × (ctor : Constructor) × (head_of i.graph v ≡ Some (heads.Con c)) × (slice_get d.ctors c.0 ≡ Some ctor) × (ctor.sort ≡ s)
@@ -112,20 +112,20 @@ module _ (d : Declarations) (i : Interp) (facts : Facts d i) where
       ap (λ (b : Bool). if b then Some row.result else row_for i.graph rows vs) (args_agree row.args vs ws h)
       ∙ ap (λ (o : Option NodeId). if are_same i.graph row.args ws then Some row.result else o) (row_agrees rows vs ws h)
 
-  pub given_agrees : (o : Option Table) (vs ws : List Value) → AllZip (Agree i) vs ws → given i o vs ≡ given i o ws
+  pub given_agrees : (o : Option Table) (vs ws : List Value) → AllZip (Agree i) vs ws → table_value i o vs ≡ table_value i o ws
   given_agrees None vs ws h = refl
   given_agrees (Some table) vs ws h = ap (λ (r : Option NodeId). reference (unwrap_or r table.default)) (row_agrees table.rows vs ws h)
 
   pub select_agrees : (s : SelId) (o : Option Selector) (v w : Value) → Agree i v w → Agree i (select i s o v) (select i s o w)
   select_agrees s None v w h = h
   select_agrees s (Some selector) v w h =
-      subst (λ (b : Bool). Agree i (select i s (Some selector) v) (if b then unwrap_or (slice_get (children_of i.graph w) selector.place) w else given i (slice_get i.offs s.0) (w ∷ [])))
+      subst (λ (b : Bool). Agree i (select i s (Some selector) v) (if b then unwrap_or (slice_get (children_of i.graph w) selector.place) w else table_value i (slice_get i.offs s.0) (w ∷ [])))
       (built_agrees selector.ctor v w h)
       (by (is_built i.graph selector.ctor v))
     where
-      by : (b : Bool) → Agree i (if b then unwrap_or (slice_get (children_of i.graph v) selector.place) v else given i (slice_get i.offs s.0) (v ∷ [])) (if b then unwrap_or (slice_get (children_of i.graph w) selector.place) w else given i (slice_get i.offs s.0) (w ∷ []))
+      by : (b : Bool) → Agree i (if b then unwrap_or (slice_get (children_of i.graph v) selector.place) v else table_value i (slice_get i.offs s.0) (v ∷ [])) (if b then unwrap_or (slice_get (children_of i.graph w) selector.place) w else table_value i (slice_get i.offs s.0) (w ∷ []))
       by true = AllZip-either (Agree i) (children_of i.graph v) (children_of i.graph w) selector.place v w (facts.children v w h) h
-      by false = agree_equal (given i (slice_get i.offs s.0) (v ∷ [])) (given i (slice_get i.offs s.0) (w ∷ [])) (given_agrees (slice_get i.offs s.0) (v ∷ []) (w ∷ []) (h, tt))
+      by false = agree_equal (table_value i (slice_get i.offs s.0) (v ∷ [])) (table_value i (slice_get i.offs s.0) (w ∷ [])) (given_agrees (slice_get i.offs s.0) (v ∷ []) (w ∷ []) (h, tt))
 
   pub choice_agrees : (b c : Bool) (v w x y : Value) → b ≡ c → Agree i v x → Agree i w y → Agree i (if b then v else w) (if c then x else y)
   choice_agrees b c v w x y e h k = subst (λ (a : Bool). Agree i (if b then v else w) (if a then x else y)) e (by b)

@@ -9,12 +9,12 @@ use Rattle.ct_sorts.specs.Declarations.{Declarations, Selector, Function, bool_s
 use Rattle.ct_sorts.specs.Grown.{Extends}
 use Rattle.ct_values.specs.Value.{Value, construct, values_of}
 use Rattle.ct_terms.specs.Formula.{Formula, Formulas, Cases, Var, Con, Sel, Test, Apply, Def, Not, And, Or, Xor, Implies, Equal, Distinct, Ite, Let, Match, no_formulas, with_formula, no_cases, with_case, bind, MentionsBelow, AllMentionBelow, CasesMentionBelow}
-use Rattle.ct_terms.specs.FormulaSorts.{IsSorted, AreSorted, AreOfSort, AreSortedCases, AreSound}
+use Rattle.ct_terms.specs.FormulaSorts.{IsSorted, AllSorted, AreOfSort, AreSortedCases, AreSound}
 use Rattle.ct_terms.specs.Calls.{body_call, calls_below, calls}
 use Rattle.ct_eval.specs.declared.interp.Interp.{Interp}
 use Rattle.ct_values.specs.TruthValue.{truth, is_built, is_true}
-use Rattle.ct_eval.specs.Evaluation.{given, select}
-use Rattle.ct_eval.specs.Meaning.{xor_all, implies_all, are_chained, are_distinct, fits, bound, meaning, meanings, case_meaning, eval}
+use Rattle.ct_eval.specs.Evaluation.{table_value, select}
+use Rattle.ct_eval.specs.Meaning.{xor_all, implies_all, are_chained, are_distinct, fits, matched_values, meaning, meanings, case_meaning, eval}
 use Rattle.ct_eval.proofs.ListLemmas.{slice_get-prefix, slice_get-append_left, stands}
 use Rattle.ct_eval.proofs.MeaningFacts.{by_test}
 use Rattle.ct_eval.proofs.MeaningSorted.{same_number, below_next, calls-next}
@@ -37,7 +37,7 @@ module _ (later earlier : Declarations) (i : Interp) (extends : Extends later ea
       meaning_reaches (Sel s t) env sorts sort m h =
           ap (select i s (slice_get later.sels s.0)) (meaning_reaches t env sorts h.1.sort m h.4) ∙ ap (λ (o : Option Selector). select i s o (meaning earlier i other env t)) (same_selector s h.0 h.2)
       meaning_reaches (Test c t) env sorts sort m h = ap (λ (v : Value). truth (is_built i.graph c v)) (meaning_reaches t env sorts h.0.sort m h.2)
-      meaning_reaches (Apply f ts) env sorts sort m h = ap (given i (slice_get i.funs f.0)) (all_reach ts env sorts h.0.args m h.2)
+      meaning_reaches (Apply f ts) env sorts sort m h = ap (table_value i (slice_get i.funs f.0)) (all_reach ts env sorts h.0.args m h.2)
       meaning_reaches (Def k ts) env sorts sort m h = alike k (meanings later i call env ts) m.0 ∙ ap (other k) (all_reach ts env sorts h.0.args m.1 h.2)
       meaning_reaches (Not t) env sorts sort m h = ap (λ (v : Value). truth (not (is_true i.graph v))) (meaning_reaches t env sorts bool_sort m h.0)
       meaning_reaches (And ts) env sorts sort m h = ap (λ (vs : List Value). truth (list_all (is_true i.graph) vs)) (one_reach ts env sorts bool_sort m h.1)
@@ -58,7 +58,7 @@ module _ (later earlier : Declarations) (i : Interp) (extends : Extends later ea
           cases_reach cases env sorts h.0 (meaning later i call env t) sort m.1 h.4
           ∙ ap (λ (v : Value). case_meaning earlier i other env v cases) (meaning_reaches t env sorts h.0 m.0 h.1)
 
-      all_reach : (ts : Formulas) (env : List Value) (sorts ss : List SortId) → AllMentionBelow n ts → AreSorted earlier sorts ts ss → meanings later i call env ts ≡ meanings earlier i other env ts
+      all_reach : (ts : Formulas) (env : List Value) (sorts ss : List SortId) → AllMentionBelow n ts → AllSorted earlier sorts ts ss → meanings later i call env ts ≡ meanings earlier i other env ts
       all_reach no_formulas env sorts ss m h = refl
       all_reach (with_formula t ts) env sorts [] m h = absurd h
       all_reach (with_formula t ts) env sorts (s ∷ ss) m h =
@@ -72,8 +72,8 @@ module _ (later earlier : Declarations) (i : Interp) (extends : Extends later ea
       cases_reach : (cases : Cases) (env : List Value) (sorts : List SortId) (side : SortId) (v : Value) (sort : SortId) → CasesMentionBelow n cases → AreSortedCases earlier sorts side cases sort → case_meaning later i call env v cases ≡ case_meaning earlier i other env v cases
       cases_reach no_cases env sorts side v sort m h = refl
       cases_reach (with_case p body cases) env sorts side v sort m h =
-          ap (λ (w : Value). if fits i.graph p v then w else case_meaning later i call env v cases) (meaning_reaches body (bind (bound i.graph p v) env) (bind h.0.0 sorts) sort m.0 h.0.2)
-          ∙ ap (λ (w : Value). if fits i.graph p v then meaning earlier i other (bind (bound i.graph p v) env) body else w) (cases_reach cases env sorts side v sort m.1 h.1)
+          ap (λ (w : Value). if fits i.graph p v then w else case_meaning later i call env v cases) (meaning_reaches body (bind (matched_values i.graph p v) env) (bind h.0.0 sorts) sort m.0 h.0.2)
+          ∙ ap (λ (w : Value). if fits i.graph p v then meaning earlier i other (bind (matched_values i.graph p v) env) body else w) (cases_reach cases env sorts side v sort m.1 h.1)
 
   -- with more definitions after those that are there, these give the same
   module _ (bodies more : List Formula) (sound : AreSound earlier bodies) where

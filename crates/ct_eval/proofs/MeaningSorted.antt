@@ -15,12 +15,12 @@ use Rattle.ct_values.specs.ValueSort.{HasValueSort}
 use Rattle.ct_terms.specs.declared.tree.Pattern.{Pattern}
 use Rattle.ct_terms.specs.declared.tree.Pattern.TheVariants.{Ctor, Any}
 use Rattle.ct_terms.specs.Formula.{Formula, Formulas, Cases, Var, Con, Sel, Test, Apply, Def, Not, And, Or, Xor, Implies, Equal, Distinct, Ite, Let, Match, no_formulas, with_formula, no_cases, with_case, bind, MentionsBelow, AllMentionBelow, CasesMentionBelow}
-use Rattle.ct_terms.specs.FormulaSorts.{BindsSorts, HasPattern, IsSorted, AreSorted, AreSortedCases, AreSound}
+use Rattle.ct_terms.specs.FormulaSorts.{BindsSorts, HasPattern, IsSorted, AllSorted, AreSortedCases, AreSound}
 use Rattle.ct_terms.specs.Calls.{body_call, calls_below, calls}
 use Rattle.ct_eval.specs.declared.interp.Interp.{Interp}
 use Rattle.ct_values.specs.TruthValue.{truth, is_head, is_built, is_true}
 use Rattle.ct_eval.specs.Evaluation.{select}
-use Rattle.ct_eval.specs.Meaning.{fits, bound, meaning, meanings, case_meaning, eval}
+use Rattle.ct_eval.specs.Meaning.{fits, matched_values, meaning, meanings, case_meaning, eval}
 use Rattle.ct_eval.proofs.ListLemmas.{stands, last_or_before}
 use Rattle.ct_eval.proofs.MeaningFacts.{Facts, by_test, AllZip-bind, AllZip-found}
 
@@ -69,7 +69,7 @@ module _ (d : Declarations) (i : Interp) (facts : Facts d i) where
   answer b sort is = subst (HasValueSort d i.graph (truth b)) is (facts.truth_sorted b)
 
   -- what a pattern that fits binds has the sorts that the pattern binds
-  pub bound_sorted : (p : Pattern) (v : Value) (side : SortId) (sorts : List SortId) (k : CtorId) → HasValueSort d i.graph v side → head_of i.graph v ≡ Some (heads.Con k) → fits i.graph p v ≡ true → BindsSorts d side p sorts → AllZip (HasValueSort d i.graph) (bound i.graph p v) sorts
+  pub bound_sorted : (p : Pattern) (v : Value) (side : SortId) (sorts : List SortId) (k : CtorId) → HasValueSort d i.graph v side → head_of i.graph v ≡ Some (heads.Con k) → fits i.graph p v ≡ true → BindsSorts d side p sorts → AllZip (HasValueSort d i.graph) (matched_values i.graph p v) sorts
   bound_sorted (Ctor c) v side sorts k of head fit binds =
       let same : k.0 ≡ c.0 = same_number k.0 c.0 (sym (head_fits c k (head_of i.graph v) head) ∙ fit) in
       let id : ℕ → CtorId = λ n. record { 0 = n } in
@@ -118,7 +118,7 @@ module _ (d : Declarations) (i : Interp) (facts : Facts d i) where
           cases_sorted cases env sorts h.0 v c.0 sort fit of c.2
           (elim h.5 [ inl any ↦ inl any | inr each ↦ inr (each c.0 c.1 c.3 c.4) ]) m.1 h.4
 
-      all_sorted : (ts : Formulas) (env : List Value) (sorts ss : List SortId) → AllZip (HasValueSort d i.graph) env sorts → AllMentionBelow n ts → AreSorted d sorts ts ss → AllZip (HasValueSort d i.graph) (meanings d i call env ts) ss
+      all_sorted : (ts : Formulas) (env : List Value) (sorts ss : List SortId) → AllZip (HasValueSort d i.graph) env sorts → AllMentionBelow n ts → AllSorted d sorts ts ss → AllZip (HasValueSort d i.graph) (meanings d i call env ts) ss
       all_sorted no_formulas env sorts [] fit m h = tt
       all_sorted no_formulas env sorts (s ∷ ss) fit m h = absurd h
       all_sorted (with_formula t ts) env sorts [] fit m h = absurd h
@@ -128,8 +128,8 @@ module _ (d : Declarations) (i : Interp) (facts : Facts d i) where
       cases_sorted no_cases env sorts side v k sort fit of head (inl none) m h = absurd none
       cases_sorted no_cases env sorts side v k sort fit of head (inr none) m h = absurd none
       cases_sorted (with_case p body cases) env sorts side v k sort fit of head covers m h =
-          by_test (Of sort) (fits i.graph p v) (meaning d i call (bind (bound i.graph p v) env) body) (case_meaning d i call env v cases)
-          (λ e. meaning_sorted body (bind (bound i.graph p v) env) (bind h.0.0 sorts) sort (AllZip-bind (HasValueSort d i.graph) (bound i.graph p v) h.0.0 env sorts (bound_sorted p v side h.0.0 k of head e h.0.1) fit) m.0 h.0.2)
+          by_test (Of sort) (fits i.graph p v) (meaning d i call (bind (matched_values i.graph p v) env) body) (case_meaning d i call env v cases)
+          (λ e. meaning_sorted body (bind (matched_values i.graph p v) env) (bind h.0.0 sorts) sort (AllZip-bind (HasValueSort d i.graph) (matched_values i.graph p v) h.0.0 env sorts (bound_sorted p v side h.0.0 k of head e h.0.1) fit) m.0 h.0.2)
           (λ e. cases_sorted cases env sorts side v k sort fit of head (covered_rest p body cases v k head e covers) m.1 h.1)
 
   module _ (bodies : List Formula) (sound : AreSound d bodies) where

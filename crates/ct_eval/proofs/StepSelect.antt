@@ -19,7 +19,7 @@ use Rattle.ct_values.specs.Sharing.{IsRepresentative}
 use Rattle.ct_eval.specs.declared.interp.Interp.{Interp}
 use Rattle.ct_eval.specs.declared.interp.Table.{Table}
 use Rattle.ct_values.specs.TruthValue.{is_head, is_built}
-use Rattle.ct_eval.specs.Evaluation.{given, select}
+use Rattle.ct_eval.specs.Evaluation.{table_value, select}
 use Rattle.ct_eval.specs.LookUp.{look_up}
 use Rattle.ct_eval.specs.EvaluationStep.{HasValue, Theorems}
 use Rattle.ct_eval.proofs.StepLists.{zip-at_right}
@@ -70,12 +70,12 @@ field_value theorems d g h n v ns position child r sort first is at sorted f =
 -- what a selector means where the value is built by its constructor
 pub select_built : (i : Interp) (s : SelId) (o : Option Selector) (selector : Selector) (v w : Value) → o ≡ Some selector → is_built i.graph selector.ctor v ≡ true → slice_get (children_of i.graph v) selector.place ≡ Some w → select i s o v ≡ w
 select_built i s o selector v w e built at =
-    ap (λ (x : Option Selector). select i s x v) e ∙ ap (λ (b : Bool). if b then unwrap_or (slice_get (children_of i.graph v) selector.place) v else given i (slice_get i.offs s.0) (v ∷ [])) built ∙ ap (λ (x : Option Value). unwrap_or x v) at
+    ap (λ (x : Option Selector). select i s x v) e ∙ ap (λ (b : Bool). if b then unwrap_or (slice_get (children_of i.graph v) selector.place) v else table_value i (slice_get i.offs s.0) (v ∷ [])) built ∙ ap (λ (x : Option Value). unwrap_or x v) at
 
 -- and where it is not
 pub select_wrongly : (i : Interp) (s : SelId) (o : Option Selector) (selector : Selector) (v : Value) (table : Table) → o ≡ Some selector → is_built i.graph selector.ctor v ≡ false → slice_get i.offs s.0 ≡ Some table → select i s o v ≡ reference (look_up i.graph table (v ∷ []))
 select_wrongly i s o selector v table e built at =
-    ap (λ (x : Option Selector). select i s x v) e ∙ ap (λ (b : Bool). if b then unwrap_or (slice_get (children_of i.graph v) selector.place) v else given i (slice_get i.offs s.0) (v ∷ [])) built ∙ ap (λ (x : Option Table). given i x (v ∷ [])) at
+    ap (λ (x : Option Selector). select i s x v) e ∙ ap (λ (b : Bool). if b then unwrap_or (slice_get (children_of i.graph v) selector.place) v else table_value i (slice_get i.offs s.0) (v ∷ [])) built ∙ ap (λ (x : Option Table). table_value i x (v ∷ [])) at
 
 -- a node of the graph has children
 pub has_children : (g : Nodes) (n : NodeId) → n.0 < length g → (ns : List NodeId) × (option_map node_children (slice_get g n.0) ≡ Some ns)

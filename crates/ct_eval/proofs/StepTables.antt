@@ -13,7 +13,7 @@ use Rattle.ct_eval.specs.declared.interp.Row.{Row}
 use Rattle.ct_eval.specs.declared.interp.Table.{Table}
 use Rattle.ct_eval.specs.Interpretation.{IsProper, FitsTable}
 use Rattle.ct_eval.specs.declared.interp.Interp.{Interp}
-use Rattle.ct_eval.specs.Evaluation.{given}
+use Rattle.ct_eval.specs.Evaluation.{table_value}
 use Rattle.ct_eval.specs.LookUp.{are_same, row_for, look_up}
 use Rattle.ct_eval.specs.Valued.{IsLonger}
 use Rattle.ct_eval.specs.EvaluationStep.{HasValue, Theorems}
@@ -63,9 +63,9 @@ selector_table d i s selector ctor proper declared built =
     (table.0, table.1, proper.selectors.fit s selector ctor table.0 declared built table.1)
 
 -- what a table gives is a value that a reference stands for
-pub given_is : (d : Declarations) (i : Interp) (g : Nodes) (o : Option Table) (table : Table) (values : List Value) (sort s : SortId) (n : NodeId) → o ≡ Some table → sort ≡ s → IsRepresentative g (point i.graph (reference (look_up i.graph table values))) n → HasNodeSort d g n s → HasValue d i g (given i o values) sort n
+pub given_is : (d : Declarations) (i : Interp) (g : Nodes) (o : Option Table) (table : Table) (values : List Value) (sort s : SortId) (n : NodeId) → o ≡ Some table → sort ≡ s → IsRepresentative g (point i.graph (reference (look_up i.graph table values))) n → HasNodeSort d g n s → HasValue d i g (table_value i o values) sort n
 given_is d i g o table values sort s n at is first sorted =
-    let value : given i o values ≡ reference (look_up i.graph table values) = ap (λ (x : Option Table). given i x values) at in
+    let value : table_value i o values ≡ reference (look_up i.graph table values) = ap (λ (x : Option Table). table_value i x values) at in
     record {
       first = subst (λ (v : Value). IsRepresentative g (point i.graph v) n) (sym value) first;
       sorted = subst (λ (t : SortId). HasNodeSort d g n t) (sym is) sorted;

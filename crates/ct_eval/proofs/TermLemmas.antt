@@ -18,8 +18,8 @@ use Rattle.ct_terms.specs.declared.term.Core.TheVariants.{Con, Sel, Test, Eq, No
 use Rattle.ct_terms.specs.Terms.{Terms, AreOrdered, AreSorted}
 use Rattle.ct_eval.specs.declared.interp.Interp.{Interp}
 use Rattle.ct_eval.specs.Interpretation.{IsProper}
-use Rattle.ct_eval.specs.Evaluation.{is_same, given, select, core_value, value_of}
-use Rattle.ct_eval.specs.Truth.{truth_of}
+use Rattle.ct_eval.specs.Evaluation.{is_same, table_value, select, core_value, value_of}
+use Rattle.ct_eval.specs.Truth.{truth_value}
 use Rattle.ct_eval.specs.Congruence.{AreCongruent, HaveOneValue}
 use Rattle.ct_eval.proofs.EvaluationLemmas.{value_of-unfolds}
 use Rattle.ct_eval.proofs.ValueLemmas.{SortTheorems, truth_is, value_of-sorted}
@@ -42,35 +42,35 @@ module _ (d : Declarations) (i : Interp) (terms : Terms) (ordered : AreOrdered t
   value = value_of d i terms
 
   -- a term whose layer is a truth value
-  answer : (t : TermId) (core : Core) (s : SortId) (b : Bool) → slice_get terms t.0 ≡ Some (core, s) → core_value d i value core ≡ truth b → truth_of d i terms t ≡ b
+  answer : (t : TermId) (core : Core) (s : SortId) (b : Bool) → slice_get terms t.0 ≡ Some (core, s) → core_value d i value core ≡ truth b → truth_value d i terms t ≡ b
   answer t core s b at is = ap (is_true i.graph) (value_of-unfolds d i terms t core s ordered at ∙ is) ∙ truth_is i.graph b
 
-  pub test_truth : (t a : TermId) (c : CtorId) (s : SortId) → slice_get terms t.0 ≡ Some (Test c a, s) → truth_of d i terms t ≡ is_built i.graph c (value a)
+  pub test_truth : (t a : TermId) (c : CtorId) (s : SortId) → slice_get terms t.0 ≡ Some (Test c a, s) → truth_value d i terms t ≡ is_built i.graph c (value a)
   test_truth t a c s at = answer t (Test c a) s (is_built i.graph c (value a)) at refl
 
-  pub negation_truth : (t a : TermId) (s : SortId) → slice_get terms t.0 ≡ Some (Not a, s) → truth_of d i terms t ≡ not (truth_of d i terms a)
-  negation_truth t a s at = answer t (Not a) s (not (truth_of d i terms a)) at refl
+  pub negation_truth : (t a : TermId) (s : SortId) → slice_get terms t.0 ≡ Some (Not a, s) → truth_value d i terms t ≡ not (truth_value d i terms a)
+  negation_truth t a s at = answer t (Not a) s (not (truth_value d i terms a)) at refl
 
-  pub conjunction_truth : (t : TermId) (args : List TermId) (s : SortId) → slice_get terms t.0 ≡ Some (And args, s) → truth_of d i terms t ≡ list_all (truth_of d i terms) args
-  conjunction_truth t args s at = answer t (And args) s (list_all (truth_of d i terms) args) at refl
+  pub conjunction_truth : (t : TermId) (args : List TermId) (s : SortId) → slice_get terms t.0 ≡ Some (And args, s) → truth_value d i terms t ≡ list_all (truth_value d i terms) args
+  conjunction_truth t args s at = answer t (And args) s (list_all (truth_value d i terms) args) at refl
 
-  pub disjunction_truth : (t : TermId) (args : List TermId) (s : SortId) → slice_get terms t.0 ≡ Some (Or args, s) → truth_of d i terms t ≡ list_any (truth_of d i terms) args
-  disjunction_truth t args s at = answer t (Or args) s (list_any (truth_of d i terms) args) at refl
+  pub disjunction_truth : (t : TermId) (args : List TermId) (s : SortId) → slice_get terms t.0 ≡ Some (Or args, s) → truth_value d i terms t ≡ list_any (truth_value d i terms) args
+  disjunction_truth t args s at = answer t (Or args) s (list_any (truth_value d i terms) args) at refl
 
-  pub equivalence_truth : (t a b : TermId) (s : SortId) → slice_get terms t.0 ≡ Some (Iff a b, s) → (truth_of d i terms t ≡ true) ↔ (truth_of d i terms a ≡ truth_of d i terms b)
+  pub equivalence_truth : (t a b : TermId) (s : SortId) → slice_get terms t.0 ≡ Some (Iff a b, s) → (truth_value d i terms t ≡ true) ↔ (truth_value d i terms a ≡ truth_value d i terms b)
   equivalence_truth t a b s at =
-      let p : Bool = truth_of d i terms a in
-      let q : Bool = truth_of d i terms b in
-      let is : truth_of d i terms t ≡ (if p then q else not q) = answer t (Iff a b) s (if p then q else not q) at refl in
+      let p : Bool = truth_value d i terms a in
+      let q : Bool = truth_value d i terms b in
+      let is : truth_value d i terms t ≡ (if p then q else not q) = answer t (Iff a b) s (if p then q else not q) at refl in
       let reported = iff_true p q in
       (λ e. reported.0 (sym is ∙ e), λ e. is ∙ reported.1 e)
 
-  pub choice_value : (t c a b : TermId) (s : SortId) → slice_get terms t.0 ≡ Some (Ite c a b, s) → value t ≡ (if truth_of d i terms c then value a else value b)
+  pub choice_value : (t c a b : TermId) (s : SortId) → slice_get terms t.0 ≡ Some (Ite c a b, s) → value t ≡ (if truth_value d i terms c then value a else value b)
   choice_value t c a b s at = value_of-unfolds d i terms t (Ite c a b) s ordered at
 
-  pub equality_truth : ((p q : Point) → IsClosed p.graph → IsClosed q.graph → IsTrue (same p q) ↔ AgreeAlways p q) → IsClosed i.graph → (t a b : TermId) (s : SortId) → slice_get terms t.0 ≡ Some (Eq a b, s) → (truth_of d i terms t ≡ true) ↔ HaveOneValue i value value a b
+  pub equality_truth : ((p q : Point) → IsClosed p.graph → IsClosed q.graph → IsTrue (same p q) ↔ AgreeAlways p q) → IsClosed i.graph → (t a b : TermId) (s : SortId) → slice_get terms t.0 ≡ Some (Eq a b, s) → (truth_value d i terms t ≡ true) ↔ HaveOneValue i value value a b
   equality_truth every closed t a b s at =
-      let is : truth_of d i terms t ≡ is_same i.graph (value a) (value b) = answer t (Eq a b) s (is_same i.graph (value a) (value b)) at refl in
+      let is : truth_value d i terms t ≡ is_same i.graph (value a) (value b) = answer t (Eq a b) s (is_same i.graph (value a) (value b)) at refl in
       let reported = every (point i.graph (value a)) (point i.graph (value b)) closed closed in
       (λ e. reported.0 (sym is ∙ e), λ h. is ∙ reported.1 h)
 
@@ -90,11 +90,11 @@ module _ (d : Declarations) (i : Interp) (terms : Terms) (ordered : AreOrdered t
   pub ctor_children : (t : TermId) (c : CtorId) (args : List TermId) (s : SortId) → slice_get terms t.0 ≡ Some (Con c args, s) → children_of i.graph (value t) ≡ map value args
   ctor_children t c args s at = ap (children_of i.graph) (value_of-unfolds d i terms t (Con c args) s ordered at) ∙ listed (map value args)
 
-  pub off_value : (t a : TermId) (s : SelId) (selector : Selector) (r : SortId) → slice_get terms t.0 ≡ Some (Sel s a, r) → slice_get d.sels s.0 ≡ Some selector → is_built i.graph selector.ctor (value a) ≡ false → value t ≡ given i (slice_get i.offs s.0) (value a ∷ [])
+  pub off_value : (t a : TermId) (s : SelId) (selector : Selector) (r : SortId) → slice_get terms t.0 ≡ Some (Sel s a, r) → slice_get d.sels s.0 ≡ Some selector → is_built i.graph selector.ctor (value a) ≡ false → value t ≡ table_value i (slice_get i.offs s.0) (value a ∷ [])
   off_value t a s selector r at declared other =
       value_of-unfolds d i terms t (Sel s a) r ordered at
       ∙ ap (λ (x : Option Selector). select i s x (value a)) declared
-      ∙ ap (λ (b : Bool). if b then unwrap_or (slice_get (children_of i.graph (value a)) selector.place) (value a) else given i (slice_get i.offs s.0) (value a ∷ [])) other
+      ∙ ap (λ (b : Bool). if b then unwrap_or (slice_get (children_of i.graph (value a)) selector.place) (value a) else table_value i (slice_get i.offs s.0) (value a ∷ [])) other
 
   -- a selector of a value that is built by its constructor
   on_value : (t a : TermId) (s : SelId) (selector : Selector) (r : SortId) (w : Value) → slice_get terms t.0 ≡ Some (Sel s a, r) → slice_get d.sels s.0 ≡ Some selector → is_built i.graph selector.ctor (value a) ≡ true → slice_get (children_of i.graph (value a)) selector.place ≡ Some w → value t ≡ w

@@ -12,7 +12,7 @@ use Rattle.ct_terms.specs.CoreTree.{CoreTree, CoreTrees, con, sel, test, apply, 
 use Rattle.ct_terms.specs.CoreSorts.{HasTreeSort, HaveTreeSorts, AreBooleanTrees}
 use Rattle.ct_eval.specs.declared.interp.Interp.{Interp}
 use Rattle.ct_values.specs.TruthValue.{truth, is_built, is_true}
-use Rattle.ct_eval.specs.Evaluation.{is_same, given, select}
+use Rattle.ct_eval.specs.Evaluation.{is_same, table_value, select}
 use Rattle.ct_eval.specs.TreeValue.{tree_value, tree_values}
 use Rattle.ct_eval.proofs.ListLemmas.{slice_get-prefix}
 use Rattle.ct_eval.proofs.MeaningFacts.{Facts, by_test}
@@ -51,7 +51,7 @@ module _ (later earlier : Declarations) (i : Interp) (extends : Extends later ea
     tree_value-lasting (con c ts) sort h = ap (λ (vs : List Value). construct c (values_of vs)) (tree_values-lasting ts h.1 h.4)
     tree_value-lasting (sel s t) sort h = ap (select i s (slice_get later.sels s.0)) (tree_value-lasting t h.1.sort h.4) ∙ ap (λ (o : Option Selector). select i s o (tree_value earlier i t)) (same_selector s h.0 h.2)
     tree_value-lasting (test c t) sort h = ap (λ (v : Value). truth (is_built i.graph c v)) (tree_value-lasting t h.0.sort h.2)
-    tree_value-lasting (apply f ts) sort h = ap (given i (slice_get i.funs f.0)) (tree_values-lasting ts h.0.args h.2)
+    tree_value-lasting (apply f ts) sort h = ap (table_value i (slice_get i.funs f.0)) (tree_values-lasting ts h.0.args h.2)
     tree_value-lasting (equation a b) sort h =
         ap (λ (v : Value). truth (is_same i.graph v (tree_value later i b))) (tree_value-lasting a h.0 h.1) ∙ ap (λ (v : Value). truth (is_same i.graph (tree_value earlier i a) v)) (tree_value-lasting b h.0 h.2)
     tree_value-lasting (negation t) sort h = ap (λ (v : Value). truth (not (is_true i.graph v))) (tree_value-lasting t bool_sort h.0)

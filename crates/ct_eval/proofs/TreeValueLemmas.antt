@@ -12,7 +12,7 @@ use Rattle.ct_terms.specs.Terms.{Terms}
 use Rattle.ct_terms.specs.CoreTree.{CoreTree, trees_of, tree_layer, tree_of_entry, tree_below, term_at}
 use Rattle.ct_eval.specs.declared.interp.Interp.{Interp}
 use Rattle.ct_values.specs.TruthValue.{truth, is_true}
-use Rattle.ct_eval.specs.Evaluation.{given, core_value, layer, value_below, value_of}
+use Rattle.ct_eval.specs.Evaluation.{table_value, core_value, layer, value_below, value_of}
 use Rattle.ct_eval.specs.TreeValue.{tree_value, tree_values}
 use Rattle.ct_eval.proofs.EvaluationLemmas.{list_any-map}
 
@@ -27,7 +27,7 @@ module _ (d : Declarations) (i : Interp) where
   layer_value tree (Con c args) = ap (λ (vs : List Value). construct c (values_of vs)) (values_made tree args)
   layer_value tree (Sel s t) = refl
   layer_value tree (Test c t) = refl
-  layer_value tree (Apply f args) = ap (given i (slice_get i.funs f.0)) (values_made tree args)
+  layer_value tree (Apply f args) = ap (table_value i (slice_get i.funs f.0)) (values_made tree args)
   layer_value tree (Eq a b) = refl
   layer_value tree (Not t) = refl
   layer_value tree (And args) = ap truth (ap (list_all (is_true i.graph)) (values_made tree args) ∙ list_all-map (is_true i.graph) (λ t. tree_value d i (tree t)) args)

@@ -13,11 +13,11 @@ use Rattle.ct_eval.specs.declared.interp.Interp.{Interp}
 use Rattle.ct_eval.specs.declared.interp.Valuation.{Valuation}
 use Rattle.ct_values.specs.TruthValue.{is_head, is_true}
 use Rattle.ct_eval.specs.Evaluation.{value_of}
-use Rattle.ct_eval.specs.Truth.{truth_of}
+use Rattle.ct_eval.specs.Truth.{truth_value}
 use Rattle.ct_eval.specs.Valued.{IsValuation}
 
 -- the term is true where its node is `true`
-pub truth_of-node : ((p q : Point) → AgreeAlways p q ↔ ((head p ≡ head q) × AllZip AgreeAlways (children p) (children q))) → (d : Declarations) (i : Interp) (terms : Terms) (v : Valuation) (t : TermId) → IsValuation d i terms v → (node : NodeId) → slice_get v.nodes t.0 ≡ Some node → is_true v.graph (reference node) ≡ truth_of d i terms t
+pub truth_of-node : ((p q : Point) → AgreeAlways p q ↔ ((head p ≡ head q) × AllZip AgreeAlways (children p) (children q))) → (d : Declarations) (i : Interp) (terms : Terms) (v : Valuation) (t : TermId) → IsValuation d i terms v → (node : NodeId) → slice_get v.nodes t.0 ≡ Some node → is_true v.graph (reference node) ≡ truth_value d i terms t
 truth_of-node always d i terms v t valued node at =
     ap (is_head (record { 0 = 0 })) ((always (node_point v.graph node) (point i.graph (value_of d i terms t))).0 (valued.values t node at).same).0
 

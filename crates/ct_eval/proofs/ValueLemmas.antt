@@ -22,8 +22,8 @@ use Rattle.ct_eval.specs.declared.interp.Interp.{Interp}
 use Rattle.ct_eval.specs.declared.interp.Table.{Table}
 use Rattle.ct_eval.specs.Interpretation.{IsProper}
 use Rattle.ct_values.specs.TruthValue.{truth, is_built, is_true}
-use Rattle.ct_eval.specs.Evaluation.{given, select, core_value, layer, value_below, value_of}
-use Rattle.ct_eval.specs.Truth.{truth_of}
+use Rattle.ct_eval.specs.Evaluation.{table_value, select, core_value, layer, value_below, value_of}
+use Rattle.ct_eval.specs.Truth.{truth_value}
 use Rattle.ct_values.specs.ValueSort.{HasValueSort, AreOfFields}
 use Rattle.ct_eval.proofs.EvaluationLemmas.{value_below-enough}
 use Rattle.ct_eval.proofs.StepSelect.{select_built, select_wrongly}
@@ -55,10 +55,10 @@ module _ (theorems : SortTheorems) (d : Declarations) (i : Interp) (consistent :
   answer_sorted b sort is = subst (Sorted (truth b)) (sym is) (truth_sorted b)
 
   -- what a function gives
-  pub given_sorted : (f : FunId) (function : Function) (values : List Value) → slice_get d.functions f.0 ≡ Some function → Sorted (given i (slice_get i.funs f.0) values) function.result
+  pub given_sorted : (f : FunId) (function : Function) (values : List Value) → slice_get d.functions f.0 ≡ Some function → Sorted (table_value i (slice_get i.funs f.0) values) function.result
   given_sorted f function values declared =
       let table = function_table d i f.0 function proper declared in
-      subst (λ (o : Option Table). Sorted (given i o values) function.result) (sym table.1) (look_up_sorted d i.graph function.args function.result table.0 values table.2)
+      subst (λ (o : Option Table). Sorted (table_value i o values) function.result) (sym table.1) (look_up_sorted d i.graph function.args function.result table.0 values table.2)
 
   -- what a selector gives
   pub select_sorted : (s : SelId) (selector : Selector) (ctor : Constructor) (v : Value) → slice_get d.sels s.0 ≡ Some selector → slice_get d.ctors selector.ctor.0 ≡ Some ctor → Sorted v ctor.sort → Sorted (select i s (slice_get d.sels s.0) v) selector.sort
@@ -99,7 +99,7 @@ module _ (theorems : SortTheorems) (d : Declarations) (i : Interp) (consistent :
         subst (Sorted (select i s (slice_get d.sels s.0) (value t))) (sym h.result) (select_sorted s h.selector h.ctor (value t) h.declared h.constructor (sorted t h.ctor.sort below.0 h.sorted))
     core_sorted n value sorted (Test c t) sort h below = answer_sorted _ sort h.result
     core_sorted n value sorted (Apply f args) sort h below =
-        subst (Sorted (given i (slice_get i.funs f.0) (map value args))) (sym h.result) (given_sorted f h.function (map value args) h.declared)
+        subst (Sorted (table_value i (slice_get i.funs f.0) (map value args))) (sym h.result) (given_sorted f h.function (map value args) h.declared)
     core_sorted n value sorted (Eq a b) sort h below = answer_sorted _ sort h.result
     core_sorted n value sorted (Not t) sort h below = answer_sorted _ sort h.1
     core_sorted n value sorted (And args) sort h below = answer_sorted _ sort h.result
@@ -142,9 +142,9 @@ with_value-not false false = refl
 -- the truth value of a term is that of its literal
 module _ (d : Declarations) (i : Interp) (terms : Terms) (ordered : AreOrdered terms) where
   abbrev by_number : ℕ → Bool
-  by_number k = truth_of d i terms (record { 0 = k })
+  by_number k = truth_value d i terms (record { 0 = k })
 
-  literal_layer : (n : ℕ) (t : TermId) (o : Option (Core × SortId)) → is_true i.graph (layer d i (value_below n d i terms) o) ≡ truth_of d i terms t → ((a : TermId) (s : SortId) → o ≡ Some (Not a, s) → is_true i.graph (value_below n d i terms a) ≡ literal_value by_number (literal_below n terms a)) → is_true i.graph (layer d i (value_below n d i terms) o) ≡ literal_value by_number (literal_step (literal_below n terms) t o)
+  literal_layer : (n : ℕ) (t : TermId) (o : Option (Core × SortId)) → is_true i.graph (layer d i (value_below n d i terms) o) ≡ truth_value d i terms t → ((a : TermId) (s : SortId) → o ≡ Some (Not a, s) → is_true i.graph (value_below n d i terms a) ≡ literal_value by_number (literal_below n terms a)) → is_true i.graph (layer d i (value_below n d i terms) o) ≡ literal_value by_number (literal_step (literal_below n terms) t o)
   literal_layer n t (Some (Not a, s)) own under =
       truth_is i.graph (not (is_true i.graph (value_below n d i terms a))) ∙ ap not (under a s refl) ∙ sym (with_value-not (literal_below n terms a).positive (by_number (literal_below n terms a).term.0))
   literal_layer n t None own under = own
@@ -157,5 +157,5 @@ module _ (d : Declarations) (i : Interp) (terms : Terms) (ordered : AreOrdered t
       literal_layer n t (slice_get terms t.0) (ap (is_true i.graph) (value_below-enough d i terms ordered (suc n) (suc t.0) t within (omega arith)))
       (λ a s e. let below : a.0 < t.0 = (ordered t.0 (Not a) (s, e)).0 in literal_bounded n a (omega arith))
 
-  pub truth_of-literal : (t : TermId) → truth_of d i terms t ≡ literal_value by_number (literal_of terms t)
+  pub truth_of-literal : (t : TermId) → truth_value d i terms t ≡ literal_value by_number (literal_of terms t)
   truth_of-literal t = literal_bounded (suc t.0) t (omega arith)

@@ -21,21 +21,21 @@ abbrev pub is_same : Nodes → Value → Value → Bool
 is_same g v w = same (point g v) (point g w)
 
 -- what a table gives for arguments, as a value; every function and every selector has a table
-abbrev pub given : Interp → Option Table → List Value → Value
-given i None values = truth false
-given i (Some table) values = reference (look_up i.graph table values)
+abbrev pub table_value : Interp → Option Table → List Value → Value
+table_value i None values = truth false
+table_value i (Some table) values = reference (look_up i.graph table values)
 
 -- the value of a selector: the child at its place where the value is built by its constructor, and else what its table gives
 abbrev pub select : Interp → SelId → Option Selector → Value → Value
 select i s None v = v
-select i s (Some selector) v = if is_built i.graph selector.ctor v then unwrap_or (slice_get (children_of i.graph v) selector.place) v else given i (slice_get i.offs s.0) (v ∷ [])
+select i s (Some selector) v = if is_built i.graph selector.ctor v then unwrap_or (slice_get (children_of i.graph v) selector.place) v else table_value i (slice_get i.offs s.0) (v ∷ [])
 
 -- one layer of a term, over the values of the terms under it
 abbrev pub core_value : Declarations → Interp → (TermId → Value) → Core → Value
 core_value d i value (Con c args) = construct c (values_of (map value args))
 core_value d i value (Sel s t) = select i s (slice_get d.sels s.0) (value t)
 core_value d i value (Test c t) = truth (is_built i.graph c (value t))
-core_value d i value (Apply f args) = given i (slice_get i.funs f.0) (map value args)
+core_value d i value (Apply f args) = table_value i (slice_get i.funs f.0) (map value args)
 core_value d i value (Eq a b) = truth (is_same i.graph (value a) (value b))
 core_value d i value (Not t) = truth (not (is_true i.graph (value t)))
 core_value d i value (And args) = truth (list_all (λ t. is_true i.graph (value t)) args)

@@ -58,7 +58,7 @@ abbrev pub HasNode : Nodes → List NodeId → TermId → Type 0
 HasNode g nodes t = (t.0 < length nodes) × ((node_under nodes t).0 < length g)
 
 -- the terms under the term have nodes that are their values, and the term has a sort
-pub record IsReady (d : Declarations) (i : Interp) (g : Nodes) (nodes : List NodeId) (core : Core) : Type 0 where
+pub record IsEvaluable (d : Declarations) (i : Interp) (g : Nodes) (nodes : List NodeId) (core : Core) : Type 0 where
   pub terms : Terms
   pub value : TermId → Value
   pub sort : SortId

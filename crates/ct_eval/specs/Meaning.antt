@@ -15,7 +15,7 @@ use Rattle.ct_terms.specs.Pairs.{neighbours, pairs}
 use Rattle.ct_terms.specs.Calls.{calls}
 use Rattle.ct_eval.specs.declared.interp.Interp.{Interp}
 use Rattle.ct_values.specs.TruthValue.{truth, is_built, is_true}
-use Rattle.ct_eval.specs.Evaluation.{is_same, given, select}
+use Rattle.ct_eval.specs.Evaluation.{is_same, table_value, select}
 use Rattle.ct_eval.specs.TreeValue.{tree_value}
 
 -- exactly one of two is true
@@ -54,9 +54,9 @@ fits g (Ctor c) v = is_built g c v
 fits g Any v = true
 
 -- what the pattern binds, in order: the children of the value, or the value itself
-abbrev pub bound : Nodes → Pattern → Value → List Value
-bound g (Ctor c) v = children_of g v
-bound g Any v = v ∷ []
+abbrev pub matched_values : Nodes → Pattern → Value → List Value
+matched_values g (Ctor c) v = children_of g v
+matched_values g Any v = v ∷ []
 
 abbrev mutual
   -- the meaning of a formula, over what definitions give for values, where each variable stands for a value
@@ -65,7 +65,7 @@ abbrev mutual
   meaning d i call env (Con c ts) = construct c (values_of (meanings d i call env ts))
   meaning d i call env (Sel s t) = select i s (slice_get d.sels s.0) (meaning d i call env t)
   meaning d i call env (Test c t) = truth (is_built i.graph c (meaning d i call env t))
-  meaning d i call env (Apply f ts) = given i (slice_get i.funs f.0) (meanings d i call env ts)
+  meaning d i call env (Apply f ts) = table_value i (slice_get i.funs f.0) (meanings d i call env ts)
   meaning d i call env (Def k ts) = call k (meanings d i call env ts)
   meaning d i call env (Not t) = truth (not (is_true i.graph (meaning d i call env t)))
   meaning d i call env (And ts) = truth (list_all (is_true i.graph) (meanings d i call env ts))
@@ -86,7 +86,7 @@ abbrev mutual
   -- the first case that fits the value, with what its pattern binds
   pub case_meaning : Declarations → Interp → (DefId → List Value → Value) → List Value → Value → Cases → Value
   case_meaning d i call env v no_cases = truth false
-  case_meaning d i call env v (with_case p body cases) = if fits i.graph p v then meaning d i call (bind (bound i.graph p v) env) body else case_meaning d i call env v cases
+  case_meaning d i call env v (with_case p body cases) = if fits i.graph p v then meaning d i call (bind (matched_values i.graph p v) env) body else case_meaning d i call env v cases
 
 -- the meaning of a formula over definitions with these bodies
 abbrev pub eval : Declarations → Interp → List Formula → List Value → Formula → Value

@@ -6,7 +6,7 @@ use Rattle.ct_values.specs.Value.{Value, construct, values_of}
 use Rattle.ct_terms.specs.CoreTree.{CoreTree, CoreTrees, con, sel, test, apply, equation, negation, conjunction, disjunction, equivalence, choice, no_trees, with_tree}
 use Rattle.ct_eval.specs.declared.interp.Interp.{Interp}
 use Rattle.ct_values.specs.TruthValue.{truth, is_built, is_true}
-use Rattle.ct_eval.specs.Evaluation.{is_same, given, select}
+use Rattle.ct_eval.specs.Evaluation.{is_same, table_value, select}
 
 abbrev mutual
   -- the value of a tree
@@ -14,7 +14,7 @@ abbrev mutual
   tree_value d i (con c ts) = construct c (values_of (tree_values d i ts))
   tree_value d i (sel s t) = select i s (slice_get d.sels s.0) (tree_value d i t)
   tree_value d i (test c t) = truth (is_built i.graph c (tree_value d i t))
-  tree_value d i (apply f ts) = given i (slice_get i.funs f.0) (tree_values d i ts)
+  tree_value d i (apply f ts) = table_value i (slice_get i.funs f.0) (tree_values d i ts)
   tree_value d i (equation a b) = truth (is_same i.graph (tree_value d i a) (tree_value d i b))
   tree_value d i (negation t) = truth (not (is_true i.graph (tree_value d i t)))
   tree_value d i (conjunction ts) = truth (list_all (is_true i.graph) (tree_values d i ts))

@@ -12,7 +12,7 @@ ghost use Rattle.ct_eval.specs.Interpretation.{IsProper, FitsTable};
 ghost use Rattle.ct_eval.specs.LookUp.{look_up};
 ghost use Rattle.ct_eval.specs.Index.{IsIndex, AreRepresentatives};
 ghost use Rattle.ct_eval.specs.Valued.{IsLonger};
-ghost use Rattle.ct_eval.specs.EvaluationStep.{IsReady, IsNodeFor};
+ghost use Rattle.ct_eval.specs.EvaluationStep.{IsEvaluable, IsNodeFor};
 
 use crate::error::EvalError;
 use crate::index::{Index, found};
@@ -36,7 +36,7 @@ pub(crate) fn apply(
     requires longer { IsLonger interp.now.graph shared.now }
     requires funs { IsIndex interp.now.graph interp.now.funs funs.now }
     requires ready { (d : Declarations) × IsProper d interp.now
-        × IsReady d interp.now shared.now nodes.now (Core.Apply f args.now) }
+        × IsEvaluable d interp.now shared.now nodes.now (Core.Apply f args.now) }
     ensures value { (d : Declarations)
         → IsProper d interp.now
         → FitsGraph d shared.now

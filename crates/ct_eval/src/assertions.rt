@@ -5,7 +5,7 @@ ghost use Rattle.ct_sorts.specs.Declarations.{Declarations};
 ghost use Rattle.ct_terms.specs.Terms.{Terms, AreSorted, IsBoolean};
 ghost use Rattle.ct_eval.specs.Interpretation.{IsProper};
 ghost use Rattle.ct_eval.specs.declared.interp.Interp.{Interp};
-ghost use Rattle.ct_eval.specs.Truth.{truth_of, Holds, IsFirstUntrue};
+ghost use Rattle.ct_eval.specs.Truth.{truth_value, Holds, IsFirstUntrue};
 ghost use Rattle.ct_eval.specs.Valued.{IsValuation};
 
 use crate::boolean::TRUE;
@@ -59,7 +59,7 @@ fn is_true(valuation: &Valuation, t: TermId) -> bool
     requires nodes { All (λ n. n.0 < length valuation.now.graph) valuation.now.nodes }
     ensures truth { (d : Declarations) (i : Interp) (terms : Terms)
         → IsValuation d i terms valuation.now
-        → result ≡ truth_of d i terms t }
+        → result ≡ truth_value d i terms t }
 {
     agreement();
     let node = valuation.nodes.as_slice()[t.0 as usize];

@@ -7,7 +7,7 @@ ghost use Rattle.ct_values.specs.Value.{reference, construct, no_values};
 ghost use Rattle.ct_values.specs.Fitting.{FitsGraph};
 ghost use Rattle.ct_eval.specs.declared.interp.Interp.{Interp};
 ghost use Rattle.ct_values.specs.TruthValue.{truth, is_true};
-ghost use Rattle.ct_eval.specs.EvaluationStep.{IsGrown, HasNode, node_under, IsReady, IsResult, IsNodeFor};
+ghost use Rattle.ct_eval.specs.EvaluationStep.{IsGrown, HasNode, node_under, IsEvaluable, IsResult, IsNodeFor};
 
 use crate::error::EvalError;
 use crate::interp::Interp;
@@ -31,7 +31,7 @@ pub(crate) fn test(
     c: CtorId,
     t: TermId,
 ) -> Result<NodeId, EvalError>
-    requires ready { (d : Declarations) × (i : Interp) × IsReady d i shared.old nodes.now (Core.Test c t) }
+    requires ready { (d : Declarations) × (i : Interp) × IsEvaluable d i shared.old nodes.now (Core.Test c t) }
     ensures grown { IfOk result (IsGrown shared.old shared.new) }
     ensures value { (d : Declarations) (i : Interp)
         → IsConsistent d
@@ -52,7 +52,7 @@ pub(crate) fn equate(
     a: TermId,
     b: TermId,
 ) -> Result<NodeId, EvalError>
-    requires ready { (d : Declarations) × IsReady d interp.now shared.old nodes.now (Core.Eq a b) }
+    requires ready { (d : Declarations) × IsEvaluable d interp.now shared.old nodes.now (Core.Eq a b) }
     ensures grown { IfOk result (IsGrown shared.old shared.new) }
     ensures value { (d : Declarations)
         → IsConsistent d
@@ -72,7 +72,7 @@ pub(crate) fn negate(
     nodes: &[NodeId],
     t: TermId,
 ) -> Result<NodeId, EvalError>
-    requires ready { (d : Declarations) × (i : Interp) × IsReady d i shared.old nodes.now (Core.Not t) }
+    requires ready { (d : Declarations) × (i : Interp) × IsEvaluable d i shared.old nodes.now (Core.Not t) }
     ensures grown { IfOk result (IsGrown shared.old shared.new) }
     ensures value { (d : Declarations) (i : Interp)
         → IsConsistent d
@@ -91,7 +91,7 @@ pub(crate) fn conjoin(
     nodes: &[NodeId],
     args: &[TermId],
 ) -> Result<NodeId, EvalError>
-    requires ready { (d : Declarations) × (i : Interp) × IsReady d i shared.old nodes.now (Core.And args.now) }
+    requires ready { (d : Declarations) × (i : Interp) × IsEvaluable d i shared.old nodes.now (Core.And args.now) }
     ensures grown { IfOk result (IsGrown shared.old shared.new) }
     ensures value { (d : Declarations) (i : Interp)
         → IsConsistent d
@@ -110,7 +110,7 @@ pub(crate) fn disjoin(
     nodes: &[NodeId],
     args: &[TermId],
 ) -> Result<NodeId, EvalError>
-    requires ready { (d : Declarations) × (i : Interp) × IsReady d i shared.old nodes.now (Core.Or args.now) }
+    requires ready { (d : Declarations) × (i : Interp) × IsEvaluable d i shared.old nodes.now (Core.Or args.now) }
     ensures grown { IfOk result (IsGrown shared.old shared.new) }
     ensures value { (d : Declarations) (i : Interp)
         → IsConsistent d
@@ -130,7 +130,7 @@ pub(crate) fn compare(
     a: TermId,
     b: TermId,
 ) -> Result<NodeId, EvalError>
-    requires ready { (d : Declarations) × (i : Interp) × IsReady d i shared.old nodes.now (Core.Iff a b) }
+    requires ready { (d : Declarations) × (i : Interp) × IsEvaluable d i shared.old nodes.now (Core.Iff a b) }
     ensures grown { IfOk result (IsGrown shared.old shared.new) }
     ensures value { (d : Declarations) (i : Interp)
         → IsConsistent d

@@ -14,7 +14,7 @@ ghost use Rattle.ct_values.specs.TruthValue.{is_built};
 ghost use Rattle.ct_eval.specs.LookUp.{look_up};
 ghost use Rattle.ct_eval.specs.Index.{IsIndex};
 ghost use Rattle.ct_eval.specs.Valued.{IsLonger};
-ghost use Rattle.ct_eval.specs.EvaluationStep.{HasValue, IsReady, IsNodeFor};
+ghost use Rattle.ct_eval.specs.EvaluationStep.{HasValue, IsEvaluable, IsNodeFor};
 
 use crate::application::given;
 use crate::error::EvalError;
@@ -42,7 +42,7 @@ pub(crate) fn select(
     requires longer { IsLonger interp.now.graph shared.now }
     requires fits { FitsGraph sig.now shared.now }
     requires offs { IsIndex interp.now.graph interp.now.offs offs.now }
-    requires ready { IsReady sig.now interp.now shared.now nodes.now (Core.Sel s t) }
+    requires ready { IsEvaluable sig.now interp.now shared.now nodes.now (Core.Sel s t) }
     ensures value { IfOk result (IsNodeFor sig.now interp.now shared.now shared.now nodes.now (Core.Sel s t)) }
 {
     theorems(shared);

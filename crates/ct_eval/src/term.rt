@@ -15,7 +15,7 @@ ghost use Rattle.ct_eval.specs.Interpretation.{IsProper};
 ghost use Rattle.ct_eval.specs.Evaluation.{core_value};
 ghost use Rattle.ct_eval.specs.Index.{IsIndex};
 ghost use Rattle.ct_eval.specs.Valued.{IsLonger};
-ghost use Rattle.ct_eval.specs.EvaluationStep.{HasValue, AreValued, IsGrown, IsReady, IsNodeFor};
+ghost use Rattle.ct_eval.specs.EvaluationStep.{HasValue, AreValued, IsGrown, IsEvaluable, IsNodeFor};
 
 use crate::application::apply;
 use crate::boolean::{compare, conjoin, disjoin, equate, is_true, negate, test};
@@ -47,7 +47,7 @@ pub(crate) fn node_of_term(
     requires funs { IsIndex interp.now.graph interp.now.funs funs.now }
     requires offs { IsIndex interp.now.graph interp.now.offs offs.now }
     requires below { HasArgumentsBelow (length nodes.now) core.now }
-    requires ready { IsReady sig.now interp.now shared.old nodes.now core.now }
+    requires ready { IsEvaluable sig.now interp.now shared.old nodes.now core.now }
     ensures grown { IfOk result (IsGrown shared.old shared.new) }
     ensures value { (terms : Terms) (value : TermId → Value) (sort : SortId)
         → AreValued sig.now interp.now terms shared.old nodes.now value
@@ -78,7 +78,7 @@ fn construct(
     c: CtorId,
     args: &[TermId],
 ) -> Result<NodeId, EvalError>
-    requires ready { (d : Declarations) × (i : Interp) × IsReady d i shared.old nodes.now (Core.Con c args.now) }
+    requires ready { (d : Declarations) × (i : Interp) × IsEvaluable d i shared.old nodes.now (Core.Con c args.now) }
     ensures grown { IfOk result (IsGrown shared.old shared.new) }
     ensures value { (d : Declarations) (i : Interp)
         → FitsGraph d shared.old
@@ -91,7 +91,7 @@ fn construct(
 
 // The node of the second term where the first is true, and else of the third.
 fn choose(shared: &SharedGraph, nodes: &[NodeId], c: TermId, a: TermId, b: TermId) -> NodeId
-    requires ready { (d : Declarations) × (i : Interp) × IsReady d i shared.now nodes.now (Core.Ite c a b) }
+    requires ready { (d : Declarations) × (i : Interp) × IsEvaluable d i shared.now nodes.now (Core.Ite c a b) }
     ensures value { (d : Declarations) (i : Interp)
         → FitsGraph d shared.now
         → IsNodeFor d i shared.now shared.now nodes.now (Core.Ite c a b) result }

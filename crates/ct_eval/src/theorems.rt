@@ -24,10 +24,10 @@ ghost use Rattle.ct_eval.specs.declared.interp.Table.{Table};
 ghost use Rattle.ct_eval.specs.declared.interp.Interp.{Interp};
 ghost use Rattle.ct_eval.specs.Interpretation.{IsProper};
 ghost use Rattle.ct_eval.specs.LookUp.{look_up};
-ghost use Rattle.ct_eval.specs.Evaluation.{given, select, value_of, core_value};
+ghost use Rattle.ct_eval.specs.Evaluation.{table_value, select, value_of, core_value};
 ghost use Rattle.ct_eval.specs.Congruence.{AreCongruent, HaveOneValue};
 ghost use Rattle.ct_eval.specs.Appended.{IsTableOver, IsClosedInterp, with_nodes};
-ghost use Rattle.ct_eval.specs.Truth.{truth_of};
+ghost use Rattle.ct_eval.specs.Truth.{truth_value};
 
 use ct_sorts::structure;
 use ct_values::{agreement, boolean_values, fitting_graphs, longer_graphs, well_sorted_values};
@@ -72,12 +72,12 @@ pub fn evaluation()
         → AreSorted d terms
         → IsBoolean terms t
         → AgreeAlways (point i.graph (value_of d i terms t))
-        (point i.graph (truth (truth_of d i terms t))) }
+        (point i.graph (truth (truth_value d i terms t))) }
 
     // The truth value of a term is that of its literal.
     ensures literals { (d : Declarations) (i : Interp) (terms : Terms) (t : TermId)
         → AreOrdered terms
-        → truth_of d i terms t ≡ literal_value (λ k. truth_of d i terms (record { 0 = k }))
+        → truth_value d i terms t ≡ literal_value (λ k. truth_value d i terms (record { 0 = k }))
         (literal_of terms t) }
 {
     well_sorted_values();
@@ -122,7 +122,7 @@ pub fn congruence()
     // Terms whose values are the same have one truth value.
     ensures truth { (d : Declarations) (i : Interp) (terms : Terms) (t u : TermId)
         → HaveOneValue i (value_of d i terms) (value_of d i terms) t u
-        → truth_of d i terms t ≡ truth_of d i terms u }
+        → truth_value d i terms t ≡ truth_value d i terms u }
 {
     agreement();
 }
@@ -134,37 +134,37 @@ pub fn truth_values()
         (s : SortId)
         → AreOrdered terms
         → slice_get terms t.0 ≡ Some (Test c a, s)
-        → truth_of d i terms t ≡ is_built i.graph c (value_of d i terms a) }
+        → truth_value d i terms t ≡ is_built i.graph c (value_of d i terms a) }
     ensures equality { (d : Declarations) (i : Interp) (terms : Terms) (t a b : TermId) (s : SortId)
         → IsClosed i.graph
         → AreOrdered terms
         → slice_get terms t.0 ≡ Some (Eq a b, s)
-        → (truth_of d i terms t ≡ true)
+        → (truth_value d i terms t ≡ true)
         ↔ HaveOneValue i (value_of d i terms) (value_of d i terms) a b }
     ensures negation { (d : Declarations) (i : Interp) (terms : Terms) (t a : TermId) (s : SortId)
         → AreOrdered terms
         → slice_get terms t.0 ≡ Some (Not a, s)
-        → truth_of d i terms t ≡ not (truth_of d i terms a) }
+        → truth_value d i terms t ≡ not (truth_value d i terms a) }
     ensures conjunction { (d : Declarations) (i : Interp) (terms : Terms) (t : TermId)
         (args : List TermId) (s : SortId)
         → AreOrdered terms
         → slice_get terms t.0 ≡ Some (And args, s)
-        → truth_of d i terms t ≡ list_all (truth_of d i terms) args }
+        → truth_value d i terms t ≡ list_all (truth_value d i terms) args }
     ensures disjunction { (d : Declarations) (i : Interp) (terms : Terms) (t : TermId)
         (args : List TermId) (s : SortId)
         → AreOrdered terms
         → slice_get terms t.0 ≡ Some (Or args, s)
-        → truth_of d i terms t ≡ list_any (truth_of d i terms) args }
+        → truth_value d i terms t ≡ list_any (truth_value d i terms) args }
     ensures equivalence { (d : Declarations) (i : Interp) (terms : Terms) (t a b : TermId)
         (s : SortId)
         → AreOrdered terms
         → slice_get terms t.0 ≡ Some (Iff a b, s)
-        → (truth_of d i terms t ≡ true) ↔ (truth_of d i terms a ≡ truth_of d i terms b) }
+        → (truth_value d i terms t ≡ true) ↔ (truth_value d i terms a ≡ truth_value d i terms b) }
     ensures choice { (d : Declarations) (i : Interp) (terms : Terms) (t c a b : TermId) (s : SortId)
         → AreOrdered terms
         → slice_get terms t.0 ≡ Some (Ite c a b, s)
         → value_of d i terms t
-        ≡ (if truth_of d i terms c then value_of d i terms a else value_of d i terms b) }
+        ≡ (if truth_value d i terms c then value_of d i terms a else value_of d i terms b) }
 {
     agreement();
 }
@@ -203,7 +203,7 @@ pub fn constructor_terms()
         → slice_get terms t.0 ≡ Some (Sel s a, r)
         → slice_get d.sels s.0 ≡ Some selector
         → is_built i.graph selector.ctor (value_of d i terms a) ≡ false
-        → value_of d i terms t ≡ given i (slice_get i.offs s.0) (value_of d i terms a ∷ []) }
+        → value_of d i terms t ≡ table_value i (slice_get i.offs s.0) (value_of d i terms a ∷ []) }
 
     // Where the term is a constructor's application itself, it is the argument at its index.
     ensures argument { (d : Declarations) (i : Interp) (terms : Terms) (t a b : TermId)
@@ -242,7 +242,7 @@ pub fn appended_nodes()
     ensures truth { (d : Declarations) (i : Interp) (more : Nodes) (terms : Terms) (t : TermId)
         → IsClosedInterp i
         → IsClosed (i.graph ++ more)
-        → truth_of d (with_nodes i more) terms t ≡ truth_of d i terms t }
+        → truth_value d (with_nodes i more) terms t ≡ truth_value d i terms t }
 {
     structure();
     agreement();

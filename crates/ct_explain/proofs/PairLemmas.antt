@@ -10,17 +10,17 @@ use Rattle.ct_log.specs.declared.rules.Pair as pairs
 use Rattle.ct_log.specs.declared.rules.EqStep.TheVariants as step
 use Rattle.ct_log.specs.Equations.{Gave, IsEntryFor, AreEntriesFor}
 use Rattle.ct_congr.specs.State.{State}
-use Rattle.ct_explain.specs.Writing.{Written, IsStep, IsGrown}
+use Rattle.ct_explain.specs.Writing.{Written, IsStep, HasWrittenMore}
 use Rattle.ct_explain.specs.Pairs.{ToldEntry, ToldEntries, IsPairTold, ArePairsTold}
 use Rattle.ct_explain.proofs.ListLemmas.{take-next}
 use Rattle.ct_explain.proofs.WritingLemmas.{Told-later}
 
-ToldEntry-later : (state : State) (old new : Written) (equations : List Equation) (entry : Entry) (x y : TermId) → IsGrown state old new → ToldEntry old equations entry x y → ToldEntry new equations entry x y
+ToldEntry-later : (state : State) (old new : Written) (equations : List Equation) (entry : Entry) (x y : TermId) → HasWrittenMore state old new → ToldEntry old equations entry x y → ToldEntry new equations entry x y
 ToldEntry-later state old new equations (Step i) x y grown told = Told-later state old new i x y grown told
 ToldEntry-later state old new equations (Pair k i j) x y grown told =
     (told.0, told.1, Told-later state old new i x told.0.left grown told.2, Told-later state old new j told.0.right y grown told.3)
 
-ToldEntries-later : (state : State) (old new : Written) (equations : List Equation) (es : List Entry) (xs ys : List TermId) → IsGrown state old new → ToldEntries old equations es xs ys → ToldEntries new equations es xs ys
+ToldEntries-later : (state : State) (old new : Written) (equations : List Equation) (es : List Entry) (xs ys : List TermId) → HasWrittenMore state old new → ToldEntries old equations es xs ys → ToldEntries new equations es xs ys
 ToldEntries-later state old new equations [] [] [] grown told = tt
 ToldEntries-later state old new equations [] [] (b ∷ ys) grown told = absurd told
 ToldEntries-later state old new equations [] (a ∷ xs) [] grown told = absurd told
@@ -43,7 +43,7 @@ ToldEntries-push w equations (f ∷ es) (a ∷ xs) (b ∷ ys) e x y told last = 
 
 -- the entry of the next two terms after those of the terms before
 pub ToldEntries-next : (state : State) (old new : Written) (equations : List Equation) (es all : List Entry) (xs ys : List TermId) (i : ℕ) (entry : Entry) (d e : TermId)
-    → IsGrown state old new → i < length xs → length xs ≡ length ys → all ≡ es ++ entry ∷ []
+    → HasWrittenMore state old new → i < length xs → length xs ≡ length ys → all ≡ es ++ entry ∷ []
     → ToldEntries old equations es (take i xs) (take i ys) → ToldEntry new equations entry (get_or xs i d) (get_or ys i e)
     → ToldEntries new equations all (take (i + 1) xs) (take (i + 1) ys)
 ToldEntries-next state old new equations es all xs ys i entry d e grown within long all_are told last =
@@ -53,7 +53,7 @@ ToldEntries-next state old new equations es all xs ys i entry d e grown within l
     rw (all_are, take-next xs i (get_or xs i d) x_at, take-next ys i (get_or ys i e) y_at)
     (ToldEntries-push new equations es (take i xs) (take i ys) entry (get_or xs i d) (get_or ys i e) now last)
 
-IsPairTold-later : (state : State) (terms : Terms) (old new : Written) (equations : List Equation) (e : Equation) (p : pairs.Pair) → IsGrown state old new → IsPairTold terms old equations e p → IsPairTold terms new equations e p
+IsPairTold-later : (state : State) (terms : Terms) (old new : Written) (equations : List Equation) (e : Equation) (p : pairs.Pair) → HasWrittenMore state old new → IsPairTold terms old equations e p → IsPairTold terms new equations e p
 IsPairTold-later state terms old new equations e p grown told = record {
   left = told.left;
   right = told.right;
@@ -65,7 +65,7 @@ IsPairTold-later state terms old new equations e p grown told = record {
   entries = ToldEntries-later state old new equations p.entries told.xs told.ys grown told.entries;
 }
 
-ArePairsTold-later : (state : State) (terms : Terms) (old new : Written) (equations es : List Equation) (ps : List pairs.Pair) → IsGrown state old new → ArePairsTold terms old equations es ps → ArePairsTold terms new equations es ps
+ArePairsTold-later : (state : State) (terms : Terms) (old new : Written) (equations es : List Equation) (ps : List pairs.Pair) → HasWrittenMore state old new → ArePairsTold terms old equations es ps → ArePairsTold terms new equations es ps
 ArePairsTold-later state terms old new equations [] [] grown told = tt
 ArePairsTold-later state terms old new equations [] (p ∷ ps) grown told = absurd told
 ArePairsTold-later state terms old new equations (e ∷ es) [] grown told = absurd told
@@ -80,7 +80,7 @@ ArePairsTold-push terms w equations (f ∷ es) (q ∷ ps) e p told last = (told.
 
 -- the pair of the next equation after those before
 pub ArePairsTold-next : (state : State) (terms : Terms) (old new : Written) (equations : List Equation) (ps all : List pairs.Pair) (i : ℕ) (p : pairs.Pair) (d : Equation)
-    → IsGrown state old new → i < length equations → all ≡ ps ++ p ∷ []
+    → HasWrittenMore state old new → i < length equations → all ≡ ps ++ p ∷ []
     → ArePairsTold terms old equations (take i equations) ps → IsPairTold terms new equations (get_or equations i d) p
     → ArePairsTold terms new equations (take (i + 1) equations) all
 ArePairsTold-next state terms old new equations ps all i p d grown within all_are told last =

@@ -22,7 +22,7 @@ use Rattle.ct_congr.specs.State.{State}
 use Rattle.ct_explain.specs.declared.forest.Link.{Link}
 use Rattle.ct_explain.specs.Trees.{HasRoot, IsForestOf, IsForestOfClasses, IsForestPath, IsRoute}
 use Rattle.ct_explain.specs.Premises.{IsOver, HasNoPremise}
-use Rattle.ct_explain.specs.Resting.{IsPaved, IsDetour, IsMatching, IsPavedBy, IsEntryPaved, AreEntriesPaved, AreArgumentsPaved, IsEntry, AreEntries, AreArgumentsMatched, IsLone, Rests, IsMarked, IsMarkedBelow, AreMarkedMore, HasNumber, IsReady}
+use Rattle.ct_explain.specs.Resting.{IsPaved, IsDetour, IsMatching, IsPavedBy, IsEntryPaved, AreEntriesPaved, AreArgumentsPaved, IsEntry, AreEntries, AreArgumentsMatched, IsLone, Rests, IsMarked, IsMarkedBelow, AreMarkedMore, HasNumber, AreEqualAlong}
 use Rattle.ct_explain.proofs.ListLemmas.{nat_cases, slice_get-from_Contains, Contains-from_slice_get, slice_get-set_same, slice_get-set_other}
 use Rattle.ct_explain.proofs.ReasonLemmas.{one_under}
 use Rattle.ct_explain.proofs.StepLemmas.{Has-same}
@@ -369,7 +369,7 @@ module _ (terms table : Terms) (t u : TermId) (left right : Core) (xs ys : List 
 -- the arguments of congruent terms are ready
 pub read_ready : (terms table : Terms) (t u : TermId) (left right : Core) (xs ys : List TermId) → AreRead terms table t u left right xs ys
     → (links : List (Option Link)) (known : Equations) (has : ℕ → Type 0) → AreArgumentsMatched terms known [] t u → AreArgumentsPaved terms links known has [] t u
-    → (i : ℕ) (x y : TermId) → slice_get xs i ≡ Some x → slice_get ys i ≡ Some y → IsReady terms links known has x y
+    → (i : ℕ) (x y : TermId) → slice_get xs i ≡ Some x → slice_get ys i ≡ Some y → AreEqualAlong terms links known has x y
 read_ready terms table t u left right xs ys read links known has matched paved i x y at_x at_y =
     let entry = read_entries terms table t u left right xs ys read known [] matched i x y at_x at_y in
     let equal = matched_alone known x y entry.matched in
@@ -381,11 +381,11 @@ read_ready terms table t u left right xs ys read links known has matched paved i
 
 -- the two ways by an equation, and the one way
 pub first_ready : (terms : Terms) (links : List (Option Link)) (known : Equations) (has : ℕ → Type 0) (equations : List Equation) (x y : TermId) (f : ℕ × Equation)
-    → IsEntry terms known equations x y → IsEntryPaved links known has equations x y → IsDetour known equations x y (Some f) → IsReady terms links known has x f.1.left
+    → IsEntry terms known equations x y → IsEntryPaved links known has equations x y → IsDetour known equations x y (Some f) → AreEqualAlong terms links known has x f.1.left
 first_ready terms links known has equations x y f entry paved is = record { inside = entry.left; equal = is.1.left; paved = (paved (Some f) is).0 }
 
 pub second_ready : (terms : Terms) (links : List (Option Link)) (known : Equations) (has : ℕ → Type 0) (equations : List Equation) (x y : TermId) (f : ℕ × Equation)
-    → AreAllMatched terms known equations → IsEntryPaved links known has equations x y → IsDetour known equations x y (Some f) → IsReady terms links known has f.1.right y
+    → AreAllMatched terms known equations → IsEntryPaved links known has equations x y → IsDetour known equations x y (Some f) → AreEqualAlong terms links known has f.1.right y
 second_ready terms links known has equations x y f all paved is = record {
   inside = (sides_within terms known equations f.1 all (Contains-from_slice_get equations f.0 f.1 is.1.at)).1;
   equal = is.1.right;
@@ -393,7 +393,7 @@ second_ready terms links known has equations x y f all paved is = record {
 }
 
 pub alone_ready : (terms : Terms) (links : List (Option Link)) (known : Equations) (has : ℕ → Type 0) (equations : List Equation) (x y : TermId)
-    → IsEntry terms known equations x y → IsEntryPaved links known has equations x y → IsDetour known equations x y None → IsReady terms links known has x y
+    → IsEntry terms known equations x y → IsEntryPaved links known has equations x y → IsDetour known equations x y None → AreEqualAlong terms links known has x y
 alone_ready terms links known has equations x y entry paved is = record { inside = entry.left; equal = is; paved = paved None is }
 
 -- however they are matched, their ways were paved
@@ -475,12 +475,12 @@ rests_numbered terms links known marks done k right why before p = rests_more li
 
 -- the way of a ready premise is a route of merges with the property
 pub ready_route : (state : State) (links : List (Option Link)) (b : ℕ) (has : ℕ → Type 0) (x y : TermId) (slice path : List ℕ) → IsForestOfClasses state links
-    → IsReady state.terms links (AreConnected (take b state.merges)) has x y → ((r s : TermId) → HasRoot links x r → HasRoot links y s → IsForestPath links x y path) → slice ≡ path → IsRoute state.merges x slice y
+    → AreEqualAlong state.terms links (AreConnected (take b state.merges)) has x y → ((r s : TermId) → HasRoot links x r → HasRoot links y s → IsForestPath links x y path) → slice ≡ path → IsRoute state.merges x slice y
 ready_route state links b has x y slice path forest ready ways same =
     subst (λ (l : List ℕ). IsRoute state.merges x l y) (sym same) (route_of_path state links b x y path forest ready.inside ready.equal ways).1
 
 pub ready_paved : (state : State) (links : List (Option Link)) (b : ℕ) (has : ℕ → Type 0) (x y : TermId) (slice path : List ℕ) → IsForestOfClasses state links
-    → IsReady state.terms links (AreConnected (take b state.merges)) has x y → ((r s : TermId) → HasRoot links x r → HasRoot links y s → IsForestPath links x y path) → slice ≡ path
+    → AreEqualAlong state.terms links (AreConnected (take b state.merges)) has x y → ((r s : TermId) → HasRoot links x r → HasRoot links y s → IsForestPath links x y path) → slice ≡ path
     → (k : ℕ) → Contains slice k → has k
 ready_paved state links b has x y slice path forest ready ways same k inside =
     ready.paved path (route_of_path state links b x y path forest ready.inside ready.equal ways).0 k (subst (λ (l : List ℕ). Contains l k) same inside)

@@ -16,7 +16,7 @@ use Rattle.ct_congr.specs.declared.merge.Reason.TheVariants as reason
 use Rattle.ct_congr.specs.State.{State}
 use Rattle.ct_explain.specs.declared.premises.Rule.{Rule}
 use Rattle.ct_explain.specs.declared.premises.Rule.TheVariants.{Inject, Sel, Test, Expand, EqualIn, EqualOut, Neg}
-use Rattle.ct_explain.specs.Writing.{Written, Told, ToldEach, Names, IsStep, IsGrown}
+use Rattle.ct_explain.specs.Writing.{Written, Told, ToldEach, Names, IsStep, HasWrittenMore}
 use Rattle.ct_explain.specs.Premises.{HasReason, IsPremise, step_by}
 use Rattle.ct_explain.proofs.ListLemmas.{slice_get-append_left, take-next}
 
@@ -107,7 +107,7 @@ GaveEach-more given more (m ∷ ns) [] (b ∷ ys) each = absurd each
 GaveEach-more given more (m ∷ ns) (a ∷ xs) [] each = absurd each
 GaveEach-more given more (m ∷ ns) (a ∷ xs) (b ∷ ys) each = (slice_get-append_left given more m (equation a b) each.0, GaveEach-more given more ns xs ys each.1)
 
-ToldEach-later : (state : State) (old new : Written) (ns : List ℕ) (xs ys : List TermId) → IsGrown state old new → ToldEach old ns xs ys → ToldEach new ns xs ys
+ToldEach-later : (state : State) (old new : Written) (ns : List ℕ) (xs ys : List TermId) → HasWrittenMore state old new → ToldEach old ns xs ys → ToldEach new ns xs ys
 ToldEach-later state old new ns xs ys grown told = λ before long.
     subst (λ (l : List Equation). GaveEach (before ++ l) ns xs ys) (sym grown.stated)
     (subst (λ (l : List Equation). GaveEach l ns xs ys) (append_assoc before old.stated grown.more)
@@ -115,7 +115,7 @@ ToldEach-later state old new ns xs ys grown told = λ before long.
 
 -- the steps of the next two terms after those of the terms before
 pub ToldEach-next : (state : State) (old new : Written) (ns all : List ℕ) (xs ys : List TermId) (i n : ℕ) (d e : TermId)
-    → IsGrown state old new → i < length xs → length xs ≡ length ys → all ≡ ns ++ n ∷ []
+    → HasWrittenMore state old new → i < length xs → length xs ≡ length ys → all ≡ ns ++ n ∷ []
     → ToldEach old ns (take i xs) (take i ys) → Told new n (get_or xs i d) (get_or ys i e)
     → ToldEach new all (take (i + 1) xs) (take (i + 1) ys)
 ToldEach-next state old new ns all xs ys i n d e grown within long all_are told last =

@@ -9,7 +9,7 @@ use Rattle.ct_log.specs.declared.rules.EqStep.{EqStep}
 use Rattle.ct_log.specs.Equations.{equation, Gives}
 use Rattle.ct_congr.specs.declared.merge.Merge.{Merge}
 use Rattle.ct_congr.specs.State.{State}
-use Rattle.ct_explain.specs.Writing.{Written, Told, Names, IsStep, AreWritten, IsGrown, AreDone, HasCome}
+use Rattle.ct_explain.specs.Writing.{Written, Told, Names, IsStep, AreWritten, HasWrittenMore, AreDone, HasCome}
 use Rattle.ct_explain.proofs.ListLemmas.{slice_get-push_cases, slice_get-append_left, slice_get-append_right, slice_get-last, Contains-append_left, Contains-last, Contains-push_cases}
 
 -- the last step states its equation
@@ -79,20 +79,20 @@ AreWritten-push state w step x y is old = record {
 -- so the written ones have grown
 pub grown_by_step : (state : State) (w : Written) (step : EqStep) (x y : TermId) (steps : List EqStep) (stated : List Equation)
     → steps ≡ w.steps ++ step ∷ [] → stated ≡ w.stated ++ equation x y ∷ [] → IsStep state w step x y
-    → IsGrown state w (record { first = w.first; steps = steps; stated = stated })
+    → HasWrittenMore state w (record { first = w.first; steps = steps; stated = stated })
 grown_by_step state w step x y steps stated steps_are stated_are is =
-    let exact : IsGrown state w (pushed w step (equation x y)) = record { first = refl; more = equation x y ∷ []; stated = refl; valid = AreWritten-push state w step x y is } in
+    let exact : HasWrittenMore state w (pushed w step (equation x y)) = record { first = refl; more = equation x y ∷ []; stated = refl; valid = AreWritten-push state w step x y is } in
     rw (steps_are, stated_are) exact
 
 -- nothing more, and more after more
-pub IsGrown-none : (state : State) (w : Written) → IsGrown state w w
+pub IsGrown-none : (state : State) (w : Written) → HasWrittenMore state w w
 IsGrown-none state w = record { first = refl; more = []; stated = sym (append-nil w.stated); valid = λ h. h }
   where
     append-nil : (xs : List Equation) → xs ++ [] ≡ xs
     append-nil [] = refl
     append-nil (x ∷ xs) = ap (λ (l : List Equation). x ∷ l) (append-nil xs)
 
-pub IsGrown-then : (state : State) (a b c : Written) → IsGrown state a b → IsGrown state b c → IsGrown state a c
+pub IsGrown-then : (state : State) (a b c : Written) → HasWrittenMore state a b → HasWrittenMore state b c → HasWrittenMore state a c
 IsGrown-then state a b c p q = record {
   first = q.first ∙ p.first;
   more = p.more ++ q.more;
@@ -101,17 +101,17 @@ IsGrown-then state a b c p q = record {
 }
 
 -- what was told still is
-pub Told-later : (state : State) (old new : Written) (n : ℕ) (x y : TermId) → IsGrown state old new → Told old n x y → Told new n x y
+pub Told-later : (state : State) (old new : Written) (n : ℕ) (x y : TermId) → HasWrittenMore state old new → Told old n x y → Told new n x y
 Told-later state old new n x y grown told = λ before long.
     subst (λ (l : List Equation). slice_get (before ++ l) n ≡ Some (equation x y)) (sym grown.stated)
     (subst (λ (l : List Equation). slice_get l n ≡ Some (equation x y)) (append_assoc before old.stated grown.more)
     (slice_get-append_left (before ++ old.stated) grown.more n (equation x y) (told before (long ∙ grown.first))))
 
 -- so is how far a way has come
-pub HasCome-later : (state : State) (old new : Written) (a at : TermId) (n : Option ℕ) → IsGrown state old new → HasCome old a at n → HasCome new a at n
+pub HasCome-later : (state : State) (old new : Written) (a at : TermId) (n : Option ℕ) → HasWrittenMore state old new → HasCome old a at n → HasCome new a at n
 HasCome-later state old new a at None grown come = come
 HasCome-later state old new a at (Some n) grown come = Told-later state old new n a at grown come
 
 -- and the steps of merges
-pub AreDone-later : (state : State) (old new : Written) (merges : List Merge) (done : List (Option ℕ)) → IsGrown state old new → AreDone old merges done → AreDone new merges done
+pub AreDone-later : (state : State) (old new : Written) (merges : List Merge) (done : List (Option ℕ)) → HasWrittenMore state old new → AreDone old merges done → AreDone new merges done
 AreDone-later state old new merges done grown are = λ k n m at_done at_merge. Told-later state old new n m.left m.right grown (are k n m at_done at_merge)

@@ -75,7 +75,7 @@ pub record AreArgumentsMatched (terms : Terms) (known : Equations) (equations : 
   pub arguments : AllZip (AreMatched known equations) (core_children left) (core_children right)
 
 -- two terms of the table that are equal by known merges, all of which on the way between them have the property
-pub record IsReady (terms : Terms) (links : List (Option Link)) (known : Equations) (has : ℕ → Type 0) (x y : TermId) : Type 0 where
+pub record AreEqualAlong (terms : Terms) (links : List (Option Link)) (known : Equations) (has : ℕ → Type 0) (x y : TermId) : Type 0 where
   pub inside : x.0 < length terms
   pub equal : known x y
   pub paved : IsPaved links has x y

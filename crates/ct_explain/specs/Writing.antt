@@ -51,7 +51,7 @@ pub record AreWritten (state : State) (w : Written) : Type 0 where
       → Gives state.declarations state.terms clause (before ++ take index w.stated) step e.left e.right
 
 -- more was written at the end
-pub record IsGrown (state : State) (old new : Written) : Type 0 where
+pub record HasWrittenMore (state : State) (old new : Written) : Type 0 where
   pub first : new.first ≡ old.first
   pub more : List Equation
   pub stated : new.stated ≡ old.stated ++ more

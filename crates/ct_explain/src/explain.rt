@@ -1,7 +1,7 @@
 //! Explanations of equations between terms of one class.
 ghost use Rattle.std.specs.Prelude.{◌≡◌, ◌<◌, ℕ, None, replicate, length, IfOk, OnOk, OnErr};
 ghost use Rattle.ct_congr.specs.State.{AreEqual};
-ghost use Rattle.ct_explain.specs.Writing.{Told, IsGrown, AreDone};
+ghost use Rattle.ct_explain.specs.Writing.{Told, HasWrittenMore, AreDone};
 ghost use Rattle.ct_explain.specs.Explained.{IsExplained};
 ghost use Rattle.ct_explain.specs.Trees.{IsForestOfClasses};
 ghost use Rattle.ct_explain.specs.Resting.{AreClosed, HasNumber, IsMarked};
@@ -52,7 +52,7 @@ fn write(
 ) -> Result<u64, ExplainError>
     requires equal { AreEqual classes.now a b }
     requires forest { IsForestOfClasses classes.now forest.now }
-    ensures grown { OnOk result (IsGrown classes.now writer.old writer.new) }
+    ensures grown { OnOk result (HasWrittenMore classes.now writer.old writer.new) }
     ensures told { IfOk result (λ n. Told writer.new n a b) }
 {
     let bound = classes.merges().len();
@@ -76,7 +76,7 @@ fn write_needed(
 ) -> Result<Vec<Option<u64>>, ExplainError>
     requires forest { IsForestOfClasses classes.now forest.now }
     requires closed { AreClosed classes.now forest.now marks.now }
-    ensures grown { OnOk result (IsGrown classes.now writer.old writer.new) }
+    ensures grown { OnOk result (HasWrittenMore classes.now writer.old writer.new) }
     ensures done { IfOk result (λ done. AreDone writer.new classes.now.merges done.items) }
     ensures marked { IfOk result (λ done. (k : ℕ) → k < length classes.now.merges → IsMarked marks.now k → HasNumber done.items k) }
 {
@@ -114,7 +114,7 @@ fn write_next(
     requires done { AreDone writer.old classes.now.merges done.old.items }
     requires closed { AreClosed classes.now forest.now marks.now }
     requires before { (j : ℕ) → j < k → IsMarked marks.now j → HasNumber done.old.items j }
-    ensures grown { OnOk result (IsGrown classes.now writer.old writer.new) }
+    ensures grown { OnOk result (HasWrittenMore classes.now writer.old writer.new) }
     ensures long { length done.new.items ≡ length done.old.items }
     ensures done { OnOk result (AreDone writer.new classes.now.merges done.new.items) }
     ensures marked { OnOk result (IsMarked marks.now k → HasNumber done.new.items k) }

@@ -5,8 +5,8 @@ ghost use Rattle.ct_congr.specs.declared.merge.Reason.TheVariants as reason;
 ghost use Rattle.ct_congr.specs.Merges.{AreConnected};
 ghost use Rattle.ct_congr.specs.Reasons.{IsReason};
 ghost use Rattle.ct_explain.specs.Trees.{IsForestOfClasses};
-ghost use Rattle.ct_explain.specs.Resting.{AreArgumentsPaved, IsLone, IsPaved, IsReady, Rests, HasNumber};
-ghost use Rattle.ct_explain.specs.Writing.{Told, ToldEach, IsGrown, AreDone};
+ghost use Rattle.ct_explain.specs.Resting.{AreArgumentsPaved, IsLone, IsPaved, AreEqualAlong, Rests, HasNumber};
+ghost use Rattle.ct_explain.specs.Writing.{Told, ToldEach, HasWrittenMore, AreDone};
 ghost use Rattle.ct_explain.specs.Premises.{HasReason, HasNoPremise};
 
 use crate::error::ExplainError;
@@ -34,7 +34,7 @@ pub(crate) fn write_merge(
     requires done { AreDone writer.old classes.now.merges done.now }
     requires reason { IsReason classes.now.declarations classes.now.terms classes.now.hypotheses (AreConnected (take bound classes.now.merges)) m.now.left m.now.right m.now.why }
     requires rests { Rests classes.now.terms forest.now (AreConnected (take bound classes.now.merges)) (HasNumber done.now) m.now.right m.now.why }
-    ensures grown { OnOk result (IsGrown classes.now writer.old writer.new) }
+    ensures grown { OnOk result (HasWrittenMore classes.now writer.old writer.new) }
     ensures told { IfOk result (λ n. Told writer.new n m.now.left m.now.right) }
 {
     match &m.why {
@@ -86,7 +86,7 @@ fn write_hypothesis(
     writer: &mut Writer,
 ) -> Result<u64, ExplainError>
     requires reason { HasReason classes.now.declarations classes.now.terms classes.now.hypotheses left right (reason.Hyp l) }
-    ensures grown { OnOk result (IsGrown classes.now writer.old writer.new) }
+    ensures grown { OnOk result (HasWrittenMore classes.now writer.old writer.new) }
     ensures told { IfOk result (λ n. Told writer.new n left right) }
 {
     let number = writer.write(EqStep::Hyp(l), left, right)?;
@@ -101,7 +101,7 @@ fn write_single(
     writer: &mut Writer,
 ) -> Result<u64, ExplainError>
     requires reason { HasReason classes.now.declarations classes.now.terms classes.now.hypotheses left right reason.Single }
-    ensures grown { OnOk result (IsGrown classes.now writer.old writer.new) }
+    ensures grown { OnOk result (HasWrittenMore classes.now writer.old writer.new) }
     ensures told { IfOk result (λ n. Told writer.new n left right) }
 {
     let number = writer.write(EqStep::Single(left, right), left, right)?;
@@ -122,7 +122,7 @@ fn write_lone(
     requires lone { HasNoPremise m.now.why → ⊥ }
     requires reason { IsReason classes.now.declarations classes.now.terms classes.now.hypotheses (AreConnected (take bound classes.now.merges)) m.now.left m.now.right m.now.why }
     requires paved { (x y : TermId) → IsLone classes.now.terms m.now.right m.now.why x y → IsPaved forest.now (HasNumber done.now) x y }
-    ensures grown { OnOk result (IsGrown classes.now writer.old writer.new) }
+    ensures grown { OnOk result (HasWrittenMore classes.now writer.old writer.new) }
     ensures told { IfOk result (λ n. Told writer.new n m.now.left m.now.right) }
 {
     is_ordered(classes.table());
@@ -150,7 +150,7 @@ fn write_congruent(
     requires done { AreDone writer.old classes.now.merges done.now }
     requires reason { IsReason classes.now.declarations classes.now.terms classes.now.hypotheses (AreConnected (take bound classes.now.merges)) sides.0 sides.1 (reason.Cong terms.0 terms.1) }
     requires paved { AreArgumentsPaved classes.now.terms forest.now (AreConnected (take bound classes.now.merges)) (HasNumber done.now) [] terms.0 terms.1 }
-    ensures grown { OnOk result (IsGrown classes.now writer.old writer.new) }
+    ensures grown { OnOk result (HasWrittenMore classes.now writer.old writer.new) }
     ensures told { IfOk result (λ n. Told writer.new n sides.0 sides.1) }
 {
     let table = classes.table();
@@ -176,8 +176,8 @@ fn write_each(
     requires done { AreDone writer.old classes.now.merges done.now }
     requires long { length xs.now ≡ length ys.now }
     requires ready { (i : ℕ) (x y : TermId) → slice_get xs.now i ≡ Some x → slice_get ys.now i ≡ Some y
-        → IsReady classes.now.terms forest.now (AreConnected (take bound classes.now.merges)) (HasNumber done.now) x y }
-    ensures grown { OnOk result (IsGrown classes.now writer.old writer.new) }
+        → AreEqualAlong classes.now.terms forest.now (AreConnected (take bound classes.now.merges)) (HasNumber done.now) x y }
+    ensures grown { OnOk result (HasWrittenMore classes.now writer.old writer.new) }
     ensures told { IfOk result (λ numbers. ToldEach writer.new numbers.items xs.now ys.now) }
 {
     let mut numbers = Vec::new(forest.alloc());
@@ -201,8 +201,8 @@ pub(crate) fn write_premise(
 ) -> Result<u64, ExplainError>
     requires forest { IsForestOfClasses classes.now forest.now }
     requires done { AreDone writer.old classes.now.merges done.now }
-    requires ready { IsReady classes.now.terms forest.now (AreConnected (take bound classes.now.merges)) (HasNumber done.now) left right }
-    ensures grown { OnOk result (IsGrown classes.now writer.old writer.new) }
+    requires ready { AreEqualAlong classes.now.terms forest.now (AreConnected (take bound classes.now.merges)) (HasNumber done.now) left right }
+    ensures grown { OnOk result (HasWrittenMore classes.now writer.old writer.new) }
     ensures told { IfOk result (λ n. Told writer.new n left right) }
 {
     match path(forest, left, right, bound)? {

@@ -11,7 +11,7 @@ ghost use Rattle.ct_congr.specs.Merges.{AreConnected};
 ghost use Rattle.ct_congr.specs.Reasons.{IsReason};
 ghost use Rattle.ct_explain.specs.Trees.{IsForestOf, IsForestOfClasses};
 ghost use Rattle.ct_explain.specs.Resting.{AreArgumentsPaved, AreEntries, AreEntriesPaved, IsEntry, IsEntryPaved, IsDetour, IsMatching, HasNumber};
-ghost use Rattle.ct_explain.specs.Writing.{Told, IsGrown, AreDone};
+ghost use Rattle.ct_explain.specs.Writing.{Told, HasWrittenMore, AreDone};
 ghost use Rattle.ct_explain.specs.Pairs.{ToldEntry, ToldEntries, IsPairTold, ArePairsTold};
 
 use crate::error::ExplainError;
@@ -40,7 +40,7 @@ pub(crate) fn write_unique(
     requires reason { IsReason classes.now.declarations classes.now.terms classes.now.hypotheses (AreConnected (take bound classes.now.merges)) sides.0 sides.1 (reason.Unique equations.now) }
     requires paved { (e : Equation) → Contains equations.now e
         → AreArgumentsPaved classes.now.terms forest.now (AreConnected (take bound classes.now.merges)) (HasNumber done.now) equations.now e.left e.right }
-    ensures grown { OnOk result (IsGrown classes.now writer.old writer.new) }
+    ensures grown { OnOk result (HasWrittenMore classes.now writer.old writer.new) }
     ensures told { IfOk result (λ n. Told writer.new n sides.0 sides.1) }
 {
     let pairs = write_pairs(classes, forest, done, bound, equations, writer)?;
@@ -89,7 +89,7 @@ fn write_pairs(
     requires all { AreAllMatched classes.now.terms (AreConnected (take bound classes.now.merges)) equations.now }
     requires paved { (e : Equation) → Contains equations.now e
         → AreArgumentsPaved classes.now.terms forest.now (AreConnected (take bound classes.now.merges)) (HasNumber done.now) equations.now e.left e.right }
-    ensures grown { OnOk result (IsGrown classes.now writer.old writer.new) }
+    ensures grown { OnOk result (HasWrittenMore classes.now writer.old writer.new) }
     ensures pairs { IfOk result (λ pairs. ArePairsTold classes.now.terms writer.new equations.now equations.now pairs.items) }
 {
     let mut pairs = Vec::new(forest.alloc());
@@ -115,7 +115,7 @@ fn write_pair(
     requires all { AreAllMatched classes.now.terms (AreConnected (take bound classes.now.merges)) equations.now }
     requires matched { IsPairMatched classes.now.terms (AreConnected (take bound classes.now.merges)) equations.now e.left e.right }
     requires paved { AreArgumentsPaved classes.now.terms forest.now (AreConnected (take bound classes.now.merges)) (HasNumber done.now) equations.now e.left e.right }
-    ensures grown { OnOk result (IsGrown classes.now writer.old writer.new) }
+    ensures grown { OnOk result (HasWrittenMore classes.now writer.old writer.new) }
     ensures pair { IfOk result (IsPairTold classes.now.terms writer.new equations.now e) }
 {
     let table = classes.table();
@@ -146,7 +146,7 @@ fn write_entries(
     requires long { length xs.now ≡ length ys.now }
     requires entries { AreEntries classes.now.terms (AreConnected (take bound classes.now.merges)) equations.now xs.now ys.now }
     requires paved { AreEntriesPaved forest.now (AreConnected (take bound classes.now.merges)) (HasNumber done.now) equations.now xs.now ys.now }
-    ensures grown { OnOk result (IsGrown classes.now writer.old writer.new) }
+    ensures grown { OnOk result (HasWrittenMore classes.now writer.old writer.new) }
     ensures entries { IfOk result (λ entries. ToldEntries writer.new equations.now entries.items xs.now ys.now) }
 {
     let mut entries = Vec::new(forest.alloc());
@@ -175,7 +175,7 @@ fn write_entry(
     requires all { AreAllMatched classes.now.terms (AreConnected (take bound classes.now.merges)) equations.now }
     requires entry { IsEntry classes.now.terms (AreConnected (take bound classes.now.merges)) equations.now x y }
     requires paved { IsEntryPaved forest.now (AreConnected (take bound classes.now.merges)) (HasNumber done.now) equations.now x y }
-    ensures grown { OnOk result (IsGrown classes.now writer.old writer.new) }
+    ensures grown { OnOk result (HasWrittenMore classes.now writer.old writer.new) }
     ensures entry { IfOk result (λ entry. ToldEntry writer.new equations.now entry x y) }
 {
     match detour(forest, bound, equations, x, y)? {

@@ -2,7 +2,7 @@
 ghost use Rattle.std.specs.Prelude.{◌≡◌, ◌<◌, ◌^◌, [], IfOk, OnOk, length};
 ghost use Rattle.ct_terms.specs.declared.ids.TermId.{TermId};
 ghost use Rattle.ct_congr.specs.State.{State};
-ghost use Rattle.ct_explain.specs.Writing.{Told, IsStep, IsGrown};
+ghost use Rattle.ct_explain.specs.Writing.{Told, IsStep, HasWrittenMore};
 
 use crate::error::ExplainError;
 use ct_log::EqStep;
@@ -53,7 +53,7 @@ impl Writer {
         left: TermId,
         right: TermId,
     ) -> Result<u64, ExplainError>
-        ensures grown { OnOk result ((state : State) → IsStep state self.old step left right → IsGrown state self.old self.new) }
+        ensures grown { OnOk result ((state : State) → IsStep state self.old step left right → HasWrittenMore state self.old self.new) }
         ensures told { IfOk result (λ n. Told self.new n left right) }
     {
         let number = self.first + self.stated.len();
@@ -73,7 +73,7 @@ impl Writer {
 
 /// Writes that the term equals itself.
 pub(crate) fn write_same(writer: &mut Writer, t: TermId) -> Result<u64, ExplainError>
-    ensures grown { OnOk result ((state : State) → t.0 < length state.terms → IsGrown state writer.old writer.new) }
+    ensures grown { OnOk result ((state : State) → t.0 < length state.terms → HasWrittenMore state writer.old writer.new) }
     ensures told { IfOk result (λ n. Told writer.new n t t) }
 {
     let number = writer.write(EqStep::Refl(t), t, t)?;
@@ -88,7 +88,7 @@ pub(crate) fn write_turned(
     right: TermId,
 ) -> Result<u64, ExplainError>
     requires told { Told writer.old number left right }
-    ensures grown { OnOk result ((state : State) → IsGrown state writer.old writer.new) }
+    ensures grown { OnOk result ((state : State) → HasWrittenMore state writer.old writer.new) }
     ensures told { IfOk result (λ n. Told writer.new n right left) }
 {
     let number = writer.write(EqStep::Sym(number), right, left)?;
@@ -106,7 +106,7 @@ pub(crate) fn write_joined(
 ) -> Result<u64, ExplainError>
     requires first { Told writer.old first left middle }
     requires second { Told writer.old second middle right }
-    ensures grown { OnOk result ((state : State) → IsGrown state writer.old writer.new) }
+    ensures grown { OnOk result ((state : State) → HasWrittenMore state writer.old writer.new) }
     ensures told { IfOk result (λ n. Told writer.new n left right) }
 {
     let number = writer.write(EqStep::Trans(first, second), left, right)?;

@@ -3,30 +3,30 @@ use Rattle.std.proofs.Common.{◌≡◌, Result, Ok, Err, refl, ◌∙◌, ap}
 use Rattle.ct_names.specs.declared.error.CheckError.{CheckError}
 use Rattle.ct_names.specs.declared.error.CheckError.TheVariants.{Refused, NoMemory}
 use Rattle.ct_names.specs.Outcome.{Outcome, and_then}
-use Rattle.ct_names.specs.Answer.{Answers, Leads}
+use Rattle.ct_names.specs.Answer.{IsAnswerFor, ContinuesWith}
 
-pub answers_along : {X Y : Type 0} (view : X → Y) (whole part : Outcome Y) (r : Result X CheckError) → whole ≡ part → Answers view part r → Answers view whole r
+pub answers_along : {X Y : Type 0} (view : X → Y) (whole part : Outcome Y) (r : Result X CheckError) → whole ≡ part → IsAnswerFor view part r → IsAnswerFor view whole r
 answers_along view whole part (Ok x) e h = e ∙ h
 answers_along view whole part (Err (Refused n)) e h = e ∙ h
 answers_along view whole part (Err NoMemory) e h = tt
 
-pub leads_along : {X Y : Type 0} (next : X → Outcome Y) (whole part : Outcome Y) (r : Result X CheckError) → whole ≡ part → Leads part next r → Leads whole next r
+pub leads_along : {X Y : Type 0} (next : X → Outcome Y) (whole part : Outcome Y) (r : Result X CheckError) → whole ≡ part → ContinuesWith part next r → ContinuesWith whole next r
 leads_along next whole part (Ok x) e h = e ∙ h
 leads_along next whole part (Err (Refused n)) e h = e ∙ h
 leads_along next whole part (Err NoMemory) e h = tt
 
 -- an error of a step is one of the whole
-pub answers_error : {X Y Z W : Type 0} (view : X → Y) (other : W → Z) (whole : Outcome Z) (first : Outcome Y) (next : Y → Outcome Z) (e : CheckError) → whole ≡ and_then first next → Answers view first (Err e) → Answers other whole (Err e)
+pub answers_error : {X Y Z W : Type 0} (view : X → Y) (other : W → Z) (whole : Outcome Z) (first : Outcome Y) (next : Y → Outcome Z) (e : CheckError) → whole ≡ and_then first next → IsAnswerFor view first (Err e) → IsAnswerFor other whole (Err e)
 answers_error view other whole first next (Refused n) is h = is ∙ ap (λ o. and_then o next) h
 answers_error view other whole first next NoMemory is h = tt
 
 -- an error before what follows is one of the whole
-pub leads_error : {X Y W : Type 0} (next : X → Outcome Y) (other : W → Y) (whole : Outcome Y) (e : CheckError) → Leads whole next (Err e) → Answers other whole (Err e)
+pub leads_error : {X Y W : Type 0} (next : X → Outcome Y) (other : W → Y) (whole : Outcome Y) (e : CheckError) → ContinuesWith whole next (Err e) → IsAnswerFor other whole (Err e)
 leads_error next other whole (Refused n) h = h
 leads_error next other whole NoMemory h = tt
 
 -- out of memory says nothing
-pub answers_memory : {X Y : Type 0} (view : X → Y) (whole : Outcome Y) (e : CheckError) → e ≡ NoMemory → Answers view whole (Err e)
+pub answers_memory : {X Y : Type 0} (view : X → Y) (whole : Outcome Y) (e : CheckError) → e ≡ NoMemory → IsAnswerFor view whole (Err e)
 answers_memory view whole (Refused n) is = absurd cc
 answers_memory view whole NoMemory is = tt
 
@@ -43,6 +43,6 @@ pub and_then-self : {X : Type 0} (first : Outcome X) → and_then first (λ x. O
 and_then-self (Ok x) = refl
 and_then-self (Err e) = refl
 
-pub leads_memory : {X Y : Type 0} (next : X → Outcome Y) (whole : Outcome Y) (e : CheckError) → e ≡ NoMemory → Leads whole next (Err e)
+pub leads_memory : {X Y : Type 0} (next : X → Outcome Y) (whole : Outcome Y) (e : CheckError) → e ≡ NoMemory → ContinuesWith whole next (Err e)
 leads_memory next whole (Refused n) is = absurd cc
 leads_memory next whole NoMemory is = tt

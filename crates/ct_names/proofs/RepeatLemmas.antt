@@ -8,7 +8,7 @@ use Rattle.std.proofs.lemmas.Cmp.{nat_list_eq_equiv}
 use Rattle.std.proofs.lemmas.List.{append-nil}
 use Rattle.ct_names.specs.Bounds.{held_name}
 use Rattle.ct_names.specs.Repeats.{are_met}
-use Rattle.ct_names.specs.Variables.{names_in, has_repeated}
+use Rattle.ct_names.specs.Variables.{present_names, has_repeated}
 
 none_met : (names : List (List ℕ)) → are_met [] names ≡ false
 none_met [] = refl
@@ -46,19 +46,19 @@ flipped [] name = refl
 flipped (n ∷ ns) name = ap₂ (λ (a b : Bool). a || b) (nat_list_eq_equiv.symm n name) (flipped ns name)
 
 -- a name that was met before
-pub met_now : (seen : List (List ℕ)) (first : Option (List ℕ)) (others : List (Option (List ℕ))) → are_met seen (names_in (first ∷ [])) ≡ true → (are_met seen (names_in (first ∷ others)) || has_repeated (names_in (first ∷ others))) ≡ true
+pub met_now : (seen : List (List ℕ)) (first : Option (List ℕ)) (others : List (Option (List ℕ))) → are_met seen (present_names (first ∷ [])) ≡ true → (are_met seen (present_names (first ∷ others)) || has_repeated (present_names (first ∷ others))) ≡ true
 met_now seen None others h = absurd (true≢false (sym h))
-met_now seen (Some name) others h = whole (list_any (bytes_eq name) seen) (are_met seen (names_in others)) (has_repeated (name ∷ names_in others)) h
+met_now seen (Some name) others h = whole (list_any (bytes_eq name) seen) (are_met seen (present_names others)) (has_repeated (name ∷ present_names others)) h
   where
     whole : (a b c : Bool) → (a || false) ≡ true → ((a || b) || c) ≡ true
     whole true b c k = refl
     whole false b c k = absurd (true≢false (sym k))
 
 -- a name that was not
-pub met_later : (seen : List (List ℕ)) (first : Option (List ℕ)) (others : List (Option (List ℕ))) → are_met seen (names_in (first ∷ [])) ≡ false → (are_met seen (names_in (first ∷ others)) || has_repeated (names_in (first ∷ others))) ≡ (are_met (seen ++ names_in (first ∷ [])) (names_in others) || has_repeated (names_in others))
-met_later seen None others h = ap (λ (xs : List (List ℕ)). are_met xs (names_in others) || has_repeated (names_in others)) (sym (append-nil seen))
+pub met_later : (seen : List (List ℕ)) (first : Option (List ℕ)) (others : List (Option (List ℕ))) → are_met seen (present_names (first ∷ [])) ≡ false → (are_met seen (present_names (first ∷ others)) || has_repeated (present_names (first ∷ others))) ≡ (are_met (seen ++ present_names (first ∷ [])) (present_names others) || has_repeated (present_names others))
+met_later seen None others h = ap (λ (xs : List (List ℕ)). are_met xs (present_names others) || has_repeated (present_names others)) (sym (append-nil seen))
 met_later seen (Some name) others h =
-    let ns = names_in others in
+    let ns = present_names others in
     turned (list_any (bytes_eq name) seen) (are_met seen ns) (list_any (bytes_eq name) ns) (has_repeated ns) h
     ∙ ap (λ (b : Bool). b || has_repeated ns) (sym (more_met seen ns name ∙ ap (λ (b : Bool). b || are_met seen ns) (flipped ns name)))
   where
@@ -75,11 +75,11 @@ abbrev Held : Type 0
 Held = Option (Bor (List ℕ))
 
 -- whether a name is new to a set of names
-pub was_met : (new : Bool) (text : Bor (List ℕ)) (keys : List (Bor (List ℕ))) (name : Held) → name ≡ Some text → new ≡ not (list_any (λ (key : Bor (List ℕ)). bytes_eq text.now key.now) keys) → not new ≡ are_met (map (λ (key : Bor (List ℕ)). key.now) keys) (names_in (held_name name ∷ []))
+pub was_met : (new : Bool) (text : Bor (List ℕ)) (keys : List (Bor (List ℕ))) (name : Held) → name ≡ Some text → new ≡ not (list_any (λ (key : Bor (List ℕ)). bytes_eq text.now key.now) keys) → not new ≡ are_met (map (λ (key : Bor (List ℕ)). key.now) keys) (present_names (held_name name ∷ []))
 was_met new text keys name is added =
     ap not added ∙ twice (list_any (λ (key : Bor (List ℕ)). bytes_eq text.now key.now) keys) ∙ mapped keys
     ∙ sym (or_none (list_any (bytes_eq text.now) (map (λ (key : Bor (List ℕ)). key.now) keys)))
-    ∙ ap (λ (n : Held). are_met (map (λ (key : Bor (List ℕ)). key.now) keys) (names_in (held_name n ∷ []))) (sym is)
+    ∙ ap (λ (n : Held). are_met (map (λ (key : Bor (List ℕ)). key.now) keys) (present_names (held_name n ∷ []))) (sym is)
   where
     twice : (b : Bool) → not (not b) ≡ b
     twice true = refl
@@ -96,9 +96,9 @@ was_met new text keys name is added =
 pub at_start : (keys : List (Bor (List ℕ))) (names : List (List ℕ)) → keys ≡ [] → has_repeated names ≡ (are_met (map (λ (key : Bor (List ℕ)). key.now) keys) names || has_repeated names)
 at_start keys names e = at_first names ∙ ap (λ (ks : List (Bor (List ℕ))). are_met (map (λ (key : Bor (List ℕ)). key.now) ks) names || has_repeated names) (sym e)
 
-pub met_step : (all seen later : List (List ℕ)) (left : List Held) (d : Held) → 1 ≤ length left → has_repeated all ≡ (are_met seen (names_in (map held_name left)) || has_repeated (names_in (map held_name left))) → are_met seen (names_in (held_name (get_or left 0 d) ∷ [])) ≡ false → later ≡ seen ++ names_in (held_name (get_or left 0 d) ∷ []) → has_repeated all ≡ (are_met later (names_in (map held_name (take (length left - 1) (drop 1 left)))) || has_repeated (names_in (map held_name (take (length left - 1) (drop 1 left)))))
+pub met_step : (all seen later : List (List ℕ)) (left : List Held) (d : Held) → 1 ≤ length left → has_repeated all ≡ (are_met seen (present_names (map held_name left)) || has_repeated (present_names (map held_name left))) → are_met seen (present_names (held_name (get_or left 0 d) ∷ [])) ≡ false → later ≡ seen ++ present_names (held_name (get_or left 0 d) ∷ []) → has_repeated all ≡ (are_met later (present_names (map held_name (take (length left - 1) (drop 1 left)))) || has_repeated (present_names (map held_name (take (length left - 1) (drop 1 left)))))
 met_step all seen later [] d h inv fresh more = absurd (omega (arith, h))
 met_step all seen later (x ∷ xs) d h inv fresh more =
     let others : take (length (x ∷ xs) - 1) xs ≡ xs = ap (λ (n : ℕ). take n xs) (omega arith) ∙ take-length xs in
-    subst (λ (ys : List Held). has_repeated all ≡ (are_met later (names_in (map held_name ys)) || has_repeated (names_in (map held_name ys)))) (sym others)
-    (inv ∙ met_later seen (held_name x) (map held_name xs) fresh ∙ ap (λ (zs : List (List ℕ)). are_met zs (names_in (map held_name xs)) || has_repeated (names_in (map held_name xs))) (sym more))
+    subst (λ (ys : List Held). has_repeated all ≡ (are_met later (present_names (map held_name ys)) || has_repeated (present_names (map held_name ys)))) (sym others)
+    (inv ∙ met_later seen (held_name x) (map held_name xs) fresh ∙ ap (λ (zs : List (List ℕ)). are_met zs (present_names (map held_name xs)) || has_repeated (present_names (map held_name xs))) (sym more))

@@ -11,7 +11,7 @@ use Rattle.ct_sorts.specs.declared.ids.Symbol.TheVariants.{Ctor, Sel, Fun, Def}
 use Rattle.ct_sorts.specs.Declarations.{Declarations, sort_names, ctor_names, sel_names, function_names, definition_names}
 use Rattle.ct_sorts.specs.Availability.{IsListed}
 use Rattle.ct_sorts.specs.Lookup.{ResolvesTo}
-use Rattle.ct_names.specs.Symbols.{sort_of_name, symbol_of, first_of}
+use Rattle.ct_names.specs.Symbols.{sort_of_name, symbol_of, or_other}
 
 module _ (name : List ℕ) where
   -- the first text that is the name is the name
@@ -62,7 +62,7 @@ module _ (name : List ℕ) where
 abbrev Found : List ℕ → List (List ℕ) → Option ℕ → Type 0
 Found name texts at = MatchOption at (IsListed texts name → ⊥) (λ index. slice_get texts index ≡ Some name)
 
-first-resolves : (d : Declarations) (name : List ℕ) (c s f k : Option ℕ) → Found name (ctor_names d) c → Found name (sel_names d) s → Found name (function_names d) f → Found name (definition_names d) k → ResolvesTo d name (first_of (option_map (λ n. Ctor (record { 0 = n })) c) (first_of (option_map (λ n. Sel (record { 0 = n })) s) (first_of (option_map (λ n. Fun (record { 0 = n })) f) (option_map (λ n. Def (record { 0 = n })) k))))
+first-resolves : (d : Declarations) (name : List ℕ) (c s f k : Option ℕ) → Found name (ctor_names d) c → Found name (sel_names d) s → Found name (function_names d) f → Found name (definition_names d) k → ResolvesTo d name (or_other (option_map (λ n. Ctor (record { 0 = n })) c) (or_other (option_map (λ n. Sel (record { 0 = n })) s) (or_other (option_map (λ n. Fun (record { 0 = n })) f) (option_map (λ n. Def (record { 0 = n })) k))))
 first-resolves d name (Some i) s f k at_c at_s at_f at_k = at_c
 first-resolves d name None (Some i) f k at_c at_s at_f at_k = at_s
 first-resolves d name None None (Some i) k at_c at_s at_f at_k = at_f

@@ -22,8 +22,8 @@ abbrev pub variable_of_param : Param → Variable
 variable_of_param p = record { name = Some p.name; sort = p.sort }
 
 -- the parameters as variables in scope
-abbrev pub parameters : List Param → List Variable
-parameters params = bind (map variable_of_param params) []
+abbrev pub parameter_variables : List Param → List Variable
+parameter_variables params = bind (map variable_of_param params) []
 
 -- the pattern with the variables that it binds
 abbrev pub held_binding : Pattern × Vec BoundVariable → Binding

@@ -21,8 +21,8 @@ use Rattle.ct_names.specs.declared.operator.CoreOperator.TheVariants.{Not, And, 
 use Rattle.ct_names.specs.Refusals.{unknown_sort, unknown_symbol, wrong_count, wrong_sort, not_exhaustive, repeated_variable, out_of_scope}
 use Rattle.ct_names.specs.Outcome.{Outcome, Sorted, and_then, unless_refused, is_sort, of_sort}
 use Rattle.ct_names.specs.Parts.{Part, Parts, atom_part, list_part, no_parts, with_part, count, name_of}
-use Rattle.ct_names.specs.Symbols.{sort_of_name, symbol_of, ctor_named, operator_of, argument_sorts, result_sort, applied, ctor_sort}
-use Rattle.ct_names.specs.Variables.{Variable, find, has_repeated, variables, names_in}
+use Rattle.ct_names.specs.Symbols.{sort_of_name, symbol_of, ctor_named, operator_of, argument_sorts, result_sort, symbol_applied, ctor_sort}
+use Rattle.ct_names.specs.Variables.{Variable, find, has_repeated, variables, present_names}
 use Rattle.ct_names.specs.Forms.{is_word, are_bindings, bound_names, are_cases, are_attributes}
 use Rattle.ct_names.specs.Patterns.{pattern, matchable, are_exhaustive}
 
@@ -41,7 +41,7 @@ sort_of_part d p = named_sort d (name_of p)
 
 -- a symbol with no argument, where it takes none
 abbrev pub lone_symbol : Declarations → Symbol → Outcome Sorted
-lone_symbol d s = unless_refused (length (argument_sorts d s) == 0) wrong_count (Ok (applied s no_formulas, result_sort d s))
+lone_symbol d s = unless_refused (length (argument_sorts d s) == 0) wrong_count (Ok (symbol_applied s no_formulas, result_sort d s))
 
 -- a name that is no variable and no symbol: an operator takes arguments
 abbrev pub lone_operator : Option CoreOperator → Outcome Sorted
@@ -104,9 +104,9 @@ connected Distinct ts = formula.Distinct ts
 connected Ite ts = formula.And ts
 
 -- the formulas of several, and their sorts
-abbrev pub formulas_of : List Sorted → Formulas
-formulas_of [] = no_formulas
-formulas_of (t ∷ ts) = with_formula t.0 (formulas_of ts)
+abbrev pub without_sorts : List Sorted → Formulas
+without_sorts [] = no_formulas
+without_sorts (t ∷ ts) = with_formula t.0 (without_sorts ts)
 
 abbrev pub sorts_of : List Sorted → List SortId
 sorts_of ts = map (λ (t : Sorted). t.1) ts
@@ -125,8 +125,8 @@ pub record Checked : Type 0 where
 abbrev pub no_more : Option SortId → Checked
 no_more sort = record { cases = no_cases; patterns = []; sort = sort }
 
-abbrev pub one_more : Pattern → Formula → Checked → Checked
-one_more p body checked = record { cases = with_case p body checked.cases; patterns = p ∷ checked.patterns; sort = checked.sort }
+abbrev pub with_case_before : Pattern → Formula → Checked → Checked
+with_case_before p body checked = record { cases = with_case p body checked.cases; patterns = p ∷ checked.patterns; sort = checked.sort }
 
 -- a `match` is exhaustive, and so has a case that gives its sort
 abbrev pub matched : Formula → Checked → Option SortId → Outcome Sorted
@@ -159,28 +159,28 @@ qualified_symbol d scope (with_part f (with_part sort no_parts)) = qualified_nam
 qualified_symbol d scope ps = Err out_of_scope
 
 -- the constructor that a tester tests for: one that is neither `true` nor `false`
-abbrev pub tested : Option CtorId → Outcome CtorId
-tested None = Err unknown_symbol
-tested (Some c) = unless_refused (not (nat_le c.0 1)) out_of_scope (Ok c)
+abbrev pub testable : Option CtorId → Outcome CtorId
+testable None = Err unknown_symbol
+testable (Some c) = unless_refused (not (nat_le c.0 1)) out_of_scope (Ok c)
 
 abbrev pub tested_name : Declarations → Option (List ℕ) → Outcome CtorId
 tested_name d None = Err out_of_scope
-tested_name d (Some name) = tested (ctor_named d name)
+tested_name d (Some name) = testable (ctor_named d name)
 
 -- the name is this text
-abbrev pub is_text : List ℕ → Option (List ℕ) → Bool
-is_text wanted None = false
-is_text wanted (Some name) = bytes_eq name wanted
+abbrev pub is_text_of_name : List ℕ → Option (List ℕ) → Bool
+is_text_of_name wanted None = false
+is_text_of_name wanted (Some name) = bytes_eq name wanted
 
 -- the constructor of `(_ is C)`, by its items without `_`
 abbrev pub tester : Declarations → Parts → Outcome CtorId
-tester d (with_part word (with_part c no_parts)) = unless_refused (is_text (codes "is") (name_of word)) out_of_scope (tested_name d (name_of c))
+tester d (with_part word (with_part c no_parts)) = unless_refused (is_text_of_name (codes "is") (name_of word)) out_of_scope (tested_name d (name_of c))
 tester d ps = Err out_of_scope
 
 -- what a part means where these variables are in scope
-abbrev pub meaning : Declarations → List Variable → Part → Outcome Sorted
-meaning d scope (atom_part a) = lone d scope (name_of_atom a)
-meaning d scope (list_part ps m) = m scope
+abbrev pub meaning_of_part : Declarations → List Variable → Part → Outcome Sorted
+meaning_of_part d scope (atom_part a) = lone d scope (name_of_atom a)
+meaning_of_part d scope (list_part ps m) = m scope
 
 -- arguments of these sorts, one for one
 abbrev pub arguments : Declarations → List Variable → List SortId → Parts → Outcome Formulas
@@ -188,7 +188,7 @@ arguments d scope [] no_parts = Ok no_formulas
 arguments d scope [] (with_part p ps) = Err wrong_count
 arguments d scope (s ∷ sorts) no_parts = Err wrong_count
 arguments d scope (s ∷ sorts) (with_part p ps) =
-    and_then (of_sort s (meaning d scope p)) (λ t.
+    and_then (of_sort s (meaning_of_part d scope p)) (λ t.
     and_then (arguments d scope sorts ps) (λ ts.
     Ok (with_formula t ts)))
 
@@ -196,7 +196,7 @@ arguments d scope (s ∷ sorts) (with_part p ps) =
 abbrev pub all_of_sort : Declarations → List Variable → SortId → Parts → Outcome Formulas
 all_of_sort d scope s no_parts = Ok no_formulas
 all_of_sort d scope s (with_part p ps) =
-    and_then (of_sort s (meaning d scope p)) (λ t.
+    and_then (of_sort s (meaning_of_part d scope p)) (λ t.
     and_then (all_of_sort d scope s ps) (λ ts.
     Ok (with_formula t ts)))
 
@@ -204,18 +204,18 @@ all_of_sort d scope s (with_part p ps) =
 abbrev pub of_one_sort : Declarations → List Variable → Parts → Outcome Formulas
 of_one_sort d scope no_parts = Err wrong_count
 of_one_sort d scope (with_part p ps) =
-    and_then (meaning d scope p) (λ t.
+    and_then (meaning_of_part d scope p) (λ t.
     and_then (all_of_sort d scope t.1 ps) (λ ts.
     Ok (with_formula t.0 ts)))
 
 -- a condition and two of one sort
-abbrev pub choice : Declarations → List Variable → Parts → Outcome Sorted
-choice d scope (with_part c (with_part t (with_part u no_parts))) =
-    and_then (of_sort bool_sort (meaning d scope c)) (λ condition.
-    and_then (meaning d scope t) (λ first.
-    and_then (of_sort first.1 (meaning d scope u)) (λ second.
+abbrev pub choice_form : Declarations → List Variable → Parts → Outcome Sorted
+choice_form d scope (with_part c (with_part t (with_part u no_parts))) =
+    and_then (of_sort bool_sort (meaning_of_part d scope c)) (λ condition.
+    and_then (meaning_of_part d scope t) (λ first.
+    and_then (of_sort first.1 (meaning_of_part d scope u)) (λ second.
     Ok (formula.Ite condition first.0 second, first.1))))
-choice d scope ps = Err wrong_count
+choice_form d scope ps = Err wrong_count
 
 -- a connective of Boolean arguments
 abbrev pub connective : Declarations → List Variable → CoreOperator → Parts → Outcome Sorted
@@ -230,7 +230,7 @@ operated d scope Xor ps = connective d scope Xor ps
 operated d scope Implies ps = connective d scope Implies ps
 operated d scope Equal ps = and_then (of_one_sort d scope ps) (λ ts. Ok (formula.Equal ts, bool_sort))
 operated d scope Distinct ps = and_then (of_one_sort d scope ps) (λ ts. Ok (formula.Distinct ts, bool_sort))
-operated d scope Ite ps = choice d scope ps
+operated d scope Ite ps = choice_form d scope ps
 
 -- a symbol at the head of a list: `(f)` where f takes no argument has no form
 abbrev pub applied_symbol : Declarations → List Variable → Symbol → Parts → Outcome Sorted
@@ -238,7 +238,7 @@ applied_symbol d scope s ps =
     unless_refused (not (length (argument_sorts d s) == 0 && count ps == 0)) out_of_scope
     (unless_refused (length (argument_sorts d s) == count ps) wrong_count
     (and_then (arguments d scope (argument_sorts d s) ps) (λ ts.
-    Ok (applied s ts, result_sort d s))))
+    Ok (symbol_applied s ts, result_sort d s))))
 
 -- an operator or a symbol, with arguments
 abbrev pub global : Declarations → List Variable → Option CoreOperator → Option Symbol → Parts → Outcome Sorted
@@ -256,59 +256,59 @@ application d scope name ps =
 abbrev pub bound_terms : Declarations → List Variable → Parts → Outcome (List Sorted)
 bound_terms d scope no_parts = Ok []
 bound_terms d scope (with_part (list_part (with_part x (with_part t no_parts)) m) bs) =
-    and_then (meaning d scope t) (λ first.
+    and_then (meaning_of_part d scope t) (λ first.
     and_then (bound_terms d scope bs) (λ ts.
     Ok (first ∷ ts)))
 bound_terms d scope (with_part b bs) = Err out_of_scope
 
 -- bindings and a body: one binding or more, no variable twice; the terms do not see the variables
-abbrev pub bound : Declarations → List Variable → Parts → Part → Outcome Sorted
-bound d scope bindings body =
+abbrev pub let_of : Declarations → List Variable → Parts → Part → Outcome Sorted
+let_of d scope bindings body =
     unless_refused (are_bindings bindings && not (count bindings == 0)) out_of_scope
-    (unless_refused (not (has_repeated (names_in (bound_names bindings)))) repeated_variable
+    (unless_refused (not (has_repeated (present_names (bound_names bindings)))) repeated_variable
     (and_then (bound_terms d scope bindings) (λ ts.
-    and_then (meaning d (bind (variables (bound_names bindings) (sorts_of ts)) scope) body) (λ u.
-    Ok (formula.Let (formulas_of ts) u.0, u.1)))))
+    and_then (meaning_of_part d (bind (variables (bound_names bindings) (sorts_of ts)) scope) body) (λ u.
+    Ok (formula.Let (without_sorts ts) u.0, u.1)))))
 
 -- `(let ((x t) ..) u)`
 abbrev pub let_form : Declarations → List Variable → Parts → Outcome Sorted
-let_form d scope (with_part (list_part bindings m) (with_part body no_parts)) = bound d scope bindings body
+let_form d scope (with_part (list_part bindings m) (with_part body no_parts)) = let_of d scope bindings body
 let_form d scope ps = Err out_of_scope
 
 -- `(! t K v ..)`: the term, whatever its attributes say
 abbrev pub annotated : Declarations → List Variable → Parts → Outcome Sorted
 annotated d scope no_parts = Err out_of_scope
-annotated d scope (with_part t attributes) = unless_refused (are_attributes attributes) out_of_scope (meaning d scope t)
+annotated d scope (with_part t attributes) = unless_refused (are_attributes attributes) out_of_scope (meaning_of_part d scope t)
 
 -- the cases in order: each has a pattern against the sort of the subject, and a term of the sort of the first
 abbrev pub checked_cases : Declarations → List Variable → SortId → Option SortId → Parts → Outcome Checked
 checked_cases d scope side sort no_parts = Ok (no_more sort)
 checked_cases d scope side sort (with_part (list_part (with_part p (with_part body no_parts)) m) cases) =
     and_then (pattern d side p) (λ binding.
-    and_then (meaning d (bind binding.1 scope) body) (λ u.
+    and_then (meaning_of_part d (bind binding.1 scope) body) (λ u.
     unless_refused (goes_with sort u.1) wrong_sort
     (and_then (checked_cases d scope side (Some u.1) cases) (λ checked.
-    Ok (one_more binding.0 u.0 checked)))))
+    Ok (with_case_before binding.0 u.0 checked)))))
 checked_cases d scope side sort (with_part c cases) = Err out_of_scope
 
 -- a subject and cases: first the forms of all patterns, then the subject, then the cases in order, and then whether they
 -- are exhaustive
-abbrev pub cases_of : Declarations → List Variable → Part → Parts → Outcome Sorted
-cases_of d scope t cases =
+abbrev pub match_of : Declarations → List Variable → Part → Parts → Outcome Sorted
+match_of d scope t cases =
     unless_refused (are_cases cases) out_of_scope
-    (and_then (meaning d scope t) (λ subject.
+    (and_then (meaning_of_part d scope t) (λ subject.
     and_then (matchable d subject.1) (λ side.
     and_then (checked_cases d scope side None cases) (λ checked.
     exhausted d subject checked))))
 
 -- `(match t ((p u) ..))`
 abbrev pub match_form : Declarations → List Variable → Parts → Outcome Sorted
-match_form d scope (with_part t (with_part (list_part cases m) no_parts)) = cases_of d scope t cases
+match_form d scope (with_part t (with_part (list_part cases m) no_parts)) = match_of d scope t cases
 match_form d scope ps = Err out_of_scope
 
 -- the one argument of a tester, of the sort of its constructor
 abbrev pub tested_term : Declarations → List Variable → CtorId → Parts → Outcome Sorted
-tested_term d scope c (with_part t no_parts) = and_then (of_sort (ctor_sort d c) (meaning d scope t)) (λ u. Ok (formula.Test c u, bool_sort))
+tested_term d scope c (with_part t no_parts) = and_then (of_sort (ctor_sort d c) (meaning_of_part d scope t)) (λ u. Ok (formula.Test c u, bool_sort))
 tested_term d scope c ps = Err wrong_count
 
 -- a list that begins with a list: a tester, or a qualified symbol, with its arguments
@@ -355,7 +355,7 @@ abbrev mutual
 
 -- the formula and the sort of an expression where these variables are in scope, or its first error
 abbrev pub elaborated : Declarations → List Variable → Expression → Outcome Sorted
-elaborated d scope e = meaning d scope (part_of d e)
+elaborated d scope e = meaning_of_part d scope (part_of d e)
 
 -- the sort that an expression names, or the error
 abbrev pub sort_of : Declarations → Expression → Outcome SortId

@@ -33,16 +33,16 @@ bound_names no_parts = []
 bound_names (with_part b bs) = bound_name b ∷ bound_names bs
 
 -- what may stand in the place of a variable of a pattern: a name, or `_`
-abbrev pub is_variable : Part → Bool
-is_variable e = is_name e || is_word (codes "_") e
+abbrev pub is_pattern_variable : Part → Bool
+is_pattern_variable e = is_name e || is_word (codes "_") e
 
 abbrev pub are_variables : Parts → Bool
 are_variables no_parts = true
-are_variables (with_part e es) = is_variable e && are_variables es
+are_variables (with_part e es) = is_pattern_variable e && are_variables es
 
 -- what may stand in the place of a pattern: a variable, or a name with variables
 abbrev pub is_pattern : Part → Bool
-is_pattern (atom_part a) = is_variable (atom_part a)
+is_pattern (atom_part a) = is_pattern_variable (atom_part a)
 is_pattern (list_part no_parts meaning) = false
 is_pattern (list_part (with_part c xs) meaning) = is_name c && are_variables xs
 

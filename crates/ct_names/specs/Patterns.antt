@@ -10,9 +10,9 @@ use Rattle.ct_terms.specs.declared.tree.Pattern.{Pattern}
 use Rattle.ct_terms.specs.declared.tree.Pattern.TheVariants.{Ctor, Any}
 use Rattle.ct_names.specs.Refusals.{unknown_symbol, wrong_count, wrong_sort, foreign_pattern, repeated_variable, out_of_scope}
 use Rattle.ct_names.specs.Outcome.{Outcome, unless_refused, is_sort}
-use Rattle.ct_names.specs.Symbols.{ctor_named, ctor_sort, ctor_fields}
+use Rattle.ct_names.specs.Symbols.{ctor_named, ctor_sort, ctor_field_sorts}
 use Rattle.ct_names.specs.Parts.{Part, Parts, atom_part, list_part, no_parts, with_part, name_of}
-use Rattle.ct_names.specs.Variables.{Variable, variables, names_in, has_repeated}
+use Rattle.ct_names.specs.Variables.{Variable, variables, present_names, has_repeated}
 
 -- a pattern with the variables that it binds, in order
 abbrev pub Binding : Type 0
@@ -31,7 +31,7 @@ any_pattern side name = (Any, record { name = name; sort = side } ∷ [])
 abbrev pub lone_ctor : Declarations → SortId → CtorId → Outcome Binding
 lone_ctor d side c =
     unless_refused (is_sort (ctor_sort d c) side) foreign_pattern
-    (unless_refused (length (ctor_fields d c) == 0) wrong_count (Ok (Ctor c, [])))
+    (unless_refused (length (ctor_field_sorts d c) == 0) wrong_count (Ok (Ctor c, [])))
 
 -- a name that stands alone: a constructor of this name, and else a variable
 abbrev pub lone_pattern : Declarations → SortId → List ℕ → Option CtorId → Outcome Binding
@@ -42,10 +42,10 @@ lone_pattern d side name (Some c) = lone_ctor d side c
 abbrev pub ctor_with : Declarations → SortId → List (Option (List ℕ)) → CtorId → Outcome Binding
 ctor_with d side names c =
     unless_refused (is_sort (ctor_sort d c) side) foreign_pattern
-    (unless_refused (length names == length (ctor_fields d c)) wrong_count
+    (unless_refused (length names == length (ctor_field_sorts d c)) wrong_count
     (unless_refused (not (length names == 0)) out_of_scope
-    (unless_refused (not (has_repeated (names_in names))) repeated_variable
-    (Ok (Ctor c, variables names (ctor_fields d c))))))
+    (unless_refused (not (has_repeated (present_names names))) repeated_variable
+    (Ok (Ctor c, variables names (ctor_field_sorts d c))))))
 
 -- the head of a pattern with variables: a constructor
 abbrev pub headed_pattern : Declarations → SortId → List (Option (List ℕ)) → Option CtorId → Outcome Binding

@@ -6,8 +6,8 @@ use Rattle.std.specs.Str.{bytes_eq}
 use Rattle.indexmap.specs.IndexSet.{IndexSet}
 
 -- the names in a set
-abbrev pub names_of : {S : Type 0} → IndexSet (Bor (List ℕ)) S → List (List ℕ)
-names_of met = map (λ (text : Bor (List ℕ)). text.now) met.keys
+abbrev pub names_in_set : {S : Type 0} → IndexSet (Bor (List ℕ)) S → List (List ℕ)
+names_in_set met = map (λ (text : Bor (List ℕ)). text.now) met.keys
 
 -- one of the names was met
 abbrev pub are_met : List (List ℕ) → List (List ℕ) → Bool

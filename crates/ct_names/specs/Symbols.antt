@@ -16,29 +16,29 @@ abbrev pub sort_of_name : Declarations → List ℕ → Option SortId
 sort_of_name d name = option_map (λ n. record { 0 = n }) (position (bytes_eq name) (sort_names d))
 
 -- the first of the two that is there
-abbrev pub first_of : {X : Type 0} → Option X → Option X → Option X
-first_of (Some x) other = Some x
-first_of None other = other
+abbrev pub or_other : {X : Type 0} → Option X → Option X → Option X
+or_other (Some x) other = Some x
+or_other None other = other
 
 -- the constructor, selector, function or definition with this name; no two have one
 abbrev pub symbol_of : Declarations → List ℕ → Option Symbol
 symbol_of d name =
-    first_of (option_map (λ n. Ctor (record { 0 = n })) (position (bytes_eq name) (ctor_names d)))
-    (first_of (option_map (λ n. Sel (record { 0 = n })) (position (bytes_eq name) (sel_names d)))
-    (first_of (option_map (λ n. Fun (record { 0 = n })) (position (bytes_eq name) (function_names d)))
+    or_other (option_map (λ n. Ctor (record { 0 = n })) (position (bytes_eq name) (ctor_names d)))
+    (or_other (option_map (λ n. Sel (record { 0 = n })) (position (bytes_eq name) (sel_names d)))
+    (or_other (option_map (λ n. Fun (record { 0 = n })) (position (bytes_eq name) (function_names d)))
     (option_map (λ n. Def (record { 0 = n })) (position (bytes_eq name) (definition_names d)))))
 
 -- the symbol where it is a constructor
-abbrev pub ctor_of : Option Symbol → Option CtorId
-ctor_of (Some (Ctor c)) = Some c
-ctor_of (Some (Sel s)) = None
-ctor_of (Some (Fun f)) = None
-ctor_of (Some (Def k)) = None
-ctor_of None = None
+abbrev pub as_ctor : Option Symbol → Option CtorId
+as_ctor (Some (Ctor c)) = Some c
+as_ctor (Some (Sel s)) = None
+as_ctor (Some (Fun f)) = None
+as_ctor (Some (Def k)) = None
+as_ctor None = None
 
 -- the constructor with this name
 abbrev pub ctor_named : Declarations → List ℕ → Option CtorId
-ctor_named d name = ctor_of (symbol_of d name)
+ctor_named d name = as_ctor (symbol_of d name)
 
 -- the operators by their words
 abbrev pub operators : List (List ℕ × CoreOperator)
@@ -55,11 +55,11 @@ abbrev pub operator_of : List ℕ → Option CoreOperator
 operator_of word = operator_in operators word
 
 -- the sort of a field, and those of all fields of a constructor; every number that is asked for is declared
-abbrev pub field_sort : Declarations → SelId → SortId
-field_sort d s = unwrap_or (option_map (λ (sel : Selector). sel.sort) (slice_get d.sels s.0)) (record { 0 = 0 })
+abbrev pub field_sort_id : Declarations → SelId → SortId
+field_sort_id d s = unwrap_or (option_map (λ (sel : Selector). sel.sort) (slice_get d.sels s.0)) (record { 0 = 0 })
 
-abbrev pub ctor_fields : Declarations → CtorId → List SortId
-ctor_fields d c = map (field_sort d) (unwrap_or (option_map (λ (ctor : Constructor). ctor.sels) (slice_get d.ctors c.0)) [])
+abbrev pub ctor_field_sorts : Declarations → CtorId → List SortId
+ctor_field_sorts d c = map (field_sort_id d) (unwrap_or (option_map (λ (ctor : Constructor). ctor.sels) (slice_get d.ctors c.0)) [])
 
 -- the sort of a constructor
 abbrev pub ctor_sort : Declarations → CtorId → SortId
@@ -71,7 +71,7 @@ sel_argument d s = unwrap_or (option_map (λ (sel : Selector). ctor_sort d sel.c
 
 -- the sorts of the symbol's arguments
 abbrev pub argument_sorts : Declarations → Symbol → List SortId
-argument_sorts d (Ctor c) = ctor_fields d c
+argument_sorts d (Ctor c) = ctor_field_sorts d c
 argument_sorts d (Sel s) = sel_argument d s ∷ []
 argument_sorts d (Fun f) = unwrap_or (option_map (λ (function : Function). function.args) (slice_get d.functions f.0)) []
 argument_sorts d (Def k) = unwrap_or (option_map (λ (definition : Function). definition.args) (slice_get d.definitions k.0)) []
@@ -79,7 +79,7 @@ argument_sorts d (Def k) = unwrap_or (option_map (λ (definition : Function). de
 -- the sort of its result
 abbrev pub result_sort : Declarations → Symbol → SortId
 result_sort d (Ctor c) = ctor_sort d c
-result_sort d (Sel s) = field_sort d s
+result_sort d (Sel s) = field_sort_id d s
 result_sort d (Fun f) = unwrap_or (option_map (λ (function : Function). function.result) (slice_get d.functions f.0)) (record { 0 = 0 })
 result_sort d (Def k) = unwrap_or (option_map (λ (definition : Function). definition.result) (slice_get d.definitions k.0)) (record { 0 = 0 })
 
@@ -89,8 +89,8 @@ selected s no_formulas = Con (record { 0 = 0 }) no_formulas
 selected s (with_formula t ts) = SelFormula s t
 
 -- the formula of a symbol with its arguments
-abbrev pub applied : Symbol → Formulas → Formula
-applied (Ctor c) ts = Con c ts
-applied (Sel s) ts = selected s ts
-applied (Fun f) ts = Apply f ts
-applied (Def k) ts = DefFormula k ts
+abbrev pub symbol_applied : Symbol → Formulas → Formula
+symbol_applied (Ctor c) ts = Con c ts
+symbol_applied (Sel s) ts = selected s ts
+symbol_applied (Fun f) ts = Apply f ts
+symbol_applied (Def k) ts = DefFormula k ts

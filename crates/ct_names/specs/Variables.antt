@@ -34,10 +34,10 @@ variables (name ∷ names) [] = []
 variables (name ∷ names) (sort ∷ sorts) = record { name = name; sort = sort } ∷ variables names sorts
 
 -- the names that are there
-abbrev pub names_in : List (Option (List ℕ)) → List (List ℕ)
-names_in [] = []
-names_in (None ∷ names) = names_in names
-names_in (Some name ∷ names) = name ∷ names_in names
+abbrev pub present_names : List (Option (List ℕ)) → List (List ℕ)
+present_names [] = []
+present_names (None ∷ names) = present_names names
+present_names (Some name ∷ names) = name ∷ present_names names
 
 -- the sorts of variables
 abbrev pub variable_sorts : List Variable → List SortId

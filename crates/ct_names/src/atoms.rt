@@ -6,7 +6,7 @@ ghost use Rattle.ct_sexpr.specs.View.{expression_of};
 ghost use Rattle.ct_sorts.specs.Declarations.{Declarations};
 ghost use Rattle.ct_names.specs.Parts.{name_of};
 ghost use Rattle.ct_names.specs.Elaboration.{part_of, sort_of};
-ghost use Rattle.ct_names.specs.Answer.{Answers, same};
+ghost use Rattle.ct_names.specs.Answer.{IsAnswerFor, as_it_is};
 ghost use Rattle.ct_names.specs.Forms.{is_word};
 ghost use Rattle.ct_names.specs.Bounds.{held_name};
 
@@ -71,7 +71,7 @@ pub fn is_word(word: &[u8], expr: &Sexpr) -> bool
 /// The sort that an expression names. It is refused with 28 where the expression is no name, and
 /// with 12 where no sort has the name. It takes no memory.
 pub fn named_sort(sig: &Signature, expr: &Sexpr) -> Result<SortId, CheckError>
-    ensures value { Answers same (sort_of sig.now (expression_of expr.now)) result }
+    ensures value { IsAnswerFor as_it_is (sort_of sig.now (expression_of expr.now)) result }
     ensures memory { IfErr result (λ e. e ≡ CheckError.NoMemory → ⊥) }
 {
     let Some(name) = name_of(expr) else {

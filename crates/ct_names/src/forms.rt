@@ -2,7 +2,7 @@
 ghost use Rattle.std.specs.Prelude.{◌≡◌, List};
 ghost use Rattle.ct_sexpr.specs.View.{expression_of, expressions_of};
 ghost use Rattle.ct_sorts.specs.Declarations.{Declarations};
-ghost use Rattle.ct_names.specs.Forms.{is_name, is_binding, are_bindings, is_variable, are_variables, is_pattern, is_case, are_cases, is_keyword, is_named_attribute, are_attributes};
+ghost use Rattle.ct_names.specs.Forms.{is_name, is_binding, are_bindings, is_pattern_variable, are_variables, is_pattern, is_case, are_cases, is_keyword, is_named_attribute, are_attributes};
 ghost use Rattle.ct_names.specs.Elaboration.{part_of, parts_of};
 ghost use Rattle.ct_names.specs.Parts.{list_part};
 ghost use Rattle.ct_names.specs.Variables.{Variable};
@@ -65,7 +65,7 @@ fn is_name(expr: &Sexpr) -> bool
 
 // Whether the expression may stand in the place of a variable of a pattern.
 fn is_variable(expr: &Sexpr) -> bool
-    ensures value { (d : Declarations) → result ≡ is_variable (part_of d (expression_of expr.now)) }
+    ensures value { (d : Declarations) → result ≡ is_pattern_variable (part_of d (expression_of expr.now)) }
 {
     is_name(expr) || is_word(b"_", expr)
 }

@@ -4,7 +4,7 @@ ghost use Rattle.ct_sexpr.specs.View.{expression_of, expressions_of};
 ghost use Rattle.ct_sorts.specs.Declarations.{Declarations};
 ghost use Rattle.ct_sorts.specs.Lookup.{IsSymbol};
 ghost use Rattle.ct_sorts.specs.declared.ids.Symbol.TheVariants.{Ctor};
-ghost use Rattle.ct_names.specs.Answer.{Answers, same};
+ghost use Rattle.ct_names.specs.Answer.{IsAnswerFor, as_it_is};
 ghost use Rattle.ct_names.specs.Bounds.{variable_of, held_name, held_binding};
 ghost use Rattle.ct_names.specs.Elaboration.{part_of, parts_of};
 ghost use Rattle.ct_names.specs.Patterns.{variable_names, lone_ctor, leaf_pattern, ctor_with, pattern, matchable, any_pattern, lone_pattern};
@@ -39,7 +39,7 @@ pub fn pattern<'e>(
     side: SortId,
     expr: &'e Sexpr,
 ) -> Result<(Pattern, Vec<BoundVariable<'e>>), CheckError>
-    ensures value { Answers held_binding (pattern sig.now side (part_of sig.now
+    ensures value { IsAnswerFor held_binding (pattern sig.now side (part_of sig.now
         (expression_of expr.now))) result }
 {
     match expr {
@@ -62,7 +62,7 @@ fn leaf_pattern<'e>(
     side: SortId,
     expr: &'e Sexpr,
 ) -> Result<(Pattern, Vec<BoundVariable<'e>>), CheckError>
-    ensures value { Answers held_binding (leaf_pattern sig.now side (name_of (part_of sig.now
+    ensures value { IsAnswerFor held_binding (leaf_pattern sig.now side (name_of (part_of sig.now
         (expression_of expr.now)))) result }
 {
     match name_of(expr) {
@@ -78,7 +78,7 @@ fn lone_pattern<'e>(
     side: SortId,
     name: &'e [u8],
 ) -> Result<(Pattern, Vec<BoundVariable<'e>>), CheckError>
-    ensures value { Answers held_binding (lone_pattern sig.now side name.now
+    ensures value { IsAnswerFor held_binding (lone_pattern sig.now side name.now
         (ctor_named sig.now name.now)) result }
 {
     match ctor_named(sig, name) {
@@ -109,7 +109,7 @@ fn lone_ctor<'e>(
     c: CtorId,
 ) -> Result<(Pattern, Vec<BoundVariable<'e>>), CheckError>
     requires inside { IsSymbol sig.now (Ctor c) }
-    ensures value { Answers held_binding (lone_ctor sig.now side c) result }
+    ensures value { IsAnswerFor held_binding (lone_ctor sig.now side c) result }
 {
     if sig.ctor_sort(c) != side {
         return Err(CheckError::Refused(FOREIGN_PATTERN));
@@ -128,7 +128,7 @@ fn list_pattern<'e>(
     items: &'e [Sexpr],
 ) -> Result<(Pattern, Vec<BoundVariable<'e>>), CheckError>
     ensures value { (m : List Variable → Outcome Sorted)
-        → Answers held_binding (pattern sig.now side (list_part (parts_of sig.now
+        → IsAnswerFor held_binding (pattern sig.now side (list_part (parts_of sig.now
         (expressions_of items.now)) m)) result }
 {
     let [head, variables @ ..] = items else {
@@ -169,7 +169,7 @@ fn ctor_with<'e>(
     c: CtorId,
 ) -> Result<(Pattern, Vec<BoundVariable<'e>>), CheckError>
     requires inside { IsSymbol sig.now (Ctor c) }
-    ensures value { Answers held_binding (ctor_with sig.now side (map held_name names.now) c)
+    ensures value { IsAnswerFor held_binding (ctor_with sig.now side (map held_name names.now) c)
         result }
 {
     if sig.ctor_sort(c) != side {
@@ -267,7 +267,7 @@ pub fn bounds<'e>(
 ///
 /// A number that is no sort's is refused like Bool.
 pub fn matchable(sig: &Signature, side: SortId) -> Result<SortId, CheckError>
-    ensures value { Answers same (matchable sig.now side) result }
+    ensures value { IsAnswerFor as_it_is (matchable sig.now side) result }
 {
     if side.0 >= sig.sorts() {
         return Err(CheckError::Refused(OUT_OF_SCOPE));

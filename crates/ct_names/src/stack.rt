@@ -1,9 +1,9 @@
-//! The variables in scope as a stack, with the place of the innermost of each name.
+//! The variables in scope as a stack, with the position of the innermost of each name.
 ghost use Rattle.std.specs.Prelude.{◌≡◌, ◌∷◌, [], List, ℕ, map, drop, option_map, if◌then◌else◌, IfOk, IfErr, OnOk, OnErr};
 ghost use Rattle.ct_terms.specs.Formula.{bind};
 ghost use Rattle.ct_names.specs.Variables.{find, is_named};
 ghost use Rattle.ct_names.specs.Bounds.{variable_of, held_name};
-ghost use Rattle.ct_names.specs.Stack.{placed, placed_at, flat, IsUnplaced};
+ghost use Rattle.ct_names.specs.Stack.{stored_position, stored_position_at, flat, HasNoPosition};
 ghost use Rattle.ct_names.specs.declared.variables.Found.{Found};
 
 use crate::error::CheckError;
@@ -15,16 +15,16 @@ use std::marker::Model;
 
 /// Where a variable stands: how many were bound before it, and its sort.
 #[derive(Clone, Copy)]
-struct Place {
+struct Position {
     before: usize,
     sort: SortId,
 }
 
-/// A variable on the stack, with the place that its name had before.
+/// A variable on the stack, with the position that its name had before.
 #[derive(Clone, Copy)]
 struct Entry<'e> {
     bound: BoundVariable<'e>,
-    shadowed: Option<Place>,
+    shadowed: Option<Position>,
 }
 
 /// The variables in scope, for a walk over an expression: a binder enters its variables before its
@@ -35,8 +35,8 @@ struct Entry<'e> {
 pub struct Variables<'e> {
     // In the order in which they were bound.
     entries: Vec<Entry<'e>>,
-    // The place of the innermost variable of each name, none where all of this name have left.
-    places: IndexMap<&'e [u8], Option<Place>>,
+    // The position of the innermost variable of each name, none where all of this name have left.
+    positions: IndexMap<&'e [u8], Option<Position>>,
 }
 
 impl<'e> Model for Variables<'e> {
@@ -50,7 +50,7 @@ impl<'e> Model for Variables<'e> {
 
     ghost view = { λ s. variables_of (bind s.entries.items []) };
 
-    ghost invariant = { λ s. IsStack s.entries.items s.places };
+    ghost invariant = { λ s. IsStack s.entries.items s.positions };
 }
 
 impl<'e> Variables<'e> {
@@ -60,7 +60,7 @@ impl<'e> Variables<'e> {
     {
         Variables {
             entries: Vec::new(alloc),
-            places: IndexMap::new(alloc),
+            positions: IndexMap::new(alloc),
         }
     }
 
@@ -69,10 +69,10 @@ impl<'e> Variables<'e> {
         ensures found { option_map (λ (f : Found). (f.number, f.sort)) result ≡ find self.now
             name.now }
     {
-        match stored(&self.places, name) {
-            Some(place) => Some(Found {
-                number: (self.entries.len() - 1 - place.before) as u64,
-                sort: place.sort,
+        match stored(&self.positions, name) {
+            Some(position) => Some(Found {
+                number: (self.entries.len() - 1 - position.before) as u64,
+                sort: position.sort,
             }),
             None => None,
         }
@@ -85,11 +85,11 @@ impl<'e> Variables<'e> {
         ensures err { IfErr result (λ e. e ≡ CheckError.NoMemory) }
     {
         self.entries.reserve(1)?;
-        let place = Place {
+        let position = Position {
             before: self.entries.len(),
             sort: variable.sort,
         };
-        let shadowed = put(&mut self.places, variable.name, Some(place))?;
+        let shadowed = put(&mut self.positions, variable.name, Some(position))?;
         self.entries
             .push(Entry {
                 bound: variable,
@@ -106,8 +106,8 @@ impl<'e> Variables<'e> {
         let Some(last) = self.entries.pop() else {
             return;
         };
-        // A name that has a place takes no memory.
-        let _ = put(&mut self.places, last.bound.name, last.shadowed);
+        // A name that has a position takes no memory.
+        let _ = put(&mut self.positions, last.bound.name, last.shadowed);
     }
 
     /// Lets so many of the innermost variables leave, or all where there are fewer.
@@ -139,43 +139,43 @@ impl<'e> Variables<'e> {
     }
 }
 
-// The place that is stored for the name.
-fn stored(places: &IndexMap<&[u8], Option<Place>>, name: &[u8]) -> Option<Place>
-    ensures place { result ≡ placed places.now name.now }
+// The position that is stored for the name.
+fn stored(positions: &IndexMap<&[u8], Option<Position>>, name: &[u8]) -> Option<Position>
+    ensures position { result ≡ stored_position positions.now name.now }
 {
-    match places.get(name) {
-        Some(place) => *place,
+    match positions.get(name) {
+        Some(position) => *position,
         None => None,
     }
 }
 
-// Stores the place for the name, where there is one. The answer is the place that was stored for it.
+// Stores the position for the name, where there is one. The answer is the position that was stored for it.
 fn put<'e>(
-    places: &mut IndexMap<&'e [u8], Option<Place>>,
+    positions: &mut IndexMap<&'e [u8], Option<Position>>,
     name: Option<&'e [u8]>,
-    place: Option<Place>,
-) -> Result<Option<Place>, CheckError>
-    ensures before { IfOk result (λ old. old ≡ placed_at places.old (held_name name.entry)) }
-    ensures put { OnOk result ((other : List ℕ) → placed places.new other ≡ (if is_named other (held_name name.entry) then place else placed places.old other)) }
-    ensures unchanged { OnErr result ((other : List ℕ) → placed places.new other ≡ placed places.old other) }
-    ensures absent { OnErr result (IsUnplaced places.old (held_name name.entry)) }
+    position: Option<Position>,
+) -> Result<Option<Position>, CheckError>
+    ensures before { IfOk result (λ old. old ≡ stored_position_at positions.old (held_name name.entry)) }
+    ensures put { OnOk result ((other : List ℕ) → stored_position positions.new other ≡ (if is_named other (held_name name.entry) then position else stored_position positions.old other)) }
+    ensures unchanged { OnErr result ((other : List ℕ) → stored_position positions.new other ≡ stored_position positions.old other) }
+    ensures absent { OnErr result (HasNoPosition positions.old (held_name name.entry)) }
     ensures err { IfErr result (λ e. e ≡ CheckError.NoMemory) }
 {
     match name {
         Some(own) => {
-            let old = places.insert(own, place)?;
+            let old = positions.insert(own, position)?;
             Ok(flat(old))
         }
         None => Ok(None),
     }
 }
 
-// The place, where there is one.
-fn flat(place: Option<Option<Place>>) -> Option<Place>
-    ensures flat { result ≡ flat place }
+// The position, where there is one.
+fn flat(position: Option<Option<Position>>) -> Option<Position>
+    ensures flat { result ≡ flat position }
 {
-    match place {
-        Some(place) => place,
+    match position {
+        Some(position) => position,
         None => None,
     }
 }

@@ -2,7 +2,7 @@
 ghost use Rattle.std.specs.Prelude.{◌≡◌, ◌<◌, length, All, IfSome, IfOk, IfErr};
 ghost use Rattle.ct_sorts.specs.Declarations.{IsSort};
 ghost use Rattle.ct_sorts.specs.Lookup.{IsSymbol};
-ghost use Rattle.ct_names.specs.Symbols.{sort_of_name, symbol_of, ctor_named, argument_sorts, result_sort, ctor_fields, operator_of};
+ghost use Rattle.ct_names.specs.Symbols.{sort_of_name, symbol_of, ctor_named, argument_sorts, result_sort, ctor_field_sorts, operator_of};
 ghost use Rattle.ct_sorts.specs.declared.ids.Symbol.TheVariants.{Ctor};
 
 use crate::error::CheckError;
@@ -66,7 +66,7 @@ pub(crate) fn ctor_fields(
     c: CtorId,
 ) -> Result<Vec<SortId>, CheckError>
     requires inside { IsSymbol sig.now (Ctor c) }
-    ensures ok { IfOk result (λ sorts. sorts.items ≡ ctor_fields sig.now c) }
+    ensures ok { IfOk result (λ sorts. sorts.items ≡ ctor_field_sorts sig.now c) }
     ensures sorts { IfOk result (λ sorts. All (IsSort sig.now) sorts.items) }
     ensures err { IfErr result (λ e. e ≡ CheckError.NoMemory) }
 {

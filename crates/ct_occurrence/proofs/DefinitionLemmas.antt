@@ -7,7 +7,7 @@ use Rattle.ct_sorts.specs.Declarations.{Declarations, Function}
 use Rattle.ct_terms.specs.Formula.{Formula}
 use Rattle.ct_terms.specs.FormulaSorts.{AreSound}
 use Rattle.ct_terms.specs.Occurrence.{occurs, body_uses, uses_below}
-use Rattle.ct_occurrence.specs.Marks.{listed, Rows, HaveRows}
+use Rattle.ct_occurrence.specs.Marks.{flags_below, Rows, HaveRows}
 
 -- a test of two numbers that are the same
 pub same_number : (k n : ℕ) → (k == n) ≡ true → k ≡ n
@@ -49,7 +49,7 @@ slice_length (y ∷ ys) zero x e = omega arith
 slice_length (y ∷ ys) (suc k) x e = let h = slice_length ys k x e in omega (arith, h)
 
 -- tests that are the same give the same flags
-pub listed_same : (p q : ℕ → Bool) (n : ℕ) → ((i : ℕ) → p i ≡ q i) → listed p n ≡ listed q n
+pub listed_same : (p q : ℕ → Bool) (n : ℕ) → ((i : ℕ) → p i ≡ q i) → flags_below p n ≡ flags_below q n
 listed_same p q zero e = refl
 listed_same p q (suc n) e = ap₂ (λ (b : Bool) (bs : List Bool). b ∷ bs) (e n) (listed_same p q n e)
 

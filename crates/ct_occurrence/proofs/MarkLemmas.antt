@@ -5,8 +5,8 @@ use Rattle.ct_sorts.specs.declared.ids.DefId.{DefId}
 use Rattle.ct_sorts.specs.Declarations.{Declarations}
 use Rattle.ct_terms.specs.Formula.{Formula, Var, Con, Sel, Test, Apply, Def, Not, And, Or, Xor, Implies, Equal, Distinct, Ite, Let, Match}
 use Rattle.ct_terms.specs.Occurrence.{occurs, occurs_in_some}
-use Rattle.ct_occurrence.specs.Plain.{is_plain, children_of}
-use Rattle.ct_occurrence.specs.Marks.{listed, marked}
+use Rattle.ct_occurrence.specs.Plain.{is_plain, formulas_under}
+use Rattle.ct_occurrence.specs.Marks.{flags_below, mark_each}
 
 or_assoc : (a b c : Bool) → ((a || b) || c) ≡ (a || (b || c))
 or_assoc true b c = refl
@@ -22,17 +22,17 @@ or_swapped true false = refl
 or_swapped false true = refl
 or_swapped false false = refl
 
-pub marked_length : (p : ℕ → Bool) (bs : List Bool) → length (marked p bs) ≡ length bs
+pub marked_length : (p : ℕ → Bool) (bs : List Bool) → length (mark_each p bs) ≡ length bs
 marked_length p [] = refl
 marked_length p (b ∷ bs) = ap suc (marked_length p bs)
 
 -- tests that are the same mark the same
-pub marked_same : (p q : ℕ → Bool) (bs : List Bool) → ((i : ℕ) → p i ≡ q i) → marked p bs ≡ marked q bs
+pub marked_same : (p q : ℕ → Bool) (bs : List Bool) → ((i : ℕ) → p i ≡ q i) → mark_each p bs ≡ mark_each q bs
 marked_same p q [] e = refl
 marked_same p q (b ∷ bs) e = ap₂ (λ (x : Bool) (xs : List Bool). x ∷ xs) (ap (λ (x : Bool). b || x) (e (length bs))) (marked_same p q bs e)
 
 -- one test after the other
-pub marked_then : (p q : ℕ → Bool) (bs : List Bool) → marked q (marked p bs) ≡ marked (λ i. p i || q i) bs
+pub marked_then : (p q : ℕ → Bool) (bs : List Bool) → mark_each q (mark_each p bs) ≡ mark_each (λ i. p i || q i) bs
 marked_then p q [] = refl
 marked_then p q (b ∷ bs) =
     ap₂ (λ (x : Bool) (xs : List Bool). x ∷ xs)
@@ -40,17 +40,17 @@ marked_then p q (b ∷ bs) =
     (marked_then p q bs)
 
 -- no test
-pub marked_none : (bs : List Bool) → marked (λ i. false) bs ≡ bs
+pub marked_none : (bs : List Bool) → mark_each (λ i. false) bs ≡ bs
 marked_none [] = refl
 marked_none (b ∷ bs) = ap₂ (λ (x : Bool) (xs : List Bool). x ∷ xs) (or_none b) (marked_none bs)
 
 -- flags of outer variables, and of a binder's
-pub marked_append : (p : ℕ → Bool) (xs ys : List Bool) → marked p (xs ++ ys) ≡ marked (λ i. p (i + length ys)) xs ++ marked p ys
+pub marked_append : (p : ℕ → Bool) (xs ys : List Bool) → mark_each p (xs ++ ys) ≡ mark_each (λ i. p (i + length ys)) xs ++ mark_each p ys
 marked_append p [] ys = refl
 marked_append p (x ∷ xs) ys = ap₂ (λ (b : Bool) (bs : List Bool). b ∷ bs) (ap (λ (n : ℕ). x || p n) (length-append xs ys)) (marked_append p xs ys)
 
 -- flags of a binder's variables alone
-pub listed_marked : (p : ℕ → Bool) (n : ℕ) → marked p (replicate n false) ≡ listed p n
+pub listed_marked : (p : ℕ → Bool) (n : ℕ) → mark_each p (replicate n false) ≡ flags_below p n
 listed_marked p zero = refl
 listed_marked p (suc n) = ap₂ (λ (b : Bool) (bs : List Bool). b ∷ bs) (ap p (replicated n)) (listed_marked p n)
   where
@@ -59,7 +59,7 @@ listed_marked p (suc n) = ap₂ (λ (b : Bool) (bs : List Bool). b ∷ bs) (ap p
     replicated (suc n) = ap suc (replicated n)
 
 -- what occurs in an operator occurs under it
-pub plain_occurs_same : (d : Declarations) (uses : DefId → ℕ → Bool) (t : Formula) → is_plain t ≡ true → (i : ℕ) → occurs_in_some d uses (children_of t) i ≡ occurs d uses t i
+pub plain_occurs_same : (d : Declarations) (uses : DefId → ℕ → Bool) (t : Formula) → is_plain t ≡ true → (i : ℕ) → occurs_in_some d uses (formulas_under t) i ≡ occurs d uses t i
 plain_occurs_same d uses (Con c ts) plain i = refl
 plain_occurs_same d uses (Sel s t) plain i = or_none (occurs d uses t i)
 plain_occurs_same d uses (Test c t) plain i = or_none (occurs d uses t i)

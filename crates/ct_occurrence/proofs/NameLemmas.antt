@@ -5,7 +5,7 @@ use Rattle.ct_sorts.specs.declared.ids.DefId.{DefId}
 use Rattle.ct_terms.specs.declared.tree.Pattern.{Pattern}
 use Rattle.ct_terms.specs.Formula.{Formula, Formulas, Cases, Var, Con, Sel, Test, Apply, Def, Not, And, Or, Xor, Implies, Equal, Distinct, Ite, Let, Match, no_formulas, with_formula, no_cases, with_case, MentionsBelow, AllMentionBelow, CasesMentionBelow}
 use Rattle.ct_occurrence.specs.Calls.{CallsAre, AllCallsAre, CaseCallsAre, AllPass, AddsNamed, AddsAllNamed, AddsCaseNamed}
-use Rattle.ct_occurrence.specs.Plain.{is_plain, children_of}
+use Rattle.ct_occurrence.specs.Plain.{is_plain, formulas_under}
 use Rattle.ct_occurrence.proofs.Size.{size, sizes, case_sizes}
 use Rattle.ct_occurrence.proofs.MayLemmas.{plain_calls}
 
@@ -70,7 +70,7 @@ mutual
   case_mentions_calls n no_cases h = tt
   case_mentions_calls n (with_case p body cases) h = (mentions_calls n body h.0, case_mentions_calls n cases h.1)
 
-plain_from : (P : DefId → Type 0) (t : Formula) → is_plain t ≡ true → AllCallsAre P (children_of t) → CallsAre P t
+plain_from : (P : DefId → Type 0) (t : Formula) → is_plain t ≡ true → AllCallsAre P (formulas_under t) → CallsAre P t
 plain_from P (Con c ts) plain h = h
 plain_from P (Sel s t) plain h = h.0
 plain_from P (Test c t) plain h = h.0
@@ -90,9 +90,9 @@ plain_from P (Match t cases) plain h = cc
 
 -- ---- one form each
 
-pub adds_plain : (t : Formula) (ts : Formulas) (old new : List DefId) → is_plain t ≡ true → children_of t ≡ ts → AddsAllNamed ts old new → AddsNamed t old new
+pub adds_plain : (t : Formula) (ts : Formulas) (old new : List DefId) → is_plain t ≡ true → formulas_under t ≡ ts → AddsAllNamed ts old new → AddsNamed t old new
 adds_plain t ts old new plain under h =
-    let k : AddsAllNamed (children_of t) old new = subst (λ (us : Formulas). AddsAllNamed us old new) (sym under) h in
+    let k : AddsAllNamed (formulas_under t) old new = subst (λ (us : Formulas). AddsAllNamed us old new) (sym under) h in
     record {
       named = plain_from (Contains new) t plain k.named;
       stay = k.stay;

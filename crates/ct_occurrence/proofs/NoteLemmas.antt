@@ -9,12 +9,12 @@ use Rattle.ct_terms.specs.Formula.{Formula, Formulas, Cases, Var, Con, Sel, Test
 use Rattle.ct_terms.specs.Compiled.{surely_fits, are_none}
 use Rattle.ct_terms.specs.Occurrence.{count_of, occurs, matched_occurs}
 use Rattle.ct_occurrence.specs.declared.notes.Notes.{Notes}
-use Rattle.ct_occurrence.specs.Plain.{is_plain, children_of}
-use Rattle.ct_occurrence.specs.Marks.{listed, Rows, IsKnown, MayMarkAll}
+use Rattle.ct_occurrence.specs.Plain.{is_plain, formulas_under}
+use Rattle.ct_occurrence.specs.Marks.{flags_below, Rows, IsKnown, MayMarkAll}
 use Rattle.ct_occurrence.specs.Noted.{bound_of, under_of, inner_of, IsOfFirst, IsNoted, AreNoted, AreNotedWhere, CasesNoted}
 
 -- an operator, from what is under it
-pub noted_plain : (d : Declarations) (rows : Rows) (uses : DefId → ℕ → Bool) (t : Formula) (m : Notes) → is_plain t ≡ true → AreNoted d rows uses (children_of t) (under_of m) → IsNoted d rows uses t m
+pub noted_plain : (d : Declarations) (rows : Rows) (uses : DefId → ℕ → Bool) (t : Formula) (m : Notes) → is_plain t ≡ true → AreNoted d rows uses (formulas_under t) (under_of m) → IsNoted d rows uses t m
 noted_plain d rows uses (Con c ts) m plain h = h
 noted_plain d rows uses (Sel s t) m plain h = h.0
 noted_plain d rows uses (Test c t) m plain h = h.0
@@ -32,22 +32,22 @@ noted_plain d rows uses (Ite c t u) m plain h = absurd (true≢false (sym plain)
 noted_plain d rows uses (Let ts u) m plain h = absurd (true≢false (sym plain))
 noted_plain d rows uses (Match t cases) m plain h = absurd (true≢false (sym plain))
 
-pub noted_operator : (d : Declarations) (rows : Rows) (uses : DefId → ℕ → Bool) (t : Formula) (ts : Formulas) (m : Notes) (ms : List Notes) → is_plain t ≡ true → children_of t ≡ ts → under_of m ≡ ms → AreNoted d rows uses ts ms → IsNoted d rows uses t m
+pub noted_operator : (d : Declarations) (rows : Rows) (uses : DefId → ℕ → Bool) (t : Formula) (ts : Formulas) (m : Notes) (ms : List Notes) → is_plain t ≡ true → formulas_under t ≡ ts → under_of m ≡ ms → AreNoted d rows uses ts ms → IsNoted d rows uses t m
 noted_operator d rows uses t ts m ms plain under is h =
     noted_plain d rows uses t m plain (subst (λ (us : Formulas). AreNoted d rows uses us (under_of m)) (sym under) (subst (AreNoted d rows uses ts) (sym is) h))
 
 module _ (d : Declarations) (rows : Rows) (uses : DefId → ℕ → Bool) where
-  pub noted_call : (k : DefId) (ts : Formulas) (m : Notes) (ms : List Notes) (row : List Bool) → row ≡ listed (uses k) (count_of ts) → under_of m ≡ ms → IsKnown rows k → AreNotedWhere d rows uses row ts ms → IsNoted d rows uses (Def k ts) m
-  noted_call k ts m ms row is under known h = (known, subst (AreNotedWhere d rows uses (listed (uses k) (count_of ts)) ts) (sym under) (subst (λ (bs : List Bool). AreNotedWhere d rows uses bs ts ms) is h))
+  pub noted_call : (k : DefId) (ts : Formulas) (m : Notes) (ms : List Notes) (row : List Bool) → row ≡ flags_below (uses k) (count_of ts) → under_of m ≡ ms → IsKnown rows k → AreNotedWhere d rows uses row ts ms → IsNoted d rows uses (Def k ts) m
+  noted_call k ts m ms row is under known h = (known, subst (AreNotedWhere d rows uses (flags_below (uses k) (count_of ts)) ts) (sym under) (subst (λ (bs : List Bool). AreNotedWhere d rows uses bs ts ms) is h))
 
   pub noted_choice : (c t u : Formula) (m x y z : Notes) → under_of m ≡ x ∷ (y ∷ (z ∷ [])) → IsNoted d rows uses c x → IsNoted d rows uses t y → IsNoted d rows uses u z → IsNoted d rows uses (Ite c t u) m
   noted_choice c t u m x y z under f g h =
       subst (λ (ms : List Notes). IsOfFirst (IsNoted d rows uses c) ms × IsOfFirst (IsNoted d rows uses t) (drop 1 ms) × IsOfFirst (IsNoted d rows uses u) (drop 1 (drop 1 ms))) (sym under) (f, g, h)
 
-  pub noted_let : (ts : Formulas) (u : Formula) (m x : Notes) (bound : List Bool) (ms : List Notes) → bound ≡ listed (occurs d uses u) (count_of ts) → bound_of m ≡ bound → under_of m ≡ ms → inner_of m ≡ x ∷ [] → AreNotedWhere d rows uses bound ts ms → IsNoted d rows uses u x → IsNoted d rows uses (Let ts u) m
+  pub noted_let : (ts : Formulas) (u : Formula) (m x : Notes) (bound : List Bool) (ms : List Notes) → bound ≡ flags_below (occurs d uses u) (count_of ts) → bound_of m ≡ bound → under_of m ≡ ms → inner_of m ≡ x ∷ [] → AreNotedWhere d rows uses bound ts ms → IsNoted d rows uses u x → IsNoted d rows uses (Let ts u) m
   noted_let ts u m x bound ms is flags under inner h k = (
     flags ∙ is,
-    subst (AreNotedWhere d rows uses (listed (occurs d uses u) (count_of ts)) ts) (sym under) (subst (λ (bs : List Bool). AreNotedWhere d rows uses bs ts ms) is h),
+    subst (AreNotedWhere d rows uses (flags_below (occurs d uses u) (count_of ts)) ts) (sym under) (subst (λ (bs : List Bool). AreNotedWhere d rows uses bs ts ms) is h),
     subst (IsOfFirst (IsNoted d rows uses u)) (sym inner) k,
   )
 
@@ -80,12 +80,12 @@ notes_end d rows all done uses n h may = subst (AreNoted d rows uses all) (appen
 -- ---- the loop over formulas that are bound
 
 pub record NotesBound (d : Declarations) (rows : Rows) (bound : List Bool) (all : Formulas) (left : List Bool) (rest : Formulas) (done : List Notes) : Type 0 where
-  pub step : (inner : ℕ → Bool) (uses : DefId → ℕ → Bool) (n : ℕ) → MayMarkAll d uses n rows all → bound ≡ listed inner (count_of all) → (more : List Notes) → AreNotedWhere d rows uses left rest more → AreNotedWhere d rows uses bound all (done ++ more)
+  pub step : (inner : ℕ → Bool) (uses : DefId → ℕ → Bool) (n : ℕ) → MayMarkAll d uses n rows all → bound ≡ flags_below inner (count_of all) → (more : List Notes) → AreNotedWhere d rows uses left rest more → AreNotedWhere d rows uses bound all (done ++ more)
 
-pub notes_bound_more : (d : Declarations) (rows : Rows) (bound : List Bool) (all : Formulas) (b : Bool) (left : List Bool) (t : Formula) (ts : Formulas) (done : List Notes) (m : Notes) → NotesBound d rows bound all (b ∷ left) (with_formula t ts) done → ((inner : ℕ → Bool) (uses : DefId → ℕ → Bool) (n : ℕ) → MayMarkAll d uses n rows all → bound ≡ listed inner (count_of all) → b ≡ true → IsNoted d rows uses t m) → NotesBound d rows bound all left ts (done ++ m ∷ [])
+pub notes_bound_more : (d : Declarations) (rows : Rows) (bound : List Bool) (all : Formulas) (b : Bool) (left : List Bool) (t : Formula) (ts : Formulas) (done : List Notes) (m : Notes) → NotesBound d rows bound all (b ∷ left) (with_formula t ts) done → ((inner : ℕ → Bool) (uses : DefId → ℕ → Bool) (n : ℕ) → MayMarkAll d uses n rows all → bound ≡ flags_below inner (count_of all) → b ≡ true → IsNoted d rows uses t m) → NotesBound d rows bound all left ts (done ++ m ∷ [])
 notes_bound_more d rows bound all b left t ts done m h first = record {
   step = λ inner uses n may e more k. subst (AreNotedWhere d rows uses bound all) (sym (append_assoc done (m ∷ []) more)) (h.step inner uses n may e (m ∷ more) (first inner uses n may e, k));
 }
 
-pub notes_bound_end : (d : Declarations) (rows : Rows) (bound : List Bool) (all : Formulas) (left : List Bool) (done : List Notes) (inner : ℕ → Bool) (uses : DefId → ℕ → Bool) (n : ℕ) → NotesBound d rows bound all left no_formulas done → MayMarkAll d uses n rows all → bound ≡ listed inner (count_of all) → AreNotedWhere d rows uses bound all done
+pub notes_bound_end : (d : Declarations) (rows : Rows) (bound : List Bool) (all : Formulas) (left : List Bool) (done : List Notes) (inner : ℕ → Bool) (uses : DefId → ℕ → Bool) (n : ℕ) → NotesBound d rows bound all left no_formulas done → MayMarkAll d uses n rows all → bound ≡ flags_below inner (count_of all) → AreNotedWhere d rows uses bound all done
 notes_bound_end d rows bound all left done inner uses n h may e = subst (AreNotedWhere d rows uses bound all) (append-nil done) (h.step inner uses n may e [] tt)

@@ -3,14 +3,14 @@ use Rattle.std.proofs.Common.{◌≡◌, ℕ, true, List, [], ◌∷◌, sym, tr
 use Rattle.ct_sorts.specs.declared.ids.SortId.{SortId}
 use Rattle.ct_sorts.specs.Declarations.{Declarations, bool_sort}
 use Rattle.ct_terms.specs.Formula.{Formula, Formulas, Var, Con, Sel, Test, Apply, Def, Not, And, Or, Xor, Implies, Equal, Distinct, Ite, Let, Match, no_formulas, with_formula, MentionsBelow, AllMentionBelow}
-use Rattle.ct_terms.specs.FormulaSorts.{IsSorted, AreSorted, AreOfSort}
-use Rattle.ct_occurrence.specs.Plain.{is_plain, children_of}
+use Rattle.ct_terms.specs.FormulaSorts.{IsSorted, AllSorted, AreOfSort}
+use Rattle.ct_occurrence.specs.Plain.{is_plain, formulas_under}
 
-pub each_sorted : (d : Declarations) (env : List SortId) (ts : Formulas) (side : SortId) → AreOfSort d env ts side → (each : List SortId) × AreSorted d env ts each
+pub each_sorted : (d : Declarations) (env : List SortId) (ts : Formulas) (side : SortId) → AreOfSort d env ts side → (each : List SortId) × AllSorted d env ts each
 each_sorted d env no_formulas side h = ([], tt)
 each_sorted d env (with_formula t ts) side h = let rest = each_sorted d env ts side h.1 in (side ∷ rest.0, (h.0, rest.1))
 
-pub plain_sorted : (d : Declarations) (sorts : List SortId) (t : Formula) (sort : SortId) → is_plain t ≡ true → IsSorted d sorts t sort → (each : List SortId) × AreSorted d sorts (children_of t) each
+pub plain_sorted : (d : Declarations) (sorts : List SortId) (t : Formula) (sort : SortId) → is_plain t ≡ true → IsSorted d sorts t sort → (each : List SortId) × AllSorted d sorts (formulas_under t) each
 plain_sorted d sorts (Con c ts) sort plain h = (h.1, h.4)
 plain_sorted d sorts (Sel s t) sort plain h = (h.1.sort ∷ [], (h.4, tt))
 plain_sorted d sorts (Test c t) sort plain h = (h.0.sort ∷ [], (h.2, tt))
@@ -28,7 +28,7 @@ plain_sorted d sorts (Ite c t u) sort plain h = absurd (true≢false (sym plain)
 plain_sorted d sorts (Let ts u) sort plain h = absurd (true≢false (sym plain))
 plain_sorted d sorts (Match t cases) sort plain h = absurd (true≢false (sym plain))
 
-pub plain_mentions : (n : ℕ) (t : Formula) → is_plain t ≡ true → MentionsBelow n t → AllMentionBelow n (children_of t)
+pub plain_mentions : (n : ℕ) (t : Formula) → is_plain t ≡ true → MentionsBelow n t → AllMentionBelow n (formulas_under t)
 plain_mentions n (Con c ts) plain h = h
 plain_mentions n (Sel s t) plain h = (h, tt)
 plain_mentions n (Test c t) plain h = (h, tt)

@@ -12,7 +12,7 @@ use Rattle.ct_occurrence.specs.declared.under_way.Frame.{Frame}
 use Rattle.ct_occurrence.specs.Calls.{CallsAre, AreBelow}
 use Rattle.ct_occurrence.specs.Marks.{Rows, IsKnown}
 use Rattle.ct_occurrence.specs.Working.{AreRight, StayKnown}
-use Rattle.ct_occurrence.specs.UnderWay.{IsFrame, Begins, IsLeft, Descend, AreUnderWay, IsMet, counted, room, top, IsStep}
+use Rattle.ct_occurrence.specs.UnderWay.{IsFrame, BeginsBody, AreLeftOut, Descend, AreFramesUnderWay, IsWorkedOrWaits, count_unless_worked, work_left_below, top, IsWorkStep}
 use Rattle.ct_occurrence.proofs.DefinitionLemmas.{same_number, other_number}
 use Rattle.ct_occurrence.proofs.NameLemmas.{calls_more}
 use Rattle.ct_occurrence.proofs.WorkingLemmas.{same_id}
@@ -92,46 +92,46 @@ module _ (old new : Rows) (k : DefId) (w : Worked) (only : (j : DefId) → new j
       of true = (w, refl)
       of false = h
 
-  room_same : (each n : ℕ) → n ≤ k.0 → room new each n ≡ room old each n
+  room_same : (each n : ℕ) → n ≤ k.0 → work_left_below new each n ≡ work_left_below old each n
   room_same each zero h = refl
   room_same each (suc n) h =
-      ap₂ (λ (o : Option Worked) (r : ℕ). counted each o + r) (there (record { 0 = n }) (λ e. omega (arith, h, e))) (room_same each n (omega (arith, h)))
+      ap₂ (λ (o : Option Worked) (r : ℕ). count_unless_worked each o + r) (there (record { 0 = n }) (λ e. omega (arith, h, e))) (room_same each n (omega (arith, h)))
 
-  room_step : (each n : ℕ) → k.0 < suc n → old k ≡ None → (k.0 < n → room new each n + each ≡ room old each n) → room new each (suc n) + each ≡ room old each (suc n)
+  room_step : (each n : ℕ) → k.0 < suc n → old k ≡ None → (k.0 < n → work_left_below new each n + each ≡ work_left_below old each n) → work_left_below new each (suc n) + each ≡ work_left_below old each (suc n)
   room_step each n h none smaller = by (k.0 == n) refl
     where
       last : DefId
       last = record { 0 = n }
 
-      by : (b : Bool) → (k.0 == n) ≡ b → counted each (new last) + room new each n + each ≡ counted each (old last) + room old each n
+      by : (b : Bool) → (k.0 == n) ≡ b → count_unless_worked each (new last) + work_left_below new each n + each ≡ count_unless_worked each (old last) + work_left_below old each n
       by true e =
           let number = same_number k.0 n e in
           let same : k ≡ last = same_id k last number in
-          let before : counted each (old last) ≡ each = ap (λ (j : DefId). counted each (old j)) (sym same) ∙ ap (counted each) none in
-          let after : counted each (new last) ≡ 0 = ap (λ (j : DefId). counted each (new j)) (sym same) ∙ ap (counted each) here in
+          let before : count_unless_worked each (old last) ≡ each = ap (λ (j : DefId). count_unless_worked each (old j)) (sym same) ∙ ap (count_unless_worked each) none in
+          let after : count_unless_worked each (new last) ≡ 0 = ap (λ (j : DefId). count_unless_worked each (new j)) (sym same) ∙ ap (count_unless_worked each) here in
           let rest = room_same each n (omega (arith, number)) in
           omega (arith, before, after, rest)
       by false e =
           let differ = other_number k.0 n e in
-          let one : counted each (new last) ≡ counted each (old last) = ap (counted each) (there last differ) in
+          let one : count_unless_worked each (new last) ≡ count_unless_worked each (old last) = ap (count_unless_worked each) (there last differ) in
           let rest = smaller (omega (arith, h, differ)) in
           omega (arith, one, rest)
 
-  room_less : (each n : ℕ) → k.0 < n → old k ≡ None → room new each n + each ≡ room old each n
+  room_less : (each n : ℕ) → k.0 < n → old k ≡ None → work_left_below new each n + each ≡ work_left_below old each n
   room_less each zero h none = absurd (omega (arith, h))
   room_less each (suc n) h none = room_step each n h none (λ less. room_less each n less none)
 
 -- ---- the steps
 
 module _ (d : Declarations) (bodies : List Formula) where
-  inside : (rows : Rows) (stack : List Frame) → AreUnderWay d bodies rows stack → (f : Frame) → Contains stack f → f.definition.0 < length bodies
+  inside : (rows : Rows) (stack : List Frame) → AreFramesUnderWay d bodies rows stack → (f : Frame) → Contains stack f → f.definition.0 < length bodies
   inside rows stack h f i = let k = h.frames f i in slice_get_within bodies f.definition.0 k.body k.at
 
-  pub last_inside : (rows : Rows) (stack : List Frame) (frame : Frame) → AreUnderWay d bodies rows (stack ++ frame ∷ []) → frame.definition.0 < length bodies
+  pub last_inside : (rows : Rows) (stack : List Frame) (frame : Frame) → AreFramesUnderWay d bodies rows (stack ++ frame ∷ []) → frame.definition.0 < length bodies
   last_inside rows stack frame h = inside rows (stack ++ frame ∷ []) h frame (Contains-push stack frame)
 
   -- a definition that begins waits
-  pub begins_waits : (rows : Rows) (k : DefId) (f : Frame) → Begins bodies k f → rows k ≡ None → IsFrame bodies rows f
+  pub begins_waits : (rows : Rows) (k : DefId) (f : Frame) → BeginsBody bodies k f → rows k ≡ None → IsFrame bodies rows f
   begins_waits rows k f h none = record {
     body = h.body;
     at = ap (λ (j : DefId). slice_get bodies j.0) h.definition_is ∙ h.at;
@@ -141,8 +141,8 @@ module _ (d : Declarations) (bodies : List Formula) where
   }
 
   -- the first one
-  pub first_waits : (rows : Rows) (k : DefId) (f : Frame) (none stack : List Frame) → none ≡ [] → stack ≡ none ++ f ∷ [] → AreRight d bodies rows → Begins bodies k f → rows k ≡ None → AreUnderWay d bodies rows stack × IsMet rows stack k
-  first_waits rows k f none stack empty is right begins unknown = subst (λ (fs : List Frame). AreUnderWay d bodies rows fs × IsMet rows fs k) (sym (is ∙ ap (λ (fs : List Frame). fs ++ f ∷ []) empty)) (
+  pub first_waits : (rows : Rows) (k : DefId) (f : Frame) (none stack : List Frame) → none ≡ [] → stack ≡ none ++ f ∷ [] → AreRight d bodies rows → BeginsBody bodies k f → rows k ≡ None → AreFramesUnderWay d bodies rows stack × IsWorkedOrWaits rows stack k
+  first_waits rows k f none stack empty is right begins unknown = subst (λ (fs : List Frame). AreFramesUnderWay d bodies rows fs × IsWorkedOrWaits rows fs k) (sym (is ∙ ap (λ (fs : List Frame). fs ++ f ∷ []) empty)) (
     record {
       right = right;
       frames = λ g i. elim (first_or_more f [] g i) [
@@ -155,7 +155,7 @@ module _ (d : Declarations) (bodies : List Formula) where
   )
 
   -- the last one waits for another
-  module _ (rows : Rows) (stack : List Frame) (frame waiting above : Frame) (same : waiting.definition ≡ frame.definition) (h : AreUnderWay d bodies rows (stack ++ frame ∷ [])) (name : DefId) (left : IsLeft rows frame.left.items waiting.left.items (Some name)) (begins : Begins bodies name above) where
+  module _ (rows : Rows) (stack : List Frame) (frame waiting above : Frame) (same : waiting.definition ≡ frame.definition) (h : AreFramesUnderWay d bodies rows (stack ++ frame ∷ [])) (name : DefId) (left : AreLeftOut rows frame.left.items waiting.left.items (Some name)) (begins : BeginsBody bodies name above) where
     own : IsFrame bodies rows frame
     own = h.frames frame (Contains-push stack frame)
 
@@ -180,7 +180,7 @@ module _ (d : Declarations) (bodies : List Formula) where
     abbrev later : List Frame
     later = (stack ++ waiting ∷ []) ++ above ∷ []
 
-    pub waits_for : IsStep d bodies rows rows (stack ++ frame ∷ []) later
+    pub waits_for : IsWorkStep d bodies rows rows (stack ++ frame ∷ []) later
     waits_for = record {
       under_way = record {
         right = h.right;
@@ -214,7 +214,7 @@ module _ (d : Declarations) (bodies : List Formula) where
     }
 
   -- the last one is worked out
-  module _ (old new : Rows) (stack : List Frame) (frame : Frame) (h : AreUnderWay d bodies old (stack ++ frame ∷ [])) (w : Worked) (only : (j : DefId) → new j ≡ cond (nat_eq frame.definition.0 j.0) (Some w) (old j)) (right : AreRight d bodies new) where
+  module _ (old new : Rows) (stack : List Frame) (frame : Frame) (h : AreFramesUnderWay d bodies old (stack ++ frame ∷ [])) (w : Worked) (only : (j : DefId) → new j ≡ cond (nat_eq frame.definition.0 j.0) (Some w) (old j)) (right : AreRight d bodies new) where
     ended : IsFrame bodies old frame
     ended = h.frames frame (Contains-push stack frame)
 
@@ -233,7 +233,7 @@ module _ (d : Declarations) (bodies : List Formula) where
           waits = there old new frame.definition w only f.definition (λ e. omega (arith, less, e)) ∙ k.waits;
         }
 
-    pub is_worked_out : IsStep d bodies old new (stack ++ frame ∷ []) stack
+    pub is_worked_out : IsWorkStep d bodies old new (stack ++ frame ∷ []) stack
     is_worked_out = record {
       under_way = record { right = right; frames = stays; descend = descend_first stack frame h.descend };
       stay = put_stays old new frame.definition w only;
@@ -252,7 +252,7 @@ module _ (d : Declarations) (bodies : List Formula) where
     }
 
   -- what is found comes before the last one
-  pub next_inside : (rows : Rows) (stack : List Frame) (frame : Frame) (left : List DefId) (name : DefId) → AreUnderWay d bodies rows (stack ++ frame ∷ []) → IsLeft rows frame.left.items left (Some name) → name.0 < length bodies
+  pub next_inside : (rows : Rows) (stack : List Frame) (frame : Frame) (left : List DefId) (name : DefId) → AreFramesUnderWay d bodies rows (stack ++ frame ∷ []) → AreLeftOut rows frame.left.items left (Some name) → name.0 < length bodies
   next_inside rows stack frame left name h found =
       let own = h.frames frame (Contains-push stack frame) in
       let less = own.before name (found.within name found.unknown.1) in
@@ -260,7 +260,7 @@ module _ (d : Declarations) (bodies : List Formula) where
       omega (arith, less, within)
 
   -- where nothing is left, what the body names is worked out
-  pub all_worked_out : (rows : Rows) (stack : List Frame) (frame : Frame) (left : List DefId) → AreUnderWay d bodies rows (stack ++ frame ∷ []) → IsLeft rows frame.left.items left None → (body : Formula) → slice_get bodies frame.definition.0 ≡ Some body → CallsAre (IsKnown rows) body
+  pub all_worked_out : (rows : Rows) (stack : List Frame) (frame : Frame) (left : List DefId) → AreFramesUnderWay d bodies rows (stack ++ frame ∷ []) → AreLeftOut rows frame.left.items left None → (body : Formula) → slice_get bodies frame.definition.0 ≡ Some body → CallsAre (IsKnown rows) body
   all_worked_out rows stack frame left h done body at =
       let own = h.frames frame (Contains-push stack frame) in
       subst (CallsAre (IsKnown rows)) (same_Some own.body body (sym own.at ∙ at)) (calls_more (λ j. IsKnown rows j ⊎ Contains frame.left.items j) (IsKnown rows) (λ j x. elim x [
@@ -274,19 +274,19 @@ module _ (d : Declarations) (bodies : List Formula) where
 -- ---- the loop
 
 pub record IsOnTheWay (d : Declarations) (bodies : List Formula) (first : Rows) (k : DefId) (rows : Rows) (stack : List Frame) : Type 0 where
-  pub under_way : AreUnderWay d bodies rows stack
+  pub under_way : AreFramesUnderWay d bodies rows stack
   pub stay : StayKnown first rows
-  pub met : IsMet rows stack k
+  pub met : IsWorkedOrWaits rows stack k
 
 module _ (d : Declarations) (bodies : List Formula) (first : Rows) (k : DefId) where
-  pub way_start : (f : Frame) (none stack : List Frame) → none ≡ [] → stack ≡ none ++ f ∷ [] → AreRight d bodies first → Begins bodies k f → first k ≡ None → IsOnTheWay d bodies first k first stack
+  pub way_start : (f : Frame) (none stack : List Frame) → none ≡ [] → stack ≡ none ++ f ∷ [] → AreRight d bodies first → BeginsBody bodies k f → first k ≡ None → IsOnTheWay d bodies first k first stack
   way_start f none stack empty is right begins unknown = let h = first_waits d bodies first k f none stack empty is right begins unknown in record { under_way = h.0; stay = λ j x. x; met = h.1 }
 
-  pub way_next : (old new : Rows) (before popped after : List Frame) (frame : Frame) → before ≡ popped ++ frame ∷ [] → IsStep d bodies old new (popped ++ frame ∷ []) after → IsOnTheWay d bodies first k old before → IsOnTheWay d bodies first k new after
+  pub way_next : (old new : Rows) (before popped after : List Frame) (frame : Frame) → before ≡ popped ++ frame ∷ [] → IsWorkStep d bodies old new (popped ++ frame ∷ []) after → IsOnTheWay d bodies first k old before → IsOnTheWay d bodies first k new after
   way_next old new before popped after frame is step h = record {
     under_way = step.under_way;
     stay = λ j x. step.stay j (h.stay j x);
-    met = step.met k (subst (λ (fs : List Frame). IsMet old fs k) is h.met);
+    met = step.met k (subst (λ (fs : List Frame). IsWorkedOrWaits old fs k) is h.met);
   }
 
   pub way_end : (rows : Rows) (stack : List Frame) → stack ≡ [] → IsOnTheWay d bodies first k rows stack → IsKnown rows k
@@ -314,8 +314,8 @@ module _ (rows : Rows) (first now popped : List DefId) (name : DefId) (is : now 
     within = λ j i. h.within j (subst (λ (js : List DefId). Contains js j) (sym is) (Contains-append_left popped (name ∷ []) j i));
   }
 
-  pub left_unknown : (longer : List DefId) → longer ≡ popped ++ name ∷ [] → rows name ≡ None → IsLeft rows first longer (Some name)
-  left_unknown longer again none = subst (λ (js : List DefId). IsLeft rows first js (Some name)) (is ∙ sym again) record {
+  pub left_unknown : (longer : List DefId) → longer ≡ popped ++ name ∷ [] → rows name ≡ None → AreLeftOut rows first longer (Some name)
+  left_unknown longer again none = subst (λ (js : List DefId). AreLeftOut rows first js (Some name)) (is ∙ sym again) record {
     kept = h.kept;
     within = h.within;
     unknown = (none, subst (λ (js : List DefId). Contains js name) (sym is) (Contains-push popped name));
@@ -325,5 +325,5 @@ module _ (rows : Rows) (first now popped : List DefId) (name : DefId) (is : now 
 pub left_start : (rows : Rows) (first : List DefId) → AreLeft rows first first
 left_start rows first = record { kept = λ j i. inr i; within = λ j i. i }
 
-pub left_end : (rows : Rows) (first now : List DefId) → now ≡ [] → AreLeft rows first now → IsLeft rows first now None
+pub left_end : (rows : Rows) (first now : List DefId) → now ≡ [] → AreLeft rows first now → AreLeftOut rows first now None
 left_end rows first now none h = record { kept = h.kept; within = h.within; unknown = tt; finished = none }

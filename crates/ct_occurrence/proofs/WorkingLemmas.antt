@@ -18,7 +18,7 @@ use Rattle.ct_terms.specs.Occurrence.{count_of, occurs, uses_below}
 use Rattle.ct_occurrence.specs.declared.definitions.Worked.{Worked}
 use Rattle.ct_occurrence.specs.declared.notes.Notes.{Notes}
 use Rattle.ct_occurrence.specs.Calls.{CallsAre, AreBelow, AllPass, AddsNamed}
-use Rattle.ct_occurrence.specs.Marks.{listed, Rows, worked_in, IsKnown, row_in, MayMark}
+use Rattle.ct_occurrence.specs.Marks.{flags_below, Rows, worked_in, IsKnown, row_in, MayMark}
 use Rattle.ct_occurrence.specs.Noted.{under_of, inner_of, IsOfFirst, IsNoted, AreNoted, AreNotedWhere, CasesNoted}
 use Rattle.ct_occurrence.specs.Working.{AreRight, StayKnown}
 use Rattle.ct_occurrence.proofs.DefinitionLemmas.{uses_is, listed_same, fewer_rows}
@@ -48,7 +48,7 @@ module _ (d : Declarations) (uses : DefId → ℕ → Bool) (old new : Rows) (st
     noted_stays (Sel s t) m h = of_first (IsNoted d old uses t) (IsNoted d new uses t) (noted_stays t) (under_of m) h
     noted_stays (Test c t) m h = of_first (IsNoted d old uses t) (IsNoted d new uses t) (noted_stays t) (under_of m) h
     noted_stays (Apply f ts) m h = all_noted_stay ts (under_of m) h
-    noted_stays (Def k ts) m h = (stay k h.0, where_noted_stay (listed (uses k) (count_of ts)) ts (under_of m) h.1)
+    noted_stays (Def k ts) m h = (stay k h.0, where_noted_stay (flags_below (uses k) (count_of ts)) ts (under_of m) h.1)
     noted_stays (Not t) m h = of_first (IsNoted d old uses t) (IsNoted d new uses t) (noted_stays t) (under_of m) h
     noted_stays (And ts) m h = all_noted_stay ts (under_of m) h
     noted_stays (Or ts) m h = all_noted_stay ts (under_of m) h
@@ -63,7 +63,7 @@ module _ (d : Declarations) (uses : DefId → ℕ → Bool) (old new : Rows) (st
     )
     noted_stays (Let ts u) m h = (
       h.0,
-      where_noted_stay (listed (occurs d uses u) (count_of ts)) ts (under_of m) h.1,
+      where_noted_stay (flags_below (occurs d uses u) (count_of ts)) ts (under_of m) h.1,
       of_first (IsNoted d old uses u) (IsNoted d new uses u) (noted_stays u) (inner_of m) h.2,
     )
     noted_stays (Match t cases) m h = (
@@ -142,26 +142,26 @@ module _ (d : Declarations) (bodies : List Formula) (k : DefId) (body : Formula)
       there j e = only j ∙ ap (λ (b : Bool). cond b (Some w) (old j)) e
 
       -- with it, what is worked out is right
-      pub put_right : AreRight d bodies old → w.flags.items ≡ listed (occurs d (uses_below d bodies k.0) body) (length args) → IsOfFirst (IsNoted d old (uses_below d bodies k.0) body) w.notes.items → AreRight d bodies new
+      pub put_right : AreRight d bodies old → w.flags.items ≡ flags_below (occurs d (uses_below d bodies k.0) body) (length args) → IsOfFirst (IsNoted d old (uses_below d bodies k.0) body) w.notes.items → AreRight d bodies new
       put_right right flags noted = record {
         have = λ j definition row below found is. by_rows j definition row below found is (nat_eq k.0 j.0) refl;
         notes = λ j b x found is. by_notes j b x found is (nat_eq k.0 j.0) refl;
       }
         where
-          own_row : (definition : Function) (row : List Bool) → slice_get d.definitions k.0 ≡ Some definition → row_in new k ≡ Some row → row ≡ listed (uses_below d bodies (length bodies) k) (length definition.args)
+          own_row : (definition : Function) (row : List Bool) → slice_get d.definitions k.0 ≡ Some definition → row_in new k ≡ Some row → row ≡ flags_below (uses_below d bodies (length bodies) k) (length definition.args)
           own_row definition row found is =
               sym (same_Some w.flags.items row (sym (ap (option_map (λ (x : Worked). x.flags.items)) here) ∙ is))
               ∙ (flags
-              ∙ (ap (λ (xs : List SortId). listed (occurs d (uses_below d bodies k.0) body) (length xs)) same_args
+              ∙ (ap (λ (xs : List SortId). flags_below (occurs d (uses_below d bodies k.0) body) (length xs)) same_args
               ∙ listed_same (occurs d (uses_below d bodies k.0) body) (uses_below d bodies (length bodies) k) (length definition.args) (λ i. sym (uses_is bodies k body at d (length bodies) i body_inside))))
             where
               same_args : args ≡ definition.args
               same_args = same_Some args definition.args (sym args_are ∙ ap (option_map (λ (f : Function). f.args)) found)
 
-          by_rows : (j : DefId) (definition : Function) (row : List Bool) → j.0 < length bodies → slice_get d.definitions j.0 ≡ Some definition → row_in new j ≡ Some row → (b : Bool) → nat_eq k.0 j.0 ≡ b → row ≡ listed (uses_below d bodies (length bodies) j) (length definition.args)
+          by_rows : (j : DefId) (definition : Function) (row : List Bool) → j.0 < length bodies → slice_get d.definitions j.0 ≡ Some definition → row_in new j ≡ Some row → (b : Bool) → nat_eq k.0 j.0 ≡ b → row ≡ flags_below (uses_below d bodies (length bodies) j) (length definition.args)
           by_rows j definition row below found is true e =
               let same = same_id k j ((Decides-eqb k.0 j.0).0 e) in
-              subst (λ (x : DefId). slice_get d.definitions x.0 ≡ Some definition → row_in new x ≡ Some row → row ≡ listed (uses_below d bodies (length bodies) x) (length definition.args)) same (own_row definition row) found is
+              subst (λ (x : DefId). slice_get d.definitions x.0 ≡ Some definition → row_in new x ≡ Some row → row ≡ flags_below (uses_below d bodies (length bodies) x) (length definition.args)) same (own_row definition row) found is
           by_rows j definition row below found is false e =
               right.have j definition row below found (sym (ap (option_map (λ (x : Worked). x.flags.items)) (there j e)) ∙ is)
 

@@ -10,17 +10,17 @@ use Rattle.ct_terms.specs.Formula.{Formula, Formulas, Cases, MentionsBelow, AllM
 use Rattle.ct_terms.specs.declared.tree.Pattern.{Pattern}
 use Rattle.ct_terms.specs.declared.tree.Pattern.TheVariants.{Ctor, Any}
 use Rattle.ct_terms.specs.Occurrence.{field_count}
-use Rattle.ct_terms.specs.FormulaSorts.{IsSorted, AreSorted, AreSortedCases}
+use Rattle.ct_terms.specs.FormulaSorts.{IsSorted, AllSorted, AreSortedCases}
 
 -- the test for each number below the bound, the greatest first: the flags of a binder's variables, in the order of binding
-abbrev pub listed : (ℕ → Bool) → ℕ → List Bool
-listed p zero = []
-listed p (suc n) = p n ∷ listed p n
+abbrev pub flags_below : (ℕ → Bool) → ℕ → List Bool
+flags_below p zero = []
+flags_below p (suc n) = p n ∷ flags_below p n
 
 -- flags, that of variable 0 last, with those of the test set
-abbrev pub marked : (ℕ → Bool) → List Bool → List Bool
-marked p [] = []
-marked p (b ∷ bs) = (b || p (length bs)) ∷ marked p bs
+abbrev pub mark_each : (ℕ → Bool) → List Bool → List Bool
+mark_each p [] = []
+mark_each p (b ∷ bs) = (b || p (length bs)) ∷ mark_each p bs
 
 -- a flag is set
 abbrev pub has_set : List Bool → Bool
@@ -28,9 +28,9 @@ has_set [] = false
 has_set (b ∷ bs) = b || has_set bs
 
 -- how many variables a pattern binds
-abbrev pub variable_count : Declarations → Pattern → ℕ
-variable_count d Any = 1
-variable_count d (Ctor c) = field_count d c
+abbrev pub pattern_variable_count : Declarations → Pattern → ℕ
+pattern_variable_count d Any = 1
+pattern_variable_count d (Ctor c) = field_count d c
 
 -- what is worked out of a definition, where it is
 abbrev pub Rows : Type 0
@@ -50,7 +50,7 @@ row_in rows k = option_map (λ w. w.flags.items) (rows k)
 
 -- each row of a definition below the number is right
 abbrev pub HaveRows : Declarations → (DefId → ℕ → Bool) → ℕ → Rows → Type 0
-HaveRows d uses n rows = (k : DefId) (definition : Function) (row : List Bool) → k.0 < n → slice_get d.definitions k.0 ≡ Some definition → row_in rows k ≡ Some row → row ≡ listed (uses k) (length definition.args)
+HaveRows d uses n rows = (k : DefId) (definition : Function) (row : List Bool) → k.0 < n → slice_get d.definitions k.0 ≡ Some definition → row_in rows k ≡ Some row → row ≡ flags_below (uses k) (length definition.args)
 
 -- what occurs in the formula can be worked out
 pub record MayMark (d : Declarations) (uses : DefId → ℕ → Bool) (n : ℕ) (rows : Rows) (t : Formula) : Type 0 where
@@ -64,7 +64,7 @@ pub record MayMarkAll (d : Declarations) (uses : DefId → ℕ → Bool) (n : �
   pub have : HaveRows d uses n rows
   pub mentions : AllMentionBelow n ts
   pub known : AllCallsAre (IsKnown rows) ts
-  pub sorted : (sorts : List SortId) × (each : List SortId) × AreSorted d sorts ts each
+  pub sorted : (sorts : List SortId) × (each : List SortId) × AllSorted d sorts ts each
 
 -- the same of cases
 pub record MayMarkCases (d : Declarations) (uses : DefId → ℕ → Bool) (n : ℕ) (rows : Rows) (cases : Cases) : Type 0 where

@@ -12,6 +12,6 @@ tested_by d earlier Any last = None
 tested_by d earlier (Ctor c) last = if surely_fits d earlier c || last then None else Some c
 
 -- the pattern's constructor, where it has one, is declared
-abbrev pub IsDeclared : Declarations → Pattern → Type 0
-IsDeclared d Any = Unit {0}
-IsDeclared d (Ctor c) = (ctor : Constructor) × (slice_get d.ctors c.0 ≡ Some ctor)
+abbrev pub IsPatternDeclared : Declarations → Pattern → Type 0
+IsPatternDeclared d Any = Unit {0}
+IsPatternDeclared d (Ctor c) = (ctor : Constructor) × (slice_get d.ctors c.0 ≡ Some ctor)

@@ -10,7 +10,7 @@ use Rattle.ct_terms.specs.Occurrence.{count_of, occurs, matched_occurs, uses_bel
 use Rattle.ct_occurrence.specs.declared.notes.Notes.{Notes}
 use Rattle.ct_occurrence.specs.declared.definitions.Worked.{Worked}
 use Rattle.ct_occurrence.specs.declared.notes.Notes.TheViews.{out-Notes}
-use Rattle.ct_occurrence.specs.Marks.{listed, Rows, IsKnown}
+use Rattle.ct_occurrence.specs.Marks.{flags_below, Rows, IsKnown}
 
 -- the flags of a binder's variables
 abbrev pub bound_of : Notes → List Bool
@@ -38,7 +38,7 @@ abbrev mutual
   IsNoted d rows uses (Sel s t) m = IsOfFirst (IsNoted d rows uses t) (under_of m)
   IsNoted d rows uses (Test c t) m = IsOfFirst (IsNoted d rows uses t) (under_of m)
   IsNoted d rows uses (Apply f ts) m = AreNoted d rows uses ts (under_of m)
-  IsNoted d rows uses (Def k ts) m = IsKnown rows k × AreNotedWhere d rows uses (listed (uses k) (count_of ts)) ts (under_of m)
+  IsNoted d rows uses (Def k ts) m = IsKnown rows k × AreNotedWhere d rows uses (flags_below (uses k) (count_of ts)) ts (under_of m)
   IsNoted d rows uses (Not t) m = IsOfFirst (IsNoted d rows uses t) (under_of m)
   IsNoted d rows uses (And ts) m = AreNoted d rows uses ts (under_of m)
   IsNoted d rows uses (Or ts) m = AreNoted d rows uses ts (under_of m)
@@ -47,7 +47,7 @@ abbrev mutual
   IsNoted d rows uses (Equal ts) m = AreNoted d rows uses ts (under_of m)
   IsNoted d rows uses (Distinct ts) m = AreNoted d rows uses ts (under_of m)
   IsNoted d rows uses (Ite c t u) m = IsOfFirst (IsNoted d rows uses c) (under_of m) × IsOfFirst (IsNoted d rows uses t) (drop 1 (under_of m)) × IsOfFirst (IsNoted d rows uses u) (drop 1 (drop 1 (under_of m)))
-  IsNoted d rows uses (Let ts u) m = (bound_of m ≡ listed (occurs d uses u) (count_of ts)) × AreNotedWhere d rows uses (listed (occurs d uses u) (count_of ts)) ts (under_of m) × IsOfFirst (IsNoted d rows uses u) (inner_of m)
+  IsNoted d rows uses (Let ts u) m = (bound_of m ≡ flags_below (occurs d uses u) (count_of ts)) × AreNotedWhere d rows uses (flags_below (occurs d uses u) (count_of ts)) ts (under_of m) × IsOfFirst (IsNoted d rows uses u) (inner_of m)
   IsNoted d rows uses (Match t cases) m = (bound_of m ≡ matched_occurs d uses [] cases ∷ []) × (matched_occurs d uses [] cases ≡ true → IsOfFirst (IsNoted d rows uses t) (under_of m)) × CasesNoted d rows uses [] cases (inner_of m)
 
   -- so do the notes on several formulas, one for one

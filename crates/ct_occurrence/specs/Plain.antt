@@ -18,16 +18,16 @@ is_plain (Distinct ts) = true
 is_plain _ = false
 
 -- the formulas under it
-abbrev pub children_of : Formula → Formulas
-children_of (Con c ts) = ts
-children_of (Sel s t) = with_formula t no_formulas
-children_of (Test c t) = with_formula t no_formulas
-children_of (Apply f ts) = ts
-children_of (Not t) = with_formula t no_formulas
-children_of (And ts) = ts
-children_of (Or ts) = ts
-children_of (Xor ts) = ts
-children_of (Implies ts) = ts
-children_of (Equal ts) = ts
-children_of (Distinct ts) = ts
-children_of _ = no_formulas
+abbrev pub formulas_under : Formula → Formulas
+formulas_under (Con c ts) = ts
+formulas_under (Sel s t) = with_formula t no_formulas
+formulas_under (Test c t) = with_formula t no_formulas
+formulas_under (Apply f ts) = ts
+formulas_under (Not t) = with_formula t no_formulas
+formulas_under (And ts) = ts
+formulas_under (Or ts) = ts
+formulas_under (Xor ts) = ts
+formulas_under (Implies ts) = ts
+formulas_under (Equal ts) = ts
+formulas_under (Distinct ts) = ts
+formulas_under _ = no_formulas

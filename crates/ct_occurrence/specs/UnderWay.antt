@@ -18,7 +18,7 @@ pub record IsFrame (bodies : List Formula) (rows : Rows) (f : Frame) : Type 0 wh
   pub waits : rows f.definition ≡ None
 
 -- all that the body of the definition names is left to look at
-pub record Begins (bodies : List Formula) (k : DefId) (f : Frame) : Type 0 where
+pub record BeginsBody (bodies : List Formula) (k : DefId) (f : Frame) : Type 0 where
   pub definition_is : f.definition ≡ k
   pub body : Formula
   pub at : slice_get bodies k.0 ≡ Some body
@@ -26,7 +26,7 @@ pub record Begins (bodies : List Formula) (k : DefId) (f : Frame) : Type 0 where
   pub before : AreBelow k.0 f.left.items
 
 -- names are left out that are worked out, up to one that is not
-pub record IsLeft (rows : Rows) (old new : List DefId) (found : Option DefId) : Type 0 where
+pub record AreLeftOut (rows : Rows) (old new : List DefId) (found : Option DefId) : Type 0 where
   pub kept : (j : DefId) → Contains old j → IsKnown rows j ⊎ Contains new j
   pub within : (j : DefId) → Contains new j → Contains old j
   pub unknown : IfSome found (λ j. (rows j ≡ None) × Contains new j)
@@ -38,24 +38,24 @@ Descend [] = Unit {0}
 Descend (f ∷ fs) = ((g : Frame) → Contains fs g → g.definition.0 < f.definition.0) × Descend fs
 
 -- the definitions that wait, the last one for none of the others
-pub record AreUnderWay (d : Declarations) (bodies : List Formula) (rows : Rows) (stack : List Frame) : Type 0 where
+pub record AreFramesUnderWay (d : Declarations) (bodies : List Formula) (rows : Rows) (stack : List Frame) : Type 0 where
   pub right : AreRight d bodies rows
   pub frames : (f : Frame) → Contains stack f → IsFrame bodies rows f
   pub descend : Descend stack
 
 -- the definition is worked out or waits
-abbrev pub IsMet : Rows → List Frame → DefId → Type 0
-IsMet rows stack k = IsKnown rows k ⊎ ((f : Frame) × Contains stack f × (f.definition ≡ k))
+abbrev pub IsWorkedOrWaits : Rows → List Frame → DefId → Type 0
+IsWorkedOrWaits rows stack k = IsKnown rows k ⊎ ((f : Frame) × Contains stack f × (f.definition ≡ k))
 
 -- a number for a definition that is not worked out
-abbrev pub counted : ℕ → Option Worked → ℕ
-counted each None = each
-counted each (Some w) = 0
+abbrev pub count_unless_worked : ℕ → Option Worked → ℕ
+count_unless_worked each None = each
+count_unless_worked each (Some w) = 0
 
 -- the same number for each definition below a bound that is not worked out
-abbrev pub room : Rows → ℕ → ℕ → ℕ
-room rows each zero = 0
-room rows each (suc n) = counted each (rows (record { 0 = n })) + room rows each n
+abbrev pub work_left_below : Rows → ℕ → ℕ → ℕ
+work_left_below rows each zero = 0
+work_left_below rows each (suc n) = count_unless_worked each (rows (record { 0 = n })) + work_left_below rows each n
 
 -- the number of the last definition that waits, and one more
 abbrev pub top : List Frame → ℕ
@@ -65,11 +65,11 @@ top (f ∷ (g ∷ fs)) = top (g ∷ fs)
 
 -- how much is left to do
 abbrev pub left_to_do : ℕ → Rows → List Frame → ℕ
-left_to_do n rows stack = room rows (suc n) n + top stack
+left_to_do n rows stack = work_left_below rows (suc n) n + top stack
 
 -- a step towards the end
-pub record IsStep (d : Declarations) (bodies : List Formula) (old new : Rows) (before after : List Frame) : Type 0 where
-  pub under_way : AreUnderWay d bodies new after
+pub record IsWorkStep (d : Declarations) (bodies : List Formula) (old new : Rows) (before after : List Frame) : Type 0 where
+  pub under_way : AreFramesUnderWay d bodies new after
   pub stay : StayKnown old new
-  pub met : (k : DefId) → IsMet old before k → IsMet new after k
+  pub met : (k : DefId) → IsWorkedOrWaits old before k → IsWorkedOrWaits new after k
   pub less : left_to_do (length bodies) new after < left_to_do (length bodies) old before

@@ -4,8 +4,8 @@ ghost use Rattle.std.specs.Prelude.{◌≡◌, ◌<◌, ◌||◌, ◌==◌, leng
 ghost use Rattle.std.specs.List.{list_all};
 ghost use Rattle.ct_terms.specs.Compiled.{surely_fits, is_among};
 ghost use Rattle.ct_terms.specs.Occurrence.{field_count};
-ghost use Rattle.ct_occurrence.specs.Marks.{variable_count};
-ghost use Rattle.ct_occurrence.specs.Matching.{IsDeclared};
+ghost use Rattle.ct_occurrence.specs.Marks.{pattern_variable_count};
+ghost use Rattle.ct_occurrence.specs.Matching.{IsPatternDeclared};
 
 use crate::earlier::Earlier;
 use ct_sorts::{CtorId, Signature};
@@ -54,8 +54,8 @@ fn is_covered(earlier: &Earlier, c: CtorId, other: CtorId) -> bool
 
 /// How many variables a pattern binds.
 pub(crate) fn variable_count(sig: &Signature, pattern: Pattern) -> usize
-    requires declared { IsDeclared sig.now pattern }
-    ensures count { result ≡ variable_count sig.now pattern }
+    requires declared { IsPatternDeclared sig.now pattern }
+    ensures count { result ≡ pattern_variable_count sig.now pattern }
 {
     match pattern {
         Pattern::Any => 1,

@@ -1,6 +1,6 @@
 //! Which constructor is tested before a case of a `match`.
 ghost use Rattle.std.specs.Prelude.{◌≡◌, reverse};
-ghost use Rattle.ct_occurrence.specs.Matching.{IsDeclared, tested_by};
+ghost use Rattle.ct_occurrence.specs.Matching.{IsPatternDeclared, tested_by};
 
 use crate::earlier::Earlier;
 use crate::fitting::surely_fits;
@@ -10,7 +10,7 @@ use ct_terms::Pattern;
 /// The constructor that is tested before a case, after cases of the constructors `earlier`: none where
 /// the case surely fits or is the last.
 pub fn tested(sig: &Signature, earlier: &Earlier, pattern: Pattern, last: bool) -> Option<CtorId>
-    requires declared { IsDeclared sig.now pattern }
+    requires declared { IsPatternDeclared sig.now pattern }
     ensures value { result ≡ tested_by sig.now (reverse earlier.now) pattern last }
 {
     match pattern {
@@ -21,7 +21,7 @@ pub fn tested(sig: &Signature, earlier: &Earlier, pattern: Pattern, last: bool) 
 
 // The constructor, unless its case surely fits or is the last.
 fn tested_constructor(sig: &Signature, earlier: &Earlier, c: CtorId, last: bool) -> Option<CtorId>
-    requires declared { IsDeclared sig.now (Pattern.Ctor c) }
+    requires declared { IsPatternDeclared sig.now (Pattern.Ctor c) }
     ensures value { result ≡ tested_by sig.now (reverse earlier.now) (Pattern.Ctor c) last }
 {
     if surely_fits(sig, earlier, c) || last {

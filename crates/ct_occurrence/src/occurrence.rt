@@ -6,7 +6,7 @@ ghost use Rattle.ct_terms.specs.Formula.{Ite, Let, Match};
 ghost use Rattle.ct_terms.specs.Occurrence.{count_of, occurs, occurs_in_some, occurs_in_bound, matched_occurs, occurs_in_cases};
 ghost use Rattle.ct_occurrence.specs.CaseFormula.{cases_of_trees};
 ghost use Rattle.ct_occurrence.specs.Noted.{IsOfFirst, IsNoted, AreNoted, AreNotedWhere, CasesNoted, AddsNotes, AddsAllNotes};
-ghost use Rattle.ct_occurrence.specs.Marks.{worked_in, listed, marked, has_set, MayMark, MayMarkAll, MayMarkCases};
+ghost use Rattle.ct_occurrence.specs.Marks.{worked_in, flags_below, mark_each, has_set, MayMark, MayMarkAll, MayMarkCases};
 
 use crate::cases::{body_of, pattern_of};
 use crate::definitions::{Definitions, Worked, row_at};
@@ -31,7 +31,7 @@ pub(crate) fn occurring(
 ) -> Result<Worked, AllocError>
     requires may { (uses : DefId → ℕ → Bool) × (n : ℕ) × MayMark sig.now uses n (worked_in definitions.now) (formula_of tree.now) }
     ensures flags { (uses : DefId → ℕ → Bool) (n : ℕ) → MayMark sig.now uses n (worked_in definitions.now) (formula_of tree.now)
-        → IfOk result (λ worked. worked.flags.items ≡ listed (occurs sig.now uses (formula_of tree.now)) count) }
+        → IfOk result (λ worked. worked.flags.items ≡ flags_below (occurs sig.now uses (formula_of tree.now)) count) }
     ensures noted { (uses : DefId → ℕ → Bool) (n : ℕ) → MayMark sig.now uses n (worked_in definitions.now) (formula_of tree.now)
         → IfOk result (λ worked. IsOfFirst (IsNoted sig.now (worked_in definitions.now) uses (formula_of tree.now)) worked.notes.items) }
 {
@@ -72,7 +72,7 @@ fn mark(
 ) -> Result<Notes, AllocError>
     requires may { (uses : DefId → ℕ → Bool) × (n : ℕ) × MayMark sig.now uses n (worked_in definitions.now) (formula_of tree.now) }
     ensures marks { (uses : DefId → ℕ → Bool) (n : ℕ) → MayMark sig.now uses n (worked_in definitions.now) (formula_of tree.now)
-        → OnOk result (flags.new.items ≡ marked (occurs sig.now uses (formula_of tree.now)) flags.old.items) }
+        → OnOk result (flags.new.items ≡ mark_each (occurs sig.now uses (formula_of tree.now)) flags.old.items) }
     ensures noted { (uses : DefId → ℕ → Bool) (n : ℕ) → MayMark sig.now uses n (worked_in definitions.now) (formula_of tree.now)
         → IfOk result (IsNoted sig.now (worked_in definitions.now) uses (formula_of tree.now)) }
 {
@@ -118,7 +118,7 @@ fn mark_all(
 ) -> Result<Vec<Notes>, AllocError>
     requires may { (uses : DefId → ℕ → Bool) × (n : ℕ) × MayMarkAll sig.now uses n (worked_in definitions.now) (formulas_of_trees trees.now) }
     ensures marks { (uses : DefId → ℕ → Bool) (n : ℕ) → MayMarkAll sig.now uses n (worked_in definitions.now) (formulas_of_trees trees.now)
-        → OnOk result (flags.new.items ≡ marked (occurs_in_some sig.now uses (formulas_of_trees trees.now)) flags.old.items) }
+        → OnOk result (flags.new.items ≡ mark_each (occurs_in_some sig.now uses (formulas_of_trees trees.now)) flags.old.items) }
     ensures noted { (uses : DefId → ℕ → Bool) (n : ℕ) → MayMarkAll sig.now uses n (worked_in definitions.now) (formulas_of_trees trees.now)
         → IfOk result (λ all. AreNoted sig.now (worked_in definitions.now) uses (formulas_of_trees trees.now) all.items) }
 {
@@ -145,7 +145,7 @@ fn mark_choice(
 ) -> Result<Notes, AllocError>
     requires may { (uses : DefId → ℕ → Bool) × (n : ℕ) × MayMark sig.now uses n (worked_in definitions.now) (Ite (formula_of condition.now) (formula_of first.now) (formula_of second.now)) }
     ensures marks { (uses : DefId → ℕ → Bool) (n : ℕ) → MayMark sig.now uses n (worked_in definitions.now) (Ite (formula_of condition.now) (formula_of first.now) (formula_of second.now))
-        → OnOk result (flags.new.items ≡ marked (occurs sig.now uses (Ite (formula_of condition.now) (formula_of first.now) (formula_of second.now))) flags.old.items) }
+        → OnOk result (flags.new.items ≡ mark_each (occurs sig.now uses (Ite (formula_of condition.now) (formula_of first.now) (formula_of second.now))) flags.old.items) }
     ensures noted { (uses : DefId → ℕ → Bool) (n : ℕ) → MayMark sig.now uses n (worked_in definitions.now) (Ite (formula_of condition.now) (formula_of first.now) (formula_of second.now))
         → IfOk result (IsNoted sig.now (worked_in definitions.now) uses (Ite (formula_of condition.now) (formula_of first.now) (formula_of second.now))) }
 {
@@ -170,12 +170,12 @@ fn mark_bound(
     trees: &[Tree],
 ) -> Result<Vec<Notes>, AllocError>
     requires may { (uses : DefId → ℕ → Bool) × (n : ℕ) × MayMarkAll sig.now uses n (worked_in definitions.now) (formulas_of_trees trees.now) }
-    requires flags { (inner : ℕ → Bool) × (bound.now ≡ listed inner (count_of (formulas_of_trees trees.now))) }
+    requires flags { (inner : ℕ → Bool) × (bound.now ≡ flags_below inner (count_of (formulas_of_trees trees.now))) }
     ensures marks { (inner : ℕ → Bool) (uses : DefId → ℕ → Bool) (n : ℕ) → MayMarkAll sig.now uses n (worked_in definitions.now) (formulas_of_trees trees.now)
-        → bound.now ≡ listed inner (count_of (formulas_of_trees trees.now))
-        → OnOk result (flags.new.items ≡ marked (occurs_in_bound sig.now uses inner (formulas_of_trees trees.now)) flags.old.items) }
+        → bound.now ≡ flags_below inner (count_of (formulas_of_trees trees.now))
+        → OnOk result (flags.new.items ≡ mark_each (occurs_in_bound sig.now uses inner (formulas_of_trees trees.now)) flags.old.items) }
     ensures noted { (inner : ℕ → Bool) (uses : DefId → ℕ → Bool) (n : ℕ) → MayMarkAll sig.now uses n (worked_in definitions.now) (formulas_of_trees trees.now)
-        → bound.now ≡ listed inner (count_of (formulas_of_trees trees.now))
+        → bound.now ≡ flags_below inner (count_of (formulas_of_trees trees.now))
         → IfOk result (λ all. AreNotedWhere sig.now (worked_in definitions.now) uses bound.now (formulas_of_trees trees.now) all.items) }
 {
     let mut all = Vec::new(alloc);
@@ -205,7 +205,7 @@ fn mark_where(
 ) -> Result<Notes, AllocError>
     requires may { (uses : DefId → ℕ → Bool) × (n : ℕ) × MayMark sig.now uses n (worked_in definitions.now) (formula_of tree.now) }
     ensures marks { (uses : DefId → ℕ → Bool) (n : ℕ) → MayMark sig.now uses n (worked_in definitions.now) (formula_of tree.now)
-        → OnOk result (flags.new.items ≡ marked (λ i. counts && occurs sig.now uses (formula_of tree.now) i) flags.old.items) }
+        → OnOk result (flags.new.items ≡ mark_each (λ i. counts && occurs sig.now uses (formula_of tree.now) i) flags.old.items) }
     ensures noted { (uses : DefId → ℕ → Bool) (n : ℕ) → MayMark sig.now uses n (worked_in definitions.now) (formula_of tree.now)
         → counts ≡ true
         → IfOk result (IsNoted sig.now (worked_in definitions.now) uses (formula_of tree.now)) }
@@ -230,9 +230,9 @@ fn mark_under(
 ) -> Result<Vec<bool>, AllocError>
     requires may { (uses : DefId → ℕ → Bool) × (n : ℕ) × MayMark sig.now uses n (worked_in definitions.now) (formula_of tree.now) }
     ensures flags { (uses : DefId → ℕ → Bool) (n : ℕ) → MayMark sig.now uses n (worked_in definitions.now) (formula_of tree.now)
-        → IfOk result (λ bound. bound.items ≡ listed (occurs sig.now uses (formula_of tree.now)) count) }
+        → IfOk result (λ bound. bound.items ≡ flags_below (occurs sig.now uses (formula_of tree.now)) count) }
     ensures marks { (uses : DefId → ℕ → Bool) (n : ℕ) → MayMark sig.now uses n (worked_in definitions.now) (formula_of tree.now)
-        → OnOk result (flags.new.items ≡ marked (λ i. occurs sig.now uses (formula_of tree.now) (i + count)) flags.old.items) }
+        → OnOk result (flags.new.items ≡ mark_each (λ i. occurs sig.now uses (formula_of tree.now) (i + count)) flags.old.items) }
     ensures noted { (uses : DefId → ℕ → Bool) (n : ℕ) → MayMark sig.now uses n (worked_in definitions.now) (formula_of tree.now)
         → OnOk result (AddsNotes (IsNoted sig.now (worked_in definitions.now) uses (formula_of tree.now)) inner.old.items inner.new.items) }
 {
@@ -255,7 +255,7 @@ fn mark_let(
 ) -> Result<Notes, AllocError>
     requires may { (uses : DefId → ℕ → Bool) × (n : ℕ) × MayMark sig.now uses n (worked_in definitions.now) (Let (formulas_of_trees trees.now) (formula_of body.now)) }
     ensures marks { (uses : DefId → ℕ → Bool) (n : ℕ) → MayMark sig.now uses n (worked_in definitions.now) (Let (formulas_of_trees trees.now) (formula_of body.now))
-        → OnOk result (flags.new.items ≡ marked (occurs sig.now uses (Let (formulas_of_trees trees.now) (formula_of body.now))) flags.old.items) }
+        → OnOk result (flags.new.items ≡ mark_each (occurs sig.now uses (Let (formulas_of_trees trees.now) (formula_of body.now))) flags.old.items) }
     ensures noted { (uses : DefId → ℕ → Bool) (n : ℕ) → MayMark sig.now uses n (worked_in definitions.now) (Let (formulas_of_trees trees.now) (formula_of body.now))
         → IfOk result (IsNoted sig.now (worked_in definitions.now) uses (Let (formulas_of_trees trees.now) (formula_of body.now))) }
 {
@@ -285,7 +285,7 @@ fn mark_match(
 ) -> Result<Notes, AllocError>
     requires may { (uses : DefId → ℕ → Bool) × (n : ℕ) × MayMark sig.now uses n (worked_in definitions.now) (Match (formula_of matched.now) (cases_of_trees cases.now)) }
     ensures marks { (uses : DefId → ℕ → Bool) (n : ℕ) → MayMark sig.now uses n (worked_in definitions.now) (Match (formula_of matched.now) (cases_of_trees cases.now))
-        → OnOk result (flags.new.items ≡ marked (occurs sig.now uses (Match (formula_of matched.now) (cases_of_trees cases.now))) flags.old.items) }
+        → OnOk result (flags.new.items ≡ mark_each (occurs sig.now uses (Match (formula_of matched.now) (cases_of_trees cases.now))) flags.old.items) }
     ensures noted { (uses : DefId → ℕ → Bool) (n : ℕ) → MayMark sig.now uses n (worked_in definitions.now) (Match (formula_of matched.now) (cases_of_trees cases.now))
         → IfOk result (IsNoted sig.now (worked_in definitions.now) uses (Match (formula_of matched.now) (cases_of_trees cases.now))) }
 {
@@ -314,7 +314,7 @@ fn mark_cases(
     ensures matched { (uses : DefId → ℕ → Bool) (n : ℕ) → MayMarkCases sig.now uses n (worked_in definitions.now) (cases_of_trees cases.now)
         → IfOk result (λ occurs. occurs ≡ matched_occurs sig.now uses [] (cases_of_trees cases.now)) }
     ensures marks { (uses : DefId → ℕ → Bool) (n : ℕ) → MayMarkCases sig.now uses n (worked_in definitions.now) (cases_of_trees cases.now)
-        → OnOk result (flags.new.items ≡ marked (occurs_in_cases sig.now uses [] (cases_of_trees cases.now)) flags.old.items) }
+        → OnOk result (flags.new.items ≡ mark_each (occurs_in_cases sig.now uses [] (cases_of_trees cases.now)) flags.old.items) }
     ensures noted { (uses : DefId → ℕ → Bool) (n : ℕ) → MayMarkCases sig.now uses n (worked_in definitions.now) (cases_of_trees cases.now)
         → OnOk result (AddsAllNotes (CasesNoted sig.now (worked_in definitions.now) uses [] (cases_of_trees cases.now)) inner.old.items inner.new.items) }
 {
@@ -338,7 +338,7 @@ fn mark_cases(
 
 // Sets the flag of a variable.
 fn set_flag(flags: &mut Vec<bool>, i: u64)
-    ensures marks { flags.new.items ≡ marked (λ k. i == k) flags.old.items }
+    ensures marks { flags.new.items ≡ mark_each (λ k. i == k) flags.old.items }
 {
     if (i as usize) < flags.len() {
         let place = flags.len() - 1 - i as usize;

@@ -1,7 +1,7 @@
 //! Operators: the formulas under one.
 ghost use Rattle.std.specs.Prelude.{◌≡◌, true, false, IfSome, IfNone};
 ghost use Rattle.ct_terms.specs.TreeFormula.{formula_of, formulas_of_trees};
-ghost use Rattle.ct_occurrence.specs.Plain.{is_plain, children_of};
+ghost use Rattle.ct_occurrence.specs.Plain.{is_plain, formulas_under};
 
 use ct_terms::Tree;
 use std::slice;
@@ -9,7 +9,7 @@ use std::slice;
 /// The formulas under an operator, where the formula is one.
 pub(crate) fn operands(tree: &Tree) -> Option<&[Tree]>
     ensures plain { IfSome result (λ trees. is_plain (formula_of tree.now) ≡ true) }
-    ensures under { IfSome result (λ trees. children_of (formula_of tree.now) ≡ formulas_of_trees trees.now) }
+    ensures under { IfSome result (λ trees. formulas_under (formula_of tree.now) ≡ formulas_of_trees trees.now) }
     ensures other { IfNone result (is_plain (formula_of tree.now) ≡ false) }
 {
     match tree {

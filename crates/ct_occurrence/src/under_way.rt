@@ -13,7 +13,7 @@ ghost use Rattle.ct_occurrence.specs.declared.under_way.Frame.{Frame};
 ghost use Rattle.ct_occurrence.specs.Calls.{CallsAre};
 ghost use Rattle.ct_occurrence.specs.Marks.{worked_in, IsKnown};
 ghost use Rattle.ct_occurrence.specs.Working.{AreRight, StayKnown};
-ghost use Rattle.ct_occurrence.specs.UnderWay.{AreUnderWay, Begins, IsLeft, IsStep};
+ghost use Rattle.ct_occurrence.specs.UnderWay.{AreFramesUnderWay, BeginsBody, AreLeftOut, IsWorkStep};
 
 use crate::definitions::{Definitions, body_at, is_known, put};
 use crate::names::add_names;
@@ -62,7 +62,7 @@ pub(crate) fn work_out(
 fn frame_of(alloc: Global, bodies: &[Tree], k: DefId) -> Result<Frame, AllocError>
     requires inside { k.0 < length bodies.now }
     requires mentions { (body : Formula) → slice_get (map formula_of bodies.now) k.0 ≡ Some body → MentionsBelow k.0 body }
-    ensures begins { IfOk result (λ frame. Begins (map formula_of bodies.now) k frame) }
+    ensures begins { IfOk result (λ frame. BeginsBody (map formula_of bodies.now) k frame) }
 {
     let body = body_at(bodies, k);
     let mut left = Vec::new(alloc);
@@ -83,8 +83,8 @@ fn go_on(
     frame: Frame,
 ) -> Result<(), AllocError>
     requires sound { AreSound sig.now (map formula_of bodies.now) }
-    requires under_way { AreUnderWay sig.now (map formula_of bodies.now) (worked_in definitions.old) (stack.old.items ++ frame ∷ []) }
-    ensures step { OnOk result (IsStep sig.now (map formula_of bodies.now) (worked_in definitions.old) (worked_in definitions.new) (stack.old.items ++ frame ∷ []) stack.new.items) }
+    requires under_way { AreFramesUnderWay sig.now (map formula_of bodies.now) (worked_in definitions.old) (stack.old.items ++ frame ∷ []) }
+    ensures step { OnOk result (IsWorkStep sig.now (map formula_of bodies.now) (worked_in definitions.old) (worked_in definitions.new) (stack.old.items ++ frame ∷ []) stack.new.items) }
 {
     let mut waiting = frame;
     let found = next_unknown(definitions, &mut waiting.left)?;
@@ -102,7 +102,7 @@ fn next_unknown(
     definitions: &Definitions,
     left: &mut Vec<DefId>,
 ) -> Result<Option<DefId>, AllocError>
-    ensures left { IfOk result (λ found. IsLeft (worked_in definitions.now) left.old.items left.new.items found) }
+    ensures left { IfOk result (λ found. AreLeftOut (worked_in definitions.now) left.old.items left.new.items found) }
 {
     while let Some(name) = left.pop() {
         if !is_known(definitions, name) {
@@ -123,7 +123,7 @@ fn wait_for(
 ) -> Result<(), AllocError>
     requires inside { name.0 < length bodies.now }
     requires mentions { (body : Formula) → slice_get (map formula_of bodies.now) name.0 ≡ Some body → MentionsBelow name.0 body }
-    ensures pushed { OnOk result ((above : Frame) × (stack.new.items ≡ (stack.old.items ++ frame ∷ []) ++ above ∷ []) × Begins (map formula_of bodies.now) name above) }
+    ensures pushed { OnOk result ((above : Frame) × (stack.new.items ≡ (stack.old.items ++ frame ∷ []) ++ above ∷ []) × BeginsBody (map formula_of bodies.now) name above) }
 {
     let above = frame_of(alloc, bodies, name)?;
     stack.push(frame)?;

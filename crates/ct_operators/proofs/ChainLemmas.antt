@@ -9,9 +9,9 @@ use Rattle.ct_terms.specs.Terms.{Terms}
 use Rattle.ct_terms.specs.CoreTree.{CoreTree, negation, subtrees, term_at}
 use Rattle.ct_terms.specs.CoreSorts.{HasTreeSort}
 use Rattle.ct_terms.specs.Pairs.{neighbours_from, pairs}
-use Rattle.ct_operators.specs.Effect.{Stands, AllStand, IsKept, Within, AllWithin, IsPrefix, Effect}
+use Rattle.ct_operators.specs.Effect.{Stands, AllStand, IsSoundTable, Within, AllWithin, IsPrefix, Effect}
 use Rattle.ct_terms.specs.Compiled.{equality}
-use Rattle.ct_operators.specs.Made.{HasTree, Makes, leaf, made_for}
+use Rattle.ct_operators.specs.Made.{HasTree, MakesInOrder, leaf, made_for}
 use Rattle.ct_operators.specs.Pairing.{both, compared_as, compared_all, made_compared, made_compared_all, IsPair}
 use Rattle.ct_operators.proofs.EffectLemmas.{prefix_itself, prefix_trans, prefix_length, same_tree, all_stay, effect_none, effect_then, effect_because}
 use Rattle.ct_operators.proofs.RestLemmas.{rest_step}
@@ -50,7 +50,7 @@ nothing_left (x ∷ xs) h = absurd (omega (arith, h))
 -- ---- what is made
 
 -- the comparison of two terms that are there
-pub compare_made : (d : Declarations) (different : Bool) (table new : Terms) (a b : TermId) (full : Type 0) → Effect d (subtrees (compared_as d different (term_at table a) (term_at table b))) table new full → HasTree new (compared_as d different (term_at table a) (term_at table b)) → a.0 < length table → b.0 < length table → Makes table (made_compared d different (leaf (term_at table a)) (leaf (term_at table b))).making new
+pub compare_made : (d : Declarations) (different : Bool) (table new : Terms) (a b : TermId) (full : Type 0) → Effect d (subtrees (compared_as d different (term_at table a) (term_at table b))) table new full → HasTree new (compared_as d different (term_at table a) (term_at table b)) → a.0 < length table → b.0 < length table → MakesInOrder table (made_compared d different (leaf (term_at table a)) (leaf (term_at table b))).making new
 compare_made d true table new a b full effect made a_in b_in =
     let x = equality d (term_at table a) (term_at table b) in
     makes_two d table new x (negation x) full effect refl (equality_under d table (term_at table a) (term_at table b) (a, (a_in, refl)) (b, (b_in, refl))) made
@@ -59,7 +59,7 @@ compare_made d false table new a b full effect made a_in b_in =
 
 module _ (d : Declarations) (different : Bool) where
   pub record Comparing (old table : Terms) (side : SortId) (all : List (TermId × TermId)) (args : List TermId) (rest : List (TermId × TermId)) : Type 0 where
-    pub kept : IsKept d table
+    pub kept : IsSoundTable d table
     pub grown : IsPrefix old table
     pub fitting : AllByRecursion (IsPair d old side) rest
     pub made : List CoreTree
@@ -68,9 +68,9 @@ module _ (d : Declarations) (different : Bool) where
     pub effect : (allowed : List CoreTree) → AllWithin allowed (compared_all d different (term_at old) all) → Effect d allowed old table ⊥
     pub begun : List CoreTree
     pub begins : begun ++ made_for (made_compared_all d different (term_at old) rest) ≡ made_for (made_compared_all d different (term_at old) all)
-    pub order : Makes old begun table
+    pub order : MakesInOrder old begun table
 
-  pub comparing_start : (old : Terms) (side : SortId) (all : List (TermId × TermId)) → IsKept d old → AllByRecursion (IsPair d old side) all → Comparing old old side all [] all
+  pub comparing_start : (old : Terms) (side : SortId) (all : List (TermId × TermId)) → IsSoundTable d old → AllByRecursion (IsPair d old side) all → Comparing old old side all [] all
   comparing_start old side all kept fitting = record {
     kept = kept;
     grown = prefix_itself old;
@@ -143,13 +143,13 @@ module _ (d : Declarations) (different : Bool) where
           begun = h.begun ++ here;
           begins = append_assoc h.begun here (made_for (made_compared_all d different (term_at old) more)) ∙ h.begins;
           order = makes_then h.begun here old table new h.order
-              (subst (λ (x : CoreTree). Makes table (compared_steps x) new) left_same
-              (subst (λ (y : CoreTree). Makes table (made_compared d different (leaf (term_at table p.0)) (leaf y)).making new) right_same
+              (subst (λ (x : CoreTree). MakesInOrder table (compared_steps x) new) left_same
+              (subst (λ (y : CoreTree). MakesInOrder table (made_compared d different (leaf (term_at table p.0)) (leaf y)).making new) right_same
               (compare_made d different table new p.0 p.1 full e (t, stands) comparing_pair.1.0 comparing_pair.1.1)));
         }
 
   pub comparing_end : (old table : Terms) (side : SortId) (all : List (TermId × TermId)) (args : List TermId) → Comparing old table side all args [] → AllStand table args (compared_all d different (term_at old) all)
   comparing_end old table side all args h = subst (AllStand table args) (sym (append-nil h.made) ∙ h.same) h.stand
 
-  pub comparing_order : (old table : Terms) (side : SortId) (all : List (TermId × TermId)) (args : List TermId) → Comparing old table side all args [] → Makes old (made_for (made_compared_all d different (term_at old) all)) table
-  comparing_order old table side all args h = subst (λ (xs : List CoreTree). Makes old xs table) (sym (append-nil h.begun) ∙ h.begins) h.order
+  pub comparing_order : (old table : Terms) (side : SortId) (all : List (TermId × TermId)) (args : List TermId) → Comparing old table side all args [] → MakesInOrder old (made_for (made_compared_all d different (term_at old) all)) table
+  comparing_order old table side all args h = subst (λ (xs : List CoreTree). MakesInOrder old xs table) (sym (append-nil h.begun) ∙ h.begins) h.order

@@ -9,7 +9,7 @@ use Rattle.ct_terms.specs.Terms.{Terms}
 use Rattle.ct_terms.specs.CoreTree.{CoreTree, choice, subtrees, term_at}
 use Rattle.ct_terms.specs.CoreSorts.{HasTreeSort}
 use Rattle.ct_operators.specs.declared.choosing.Guarded.{Guarded}
-use Rattle.ct_operators.specs.Effect.{Stands, IsKept, IsPrefix, Within, Effect}
+use Rattle.ct_operators.specs.Effect.{Stands, IsSoundTable, IsPrefix, Within, Effect}
 use Rattle.ct_operators.specs.Chosen.{chosen_from, IsGuardedIn}
 use Rattle.ct_operators.proofs.EffectLemmas.{prefix_length, same_tree, effect_none, effect_then, effect_because}
 use Rattle.ct_operators.proofs.WithinLemmas.{within_subtrees, within_itself, within_choice}
@@ -31,7 +31,7 @@ pub guarded_stay : (old new : Terms) (gs : List Guarded) → IsPrefix old new �
 guarded_stay old new [] grown h = tt
 guarded_stay old new (g ∷ gs) grown h = ((omega (arith, h.0.0, prefix_length old new grown), omega (arith, h.0.1, prefix_length old new grown)), guarded_stay old new gs grown h.1)
 
-pub same_chosen : (d : Declarations) (old new : Terms) (gs : List Guarded) (v : CoreTree) → IsPrefix old new → IsKept d new → AllByRecursion (IsGuardedIn old) gs → chosen_from (term_at new) gs v ≡ chosen_from (term_at old) gs v
+pub same_chosen : (d : Declarations) (old new : Terms) (gs : List Guarded) (v : CoreTree) → IsPrefix old new → IsSoundTable d new → AllByRecursion (IsGuardedIn old) gs → chosen_from (term_at new) gs v ≡ chosen_from (term_at old) gs v
 same_chosen d old new [] v grown kept h = refl
 same_chosen d old new (g ∷ gs) v grown kept h =
     ap (λ (x : CoreTree). choice x (term_at new g.body) (chosen_from (term_at new) gs v)) (same_tree d old new g.condition grown kept h.0.0)
@@ -43,7 +43,7 @@ all_after P (y ∷ ys) x h k = (h.0, all_after P ys x h.1 k)
 
 -- the terms that are left, and the choice that is made of the others
 pub record Choosing (d : Declarations) (old table : Terms) (guarded : List Guarded) (last term : TermId) (rest : List Guarded) : Type 0 where
-  pub kept : IsKept d table
+  pub kept : IsSoundTable d table
   pub below : AllByRecursion (IsGuardedIn table) rest
   pub inside : term.0 < length table
   pub sorted : (sort : SortId) × HasTreeSort d (chosen_from (term_at table) rest (term_at table term)) sort
@@ -51,7 +51,7 @@ pub record Choosing (d : Declarations) (old table : Terms) (guarded : List Guard
   pub effect : (allowed : List CoreTree) → Within allowed (chosen_from (term_at old) guarded (term_at old last)) → Effect d allowed old table ⊥
   pub shorter : length rest ≤ length guarded
 
-pub choosing_start : (d : Declarations) (old : Terms) (guarded : List Guarded) (last : TermId) → IsKept d old → AllByRecursion (IsGuardedIn old) guarded → last.0 < length old → (sort : SortId) × HasTreeSort d (chosen_from (term_at old) guarded (term_at old last)) sort → Choosing d old old guarded last last guarded
+pub choosing_start : (d : Declarations) (old : Terms) (guarded : List Guarded) (last : TermId) → IsSoundTable d old → AllByRecursion (IsGuardedIn old) guarded → last.0 < length old → (sort : SortId) × HasTreeSort d (chosen_from (term_at old) guarded (term_at old last)) sort → Choosing d old old guarded last last guarded
 choosing_start d old guarded last kept below inside sorted = record {
   kept = kept;
   below = below;

@@ -7,7 +7,7 @@ use Rattle.ct_terms.specs.declared.ids.TermId.{TermId}
 use Rattle.ct_terms.specs.declared.error.TermError.{TermError}
 use Rattle.ct_terms.specs.Terms.{Terms, AreOrdered}
 use Rattle.ct_terms.specs.CoreTree.{CoreTree, term_at}
-use Rattle.ct_operators.specs.Effect.{Stands, AllStand, IsKept, IsPrefix, Effect}
+use Rattle.ct_operators.specs.Effect.{Stands, AllStand, IsSoundTable, IsPrefix, Effect}
 
 -- a prefix is not longer
 pub prefix_length : (old new : Terms) → IsPrefix old new → length old ≤ length new
@@ -20,21 +20,21 @@ pub prefix_itself : (a : Terms) → IsPrefix a a
 prefix_itself a = ([], sym (append-nil a))
 
 -- a tree stays at its number
-pub same_tree : (d : Declarations) (old new : Terms) (t : TermId) → IsPrefix old new → IsKept d new → t.0 < length old → term_at new t ≡ term_at old t
+pub same_tree : (d : Declarations) (old new : Terms) (t : TermId) → IsPrefix old new → IsSoundTable d new → t.0 < length old → term_at new t ≡ term_at old t
 same_tree d old new t grown kept within =
     ap (λ (ts : Terms). term_at ts t) grown.1 ∙ kept.theorems.longer old grown.0 t (subst AreOrdered grown.1 kept.ordered) within
 
-pub stands_stays : (d : Declarations) (old new : Terms) (t : TermId) (tree : CoreTree) → IsPrefix old new → IsKept d new → Stands old t tree → Stands new t tree
+pub stands_stays : (d : Declarations) (old new : Terms) (t : TermId) (tree : CoreTree) → IsPrefix old new → IsSoundTable d new → Stands old t tree → Stands new t tree
 stands_stays d old new t tree grown kept h = (omega (arith, h.0, prefix_length old new grown), same_tree d old new t grown kept h.0 ∙ h.1)
 
-pub all_stay : (d : Declarations) (old new : Terms) (ts : List TermId) (trees : List CoreTree) → IsPrefix old new → IsKept d new → AllStand old ts trees → AllStand new ts trees
+pub all_stay : (d : Declarations) (old new : Terms) (ts : List TermId) (trees : List CoreTree) → IsPrefix old new → IsSoundTable d new → AllStand old ts trees → AllStand new ts trees
 all_stay d old new [] [] grown kept h = h
 all_stay d old new [] (u ∷ us) grown kept h = h
 all_stay d old new (t ∷ ts) [] grown kept h = h
 all_stay d old new (t ∷ ts) (u ∷ us) grown kept h = (stands_stays d old new t u grown kept h.0, all_stay d old new ts us grown kept h.1)
 
 -- nothing done
-pub effect_none : (d : Declarations) (allowed : List CoreTree) (table : Terms) (full : Type 0) → IsKept d table → (full → ⊥) → Effect d allowed table table full
+pub effect_none : (d : Declarations) (allowed : List CoreTree) (table : Terms) (full : Type 0) → IsSoundTable d table → (full → ⊥) → Effect d allowed table table full
 effect_none d allowed table full kept never = record {
   grown = prefix_itself table;
   kept = kept;

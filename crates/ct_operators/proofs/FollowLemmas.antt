@@ -15,9 +15,9 @@ use Rattle.ct_terms.specs.Compiled.{exclusive, exclusive_of, implied_from, impli
 use Rattle.ct_operators.specs.declared.operator.Operator.{Operator}
 use Rattle.ct_operators.specs.declared.operator.Operator.TheVariants.{Exclusion, Implication, Equality, Inequality}
 use Rattle.ct_operators.specs.Effect.{Stands, Within, AllWithin, Effect}
-use Rattle.ct_operators.specs.Made.{HasTree, HasTrees, Makes}
-use Rattle.ct_operators.specs.Forms.{first_of, combined, AllHaveSort}
-use Rattle.ct_operators.specs.Following.{last_from, last_of, leading, between, IsLeading, IsFollowing, MayFollow, Follows}
+use Rattle.ct_operators.specs.Made.{HasTree, HasTrees, MakesInOrder}
+use Rattle.ct_operators.specs.Forms.{head_tree, combined, AllHaveSort}
+use Rattle.ct_operators.specs.Following.{last_from, last_tree, leading, between, IsLeading, IsFollowing, MayFollow, FollowGives}
 use Rattle.ct_operators.proofs.EffectLemmas.{stands_stays, effect_none, effect_because}
 use Rattle.ct_operators.proofs.MakesLemmas.{makes_one, makes_two}
 use Rattle.ct_operators.proofs.WithinLemmas.{within_itself, within_subtrees, within_disjunction}
@@ -42,11 +42,11 @@ fold_sort : (d : Declarations) (x : CoreTree) (us : List CoreTree) → HasTreeSo
 fold_sort d x [] h k = h
 fold_sort d x (u ∷ us) h k = fold_sort d (exclusive x u) us ((h, k.0, refl), refl) k.1
 
-pub last_of_sort : (d : Declarations) (side : SortId) (us : List CoreTree) → 0 < length us → AllHaveSort d side us → HasTreeSort d (last_of us) side
+pub last_of_sort : (d : Declarations) (side : SortId) (us : List CoreTree) → 0 < length us → AllHaveSort d side us → HasTreeSort d (last_tree us) side
 last_of_sort d side [] some h = absurd (omega (arith, some))
 last_of_sort d side (u ∷ us) some h = last_sort d side u us h
 
-pub first_of_sort : (d : Declarations) (side : SortId) (us : List CoreTree) → 0 < length us → AllHaveSort d side us → HasTreeSort d (first_of us) side
+pub first_of_sort : (d : Declarations) (side : SortId) (us : List CoreTree) → 0 < length us → AllHaveSort d side us → HasTreeSort d (head_tree us) side
 first_of_sort d side [] some h = absurd (omega (arith, some))
 first_of_sort d side (u ∷ us) some h = h.0
 
@@ -60,11 +60,11 @@ last_push : (u : CoreTree) (us : List CoreTree) (v : CoreTree) → last_from u (
 last_push u [] v = refl
 last_push u (w ∷ ws) v = last_push w ws v
 
-pub last_of_push : (us : List CoreTree) (v : CoreTree) → last_of (us ++ v ∷ []) ≡ v
+pub last_of_push : (us : List CoreTree) (v : CoreTree) → last_tree (us ++ v ∷ []) ≡ v
 last_of_push [] v = refl
 last_of_push (u ∷ us) v = last_push u us v
 
-pub first_of_push : (us : List CoreTree) (v : CoreTree) → 0 < length us → first_of (us ++ v ∷ []) ≡ first_of us
+pub first_of_push : (us : List CoreTree) (v : CoreTree) → 0 < length us → head_tree (us ++ v ∷ []) ≡ head_tree us
 first_of_push [] v some = absurd (omega (arith, some))
 first_of_push (u ∷ us) v some = refl
 
@@ -83,7 +83,7 @@ module _ (allowed : List CoreTree) where
   neighbour_within d x [] v later w = w.0
   neighbour_within d x (u ∷ us) v later w = neighbour_within d u us v later w.1
 
-  pub equality_within : (d : Declarations) (us : List CoreTree) (v : CoreTree) (later : List CoreTree) → 0 < length us → Within allowed (combined d Equality (us ++ v ∷ later)) → Within allowed (equality d (last_of us) v)
+  pub equality_within : (d : Declarations) (us : List CoreTree) (v : CoreTree) (later : List CoreTree) → 0 < length us → Within allowed (combined d Equality (us ++ v ∷ later)) → Within allowed (equality d (last_tree us) v)
   equality_within d [] v later some w = absurd (omega (arith, some))
   equality_within d (u ∷ us) v later some w = neighbour_within d u us v later (within_all_of allowed (neighbours (equality d) (u ∷ (us ++ v ∷ later))) w)
 
@@ -91,7 +91,7 @@ module _ (allowed : List CoreTree) where
   pair_within d x [] v later more w = w.0
   pair_within d x (u ∷ us) v later more w = pair_within d x us v later more w.1
 
-  pub inequality_within : (d : Declarations) (us : List CoreTree) (v : CoreTree) (later : List CoreTree) → 0 < length us → Within allowed (combined d Inequality (us ++ v ∷ later)) → Within allowed (inequality d (first_of us) v)
+  pub inequality_within : (d : Declarations) (us : List CoreTree) (v : CoreTree) (later : List CoreTree) → 0 < length us → Within allowed (combined d Inequality (us ++ v ∷ later)) → Within allowed (inequality d (head_tree us) v)
   inequality_within d [] v later some w = absurd (omega (arith, some))
   inequality_within d (u ∷ us) v later some w = pair_within d u us v later (pairs (inequality d) (us ++ v ∷ later)) (within_all_of allowed (pairs (inequality d) (u ∷ (us ++ v ∷ later))) w)
 
@@ -112,11 +112,11 @@ module _ (allowed : List CoreTree) where
 
 -- ---- what is between a term and the later ones
 
-between_equality : (d : Declarations) (us : List CoreTree) (u : CoreTree) (later : List CoreTree) → 0 < length us → between d Equality us u later ≡ equality d (last_of us) u ∷ []
+between_equality : (d : Declarations) (us : List CoreTree) (u : CoreTree) (later : List CoreTree) → 0 < length us → between d Equality us u later ≡ equality d (last_tree us) u ∷ []
 between_equality d [] u later some = absurd (omega (arith, some))
 between_equality d (v ∷ us) u later some = refl
 
-between_inequality : (d : Declarations) (us : List CoreTree) (u : CoreTree) (later : List CoreTree) → 0 < length us → between d Inequality us u later ≡ equality d (first_of us) u ∷ (inequality d (first_of us) u ∷ [])
+between_inequality : (d : Declarations) (us : List CoreTree) (u : CoreTree) (later : List CoreTree) → 0 < length us → between d Inequality us u later ≡ equality d (head_tree us) u ∷ (inequality d (head_tree us) u ∷ [])
 between_inequality d [] u later some = absurd (omega (arith, some))
 between_inequality d (v ∷ us) u later some = refl
 
@@ -139,23 +139,23 @@ equality_under d table a b h k = by ((tree_sort d a).0 == 0)
 -- ---- nothing is made
 
 -- the term itself leads the next
-pub follows_itself : (d : Declarations) (table : Terms) (o : Operator) (lead : Option TermId) (term : TermId) (ends : Bool) → ((us : List CoreTree) → IsLeading table o lead us → leading o (us ++ term_at table term ∷ []) ≡ term_at table term) → ((us later : List CoreTree) → IsLeading table o lead us → (ends ≡ true → later ≡ []) → between d o us (term_at table term) later ≡ []) → Follows d table table o lead term ends (Ok term)
+pub follows_itself : (d : Declarations) (table : Terms) (o : Operator) (lead : Option TermId) (term : TermId) (ends : Bool) → ((us : List CoreTree) → IsLeading table o lead us → leading o (us ++ term_at table term ∷ []) ≡ term_at table term) → ((us later : List CoreTree) → IsLeading table o lead us → (ends ≡ true → later ≡ []) → between d o us (term_at table term) later ≡ []) → FollowGives d table table o lead term ends (Ok term)
 follows_itself d table o lead term ends is none = record {
   next = λ us later h. (h.inside, sym (is us h.leads));
   effect = λ us later allowed h more w. effect_none d allowed table (IsErrOf (Ok term) Full) h.kept (λ x. cc);
-  order = λ us later h more last. subst (λ (xs : List CoreTree). Makes table xs table) (sym (none us later h.leads last)) refl;
+  order = λ us later h more last. subst (λ (xs : List CoreTree). MakesInOrder table xs table) (sym (none us later h.leads last)) refl;
 }
 
-pub equality_first : (d : Declarations) (table : Terms) (term : TermId) (ends : Bool) → Follows d table table Equality None term ends (Ok term)
+pub equality_first : (d : Declarations) (table : Terms) (term : TermId) (ends : Bool) → FollowGives d table table Equality None term ends (Ok term)
 equality_first d table term ends = follows_itself d table Equality None term ends (λ us e. last_of_push us (term_at table term)) (λ us later e last. ap (λ (ws : List CoreTree). between d Equality ws (term_at table term) later) e)
 
-pub inequality_first : (d : Declarations) (table : Terms) (term : TermId) (ends : Bool) → Follows d table table Inequality None term ends (Ok term)
-inequality_first d table term ends = follows_itself d table Inequality None term ends (λ us e. ap (λ (ws : List CoreTree). first_of (ws ++ term_at table term ∷ [])) e) (λ us later e last. ap (λ (ws : List CoreTree). between d Inequality ws (term_at table term) later) e)
+pub inequality_first : (d : Declarations) (table : Terms) (term : TermId) (ends : Bool) → FollowGives d table table Inequality None term ends (Ok term)
+inequality_first d table term ends = follows_itself d table Inequality None term ends (λ us e. ap (λ (ws : List CoreTree). head_tree (ws ++ term_at table term ∷ [])) e) (λ us later e last. ap (λ (ws : List CoreTree). between d Inequality ws (term_at table term) later) e)
 
-pub exclusion_first : (d : Declarations) (table : Terms) (term : TermId) (ends : Bool) → Follows d table table Exclusion None term ends (Ok term)
+pub exclusion_first : (d : Declarations) (table : Terms) (term : TermId) (ends : Bool) → FollowGives d table table Exclusion None term ends (Ok term)
 exclusion_first d table term ends = follows_itself d table Exclusion None term ends (λ us e. ap (λ (ws : List CoreTree). exclusive_of (ws ++ term_at table term ∷ [])) e) (λ us later e last. ap (λ (ws : List CoreTree). between d Exclusion ws (term_at table term) later) e)
 
-pub implication_last : (d : Declarations) (table : Terms) (lead : Option TermId) (term : TermId) (ends : Bool) → ends ≡ true → Follows d table table Implication lead term ends (Ok term)
+pub implication_last : (d : Declarations) (table : Terms) (lead : Option TermId) (term : TermId) (ends : Bool) → ends ≡ true → FollowGives d table table Implication lead term ends (Ok term)
 implication_last d table lead term ends is_last = follows_itself d table Implication lead term ends (λ us e. last_of_push us (term_at table term)) (λ us later e last. ap (between d Implication us (term_at table term)) (last is_last))
 
 -- ---- equality
@@ -186,14 +186,14 @@ module _ (d : Declarations) (old : Terms) (before term : TermId) where
     equality_effect : (us later allowed : List CoreTree) → IsFollowing d old Equality (Some before) term us later → Within allowed (combined d Equality (us ++ term_at old term ∷ later)) → Effect d allowed old new full
     equality_effect us later allowed h w = effect allowed (subst (λ (u : CoreTree). Contains allowed (equality d u (term_at old term))) (sym h.leads.1.1) (within_itself h.kept.theorems allowed _ (equality_within allowed d us (term_at old term) later h.leads.0 w)))
 
-    pub equality_failed : (e : TermError) (ends : Bool) → (IsErrOf {T = TermId} {E = TermError} (Err e) Full → full) → Follows d old new Equality (Some before) term ends (Err e)
+    pub equality_failed : (e : TermError) (ends : Bool) → (IsErrOf {T = TermId} {E = TermError} (Err e) Full → full) → FollowGives d old new Equality (Some before) term ends (Err e)
     equality_failed e ends why = record {
       next = λ us later h. tt;
       effect = λ us later allowed h more w. effect_because d allowed old new full _ why (equality_effect us later allowed h w);
       order = λ us later h more last. tt;
     }
 
-    pub equality_done : (ends : Bool) → HasTree new (equality d (term_at old before) (term_at old term)) → Follows d old new Equality (Some before) term ends (Ok term)
+    pub equality_done : (ends : Bool) → HasTree new (equality d (term_at old before) (term_at old term)) → FollowGives d old new Equality (Some before) term ends (Ok term)
     equality_done ends made = record {
       next = λ us later h.
           let e = effect (equality d (term_at old before) (term_at old term) ∷ []) (one_tree (equality d (term_at old before) (term_at old term))) in
@@ -202,7 +202,7 @@ module _ (d : Declarations) (old : Terms) (before term : TermId) where
       order = λ us later h more last.
           let x = equality d (term_at old before) (term_at old term) in
           let e = effect (subtrees x) (within_itself h.kept.theorems (subtrees x) x (within_subtrees x)) in
-          subst (λ (xs : List CoreTree). Makes old xs new) (ap (λ (u : CoreTree). equality d u (term_at old term) ∷ []) h.leads.1.1 ∙ sym (between_equality d us (term_at old term) later h.leads.0))
+          subst (λ (xs : List CoreTree). MakesInOrder old xs new) (ap (λ (u : CoreTree). equality d u (term_at old term) ∷ []) h.leads.1.1 ∙ sym (between_equality d us (term_at old term) later h.leads.0))
           (makes_one d old new x full e (equality_under d old (term_at old before) (term_at old term) (before, (h.leads.1.0, refl)) (term, (h.inside, refl))) made);
     }
 
@@ -226,22 +226,22 @@ module _ (d : Declarations) (old : Terms) (before term : TermId) where
     inequality_effect : (us later allowed : List CoreTree) → IsFollowing d old Inequality (Some before) term us later → Within allowed (combined d Inequality (us ++ term_at old term ∷ later)) → Effect d allowed old new full
     inequality_effect us later allowed h w = effect allowed (subst (λ (u : CoreTree). Within allowed (inequality d u (term_at old term))) (sym h.leads.1.1) (inequality_within allowed d us (term_at old term) later h.leads.0 w))
 
-    pub inequality_failed : (e : TermError) (ends : Bool) → (IsErrOf {T = TermId} {E = TermError} (Err e) Full → full) → Follows d old new Inequality (Some before) term ends (Err e)
+    pub inequality_failed : (e : TermError) (ends : Bool) → (IsErrOf {T = TermId} {E = TermError} (Err e) Full → full) → FollowGives d old new Inequality (Some before) term ends (Err e)
     inequality_failed e ends why = record {
       next = λ us later h. tt;
       effect = λ us later allowed h more w. effect_because d allowed old new full _ why (inequality_effect us later allowed h w);
       order = λ us later h more last. tt;
     }
 
-    pub inequality_done : (ends : Bool) → HasTree new (inequality d (term_at old before) (term_at old term)) → Follows d old new Inequality (Some before) term ends (Ok before)
+    pub inequality_done : (ends : Bool) → HasTree new (inequality d (term_at old before) (term_at old term)) → FollowGives d old new Inequality (Some before) term ends (Ok before)
     inequality_done ends made = record {
       next = λ us later h.
           let e = effect (subtrees (inequality d (term_at old before) (term_at old term))) (within_subtrees (inequality d (term_at old before) (term_at old term))) in
-          stands_as new before _ _ (sym (first_of_push us (term_at old term) h.leads.0)) (stands_stays d old new before (first_of us) e.grown e.kept h.leads.1);
+          stands_as new before _ _ (sym (first_of_push us (term_at old term) h.leads.0)) (stands_stays d old new before (head_tree us) e.grown e.kept h.leads.1);
       effect = λ us later allowed h more w. effect_because d allowed old new full _ (λ x. cc) (inequality_effect us later allowed h w);
       order = λ us later h more last.
           let x = equality d (term_at old before) (term_at old term) in
-          subst (λ (xs : List CoreTree). Makes old xs new) (ap (λ (u : CoreTree). equality d u (term_at old term) ∷ (inequality d u (term_at old term) ∷ [])) h.leads.1.1 ∙ sym (between_inequality d us (term_at old term) later h.leads.0))
+          subst (λ (xs : List CoreTree). MakesInOrder old xs new) (ap (λ (u : CoreTree). equality d u (term_at old term) ∷ (inequality d u (term_at old term) ∷ [])) h.leads.1.1 ∙ sym (between_inequality d us (term_at old term) later h.leads.0))
           (makes_two d old new x (negation x) full (effect (subtrees (negation x)) (within_subtrees (negation x))) refl (equality_under d old (term_at old before) (term_at old term) (before, (h.leads.1.0, refl)) (term, (h.inside, refl))) made);
     }
 
@@ -257,15 +257,15 @@ module _ (d : Declarations) (old : Terms) (before term : TermId) where
         (middle_sort d bool_sort may.0 (term_at old term) may.1 h.operands.1, tt),
       )
 
-  pub exclusion_done : (new : Terms) (r : Result TermId TermError) (ends : Bool) → IfOk r (λ t. Stands new t (exclusive (term_at old before) (term_at old term))) → ((allowed : List CoreTree) → Within allowed (exclusive (term_at old before) (term_at old term)) → Effect d allowed old new (IsErrOf r Full)) → Follows d old new Exclusion (Some before) term ends r
+  pub exclusion_done : (new : Terms) (r : Result TermId TermError) (ends : Bool) → IfOk r (λ t. Stands new t (exclusive (term_at old before) (term_at old term))) → ((allowed : List CoreTree) → Within allowed (exclusive (term_at old before) (term_at old term)) → Effect d allowed old new (IsErrOf r Full)) → FollowGives d old new Exclusion (Some before) term ends r
   exclusion_done new r ends core effect = record {
     next = λ us later h. subst (λ (u : CoreTree). IfOk r (λ t. Stands new t u)) (ap (λ (u : CoreTree). exclusive u (term_at old term)) h.leads.1.1 ∙ sym (exclusive_more us (term_at old term) [] h.leads.0)) core;
     effect = λ us later allowed h more w. effect allowed (subst (λ (u : CoreTree). Within allowed (exclusive u (term_at old term))) (sym h.leads.1.1) (exclusion_within allowed us (term_at old term) later h.leads.0 w));
     order = λ us later h more last.
         let x = equivalence (term_at old before) (term_at old term) in
-        IfOk-weaker r (λ t. Stands new t (negation x)) (λ t. Makes old (between d Exclusion us (term_at old term) later) new)
+        IfOk-weaker r (λ t. Stands new t (negation x)) (λ t. MakesInOrder old (between d Exclusion us (term_at old term) later) new)
         (λ t made.
-        subst (λ (xs : List CoreTree). Makes old xs new) (ap (λ (u : CoreTree). equivalence u (term_at old term) ∷ (exclusive u (term_at old term) ∷ [])) h.leads.1.1 ∙ sym (between_exclusion d us (term_at old term) later h.leads.0))
+        subst (λ (xs : List CoreTree). MakesInOrder old xs new) (ap (λ (u : CoreTree). equivalence u (term_at old term) ∷ (exclusive u (term_at old term) ∷ [])) h.leads.1.1 ∙ sym (between_exclusion d us (term_at old term) later h.leads.0))
         (makes_two d old new x (negation x) _ (effect (subtrees (negation x)) (within_subtrees (negation x))) refl ((before, (h.leads.1.0, refl)), ((term, (h.inside, refl)), tt)) (t, made)))
         core;
   }
@@ -277,14 +277,14 @@ module _ (d : Declarations) (old : Terms) (term : TermId) where
   implication_sort lead may = middle_sort d bool_sort may.0 (term_at old term) may.1 may.2.operands.1
 
   module _ (ends : Bool) (more_come : ends ≡ false) (new : Terms) (full : Type 0) (effect : (allowed : List CoreTree) → Contains allowed (negation (term_at old term)) → Effect d allowed old new full) where
-    pub implication_failed : (lead : Option TermId) (e : TermError) → (IsErrOf {T = TermId} {E = TermError} (Err e) Full → full) → Follows d old new Implication lead term ends (Err e)
+    pub implication_failed : (lead : Option TermId) (e : TermError) → (IsErrOf {T = TermId} {E = TermError} (Err e) Full → full) → FollowGives d old new Implication lead term ends (Err e)
     implication_failed lead e why = record {
       next = λ us later h. tt;
       effect = λ us later allowed h more w. effect_because d allowed old new full _ why (effect allowed (within_itself h.kept.theorems allowed _ (implication_within allowed us (term_at old term) later (more more_come) w)));
       order = λ us later h more last. tt;
     }
 
-    pub implication_done : (lead : Option TermId) → HasTree new (negation (term_at old term)) → Follows d old new Implication lead term ends (Ok term)
+    pub implication_done : (lead : Option TermId) → HasTree new (negation (term_at old term)) → FollowGives d old new Implication lead term ends (Ok term)
     implication_done lead made = record {
       next = λ us later h.
           let e = effect (negation (term_at old term) ∷ []) (one_tree (negation (term_at old term))) in
@@ -292,6 +292,6 @@ module _ (d : Declarations) (old : Terms) (term : TermId) where
       effect = λ us later allowed h more w. effect_because d allowed old new full _ (λ x. cc) (effect allowed (within_itself h.kept.theorems allowed _ (implication_within allowed us (term_at old term) later (more more_come) w)));
       order = λ us later h more last.
           let x = negation (term_at old term) in
-          subst (λ (xs : List CoreTree). Makes old xs new) (sym (between_implication d us (term_at old term) later (more more_come)))
+          subst (λ (xs : List CoreTree). MakesInOrder old xs new) (sym (between_implication d us (term_at old term) later (more more_come)))
           (makes_one d old new x full (effect (subtrees x) (within_itself h.kept.theorems (subtrees x) x (within_subtrees x))) ((term, (h.inside, refl)), tt) made);
     }

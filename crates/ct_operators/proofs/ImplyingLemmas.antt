@@ -8,7 +8,7 @@ use Rattle.ct_terms.specs.Terms.{Terms}
 use Rattle.ct_terms.specs.CoreTree.{CoreTree, negation, subtrees, term_at}
 use Rattle.ct_terms.specs.CoreSorts.{HasTreeSort}
 use Rattle.ct_terms.specs.Compiled.{implied_from, implication_of}
-use Rattle.ct_operators.specs.Effect.{Stands, IsKept, Within, Effect}
+use Rattle.ct_operators.specs.Effect.{Stands, IsSoundTable, Within, Effect}
 use Rattle.ct_operators.specs.Forms.{implication}
 use Rattle.ct_operators.proofs.EffectLemmas.{effect_none, effect_then, effect_because}
 use Rattle.ct_operators.proofs.WithinLemmas.{within_subtrees, within_disjunction}
@@ -50,7 +50,7 @@ all_before P [] x h = (tt, h.0)
 all_before P (y ∷ ys) x h = let k = all_before P ys x h.1 in ((h.0, k.0), k.1)
 
 pub record Implying (d : Declarations) (old table : Terms) (others : List TermId) (last term : TermId) (rest : List TermId) : Type 0 where
-  pub kept : IsKept d table
+  pub kept : IsSoundTable d table
   pub below : AllByRecursion (λ t. t.0 < length table) rest
   pub boolean : AllByRecursion (λ t. HasTreeSort d (term_at table t) bool_sort) rest
   pub inside : term.0 < length table
@@ -59,7 +59,7 @@ pub record Implying (d : Declarations) (old table : Terms) (others : List TermId
   pub effect : (allowed : List CoreTree) → Within allowed (implication_of (map (term_at old) (others ++ last ∷ []))) → Effect d allowed old table ⊥
   pub shorter : length rest ≤ length others
 
-pub implying_start : (d : Declarations) (old : Terms) (others : List TermId) (last : TermId) → IsKept d old → AllByRecursion (λ t. t.0 < length old) (others ++ last ∷ []) → AllByRecursion (λ t. HasTreeSort d (term_at old t) bool_sort) (others ++ last ∷ []) → Implying d old old others last last others
+pub implying_start : (d : Declarations) (old : Terms) (others : List TermId) (last : TermId) → IsSoundTable d old → AllByRecursion (λ t. t.0 < length old) (others ++ last ∷ []) → AllByRecursion (λ t. HasTreeSort d (term_at old t) bool_sort) (others ++ last ∷ []) → Implying d old old others last last others
 implying_start d old others last kept below boolean =
     let b = all_before (λ (t : TermId). t.0 < length old) others last below in
     let s = all_before (λ (t : TermId). HasTreeSort d (term_at old t) bool_sort) others last boolean in

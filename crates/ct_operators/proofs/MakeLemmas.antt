@@ -17,7 +17,7 @@ use Rattle.ct_terms.specs.Children.{HasArgumentsBelow}
 use Rattle.ct_terms.specs.Terms.{Terms, IsOfSort, IsBoolean, IsOfField, HasSort, AreSorted, AreOrdered, AreSingle, IsAbsent, Makes, most_terms}
 use Rattle.ct_terms.specs.CoreTree.{CoreTree, con, sel, test, apply, equation, negation, conjunction, disjunction, equivalence, choice, trees_of, tree_layer, term_at}
 use Rattle.ct_terms.specs.CoreSorts.{AreFieldSorts, HasSome, HasTreeSort, HaveTreeSorts, AreBooleanTrees}
-use Rattle.ct_operators.specs.Effect.{Stands, IsKept, Effect}
+use Rattle.ct_operators.specs.Effect.{Stands, IsSoundTable, Effect}
 use Rattle.ct_operators.proofs.EffectLemmas.{effect_none}
 
 -- ---- lists
@@ -46,13 +46,13 @@ slice_get-push_cases (z ∷ zs) x y (suc i) e =
 -- ---- sorts, back from the tree
 
 -- a term has the sort of its tree
-pub sort_back : (d : Declarations) (table : Terms) (t : TermId) (sort : SortId) → IsKept d table → t.0 < length table → HasTreeSort d (term_at table t) sort → IsOfSort table t sort
+pub sort_back : (d : Declarations) (table : Terms) (t : TermId) (sort : SortId) → IsSoundTable d table → t.0 < length table → HasTreeSort d (term_at table t) sort → IsOfSort table t sort
 sort_back d table t sort kept within h =
     let at = slice_get-there table t.0 within in
     let has : HasTreeSort d (term_at table t) at.0.1 = kept.theorems.sorted d table t at.0.1 kept.ordered kept.sorted (at.0.0, at.1) in
     (at.0.0, at.1 ∙ ap (λ (s : SortId). Some (at.0.0, s)) (kept.theorems.one_sort d (term_at table t) at.0.1 sort has h))
 
-module _ (d : Declarations) (table : Terms) (kept : IsKept d table) where
+module _ (d : Declarations) (table : Terms) (kept : IsSoundTable d table) where
   args_back : (args : List TermId) (sorts : List SortId) → AllByRecursion (λ t. t.0 < length table) args → HaveTreeSorts d (trees_of (map (term_at table) args)) sorts → AllZip (IsOfSort table) args sorts
   args_back [] [] below h = tt
   args_back [] (s ∷ sorts) below h = absurd h
@@ -119,7 +119,7 @@ module _ (f g : TermId → CoreTree) (n : ℕ) (agree : (t : TermId) → t.0 < n
 
 -- ---- the table with one term more
 
-module _ (d : Declarations) (old : Terms) (core : Core) (sort : SortId) (kept : IsKept d old) (below : HasArgumentsBelow (length old) core) (absent : IsAbsent old core) where
+module _ (d : Declarations) (old : Terms) (core : Core) (sort : SortId) (kept : IsSoundTable d old) (below : HasArgumentsBelow (length old) core) (absent : IsAbsent old core) where
   abbrev pushed : Terms
   pushed = old ++ (core, sort) ∷ []
 
@@ -178,7 +178,7 @@ module _ (d : Declarations) (old : Terms) (core : Core) (sort : SortId) (kept : 
 
 -- ---- what making gives
 
-module _ (d : Declarations) (old new : Terms) (core : Core) (t : TermId) (kept : IsKept d old) (below : HasArgumentsBelow (length old) core) (sorted : AreSorted d old → AreSorted d new) where
+module _ (d : Declarations) (old new : Terms) (core : Core) (t : TermId) (kept : IsSoundTable d old) (below : HasArgumentsBelow (length old) core) (sorted : AreSorted d old → AreSorted d new) where
   pub made_stands : Makes d old new core t.0 → Stands new t (tree_layer (term_at old) core)
   made_stands (inl h) = (
     subst (λ (ts : Terms). t.0 < length ts) (sym h.0) (slice_get-below old t.0 (core, h.1.0) h.1.1),
@@ -198,7 +198,7 @@ module _ (d : Declarations) (old new : Terms) (core : Core) (t : TermId) (kept :
       (push_effect d old core h.2.0 kept below h.0 allowed full (subst (AreSorted d) h.2.2 (sorted kept.sorted)) never inside)
 
 -- where the table is full
-pub refused_effect : (d : Declarations) (old new : Terms) (core : Core) (sort : SortId) (allowed : List CoreTree) (full : Type 0) → IsKept d old → HasArgumentsBelow (length old) core → new ≡ old → (full → IsAbsent old core × (most_terms ≤ length old)) → Contains allowed (tree_layer (term_at old) core) → Effect d allowed old new full
+pub refused_effect : (d : Declarations) (old new : Terms) (core : Core) (sort : SortId) (allowed : List CoreTree) (full : Type 0) → IsSoundTable d old → HasArgumentsBelow (length old) core → new ≡ old → (full → IsAbsent old core × (most_terms ≤ length old)) → Contains allowed (tree_layer (term_at old) core) → Effect d allowed old new full
 refused_effect d old new core sort allowed full kept below same why inside =
     subst (λ (ts : Terms). Effect d allowed old ts full) (sym same)
     (record {
@@ -209,6 +209,6 @@ refused_effect d old new core sort allowed full kept below same why inside =
     })
 
 -- what every answer of making does to the table
-pub make_effect : (d : Declarations) (old new : Terms) (core : Core) (sort : SortId) (r : Result TermId TermError) (allowed : List CoreTree) → IsKept d old → HasArgumentsBelow (length old) core → (AreSorted d old → AreSorted d new) → IfOk r (λ t. Makes d old new core t.0) → OnErr r (new ≡ old) → (IsErrOf r Full → IsAbsent old core × (most_terms ≤ length old)) → Contains allowed (tree_layer (term_at old) core) → Effect d allowed old new (IsErrOf r Full)
+pub make_effect : (d : Declarations) (old new : Terms) (core : Core) (sort : SortId) (r : Result TermId TermError) (allowed : List CoreTree) → IsSoundTable d old → HasArgumentsBelow (length old) core → (AreSorted d old → AreSorted d new) → IfOk r (λ t. Makes d old new core t.0) → OnErr r (new ≡ old) → (IsErrOf r Full → IsAbsent old core × (most_terms ≤ length old)) → Contains allowed (tree_layer (term_at old) core) → Effect d allowed old new (IsErrOf r Full)
 make_effect d old new core sort (Ok t) allowed kept below sorted made refused full inside = made_effect d old new core t kept below sorted allowed (IsErrOf (Ok t) Full) (λ h. cc) inside made
 make_effect d old new core sort (Err e) allowed kept below sorted made refused full inside = refused_effect d old new core sort allowed (IsErrOf (Err e) Full) kept below refused full inside

@@ -13,7 +13,7 @@ use Rattle.ct_terms.specs.Terms.{Terms, AreOrdered, AreSingle}
 use Rattle.ct_terms.specs.CoreTree.{CoreTree, tree_children, subtrees, term_at}
 use Rattle.ct_operators.specs.Theorems.{Theorems}
 use Rattle.ct_operators.specs.Effect.{Stands, IsPrefix, Effect}
-use Rattle.ct_operators.specs.Made.{HasTree, HasTrees, Makes}
+use Rattle.ct_operators.specs.Made.{HasTree, HasTrees, MakesInOrder}
 use Rattle.ct_operators.proofs.EffectLemmas.{prefix_length, prefix_trans}
 use Rattle.ct_operators.proofs.WithinLemmas.{Contains-first, Contains-rest}
 
@@ -54,35 +54,35 @@ have_right table (x ∷ xs) ys h = have_right table xs ys h.1
 
 -- ---- growth in order
 
-pub makes_grown : (xs : List CoreTree) (old new : Terms) → Makes old xs new → IsPrefix old new
+pub makes_grown : (xs : List CoreTree) (old new : Terms) → MakesInOrder old xs new → IsPrefix old new
 makes_grown [] old new h = ([], h ∙ sym (append-nil old))
 makes_grown (x ∷ xs) old new (inl h) = makes_grown xs old new h.1
 makes_grown (x ∷ xs) old new (inr h) = prefix_trans old (old ++ h.1.0 ∷ []) new (h.1.0 ∷ [], refl) (makes_grown xs (old ++ h.1.0 ∷ []) new h.1.2)
 
 -- one after the other
-pub makes_then : (xs ys : List CoreTree) (a b c : Terms) → Makes a xs b → Makes b ys c → Makes a (xs ++ ys) c
-makes_then [] ys a b c h k = subst (λ (ts : Terms). Makes ts ys c) h k
+pub makes_then : (xs ys : List CoreTree) (a b c : Terms) → MakesInOrder a xs b → MakesInOrder b ys c → MakesInOrder a (xs ++ ys) c
+makes_then [] ys a b c h k = subst (λ (ts : Terms). MakesInOrder ts ys c) h k
 makes_then (x ∷ xs) ys a b c (inl h) k = inl (h.0, makes_then xs ys a b c h.1 k)
 makes_then (x ∷ xs) ys a b c (inr h) k = inr (h.0, (h.1.0, h.1.1, makes_then xs ys (a ++ h.1.0 ∷ []) b c h.1.2 k))
 
 -- what is there makes nothing
-pub makes_none : (xs : List CoreTree) (a : Terms) → HasTrees a xs → Makes a xs a
+pub makes_none : (xs : List CoreTree) (a : Terms) → HasTrees a xs → MakesInOrder a xs a
 makes_none [] a h = refl
 makes_none (x ∷ xs) a h = inl (h.0, makes_none xs a h.1)
 
-pub makes_nothing : (xs : List CoreTree) (a b : Terms) → HasTrees a xs → Makes a xs b → b ≡ a
+pub makes_nothing : (xs : List CoreTree) (a b : Terms) → HasTrees a xs → MakesInOrder a xs b → b ≡ a
 makes_nothing [] a b h k = k
 makes_nothing (x ∷ xs) a b h (inl k) = makes_nothing xs a b h.1 k.1
 makes_nothing (x ∷ xs) a b h (inr k) = absurd (k.0 h.0.0 h.0.1.0 h.0.1.1)
 
 -- what is made in two parts
-pub makes_split : (xs ys : List CoreTree) (a c : Terms) → Makes a (xs ++ ys) c → (b : Terms) × (Makes a xs b × Makes b ys c)
+pub makes_split : (xs ys : List CoreTree) (a c : Terms) → MakesInOrder a (xs ++ ys) c → (b : Terms) × (MakesInOrder a xs b × MakesInOrder b ys c)
 makes_split [] ys a c h = (a, (refl, h))
 makes_split (x ∷ xs) ys a c (inl h) = let r = makes_split xs ys a c h.1 in (r.0, (inl (h.0, r.1.0), r.1.1))
 makes_split (x ∷ xs) ys a c (inr h) = let r = makes_split xs ys (a ++ h.1.0 ∷ []) c h.1.2 in (r.0, (inr (h.0, (h.1.0, h.1.1, r.1.0)), r.1.1))
 
 -- what was made is there
-pub makes_has : (theorems : Theorems) (xs : List CoreTree) (a b : Terms) → AreOrdered b → Makes a xs b → HasTrees b xs
+pub makes_has : (theorems : Theorems) (xs : List CoreTree) (a b : Terms) → AreOrdered b → MakesInOrder a xs b → HasTrees b xs
 makes_has theorems [] a b ordered h = tt
 makes_has theorems (x ∷ xs) a b ordered (inl h) = (has_stays theorems a b x (makes_grown xs a b h.1) ordered h.0, makes_has theorems xs a b ordered h.1)
 makes_has theorems (x ∷ xs) a b ordered (inr h) = (
@@ -125,7 +125,7 @@ module _ (theorems : Theorems) (new : Terms) (ordered : AreOrdered new) (single 
       absurd (Contains-none (term_at new (id (length old))) (adds (id (length old)) (omega arith) (omega (arith, long))))
 
   -- the first new term
-  next_new : (x : CoreTree) (xs : List CoreTree) (old more : Terms) (u : TermId) → new ≡ old ++ more → length old ≤ u.0 → Stands new u x → u.0 ≤ length old → ((entry : Core × SortId) → IsPrefix (old ++ entry ∷ []) new → Makes (old ++ entry ∷ []) xs new) → ((entry : Core × SortId) × Stands (old ++ entry ∷ []) (id (length old)) x × Makes (old ++ entry ∷ []) xs new)
+  next_new : (x : CoreTree) (xs : List CoreTree) (old more : Terms) (u : TermId) → new ≡ old ++ more → length old ≤ u.0 → Stands new u x → u.0 ≤ length old → ((entry : Core × SortId) → IsPrefix (old ++ entry ∷ []) new → MakesInOrder (old ++ entry ∷ []) xs new) → ((entry : Core × SortId) × Stands (old ++ entry ∷ []) (id (length old)) x × MakesInOrder (old ++ entry ∷ []) xs new)
   next_new x xs old [] u e over stands under rest =
       let long : length new ≡ length old = ap (λ (ts : Terms). length ts) (e ∙ append-nil old) in
       absurd (omega (arith, over, stands.0, long))
@@ -135,7 +135,7 @@ module _ (theorems : Theorems) (new : Terms) (ordered : AreOrdered new) (single 
       let number : u.0 ≡ length old = omega (arith, over, under) in
       (m, (inside, sym (longer_tree theorems (old ++ m ∷ []) new (id (length old)) grown ordered inside) ∙ ap (λ (k : ℕ). term_at new (id k)) (sym number) ∙ stands.1), rest m grown)
 
-  pub forced : (xs : List CoreTree) (old : Terms) → IsPrefix old new → AllNew old xs → HasTrees new xs → Climbs xs → Makes old xs new
+  pub forced : (xs : List CoreTree) (old : Terms) → IsPrefix old new → AllNew old xs → HasTrees new xs → Climbs xs → MakesInOrder old xs new
   forced [] old grown adds there climbs = nothing_new old grown.0 grown.1 adds
   forced (x ∷ xs) old grown adds there climbs =
       let u = there.0.0 in
@@ -204,7 +204,7 @@ not_new theorems old new grown ordered single t from to h =
 
 module _ (d : Declarations) (old new : Terms) (core : CoreTree) (full : Type 0) (effect : Effect d (subtrees core) old new full) where
   -- all that it stands over is there: it alone is made
-  pub makes_one : HasTrees old (tree_children core) → HasTree new core → Makes old (core ∷ []) new
+  pub makes_one : HasTrees old (tree_children core) → HasTree new core → MakesInOrder old (core ∷ []) new
   makes_one under there =
       let theorems = effect.kept.theorems in
       let before = prefix_ordered old new effect.grown effect.kept.ordered in
@@ -217,7 +217,7 @@ module _ (d : Declarations) (old new : Terms) (core : CoreTree) (full : Type 0) 
       (there, tt) (tt, tt)
 
   -- it is there: nothing is made
-  pub makes_same : HasTree old core → Makes old [] new
+  pub makes_same : HasTree old core → MakesInOrder old [] new
   makes_same h =
       let theorems = effect.kept.theorems in
       let before = prefix_ordered old new effect.grown effect.kept.ordered in
@@ -226,7 +226,7 @@ module _ (d : Declarations) (old new : Terms) (core : CoreTree) (full : Type 0) 
       tt tt
 
 -- a term over another one, which is over others that are there: both are made
-pub makes_two : (d : Declarations) (old new : Terms) (x y : CoreTree) (full : Type 0) → Effect d (subtrees y) old new full → tree_children y ≡ x ∷ [] → HasTrees old (tree_children x) → HasTree new y → Makes old (x ∷ (y ∷ [])) new
+pub makes_two : (d : Declarations) (old new : Terms) (x y : CoreTree) (full : Type 0) → Effect d (subtrees y) old new full → tree_children y ≡ x ∷ [] → HasTrees old (tree_children x) → HasTree new y → MakesInOrder old (x ∷ (y ∷ [])) new
 makes_two d old new x y full effect is under there =
     let theorems = effect.kept.theorems in
     let before = prefix_ordered old new effect.grown effect.kept.ordered in
@@ -304,7 +304,7 @@ module _ (theorems : Theorems) (table : Terms) where
     ]
   ]
 
-pub makes_rising : (d : Declarations) (old new : Terms) (x : CoreTree) (zs : List CoreTree) (y : CoreTree) (full : Type 0) → Effect d (subtrees y) old new full → Rises old x zs y → HasTree old x → HasTree new y → Makes old zs new
+pub makes_rising : (d : Declarations) (old new : Terms) (x : CoreTree) (zs : List CoreTree) (y : CoreTree) (full : Type 0) → Effect d (subtrees y) old new full → Rises old x zs y → HasTree old x → HasTree new y → MakesInOrder old zs new
 makes_rising d old new x zs y full effect rises first last =
     let theorems = effect.kept.theorems in
     let before = prefix_ordered old new effect.grown effect.kept.ordered in

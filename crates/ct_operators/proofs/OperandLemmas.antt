@@ -13,7 +13,7 @@ use Rattle.ct_terms.specs.Compiled.{all_of, any_of, exclusive, implied_from, equ
 use Rattle.ct_operators.specs.Effect.{AllStand, Within, AllWithin}
 use Rattle.ct_operators.specs.declared.operator.Operator.{Operator}
 use Rattle.ct_operators.specs.declared.operator.Operator.TheVariants.{Construct, Select, Inspect, Call, Negation, Conjunction, Disjunction, Exclusion, Implication, Equality, Inequality}
-use Rattle.ct_operators.specs.Forms.{first_of, combined, AllHaveSort, AreOperands}
+use Rattle.ct_operators.specs.Forms.{head_tree, combined, AllHaveSort, AreOperands}
 use Rattle.ct_operators.proofs.WithinLemmas.{Contains-rest, within_negation, within_equivalence, within_sel, within_test, within_con, within_apply, within_conjunction, within_disjunction}
 
 module _ (allowed : List CoreTree) where
@@ -70,20 +70,20 @@ module _ (allowed : List CoreTree) where
       let both = within_equality d x y ((tree_sort d x).0 == 0) (within_negation allowed (equality d x y) first.0) in
       (both.0, within_pairs d x (y ∷ us) first)
 
-  single_within : (u : CoreTree) (us : List CoreTree) → us ≡ u ∷ [] → Within allowed (first_of us) → AllWithin allowed us
+  single_within : (u : CoreTree) (us : List CoreTree) → us ≡ u ∷ [] → Within allowed (head_tree us) → AllWithin allowed us
   single_within u [] is w = tt
   single_within u (v ∷ vs) is w = subst (AllWithin allowed) (sym is) (subst (Within allowed) (first_is v vs u is) w, tt)
     where
       first_is : (v : CoreTree) (vs : List CoreTree) (u : CoreTree) → v ∷ vs ≡ u ∷ [] → v ≡ u
-      first_is v vs u e = ap first_of e
+      first_is v vs u e = ap head_tree e
 
   -- the terms under an operator are subterms of its core term
   pub within_plain : (d : Declarations) (o : Operator) (us : List CoreTree) → AreOperands d o us → Within allowed (combined d o us) → AllWithin allowed us
   within_plain d (Construct c) us o w = within_con allowed c us w
   within_plain d (Call f) us o w = within_apply allowed f us w
-  within_plain d (Select s) us o w = single_within o.1.0 us o.1.1 (within_sel allowed s (first_of us) w)
-  within_plain d (Inspect c) us o w = single_within o.1.0 us o.1.1 (within_test allowed c (first_of us) w)
-  within_plain d Negation us o w = single_within o.1.0 us o.1.1 (within_negation allowed (first_of us) w)
+  within_plain d (Select s) us o w = single_within o.1.0 us o.1.1 (within_sel allowed s (head_tree us) w)
+  within_plain d (Inspect c) us o w = single_within o.1.0 us o.1.1 (within_test allowed c (head_tree us) w)
+  within_plain d Negation us o w = single_within o.1.0 us o.1.1 (within_negation allowed (head_tree us) w)
   within_plain d Conjunction us o w = within_all_of us w
   within_plain d Disjunction us o w = within_any_of us w
   within_plain d Exclusion [] o w = tt
@@ -134,11 +134,11 @@ map_length f [] = refl
 map_length f (t ∷ ts) = ap suc (map_length f ts)
 
 -- the first of the terms, and its tree
-pub first_tree : (f : TermId → CoreTree) (ts : List TermId) (t : TermId) (more : List TermId) → ts ≡ t ∷ more → first_of (map f ts) ≡ f t
-first_tree f ts t more e = ap (λ (us : List TermId). first_of (map f us)) e
+pub first_tree : (f : TermId → CoreTree) (ts : List TermId) (t : TermId) (more : List TermId) → ts ≡ t ∷ more → head_tree (map f ts) ≡ f t
+first_tree f ts t more e = ap (λ (us : List TermId). head_tree (map f us)) e
 
 pub first_below : (n : ℕ) (ts : List TermId) (t : TermId) (more : List TermId) → ts ≡ t ∷ more → AllByRecursion (λ u. u.0 < n) ts → t.0 < n
 first_below n ts t more e h = (subst (AllByRecursion (λ u. u.0 < n)) e h).0
 
-pub first_operand : (us : List CoreTree) (u : CoreTree) → us ≡ u ∷ [] → u ≡ first_of us
-first_operand us u e = ap first_of (sym e)
+pub first_operand : (us : List CoreTree) (u : CoreTree) → us ≡ u ∷ [] → u ≡ head_tree us
+first_operand us u e = ap head_tree (sym e)

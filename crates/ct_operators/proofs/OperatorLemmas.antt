@@ -10,7 +10,7 @@ use Rattle.ct_terms.specs.CoreTree.{CoreTree, negation, conjunction, disjunction
 use Rattle.ct_terms.specs.CoreSorts.{HasTreeSort, tree_sort}
 use Rattle.ct_terms.specs.Compiled.{all_of, any_of, exclusive, equality}
 use Rattle.ct_operators.specs.Forms.{implication}
-use Rattle.ct_operators.specs.Effect.{Stands, IsKept, Within, IsPrefix, Effect}
+use Rattle.ct_operators.specs.Effect.{Stands, IsSoundTable, Within, IsPrefix, Effect}
 use Rattle.ct_operators.proofs.EffectLemmas.{prefix_length, same_tree, effect_none, effect_then, effect_because}
 use Rattle.ct_operators.proofs.WithinLemmas.{within_subtrees, within_negation, within_equivalence}
 
@@ -34,12 +34,12 @@ pub below_stay : (old new : Terms) (ts : List TermId) → IsPrefix old new → A
 below_stay old new [] grown h = tt
 below_stay old new (t ∷ ts) grown h = (omega (arith, h.0, prefix_length old new grown), below_stay old new ts grown h.1)
 
-pub same_trees : (d : Declarations) (old new : Terms) (ts : List TermId) → IsPrefix old new → IsKept d new → AllByRecursion (λ t. t.0 < length old) ts → map (term_at new) ts ≡ map (term_at old) ts
+pub same_trees : (d : Declarations) (old new : Terms) (ts : List TermId) → IsPrefix old new → IsSoundTable d new → AllByRecursion (λ t. t.0 < length old) ts → map (term_at new) ts ≡ map (term_at old) ts
 same_trees d old new [] grown kept below = refl
 same_trees d old new (t ∷ ts) grown kept below =
     ap (λ (u : CoreTree). u ∷ map (term_at new) ts) (same_tree d old new t grown kept below.0) ∙ ap (λ (us : List CoreTree). term_at old t ∷ us) (same_trees d old new ts grown kept below.1)
 
-pub sorts_stay : (d : Declarations) (old new : Terms) (side : SortId) (ts : List TermId) → IsPrefix old new → IsKept d new → AllByRecursion (λ t. t.0 < length old) ts → AllByRecursion (λ t. HasTreeSort d (term_at old t) side) ts → AllByRecursion (λ t. HasTreeSort d (term_at new t) side) ts
+pub sorts_stay : (d : Declarations) (old new : Terms) (side : SortId) (ts : List TermId) → IsPrefix old new → IsSoundTable d new → AllByRecursion (λ t. t.0 < length old) ts → AllByRecursion (λ t. HasTreeSort d (term_at old t) side) ts → AllByRecursion (λ t. HasTreeSort d (term_at new t) side) ts
 sorts_stay d old new side [] grown kept below h = tt
 sorts_stay d old new side (t ∷ ts) grown kept below h =
     (subst (λ (u : CoreTree). HasTreeSort d u side) (sym (same_tree d old new t grown kept below.0)) h.0, sorts_stay d old new side ts grown kept below.1 h.1)
@@ -50,12 +50,12 @@ within_fold allowed x [] w = w
 within_fold allowed x (u ∷ us) w = (within_equivalence allowed x u (within_negation allowed (equivalence x u) (within_fold allowed (exclusive x u) us w))).0
 
 -- the sort that is stored tells which equality it is
-pub equality_of_bool : (d : Declarations) (table : Terms) (kept : IsKept d table) (a b : TermId) (s : SortId) → IsOfSort table a s → s.0 ≡ 0 → equality d (term_at table a) (term_at table b) ≡ equivalence (term_at table a) (term_at table b)
+pub equality_of_bool : (d : Declarations) (table : Terms) (kept : IsSoundTable d table) (a b : TermId) (s : SortId) → IsOfSort table a s → s.0 ≡ 0 → equality d (term_at table a) (term_at table b) ≡ equivalence (term_at table a) (term_at table b)
 equality_of_bool d table kept a b s of zero_sort =
     let read : tree_sort d (term_at table a) ≡ s = kept.theorems.read d (term_at table a) s (kept.theorems.sorted d table a s kept.ordered kept.sorted of) in
     ap (λ (x : Bool). if x then equivalence (term_at table a) (term_at table b) else equation (term_at table a) (term_at table b)) ((Decides-eqb (tree_sort d (term_at table a)).0 0).1 (ap (λ (r : SortId). r.0) read ∙ zero_sort))
 
-pub equality_of_other : (d : Declarations) (table : Terms) (kept : IsKept d table) (a b : TermId) (s : SortId) → IsOfSort table a s → (s.0 ≡ 0 → ⊥) → equality d (term_at table a) (term_at table b) ≡ equation (term_at table a) (term_at table b)
+pub equality_of_other : (d : Declarations) (table : Terms) (kept : IsSoundTable d table) (a b : TermId) (s : SortId) → IsOfSort table a s → (s.0 ≡ 0 → ⊥) → equality d (term_at table a) (term_at table b) ≡ equation (term_at table a) (term_at table b)
 equality_of_other d table kept a b s of other =
     let read : tree_sort d (term_at table a) ≡ s = kept.theorems.read d (term_at table a) s (kept.theorems.sorted d table a s kept.ordered kept.sorted of) in
     by ((tree_sort d (term_at table a)).0 == 0) refl read
@@ -65,7 +65,7 @@ equality_of_other d table kept a b s of other =
     by false e read = refl
 
 -- both equalities are well sorted, each where the sort that is stored asks for it
-module _ (d : Declarations) (table : Terms) (kept : IsKept d table) (a b : TermId) (side s : SortId) (of : IsOfSort table a s) (sorted : AllByRecursion (λ t. HasTreeSort d (term_at table t) side) (a ∷ (b ∷ []))) where
+module _ (d : Declarations) (table : Terms) (kept : IsSoundTable d table) (a b : TermId) (side s : SortId) (of : IsOfSort table a s) (sorted : AllByRecursion (λ t. HasTreeSort d (term_at table t) side) (a ∷ (b ∷ []))) where
   side_is : side ≡ s
   side_is = kept.theorems.one_sort d (term_at table a) side s sorted.0 (kept.theorems.sorted d table a s kept.ordered kept.sorted of)
 
@@ -85,13 +85,13 @@ implied_layer f r b x y e h = ap₂ (λ (u v : CoreTree). disjunction (trees_of 
 -- ---- exclusive disjunction of several, as far as it is made
 
 pub record Folding (d : Declarations) (old table : Terms) (first : TermId) (others : List TermId) (left : TermId) (rest : List TermId) : Type 0 where
-  pub kept : IsKept d table
+  pub kept : IsSoundTable d table
   pub below : AllByRecursion (λ t. t.0 < length table) (left ∷ rest)
   pub boolean : AllByRecursion (λ t. HasTreeSort d (term_at table t) bool_sort) (left ∷ rest)
   pub same : fold exclusive (term_at table left) (map (term_at table) rest) ≡ fold exclusive (term_at old first) (map (term_at old) others)
   pub effect : (allowed : List CoreTree) → Within allowed (fold exclusive (term_at old first) (map (term_at old) others)) → Effect d allowed old table ⊥
 
-pub folding_start : (d : Declarations) (old : Terms) (first : TermId) (others : List TermId) → IsKept d old → AllByRecursion (λ t. t.0 < length old) (first ∷ others) → AllByRecursion (λ t. HasTreeSort d (term_at old t) bool_sort) (first ∷ others) → Folding d old old first others first others
+pub folding_start : (d : Declarations) (old : Terms) (first : TermId) (others : List TermId) → IsSoundTable d old → AllByRecursion (λ t. t.0 < length old) (first ∷ others) → AllByRecursion (λ t. HasTreeSort d (term_at old t) bool_sort) (first ∷ others) → Folding d old old first others first others
 folding_start d old first others kept below boolean = record {
   kept = kept;
   below = below;
@@ -125,7 +125,7 @@ module _ (d : Declarations) (old table new : Terms) (first : TermId) (others : L
       }
 
 -- the layer of an implication that is made
-pub implied_made : (d : Declarations) (old new : Terms) (a b r : TermId) (args : List TermId) → args ≡ r ∷ (b ∷ []) → Stands new r (negation (term_at old a)) → IsPrefix old new → IsKept d new → b.0 < length old → disjunction (trees_of (map (term_at new) args)) ≡ implication (term_at old a) (term_at old b)
+pub implied_made : (d : Declarations) (old new : Terms) (a b r : TermId) (args : List TermId) → args ≡ r ∷ (b ∷ []) → Stands new r (negation (term_at old a)) → IsPrefix old new → IsSoundTable d new → b.0 < length old → disjunction (trees_of (map (term_at new) args)) ≡ implication (term_at old a) (term_at old b)
 implied_made d old new a b r args is stands grown kept below =
     ap (λ (ts : List TermId). disjunction (trees_of (map (term_at new) ts))) is
     ∙ implied_layer (term_at new) r b (term_at old a) (term_at old b) stands.1 (same_tree d old new b grown kept below)

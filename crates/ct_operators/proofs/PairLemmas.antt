@@ -11,8 +11,8 @@ use Rattle.ct_terms.specs.CoreSorts.{HasTreeSort, tree_sort}
 use Rattle.ct_terms.specs.Pairs.{neighbours_from, neighbours, pairs}
 use Rattle.ct_terms.specs.Compiled.{all_of, equality, inequality}
 use Rattle.ct_operators.specs.Theorems.{Theorems}
-use Rattle.ct_operators.specs.Effect.{Stands, AllStand, IsKept, Effect}
-use Rattle.ct_operators.specs.Made.{HasTrees, Makes, Made, leaf, terms, made_for, made_all, made_inequality}
+use Rattle.ct_operators.specs.Effect.{Stands, AllStand, IsSoundTable, Effect}
+use Rattle.ct_operators.specs.Made.{HasTrees, MakesInOrder, Made, leaf, terms, made_for, made_all, made_inequality}
 use Rattle.ct_operators.specs.Forms.{AllHaveSort}
 use Rattle.ct_operators.specs.Pairing.{both, compared_as, compared_all, made_compared, made_compared_all, IsPair}
 use Rattle.ct_operators.proofs.OperandLemmas.{all_trees, all_below, conjunction_sorted}
@@ -92,7 +92,7 @@ compared_count d different f (p ∷ ps) = ap suc (compared_count d different f p
 
 -- ---- the conjunction of what was compared
 
-module _ (d : Declarations) (different : Bool) (old mid : Terms) (side : SortId) (ps : List (TermId × TermId)) (parts : List TermId) (kept : IsKept d old) (fitting : AllByRecursion (IsPair d old side) ps) (stand : AllStand mid parts (compared_all d different (term_at old) ps)) where
+module _ (d : Declarations) (different : Bool) (old mid : Terms) (side : SortId) (ps : List (TermId × TermId)) (parts : List TermId) (kept : IsSoundTable d old) (fitting : AllByRecursion (IsPair d old side) ps) (stand : AllStand mid parts (compared_all d different (term_at old) ps)) where
   abbrev trees : List CoreTree
   trees = compared_all d different (term_at old) ps
 
@@ -134,7 +134,7 @@ trees_there table (t ∷ ts) [] h = absurd h
 trees_there table (t ∷ ts) (u ∷ us) h = ((t, h.0), trees_there table ts us h.1)
 
 -- the conjunction is made after what was compared
-pub conjoined_made : (d : Declarations) (different : Bool) (old mid new : Terms) (ps : List (TermId × TermId)) (parts : List TermId) (full : Type 0) (t : TermId) → 0 < length ps → AllStand mid parts (compared_all d different (term_at old) ps) → Makes old (made_for (made_compared_all d different (term_at old) ps)) mid → Effect d (subtrees (all_of (map (term_at mid) parts))) mid new full → Stands new t (all_of (map (term_at mid) parts)) → Makes old (made_all (made_compared_all d different (term_at old) ps)).making new
+pub conjoined_made : (d : Declarations) (different : Bool) (old mid new : Terms) (ps : List (TermId × TermId)) (parts : List TermId) (full : Type 0) (t : TermId) → 0 < length ps → AllStand mid parts (compared_all d different (term_at old) ps) → MakesInOrder old (made_for (made_compared_all d different (term_at old) ps)) mid → Effect d (subtrees (all_of (map (term_at mid) parts))) mid new full → Stands new t (all_of (map (term_at mid) parts)) → MakesInOrder old (made_all (made_compared_all d different (term_at old) ps)).making new
 conjoined_made d different old mid new ps parts full t some stand order effect stands =
     let all = made_compared_all d different (term_at old) ps in
     let terms_are : terms all ≡ compared_all d different (term_at old) ps = terms_compared d different (term_at old) ps in

@@ -10,9 +10,9 @@ use Rattle.ct_terms.specs.Compiled.{equality}
 use Rattle.ct_operators.specs.declared.operator.Operator.{Operator}
 use Rattle.ct_operators.specs.declared.operator.Operator.TheVariants.{Construct, Select, Inspect, Call, Negation, Conjunction, Disjunction, Exclusion, Implication, Equality, Inequality}
 use Rattle.ct_operators.specs.Theorems.{Theorems}
-use Rattle.ct_operators.specs.Forms.{first_of, AreOperands}
+use Rattle.ct_operators.specs.Forms.{head_tree, AreOperands}
 use Rattle.ct_operators.specs.Following.{between, woven}
-use Rattle.ct_operators.specs.Made.{HasTrees, Makes, Made, terms, made_for, over, made_negation, made_equality, made_inequality, made_exclusive, made_implied, made_all, made_any, made_by}
+use Rattle.ct_operators.specs.Made.{HasTrees, MakesInOrder, Made, terms, made_for, over, made_negation, made_equality, made_inequality, made_exclusive, made_implied, made_all, made_any, made_by}
 use Rattle.ct_operators.proofs.MakesLemmas.{have_left, have_right, makes_then, makes_none, makes_split, makes_has}
 use Rattle.ct_operators.proofs.WovenLemmas.{one_over, without_nil, exclusive_woven, equal_woven, row_woven, made_append, terms_append, woven_has}
 
@@ -158,11 +158,11 @@ refuted_between : (d : Declarations) (us : List CoreTree) (u : CoreTree) (vs : L
 refuted_between d us u [] w later = refl
 refuted_between d us u (v ∷ vs) w later = refl
 
-refuted_makes : (d : Declarations) (us : List CoreTree) (ps : List Made) (w : CoreTree) (later : List CoreTree) (a c : Terms) → Makes a (woven_prefix d Implication us ps (w ∷ later)) c → Makes a (refuted_prefix ps) c
+refuted_makes : (d : Declarations) (us : List CoreTree) (ps : List Made) (w : CoreTree) (later : List CoreTree) (a c : Terms) → MakesInOrder a (woven_prefix d Implication us ps (w ∷ later)) c → MakesInOrder a (refuted_prefix ps) c
 refuted_makes d us [] w later a c h = h
 refuted_makes d us (p ∷ ps) w later a c h =
     let rest = woven_prefix d Implication (us ++ p.term ∷ []) ps (w ∷ later) in
-    let k = subst (λ (xs : List CoreTree). Makes a (p.making ++ (xs ++ rest)) c) (refuted_between d us p.term (terms ps) w later) h in
+    let k = subst (λ (xs : List CoreTree). MakesInOrder a (p.making ++ (xs ++ rest)) c) (refuted_between d us p.term (terms ps) w later) h in
     let one = makes_split p.making (negation p.term ∷ rest) a c k in
     let two = makes_split (negation p.term ∷ []) rest one.0 c one.1.1 in
     makes_then (made_negation p).making (refuted_prefix ps) a two.0 c (one_over p (negation p.term) a one.0 two.0 one.1.0 two.1.0) (refuted_makes d (us ++ p.term ∷ []) ps w later two.0 c two.1.1)
@@ -195,7 +195,7 @@ equal_at d x xs p later =
     subst (λ (ms : List Made). Reaches (made_all ms).making (made_for first ++ z.making) p.making) (sym (neighbours_append d x xs p later))
     (reach_in (made_all (first ++ made_equality d z p ∷ more)).making (made_for first) (made_equality d z p).making z.making p.making (e ∷ []) (inner_first z.making p.making (e ∷ [])) (all_at first (made_equality d z p) more))
 
-equal_makes : (theorems : Theorems) (d : Declarations) (x : Made) (xs : List Made) (a c : Terms) → AreOrdered c → Makes a (woven d Equality [] (x ∷ xs)) c → Makes a (made_for (neighbours_from (made_equality d) x xs) ++ (last_made x xs).making) c
+equal_makes : (theorems : Theorems) (d : Declarations) (x : Made) (xs : List Made) (a c : Terms) → AreOrdered c → MakesInOrder a (woven d Equality [] (x ∷ xs)) c → MakesInOrder a (made_for (neighbours_from (made_equality d) x xs) ++ (last_made x xs).making) c
 equal_makes theorems d x [] a c ordered h = without_nil x.making a c h
 equal_makes theorems d x (y ∷ ys) a c ordered h =
     let one = makes_split x.making (woven d Equality (x.term ∷ []) (y ∷ ys)) a c h in
@@ -224,7 +224,7 @@ unequal_at d x xs p later =
     subst (λ (ms : List Made). Reaches (made_all ms).making (made_for first ++ x.making) p.making) (sym (row_append d x xs p later others))
     (reach_in (made_all (first ++ made_inequality d x p ∷ more)).making (made_for first) (made_inequality d x p).making x.making p.making (e ∷ (negation e ∷ [])) (negated_making x p e) (all_at first (made_inequality d x p) more))
 
-unequal_makes : (theorems : Theorems) (d : Declarations) (x : Made) (xs : List Made) (a c : Terms) → AreOrdered c → Makes a (woven d Inequality [] (x ∷ xs)) c → Makes a (made_for (map (made_inequality d x) xs) ++ x.making) c
+unequal_makes : (theorems : Theorems) (d : Declarations) (x : Made) (xs : List Made) (a c : Terms) → AreOrdered c → MakesInOrder a (woven d Inequality [] (x ∷ xs)) c → MakesInOrder a (made_for (map (made_inequality d x) xs) ++ x.making) c
 unequal_makes theorems d x [] a c ordered h = without_nil x.making a c h
 unequal_makes theorems d x (y ∷ ys) a c ordered h =
     let one = makes_split x.making (woven d Inequality (x.term ∷ []) (y ∷ ys)) a c h in
@@ -237,20 +237,20 @@ unequal_makes theorems d x (y ∷ ys) a c ordered h =
 
 -- what comes before the part of the whole is made
 abbrev pub IsNext : List CoreTree → List CoreTree → Terms → Terms → Type 0
-IsNext whole part old table = (before : List CoreTree) × (Reaches whole before part) × Makes old before table
+IsNext whole part old table = (before : List CoreTree) × (Reaches whole before part) × MakesInOrder old before table
 
 module _ (theorems : Theorems) (d : Declarations) (p : Made) (later : List Made) (old table : Terms) (ordered : AreOrdered table) where
-  next_over : (o : Operator) (done : List Made) (t : CoreTree) → ((us : List CoreTree) (u : CoreTree) (vs : List CoreTree) → between d o us u vs ≡ []) → Makes old (woven_prefix d o [] done (p.term ∷ terms later)) table → IsNext (over (done ++ p ∷ later) t).making p.making old table
+  next_over : (o : Operator) (done : List Made) (t : CoreTree) → ((us : List CoreTree) (u : CoreTree) (vs : List CoreTree) → between d o us u vs ≡ []) → MakesInOrder old (woven_prefix d o [] done (p.term ∷ terms later)) table → IsNext (over (done ++ p ∷ later) t).making p.making old table
   next_over o done t none h = (
     made_for done,
     over_at done p later t,
-    subst (λ (xs : List CoreTree). Makes old xs table) (prefix_nothing d o none [] done (p.term ∷ terms later)) h,
+    subst (λ (xs : List CoreTree). MakesInOrder old xs table) (prefix_nothing d o none [] done (p.term ∷ terms later)) h,
   )
 
-  next_exclusive : (done : List Made) → Makes old (woven_prefix d Exclusion [] done (p.term ∷ terms later)) table → IsNext (made_by d Exclusion (done ++ p ∷ later)).making p.making old table
+  next_exclusive : (done : List Made) → MakesInOrder old (woven_prefix d Exclusion [] done (p.term ∷ terms later)) table → IsNext (made_by d Exclusion (done ++ p ∷ later)).making p.making old table
   next_exclusive [] h = ([], exclusive_begins p later, h)
   next_exclusive (x ∷ xs) h =
-      let k = subst (λ (vs : List CoreTree). Makes old vs table) (prefix_free d Exclusion free [] (x ∷ xs) (p.term ∷ terms later)) h in
+      let k = subst (λ (vs : List CoreTree). MakesInOrder old vs table) (prefix_free d Exclusion free [] (x ∷ xs) (p.term ∷ terms later)) h in
       let one = makes_split x.making (woven d Exclusion (x.term ∷ []) xs) old table k in
       ((fold made_exclusive x xs).making, exclusive_at x xs p later, exclusive_woven d x x.term [] xs old one.0 table refl one.1.0 one.1.1)
     where
@@ -258,26 +258,26 @@ module _ (theorems : Theorems) (d : Declarations) (p : Made) (later : List Made)
       free [] u vs ws = refl
       free (v ∷ us) u vs ws = refl
 
-  next_implied : (done : List Made) → Makes old (woven_prefix d Implication [] done (p.term ∷ terms later)) table → IsNext (made_by d Implication (done ++ p ∷ later)).making p.making old table
+  next_implied : (done : List Made) → MakesInOrder old (woven_prefix d Implication [] done (p.term ∷ terms later)) table → IsNext (made_by d Implication (done ++ p ∷ later)).making p.making old table
   next_implied [] h = ([], implied_begins p later, h)
   next_implied (x ∷ xs) h = (refuted_prefix (x ∷ xs), implied_at x xs p later, refuted_makes d [] (x ∷ xs) p.term (terms later) old table h)
 
-  next_equal : (done ps : List Made) → 1 < length (terms (done ++ p ∷ ps)) → Makes old (woven_prefix d Equality [] done (p.term ∷ terms ps)) table → IsNext (made_by d Equality (done ++ p ∷ ps)).making p.making old table
+  next_equal : (done ps : List Made) → 1 < length (terms (done ++ p ∷ ps)) → MakesInOrder old (woven_prefix d Equality [] done (p.term ∷ terms ps)) table → IsNext (made_by d Equality (done ++ p ∷ ps)).making p.making old table
   next_equal [] [] some h = absurd (omega (arith, some))
   next_equal [] (q ∷ qs) some h = ([], equal_begins d p q qs, h)
   next_equal (x ∷ xs) ps some h =
-      let k = subst (λ (vs : List CoreTree). Makes old vs table) (prefix_free d Equality free [] (x ∷ xs) (p.term ∷ terms ps)) h in
+      let k = subst (λ (vs : List CoreTree). MakesInOrder old vs table) (prefix_free d Equality free [] (x ∷ xs) (p.term ∷ terms ps)) h in
       (made_for (neighbours_from (made_equality d) x xs) ++ (last_made x xs).making, equal_at d x xs p ps, equal_makes theorems d x xs old table ordered k)
     where
       free : (us : List CoreTree) (u : CoreTree) (vs ws : List CoreTree) → between d Equality us u vs ≡ between d Equality us u ws
       free [] u vs ws = refl
       free (v ∷ us) u vs ws = refl
 
-  next_unequal : (done ps : List Made) → 1 < length (terms (done ++ p ∷ ps)) → Makes old (woven_prefix d Inequality [] done (p.term ∷ terms ps)) table → IsNext (made_by d Inequality (done ++ p ∷ ps)).making p.making old table
+  next_unequal : (done ps : List Made) → 1 < length (terms (done ++ p ∷ ps)) → MakesInOrder old (woven_prefix d Inequality [] done (p.term ∷ terms ps)) table → IsNext (made_by d Inequality (done ++ p ∷ ps)).making p.making old table
   next_unequal [] [] some h = absurd (omega (arith, some))
   next_unequal [] (q ∷ qs) some h = ([], unequal_begins d p q qs, h)
   next_unequal (x ∷ xs) ps some h =
-      let k = subst (λ (vs : List CoreTree). Makes old vs table) (prefix_free d Inequality free [] (x ∷ xs) (p.term ∷ terms ps)) h in
+      let k = subst (λ (vs : List CoreTree). MakesInOrder old vs table) (prefix_free d Inequality free [] (x ∷ xs) (p.term ∷ terms ps)) h in
       (made_for (map (made_inequality d x) xs) ++ x.making, unequal_at d x xs p ps, unequal_makes theorems d x xs old table ordered k)
     where
       free : (us : List CoreTree) (u : CoreTree) (vs ws : List CoreTree) → between d Inequality us u vs ≡ between d Inequality us u ws
@@ -285,14 +285,14 @@ module _ (theorems : Theorems) (d : Declarations) (p : Made) (later : List Made)
       free (v ∷ us) u vs ws = refl
 
   -- where those before a term are made, the term is next
-  pub operator_next : (o : Operator) (done : List Made) → AreOperands d o (terms (done ++ p ∷ later)) → Makes old (woven_prefix d o [] done (p.term ∷ terms later)) table → IsNext (made_by d o (done ++ p ∷ later)).making p.making old table
+  pub operator_next : (o : Operator) (done : List Made) → AreOperands d o (terms (done ++ p ∷ later)) → MakesInOrder old (woven_prefix d o [] done (p.term ∷ terms later)) table → IsNext (made_by d o (done ++ p ∷ later)).making p.making old table
   operator_next (Construct c) done operands h = next_over (Construct c) done (con c (trees_of (terms (done ++ p ∷ later)))) (λ us u vs. refl) h
   operator_next (Call f) done operands h = next_over (Call f) done (apply f (trees_of (terms (done ++ p ∷ later)))) (λ us u vs. refl) h
-  operator_next (Select s) done operands h = next_over (Select s) done (sel s (first_of (terms (done ++ p ∷ later)))) (λ us u vs. refl) h
-  operator_next (Inspect c) done operands h = next_over (Inspect c) done (test c (first_of (terms (done ++ p ∷ later)))) (λ us u vs. refl) h
-  operator_next Negation done operands h = next_over Negation done (negation (first_of (terms (done ++ p ∷ later)))) (λ us u vs. refl) h
-  operator_next Conjunction done operands h = (made_for done, all_at done p later, subst (λ (xs : List CoreTree). Makes old xs table) (prefix_nothing d Conjunction (λ us u vs. refl) [] done (p.term ∷ terms later)) h)
-  operator_next Disjunction done operands h = (made_for done, any_at done p later, subst (λ (xs : List CoreTree). Makes old xs table) (prefix_nothing d Disjunction (λ us u vs. refl) [] done (p.term ∷ terms later)) h)
+  operator_next (Select s) done operands h = next_over (Select s) done (sel s (head_tree (terms (done ++ p ∷ later)))) (λ us u vs. refl) h
+  operator_next (Inspect c) done operands h = next_over (Inspect c) done (test c (head_tree (terms (done ++ p ∷ later)))) (λ us u vs. refl) h
+  operator_next Negation done operands h = next_over Negation done (negation (head_tree (terms (done ++ p ∷ later)))) (λ us u vs. refl) h
+  operator_next Conjunction done operands h = (made_for done, all_at done p later, subst (λ (xs : List CoreTree). MakesInOrder old xs table) (prefix_nothing d Conjunction (λ us u vs. refl) [] done (p.term ∷ terms later)) h)
+  operator_next Disjunction done operands h = (made_for done, any_at done p later, subst (λ (xs : List CoreTree). MakesInOrder old xs table) (prefix_nothing d Disjunction (λ us u vs. refl) [] done (p.term ∷ terms later)) h)
   operator_next Exclusion done operands h = next_exclusive done h
   operator_next Implication done operands h = next_implied done h
   operator_next Equality done operands h = next_equal done later operands.1 h

@@ -16,7 +16,7 @@ abbrev pub AllStand : Terms → List TermId → List CoreTree → Type 0
 AllStand table ts trees = AllZip (Stands table) ts trees
 
 -- the table is well sorted, its terms come after the terms under them, and each has one number; and the theorems hold
-pub record IsKept (d : Declarations) (table : Terms) : Type 0 where
+pub record IsSoundTable (d : Declarations) (table : Terms) : Type 0 where
   pub theorems : Theorems
   pub sorted : AreSorted d table
   pub ordered : AreOrdered table
@@ -31,8 +31,8 @@ abbrev pub IsPrefix : Terms → Terms → Type 0
 IsPrefix old new = (more : Terms) × (new ≡ old ++ more)
 
 -- every new term is in the list
-abbrev pub Adds : List CoreTree → Terms → Terms → Type 0
-Adds allowed old new = (t : TermId) → length old ≤ t.0 → t.0 < length new → Contains allowed (term_at new t)
+abbrev pub AddsTrees : List CoreTree → Terms → Terms → Type 0
+AddsTrees allowed old new = (t : TermId) → length old ≤ t.0 → t.0 < length new → Contains allowed (term_at new t)
 
 -- the table does not have the tree
 abbrev pub IsMissing : Terms → CoreTree → Type 0
@@ -45,8 +45,8 @@ Lacks allowed table = (tree : CoreTree) × Contains allowed tree × IsMissing ta
 -- the table has grown by trees of the list; where it was found full, it lacks one of them
 pub record Effect (d : Declarations) (allowed : List CoreTree) (old new : Terms) (full : Type 0) : Type 0 where
   pub grown : IsPrefix old new
-  pub kept : IsKept d new
-  pub adds : Adds allowed old new
+  pub kept : IsSoundTable d new
+  pub adds : AddsTrees allowed old new
   pub lacks : full → Lacks allowed new
 
 -- the subterms of each of these are

@@ -12,9 +12,9 @@ use Rattle.ct_terms.specs.Pairs.{neighbours, pairs}
 use Rattle.ct_terms.specs.Compiled.{all_of, any_of, exclusive_of, implication_of, implied_from, equality, inequality}
 
 -- the first of the terms
-abbrev pub first_of : List CoreTree → CoreTree
-first_of [] = no_term
-first_of (u ∷ us) = u
+abbrev pub head_tree : List CoreTree → CoreTree
+head_tree [] = no_term
+head_tree (u ∷ us) = u
 
 -- the operator of the formula, where it is one
 abbrev pub operator_for : Formula → Operator
@@ -34,10 +34,10 @@ operator_for _ = Negation
 -- its core term over those of the formulas under it
 abbrev pub combined : Declarations → Operator → List CoreTree → CoreTree
 combined d (Construct c) us = con c (trees_of us)
-combined d (Select s) us = sel s (first_of us)
-combined d (Inspect c) us = test c (first_of us)
+combined d (Select s) us = sel s (head_tree us)
+combined d (Inspect c) us = test c (head_tree us)
 combined d (Call f) us = apply f (trees_of us)
-combined d Negation us = negation (first_of us)
+combined d Negation us = negation (head_tree us)
 combined d Conjunction us = all_of us
 combined d Disjunction us = any_of us
 combined d Exclusion us = exclusive_of us

@@ -24,9 +24,9 @@ abbrev pub HasTrees : Terms → List CoreTree → Type 0
 HasTrees table ts = AllByRecursion (HasTree table) ts
 
 -- the table has grown, in order, by those of the trees that it did not have
-abbrev pub Makes : Terms → List CoreTree → Terms → Type 0
-Makes old [] new = new ≡ old
-Makes old (t ∷ ts) new = (HasTree old t × Makes old ts new) ⊎ (IsMissing old t × ((entry : Core × SortId) × Stands (old ++ entry ∷ []) (record { 0 = length old }) t × Makes (old ++ entry ∷ []) ts new))
+abbrev pub MakesInOrder : Terms → List CoreTree → Terms → Type 0
+MakesInOrder old [] new = new ≡ old
+MakesInOrder old (t ∷ ts) new = (HasTree old t × MakesInOrder old ts new) ⊎ (IsMissing old t × ((entry : Core × SortId) × Stands (old ++ entry ∷ []) (record { 0 = length old }) t × MakesInOrder (old ++ entry ∷ []) ts new))
 
 -- ---- terms over terms
 

@@ -5,10 +5,10 @@ ghost use Rattle.ct_sorts.specs.declared.ids.SortId.{SortId};
 ghost use Rattle.ct_terms.specs.CoreTree.{CoreTree, term_at};
 ghost use Rattle.ct_terms.specs.Pairs.{neighbours_from, neighbours, pairs};
 ghost use Rattle.ct_terms.specs.Compiled.{all_of as conjunction_of, equality as equality_of, inequality as inequality_of};
-ghost use Rattle.ct_operators.specs.Effect.{Stands, AllStand, IsKept, Within, AllWithin, Effect};
+ghost use Rattle.ct_operators.specs.Effect.{Stands, AllStand, IsSoundTable, Within, AllWithin, Effect};
 ghost use Rattle.ct_operators.specs.Forms.{AllHaveSort};
 ghost use Rattle.ct_operators.specs.Pairing.{both, compared_as, compared_all, made_compared_all, IsPair};
-ghost use Rattle.ct_operators.specs.Made.{Makes, leaf, made_inequality, made_for, made_all};
+ghost use Rattle.ct_operators.specs.Made.{MakesInOrder, leaf, made_inequality, made_for, made_all};
 
 use crate::operators::{all_of, equality, inequality};
 use ct_sorts::Signature;
@@ -70,7 +70,7 @@ fn compare(
     different: bool,
     pair: (TermId, TermId),
 ) -> Result<TermId, TermError>
-    requires kept { IsKept sig.now table.old }
+    requires kept { IsSoundTable sig.now table.old }
     requires pair { (side : SortId) × IsPair sig.now table.old side pair }
     ensures core { IfOk result (λ t. Stands table.new t (compared_as sig.now different (term_at table.old pair.0) (term_at table.old pair.1))) }
     ensures effect { (allowed : List CoreTree)
@@ -92,13 +92,13 @@ pub(crate) fn compared(
     different: bool,
     pairs: &[(TermId, TermId)],
 ) -> Result<Args, TermError>
-    requires kept { IsKept sig.now table.old }
+    requires kept { IsSoundTable sig.now table.old }
     requires pairs { (side : SortId) × AllByRecursion (IsPair sig.now table.old side) pairs.now }
     ensures core { IfOk result (λ args. AllStand table.new args (compared_all sig.now different (term_at table.old) pairs.now)) }
     ensures effect { (allowed : List CoreTree)
         → AllWithin allowed (compared_all sig.now different (term_at table.old) pairs.now)
         → Effect sig.now allowed table.old table.new (IsErrOf result TermError.Full) }
-    ensures order { IfOk result (λ args. Makes table.old (made_for (made_compared_all sig.now different (term_at table.old) pairs.now)) table.new) }
+    ensures order { IfOk result (λ args. MakesInOrder table.old (made_for (made_compared_all sig.now different (term_at table.old) pairs.now)) table.new) }
 {
     let mut args = Args::new(alloc);
     let mut rest = pairs;
@@ -128,14 +128,14 @@ fn conjoin(
     different: bool,
     pairs: &[(TermId, TermId)],
 ) -> Result<TermId, TermError>
-    requires kept { IsKept sig.now table.old }
+    requires kept { IsSoundTable sig.now table.old }
     requires pairs { (side : SortId) × AllByRecursion (IsPair sig.now table.old side) pairs.now }
     requires some { 0 < length pairs.now }
     ensures core { IfOk result (λ t. Stands table.new t (conjunction_of (compared_all sig.now different (term_at table.old) pairs.now))) }
     ensures effect { (allowed : List CoreTree)
         → Within allowed (conjunction_of (compared_all sig.now different (term_at table.old) pairs.now))
         → Effect sig.now allowed table.old table.new (IsErrOf result TermError.Full) }
-    ensures order { IfOk result (λ t. Makes table.old (made_all (made_compared_all sig.now different (term_at table.old) pairs.now)).making table.new) }
+    ensures order { IfOk result (λ t. MakesInOrder table.old (made_all (made_compared_all sig.now different (term_at table.old) pairs.now)).making table.new) }
 {
     let parts = compared(alloc, sig, table, different, pairs)?;
     all_of(sig, table, parts)
@@ -148,7 +148,7 @@ pub(crate) fn equal_of(
     table: &mut TermTable,
     args: &[TermId],
 ) -> Result<TermId, TermError>
-    requires kept { IsKept sig.now table.old }
+    requires kept { IsSoundTable sig.now table.old }
     requires below { AllByRecursion (λ t. t.0 < length table.old) args.now }
     requires operands { (side : SortId) × (1 < length args.now) × AllHaveSort sig.now side (map (term_at table.old) args.now) }
     ensures core { IfOk result (λ t. Stands table.new t (conjunction_of (neighbours (equality_of sig.now) (map (term_at table.old) args.now)))) }
@@ -167,14 +167,14 @@ pub(crate) fn distinct_of(
     table: &mut TermTable,
     args: &[TermId],
 ) -> Result<TermId, TermError>
-    requires kept { IsKept sig.now table.old }
+    requires kept { IsSoundTable sig.now table.old }
     requires below { AllByRecursion (λ t. t.0 < length table.old) args.now }
     requires operands { (side : SortId) × (1 < length args.now) × AllHaveSort sig.now side (map (term_at table.old) args.now) }
     ensures core { IfOk result (λ t. Stands table.new t (conjunction_of (pairs (inequality_of sig.now) (map (term_at table.old) args.now)))) }
     ensures effect { (allowed : List CoreTree)
         → Within allowed (conjunction_of (pairs (inequality_of sig.now) (map (term_at table.old) args.now)))
         → Effect sig.now allowed table.old table.new (IsErrOf result TermError.Full) }
-    ensures order { IfOk result (λ t. Makes table.old (made_all (pairs (made_inequality sig.now) (map leaf (map (term_at table.old) args.now)))).making table.new) }
+    ensures order { IfOk result (λ t. MakesInOrder table.old (made_all (pairs (made_inequality sig.now) (map leaf (map (term_at table.old) args.now)))).making table.new) }
 {
     let found = pairs_of(alloc, args)?;
     conjoin(alloc, sig, table, true, &found)

@@ -4,7 +4,7 @@ ghost use Rattle.std.specs.List.{AllByRecursion};
 ghost use Rattle.ct_sorts.specs.declared.ids.SortId.{SortId};
 ghost use Rattle.ct_terms.specs.CoreTree.{CoreTree, term_at};
 ghost use Rattle.ct_terms.specs.CoreSorts.{HasTreeSort};
-ghost use Rattle.ct_operators.specs.Effect.{Stands, IsKept, Within, Effect};
+ghost use Rattle.ct_operators.specs.Effect.{Stands, IsSoundTable, Within, Effect};
 ghost use Rattle.ct_operators.specs.Chosen.{chosen_from, IsGuardedIn};
 
 use crate::making::make;
@@ -30,7 +30,7 @@ pub fn choices(
     guarded: &[Guarded],
     last: TermId,
 ) -> Result<TermId, TermError>
-    requires kept { IsKept sig.now table.old }
+    requires kept { IsSoundTable sig.now table.old }
     requires below { AllByRecursion (IsGuardedIn table.old) guarded.now }
     requires inside { last.0 < length table.old }
     requires sorted { (sort : SortId) × HasTreeSort sig.now (chosen_from (term_at table.old) guarded.now (term_at table.old last)) sort }

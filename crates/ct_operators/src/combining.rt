@@ -2,9 +2,9 @@
 ghost use Rattle.std.specs.Prelude.{◌≡◌, ◌<◌, length, map, drop, List, ◌∷◌, IfOk, IsErrOf};
 ghost use Rattle.std.specs.List.{AllByRecursion};
 ghost use Rattle.ct_terms.specs.CoreTree.{CoreTree, term_at};
-ghost use Rattle.ct_operators.specs.Effect.{Stands, IsKept, Within, Effect};
+ghost use Rattle.ct_operators.specs.Effect.{Stands, IsSoundTable, Within, Effect};
 ghost use Rattle.ct_operators.specs.Forms.{combined, AreOperands};
-ghost use Rattle.ct_operators.specs.Made.{Makes, leaf, made_by};
+ghost use Rattle.ct_operators.specs.Made.{MakesInOrder, leaf, made_by};
 
 use crate::chains::{distinct_of, equal_of};
 use crate::making::make;
@@ -25,7 +25,7 @@ pub fn combine(
     operator: Operator,
     args: Args,
 ) -> Result<TermId, TermError>
-    requires kept { IsKept sig.now table.old }
+    requires kept { IsSoundTable sig.now table.old }
     requires below { AllByRecursion (λ t. t.0 < length table.old) args }
     requires operands { AreOperands sig.now operator (map (term_at table.old) args) }
     ensures core { IfOk result (λ t. Stands table.new t (combined sig.now operator (map (term_at table.old) args))) }
@@ -35,7 +35,7 @@ pub fn combine(
 
     // The terms of `distinct` are made here, in this order. What the other operators have between their formulas is made by
     // `follow`, after each of them.
-    ensures order { operator ≡ Operator.Inequality → IfOk result (λ t. Makes table.old (made_by sig.now Operator.Inequality (map leaf (map (term_at table.old) args))).making table.new) }
+    ensures order { operator ≡ Operator.Inequality → IfOk result (λ t. MakesInOrder table.old (made_by sig.now Operator.Inequality (map leaf (map (term_at table.old) args))).making table.new) }
 {
     match operator {
         Operator::Construct(c) => make(sig, table, Core::Con(c, args)),

@@ -2,7 +2,7 @@
 //! stand in the order of the core term, each after the terms under it.
 ghost use Rattle.std.specs.Prelude.{Bool, Option};
 ghost use Rattle.ct_terms.specs.declared.ids.TermId.{TermId};
-ghost use Rattle.ct_operators.specs.Following.{MayFollow, Follows};
+ghost use Rattle.ct_operators.specs.Following.{MayFollow, FollowGives};
 
 use crate::operator::Operator;
 use crate::operators::{equality, exclusive, inequality, negated};
@@ -23,7 +23,7 @@ pub fn follow(
     ends: bool,
 ) -> Result<TermId, TermError>
     requires ready { MayFollow sig.now table.old operator lead term }
-    ensures outcome { Follows sig.now table.old table.new operator lead term ends result }
+    ensures outcome { FollowGives sig.now table.old table.new operator lead term ends result }
 {
     match operator {
         Operator::Equality => follow_equality(sig, table, lead, term),
@@ -48,7 +48,7 @@ fn follow_equality(
     term: TermId,
 ) -> Result<TermId, TermError>
     requires ready { MayFollow sig.now table.old Operator.Equality lead term }
-    ensures outcome { (ends : Bool) → Follows sig.now table.old table.new Operator.Equality lead term ends result }
+    ensures outcome { (ends : Bool) → FollowGives sig.now table.old table.new Operator.Equality lead term ends result }
 {
     let Some(before) = lead else {
         return Ok(term);
@@ -65,7 +65,7 @@ fn follow_inequality(
     term: TermId,
 ) -> Result<TermId, TermError>
     requires ready { MayFollow sig.now table.old Operator.Inequality lead term }
-    ensures outcome { (ends : Bool) → Follows sig.now table.old table.new Operator.Inequality lead term ends result }
+    ensures outcome { (ends : Bool) → FollowGives sig.now table.old table.new Operator.Inequality lead term ends result }
 {
     let Some(first) = lead else {
         return Ok(term);
@@ -82,7 +82,7 @@ fn follow_exclusion(
     term: TermId,
 ) -> Result<TermId, TermError>
     requires ready { MayFollow sig.now table.old Operator.Exclusion lead term }
-    ensures outcome { (ends : Bool) → Follows sig.now table.old table.new Operator.Exclusion lead term ends result }
+    ensures outcome { (ends : Bool) → FollowGives sig.now table.old table.new Operator.Exclusion lead term ends result }
 {
     let Some(before) = lead else {
         return Ok(term);
@@ -98,7 +98,7 @@ fn follow_implication(
     ends: bool,
 ) -> Result<TermId, TermError>
     requires ready { (lead : Option TermId) × MayFollow sig.now table.old Operator.Implication lead term }
-    ensures outcome { (lead : Option TermId) → Follows sig.now table.old table.new Operator.Implication lead term ends result }
+    ensures outcome { (lead : Option TermId) → FollowGives sig.now table.old table.new Operator.Implication lead term ends result }
 {
     if ends {
         return Ok(term);

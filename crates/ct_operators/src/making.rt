@@ -4,7 +4,7 @@ ghost use Rattle.ct_sorts.specs.declared.ids.SortId.{SortId};
 ghost use Rattle.ct_terms.specs.Terms.{HasArgumentsBelow};
 ghost use Rattle.ct_terms.specs.CoreTree.{CoreTree, tree_layer, term_at};
 ghost use Rattle.ct_terms.specs.CoreSorts.{HasTreeSort};
-ghost use Rattle.ct_operators.specs.Effect.{Stands, IsKept, Effect};
+ghost use Rattle.ct_operators.specs.Effect.{Stands, IsSoundTable, Effect};
 
 use ct_sorts::Signature;
 use ct_terms::{Core, TermError, TermId, TermTable};
@@ -13,7 +13,7 @@ use ct_terms::{Core, TermError, TermId, TermTable};
 ///
 /// `Full` comes where the table holds 400,000 terms and does not have this one.
 pub fn make(sig: &Signature, table: &mut TermTable, core: Core) -> Result<TermId, TermError>
-    requires kept { IsKept sig.now table.old }
+    requires kept { IsSoundTable sig.now table.old }
     requires below { HasArgumentsBelow (length table.old) core }
     requires sorted { (sort : SortId) × HasTreeSort sig.now (tree_layer (term_at table.old) core) sort }
     ensures core { IfOk result (λ t. Stands table.new t (tree_layer (term_at table.old) core)) }

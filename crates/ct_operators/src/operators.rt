@@ -6,7 +6,7 @@ ghost use Rattle.ct_sorts.specs.Declarations.{bool_sort};
 ghost use Rattle.ct_terms.specs.CoreTree.{CoreTree, negation, term_at};
 ghost use Rattle.ct_terms.specs.CoreSorts.{HasTreeSort};
 ghost use Rattle.ct_terms.specs.Compiled.{all_of as conjunction_of, any_of as disjunction_of, exclusive as exclusion, exclusive_of as exclusions_of, implication_of as implications_of, equality as equality_of, inequality as inequality_of};
-ghost use Rattle.ct_operators.specs.Effect.{Stands, IsKept, Within, Effect};
+ghost use Rattle.ct_operators.specs.Effect.{Stands, IsSoundTable, Within, Effect};
 ghost use Rattle.ct_operators.specs.Forms.{implication, AllHaveSort};
 
 use crate::making::make;
@@ -20,7 +20,7 @@ pub(crate) fn all_of(
     table: &mut TermTable,
     args: Args,
 ) -> Result<TermId, TermError>
-    requires kept { IsKept sig.now table.old }
+    requires kept { IsSoundTable sig.now table.old }
     requires below { AllByRecursion (λ t. t.0 < length table.old) args }
     requires sorted { (sort : SortId) × HasTreeSort sig.now (conjunction_of (map (term_at table.old) args)) sort }
     ensures core { IfOk result (λ t. Stands table.new t (conjunction_of (map (term_at table.old) args))) }
@@ -41,7 +41,7 @@ pub(crate) fn any_of(
     table: &mut TermTable,
     args: Args,
 ) -> Result<TermId, TermError>
-    requires kept { IsKept sig.now table.old }
+    requires kept { IsSoundTable sig.now table.old }
     requires below { AllByRecursion (λ t. t.0 < length table.old) args }
     requires sorted { (sort : SortId) × HasTreeSort sig.now (disjunction_of (map (term_at table.old) args)) sort }
     ensures core { IfOk result (λ t. Stands table.new t (disjunction_of (map (term_at table.old) args))) }
@@ -62,7 +62,7 @@ pub(crate) fn negated(
     table: &mut TermTable,
     t: TermId,
 ) -> Result<TermId, TermError>
-    requires kept { IsKept sig.now table.old }
+    requires kept { IsSoundTable sig.now table.old }
     requires below { t.0 < length table.old }
     requires boolean { HasTreeSort sig.now (term_at table.old t) bool_sort }
     ensures core { IfOk result (λ u. Stands table.new u (negation (term_at table.old t))) }
@@ -80,7 +80,7 @@ pub(crate) fn exclusive(
     a: TermId,
     b: TermId,
 ) -> Result<TermId, TermError>
-    requires kept { IsKept sig.now table.old }
+    requires kept { IsSoundTable sig.now table.old }
     requires below { AllByRecursion (λ t. t.0 < length table.old) (a ∷ (b ∷ [])) }
     requires boolean { AllByRecursion (λ t. HasTreeSort sig.now (term_at table.old t) bool_sort) (a ∷ (b ∷ [])) }
     ensures core { IfOk result (λ t. Stands table.new t (exclusion (term_at table.old a) (term_at table.old b))) }
@@ -99,7 +99,7 @@ pub(crate) fn equality(
     a: TermId,
     b: TermId,
 ) -> Result<TermId, TermError>
-    requires kept { IsKept sig.now table.old }
+    requires kept { IsSoundTable sig.now table.old }
     requires below { AllByRecursion (λ t. t.0 < length table.old) (a ∷ (b ∷ [])) }
     requires one_sort { (side : SortId) × AllByRecursion (λ t. HasTreeSort sig.now (term_at table.old t) side) (a ∷ (b ∷ [])) }
     ensures core { IfOk result (λ t. Stands table.new t (equality_of sig.now (term_at table.old a) (term_at table.old b))) }
@@ -122,7 +122,7 @@ pub(crate) fn inequality(
     a: TermId,
     b: TermId,
 ) -> Result<TermId, TermError>
-    requires kept { IsKept sig.now table.old }
+    requires kept { IsSoundTable sig.now table.old }
     requires below { AllByRecursion (λ t. t.0 < length table.old) (a ∷ (b ∷ [])) }
     requires one_sort { (side : SortId) × AllByRecursion (λ t. HasTreeSort sig.now (term_at table.old t) side) (a ∷ (b ∷ [])) }
     ensures core { IfOk result (λ t. Stands table.new t (inequality_of sig.now (term_at table.old a) (term_at table.old b))) }
@@ -142,7 +142,7 @@ pub(crate) fn implied(
     a: TermId,
     b: TermId,
 ) -> Result<TermId, TermError>
-    requires kept { IsKept sig.now table.old }
+    requires kept { IsSoundTable sig.now table.old }
     requires below { AllByRecursion (λ t. t.0 < length table.old) (a ∷ (b ∷ [])) }
     requires boolean { AllByRecursion (λ t. HasTreeSort sig.now (term_at table.old t) bool_sort) (a ∷ (b ∷ [])) }
     ensures core { IfOk result (λ t. Stands table.new t (implication (term_at table.old a) (term_at table.old b))) }
@@ -162,7 +162,7 @@ pub(crate) fn exclusive_of(
     first: TermId,
     others: &[TermId],
 ) -> Result<TermId, TermError>
-    requires kept { IsKept sig.now table.old }
+    requires kept { IsSoundTable sig.now table.old }
     requires below { AllByRecursion (λ t. t.0 < length table.old) (first ∷ others.now) }
     requires boolean { AllByRecursion (λ t. HasTreeSort sig.now (term_at table.old t) bool_sort) (first ∷ others.now) }
     ensures core { IfOk result (λ t. Stands table.new t
@@ -196,7 +196,7 @@ pub(crate) fn exclusive_of_all(
     table: &mut TermTable,
     args: &[TermId],
 ) -> Result<TermId, TermError>
-    requires kept { IsKept sig.now table.old }
+    requires kept { IsSoundTable sig.now table.old }
     requires below { AllByRecursion (λ t. t.0 < length table.old) args.now }
     requires operands { (0 < length args.now) × AllByRecursion (λ t. HasTreeSort sig.now (term_at table.old t) bool_sort) args.now }
     ensures core { IfOk result (λ t. Stands table.new t (exclusions_of (map (term_at table.old) args.now))) }
@@ -217,7 +217,7 @@ pub(crate) fn implication_of(
     table: &mut TermTable,
     args: &[TermId],
 ) -> Result<TermId, TermError>
-    requires kept { IsKept sig.now table.old }
+    requires kept { IsSoundTable sig.now table.old }
     requires below { AllByRecursion (λ t. t.0 < length table.old) args.now }
     requires operands { (0 < length args.now) × AllHaveSort sig.now bool_sort (map (term_at table.old) args.now) }
     ensures core { IfOk result (λ t. Stands table.new t (implications_of (map (term_at table.old) args.now))) }
@@ -239,7 +239,7 @@ fn implied_by(
     others: &[TermId],
     last: TermId,
 ) -> Result<TermId, TermError>
-    requires kept { IsKept sig.now table.old }
+    requires kept { IsSoundTable sig.now table.old }
     requires below { AllByRecursion (λ t. t.0 < length table.old) (others.now ++ last ∷ []) }
     requires boolean { AllByRecursion (λ t. HasTreeSort sig.now (term_at table.old t) bool_sort) (others.now ++ last ∷ []) }
     ensures core { IfOk result (λ t. Stands table.new t (implications_of (map (term_at table.old) (others.now ++ last ∷ [])))) }

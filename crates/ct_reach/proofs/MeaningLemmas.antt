@@ -7,8 +7,8 @@ use Rattle.ct_values.specs.Value.{Value, construct, values_of}
 use Rattle.ct_values.specs.TruthValue.{truth, is_built, is_true}
 use Rattle.ct_terms.specs.Formula.{Formula, Formulas, Cases, Var, Con, Sel, Test, Apply, Def, Not, And, Or, Xor, Implies, Equal, Distinct, Ite, Let, Match, no_formulas, with_formula, no_cases, with_case, bind}
 use Rattle.ct_eval.specs.declared.interp.Interp.{Interp}
-use Rattle.ct_eval.specs.Evaluation.{given, select}
-use Rattle.ct_eval.specs.Meaning.{xor_all, implies_all, are_chained, are_distinct, fits, bound, meaning, meanings, case_meaning}
+use Rattle.ct_eval.specs.Evaluation.{table_value, select}
+use Rattle.ct_eval.specs.Meaning.{xor_all, implies_all, are_chained, are_distinct, fits, matched_values, meaning, meanings, case_meaning}
 use Rattle.ct_occurrence.specs.Calls.{CallsAre, AllCallsAre, CaseCallsAre}
 use Rattle.ct_reach.proofs.CallLemmas.{GiveSame, SeesNamed}
 
@@ -20,7 +20,7 @@ module _ (d : Declarations) (i : Interp) (P : DefId → Type 0) where
       one_same (Con c ts) env h = ap (λ (vs : List Value). construct c (values_of vs)) (all_same ts env h)
       one_same (Sel s t) env h = ap (select i s (slice_get d.sels s.0)) (one_same t env h)
       one_same (Test c t) env h = ap (λ (v : Value). truth (is_built i.graph c v)) (one_same t env h)
-      one_same (Apply f ts) env h = ap (given i (slice_get i.funs f.0)) (all_same ts env h)
+      one_same (Apply f ts) env h = ap (table_value i (slice_get i.funs f.0)) (all_same ts env h)
       one_same (Def k ts) env h = give k (meanings d i call env ts) h.0 ∙ ap (other k) (all_same ts env h.1)
       one_same (Not t) env h = ap (λ (v : Value). truth (not (is_true i.graph v))) (one_same t env h)
       one_same (And ts) env h = ap (λ (vs : List Value). truth (list_all (is_true i.graph) vs)) (all_same ts env h)
@@ -47,8 +47,8 @@ module _ (d : Declarations) (i : Interp) (P : DefId → Type 0) where
       cases_same : (cases : Cases) (env : List Value) (v : Value) → CaseCallsAre P cases → case_meaning d i call env v cases ≡ case_meaning d i other env v cases
       cases_same no_cases env v h = refl
       cases_same (with_case p body cases) env v h =
-          ap (λ (w : Value). if fits i.graph p v then w else case_meaning d i call env v cases) (one_same body (bind (bound i.graph p v) env) h.0)
-          ∙ ap (λ (w : Value). if fits i.graph p v then meaning d i other (bind (bound i.graph p v) env) body else w) (cases_same cases env v h.1)
+          ap (λ (w : Value). if fits i.graph p v then w else case_meaning d i call env v cases) (one_same body (bind (matched_values i.graph p v) env) h.0)
+          ∙ ap (λ (w : Value). if fits i.graph p v then meaning d i other (bind (matched_values i.graph p v) env) body else w) (cases_same cases env v h.1)
 
   pub meaning_sees_named : SeesNamed P (meaning d i)
   meaning_sees_named call other t env give h = one_same call other give t env h

@@ -9,7 +9,7 @@ use Rattle.ct_terms.specs.Clause.{Clause}
 use Rattle.ct_terms.specs.Propagation.{IsFalseIn, AreFalseIn}
 use Rattle.ct_sat.specs.declared.clause.StepClause.{StepClause}
 use Rattle.ct_sat.specs.declared.decided.Decided.{Decided}
-use Rattle.ct_sat.specs.Up.{HasValue, positive_of, negative_of}
+use Rattle.ct_sat.specs.Up.{IsAssigned, positive_of, negative_of}
 use Rattle.ct_sat.specs.State.{IsConsistent, HaveOneNumber}
 use Rattle.ct_sat.specs.Status.{IsFalseAt}
 use Rattle.ct_sat.specs.Trail.{AreDecisions}
@@ -153,7 +153,7 @@ IsAnalysed-from clauses trail reasons decided lits hints keep start unique above
         let index_is : at_k.0 ≡ unique = consistent at_k.0 unique k l (slice_get-take next.0.index trail at_k.0 k at_k.1) at same in
         let low = next_le in omega arith
 
-    unset : HasValue (Contains (take next.0.index trail)) l.term → ⊥
+    unset : IsAssigned (Contains (take next.0.index trail)) l.term → ⊥
     unset (inl h) = elsewhere (positive_of l.term) refl h
     unset (inr h) = elsewhere (negative_of l.term) refl h
 

@@ -11,7 +11,7 @@ use Rattle.ct_terms.specs.Clause.{Clause}
 use Rattle.ct_terms.specs.Propagation.{IsFalseIn, AreFalseIn}
 use Rattle.ct_sat.specs.declared.clause.StepClause.{StepClause}
 use Rattle.ct_sat.specs.declared.decided.Decided.{Decided}
-use Rattle.ct_sat.specs.Up.{IsForced, IsClosed, HasValue, IsLowest, positive_of, negative_of}
+use Rattle.ct_sat.specs.Up.{IsForced, IsClosed, IsAssigned, IsLowest, positive_of, negative_of}
 use Rattle.ct_sat.specs.State.{SearchState, AreVariables, clauses_of, literals_of, AreOver, AreIncreasing, IsFresh, IsConsistent, IsJustified, IsSound, IsQuiet}
 use Rattle.ct_sat.specs.Assigned.{Assigned, decided_on, cut_before}
 use Rattle.ct_sat.specs.Trail.{AreDecisions}
@@ -182,7 +182,7 @@ IsSearch-cut variables clauses a count budget keep next stored = record {
     same_long n xs ys e = length-take n xs ∙ ap (λ (k : ℕ). min n k) e ∙ sym (length-take n ys)
 
 -- a term without a literal has no value
-pub no_value : (trail : List Lit) (t : TermId) → ((i : ℕ) (l : Lit) → slice_get trail i ≡ Some l → l.term.0 ≡ t.0 → ⊥) → HasValue (Contains trail) t → ⊥
+pub no_value : (trail : List Lit) (t : TermId) → ((i : ℕ) (l : Lit) → slice_get trail i ≡ Some l → l.term.0 ≡ t.0 → ⊥) → IsAssigned (Contains trail) t → ⊥
 no_value trail t none (inl h) = let at = at-Contains trail (positive_of t) h in none at.0 (positive_of t) at.1 refl
 no_value trail t none (inr h) = let at = at-Contains trail (negative_of t) h in none at.0 (negative_of t) at.1 refl
 
@@ -191,22 +191,22 @@ abbrev made : ℕ → Bool → Lit
 made n b = record { term = record { 0 = n }; positive = b }
 
 -- a term with a literal has one
-pub has_value : (trail : List Lit) (t : TermId) (i : ℕ) (l : Lit) → slice_get trail i ≡ Some l → l.term.0 ≡ t.0 → HasValue (Contains trail) t
+pub has_value : (trail : List Lit) (t : TermId) (i : ℕ) (l : Lit) → slice_get trail i ≡ Some l → l.term.0 ≡ t.0 → IsAssigned (Contains trail) t
 has_value trail t i l at same = by l.positive refl
   where
-    by : (b : Bool) → l.positive ≡ b → HasValue (Contains trail) t
+    by : (b : Bool) → l.positive ≡ b → IsAssigned (Contains trail) t
     by true e = inl (subst (Contains trail) (ap (λ (n : ℕ). made n l.positive) same ∙ ap (made t.0) e) (Contains-at trail i l at))
     by false e = inr (subst (Contains trail) (ap (λ (n : ℕ). made n l.positive) same ∙ ap (made t.0) e) (Contains-at trail i l at))
 
 -- the first variable without a value is the lowest
-pub IsLowest-first : (variables : List TermId) (trail : List Lit) (i : ℕ) (t : TermId) → AreIncreasing variables → slice_get variables i ≡ Some t → All (HasValue (Contains trail)) (take i variables) → (HasValue (Contains trail) t → ⊥) → IsLowest variables (Contains trail) t
+pub IsLowest-first : (variables : List TermId) (trail : List Lit) (i : ℕ) (t : TermId) → AreIncreasing variables → slice_get variables i ≡ Some t → All (IsAssigned (Contains trail)) (take i variables) → (IsAssigned (Contains trail) t → ⊥) → IsLowest variables (Contains trail) t
 IsLowest-first variables trail i t increasing at before unset = record {
   variable = Contains-at variables i t at;
   unset = unset;
   lowest = λ u h below.
       (let at_u = at-Contains variables u h in
       elim (below_same_above at_u.0 i) [
-        | inl low ↦ All-at (HasValue (Contains trail)) (take i variables) at_u.0 u before (take-slice_get i variables at_u.0 u low at_u.1)
+        | inl low ↦ All-at (IsAssigned (Contains trail)) (take i variables) at_u.0 u before (take-slice_get i variables at_u.0 u low at_u.1)
         | inr high ↦ elim high [
           | inl e ↦ (let is : u ≡ t = same_Some u t (sym at_u.1 ∙ ap (slice_get variables) e ∙ at) in
               let number : u.0 ≡ t.0 = ap (λ (x : TermId). x.0) is in absurd (omega arith))
@@ -254,10 +254,10 @@ learns variables clauses new a b count budget step keep lits pushed shown_lits h
     }))
 
 -- what a term's index tells of its value
-pub index_none : (trail : List Lit) (t : TermId) (r : Option ℕ) → MatchOption r ((i : ℕ) (l : Lit) → slice_get trail i ≡ Some l → l.term.0 ≡ t.0 → ⊥) (λ i. (l : Lit) × (slice_get trail i ≡ Some l) × (l.term.0 ≡ t.0)) → is_some r ≡ false → HasValue (Contains trail) t → ⊥
+pub index_none : (trail : List Lit) (t : TermId) (r : Option ℕ) → MatchOption r ((i : ℕ) (l : Lit) → slice_get trail i ≡ Some l → l.term.0 ≡ t.0 → ⊥) (λ i. (l : Lit) × (slice_get trail i ≡ Some l) × (l.term.0 ≡ t.0)) → is_some r ≡ false → IsAssigned (Contains trail) t → ⊥
 index_none trail t None h e value = no_value trail t h value
 index_none trail t (Some i) h e value = true≢false e
 
-pub index_some : (trail : List Lit) (t : TermId) (r : Option ℕ) → MatchOption r ((i : ℕ) (l : Lit) → slice_get trail i ≡ Some l → l.term.0 ≡ t.0 → ⊥) (λ i. (l : Lit) × (slice_get trail i ≡ Some l) × (l.term.0 ≡ t.0)) → is_some r ≡ true → HasValue (Contains trail) t
+pub index_some : (trail : List Lit) (t : TermId) (r : Option ℕ) → MatchOption r ((i : ℕ) (l : Lit) → slice_get trail i ≡ Some l → l.term.0 ≡ t.0 → ⊥) (λ i. (l : Lit) × (slice_get trail i ≡ Some l) × (l.term.0 ≡ t.0)) → is_some r ≡ true → IsAssigned (Contains trail) t
 index_some trail t None h e = absurd (true≢false (sym e))
 index_some trail t (Some i) h e = has_value trail t i h.0 h.1 h.2

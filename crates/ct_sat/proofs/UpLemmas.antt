@@ -9,7 +9,7 @@ use Rattle.ct_terms.specs.Clause.{Clause}
 use Rattle.ct_terms.specs.Propagation.{IsFalseIn, AreFalseIn}
 use Rattle.ct_sat.specs.declared.clause.StepClause.{StepClause}
 use Rattle.ct_sat.specs.declared.decided.Decided.{Decided}
-use Rattle.ct_sat.specs.Up.{IsForced, Up, IsContradictory, HasValue, IsLowest, positive_of, negative_of}
+use Rattle.ct_sat.specs.Up.{IsForced, Up, IsContradictory, IsAssigned, IsLowest, positive_of, negative_of}
 use Rattle.ct_sat.specs.State.{SearchState, clauses_of, literals_of, FollowsByUnits, IsConsistent, IsSound, IsConflict, IsQuiet}
 use Rattle.ct_sat.proofs.ListLemmas.{Contains-at, at-Contains, All-from, slice_get-take, slice_get-take_below, take-slice_get, Contains-map, Contains-map_cases, below_same_above}
 
@@ -133,11 +133,11 @@ quiet_consistent s quiet (inr (clause, listed, all)) =
     quiet.none_false c.0 c.1 (subst (λ (k : Clause). AreFalseIn s.trail k) (sym c.2) (All-weaker (λ l. FollowsByUnits s (opposite l)) (IsFalseIn s.trail) (λ l h. quiet.complete (opposite l) h) clause all))
 
 -- the values of the trail are those of what follows
-pub quiet_values : (s : SearchState) (t : TermId) → IsQuiet s → HasValue (Contains s.trail) t → HasValue (FollowsByUnits s) t
+pub quiet_values : (s : SearchState) (t : TermId) → IsQuiet s → IsAssigned (Contains s.trail) t → IsAssigned (FollowsByUnits s) t
 quiet_values s t quiet (inl h) = inl (quiet.follows (positive_of t) h)
 quiet_values s t quiet (inr h) = inr (quiet.follows (negative_of t) h)
 
-pub quiet_unset : (s : SearchState) (t : TermId) → IsQuiet s → HasValue (FollowsByUnits s) t → HasValue (Contains s.trail) t
+pub quiet_unset : (s : SearchState) (t : TermId) → IsQuiet s → IsAssigned (FollowsByUnits s) t → IsAssigned (Contains s.trail) t
 quiet_unset s t quiet (inl h) = inl (quiet.complete (positive_of t) h)
 quiet_unset s t quiet (inr h) = inr (quiet.complete (negative_of t) h)
 

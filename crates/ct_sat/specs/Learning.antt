@@ -7,7 +7,7 @@ use Rattle.ct_sat.specs.declared.clause.StepClause.{StepClause}
 use Rattle.ct_sat.specs.declared.decided.Decided.{Decided}
 use Rattle.ct_sat.specs.declared.learned.Learned.{Learned}
 use Rattle.ct_sat.specs.declared.learned.Learned.TheVariants.{Clause as Learnt, Empty}
-use Rattle.ct_sat.specs.Up.{HasValue}
+use Rattle.ct_sat.specs.Up.{IsAssigned}
 use Rattle.ct_sat.specs.State.{SearchState, AreOver}
 
 -- the clause is one of these and has this step
@@ -38,7 +38,7 @@ StandAtSteps clauses all = (c : StepClause) → Contains clauses c → IsNumbere
 -- all literals of the clause but one are false, and the variable of that one has no value
 pub record IsAsserting (set : List Lit) (clause : Clause) (l : Lit) : Type 0 where
   pub inside : Contains clause l
-  pub unset : HasValue (Contains set) l.term → ⊥
+  pub unset : IsAssigned (Contains set) l.term → ⊥
   pub others_false : All (λ k. (k ≡ l) ⊎ IsFalseIn set k) clause
 
 -- the clause follows; before the decision `next`, which is the first not stored, it is asserting; the trail ends there,

@@ -8,7 +8,7 @@ use Rattle.ct_terms.specs.Clause.{Clause}
 use Rattle.ct_terms.specs.Propagation.{AreFalseIn}
 use Rattle.ct_sat.specs.declared.clause.StepClause.{StepClause}
 use Rattle.ct_sat.specs.declared.decided.Decided.{Decided}
-use Rattle.ct_sat.specs.Up.{IsForced, Up, HasValue}
+use Rattle.ct_sat.specs.Up.{IsForced, Up, IsAssigned}
 
 -- the variables, the clauses with the numbers of their steps, the literals made true in order, those of them that
 -- were decided with the index at which each stands, the decisions made so far, and how many may be made
@@ -96,11 +96,11 @@ pub record IsQuiet (search : SearchState) : Type 0 where
 
 -- every variable has a value
 abbrev pub HaveValues : SearchState → Type 0
-HaveValues search = (t : TermId) → Contains search.variables t → HasValue (Contains search.trail) t
+HaveValues search = (t : TermId) → Contains search.variables t → IsAssigned (Contains search.trail) t
 
 -- some variable has none
 abbrev pub LacksValue : SearchState → Type 0
-LacksValue search = (t : TermId) × Contains search.variables t × (HasValue (Contains search.trail) t → ⊥)
+LacksValue search = (t : TermId) × Contains search.variables t × (IsAssigned (Contains search.trail) t → ⊥)
 
 -- literals were put at the end of the trail, and nothing else changed
 abbrev pub AppendsTo : SearchState → SearchState → Type 0

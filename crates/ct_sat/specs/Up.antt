@@ -34,11 +34,11 @@ IsContradictory clauses has =
     ((l : Lit) × has l × has (opposite l)) ⊎ ((clause : Clause) × Contains clauses clause × All (λ l. has (opposite l)) clause)
 
 -- one of the variable's literals is true
-abbrev pub HasValue : (Lit → Type 0) → TermId → Type 0
-HasValue has t = has (positive_of t) ⊎ has (negative_of t)
+abbrev pub IsAssigned : (Lit → Type 0) → TermId → Type 0
+IsAssigned has t = has (positive_of t) ⊎ has (negative_of t)
 
 -- the variable with the lowest number among those without a value
 pub record IsLowest (variables : List TermId) (has : Lit → Type 0) (t : TermId) : Type 0 where
   pub variable : Contains variables t
-  pub unset : HasValue has t → ⊥
-  pub lowest : (u : TermId) → Contains variables u → u.0 < t.0 → HasValue has u
+  pub unset : IsAssigned has t → ⊥
+  pub lowest : (u : TermId) → Contains variables u → u.0 < t.0 → IsAssigned has u

@@ -1,7 +1,7 @@
 //! What a decision answers, and the variable that is decided next.
 ghost use Rattle.std.specs.Prelude.{◌≡◌, ◌<◌, All, Contains, MatchOption};
 ghost use Rattle.ct_terms.specs.declared.ids.TermId.{TermId};
-ghost use Rattle.ct_sat.specs.Up.{HasValue, IsLowest};
+ghost use Rattle.ct_sat.specs.Up.{IsAssigned, IsLowest};
 ghost use Rattle.ct_sat.specs.State.{AreIncreasing};
 
 use crate::trail::Trail;
@@ -22,7 +22,7 @@ pub enum Decision {
 pub(crate) fn lowest(trail: &Trail, variables: &[TermId]) -> Option<TermId>
     requires within { All (λ t. t.0 < trail.now.room) variables.now }
     requires increasing { AreIncreasing variables.now }
-    ensures lowest { MatchOption result (All (HasValue (Contains trail.now.literals)) variables.now)
+    ensures lowest { MatchOption result (All (IsAssigned (Contains trail.now.literals)) variables.now)
         (IsLowest variables.now (Contains trail.now.literals)) }
 {
     for variable in variables {

@@ -7,7 +7,7 @@ ghost use Rattle.ct_terms.specs.Clause.{Clause};
 ghost use Rattle.ct_terms.specs.Propagation.{Rup};
 ghost use Rattle.ct_sat.specs.declared.clause.StepClause.{StepClause};
 ghost use Rattle.ct_sat.specs.declared.decided.Decided.{Decided};
-ghost use Rattle.ct_sat.specs.Up.{IsClosed, Up, IsContradictory, HasValue, IsLowest};
+ghost use Rattle.ct_sat.specs.Up.{IsClosed, Up, IsContradictory, IsAssigned, IsLowest};
 ghost use Rattle.ct_sat.specs.State.{SearchState, clauses_of, literals_of, FollowsByUnits, IsSound, IsConflict, IsQuiet};
 ghost use Rattle.ct_sat.specs.Learning.{FollowsBy, StandAtSteps};
 
@@ -28,8 +28,8 @@ pub fn what_follows_by_units()
         → Contains (take next.index s.trail) l → Up (clauses_of s.clauses) (literals_of (take k s.decided)) l }
     ensures conflict { (s : SearchState) (step : ℕ) → IsSound s → IsConflict s step → IsContradictory (clauses_of s.clauses) (FollowsByUnits s) }
     ensures quiet { (s : SearchState) → IsQuiet s → IsContradictory (clauses_of s.clauses) (FollowsByUnits s) → ⊥ }
-    ensures values { (s : SearchState) (t : TermId) → IsQuiet s → HasValue (Contains s.trail) t → HasValue (FollowsByUnits s) t }
-    ensures unset { (s : SearchState) (t : TermId) → IsQuiet s → HasValue (FollowsByUnits s) t → HasValue (Contains s.trail) t }
+    ensures values { (s : SearchState) (t : TermId) → IsQuiet s → IsAssigned (Contains s.trail) t → IsAssigned (FollowsByUnits s) t }
+    ensures unset { (s : SearchState) (t : TermId) → IsQuiet s → IsAssigned (FollowsByUnits s) t → IsAssigned (Contains s.trail) t }
     ensures lowest { (s : SearchState) (variables : List TermId) (t : TermId) → IsQuiet s → IsLowest variables (Contains s.trail) t → IsLowest variables (FollowsByUnits s) t }
 {}
 

@@ -8,9 +8,9 @@ use Rattle.ct_terms.specs.Formula.{bind}
 use Rattle.ct_scope.specs.declared.bound.Bound.{Bound}
 use Rattle.ct_scope.specs.declared.bound.Bound.TheVariants.{Term, Field, Absent}
 use Rattle.ct_operators.specs.Effect.{Within}
-use Rattle.ct_scope.specs.Ready.{IsThere, ArePresent}
+use Rattle.ct_scope.specs.Compilable.{IsThere, ArePresent}
 use Rattle.ct_scope.specs.Binding.{IsBoundAs, WithinWhere}
-use Rattle.ct_occurrence.specs.Marks.{listed}
+use Rattle.ct_occurrence.specs.Marks.{flags_below}
 
 -- lists that stand one for one are of one length
 pub zip_length : {X Y : Type 0} (R : X → Y → Type 0) (xs : List X) (ys : List Y) → AllZip R xs ys → length xs ≡ length ys
@@ -45,7 +45,7 @@ pub bind_left : {X : Type 0} (xs env : List X) → drop (length xs) (bind xs env
 bind_left {X} xs env = ap (λ (ys : List X). drop (length xs) ys) (bind_reverse xs env) ∙ drop_at (reverse xs) env (length xs) (length-reverse xs)
 
 -- where each of these is there, all that occurs is there
-pub bind_present : (p : ℕ → Bool) (xs env : List Bound) → AllZip (λ b x. b ≡ true → IsThere x) (listed p (length xs)) xs → ArePresent (λ i. p (i + length xs)) env → ArePresent p (bind xs env)
+pub bind_present : (p : ℕ → Bool) (xs env : List Bound) → AllZip (λ b x. b ≡ true → IsThere x) (flags_below p (length xs)) xs → ArePresent (λ i. p (i + length xs)) env → ArePresent p (bind xs env)
 bind_present p [] env h k = λ i b e at. k i b (ap p (omega arith) ∙ e) at
 bind_present p (x ∷ xs) env h k = bind_present p xs (x ∷ env) h.1 under
   where
@@ -67,6 +67,6 @@ all_there (b ∷ bs) [] h = absurd h
 all_there (b ∷ bs) (x ∷ xs) h = (there_as b x h.0, all_there bs xs h.1)
 
 -- where all trees of the test that are bound are within, those whose flag is set are
-pub where_within : (allowed : List CoreTree) (p : ℕ → Bool) (us env : List CoreTree) → ((i : ℕ) (u : CoreTree) → p i ≡ true → slice_get (bind us env) i ≡ Some u → Within allowed u) → WithinWhere allowed (listed p (length us)) us
+pub where_within : (allowed : List CoreTree) (p : ℕ → Bool) (us env : List CoreTree) → ((i : ℕ) (u : CoreTree) → p i ≡ true → slice_get (bind us env) i ≡ Some u → Within allowed u) → WithinWhere allowed (flags_below p (length us)) us
 where_within allowed p [] env h = tt
 where_within allowed p (u ∷ us) env h = (λ e. h (length us) u e (bind_first u us env), where_within allowed p us (u ∷ env) h)

@@ -20,15 +20,15 @@ use Rattle.ct_scope.specs.declared.stop.Stop.{Stop}
 use Rattle.ct_scope.specs.Deferral.{ended, Defers, DefersBound}
 use Rattle.ct_occurrence.specs.Marks.{Rows}
 use Rattle.ct_scope.specs.declared.bound.Bound.TheVariants.{Term, Absent}
-use Rattle.ct_operators.specs.Effect.{IsKept, IsPrefix, Within, Effect}
-use Rattle.ct_scope.specs.Ready.{given, IsReady, MayCompile, Compiles}
+use Rattle.ct_operators.specs.Effect.{IsSoundTable, IsPrefix, Within, Effect}
+use Rattle.ct_scope.specs.Compilable.{compiled_calls, IsCompilable, MayCompile, Compiles}
 use Rattle.ct_scope.proofs.Weight.{weight, weights, weights_below}
 use Rattle.ct_scope.specs.Making.{making, defined}
 use Rattle.ct_scope.specs.Binding.{occurs_where, WithinWhere, making_where, AreBinding, MayBind, Binds}
 use Rattle.ct_operators.proofs.EffectLemmas.{prefix_itself, prefix_trans, effect_none, effect_then, effect_because}
 use Rattle.ct_operators.proofs.WithinLemmas.{within_subtrees}
 use Rattle.ct_operators.proofs.MakesLemmas.{makes_then}
-use Rattle.ct_scope.proofs.ReadyLemmas.{bound_stays, setting_stays, present_less, or_left, or_right}
+use Rattle.ct_scope.proofs.CompilableLemmas.{bound_stays, setting_stays, present_less, or_left, or_right}
 use Rattle.ct_operators.proofs.EffectLemmas.{same_error}
 use Rattle.ct_scope.proofs.DeferralLemmas.{ended_by, too_deep_by, waits_under}
 
@@ -54,7 +54,7 @@ binds_out d bodies n table env flags ts e is = record {
 
 module _ (d : Declarations) (bodies : List Formula) (n : ℕ) (env : List Bound) (flags : List Bool) (t : Formula) (ts : Formulas) where
   abbrev made : List CoreTree → Formula → CoreTree
-  made trees f = compiled d (given d bodies n) trees f
+  made trees f = compiled d (compiled_calls d bodies n) trees f
 
   abbrev uses : DefId → ℕ → Bool
   uses = uses_below d bodies n
@@ -101,14 +101,14 @@ module _ (d : Declarations) (bodies : List Formula) (n : ℕ) (env : List Bound)
         too_deep_by (List Bound) (List Bound) s _ _ (λ call w trees sorts each h.
         let k = absent_binding trees sorts each h in
         let part = making_where d (defined d bodies n) trees flags ts in
-        waits_under d bodies rows n n table table new part [] part [] (λ allowed. WithinWhere allowed flags (compiled_all d (given d bodies n) trees ts)) (λ allowed. WithinWhere allowed (false ∷ flags) (compiled_all d (given d bodies n) trees (with_formula t ts))) call
+        waits_under d bodies rows n n table table new part [] part [] (λ allowed. WithinWhere allowed flags (compiled_all d (compiled_calls d bodies n) trees ts)) (λ allowed. WithinWhere allowed (false ∷ flags) (compiled_all d (compiled_calls d bodies n) trees (with_formula t ts))) call
         (omega arith) refl (sym (append-nil part)) (λ allowed inside. inside.1) (w trees sorts k.0 k.1)) rest
 
   -- ---- it occurs
 
   module _ (table : Terms) (trees : List CoreTree) (sorts : List SortId) where
     -- what the first and the rest need
-    first_binding : (s : SortId) (each : List SortId) → AreBinding d bodies table n env (true ∷ flags) (with_formula t ts) trees sorts (s ∷ each) → IsReady d bodies table n env t trees sorts s
+    first_binding : (s : SortId) (each : List SortId) → AreBinding d bodies table n env (true ∷ flags) (with_formula t ts) trees sorts (s ∷ each) → IsCompilable d bodies table n env t trees sorts s
     first_binding s each h = record {
       setting = h.setting;
       mentions = h.mentions.0;
@@ -126,7 +126,7 @@ module _ (d : Declarations) (bodies : List Formula) (n : ℕ) (env : List Bound)
     }
 
     -- both, for any sorts
-    split : (each : List SortId) → AreBinding d bodies table n env (true ∷ flags) (with_formula t ts) trees sorts each → (s : SortId) × (others : List SortId) × IsReady d bodies table n env t trees sorts s × AreBinding d bodies table n env flags ts trees sorts others
+    split : (each : List SortId) → AreBinding d bodies table n env (true ∷ flags) (with_formula t ts) trees sorts each → (s : SortId) × (others : List SortId) × IsCompilable d bodies table n env t trees sorts s × AreBinding d bodies table n env flags ts trees sorts others
     split [] h = absurd h.sorted
     split (s ∷ each) h = (s, each, first_binding s each h, rest_binding s each h)
 
@@ -154,14 +154,14 @@ module _ (d : Declarations) (bodies : List Formula) (n : ℕ) (env : List Bound)
       let k = split table trees sorts each h in
       let part = making d (defined d bodies n) trees t in
       let rest = making_where d (defined d bodies n) trees flags ts in
-      waits_under d bodies rows n n table table new (part ++ rest) [] part rest (λ allowed. Within allowed (made trees t)) (λ allowed. WithinWhere allowed (true ∷ flags) (compiled_all d (given d bodies n) trees (with_formula t ts))) call
+      waits_under d bodies rows n n table table new (part ++ rest) [] part rest (λ allowed. Within allowed (made trees t)) (λ allowed. WithinWhere allowed (true ∷ flags) (compiled_all d (compiled_calls d bodies n) trees (with_formula t ts))) call
       (omega arith) refl refl (λ allowed inside. inside.0 refl) (w trees sorts k.0 k.2)) one
 
   module _ (table mid : Terms) (u : TermId) (one : Compiles d bodies n table mid env t (Ok u)) where
-    grown : (trees : List CoreTree) (sorts : List SortId) (s : SortId) → IsReady d bodies table n env t trees sorts s → Effect d (subtrees (made trees t)) table mid (IsErrOf (Ok u) Full)
+    grown : (trees : List CoreTree) (sorts : List SortId) (s : SortId) → IsCompilable d bodies table n env t trees sorts s → Effect d (subtrees (made trees t)) table mid (IsErrOf (Ok u) Full)
     grown trees sorts s ready = one.effect trees sorts s (subtrees (made trees t)) ready (within_subtrees (made trees t))
 
-    rest_after : (trees : List CoreTree) (sorts each : List SortId) (s : SortId) → IsReady d bodies table n env t trees sorts s → AreBinding d bodies table n env flags ts trees sorts each → AreBinding d bodies mid n env flags ts trees sorts each
+    rest_after : (trees : List CoreTree) (sorts each : List SortId) (s : SortId) → IsCompilable d bodies table n env t trees sorts s → AreBinding d bodies table n env flags ts trees sorts each → AreBinding d bodies mid n env flags ts trees sorts each
     rest_after trees sorts each s ready h =
         let e = grown trees sorts s ready in
         record { setting = setting_stays d bodies table mid env trees sorts e.grown e.kept h.setting; mentions = h.mentions; sorted = h.sorted; present = h.present; long = h.long }
@@ -178,25 +178,25 @@ module _ (d : Declarations) (bodies : List Formula) (n : ℕ) (env : List Bound)
         let k = split table trees sorts each h in
         let before = making d (defined d bodies n) trees t in
         let part = making_where d (defined d bodies n) trees flags ts in
-        waits_under d bodies rows n n table mid new (before ++ part) before part [] (λ allowed. WithinWhere allowed flags (compiled_all d (given d bodies n) trees ts)) (λ allowed. WithinWhere allowed (true ∷ flags) (compiled_all d (given d bodies n) trees (with_formula t ts))) call
+        waits_under d bodies rows n n table mid new (before ++ part) before part [] (λ allowed. WithinWhere allowed flags (compiled_all d (compiled_calls d bodies n) trees ts)) (λ allowed. WithinWhere allowed (true ∷ flags) (compiled_all d (compiled_calls d bodies n) trees (with_formula t ts))) call
         (omega arith) (one.order trees sorts k.0 k.2) (ap (λ (xs : List CoreTree). before ++ xs) (sym (append-nil part))) (λ allowed inside. inside.1) (w trees sorts k.1 (rest_after trees sorts k.1 k.0 k.2 k.3))) rest
 
     -- the table has grown, and is kept
-    pub term_grown : MayBind d bodies table n env (true ∷ flags) (with_formula t ts) → IsPrefix table mid × IsKept d mid
+    pub term_grown : MayBind d bodies table n env (true ∷ flags) (with_formula t ts) → IsPrefix table mid × IsSoundTable d mid
     term_grown may =
         let k = split table may.0 may.1 may.2 may.3 in
         let e = grown may.0 may.1 k.0 k.2 in
         (e.grown, e.kept)
 
     module _ (new : Terms) where
-      effect_both : (full : Type 0) (r : Result (List Bound) TermError) → Binds d bodies n mid new env flags ts r → (full → IsErrOf r Full) → (trees : List CoreTree) (sorts each : List SortId) (allowed : List CoreTree) → AreBinding d bodies table n env (true ∷ flags) (with_formula t ts) trees sorts each → WithinWhere allowed (true ∷ flags) (compiled_all d (given d bodies n) trees (with_formula t ts)) → Effect d allowed table new full
+      effect_both : (full : Type 0) (r : Result (List Bound) TermError) → Binds d bodies n mid new env flags ts r → (full → IsErrOf r Full) → (trees : List CoreTree) (sorts each : List SortId) (allowed : List CoreTree) → AreBinding d bodies table n env (true ∷ flags) (with_formula t ts) trees sorts each → WithinWhere allowed (true ∷ flags) (compiled_all d (compiled_calls d bodies n) trees (with_formula t ts)) → Effect d allowed table new full
       effect_both full r rest why trees sorts each allowed h w =
           let k = split table trees sorts each h in
           effect_because d allowed table new _ full why
           (effect_then d allowed table mid new _ _ (one.effect trees sorts k.0 allowed k.2 (w.0 refl))
           (rest.effect trees sorts k.1 allowed (rest_after trees sorts k.1 k.0 k.2 k.3) w.1))
 
-      grown_both : (r : Result (List Bound) TermError) → Binds d bodies n mid new env flags ts r → (trees : List CoreTree) (sorts each : List SortId) → AreBinding d bodies table n env (true ∷ flags) (with_formula t ts) trees sorts each → IsPrefix table new × IsKept d new
+      grown_both : (r : Result (List Bound) TermError) → Binds d bodies n mid new env flags ts r → (trees : List CoreTree) (sorts each : List SortId) → AreBinding d bodies table n env (true ∷ flags) (with_formula t ts) trees sorts each → IsPrefix table new × IsSoundTable d new
       grown_both r rest trees sorts each h =
           let k = split table trees sorts each h in
           let e = grown trees sorts k.0 k.2 in

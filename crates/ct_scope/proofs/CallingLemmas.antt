@@ -23,14 +23,14 @@ use Rattle.ct_scope.specs.declared.stop.Stop.TheVariants.{TooDeep}
 use Rattle.ct_scope.specs.Deferral.{Defers}
 use Rattle.ct_operators.specs.Made.{HasTrees}
 use Rattle.ct_scope.specs.Making.{making, makes_below, defined}
-use Rattle.ct_operators.specs.Effect.{Stands, IsKept, IsPrefix, Within, Effect}
-use Rattle.ct_scope.specs.Ready.{given, IsBound, IsReady}
-use Rattle.ct_occurrence.specs.Marks.{listed, Rows, row_in, HaveRows}
+use Rattle.ct_operators.specs.Effect.{Stands, IsSoundTable, IsPrefix, Within, Effect}
+use Rattle.ct_scope.specs.Compilable.{compiled_calls, IsBound, IsCompilable}
+use Rattle.ct_occurrence.specs.Marks.{flags_below, Rows, row_in, HaveRows}
 use Rattle.ct_scope.specs.Binding.{IsBoundAs, making_where, Binds}
-use Rattle.ct_scope.specs.Calling.{same_call, terms_of, call_of, IsRecalled, IsState}
+use Rattle.ct_scope.specs.Calling.{same_call, terms_bound, call_of, IsRecalled, IsState}
 use Rattle.ct_operators.proofs.EffectLemmas.{stands_stays}
 use Rattle.ct_operators.proofs.WithinLemmas.{Contains-first, within_subtrees}
-use Rattle.ct_scope.proofs.ReadyLemmas.{bounds_stay}
+use Rattle.ct_scope.proofs.CompilableLemmas.{bounds_stay}
 use Rattle.ct_operators.proofs.OperatorLemmas.{stands_as}
 use Rattle.ct_operators.proofs.MakesLemmas.{have_stay}
 use Rattle.ct_scope.proofs.MakingLemmas.{makes_is, makes_same_below}
@@ -40,7 +40,7 @@ use Rattle.ct_scope.proofs.UnderLemmas.{Under, count_sorted, count_terms, call_v
 
 -- ---- tables that grow
 
-pub recalled_stays : (d : Declarations) (bodies : List Formula) (rows : Rows) (old new : Terms) (call : Called) (t : TermId) → IsPrefix old new → IsKept d new → IsRecalled d bodies rows old call t → IsRecalled d bodies rows new call t
+pub recalled_stays : (d : Declarations) (bodies : List Formula) (rows : Rows) (old new : Terms) (call : Called) (t : TermId) → IsPrefix old new → IsSoundTable d new → IsRecalled d bodies rows old call t → IsRecalled d bodies rows new call t
 recalled_stays d bodies rows old new call t grown kept h = record {
   bounds = h.bounds;
   trees = h.trees;
@@ -49,12 +49,12 @@ recalled_stays d bodies rows old new call t grown kept h = record {
   at = h.at;
   flags = h.flags;
   stand = bounds_stay d old new h.bounds h.trees grown kept h.stand;
-  stands = stands_stays d old new t (given d bodies (suc call.definition.0) call.definition h.trees) grown kept h.stands;
+  stands = stands_stays d old new t (compiled_calls d bodies (suc call.definition.0) call.definition h.trees) grown kept h.stands;
   made = have_stay kept.theorems old new (makes_below d bodies (suc call.definition.0) call.definition h.trees) grown kept.ordered h.made;
 }
 
 module _ {S : Type 0} (d : Declarations) (bodies : List Formula) (rows : Rows) where
-  pub state_stays : (n : ℕ) (old new : Terms) (known : IndexMap Called TermId S) → IsPrefix old new → IsKept d new → IsState d bodies n rows old known → IsState d bodies n rows new known
+  pub state_stays : (n : ℕ) (old new : Terms) (known : IndexMap Called TermId S) → IsPrefix old new → IsSoundTable d new → IsState d bodies n rows old known → IsState d bodies n rows new known
   state_stays n old new known grown kept h = record {
     have = h.have;
     recalls = λ call t at. recalled_stays d bodies rows old new call t grown kept (h.recalls call t at);
@@ -91,7 +91,7 @@ module _ {S : Type 0} (d : Declarations) (bodies : List Formula) (rows : Rows) w
 -- ---- what a call is known to give
 
 -- flags and terms say what is bound
-same_bounds : (flags : List Bool) (bs cs : List Bound) → AllZip IsBoundAs flags bs → AllZip IsBoundAs flags cs → terms_of bs ≡ terms_of cs → bs ≡ cs
+same_bounds : (flags : List Bool) (bs cs : List Bound) → AllZip IsBoundAs flags bs → AllZip IsBoundAs flags cs → terms_bound bs ≡ terms_bound cs → bs ≡ cs
 same_bounds [] [] [] h k e = refl
 same_bounds [] [] (c ∷ cs) h k e = absurd k
 same_bounds [] (b ∷ bs) cs h k e = absurd h
@@ -122,7 +122,7 @@ one_tree table true (Field s t) x y marked_as h k e = absurd marked_as
 one_tree table true Absent x y marked_as h k e = absurd marked_as
 one_tree table false b x y marked_as h k e = absurd (true≢false (sym e))
 
-bound_same : (table : Terms) (p : ℕ → Bool) (bs : List Bound) (us vs : List CoreTree) → AllZip IsBoundAs (listed p (length bs)) bs → AllZip (IsBound table) bs us → AllZip (IsBound table) bs vs → AreBoundSame p us vs
+bound_same : (table : Terms) (p : ℕ → Bool) (bs : List Bound) (us vs : List CoreTree) → AllZip IsBoundAs (flags_below p (length bs)) bs → AllZip (IsBound table) bs us → AllZip (IsBound table) bs vs → AreBoundSame p us vs
 bound_same table p [] [] [] marked_as h k = tt
 bound_same table p [] [] (v ∷ vs) marked_as h k = absurd k
 bound_same table p [] (u ∷ us) vs marked_as h k = absurd h
@@ -142,20 +142,20 @@ same_definition call k bs e = ap (λ (c : Called). c.definition) e
 
 module _ (d : Declarations) (bodies : List Formula) (n : ℕ) (rows : Rows) (old : Terms) (env : List Bound) (k : DefId) (ts : Formulas) (row : List Bool) (at_row : row_in rows k ≡ Some row) (body : Formula) (at : slice_get bodies k.0 ≡ Some body) (have : HaveRows d (uses_below d bodies n) n rows) where
   -- the row says which parameters occur
-  pub row_is : (trees : List CoreTree) (sorts : List SortId) (sort : SortId) → IsReady d bodies old n env (Def k ts) trees sorts sort → row ≡ listed (uses_below d bodies n k) (count_of ts)
+  pub row_is : (trees : List CoreTree) (sorts : List SortId) (sort : SortId) → IsCompilable d bodies old n env (Def k ts) trees sorts sort → row ≡ flags_below (uses_below d bodies n k) (count_of ts)
   row_is trees sorts sort h =
       have k h.sorted.0 row h.mentions.0 h.sorted.1 at_row
-      ∙ ap (listed (uses_below d bodies n k)) (sym (count_sorted d sorts ts h.sorted.0.args h.sorted.2))
+      ∙ ap (flags_below (uses_below d bodies n k)) (sym (count_sorted d sorts ts h.sorted.0.args h.sorted.2))
 
-  pub call_under : (trees : List CoreTree) (sorts : List SortId) (sort : SortId) → IsReady d bodies old n env (Def k ts) trees sorts sort → Under d bodies n k.0 old env [] row (Def k ts) ts body trees sorts sort
+  pub call_under : (trees : List CoreTree) (sorts : List SortId) (sort : SortId) → IsCompilable d bodies old n env (Def k ts) trees sorts sort → Under d bodies n k.0 old env [] row (Def k ts) ts body trees sorts sort
   call_under trees sorts sort h = call_view d bodies n old env row k ts body at (row_is trees sorts sort h) trees sorts sort h
 
   abbrev parts : List CoreTree → List CoreTree
-  parts trees = compiled_all d (given d bodies n) trees ts
+  parts trees = compiled_all d (compiled_calls d bodies n) trees ts
 
   module _ (mid : Terms) (bs : List Bound) (all : Binds d bodies n old mid env row ts (Ok bs)) where
     -- a known term is that of the call
-    pub known_stands : (t : TermId) → IsRecalled d bodies rows mid (call_of k bs) t → (trees : List CoreTree) (sorts : List SortId) (sort : SortId) → IsReady d bodies old n env (Def k ts) trees sorts sort → Stands mid t (compiled d (given d bodies n) trees (Def k ts))
+    pub known_stands : (t : TermId) → IsRecalled d bodies rows mid (call_of k bs) t → (trees : List CoreTree) (sorts : List SortId) (sort : SortId) → IsCompilable d bodies old n env (Def k ts) trees sorts sort → Stands mid t (compiled d (compiled_calls d bodies n) trees (Def k ts))
     known_stands t is trees sorts sort h =
         let view = call_under trees sorts sort h in
         let one_row : is.row ≡ row = same_Some is.row row (sym is.at ∙ at_row) in
@@ -163,8 +163,8 @@ module _ (d : Declarations) (bodies : List Formula) (n : ℕ) (rows : Rows) (old
         let one : bs ≡ is.bounds = same_bounds row bs is.bounds all.flagged flags (ap (λ (c : Called). c.args) is.args) in
         let stand : AllZip (IsBound mid) bs is.trees = subst (λ (xs : List Bound). AllZip (IsBound mid) xs is.trees) (sym one) is.stand in
         let core = all.core trees sorts view.each view.binding in
-        let count : count_of ts ≡ length bs = sym (count_terms d (given d bodies n) trees ts) ∙ sym (zip_length (IsBound mid) bs (parts trees) core) in
-        let marked_as : AllZip IsBoundAs (listed (uses_below d bodies n k) (length bs)) bs = subst (λ (xs : List Bool). AllZip IsBoundAs xs bs) (row_is trees sorts sort h ∙ ap (listed (uses_below d bodies n k)) count) all.flagged in
+        let count : count_of ts ≡ length bs = sym (count_terms d (compiled_calls d bodies n) trees ts) ∙ sym (zip_length (IsBound mid) bs (parts trees) core) in
+        let marked_as : AllZip IsBoundAs (flags_below (uses_below d bodies n k) (length bs)) bs = subst (λ (xs : List Bool). AllZip IsBoundAs xs bs) (row_is trees sorts sort h ∙ ap (flags_below (uses_below d bodies n k)) count) all.flagged in
         stands_as mid t _ _
         (given_is bodies k body at d (suc k.0) is.trees (omega arith)
         ∙ sym (given_is bodies k body at d n is.trees h.mentions.0)
@@ -172,7 +172,7 @@ module _ (d : Declarations) (bodies : List Formula) (n : ℕ) (rows : Rows) (old
         is.stands
 
     -- what is made for a known term is there
-    pub known_made : (t : TermId) → IsRecalled d bodies rows mid (call_of k bs) t → (trees : List CoreTree) (sorts : List SortId) (sort : SortId) → (h : IsReady d bodies old n env (Def k ts) trees sorts sort) → HasTrees mid (making d (defined d bodies k.0) (bind (parts trees) (call_under trees sorts sort h).others) body)
+    pub known_made : (t : TermId) → IsRecalled d bodies rows mid (call_of k bs) t → (trees : List CoreTree) (sorts : List SortId) (sort : SortId) → (h : IsCompilable d bodies old n env (Def k ts) trees sorts sort) → HasTrees mid (making d (defined d bodies k.0) (bind (parts trees) (call_under trees sorts sort h).others) body)
     known_made t is trees sorts sort h =
         let view = call_under trees sorts sort h in
         let one_row : is.row ≡ row = same_Some is.row row (sym is.at ∙ at_row) in
@@ -180,8 +180,8 @@ module _ (d : Declarations) (bodies : List Formula) (n : ℕ) (rows : Rows) (old
         let one : bs ≡ is.bounds = same_bounds row bs is.bounds all.flagged flags (ap (λ (c : Called). c.args) is.args) in
         let stand : AllZip (IsBound mid) bs is.trees = subst (λ (xs : List Bound). AllZip (IsBound mid) xs is.trees) (sym one) is.stand in
         let core = all.core trees sorts view.each view.binding in
-        let count : count_of ts ≡ length bs = sym (count_terms d (given d bodies n) trees ts) ∙ sym (zip_length (IsBound mid) bs (parts trees) core) in
-        let marked_as : AllZip IsBoundAs (listed (uses_below d bodies n k) (length bs)) bs = subst (λ (xs : List Bool). AllZip IsBoundAs xs bs) (row_is trees sorts sort h ∙ ap (listed (uses_below d bodies n k)) count) all.flagged in
+        let count : count_of ts ≡ length bs = sym (count_terms d (compiled_calls d bodies n) trees ts) ∙ sym (zip_length (IsBound mid) bs (parts trees) core) in
+        let marked_as : AllZip IsBoundAs (flags_below (uses_below d bodies n k) (length bs)) bs = subst (λ (xs : List Bool). AllZip IsBoundAs xs bs) (row_is trees sorts sort h ∙ ap (flags_below (uses_below d bodies n k)) count) all.flagged in
         subst (HasTrees mid)
         (makes_is bodies k body at d (suc k.0) is.trees (omega arith)
         ∙ sym (makes_is bodies k body at d n is.trees h.mentions.0)
@@ -191,7 +191,7 @@ module _ (d : Declarations) (bodies : List Formula) (n : ℕ) (rows : Rows) (old
         is.made
 
     -- the term of the call is put down
-    pub call_recalled : (new : Terms) (t : TermId) → IsPrefix mid new → IsKept d new → (trees : List CoreTree) (sorts : List SortId) (sort : SortId) → (h : IsReady d bodies old n env (Def k ts) trees sorts sort) → Stands new t (compiled d (given d bodies n) trees (Def k ts)) → HasTrees new (making d (defined d bodies k.0) (bind (parts trees) (call_under trees sorts sort h).others) body) → IsRecalled d bodies rows new (call_of k bs) t
+    pub call_recalled : (new : Terms) (t : TermId) → IsPrefix mid new → IsSoundTable d new → (trees : List CoreTree) (sorts : List SortId) (sort : SortId) → (h : IsCompilable d bodies old n env (Def k ts) trees sorts sort) → Stands new t (compiled d (compiled_calls d bodies n) trees (Def k ts)) → HasTrees new (making d (defined d bodies k.0) (bind (parts trees) (call_under trees sorts sort h).others) body) → IsRecalled d bodies rows new (call_of k bs) t
     call_recalled new t grown kept trees sorts sort h stands made =
         let view = call_under trees sorts sort h in
         record {
@@ -226,8 +226,8 @@ module _ (d : Declarations) (bodies : List Formula) (n : ℕ) (rows : Rows) (old
             at = at;
             sorts = view.each;
             sort = sort;
-            ready = subst (λ (ss : List SortId). IsReady d bodies mid k.0 (bind bs []) body (bind (parts trees) []) (bind view.each ss) sort) no_sorts
-                (subst (λ (us : List CoreTree). IsReady d bodies mid k.0 (bind bs []) body (bind (parts trees) us) (bind view.each view.other_sorts) sort) none ready);
+            ready = subst (λ (ss : List SortId). IsCompilable d bodies mid k.0 (bind bs []) body (bind (parts trees) []) (bind view.each ss) sort) no_sorts
+                (subst (λ (us : List CoreTree). IsCompilable d bodies mid k.0 (bind bs []) body (bind (parts trees) us) (bind view.each view.other_sorts) sort) none ready);
           };
           within = λ allowed inside. subst (Within allowed) (given_is bodies k body at d n (parts trees) h.mentions.0 ∙ sym (given_is bodies k body at d (suc k.0) (parts trees) (omega arith))) inside;
           before = before;

@@ -11,8 +11,8 @@ use Rattle.ct_terms.specs.Calls.{body_call, calls_below}
 use Rattle.ct_terms.specs.Compiled.{compiled}
 use Rattle.ct_terms.specs.Occurrence.{occurs, body_uses, uses_below}
 use Rattle.ct_scope.proofs.Weight.{weight, body_weight, weights_below}
-use Rattle.ct_scope.specs.Ready.{given}
-use Rattle.ct_occurrence.specs.Marks.{listed, Rows, HaveRows}
+use Rattle.ct_scope.specs.Compilable.{compiled_calls}
+use Rattle.ct_occurrence.specs.Marks.{flags_below, Rows, HaveRows}
 
 -- a test of two numbers that are the same
 same_number : (k n : ℕ) → (k == n) ≡ true → k ≡ n
@@ -29,7 +29,7 @@ by_last {X} k n x y z below last before = by (k == n) refl
     by true e = last (same_number k n e)
     by false e = before (let other = other_number k n e in omega (arith, below, other))
 
-given_suc : (d : Declarations) (bodies : List Formula) (n : ℕ) (k : DefId) (ts : List CoreTree) → given d bodies (suc n) k ts ≡ (if k.0 == n then body_call (compiled d) no_term (given d bodies n) (slice_get bodies n) ts else given d bodies n k ts)
+given_suc : (d : Declarations) (bodies : List Formula) (n : ℕ) (k : DefId) (ts : List CoreTree) → compiled_calls d bodies (suc n) k ts ≡ (if k.0 == n then body_call (compiled d) no_term (compiled_calls d bodies n) (slice_get bodies n) ts else compiled_calls d bodies n k ts)
 unfolding calls_below
 given_suc d bodies n k ts = refl
 
@@ -42,12 +42,12 @@ unfolding weights_below
 weights_suc bodies n k = refl
 
 module _ (bodies : List Formula) (k : DefId) (body : Formula) (at : slice_get bodies k.0 ≡ Some body) where
-  pub given_is : (d : Declarations) (n : ℕ) (ts : List CoreTree) → k.0 < n → given d bodies n k ts ≡ compiled d (given d bodies k.0) (bind ts []) body
+  pub given_is : (d : Declarations) (n : ℕ) (ts : List CoreTree) → k.0 < n → compiled_calls d bodies n k ts ≡ compiled d (compiled_calls d bodies k.0) (bind ts []) body
   given_is d zero ts below = absurd (omega (arith, below))
   given_is d (suc n) ts below =
       given_suc d bodies n k ts
       ∙ by_last k.0 n _ _ _ below
-      (λ e. ap (λ (m : ℕ). body_call (compiled d) no_term (given d bodies m) (slice_get bodies m) ts) (sym e) ∙ ap (λ (o : Option Formula). body_call (compiled d) no_term (given d bodies k.0) o ts) at)
+      (λ e. ap (λ (m : ℕ). body_call (compiled d) no_term (compiled_calls d bodies m) (slice_get bodies m) ts) (sym e) ∙ ap (λ (o : Option Formula). body_call (compiled d) no_term (compiled_calls d bodies k.0) o ts) at)
       (λ less. given_is d n ts less)
 
   pub uses_is : (d : Declarations) (n : ℕ) (i : ℕ) → k.0 < n → uses_below d bodies n k i ≡ occurs d (uses_below d bodies k.0) body i
@@ -78,7 +78,7 @@ slice_length (y ∷ ys) zero x e = omega arith
 slice_length (y ∷ ys) (suc k) x e = let h = slice_length ys k x e in omega (arith, h)
 
 -- tests that are the same give the same flags
-pub listed_same : (p q : ℕ → Bool) (n : ℕ) → ((i : ℕ) → p i ≡ q i) → listed p n ≡ listed q n
+pub listed_same : (p q : ℕ → Bool) (n : ℕ) → ((i : ℕ) → p i ≡ q i) → flags_below p n ≡ flags_below q n
 listed_same p q zero e = refl
 listed_same p q (suc n) e = ap₂ (λ (b : Bool) (bs : List Bool). b ∷ bs) (e n) (listed_same p q n e)
 

@@ -26,15 +26,15 @@ use Rattle.ct_scope.specs.Deferral.{ended, Defers, DefersBound, DefersCases}
 use Rattle.ct_occurrence.specs.Marks.{Rows}
 use Rattle.ct_scope.specs.declared.bound.Bound.TheVariants.{Term, Field, Absent}
 use Rattle.ct_operators.specs.Effect.{Within}
-use Rattle.ct_operators.specs.Made.{Makes}
+use Rattle.ct_operators.specs.Made.{MakesInOrder}
 use Rattle.ct_scope.specs.Making.{making, making_cases, defined}
-use Rattle.ct_scope.specs.Ready.{given, IsBound, IsReady, MayCompile, Compiles}
+use Rattle.ct_scope.specs.Compilable.{compiled_calls, IsBound, IsCompilable, MayCompile, Compiles}
 use Rattle.ct_scope.specs.Binding.{IsBoundAs, occurs_where, WithinWhere, making_where, AreBinding, MayBind, Binds}
 use Rattle.ct_occurrence.specs.CaseFormula.{case_of, cases_of_trees}
 use Rattle.ct_scope.specs.Matching.{IsTerm, AreCases, MayCases, CompilesCases}
 use Rattle.ct_scope.proofs.Weight.{weight, weights}
 use Rattle.ct_operators.proofs.EffectLemmas.{effect_then, effect_because}
-use Rattle.ct_scope.proofs.ReadyLemmas.{setting_stays, present_less, or_left, or_right}
+use Rattle.ct_scope.proofs.CompilableLemmas.{setting_stays, present_less, or_left, or_right}
 use Rattle.ct_operators.proofs.EffectLemmas.{same_error}
 use Rattle.ct_operators.proofs.MakesLemmas.{makes_then}
 use Rattle.ct_scope.proofs.MatchLemmas.{matched_under}
@@ -105,9 +105,9 @@ module _ (d : Declarations) (bodies : List Formula) (n : ℕ) (old : Terms) (env
   ts = with_formula t no_formulas
 
   abbrev core : List CoreTree → CoreTree
-  core trees = compiled d (given d bodies n) trees t
+  core trees = compiled d (compiled_calls d bodies n) trees t
 
-  binding : (trees : List CoreTree) (sorts : List SortId) (sort : SortId) (h : IsReady d bodies old n env (Match t cases) trees sorts sort) → AreBinding d bodies old n env (b ∷ []) ts trees sorts (h.sorted.0 ∷ [])
+  binding : (trees : List CoreTree) (sorts : List SortId) (sort : SortId) (h : IsCompilable d bodies old n env (Match t cases) trees sorts sort) → AreBinding d bodies old n env (b ∷ []) ts trees sorts (h.sorted.0 ∷ [])
   binding trees sorts sort h = record {
     setting = h.setting;
     mentions = (h.mentions.0, tt);
@@ -120,12 +120,12 @@ module _ (d : Declarations) (bodies : List Formula) (n : ℕ) (old : Terms) (env
   pub match_may : MayCompile d bodies old n env (Match t cases) → MayBind d bodies old n env (b ∷ []) ts
   match_may may = (may.0, may.1, may.3.sorted.0 ∷ [], binding may.0 may.1 may.2 may.3)
 
-  within : (trees : List CoreTree) (sorts : List SortId) (sort : SortId) (h : IsReady d bodies old n env (Match t cases) trees sorts sort) (allowed : List CoreTree) → Within allowed (compiled d (given d bodies n) trees (Match t cases)) → WithinWhere allowed (b ∷ []) (core trees ∷ [])
+  within : (trees : List CoreTree) (sorts : List SortId) (sort : SortId) (h : IsCompilable d bodies old n env (Match t cases) trees sorts sort) (allowed : List CoreTree) → Within allowed (compiled d (compiled_calls d bodies n) trees (Match t cases)) → WithinWhere allowed (b ∷ []) (core trees ∷ [])
   within trees sorts sort h allowed w = (
     λ e s inside.
         let theorems = h.setting.kept.theorems in
-        w s (theorems.subterms_of_subterms (compiled d (given d bodies n) trees (Match t cases)) (core trees) s
-        (matched_under theorems d uses (given d bodies n) trees sorts h.sorted.0 sort (core trees) [] cases (theorems.used_subterm d bodies n h.setting.sound) h.sorted.4 (sym is ∙ e)) inside),
+        w s (theorems.subterms_of_subterms (compiled d (compiled_calls d bodies n) trees (Match t cases)) (core trees) s
+        (matched_under theorems d uses (compiled_calls d bodies n) trees sorts h.sorted.0 sort (core trees) [] cases (theorems.used_subterm d bodies n h.setting.sound) h.sorted.4 (sym is ∙ e)) inside),
     tt,
   )
 
@@ -153,7 +153,7 @@ module _ (d : Declarations) (bodies : List Formula) (n : ℕ) (old : Terms) (env
       too_deep_by (List Bound) TermId s _ _ (λ call w trees sorts sort h.
       let rest = making_cases d (defined d bodies n) trees (core trees) [] cases in
       waits_under d bodies rows n n old old new (making d (defined d bodies n) trees (Match t cases)) [] (making_where d (defined d bodies n) trees (b ∷ []) ts) rest
-      (λ allowed. WithinWhere allowed (b ∷ []) (core trees ∷ [])) (λ allowed. Within allowed (compiled d (given d bodies n) trees (Match t cases))) call
+      (λ allowed. WithinWhere allowed (b ∷ []) (core trees ∷ [])) (λ allowed. Within allowed (compiled d (compiled_calls d bodies n) trees (Match t cases))) call
       (omega arith) refl (match_makes trees ∙ ap (λ (xs : List CoreTree). xs ++ rest) (sym (append-nil (here trees)))) (λ allowed inside. within trees sorts sort h allowed inside)
       (w trees sorts (h.sorted.0 ∷ []) (binding trees sorts sort h))) all
 
@@ -166,7 +166,7 @@ module _ (d : Declarations) (bodies : List Formula) (n : ℕ) (old : Terms) (env
         some (x ∷ xs) h = omega arith
 
     module _ (x : Bound) (at : slice_get bs 0 ≡ Some x) where
-      cases_ready : (trees : List CoreTree) (sorts : List SortId) (sort : SortId) (h : IsReady d bodies old n env (Match t cases) trees sorts sort) → AreCases d bodies mid n env x [] cases (core trees) h.sorted.0 trees sorts sort
+      cases_ready : (trees : List CoreTree) (sorts : List SortId) (sort : SortId) (h : IsCompilable d bodies old n env (Match t cases) trees sorts sort) → AreCases d bodies mid n env x [] cases (core trees) h.sorted.0 trees sorts sort
       cases_ready trees sorts sort h =
           let k = binding trees sorts sort h in
           let g = all.grown trees sorts (h.sorted.0 ∷ []) k in
@@ -177,7 +177,7 @@ module _ (d : Declarations) (bodies : List Formula) (n : ℕ) (old : Terms) (env
             sorted = h.sorted.4;
             some = h.sorted.3;
             bound = zip_first (IsBound mid) bs x (core trees) (all.core trees sorts (h.sorted.0 ∷ []) k) at;
-            fits = s.kept.theorems.compiled_sorted d n (given d bodies n) trees sorts t h.sorted.0 s.consistent (s.kept.theorems.calls_sorted d bodies n s.consistent s.sound) s.fitting h.mentions.0 h.sorted.1;
+            fits = s.kept.theorems.compiled_sorted d n (compiled_calls d bodies n) trees sorts t h.sorted.0 s.consistent (s.kept.theorems.calls_sorted d bodies n s.consistent s.sound) s.fitting h.mentions.0 h.sorted.1;
             there = λ e. term_as b x (first_zip IsBoundAs (b ∷ []) x b bs refl all.flagged at) (is ∙ e);
             present = present_less (occurs_in_cases d uses [] cases) (occurs d uses (Match t cases)) env
                 (λ i e. or_right (matched_occurs d uses [] cases && occurs d uses t i) (occurs_in_cases d uses [] cases i) e) h.present;
@@ -196,9 +196,9 @@ module _ (d : Declarations) (bodies : List Formula) (n : ℕ) (old : Terms) (env
             let defs = defined d bodies n in
             let here = if b then making d defs trees t else [] in
             let rest = making_cases d defs trees (core trees) [] cases in
-            let first : Makes old here mid = subst (λ (xs : List CoreTree). Makes old xs mid) (append-nil here) (all.order trees sorts (h.sorted.0 ∷ []) (binding trees sorts sort h)) in
-            IfOk-weaker r (λ x. Makes mid rest new) (λ x. Makes old (making d defs trees (Match t cases)) new)
-            (λ x k. subst (λ (y : Bool). Makes old ((if y then making d defs trees t else []) ++ rest) new) is (makes_then here rest old mid new first k))
+            let first : MakesInOrder old here mid = subst (λ (xs : List CoreTree). MakesInOrder old xs mid) (append-nil here) (all.order trees sorts (h.sorted.0 ∷ []) (binding trees sorts sort h)) in
+            IfOk-weaker r (λ x. MakesInOrder mid rest new) (λ x. MakesInOrder old (making d defs trees (Match t cases)) new)
+            (λ x k. subst (λ (y : Bool). MakesInOrder old ((if y then making d defs trees t else []) ++ rest) new) is (makes_then here rest old mid new first k))
             (one.order (core trees) h.sorted.0 trees sorts sort (cases_ready trees sorts sort h));
       }
 
@@ -207,7 +207,7 @@ module _ (d : Declarations) (bodies : List Formula) (n : ℕ) (old : Terms) (env
       match_later rows new r one =
           too_deep_same r _ _ (λ call w trees sorts sort h.
           let part = making_cases d (defined d bodies n) trees (core trees) [] cases in
-          let first : Makes old (here trees) mid = subst (λ (xs : List CoreTree). Makes old xs mid) (append-nil (here trees)) (all.order trees sorts (h.sorted.0 ∷ []) (binding trees sorts sort h)) in
-          waits_under d bodies rows n n old mid new (making d (defined d bodies n) trees (Match t cases)) (here trees) part [] (λ allowed. Within allowed (compiled_cases d (given d bodies n) trees (core trees) [] cases)) (λ allowed. Within allowed (compiled d (given d bodies n) trees (Match t cases))) call
+          let first : MakesInOrder old (here trees) mid = subst (λ (xs : List CoreTree). MakesInOrder old xs mid) (append-nil (here trees)) (all.order trees sorts (h.sorted.0 ∷ []) (binding trees sorts sort h)) in
+          waits_under d bodies rows n n old mid new (making d (defined d bodies n) trees (Match t cases)) (here trees) part [] (λ allowed. Within allowed (compiled_cases d (compiled_calls d bodies n) trees (core trees) [] cases)) (λ allowed. Within allowed (compiled d (compiled_calls d bodies n) trees (Match t cases))) call
           (omega arith) first (match_makes trees ∙ ap (λ (xs : List CoreTree). here trees ++ xs) (sym (append-nil part))) (λ allowed inside. inside)
           (w (core trees) h.sorted.0 trees sorts sort (cases_ready trees sorts sort h))) one

@@ -1,5 +1,5 @@
 pub mod Weight
-pub mod ReadyLemmas
+pub mod CompilableLemmas
 pub mod PlainLemmas
 pub mod ChoiceLemmas
 pub mod BindLemmas

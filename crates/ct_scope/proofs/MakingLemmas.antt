@@ -11,14 +11,14 @@ use Rattle.ct_terms.specs.Compiled.{fields_of, surely_fits, are_none, compiled, 
 use Rattle.ct_terms.specs.Occurrence.{count_of, field_count, any_below, occurs, occurs_in_some, occurs_in_bound, matched_occurs, occurs_in_cases, body_uses, uses_below, AreSameAt, AreBoundSame}
 use Rattle.ct_operators.specs.declared.operator.Operator.TheVariants.{Construct, Select, Inspect, Call, Negation, Conjunction, Disjunction, Exclusion, Implication, Equality, Inequality}
 use Rattle.ct_operators.specs.Theorems.{Theorems}
-use Rattle.ct_occurrence.specs.Plain.{is_plain, children_of}
+use Rattle.ct_occurrence.specs.Plain.{is_plain, formulas_under}
 use Rattle.ct_operators.specs.Forms.{operator_for}
-use Rattle.ct_scope.specs.Ready.{given}
-use Rattle.ct_occurrence.specs.Marks.{listed}
+use Rattle.ct_scope.specs.Compilable.{compiled_calls}
+use Rattle.ct_occurrence.specs.Marks.{flags_below}
 use Rattle.ct_scope.specs.Binding.{making_where}
 use Rattle.ct_operators.specs.Made.{Made, terms, made_by}
 use Rattle.ct_scope.specs.Making.{Defined, making, made_each, making_bound, making_cases, body_makes, makes_below, defined}
-use Rattle.ct_scope.proofs.ReadyLemmas.{or_left, or_right}
+use Rattle.ct_scope.proofs.CompilableLemmas.{or_left, or_right}
 use Rattle.ct_scope.proofs.DefinitionLemmas.{by_last}
 
 and_both : (a b : Bool) → a ≡ true → b ≡ true → (a && b) ≡ true
@@ -227,7 +227,7 @@ module _ (theorems : Theorems) (d : Declarations) (bodies : List Formula) where
   body_makes_same : (n : ℕ) (o : Option Formula) (ts us : List CoreTree) → MakeSame (defined d bodies n) → AreBoundSame (body_uses d (uses_below d bodies n) o) ts us → body_makes d (defined d bodies n) o ts ≡ body_makes d (defined d bodies n) o us
   body_makes_same n None ts us same h = refl
   body_makes_same n (Some body) ts us same h =
-      making_same d (defined d bodies n) (λ t xs ys e. theorems.occurring d (uses_below d bodies n) (given d bodies n) t xs ys (theorems.used d bodies n) e) same body (bind ts []) (bind us [])
+      making_same d (defined d bodies n) (λ t xs ys e. theorems.occurring d (uses_below d bodies n) (compiled_calls d bodies n) t xs ys (theorems.used d bodies n) e) same body (bind ts []) (bind us [])
       (bind_same (occurs d (uses_below d bodies n) body) ts us [] [] h (λ i e. refl))
 
   pub makes_same_below : (n : ℕ) → MakeSame (defined d bodies n)
@@ -254,12 +254,12 @@ terms_each d defs env no_formulas = refl
 terms_each d defs env (with_formula t ts) = ap (λ (us : List CoreTree). compiled d defs.gives env t ∷ us) (terms_each d defs env ts)
 
 -- what is made by flags
-pub making_listed : (d : Declarations) (defs : Defined) (env : List CoreTree) (inner : ℕ → Bool) (ts : Formulas) → making_where d defs env (listed inner (count_of ts)) ts ≡ making_bound d defs env inner ts
+pub making_listed : (d : Declarations) (defs : Defined) (env : List CoreTree) (inner : ℕ → Bool) (ts : Formulas) → making_where d defs env (flags_below inner (count_of ts)) ts ≡ making_bound d defs env inner ts
 making_listed d defs env inner no_formulas = refl
 making_listed d defs env inner (with_formula t ts) = ap (λ (xs : List CoreTree). (if inner (count_of ts) then making d defs env t else []) ++ xs) (making_listed d defs env inner ts)
 
 -- what is made for an operator
-pub making_plain : (d : Declarations) (defs : Defined) (env : List CoreTree) (t : Formula) → is_plain t ≡ true → making d defs env t ≡ (made_by d (operator_for t) (made_each d defs env (children_of t))).making
+pub making_plain : (d : Declarations) (defs : Defined) (env : List CoreTree) (t : Formula) → is_plain t ≡ true → making d defs env t ≡ (made_by d (operator_for t) (made_each d defs env (formulas_under t))).making
 making_plain d defs env (Con c ts) plain = refl
 making_plain d defs env (Sel s t) plain = refl
 making_plain d defs env (Test c t) plain = refl

@@ -20,7 +20,7 @@ use Rattle.ct_terms.specs.Terms.{Terms}
 use Rattle.ct_terms.specs.CoreTree.{CoreTree, sel, test, choice, subtrees, term_at}
 use Rattle.ct_terms.specs.CoreSorts.{HasTreeSort}
 use Rattle.ct_terms.specs.Formula.{Formula, Cases, no_cases, with_case, bind}
-use Rattle.ct_terms.specs.FormulaSorts.{BindsSorts, AreSortedCases, HasCase}
+use Rattle.ct_terms.specs.FormulaSorts.{BindsSorts, AreSortedCases, HasSomeCase}
 use Rattle.ct_terms.specs.Compiled.{fields_of, surely_fits, are_none, compiled, compiled_cases}
 use Rattle.ct_terms.specs.Occurrence.{any_below, field_count, occurs, matched_occurs, occurs_in_cases, uses_below, GiveUsed}
 use Rattle.ct_scope.specs.declared.bound.Bound.{Bound}
@@ -28,16 +28,16 @@ use Rattle.ct_scope.specs.declared.stop.Stop.{Stop}
 use Rattle.ct_scope.specs.Deferral.{ended, Defers, DefersCases}
 use Rattle.ct_scope.specs.declared.bound.Bound.TheVariants.{Term, Field, Absent}
 use Rattle.ct_operators.specs.Theorems.{Theorems}
-use Rattle.ct_operators.specs.Effect.{Stands, IsKept, IsPrefix, Within, Effect}
-use Rattle.ct_scope.specs.Ready.{given, IsBound, IsThere, ArePresent, IsReady, MayCompile, Compiles}
-use Rattle.ct_occurrence.specs.Marks.{listed, Rows}
-use Rattle.ct_operators.specs.Made.{HasTree, Makes}
+use Rattle.ct_operators.specs.Effect.{Stands, IsSoundTable, IsPrefix, Within, Effect}
+use Rattle.ct_scope.specs.Compilable.{compiled_calls, IsBound, IsThere, ArePresent, IsCompilable, MayCompile, Compiles}
+use Rattle.ct_occurrence.specs.Marks.{flags_below, Rows}
+use Rattle.ct_operators.specs.Made.{HasTree, MakesInOrder}
 use Rattle.ct_scope.specs.Making.{Defined, making, making_cases, defined}
-use Rattle.ct_scope.specs.Matching.{IsTerm, field_of, sels_of, bound_by, trees_by, AreCases, MayCases, CompilesCases}
-use Rattle.ct_occurrence.specs.Matching.{tested_by, IsDeclared}
+use Rattle.ct_scope.specs.Matching.{IsTerm, bound_field, sels_of, bound_by, trees_by, AreCases, MayCases, CompilesCases}
+use Rattle.ct_occurrence.specs.Matching.{tested_by, IsPatternDeclared}
 use Rattle.ct_operators.proofs.EffectLemmas.{prefix_trans, stands_stays, effect_none, effect_then, effect_because}
 use Rattle.ct_operators.proofs.WithinLemmas.{Contains-rest, within_subtrees, within_itself, within_choice, within_test}
-use Rattle.ct_scope.proofs.ReadyLemmas.{bound_stays, setting_stays, present_less, or_left, or_right}
+use Rattle.ct_scope.proofs.CompilableLemmas.{bound_stays, setting_stays, present_less, or_left, or_right}
 use Rattle.ct_operators.proofs.OperatorLemmas.{stands_as}
 use Rattle.ct_operators.proofs.MakesLemmas.{makes_then, makes_one}
 use Rattle.ct_scope.proofs.BindLemmas.{bind_zip, bind_first, bind_present}
@@ -103,7 +103,7 @@ tested_is d earlier (Ctor k) last c e = ap Ctor (test_some (surely_fits d earlie
 -- ---- what its variables stand for
 
 -- a field that is bound to a term is there
-field_there : (b : Bound) (s : SelId) → IsTerm b → IsThere (field_of b s)
+field_there : (b : Bound) (s : SelId) → IsTerm b → IsThere (bound_field b s)
 field_there (Term t) s h = tt
 field_there (Field r t) s h = absurd h
 field_there Absent s h = absurd h
@@ -113,12 +113,12 @@ term_there (Term t) h = tt
 term_there (Field r t) h = absurd h
 term_there Absent h = absurd h
 
-field_bound : (table : Terms) (b : Bound) (tree : CoreTree) (s : SelId) → IsBound table b tree → IsBound table (field_of b s) (sel s tree)
+field_bound : (table : Terms) (b : Bound) (tree : CoreTree) (s : SelId) → IsBound table b tree → IsBound table (bound_field b s) (sel s tree)
 field_bound table (Term t) tree s h = (h.0, ap (sel s) h.1)
 field_bound table (Field r t) tree s h = tt
 field_bound table Absent tree s h = tt
 
-fields_bound : (table : Terms) (b : Bound) (tree : CoreTree) → IsBound table b tree → (sels : List SelId) → AllZip (IsBound table) (map (field_of b) sels) (map (λ s. sel s tree) sels)
+fields_bound : (table : Terms) (b : Bound) (tree : CoreTree) → IsBound table b tree → (sels : List SelId) → AllZip (IsBound table) (map (bound_field b) sels) (map (λ s. sel s tree) sels)
 fields_bound table b tree h [] = tt
 fields_bound table b tree h (s ∷ sels) = (field_bound table b tree s h, fields_bound table b tree h sels)
 
@@ -143,10 +143,10 @@ map_length : {X Y : Type 0} (f : X → Y) (xs : List X) → length (map f xs) �
 map_length f [] = refl
 map_length f (x ∷ xs) = ap suc (map_length f xs)
 
-fields_there : (q : ℕ → Bool) (b : Bound) (sels : List SelId) → ((j : ℕ) → j < length sels → q j ≡ true → IsTerm b) → AllZip (λ f x. f ≡ true → IsThere x) (listed q (length (map (field_of b) sels))) (map (field_of b) sels)
+fields_there : (q : ℕ → Bool) (b : Bound) (sels : List SelId) → ((j : ℕ) → j < length sels → q j ≡ true → IsTerm b) → AllZip (λ f x. f ≡ true → IsThere x) (flags_below q (length (map (bound_field b) sels))) (map (bound_field b) sels)
 fields_there q b [] h = tt
 fields_there q b (s ∷ sels) h = (
-  λ e. field_there b s (h (length (map (field_of b) sels)) (omega (arith, map_length (field_of b) sels)) e),
+  λ e. field_there b s (h (length (map (bound_field b) sels)) (omega (arith, map_length (bound_field b) sels)) e),
   fields_there q b sels (λ j less e. h j (omega (arith, less)) e),
 )
 
@@ -158,10 +158,10 @@ module _ (d : Declarations) (uses : DefId → ℕ → Bool) (env : List Bound) (
       ((λ e. term_there b (there e)), tt)
       (present_less (λ i. occurs d uses body (i + 1)) (λ i. occurs d uses body (suc i)) env (λ i e. ap (occurs d uses body) (omega arith) ∙ e) present)
   body_present (Ctor c) there present =
-      bind_present (occurs d uses body) (map (field_of b) (sels_of d c)) env
+      bind_present (occurs d uses body) (map (bound_field b) (sels_of d c)) env
       (fields_there (occurs d uses body) b (sels_of d c) (λ j less e. there (or_right (not (surely_fits d earlier c || are_none rest)) (any_below (occurs d uses body) (field_count d c)) (below_any (occurs d uses body) (field_count d c) j less e))))
-      (present_less (λ i. occurs d uses body (i + length (map (field_of b) (sels_of d c)))) (occurs_in_cases d uses earlier (with_case (Ctor c) body rest)) env
-      (λ i e. or_left (occurs d uses body (i + field_count d c)) (not (surely_fits d earlier c || are_none rest) && occurs_in_cases d uses (c ∷ earlier) rest i) (ap (λ (m : ℕ). occurs d uses body (i + m)) (sym (map_length (field_of b) (sels_of d c))) ∙ e)) present)
+      (present_less (λ i. occurs d uses body (i + length (map (bound_field b) (sels_of d c)))) (occurs_in_cases d uses earlier (with_case (Ctor c) body rest)) env
+      (λ i e. or_left (occurs d uses body (i + field_count d c)) (not (surely_fits d earlier c || are_none rest) && occurs_in_cases d uses (c ∷ earlier) rest i) (ap (λ (m : ℕ). occurs d uses body (i + m)) (sym (map_length (bound_field b) (sels_of d c))) ∙ e)) present)
 
   -- what occurs in the later cases is there, and what is matched
   pub rest_present : (p : Pattern) (c : CtorId) → tested_by d earlier p (are_none rest) ≡ Some c → ArePresent (occurs_in_cases d uses earlier (with_case p body rest)) env → ArePresent (occurs_in_cases d uses (c ∷ earlier) rest) env
@@ -178,7 +178,7 @@ module _ (d : Declarations) (uses : DefId → ℕ → Bool) (env : List Bound) (
       let both = test_some (surely_fits d earlier k || are_none rest) k c e in
       there (ap (λ (x : Bool). not x || any_below (occurs d uses body) (field_count d k)) both.0)
 
-  pub tested_more : (p : Pattern) (c : CtorId) → tested_by d earlier p (are_none rest) ≡ Some c → HasCase rest
+  pub tested_more : (p : Pattern) (c : CtorId) → tested_by d earlier p (are_none rest) ≡ Some c → HasSomeCase rest
   tested_more Any c e = absurd (none-some c e)
   tested_more (Ctor k) c e = some rest (or_right_false (surely_fits d earlier k) (are_none rest) (test_some (surely_fits d earlier k || are_none rest) k c e).0)
     where
@@ -186,13 +186,13 @@ module _ (d : Declarations) (uses : DefId → ℕ → Bool) (env : List Bound) (
       or_right_false true y h = absurd (true≢false h)
       or_right_false false y h = h
 
-      some : (cases : Cases) → are_none cases ≡ false → HasCase cases
+      some : (cases : Cases) → are_none cases ≡ false → HasSomeCase cases
       some no_cases h = absurd (true≢false h)
       some (with_case q f cases) h = tt
 
 -- ---- tables that grow
 
-pub cases_stay : (d : Declarations) (bodies : List Formula) (old new : Terms) (n : ℕ) (env : List Bound) (matched : Bound) (earlier : List CtorId) (cases : Cases) (tree : CoreTree) (side : SortId) (trees : List CoreTree) (sorts : List SortId) (sort : SortId) → IsPrefix old new → IsKept d new → AreCases d bodies old n env matched earlier cases tree side trees sorts sort → AreCases d bodies new n env matched earlier cases tree side trees sorts sort
+pub cases_stay : (d : Declarations) (bodies : List Formula) (old new : Terms) (n : ℕ) (env : List Bound) (matched : Bound) (earlier : List CtorId) (cases : Cases) (tree : CoreTree) (side : SortId) (trees : List CoreTree) (sorts : List SortId) (sort : SortId) → IsPrefix old new → IsSoundTable d new → AreCases d bodies old n env matched earlier cases tree side trees sorts sort → AreCases d bodies new n env matched earlier cases tree side trees sorts sort
 cases_stay d bodies old new n env matched earlier cases tree side trees sorts sort grown kept h = record {
   setting = setting_stays d bodies old new env trees sorts grown kept h.setting;
   mentions = h.mentions;
@@ -213,7 +213,7 @@ cases_nothing d bodies n table env matched earlier cases e is = record {
 }
 
 -- the constructor of a pattern is declared
-pattern_declared : (d : Declarations) (side : SortId) (p : Pattern) (sorts : List SortId) → BindsSorts d side p sorts → IsDeclared d p
+pattern_declared : (d : Declarations) (side : SortId) (p : Pattern) (sorts : List SortId) → BindsSorts d side p sorts → IsPatternDeclared d p
 pattern_declared d side Any sorts binds = tt
 pattern_declared d side (Ctor c) sorts binds = (binds.0, binds.1)
 
@@ -225,15 +225,15 @@ test_sorted d side p c sorts tree is binds h =
 -- the test and the body of a case are made, and the cases after it may be compiled
 pub record IsChosen (d : Declarations) (bodies : List Formula) (n : ℕ) (env : List Bound) (matched : Bound) (earlier : List CtorId) (c : CtorId) (all rest : Cases) (old new : Terms) (a b : TermId) (tree : CoreTree) (side : SortId) (trees : List CoreTree) (sorts : List SortId) (sort : SortId) : Type 0 where
   pub grown : IsPrefix old new
-  pub kept : IsKept d new
+  pub kept : IsSoundTable d new
   pub ready : AreCases d bodies new n env matched (c ∷ earlier) rest tree side trees sorts sort
   pub condition : a.0 < length new
   pub body : b.0 < length new
-  pub same : compiled_cases d (given d bodies n) trees tree earlier all ≡ choice (term_at new a) (term_at new b) (compiled_cases d (given d bodies n) trees tree (c ∷ earlier) rest)
-  pub effect : (allowed : List CoreTree) → Within allowed (compiled_cases d (given d bodies n) trees tree earlier all) → Effect d allowed old new ⊥
+  pub same : compiled_cases d (compiled_calls d bodies n) trees tree earlier all ≡ choice (term_at new a) (term_at new b) (compiled_cases d (compiled_calls d bodies n) trees tree (c ∷ earlier) rest)
+  pub effect : (allowed : List CoreTree) → Within allowed (compiled_cases d (compiled_calls d bodies n) trees tree earlier all) → Effect d allowed old new ⊥
   pub begun : List CoreTree
-  pub makes : making_cases d (defined d bodies n) trees tree earlier all ≡ begun ++ (making_cases d (defined d bodies n) trees tree (c ∷ earlier) rest ++ compiled_cases d (given d bodies n) trees tree earlier all ∷ [])
-  pub order : Makes old begun new
+  pub makes : making_cases d (defined d bodies n) trees tree earlier all ≡ begun ++ (making_cases d (defined d bodies n) trees tree (c ∷ earlier) rest ++ compiled_cases d (compiled_calls d bodies n) trees tree earlier all ∷ [])
+  pub order : MakesInOrder old begun new
 
 module _ (d : Declarations) (bodies : List Formula) (n : ℕ) (env : List Bound) (matched : Bound) (earlier : List CtorId) (p : Pattern) (body : Formula) (rest : Cases) where
   abbrev all : Cases
@@ -243,12 +243,12 @@ module _ (d : Declarations) (bodies : List Formula) (n : ℕ) (env : List Bound)
   inner = bind (bound_by d p matched) env
 
   abbrev whole : CoreTree → List CoreTree → CoreTree
-  whole tree trees = compiled_cases d (given d bodies n) trees tree earlier all
+  whole tree trees = compiled_cases d (compiled_calls d bodies n) trees tree earlier all
 
   abbrev core_body : CoreTree → List CoreTree → CoreTree
-  core_body tree trees = compiled d (given d bodies n) (bind (trees_by d p tree) trees) body
+  core_body tree trees = compiled d (compiled_calls d bodies n) (bind (trees_by d p tree) trees) body
 
-  body_ready : (table : Terms) (tree : CoreTree) (side : SortId) (trees : List CoreTree) (sorts : List SortId) (sort : SortId) (h : AreCases d bodies table n env matched earlier all tree side trees sorts sort) → IsReady d bodies table n inner body (bind (trees_by d p tree) trees) (bind h.sorted.0.0 sorts) sort
+  body_ready : (table : Terms) (tree : CoreTree) (side : SortId) (trees : List CoreTree) (sorts : List SortId) (sort : SortId) (h : AreCases d bodies table n env matched earlier all tree side trees sorts sort) → IsCompilable d bodies table n inner body (bind (trees_by d p tree) trees) (bind h.sorted.0.0 sorts) sort
   body_ready table tree side trees sorts sort h = record {
     setting = record {
       consistent = h.setting.consistent;
@@ -262,7 +262,7 @@ module _ (d : Declarations) (bodies : List Formula) (n : ℕ) (env : List Bound)
     present = body_present d (uses_below d bodies n) env matched earlier body rest p h.there h.present;
   }
 
-  pub case_declared : (table : Terms) → MayCases d bodies table n env matched earlier all → IsDeclared d p
+  pub case_declared : (table : Terms) → MayCases d bodies table n env matched earlier all → IsPatternDeclared d p
   case_declared table may = let h = may.5 in pattern_declared d may.1 p h.sorted.0.0 h.sorted.0.1
 
   pub case_body : (table : Terms) → MayCases d bodies table n env matched earlier all → MayCompile d bodies table n inner body
@@ -272,13 +272,13 @@ module _ (d : Declarations) (bodies : List Formula) (n : ℕ) (env : List Bound)
   pub case_ends : tested_by d earlier p (are_none rest) ≡ None → (old new : Terms) (r : Result TermId TermError) → Compiles d bodies n old new inner body r → CompilesCases d bodies n old new env matched earlier all r
   case_ends e old new r one = record {
     core = λ tree side trees sorts sort h.
-        IfOk-weaker r _ (λ u. Stands new u (whole tree trees)) (λ u k. stands_as new u _ _ (sym (case_none d (given d bodies n) trees tree earlier body rest p e)) k)
+        IfOk-weaker r _ (λ u. Stands new u (whole tree trees)) (λ u k. stands_as new u _ _ (sym (case_none d (compiled_calls d bodies n) trees tree earlier body rest p e)) k)
         (one.core (bind (trees_by d p tree) trees) (bind h.sorted.0.0 sorts) sort (body_ready old tree side trees sorts sort h));
     effect = λ tree side trees sorts sort allowed h w.
-        one.effect (bind (trees_by d p tree) trees) (bind h.sorted.0.0 sorts) sort allowed (body_ready old tree side trees sorts sort h) (subst (Within allowed) (case_none d (given d bodies n) trees tree earlier body rest p e) w);
+        one.effect (bind (trees_by d p tree) trees) (bind h.sorted.0.0 sorts) sort allowed (body_ready old tree side trees sorts sort h) (subst (Within allowed) (case_none d (compiled_calls d bodies n) trees tree earlier body rest p e) w);
     order = λ tree side trees sorts sort h.
-        IfOk-weaker r (λ u. Makes old (making d (defined d bodies n) (bind (trees_by d p tree) trees) body) new) (λ u. Makes old (making_cases d (defined d bodies n) trees tree earlier all) new)
-        (λ u k. subst (λ (xs : List CoreTree). Makes old xs new) (sym (making_none d (defined d bodies n) trees tree earlier body rest p e)) k)
+        IfOk-weaker r (λ u. MakesInOrder old (making d (defined d bodies n) (bind (trees_by d p tree) trees) body) new) (λ u. MakesInOrder old (making_cases d (defined d bodies n) trees tree earlier all) new)
+        (λ u k. subst (λ (xs : List CoreTree). MakesInOrder old xs new) (sym (making_none d (defined d bodies n) trees tree earlier body rest p e)) k)
         (one.order (bind (trees_by d p tree) trees) (bind h.sorted.0.0 sorts) sort (body_ready old tree side trees sorts sort h));
   }
 
@@ -288,16 +288,16 @@ module _ (d : Declarations) (bodies : List Formula) (n : ℕ) (env : List Bound)
       too_deep_by TermId TermId s _ _ (λ call w tree side trees sorts sort h.
       let part = making d (defined d bodies n) (bind (trees_by d p tree) trees) body in
       waits_under d bodies rows n n old old new (making_cases d (defined d bodies n) trees tree earlier all) [] part [] (λ allowed. Within allowed (core_body tree trees)) (λ allowed. Within allowed (whole tree trees)) call
-      (omega arith) refl (making_none d (defined d bodies n) trees tree earlier body rest p e ∙ sym (append-nil part)) (λ allowed inside. subst (Within allowed) (case_none d (given d bodies n) trees tree earlier body rest p e) inside)
+      (omega arith) refl (making_none d (defined d bodies n) trees tree earlier body rest p e ∙ sym (append-nil part)) (λ allowed inside. subst (Within allowed) (case_none d (compiled_calls d bodies n) trees tree earlier body rest p e) inside)
       (w (bind (trees_by d p tree) trees) (bind h.sorted.0.0 sorts) sort (body_ready old tree side trees sorts sort h))) one
 
   -- the case has a test
   module _ (c : CtorId) (e : tested_by d earlier p (are_none rest) ≡ Some c) (old : Terms) where
     abbrev core_rest : CoreTree → List CoreTree → CoreTree
-    core_rest tree trees = compiled_cases d (given d bodies n) trees tree (c ∷ earlier) rest
+    core_rest tree trees = compiled_cases d (compiled_calls d bodies n) trees tree (c ∷ earlier) rest
 
     whole_is : (tree : CoreTree) (trees : List CoreTree) → whole tree trees ≡ choice (test c tree) (core_body tree trees) (core_rest tree trees)
-    whole_is tree trees = case_some d (given d bodies n) trees tree earlier body rest p c e
+    whole_is tree trees = case_some d (compiled_calls d bodies n) trees tree earlier body rest p c e
 
     within : (tree : CoreTree) (trees allowed : List CoreTree) → Within allowed (whole tree trees) → Within allowed (test c tree) × (Within allowed (core_body tree trees) × Within allowed (core_rest tree trees))
     within tree trees allowed w = within_choice allowed (test c tree) (core_body tree trees) (core_rest tree trees) (subst (Within allowed) (whole_is tree trees) w)
@@ -314,7 +314,7 @@ module _ (d : Declarations) (bodies : List Formula) (n : ℕ) (env : List Bound)
       present = rest_present d (uses_below d bodies n) env matched earlier body rest p c e h.present;
     }
 
-    pub test_kept : MayCases d bodies old n env matched earlier all → IsKept d old
+    pub test_kept : MayCases d bodies old n env matched earlier all → IsSoundTable d old
     test_kept may = may.5.setting.kept
 
     pub test_there : MayCases d bodies old n env matched earlier all → IsTerm matched
@@ -337,17 +337,17 @@ module _ (d : Declarations) (bodies : List Formula) (n : ℕ) (env : List Bound)
         order = λ tree side trees sorts sort h. tt;
       }
 
-      grown_1 : (tree : CoreTree) (side : SortId) (trees : List CoreTree) (sorts : List SortId) (sort : SortId) → AreCases d bodies old n env matched earlier all tree side trees sorts sort → IsPrefix old m1 × IsKept d m1
+      grown_1 : (tree : CoreTree) (side : SortId) (trees : List CoreTree) (sorts : List SortId) (sort : SortId) → AreCases d bodies old n env matched earlier all tree side trees sorts sort → IsPrefix old m1 × IsSoundTable d m1
       grown_1 tree side trees sorts sort h = let k = test_effect tree side trees sorts sort (subtrees (whole tree trees)) h (within_subtrees (whole tree trees)) in (k.grown, k.kept)
 
       cases_1 : (tree : CoreTree) (side : SortId) (trees : List CoreTree) (sorts : List SortId) (sort : SortId) → AreCases d bodies old n env matched earlier all tree side trees sorts sort → AreCases d bodies m1 n env matched earlier all tree side trees sorts sort
       cases_1 tree side trees sorts sort h = let g = grown_1 tree side trees sorts sort h in cases_stay d bodies old m1 n env matched earlier all tree side trees sorts sort g.0 g.1 h
 
-      pub test_grown : MayCases d bodies old n env matched earlier all → IsPrefix old m1 × IsKept d m1
+      pub test_grown : MayCases d bodies old n env matched earlier all → IsPrefix old m1 × IsSoundTable d m1
       test_grown may = grown_1 may.0 may.1 may.2 may.3 may.4 may.5
 
       -- the test is made
-      test_made : (a : TermId) → ((tree : CoreTree) → IsBound old matched tree → Stands m1 a (test c tree)) → (tree : CoreTree) (side : SortId) (trees : List CoreTree) (sorts : List SortId) (sort : SortId) → AreCases d bodies old n env matched earlier all tree side trees sorts sort → Makes old (test c tree ∷ []) m1
+      test_made : (a : TermId) → ((tree : CoreTree) → IsBound old matched tree → Stands m1 a (test c tree)) → (tree : CoreTree) (side : SortId) (trees : List CoreTree) (sorts : List SortId) (sort : SortId) → AreCases d bodies old n env matched earlier all tree side trees sorts sort → MakesInOrder old (test c tree ∷ []) m1
       test_made a made tree side trees sorts sort h =
           makes_one d old m1 (test c tree) full (tests tree (subtrees (test c tree)) h.bound (within_itself h.setting.kept.theorems (subtrees (test c tree)) (test c tree) (within_subtrees (test c tree))))
           (term_tree old matched tree (tested_there d (uses_below d bodies n) env matched earlier body rest p c e h.there) h.bound, tt) (a, made tree h.bound)
@@ -380,7 +380,7 @@ module _ (d : Declarations) (bodies : List Formula) (n : ℕ) (env : List Bound)
           order = λ tree side trees sorts sort h. tt;
         }
 
-        grown_2 : (tree : CoreTree) (side : SortId) (trees : List CoreTree) (sorts : List SortId) (sort : SortId) → AreCases d bodies old n env matched earlier all tree side trees sorts sort → IsPrefix m1 m2 × IsKept d m2
+        grown_2 : (tree : CoreTree) (side : SortId) (trees : List CoreTree) (sorts : List SortId) (sort : SortId) → AreCases d bodies old n env matched earlier all tree side trees sorts sort → IsPrefix m1 m2 × IsSoundTable d m2
         grown_2 tree side trees sorts sort h =
             let k = cases_1 tree side trees sorts sort h in
             let f = first.effect (bind (trees_by d p tree) trees) (bind k.sorted.0.0 sorts) sort (subtrees (core_body tree trees)) (body_ready m1 tree side trees sorts sort k) (within_subtrees (core_body tree trees)) in
@@ -412,7 +412,7 @@ module _ (d : Declarations) (bodies : List Formula) (n : ℕ) (env : List Bound)
               order =
                   makes_then (test c tree ∷ []) (making d (defined d bodies n) (bind (trees_by d p tree) trees) body) old m1 m2
                   (test_made a made tree side trees sorts sort h)
-                  (subst (λ (z : Result TermId TermError). IfOk z (λ x. Makes m1 (making d (defined d bodies n) (bind (trees_by d p tree) trees) body) m2)) is_first (first.order (bind (trees_by d p tree) trees) (bind k.sorted.0.0 sorts) sort (body_ready m1 tree side trees sorts sort k)));
+                  (subst (λ (z : Result TermId TermError). IfOk z (λ x. MakesInOrder m1 (making d (defined d bodies n) (bind (trees_by d p tree) trees) body) m2)) is_first (first.order (bind (trees_by d p tree) trees) (bind k.sorted.0.0 sorts) sort (body_ready m1 tree side trees sorts sort k)));
             }
 
       -- the body stops
@@ -420,21 +420,21 @@ module _ (d : Declarations) (bodies : List Formula) (n : ℕ) (env : List Bound)
       first_stopped m2 s first = ended_by s (λ r. Compiles d bodies n m1 m2 inner body r) (λ r. CompilesCases d bodies n old m2 env matched earlier all r) (λ e k. first_failed m2 (Err e) k e (λ x. x)) first
 
 -- the core term of cases has the sort of the `match`
-pub cases_sorted : (d : Declarations) (bodies : List Formula) (table : Terms) (n : ℕ) (env : List Bound) (matched : Bound) (cases : Cases) (earlier : List CtorId) (tree : CoreTree) (side : SortId) (trees : List CoreTree) (sorts : List SortId) (sort : SortId) → AreCases d bodies table n env matched earlier cases tree side trees sorts sort → HasTreeSort d (compiled_cases d (given d bodies n) trees tree earlier cases) sort
+pub cases_sorted : (d : Declarations) (bodies : List Formula) (table : Terms) (n : ℕ) (env : List Bound) (matched : Bound) (cases : Cases) (earlier : List CtorId) (tree : CoreTree) (side : SortId) (trees : List CoreTree) (sorts : List SortId) (sort : SortId) → AreCases d bodies table n env matched earlier cases tree side trees sorts sort → HasTreeSort d (compiled_cases d (compiled_calls d bodies n) trees tree earlier cases) sort
 cases_sorted d bodies table n env matched no_cases earlier tree side trees sorts sort h = absurd h.some
 cases_sorted d bodies table n env matched (with_case p body rest) earlier tree side trees sorts sort h =
     by (tested_by d earlier p (are_none rest)) refl (λ c e. cases_sorted d bodies table n env matched rest (c ∷ earlier) tree side trees sorts sort (rest_cases d bodies n env matched earlier p body rest c e table table tree side trees sorts sort h))
   where
-    body_sort : HasTreeSort d (compiled d (given d bodies n) (bind (trees_by d p tree) trees) body) sort
+    body_sort : HasTreeSort d (compiled d (compiled_calls d bodies n) (bind (trees_by d p tree) trees) body) sort
     body_sort =
         let k = body_ready d bodies n env matched earlier p body rest table tree side trees sorts sort h in
         let s = k.setting in
-        s.kept.theorems.compiled_sorted d n (given d bodies n) (bind (trees_by d p tree) trees) (bind h.sorted.0.0 sorts) body sort s.consistent (s.kept.theorems.calls_sorted d bodies n s.consistent s.sound) s.fitting k.mentions k.sorted
+        s.kept.theorems.compiled_sorted d n (compiled_calls d bodies n) (bind (trees_by d p tree) trees) (bind h.sorted.0.0 sorts) body sort s.consistent (s.kept.theorems.calls_sorted d bodies n s.consistent s.sound) s.fitting k.mentions k.sorted
 
-    by : (o : Option CtorId) → tested_by d earlier p (are_none rest) ≡ o → ((c : CtorId) → tested_by d earlier p (are_none rest) ≡ Some c → HasTreeSort d (compiled_cases d (given d bodies n) trees tree (c ∷ earlier) rest) sort) → HasTreeSort d (compiled_cases d (given d bodies n) trees tree earlier (with_case p body rest)) sort
-    by None e later = subst (λ (x : CoreTree). HasTreeSort d x sort) (sym (case_none d (given d bodies n) trees tree earlier body rest p e)) body_sort
+    by : (o : Option CtorId) → tested_by d earlier p (are_none rest) ≡ o → ((c : CtorId) → tested_by d earlier p (are_none rest) ≡ Some c → HasTreeSort d (compiled_cases d (compiled_calls d bodies n) trees tree (c ∷ earlier) rest) sort) → HasTreeSort d (compiled_cases d (compiled_calls d bodies n) trees tree earlier (with_case p body rest)) sort
+    by None e later = subst (λ (x : CoreTree). HasTreeSort d x sort) (sym (case_none d (compiled_calls d bodies n) trees tree earlier body rest p e)) body_sort
     by (Some c) e later =
-        subst (λ (x : CoreTree). HasTreeSort d x sort) (sym (case_some d (given d bodies n) trees tree earlier body rest p c e))
+        subst (λ (x : CoreTree). HasTreeSort d x sort) (sym (case_some d (compiled_calls d bodies n) trees tree earlier body rest p c e))
         (test_sorted d side p c h.sorted.0.0 tree (tested_is d earlier p (are_none rest) c e) h.sorted.0.1 h.fits, body_sort, later c e)
 
 -- ---- the matched term

@@ -6,39 +6,39 @@ use Rattle.ct_terms.specs.Terms.{Terms}
 use Rattle.ct_terms.specs.CoreTree.{CoreTree}
 use Rattle.ct_terms.specs.CoreSorts.{HasTreeSort}
 use Rattle.ct_terms.specs.Formula.{Formula, Formulas, Var, Con, Sel, Test, Apply, Def, Not, And, Or, Xor, Implies, Equal, Distinct, Ite, Let, Match, no_formulas, with_formula, AllMentionBelow}
-use Rattle.ct_terms.specs.FormulaSorts.{AreOfSort, HasFormula, AreSeveral}
+use Rattle.ct_terms.specs.FormulaSorts.{AreOfSort, HasFormula, AreAtLeastTwo}
 use Rattle.ct_terms.specs.Compiled.{compiled, compiled_all}
 use Rattle.ct_scope.specs.declared.bound.Bound.{Bound}
-use Rattle.ct_occurrence.specs.Plain.{is_plain, children_of}
+use Rattle.ct_occurrence.specs.Plain.{is_plain, formulas_under}
 use Rattle.ct_operators.specs.Forms.{operator_for, AllHaveSort, AreOperands}
-use Rattle.ct_scope.specs.Ready.{given, IsReady}
+use Rattle.ct_scope.specs.Compilable.{compiled_calls, IsCompilable}
 
 module _ (d : Declarations) (bodies : List Formula) (table : Terms) (n : ℕ) (env : List Bound) (trees : List CoreTree) (sorts : List SortId) where
   abbrev core : Formula → CoreTree
-  core t = compiled d (given d bodies n) trees t
+  core t = compiled d (compiled_calls d bodies n) trees t
 
-  pub whole_sorted : (t : Formula) (sort : SortId) → IsReady d bodies table n env t trees sorts sort → HasTreeSort d (core t) sort
+  pub whole_sorted : (t : Formula) (sort : SortId) → IsCompilable d bodies table n env t trees sorts sort → HasTreeSort d (core t) sort
   whole_sorted t sort h =
       let s = h.setting in
-      s.kept.theorems.compiled_sorted d n (given d bodies n) trees sorts t sort s.consistent (s.kept.theorems.calls_sorted d bodies n s.consistent s.sound) s.fitting h.mentions h.sorted
+      s.kept.theorems.compiled_sorted d n (compiled_calls d bodies n) trees sorts t sort s.consistent (s.kept.theorems.calls_sorted d bodies n s.consistent s.sound) s.fitting h.mentions h.sorted
 
-  all_sorted : (t : Formula) (sort : SortId) → IsReady d bodies table n env t trees sorts sort → (ts : Formulas) (side : SortId) → AllMentionBelow n ts → AreOfSort d sorts ts side → AllHaveSort d side (compiled_all d (given d bodies n) trees ts)
+  all_sorted : (t : Formula) (sort : SortId) → IsCompilable d bodies table n env t trees sorts sort → (ts : Formulas) (side : SortId) → AllMentionBelow n ts → AreOfSort d sorts ts side → AllHaveSort d side (compiled_all d (compiled_calls d bodies n) trees ts)
   all_sorted t sort h no_formulas side mentions of = tt
   all_sorted t sort h (with_formula u us) side mentions of =
       let s = h.setting in (
-        s.kept.theorems.compiled_sorted d n (given d bodies n) trees sorts u side s.consistent (s.kept.theorems.calls_sorted d bodies n s.consistent s.sound) s.fitting mentions.0 of.0,
+        s.kept.theorems.compiled_sorted d n (compiled_calls d bodies n) trees sorts u side s.consistent (s.kept.theorems.calls_sorted d bodies n s.consistent s.sound) s.fitting mentions.0 of.0,
         all_sorted t sort h us side mentions.1 of.1,
       )
 
-  some_trees : (ts : Formulas) → HasFormula ts → 0 < length (compiled_all d (given d bodies n) trees ts)
+  some_trees : (ts : Formulas) → HasFormula ts → 0 < length (compiled_all d (compiled_calls d bodies n) trees ts)
   some_trees no_formulas h = absurd h
   some_trees (with_formula t ts) h = omega arith
 
-  several_trees : (ts : Formulas) → AreSeveral ts → 1 < length (compiled_all d (given d bodies n) trees ts)
+  several_trees : (ts : Formulas) → AreAtLeastTwo ts → 1 < length (compiled_all d (compiled_calls d bodies n) trees ts)
   several_trees no_formulas h = absurd h
   several_trees (with_formula t ts) h = let k = some_trees ts h in omega arith
 
-  pub operands_of : (t : Formula) (sort : SortId) → is_plain t ≡ true → IsReady d bodies table n env t trees sorts sort → AreOperands d (operator_for t) (compiled_all d (given d bodies n) trees (children_of t))
+  pub operands_of : (t : Formula) (sort : SortId) → is_plain t ≡ true → IsCompilable d bodies table n env t trees sorts sort → AreOperands d (operator_for t) (compiled_all d (compiled_calls d bodies n) trees (formulas_under t))
   operands_of (Con c ts) sort plain h = (sort, whole_sorted (Con c ts) sort h)
   operands_of (Sel s t) sort plain h = (omega arith, (core t, refl, (sort, whole_sorted (Sel s t) sort h)))
   operands_of (Test c t) sort plain h = (omega arith, (core t, refl, (sort, whole_sorted (Test c t) sort h)))

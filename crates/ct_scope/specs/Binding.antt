@@ -9,15 +9,15 @@ use Rattle.ct_terms.specs.declared.error.TermError.TheVariants.{Full}
 use Rattle.ct_terms.specs.Terms.{Terms}
 use Rattle.ct_terms.specs.CoreTree.{CoreTree}
 use Rattle.ct_terms.specs.Formula.{Formula, Formulas, no_formulas, with_formula, AllMentionBelow}
-use Rattle.ct_terms.specs.FormulaSorts.{AreSorted}
+use Rattle.ct_terms.specs.FormulaSorts.{AllSorted}
 use Rattle.ct_terms.specs.Compiled.{compiled_all}
 use Rattle.ct_terms.specs.Occurrence.{count_of, occurs, uses_below}
 use Rattle.ct_scope.specs.declared.bound.Bound.{Bound}
 use Rattle.ct_scope.specs.declared.bound.Bound.TheVariants.{Term, Field, Absent}
-use Rattle.ct_operators.specs.Made.{Makes}
+use Rattle.ct_operators.specs.Made.{MakesInOrder}
 use Rattle.ct_scope.specs.Making.{Defined, making, defined}
-use Rattle.ct_operators.specs.Effect.{IsKept, IsPrefix, Within, Effect}
-use Rattle.ct_scope.specs.Ready.{given, IsBound, ArePresent, IsSetting}
+use Rattle.ct_operators.specs.Effect.{IsSoundTable, IsPrefix, Within, Effect}
+use Rattle.ct_scope.specs.Compilable.{compiled_calls, IsBound, ArePresent, IsSetting}
 
 -- a variable that occurs has a term, another one has nothing
 abbrev pub IsBoundAs : Bool → Bound → Type 0
@@ -48,7 +48,7 @@ making_where d defs env (b ∷ bs) (with_formula t ts) = (if b then making d def
 pub record AreBinding (d : Declarations) (bodies : List Formula) (table : Terms) (n : ℕ) (env : List Bound) (flags : List Bool) (ts : Formulas) (trees : List CoreTree) (sorts : List SortId) (each : List SortId) : Type 0 where
   pub setting : IsSetting d bodies table env trees sorts
   pub mentions : AllMentionBelow n ts
-  pub sorted : AreSorted d sorts ts each
+  pub sorted : AllSorted d sorts ts each
   pub present : ArePresent (occurs_where d (uses_below d bodies n) flags ts) env
   pub long : length flags ≡ count_of ts
 
@@ -57,8 +57,8 @@ MayBind d bodies table n env flags ts = (trees : List CoreTree) × (sorts : List
 
 -- what compiling them gives: a term for each whose flag is set, and no other terms than subterms of these
 pub record Binds (d : Declarations) (bodies : List Formula) (n : ℕ) (old new : Terms) (env : List Bound) (flags : List Bool) (ts : Formulas) (r : Result (List Bound) TermError) : Type 0 where
-  pub core : (trees : List CoreTree) (sorts : List SortId) (each : List SortId) → AreBinding d bodies old n env flags ts trees sorts each → IfOk r (λ bs. AllZip (IsBound new) bs (compiled_all d (given d bodies n) trees ts))
+  pub core : (trees : List CoreTree) (sorts : List SortId) (each : List SortId) → AreBinding d bodies old n env flags ts trees sorts each → IfOk r (λ bs. AllZip (IsBound new) bs (compiled_all d (compiled_calls d bodies n) trees ts))
   pub flagged : IfOk r (λ bs. AllZip IsBoundAs flags bs)
-  pub grown : (trees : List CoreTree) (sorts : List SortId) (each : List SortId) → AreBinding d bodies old n env flags ts trees sorts each → IsPrefix old new × IsKept d new
-  pub effect : (trees : List CoreTree) (sorts : List SortId) (each : List SortId) (allowed : List CoreTree) → AreBinding d bodies old n env flags ts trees sorts each → WithinWhere allowed flags (compiled_all d (given d bodies n) trees ts) → Effect d allowed old new (IsErrOf r Full)
-  pub order : (trees : List CoreTree) (sorts : List SortId) (each : List SortId) → AreBinding d bodies old n env flags ts trees sorts each → IfOk r (λ bs. Makes old (making_where d (defined d bodies n) trees flags ts) new)
+  pub grown : (trees : List CoreTree) (sorts : List SortId) (each : List SortId) → AreBinding d bodies old n env flags ts trees sorts each → IsPrefix old new × IsSoundTable d new
+  pub effect : (trees : List CoreTree) (sorts : List SortId) (each : List SortId) (allowed : List CoreTree) → AreBinding d bodies old n env flags ts trees sorts each → WithinWhere allowed flags (compiled_all d (compiled_calls d bodies n) trees ts) → Effect d allowed old new (IsErrOf r Full)
+  pub order : (trees : List CoreTree) (sorts : List SortId) (each : List SortId) → AreBinding d bodies old n env flags ts trees sorts each → IfOk r (λ bs. MakesInOrder old (making_where d (defined d bodies n) trees flags ts) new)

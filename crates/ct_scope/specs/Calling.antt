@@ -17,7 +17,7 @@ use Rattle.ct_scope.specs.contracts.known.CalledPartialEq.TheImpl as derived
 use Rattle.ct_operators.specs.Effect.{Stands}
 use Rattle.ct_operators.specs.Made.{HasTrees}
 use Rattle.ct_scope.specs.Making.{makes_below}
-use Rattle.ct_scope.specs.Ready.{given, IsBound}
+use Rattle.ct_scope.specs.Compilable.{compiled_calls, IsBound}
 use Rattle.ct_scope.specs.Binding.{IsBoundAs}
 use Rattle.ct_occurrence.specs.Marks.{Rows, row_in, HaveRows}
 
@@ -26,15 +26,15 @@ abbrev pub same_call : Called → Called → Bool
 same_call = derived.eq-value.it
 
 -- the terms that are there, in order
-abbrev pub terms_of : List Bound → List TermId
-terms_of [] = []
-terms_of (Term t ∷ bs) = t ∷ terms_of bs
-terms_of (Field s t ∷ bs) = terms_of bs
-terms_of (Absent ∷ bs) = terms_of bs
+abbrev pub terms_bound : List Bound → List TermId
+terms_bound [] = []
+terms_bound (Term t ∷ bs) = t ∷ terms_bound bs
+terms_bound (Field s t ∷ bs) = terms_bound bs
+terms_bound (Absent ∷ bs) = terms_bound bs
 
 -- the call of a definition with what its parameters stand for
 abbrev pub call_of : DefId → List Bound → Called
-call_of k bs = record { definition = k; args = terms_of bs }
+call_of k bs = record { definition = k; args = terms_bound bs }
 
 -- the term is what the definition gives for trees that stand at the arguments, and what is made for it is there
 pub record IsRecalled (d : Declarations) (bodies : List Formula) (rows : Rows) (table : Terms) (call : Called) (t : TermId) : Type 0 where
@@ -45,7 +45,7 @@ pub record IsRecalled (d : Declarations) (bodies : List Formula) (rows : Rows) (
   pub at : row_in rows call.definition ≡ Some row
   pub flags : AllZip IsBoundAs row bounds
   pub stand : AllZip (IsBound table) bounds trees
-  pub stands : Stands table t (given d bodies (suc call.definition.0) call.definition trees)
+  pub stands : Stands table t (compiled_calls d bodies (suc call.definition.0) call.definition trees)
   pub made : HasTrees table (makes_below d bodies (suc call.definition.0) call.definition trees)
 
 -- the rows say which parameters occur, and what is known of calls is true

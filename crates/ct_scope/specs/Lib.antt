@@ -1,4 +1,4 @@
-pub mod Ready
+pub mod Compilable
 pub mod Binding
 pub mod Matching
 pub mod Making

@@ -1,7 +1,7 @@
 //! What the variables of a pattern stand for.
 ghost use Rattle.std.specs.Prelude.{◌≡◌, [], ◌∷◌, map, IfOk};
-ghost use Rattle.ct_scope.specs.Matching.{field_of, bound_by};
-ghost use Rattle.ct_occurrence.specs.Matching.{IsDeclared};
+ghost use Rattle.ct_scope.specs.Matching.{bound_field, bound_by};
+ghost use Rattle.ct_occurrence.specs.Matching.{IsPatternDeclared};
 
 use crate::bound::Bound;
 use ct_sorts::{SelId, Signature};
@@ -15,7 +15,7 @@ pub fn pattern_bounds(
     pattern: Pattern,
     matched: Bound,
 ) -> Result<Vec<Bound>, AllocError>
-    requires declared { IsDeclared sig.now pattern }
+    requires declared { IsPatternDeclared sig.now pattern }
     ensures bounds { IfOk result (λ bounds. bounds.items ≡ bound_by sig.now pattern matched) }
 {
     match pattern {
@@ -35,7 +35,7 @@ fn one(alloc: Global, matched: Bound) -> Result<Vec<Bound>, AllocError>
 
 // The fields of what is matched, in order.
 fn fields(alloc: Global, matched: Bound, sels: &[SelId]) -> Result<Vec<Bound>, AllocError>
-    ensures bounds { IfOk result (λ bounds. bounds.items ≡ map (field_of matched) sels.now) }
+    ensures bounds { IfOk result (λ bounds. bounds.items ≡ map (bound_field matched) sels.now) }
 {
     let mut bounds = Vec::new(alloc);
     let mut rest = sels;
@@ -48,7 +48,7 @@ fn fields(alloc: Global, matched: Bound, sels: &[SelId]) -> Result<Vec<Bound>, A
 
 // A field of what is matched.
 fn field(matched: Bound, sel: SelId) -> Bound
-    ensures value { result ≡ field_of matched sel }
+    ensures value { result ≡ bound_field matched sel }
 {
     match matched {
         Bound::Term(t) => Bound::Field(sel, t),

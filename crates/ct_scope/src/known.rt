@@ -4,7 +4,7 @@ ghost use Rattle.indexmap.specs.IndexMap.{get};
 ghost use Rattle.ct_sorts.specs.declared.ids.DefId.{DefId};
 ghost use Rattle.ct_terms.specs.declared.ids.TermId.{TermId};
 ghost use Rattle.ct_scope.specs.declared.known.Called.{Called};
-ghost use Rattle.ct_scope.specs.Calling.{same_call, call_of, terms_of};
+ghost use Rattle.ct_scope.specs.Calling.{same_call, call_of, terms_bound};
 
 use crate::bound::Bound;
 use ct_sorts::DefId;
@@ -38,7 +38,7 @@ pub fn call_with(alloc: Global, k: DefId, bounds: &[Bound]) -> Result<Called, Al
 
 // The terms that are there, in order.
 fn terms(alloc: Global, bounds: &[Bound]) -> Result<Args, AllocError>
-    ensures terms { IfOk result (λ args. args ≡ terms_of bounds.now) }
+    ensures terms { IfOk result (λ args. args ≡ terms_bound bounds.now) }
 {
     let mut args = Args::new(alloc);
     let mut rest = bounds;
@@ -51,7 +51,7 @@ fn terms(alloc: Global, bounds: &[Bound]) -> Result<Args, AllocError>
 
 // The term, where one is bound, after those there are.
 fn add_term(args: &mut Args, bound: Bound) -> Result<(), AllocError>
-    ensures added { OnOk result (args.new ≡ args.old ++ terms_of (bound ∷ [])) }
+    ensures added { OnOk result (args.new ≡ args.old ++ terms_bound (bound ∷ [])) }
 {
     match bound {
         Bound::Term(t) => args.push(t),

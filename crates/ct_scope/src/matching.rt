@@ -3,8 +3,8 @@ ghost use Rattle.std.specs.Prelude.{List, Contains, IfOk, IsErrOf};
 ghost use Rattle.ct_sorts.specs.declared.ids.SortId.{SortId};
 ghost use Rattle.ct_terms.specs.CoreTree.{CoreTree, test};
 ghost use Rattle.ct_terms.specs.CoreSorts.{HasTreeSort};
-ghost use Rattle.ct_operators.specs.Effect.{Stands, IsKept, Effect};
-ghost use Rattle.ct_scope.specs.Ready.{IsBound};
+ghost use Rattle.ct_operators.specs.Effect.{Stands, IsSoundTable, Effect};
+ghost use Rattle.ct_scope.specs.Compilable.{IsBound};
 ghost use Rattle.ct_scope.specs.Matching.{IsTerm};
 
 use crate::bound::Bound;
@@ -19,7 +19,7 @@ pub fn make_test(
     c: CtorId,
     matched: Bound,
 ) -> Result<TermId, TermError>
-    requires kept { IsKept sig.now table.old }
+    requires kept { IsSoundTable sig.now table.old }
     requires there { IsTerm matched }
     requires bound { (tree : CoreTree) × (sort : SortId) × IsBound table.old matched tree × HasTreeSort sig.now (test c tree) sort }
     ensures core { (tree : CoreTree) → IsBound table.old matched tree → IfOk result (λ t. Stands table.new t (test c tree)) }

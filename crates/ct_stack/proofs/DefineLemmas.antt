@@ -17,7 +17,7 @@ use Rattle.ct_command.specs.declared.error.CommandError.{CommandError}
 use Rattle.ct_command.specs.declared.error.CommandError.TheVariants.{Refused, NoMemory}
 use Rattle.ct_stack.specs.Outcomes.{IsErrorOr, Gives, Comes, each_of}
 use Rattle.ct_stack.specs.Elaborations.{declared_function, defined_function, body_of, parameter_names, parameter_sorts}
-use Rattle.ct_names.specs.Answer.{same}
+use Rattle.ct_names.specs.Answer.{as_it_is}
 use Rattle.ct_check.specs.Trees.{sorted_of}
 use Rattle.ct_stack.specs.Sorts.{sorts_seen, function_seen, definition_seen}
 use Rattle.std.specs.Prelude.{IsErrOf}
@@ -44,16 +44,16 @@ given_ok (Err f) o holds x e h = tt
 -- as many values as steps
 pub each_long : {X Y : Type 0} (step : X → Outcome Y) (xs : List X) (ys : List Y) → each_of step xs ≡ Ok ys → length ys ≡ length xs
 each_long {X} {Y} step [] ys e =
-    let same : [] ≡ ys = cc in
-    sym (ap (λ (zs : List Y). length zs) same)
+    let as_it_is : [] ≡ ys = cc in
+    sym (ap (λ (zs : List Y). length zs) as_it_is)
 each_long {X} {Y} step (x ∷ xs) ys e = by (step x) (each_of step xs) (each_long step xs) e
   where
     by : (o : Outcome Y) (p : Outcome (List Y)) → ((zs : List Y) → p ≡ Ok zs → length zs ≡ length xs) → and_then o (λ y. and_then p (λ ys. Ok (y ∷ ys))) ≡ Ok ys → length ys ≡ length (x ∷ xs)
     by (Err n) p rest e = absurd cc
     by (Ok y) (Err n) rest e = absurd cc
     by (Ok y) (Ok zs) rest e =
-        let same : y ∷ zs ≡ ys = cc in
-        omega (arith, rest zs refl, ap (λ (ws : List Y). length ws) same)
+        let as_it_is : y ∷ zs ≡ ys = cc in
+        omega (arith, rest zs refl, ap (λ (ws : List Y). length ws) as_it_is)
 
 map_bind : {X Y : Type 0} (f : X → Y) (xs env : List X) → map f (bind xs env) ≡ bind (map f xs) (map f env)
 map_bind f [] env = refl
@@ -115,8 +115,8 @@ module _ (d : Declarations) (name : List ℕ) where
             on_body ∙ ap checked e ∙ ap (λ (b : Bool). and_then (unless_refused b wrong_sort (Ok body)) (λ body. Ok (function args result, body))) differs
 
         pub defined : (body : Formula) (found : SortId) → elaborated d (bind (variables names args) []) t ≡ Ok (body, found) → is_sort found result ≡ true → defined_function d name params sort t ≡ Ok (function args result, body)
-        defined body found e same =
-            on_body ∙ ap checked e ∙ ap (λ (b : Bool). and_then (unless_refused b wrong_sort (Ok body)) (λ body. Ok (function args result, body))) same
+        defined body found e as_it_is =
+            on_body ∙ ap checked e ∙ ap (λ (b : Bool). and_then (unless_refused b wrong_sort (Ok body)) (λ body. Ok (function args result, body))) as_it_is
 
         -- the sorts under which the body is elaborated
         pub body_sorts : variable_sorts (bind (variables names args) []) ≡ bind args []
@@ -131,8 +131,8 @@ id n = record { 0 = n }
 -- sorts with one number are one
 pub same_sort : (s t : SortId) → is_sort s t ≡ true → s ≡ t
 same_sort s t e =
-    let same : s.0 ≡ t.0 = (Decides-eqb s.0 t.0).0 e in
-    ap id same
+    let as_it_is : s.0 ≡ t.0 = (Decides-eqb s.0 t.0).0 e in
+    ap id as_it_is
 
 -- what calls say of the steps of a function
 module _ (d : Declarations) (name : List ℕ) (ts : List Expression) (sort : Expression) where
@@ -140,7 +140,7 @@ module _ (d : Declarations) (name : List ℕ) (ts : List Expression) (sort : Exp
   comes_no_args (Refused n) h = args_error d name ts sort n h
   comes_no_args NoMemory h = tt
 
-  pub comes_no_sort : (args : List SortId) → each_of (sort_of d) ts ≡ Ok args → (e : CommandError) → Comes (same {X = SortId}) (sort_of d sort) (Err e) → Comes (function_seen name) (declared_function d name ts sort) (Err e)
+  pub comes_no_sort : (args : List SortId) → each_of (sort_of d) ts ≡ Ok args → (e : CommandError) → Comes (as_it_is {X = SortId}) (sort_of d sort) (Err e) → Comes (function_seen name) (declared_function d name ts sort) (Err e)
   comes_no_sort args sorts (Refused n) h = sort_error d name ts sort args n sorts h
   comes_no_sort args sorts NoMemory h = tt
 
@@ -151,7 +151,7 @@ module _ (d : Declarations) (name : List ℕ) (params : List Named) (sort t : Ex
   definition_no_args NoMemory h = tt
 
   module _ (args : List SortId) (sorts : each_of (sort_of d) (parameter_sorts params) ≡ Ok args) where
-    pub definition_no_sort : (e : CommandError) → Comes (same {X = SortId}) (sort_of d sort) (Err e) → Comes (definition_seen name) (defined_function d name params sort t) (Err e)
+    pub definition_no_sort : (e : CommandError) → Comes (as_it_is {X = SortId}) (sort_of d sort) (Err e) → Comes (definition_seen name) (defined_function d name params sort t) (Err e)
     definition_no_sort (Refused n) h = no_function d name params sort t unrepeated n (sort_error d name (parameter_sorts params) sort args n sorts h)
     definition_no_sort NoMemory h = tt
 
@@ -174,8 +174,8 @@ module _ (d : Declarations) (name : List ℕ) (params : List Named) (sort t : Ex
 -- an error of the step after a first cause that does not apply
 pub refused_by : {X Y T : Type 0} (seen : X → Y) (o : Outcome Y) (later : Y → ℕ → Type 0) (a : ℕ) (P : Type 0) (e : CommandError) → (P → ⊥) → Comes seen o (Err e) → (n : ℕ) → IsErrOf {T = T} {E = CommandError} (Err e) (Refused n) → IsFirstCause a P (IsErrorOr o later) n
 refused_by seen o later a P e none h n is =
-    let same : e ≡ Refused n = cc in
-    inr (none, refused_step o later n (comes_refused seen o e n h same))
+    let as_it_is : e ≡ Refused n = cc in
+    inr (none, refused_step o later n (comes_refused seen o e n h as_it_is))
 
 -- what a definition that is added gives
 pub defined_ok : {T E : Type 0} (r : Result T E) (o : Outcome (Function × Formula)) (x : Function × Formula) (earlier later : Declarations) (before now : List Formula) → o ≡ Ok x → OnOk r ((later ≡ with_definition earlier x.0) × (now ≡ before ++ x.1 ∷ [])) → IsSorted earlier (bind x.0.args []) x.1 x.0.result → OnOk r (Gives o (λ f. (later ≡ with_definition earlier f.0) × (now ≡ before ++ f.1 ∷ []) × IsSorted earlier (bind f.0.args []) f.1 f.0.result))

@@ -10,13 +10,13 @@ use Rattle.ct_sorts.specs.Consistent.{IsConsistent}
 use Rattle.ct_sorts.specs.Grown.{Extends}
 use Rattle.ct_terms.specs.declared.ids.TermId.{TermId}
 use Rattle.ct_terms.specs.declared.term.Core.TheVariants.{Con}
-use Rattle.ct_terms.specs.Terms.{Terms, IsBoolean, AreSorted, AreOrdered, truths}
+use Rattle.ct_terms.specs.Terms.{Terms, IsBoolean, AreSorted, AreOrdered, truth_terms}
 use Rattle.ct_terms.specs.CoreTree.{CoreTree, con, no_trees, tree_children, subtrees, term_at}
 use Rattle.ct_terms.specs.CoreSorts.{HasTreeSort}
 use Rattle.ct_terms.specs.Formula.{Formula, bind}
 use Rattle.ct_terms.specs.FormulaSorts.{IsSorted, AreSound}
 use Rattle.ct_closure.specs.Closed.{truth_trees}
-use Rattle.ct_closure.specs.ClosedTable.{Stands, terms_at}
+use Rattle.ct_closure.specs.ClosedTable.{HasTree, terms_at}
 use Rattle.ct_compile.specs.Effect.{IsPrefix}
 use Rattle.ct_stack.specs.Theorems.{Theorems}
 use Rattle.ct_stack.specs.Stack.{Context, core, cores}
@@ -56,7 +56,7 @@ module _ (theorems : Theorems) (later earlier : Declarations) (bodies more : Lis
                   record {
                     sorted = theorems.table_lasting later earlier table extends held.in_table.exact.sorted;
                     covered = subst (λ (roots : List CoreTree). (t : TermId) → t.0 < length table → (root : CoreTree) × Contains (truth_trees ++ roots) root × Contains (subtrees root) (term_at table t)) (sym stay) held.in_table.exact.covered;
-                    complete = subst (λ (roots : List CoreTree). (root s : CoreTree) → Contains (truth_trees ++ roots) root → Contains (subtrees root) s → Stands table s) (sym stay) held.in_table.exact.complete;
+                    complete = subst (λ (roots : List CoreTree). (root s : CoreTree) → Contains (truth_trees ++ roots) root → Contains (subtrees root) s → HasTree table s) (sym stay) held.in_table.exact.complete;
                   };
               stand = held.in_table.stand ∙ sym stay;
               booleans = held.in_table.booleans;
@@ -86,7 +86,7 @@ no_definitions d none =
 
 module _ (theorems : Theorems) where
   -- the terms of the first table are `true` and `false`
-  truth_at : (table : Terms) → table ≡ truths → AreOrdered table → (k : ℕ) → k < 2 → Contains truth_trees (term_at table (record { 0 = k }))
+  truth_at : (table : Terms) → table ≡ truth_terms → AreOrdered table → (k : ℕ) → k < 2 → Contains truth_trees (term_at table (record { 0 = k }))
   truth_at table e ordered zero h =
       subst (Contains truth_trees) (sym (theorems.unfolds table (record { 0 = 0 }) (Con (record { 0 = 0 }) []) bool_sort ordered (ap (λ (ts : Terms). slice_get ts 0) e))) (0, omega arith, refl)
   truth_at table e ordered (suc zero) h =
@@ -94,12 +94,12 @@ module _ (theorems : Theorems) where
   truth_at table e ordered (suc (suc k)) h = absurd (omega (arith, h))
 
   -- a truth value stands in the first table
-  truth_stands : (table : Terms) → table ≡ truths → AreOrdered table → (t : CoreTree) → Contains truth_trees t → Stands table t
+  truth_stands : (table : Terms) → table ≡ truth_terms → AreOrdered table → (t : CoreTree) → Contains truth_trees t → HasTree table t
   truth_stands table e ordered t h =
       elim (Contains-cons (con (record { 0 = 0 }) no_trees) (con (record { 0 = 1 }) no_trees ∷ []) t h) [
-        | inl same ↦ subst (Stands table) same (at 0 (omega arith) (theorems.unfolds table (record { 0 = 0 }) (Con (record { 0 = 0 }) []) bool_sort ordered (ap (λ (ts : Terms). slice_get ts 0) e)))
+        | inl same ↦ subst (HasTree table) same (at 0 (omega arith) (theorems.unfolds table (record { 0 = 0 }) (Con (record { 0 = 0 }) []) bool_sort ordered (ap (λ (ts : Terms). slice_get ts 0) e)))
         | inr rest ↦ elim (Contains-cons (con (record { 0 = 1 }) no_trees) [] t rest) [
-          | inl same ↦ subst (Stands table) same (at 1 (omega arith) (theorems.unfolds table (record { 0 = 1 }) (Con (record { 0 = 1 }) []) bool_sort ordered (ap (λ (ts : Terms). slice_get ts 1) e)))
+          | inl same ↦ subst (HasTree table) same (at 1 (omega arith) (theorems.unfolds table (record { 0 = 1 }) (Con (record { 0 = 1 }) []) bool_sort ordered (ap (λ (ts : Terms). slice_get ts 1) e)))
           | inr none ↦ absurd (Contains-none t none)
         ]
       ]
@@ -107,7 +107,7 @@ module _ (theorems : Theorems) where
       long : length table ≡ 2
       long = ap (λ (ts : Terms). length ts) e
 
-      at : (k : ℕ) → k < 2 → term_at table (record { 0 = k }) ≡ con (record { 0 = k }) no_trees → Stands table (con (record { 0 = k }) no_trees)
+      at : (k : ℕ) → k < 2 → term_at table (record { 0 = k }) ≡ con (record { 0 = k }) no_trees → HasTree table (con (record { 0 = k }) no_trees)
       at k h tree = (record { 0 = k }, omega (arith, h, long), tree)
 
   -- a subterm of a truth value is it
@@ -129,7 +129,7 @@ module _ (theorems : Theorems) where
           ]
 
   -- nothing is asserted
-  pub nothing_held : (d : Declarations) (bodies : List Formula) (table : Terms) → AreSound d bodies → table ≡ truths → AreOrdered table → AreSorted d table → IsHeld (record { context = record { declarations = d; bodies = bodies }; assertions = [] }) table []
+  pub nothing_held : (d : Declarations) (bodies : List Formula) (table : Terms) → AreSound d bodies → table ≡ truth_terms → AreOrdered table → AreSorted d table → IsHeld (record { context = record { declarations = d; bodies = bodies }; assertions = [] }) table []
   nothing_held d bodies table sound e ordered sorted =
       record {
         sound = record { bodies = sound; asserts = All-nil (λ t. IsSorted d [] t bool_sort) };
@@ -155,7 +155,7 @@ module _ (theorems : Theorems) where
       first {root} h = elim (Contains-append_cases truth_trees [] root h) [ inl truth ↦ truth | inr none ↦ absurd (Contains-none root none) ]
 
   -- at the start nothing is declared either
-  pub first_held : (d : Declarations) (bodies : List Formula) (table : Terms) → d ≡ start → bodies ≡ [] → table ≡ truths → AreOrdered table → AreSorted d table → IsHeld (record { context = record { declarations = d; bodies = bodies }; assertions = [] }) table []
+  pub first_held : (d : Declarations) (bodies : List Formula) (table : Terms) → d ≡ start → bodies ≡ [] → table ≡ truth_terms → AreOrdered table → AreSorted d table → IsHeld (record { context = record { declarations = d; bodies = bodies }; assertions = [] }) table []
   first_held d bodies table declared none e ordered sorted =
       nothing_held d bodies table (subst (AreSound d) (sym none) (no_definitions d (ap (λ (ds : Declarations). ds.definitions) declared))) e ordered sorted
 

@@ -8,7 +8,7 @@ use Rattle.ct_sorts.specs.Marks.{CanCut, cut, lengths}
 use Rattle.ct_sorts.specs.Consistent.{IsConsistent}
 use Rattle.ct_terms.specs.declared.ids.TermId.{TermId}
 use Rattle.ct_terms.specs.declared.tree.Tree.{Tree}
-use Rattle.ct_terms.specs.Terms.{Terms, BeginsWithTruths, AreSorted, AreOrdered, truths}
+use Rattle.ct_terms.specs.Terms.{Terms, BeginsWithTruths, AreSorted, AreOrdered, truth_terms}
 use Rattle.ct_terms.specs.Formula.{Formula}
 use Rattle.ct_terms.specs.TreeFormula.{formula_of}
 use Rattle.ct_terms.specs.CoreTree.{CoreTree, term_at}
@@ -158,7 +158,7 @@ module _ (theorems : Theorems) (scope : Scope) (asserts : List Tree) (table : Te
       (subst (λ (ns : List TermId). IsHeld (level_in scope asserts) table ns) (sym no_numbers)
       (subst (λ (ts : List Tree). IsHeld (level_in scope ts) table []) (sym no_asserts) h))
 
-  pub kept_alone : (first : Lengths) → alone_held → first ≡ lengths start → IsConsistent start → AreSorted start truths → IsKept (whole_in scope asserts table numbers) (reverse marks) first
+  pub kept_alone : (first : Lengths) → alone_held → first ≡ lengths start → IsConsistent start → AreSorted start truth_terms → IsKept (whole_in scope asserts table numbers) (reverse marks) first
   kept_alone first h is consistent sorted = record { held = held_alone h; first_is = is; first_consistent = consistent; first_sorted = sorted }
 
   pub stack_alone : stack_of (level_in scope asserts) (reverse marks) ≡ record { top = record { context = context_in scope; assertions = [] }; below = [] }
@@ -167,12 +167,12 @@ module _ (theorems : Theorems) (scope : Scope) (asserts : List Tree) (table : Te
       ∙ ap (λ (ts : List Tree). alone (level_in scope ts)) no_asserts
 
   -- at the start
-  pub kept_first : (first : Lengths) → scope.sig ≡ start → scope.bodies ≡ [] → table ≡ truths → AreOrdered table → AreSorted start table → first ≡ lengths scope.sig → IsConsistent scope.sig → IsKept (whole_in scope asserts table numbers) (reverse marks) first
+  pub kept_first : (first : Lengths) → scope.sig ≡ start → scope.bodies ≡ [] → table ≡ truth_terms → AreOrdered table → AreSorted start table → first ≡ lengths scope.sig → IsConsistent scope.sig → IsKept (whole_in scope asserts table numbers) (reverse marks) first
   kept_first first declared defined terms ordered sorted is consistent =
       kept_alone first (first_held theorems scope.sig (map formula_of scope.bodies) table declared (ap (map formula_of) defined) terms ordered (subst (λ (d : Declarations). AreSorted d table) (sym declared) sorted)) (is ∙ ap lengths declared) (subst IsConsistent declared consistent) (subst (AreSorted start) terms sorted)
 
 -- where all assertions go
-module _ (theorems : Theorems) (scope : Scope) (asserts : List Tree) (table : Terms) (numbers : List TermId) (marks : List LevelMark) (first : Lengths) (consistent : IsConsistent scope.sig) (kept : IsKept (whole_in scope asserts table numbers) (reverse marks) first) (asserts_now : List Tree) (table_now : Terms) (numbers_now : List TermId) (marks_now : List LevelMark) (no_asserts : asserts_now ≡ []) (no_numbers : numbers_now ≡ []) (no_marks : marks_now ≡ []) (terms : table_now ≡ truths) (ordered : AreOrdered table_now) where
+module _ (theorems : Theorems) (scope : Scope) (asserts : List Tree) (table : Terms) (numbers : List TermId) (marks : List LevelMark) (first : Lengths) (consistent : IsConsistent scope.sig) (kept : IsKept (whole_in scope asserts table numbers) (reverse marks) first) (asserts_now : List Tree) (table_now : Terms) (numbers_now : List TermId) (marks_now : List LevelMark) (no_asserts : asserts_now ≡ []) (no_numbers : numbers_now ≡ []) (no_marks : marks_now ≡ []) (terms : table_now ≡ truth_terms) (ordered : AreOrdered table_now) where
   -- and what is declared stays
   pub kept_global_empty : ((d : Declarations) → AreSorted d table → AreSorted d table_now) → IsKept (whole_in scope asserts_now table_now numbers_now) (reverse marks_now) first
   kept_global_empty sorted =

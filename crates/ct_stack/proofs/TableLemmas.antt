@@ -9,7 +9,7 @@ use Rattle.ct_terms.specs.declared.ids.TermId.{TermId}
 use Rattle.ct_terms.specs.Terms.{Terms, AreSorted, AreOrdered, AreSingle, most_terms}
 use Rattle.ct_terms.specs.CoreTree.{CoreTree, subtrees, term_at}
 use Rattle.ct_closure.specs.Closed.{truth_trees}
-use Rattle.ct_closure.specs.ClosedTable.{Stands}
+use Rattle.ct_closure.specs.ClosedTable.{HasTree}
 use Rattle.ct_compile.specs.Effect.{IsPrefix, DoNotFit}
 use Rattle.ct_stack.specs.Theorems.{Theorems}
 use Rattle.ct_stack.specs.Refusal.{HasManyTerms}
@@ -51,11 +51,11 @@ module _ (table : Terms) where
       let within : k < length table = omega (arith, slice_get_within (trees_below table (length table)) k t e, long_below table (length table)) in
       (within, same_Some (term_at table (id k)) t (sym (tree_below_at table (length table) k within) ∙ e))
 
-  stands_listed : (t : CoreTree) → Stands table t → Contains (all_trees table) t
+  stands_listed : (t : CoreTree) → HasTree table t → Contains (all_trees table) t
   unfolding all_trees
   stands_listed t (n, within, e) = contained (trees_below table (length table)) n.0 t (tree_below_at table (length table) n.0 within ∙ ap Some e)
 
-  listed_stands : (t : CoreTree) → Contains (all_trees table) t → Stands table t
+  listed_stands : (t : CoreTree) → Contains (all_trees table) t → HasTree table t
   listed_stands t h =
       let found = index_of (all_trees table) t h in
       let here = tree_at found.0 t found.1 in
@@ -159,14 +159,14 @@ module _ (theorems : Theorems) (d : Declarations) (roots : List CoreTree) (old :
         }
 
   -- one core term more, with what was made for it
-  module _ (new : Terms) (grown : IsPrefix old new) (ordered_new : AreOrdered new) (sorted : AreSorted d new) (made : (t : TermId) → length old ≤ t.0 → t.0 < length new → Contains (subtrees c) (term_at new t)) (all_made : (s : CoreTree) → Contains (subtrees c) s → Stands new s) where
+  module _ (new : Terms) (grown : IsPrefix old new) (ordered_new : AreOrdered new) (sorted : AreSorted d new) (made : (t : TermId) → length old ≤ t.0 → t.0 < length new → Contains (subtrees c) (term_at new t)) (all_made : (s : CoreTree) → Contains (subtrees c) s → HasTree new s) where
     long : length new ≡ length old + length grown.0
     long = ap (λ (ts : Terms). length ts) grown.1 ∙ length-append old grown.0
 
     stays : (u : TermId) → u.0 < length old → term_at new u ≡ term_at old u
     stays u within = ap (λ (ts : Terms). term_at ts u) grown.1 ∙ theorems.longer old grown.0 u (subst AreOrdered grown.1 ordered_new) within
 
-    stands_still : (s : CoreTree) → Stands old s → Stands new s
+    stands_still : (s : CoreTree) → HasTree old s → HasTree new s
     stands_still s (u, within, e) = (u, omega (arith, within, long), stays u within ∙ e)
 
     pub one_more_core : IsTableOf d (roots ++ c ∷ []) new

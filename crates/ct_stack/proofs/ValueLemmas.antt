@@ -46,7 +46,7 @@ use Rattle.ct_stack.specs.Stack.{Context, core, cores}
 use Rattle.ct_sorts.specs.Refusals.{IsFirstCause, IsNone}
 use Rattle.ct_stack.specs.Numbers.{too_many_terms}
 use Rattle.ct_stack.specs.Outcomes.{each_of, IsErrorOr}
-use Rattle.ct_stack.specs.Refusal.{HasManyTerms, IsTermsRefusal, formulas_of}
+use Rattle.ct_stack.specs.Refusal.{HasManyTerms, IsTermsRefusal, formula_list}
 use Rattle.ct_stack.specs.Held.{IsTableOf}
 use Rattle.ct_stack.specs.Sorts.{AreSortedTerms, HasSomeSort}
 use Rattle.ct_stack.specs.Values.{IsValuePair, IsPairOf, ArePairs}
@@ -87,7 +87,7 @@ module _ {X Y : Type 0} (R : X → Y → Type 0) where
   AllZip-one_length (x ∷ xs) (y ∷ ys) all = ap suc (AllZip-one_length xs ys all.1)
 
 -- the formulas of trees with their sorts are those of the trees
-pub formulas-sorted : (trees : List Tree) (sorts : List SortId) → length trees ≡ length sorts → formulas_of (sorted_trees trees sorts) ≡ map formula_of trees
+pub formulas-sorted : (trees : List Tree) (sorts : List SortId) → length trees ≡ length sorts → formula_list (sorted_trees trees sorts) ≡ map formula_of trees
 formulas-sorted [] sorts e = refl
 formulas-sorted (t ∷ trees) [] e = absurd (omega (arith, e))
 formulas-sorted (t ∷ trees) (s ∷ sorts) e =
@@ -333,7 +333,7 @@ module _ (c : Context) (i : Interp) (g : Nodes) (fits : FitsGraph c.declarations
 
 -- what refuses terms that are well sorted
 abbrev TooMany : Context → List CoreTree → List Sorted → ℕ → Type 0
-TooMany c roots terms = IsFirstCause too_many_terms (HasManyTerms (roots ++ cores c (formulas_of terms))) IsNone
+TooMany c roots terms = IsFirstCause too_many_terms (HasManyTerms (roots ++ cores c (formula_list terms))) IsNone
 
 module _ (c : Context) (roots : List CoreTree) (ts : List Expression) where
   -- a term is refused

@@ -8,7 +8,7 @@ use Rattle.ct_terms.specs.FormulaSorts.{IsSorted, AreSound}
 use Rattle.ct_terms.specs.TreeFormula.{formula_of}
 use Rattle.ct_terms.specs.CoreTree.{CoreTree, subtrees, term_at}
 use Rattle.ct_closure.specs.Closed.{truth_trees}
-use Rattle.ct_closure.specs.ClosedTable.{Stands, terms_at}
+use Rattle.ct_closure.specs.ClosedTable.{HasTree, terms_at}
 use Rattle.ct_scope.specs.declared.scope.Scope.{Scope}
 use Rattle.ct_stack.specs.Stack.{Context, Level, Stack, cores, in_force}
 
@@ -37,7 +37,7 @@ pub record IsSoundLevel (level : Level) : Type 0 where
 pub record IsTableOf (d : Declarations) (roots : List CoreTree) (table : Terms) : Type 0 where
   pub sorted : AreSorted d table
   pub covered : (t : TermId) → t.0 < length table → (root : CoreTree) × Contains (truth_trees ++ roots) root × Contains (subtrees root) (term_at table t)
-  pub complete : (root s : CoreTree) → Contains (truth_trees ++ roots) root → Contains (subtrees root) s → Stands table s
+  pub complete : (root s : CoreTree) → Contains (truth_trees ++ roots) root → Contains (subtrees root) s → HasTree table s
 
 -- the table holds exactly the core terms of the assertions, which have these numbers
 pub record AreInTable (level : Level) (table : Terms) (numbers : List TermId) : Type 0 where

@@ -60,14 +60,14 @@ IsAssertionRefusal stack t =
     IsFirstCause too_many_terms (HasManyTerms (cores stack.top.context (in_force stack) ++ core stack.top.context formula ∷ [])) IsNone)
 
 -- the formulas of terms
-abbrev pub formulas_of : List Sorted → List Formula
-formulas_of terms = map (λ (t : Sorted). t.0) terms
+abbrev pub formula_list : List Sorted → List Formula
+formula_list terms = map (λ (t : Sorted). t.0) terms
 
 -- terms whose values are asked, beside these core terms
 abbrev pub IsTermsRefusal : Context → List CoreTree → List Expression → ℕ → Type 0
 IsTermsRefusal c roots ts =
     IsErrorOr (valued_terms c.declarations ts) (λ terms.
-    IsFirstCause too_many_terms (HasManyTerms (roots ++ cores c (formulas_of terms))) IsNone)
+    IsFirstCause too_many_terms (HasManyTerms (roots ++ cores c (formula_list terms))) IsNone)
 
 -- so many levels more
 abbrev pub IsPushRefusal : Stack → ℕ → ℕ → Type 0

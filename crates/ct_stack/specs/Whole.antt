@@ -7,7 +7,7 @@ use Rattle.ct_sorts.specs.Declarations.{start}
 use Rattle.ct_sorts.specs.Grown.{Extends}
 use Rattle.ct_terms.specs.declared.ids.TermId.{TermId}
 use Rattle.ct_terms.specs.declared.tree.Tree.{Tree}
-use Rattle.ct_terms.specs.Terms.{Terms, AreSorted, truths}
+use Rattle.ct_terms.specs.Terms.{Terms, AreSorted, truth_terms}
 use Rattle.ct_scope.specs.declared.scope.Scope.{Scope}
 use Rattle.ct_stack.specs.Stack.{Level, Stack}
 use Rattle.ct_stack.specs.Held.{level_in, alone, IsHeld}
@@ -68,4 +68,4 @@ pub record IsKept (w : Whole) (marks : List LevelMark) (first : Lengths) : Type 
   -- the first mark is that of the start
   pub first_is : first ≡ lengths start
   pub first_consistent : IsConsistent start
-  pub first_sorted : AreSorted start truths
+  pub first_sorted : AreSorted start truth_terms

@@ -9,7 +9,7 @@ ghost use Rattle.ct_sorts.specs.Refusals.{IsFirstCause, IsNone, symbol_taken, to
 ghost use Rattle.ct_terms.specs.Formula.{bind};
 ghost use Rattle.ct_terms.specs.FormulaSorts.{IsSorted};
 ghost use Rattle.ct_terms.specs.TreeFormula.{formula_of};
-ghost use Rattle.ct_names.specs.Bounds.{parameters};
+ghost use Rattle.ct_names.specs.Bounds.{parameter_variables};
 ghost use Rattle.ct_names.specs.Variables.{variables, has_repeated};
 ghost use Rattle.ct_command.specs.Seen.{named_seen};
 ghost use Rattle.ct_stack.specs.Elaborations.{defined_function, parameter_names, parameter_sorts};
@@ -152,7 +152,7 @@ fn parameters_of(
     params: &[Named<'_>],
     sorts: &[SortId],
 ) -> Result<Vec<Param>, CommandError>
-    ensures value { IfOk result (λ bound. parameters bound.items
+    ensures value { IfOk result (λ bound. parameter_variables bound.items
         ≡ bind (variables (map (λ name. Some name) (parameter_names (map named_seen params.now))) sorts.now) []) }
     ensures err { OnErr result (result ≡ Err CommandError.NoMemory) }
 {

@@ -2,8 +2,8 @@
 ghost use Rattle.std.specs.Prelude.{◌≡◌, All, IfOk};
 ghost use Rattle.ct_sexpr.specs.View.{expression_of};
 ghost use Rattle.ct_sorts.specs.Declarations.{IsSort};
-ghost use Rattle.ct_names.specs.Answer.{same};
-ghost use Rattle.ct_names.specs.Bounds.{parameters};
+ghost use Rattle.ct_names.specs.Answer.{as_it_is};
+ghost use Rattle.ct_names.specs.Bounds.{parameter_variables};
 ghost use Rattle.ct_names.specs.Elaboration.{sort_of, elaborated};
 ghost use Rattle.ct_names.specs.Outcome.{is_sort};
 ghost use Rattle.ct_check.specs.Trees.{sorted_of};
@@ -27,7 +27,7 @@ pub(crate) fn is_sort(s: SortId, t: SortId) -> bool
 
 /// The sort that an expression names.
 pub(crate) fn sort_named(scope: &Scope, expr: &Sexpr) -> Result<SortId, CommandError>
-    ensures value { Comes same (sort_of scope.now.sig (expression_of expr.now)) result }
+    ensures value { Comes as_it_is (sort_of scope.now.sig (expression_of expr.now)) result }
     ensures inside { IfOk result (IsSort scope.now.sig) }
 {
     match sort_of(scope, expr) {
@@ -63,7 +63,7 @@ pub(crate) fn term_of(
     params: &[Param],
     expr: &Sexpr,
 ) -> Result<(Tree, SortId), CommandError>
-    ensures value { Comes sorted_of (elaborated scope.now.sig (parameters params.now) (expression_of expr.now)) result }
+    ensures value { Comes sorted_of (elaborated scope.now.sig (parameter_variables params.now) (expression_of expr.now)) result }
 {
     match elaborate(alloc, scope, params, expr) {
         Ok(sorted) => Ok(sorted),

@@ -12,10 +12,10 @@ use Rattle.ct_terms.specs.declared.tree.Pattern.TheVariants.{Ctor, Any}
 use Rattle.ct_terms.specs.CoreTree.{CoreTree, con, sel, test, apply, equation, negation, equivalence, choice, trees_of, no_term}
 use Rattle.ct_terms.specs.CoreSorts.{HasTreeSort}
 use Rattle.ct_terms.specs.Formula.{Formula, Formulas, Cases, Var, Con, Sel, Test, Apply, Def, Not, And, Or, Xor, Implies, Equal, Distinct, Ite, Let, Match, no_formulas, with_formula, no_cases, with_case, bind, MentionsBelow, AllMentionBelow, CasesMentionBelow}
-use Rattle.ct_terms.specs.FormulaSorts.{IsSorted, AreSorted, AreOfSort, AreSortedCases, AreSound}
+use Rattle.ct_terms.specs.FormulaSorts.{IsSorted, AllSorted, AreOfSort, AreSortedCases, AreSound}
 use Rattle.ct_terms.specs.Pairs.{neighbours_from, neighbours, pairs}
 use Rattle.ct_terms.specs.Calls.{body_call, calls_below, calls}
-use Rattle.ct_terms.specs.Compiled.{all_of, any_of, exclusive_of, implication_of, equality, inequality, fields_of, ctors_of_sort, siblings, is_among, surely_fits, are_none, compiled, compiled_all, compiled_cases, core_of, GiveSorted}
+use Rattle.ct_terms.specs.Compiled.{all_of, any_of, exclusive_of, implication_of, equality, inequality, fields_of, ctor_ids_of_sort, siblings, is_among, surely_fits, are_none, compiled, compiled_all, compiled_cases, core_of, GiveSorted}
 use Rattle.ct_terms.proofs.ListLemmas.{slice_get-prefix, slice_get-append_left}
 use Rattle.ct_terms.proofs.CoreSortLemmas.{HasTreeSort-read, HasTreeSort-extends}
 use Rattle.ct_terms.proofs.CallLemmas.{AllZip-bind, same_number, below_next, calls_below-suc}
@@ -38,7 +38,7 @@ module _ (later earlier : Declarations) (extends : Extends later earlier) (own :
   siblings_reach : (c : CtorId) (ctor : Constructor) → slice_get earlier.ctors c.0 ≡ Some ctor → siblings later c ≡ siblings earlier c
   siblings_reach c ctor declared =
       let of = own_sorts c.0 ctor declared in
-      let list : Declarations → Option Constructor → List CtorId = λ d o. unwrap_or (option_map (λ (g : Constructor). ctors_of_sort d g.sort) o) [] in
+      let list : Declarations → Option Constructor → List CtorId = λ d o. unwrap_or (option_map (λ (g : Constructor). ctor_ids_of_sort d g.sort) o) [] in
       let sorts : Option Sort → List CtorId = λ o. unwrap_or (option_map (λ (s : Sort). s.ctors) o) [] in
       ap (list later) (same_ctor c ctor declared ∙ declared) ∙ ap sorts (same_sort ctor.sort of.0 of.2) ∙ sym (ap (list earlier) declared)
 
@@ -81,7 +81,7 @@ module _ (later earlier : Declarations) (extends : Extends later earlier) (own :
     of_sort : (t : Formula) (env : List CoreTree) (sorts : List SortId) (s : SortId) → AllZip (HasTreeSort earlier) env sorts → MentionsBelow n t → IsSorted earlier sorts t s → HasTreeSort earlier (compiled earlier other env t) s
     of_sort t env sorts s fit m h = compiled_sorted earlier own n other give t env sorts s fit m h
 
-    of_sorts : (ts : Formulas) (env : List CoreTree) (sorts ss : List SortId) → AllZip (HasTreeSort earlier) env sorts → AllMentionBelow n ts → AreSorted earlier sorts ts ss → AllZip (HasTreeSort earlier) (compiled_all earlier other env ts) ss
+    of_sorts : (ts : Formulas) (env : List CoreTree) (sorts ss : List SortId) → AllZip (HasTreeSort earlier) env sorts → AllMentionBelow n ts → AllSorted earlier sorts ts ss → AllZip (HasTreeSort earlier) (compiled_all earlier other env ts) ss
     of_sorts no_formulas env sorts [] fit m h = tt
     of_sorts no_formulas env sorts (s ∷ ss) fit m h = absurd h
     of_sorts (with_formula t ts) env sorts [] fit m h = absurd h
@@ -121,7 +121,7 @@ module _ (later earlier : Declarations) (extends : Extends later earlier) (own :
           ap (λ (x : CoreTree). compiled_cases later call env x [] cases) (compiled_reaches t env sorts h.0 fit m.0 h.1)
           ∙ cases_reach cases env sorts h.0 (compiled earlier other env t) [] s fit (of_sort t env sorts h.0 fit m.0 h.1) m.1 h.4
 
-      all_reach : (ts : Formulas) (env : List CoreTree) (sorts ss : List SortId) → AllZip (HasTreeSort earlier) env sorts → AllMentionBelow n ts → AreSorted earlier sorts ts ss → compiled_all later call env ts ≡ compiled_all earlier other env ts
+      all_reach : (ts : Formulas) (env : List CoreTree) (sorts ss : List SortId) → AllZip (HasTreeSort earlier) env sorts → AllMentionBelow n ts → AllSorted earlier sorts ts ss → compiled_all later call env ts ≡ compiled_all earlier other env ts
       all_reach no_formulas env sorts ss fit m h = refl
       all_reach (with_formula t ts) env sorts [] fit m h = absurd h
       all_reach (with_formula t ts) env sorts (s ∷ ss) fit m h =

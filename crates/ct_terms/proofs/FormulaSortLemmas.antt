@@ -12,7 +12,7 @@ use Rattle.ct_terms.specs.declared.tree.Pattern.TheVariants.{Ctor, Any}
 use Rattle.ct_terms.specs.CoreTree.{CoreTree, sel, test, equation, equivalence, choice, trees_of, no_term}
 use Rattle.ct_terms.specs.CoreSorts.{AreFieldSorts, HasTreeSort, HaveTreeSorts, AreBooleanTrees, tree_sort}
 use Rattle.ct_terms.specs.Formula.{Formula, Formulas, Cases, Var, Con, Sel, Test, Apply, Def, Not, And, Or, Xor, Implies, Equal, Distinct, Ite, Let, Match, no_formulas, with_formula, no_cases, with_case, bind, MentionsBelow, AllMentionBelow, CasesMentionBelow}
-use Rattle.ct_terms.specs.FormulaSorts.{HasFormula, AreSeveral, HasCase, IsSorted, AreSorted, AreOfSort, AreSortedCases, AreSound}
+use Rattle.ct_terms.specs.FormulaSorts.{HasFormula, AreAtLeastTwo, HasSomeCase, IsSorted, AllSorted, AreOfSort, AreSortedCases, AreSound}
 use Rattle.ct_terms.specs.Pairs.{neighbours_from, neighbours, pairs}
 use Rattle.ct_terms.specs.Calls.{body_call, calls_below, calls}
 use Rattle.ct_terms.specs.Compiled.{all_of, any_of, exclusive, exclusive_of, implied_from, implication_of, equality, inequality, fields_of, surely_fits, are_none, compiled, compiled_all, compiled_cases, core_of, GiveSorted}
@@ -51,7 +51,7 @@ module _ (d : Declarations) where
     sorted_mentions env (Let ts u) sort h = (all_sorted_mention env ts h.0 h.2, sorted_mentions (bind h.0 env) u sort h.3)
     sorted_mentions env (Match t cases) sort h = (sorted_mentions env t h.0 h.1, cases_mention env h.0 cases sort h.4)
 
-    all_sorted_mention : (env : List SortId) (ts : Formulas) (sorts : List SortId) → AreSorted d env ts sorts → AllMentionBelow (length d.definitions) ts
+    all_sorted_mention : (env : List SortId) (ts : Formulas) (sorts : List SortId) → AllSorted d env ts sorts → AllMentionBelow (length d.definitions) ts
     all_sorted_mention env no_formulas sorts h = tt
     all_sorted_mention env (with_formula t ts) [] h = absurd h
     all_sorted_mention env (with_formula t ts) (s ∷ sorts) h = (sorted_mentions env t s h.0, all_sorted_mention env ts sorts h.1)
@@ -208,7 +208,7 @@ module _ (d : Declarations) where
       compiled_sorted (Match t cases) env sorts sort fit m h =
           cases_compiled cases env sorts h.0 (compiled d call env t) [] sort fit (compiled_sorted t env sorts h.0 fit m.0 h.1) h.3 m.1 h.4
 
-      all_compiled : (ts : Formulas) (env : List CoreTree) (sorts ss : List SortId) → AllZip (HasTreeSort d) env sorts → AllMentionBelow n ts → AreSorted d sorts ts ss → AllZip (HasTreeSort d) (compiled_all d call env ts) ss
+      all_compiled : (ts : Formulas) (env : List CoreTree) (sorts ss : List SortId) → AllZip (HasTreeSort d) env sorts → AllMentionBelow n ts → AllSorted d sorts ts ss → AllZip (HasTreeSort d) (compiled_all d call env ts) ss
       all_compiled no_formulas env sorts [] fit m h = tt
       all_compiled no_formulas env sorts (s ∷ ss) fit m h = absurd h
       all_compiled (with_formula t ts) env sorts [] fit m h = absurd h
@@ -222,11 +222,11 @@ module _ (d : Declarations) where
       some_compiled no_formulas env h = absurd h
       some_compiled (with_formula t ts) env h = tt
 
-      several_compiled : (ts : Formulas) (env : List CoreTree) → AreSeveral ts → Some_of (compiled_all d call env ts)
+      several_compiled : (ts : Formulas) (env : List CoreTree) → AreAtLeastTwo ts → Some_of (compiled_all d call env ts)
       several_compiled no_formulas env h = absurd h
       several_compiled (with_formula t ts) env h = tt
 
-      cases_compiled : (cases : Cases) (env : List CoreTree) (sorts : List SortId) (side : SortId) (t : CoreTree) (earlier : List CtorId) (sort : SortId) → AllZip (HasTreeSort d) env sorts → HasTreeSort d t side → HasCase cases → CasesMentionBelow n cases → AreSortedCases d sorts side cases sort → HasTreeSort d (compiled_cases d call env t earlier cases) sort
+      cases_compiled : (cases : Cases) (env : List CoreTree) (sorts : List SortId) (side : SortId) (t : CoreTree) (earlier : List CtorId) (sort : SortId) → AllZip (HasTreeSort d) env sorts → HasTreeSort d t side → HasSomeCase cases → CasesMentionBelow n cases → AreSortedCases d sorts side cases sort → HasTreeSort d (compiled_cases d call env t earlier cases) sort
       cases_compiled no_cases env sorts side t earlier sort fit of some m h = absurd some
       cases_compiled (with_case Any body cases) env sorts side t earlier sort fit of some m h =
           compiled_sorted body (t ∷ env) (side ∷ sorts) sort (of, fit) m.0 (subst (λ (ss : List SortId). IsSorted d (bind ss sorts) body sort) h.0.1 h.0.2)
@@ -240,7 +240,7 @@ module _ (d : Declarations) where
           case_compiled cases (surely_fits d earlier c) (test c t) (compiled d call (bind (fields_of d c t) env) body) (compiled_cases d call env t (c ∷ earlier) cases) sort tested first
           (λ more. cases_compiled cases env sorts side t (c ∷ earlier) sort fit of more m.1 h.1)
 
-      case_compiled : (cases : Cases) (sure : Bool) (c t u : CoreTree) (sort : SortId) → HasTreeSort d c bool_sort → HasTreeSort d t sort → (HasCase cases → HasTreeSort d u sort) → HasTreeSort d (if sure || are_none cases then t else choice c t u) sort
+      case_compiled : (cases : Cases) (sure : Bool) (c t u : CoreTree) (sort : SortId) → HasTreeSort d c bool_sort → HasTreeSort d t sort → (HasSomeCase cases → HasTreeSort d u sort) → HasTreeSort d (if sure || are_none cases then t else choice c t u) sort
       case_compiled cases true c t u sort h k l = k
       case_compiled no_cases false c t u sort h k l = k
       case_compiled (with_case p body cases) false c t u sort h k l = (h, k, l tt)

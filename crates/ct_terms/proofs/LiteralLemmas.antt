@@ -8,7 +8,7 @@ use Rattle.ct_terms.specs.declared.ids.TermId.{TermId}
 use Rattle.ct_terms.specs.declared.ids.Lit.{Lit}
 use Rattle.ct_terms.specs.declared.term.Core.{Core}
 use Rattle.ct_terms.specs.declared.term.Core.TheVariants.{Not}
-use Rattle.ct_terms.specs.Terms.{Terms, IsOfSort, Has, AreOrdered, NegatesBooleans, truths}
+use Rattle.ct_terms.specs.Terms.{Terms, IsOfSort, Has, AreOrdered, NegatesBooleans, truth_terms}
 use Rattle.ct_terms.proofs.ListLemmas.{slice_get-prefix, slice_get-last, take-slice_get, last_or_before}
 use Rattle.ct_terms.specs.Literal.{opposite, literal_step, literal_below, literal_of, IsLiteral, IsStripped, AreLiterals}
 
@@ -135,11 +135,11 @@ AreLiterals-take table literals n ordered old =
     }
 
 -- `true` and `false` are their own literals
-pub AreLiterals-truths : AreLiterals truths (record { term = record { 0 = 0 }; positive = true } ∷ (record { term = record { 0 = 1 }; positive = true } ∷ []))
+pub AreLiterals-truths : AreLiterals truth_terms (record { term = record { 0 = 0 }; positive = true } ∷ (record { term = record { 0 = 1 }; positive = true } ∷ []))
 unfolding literal_below
 AreLiterals-truths = record { long = refl; each = λ t within. by t.0 within }
   where
-    by : (n : ℕ) → n < 2 → slice_get (record { term = record { 0 = 0 }; positive = true } ∷ (record { term = record { 0 = 1 }; positive = true } ∷ [])) n ≡ Some (literal_of truths (record { 0 = n }))
+    by : (n : ℕ) → n < 2 → slice_get (record { term = record { 0 = 0 }; positive = true } ∷ (record { term = record { 0 = 1 }; positive = true } ∷ [])) n ≡ Some (literal_of truth_terms (record { 0 = n }))
     by zero within = refl
     by (suc zero) within = refl
     by (suc (suc n)) within = absurd (omega arith)

@@ -12,7 +12,7 @@ use Rattle.ct_terms.specs.declared.tree.Pattern.TheVariants.{Ctor, Any}
 use Rattle.ct_terms.specs.CoreTree.{CoreTree, con, sel, test, apply, equation, negation, conjunction, disjunction, equivalence, choice, trees_of, subtrees, subtrees_of_all, no_term}
 use Rattle.ct_terms.specs.CoreSorts.{tree_sort}
 use Rattle.ct_terms.specs.Formula.{Formula, Formulas, Cases, Var, Con, Sel, Test, Apply, Def, Not, And, Or, Xor, Implies, Equal, Distinct, Ite, Let, Match, no_formulas, with_formula, no_cases, with_case, bind}
-use Rattle.ct_terms.specs.FormulaSorts.{AreSeveral, IsSorted, AreSorted, AreOfSort, AreSortedCases, AreSound}
+use Rattle.ct_terms.specs.FormulaSorts.{AreAtLeastTwo, IsSorted, AllSorted, AreOfSort, AreSortedCases, AreSound}
 use Rattle.ct_terms.specs.Pairs.{neighbours_from, neighbours, pairs}
 use Rattle.ct_terms.specs.Calls.{body_call, calls_below, calls}
 use Rattle.ct_terms.specs.Compiled.{all_of, any_of, exclusive, exclusive_of, implied_from, implication_of, equality, inequality, fields_of, surely_fits, are_none, compiled, compiled_all, compiled_cases, core_of}
@@ -236,7 +236,7 @@ module _ (d : Declarations) (uses : DefId → ℕ → Bool) (made : DefId → Li
           | inr inside ↦ cases_under cases env sorts h.0 (compiled d made env t) [] sort i u h.4 inside at
         ]
 
-    all_under : (ts : Formulas) (env : List CoreTree) (sorts ss : List SortId) (i : ℕ) (u : CoreTree) → AreSorted d sorts ts ss → occurs_in_some d uses ts i ≡ true → slice_get env i ≡ Some u → IsUnderSome u (compiled_all d made env ts)
+    all_under : (ts : Formulas) (env : List CoreTree) (sorts ss : List SortId) (i : ℕ) (u : CoreTree) → AllSorted d sorts ts ss → occurs_in_some d uses ts i ≡ true → slice_get env i ≡ Some u → IsUnderSome u (compiled_all d made env ts)
     all_under no_formulas env sorts ss i u h o at = false_is_not_true o
     all_under (with_formula t ts) env sorts [] i u h o at = absurd h
     all_under (with_formula t ts) env sorts (s ∷ ss) i u h o at =
@@ -253,20 +253,20 @@ module _ (d : Declarations) (uses : DefId → ℕ → Bool) (made : DefId → Li
           | inr rest ↦ inr (one_under ts env sorts s i u h.1 rest at)
         ]
 
-    equal_under : (ts : Formulas) (env : List CoreTree) (u : CoreTree) → AreSeveral ts → IsUnderSome u (compiled_all d made env ts) → IsUnder u (compiled d made env (Equal ts))
+    equal_under : (ts : Formulas) (env : List CoreTree) (u : CoreTree) → AreAtLeastTwo ts → IsUnderSome u (compiled_all d made env ts) → IsUnder u (compiled d made env (Equal ts))
     equal_under no_formulas env u several h = absurd several
     equal_under (with_formula t no_formulas) env u several h = absurd several
     equal_under (with_formula t (with_formula v ts)) env u several h =
         under_all u (neighbours (equality d) (compiled_all d made env (with_formula t (with_formula v ts)))) (under_neighbours u d (compiled d made env t) (compiled d made env v) (compiled_all d made env ts) h)
 
-    distinct_under : (ts : Formulas) (env : List CoreTree) (u : CoreTree) → AreSeveral ts → IsUnderSome u (compiled_all d made env ts) → IsUnder u (compiled d made env (Distinct ts))
+    distinct_under : (ts : Formulas) (env : List CoreTree) (u : CoreTree) → AreAtLeastTwo ts → IsUnderSome u (compiled_all d made env ts) → IsUnder u (compiled d made env (Distinct ts))
     distinct_under no_formulas env u several h = absurd several
     distinct_under (with_formula t no_formulas) env u several h = absurd several
     distinct_under (with_formula t (with_formula v ts)) env u several h =
         under_all u (pairs (inequality d) (compiled_all d made env (with_formula t (with_formula v ts)))) (under_pairs u d (compiled d made env t) (compiled d made env v) (compiled_all d made env ts) h)
 
     -- what is bound to a variable that occurs is a subterm, and what occurs in that in turn
-    bound_under : (ts : Formulas) (inner : ℕ → Bool) (env outer : List CoreTree) (sorts ss : List SortId) (result : CoreTree) (i : ℕ) (u : CoreTree) → AreSorted d sorts ts ss → ((j : ℕ) (x : CoreTree) → inner j ≡ true → slice_get (bind (compiled_all d made env ts) outer) j ≡ Some x → IsUnder x result) → occurs_in_bound d uses inner ts i ≡ true → slice_get env i ≡ Some u → IsUnder u result
+    bound_under : (ts : Formulas) (inner : ℕ → Bool) (env outer : List CoreTree) (sorts ss : List SortId) (result : CoreTree) (i : ℕ) (u : CoreTree) → AllSorted d sorts ts ss → ((j : ℕ) (x : CoreTree) → inner j ≡ true → slice_get (bind (compiled_all d made env ts) outer) j ≡ Some x → IsUnder x result) → occurs_in_bound d uses inner ts i ≡ true → slice_get env i ≡ Some u → IsUnder u result
     bound_under no_formulas inner env outer sorts ss result i u h used o at = false_is_not_true o
     bound_under (with_formula t ts) inner env outer sorts [] result i u h used o at = absurd h
     bound_under (with_formula t ts) inner env outer sorts (s ∷ ss) result i u h used o at =

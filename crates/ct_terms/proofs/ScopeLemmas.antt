@@ -10,7 +10,7 @@ use Rattle.ct_terms.specs.declared.tree.Pattern.{Pattern}
 use Rattle.ct_terms.specs.declared.tree.Pattern.TheVariants.{Ctor, Any}
 use Rattle.ct_terms.specs.CoreSorts.{AreFieldSorts}
 use Rattle.ct_terms.specs.Formula.{Formula, Formulas, Cases, Var, Con, Sel, Test, Apply, Def, Not, And, Or, Xor, Implies, Equal, Distinct, Ite, Let, Match, no_formulas, with_formula, no_cases, with_case, bind, MentionsBelow, AllMentionBelow, CasesMentionBelow}
-use Rattle.ct_terms.specs.FormulaSorts.{IsMatchable, BindsSorts, IsExhaustive, IsSorted, AreSorted, AreOfSort, AreSortedCases, AreSound, cut_definitions}
+use Rattle.ct_terms.specs.FormulaSorts.{IsMatchable, BindsSorts, IsExhaustive, IsSorted, AllSorted, AreOfSort, AreSortedCases, AreSound, cut_definitions}
 use Rattle.ct_terms.proofs.ListLemmas.{slice_get-append_left, slice_get-push_cases, slice_get-take, slice_get-take_below, take-slice_get}
 use Rattle.ct_terms.proofs.SortLemmas.{slice_get-longer}
 use Rattle.ct_terms.proofs.FormulaSortLemmas.{sorted_mentions}
@@ -95,7 +95,7 @@ module _ (from to : Declarations) (n : ℕ) (carries : Carries from to n) where
       exhaustive_carried h.0 cases h.2 h.5,
     )
 
-    all_carried : (ts : Formulas) (env sorts : List SortId) → AllMentionBelow n ts → AreSorted from env ts sorts → AreSorted to env ts sorts
+    all_carried : (ts : Formulas) (env sorts : List SortId) → AllMentionBelow n ts → AllSorted from env ts sorts → AllSorted to env ts sorts
     all_carried no_formulas env [] m h = h
     all_carried no_formulas env (s ∷ sorts) m h = h
     all_carried (with_formula t ts) env [] m h = h

@@ -12,7 +12,7 @@ use Rattle.ct_sorts.specs.Declarations.{Declarations, start, bool_sort}
 use Rattle.ct_terms.specs.declared.ids.TermId.{TermId}
 use Rattle.ct_terms.specs.declared.term.Core.{Core}
 use Rattle.ct_terms.specs.declared.term.Core.TheVariants.{Con, Not}
-use Rattle.ct_terms.specs.Terms.{Terms, IsTermTable, IsOfSort, HasSort, AreSorted, Has, IsAbsent, Makes, StandsSorted, HasArgumentsBelow, AreOrdered, AreSingle, NegatesBooleans, most_terms, truths}
+use Rattle.ct_terms.specs.Terms.{Terms, IsTermTable, IsOfSort, HasSort, AreSorted, Has, IsAbsent, Makes, StandsSorted, HasArgumentsBelow, AreOrdered, AreSingle, NegatesBooleans, most_terms, truth_terms}
 use Rattle.ct_sorts.specs.Grown.{Extends}
 use Rattle.ct_terms.proofs.CoreLemmas.{same_core, Decides-same_core}
 use Rattle.ct_terms.proofs.ListLemmas.{slice_get-last, slice_get-push_cases, slice_get-take, slice_get-take_below, take-slice_get, take-slice_get_next, position-None, not_true}
@@ -158,26 +158,26 @@ con_number (Con c args) = c.0
 con_number _ = 2
 
 -- `true` and `false` stand at the numbers of their constructors
-con_number-truths : (t : ℕ) (core : Core) → Has truths core t → con_number core ≡ t
+con_number-truths : (t : ℕ) (core : Core) → Has truth_terms core t → con_number core ≡ t
 con_number-truths zero core has = ap (λ (e : Core × SortId). con_number e.0) (sym (same_Some (Con (record { 0 = 0 }) [], bool_sort) (core, has.0) has.1))
 con_number-truths (suc zero) core has = ap (λ (e : Core × SortId). con_number e.0) (sym (same_Some (Con (record { 0 = 1 }) [], bool_sort) (core, has.0) has.1))
 con_number-truths (suc (suc t)) core has = absurd (none-some (core, has.0) has.1)
 
 -- no terms are under them
-AreOrdered-truths : AreOrdered truths
+AreOrdered-truths : AreOrdered truth_terms
 AreOrdered-truths zero core has = subst (λ (e : Core × SortId). HasArgumentsBelow 0 e.0) (same_Some (Con (record { 0 = 0 }) [], bool_sort) (core, has.0) has.1) tt
 AreOrdered-truths (suc zero) core has = subst (λ (e : Core × SortId). HasArgumentsBelow 1 e.0) (same_Some (Con (record { 0 = 1 }) [], bool_sort) (core, has.0) has.1) tt
 AreOrdered-truths (suc (suc t)) core has = absurd (none-some (core, has.0) has.1)
 
 -- alone they are a table
-pub IsTermTable-truths : IsTermTable truths
+pub IsTermTable-truths : IsTermTable truth_terms
 IsTermTable-truths =
     record {
       few = omega arith;
       begins = refl;
       ordered = AreOrdered-truths;
       single = λ i j core at_i at_j. sym (con_number-truths i core at_i) ∙ con_number-truths j core at_j;
-      negates = λ t a has. absurd (none-some (Not a, has.0) (ap (slice_get truths) (con_number-truths t (Not a) has) ∙ has.1));
+      negates = λ t a has. absurd (none-some (Not a, has.0) (ap (slice_get truth_terms) (con_number-truths t (Not a) has) ∙ has.1));
     }
 
 -- a term is not among those before it
@@ -188,15 +188,15 @@ IsAbsent-before table core t single has u before =
     absurd (omega arith)
 
 -- `true` and `false` are well sorted over Bool and whatever else is declared
-pub AreSorted-truths : (d : Declarations) → Extends d start → AreSorted d truths
-AreSorted-truths d extends = AreSorted-extends d start truths extends over_start
+pub AreSorted-truths : (d : Declarations) → Extends d start → AreSorted d truth_terms
+AreSorted-truths d extends = AreSorted-extends d start truth_terms extends over_start
   where
-    over_start : AreSorted start truths
+    over_start : AreSorted start truth_terms
     over_start zero core sort at =
-        subst (λ (e : Core × SortId). HasSort start truths e.0 e.1) (same_Some (Con (record { 0 = 0 }) [], bool_sort) (core, sort) at)
+        subst (λ (e : Core × SortId). HasSort start truth_terms e.0 e.1) (same_Some (Con (record { 0 = 0 }) [], bool_sort) (core, sort) at)
         (record { ctor = record { name = codes "true"; sort = bool_sort; sels = [] }; declared = refl; fields = tt; result = refl })
     over_start (suc zero) core sort at =
-        subst (λ (e : Core × SortId). HasSort start truths e.0 e.1) (same_Some (Con (record { 0 = 1 }) [], bool_sort) (core, sort) at)
+        subst (λ (e : Core × SortId). HasSort start truth_terms e.0 e.1) (same_Some (Con (record { 0 = 1 }) [], bool_sort) (core, sort) at)
         (record { ctor = record { name = codes "false"; sort = bool_sort; sels = [] }; declared = refl; fields = tt; result = refl })
     over_start (suc (suc t)) core sort at = absurd (none-some (core, sort) at)
 

@@ -53,12 +53,12 @@ abbrev pub fields_of : Declarations → CtorId → CoreTree → List CoreTree
 fields_of d c t = map (λ s. sel s t) (unwrap_or (option_map (λ (ctor : Constructor). ctor.sels) (slice_get d.ctors c.0)) [])
 
 -- the constructors of a sort, in order
-abbrev pub ctors_of_sort : Declarations → SortId → List CtorId
-ctors_of_sort d s = unwrap_or (option_map (λ (sort : Sort). sort.ctors) (slice_get d.sorts s.0)) []
+abbrev pub ctor_ids_of_sort : Declarations → SortId → List CtorId
+ctor_ids_of_sort d s = unwrap_or (option_map (λ (sort : Sort). sort.ctors) (slice_get d.sorts s.0)) []
 
 -- the constructors of the sort of this one
 abbrev pub siblings : Declarations → CtorId → List CtorId
-siblings d c = unwrap_or (option_map (λ (ctor : Constructor). ctors_of_sort d ctor.sort) (slice_get d.ctors c.0)) []
+siblings d c = unwrap_or (option_map (λ (ctor : Constructor). ctor_ids_of_sort d ctor.sort) (slice_get d.ctors c.0)) []
 
 -- the constructor is among these
 abbrev pub is_among : List CtorId → CtorId → Bool

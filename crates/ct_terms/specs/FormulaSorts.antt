@@ -14,9 +14,9 @@ abbrev pub HasFormula : Formulas → Type 0
 HasFormula no_formulas = ⊥
 HasFormula (with_formula t ts) = Unit {0}
 
-abbrev pub AreSeveral : Formulas → Type 0
-AreSeveral no_formulas = ⊥
-AreSeveral (with_formula t ts) = HasFormula ts
+abbrev pub AreAtLeastTwo : Formulas → Type 0
+AreAtLeastTwo no_formulas = ⊥
+AreAtLeastTwo (with_formula t ts) = HasFormula ts
 
 -- the sort is a datatype or a codatatype: its values may be matched
 abbrev pub IsMatchable : Declarations → SortId → Type 0
@@ -38,36 +38,36 @@ abbrev pub IsExhaustive : Declarations → SortId → Cases → Type 0
 IsExhaustive d side cases = HasPattern Any cases ⊎ ((c : CtorId) (ctor : Constructor) → slice_get d.ctors c.0 ≡ Some ctor → ctor.sort ≡ side → HasPattern (Ctor c) cases)
 
 -- there is at least one case
-abbrev pub HasCase : Cases → Type 0
-HasCase no_cases = ⊥
-HasCase (with_case p body cases) = Unit {0}
+abbrev pub HasSomeCase : Cases → Type 0
+HasSomeCase no_cases = ⊥
+HasSomeCase (with_case p body cases) = Unit {0}
 
 abbrev mutual
   -- the formula is well sorted where its variables have the sorts of the environment, and has this sort: one line a form
   pub IsSorted : Declarations → List SortId → Formula → SortId → Type 0
   IsSorted d env (Var i) sort = slice_get env i ≡ Some sort
-  IsSorted d env (Con c ts) sort = (ctor : Constructor) × (fields : List SortId) × (slice_get d.ctors c.0 ≡ Some ctor) × AreFieldSorts d ctor.sels fields × AreSorted d env ts fields × (ctor.sort ≡ sort)
+  IsSorted d env (Con c ts) sort = (ctor : Constructor) × (fields : List SortId) × (slice_get d.ctors c.0 ≡ Some ctor) × AreFieldSorts d ctor.sels fields × AllSorted d env ts fields × (ctor.sort ≡ sort)
   IsSorted d env (Sel s t) sort = (selector : Selector) × (ctor : Constructor) × (slice_get d.sels s.0 ≡ Some selector) × (slice_get d.ctors selector.ctor.0 ≡ Some ctor) × IsSorted d env t ctor.sort × (selector.sort ≡ sort)
   IsSorted d env (Test c t) sort = (ctor : Constructor) × (slice_get d.ctors c.0 ≡ Some ctor) × IsSorted d env t ctor.sort × (bool_sort ≡ sort)
-  IsSorted d env (Apply f ts) sort = (function : Function) × (slice_get d.functions f.0 ≡ Some function) × AreSorted d env ts function.args × (function.result ≡ sort)
-  IsSorted d env (Def k ts) sort = (definition : Function) × (slice_get d.definitions k.0 ≡ Some definition) × AreSorted d env ts definition.args × (definition.result ≡ sort)
+  IsSorted d env (Apply f ts) sort = (function : Function) × (slice_get d.functions f.0 ≡ Some function) × AllSorted d env ts function.args × (function.result ≡ sort)
+  IsSorted d env (Def k ts) sort = (definition : Function) × (slice_get d.definitions k.0 ≡ Some definition) × AllSorted d env ts definition.args × (definition.result ≡ sort)
   IsSorted d env (Not t) sort = IsSorted d env t bool_sort × (bool_sort ≡ sort)
   IsSorted d env (And ts) sort = HasFormula ts × AreOfSort d env ts bool_sort × (bool_sort ≡ sort)
   IsSorted d env (Or ts) sort = HasFormula ts × AreOfSort d env ts bool_sort × (bool_sort ≡ sort)
-  IsSorted d env (Xor ts) sort = AreSeveral ts × AreOfSort d env ts bool_sort × (bool_sort ≡ sort)
-  IsSorted d env (Implies ts) sort = AreSeveral ts × AreOfSort d env ts bool_sort × (bool_sort ≡ sort)
-  IsSorted d env (Equal ts) sort = (side : SortId) × AreSeveral ts × AreOfSort d env ts side × (bool_sort ≡ sort)
-  IsSorted d env (Distinct ts) sort = (side : SortId) × AreSeveral ts × AreOfSort d env ts side × (bool_sort ≡ sort)
+  IsSorted d env (Xor ts) sort = AreAtLeastTwo ts × AreOfSort d env ts bool_sort × (bool_sort ≡ sort)
+  IsSorted d env (Implies ts) sort = AreAtLeastTwo ts × AreOfSort d env ts bool_sort × (bool_sort ≡ sort)
+  IsSorted d env (Equal ts) sort = (side : SortId) × AreAtLeastTwo ts × AreOfSort d env ts side × (bool_sort ≡ sort)
+  IsSorted d env (Distinct ts) sort = (side : SortId) × AreAtLeastTwo ts × AreOfSort d env ts side × (bool_sort ≡ sort)
   IsSorted d env (Ite c t u) sort = IsSorted d env c bool_sort × IsSorted d env t sort × IsSorted d env u sort
-  IsSorted d env (Let ts u) sort = (sorts : List SortId) × HasFormula ts × AreSorted d env ts sorts × IsSorted d (bind sorts env) u sort
-  IsSorted d env (Match t cases) sort = (side : SortId) × IsSorted d env t side × IsMatchable d side × HasCase cases × AreSortedCases d env side cases sort × IsExhaustive d side cases
+  IsSorted d env (Let ts u) sort = (sorts : List SortId) × HasFormula ts × AllSorted d env ts sorts × IsSorted d (bind sorts env) u sort
+  IsSorted d env (Match t cases) sort = (side : SortId) × IsSorted d env t side × IsMatchable d side × HasSomeCase cases × AreSortedCases d env side cases sort × IsExhaustive d side cases
 
   -- the formulas have these sorts, one for one
-  pub AreSorted : Declarations → List SortId → Formulas → List SortId → Type 0
-  AreSorted d env no_formulas [] = Unit {0}
-  AreSorted d env no_formulas (s ∷ sorts) = ⊥
-  AreSorted d env (with_formula t ts) [] = ⊥
-  AreSorted d env (with_formula t ts) (s ∷ sorts) = IsSorted d env t s × AreSorted d env ts sorts
+  pub AllSorted : Declarations → List SortId → Formulas → List SortId → Type 0
+  AllSorted d env no_formulas [] = Unit {0}
+  AllSorted d env no_formulas (s ∷ sorts) = ⊥
+  AllSorted d env (with_formula t ts) [] = ⊥
+  AllSorted d env (with_formula t ts) (s ∷ sorts) = IsSorted d env t s × AllSorted d env ts sorts
 
   -- every formula has this sort
   pub AreOfSort : Declarations → List SortId → Formulas → SortId → Type 0

@@ -110,12 +110,12 @@ abbrev pub Makes : Declarations → Terms → Terms → Core → ℕ → Type 0
 Makes d old new core t = ((new ≡ old) × Has old core t) ⊎ (IsAbsent old core × (t ≡ length old) × ((sort : SortId) × HasSort d old core sort × (new ≡ old ++ (core, sort) ∷ [])))
 
 -- `true` and `false`, the first two terms of every table
-abbrev pub truths : Terms
-truths = (Con (record { 0 = 0 }) [], bool_sort) ∷ ((Con (record { 0 = 1 }) [], bool_sort) ∷ [])
+abbrev pub truth_terms : Terms
+truth_terms = (Con (record { 0 = 0 }) [], bool_sort) ∷ ((Con (record { 0 = 1 }) [], bool_sort) ∷ [])
 
 -- `true` and `false` stand first
 abbrev pub BeginsWithTruths : Terms → Type 0
-BeginsWithTruths table = take 2 table ≡ truths
+BeginsWithTruths table = take 2 table ≡ truth_terms
 
 -- every term comes after the terms under it
 abbrev pub AreOrdered : Terms → Type 0

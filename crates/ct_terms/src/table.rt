@@ -4,7 +4,7 @@ ghost use Rattle.std.specs.Prelude.{◌≡◌, true, ℕ, ◌<◌, ◌≤◌, �
 ghost use Rattle.ct_sorts.specs.declared.ids.SortId.{SortId};
 ghost use Rattle.ct_sorts.specs.Declarations.{Declarations, start, bool_sort};
 ghost use Rattle.ct_terms.specs.declared.ids.TermId.{TermId};
-ghost use Rattle.ct_terms.specs.Terms.{Terms, IsOfSort, HasSort, IsWellSorted, AreSorted, StandsSorted, Has, IsAbsent, Makes, HasArgumentsBelow, AreOrdered, AreSingle, NegatesBooleans, BeginsWithTruths, most_terms, truths};
+ghost use Rattle.ct_terms.specs.Terms.{Terms, IsOfSort, HasSort, IsWellSorted, AreSorted, StandsSorted, Has, IsAbsent, Makes, HasArgumentsBelow, AreOrdered, AreSingle, NegatesBooleans, BeginsWithTruths, most_terms, truth_terms};
 ghost use Rattle.ct_sorts.specs.Grown.{Extends};
 ghost use Rattle.ct_terms.specs.Literal.{literal_step, literal_of, IsLiteral, IsStripped};
 
@@ -47,7 +47,7 @@ impl Model for TermTable {
 impl TermTable {
     /// The table of `true` and `false`. Its only error is `NoMemory`.
     pub fn new(alloc: Global) -> Result<TermTable, TermError>
-        ensures ok { IfOk result (λ table. table ≡ truths) }
+        ensures ok { IfOk result (λ table. table ≡ truth_terms) }
         ensures at_start { IfOk result (λ table. AreSorted start table) }
         ensures sorted { IfOk result (λ table. (d : Declarations) → Extends d start → AreSorted d table) }
         ensures err { IfErr result (λ e. e ≡ TermError.NoMemory) }

@@ -10,7 +10,7 @@ use Rattle.ct_sorts.specs.Grown.{Begins}
 use Rattle.ct_terms.specs.declared.ids.TermId.{TermId}
 use Rattle.ct_terms.specs.declared.term.Core.{Core}
 use Rattle.ct_terms.specs.declared.term.Core.TheVariants.{Con}
-use Rattle.ct_terms.specs.Terms.{Terms, IsOfSort, IsBoolean, AreSorted, AreOrdered, truths}
+use Rattle.ct_terms.specs.Terms.{Terms, IsOfSort, IsBoolean, AreSorted, AreOrdered, truth_terms}
 use Rattle.ct_terms.specs.CoreTree.{CoreTree, tree_children, subtrees, tree_layer, term_at}
 use Rattle.ct_terms.specs.CoreSorts.{HasTreeSort}
 use Rattle.ct_closure.specs.Closed.{truth_trees}
@@ -87,22 +87,22 @@ subtree_itself subterms t = subst (λ (ts : List CoreTree). Contains ts t) (sym 
 
 module _ (unfolds : (table : Terms) (t : TermId) (core : Core) (sort : SortId) → AreOrdered table → slice_get table t.0 ≡ Some (core, sort) → term_at table t ≡ tree_layer (term_at table) core) (subterms : (t : CoreTree) → subtrees t ≡ t ∷ flat_map subtrees (tree_children t)) where
   -- the terms of the first table are `true` and `false`
-  truth_tree : AreOrdered truths → (k : ℕ) → k < 2 → Contains truth_trees (term_at truths (record { 0 = k }))
+  truth_tree : AreOrdered truth_terms → (k : ℕ) → k < 2 → Contains truth_trees (term_at truth_terms (record { 0 = k }))
   truth_tree ordered zero h =
-      subst (Contains truth_trees) (sym (unfolds truths (record { 0 = 0 }) (Con (record { 0 = 0 }) []) bool_sort ordered refl)) (0, omega arith, refl)
+      subst (Contains truth_trees) (sym (unfolds truth_terms (record { 0 = 0 }) (Con (record { 0 = 0 }) []) bool_sort ordered refl)) (0, omega arith, refl)
   truth_tree ordered (suc zero) h =
-      subst (Contains truth_trees) (sym (unfolds truths (record { 0 = 1 }) (Con (record { 0 = 1 }) []) bool_sort ordered refl)) (1, omega arith, refl)
+      subst (Contains truth_trees) (sym (unfolds truth_terms (record { 0 = 1 }) (Con (record { 0 = 1 }) []) bool_sort ordered refl)) (1, omega arith, refl)
   truth_tree ordered (suc (suc k)) h = absurd (omega (arith, h))
 
   -- the first table is that of no assertion
-  pub truths_asserted : (d : Declarations) (table : Terms) → table ≡ truths → AreOrdered table → AreSorted d table → IsAsserted d table []
+  pub truths_asserted : (d : Declarations) (table : Terms) → table ≡ truth_terms → AreOrdered table → AreSorted d table → IsAsserted d table []
   truths_asserted d table e ordered sorted =
       record {
         sorted = sorted;
         boolean = All-nil (IsBoolean table);
         exact =
             subst (λ (ts : Terms). AreSubtermsOf ts []) (sym e)
-            (λ t within. (term_at truths t, truth_tree (subst AreOrdered e ordered) t.0 (omega (arith, within)), subtree_itself subterms (term_at truths t)));
+            (λ t within. (term_at truth_terms t, truth_tree (subst AreOrdered e ordered) t.0 (omega (arith, within)), subtree_itself subterms (term_at truth_terms t)));
       }
 
 -- two sorts that the test does not tell apart are one

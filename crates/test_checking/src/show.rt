@@ -1,6 +1,6 @@
 //! What answers show: names of sorts, numbers, and the terms of a table.
 ghost use Rattle.ct_terms.specs.Terms.{AreSorted};
-ghost use Rattle.test_checking.specs.Heads.{IsDeclared};
+ghost use Rattle.ct_log_text.specs.Written.{IsNamed};
 
 use ct_cases::{CaseError, show_bytes};
 use ct_sorts::{Signature, SortId};
@@ -47,7 +47,7 @@ pub fn show_terms(
 
 /// Shows what stands at the head of a term.
 fn show_head(alloc: Global, sig: &Signature, core: &Core, out: &mut String) -> Result<(), CaseError>
-    requires declared { IsDeclared sig.now core.now }
+    requires declared { IsNamed sig.now core.now }
 {
     match core {
         Core::Con(c, _) => show_named("con ", alloc, sig.ctor_name(*c), out),

@@ -1,5 +1,5 @@
 //! Sizes: `(sizes SORT ..)` shows each sort with its size, and `(copied SORT ..)` the same by a
-//! copy of the sizes. `(laws)` calls the functions that do nothing.
+//! copy of the sizes. `(theorems)` calls the functions that do nothing.
 ghost use Rattle.std.specs.Prelude.{IfOk};
 ghost use Rattle.ct_card.specs.Sizes.{AreSizes};
 
@@ -27,7 +27,7 @@ pub fn answer(
             let sizes = copied_sizes(alloc, sig)?;
             show_sizes(alloc, sig, &sizes, sorts, out)?;
         }
-        ("laws", []) => call_theorems(out)?,
+        ("theorems", []) => call_theorems(out)?,
         _ => return Ok(false),
     }
     Ok(true)

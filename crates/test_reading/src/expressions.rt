@@ -29,7 +29,7 @@ pub fn answer(
         }
         [text] if kind == "write" => write_both(alloc, &bytes_of(alloc, text)?, out)?,
         [text] if kind == "symbol-and-items" => show_first(alloc, &bytes_of(alloc, text)?, out)?,
-        [] if kind == "laws" => call_theorems(out)?,
+        [] if kind == "theorems" => call_theorems(out)?,
         _ => return Ok(false),
     }
     Ok(true)

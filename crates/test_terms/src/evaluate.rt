@@ -42,7 +42,7 @@ pub fn answer(
             show_values(alloc, sig, &interp, &table, out)?;
         }
         ("tables", [tables]) => show_tables(alloc, tables, out)?,
-        ("laws", []) => {
+        ("theorems", []) => {
             evaluation();
             out.push_str(" ok")?;
         }

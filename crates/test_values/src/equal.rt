@@ -30,7 +30,7 @@ pub fn answer(
         }
         ("closed", graphs) => show_closed(alloc, sig, graphs, out)?,
         ("ids", numbers) => show_ids(alloc, numbers, out)?,
-        ("laws", []) => call_theorems(out)?,
+        ("theorems", []) => call_theorems(out)?,
         _ => return Ok(false),
     }
     Ok(true)

@@ -4,7 +4,7 @@ use Rattle.std.proofs.lemmas.Result.{IfOk-weaker}
 use Rattle.clap.specs.Words.{App, HasKind, HasMatchesOf, app_of, fault_of, is_simple_and_free, kind_of, matches_of, takes}
 use Rattle.clap.specs.declared.error.kind.ErrorKind.TheVariants.{OutOfMemory}
 use Rattle.ct_arguments.specs.Command.{cosmt}
-use Rattle.ct_arguments.specs.Arguments.{meaning, task_of}
+use Rattle.ct_arguments.specs.Arguments.{asked_for, task_of}
 use Rattle.ct_arguments.specs.Seen.{task_seen}
 use Rattle.ct_arguments.proofs.CommandLemmas.{IfOk-both, accepted, cosmt_is_free, cosmt_is_simple, refused}
 use Rattle.ct_arguments.proofs.TaskLemmas.{within_of}
@@ -18,7 +18,7 @@ returns-in-Ok c =
     let app : app_of c.in_ok-command.field-0 ≡ cosmt = c.in_ok-command.ensures.app in
     let none = subst (λ (a : App). is_simple_and_free a ≡ true → fault_of a (map (λ (t : List ℕ). t) words) ≡ []) app parse.kinds cosmt_is_free in
     let found = subst (λ (a : App). HasMatchesOf a (map (λ (t : List ℕ). t) words) c.in-Ok.matches) app parse.matches cosmt_is_simple in
-    let task : task_seen c.meaning.result ≡ task_of words = c.meaning.ensures.task ∙ ap meaning (found.0 ∙ ap (matches_of cosmt) same) ∙ accepted words (ap (fault_of cosmt) (sym same) ∙ none) in
+    let task : task_seen c.meaning.result ≡ task_of words = c.meaning.ensures.task ∙ ap asked_for (found.0 ∙ ap (matches_of cosmt) same) ∙ accepted words (ap (fault_of cosmt) (sym same) ∙ none) in
     record { task = task; within = within_of (task_seen c.meaning.result) words task }
 
 pub returns-in-Err : goal.returns-in-Err

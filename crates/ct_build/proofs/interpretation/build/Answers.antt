@@ -6,7 +6,7 @@ use Rattle.ct_terms.specs.Terms.{Terms}
 use Rattle.ct_eval.specs.declared.interp.Table.{Table}
 use Rattle.ct_eval.specs.Interpretation.{HasFunctions, HasSelectors}
 use Rattle.ct_build.specs.declared.open_classes.OpenClass.{OpenClass}
-use Rattle.ct_build.specs.Nodes.{AreOfAllSorts, HaveNodes, AreOpenClasses}
+use Rattle.ct_build.specs.Nodes.{AreOfAllSorts, HaveSortedNodes, AreOpenClasses}
 use Rattle.ct_build.proofs.interpretation.build.Goals as goal
 
 pub choose-requires-clause-classes : goal.choose-requires-clause-classes
@@ -24,9 +24,9 @@ returns c =
     let nodes = c.as_slice-nodes.result.now in
     let defaults = c.as_slice-defaults.result.now in
     let known = c.in_ok-valued.ensures in
-    let own_nodes : HaveNodes state.declarations state.terms g nodes = subst (λ (l : List NodeId). HaveNodes state.declarations state.terms g l) (sym c.as_slice-nodes.ensures.value) known.nodes in
+    let own_nodes : HaveSortedNodes state.declarations state.terms g nodes = subst (λ (l : List NodeId). HaveSortedNodes state.declarations state.terms g l) (sym c.as_slice-nodes.ensures.value) known.nodes in
     let own_defaults : AreOfAllSorts state.declarations g defaults = subst (λ (l : List NodeId). AreOfAllSorts state.declarations g l) (sym c.as_slice-defaults.ensures.value) known.defaults in
-    let have : HaveNodes d c.args.table.now g nodes = subst (λ (terms : Terms). HaveNodes d terms g nodes) c.requires.terms (subst (λ (k : Declarations). HaveNodes k state.terms g nodes) e own_nodes) in
+    let have : HaveSortedNodes d c.args.table.now g nodes = subst (λ (terms : Terms). HaveSortedNodes d terms g nodes) c.requires.terms (subst (λ (k : Declarations). HaveSortedNodes k state.terms g nodes) e own_nodes) in
     let all : AreOfAllSorts d g defaults = subst (λ (k : Declarations). AreOfAllSorts k g defaults) e own_defaults in
     record {
       proper = record {

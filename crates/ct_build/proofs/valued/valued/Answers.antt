@@ -4,7 +4,7 @@ use Rattle.ct_terms.specs.declared.ids.TermId.{TermId}
 use Rattle.ct_values.specs.declared.node.NodeId.{NodeId}
 use Rattle.ct_values.specs.Graph.{Nodes}
 use Rattle.ct_values.specs.WellFormed.{IsWellFormedGraph}
-use Rattle.ct_build.specs.Nodes.{AreOfAllSorts, HaveNodes, AreNumbered, AreClassNodes}
+use Rattle.ct_build.specs.Nodes.{AreOfAllSorts, HaveSortedNodes, AreNumbered, AreClassNodes}
 use Rattle.ct_build.proofs.ClassLemmas.{class_nodes_well_formed, class_nodes_below, class_nodes_have}
 use Rattle.ct_build.proofs.DefaultLemmas.{all_sorts_longer}
 use Rattle.ct_build.proofs.ListedLemmas.{listed_within}
@@ -27,7 +27,7 @@ append-requires c =
     let known = c.facts.ensures in
     let g = c.values.new.g in
     let formed : IsWellFormedGraph d g = c.in_ok-values.ensures.well_formed (subst (λ (k : Declarations). IsWellFormedGraph k c.args.g.now → IsWellFormedGraph k c.default_nodes.new.g) c.signature.ensures.value c.in_ok-defaults.ensures.well_formed c.requires.well_formed) in
-    let have : HaveNodes d state.terms g c.deref-2.result.now = subst (λ (l : List NodeId). HaveNodes d state.terms g l) (sym c.deref-2.ensures.value) c.in_ok-values.ensures.nodes in
+    let have : HaveSortedNodes d state.terms g c.deref-2.result.now = subst (λ (l : List NodeId). HaveSortedNodes d state.terms g l) (sym c.deref-2.ensures.value) c.in_ok-values.ensures.nodes in
     let numbered : AreNumbered state g list nodes = subst (λ (l : List TermId). AreNumbered state g l nodes) c.deref-3.ensures.value (c.in_ok-nodes.ensures.numbered g (sym c.len-base.ensures.count) have) in
     let are : AreClassNodes state g list nodes added = subst (λ (l : List TermId). AreClassNodes state g l nodes added) c.deref-5.ensures.value (subst (λ (l : List NodeId). AreClassNodes state g c.deref-5.result.now l added) c.deref-6.ensures.value c.in_ok-added.ensures.added) in
     record { below = class_nodes_below state known.sorted known.one_sort known.long order list c.requires.ordered c.in_ok-list.ensures.list g formed nodes numbered added are }
@@ -43,7 +43,7 @@ returns-clause-well_formed c =
     let known = c.facts.ensures in
     let g = c.values.new.g in
     let formed : IsWellFormedGraph d g = c.in_ok-values.ensures.well_formed (subst (λ (k : Declarations). IsWellFormedGraph k c.args.g.now → IsWellFormedGraph k c.default_nodes.new.g) c.signature.ensures.value c.in_ok-defaults.ensures.well_formed c.requires.well_formed) in
-    let have : HaveNodes d state.terms g c.deref-2.result.now = subst (λ (l : List NodeId). HaveNodes d state.terms g l) (sym c.deref-2.ensures.value) c.in_ok-values.ensures.nodes in
+    let have : HaveSortedNodes d state.terms g c.deref-2.result.now = subst (λ (l : List NodeId). HaveSortedNodes d state.terms g l) (sym c.deref-2.ensures.value) c.in_ok-values.ensures.nodes in
     let numbered : AreNumbered state g list nodes = subst (λ (l : List TermId). AreNumbered state g l nodes) c.deref-3.ensures.value (c.in_ok-nodes.ensures.numbered g (sym c.len-base.ensures.count) have) in
     let are : AreClassNodes state g list nodes added = subst (λ (l : List TermId). AreClassNodes state g l nodes added) c.deref-5.ensures.value (subst (λ (l : List NodeId). AreClassNodes state g c.deref-5.result.now l added) c.deref-6.ensures.value c.in_ok-added.ensures.added) in
     subst (λ (h : Nodes). IsWellFormedGraph d h) (sym c.in_ok-append.ensures.ok)
@@ -60,10 +60,10 @@ returns-clause-nodes c =
     let known = c.facts.ensures in
     let g = c.values.new.g in
     let formed : IsWellFormedGraph d g = c.in_ok-values.ensures.well_formed (subst (λ (k : Declarations). IsWellFormedGraph k c.args.g.now → IsWellFormedGraph k c.default_nodes.new.g) c.signature.ensures.value c.in_ok-defaults.ensures.well_formed c.requires.well_formed) in
-    let have : HaveNodes d state.terms g c.deref-2.result.now = subst (λ (l : List NodeId). HaveNodes d state.terms g l) (sym c.deref-2.ensures.value) c.in_ok-values.ensures.nodes in
+    let have : HaveSortedNodes d state.terms g c.deref-2.result.now = subst (λ (l : List NodeId). HaveSortedNodes d state.terms g l) (sym c.deref-2.ensures.value) c.in_ok-values.ensures.nodes in
     let numbered : AreNumbered state g list nodes = subst (λ (l : List TermId). AreNumbered state g l nodes) c.deref-3.ensures.value (c.in_ok-nodes.ensures.numbered g (sym c.len-base.ensures.count) have) in
     let are : AreClassNodes state g list nodes added = subst (λ (l : List TermId). AreClassNodes state g l nodes added) c.deref-5.ensures.value (subst (λ (l : List NodeId). AreClassNodes state g c.deref-5.result.now l added) c.deref-6.ensures.value c.in_ok-added.ensures.added) in
-    subst (λ (h : Nodes). HaveNodes d state.terms h nodes) (sym c.in_ok-append.ensures.ok)
+    subst (λ (h : Nodes). HaveSortedNodes d state.terms h nodes) (sym c.in_ok-append.ensures.ok)
     (class_nodes_have state known.sorted known.one_sort known.long order list c.requires.ordered c.in_ok-list.ensures.list g formed nodes numbered added are)
 
 pub returns-clause-defaults : goal.returns-clause-defaults

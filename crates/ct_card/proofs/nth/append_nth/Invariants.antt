@@ -6,7 +6,7 @@ use Rattle.ct_values.specs.Fitting.{HasNodeSort}
 use Rattle.ct_values.specs.WellFormed.{IsWellFormedGraph}
 use Rattle.ct_card.specs.declared.departure.Departure.{Departure}
 use Rattle.ct_card.specs.Departures.{AreSeconds}
-use Rattle.ct_card.specs.Built.{AreSorted}
+use Rattle.ct_card.specs.Built.{HaveTheirSorts}
 use Rattle.ct_card.specs.Signs.{HasAllDefaults, HasAllSeconds}
 use Rattle.ct_card.specs.Nth.{IsNthIn}
 use Rattle.ct_card.specs.Descent.{LeadsDown}
@@ -16,7 +16,7 @@ abbrev pub invariant-loop-x : goal.invariant-loop-x
 invariant-loop-x l = record {
   grown : Begins l.fn.g l.g;
   formed : IsWellFormedGraph l.sig l.fn.g → IsWellFormedGraph l.sig l.g;
-  sorted : AreSorted l.sig l.ranks l.base l.g;
+  sorted : HaveTheirSorts l.sig l.ranks l.base l.g;
   place : (t : ℕ) × (m : ℕ) × LeadsDown l.sig l.layers l.s l.n l.down.way.items t m × HasNodeSort l.sig l.g l.top (record { 0 = t })
       × ((ctors : List CtorId) (seconds : List Departure) → AreSeconds l.sig l.several ctors seconds → HasAllDefaults l.sig l.ranks ctors l.base l.fn.g → HasAllSeconds l.sig l.several ctors seconds l.second l.fn.g → IsNthIn l.sig ctors seconds l.layers t m (node_point l.g l.top));
 }

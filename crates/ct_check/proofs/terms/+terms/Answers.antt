@@ -7,17 +7,18 @@ use Rattle.ct_terms.specs.Formula.{bind}
 use Rattle.ct_terms.specs.TreeFormula.{formula_of, formulas_of_trees}
 use Rattle.ct_check.specs.declared.heads.Head.{Head}
 use Rattle.ct_check.specs.declared.heads.Head.TheVariants.{Equation}
-use Rattle.ct_names.specs.Answer.{same}
+use Rattle.ct_names.specs.Answer.{as_it_is}
 use Rattle.ct_names.specs.Bounds.{variable_of, held_name}
-use Rattle.ct_check.specs.Binders.{bound_by}
+use Rattle.ct_check.specs.Binders.{let_of_names}
 use Rattle.ct_check.specs.Callees.{called}
-use Rattle.ct_check.specs.Heads.{headed_by, IsDeclared}
+use Rattle.ct_check.specs.Heads.{headed_by, IsHeadDeclared}
 use Rattle.ct_names.specs.Outcome.{Outcome, Sorted, and_then}
 use Rattle.ct_names.specs.Parts.{Part, with_part}
 use Rattle.ct_names.specs.Patterns.{matchable}
-use Rattle.ct_check.specs.Trees.{sorted_of, sorted_list, checked_of, case_of}
+use Rattle.ct_check.specs.Trees.{sorted_of, sorted_list, checked_of}
+use Rattle.ct_occurrence.specs.CaseFormula.{case_of}
 use Rattle.ct_names.specs.Variables.{variables}
-use Rattle.ct_names.specs.Elaboration.{part_of, parts_of, meaning, elaborated, list_meaning, let_form, match_form, annotated, lone_symbol, choice, bound, bound_terms, cases_of, checked_cases, exhausted, sorts_of, formulas_of}
+use Rattle.ct_names.specs.Elaboration.{part_of, parts_of, meaning_of_part, elaborated, list_meaning, let_form, match_form, annotated, lone_symbol, choice_form, let_of, bound_terms, match_of, checked_cases, exhausted, sorts_of, without_sorts}
 use Rattle.ct_names.proofs.AnswerLemmas.{answers_along, answers_error, answers_memory, leads_along, leads_error}
 use Rattle.ct_names.proofs.PartLemmas.{part_of_list, first_and_rest, count-parts}
 use Rattle.ct_check.proofs.HeadLemmas.{list-headed}
@@ -98,7 +99,7 @@ term-returns-in-List-clause-value t c =
     let d = c.args.sig.now in
     let scope = c.args.variables.now in
     answers_along sorted_of (elaborated d scope (expression_of c.args.expr.now)) (list_meaning d (parts_of d (expressions_of c.as_slice.result.now)) scope) c.list.result
-    (ap (λ (p : Part). meaning d scope p) (part_of_list d c.args.expr.now c.in-List.items c.as_slice.result.now c.in-List.is c.as_slice.ensures.value))
+    (ap (λ (p : Part). meaning_of_part d scope p) (part_of_list d c.args.expr.now c.in-List.items c.as_slice.result.now c.in-List.is c.as_slice.ensures.value))
     c.list.ensures.value
 
 pub list-returns-in_default-clause-value : goal.list-returns-in_default-clause-value
@@ -155,10 +156,10 @@ list-returns-in-Annotation-clause-value t c =
     c.annotated.ensures.value
 
 pub list-lone_symbol-requires : goal.list-lone_symbol-requires
-list-lone_symbol-requires t c = record { inside = subst (λ (h : Head). IsDeclared c.args.sig.now h) c.in-Whole.is c.in_ok-head_of.ensures.inside }
+list-lone_symbol-requires t c = record { inside = subst (λ (h : Head). IsHeadDeclared c.args.sig.now h) c.in-Whole.is c.in_ok-head_of.ensures.inside }
 
 pub list-called-requires : goal.list-called-requires
-list-called-requires t c = record { inside = subst (λ (h : Head). IsDeclared c.args.sig.now h) c.in-Call.is c.in_ok-head_of.ensures.inside }
+list-called-requires t c = record { inside = subst (λ (h : Head). IsHeadDeclared c.args.sig.now h) c.in-Call.is c.in_ok-head_of.ensures.inside }
 
 pub list-returns-in-Whole-clause-value : goal.list-returns-in-Whole-clause-value
 list-returns-in-Whole-clause-value t c =
@@ -221,7 +222,7 @@ list-returns-in_ok-met-in-Choice-clause-value t c =
     let items = c.args.items.now in
     let others = take (length items - 1) (drop 1 items) in
     let ps = parts_of d (expressions_of others) in
-    answers_along sorted_of (list_meaning d (parts_of d (expressions_of items)) scope) (choice d scope ps) c.choice.result
+    answers_along sorted_of (list_meaning d (parts_of d (expressions_of items)) scope) (choice_form d scope ps) c.choice.result
     (list-headed d scope items c.first-item.result others (first_and_rest items c.first-item.result c.in-len1-up.len_at_least c.first-item.is)
     ∙ c.in_ok-head_of.ensures.value ∙ ap (λ (h : Head). headed_by d scope h ps) c.in-Choice.is)
     (c.choice.ensures.value d scope ps (count-parts d others) c.in_ok-met-in-Choice.ensures.held)
@@ -256,12 +257,12 @@ terms-loop-expr-preserved t c =
     let loop = c.loop-expr in
     let here = part_of c.args.sig.now (expression_of c.expr-item.result) in
     rw (c.in_ok-push-in-Ok.ensures.items, c.in_ok-push-in-Ok-2.ensures.items)
-    (c.in-Ok.ensures.restored ∙ loop.invariant.0, met_terms.at_next c.args.sig.now c.args.variables.now c.args.exprs.now loop.expr-index loop.trees.items loop.sorts.items loop.invariant.1 c.expr-item.result _ _ c.loop-expr-test.true c.expr-item.is (ap (λ sc. meaning c.args.sig.now sc here) (sym loop.invariant.0) ∙ c.in-Ok.ensures.value))
+    (c.in-Ok.ensures.restored ∙ loop.invariant.0, met_terms.at_next c.args.sig.now c.args.variables.now c.args.exprs.now loop.expr-index loop.trees.items loop.sorts.items loop.invariant.1 c.expr-item.result _ _ c.loop-expr-test.true c.expr-item.is (ap (λ sc. meaning_of_part c.args.sig.now sc here) (sym loop.invariant.0) ∙ c.in-Ok.ensures.value))
 
 pub terms-returns-in-Err-clause-held : goal.terms-returns-in-Err-clause-held
 terms-returns-in-Err-clause-held t c =
     let loop = c.loop-expr in
-    elim-stopped c.args.sig.now c.args.variables.now c.args.exprs.now loop.expr-index loop.trees.items loop.sorts.items loop.invariant.1 c.expr-item.result c.in-Err.error c.stopped.result c.loop-expr-test.true c.expr-item.is (answers_along sorted_of (meaning c.args.sig.now c.args.variables.now (part_of c.args.sig.now (expression_of c.expr-item.result))) (meaning c.args.sig.now loop.variables (part_of c.args.sig.now (expression_of c.expr-item.result))) (Err c.in-Err.error) (ap (λ sc. meaning c.args.sig.now sc (part_of c.args.sig.now (expression_of c.expr-item.result))) (sym loop.invariant.0)) c.in-Err.ensures.value) c.stopped.ensures.ok
+    elim-stopped c.args.sig.now c.args.variables.now c.args.exprs.now loop.expr-index loop.trees.items loop.sorts.items loop.invariant.1 c.expr-item.result c.in-Err.error c.stopped.result c.loop-expr-test.true c.expr-item.is (answers_along sorted_of (meaning_of_part c.args.sig.now c.args.variables.now (part_of c.args.sig.now (expression_of c.expr-item.result))) (meaning_of_part c.args.sig.now loop.variables (part_of c.args.sig.now (expression_of c.expr-item.result))) (Err c.in-Err.error) (ap (λ sc. meaning_of_part c.args.sig.now sc (part_of c.args.sig.now (expression_of c.expr-item.result))) (sym loop.invariant.0)) c.in-Err.ensures.value) c.stopped.ensures.ok
 
 pub terms-returns-clause-held : goal.terms-returns-clause-held
 terms-returns-clause-held t c =
@@ -286,12 +287,12 @@ let_form-returns-in_err-names-clause-value t c =
     let ps = parts_of d (expressions_of c.as_slice-bindings.result.now) in
     let body = part_of d (expression_of c.index-args-1.result) in
     let whole = let_form d scope (parts_of d (expressions_of args)) in
-    let as_bound : let_form d scope (parts_of d (expressions_of args)) ≡ bound d scope ps body =
+    let as_bound : let_form d scope (parts_of d (expressions_of args)) ≡ let_of d scope ps body =
     let-list d scope args c.index-args-0.result c.index-args-1.result c.in-List.bindings c.as_slice-bindings.result.now
     (two_of args c.index-args-0.result c.index-args-1.result c.if-args-ne2.false c.index-args-0.is c.index-args-1.is) c.in-List.is c.as_slice-bindings.ensures.value in
     let p = err_from_is_err_and c.from_residual.result c.from_residual.ensures.1 in
-    rw (p.1, p.2) (leads_error (λ (names : Vec (Option (Bor (List ℕ))) Global). bound_by d scope (map held_name names.items) ps body) sorted_of whole _
-    (leads_along (λ (names : Vec (Option (Bor (List ℕ))) Global). bound_by d scope (map held_name names.items) ps body) whole (bound d scope ps body) (Err _) as_bound (c.in_err-names.ensures.value d scope body)))
+    rw (p.1, p.2) (leads_error (λ (names : Vec (Option (Bor (List ℕ))) Global). let_of_names d scope (map held_name names.items) ps body) sorted_of whole _
+    (leads_along (λ (names : Vec (Option (Bor (List ℕ))) Global). let_of_names d scope (map held_name names.items) ps body) whole (let_of d scope ps body) (Err _) as_bound (c.in_err-names.ensures.value d scope body)))
 
 pub let_form-returns-in_err-trees-clause-value : goal.let_form-returns-in_err-trees-clause-value
 let_form-returns-in_err-trees-clause-value t c =
@@ -301,12 +302,12 @@ let_form-returns-in_err-trees-clause-value t c =
     let ps = parts_of d (expressions_of c.as_slice-bindings.result.now) in
     let body = part_of d (expression_of c.index-args-1.result) in
     let whole = let_form d scope (parts_of d (expressions_of args)) in
-    let as_bound : let_form d scope (parts_of d (expressions_of args)) ≡ bound d scope ps body =
+    let as_bound : let_form d scope (parts_of d (expressions_of args)) ≡ let_of d scope ps body =
     let-list d scope args c.index-args-0.result c.index-args-1.result c.in-List.bindings c.as_slice-bindings.result.now
     (two_of args c.index-args-0.result c.index-args-1.result c.if-args-ne2.false c.index-args-0.is c.index-args-1.is) c.in-List.is c.as_slice-bindings.ensures.value in
     let names = map held_name c.in_ok-names.names.items in
     let p = err_from_is_err_and c.from_residual-in_err-trees.result c.from_residual-in_err-trees.ensures.1 in
-    rw (p.1, p.2) (answers_error sorted_list sorted_of whole (bound_terms d scope ps) (λ ts. and_then (meaning d (bind (variables names (sorts_of ts)) scope) body) (λ u. Ok (formula.Let (formulas_of ts) u.0, u.1))) _
+    rw (p.1, p.2) (answers_error sorted_list sorted_of whole (bound_terms d scope ps) (λ ts. and_then (meaning_of_part d (bind (variables names (sorts_of ts)) scope) body) (λ u. Ok (formula.Let (without_sorts ts) u.0, u.1))) _
     (as_bound ∙ c.in_ok-names.ensures.value d scope body) c.in_err-trees.ensures.value)
 
 pub let_form-returns-in_err-inner-clause-value : goal.let_form-returns-in_err-inner-clause-value
@@ -322,7 +323,7 @@ let_form-returns-in_err-tree-clause-value t c =
     let ps = parts_of d (expressions_of c.as_slice-bindings.result.now) in
     let body = part_of d (expression_of c.index-args-1.result) in
     let whole = let_form d scope (parts_of d (expressions_of args)) in
-    let as_bound : let_form d scope (parts_of d (expressions_of args)) ≡ bound d scope ps body =
+    let as_bound : let_form d scope (parts_of d (expressions_of args)) ≡ let_of d scope ps body =
     let-list d scope args c.index-args-0.result c.index-args-1.result c.in-List.bindings c.as_slice-bindings.result.now
     (two_of args c.index-args-0.result c.index-args-1.result c.if-args-ne2.false c.index-args-0.is c.index-args-1.is) c.in-List.is c.as_slice-bindings.ensures.value in
     let names = map held_name c.in_ok-names.names.items in
@@ -330,7 +331,7 @@ let_form-returns-in_err-tree-clause-value t c =
     let sorts = c.in_ok-trees.sorts.items in
     let inner = bind (map variable_of c.as_slice-3.result.now) c.bound_terms.new.variables in
     let p = err_from_is_err_and c.from_residual-in_err-tree.result c.from_residual-in_err-tree.ensures.1 in
-    rw (p.1, p.2) (answers_error sorted_of sorted_of whole (meaning d inner body) (λ u. Ok (formula.Let (formulas_of_trees trees) u.0, u.1)) _
+    rw (p.1, p.2) (answers_error sorted_of sorted_of whole (meaning_of_part d inner body) (λ u. Ok (formula.Let (formulas_of_trees trees) u.0, u.1)) _
     (as_bound ∙ c.in_ok-names.ensures.value d scope body
     ∙ bound-body d scope names ps body trees sorts inner c.in_ok-trees.ensures.one_each c.in_ok-trees.ensures.value
     (inner-scope c.bound_terms.new.variables scope c.in_ok-names.names.items c.as_slice.result.now sorts c.as_slice-2.result.now c.in_ok-inner.inner.items c.as_slice-3.result.now c.in_ok-trees.ensures.restored c.as_slice.ensures.value c.as_slice-2.ensures.value c.in_ok-inner.ensures.ok c.as_slice-3.ensures.value))
@@ -349,7 +350,7 @@ let_form-returns-clause-value t c =
     let ps = parts_of d (expressions_of c.as_slice-bindings.result.now) in
     let body = part_of d (expression_of c.index-args-1.result) in
     let whole = let_form d scope (parts_of d (expressions_of args)) in
-    let as_bound : let_form d scope (parts_of d (expressions_of args)) ≡ bound d scope ps body =
+    let as_bound : let_form d scope (parts_of d (expressions_of args)) ≡ let_of d scope ps body =
     let-list d scope args c.index-args-0.result c.index-args-1.result c.in-List.bindings c.as_slice-bindings.result.now
     (two_of args c.index-args-0.result c.index-args-1.result c.if-args-ne2.false c.index-args-0.is c.index-args-1.is) c.in-List.is c.as_slice-bindings.ensures.value in
     let names = map held_name c.in_ok-names.names.items in
@@ -390,7 +391,7 @@ bound_terms-returns-in_err-tree-clause-value t c =
     let two = pair_at c.as_slice-items.result.now c.index-items-1.result c.if-items-ne2.false c.index-items-1.is in
     let p = err_from_is_err_and c.from_residual-in_err-tree.result c.from_residual-in_err-tree.ensures.1 in
     rw (p.1, p.2) (bindings.at_error d c.args.variables.now c.args.bindings.now loop.binding-index loop.trees.items loop.sorts.items loop.invariant.1 c.binding-item.result two.0 c.index-items-1.result _ c.loop-binding-test.true c.binding-item.is
-    (pair_form d c.binding-item.result c.in-List.items c.as_slice-items.result.now two.0 c.index-items-1.result c.in-List.is c.as_slice-items.ensures.value two.1) (answers_along sorted_of (meaning d c.args.variables.now (part_of d (expression_of c.index-items-1.result))) (meaning d loop.variables (part_of d (expression_of c.index-items-1.result))) (Err _) (ap (λ sc. meaning d sc (part_of d (expression_of c.index-items-1.result))) (sym loop.invariant.0)) c.in_err-tree.ensures.value))
+    (pair_form d c.binding-item.result c.in-List.items c.as_slice-items.result.now two.0 c.index-items-1.result c.in-List.is c.as_slice-items.ensures.value two.1) (answers_along sorted_of (meaning_of_part d c.args.variables.now (part_of d (expression_of c.index-items-1.result))) (meaning_of_part d loop.variables (part_of d (expression_of c.index-items-1.result))) (Err _) (ap (λ sc. meaning_of_part d sc (part_of d (expression_of c.index-items-1.result))) (sym loop.invariant.0)) c.in_err-tree.ensures.value))
 
 pub bound_terms-loop-binding-preserved : goal.bound_terms-loop-binding-preserved
 bound_terms-loop-binding-preserved t c =
@@ -400,7 +401,7 @@ bound_terms-loop-binding-preserved t c =
     rw (c.in_ok-push.ensures.items, c.in_ok-push-2.ensures.items) (
       c.in_ok-tree.ensures.restored ∙ loop.invariant.0,
       bindings.at_next d c.args.variables.now c.args.bindings.now loop.binding-index loop.trees.items loop.sorts.items loop.invariant.1 c.binding-item.result two.0 c.index-items-1.result _ _ (one_more_each loop.trees.items loop.sorts.items _ _ loop.invariant.1.long) c.loop-binding-test.true c.binding-item.is
-          (pair_form d c.binding-item.result c.in-List.items c.as_slice-items.result.now two.0 c.index-items-1.result c.in-List.is c.as_slice-items.ensures.value two.1) (ap (λ sc. meaning d sc (part_of d (expression_of c.index-items-1.result))) (sym loop.invariant.0) ∙ c.in_ok-tree.ensures.value),
+          (pair_form d c.binding-item.result c.in-List.items c.as_slice-items.result.now two.0 c.index-items-1.result c.in-List.is c.as_slice-items.ensures.value two.1) (ap (λ sc. meaning_of_part d sc (part_of d (expression_of c.index-items-1.result))) (sym loop.invariant.0) ∙ c.in_ok-tree.ensures.value),
     )
 
 pub bound_terms-returns-clause-value : goal.bound_terms-returns-clause-value
@@ -455,7 +456,7 @@ checked_cases-returns-then-not-goes_with-clause-value t c =
     let inner = case-scope loop.variables scope c.in_ok-fitted.inner.items c.as_slice.result.now loop.invariant.0 c.as_slice.ensures.value in
     let body = part_of d (expression_of c.index-items-1.result) in
     cases.at_wrong d scope c.args.side c.args.cases.now loop.case-index loop.checked.sort (map case_of loop.checked.cases.items) loop.checked.patterns.items loop.invariant.1 c.case-item.result c.index-items-0.result c.index-items-1.result (c.in_ok-fitted.fitted, map variable_of c.in_ok-fitted.inner.items) (formula_of c.in_ok-tree.tree, c.in_ok-tree.sort) c.loop-case-test.true c.case-item.is form c.in_ok-fitted.ensures.value
-    (ap (λ sc. meaning d sc body) (sym inner) ∙ c.in_ok-tree.ensures.value) (sym c.goes_with.ensures.value ∙ c.if-not-goes_with.true)
+    (ap (λ sc. meaning_of_part d sc body) (sym inner) ∙ c.in_ok-tree.ensures.value) (sym c.goes_with.ensures.value ∙ c.if-not-goes_with.true)
 
 pub checked_cases-loop-case-preserved : goal.checked_cases-loop-case-preserved
 checked_cases-loop-case-preserved t c =
@@ -468,7 +469,7 @@ checked_cases-loop-case-preserved t c =
     rw (c.in_ok-add_case.ensures.sort, c.in_ok-add_case.ensures.cases, c.in_ok-add_case.ensures.patterns) (
       c.in_ok-tree.ensures.restored ∙ loop.invariant.0,
       cases.at_next d scope c.args.side c.args.cases.now loop.case-index loop.checked.sort (map case_of loop.checked.cases.items) loop.checked.patterns.items loop.invariant.1 c.case-item.result c.index-items-0.result c.index-items-1.result (c.in_ok-fitted.fitted, map variable_of c.in_ok-fitted.inner.items) (formula_of c.in_ok-tree.tree, c.in_ok-tree.sort) c.loop-case-test.true c.case-item.is form c.in_ok-fitted.ensures.value
-          (ap (λ sc. meaning d sc body) (sym inner) ∙ c.in_ok-tree.ensures.value) (sym c.goes_with.ensures.value ∙ c.if-not-goes_with.false),
+          (ap (λ sc. meaning_of_part d sc body) (sym inner) ∙ c.in_ok-tree.ensures.value) (sym c.goes_with.ensures.value ∙ c.if-not-goes_with.false),
     )
 
 pub checked_cases-returns-clause-value : goal.checked_cases-returns-clause-value
@@ -494,7 +495,7 @@ match_form-returns-then-not-are_cases-clause-value t c =
     let e = part_of d (expression_of c.index-args-0.result) in
     let ps = parts_of d (expressions_of c.as_slice-cases.result.now) in
     let whole = match_form d scope (parts_of d (expressions_of args)) in
-    let as_cases : match_form d scope (parts_of d (expressions_of args)) ≡ cases_of d scope e ps =
+    let as_cases : match_form d scope (parts_of d (expressions_of args)) ≡ match_of d scope e ps =
     match-list d scope args c.index-args-0.result c.index-args-1.result c.in-List.cases c.as_slice-cases.result.now
     (two_of args c.index-args-0.result c.index-args-1.result c.if-args-ne2.false c.index-args-0.is c.index-args-1.is) c.in-List.is c.as_slice-cases.ensures.value in
     as_cases ∙ cases-other d scope e ps (sym (c.are_cases.ensures.value d) ∙ c.if-not-are_cases.true)
@@ -507,11 +508,11 @@ match_form-returns-in_err-subject-clause-value t c =
     let e = part_of d (expression_of c.index-args-0.result) in
     let ps = parts_of d (expressions_of c.as_slice-cases.result.now) in
     let whole = match_form d scope (parts_of d (expressions_of args)) in
-    let as_cases : match_form d scope (parts_of d (expressions_of args)) ≡ cases_of d scope e ps =
+    let as_cases : match_form d scope (parts_of d (expressions_of args)) ≡ match_of d scope e ps =
     match-list d scope args c.index-args-0.result c.index-args-1.result c.in-List.cases c.as_slice-cases.result.now
     (two_of args c.index-args-0.result c.index-args-1.result c.if-args-ne2.false c.index-args-0.is c.index-args-1.is) c.in-List.is c.as_slice-cases.ensures.value in
     let p = err_from_is_err_and c.from_residual.result c.from_residual.ensures.1 in
-    rw (p.1, p.2) (answers_error sorted_of sorted_of whole (meaning d scope e) (λ subject. and_then (matchable d subject.1) (λ side. and_then (checked_cases d scope side None ps) (λ checked. exhausted d subject checked))) _
+    rw (p.1, p.2) (answers_error sorted_of sorted_of whole (meaning_of_part d scope e) (λ subject. and_then (matchable d subject.1) (λ side. and_then (checked_cases d scope side None ps) (λ checked. exhausted d subject checked))) _
     (as_cases ∙ cases-subject d scope e ps (sym (c.are_cases.ensures.value d) ∙ c.if-not-are_cases.false)) c.in_err-subject.ensures.value)
 
 pub match_form-returns-in_err-side-clause-value : goal.match_form-returns-in_err-side-clause-value
@@ -522,12 +523,12 @@ match_form-returns-in_err-side-clause-value t c =
     let e = part_of d (expression_of c.index-args-0.result) in
     let ps = parts_of d (expressions_of c.as_slice-cases.result.now) in
     let whole = match_form d scope (parts_of d (expressions_of args)) in
-    let as_cases : match_form d scope (parts_of d (expressions_of args)) ≡ cases_of d scope e ps =
+    let as_cases : match_form d scope (parts_of d (expressions_of args)) ≡ match_of d scope e ps =
     match-list d scope args c.index-args-0.result c.index-args-1.result c.in-List.cases c.as_slice-cases.result.now
     (two_of args c.index-args-0.result c.index-args-1.result c.if-args-ne2.false c.index-args-0.is c.index-args-1.is) c.in-List.is c.as_slice-cases.ensures.value in
     let subject : Sorted = (formula_of c.in_ok-subject.subject, c.in_ok-subject.subject_sort) in
     let p = err_from_is_err_and c.from_residual-in_err-side.result c.from_residual-in_err-side.ensures.1 in
-    rw (p.1, p.2) (answers_error same sorted_of whole (matchable d c.in_ok-subject.subject_sort) (λ side. and_then (checked_cases d scope side None ps) (λ checked. exhausted d subject checked)) _
+    rw (p.1, p.2) (answers_error as_it_is sorted_of whole (matchable d c.in_ok-subject.subject_sort) (λ side. and_then (checked_cases d scope side None ps) (λ checked. exhausted d subject checked)) _
     (as_cases ∙ cases-side d scope e ps subject (sym (c.are_cases.ensures.value d) ∙ c.if-not-are_cases.false) c.in_ok-subject.ensures.value) c.in_err-side.ensures.value)
 
 pub match_form-returns-in_err-checked-clause-value : goal.match_form-returns-in_err-checked-clause-value
@@ -538,7 +539,7 @@ match_form-returns-in_err-checked-clause-value t c =
     let e = part_of d (expression_of c.index-args-0.result) in
     let ps = parts_of d (expressions_of c.as_slice-cases.result.now) in
     let whole = match_form d scope (parts_of d (expressions_of args)) in
-    let as_cases : match_form d scope (parts_of d (expressions_of args)) ≡ cases_of d scope e ps =
+    let as_cases : match_form d scope (parts_of d (expressions_of args)) ≡ match_of d scope e ps =
     match-list d scope args c.index-args-0.result c.index-args-1.result c.in-List.cases c.as_slice-cases.result.now
     (two_of args c.index-args-0.result c.index-args-1.result c.if-args-ne2.false c.index-args-0.is c.index-args-1.is) c.in-List.is c.as_slice-cases.ensures.value in
     let subject : Sorted = (formula_of c.in_ok-subject.subject, c.in_ok-subject.subject_sort) in
@@ -554,7 +555,7 @@ match_form-returns-clause-value t c =
     let e = part_of d (expression_of c.index-args-0.result) in
     let ps = parts_of d (expressions_of c.as_slice-cases.result.now) in
     let whole = match_form d scope (parts_of d (expressions_of args)) in
-    let as_cases : match_form d scope (parts_of d (expressions_of args)) ≡ cases_of d scope e ps =
+    let as_cases : match_form d scope (parts_of d (expressions_of args)) ≡ match_of d scope e ps =
     match-list d scope args c.index-args-0.result c.index-args-1.result c.in-List.cases c.as_slice-cases.result.now
     (two_of args c.index-args-0.result c.index-args-1.result c.if-args-ne2.false c.index-args-0.is c.index-args-1.is) c.in-List.is c.as_slice-cases.ensures.value in
     let subject : Sorted = (formula_of c.in_ok-subject.subject, c.in_ok-subject.subject_sort) in

@@ -1,7 +1,7 @@
 use Rattle.std.proofs.Common.{◌≡◌, ◌+◌, ◌*◌, map}
 use Rattle.ct_sexpr.specs.Expression.{nesting, nesting_of_each}
 use Rattle.ct_sexpr.specs.View.{expression_of, expressions_of}
-use Rattle.ct_check.specs.Trees.{case_of}
+use Rattle.ct_occurrence.specs.CaseFormula.{case_of}
 use Rattle.ct_check.proofs.MetLemmas as terms
 use Rattle.ct_check.proofs.BindingLemmas as bindings
 use Rattle.ct_check.proofs.CaseLemmas as cases

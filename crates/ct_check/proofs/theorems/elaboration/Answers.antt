@@ -6,7 +6,7 @@ use Rattle.ct_sorts.specs.declared.ids.SortId.{SortId}
 use Rattle.ct_terms.specs.Formula.{Formula, bind}
 use Rattle.ct_terms.specs.FormulaSorts.{IsSorted}
 use Rattle.ct_names.specs.declared.variables.Param.{Param}
-use Rattle.ct_names.specs.Bounds.{parameters, variable_of_param}
+use Rattle.ct_names.specs.Bounds.{parameter_variables, variable_of_param}
 use Rattle.ct_names.specs.Elaboration.{elaborated}
 use Rattle.ct_names.specs.Variables.{Variable, variable_sorts}
 use Rattle.ct_check.proofs.SymbolSorts.{Theorems}
@@ -32,7 +32,7 @@ parameter_sorts : (params : List Param) → map (λ (v : Variable). v.sort) (map
 parameter_sorts [] = refl
 parameter_sorts (p ∷ params) = ap (λ (sorts : List SortId). p.sort ∷ sorts) (parameter_sorts params)
 
-under : (params : List Param) → variable_sorts (parameters params) ≡ bind (map (λ (p : Param). p.sort) params) []
+under : (params : List Param) → variable_sorts (parameter_variables params) ≡ bind (map (λ (p : Param). p.sort) params) []
 under params =
     map-bind (λ (v : Variable). v.sort) (map variable_of_param params) []
     ∙ ap (λ (sorts : List SortId). bind sorts []) (parameter_sorts params)
@@ -42,5 +42,5 @@ unfolding sorted
 returns c = record {
   sorted = sorted c;
   mentions = λ d scope e t sort h is. c.formulas.ensures.mentions d (variable_sorts scope) t sort (sorted c d scope e t sort h is);
-  body = λ d params e t sort h is. subst (λ (env : List SortId). IsSorted d env t sort) (under params) (sorted c d (parameters params) e t sort h is);
+  body = λ d params e t sort h is. subst (λ (env : List SortId). IsSorted d env t sort) (under params) (sorted c d (parameter_variables params) e t sort h is);
 }

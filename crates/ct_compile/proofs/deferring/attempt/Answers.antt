@@ -1,7 +1,7 @@
 use Rattle.std.proofs.Common.{◌-◌, suc, length, map, sym, arith}
 use Rattle.ct_terms.specs.TreeFormula.{formula_of}
 use Rattle.ct_occurrence.specs.Marks.{worked_in}
-use Rattle.ct_scope.specs.Ready.{given}
+use Rattle.ct_scope.specs.Compilable.{compiled_calls}
 use Rattle.ct_scope.proofs.CallingLemmas.{state_below}
 use Rattle.ct_operators.proofs.WithinLemmas.{within_subtrees}
 use Rattle.ct_compile.proofs.AttemptLemmas.{called_makes, called_waits, closed_effect, closed_makes, closed_waits, closed_all, last_known, last_none}
@@ -94,7 +94,7 @@ returns-in-len1-up-clause-waits c =
     let old = c.args.table.now in
     let call = c.call-item.result in
     let w = c.requires.waiting call (length c.args.calls.now - 1, omega (arith, c.in-len1-up.len_at_least), sym c.call-item.is) in
-    let effect = c.compile_call_first.ensures.effect w.trees _ w.is_call (within_subtrees (given d bodies (suc call.definition.0) call.definition w.trees)) in
+    let effect = c.compile_call_first.ensures.effect w.trees _ w.is_call (within_subtrees (compiled_calls d bodies (suc call.definition.0) call.definition w.trees)) in
     called_waits d bodies rows n t old c.compile_call_first.new.table call w c.compile_call_first.result effect.kept (c.compile_call_first.ensures.waits w.trees w.is_call)
 
 pub returns-in-empty-clause-recorded : goal.returns-in-empty-clause-recorded

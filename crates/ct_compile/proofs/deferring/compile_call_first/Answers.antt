@@ -8,7 +8,7 @@ use Rattle.ct_scope.specs.declared.known.Called.{Called}
 use Rattle.ct_scope.specs.Calling.{same_call, call_of, IsRecalled}
 use Rattle.ct_scope.specs.Deferral.{ended, Defers}
 use Rattle.ct_occurrence.specs.Marks.{worked_in}
-use Rattle.ct_scope.specs.Ready.{Compiles}
+use Rattle.ct_scope.specs.Compilable.{Compiles}
 use Rattle.ct_scope.proofs.CallingLemmas.{state_with}
 use Rattle.ct_compile.proofs.AttemptLemmas.{call_effect, call_makes, call_known, call_defers, call_lost, row_known}
 use Rattle.ct_compile.proofs.deferring.compile_call_first.Goals as goal

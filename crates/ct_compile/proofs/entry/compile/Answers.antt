@@ -7,12 +7,12 @@ use Rattle.ct_terms.specs.Formula.{MentionsBelow}
 use Rattle.ct_terms.specs.TreeFormula.{formula_of}
 use Rattle.ct_terms.specs.Compiled.{compiled, core_of}
 use Rattle.ct_operators.specs.Effect.{Stands, DoNotFit}
-use Rattle.ct_operators.specs.Made.{Makes}
+use Rattle.ct_operators.specs.Made.{MakesInOrder}
 use Rattle.ct_scope.specs.Making.{making, defined, making_of}
 use Rattle.ct_terms.specs.Occurrence.{uses_below}
 use Rattle.ct_occurrence.specs.Marks.{worked_in, HaveRows}
 use Rattle.ct_occurrence.specs.Working.{AreRight}
-use Rattle.ct_scope.specs.Ready.{given}
+use Rattle.ct_scope.specs.Compilable.{compiled_calls}
 use Rattle.ct_scope.proofs.CallingLemmas.{state_start}
 use Rattle.ct_operators.proofs.WithinLemmas.{within_subtrees}
 use Rattle.ct_operators.proofs.OperatorLemmas.{stands_as}
@@ -69,28 +69,28 @@ compile_deferring-requires-clause-noted c =
     (right.notes, subst (IsOfFirst (IsNoted d rows (uses_below d bodies c.len-below.result) f)) (sym c.alone.ensures.value) below)
 
 pub returns-clause-grown : goal.returns-clause-grown
-returns-clause-grown c = (c.compile_deferring.ensures.outcome.effect [] [] c.requires.closed.0 (subtrees (compiled c.args.scope.now.sig (given c.args.scope.now.sig (map formula_of c.args.scope.now.bodies) c.len-below.result) [] (formula_of c.args.tree.now))) (entry_ready c.term_theorems.ensures.hold c.args.scope.now.sig (map formula_of c.args.scope.now.bodies) c.args.table.now c.len-below.result (formula_of c.args.tree.now) c.requires.closed.0 c.sorts.ensures.consistent c.requires.sound c.requires.table c.len.ensures.ordered c.len.ensures.single (all_below c.args.scope.now.bodies c.len-below.result c.len-below.ensures.len) c.requires.closed.1) (within_subtrees (compiled c.args.scope.now.sig (given c.args.scope.now.sig (map formula_of c.args.scope.now.bodies) c.len-below.result) [] (formula_of c.args.tree.now)))).grown
+returns-clause-grown c = (c.compile_deferring.ensures.outcome.effect [] [] c.requires.closed.0 (subtrees (compiled c.args.scope.now.sig (compiled_calls c.args.scope.now.sig (map formula_of c.args.scope.now.bodies) c.len-below.result) [] (formula_of c.args.tree.now))) (entry_ready c.term_theorems.ensures.hold c.args.scope.now.sig (map formula_of c.args.scope.now.bodies) c.args.table.now c.len-below.result (formula_of c.args.tree.now) c.requires.closed.0 c.sorts.ensures.consistent c.requires.sound c.requires.table c.len.ensures.ordered c.len.ensures.single (all_below c.args.scope.now.bodies c.len-below.result c.len-below.ensures.len) c.requires.closed.1) (within_subtrees (compiled c.args.scope.now.sig (compiled_calls c.args.scope.now.sig (map formula_of c.args.scope.now.bodies) c.len-below.result) [] (formula_of c.args.tree.now)))).grown
 
 pub returns-clause-sorted : goal.returns-clause-sorted
-returns-clause-sorted c = (c.compile_deferring.ensures.outcome.effect [] [] c.requires.closed.0 (subtrees (compiled c.args.scope.now.sig (given c.args.scope.now.sig (map formula_of c.args.scope.now.bodies) c.len-below.result) [] (formula_of c.args.tree.now))) (entry_ready c.term_theorems.ensures.hold c.args.scope.now.sig (map formula_of c.args.scope.now.bodies) c.args.table.now c.len-below.result (formula_of c.args.tree.now) c.requires.closed.0 c.sorts.ensures.consistent c.requires.sound c.requires.table c.len.ensures.ordered c.len.ensures.single (all_below c.args.scope.now.bodies c.len-below.result c.len-below.ensures.len) c.requires.closed.1) (within_subtrees (compiled c.args.scope.now.sig (given c.args.scope.now.sig (map formula_of c.args.scope.now.bodies) c.len-below.result) [] (formula_of c.args.tree.now)))).kept.sorted
+returns-clause-sorted c = (c.compile_deferring.ensures.outcome.effect [] [] c.requires.closed.0 (subtrees (compiled c.args.scope.now.sig (compiled_calls c.args.scope.now.sig (map formula_of c.args.scope.now.bodies) c.len-below.result) [] (formula_of c.args.tree.now))) (entry_ready c.term_theorems.ensures.hold c.args.scope.now.sig (map formula_of c.args.scope.now.bodies) c.args.table.now c.len-below.result (formula_of c.args.tree.now) c.requires.closed.0 c.sorts.ensures.consistent c.requires.sound c.requires.table c.len.ensures.ordered c.len.ensures.single (all_below c.args.scope.now.bodies c.len-below.result c.len-below.ensures.len) c.requires.closed.1) (within_subtrees (compiled c.args.scope.now.sig (compiled_calls c.args.scope.now.sig (map formula_of c.args.scope.now.bodies) c.len-below.result) [] (formula_of c.args.tree.now)))).kept.sorted
 
 pub returns-clause-core : goal.returns-clause-core
 returns-clause-core c =
-    IfOk-weaker c.compile_deferring.result _ (λ t. Stands c.compile_deferring.new.table t (core_of c.args.scope.now.sig (map formula_of c.args.scope.now.bodies) [] (formula_of c.args.tree.now))) (λ t h. stands_as c.compile_deferring.new.table t _ _ (ap (λ (n : ℕ). compiled c.args.scope.now.sig (given c.args.scope.now.sig (map formula_of c.args.scope.now.bodies) n) [] (formula_of c.args.tree.now)) (all_below c.args.scope.now.bodies c.len-below.result c.len-below.ensures.len)) h)
+    IfOk-weaker c.compile_deferring.result _ (λ t. Stands c.compile_deferring.new.table t (core_of c.args.scope.now.sig (map formula_of c.args.scope.now.bodies) [] (formula_of c.args.tree.now))) (λ t h. stands_as c.compile_deferring.new.table t _ _ (ap (λ (n : ℕ). compiled c.args.scope.now.sig (compiled_calls c.args.scope.now.sig (map formula_of c.args.scope.now.bodies) n) [] (formula_of c.args.tree.now)) (all_below c.args.scope.now.bodies c.len-below.result c.len-below.ensures.len)) h)
     (c.compile_deferring.ensures.outcome.core [] [] c.requires.closed.0 (entry_ready c.term_theorems.ensures.hold c.args.scope.now.sig (map formula_of c.args.scope.now.bodies) c.args.table.now c.len-below.result (formula_of c.args.tree.now) c.requires.closed.0 c.sorts.ensures.consistent c.requires.sound c.requires.table c.len.ensures.ordered c.len.ensures.single (all_below c.args.scope.now.bodies c.len-below.result c.len-below.ensures.len) c.requires.closed.1))
 
 pub returns-clause-nothing_else : goal.returns-clause-nothing_else
-returns-clause-nothing_else c = λ t from below. subst (λ (u : CoreTree). Contains (subtrees u) (term_at c.compile_deferring.new.table t)) (ap (λ (n : ℕ). compiled c.args.scope.now.sig (given c.args.scope.now.sig (map formula_of c.args.scope.now.bodies) n) [] (formula_of c.args.tree.now)) (all_below c.args.scope.now.bodies c.len-below.result c.len-below.ensures.len)) ((c.compile_deferring.ensures.outcome.effect [] [] c.requires.closed.0 (subtrees (compiled c.args.scope.now.sig (given c.args.scope.now.sig (map formula_of c.args.scope.now.bodies) c.len-below.result) [] (formula_of c.args.tree.now))) (entry_ready c.term_theorems.ensures.hold c.args.scope.now.sig (map formula_of c.args.scope.now.bodies) c.args.table.now c.len-below.result (formula_of c.args.tree.now) c.requires.closed.0 c.sorts.ensures.consistent c.requires.sound c.requires.table c.len.ensures.ordered c.len.ensures.single (all_below c.args.scope.now.bodies c.len-below.result c.len-below.ensures.len) c.requires.closed.1) (within_subtrees (compiled c.args.scope.now.sig (given c.args.scope.now.sig (map formula_of c.args.scope.now.bodies) c.len-below.result) [] (formula_of c.args.tree.now)))).adds t from below)
+returns-clause-nothing_else c = λ t from below. subst (λ (u : CoreTree). Contains (subtrees u) (term_at c.compile_deferring.new.table t)) (ap (λ (n : ℕ). compiled c.args.scope.now.sig (compiled_calls c.args.scope.now.sig (map formula_of c.args.scope.now.bodies) n) [] (formula_of c.args.tree.now)) (all_below c.args.scope.now.bodies c.len-below.result c.len-below.ensures.len)) ((c.compile_deferring.ensures.outcome.effect [] [] c.requires.closed.0 (subtrees (compiled c.args.scope.now.sig (compiled_calls c.args.scope.now.sig (map formula_of c.args.scope.now.bodies) c.len-below.result) [] (formula_of c.args.tree.now))) (entry_ready c.term_theorems.ensures.hold c.args.scope.now.sig (map formula_of c.args.scope.now.bodies) c.args.table.now c.len-below.result (formula_of c.args.tree.now) c.requires.closed.0 c.sorts.ensures.consistent c.requires.sound c.requires.table c.len.ensures.ordered c.len.ensures.single (all_below c.args.scope.now.bodies c.len-below.result c.len-below.ensures.len) c.requires.closed.1) (within_subtrees (compiled c.args.scope.now.sig (compiled_calls c.args.scope.now.sig (map formula_of c.args.scope.now.bodies) c.len-below.result) [] (formula_of c.args.tree.now)))).adds t from below)
 
 pub returns-clause-full : goal.returns-clause-full
 returns-clause-full c = λ full.
-    let h = (c.compile_deferring.ensures.outcome.effect [] [] c.requires.closed.0 (subtrees (compiled c.args.scope.now.sig (given c.args.scope.now.sig (map formula_of c.args.scope.now.bodies) c.len-below.result) [] (formula_of c.args.tree.now))) (entry_ready c.term_theorems.ensures.hold c.args.scope.now.sig (map formula_of c.args.scope.now.bodies) c.args.table.now c.len-below.result (formula_of c.args.tree.now) c.requires.closed.0 c.sorts.ensures.consistent c.requires.sound c.requires.table c.len.ensures.ordered c.len.ensures.single (all_below c.args.scope.now.bodies c.len-below.result c.len-below.ensures.len) c.requires.closed.1) (within_subtrees (compiled c.args.scope.now.sig (given c.args.scope.now.sig (map formula_of c.args.scope.now.bodies) c.len-below.result) [] (formula_of c.args.tree.now)))) in
-    subst (λ (u : CoreTree). (trees : List CoreTree) × DoNotFit (subtrees u) c.args.table.now trees) (ap (λ (n : ℕ). compiled c.args.scope.now.sig (given c.args.scope.now.sig (map formula_of c.args.scope.now.bodies) n) [] (formula_of c.args.tree.now)) (all_below c.args.scope.now.bodies c.len-below.result c.len-below.ensures.len))
+    let h = (c.compile_deferring.ensures.outcome.effect [] [] c.requires.closed.0 (subtrees (compiled c.args.scope.now.sig (compiled_calls c.args.scope.now.sig (map formula_of c.args.scope.now.bodies) c.len-below.result) [] (formula_of c.args.tree.now))) (entry_ready c.term_theorems.ensures.hold c.args.scope.now.sig (map formula_of c.args.scope.now.bodies) c.args.table.now c.len-below.result (formula_of c.args.tree.now) c.requires.closed.0 c.sorts.ensures.consistent c.requires.sound c.requires.table c.len.ensures.ordered c.len.ensures.single (all_below c.args.scope.now.bodies c.len-below.result c.len-below.ensures.len) c.requires.closed.1) (within_subtrees (compiled c.args.scope.now.sig (compiled_calls c.args.scope.now.sig (map formula_of c.args.scope.now.bodies) c.len-below.result) [] (formula_of c.args.tree.now)))) in
+    subst (λ (u : CoreTree). (trees : List CoreTree) × DoNotFit (subtrees u) c.args.table.now trees) (ap (λ (n : ℕ). compiled c.args.scope.now.sig (compiled_calls c.args.scope.now.sig (map formula_of c.args.scope.now.bodies) n) [] (formula_of c.args.tree.now)) (all_below c.args.scope.now.bodies c.len-below.result c.len-below.ensures.len))
     (do_not_fit c.args.scope.now.sig _ c.args.table.now c.compile_deferring.new.table h.grown h.kept h.adds (h.lacks full))
 
 pub returns-clause-complete : goal.returns-clause-complete
 returns-clause-complete c =
-    let kept = (c.compile_deferring.ensures.outcome.effect [] [] c.requires.closed.0 (subtrees (compiled c.args.scope.now.sig (given c.args.scope.now.sig (map formula_of c.args.scope.now.bodies) c.len-below.result) [] (formula_of c.args.tree.now))) (entry_ready c.term_theorems.ensures.hold c.args.scope.now.sig (map formula_of c.args.scope.now.bodies) c.args.table.now c.len-below.result (formula_of c.args.tree.now) c.requires.closed.0 c.sorts.ensures.consistent c.requires.sound c.requires.table c.len.ensures.ordered c.len.ensures.single (all_below c.args.scope.now.bodies c.len-below.result c.len-below.ensures.len) c.requires.closed.1) (within_subtrees (compiled c.args.scope.now.sig (given c.args.scope.now.sig (map formula_of c.args.scope.now.bodies) c.len-below.result) [] (formula_of c.args.tree.now)))).kept in
+    let kept = (c.compile_deferring.ensures.outcome.effect [] [] c.requires.closed.0 (subtrees (compiled c.args.scope.now.sig (compiled_calls c.args.scope.now.sig (map formula_of c.args.scope.now.bodies) c.len-below.result) [] (formula_of c.args.tree.now))) (entry_ready c.term_theorems.ensures.hold c.args.scope.now.sig (map formula_of c.args.scope.now.bodies) c.args.table.now c.len-below.result (formula_of c.args.tree.now) c.requires.closed.0 c.sorts.ensures.consistent c.requires.sound c.requires.table c.len.ensures.ordered c.len.ensures.single (all_below c.args.scope.now.bodies c.len-below.result c.len-below.ensures.len) c.requires.closed.1) (within_subtrees (compiled c.args.scope.now.sig (compiled_calls c.args.scope.now.sig (map formula_of c.args.scope.now.bodies) c.len-below.result) [] (formula_of c.args.tree.now)))).kept in
     IfOk-weaker c.compile_deferring.result _ (λ t. (s : CoreTree) → Contains (subtrees (core_of c.args.scope.now.sig (map formula_of c.args.scope.now.bodies) [] (formula_of c.args.tree.now))) s → (u : TermId) × (u.0 ≤ t.0) × (term_at c.compile_deferring.new.table u ≡ s)) (λ t h. subterms_below c.args.scope.now.sig c.compile_deferring.new.table kept (core_of c.args.scope.now.sig (map formula_of c.args.scope.now.bodies) [] (formula_of c.args.tree.now)) t h) (returns-clause-core c)
 
 pub returns-clause-order : goal.returns-clause-order
@@ -100,5 +100,5 @@ returns-clause-order c =
     let f = formula_of c.args.tree.now in
     let n = c.len-below.result in
     let is = all_below c.args.scope.now.bodies n c.len-below.ensures.len in
-    IfOk-weaker c.compile_deferring.result _ (λ t. Makes c.args.table.now (making_of d bodies [] f) c.compile_deferring.new.table) (λ t h. subst (λ (m : ℕ). Makes c.args.table.now (making d (defined d bodies m) [] f) c.compile_deferring.new.table) is h)
+    IfOk-weaker c.compile_deferring.result _ (λ t. MakesInOrder c.args.table.now (making_of d bodies [] f) c.compile_deferring.new.table) (λ t h. subst (λ (m : ℕ). MakesInOrder c.args.table.now (making d (defined d bodies m) [] f) c.compile_deferring.new.table) is h)
     (c.compile_deferring.ensures.outcome.order [] [] c.requires.closed.0 (entry_ready c.term_theorems.ensures.hold d bodies c.args.table.now n f c.requires.closed.0 c.sorts.ensures.consistent c.requires.sound c.requires.table c.len.ensures.ordered c.len.ensures.single is c.requires.closed.1))

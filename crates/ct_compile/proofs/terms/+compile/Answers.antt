@@ -25,10 +25,10 @@ use Rattle.ct_scope.specs.Binding.{Binds}
 use Rattle.ct_scope.specs.Calling.{call_of, IsRecalled, IsState, IsUnknown}
 use Rattle.ct_occurrence.specs.CaseFormula.{cases_of_trees}
 use Rattle.ct_operators.specs.Forms.{combined}
-use Rattle.ct_occurrence.specs.Marks.{worked_in, listed}
+use Rattle.ct_occurrence.specs.Marks.{worked_in, flags_below}
 use Rattle.ct_scope.specs.Matching.{bound_by}
 use Rattle.ct_occurrence.specs.Matching.{tested_by}
-use Rattle.ct_scope.specs.Ready.{MayCompile, Compiles, CompilesAll}
+use Rattle.ct_scope.specs.Compilable.{MayCompile, Compiles, CompilesAll}
 use Rattle.ct_occurrence.specs.Noted.{IsOfFirst, IsNoted, AreNoted, CasesNoted}
 use Rattle.ct_scope.proofs.Weight.{weights_below}
 use Rattle.ct_operators.proofs.RestLemmas.{rest_item}
@@ -302,18 +302,18 @@ compile_tree-returns-in_ok-variable-in-Var-clause-state t c =
 
 pub compile_let-compile_bound-requires : goal.compile_let-compile_bound-requires
 compile_let-compile_bound-requires t c =
-    let flags_are : c.bound-flags.result.now ≡ listed (occurs c.args.level.now.scope.now.sig (uses_below c.args.level.now.scope.now.sig (map formula_of c.args.level.now.scope.now.bodies) c.args.level.now.below) (formula_of c.args.body.now)) (count_of (formulas_of_trees c.args.trees.now)) = let_flags c.args.level.now.scope.now.sig (worked_in c.args.level.now.definitions.now) (uses_below c.args.level.now.scope.now.sig (map formula_of c.args.level.now.scope.now.bodies) c.args.level.now.below) c.args.notes.now c.first_note-note.result.now c.first_note-note.ensures.value (formulas_of_trees c.args.trees.now) (formula_of c.args.body.now) c.bound-flags.result.now c.bound-flags.ensures.value c.requires.noted.1 in
+    let flags_are : c.bound-flags.result.now ≡ flags_below (occurs c.args.level.now.scope.now.sig (uses_below c.args.level.now.scope.now.sig (map formula_of c.args.level.now.scope.now.bodies) c.args.level.now.below) (formula_of c.args.body.now)) (count_of (formulas_of_trees c.args.trees.now)) = let_flags c.args.level.now.scope.now.sig (worked_in c.args.level.now.definitions.now) (uses_below c.args.level.now.scope.now.sig (map formula_of c.args.level.now.scope.now.bodies) c.args.level.now.below) c.args.notes.now c.first_note-note.result.now c.first_note-note.ensures.value (formulas_of_trees c.args.trees.now) (formula_of c.args.body.now) c.bound-flags.result.now c.bound-flags.ensures.value c.requires.noted.1 in
     (omega (arith, c.decreases), (c.requires.state, (under_may c.args.level.now.scope.now.sig (map formula_of c.args.level.now.scope.now.bodies) c.args.level.now.below c.args.level.now.below c.args.table.now c.args.env.now c.args.env.now c.bound-flags.result.now (Let (formulas_of_trees c.args.trees.now) (formula_of c.args.body.now)) (formulas_of_trees c.args.trees.now) (formula_of c.args.body.now) (let_view c.args.level.now.scope.now.sig (map formula_of c.args.level.now.scope.now.bodies) c.args.level.now.below c.args.table.now c.args.env.now c.bound-flags.result.now (formulas_of_trees c.args.trees.now) (formula_of c.args.body.now) flags_are) c.requires.ready, (c.requires.noted.0, let_under c.args.level.now.scope.now.sig (worked_in c.args.level.now.definitions.now) (uses_below c.args.level.now.scope.now.sig (map formula_of c.args.level.now.scope.now.bodies) c.args.level.now.below) c.args.notes.now c.first_note-note.result.now c.first_note-note.ensures.value (formulas_of_trees c.args.trees.now) (formula_of c.args.body.now) c.bound-flags.result.now c.under.result.now c.bound-flags.ensures.value c.under.ensures.value c.requires.noted.1))))
 
 pub compile_let-returns-in_err-bounds-clause-outcome : goal.compile_let-returns-in_err-bounds-clause-outcome
 compile_let-returns-in_err-bounds-clause-outcome t c =
-    let flags_are : c.bound-flags.result.now ≡ listed (occurs c.args.level.now.scope.now.sig (uses_below c.args.level.now.scope.now.sig (map formula_of c.args.level.now.scope.now.bodies) c.args.level.now.below) (formula_of c.args.body.now)) (count_of (formulas_of_trees c.args.trees.now)) = let_flags c.args.level.now.scope.now.sig (worked_in c.args.level.now.definitions.now) (uses_below c.args.level.now.scope.now.sig (map formula_of c.args.level.now.scope.now.bodies) c.args.level.now.below) c.args.notes.now c.first_note-note.result.now c.first_note-note.ensures.value (formulas_of_trees c.args.trees.now) (formula_of c.args.body.now) c.bound-flags.result.now c.bound-flags.ensures.value c.requires.noted.1 in
+    let flags_are : c.bound-flags.result.now ≡ flags_below (occurs c.args.level.now.scope.now.sig (uses_below c.args.level.now.scope.now.sig (map formula_of c.args.level.now.scope.now.bodies) c.args.level.now.below) (formula_of c.args.body.now)) (count_of (formulas_of_trees c.args.trees.now)) = let_flags c.args.level.now.scope.now.sig (worked_in c.args.level.now.definitions.now) (uses_below c.args.level.now.scope.now.sig (map formula_of c.args.level.now.scope.now.bodies) c.args.level.now.below) c.args.notes.now c.first_note-note.result.now c.first_note-note.ensures.value (formulas_of_trees c.args.trees.now) (formula_of c.args.body.now) c.bound-flags.result.now c.bound-flags.ensures.value c.requires.noted.1 in
     let p = err_from_is_err_and c.from_residual.result c.from_residual.ensures.1 in
     rw (p.1, p.2) (under_stopped c.args.level.now.scope.now.sig (map formula_of c.args.level.now.scope.now.bodies) c.args.level.now.below c.args.level.now.below c.args.table.now c.args.env.now c.args.env.now c.bound-flags.result.now (Let (formulas_of_trees c.args.trees.now) (formula_of c.args.body.now)) (formulas_of_trees c.args.trees.now) (formula_of c.args.body.now) (let_view c.args.level.now.scope.now.sig (map formula_of c.args.level.now.scope.now.bodies) c.args.level.now.below c.args.table.now c.args.env.now c.bound-flags.result.now (formulas_of_trees c.args.trees.now) (formula_of c.args.body.now) flags_are) c.compile_bound.new.table _ c.in_err-bounds.ensures.outcome)
 
 pub compile_let-returns-in_err-bounds-clause-waits : goal.compile_let-returns-in_err-bounds-clause-waits
 compile_let-returns-in_err-bounds-clause-waits t c =
-    let flags_are : c.bound-flags.result.now ≡ listed (occurs c.args.level.now.scope.now.sig (uses_below c.args.level.now.scope.now.sig (map formula_of c.args.level.now.scope.now.bodies) c.args.level.now.below) (formula_of c.args.body.now)) (count_of (formulas_of_trees c.args.trees.now)) = let_flags c.args.level.now.scope.now.sig (worked_in c.args.level.now.definitions.now) (uses_below c.args.level.now.scope.now.sig (map formula_of c.args.level.now.scope.now.bodies) c.args.level.now.below) c.args.notes.now c.first_note-note.result.now c.first_note-note.ensures.value (formulas_of_trees c.args.trees.now) (formula_of c.args.body.now) c.bound-flags.result.now c.bound-flags.ensures.value c.requires.noted.1 in
+    let flags_are : c.bound-flags.result.now ≡ flags_below (occurs c.args.level.now.scope.now.sig (uses_below c.args.level.now.scope.now.sig (map formula_of c.args.level.now.scope.now.bodies) c.args.level.now.below) (formula_of c.args.body.now)) (count_of (formulas_of_trees c.args.trees.now)) = let_flags c.args.level.now.scope.now.sig (worked_in c.args.level.now.definitions.now) (uses_below c.args.level.now.scope.now.sig (map formula_of c.args.level.now.scope.now.bodies) c.args.level.now.below) c.args.notes.now c.first_note-note.result.now c.first_note-note.ensures.value (formulas_of_trees c.args.trees.now) (formula_of c.args.body.now) c.bound-flags.result.now c.bound-flags.ensures.value c.requires.noted.1 in
     let p = err_from_is_err_and c.from_residual.result c.from_residual.ensures.1 in
     rw (p.1, p.2) (under_waits c.args.level.now.scope.now.sig (map formula_of c.args.level.now.scope.now.bodies) c.args.level.now.below c.args.level.now.below c.args.table.now c.args.env.now c.args.env.now c.bound-flags.result.now (Let (formulas_of_trees c.args.trees.now) (formula_of c.args.body.now)) (formulas_of_trees c.args.trees.now) (formula_of c.args.body.now) (let_view c.args.level.now.scope.now.sig (map formula_of c.args.level.now.scope.now.bodies) c.args.level.now.below c.args.table.now c.args.env.now c.bound-flags.result.now (formulas_of_trees c.args.trees.now) (formula_of c.args.body.now) flags_are) (worked_in c.args.level.now.definitions.now) c.compile_bound.new.table _ c.in_err-bounds.ensures.waits)
 
@@ -329,25 +329,25 @@ compile_let-returns-in_err-bounds-clause-unknown t c =
 
 pub compile_let-returns-in_err-bind-clause-outcome : goal.compile_let-returns-in_err-bind-clause-outcome
 compile_let-returns-in_err-bind-clause-outcome t c =
-    let flags_are : c.bound-flags.result.now ≡ listed (occurs c.args.level.now.scope.now.sig (uses_below c.args.level.now.scope.now.sig (map formula_of c.args.level.now.scope.now.bodies) c.args.level.now.below) (formula_of c.args.body.now)) (count_of (formulas_of_trees c.args.trees.now)) = let_flags c.args.level.now.scope.now.sig (worked_in c.args.level.now.definitions.now) (uses_below c.args.level.now.scope.now.sig (map formula_of c.args.level.now.scope.now.bodies) c.args.level.now.below) c.args.notes.now c.first_note-note.result.now c.first_note-note.ensures.value (formulas_of_trees c.args.trees.now) (formula_of c.args.body.now) c.bound-flags.result.now c.bound-flags.ensures.value c.requires.noted.1 in
+    let flags_are : c.bound-flags.result.now ≡ flags_below (occurs c.args.level.now.scope.now.sig (uses_below c.args.level.now.scope.now.sig (map formula_of c.args.level.now.scope.now.bodies) c.args.level.now.below) (formula_of c.args.body.now)) (count_of (formulas_of_trees c.args.trees.now)) = let_flags c.args.level.now.scope.now.sig (worked_in c.args.level.now.definitions.now) (uses_below c.args.level.now.scope.now.sig (map formula_of c.args.level.now.scope.now.bodies) c.args.level.now.below) c.args.notes.now c.first_note-note.result.now c.first_note-note.ensures.value (formulas_of_trees c.args.trees.now) (formula_of c.args.body.now) c.bound-flags.result.now c.bound-flags.ensures.value c.requires.noted.1 in
     let p = err_from_is_err_and c.from_residual-in_err-bind.result c.from_residual-in_err-bind.ensures.1 in
     rw (p.1, p.2) (under_out c.args.level.now.scope.now.sig (map formula_of c.args.level.now.scope.now.bodies) c.args.level.now.below c.args.level.now.below c.args.table.now c.args.env.now c.args.env.now c.bound-flags.result.now (Let (formulas_of_trees c.args.trees.now) (formula_of c.args.body.now)) (formulas_of_trees c.args.trees.now) (formula_of c.args.body.now) (let_view c.args.level.now.scope.now.sig (map formula_of c.args.level.now.scope.now.bodies) c.args.level.now.below c.args.table.now c.args.env.now c.bound-flags.result.now (formulas_of_trees c.args.trees.now) (formula_of c.args.body.now) flags_are) c.compile_bound.new.table c.in_ok-bounds.bounds c.in_ok-bounds.ensures.outcome NoMemory refl)
 
 pub compile_let-compile_tree-result-requires : goal.compile_let-compile_tree-result-requires
 compile_let-compile_tree-result-requires t c =
-    let flags_are : c.bound-flags.result.now ≡ listed (occurs c.args.level.now.scope.now.sig (uses_below c.args.level.now.scope.now.sig (map formula_of c.args.level.now.scope.now.bodies) c.args.level.now.below) (formula_of c.args.body.now)) (count_of (formulas_of_trees c.args.trees.now)) = let_flags c.args.level.now.scope.now.sig (worked_in c.args.level.now.definitions.now) (uses_below c.args.level.now.scope.now.sig (map formula_of c.args.level.now.scope.now.bodies) c.args.level.now.below) c.args.notes.now c.first_note-note.result.now c.first_note-note.ensures.value (formulas_of_trees c.args.trees.now) (formula_of c.args.body.now) c.bound-flags.result.now c.bound-flags.ensures.value c.requires.noted.1 in
+    let flags_are : c.bound-flags.result.now ≡ flags_below (occurs c.args.level.now.scope.now.sig (uses_below c.args.level.now.scope.now.sig (map formula_of c.args.level.now.scope.now.bodies) c.args.level.now.below) (formula_of c.args.body.now)) (count_of (formulas_of_trees c.args.trees.now)) = let_flags c.args.level.now.scope.now.sig (worked_in c.args.level.now.definitions.now) (uses_below c.args.level.now.scope.now.sig (map formula_of c.args.level.now.scope.now.bodies) c.args.level.now.below) c.args.notes.now c.first_note-note.result.now c.first_note-note.ensures.value (formulas_of_trees c.args.trees.now) (formula_of c.args.body.now) c.bound-flags.result.now c.bound-flags.ensures.value c.requires.noted.1 in
     let inner_is : c.bind.new.self ≡ bind c.in_ok-bounds.bounds c.args.env.now = c.in_ok-bind.ensures.bound ∙ ap (λ (xs : List Bound). bind xs c.compile_bound.new.env) c.as_slice-bounds.ensures.value ∙ ap (bind c.in_ok-bounds.bounds) c.in_ok-bounds.ensures.back in
     (omega (arith, c.decreases), (c.in_ok-bounds.ensures.state, (subst (λ (xs : List Bound). MayCompile c.args.level.now.scope.now.sig (map formula_of c.args.level.now.scope.now.bodies) c.compile_bound.new.table c.args.level.now.below xs (formula_of c.args.body.now)) (sym inner_is) (under_body c.args.level.now.scope.now.sig (map formula_of c.args.level.now.scope.now.bodies) c.args.level.now.below c.args.level.now.below c.args.table.now c.args.env.now c.args.env.now c.bound-flags.result.now (Let (formulas_of_trees c.args.trees.now) (formula_of c.args.body.now)) (formulas_of_trees c.args.trees.now) (formula_of c.args.body.now) (let_view c.args.level.now.scope.now.sig (map formula_of c.args.level.now.scope.now.bodies) c.args.level.now.below c.args.table.now c.args.env.now c.bound-flags.result.now (formulas_of_trees c.args.trees.now) (formula_of c.args.body.now) flags_are) c.compile_bound.new.table c.in_ok-bounds.bounds c.in_ok-bounds.ensures.outcome c.requires.ready), (c.requires.noted.0, let_inner c.args.level.now.scope.now.sig (worked_in c.args.level.now.definitions.now) (uses_below c.args.level.now.scope.now.sig (map formula_of c.args.level.now.scope.now.bodies) c.args.level.now.below) c.args.notes.now c.first_note-note.result.now c.first_note-note.ensures.value (formulas_of_trees c.args.trees.now) (formula_of c.args.body.now) c.inner.result.now c.inner.ensures.value c.requires.noted.1))))
 
 pub compile_let-returns-clause-outcome : goal.compile_let-returns-clause-outcome
 compile_let-returns-clause-outcome t c =
-    let flags_are : c.bound-flags.result.now ≡ listed (occurs c.args.level.now.scope.now.sig (uses_below c.args.level.now.scope.now.sig (map formula_of c.args.level.now.scope.now.bodies) c.args.level.now.below) (formula_of c.args.body.now)) (count_of (formulas_of_trees c.args.trees.now)) = let_flags c.args.level.now.scope.now.sig (worked_in c.args.level.now.definitions.now) (uses_below c.args.level.now.scope.now.sig (map formula_of c.args.level.now.scope.now.bodies) c.args.level.now.below) c.args.notes.now c.first_note-note.result.now c.first_note-note.ensures.value (formulas_of_trees c.args.trees.now) (formula_of c.args.body.now) c.bound-flags.result.now c.bound-flags.ensures.value c.requires.noted.1 in
+    let flags_are : c.bound-flags.result.now ≡ flags_below (occurs c.args.level.now.scope.now.sig (uses_below c.args.level.now.scope.now.sig (map formula_of c.args.level.now.scope.now.bodies) c.args.level.now.below) (formula_of c.args.body.now)) (count_of (formulas_of_trees c.args.trees.now)) = let_flags c.args.level.now.scope.now.sig (worked_in c.args.level.now.definitions.now) (uses_below c.args.level.now.scope.now.sig (map formula_of c.args.level.now.scope.now.bodies) c.args.level.now.below) c.args.notes.now c.first_note-note.result.now c.first_note-note.ensures.value (formulas_of_trees c.args.trees.now) (formula_of c.args.body.now) c.bound-flags.result.now c.bound-flags.ensures.value c.requires.noted.1 in
     let inner_is : c.bind.new.self ≡ bind c.in_ok-bounds.bounds c.args.env.now = c.in_ok-bind.ensures.bound ∙ ap (λ (xs : List Bound). bind xs c.compile_bound.new.env) c.as_slice-bounds.ensures.value ∙ ap (bind c.in_ok-bounds.bounds) c.in_ok-bounds.ensures.back in
     under_made c.args.level.now.scope.now.sig (map formula_of c.args.level.now.scope.now.bodies) c.args.level.now.below c.args.level.now.below c.args.table.now c.args.env.now c.args.env.now c.bound-flags.result.now (Let (formulas_of_trees c.args.trees.now) (formula_of c.args.body.now)) (formulas_of_trees c.args.trees.now) (formula_of c.args.body.now) (let_view c.args.level.now.scope.now.sig (map formula_of c.args.level.now.scope.now.bodies) c.args.level.now.below c.args.table.now c.args.env.now c.bound-flags.result.now (formulas_of_trees c.args.trees.now) (formula_of c.args.body.now) flags_are) c.compile_bound.new.table c.in_ok-bounds.bounds c.in_ok-bounds.ensures.outcome c.compile_tree-result.new.table (ended c.compile_tree-result.result) (subst (λ (xs : List Bound). Compiles c.args.level.now.scope.now.sig (map formula_of c.args.level.now.scope.now.bodies) c.args.level.now.below c.compile_bound.new.table c.compile_tree-result.new.table xs (formula_of c.args.body.now) (ended c.compile_tree-result.result)) inner_is c.compile_tree-result.ensures.outcome)
 
 pub compile_let-returns-clause-waits : goal.compile_let-returns-clause-waits
 compile_let-returns-clause-waits t c =
-    let flags_are : c.bound-flags.result.now ≡ listed (occurs c.args.level.now.scope.now.sig (uses_below c.args.level.now.scope.now.sig (map formula_of c.args.level.now.scope.now.bodies) c.args.level.now.below) (formula_of c.args.body.now)) (count_of (formulas_of_trees c.args.trees.now)) = let_flags c.args.level.now.scope.now.sig (worked_in c.args.level.now.definitions.now) (uses_below c.args.level.now.scope.now.sig (map formula_of c.args.level.now.scope.now.bodies) c.args.level.now.below) c.args.notes.now c.first_note-note.result.now c.first_note-note.ensures.value (formulas_of_trees c.args.trees.now) (formula_of c.args.body.now) c.bound-flags.result.now c.bound-flags.ensures.value c.requires.noted.1 in
+    let flags_are : c.bound-flags.result.now ≡ flags_below (occurs c.args.level.now.scope.now.sig (uses_below c.args.level.now.scope.now.sig (map formula_of c.args.level.now.scope.now.bodies) c.args.level.now.below) (formula_of c.args.body.now)) (count_of (formulas_of_trees c.args.trees.now)) = let_flags c.args.level.now.scope.now.sig (worked_in c.args.level.now.definitions.now) (uses_below c.args.level.now.scope.now.sig (map formula_of c.args.level.now.scope.now.bodies) c.args.level.now.below) c.args.notes.now c.first_note-note.result.now c.first_note-note.ensures.value (formulas_of_trees c.args.trees.now) (formula_of c.args.body.now) c.bound-flags.result.now c.bound-flags.ensures.value c.requires.noted.1 in
     let inner_is : c.bind.new.self ≡ bind c.in_ok-bounds.bounds c.args.env.now = c.in_ok-bind.ensures.bound ∙ ap (λ (xs : List Bound). bind xs c.compile_bound.new.env) c.as_slice-bounds.ensures.value ∙ ap (bind c.in_ok-bounds.bounds) c.in_ok-bounds.ensures.back in
     under_later c.args.level.now.scope.now.sig (map formula_of c.args.level.now.scope.now.bodies) c.args.level.now.below c.args.level.now.below c.args.table.now c.args.env.now c.args.env.now c.bound-flags.result.now (Let (formulas_of_trees c.args.trees.now) (formula_of c.args.body.now)) (formulas_of_trees c.args.trees.now) (formula_of c.args.body.now) (let_view c.args.level.now.scope.now.sig (map formula_of c.args.level.now.scope.now.bodies) c.args.level.now.below c.args.table.now c.args.env.now c.bound-flags.result.now (formulas_of_trees c.args.trees.now) (formula_of c.args.body.now) flags_are) c.compile_bound.new.table c.in_ok-bounds.bounds c.in_ok-bounds.ensures.outcome (worked_in c.args.level.now.definitions.now) (omega arith) c.compile_tree-result.new.table c.compile_tree-result.result (subst (λ (xs : List Bound). Defers c.args.level.now.scope.now.sig (map formula_of c.args.level.now.scope.now.bodies) (worked_in c.args.level.now.definitions.now) c.args.level.now.below c.compile_bound.new.table c.compile_tree-result.new.table xs (formula_of c.args.body.now) c.compile_tree-result.result) inner_is c.compile_tree-result.ensures.waits)
 

@@ -1,7 +1,7 @@
 use Rattle.std.proofs.Common.{Contains, subst, sym}
 use Rattle.ct_scope.specs.declared.bound.Bound.{Bound}
 use Rattle.ct_scope.specs.declared.bound.Bound.TheVariants.{Field}
-use Rattle.ct_scope.specs.Ready.{IsBound}
+use Rattle.ct_scope.specs.Compilable.{IsBound}
 use Rattle.ct_compile.proofs.terms.of_bound.Goals as goal
 
 pub returns-in-Field-clause-effect : goal.returns-in-Field-clause-effect

@@ -11,7 +11,7 @@ use Rattle.ct_eval.specs.declared.interp.Interp.{Interp}
 use Rattle.ct_eval.specs.Interpretation.{IsProper}
 use Rattle.ct_eval.specs.TreeValue.{tree_value}
 use Rattle.ct_eval.specs.Meaning.{eval}
-use Rattle.ct_eval.specs.Truth.{truth_of}
+use Rattle.ct_eval.specs.Truth.{truth_value}
 use Rattle.ct_eval.proofs.TruthLemmas.{all_pass}
 use Rattle.ct_eval.proofs.ValueLemmas.{SortTheorems}
 use Rattle.ct_eval.proofs.FactLemmas.{facts_of}
@@ -76,7 +76,7 @@ returns-clause-truth c = λ d i v w consistent proper h.
 
 pub returns-clause-assertions : goal.returns-clause-assertions
 returns-clause-assertions c = λ d i bodies terms ids asserts consistent proper sound sorted terms_of.
-    all_pass (λ a t. term_at terms a ≡ core_of d bodies [] t) (λ t. IsSorted d [] t bool_sort) (truth_of d i terms) (λ t. is_true i.graph (eval d i bodies [] t))
+    all_pass (λ a t. term_at terms a ≡ core_of d bodies [] t) (λ t. IsSorted d [] t bool_sort) (truth_value d i terms) (λ t. is_true i.graph (eval d i bodies [] t))
     (λ a t is of.
     ap (is_true i.graph) (value_of-tree d i terms a ∙ ap (tree_value d i) is)
     ∙ true_agrees d i (facts c d i consistent proper) (tree_value d i (core_of d bodies [] t)) (eval d i bodies [] t)

@@ -15,7 +15,7 @@ use Rattle.ct_terms.specs.Occurrence.{count_of, occurs, occurs_in_bound, matched
 use Rattle.ct_occurrence.specs.declared.notes.Notes.{Notes}
 use Rattle.ct_occurrence.specs.CaseFormula.{cases_of_trees}
 use Rattle.ct_occurrence.proofs.Size.{size, sizes}
-use Rattle.ct_occurrence.specs.Marks.{worked_in, listed, marked, variable_count, MayMark}
+use Rattle.ct_occurrence.specs.Marks.{worked_in, flags_below, mark_each, pattern_variable_count, MayMark}
 use Rattle.ct_occurrence.specs.Noted.{under_of, IsNoted}
 use Rattle.ct_occurrence.proofs.RestLemmas.{rest_item, rest_step}
 use Rattle.ct_occurrence.proofs.MarkLemmas.{marked_none}
@@ -55,7 +55,7 @@ mark-mark_bound-requires t c =
     let trees = c.as_slice.result.now in
     let is : formula_of c.args.tree.now ≡ Def k (formulas_of_trees trees) = (ap formula_of (c.in-Def.is ∙ sym (rolls-Def c.in-Def.k c.in-Def.ts)) ∙ fold-roll-Tree Formula (Pattern × Formula) formula_layer case_layer (Tree-F.Def c.in-Def.k c.in-Def.ts)) ∙ ap (λ (us : List Tree). Def k (formulas_of_trees us)) (sym c.as_slice.ensures.value) in
     let h : MayMark c.args.sig.now may.0 may.1 (worked_in c.args.definitions.now) (Def k (formulas_of_trees trees)) = subst (MayMark c.args.sig.now may.0 may.1 (worked_in c.args.definitions.now)) is may.2 in
-    let row : c.row_at-row.result.now ≡ listed (may.0 k) (count_of (formulas_of_trees trees)) = row_there c.args.sig.now may.0 may.1 (worked_in c.args.definitions.now) k (formulas_of_trees trees) h c.row_at-row.result.now c.row_at-row.ensures.value in
+    let row : c.row_at-row.result.now ≡ flags_below (may.0 k) (count_of (formulas_of_trees trees)) = row_there c.args.sig.now may.0 may.1 (worked_in c.args.definitions.now) k (formulas_of_trees trees) h c.row_at-row.result.now c.row_at-row.ensures.value in
     let heavy : size (formula_of c.args.tree.now) ≡ sizes (formulas_of_trees trees) + 2 = ap (size) is in
     (omega (arith, heavy, c.decreases), ((may.0, may.1, may_args c.args.sig.now may.0 may.1 (worked_in c.args.definitions.now) k (formulas_of_trees trees) h), (may.0 k, row)))
 
@@ -65,8 +65,8 @@ mark-returns-in_ok-under-in-Def-clause-marks t c = λ uses n m.
     let trees = c.as_slice.result.now in
     let is : formula_of c.args.tree.now ≡ Def k (formulas_of_trees trees) = (ap formula_of (c.in-Def.is ∙ sym (rolls-Def c.in-Def.k c.in-Def.ts)) ∙ fold-roll-Tree Formula (Pattern × Formula) formula_layer case_layer (Tree-F.Def c.in-Def.k c.in-Def.ts)) ∙ ap (λ (us : List Tree). Def k (formulas_of_trees us)) (sym c.as_slice.ensures.value) in
     let h : MayMark c.args.sig.now uses n (worked_in c.args.definitions.now) (Def k (formulas_of_trees trees)) = subst (MayMark c.args.sig.now uses n (worked_in c.args.definitions.now)) is m in
-    let row : c.row_at-row.result.now ≡ listed (uses k) (count_of (formulas_of_trees trees)) = row_there c.args.sig.now uses n (worked_in c.args.definitions.now) k (formulas_of_trees trees) h c.row_at-row.result.now c.row_at-row.ensures.value in
-    c.in_ok-under-in-Def.ensures.marks (uses k) uses n (may_args c.args.sig.now uses n (worked_in c.args.definitions.now) k (formulas_of_trees trees) h) row ∙ ap (λ (f : Formula). marked (occurs c.args.sig.now uses f) c.args.flags.now.items) (sym is)
+    let row : c.row_at-row.result.now ≡ flags_below (uses k) (count_of (formulas_of_trees trees)) = row_there c.args.sig.now uses n (worked_in c.args.definitions.now) k (formulas_of_trees trees) h c.row_at-row.result.now c.row_at-row.ensures.value in
+    c.in_ok-under-in-Def.ensures.marks (uses k) uses n (may_args c.args.sig.now uses n (worked_in c.args.definitions.now) k (formulas_of_trees trees) h) row ∙ ap (λ (f : Formula). mark_each (occurs c.args.sig.now uses f) c.args.flags.now.items) (sym is)
 
 pub mark-returns-in_ok-under-in-Def-clause-noted : goal.mark-returns-in_ok-under-in-Def-clause-noted
 mark-returns-in_ok-under-in-Def-clause-noted t c = λ uses n m.
@@ -74,7 +74,7 @@ mark-returns-in_ok-under-in-Def-clause-noted t c = λ uses n m.
     let trees = c.as_slice.result.now in
     let is : formula_of c.args.tree.now ≡ Def k (formulas_of_trees trees) = (ap formula_of (c.in-Def.is ∙ sym (rolls-Def c.in-Def.k c.in-Def.ts)) ∙ fold-roll-Tree Formula (Pattern × Formula) formula_layer case_layer (Tree-F.Def c.in-Def.k c.in-Def.ts)) ∙ ap (λ (us : List Tree). Def k (formulas_of_trees us)) (sym c.as_slice.ensures.value) in
     let h : MayMark c.args.sig.now uses n (worked_in c.args.definitions.now) (Def k (formulas_of_trees trees)) = subst (MayMark c.args.sig.now uses n (worked_in c.args.definitions.now)) is m in
-    let row : c.row_at-row.result.now ≡ listed (uses k) (count_of (formulas_of_trees trees)) = row_there c.args.sig.now uses n (worked_in c.args.definitions.now) k (formulas_of_trees trees) h c.row_at-row.result.now c.row_at-row.ensures.value in
+    let row : c.row_at-row.result.now ≡ flags_below (uses k) (count_of (formulas_of_trees trees)) = row_there c.args.sig.now uses n (worked_in c.args.definitions.now) k (formulas_of_trees trees) h c.row_at-row.result.now c.row_at-row.ensures.value in
     subst (λ (f : Formula). IsNoted c.args.sig.now (worked_in c.args.definitions.now) uses f c.plain-in-Def.result) (sym is) (noted_call c.args.sig.now (worked_in c.args.definitions.now) uses k (formulas_of_trees trees) c.plain-in-Def.result c.in_ok-under-in-Def.under.items c.row_at-row.result.now row c.plain-in-Def.ensures.under h.known.0 (c.in_ok-under-in-Def.ensures.noted (uses k) uses n (may_args c.args.sig.now uses n (worked_in c.args.definitions.now) k (formulas_of_trees trees) h) row))
 
 pub mark-returns-in-Let-clause-marks : goal.mark-returns-in-Let-clause-marks
@@ -83,7 +83,7 @@ mark-returns-in-Let-clause-marks t c = λ uses n m.
     let u = c.deref-in-Let.result.now in
     let is : formula_of c.args.tree.now ≡ Let (formulas_of_trees trees) (formula_of u) = (ap formula_of (c.in-Let.is ∙ sym (rolls-Let c.in-Let.ts c.in-Let.u)) ∙ fold-roll-Tree Formula (Pattern × Formula) formula_layer case_layer (Tree-F.Let c.in-Let.ts c.in-Let.u)) ∙ ap₂ (λ (us : List Tree) (v : Tree). Let (formulas_of_trees us) (formula_of v)) (sym c.as_slice-in-Let.ensures.value) (sym c.deref-in-Let.ensures) in
     ok_then c.mark_let.result _ _ _
-    (ap (λ (f : Formula). marked (occurs c.args.sig.now uses f) c.args.flags.now.items) (sym is))
+    (ap (λ (f : Formula). mark_each (occurs c.args.sig.now uses f) c.args.flags.now.items) (sym is))
     (c.mark_let.ensures.marks uses n (subst (MayMark c.args.sig.now uses n (worked_in c.args.definitions.now)) is m))
 
 pub mark-returns-in-Let-clause-noted : goal.mark-returns-in-Let-clause-noted
@@ -99,7 +99,7 @@ mark-returns-in-Match-clause-marks t c = λ uses n m.
     let u = c.deref-in-Match.result.now in
     let is : formula_of c.args.tree.now ≡ Match (formula_of u) (cases_of_trees cases) = (ap formula_of (c.in-Match.is ∙ sym (rolls-Match c.in-Match.t c.in-Match.cases)) ∙ fold-roll-Tree Formula (Pattern × Formula) formula_layer case_layer (Tree-F.Match c.in-Match.t c.in-Match.cases)) ∙ ap₂ (λ (v : Tree) (cs : List Case). Match (formula_of v) (cases_of_trees cs)) (sym c.deref-in-Match.ensures) (sym c.as_slice-in-Match.ensures.value) in
     ok_then c.mark_match.result _ _ _
-    (ap (λ (f : Formula). marked (occurs c.args.sig.now uses f) c.args.flags.now.items) (sym is))
+    (ap (λ (f : Formula). mark_each (occurs c.args.sig.now uses f) c.args.flags.now.items) (sym is))
     (c.mark_match.ensures.marks uses n (subst (MayMark c.args.sig.now uses n (worked_in c.args.definitions.now)) is m))
 
 pub mark-returns-in-Match-clause-noted : goal.mark-returns-in-Match-clause-noted
@@ -231,11 +231,11 @@ mark_bound-returns-clause-noted t c = λ inner uses n h e.
 pub mark_where-returns-then-counts-clause-marks : goal.mark_where-returns-then-counts-clause-marks
 mark_where-returns-then-counts-clause-marks t c = λ uses n h.
     ok_then c.mark.result _ _ _
-    (ap (λ (b : Bool). marked (λ i. b && occurs c.args.sig.now uses (formula_of c.args.tree.now) i) c.args.flags.now.items) (sym c.if-counts.true))
+    (ap (λ (b : Bool). mark_each (λ i. b && occurs c.args.sig.now uses (formula_of c.args.tree.now) i) c.args.flags.now.items) (sym c.if-counts.true))
     (c.mark.ensures.marks uses n h)
 
 pub mark_where-returns-clause-marks : goal.mark_where-returns-clause-marks
-mark_where-returns-clause-marks t c = λ uses n h. sym (ap (λ (b : Bool). marked (λ i. b && occurs c.args.sig.now uses (formula_of c.args.tree.now) i) c.args.flags.now.items) c.if-counts.false ∙ marked_none c.args.flags.now.items)
+mark_where-returns-clause-marks t c = λ uses n h. sym (ap (λ (b : Bool). mark_each (λ i. b && occurs c.args.sig.now uses (formula_of c.args.tree.now) i) c.args.flags.now.items) c.if-counts.false ∙ marked_none c.args.flags.now.items)
 
 -- ---- mark_under
 
@@ -268,9 +268,9 @@ mark_choice-returns-clause-marks t c = λ uses n h.
     let f = formula_of c.args.condition.now in
     let g = formula_of c.args.first.now in
     let k = formula_of c.args.second.now in
-    let one : c.mark.new.flags.items ≡ marked (occurs d uses f) first = c.in_ok-c.ensures.marks uses n (may_condition d uses n rows f g k h) in
-    let two : c.mark-2.new.flags.items ≡ marked (occurs d uses g) (marked (occurs d uses f) first) = c.in_ok-t.ensures.marks uses n (may_then d uses n rows f g k h) ∙ ap (marked (occurs d uses g)) one in
-    c.in_ok-u.ensures.marks uses n (may_else d uses n rows f g k h) ∙ (ap (marked (occurs d uses k)) two ∙ marks_choice d uses n rows f g k first)
+    let one : c.mark.new.flags.items ≡ mark_each (occurs d uses f) first = c.in_ok-c.ensures.marks uses n (may_condition d uses n rows f g k h) in
+    let two : c.mark-2.new.flags.items ≡ mark_each (occurs d uses g) (mark_each (occurs d uses f) first) = c.in_ok-t.ensures.marks uses n (may_then d uses n rows f g k h) ∙ ap (mark_each (occurs d uses g)) one in
+    c.in_ok-u.ensures.marks uses n (may_else d uses n rows f g k h) ∙ (ap (mark_each (occurs d uses k)) two ∙ marks_choice d uses n rows f g k first)
 
 pub mark_choice-returns-clause-noted : goal.mark_choice-returns-clause-noted
 mark_choice-returns-clause-noted t c = λ uses n h.
@@ -296,7 +296,7 @@ mark_let-mark_bound-requires t c =
     let u = formula_of c.args.body.now in
     let count : length c.args.trees.now ≡ count_of ts = sym (counted c.args.trees.now) in
     let body = may_body d may.0 may.1 rows ts u may.2 in
-    let row : c.as_slice.result.now ≡ listed (occurs d may.0 u) (count_of ts) = c.as_slice.ensures.value ∙ (c.in_ok-bound.ensures.flags may.0 may.1 body ∙ ap (listed (occurs d may.0 u)) count) in
+    let row : c.as_slice.result.now ≡ flags_below (occurs d may.0 u) (count_of ts) = c.as_slice.ensures.value ∙ (c.in_ok-bound.ensures.flags may.0 may.1 body ∙ ap (flags_below (occurs d may.0 u)) count) in
     (omega (arith, c.decreases), ((may.0, may.1, may_bound d may.0 may.1 rows ts u may.2), (occurs d may.0 u, row)))
 
 pub mark_let-returns-clause-marks : goal.mark_let-returns-clause-marks
@@ -308,9 +308,9 @@ mark_let-returns-clause-marks t c = λ uses n h.
     let u = formula_of c.args.body.now in
     let count : length c.args.trees.now ≡ count_of ts = sym (counted c.args.trees.now) in
     let body = may_body d uses n rows ts u h in
-    let row : c.as_slice.result.now ≡ listed (occurs d uses u) (count_of ts) = c.as_slice.ensures.value ∙ (c.in_ok-bound.ensures.flags uses n body ∙ ap (listed (occurs d uses u)) count) in
-    let under : c.mark_under.new.flags.items ≡ marked (λ i. occurs d uses u (i + count_of ts)) first = c.in_ok-bound.ensures.marks uses n body ∙ ap (λ (k : ℕ). marked (λ i. occurs d uses u (i + k)) first) count in
-    c.in_ok-under.ensures.marks (occurs d uses u) uses n (may_bound d uses n rows ts u h) row ∙ (ap (marked (occurs_in_bound d uses (occurs d uses u) ts)) under ∙ marks_let d uses n rows ts u first)
+    let row : c.as_slice.result.now ≡ flags_below (occurs d uses u) (count_of ts) = c.as_slice.ensures.value ∙ (c.in_ok-bound.ensures.flags uses n body ∙ ap (flags_below (occurs d uses u)) count) in
+    let under : c.mark_under.new.flags.items ≡ mark_each (λ i. occurs d uses u (i + count_of ts)) first = c.in_ok-bound.ensures.marks uses n body ∙ ap (λ (k : ℕ). mark_each (λ i. occurs d uses u (i + k)) first) count in
+    c.in_ok-under.ensures.marks (occurs d uses u) uses n (may_bound d uses n rows ts u h) row ∙ (ap (mark_each (occurs_in_bound d uses (occurs d uses u) ts)) under ∙ marks_let d uses n rows ts u first)
 
 pub mark_let-returns-clause-noted : goal.mark_let-returns-clause-noted
 mark_let-returns-clause-noted t c = λ uses n h.
@@ -321,7 +321,7 @@ mark_let-returns-clause-noted t c = λ uses n h.
     let u = formula_of c.args.body.now in
     let count : length c.args.trees.now ≡ count_of ts = sym (counted c.args.trees.now) in
     let body = may_body d uses n rows ts u h in
-    let row : c.as_slice.result.now ≡ listed (occurs d uses u) (count_of ts) = c.as_slice.ensures.value ∙ (c.in_ok-bound.ensures.flags uses n body ∙ ap (listed (occurs d uses u)) count) in
+    let row : c.as_slice.result.now ≡ flags_below (occurs d uses u) (count_of ts) = c.as_slice.ensures.value ∙ (c.in_ok-bound.ensures.flags uses n body ∙ ap (flags_below (occurs d uses u)) count) in
     let noted = c.in_ok-bound.ensures.noted uses n body in
     let inner = c.binder.ensures.inner ∙ (noted.1 ∙ ap (λ (ms : List Notes). ms ++ noted.0 ∷ []) c.new-inner.ensures.items) in
     noted_let d rows uses ts u c.binder.result noted.0 c.as_slice.result.now c.in_ok-under.under.items row (c.binder.ensures.bound ∙ sym c.as_slice.ensures.value) c.binder.ensures.under inner (c.in_ok-under.ensures.noted (occurs d uses u) uses n (may_bound d uses n rows ts u h) row) noted.2
@@ -337,8 +337,8 @@ mark_match-returns-clause-marks t c = λ uses n m.
     let cases = cases_of_trees c.args.cases.now in
     let under = may_cases d uses n rows f cases m in
     let counts : c.in_ok-counts.counts ≡ matched_occurs d uses [] cases = c.in_ok-counts.ensures.matched uses n under in
-    let bodies : c.mark_cases.new.flags.items ≡ marked (occurs_in_cases d uses [] cases) first = c.in_ok-counts.ensures.marks uses n under in
-    c.in_ok-notes.ensures.marks uses n (may_matched d uses n rows f cases m) ∙ (ap (marked (λ i. c.in_ok-counts.counts && occurs d uses f i)) bodies ∙ marks_match d uses n rows f cases c.in_ok-counts.counts first counts)
+    let bodies : c.mark_cases.new.flags.items ≡ mark_each (occurs_in_cases d uses [] cases) first = c.in_ok-counts.ensures.marks uses n under in
+    c.in_ok-notes.ensures.marks uses n (may_matched d uses n rows f cases m) ∙ (ap (mark_each (λ i. c.in_ok-counts.counts && occurs d uses f i)) bodies ∙ marks_match d uses n rows f cases c.in_ok-counts.counts first counts)
 
 pub mark_match-returns-clause-noted : goal.mark_match-returns-clause-noted
 mark_match-returns-clause-noted t c = λ uses n m.
@@ -429,7 +429,7 @@ mark_cases-returns-in_default-tested-clause-matched t c = λ uses n may.
     let split = subst (λ (cs : Cases). MarksCases d rows all first before earlier loop.tests cs loop.flags.items loop.inner.items) whole loop.invariant in
     let test : c.tested.result ≡ tested_by d earlier p (are_none later) = c.tested.ensures.value ∙ ap (tested_by d earlier p) (c.is_empty.ensures ∙ none_is others) in
     let end : tested_by d earlier p (are_none later) ≡ None = sym test ∙ c.in_default-tested.is in
-    let bound : c.as_slice.result.now ≡ listed (occurs d uses body) (variable_count d p) = c.as_slice.ensures.value ∙ (c.in_ok-bound.ensures.flags uses n (cases_first d rows all first before earlier loop.tests p body later loop.flags.items loop.inner.items split uses n may) ∙ ap (listed (occurs d uses body)) c.variable_count-count.ensures.count) in
+    let bound : c.as_slice.result.now ≡ flags_below (occurs d uses body) (pattern_variable_count d p) = c.as_slice.ensures.value ∙ (c.in_ok-bound.ensures.flags uses n (cases_first d rows all first before earlier loop.tests p body later loop.flags.items loop.inner.items split uses n may) ∙ ap (flags_below (occurs d uses body)) c.variable_count-count.ensures.count) in
     c.has_set_or.ensures.value ∙ ends_matched d rows all first before earlier loop.tests p body later loop.flags.items loop.inner.items split uses n may end c.as_slice.result.now bound
 
 pub mark_cases-returns-in_default-tested-clause-marks : goal.mark_cases-returns-in_default-tested-clause-marks
@@ -449,7 +449,7 @@ mark_cases-returns-in_default-tested-clause-marks t c = λ uses n may.
     let split = subst (λ (cs : Cases). MarksCases d rows all first before earlier loop.tests cs loop.flags.items loop.inner.items) whole loop.invariant in
     let test : c.tested.result ≡ tested_by d earlier p (are_none later) = c.tested.ensures.value ∙ ap (tested_by d earlier p) (c.is_empty.ensures ∙ none_is others) in
     let end : tested_by d earlier p (are_none later) ≡ None = sym test ∙ c.in_default-tested.is in
-    let under : c.mark_under.new.flags.items ≡ marked (λ i. occurs d uses body (i + variable_count d p)) loop.flags.items = c.in_ok-bound.ensures.marks uses n (cases_first d rows all first before earlier loop.tests p body later loop.flags.items loop.inner.items split uses n may) ∙ ap (λ (m : ℕ). marked (λ i. occurs d uses body (i + m)) loop.flags.items) c.variable_count-count.ensures.count in
+    let under : c.mark_under.new.flags.items ≡ mark_each (λ i. occurs d uses body (i + pattern_variable_count d p)) loop.flags.items = c.in_ok-bound.ensures.marks uses n (cases_first d rows all first before earlier loop.tests p body later loop.flags.items loop.inner.items split uses n may) ∙ ap (λ (m : ℕ). mark_each (λ i. occurs d uses body (i + m)) loop.flags.items) c.variable_count-count.ensures.count in
     ends_marks d rows all first before earlier loop.tests p body later loop.flags.items loop.inner.items split uses n may end c.mark_under.new.flags.items under
 
 pub mark_cases-returns-in_default-tested-clause-noted : goal.mark_cases-returns-in_default-tested-clause-noted
@@ -491,7 +491,7 @@ mark_cases-loop-rest-preserved t c =
     let longer : reverse c.push.new.self ≡ c.in-Some.c ∷ earlier = ap reverse c.in_ok-push.ensures.pushed ∙ reverse-append loop.earlier (c.in-Some.c ∷ []) in
     subst (λ (e : List CtorId). MarksCases d rows all first before e true later c.mark_under.new.flags.items c.mark_under.new.inner.items) (sym longer)
     (cases_next d rows all first before earlier loop.tests p body later loop.flags.items loop.inner.items split c.in-Some.c more c.mark_under.new.flags.items c.mark_under.new.inner.items
-    (λ uses n may. c.in_ok-bound.ensures.marks uses n may ∙ ap (λ (m : ℕ). marked (λ i. occurs d uses body (i + m)) loop.flags.items) c.variable_count-count.ensures.count)
+    (λ uses n may. c.in_ok-bound.ensures.marks uses n may ∙ ap (λ (m : ℕ). mark_each (λ i. occurs d uses body (i + m)) loop.flags.items) c.variable_count-count.ensures.count)
     (λ uses n may. c.in_ok-bound.ensures.noted uses n may))
 
 pub mark_cases-returns-clause-matched : goal.mark_cases-returns-clause-matched

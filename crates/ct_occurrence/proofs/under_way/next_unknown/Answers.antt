@@ -2,7 +2,7 @@ use Rattle.std.proofs.Common.{◌≡◌, List, [], None, subst, ◌∙◌, arith
 use Rattle.std.proofs.lemmas.List.{append-nil, nil_from_length}
 use Rattle.ct_sorts.specs.declared.ids.DefId.{DefId}
 use Rattle.ct_occurrence.specs.Marks.{worked_in}
-use Rattle.ct_occurrence.specs.UnderWay.{IsLeft}
+use Rattle.ct_occurrence.specs.UnderWay.{AreLeftOut}
 use Rattle.ct_occurrence.proofs.UnderWayLemmas.{on_true, on_false, left_start, left_known, left_unknown, left_end}
 use Rattle.ct_occurrence.proofs.under_way.next_unknown.Goals as goal
 
@@ -22,4 +22,4 @@ returns c =
     let left = c.loop-name.left.items in
     let same : left ≡ c.pop.new.self.items = c.in_default.ensures.items ∙ append-nil c.pop.new.self.items in
     let none_left : left ≡ [] = nil_from_length left (omega (arith, c.in_default.ensures.cases, c.loop-name.left.ok.0)) in
-    record { left = subst (λ (js : List DefId). IsLeft rows first js None) same (left_end rows first left none_left c.loop-name.invariant) }
+    record { left = subst (λ (js : List DefId). AreLeftOut rows first js None) same (left_end rows first left none_left c.loop-name.invariant) }

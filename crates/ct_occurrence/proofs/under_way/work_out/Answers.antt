@@ -3,7 +3,7 @@ use Rattle.std.proofs.lemmas.List.{nil_from_length}
 use Rattle.ct_terms.specs.TreeFormula.{formula_of}
 use Rattle.ct_occurrence.specs.declared.under_way.Frame.{Frame}
 use Rattle.ct_occurrence.specs.Marks.{worked_in}
-use Rattle.ct_occurrence.specs.UnderWay.{AreUnderWay, left_to_do}
+use Rattle.ct_occurrence.specs.UnderWay.{AreFramesUnderWay, left_to_do}
 use Rattle.ct_occurrence.proofs.UnderWayLemmas.{on_false, way_start, way_next, way_end}
 use Rattle.ct_occurrence.proofs.under_way.work_out.Goals as goal
 
@@ -12,7 +12,7 @@ loop-frame-init c = way_start c.args.sig.now (map formula_of c.args.bodies.now) 
     c.new-stack.ensures.items c.in_ok-push.ensures.items c.requires.right c.in_ok-first.ensures.begins (on_false c.is_known.result _ c.if-is_known.false c.is_known.ensures.unknown)
 
 pub go_on-requires-clause-under_way : goal.go_on-requires-clause-under_way
-go_on-requires-clause-under_way c = subst (AreUnderWay c.args.sig.now (map formula_of c.args.bodies.now) (worked_in c.loop-frame.definitions)) c.in-Some.ensures.items c.loop-frame.invariant.under_way
+go_on-requires-clause-under_way c = subst (AreFramesUnderWay c.args.sig.now (map formula_of c.args.bodies.now) (worked_in c.loop-frame.definitions)) c.in-Some.ensures.items c.loop-frame.invariant.under_way
 
 pub loop-frame-preserved : goal.loop-frame-preserved
 loop-frame-preserved c = way_next c.args.sig.now (map formula_of c.args.bodies.now) (worked_in c.args.definitions.now) c.args.k (worked_in c.loop-frame.definitions) (worked_in c.go_on.new.definitions) c.loop-frame.stack.items c.pop.new.self.items c.go_on.new.stack.items c.in-Some.frame

@@ -5,7 +5,7 @@ use Rattle.ct_terms.specs.declared.error.TermError.TheVariants.{Full}
 use Rattle.ct_terms.specs.CoreTree.{subtrees, subtrees_of_all, trees_of, term_at}
 use Rattle.ct_terms.specs.Compiled.{all_of}
 use Rattle.ct_operators.specs.Effect.{Stands, Within}
-use Rattle.ct_operators.specs.Made.{Makes, made_all}
+use Rattle.ct_operators.specs.Made.{MakesInOrder, made_all}
 use Rattle.ct_operators.specs.Pairing.{compared_all, made_compared_all}
 use Rattle.ct_operators.proofs.EffectLemmas.{effect_then, effect_because}
 use Rattle.ct_operators.proofs.WithinLemmas.{within_all, within_subtrees}
@@ -53,6 +53,6 @@ returns-clause-order c =
     let mid = c.compared.new.table in
     let parts = c.in_ok-parts.parts in
     let top = all_of (map (term_at mid) parts) in
-    IfOk-weaker c.all_of.result (λ t. Stands c.all_of.new.table t top) (λ t. Makes c.args.table.now (made_all (made_compared_all d c.args.different (term_at c.args.table.now) c.args.pairs.now)).making c.all_of.new.table)
+    IfOk-weaker c.all_of.result (λ t. Stands c.all_of.new.table t top) (λ t. MakesInOrder c.args.table.now (made_all (made_compared_all d c.args.different (term_at c.args.table.now) c.args.pairs.now)).making c.all_of.new.table)
     (λ t h. conjoined_made d c.args.different c.args.table.now mid c.all_of.new.table c.args.pairs.now parts _ t c.requires.some c.in_ok-parts.ensures.core c.in_ok-parts.ensures.order (c.all_of.ensures.effect (subtrees top) (within_subtrees top)) h)
     c.all_of.ensures.core

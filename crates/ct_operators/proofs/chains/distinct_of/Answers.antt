@@ -6,7 +6,7 @@ use Rattle.ct_terms.specs.CoreTree.{term_at}
 use Rattle.ct_terms.specs.Pairs.{pairs}
 use Rattle.ct_terms.specs.Compiled.{all_of, inequality}
 use Rattle.ct_operators.specs.Effect.{Stands, Within}
-use Rattle.ct_operators.specs.Made.{Makes, Made, leaf, made_inequality, made_all}
+use Rattle.ct_operators.specs.Made.{MakesInOrder, Made, leaf, made_inequality, made_all}
 use Rattle.ct_operators.specs.Pairing.{compared_all, made_compared_all, IsPair}
 use Rattle.ct_operators.proofs.EffectLemmas.{effect_none}
 use Rattle.ct_operators.proofs.OperatorLemmas.{stands_as}
@@ -45,6 +45,6 @@ pub returns-clause-order : goal.returns-clause-order
 returns-clause-order c =
     let d = c.args.sig.now in
     let f = term_at c.args.table.now in
-    IfOk-weaker c.conjoin.result _ (λ t. Makes c.args.table.now (made_all (pairs (made_inequality d) (map leaf (map f c.args.args.now)))).making c.conjoin.new.table)
-    (λ t h. subst (λ (ps : List Made). Makes c.args.table.now (made_all ps).making c.conjoin.new.table) (ap (made_compared_all d true f) (c.deref.ensures.value ∙ c.in_ok-found.ensures.pairs) ∙ pairs_made d f c.args.args.now) h)
+    IfOk-weaker c.conjoin.result _ (λ t. MakesInOrder c.args.table.now (made_all (pairs (made_inequality d) (map leaf (map f c.args.args.now)))).making c.conjoin.new.table)
+    (λ t h. subst (λ (ps : List Made). MakesInOrder c.args.table.now (made_all ps).making c.conjoin.new.table) (ap (made_compared_all d true f) (c.deref.ensures.value ∙ c.in_ok-found.ensures.pairs) ∙ pairs_made d f c.args.args.now) h)
     c.conjoin.ensures.order

@@ -11,7 +11,7 @@ use Rattle.ct_terms.specs.Compiled.{all_of, exclusive_of, implication_of, equali
 use Rattle.ct_operators.specs.declared.operator.Operator.{Operator}
 use Rattle.ct_operators.specs.declared.operator.Operator.TheVariants.{Construct, Select, Inspect, Call, Negation, Conjunction, Disjunction, Exclusion, Implication, Equality, Inequality}
 use Rattle.ct_operators.specs.Effect.{Stands, Within}
-use Rattle.ct_operators.specs.Made.{Makes, leaf, made_by}
+use Rattle.ct_operators.specs.Made.{MakesInOrder, leaf, made_by}
 use Rattle.ct_operators.specs.Forms.{combined, AllHaveSort, AreOperands}
 use Rattle.ct_operators.proofs.WithinLemmas.{within_itself}
 use Rattle.ct_operators.proofs.OperatorLemmas.{stands_as}
@@ -251,6 +251,6 @@ pub returns-in-Inequality-clause-order : goal.returns-in-Inequality-clause-order
 returns-in-Inequality-clause-order c = λ e.
     let d = c.args.sig.now in
     let f = term_at c.args.table.now in
-    IfOk-weaker c.distinct_of.result _ (λ t. Makes c.args.table.now (made_by d Inequality (map leaf (map f c.args.args))).making c.distinct_of.new.table)
-    (λ t h. subst (λ (ts : List TermId). Makes c.args.table.now (made_by d Inequality (map leaf (map f ts))).making c.distinct_of.new.table) c.as_slice-in-Inequality.ensures.value h)
+    IfOk-weaker c.distinct_of.result _ (λ t. MakesInOrder c.args.table.now (made_by d Inequality (map leaf (map f c.args.args))).making c.distinct_of.new.table)
+    (λ t h. subst (λ (ts : List TermId). MakesInOrder c.args.table.now (made_by d Inequality (map leaf (map f ts))).making c.distinct_of.new.table) c.as_slice-in-Inequality.ensures.value h)
     c.distinct_of.ensures.order

@@ -1,7 +1,7 @@
 use Rattle.std.proofs.Common.{Option, sym, subst}
 use Rattle.ct_terms.specs.declared.ids.TermId.{TermId}
 use Rattle.ct_operators.specs.declared.operator.Operator.TheVariants.{Exclusion}
-use Rattle.ct_operators.specs.Following.{MayFollow, Follows}
+use Rattle.ct_operators.specs.Following.{MayFollow, FollowGives}
 use Rattle.ct_operators.proofs.FollowLemmas.{exclusion_sorts, exclusion_done}
 use Rattle.ct_operators.proofs.following.follow_exclusion.Goals as goal
 
@@ -11,5 +11,5 @@ exclusive-requires-clause-boolean c =
 
 pub returns : goal.returns
 returns c = record {
-  outcome = λ ends. subst (λ (lead : Option TermId). Follows c.args.sig.now c.args.table.now c.exclusive.new.table Exclusion lead c.args.term ends c.exclusive.result) (sym c.in-Some.is) (exclusion_done c.args.sig.now c.args.table.now c.in-Some.before c.args.term c.exclusive.new.table c.exclusive.result ends c.exclusive.ensures.core c.exclusive.ensures.effect);
+  outcome = λ ends. subst (λ (lead : Option TermId). FollowGives c.args.sig.now c.args.table.now c.exclusive.new.table Exclusion lead c.args.term ends c.exclusive.result) (sym c.in-Some.is) (exclusion_done c.args.sig.now c.args.table.now c.in-Some.before c.args.term c.exclusive.new.table c.exclusive.result ends c.exclusive.ensures.core c.exclusive.ensures.effect);
 }

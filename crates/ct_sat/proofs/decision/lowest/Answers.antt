@@ -3,7 +3,7 @@ use Rattle.std.proofs.lemmas.List.{take_all}
 use Rattle.std.proofs.lemmas.List.Elements.{All-more}
 use Rattle.std.proofs.lemmas.Option.{slice_get-get_or}
 use Rattle.ct_terms.specs.declared.ids.TermId.{TermId}
-use Rattle.ct_sat.specs.Up.{HasValue}
+use Rattle.ct_sat.specs.Up.{IsAssigned}
 use Rattle.ct_sat.proofs.SearchLemmas.{IsLowest-first, index_none, index_some}
 use Rattle.ct_sat.proofs.decision.lowest.Goals as goal
 
@@ -18,8 +18,8 @@ returns-then-is_none c = record {
 }
 
 pub loop-variable-preserved : goal.loop-variable-preserved
-loop-variable-preserved c = All-more (HasValue (Contains c.args.trail.now.literals)) c.args.variables.now c.loop-variable.variable-index default c.loop-variable-test.true c.loop-variable.invariant
+loop-variable-preserved c = All-more (IsAssigned (Contains c.args.trail.now.literals)) c.args.variables.now c.loop-variable.variable-index default c.loop-variable-test.true c.loop-variable.invariant
     (index_some c.args.trail.now.literals (get_or c.args.variables.now c.loop-variable.variable-index default) c.index.result c.index.ensures.found (c.is_none.ensures ∙ ap not c.if-is_none.false))
 
 pub returns : goal.returns
-returns c = record { lowest = subst (All (HasValue (Contains c.args.trail.now.literals))) (take_all c.loop-variable.variable-index c.args.variables.now c.loop-variable-test.false) c.loop-variable.invariant }
+returns c = record { lowest = subst (All (IsAssigned (Contains c.args.trail.now.literals))) (take_all c.loop-variable.variable-index c.args.variables.now c.loop-variable-test.false) c.loop-variable.invariant }

@@ -1,6 +1,6 @@
 use Rattle.std.proofs.Common.{take, All, Contains}
-use Rattle.ct_sat.specs.Up.{HasValue}
+use Rattle.ct_sat.specs.Up.{IsAssigned}
 use Rattle.ct_sat.proofs.decision.lowest.Given as goal
 
 abbrev pub invariant-loop-variable : goal.invariant-loop-variable
-invariant-loop-variable l = All (HasValue (Contains l.trail.literals)) (take l.variable-index l.variables)
+invariant-loop-variable l = All (IsAssigned (Contains l.trail.literals)) (take l.variable-index l.variables)

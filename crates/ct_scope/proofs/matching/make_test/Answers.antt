@@ -2,7 +2,7 @@ use Rattle.std.proofs.Common.{Contains, ap, subst, sym}
 use Rattle.ct_terms.specs.CoreTree.{CoreTree, test}
 use Rattle.ct_scope.specs.declared.bound.Bound.{Bound}
 use Rattle.ct_scope.specs.declared.bound.Bound.TheVariants.{Term}
-use Rattle.ct_scope.specs.Ready.{IsBound}
+use Rattle.ct_scope.specs.Compilable.{IsBound}
 use Rattle.ct_scope.proofs.matching.make_test.Goals as goal
 
 pub returns-clause-effect : goal.returns-clause-effect

@@ -1,6 +1,6 @@
 use Rattle.std.proofs.Common.{refl, Contains, arith}
 use Rattle.std.proofs.lemmas.List.Elements.{All-contains}
-use Rattle.ct_sat.specs.Up.{HasValue}
+use Rattle.ct_sat.specs.Up.{IsAssigned}
 use Rattle.ct_sat.proofs.SearchLemmas.{IsSearch-decided}
 use Rattle.ct_sat.proofs.search.Search.decide.Goals as goal
 
@@ -17,12 +17,12 @@ returns-else-self-clause-all c =
 pub returns-in-None-clause-all : goal.returns-in-None-clause-all
 returns-in-None-clause-all c =
     let values = rw c.as_slice.ensures.value at c.in-None.ensures.lowest in
-    rw (← c.self.view_is) (λ e t h. All-contains (HasValue (Contains c.self.inside.trail.literals)) c.self.inside.variables.items t values h, λ h. refl)
+    rw (← c.self.view_is) (λ e t h. All-contains (IsAssigned (Contains c.self.inside.trail.literals)) c.self.inside.variables.items t values h, λ h. refl)
 
 pub returns-in-None-clause-spent : goal.returns-in-None-clause-spent
 returns-in-None-clause-spent c =
     let values = rw c.as_slice.ensures.value at c.in-None.ensures.lowest in
-    rw (← c.self.view_is) (λ e. cc, λ p. absurd (p.0.2 (All-contains (HasValue (Contains c.self.inside.trail.literals)) c.self.inside.variables.items p.0.0 values p.0.1)))
+    rw (← c.self.view_is) (λ e. cc, λ p. absurd (p.0.2 (All-contains (IsAssigned (Contains c.self.inside.trail.literals)) c.self.inside.variables.items p.0.0 values p.0.1)))
 
 pub invariant_of-self : goal.invariant_of-self
 invariant_of-self c =

@@ -1,7 +1,7 @@
 use Rattle.std.proofs.Common.{◌≡◌, sym, subst, arith}
 use Rattle.std.proofs.lemmas.Grind.{common_steps}
 use Rattle.ct_sorts.specs.Declarations.{start}
-use Rattle.ct_terms.specs.Terms.{AreSorted, truths}
+use Rattle.ct_terms.specs.Terms.{AreSorted, truth_terms}
 use Rattle.ct_terms.proofs.LiteralLemmas.{AreLiterals-truths}
 use Rattle.ct_terms.proofs.TableLemmas.{IsTermTable-truths, AreSorted-truths}
 use Rattle.ct_terms.proofs.SortLemmas.{Extends-same}
@@ -9,7 +9,7 @@ use Rattle.ct_terms.proofs.table.TermTable.new.Goals as goal
 use Rattle.ct_terms.proofs.table.TermTable.new.Goals.{In_ok-insert-2}
 
 -- the table is `true` and `false`
-are_truths : (c : In_ok-insert-2) → c.insert-2.new.self.entries ≡ truths
+are_truths : (c : In_ok-insert-2) → c.insert-2.new.self.entries ≡ truth_terms
 are_truths c = rw (c.in_ok-insert-2.ensures.entries, c.in_ok-insert.ensures.entries, c.new-terms.ensures.empty) (grind (arith, common_steps))
 
 -- the literals are the two terms themselves

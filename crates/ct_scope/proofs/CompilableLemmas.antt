@@ -6,31 +6,31 @@ use Rattle.ct_sorts.specs.Declarations.{Declarations, bool_sort}
 use Rattle.ct_terms.specs.Terms.{Terms}
 use Rattle.ct_terms.specs.CoreTree.{CoreTree, sel}
 use Rattle.ct_terms.specs.Formula.{Formula, Formulas, Var, Con, Sel, Test, Apply, Def, Not, And, Or, Xor, Implies, Equal, Distinct, Ite, Let, Match, no_formulas, with_formula, MentionsBelow, AllMentionBelow}
-use Rattle.ct_terms.specs.FormulaSorts.{IsSorted, AreSorted, AreOfSort}
+use Rattle.ct_terms.specs.FormulaSorts.{IsSorted, AllSorted, AreOfSort}
 use Rattle.ct_terms.specs.Compiled.{compiled, compiled_all}
 use Rattle.ct_terms.specs.Occurrence.{occurs, occurs_in_some, uses_below}
 use Rattle.ct_scope.specs.declared.bound.Bound.{Bound}
 use Rattle.ct_scope.specs.declared.bound.Bound.TheVariants.{Term, Field, Absent}
-use Rattle.ct_operators.specs.Effect.{IsKept, IsPrefix}
-use Rattle.ct_occurrence.specs.Plain.{is_plain, children_of}
+use Rattle.ct_operators.specs.Effect.{IsSoundTable, IsPrefix}
+use Rattle.ct_occurrence.specs.Plain.{is_plain, formulas_under}
 use Rattle.ct_operators.specs.Forms.{operator_for, combined}
-use Rattle.ct_scope.specs.Ready.{given, IsBound, ArePresent, IsSetting, IsReady, AreReady}
+use Rattle.ct_scope.specs.Compilable.{compiled_calls, IsBound, ArePresent, IsSetting, IsCompilable, AreCompilable}
 use Rattle.ct_operators.proofs.EffectLemmas.{prefix_length, same_tree, stands_stays}
 
 -- ---- tables that grow
 
-pub bound_stays : (d : Declarations) (old new : Terms) (b : Bound) (tree : CoreTree) → IsPrefix old new → IsKept d new → IsBound old b tree → IsBound new b tree
+pub bound_stays : (d : Declarations) (old new : Terms) (b : Bound) (tree : CoreTree) → IsPrefix old new → IsSoundTable d new → IsBound old b tree → IsBound new b tree
 bound_stays d old new (Term t) tree grown kept h = stands_stays d old new t tree grown kept h
 bound_stays d old new (Field s t) tree grown kept h = (omega (arith, h.0, prefix_length old new grown), ap (sel s) (same_tree d old new t grown kept h.0) ∙ h.1)
 bound_stays d old new Absent tree grown kept h = tt
 
-pub bounds_stay : (d : Declarations) (old new : Terms) (bs : List Bound) (trees : List CoreTree) → IsPrefix old new → IsKept d new → AllZip (IsBound old) bs trees → AllZip (IsBound new) bs trees
+pub bounds_stay : (d : Declarations) (old new : Terms) (bs : List Bound) (trees : List CoreTree) → IsPrefix old new → IsSoundTable d new → AllZip (IsBound old) bs trees → AllZip (IsBound new) bs trees
 bounds_stay d old new [] [] grown kept h = h
 bounds_stay d old new [] (u ∷ us) grown kept h = h
 bounds_stay d old new (b ∷ bs) [] grown kept h = h
 bounds_stay d old new (b ∷ bs) (u ∷ us) grown kept h = (bound_stays d old new b u grown kept h.0, bounds_stay d old new bs us grown kept h.1)
 
-pub setting_stays : (d : Declarations) (bodies : List Formula) (old new : Terms) (env : List Bound) (trees : List CoreTree) (sorts : List SortId) → IsPrefix old new → IsKept d new → IsSetting d bodies old env trees sorts → IsSetting d bodies new env trees sorts
+pub setting_stays : (d : Declarations) (bodies : List Formula) (old new : Terms) (env : List Bound) (trees : List CoreTree) (sorts : List SortId) → IsPrefix old new → IsSoundTable d new → IsSetting d bodies old env trees sorts → IsSetting d bodies new env trees sorts
 setting_stays d bodies old new env trees sorts grown kept h = record {
   consistent = h.consistent;
   sound = h.sound;
@@ -39,7 +39,7 @@ setting_stays d bodies old new env trees sorts grown kept h = record {
   fitting = h.fitting;
 }
 
-pub ready_stays : (d : Declarations) (bodies : List Formula) (old new : Terms) (n : ℕ) (env : List Bound) (t : Formula) (trees : List CoreTree) (sorts : List SortId) (sort : SortId) → IsPrefix old new → IsKept d new → IsReady d bodies old n env t trees sorts sort → IsReady d bodies new n env t trees sorts sort
+pub ready_stays : (d : Declarations) (bodies : List Formula) (old new : Terms) (n : ℕ) (env : List Bound) (t : Formula) (trees : List CoreTree) (sorts : List SortId) (sort : SortId) → IsPrefix old new → IsSoundTable d new → IsCompilable d bodies old n env t trees sorts sort → IsCompilable d bodies new n env t trees sorts sort
 ready_stays d bodies old new n env t trees sorts sort grown kept h = record {
   setting = setting_stays d bodies old new env trees sorts grown kept h.setting;
   mentions = h.mentions;
@@ -47,7 +47,7 @@ ready_stays d bodies old new n env t trees sorts sort grown kept h = record {
   present = h.present;
 }
 
-pub all_ready_stay : (d : Declarations) (bodies : List Formula) (old new : Terms) (n : ℕ) (env : List Bound) (ts : Formulas) (trees : List CoreTree) (sorts each : List SortId) → IsPrefix old new → IsKept d new → AreReady d bodies old n env ts trees sorts each → AreReady d bodies new n env ts trees sorts each
+pub all_ready_stay : (d : Declarations) (bodies : List Formula) (old new : Terms) (n : ℕ) (env : List Bound) (ts : Formulas) (trees : List CoreTree) (sorts each : List SortId) → IsPrefix old new → IsSoundTable d new → AreCompilable d bodies old n env ts trees sorts each → AreCompilable d bodies new n env ts trees sorts each
 all_ready_stay d bodies old new n env ts trees sorts each grown kept h = record {
   setting = setting_stays d bodies old new env trees sorts grown kept h.setting;
   mentions = h.mentions;
@@ -69,13 +69,13 @@ present_less p q env less h i b e at = h i b (less i e) at
 
 -- ---- several formulas
 
-pub each_sorted : (d : Declarations) (env : List SortId) (ts : Formulas) (side : SortId) → AreOfSort d env ts side → (each : List SortId) × AreSorted d env ts each
+pub each_sorted : (d : Declarations) (env : List SortId) (ts : Formulas) (side : SortId) → AreOfSort d env ts side → (each : List SortId) × AllSorted d env ts each
 each_sorted d env no_formulas side h = ([], tt)
 each_sorted d env (with_formula t ts) side h = let rest = each_sorted d env ts side h.1 in (side ∷ rest.0, (h.0, rest.1))
 
 module _ (d : Declarations) (bodies : List Formula) (table : Terms) (n : ℕ) (env : List Bound) (trees : List CoreTree) (sorts : List SortId) where
   -- the first of several, and the rest
-  pub first_ready : (t : Formula) (ts : Formulas) (s : SortId) (each : List SortId) → AreReady d bodies table n env (with_formula t ts) trees sorts (s ∷ each) → IsReady d bodies table n env t trees sorts s
+  pub first_ready : (t : Formula) (ts : Formulas) (s : SortId) (each : List SortId) → AreCompilable d bodies table n env (with_formula t ts) trees sorts (s ∷ each) → IsCompilable d bodies table n env t trees sorts s
   first_ready t ts s each h = record {
     setting = h.setting;
     mentions = h.mentions.0;
@@ -83,7 +83,7 @@ module _ (d : Declarations) (bodies : List Formula) (table : Terms) (n : ℕ) (e
     present = present_less _ _ env (λ i e. or_left (occurs d (uses_below d bodies n) t i) (occurs_in_some d (uses_below d bodies n) ts i) e) h.present;
   }
 
-  pub rest_ready : (t : Formula) (ts : Formulas) (s : SortId) (each : List SortId) → AreReady d bodies table n env (with_formula t ts) trees sorts (s ∷ each) → AreReady d bodies table n env ts trees sorts each
+  pub rest_ready : (t : Formula) (ts : Formulas) (s : SortId) (each : List SortId) → AreCompilable d bodies table n env (with_formula t ts) trees sorts (s ∷ each) → AreCompilable d bodies table n env ts trees sorts each
   rest_ready t ts s each h = record {
     setting = h.setting;
     mentions = h.mentions.1;
@@ -92,7 +92,7 @@ module _ (d : Declarations) (bodies : List Formula) (table : Terms) (n : ℕ) (e
   }
 
   -- the formulas under an operator
-  pub plain_sorted : (t : Formula) (sort : SortId) → is_plain t ≡ true → IsSorted d sorts t sort → (each : List SortId) × AreSorted d sorts (children_of t) each
+  pub plain_sorted : (t : Formula) (sort : SortId) → is_plain t ≡ true → IsSorted d sorts t sort → (each : List SortId) × AllSorted d sorts (formulas_under t) each
   plain_sorted (Con c ts) sort plain h = (h.1, h.4)
   plain_sorted (Sel s t) sort plain h = (h.1.sort ∷ [], (h.4, tt))
   plain_sorted (Test c t) sort plain h = (h.0.sort ∷ [], (h.2, tt))
@@ -110,7 +110,7 @@ module _ (d : Declarations) (bodies : List Formula) (table : Terms) (n : ℕ) (e
   plain_sorted (Let ts u) sort plain h = absurd (true≢false (sym plain))
   plain_sorted (Match t cases) sort plain h = absurd (true≢false (sym plain))
 
-  pub plain_mentions : (t : Formula) → is_plain t ≡ true → MentionsBelow n t → AllMentionBelow n (children_of t)
+  pub plain_mentions : (t : Formula) → is_plain t ≡ true → MentionsBelow n t → AllMentionBelow n (formulas_under t)
   plain_mentions (Con c ts) plain h = h
   plain_mentions (Sel s t) plain h = (h, tt)
   plain_mentions (Test c t) plain h = (h, tt)
@@ -132,7 +132,7 @@ module _ (d : Declarations) (bodies : List Formula) (table : Terms) (n : ℕ) (e
   or_none true h = refl
   or_none false h = h
 
-  plain_occurs : (t : Formula) → is_plain t ≡ true → (i : ℕ) → occurs_in_some d (uses_below d bodies n) (children_of t) i ≡ true → occurs d (uses_below d bodies n) t i ≡ true
+  plain_occurs : (t : Formula) → is_plain t ≡ true → (i : ℕ) → occurs_in_some d (uses_below d bodies n) (formulas_under t) i ≡ true → occurs d (uses_below d bodies n) t i ≡ true
   plain_occurs (Con c ts) plain i h = h
   plain_occurs (Sel s t) plain i h = or_none (occurs d (uses_below d bodies n) t i) h
   plain_occurs (Test c t) plain i h = or_none (occurs d (uses_below d bodies n) t i) h
@@ -150,7 +150,7 @@ module _ (d : Declarations) (bodies : List Formula) (table : Terms) (n : ℕ) (e
   plain_occurs (Let ts u) plain i h = absurd (true≢false (sym plain))
   plain_occurs (Match t cases) plain i h = absurd (true≢false (sym plain))
 
-  pub children_ready : (t : Formula) (sort : SortId) → is_plain t ≡ true → IsReady d bodies table n env t trees sorts sort → (each : List SortId) × AreReady d bodies table n env (children_of t) trees sorts each
+  pub children_ready : (t : Formula) (sort : SortId) → is_plain t ≡ true → IsCompilable d bodies table n env t trees sorts sort → (each : List SortId) × AreCompilable d bodies table n env (formulas_under t) trees sorts each
   children_ready t sort plain h =
       let each = plain_sorted t sort plain h.sorted in (
         each.0,
@@ -163,7 +163,7 @@ module _ (d : Declarations) (bodies : List Formula) (table : Terms) (n : ℕ) (e
       )
 
 -- the core term of an operator, over those of the formulas under it
-pub compiled_plain : (d : Declarations) (bodies : List Formula) (n : ℕ) (trees : List CoreTree) (t : Formula) → is_plain t ≡ true → compiled d (given d bodies n) trees t ≡ combined d (operator_for t) (compiled_all d (given d bodies n) trees (children_of t))
+pub compiled_plain : (d : Declarations) (bodies : List Formula) (n : ℕ) (trees : List CoreTree) (t : Formula) → is_plain t ≡ true → compiled d (compiled_calls d bodies n) trees t ≡ combined d (operator_for t) (compiled_all d (compiled_calls d bodies n) trees (formulas_under t))
 compiled_plain d bodies n trees (Con c ts) plain = refl
 compiled_plain d bodies n trees (Sel s t) plain = refl
 compiled_plain d bodies n trees (Test c t) plain = refl
