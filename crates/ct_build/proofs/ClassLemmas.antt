@@ -17,7 +17,8 @@ use Rattle.ct_terms.specs.Terms.{IsOfSort, IsOfField, AreSorted}
 use Rattle.ct_rules.specs.Cycle.{IsOfDatatype}
 use Rattle.ct_congr.specs.State.{State, AreEqual}
 use Rattle.ct_acyclic.specs.Order.{IsClassOrder}
-use Rattle.ct_build.specs.Nodes.{HaveSortedNodes, IsClassList, AreNumbered, AreClassNodes, node_under}
+use Rattle.ct_build.specs.Nodes.{HaveSortedNodes, IsClassList, AreNumbered, AreClassNodes}
+use Rattle.ct_eval.specs.EvaluationStep.{node_under}
 use Rattle.ct_build.proofs.ListLemmas.{append_split, append_after, map_source, there, AllZip-map}
 use Rattle.ct_build.proofs.GraphLemmas.{longer_sort, longer_fits, fits_within, fitting_below, well_formed_longer, sort_within, one_node_sort}
 use Rattle.ct_build.proofs.TermLemmas.{one_term_sort}

@@ -14,7 +14,8 @@ use Rattle.ct_terms.specs.Terms.{Terms, IsOfSort, Has, AreSorted}
 use Rattle.ct_eval.specs.declared.interp.Row.{Row}
 use Rattle.ct_eval.specs.declared.interp.Table.{Table}
 use Rattle.ct_eval.specs.Interpretation.{FitsRow, FitsTable, HasFunctions, HasSelectors}
-use Rattle.ct_build.specs.Nodes.{HaveSortedNodes, node_under}
+use Rattle.ct_build.specs.Nodes.{HaveSortedNodes}
+use Rattle.ct_eval.specs.EvaluationStep.{node_under}
 use Rattle.ct_build.specs.Tables.{with_row, AddsFirst}
 use Rattle.ct_build.proofs.ListLemmas.{pushed_at, length-push, set_at, set_length, AllZip-map}
 

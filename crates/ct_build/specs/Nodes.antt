@@ -1,5 +1,5 @@
 -- Nodes for sorts, for terms and for the classes of terms.
-use Rattle.std.specs.Prelude.{◌≡◌, ℕ, ◌+◌, ◌⊎◌, List, ◌++◌, length, map, Some, Option, slice_get, get_or}
+use Rattle.std.specs.Prelude.{◌≡◌, ℕ, ◌+◌, ◌⊎◌, List, ◌++◌, length, map, Some, Option, slice_get}
 use Rattle.ct_sorts.specs.declared.ids.CtorId.{CtorId}
 use Rattle.ct_sorts.specs.declared.ids.SortId.{SortId}
 use Rattle.ct_sorts.specs.Declarations.{Declarations, IsSort}
@@ -16,6 +16,7 @@ use Rattle.ct_terms.specs.Terms.{Terms, IsOfSort, Has}
 use Rattle.ct_rules.specs.Cycle.{IsOfDatatype}
 use Rattle.ct_congr.specs.State.{State, AreEqual}
 use Rattle.ct_build.specs.declared.open_classes.OpenClass.{OpenClass}
+use Rattle.ct_eval.specs.EvaluationStep.{node_under}
 
 -- the stored nodes are of the sorts at their indices
 abbrev pub AreStored : Declarations → Nodes → List (Option NodeId) → Type 0
@@ -63,10 +64,6 @@ pub record IsReserved (list : List TermId) (base : ℕ) (r : TermId) (n : NodeId
 pub record AreNumbered (state : State) (g : Nodes) (list : List TermId) (nodes : List NodeId) : Type 0 where
   pub long : length nodes ≡ length state.terms
   pub each : (t r : TermId) (s : SortId) (n : NodeId) → slice_get state.reps t.0 ≡ Some r → IsOfSort state.terms t s → slice_get nodes t.0 ≡ Some n → HasNodeSort state.declarations g n s ⊎ IsReserved list (length g) r n
-
--- the node of this term
-abbrev pub node_under : List NodeId → TermId → NodeId
-node_under list t = get_or list t.0 (record { 0 = 0 })
 
 -- the node is a constructor term of the class over the nodes of its arguments
 pub record IsOfTerm (state : State) (list : List NodeId) (r : TermId) (node : Node) : Type 0 where

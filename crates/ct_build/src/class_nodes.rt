@@ -2,7 +2,8 @@
 ghost use Rattle.std.specs.Prelude.{◌≡◌, ℕ, ◌<◌, ◌⊎◌, length, map, Some, slice_get, IfOk};
 ghost use Rattle.std.specs.List.{AllByRecursion};
 ghost use Rattle.ct_terms.specs.declared.ids.TermId.{TermId};
-ghost use Rattle.ct_build.specs.Nodes.{HaveSortedNodes, node_under, IsOfTerm, IsCopied, AreClassNodes};
+ghost use Rattle.ct_build.specs.Nodes.{HaveSortedNodes, IsOfTerm, IsCopied, AreClassNodes};
+ghost use Rattle.ct_eval.specs.EvaluationStep.{node_under};
 
 use crate::error::BuildError;
 use ct_congr::Classes;

@@ -16,7 +16,8 @@ use Rattle.ct_terms.specs.CoreTree.{CoreTree, con, sel, test, equation, choice, 
 use Rattle.ct_terms.specs.CoreSorts.{HasTreeSort}
 use Rattle.ct_terms.specs.Compiled.{fields_of, ctor_ids_of_sort}
 use Rattle.ct_closure.specs.Closed.{IsClosed, IsSplit, IsBuilt}
-use Rattle.ct_closure.specs.ClosedTable.{IsPresent, IsSplitTerm, IsFieldTerm, HasCase, HasCases, sels_of}
+use Rattle.ct_closure.specs.ClosedTable.{IsPresent, IsSplitTerm, IsFieldTerm, HasCase, HasCases}
+use Rattle.ct_card.specs.Fields.{sels_of}
 use Rattle.ct_closure.specs.Steps.{IsSound, IsAdded, IsStep, IsCaseOf, IsConditionalTaken}
 use Rattle.ct_closure.specs.Trees.{TreeTheorems}
 use Rattle.ct_closure.proofs.ListLemmas.{index_of, contained, before_or_last, Contains-map, AllZip-push, take-slice_get_next}

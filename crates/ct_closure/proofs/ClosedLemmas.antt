@@ -14,7 +14,8 @@ use Rattle.ct_terms.specs.CoreTree.{CoreTree, con, sel, test, equation, choice, 
 use Rattle.ct_terms.specs.CoreSorts.{HasTreeSort}
 use Rattle.ct_terms.specs.Compiled.{fields_of, ctor_ids_of_sort}
 use Rattle.ct_closure.specs.Closed.{IsBuilt, IsStructured, IsSplit}
-use Rattle.ct_closure.specs.ClosedTable.{HasTree, IsClosedTable, IsPresent, IsOpen, IsSplitTerm, IsFieldTerm, HasCases, sels_of}
+use Rattle.ct_closure.specs.ClosedTable.{HasTree, IsClosedTable, IsPresent, IsOpen, IsSplitTerm, IsFieldTerm, HasCases}
+use Rattle.ct_card.specs.Fields.{sels_of}
 use Rattle.ct_closure.specs.Steps.{IsSound, IsMarked, IsUnderWay}
 use Rattle.ct_closure.specs.Trees.{TreeTheorems}
 use Rattle.ct_closure.proofs.ListLemmas.{Contains-first, Contains-rest, Contains-map, entry_at}

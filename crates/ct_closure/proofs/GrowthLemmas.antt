@@ -14,7 +14,8 @@ use Rattle.ct_terms.specs.declared.error.TermError.{TermError}
 use Rattle.ct_terms.specs.Terms.{Terms, Has, IsOfSort, AreOrdered, Makes}
 use Rattle.ct_terms.specs.CoreTree.{CoreTree, tree_layer, term_at}
 use Rattle.ct_closure.specs.Closed.{IsClosed}
-use Rattle.ct_closure.specs.ClosedTable.{IsPresent, IsOpen, IsArgument, IsSplitTerm, IsFieldTerm, HasCase, HasCases, sels_of}
+use Rattle.ct_closure.specs.ClosedTable.{IsPresent, IsOpen, IsArgument, IsSplitTerm, IsFieldTerm, HasCase, HasCases}
+use Rattle.ct_card.specs.Fields.{sels_of}
 use Rattle.ct_closure.specs.Steps.{IsSound, IsAdded, IsStep, IsCaseOf, IsMarked, AreMarked, IsConditionalTaken, IsArgumentOf, IsArgumentTaken, IsFiniteTaken, IsTaken}
 use Rattle.ct_closure.specs.Trees.{TreeTheorems}
 use Rattle.ct_closure.proofs.ListLemmas.{before_or_last, slice_get-append_left, slice_get-prefix, slice_get-last, AllZip-weaker}

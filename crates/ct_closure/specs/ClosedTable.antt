@@ -1,12 +1,13 @@
 -- Closed sets of terms as tables: what is closed, what is split and what is asked of a split, by numbers.
-use Rattle.std.specs.Prelude.{◌≡◌, ℕ, ◌<◌, ◌⊎◌, List, [], ◌++◌, length, map, Some, option_map, unwrap_or, slice_get, Contains}
+use Rattle.std.specs.Prelude.{◌≡◌, ℕ, ◌<◌, ◌⊎◌, List, [], ◌++◌, length, map, Some, slice_get, Contains}
 use Rattle.std.specs.List.{AllZip}
 use Rattle.ct_sorts.specs.declared.ids.CtorId.{CtorId}
 use Rattle.ct_sorts.specs.declared.ids.SelId.{SelId}
 use Rattle.ct_sorts.specs.declared.ids.SortId.{SortId}
-use Rattle.ct_sorts.specs.Declarations.{Declarations, Constructor}
+use Rattle.ct_sorts.specs.Declarations.{Declarations}
 use Rattle.ct_card.specs.declared.size.Size.TheVariants.{Finite}
 use Rattle.ct_card.specs.Cardinality.{HasSize}
+use Rattle.ct_card.specs.Fields.{sels_of}
 use Rattle.ct_terms.specs.declared.ids.TermId.{TermId}
 use Rattle.ct_terms.specs.declared.term.Core.{Core}
 use Rattle.ct_terms.specs.declared.term.Core.TheVariants.{Con, Sel, Test}
@@ -55,10 +56,6 @@ IsArgument table t = ((s : SelId) × IsPresent table (Sel s t)) ⊎ ((c : CtorId
 pub record IsSplitTerm (d : Declarations) (table : Terms) (t : TermId) (sort : SortId) : Type 0 where
   pub unsettled : IsOpen d table t sort
   pub cause : IsArgument table t ⊎ HasSize d sort.0 Finite
-
--- the selectors of a constructor, one a field, in order
-abbrev pub sels_of : Declarations → CtorId → List SelId
-sels_of d c = unwrap_or (option_map (λ (ctor : Constructor). ctor.sels) (slice_get d.ctors c.0)) []
 
 -- the number is that of the field of a term by this selector
 abbrev pub IsFieldTerm : Terms → TermId → SelId → TermId → Type 0

@@ -4,7 +4,8 @@ ghost use Rattle.std.specs.Prelude.{◌≡◌, ◌<◌, ◌≤◌, length, OnOk,
 ghost use Rattle.std.specs.List.{AllZip};
 ghost use Rattle.ct_sorts.specs.declared.ids.SortId.{SortId};
 ghost use Rattle.ct_closure.specs.Closed.{most_closure_terms};
-ghost use Rattle.ct_closure.specs.ClosedTable.{IsPresent, IsSplitTerm, IsFieldTerm, HasCase, HasCases, sels_of};
+ghost use Rattle.ct_closure.specs.ClosedTable.{IsPresent, IsSplitTerm, IsFieldTerm, HasCase, HasCases};
+ghost use Rattle.ct_card.specs.Fields.{sels_of};
 ghost use Rattle.ct_closure.specs.Steps.{IsSound, IsStep, IsCaseOf};
 ghost use Rattle.ct_terms.specs.declared.term.Core.TheVariants.{Con, Test};
 

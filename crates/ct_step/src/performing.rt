@@ -14,7 +14,10 @@ use crate::state::SessionState;
 use ct_command::{Command, CommandError};
 use std::alloc::Global;
 
-/// Does a command, which is the check of this number if it is a check.
+/// Does a command, which is the check of this number if it is a check, and answers it.
+///
+/// It is refused with the first error that applies to it (SMT-LIB 2.7, section 4.2, and the errors of `ct_words`). Then,
+/// and where memory runs out, nothing has changed.
 pub fn perform(
     alloc: Global,
     state: &mut SessionState,

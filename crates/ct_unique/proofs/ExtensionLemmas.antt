@@ -1,5 +1,5 @@
 -- Where each block is one class, bisimilar classes are one.
-use Rattle.std.proofs.Common.{◌≡◌, ℕ, ◌<◌, ◌⊎◌, List, length, inl, inr, arith}
+use Rattle.std.proofs.Common.{◌≡◌, ℕ, ◌<◌, List, length, inl, inr, arith}
 use Rattle.std.proofs.lemmas.Option.{slice_get_within}
 use Rattle.ct_sorts.specs.declared.ids.SortId.{SortId}
 use Rattle.ct_terms.specs.declared.ids.TermId.{TermId}
@@ -7,7 +7,7 @@ use Rattle.ct_terms.specs.declared.term.Core.{Core}
 use Rattle.ct_terms.specs.declared.term.Core.TheVariants.{Con}
 use Rattle.ct_terms.specs.Terms.{Has, IsOfSort}
 use Rattle.ct_congr.specs.State.{State, AreEqual}
-use Rattle.ct_unique.specs.Partition.{block_of, AreBisimilar, IsStronglyExtensional, IsCoarsest}
+use Rattle.ct_unique.specs.Partition.{block_of, IsStronglyExtensional, IsCoarsest}
 use Rattle.ct_unique.proofs.ClassLemmas.{InOneClass-sym}
 
 module _ (state : State) (blocks : List ℕ) (made : IsCoarsest state blocks) (one_sort : (x y : TermId) (s : SortId) → AreEqual state x y → IsOfSort state.terms x s → IsOfSort state.terms y s) where

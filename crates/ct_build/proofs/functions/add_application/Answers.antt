@@ -4,7 +4,7 @@ use Rattle.ct_values.specs.declared.node.NodeId.{NodeId}
 use Rattle.ct_terms.specs.declared.term.Core.TheVariants.{Apply}
 use Rattle.ct_terms.specs.Terms.{Applies, Has}
 use Rattle.ct_eval.specs.Interpretation.{FitsRow}
-use Rattle.ct_build.specs.Nodes.{node_under}
+use Rattle.ct_eval.specs.EvaluationStep.{node_under}
 use Rattle.ct_build.proofs.TableLemmas.{at_ok, functions_more, application_fits}
 use Rattle.ct_build.proofs.functions.add_application.Goals as goal
 

@@ -1,5 +1,5 @@
 use Rattle.ct_terms.specs.declared.term.Core.TheVariants.{Test}
-use Rattle.ct_closure.specs.ClosedTable.{sels_of}
+use Rattle.ct_card.specs.Fields.{sels_of}
 use Rattle.ct_closure.proofs.GrowthLemmas.{IsPresent-stays, IsCaseOf-stays, fields_stay, step_then}
 use Rattle.ct_closure.proofs.cases.add_case.Goals as goal
 
