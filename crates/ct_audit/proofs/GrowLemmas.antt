@@ -14,8 +14,8 @@ use Rattle.ct_terms.specs.declared.ids.TermId.{TermId}
 use Rattle.ct_terms.specs.Terms.{Terms, IsBoolean, AreSorted, AreOrdered, AreSingle, most_terms}
 use Rattle.ct_terms.specs.CoreTree.{CoreTree, subtrees, term_at}
 use Rattle.ct_terms.specs.CoreSorts.{HasTreeSort}
-use Rattle.ct_terms.specs.Formula.{Formula}
-use Rattle.ct_terms.specs.FormulaSorts.{IsSorted, AreSound}
+use Rattle.ct_formulas.specs.Formula.{Formula}
+use Rattle.ct_formulas.specs.FormulaSorts.{IsSorted, AreSound}
 use Rattle.ct_closure.specs.ClosedTable.{terms_at}
 use Rattle.ct_compile.specs.Effect.{IsPrefix, IsMissing, AreDifferent, DoNotFit, AddsTrees}
 use Rattle.ct_stack.specs.Stack.{Context, core, cores}

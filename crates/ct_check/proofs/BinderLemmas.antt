@@ -5,10 +5,10 @@ use Rattle.ct_sexpr.specs.declared.sexpr.Sexpr.{Sexpr, List as list_in_memory}
 use Rattle.ct_sexpr.specs.View.{expression_of, expressions_of}
 use Rattle.ct_sorts.specs.declared.ids.SortId.{SortId}
 use Rattle.ct_sorts.specs.Declarations.{Declarations}
-use Rattle.ct_terms.specs.declared.tree.Tree.{Tree}
-use Rattle.ct_terms.specs.Formula as formula
-use Rattle.ct_terms.specs.Formula.{bind}
-use Rattle.ct_terms.specs.TreeFormula.{formulas_of_trees}
+use Rattle.ct_formulas.specs.declared.tree.Tree.{Tree}
+use Rattle.ct_formulas.specs.Formula as formula
+use Rattle.ct_formulas.specs.Formula.{bind}
+use Rattle.ct_formulas.specs.TreeFormula.{formulas_of_trees}
 use Rattle.ct_names.specs.Outcome.{Outcome, Sorted, and_then, unless_refused}
 use Rattle.ct_names.specs.Refusals.{out_of_scope, repeated_variable}
 use Rattle.ct_names.specs.Variables.{Variable, variables, present_names, has_repeated}

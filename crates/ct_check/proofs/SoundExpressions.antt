@@ -10,8 +10,8 @@ use Rattle.ct_sorts.specs.declared.ids.Symbol.{Symbol}
 use Rattle.ct_sorts.specs.declared.ids.Symbol.TheVariants.{Ctor, Sel, Fun, Def}
 use Rattle.ct_sorts.specs.Declarations.{Declarations, bool_sort}
 use Rattle.ct_sorts.specs.Lookup.{ResolvesTo, IsSymbol}
-use Rattle.ct_terms.specs.Formula as formula
-use Rattle.ct_terms.specs.FormulaSorts.{IsSorted}
+use Rattle.ct_formulas.specs.Formula as formula
+use Rattle.ct_formulas.specs.FormulaSorts.{IsSorted}
 use Rattle.ct_names.specs.declared.operator.CoreOperator.{CoreOperator}
 use Rattle.ct_names.specs.Refusals.{unknown_symbol, wrong_count, wrong_sort, out_of_scope}
 use Rattle.ct_names.specs.Outcome.{Sorted, and_then, unless_refused, is_sort, of_sort}

@@ -10,8 +10,8 @@ use Rattle.ct_sorts.specs.declared.ids.Kind.TheVariants.{Bool as BoolKind, Free,
 use Rattle.ct_sorts.specs.Declarations.{Declarations, Sort}
 use Rattle.ct_sorts.specs.Lookup.{ResolvesTo}
 use Rattle.ct_terms.specs.CoreSorts.{AreFieldSorts}
-use Rattle.ct_terms.specs.declared.tree.Pattern.TheVariants.{Ctor}
-use Rattle.ct_terms.specs.FormulaSorts.{IsMatchable, BindsSorts}
+use Rattle.ct_formulas.specs.declared.tree.Pattern.TheVariants.{Ctor}
+use Rattle.ct_formulas.specs.FormulaSorts.{IsMatchable, BindsSorts}
 use Rattle.ct_names.specs.Refusals.{foreign_pattern, wrong_count, out_of_scope, repeated_variable}
 use Rattle.ct_names.specs.Outcome.{Outcome, is_sort}
 use Rattle.ct_names.specs.Parts.{Part, atom_part, list_part, no_parts, with_part, name_of}

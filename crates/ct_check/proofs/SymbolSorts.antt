@@ -10,8 +10,8 @@ use Rattle.ct_sorts.specs.Declarations.{Declarations, Constructor, Selector, Fun
 use Rattle.ct_sorts.specs.Lookup.{ResolvesTo, IsSymbol}
 use Rattle.ct_sorts.specs.Structure.{HaveOwnConstructors, AreOfTheirSorts, HaveOwnSelectors, AreOfTheirConstructors}
 use Rattle.ct_terms.specs.CoreSorts.{IsFieldSort, AreFieldSorts}
-use Rattle.ct_terms.specs.Formula.{Formula, Formulas, no_formulas, with_formula, Sel as SelFormula}
-use Rattle.ct_terms.specs.FormulaSorts.{IsSorted, AllSorted}
+use Rattle.ct_formulas.specs.Formula.{Formula, Formulas, no_formulas, with_formula, Sel as SelFormula}
+use Rattle.ct_formulas.specs.FormulaSorts.{IsSorted, AllSorted}
 use Rattle.ct_names.specs.Symbols.{field_sort_id, ctor_field_sorts, ctor_sort, sel_argument, argument_sorts, result_sort, symbol_applied}
 
 -- what holds of consistent declarations

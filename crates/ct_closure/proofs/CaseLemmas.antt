@@ -14,7 +14,7 @@ use Rattle.ct_terms.specs.declared.term.Core.TheVariants.{Con, Sel, Test, Eq, It
 use Rattle.ct_terms.specs.Terms.{Terms, Has, IsOfSort, IsOfField, HasSort, Selects}
 use Rattle.ct_terms.specs.CoreTree.{CoreTree, con, sel, test, equation, choice, trees_of, tree_layer, term_at}
 use Rattle.ct_terms.specs.CoreSorts.{HasTreeSort}
-use Rattle.ct_terms.specs.Compiled.{fields_of, ctor_ids_of_sort}
+use Rattle.ct_terms.specs.Fields.{fields_of, ctor_ids_of_sort}
 use Rattle.ct_closure.specs.Closed.{IsClosed, IsSplit, IsBuilt}
 use Rattle.ct_closure.specs.ClosedTable.{IsPresent, IsSplitTerm, IsFieldTerm, HasCase, HasCases}
 use Rattle.ct_card.specs.Fields.{sels_of}

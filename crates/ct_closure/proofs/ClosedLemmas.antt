@@ -12,7 +12,7 @@ use Rattle.ct_terms.specs.declared.term.Core.TheVariants.{Con, Sel, Test, Eq, It
 use Rattle.ct_terms.specs.Terms.{Terms, HasArgumentsBelow}
 use Rattle.ct_terms.specs.CoreTree.{CoreTree, con, sel, test, equation, choice, trees_of, subtrees, tree_layer, term_at}
 use Rattle.ct_terms.specs.CoreSorts.{HasTreeSort}
-use Rattle.ct_terms.specs.Compiled.{fields_of, ctor_ids_of_sort}
+use Rattle.ct_terms.specs.Fields.{fields_of, ctor_ids_of_sort}
 use Rattle.ct_closure.specs.Closed.{IsBuilt, IsStructured, IsSplit}
 use Rattle.ct_closure.specs.ClosedTable.{HasTree, IsClosedTable, IsPresent, IsOpen, IsSplitTerm, IsFieldTerm, HasCases}
 use Rattle.ct_card.specs.Fields.{sels_of}

@@ -15,8 +15,8 @@ use Rattle.ct_terms.specs.declared.error.TermError.{TermError}
 use Rattle.ct_terms.specs.declared.error.TermError.TheVariants.{Full, NoMemory}
 use Rattle.ct_terms.specs.Terms.{Terms, AreOrdered}
 use Rattle.ct_terms.specs.CoreTree.{CoreTree, subtrees}
-use Rattle.ct_terms.specs.Formula.{Formula, bind}
-use Rattle.ct_terms.specs.Compiled.{compiled}
+use Rattle.ct_formulas.specs.Formula.{Formula, bind}
+use Rattle.ct_formulas.specs.Compiled.{compiled}
 use Rattle.ct_occurrence.specs.declared.definitions.Worked.{Worked}
 use Rattle.ct_scope.specs.declared.known.Called.{Called}
 use Rattle.ct_scope.specs.declared.stop.DeferredCall.{DeferredCall}

@@ -9,12 +9,12 @@ use Rattle.ct_sorts.specs.Declarations.{Declarations}
 use Rattle.ct_terms.specs.declared.ids.TermId.{TermId}
 use Rattle.ct_terms.specs.declared.error.TermError.{TermError}
 use Rattle.ct_terms.specs.declared.error.TermError.TheVariants.{Full}
-use Rattle.ct_terms.specs.declared.tree.Pattern.{Pattern}
+use Rattle.ct_formulas.specs.declared.tree.Pattern.{Pattern}
 use Rattle.ct_terms.specs.Terms.{Terms, AreOrdered}
 use Rattle.ct_terms.specs.CoreTree.{CoreTree, choice, tree_children, subtrees, term_at}
 use Rattle.ct_terms.specs.CoreSorts.{HasTreeSort}
-use Rattle.ct_terms.specs.Formula.{Formula, Cases, no_cases, with_case}
-use Rattle.ct_terms.specs.Compiled.{compiled_cases}
+use Rattle.ct_formulas.specs.Formula.{Formula, Cases, no_cases, with_case}
+use Rattle.ct_formulas.specs.Compiled.{compiled_cases}
 use Rattle.ct_scope.specs.declared.bound.Bound.{Bound}
 use Rattle.ct_scope.specs.declared.stop.Stop.{Stop}
 use Rattle.ct_scope.specs.Deferral.{ended, DefersCases}

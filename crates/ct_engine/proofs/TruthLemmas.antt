@@ -13,7 +13,7 @@ use Rattle.ct_terms.specs.declared.term.Core.{Core}
 use Rattle.ct_terms.specs.declared.term.Core.TheVariants as core
 use Rattle.ct_terms.specs.Literal.{opposite, literal_step, literal_below, literal_of, IsStripped}
 use Rattle.ct_terms.specs.Clause.{Clause, opposites}
-use Rattle.ct_terms.specs.Compiled.{ctor_ids_of_sort}
+use Rattle.ct_terms.specs.Fields.{ctor_ids_of_sort}
 use Rattle.ct_terms.specs.Terms.{Terms, Has, IsBoolean, IsOfSort, AreOrdered, AreSingle, AreSorted, BeginsWithTruths}
 use Rattle.ct_rules.specs.declared.equation.Equation.{Equation}
 use Rattle.ct_rules.specs.Rules.{Follows, by_negation, by_equation_out, truth_term}

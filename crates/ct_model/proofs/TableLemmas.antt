@@ -5,7 +5,7 @@ use Rattle.ct_sorts.specs.declared.ids.SortId.{SortId}
 use Rattle.ct_sorts.specs.declared.ids.CtorId.{CtorId}
 use Rattle.ct_sorts.specs.Declarations.{Declarations, Constructor, Selector, Function, function_names, sel_names}
 use Rattle.ct_sexpr.specs.Written.{written_name}
-use Rattle.ct_values.specs.ValueText.{sort_name}
+use Rattle.ct_value_text.specs.ValueText.{sort_name}
 use Rattle.ct_values.specs.Graph.{Nodes}
 use Rattle.ct_values.specs.Fitting.{HasNodeSort}
 use Rattle.ct_eval.specs.declared.interp.Row.{Row}

@@ -9,7 +9,7 @@ use Rattle.std.proofs.lemmas.Option.{none-some, same_Some}
 use Rattle.ct_sorts.specs.declared.ids.CtorId.{CtorId}
 use Rattle.ct_sorts.specs.Declarations.{Declarations, Sort, ctor_ids}
 use Rattle.ct_sorts.specs.Consistent.{IsConsistent}
-use Rattle.ct_terms.specs.Compiled.{is_among}
+use Rattle.ct_formulas.specs.Compiled.{is_among}
 use Rattle.ct_occurrence.specs.Earlier.{same_ctor, distinct_ctors}
 use Rattle.ct_occurrence.proofs.EarlierLemmas.{same_equiv, among_is_member}
 use Rattle.ct_occurrence.proofs.FlagLemmas.{among_reversed}

@@ -4,9 +4,9 @@ use Rattle.std.proofs.lemmas.Option.{none-some}
 use Rattle.std.proofs.lemmas.Bool.Decides.{Decides-eqb}
 use Rattle.ct_sorts.specs.declared.ids.DefId.{DefId}
 use Rattle.ct_sorts.specs.Declarations.{Declarations, Function}
-use Rattle.ct_terms.specs.Formula.{Formula}
-use Rattle.ct_terms.specs.FormulaSorts.{AreSound}
-use Rattle.ct_terms.specs.Occurrence.{occurs, body_uses, uses_below}
+use Rattle.ct_formulas.specs.Formula.{Formula}
+use Rattle.ct_formulas.specs.FormulaSorts.{AreSound}
+use Rattle.ct_formulas.specs.Occurrence.{occurs, body_uses, uses_below}
 use Rattle.ct_occurrence.specs.Marks.{flags_below, Rows, HaveRows}
 
 -- a test of two numbers that are the same

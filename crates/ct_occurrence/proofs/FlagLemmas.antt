@@ -6,7 +6,8 @@ use Rattle.std.proofs.lemmas.List.Sorted.{list_any-IsPermutation, IsPermutation-
 use Rattle.ct_sorts.specs.declared.ids.CtorId.{CtorId}
 use Rattle.ct_sorts.specs.declared.ids.SortId.{SortId}
 use Rattle.ct_sorts.specs.Declarations.{Declarations, Sort, Constructor}
-use Rattle.ct_terms.specs.Compiled.{ctor_ids_of_sort, siblings, is_among}
+use Rattle.ct_terms.specs.Fields.{ctor_ids_of_sort}
+use Rattle.ct_formulas.specs.Compiled.{siblings, is_among}
 use Rattle.ct_occurrence.specs.Marks.{mark_each}
 
 or_none : (b : Bool) → (b || false) ≡ b

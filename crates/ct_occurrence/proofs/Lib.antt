@@ -14,3 +14,7 @@ mod DefinitionLemmas
 mod NoteLemmas
 mod UnderWayLemmas
 mod SizeLemmas
+mod ReachLemmas
+mod CallLemmas
+mod MeaningLemmas
+mod CoreLemmas

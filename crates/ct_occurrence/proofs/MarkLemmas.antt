@@ -3,8 +3,8 @@ use Rattle.std.proofs.Common.{◌≡◌, ℕ, zero, suc, ◌+◌, Bool, true, fa
 use Rattle.std.proofs.lemmas.List.{length-append}
 use Rattle.ct_sorts.specs.declared.ids.DefId.{DefId}
 use Rattle.ct_sorts.specs.Declarations.{Declarations}
-use Rattle.ct_terms.specs.Formula.{Formula, Var, Con, Sel, Test, Apply, Def, Not, And, Or, Xor, Implies, Equal, Distinct, Ite, Let, Match}
-use Rattle.ct_terms.specs.Occurrence.{occurs, occurs_in_some}
+use Rattle.ct_formulas.specs.Formula.{Formula, Var, Con, Sel, Test, Apply, Def, Not, And, Or, Xor, Implies, Equal, Distinct, Ite, Let, Match}
+use Rattle.ct_formulas.specs.Occurrence.{occurs, occurs_in_some}
 use Rattle.ct_occurrence.specs.Plain.{is_plain, formulas_under}
 use Rattle.ct_occurrence.specs.Marks.{flags_below, mark_each}
 

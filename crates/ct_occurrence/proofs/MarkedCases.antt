@@ -5,11 +5,11 @@ use Rattle.std.proofs.lemmas.List.{append_assoc, append-nil}
 use Rattle.ct_sorts.specs.declared.ids.CtorId.{CtorId}
 use Rattle.ct_sorts.specs.declared.ids.DefId.{DefId}
 use Rattle.ct_sorts.specs.Declarations.{Declarations}
-use Rattle.ct_terms.specs.declared.tree.Pattern.{Pattern}
-use Rattle.ct_terms.specs.declared.tree.Pattern.TheVariants.{Ctor, Any}
-use Rattle.ct_terms.specs.Formula.{Formula, Cases, no_cases, with_case}
-use Rattle.ct_terms.specs.Compiled.{surely_fits, are_none}
-use Rattle.ct_terms.specs.Occurrence.{occurs, matched_occurs, occurs_in_cases}
+use Rattle.ct_formulas.specs.declared.tree.Pattern.{Pattern}
+use Rattle.ct_formulas.specs.declared.tree.Pattern.TheVariants.{Ctor, Any}
+use Rattle.ct_formulas.specs.Formula.{Formula, Cases, no_cases, with_case}
+use Rattle.ct_formulas.specs.Compiled.{surely_fits, are_none}
+use Rattle.ct_formulas.specs.Occurrence.{occurs, matched_occurs, occurs_in_cases}
 use Rattle.ct_occurrence.specs.declared.notes.Notes.{Notes}
 use Rattle.ct_occurrence.specs.Marks.{flags_below, mark_each, has_set, pattern_variable_count, Rows, MayMark, MayMarkCases}
 use Rattle.ct_occurrence.specs.Matching.{tested_by, IsPatternDeclared}

@@ -8,9 +8,9 @@ use Rattle.ct_terms.specs.declared.ids.TermId.{TermId}
 use Rattle.ct_terms.specs.Terms.{Terms}
 use Rattle.ct_terms.specs.CoreTree.{CoreTree, negation, subtrees, term_at}
 use Rattle.ct_terms.specs.CoreSorts.{HasTreeSort}
-use Rattle.ct_terms.specs.Pairs.{neighbours_from, pairs}
+use Rattle.ct_formulas.specs.Pairs.{neighbours_from, pairs}
 use Rattle.ct_operators.specs.Effect.{Stands, AllStand, IsSoundTable, Within, AllWithin, IsPrefix, Effect}
-use Rattle.ct_terms.specs.Compiled.{equality}
+use Rattle.ct_formulas.specs.Compiled.{equality}
 use Rattle.ct_operators.specs.Made.{HasTree, MakesInOrder, leaf, made_for}
 use Rattle.ct_operators.specs.Pairing.{both, compared_as, compared_all, made_compared, made_compared_all, IsPair}
 use Rattle.ct_operators.proofs.EffectLemmas.{prefix_itself, prefix_trans, prefix_length, same_tree, all_stay, effect_none, effect_then, effect_because}

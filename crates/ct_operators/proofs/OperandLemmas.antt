@@ -8,8 +8,8 @@ use Rattle.ct_terms.specs.declared.ids.TermId.{TermId}
 use Rattle.ct_terms.specs.Terms.{Terms}
 use Rattle.ct_terms.specs.CoreTree.{CoreTree, equation, negation, equivalence, trees_of, subtrees, term_at}
 use Rattle.ct_terms.specs.CoreSorts.{HasTreeSort, AreBooleanTrees, tree_sort}
-use Rattle.ct_terms.specs.Pairs.{neighbours_from, neighbours, pairs}
-use Rattle.ct_terms.specs.Compiled.{all_of, any_of, exclusive, implied_from, equality, inequality}
+use Rattle.ct_formulas.specs.Pairs.{neighbours_from, neighbours, pairs}
+use Rattle.ct_formulas.specs.Compiled.{all_of, any_of, exclusive, implied_from, equality, inequality}
 use Rattle.ct_operators.specs.Effect.{AllStand, Within, AllWithin}
 use Rattle.ct_operators.specs.declared.operator.Operator.{Operator}
 use Rattle.ct_operators.specs.declared.operator.Operator.TheVariants.{Construct, Select, Inspect, Call, Negation, Conjunction, Disjunction, Exclusion, Implication, Equality, Inequality}

@@ -4,7 +4,7 @@ use Rattle.std.specs.List.{AllZip}
 use Rattle.std.proofs.lemmas.List.{reverse-append, length-reverse, append_assoc, drop_at}
 use Rattle.std.proofs.lemmas.Option.{same_Some}
 use Rattle.ct_terms.specs.CoreTree.{CoreTree}
-use Rattle.ct_terms.specs.Formula.{bind}
+use Rattle.ct_formulas.specs.Formula.{bind}
 use Rattle.ct_scope.specs.declared.bound.Bound.{Bound}
 use Rattle.ct_scope.specs.declared.bound.Bound.TheVariants.{Term, Field, Absent}
 use Rattle.ct_operators.specs.Effect.{Within}

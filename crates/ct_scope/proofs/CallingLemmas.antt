@@ -12,10 +12,10 @@ use Rattle.ct_terms.specs.declared.ids.TermId.{TermId}
 use Rattle.ct_terms.specs.Terms.{Terms}
 use Rattle.ct_terms.specs.CoreTree.{CoreTree, subtrees}
 use Rattle.ct_terms.specs.CoreSorts.{HasTreeSort}
-use Rattle.ct_terms.specs.Formula.{Formula, Formulas, Def, bind}
-use Rattle.ct_terms.specs.FormulaSorts.{AreSound}
-use Rattle.ct_terms.specs.Compiled.{compiled, compiled_all}
-use Rattle.ct_terms.specs.Occurrence.{count_of, uses_below, AreBoundSame}
+use Rattle.ct_formulas.specs.Formula.{Formula, Formulas, Def, bind}
+use Rattle.ct_formulas.specs.FormulaSorts.{AreSound}
+use Rattle.ct_formulas.specs.Compiled.{compiled, compiled_all}
+use Rattle.ct_formulas.specs.Occurrence.{count_of, uses_below, AreBoundSame}
 use Rattle.ct_scope.specs.declared.bound.Bound.{Bound}
 use Rattle.ct_scope.specs.declared.bound.Bound.TheVariants.{Term, Field, Absent}
 use Rattle.ct_scope.specs.declared.known.Called.{Called}

@@ -13,9 +13,9 @@ use Rattle.ct_terms.specs.declared.error.TermError.TheVariants.{Full}
 use Rattle.ct_terms.specs.Terms.{Terms}
 use Rattle.ct_terms.specs.CoreTree.{CoreTree, choice, tree_children, subtrees, no_term, term_at}
 use Rattle.ct_terms.specs.CoreSorts.{HasTreeSort}
-use Rattle.ct_terms.specs.Formula.{Formula, Var, Ite}
-use Rattle.ct_terms.specs.Compiled.{compiled}
-use Rattle.ct_terms.specs.Occurrence.{occurs, uses_below}
+use Rattle.ct_formulas.specs.Formula.{Formula, Var, Ite}
+use Rattle.ct_formulas.specs.Compiled.{compiled}
+use Rattle.ct_formulas.specs.Occurrence.{occurs, uses_below}
 use Rattle.ct_scope.specs.declared.bound.Bound.{Bound}
 use Rattle.ct_scope.specs.declared.bound.Bound.TheVariants.{Term, Field, Absent}
 use Rattle.ct_operators.specs.Made.{HasTree, HasTrees, MakesInOrder}

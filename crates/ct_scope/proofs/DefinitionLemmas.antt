@@ -5,11 +5,11 @@ use Rattle.std.proofs.lemmas.Bool.Decides.{Decides-eqb}
 use Rattle.ct_sorts.specs.declared.ids.DefId.{DefId}
 use Rattle.ct_sorts.specs.Declarations.{Declarations, Function}
 use Rattle.ct_terms.specs.CoreTree.{CoreTree, no_term}
-use Rattle.ct_terms.specs.Formula.{Formula, bind}
-use Rattle.ct_terms.specs.FormulaSorts.{AreSound}
-use Rattle.ct_terms.specs.Calls.{body_call, calls_below}
-use Rattle.ct_terms.specs.Compiled.{compiled}
-use Rattle.ct_terms.specs.Occurrence.{occurs, body_uses, uses_below}
+use Rattle.ct_formulas.specs.Formula.{Formula, bind}
+use Rattle.ct_formulas.specs.FormulaSorts.{AreSound}
+use Rattle.ct_formulas.specs.Calls.{body_call, calls_below}
+use Rattle.ct_formulas.specs.Compiled.{compiled}
+use Rattle.ct_formulas.specs.Occurrence.{occurs, body_uses, uses_below}
 use Rattle.ct_scope.proofs.Weight.{weight, body_weight, weights_below}
 use Rattle.ct_scope.specs.Compilable.{compiled_calls}
 use Rattle.ct_occurrence.specs.Marks.{flags_below, Rows, HaveRows}

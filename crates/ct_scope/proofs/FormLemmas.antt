@@ -11,15 +11,15 @@ use Rattle.ct_sorts.specs.Declarations.{Declarations}
 use Rattle.ct_terms.specs.declared.ids.TermId.{TermId}
 use Rattle.ct_terms.specs.declared.error.TermError.{TermError}
 use Rattle.ct_terms.specs.declared.error.TermError.TheVariants.{Full, NoMemory}
-use Rattle.ct_terms.specs.declared.tree.Pattern.{Pattern}
-use Rattle.ct_terms.specs.declared.tree.Case.{Case}
-use Rattle.ct_terms.specs.declared.tree.Tree.{Tree}
+use Rattle.ct_formulas.specs.declared.tree.Pattern.{Pattern}
+use Rattle.ct_formulas.specs.declared.tree.Case.{Case}
+use Rattle.ct_formulas.specs.declared.tree.Tree.{Tree}
 use Rattle.ct_terms.specs.Terms.{Terms}
 use Rattle.ct_terms.specs.CoreTree.{CoreTree}
-use Rattle.ct_terms.specs.Formula.{Formula, Formulas, Cases, Match, no_formulas, with_formula, with_case}
-use Rattle.ct_terms.specs.TreeFormula.{formula_of, formulas_of_trees}
-use Rattle.ct_terms.specs.Compiled.{are_none, compiled, compiled_cases}
-use Rattle.ct_terms.specs.Occurrence.{count_of, occurs, matched_occurs, occurs_in_cases, uses_below}
+use Rattle.ct_formulas.specs.Formula.{Formula, Formulas, Cases, Match, no_formulas, with_formula, with_case}
+use Rattle.ct_formulas.specs.TreeFormula.{formula_of, formulas_of_trees}
+use Rattle.ct_formulas.specs.Compiled.{are_none, compiled, compiled_cases}
+use Rattle.ct_formulas.specs.Occurrence.{count_of, occurs, matched_occurs, occurs_in_cases, uses_below}
 use Rattle.ct_scope.specs.declared.bound.Bound.{Bound}
 use Rattle.ct_scope.specs.declared.stop.Stop.{Stop}
 use Rattle.ct_scope.specs.Deferral.{ended, Defers, DefersBound, DefersCases}

@@ -14,15 +14,16 @@ use Rattle.ct_sorts.specs.Consistent.{IsConsistent}
 use Rattle.ct_terms.specs.declared.ids.TermId.{TermId}
 use Rattle.ct_terms.specs.declared.error.TermError.{TermError}
 use Rattle.ct_terms.specs.declared.error.TermError.TheVariants.{Full, NoMemory}
-use Rattle.ct_terms.specs.declared.tree.Pattern.{Pattern}
-use Rattle.ct_terms.specs.declared.tree.Pattern.TheVariants.{Ctor, Any}
+use Rattle.ct_formulas.specs.declared.tree.Pattern.{Pattern}
+use Rattle.ct_formulas.specs.declared.tree.Pattern.TheVariants.{Ctor, Any}
 use Rattle.ct_terms.specs.Terms.{Terms}
 use Rattle.ct_terms.specs.CoreTree.{CoreTree, sel, test, choice, subtrees, term_at}
 use Rattle.ct_terms.specs.CoreSorts.{HasTreeSort}
-use Rattle.ct_terms.specs.Formula.{Formula, Cases, no_cases, with_case, bind}
-use Rattle.ct_terms.specs.FormulaSorts.{BindsSorts, AreSortedCases, HasSomeCase}
-use Rattle.ct_terms.specs.Compiled.{fields_of, surely_fits, are_none, compiled, compiled_cases}
-use Rattle.ct_terms.specs.Occurrence.{any_below, field_count, occurs, matched_occurs, occurs_in_cases, uses_below, GiveUsed}
+use Rattle.ct_formulas.specs.Formula.{Formula, Cases, no_cases, with_case, bind}
+use Rattle.ct_formulas.specs.FormulaSorts.{BindsSorts, AreSortedCases, HasSomeCase}
+use Rattle.ct_terms.specs.Fields.{fields_of}
+use Rattle.ct_formulas.specs.Compiled.{surely_fits, are_none, compiled, compiled_cases}
+use Rattle.ct_formulas.specs.Occurrence.{any_below, field_count, occurs, matched_occurs, occurs_in_cases, uses_below, GiveUsed}
 use Rattle.ct_scope.specs.declared.bound.Bound.{Bound}
 use Rattle.ct_scope.specs.declared.stop.Stop.{Stop}
 use Rattle.ct_scope.specs.Deferral.{ended, Defers, DefersCases}

@@ -13,10 +13,10 @@ use Rattle.ct_terms.specs.declared.error.TermError.TheVariants.{Full, NoMemory}
 use Rattle.ct_terms.specs.Terms.{Terms}
 use Rattle.ct_terms.specs.CoreTree.{CoreTree, subtrees}
 use Rattle.ct_terms.specs.CoreSorts.{HasTreeSort}
-use Rattle.ct_terms.specs.Formula.{Formula, Formulas, Def, Let, no_formulas, with_formula, bind, MentionsBelow, AllMentionBelow}
-use Rattle.ct_terms.specs.FormulaSorts.{IsSorted, AllSorted}
-use Rattle.ct_terms.specs.Compiled.{compiled, compiled_all}
-use Rattle.ct_terms.specs.Occurrence.{count_of, occurs, occurs_in_bound, uses_below}
+use Rattle.ct_formulas.specs.Formula.{Formula, Formulas, Def, Let, no_formulas, with_formula, bind, MentionsBelow, AllMentionBelow}
+use Rattle.ct_formulas.specs.FormulaSorts.{IsSorted, AllSorted}
+use Rattle.ct_formulas.specs.Compiled.{compiled, compiled_all}
+use Rattle.ct_formulas.specs.Occurrence.{count_of, occurs, occurs_in_bound, uses_below}
 use Rattle.ct_scope.specs.declared.bound.Bound.{Bound}
 use Rattle.ct_scope.specs.declared.stop.Stop.{Stop}
 use Rattle.ct_scope.specs.declared.stop.DeferredCall.{DeferredCall}

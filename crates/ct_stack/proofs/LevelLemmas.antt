@@ -11,8 +11,8 @@ use Rattle.ct_sorts.specs.Consistent.{IsConsistent}
 use Rattle.ct_sorts.specs.Grown.{Begins, Extends}
 use Rattle.ct_terms.specs.declared.ids.TermId.{TermId}
 use Rattle.ct_terms.specs.Terms.{Terms}
-use Rattle.ct_terms.specs.Formula.{Formula}
-use Rattle.ct_terms.specs.FormulaSorts.{AreSound}
+use Rattle.ct_formulas.specs.Formula.{Formula}
+use Rattle.ct_formulas.specs.FormulaSorts.{AreSound}
 use Rattle.ct_stack.specs.Theorems.{Theorems}
 use Rattle.ct_stack.specs.Stack.{Context, Level, Stack, in_force, in_context, declaring, asserting}
 use Rattle.ct_stack.specs.Levels.{pushed, pushed_by, popped}

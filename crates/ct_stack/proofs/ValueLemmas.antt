@@ -11,14 +11,14 @@ use Rattle.ct_sorts.specs.declared.ids.SortId.{SortId}
 use Rattle.ct_sorts.specs.Declarations.{Declarations}
 use Rattle.ct_sorts.specs.Consistent.{IsConsistent}
 use Rattle.ct_terms.specs.declared.ids.TermId.{TermId}
-use Rattle.ct_terms.specs.declared.tree.Tree.{Tree}
+use Rattle.ct_formulas.specs.declared.tree.Tree.{Tree}
 use Rattle.ct_terms.specs.Terms.{Terms, AreSorted, AreOrdered, BeginsWithTruths, most_terms}
 use Rattle.ct_terms.specs.CoreTree.{CoreTree, term_at}
 use Rattle.ct_terms.specs.CoreSorts.{HasTreeSort}
-use Rattle.ct_terms.specs.Formula.{Formula}
-use Rattle.ct_terms.specs.FormulaSorts.{IsSorted, AreSound}
-use Rattle.ct_terms.specs.TreeFormula.{formula_of}
-use Rattle.ct_terms.specs.Compiled.{core_of}
+use Rattle.ct_formulas.specs.Formula.{Formula}
+use Rattle.ct_formulas.specs.FormulaSorts.{IsSorted, AreSound}
+use Rattle.ct_formulas.specs.TreeFormula.{formula_of}
+use Rattle.ct_formulas.specs.Compiled.{core_of}
 use Rattle.ct_closure.specs.Closed.{truth_trees}
 use Rattle.ct_compile.specs.Effect.{Stands, AllStand, IsPrefix}
 use Rattle.ct_names.specs.Outcome.{Outcome, Sorted, and_then}
@@ -36,7 +36,7 @@ use Rattle.ct_eval.specs.declared.interp.Valuation.{Valuation}
 use Rattle.ct_eval.specs.Interpretation.{IsProper}
 use Rattle.ct_eval.specs.Evaluation.{value_of}
 use Rattle.ct_eval.specs.TreeValue.{tree_value}
-use Rattle.ct_eval.specs.Meaning.{eval, Means}
+use Rattle.ct_meaning.specs.Meaning.{eval, Means}
 use Rattle.ct_eval.specs.Valued.{IsValuation}
 use Rattle.ct_sexpr.specs.Written.{written}
 use Rattle.ct_model.specs.Listed.{listed}

@@ -4,10 +4,10 @@ use Rattle.std.proofs.lemmas.Result.{err_from_is_err_and}
 use Rattle.ct_sorts.specs.Declarations.{bool_sort}
 use Rattle.ct_terms.specs.declared.ids.TermId.{TermId}
 use Rattle.ct_terms.specs.declared.error.TermError.TheVariants.{Full}
-use Rattle.ct_terms.specs.declared.tree.Tree.{Tree}
+use Rattle.ct_formulas.specs.declared.tree.Tree.{Tree}
 use Rattle.ct_terms.specs.Terms.{AreOrdered, AreSingle, most_terms}
-use Rattle.ct_terms.specs.FormulaSorts.{IsSorted}
-use Rattle.ct_terms.specs.TreeFormula.{formula_of}
+use Rattle.ct_formulas.specs.FormulaSorts.{IsSorted}
+use Rattle.ct_formulas.specs.TreeFormula.{formula_of}
 use Rattle.ct_stack.specs.Held.{context_in}
 use Rattle.ct_audit.specs.Growing.{IsGrowing, AreBoolean}
 use Rattle.ct_audit.proofs.ListLemmas.{rest_item, nothing_left}

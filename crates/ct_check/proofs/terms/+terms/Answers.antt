@@ -2,9 +2,9 @@ use Rattle.std.proofs.Common.{◌≡◌, ℕ, Option, Vec, Global, ◌-◌, List
 use Rattle.std.proofs.lemmas.Result.{err_from_is_err_and}
 use Rattle.std.specs.Borrow.{Bor}
 use Rattle.ct_sexpr.specs.View.{expression_of, expressions_of}
-use Rattle.ct_terms.specs.Formula as formula
-use Rattle.ct_terms.specs.Formula.{bind}
-use Rattle.ct_terms.specs.TreeFormula.{formula_of, formulas_of_trees}
+use Rattle.ct_formulas.specs.Formula as formula
+use Rattle.ct_formulas.specs.Formula.{bind}
+use Rattle.ct_formulas.specs.TreeFormula.{formula_of, formulas_of_trees}
 use Rattle.ct_check.specs.declared.heads.Head.{Head}
 use Rattle.ct_check.specs.declared.heads.Head.TheVariants.{Equation}
 use Rattle.ct_names.specs.Answer.{as_it_is}

@@ -4,8 +4,8 @@ use Rattle.std.proofs.lemmas.Bool.Decides.{Decides-eqb}
 use Rattle.std.proofs.lemmas.Result.{err_from_is_err_and}
 use Rattle.ct_sorts.specs.declared.ids.CtorId.{CtorId}
 use Rattle.ct_terms.specs.declared.ids.TermId.{TermId}
-use Rattle.ct_terms.specs.declared.tree.Tree.{Tree}
-use Rattle.ct_terms.specs.declared.tree.Case.{Case}
+use Rattle.ct_formulas.specs.declared.tree.Tree.{Tree}
+use Rattle.ct_formulas.specs.declared.tree.Case.{Case}
 use Rattle.std.specs.List.{AllByRecursion}
 use Rattle.ct_sorts.specs.declared.ids.SortId.{SortId}
 use Rattle.ct_terms.specs.declared.error.TermError.{TermError}
@@ -15,10 +15,10 @@ use Rattle.ct_terms.specs.CoreSorts.{HasTreeSort}
 use Rattle.ct_operators.specs.declared.choosing.Guarded.{Guarded}
 use Rattle.ct_operators.specs.Effect.{Stands, Within, Effect}
 use Rattle.ct_operators.specs.Chosen.{chosen_from, IsGuardedIn}
-use Rattle.ct_terms.specs.Formula.{Cases, Def, Ite, Let, Match, with_case, bind}
-use Rattle.ct_terms.specs.Compiled.{are_none}
-use Rattle.ct_terms.specs.Occurrence.{count_of, occurs, uses_below}
-use Rattle.ct_terms.specs.TreeFormula.{formula_of, formulas_of_trees}
+use Rattle.ct_formulas.specs.Formula.{Cases, Def, Ite, Let, Match, with_case, bind}
+use Rattle.ct_formulas.specs.Compiled.{are_none}
+use Rattle.ct_formulas.specs.Occurrence.{count_of, occurs, uses_below}
+use Rattle.ct_formulas.specs.TreeFormula.{formula_of, formulas_of_trees}
 use Rattle.ct_scope.specs.declared.bound.Bound.{Bound}
 use Rattle.ct_scope.specs.declared.known.Called.{Called}
 use Rattle.ct_scope.specs.Binding.{Binds}

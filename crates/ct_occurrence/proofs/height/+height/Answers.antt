@@ -1,7 +1,7 @@
 use Rattle.std.proofs.Common.{◌≡◌, ◌-◌, ◌≤◌, List, length, take, drop, refl, subst, arith}
-use Rattle.ct_terms.specs.declared.tree.Tree.{Tree}
-use Rattle.ct_terms.specs.TreeFormula.{formula_of, formulas_of_trees}
-use Rattle.ct_terms.specs.Formula.{Cases, with_case}
+use Rattle.ct_formulas.specs.declared.tree.Tree.{Tree}
+use Rattle.ct_formulas.specs.TreeFormula.{formula_of, formulas_of_trees}
+use Rattle.ct_formulas.specs.Formula.{Cases, with_case}
 use Rattle.ct_occurrence.specs.CaseFormula.{case_of, cases_of_trees}
 use Rattle.ct_occurrence.proofs.Size.{sizes, case_sizes}
 use Rattle.ct_occurrence.proofs.RestLemmas.{rest_item}

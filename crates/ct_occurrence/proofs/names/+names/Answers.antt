@@ -1,12 +1,12 @@
 use Rattle.std.proofs.Common.{◌≡◌, ◌-◌, List, length, take, drop, OnOk, refl, sym, ap, ap₂, subst, ◌∙◌, arith}
-use Rattle.ct_terms.specs.declared.tree.Tree.{Tree}
-use Rattle.ct_terms.specs.declared.tree.Case.{Case}
-use Rattle.ct_terms.specs.declared.tree.Pattern.{Pattern}
-use Rattle.ct_terms.specs.declared.tree.Tree.TheOpen.{Tree-F}
-use Rattle.ct_terms.specs.declared.tree.Tree.TheFolds.{fold-roll-Tree}
-use Rattle.ct_terms.specs.declared.tree.Tree.TheVariants.{rolls-Def, rolls-Let, rolls-Match}
-use Rattle.ct_terms.specs.TreeFormula.{formula_of, formulas_of_trees, formula_layer, case_layer}
-use Rattle.ct_terms.specs.Formula.{Formula, Cases, Def, Let, Match, with_case}
+use Rattle.ct_formulas.specs.declared.tree.Tree.{Tree}
+use Rattle.ct_formulas.specs.declared.tree.Case.{Case}
+use Rattle.ct_formulas.specs.declared.tree.Pattern.{Pattern}
+use Rattle.ct_formulas.specs.declared.tree.Tree.TheOpen.{Tree-F}
+use Rattle.ct_formulas.specs.declared.tree.Tree.TheFolds.{fold-roll-Tree}
+use Rattle.ct_formulas.specs.declared.tree.Tree.TheVariants.{rolls-Def, rolls-Let, rolls-Match}
+use Rattle.ct_formulas.specs.TreeFormula.{formula_of, formulas_of_trees, formula_layer, case_layer}
+use Rattle.ct_formulas.specs.Formula.{Formula, Cases, Def, Let, Match, with_case}
 use Rattle.ct_occurrence.specs.Calls.{AddsNamed}
 use Rattle.ct_occurrence.specs.CaseFormula.{case_of, cases_of_trees}
 use Rattle.ct_occurrence.proofs.RestLemmas.{rest_item}

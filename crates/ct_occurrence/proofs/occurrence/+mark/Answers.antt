@@ -2,16 +2,16 @@ use Rattle.std.proofs.Common.{◌≡◌, ℕ, ◌+◌, ◌-◌, ◌&&◌, Bool, 
 use Rattle.std.proofs.lemmas.List.{reverse-append}
 use Rattle.std.proofs.lemmas.Result.{IfOk-weaker}
 use Rattle.ct_sorts.specs.declared.ids.CtorId.{CtorId}
-use Rattle.ct_terms.specs.declared.tree.Tree.{Tree}
-use Rattle.ct_terms.specs.declared.tree.Case.{Case}
-use Rattle.ct_terms.specs.declared.tree.Pattern.{Pattern}
-use Rattle.ct_terms.specs.declared.tree.Tree.TheOpen.{Tree-F}
-use Rattle.ct_terms.specs.declared.tree.Tree.TheFolds.{fold-roll-Tree}
-use Rattle.ct_terms.specs.declared.tree.Tree.TheVariants.{rolls-Def, rolls-Let, rolls-Match}
-use Rattle.ct_terms.specs.TreeFormula.{formula_of, formulas_of_trees, formula_layer, case_layer}
-use Rattle.ct_terms.specs.Formula.{Formula, Cases, Def, Let, Match, with_formula, with_case}
-use Rattle.ct_terms.specs.Compiled.{are_none}
-use Rattle.ct_terms.specs.Occurrence.{count_of, occurs, occurs_in_bound, matched_occurs, occurs_in_cases}
+use Rattle.ct_formulas.specs.declared.tree.Tree.{Tree}
+use Rattle.ct_formulas.specs.declared.tree.Case.{Case}
+use Rattle.ct_formulas.specs.declared.tree.Pattern.{Pattern}
+use Rattle.ct_formulas.specs.declared.tree.Tree.TheOpen.{Tree-F}
+use Rattle.ct_formulas.specs.declared.tree.Tree.TheFolds.{fold-roll-Tree}
+use Rattle.ct_formulas.specs.declared.tree.Tree.TheVariants.{rolls-Def, rolls-Let, rolls-Match}
+use Rattle.ct_formulas.specs.TreeFormula.{formula_of, formulas_of_trees, formula_layer, case_layer}
+use Rattle.ct_formulas.specs.Formula.{Formula, Cases, Def, Let, Match, with_formula, with_case}
+use Rattle.ct_formulas.specs.Compiled.{are_none}
+use Rattle.ct_formulas.specs.Occurrence.{count_of, occurs, occurs_in_bound, matched_occurs, occurs_in_cases}
 use Rattle.ct_occurrence.specs.declared.notes.Notes.{Notes}
 use Rattle.ct_occurrence.specs.CaseFormula.{cases_of_trees}
 use Rattle.ct_occurrence.proofs.Size.{size, sizes}

@@ -1,6 +1,6 @@
 use Rattle.std.proofs.Common.{◌≡◌, sym, ◌∙◌, ap}
 use Rattle.std.proofs.lemmas.Result.{IfOk-weaker}
-use Rattle.ct_terms.specs.Pairs.{neighbours}
+use Rattle.ct_formulas.specs.Pairs.{neighbours}
 use Rattle.ct_operators.specs.Pairing.{both}
 use Rattle.ct_operators.proofs.RestLemmas.{rest_step}
 use Rattle.ct_operators.proofs.chains.neighbours_all.Goals as goal

@@ -1,7 +1,7 @@
 use Rattle.std.proofs.Common.{List, map, subst}
 use Rattle.ct_terms.specs.declared.ids.TermId.{TermId}
 use Rattle.ct_terms.specs.CoreTree.{term_at}
-use Rattle.ct_terms.specs.Compiled.{exclusive_of}
+use Rattle.ct_formulas.specs.Compiled.{exclusive_of}
 use Rattle.ct_operators.specs.Effect.{Within}
 use Rattle.ct_operators.proofs.RestLemmas.{rest_step}
 use Rattle.ct_operators.proofs.operators.exclusive_of_all.Goals as goal

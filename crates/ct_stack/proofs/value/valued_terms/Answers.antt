@@ -2,8 +2,8 @@ use Rattle.std.proofs.Common.{◌≡◌, ◌-◌, List, [], ◌∷◌, length, t
 use Rattle.std.proofs.lemmas.Result.{err_from_is_err_and}
 use Rattle.ct_sexpr.specs.declared.sexpr.Sexpr.{Sexpr}
 use Rattle.ct_sexpr.specs.View.{expression_of}
-use Rattle.ct_terms.specs.TreeFormula.{formula_of}
-use Rattle.ct_terms.specs.FormulaSorts.{IsSorted}
+use Rattle.ct_formulas.specs.TreeFormula.{formula_of}
+use Rattle.ct_formulas.specs.FormulaSorts.{IsSorted}
 use Rattle.ct_names.specs.Outcome.{Sorted}
 use Rattle.ct_check.specs.Trees.{sorted_of, sorted_trees}
 use Rattle.ct_names.specs.Elaboration.{elaborated}

@@ -1,6 +1,6 @@
 use Rattle.std.proofs.Common.{ℕ, map, reverse, OnOk, IfOk, subst, sym}
 use Rattle.ct_terms.specs.Terms.{Terms}
-use Rattle.ct_terms.specs.TreeFormula.{formula_of}
+use Rattle.ct_formulas.specs.TreeFormula.{formula_of}
 use Rattle.ct_eval.specs.Interpretation.{IsProper}
 use Rattle.ct_command.specs.Seen.{all_seen}
 use Rattle.ct_stack.specs.Stack.{Level, cores}
