@@ -3,6 +3,7 @@ use Rattle.std.proofs.Common.{◌≡◌, ℕ, ◌+◌, ◌<◌, ◌≤◌, List,
 use Rattle.std.specs.List.{AllByRecursion}
 use Rattle.std.proofs.lemmas.Result.{IfOk-weaker}
 use Rattle.std.proofs.lemmas.List.{append-nil, append_assoc}
+use Rattle.ct_lemmas.proofs.Contained.{Contains-cons, Contains-none}
 use Rattle.ct_sorts.specs.declared.ids.CtorId.{CtorId}
 use Rattle.ct_sorts.specs.declared.ids.SortId.{SortId}
 use Rattle.ct_sorts.specs.Declarations.{Declarations}
@@ -30,7 +31,7 @@ use Rattle.ct_scope.specs.Matching.{AreCases, MayCases, CompilesCases}
 use Rattle.ct_scope.proofs.Weight.{weight, case_weights, weights_below}
 use Rattle.ct_operators.proofs.EffectLemmas.{effect_none, effect_then}
 use Rattle.ct_operators.proofs.WithinLemmas.{within_subtrees, within_itself, within_choice}
-use Rattle.ct_operators.proofs.MakesLemmas.{makes_then, Contains-cons, Contains-none, has_subterm, subterm_cases, Rises, rises_stay, makes_rising}
+use Rattle.ct_operators.proofs.MakesLemmas.{makes_then, has_subterm, subterm_cases, Rises, rises_stay, makes_rising}
 use Rattle.ct_operators.proofs.OperatorLemmas.{stands_as}
 use Rattle.ct_scope.proofs.DeferralLemmas.{ended_by, too_deep_by, waits_under}
 use Rattle.ct_scope.proofs.MatchLemmas.{IsChosen, cases_sorted}

@@ -2,6 +2,8 @@
 use Rattle.std.proofs.Common.{◌≡◌, ℕ, zero, suc, ◌<◌, ◌≤◌, Bool, true, false, ◌||◌, ◌==◌, List, [], ◌∷◌, ◌++◌, length, map, Option, Some, option_map, unwrap_or, slice_get, if◌then◌else◌, refl, sym, ap, subst, ◌∙◌, arith, length-append}
 use Rattle.std.specs.List.{AllZip, AllByRecursion, list_all}
 use Rattle.std.proofs.lemmas.Option.{slice_get_within}
+use Rattle.ct_lemmas.proofs.Lists.{slice_get-append_left, slice_get-prefix, slice_get-there}
+use Rattle.ct_lemmas.proofs.Numbers.{below_next, same_number}
 use Rattle.ct_sorts.specs.declared.ids.CtorId.{CtorId}
 use Rattle.ct_sorts.specs.declared.ids.DefId.{DefId}
 use Rattle.ct_sorts.specs.declared.ids.SortId.{SortId}
@@ -17,10 +19,9 @@ use Rattle.ct_formulas.specs.Pairs.{neighbours_from, neighbours, pairs}
 use Rattle.ct_formulas.specs.Calls.{body_call, calls_below, calls}
 use Rattle.ct_terms.specs.Fields.{fields_of, ctor_ids_of_sort}
 use Rattle.ct_formulas.specs.Compiled.{all_of, any_of, exclusive_of, implication_of, equality, inequality, siblings, is_among, surely_fits, are_none, compiled, compiled_all, compiled_cases, core_of, GiveSorted}
-use Rattle.ct_terms.proofs.ListLemmas.{slice_get-prefix, slice_get-append_left}
 use Rattle.ct_terms.proofs.CoreSortLemmas.{HasTreeSort-read, HasTreeSort-extends}
-use Rattle.ct_formulas.proofs.CallLemmas.{AllZip-bind, same_number, below_next, calls_below-suc}
-use Rattle.ct_formulas.proofs.FormulaSortLemmas.{there, sorted_mentions, fields_of_sorted, compiled_sorted, given_sorted}
+use Rattle.ct_formulas.proofs.CallLemmas.{AllZip-bind, calls_below-suc}
+use Rattle.ct_formulas.proofs.FormulaSortLemmas.{sorted_mentions, fields_of_sorted, compiled_sorted, given_sorted}
 
 module _ (later earlier : Declarations) (extends : Extends later earlier) (own : HaveOwnSelectors earlier) (own_sorts : AreOfTheirSorts earlier) where
   -- a declared constructor, and the sort of one, are the same in both
@@ -164,7 +165,7 @@ module _ (later earlier : Declarations) (extends : Extends later earlier) (own :
     calls_alike : (n : ℕ) → n ≤ length bodies → AreAlike n (new_calls n) (old_calls n)
     calls_alike zero within k definition ts below declared of = absurd (omega (arith, below))
     calls_alike (suc n) within k definition ts below declared of =
-        let body = there bodies n (omega (arith, within)) in
+        let body = slice_get-there bodies n (omega (arith, within)) in
         calls_below-suc (compiled later) no_term (bodies ++ more) n k ts
         ∙ next_same (k.0 == n) (body_call (compiled later) no_term (new_calls n) (slice_get (bodies ++ more) n) ts) (new_calls n k ts) (body_call (compiled earlier) no_term (old_calls n) (slice_get bodies n) ts) (old_calls n k ts)
         (λ e.

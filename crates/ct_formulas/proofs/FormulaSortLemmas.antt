@@ -2,6 +2,10 @@
 use Rattle.std.proofs.Common.{◌≡◌, ℕ, zero, suc, ◌<◌, Bool, true, false, ◌==◌, ◌||◌, List, [], ◌∷◌, ◌++◌, length, map, Option, Some, option_map, unwrap_or, slice_get, if◌then◌else◌, refl, sym, ap, subst, ◌∙◌, arith}
 use Rattle.std.specs.List.{AllZip, AllByRecursion, fold}
 use Rattle.std.proofs.lemmas.Option.{same_Some, slice_get_within}
+use Rattle.ct_lemmas.proofs.Booleans.{by_test}
+use Rattle.ct_lemmas.proofs.Lists.{slice_get-there}
+use Rattle.ct_lemmas.proofs.Numbers.{below_next, not_same_number, same_number}
+use Rattle.ct_lemmas.proofs.Pairs.{AllZip-at_right}
 use Rattle.ct_sorts.specs.declared.ids.CtorId.{CtorId}
 use Rattle.ct_sorts.specs.declared.ids.DefId.{DefId}
 use Rattle.ct_sorts.specs.declared.ids.SelId.{SelId}
@@ -18,18 +22,12 @@ use Rattle.ct_formulas.specs.Calls.{body_call, calls_below, calls}
 use Rattle.ct_terms.specs.Fields.{fields_of}
 use Rattle.ct_formulas.specs.Compiled.{all_of, any_of, exclusive, exclusive_of, implied_from, implication_of, equality, inequality, surely_fits, are_none, compiled, compiled_all, compiled_cases, core_of, GiveSorted}
 use Rattle.ct_terms.proofs.CoreSortLemmas.{HasTreeSort-read}
-use Rattle.ct_formulas.proofs.CallLemmas.{by_test, AllZip-bind, AllZip-at_right, same_number, not_same_number, below_next, calls_below-suc}
+use Rattle.ct_formulas.proofs.CallLemmas.{AllZip-bind, calls_below-suc}
 
 -- what holds of what stands at each index holds of all
 all_by_indices : {X : Type 0} (P : X → Type 0) (xs : List X) → ((k : ℕ) (x : X) → slice_get xs k ≡ Some x → P x) → AllByRecursion P xs
 all_by_indices P [] each = tt
 all_by_indices P (x ∷ xs) each = (each 0 x refl, all_by_indices P xs (λ k y at. each (suc k) y at))
-
--- something stands at each index within
-pub there : {X : Type 0} (xs : List X) (k : ℕ) → k < length xs → (x : X) × (slice_get xs k ≡ Some x)
-there [] k within = absurd (omega (arith, within))
-there (x ∷ xs) zero within = (x, refl)
-there (x ∷ xs) (suc k) within = there xs k (omega (arith, within))
 
 -- a well-sorted formula names declared definitions alone
 module _ (d : Declarations) where
@@ -249,7 +247,7 @@ module _ (d : Declarations) where
   -- so every definition gives what is sorted, and every formula
   module _ (own : HaveOwnSelectors d) (bodies : List Formula) (sound : AreSound d bodies) where
     body_given : (k : ℕ) (definition : Function) → slice_get d.definitions k ≡ Some definition → (body : Formula) × (slice_get bodies k ≡ Some body)
-    body_given k definition declared = there bodies k (subst (λ (m : ℕ). k < m) (sym sound.one_each) (slice_get_within d.definitions k definition declared))
+    body_given k definition declared = slice_get-there bodies k (subst (λ (m : ℕ). k < m) (sym sound.one_each) (slice_get_within d.definitions k definition declared))
 
     pub given_sorted : (n : ℕ) → GiveSorted d n (calls_below (compiled d) no_term bodies n)
     given_sorted zero k definition ts below declared h = absurd (omega (arith, below))

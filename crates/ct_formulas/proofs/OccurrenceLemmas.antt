@@ -1,6 +1,7 @@
 -- The core term of a formula depends on the terms of the variables that occur in it alone.
 use Rattle.std.proofs.Common.{◌≡◌, ℕ, zero, suc, ◌+◌, Bool, true, false, not, ◌&&◌, ◌||◌, ◌==◌, List, [], ◌∷◌, length, map, Option, Some, None, option_map, unwrap_or, slice_get, if◌then◌else◌, refl, ap, subst, ◌∙◌, arith}
 use Rattle.std.proofs.lemmas.Bool.Decides.{Decides-eqb}
+use Rattle.ct_lemmas.proofs.Booleans.{both_true, or_left, or_right}
 use Rattle.ct_sorts.specs.declared.ids.CtorId.{CtorId}
 use Rattle.ct_sorts.specs.declared.ids.DefId.{DefId}
 use Rattle.ct_sorts.specs.declared.ids.SelId.{SelId}
@@ -13,17 +14,6 @@ use Rattle.ct_formulas.specs.Calls.{body_call, calls_below, calls}
 use Rattle.ct_terms.specs.Fields.{fields_of}
 use Rattle.ct_formulas.specs.Compiled.{all_of, any_of, exclusive_of, implication_of, equality, inequality, surely_fits, are_none, compiled, compiled_all, compiled_cases, core_of}
 use Rattle.ct_formulas.specs.Occurrence.{count_of, field_count, any_below, occurs, occurs_in_some, occurs_in_bound, matched_occurs, occurs_in_cases, body_uses, uses_below, occurs_in, AreSameAt, AreBoundSame, UseSame}
-
--- one of two is enough for one of them
-or_left : (a b : Bool) → a ≡ true → (a || b) ≡ true
-or_left a b h = ap (λ (x : Bool). x || b) h
-
-or_right : (a b : Bool) → b ≡ true → (a || b) ≡ true
-or_right true b h = refl
-or_right false b h = h
-
-and_both : (a b : Bool) → a ≡ true → b ≡ true → (a && b) ≡ true
-and_both a b h k = ap (λ (x : Bool). x && b) h ∙ k
 
 -- what is bound, and what was there
 bound_at : (p : ℕ → Bool) (n : ℕ) (t u : CoreTree) (xs ys : List CoreTree) → (p n ≡ true → t ≡ u) → ((i : ℕ) → p (i + suc n) ≡ true → slice_get xs i ≡ slice_get ys i) → (i : ℕ) → p (i + n) ≡ true → slice_get (t ∷ xs) i ≡ slice_get (u ∷ ys) i
@@ -100,7 +90,7 @@ module _ (d : Declarations) (uses : DefId → ℕ → Bool) (made : DefId → Li
         (λ i e. h i (or_right (occurs_in_bound d uses (occurs d uses u) ts i) (occurs d uses u (i + count_of ts)) (subst (λ (m : ℕ). occurs d uses u (i + m) ≡ true) (count_compiled ts xs) e))))
     compiled_same (Match t cases) xs ys h =
         cases_same cases [] xs ys (compiled d made xs t) (compiled d made ys t)
-        (λ m. compiled_same t xs ys (λ i e. h i (or_left (matched_occurs d uses [] cases && occurs d uses t i) (occurs_in_cases d uses [] cases i) (and_both (matched_occurs d uses [] cases) (occurs d uses t i) m e))))
+        (λ m. compiled_same t xs ys (λ i e. h i (or_left (matched_occurs d uses [] cases && occurs d uses t i) (occurs_in_cases d uses [] cases i) (both_true (matched_occurs d uses [] cases) (occurs d uses t i) m e))))
         (λ i e. h i (or_right (matched_occurs d uses [] cases && occurs d uses t i) (occurs_in_cases d uses [] cases i) e))
 
     all_same : (ts : Formulas) (xs ys : List CoreTree) → AreSameAt (occurs_in_some d uses ts) xs ys → compiled_all d made xs ts ≡ compiled_all d made ys ts
@@ -117,7 +107,7 @@ module _ (d : Declarations) (uses : DefId → ℕ → Bool) (made : DefId → Li
           (λ i e.
           h i
           (or_left (inner (count_of ts) && occurs d uses t i) (occurs_in_bound d uses inner ts i)
-          (and_both (inner (count_of ts)) (occurs d uses t i) (subst (λ (m : ℕ). inner m ≡ true) (count_compiled ts xs) used) e))),
+          (both_true (inner (count_of ts)) (occurs d uses t i) (subst (λ (m : ℕ). inner m ≡ true) (count_compiled ts xs) used) e))),
       all_bound ts inner xs ys (λ i e. h i (or_right (inner (count_of ts) && occurs d uses t i) (occurs_in_bound d uses inner ts i) e)),
     )
 
@@ -136,7 +126,7 @@ module _ (d : Declarations) (uses : DefId → ℕ → Bool) (made : DefId → Li
         (λ e. matched (or_left (not sure) (any_below inside (field_count d c)) (not_sure sure e)))
         (λ e.
         cases_same cases (c ∷ earlier) xs ys t u (λ later. matched (or_left (not sure) (any_below inside (field_count d c)) (not_sure sure e)))
-        (λ i o. h i (or_right (inside (i + field_count d c)) (not sure && occurs_in_cases d uses (c ∷ earlier) cases i) (and_both (not sure) (occurs_in_cases d uses (c ∷ earlier) cases i) (not_sure sure e) o))))
+        (λ i o. h i (or_right (inside (i + field_count d c)) (not sure && occurs_in_cases d uses (c ∷ earlier) cases i) (both_true (not sure) (occurs_in_cases d uses (c ∷ earlier) cases i) (not_sure sure e) o))))
 
 -- so it is with definitions
 module _ (d : Declarations) (bodies : List Formula) where

@@ -3,6 +3,10 @@ use Rattle.std.proofs.Common.{◌≡◌, ◌⊎◌, ℕ, zero, suc, ◌+◌, ◌
 use Rattle.std.specs.List.{fold}
 use Rattle.std.proofs.lemmas.Option.{slice_get_within}
 use Rattle.std.proofs.lemmas.List.Elements.{Contains-append_left, Contains-append_right}
+use Rattle.ct_lemmas.proofs.Booleans.{both_parts, by_test, not_is_false, or_cases}
+use Rattle.ct_lemmas.proofs.Contained.{Contains-rest}
+use Rattle.ct_lemmas.proofs.Lists.{slice_get-there}
+use Rattle.ct_lemmas.proofs.Numbers.{same_number}
 use Rattle.ct_sorts.specs.declared.ids.CtorId.{CtorId}
 use Rattle.ct_sorts.specs.declared.ids.DefId.{DefId}
 use Rattle.ct_sorts.specs.declared.ids.SelId.{SelId}
@@ -18,26 +22,13 @@ use Rattle.ct_formulas.specs.Calls.{body_call, calls_below, calls}
 use Rattle.ct_terms.specs.Fields.{fields_of}
 use Rattle.ct_formulas.specs.Compiled.{all_of, any_of, exclusive, exclusive_of, implied_from, implication_of, equality, inequality, surely_fits, are_none, compiled, compiled_all, compiled_cases, core_of}
 use Rattle.ct_formulas.specs.Occurrence.{count_of, field_count, any_below, occurs, occurs_in_some, occurs_in_bound, matched_occurs, occurs_in_cases, body_uses, uses_below, occurs_in, GiveUsed}
-use Rattle.ct_formulas.proofs.CallLemmas.{by_test, same_number, calls_below-suc}
-use Rattle.ct_formulas.proofs.FormulaSortLemmas.{there}
-use Rattle.ct_terms.proofs.SubtreeLemmas.{Contains-rest, subtrees-itself, subtrees-further}
+use Rattle.ct_formulas.proofs.CallLemmas.{calls_below-suc}
+use Rattle.ct_terms.proofs.SubtreeLemmas.{subtrees-itself, subtrees-further}
 use Rattle.ct_formulas.proofs.OccurrenceLemmas.{count_fields}
 
 -- tests
 false_is_not_true : {P : Type 0} → false ≡ true → P
 false_is_not_true e = absurd (true≢false (sym e))
-
-or_either : (a b : Bool) → (a || b) ≡ true → (a ≡ true) ⊎ (b ≡ true)
-or_either true b h = inl refl
-or_either false b h = inr h
-
-and_both_of : (a b : Bool) → (a && b) ≡ true → (a ≡ true) × (b ≡ true)
-and_both_of true b h = (refl, h)
-and_both_of false b h = false_is_not_true h
-
-not_is_false : (b : Bool) → not b ≡ true → b ≡ false
-not_is_false true h = false_is_not_true h
-not_is_false false h = refl
 
 -- the tree is a subterm
 abbrev IsUnder : CoreTree → CoreTree → Type 0
@@ -160,7 +151,7 @@ module _ (p : ℕ → Bool) (t : CoreTree) where
   field_there : (sels : List SelId) (env : List CoreTree) → any_below p (length sels) ≡ true → HasField (bind (map (λ s. sel s t) sels) env)
   field_there [] env h = false_is_not_true h
   field_there (s ∷ sels) env h =
-      elim (or_either (p (length sels)) (any_below p (length sels)) h) [
+      elim (or_cases (p (length sels)) (any_below p (length sels)) h) [
         | inl first ↦
             (length sels, s, first, ap (slice_get (bind (map (λ s. sel s t) sels) (sel s t ∷ env))) (sym (count_fields t sels)) ∙ bind_first (sel s t) (map (λ s. sel s t) sels) env)
         | inr rest ↦ field_there sels (sel s t ∷ env) rest
@@ -210,27 +201,27 @@ module _ (d : Declarations) (uses : DefId → ℕ → Bool) (made : DefId → Li
         let a = compiled d made env c in
         let b = compiled d made env t in
         let e = compiled d made env v in
-        elim (or_either (occurs d uses c i) (occurs d uses t i || occurs d uses v i) o) [
+        elim (or_cases (occurs d uses c i) (occurs d uses t i || occurs d uses v i) o) [
           | inl first ↦ under_choice_test u a b e (occurring_under c env sorts bool_sort i u h.0 first at)
           | inr rest ↦
-              elim (or_either (occurs d uses t i) (occurs d uses v i) rest) [
+              elim (or_cases (occurs d uses t i) (occurs d uses v i) rest) [
                 | inl second ↦ under_choice_first u a b e (occurring_under t env sorts sort i u h.1 second at)
                 | inr third ↦ under_choice_second u a b e (occurring_under v env sorts sort i u h.2 third at)
               ]
         ]
     occurring_under (Let ts v) env sorts sort i u h o at =
-        elim (or_either (occurs_in_bound d uses (occurs d uses v) ts i) (occurs d uses v (i + count_of ts)) o) [
+        elim (or_cases (occurs_in_bound d uses (occurs d uses v) ts i) (occurs d uses v (i + count_of ts)) o) [
           | inl bound ↦
               bound_under ts (occurs d uses v) env env sorts h.0 (compiled d made (bind (compiled_all d made env ts) env) v) i u h.2
-              (λ j x used there. occurring_under v (bind (compiled_all d made env ts) env) (bind h.0 sorts) sort j x h.3 used there) bound at
+              (λ j x used at. occurring_under v (bind (compiled_all d made env ts) env) (bind h.0 sorts) sort j x h.3 used at) bound at
           | inr free ↦
               occurring_under v (bind (compiled_all d made env ts) env) (bind h.0 sorts) sort (i + count_of ts) u h.3 free
               (ap (λ (m : ℕ). slice_get (bind (compiled_all d made env ts) env) (i + m)) (sym (count_terms ts env)) ∙ bind_past (compiled_all d made env ts) env i ∙ at)
         ]
     occurring_under (Match t cases) env sorts sort i u h o at =
-        elim (or_either (matched_occurs d uses [] cases && occurs d uses t i) (occurs_in_cases d uses [] cases i) o) [
+        elim (or_cases (matched_occurs d uses [] cases && occurs d uses t i) (occurs_in_cases d uses [] cases i) o) [
           | inl matched ↦
-              let both = and_both_of (matched_occurs d uses [] cases) (occurs d uses t i) matched in
+              let both = both_parts (matched_occurs d uses [] cases) (occurs d uses t i) matched in
               subtrees-further (compiled_cases d made env (compiled d made env t) [] cases) (compiled d made env t) u
               (matched_under cases env sorts h.0 (compiled d made env t) [] sort h.4 both.0)
               (occurring_under t env sorts h.0 i u h.1 both.1 at)
@@ -241,7 +232,7 @@ module _ (d : Declarations) (uses : DefId → ℕ → Bool) (made : DefId → Li
     all_under no_formulas env sorts ss i u h o at = false_is_not_true o
     all_under (with_formula t ts) env sorts [] i u h o at = absurd h
     all_under (with_formula t ts) env sorts (s ∷ ss) i u h o at =
-        elim (or_either (occurs d uses t i) (occurs_in_some d uses ts i) o) [
+        elim (or_cases (occurs d uses t i) (occurs_in_some d uses ts i) o) [
           | inl first ↦ inl (occurring_under t env sorts s i u h.0 first at)
           | inr rest ↦ inr (all_under ts env sorts ss i u h.1 rest at)
         ]
@@ -249,7 +240,7 @@ module _ (d : Declarations) (uses : DefId → ℕ → Bool) (made : DefId → Li
     one_under : (ts : Formulas) (env : List CoreTree) (sorts : List SortId) (s : SortId) (i : ℕ) (u : CoreTree) → AreOfSort d sorts ts s → occurs_in_some d uses ts i ≡ true → slice_get env i ≡ Some u → IsUnderSome u (compiled_all d made env ts)
     one_under no_formulas env sorts s i u h o at = false_is_not_true o
     one_under (with_formula t ts) env sorts s i u h o at =
-        elim (or_either (occurs d uses t i) (occurs_in_some d uses ts i) o) [
+        elim (or_cases (occurs d uses t i) (occurs_in_some d uses ts i) o) [
           | inl first ↦ inl (occurring_under t env sorts s i u h.0 first at)
           | inr rest ↦ inr (one_under ts env sorts s i u h.1 rest at)
         ]
@@ -271,9 +262,9 @@ module _ (d : Declarations) (uses : DefId → ℕ → Bool) (made : DefId → Li
     bound_under no_formulas inner env outer sorts ss result i u h used o at = false_is_not_true o
     bound_under (with_formula t ts) inner env outer sorts [] result i u h used o at = absurd h
     bound_under (with_formula t ts) inner env outer sorts (s ∷ ss) result i u h used o at =
-        elim (or_either (inner (count_of ts) && occurs d uses t i) (occurs_in_bound d uses inner ts i) o) [
+        elim (or_cases (inner (count_of ts) && occurs d uses t i) (occurs_in_bound d uses inner ts i) o) [
           | inl first ↦
-              let both = and_both_of (inner (count_of ts)) (occurs d uses t i) first in
+              let both = both_parts (inner (count_of ts)) (occurs d uses t i) first in
               let x = compiled d made env t in
               subtrees-further result x u
               (used (count_of ts) x both.0 (ap (slice_get (bind (compiled_all d made env ts) (x ∷ outer))) (sym (count_terms ts env)) ∙ bind_first x (compiled_all d made env ts) outer))
@@ -290,7 +281,7 @@ module _ (d : Declarations) (uses : DefId → ℕ → Bool) (made : DefId → Li
         let sels : List SelId = unwrap_or (option_map (λ (ctor : Constructor). ctor.sels) (slice_get d.ctors c.0)) [] in
         let first = compiled d made (bind (fields_of d c t) env) body in
         let later = compiled_cases d made env t (c ∷ earlier) cases in
-        elim (or_either (not sure) (any_below (occurs d uses body) (field_count d c)) o) [
+        elim (or_cases (not sure) (any_below (occurs d uses body) (field_count d c)) o) [
           | inl tested ↦ under_test sure t (test c t) first later (not_is_false sure tested) (Contains-rest (test c t) (subtrees t) t (subtrees-itself t))
           | inr field ↦
               let found = field_there (occurs d uses body) t sels env field in
@@ -307,13 +298,13 @@ module _ (d : Declarations) (uses : DefId → ℕ → Bool) (made : DefId → Li
         let sels : List SelId = unwrap_or (option_map (λ (ctor : Constructor). ctor.sels) (slice_get d.ctors c.0)) [] in
         let first = compiled d made (bind (fields_of d c t) env) body in
         let later = compiled_cases d made env t (c ∷ earlier) cases in
-        elim (or_either (occurs d uses body (i + field_count d c)) (not sure && occurs_in_cases d uses (c ∷ earlier) cases i) o) [
+        elim (or_cases (occurs d uses body (i + field_count d c)) (not sure && occurs_in_cases d uses (c ∷ earlier) cases i) o) [
           | inl inside ↦
               under_case sure u (test c t) first later
               (occurring_under body (bind (fields_of d c t) env) (bind h.0.0 sorts) sort (i + field_count d c) u h.0.2 inside
               (ap (λ (m : ℕ). slice_get (bind (fields_of d c t) env) (i + m)) (sym (count_fields t sels)) ∙ bind_past (fields_of d c t) env i ∙ at))
           | inr rest ↦
-              let both = and_both_of (not sure) (occurs_in_cases d uses (c ∷ earlier) cases i) rest in
+              let both = both_parts (not sure) (occurs_in_cases d uses (c ∷ earlier) cases i) rest in
               under_later_case sure u (test c t) first later (not_is_false sure both.0) (cases_under cases env sorts side t (c ∷ earlier) sort i u h.1 both.1 at)
         ]
 
@@ -327,7 +318,7 @@ module _ (d : Declarations) (bodies : List Formula) (sound : AreSound d bodies) 
   body_under : (n : ℕ) (o : Option Formula) (args : List CoreTree) (i : ℕ) (u : CoreTree) → slice_get bodies n ≡ o → GiveUsed (uses_below d bodies n) (calls_below (compiled d) no_term bodies n) → body_uses d (uses_below d bodies n) o i ≡ true → slice_get (bind args []) i ≡ Some u → IsUnder u (body_call (compiled d) no_term (calls_below (compiled d) no_term bodies n) o args)
   body_under n None args i u is give used at = false_is_not_true used
   body_under n (Some body) args i u is give used at =
-      let definition = there d.definitions n (subst (λ (m : ℕ). n < m) sound.one_each (slice_get_within bodies n body is)) in
+      let definition = slice_get-there d.definitions n (subst (λ (m : ℕ). n < m) sound.one_each (slice_get_within bodies n body is)) in
       occurring_under d (uses_below d bodies n) (calls_below (compiled d) no_term bodies n) give body (bind args []) (bind definition.0.args []) definition.0.result i u (sound.sorted n definition.0 body definition.1 is) used at
 
   pub calls_give_used : (n : ℕ) → GiveUsed (uses_below d bodies n) (calls_below (compiled d) no_term bodies n)

@@ -1,6 +1,8 @@
 -- A formula keeps its sort where more is declared, and definitions stay sound; so they do with one more, and cut back.
 use Rattle.std.proofs.Common.{◌≡◌, ◌⊎◌, ℕ, zero, suc, ◌+◌, ◌<◌, ◌≤◌, List, [], ◌∷◌, ◌++◌, length, take, Some, slice_get, refl, sym, ap, subst, ◌∙◌, inl, inr, arith, length-append}
 use Rattle.std.proofs.lemmas.Option.{same_Some, slice_get_within}
+use Rattle.ct_lemmas.proofs.Lists.{slice_get-append_left, slice_get-push_cases}
+use Rattle.ct_lemmas.proofs.Prefixes.{slice_get-take, slice_get-take_below, take-slice_get}
 use Rattle.ct_sorts.specs.declared.ids.SelId.{SelId}
 use Rattle.ct_sorts.specs.declared.ids.SortId.{SortId}
 use Rattle.ct_sorts.specs.Declarations.{Declarations, Sort, Constructor, Selector, Function, bool_sort, with_definition}
@@ -11,7 +13,6 @@ use Rattle.ct_formulas.specs.declared.tree.Pattern.TheVariants.{Ctor, Any}
 use Rattle.ct_terms.specs.CoreSorts.{AreFieldSorts}
 use Rattle.ct_formulas.specs.Formula.{Formula, Formulas, Cases, Var, Con, Sel, Test, Apply, Def, Not, And, Or, Xor, Implies, Equal, Distinct, Ite, Let, Match, no_formulas, with_formula, no_cases, with_case, bind, MentionsBelow, AllMentionBelow, CasesMentionBelow}
 use Rattle.ct_formulas.specs.FormulaSorts.{IsMatchable, BindsSorts, IsExhaustive, IsSorted, AllSorted, AreOfSort, AreSortedCases, AreSound, cut_definitions}
-use Rattle.ct_terms.proofs.ListLemmas.{slice_get-append_left, slice_get-push_cases, slice_get-take, slice_get-take_below, take-slice_get}
 use Rattle.ct_terms.proofs.SortLemmas.{slice_get-longer}
 use Rattle.ct_formulas.proofs.FormulaSortLemmas.{sorted_mentions}
 

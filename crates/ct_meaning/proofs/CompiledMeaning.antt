@@ -1,7 +1,10 @@
 -- The core term of a formula means what the formula means.
-use Rattle.std.proofs.Common.{◌≡◌, ℕ, zero, suc, ◌<◌, Bool, true, false, not, ◌&&◌, ◌||◌, ◌==◌, List, [], ◌∷◌, length, map, Option, Some, option_map, unwrap_or, slice_get, if◌then◌else◌, refl, sym, ap, subst, ◌∙◌, inl, inr, arith, true≢false}
-use Rattle.std.specs.List.{AllZip, AllByRecursion, list_all}
-use Rattle.std.proofs.lemmas.Option.{none-some, same_Some}
+use Rattle.std.proofs.Common.{◌≡◌, ℕ, zero, suc, ◌<◌, Bool, true, false, not, ◌||◌, ◌==◌, List, [], ◌∷◌, length, map, Option, Some, option_map, unwrap_or, slice_get, if◌then◌else◌, refl, sym, ap, subst, ◌∙◌, inl, inr, arith, true≢false}
+use Rattle.std.specs.List.{AllZip, AllByRecursion}
+use Rattle.ct_lemmas.proofs.Booleans.{by_test}
+use Rattle.ct_lemmas.proofs.Lists.{list_all-at}
+use Rattle.ct_lemmas.proofs.Numbers.{below_next, not_same_number, same_number}
+use Rattle.ct_lemmas.proofs.Pairs.{AllZip-from, AllZip-one_length}
 use Rattle.ct_sorts.specs.declared.ids.CtorId.{CtorId}
 use Rattle.ct_sorts.specs.declared.ids.DefId.{DefId}
 use Rattle.ct_sorts.specs.declared.ids.SelId.{SelId}
@@ -25,45 +28,13 @@ use Rattle.ct_values.specs.TruthValue.{truth, is_head, is_built, is_true}
 use Rattle.ct_eval.specs.Evaluation.{select, table_value}
 use Rattle.ct_eval.specs.TreeValue.{tree_value, tree_values}
 use Rattle.ct_meaning.specs.Meaning.{fits, meaning, meanings, case_meaning, eval, Agree, Means}
-use Rattle.ct_meaning.proofs.MeaningFacts.{Facts, by_test, AllZip-bind, AllZip-either, agree_equal, agree_truth, built_agrees, true_agrees, given_agrees, select_agrees, choice_agrees}
-use Rattle.ct_meaning.proofs.MeaningSorted.{same_number, not_same_number, other_number, below_next, calls-next, head_fits, Covers, GiveValues, bound_sorted, covered_rest, meaning_sorted, body_at, values_given}
+use Rattle.ct_meaning.proofs.MeaningFacts.{Facts, AllZip-bind, AllZip-either, agree_equal, agree_truth, built_agrees, true_agrees, given_agrees, select_agrees, choice_agrees}
+use Rattle.ct_meaning.proofs.MeaningSorted.{other_number, calls-next, head_fits, Covers, GiveValues, bound_sorted, covered_rest, meaning_sorted, body_at, values_given}
 use Rattle.ct_meaning.proofs.CompiledOperators.{truth_is, values_mean, all_of_means, any_of_means, exclusive_of_means, implication_of_means, AreOfOne, equal_means, distinct_means}
-
--- lists of one length whose elements at each index go together go together
-zip_positions : {X Y : Type 0} (R : X → Y → Type 0) (xs : List X) (ys : List Y) → length xs ≡ length ys → ((k : ℕ) (x : X) (y : Y) → slice_get xs k ≡ Some x → slice_get ys k ≡ Some y → R x y) → AllZip R xs ys
-zip_positions R [] [] long each = tt
-zip_positions R [] (y ∷ ys) long each = absurd (omega (arith, long))
-zip_positions R (x ∷ xs) [] long each = absurd (omega (arith, long))
-zip_positions R (x ∷ xs) (y ∷ ys) long each = (each 0 x y refl refl, zip_positions R xs ys (omega (arith, long)) (λ k u v at_u at_v. each (suc k) u v at_u at_v))
-
--- lists that go together have one length
-zip_length : {X Y : Type 0} (R : X → Y → Type 0) (xs : List X) (ys : List Y) → AllZip R xs ys → length xs ≡ length ys
-zip_length R [] [] h = refl
-zip_length R [] (y ∷ ys) h = absurd h
-zip_length R (x ∷ xs) [] h = absurd h
-zip_length R (x ∷ xs) (y ∷ ys) h = ap suc (zip_length R xs ys h.1)
-
--- a test of all elements holds of the one at an index
-all_at : {X : Type 0} (p : X → Bool) (xs : List X) (k : ℕ) (x : X) → list_all p xs ≡ true → slice_get xs k ≡ Some x → p x ≡ true
-all_at p [] k x h at = absurd (none-some x at)
-all_at p (y ∷ xs) zero x h at = subst (λ z. p z ≡ true) (same_Some y x at) (first (p y) (list_all p xs) h)
-  where
-    first : (a b : Bool) → (a && b) ≡ true → a ≡ true
-    first true b e = refl
-    first false b e = e
-all_at p (y ∷ xs) (suc k) x h at = all_at p xs k x (rest (p y) (list_all p xs) h) at
-  where
-    rest : (a b : Bool) → (a && b) ≡ true → b ≡ true
-    rest true b e = e
-    rest false b e = absurd (true≢false (sym e))
 
 -- neither of two is true
 neither : (a b : Bool) → a ≡ false → b ≡ false → (a || b) ≡ false
 neither a b h k = ap (λ (x : Bool). x || b) h ∙ k
-
--- one of two is true
-left_or : (a b : Bool) → a ≡ true → (a || b) ≡ true
-left_or a b h = ap (λ (x : Bool). x || b) h
 
 module _ (d : Declarations) (i : Interp) (facts : Facts d i) where
   -- the term and the value are of the sort, and the term means the value
@@ -98,8 +69,8 @@ module _ (d : Declarations) (i : Interp) (facts : Facts d i) where
       let w : Value = tree_value d i t in
       let agree = facts.children w v h in
       let long : length ctor.sels ≡ length (children_of i.graph w) =
-      zip_length (IsFieldSort d) ctor.sels sorts fields ∙ sym (zip_length (HasValueSort d i.graph) (children_of i.graph v) sorts children) ∙ sym (zip_length (Agree i) (children_of i.graph w) (children_of i.graph v) agree) in
-      let each = zip_positions (λ (s : SelId) (x : Value). tree_value d i (sel s t) ≡ x) ctor.sels (children_of i.graph w) long
+      AllZip-one_length (IsFieldSort d) ctor.sels sorts fields ∙ sym (AllZip-one_length (HasValueSort d i.graph) (children_of i.graph v) sorts children) ∙ sym (AllZip-one_length (Agree i) (children_of i.graph w) (children_of i.graph v) agree) in
+      let each = AllZip-from (λ (s : SelId) (x : Value). tree_value d i (sel s t) ≡ x) ctor.sels (children_of i.graph w) long
       (λ k s x at there. field_means c ctor t k s x declared (built_agrees d i facts c w v h ∙ built) at there) in
       subst (λ (o : Option Constructor). AllZip (Means d i) (map (λ s. sel s t) (unwrap_or (option_map (λ (g : Constructor). g.sels) o) [])) (children_of i.graph v)) (sym declared)
       (means_child t (children_of i.graph w) (children_of i.graph v) ctor.sels each agree)
@@ -113,7 +84,7 @@ module _ (d : Declarations) (i : Interp) (facts : Facts d i) where
       ∙ ap (λ (s : SortId). ctor_ids_of_sort d s) (sym one)
       ∙ ap (λ (o : Option Sort). unwrap_or (option_map (λ (s : Sort). s.ctors) o) []) of.2 in
       let test_k : ((k.0 == c.0) || is_among earlier k) ≡ true =
-      all_at (λ (j : CtorId). (j.0 == c.0) || is_among earlier j) (siblings d c) of.1 k sure (ap (λ (cs : List CtorId). slice_get cs of.1) all ∙ of.3) in
+      list_all-at (λ (j : CtorId). (j.0 == c.0) || is_among earlier j) (siblings d c) of.1 k sure (ap (λ (cs : List CtorId). slice_get cs of.1) all ∙ of.3) in
       by (k.0 == c.0) refl test_k
     where
       by : (b : Bool) → (k.0 == c.0) ≡ b → (b || is_among earlier k) ≡ true → k.0 ≡ c.0

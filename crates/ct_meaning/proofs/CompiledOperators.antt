@@ -1,6 +1,8 @@
 -- What the core terms of operators on several formulas mean.
 use Rattle.std.proofs.Common.{◌≡◌, ℕ, Bool, true, false, not, ◌&&◌, ◌||◌, ◌==◌, IsTrue, List, [], ◌∷◌, ◌++◌, map, if◌then◌else◌, refl, sym, ap, subst, ◌∙◌, true≢false}
 use Rattle.std.specs.List.{AllZip, AllByRecursion, fold, list_all, list_any}
+use Rattle.ct_lemmas.proofs.Booleans.{by_test, or_false}
+use Rattle.ct_lemmas.proofs.Numbers.{same_number}
 use Rattle.ct_sorts.specs.declared.ids.SortId.{SortId}
 use Rattle.ct_sorts.specs.Declarations.{Declarations, bool_sort}
 use Rattle.ct_values.specs.Value.{Value}
@@ -14,18 +16,13 @@ use Rattle.ct_values.specs.TruthValue.{truth, is_true}
 use Rattle.ct_eval.specs.Evaluation.{is_same}
 use Rattle.ct_eval.specs.TreeValue.{tree_value, tree_values}
 use Rattle.ct_meaning.specs.Meaning.{xor, xor_all, implies_from, implies_all, all_true, are_chained, are_distinct, Agree, Means}
-use Rattle.ct_meaning.proofs.MeaningFacts.{Facts, by_test, agree_truth, true_agrees, same_agrees, all_agree, any_agree}
-use Rattle.ct_meaning.proofs.MeaningSorted.{same_number}
+use Rattle.ct_meaning.proofs.MeaningFacts.{Facts, agree_truth, true_agrees, same_agrees, all_agree, any_agree}
 use Rattle.ct_eval.proofs.StepTruth.{one_answer}
 
 -- `and` with what is true changes nothing, nor `or` with what is false
 and_true : (b : Bool) → (b && true) ≡ b
 and_true true = refl
 and_true false = refl
-
-or_false : (b : Bool) → (b || false) ≡ b
-or_false true = refl
-or_false false = refl
 
 module _ (d : Declarations) (i : Interp) (facts : Facts d i) where
   -- a truth value is `true` just where it is

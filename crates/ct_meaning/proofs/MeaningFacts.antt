@@ -1,7 +1,6 @@
 -- What the theorems on meanings rest on: equality of values in a well-formed interpretation, and the sorts of values.
 use Rattle.std.proofs.Common.{◌≡◌, ◌⊎◌, ◌↔◌, ℕ, zero, suc, Bool, true, false, ◌&&◌, ◌||◌, IsTrue, List, [], ◌∷◌, map, Option, Some, None, unwrap_or, slice_get, if◌then◌else◌, refl, ap, subst, ◌∙◌}
 use Rattle.std.specs.List.{AllZip, list_all, list_any}
-use Rattle.std.proofs.lemmas.Option.{none-some, same_Some}
 use Rattle.ct_sorts.specs.declared.ids.CtorId.{CtorId}
 use Rattle.ct_sorts.specs.declared.ids.FunId.{FunId}
 use Rattle.ct_sorts.specs.declared.ids.SelId.{SelId}
@@ -44,25 +43,12 @@ pub record Facts (d : Declarations) (i : Interp) : Type 0 where
   pub own_selectors : HaveOwnSelectors d
   pub of_their_sorts : AreOfTheirSorts d
 
--- what holds of both branches of a test holds of the whole
-pub by_test : {X : Type 0} (P : X → Type 0) (b : Bool) (x y : X) → (b ≡ true → P x) → (b ≡ false → P y) → P (if b then x else y)
-by_test P true x y h k = h refl
-by_test P false x y h k = k refl
-
 -- bound in order, lists that go together go together with the environment
 pub AllZip-bind : {X Y : Type 0} (R : X → Y → Type 0) (xs : List X) (ys : List Y) (env : List X) (others : List Y) → AllZip R xs ys → AllZip R env others → AllZip R (bind xs env) (bind ys others)
 AllZip-bind R [] [] env others h k = k
 AllZip-bind R [] (y ∷ ys) env others h k = absurd h
 AllZip-bind R (x ∷ xs) [] env others h k = absurd h
 AllZip-bind R (x ∷ xs) (y ∷ ys) env others h k = AllZip-bind R xs ys (x ∷ env) (y ∷ others) h.1 (h.0, k)
-
--- what stands at an index of one list stands with what stands there in the other
-pub AllZip-found : {X Y : Type 0} (R : X → Y → Type 0) (xs : List X) (ys : List Y) (k : ℕ) (y : Y) → AllZip R xs ys → slice_get ys k ≡ Some y → (x : X) × (slice_get xs k ≡ Some x) × R x y
-AllZip-found R [] [] k y h at = absurd (none-some y at)
-AllZip-found R [] (z ∷ ys) k y h at = absurd h
-AllZip-found R (x ∷ xs) [] k y h at = absurd h
-AllZip-found R (x ∷ xs) (z ∷ ys) zero y h at = (x, refl, subst (R x) (same_Some z y at) h.0)
-AllZip-found R (x ∷ xs) (z ∷ ys) (suc k) y h at = AllZip-found R xs ys k y h.1 at
 
 -- what stands at one index, or something else in both lists
 pub AllZip-either : {X Y : Type 0} (R : X → Y → Type 0) (xs : List X) (ys : List Y) (k : ℕ) (x : X) (y : Y) → AllZip R xs ys → R x y → R (unwrap_or (slice_get xs k) x) (unwrap_or (slice_get ys k) y)

@@ -2,6 +2,9 @@
 use Rattle.std.proofs.Common.{◌≡◌, ℕ, zero, suc, ◌<◌, ◌≤◌, Bool, true, false, not, ◌==◌, List, [], ◌∷◌, ◌++◌, length, map, Option, Some, slice_get, if◌then◌else◌, refl, sym, ap, subst, ◌∙◌, arith, length-append}
 use Rattle.std.specs.List.{list_all, list_any}
 use Rattle.std.proofs.lemmas.Option.{slice_get_within}
+use Rattle.ct_lemmas.proofs.Booleans.{by_test}
+use Rattle.ct_lemmas.proofs.Lists.{slice_get-append_left, slice_get-prefix, slice_get-there}
+use Rattle.ct_lemmas.proofs.Numbers.{below_next, same_number}
 use Rattle.ct_sorts.specs.declared.ids.DefId.{DefId}
 use Rattle.ct_sorts.specs.declared.ids.SelId.{SelId}
 use Rattle.ct_sorts.specs.declared.ids.SortId.{SortId}
@@ -15,9 +18,7 @@ use Rattle.ct_eval.specs.declared.interp.Interp.{Interp}
 use Rattle.ct_values.specs.TruthValue.{truth, is_built, is_true}
 use Rattle.ct_eval.specs.Evaluation.{table_value, select}
 use Rattle.ct_meaning.specs.Meaning.{xor_all, implies_all, are_chained, are_distinct, fits, matched_values, meaning, meanings, case_meaning, eval}
-use Rattle.ct_eval.proofs.ListLemmas.{slice_get-prefix, slice_get-append_left, stands}
-use Rattle.ct_meaning.proofs.MeaningFacts.{by_test}
-use Rattle.ct_meaning.proofs.MeaningSorted.{same_number, below_next, calls-next}
+use Rattle.ct_meaning.proofs.MeaningSorted.{calls-next}
 
 module _ (later earlier : Declarations) (i : Interp) (extends : Extends later earlier) where
   -- a declared selector is the same in both
@@ -86,8 +87,8 @@ module _ (later earlier : Declarations) (i : Interp) (extends : Extends later ea
     calls_alike : (n : ℕ) → n ≤ length bodies → AreAlike n (calls_below (meaning later i) (truth false) (bodies ++ more) n) (calls_below (meaning earlier i) (truth false) bodies n)
     calls_alike zero within k vs below = absurd (omega (arith, below))
     calls_alike (suc n) within k vs below =
-        let body = stands bodies n (omega (arith, within)) in
-        let definition = stands earlier.definitions n (subst (λ (m : ℕ). n < m) sound.one_each (omega (arith, within))) in
+        let body = slice_get-there bodies n (omega (arith, within)) in
+        let definition = slice_get-there earlier.definitions n (subst (λ (m : ℕ). n < m) sound.one_each (omega (arith, within))) in
         let before = calls_alike n (omega (arith, within)) in
         calls-next (meaning later i) (truth false) (bodies ++ more) n k vs
         ∙ by_test (λ (v : Value). v ≡ calls_below (meaning earlier i) (truth false) bodies (suc n) k vs) (k.0 == n) _ _

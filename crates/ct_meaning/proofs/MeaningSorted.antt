@@ -3,6 +3,10 @@ use Rattle.std.proofs.Common.{◌≡◌, ◌⊎◌, ℕ, zero, suc, ◌<◌, Boo
 use Rattle.std.specs.List.{AllZip}
 use Rattle.std.proofs.lemmas.Option.{slice_get_within}
 use Rattle.std.proofs.lemmas.Bool.Decides.{Decides-eqb}
+use Rattle.ct_lemmas.proofs.Booleans.{by_test}
+use Rattle.ct_lemmas.proofs.Lists.{slice_get-there}
+use Rattle.ct_lemmas.proofs.Numbers.{below_next, same_number}
+use Rattle.ct_lemmas.proofs.Pairs.{AllZip-at_right}
 use Rattle.ct_sorts.specs.declared.ids.CtorId.{CtorId}
 use Rattle.ct_sorts.specs.declared.ids.DefId.{DefId}
 use Rattle.ct_sorts.specs.declared.ids.SortId.{SortId}
@@ -21,15 +25,7 @@ use Rattle.ct_eval.specs.declared.interp.Interp.{Interp}
 use Rattle.ct_values.specs.TruthValue.{truth, is_head, is_built, is_true}
 use Rattle.ct_eval.specs.Evaluation.{select}
 use Rattle.ct_meaning.specs.Meaning.{fits, matched_values, meaning, meanings, case_meaning, eval}
-use Rattle.ct_eval.proofs.ListLemmas.{stands, last_or_before}
-use Rattle.ct_meaning.proofs.MeaningFacts.{Facts, by_test, AllZip-bind, AllZip-found}
-
--- the test of numbers
-pub same_number : (k n : ℕ) → (k == n) ≡ true → k ≡ n
-same_number k n e = (Decides-eqb k n).0 e
-
-pub not_same_number : (k n : ℕ) → (k == n) ≡ false → k ≡ n → ⊥
-not_same_number k n e same = true≢false (sym ((Decides-eqb k n).1 same) ∙ e)
+use Rattle.ct_meaning.proofs.MeaningFacts.{Facts, AllZip-bind}
 
 pub other_number : (k n : ℕ) → (k ≡ n → ⊥) → (k == n) ≡ false
 other_number k n other = by (k == n) refl
@@ -37,11 +33,6 @@ other_number k n other = by (k == n) refl
     by : (b : Bool) → (k == n) ≡ b → (k == n) ≡ false
     by true e = absurd (other (same_number k n e))
     by false e = e
-
--- a number below the next one and other than this is below this
-pub below_next : (k n : ℕ) → k < suc n → (k == n) ≡ false → k < n
-below_next k n h other =
-    elim (last_or_before k n (omega (arith, h))) [ inl below ↦ below | inr same ↦ absurd (not_same_number k n other same) ]
 
 -- what a definition gives below the next number
 pub calls-next : {X : Type 0} (read : (DefId → List X → X) → List X → Formula → X) (other : X) (bodies : List Formula) (n : ℕ) (k : DefId) (args : List X) → calls_below read other bodies (suc n) k args ≡ (if k.0 == n then body_call read other (calls_below read other bodies n) (slice_get bodies n) args else calls_below read other bodies n k args)
@@ -88,7 +79,7 @@ module _ (d : Declarations) (i : Interp) (facts : Facts d i) where
     mutual
       pub meaning_sorted : (t : Formula) (env : List Value) (sorts : List SortId) (sort : SortId) → AllZip (HasValueSort d i.graph) env sorts → MentionsBelow n t → IsSorted d sorts t sort → HasValueSort d i.graph (meaning d i call env t) sort
       meaning_sorted (Var k) env sorts sort fit m h =
-          let found = AllZip-found (HasValueSort d i.graph) env sorts k sort fit h in
+          let found = AllZip-at_right (HasValueSort d i.graph) env sorts k sort fit h in
           subst (λ (o : Option Value). HasValueSort d i.graph (unwrap_or o (truth false)) sort) (sym found.1) found.2
       meaning_sorted (Con c ts) env sorts sort fit m h =
           subst (HasValueSort d i.graph (construct c (values_of (meanings d i call env ts)))) h.5 (facts.construct_sorted c h.0 h.1 (meanings d i call env ts) h.2 h.3 (all_sorted ts env sorts h.1 fit m h.4))
@@ -134,7 +125,7 @@ module _ (d : Declarations) (i : Interp) (facts : Facts d i) where
 
   module _ (bodies : List Formula) (sound : AreSound d bodies) where
     pub body_at : (k : ℕ) (definition : Function) → slice_get d.definitions k ≡ Some definition → (body : Formula) × (slice_get bodies k ≡ Some body)
-    body_at k definition declared = stands bodies k (subst (λ (m : ℕ). k < m) (sym sound.one_each) (slice_get_within d.definitions k definition declared))
+    body_at k definition declared = slice_get-there bodies k (subst (λ (m : ℕ). k < m) (sym sound.one_each) (slice_get_within d.definitions k definition declared))
 
     pub values_given : (n : ℕ) → GiveValues d i n (calls_below (meaning d i) (truth false) bodies n)
     values_given zero k definition vs below declared h = absurd (omega (arith, below))

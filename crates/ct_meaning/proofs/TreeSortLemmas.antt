@@ -2,6 +2,8 @@
 use Rattle.std.proofs.Common.{◌≡◌, Bool, not, List, [], ◌∷◌, Option, Some, slice_get, if◌then◌else◌, refl, ap, subst, ◌∙◌}
 use Rattle.std.specs.List.{AllZip, list_all, list_any}
 use Rattle.std.proofs.lemmas.Option.{slice_get_within}
+use Rattle.ct_lemmas.proofs.Booleans.{by_test}
+use Rattle.ct_lemmas.proofs.Lists.{slice_get-prefix}
 use Rattle.ct_sorts.specs.declared.ids.SelId.{SelId}
 use Rattle.ct_sorts.specs.declared.ids.SortId.{SortId}
 use Rattle.ct_sorts.specs.Declarations.{Declarations, Selector, bool_sort}
@@ -14,8 +16,7 @@ use Rattle.ct_eval.specs.declared.interp.Interp.{Interp}
 use Rattle.ct_values.specs.TruthValue.{truth, is_built, is_true}
 use Rattle.ct_eval.specs.Evaluation.{is_same, table_value, select}
 use Rattle.ct_eval.specs.TreeValue.{tree_value, tree_values}
-use Rattle.ct_eval.proofs.ListLemmas.{slice_get-prefix}
-use Rattle.ct_meaning.proofs.MeaningFacts.{Facts, by_test}
+use Rattle.ct_meaning.proofs.MeaningFacts.{Facts}
 
 module _ (d : Declarations) (i : Interp) (facts : Facts d i) where
   answer : (b : Bool) (sort : SortId) → bool_sort ≡ sort → HasValueSort d i.graph (truth b) sort

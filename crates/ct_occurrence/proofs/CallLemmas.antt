@@ -2,6 +2,7 @@
 use Rattle.std.proofs.Common.{◌≡◌, ℕ, zero, suc, ◌+◌, ◌≤◌, Bool, true, false, ◌==◌, List, [], length, Option, Some, None, slice_get, if◌then◌else◌, refl, sym, ap, ◌∙◌, arith}
 use Rattle.std.proofs.lemmas.Option.{slice_get_past}
 use Rattle.std.proofs.lemmas.Bool.Decides.{Decides-eqb}
+use Rattle.ct_lemmas.proofs.Booleans.{by_test}
 use Rattle.ct_sorts.specs.declared.ids.DefId.{DefId}
 use Rattle.ct_formulas.specs.Formula.{Formula, bind}
 use Rattle.ct_formulas.specs.Calls.{Reading, body_call, calls_below, calls}
@@ -27,11 +28,6 @@ HaveSame P bodies others = (k : DefId) → P k → slice_get bodies k.0 ≡ slic
 by_cases : {X : Type 0} (b : Bool) (x y z w : X) → (b ≡ true → x ≡ z) → (b ≡ false → y ≡ w) → (if b then x else y) ≡ (if b then z else w)
 by_cases true x y z w h k = h refl
 by_cases false x y z w h k = k refl
-
--- what holds of both branches of a test holds of the whole
-by_test : {X : Type 0} (P : X → Type 0) (b : Bool) (x y : X) → (b ≡ true → P x) → (b ≡ false → P y) → P (if b then x else y)
-by_test P true x y h k = h refl
-by_test P false x y h k = k refl
 
 module _ {X : Type 0} (read : Reading X) (none : X) where
   -- what a definition gives: its body over the definitions before it, or what it gave before

@@ -9,7 +9,6 @@ mod WorkingLemmas
 mod MarkedCases
 mod CaseLemmas
 mod OperandLemmas
-mod RestLemmas
 mod DefinitionLemmas
 mod NoteLemmas
 mod UnderWayLemmas

@@ -313,11 +313,6 @@ pub ok_then : {T E : Type 0} (r : Result T E) (x y z : List Bool) → y ≡ z �
 ok_then (Ok v) x y z e h = h ∙ e
 ok_then (Err v) x y z e h = tt
 
--- a list without elements
-pub nothing_left : {X : Type 0} (xs : List X) → length xs < 1 → xs ≡ []
-nothing_left [] h = refl
-nothing_left (x ∷ xs) h = absurd (omega (arith, h))
-
 pub counted : (ts : List Tree) → count_of (formulas_of_trees ts) ≡ length ts
 counted [] = refl
 counted (t ∷ ts) = ap suc (counted ts)

@@ -2,6 +2,7 @@
 use Rattle.std.proofs.Common.{◌≡◌, ℕ, suc, ◌<◌, ◌≤◌, Bool, true, false, List, [], ◌∷◌, ◌++◌, length, drop, slice_get, Some, Result, Ok, Err, IsErrOf, refl, sym, ap, ap₂, subst, arith}
 use Rattle.std.proofs.lemmas.List.{append_assoc, append-nil}
 use Rattle.std.proofs.lemmas.Option.{none-some, same_Some}
+use Rattle.ct_lemmas.proofs.Booleans.{or_left, or_right}
 use Rattle.ct_sorts.specs.declared.ids.DefId.{DefId}
 use Rattle.ct_sorts.specs.declared.ids.SortId.{SortId}
 use Rattle.ct_sorts.specs.Declarations.{Declarations}
@@ -28,7 +29,7 @@ use Rattle.ct_scope.specs.Binding.{occurs_where, WithinWhere, making_where, AreB
 use Rattle.ct_operators.proofs.EffectLemmas.{prefix_itself, prefix_trans, effect_none, effect_then, effect_because}
 use Rattle.ct_operators.proofs.WithinLemmas.{within_subtrees}
 use Rattle.ct_operators.proofs.MakesLemmas.{makes_then}
-use Rattle.ct_scope.proofs.CompilableLemmas.{bound_stays, setting_stays, present_less, or_left, or_right}
+use Rattle.ct_scope.proofs.CompilableLemmas.{bound_stays, setting_stays, present_less}
 use Rattle.ct_operators.proofs.EffectLemmas.{same_error}
 use Rattle.ct_scope.proofs.DeferralLemmas.{ended_by, too_deep_by, waits_under}
 

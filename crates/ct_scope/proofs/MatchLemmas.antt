@@ -5,6 +5,8 @@ use Rattle.std.proofs.lemmas.Option.{none-some, same_Some}
 use Rattle.std.proofs.lemmas.Result.{IfOk-weaker}
 use Rattle.std.proofs.lemmas.Bool.{cases_lt}
 use Rattle.std.proofs.lemmas.List.{append-nil}
+use Rattle.ct_lemmas.proofs.Booleans.{or_left, or_right}
+use Rattle.ct_lemmas.proofs.Contained.{Contains-rest}
 use Rattle.ct_sorts.specs.declared.ids.CtorId.{CtorId}
 use Rattle.ct_sorts.specs.declared.ids.DefId.{DefId}
 use Rattle.ct_sorts.specs.declared.ids.SelId.{SelId}
@@ -37,8 +39,8 @@ use Rattle.ct_scope.specs.Making.{Defined, making, making_cases, defined}
 use Rattle.ct_scope.specs.Matching.{IsTerm, bound_field, sels_of, bound_by, trees_by, AreCases, MayCases, CompilesCases}
 use Rattle.ct_occurrence.specs.Matching.{tested_by, IsPatternDeclared}
 use Rattle.ct_operators.proofs.EffectLemmas.{prefix_trans, stands_stays, effect_none, effect_then, effect_because}
-use Rattle.ct_operators.proofs.WithinLemmas.{Contains-rest, within_subtrees, within_itself, within_choice, within_test}
-use Rattle.ct_scope.proofs.CompilableLemmas.{bound_stays, setting_stays, present_less, or_left, or_right}
+use Rattle.ct_operators.proofs.WithinLemmas.{within_subtrees, within_itself, within_choice, within_test}
+use Rattle.ct_scope.proofs.CompilableLemmas.{bound_stays, setting_stays, present_less}
 use Rattle.ct_operators.proofs.OperatorLemmas.{stands_as}
 use Rattle.ct_operators.proofs.MakesLemmas.{makes_then, makes_one}
 use Rattle.ct_scope.proofs.BindLemmas.{bind_zip, bind_first, bind_present}

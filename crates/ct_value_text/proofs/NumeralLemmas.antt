@@ -4,8 +4,8 @@ use Rattle.std.specs.List.{list_all}
 use Rattle.std.specs.Int.Digits.{digits_of, AllBelowBase}
 use Rattle.std.proofs.lemmas.Fmt.{decimal_digit, decimal-digits_of}
 use Rattle.std.proofs.lemmas.Int.Digits.{all_below_base_digits_of, first_digits_of, same_from_digits_of}
+use Rattle.ct_lemmas.proofs.Booleans.{both_true}
 use Rattle.ct_value_text.specs.Numeral.{numeral}
-use Rattle.ct_values.proofs.AgreeLemmas.{both}
 
 -- a number of up to 64 bits is written so
 pub numeral_is_decimal : (n : ℕ) → n < 2 ^ 64 → numeral n ≡ decimal n
@@ -40,9 +40,9 @@ numeral_injective (suc m) (suc n) e = same_from_digits_of 10 (suc m) (suc n) (om
 -- what holds of each digit holds of all
 digits_all : (P : ℕ → Bool) → ((d : ℕ) → d < 10 → P (48 + d) ≡ true) → (ds : List ℕ) → AllBelowBase 10 ds → list_all P (map (λ d. 48 + d) ds) ≡ true
 digits_all P each [] below = refl
-digits_all P each (d ∷ ds) below = both (P (48 + d)) (list_all P (map (λ d. 48 + d) ds)) (each d below.0) (digits_all P each ds below.1)
+digits_all P each (d ∷ ds) below = both_true (P (48 + d)) (list_all P (map (λ d. 48 + d) ds)) (each d below.0) (digits_all P each ds below.1)
 
 -- so it does of a numeral
 pub numeral_all : (P : ℕ → Bool) → ((d : ℕ) → d < 10 → P (48 + d) ≡ true) → (n : ℕ) → list_all P (numeral n) ≡ true
-numeral_all P each zero = both (P 48) true (each 0 (omega arith)) refl
+numeral_all P each zero = both_true (P 48) true (each 0 (omega arith)) refl
 numeral_all P each (suc n) = digits_all P each (digits_of 10 (suc n)) (all_below_base_digits_of 10 (suc n) (omega arith))

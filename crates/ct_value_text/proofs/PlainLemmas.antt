@@ -6,6 +6,7 @@ use Rattle.std.specs.Cmp.Derive.{both_true}
 use Rattle.std.proofs.lemmas.List.{length-map, append_cancel_left}
 use Rattle.std.proofs.lemmas.List.Folds.{list_all-append}
 use Rattle.std.proofs.lemmas.Option.{none-some, same_Some}
+use Rattle.ct_lemmas.proofs.Lists.{slice_get-append_left, slice_get-there}
 use Rattle.ct_sorts.specs.declared.ids.CtorId.{CtorId}
 use Rattle.ct_sorts.specs.declared.ids.SortId.{SortId}
 use Rattle.ct_sorts.specs.Declarations.{Declarations, Constructor, Sort, IsSort, IsConstructor, sort_names, ctor_names, sel_names, function_names, definition_names}
@@ -21,8 +22,6 @@ use Rattle.ct_values.specs.declared.node.Node.TheVariants.{Con, Elem}
 use Rattle.ct_values.specs.Graph.{Nodes}
 use Rattle.ct_values.specs.Value.{Value, Values, reference, element, construct, no_values, with_value, values_of, node_value}
 use Rattle.ct_value_text.specs.ValueText.{name, node_name, element_name, element_text, sort_name, ctor_name, applied, expression, expressions, node_texts, graph_text}
-use Rattle.ct_values.proofs.GraphLemmas.{slice_get-append_left}
-use Rattle.ct_values.proofs.RenumberLemmas.{stands_within}
 use Rattle.ct_value_text.specs.Numeral.{numeral}
 use Rattle.ct_value_text.proofs.NumeralLemmas.{numeral_injective}
 use Rattle.ct_value_text.proofs.FitNameLemmas.{ctor_fits, fit_between, digits_between, digits_word}
@@ -57,7 +56,7 @@ symbol_same v w e = cc
 -- what stands in a list at an index, or nothing
 at_index : (names : List (List ℕ)) (n : ℕ) → n < length names → slice_get names n ≡ Some (unwrap_or (slice_get names n) [])
 at_index names n within =
-    let x = stands_within names n within in
+    let x = slice_get-there names n within in
     x.1 ∙ ap (λ (found : Option (List ℕ)). Some (unwrap_or found [])) (sym x.1)
 
 ctor_at : (d : Declarations) (c : CtorId) → IsConstructor d c → slice_get (ctor_names d) c.0 ≡ Some (ctor_name d c.0)

@@ -2,6 +2,7 @@
 use Rattle.std.proofs.Common.{◌≡◌, ℕ, ◌<◌, List, [], ◌∷◌, length, map, Some, option_map, slice_get, refl, sym, ap, subst, ◌∙◌, arith}
 use Rattle.std.specs.List.{AllZip}
 use Rattle.std.proofs.lemmas.Option.{same_Some}
+use Rattle.ct_lemmas.proofs.Options.{option_map-source}
 use Rattle.ct_sorts.specs.declared.ids.CtorId.{CtorId}
 use Rattle.ct_sorts.specs.declared.ids.SortId.{SortId}
 use Rattle.ct_values.specs.declared.node.NodeId.{NodeId}
@@ -13,7 +14,6 @@ use Rattle.ct_values.specs.Value.{Value, Values, reference, element, construct, 
 use Rattle.ct_values.specs.Agreement.{Point, point, node_point, AgreeAlways}
 use Rattle.ct_value_text.specs.ValueText.{StandsFor}
 use Rattle.ct_values.proofs.AgreeLemmas.{AgreeAlways-parts}
-use Rattle.ct_values.proofs.GraphLemmas.{option_map-Some}
 use Rattle.ct_values.proofs.NodeLemmas.{node_points, children_are}
 
 -- the nodes stand for these trees, one for one
@@ -75,7 +75,7 @@ no_children (nodes.Elem t j) s k e = refl
 
 pub element_stands : (g : Nodes) (n : NodeId) (s : SortId) (k : ℕ) → option_map node_head (slice_get g n.0) ≡ Some (Elem s k) → StandsFor g n (element s k)
 element_stands g n s k head_is =
-    let x = option_map-Some node_head (slice_get g n.0) (Elem s k) head_is in
+    let x = option_map-source node_head (slice_get g n.0) (Elem s k) head_is in
     let below : option_map node_children (slice_get g n.0) ≡ Some [] = ap (option_map node_children) x.1 ∙ ap Some (no_children x.0 s k x.2) in
     let pairs = subst (λ (ps : List Point). AllZip AgreeAlways ps []) (sym (children_are g n [] below)) tt in
     (tt, (AgreeAlways-parts (node_point g n) (point [] (element s k))).1 (head_is, pairs))

@@ -2,6 +2,7 @@
 use Rattle.std.proofs.Common.{◌≡◌, ℕ, suc, ◌+◌, ◌<◌, ◌≤◌, List, [], ◌∷◌, ◌++◌, length, map, take, get_or, slice_get, Some, refl, sym, ap, ◌∙◌, arith, append_assoc, codes}
 use Rattle.std.proofs.lemmas.List.{append-nil, take_more, length-take, take_all}
 use Rattle.std.proofs.lemmas.Option.{get_or_from_slice_get}
+use Rattle.ct_lemmas.proofs.Lists.{slice_get-there}
 use Rattle.ct_sorts.specs.Declarations.{Declarations}
 use Rattle.ct_sexpr.specs.Expression.{Expression}
 use Rattle.ct_sexpr.specs.Written.{written, written_items, written_after}
@@ -11,7 +12,6 @@ use Rattle.ct_values.specs.Value.{reference, values_of}
 use Rattle.ct_value_text.specs.ValueText.{node_name, applied, expressions, row, node_texts, graph_text}
 use Rattle.ct_value_text.specs.Separation.{gap}
 use Rattle.ct_values.specs.Graph.{Nodes}
-use Rattle.ct_values.proofs.RenumberLemmas.{stands_within}
 use Rattle.ct_value_text.specs.Numeral.{numeral}
 
 -- one more node after those that are written
@@ -71,7 +71,7 @@ pub rows-more : (d : Declarations) (g : Nodes) (i : ℕ) (start now new : List �
     → ((x : Node) → slice_get g i ≡ Some x → new ≡ now ++ (gap i ++ written (row d i x)))
     → new ≡ start ++ written_items (node_texts d 0 (take (i + 1) g))
 rows-more d g i start now new within p q =
-    let x = stands_within g i within in
+    let x = slice_get-there g i within in
     let long : length (take i g) ≡ i = omega (arith, length-take {A = Node}) in
     let taken : take (i + 1) g ≡ take i g ++ x.0 ∷ [] = take_more g i x.0 within ∙ ap (λ e. take i g ++ e ∷ []) (get_or_from_slice_get g i x.0 x.0 x.1) in
     let pushed = rows-push d (take i g) x.0 in

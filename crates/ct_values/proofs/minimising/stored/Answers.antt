@@ -1,11 +1,11 @@
 use Rattle.std.proofs.Common.{◌≡◌, ◌+◌, List, [], ◌∷◌, ◌++◌, length, sym, ap, subst, ◌∙◌, arith}
+use Rattle.ct_lemmas.proofs.Lists.{slice_get-there}
 use Rattle.ct_values.specs.declared.node.NodeId.{NodeId}
 use Rattle.ct_values.specs.declared.node.Node.{Node}
 use Rattle.ct_values.specs.Graph.{Nodes}
 use Rattle.ct_values.specs.Packed.{node_of}
 use Rattle.ct_values.specs.Partition.{class_at}
 use Rattle.ct_values.specs.Quotient.{numbered_node}
-use Rattle.ct_values.proofs.RenumberLemmas.{stands_within}
 use Rattle.ct_values.proofs.QuotientLemmas.{IsStored, IsStored-new, IsStored-old, numbered_at}
 use Rattle.ct_values.proofs.minimising.stored.Goals as goal
 use Rattle.ct_values.proofs.minimising.stored.Goals.{then-numbers-index+in_ok-children+in_ok-push, else-numbers-index}
@@ -16,7 +16,7 @@ loop-index-preserved c =
     let numbers = c.args.numbers.now in
     let index = c.loop-index.index in
     let nodes = c.loop-index.nodes in
-    let x = stands_within g index (omega (arith, c.requires.long)) in
+    let x = slice_get-there g index (omega (arith, c.requires.long)) in
     elim c.if-numbers-index.branch [
       | then-numbers-index+in_ok-children+in_ok-push w ↦
           let new : class_at numbers index ≡ length nodes = w.if-numbers-index.true ∙ c.len.ensures.count in
