@@ -42,7 +42,7 @@ module _ (state : State) where
         ctor = there.ctor;
         args = there.args;
         argument = there.argument;
-        slice_get-there = there.stands;
+        stands = there.stands;
         datatype = there.datatype;
         at = there.at;
         equal = InOneClass-trans state.reps there.argument next last there.equal equal;
