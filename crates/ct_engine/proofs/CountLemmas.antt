@@ -39,7 +39,7 @@ or_cases : (a b : Bool) → (a || b) ≡ true → (a ≡ true) ⊎ (b ≡ true)
 or_cases true b h = inl refl
 or_cases false b h = inr h
 
-Contains-any : (ns : List ℕ) (q : ℕ) → list_any (eqb q) ns ≡ true → Contains ns q
+pub Contains-any : (ns : List ℕ) (q : ℕ) → list_any (eqb q) ns ≡ true → Contains ns q
 Contains-any [] q h = absurd (true≢false (sym h))
 Contains-any (n ∷ ns) q h =
     elim (or_cases (eqb q n) (list_any (eqb q) ns) h) [
