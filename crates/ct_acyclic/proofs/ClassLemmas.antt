@@ -3,6 +3,8 @@ use Rattle.std.proofs.Common.{◌≡◌, ℕ, ◌<◌, ◌⊎◌, List, [], leng
 use Rattle.std.specs.List.{AllZip}
 use Rattle.std.proofs.lemmas.Bool.{cases_order}
 use Rattle.std.proofs.lemmas.Option.{none-some, same_Some, slice_get_within}
+use Rattle.ct_lemmas.proofs.Lists.{slice_get-one_length}
+use Rattle.ct_lemmas.proofs.Pairs.{AllZip-at_left, AllZip-at_right, AllZip-one_length}
 use Rattle.ct_sorts.specs.declared.ids.CtorId.{CtorId}
 use Rattle.ct_sorts.specs.declared.ids.SortId.{SortId}
 use Rattle.ct_sorts.specs.Declarations.{Declarations}
@@ -16,7 +18,6 @@ use Rattle.ct_congr.specs.Partition.{InOneClass}
 use Rattle.ct_congr.specs.State.{State, AreEqual, IsConstructorTerm, IsQuiet}
 use Rattle.ct_acyclic.specs.Order.{IsDataClass}
 use Rattle.ct_acyclic.specs.Edges.{term, IsRepNumber, IsRow}
-use Rattle.ct_acyclic.proofs.ListLemmas.{AllZip-left, AllZip-right, AllZip-one_length, slice_get-one_length}
 
 -- ---- terms of a table
 
@@ -106,7 +107,7 @@ module _ (state : State) (one_sort : HaveOneSort state) where
     IsRow-of = record {
       own = λ r at. let same : t ≡ r = same_Some t r (sym data_class.own ∙ at) in subst (λ (q : TermId). slice_get state.reps q.0 ≡ Some q) same data_class.own;
       down = λ place kid at.
-          let h = AllZip-right (IsRepNumber state.reps) args row place kid each at in
+          let h = AllZip-at_right (IsRepNumber state.reps) args row place kid each at in
           record {
             con = con;
             own = data_class.own;
@@ -115,7 +116,7 @@ module _ (state : State) (one_sort : HaveOneSort state) where
           };
       all = λ other next place own own_next is leads.
           let found = same_argument other leads.ctor leads.args place leads.argument (InOneClass-trans state.reps other t con is equal) leads.stands leads.at in
-          let h = AllZip-left (IsRepNumber state.reps) args row place found.0 each found.1 in
+          let h = AllZip-at_left (IsRepNumber state.reps) args row place found.0 each found.1 in
           let both = InOneClass-trans state.reps next leads.argument found.0 (InOneClass-sym state.reps leads.argument next leads.equal) found.2 in
           let first : next ≡ both.0 = same_Some next both.0 (sym own_next ∙ both.1) in
           let second : term h.0 ≡ both.0 = same_Some (term h.0) both.0 (sym h.2.of_term ∙ both.2) in

@@ -4,6 +4,8 @@ use Rattle.std.specs.List.{AllZip}
 use Rattle.std.proofs.lemmas.Bool.{cases_order}
 use Rattle.std.proofs.lemmas.List.FromFn.{length-map-range_with_len}
 use Rattle.std.proofs.lemmas.Option.{same_Some, slice_get_within, get_or_from_slice_get}
+use Rattle.ct_lemmas.proofs.Lists.{slice_get-there}
+use Rattle.ct_lemmas.proofs.Pairs.{AllZip-at_left, AllZip-one_length}
 use Rattle.ct_sorts.specs.Declarations.{most_sels}
 use Rattle.ct_sorts.specs.Consistent.{IsConsistent}
 use Rattle.ct_terms.specs.declared.ids.TermId.{TermId}
@@ -16,7 +18,7 @@ use Rattle.ct_ordering.specs.Order as ordering
 use Rattle.ct_congr.specs.State.{State, AreEqual}
 use Rattle.ct_acyclic.specs.Order.{Leads}
 use Rattle.ct_acyclic.specs.Edges.{term, StoredLeads, AreRows, IsRow, IsEntry}
-use Rattle.ct_acyclic.proofs.ListLemmas.{stands, AllZip-left, AllZip-one_length, length-one_of_many}
+use Rattle.ct_acyclic.proofs.ListLemmas.{length-one_of_many}
 use Rattle.ct_acyclic.proofs.ClassLemmas.{InOneClass-trans}
 
 -- the place of an argument is below the number of selectors
@@ -40,7 +42,7 @@ module _ (state : State) where
         ctor = there.ctor;
         args = there.args;
         argument = there.argument;
-        stands = there.stands;
+        slice_get-there = there.stands;
         datatype = there.datatype;
         at = there.at;
         equal = InOneClass-trans state.reps there.argument next last there.equal equal;
@@ -71,7 +73,7 @@ module _ (state : State) where
     goes k hop point at has = (rows.rows hop.point (hop_within k hop at)).down hop.place point has
 
     first : (h : Hop) × (slice_get hops 0 ≡ Some h)
-    first = stands hops 0 cycle.some
+    first = slice_get-there hops 0 cycle.some
 
     next_of : (k : ℕ) (hop next : Hop) → slice_get hops k ≡ Some hop → slice_get hops (suc k) ≡ Some next → StoredLeads state hop.point hop.place (term next.point)
     next_of k hop next at after =
@@ -90,7 +92,7 @@ module _ (state : State) where
         elim (cases_order (suc k) (length hops)) [
           | inl last ↦ (term first.0.point, back k hop last at)
           | inr h ↦ elim h [
-            | inl less ↦ let n = stands hops (suc k) less in (term n.0.point, next_of k hop n.0 at n.1)
+            | inl less ↦ let n = slice_get-there hops (suc k) less in (term n.0.point, next_of k hop n.0 at n.1)
             | inr greater ↦ absurd (omega (arith, within, greater))
           ]
         ]
@@ -101,7 +103,7 @@ module _ (state : State) where
         let long = AllZip-one_length (IsEntry state) hops [] each in
         absurd (omega (arith, long, cycle.some))
     IsCycle-of (e ∷ es) each =
-        let h = AllZip-left (IsEntry state) hops (e ∷ es) 0 first.0 each first.1 in
+        let h = AllZip-at_left (IsEntry state) hops (e ∷ es) 0 first.0 each first.1 in
         let same : h.0 ≡ e = sym (same_Some e h.0 h.1) in
         let is : IsEntry state first.0 e = subst (IsEntry state first.0) same h.2 in
         LeadBack-of hops (e ∷ es) e.0 cycle.some each next_of (λ k last end at. (term first.0.point, back k last end at, is.equal))

@@ -2,13 +2,13 @@
 use Rattle.std.proofs.Common.{◌≡◌, ℕ, ◌+◌, ◌-◌, ◌<◌, List, [], ◌∷◌, ◌++◌, length, slice_get, Some, sym, ap, subst, ◌∙◌, inl, inr, arith, length-append}
 use Rattle.std.proofs.lemmas.Bool.{cases_order}
 use Rattle.std.proofs.lemmas.Option.{none-some, same_Some, slice_get_within}
+use Rattle.ct_lemmas.proofs.Lists.{slice_get-append_left, slice_get-last, slice_get-push_cases}
 use Rattle.ct_terms.specs.declared.ids.TermId.{TermId}
 use Rattle.ct_ordering.specs.Graph.{graph}
 use Rattle.ct_ordering.specs.Order.{IsOrder}
 use Rattle.ct_congr.specs.State.{State}
 use Rattle.ct_acyclic.specs.Order.{IsDataClass, IsClassOrder}
 use Rattle.ct_acyclic.specs.Edges.{AreRows, IsRow, AreKept}
-use Rattle.ct_acyclic.proofs.ListLemmas.{slice_get-push_cases, slice_get-append_left, slice_get-last}
 
 module _ (state : State) (points : List ℕ) where
   pub AreKept-none : AreKept state points 0 []

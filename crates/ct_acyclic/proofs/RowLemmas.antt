@@ -1,33 +1,12 @@
 -- Rows one after the other: one row more.
-use Rattle.std.proofs.Common.{◌≡◌, ℕ, ◌+◌, ◌-◌, ◌<◌, ◌≤◌, List, [], ◌∷◌, ◌++◌, length, take, drop, get_or, slice_get, slice_index, Some, refl, sym, ap, ap₂, subst, ◌∙◌, inl, inr, arith, length-append, length-drop}
+use Rattle.std.proofs.Common.{◌≡◌, ℕ, ◌+◌, ◌-◌, ◌<◌, List, [], ◌∷◌, ◌++◌, length, get_or, slice_get, slice_index, Some, refl, sym, ap, ap₂, subst, ◌∙◌, inl, inr, arith, length-append}
 use Rattle.std.specs.List.{slice_range}
-use Rattle.std.proofs.lemmas.List.{take-append-le, drop-append-le, drop_at, take_all, get_or_append_left, get_or-append-add}
 use Rattle.std.proofs.lemmas.Bool.{cases_order}
 use Rattle.std.proofs.lemmas.Option.{none-some, slice_get-get_or}
+use Rattle.ct_lemmas.proofs.Lists.{slice_get-append_either}
+use Rattle.ct_lemmas.proofs.Slices.{index-last, index-left, range-append_left, range-append_right}
 use Rattle.ct_ordering.specs.Graph.{ArePoints}
 use Rattle.ct_acyclic.specs.Edges.{AreRows}
-use Rattle.ct_acyclic.proofs.ListLemmas.{slice_get-append_cases}
-
--- a part of the first of two lists
-range-append_left : (xs ys : List ℕ) (a b : ℕ) → a ≤ b → b ≤ length xs → slice_range (xs ++ ys) a b ≡ slice_range xs a b
-range-append_left xs ys a b order within =
-    ap (take (b - a)) (drop-append-le a xs ys (omega (arith, order, within)))
-    ∙ take-append-le (b - a) (drop a xs) ys (omega (arith, order, within, length-drop a xs))
-
--- all of the second
-range-append_right : (xs ys : List ℕ) (a b : ℕ) → length xs ≡ a → b ≡ length (xs ++ ys) → slice_range (xs ++ ys) a b ≡ ys
-range-append_right xs ys a b start end =
-    ap (take (b - a)) (drop_at xs ys a start)
-    ∙ take_all (b - a) ys (omega (arith, start, end, length-append xs ys))
-
--- a number before a new one, and the new one
-index-left : (xs : List ℕ) (x i : ℕ) → i < length xs → slice_index (xs ++ x ∷ []) i ≡ slice_index xs i
-index-left xs x i within = get_or_append_left xs (x ∷ []) 0 i within
-
-index-last : (xs : List ℕ) (x i : ℕ) → i ≡ length xs → slice_index (xs ++ x ∷ []) i ≡ x
-index-last xs x i e =
-    let at : i ≡ length xs + 0 = omega (arith, e) in
-    ap (slice_index (xs ++ x ∷ [])) at ∙ get_or-append-add xs (x ∷ []) 0 0
 
 module _ (bound : ℕ) (R : ℕ → List ℕ → Type 0) where
   pub AreRows-none : AreRows bound R 0 (0 ∷ []) []
@@ -77,7 +56,7 @@ module _ (bound : ℕ) (R : ℕ → List ℕ → Type 0) where
           | inr greater ↦ absurd (omega (arith, within, greater))
         ]
       ];
-      within = λ place kid at. elim (slice_get-append_cases kids row place kid at) [
+      within = λ place kid at. elim (slice_get-append_either kids row place kid at) [
         | inl had ↦ old.within place kid had
         | inr h ↦ inside h.0 kid h.1
       ];

@@ -2,6 +2,7 @@
 use Rattle.std.proofs.Common.{◌⊎◌, Result, Ok, Err, IfOk, ◌≡◌, ◌&&◌, ◌||◌, inl, inr, Bool, true, false, refl, ap, List, [], ◌∷◌, Option, Some, None, is_some, true≢false}
 use Rattle.std.specs.Prelude.{◌≢◌}
 use Rattle.std.specs.List.{list_all, list_any}
+use Rattle.ct_lemmas.proofs.Booleans.{not_true}
 use Rattle.clap.specs.Words.{IsAmong, Kinds, Shape, Text, built, fault_of, is_simple, is_simple_and_free, matches_of, takes}
 use Rattle.clap.specs.Kinds.{or_else}
 use Rattle.clap.specs.Walk.{Held, finished, nothing_held, settled, walk, walk_from}
@@ -69,10 +70,6 @@ only_kind p k (l ∷ []) b a among = elim among [ inl e ↦ rw e (or_false (p l)
     or_false true = refl
     or_false false = refl
 only_kind p k (l ∷ (m ∷ ks)) b a among = absurd a
-
-not_true : (b : Bool) → (b ≡ true → ⊥) → b ≡ false
-not_true true never = absurd (never refl)
-not_true false never = refl
 
 -- accepted arguments mean what their matches mean
 pub accepted : (words : List Text) → fault_of cosmt words ≡ [] → asked_for (matches_of cosmt words) ≡ task_of words

@@ -6,6 +6,7 @@ use Rattle.std.specs.List.{list_all}
 use Rattle.std.specs.Option.{option_map_or}
 use Rattle.std.specs.Str.{bytes_eq, chars}
 use Rattle.std.proofs.lemmas.Bool.{eqb-true, le-leb, ltb-false}
+use Rattle.ct_lemmas.proofs.Booleans.{both_parts}
 use Rattle.clap.specs.Lexer.{long_of, short_of}
 use Rattle.clap.specs.Values.{refused_kind}
 use Rattle.clap.specs.ValueTests.{accepts}
@@ -32,10 +33,6 @@ pub then : (ks ls : Kinds) (p q : Bool) → Agrees ks p → Agrees ls q → Agre
 then [] ls p q a b = rw a b
 then (k ∷ []) ls p q a b = tt
 then (k ∷ (l ∷ ks)) ls p q a b = absurd a
-
-both_true : (p q : Bool) → (p && q) ≡ true → (p ≡ true) × (q ≡ true)
-both_true true q e = (refl, e)
-both_true false q e = absurd (true≢false (sym e))
 
 -- ---- values
 
@@ -261,6 +258,6 @@ pub no_default_fault : (rows : List Row) (rules : List Rule) → list_all (λ a.
 unfolding defaults_fault
 no_default_fault rows [] e = refl
 no_default_fault rows (a ∷ rest) e =
-    let parts = both_true (is_empty a.defaults) (list_all (λ x. is_empty x.defaults) rest) e in
+    let parts = both_parts (is_empty a.defaults) (list_all (λ x. is_empty x.defaults) rest) e in
     no_default_more rows a (defaults_fault (with_default rows a) rest) (is_empty a.defaults) (has_row a.id rows) parts.0
     (no_default_fault (with_default rows a) rest parts.1)

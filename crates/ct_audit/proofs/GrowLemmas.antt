@@ -7,6 +7,7 @@ use Rattle.std.proofs.lemmas.Grind.{flat_map-append}
 use Rattle.std.proofs.lemmas.List.{map-append, append-nil, length-append}
 use Rattle.std.proofs.lemmas.List.Elements.{All-nil, All-append, All-head, All-tail, All-weaker, All-cons, Contains-append_left, Contains-append_right}
 use Rattle.std.proofs.lemmas.Option.{slice_get_within, none-some, same_Some}
+use Rattle.ct_lemmas.proofs.Lists.{slice_get-append_cases, slice_get-append_left, slice_get-there}
 use Rattle.ct_sorts.specs.declared.ids.SortId.{SortId}
 use Rattle.ct_sorts.specs.Declarations.{bool_sort}
 use Rattle.ct_sorts.specs.Consistent.{IsConsistent}
@@ -14,14 +15,13 @@ use Rattle.ct_terms.specs.declared.ids.TermId.{TermId}
 use Rattle.ct_terms.specs.Terms.{Terms, IsBoolean, AreSorted, AreOrdered, AreSingle, most_terms}
 use Rattle.ct_terms.specs.CoreTree.{CoreTree, subtrees, term_at}
 use Rattle.ct_terms.specs.CoreSorts.{HasTreeSort}
-use Rattle.ct_terms.specs.Formula.{Formula}
-use Rattle.ct_terms.specs.FormulaSorts.{IsSorted, AreSound}
+use Rattle.ct_formulas.specs.Formula.{Formula}
+use Rattle.ct_formulas.specs.FormulaSorts.{IsSorted, AreSound}
 use Rattle.ct_closure.specs.ClosedTable.{terms_at}
 use Rattle.ct_compile.specs.Effect.{IsPrefix, IsMissing, AreDifferent, DoNotFit, AddsTrees}
 use Rattle.ct_stack.specs.Stack.{Context, core, cores}
 use Rattle.ct_audit.specs.Grown.{terms_of, IsGrownBy, AreTooMany}
 use Rattle.ct_audit.specs.Growing.{Theorems, IsGrowing}
-use Rattle.ct_audit.proofs.ListLemmas.{slice_get-append_left, entry_at, append_at}
 
 prefix_length : (old new : Terms) → IsPrefix old new → length old ≤ length new
 prefix_length old new h = omega (arith, ap (λ (ts : Terms). length ts) h.1, length-append old h.0)
@@ -81,7 +81,7 @@ module _ (c : Context) (all rest : List Formula) (f : Formula) (old now : Terms)
       -- the core term is Boolean
       is_boolean : IsBoolean new t
       is_boolean =
-          let found = entry_at new t.0 stands.0 in
+          let found = slice_get-there new t.0 stands.0 in
           let tree : HasTreeSort c.declarations (term_at new t) bool_sort =
           subst (λ (tree : CoreTree). HasTreeSort c.declarations tree bool_sort) (sym stands.1) (theorems.core_sorted c.declarations c.bodies [] [] f bool_sort consistent sound tt boolean)
           in
@@ -158,7 +158,7 @@ module _ (theorems : Theorems) (allowed next : List CoreTree) (old now : Terms) 
   split : (i : ℕ) (t : CoreTree) → slice_get (first ++ trees) i ≡ Some t → IsNew i t ⊎ IsUnfit i t
   unfolding first
   split i t e =
-      elim (append_at (trees_from now (length old) more) trees i t e) [
+      elim (slice_get-append_cases (trees_from now (length old) more) trees i t e) [
         | inl here ↦ let h = at_index now (length old) more i t here in inl (h.0, omega (arith, h.0, long), h.1)
         | inr there ↦ inr (there.0, omega (arith, there.1, count), there.2)
       ]

@@ -7,13 +7,14 @@ use Rattle.ct_sorts.specs.Consistent.{IsConsistent}
 use Rattle.ct_terms.specs.declared.ids.TermId.{TermId}
 use Rattle.ct_terms.specs.Terms.{Terms}
 use Rattle.ct_terms.specs.CoreTree.{CoreTree, term_at}
-use Rattle.ct_terms.specs.Compiled.{core_of}
-use Rattle.ct_terms.specs.Formula.{Formula}
-use Rattle.ct_terms.specs.FormulaSorts.{IsSorted, AreSound}
+use Rattle.ct_formulas.specs.Compiled.{core_of}
+use Rattle.ct_formulas.specs.Formula.{Formula}
+use Rattle.ct_formulas.specs.FormulaSorts.{IsSorted, AreSound}
 use Rattle.ct_closure.specs.ClosedTable.{terms_at}
 use Rattle.ct_eval.specs.declared.interp.Interp.{Interp}
 use Rattle.ct_eval.specs.Interpretation.{IsProper}
-use Rattle.ct_eval.specs.Truth.{Holds, AllTrue}
+use Rattle.ct_meaning.specs.Meaning.{AllTrue}
+use Rattle.ct_eval.specs.Truth.{Holds}
 use Rattle.ct_stack.specs.Stack.{Context, core, cores}
 use Rattle.ct_stack.specs.Held.{IsSoundLevel}
 use Rattle.ct_step.specs.Verdict.{Satisfies}

@@ -1,4 +1,3 @@
-mod ListLemmas
 mod GrowLemmas
 mod ReplayLemmas
 mod JudgeLemmas

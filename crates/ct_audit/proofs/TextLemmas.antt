@@ -7,7 +7,7 @@ use Rattle.ct_sexpr.specs.Unread.{Unread}
 use Rattle.ct_sexpr.specs.Answer.{IsFirstCommand}
 use Rattle.ct_sexpr.specs.View.{expression_of}
 use Rattle.ct_sexpr.specs.declared.sexpr.Sexpr.{Sexpr}
-use Rattle.ct_terms.specs.Formula.{Formula}
+use Rattle.ct_formulas.specs.Formula.{Formula}
 use Rattle.ct_log.specs.Recorded.{Recorded}
 use Rattle.ct_log_text.specs.Reading.{departs, number_of, Reads as ReadsRecord}
 use Rattle.ct_stack.specs.Stack.{Context}

@@ -8,9 +8,9 @@ use Rattle.ct_terms.specs.declared.ids.TermId.{TermId}
 use Rattle.ct_terms.specs.Terms.{Terms, IsOfSort, IsBoolean, AreSorted, AreOrdered, AreSingle}
 use Rattle.ct_terms.specs.CoreTree.{CoreTree, term_at}
 use Rattle.ct_terms.specs.CoreSorts.{HasTreeSort}
-use Rattle.ct_terms.specs.Formula.{Formula}
-use Rattle.ct_terms.specs.FormulaSorts.{IsSorted as IsSortedFormula, AreSound}
-use Rattle.ct_terms.specs.Compiled.{core_of}
+use Rattle.ct_formulas.specs.Formula.{Formula}
+use Rattle.ct_formulas.specs.FormulaSorts.{IsSorted as IsSortedFormula, AreSound}
+use Rattle.ct_formulas.specs.Compiled.{core_of}
 use Rattle.ct_closure.specs.ClosedTable.{terms_at}
 use Rattle.ct_compile.specs.Effect.{IsPrefix, AddsTrees}
 use Rattle.ct_stack.specs.Stack.{Context, cores}

@@ -4,7 +4,7 @@ use Rattle.std.specs.List.{flat_map}
 use Rattle.ct_terms.specs.declared.ids.TermId.{TermId}
 use Rattle.ct_terms.specs.Terms.{Terms, AreOrdered, AreSingle, AreSorted, most_terms}
 use Rattle.ct_terms.specs.CoreTree.{CoreTree, subtrees}
-use Rattle.ct_terms.specs.Formula.{Formula}
+use Rattle.ct_formulas.specs.Formula.{Formula}
 use Rattle.ct_closure.specs.ClosedTable.{terms_at}
 use Rattle.ct_compile.specs.Effect.{IsPrefix, AddsTrees, DoNotFit}
 use Rattle.ct_stack.specs.Stack.{Context, cores}

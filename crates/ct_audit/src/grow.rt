@@ -1,13 +1,14 @@
 //! A table of terms grows by the core terms of assertions.
 ghost use Rattle.std.specs.Prelude.{All, map, IfOk, IsErrOf};
 ghost use Rattle.ct_terms.specs.Terms.{AreSorted, IsBoolean};
-ghost use Rattle.ct_terms.specs.TreeFormula.{formula_of};
+ghost use Rattle.ct_formulas.specs.TreeFormula.{formula_of};
 ghost use Rattle.ct_stack.specs.Held.{context_in, level_in, IsSoundLevel};
 ghost use Rattle.ct_audit.specs.Grown.{IsGrownBy, AreTooMany};
 ghost use Rattle.ct_audit.specs.Growing.{Theorems};
 
 use ct_compile::{Scope, compile};
-use ct_terms::{TermError, TermId, TermTable, Tree, core_trees, formulas};
+use ct_formulas::{Tree, formulas};
+use ct_terms::{TermError, TermId, TermTable, core_trees};
 use std::alloc::Global;
 
 /// Puts the core terms of the assertions into the table. Their numbers, in order.

@@ -3,7 +3,7 @@ ghost use Rattle.std.specs.Prelude.{◌≡◌, All, map, IfOk, IsErrOf, Ok, Matc
 ghost use Rattle.ct_sexpr.specs.View.{expression_of};
 ghost use Rattle.ct_card.specs.Sizes.{AreSizes};
 ghost use Rattle.ct_terms.specs.Terms.{AreSorted, IsBoolean};
-ghost use Rattle.ct_terms.specs.TreeFormula.{formula_of};
+ghost use Rattle.ct_formulas.specs.TreeFormula.{formula_of};
 ghost use Rattle.ct_eval.specs.declared.interp.Interp.{Interp};
 ghost use Rattle.ct_eval.specs.Interpretation.{IsProper};
 ghost use Rattle.ct_eval.specs.Truth.{Holds};
@@ -22,12 +22,13 @@ use crate::grow::add_assertions;
 use ct_card::Sizes;
 use ct_checker::Checker;
 use ct_compile::Scope;
-use ct_eval::meanings;
+use ct_formulas::Tree;
 use ct_log::{LogError, Record};
 use ct_log_text::read_derivation;
+use ct_meaning::meanings;
 use ct_sexpr::Sexpr;
 use ct_sorts::Signature;
-use ct_terms::{TermError, TermId, TermTable, Tree};
+use ct_terms::{TermError, TermId, TermTable};
 use std::alloc::Global;
 
 /// The number of the error of a derivation that departs from its form.

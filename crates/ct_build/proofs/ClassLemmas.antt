@@ -2,6 +2,7 @@
 use Rattle.std.proofs.Common.{◌≡◌, ℕ, zero, suc, ◌+◌, ◌<◌, List, [], ◌∷◌, ◌++◌, length, slice_get, Some, option_map, refl, sym, ◌∙◌, ap, subst, inl, inr, arith, All}
 use Rattle.std.specs.List.{AllZip}
 use Rattle.std.proofs.lemmas.Option.{none-some, same_Some, slice_get_within, slice_get-get_or}
+use Rattle.ct_lemmas.proofs.Lists.{slice_get-append_after, slice_get-append_cases, slice_get-map_source, slice_get-there}
 use Rattle.ct_sorts.specs.declared.ids.CtorId.{CtorId}
 use Rattle.ct_sorts.specs.declared.ids.SelId.{SelId}
 use Rattle.ct_sorts.specs.declared.ids.SortId.{SortId}
@@ -19,7 +20,7 @@ use Rattle.ct_congr.specs.State.{State, AreEqual}
 use Rattle.ct_acyclic.specs.Order.{IsClassOrder}
 use Rattle.ct_build.specs.Nodes.{HaveSortedNodes, IsClassList, AreNumbered, AreClassNodes}
 use Rattle.ct_eval.specs.EvaluationStep.{node_under}
-use Rattle.ct_build.proofs.ListLemmas.{append_split, append_after, map_source, there, AllZip-map}
+use Rattle.ct_build.proofs.ListLemmas.{AllZip-map}
 use Rattle.ct_build.proofs.GraphLemmas.{longer_sort, longer_fits, fits_within, fitting_below, well_formed_longer, sort_within, one_node_sort}
 use Rattle.ct_build.proofs.TermLemmas.{one_term_sort}
 
@@ -39,7 +40,7 @@ datatype-equal state one_sort x y equal is = record {
 -- a term of the list represents a class
 pub list_own : (state : State) (order list : List TermId) → IsClassOrder state order → IsClassList state order list → (i : ℕ) (r : TermId) → slice_get list i ≡ Some r → slice_get state.reps r.0 ≡ Some r
 list_own state order list ordered listed i r at =
-    elim (append_split order listed.rest i r (subst (λ (l : List TermId). slice_get l i ≡ Some r) listed.is at)) [
+    elim (slice_get-append_cases order listed.rest i r (subst (λ (l : List TermId). slice_get l i ≡ Some r) listed.is at)) [
       | inl h ↦ (ordered.only i r h).own
       | inr (k, e, h) ↦ (listed.others k r h).own
     ]
@@ -47,7 +48,7 @@ list_own state order list ordered listed i r at =
 -- one that represents a class of a datatype stands at the same index in the order
 order_at : (state : State) (order list : List TermId) → IsClassList state order list → (i : ℕ) (r : TermId) → slice_get list i ≡ Some r → IsOfDatatype state.declarations state.terms r → slice_get order i ≡ Some r
 order_at state order list listed i r at is =
-    elim (append_split order listed.rest i r (subst (λ (l : List TermId). slice_get l i ≡ Some r) listed.is at)) [
+    elim (slice_get-append_cases order listed.rest i r (subst (λ (l : List TermId). slice_get l i ≡ Some r) listed.is at)) [
       | inl h ↦ h
       | inr (k, e, h) ↦ absurd ((listed.others k r h).other is)
     ]
@@ -61,7 +62,7 @@ module _ (state : State) (sorted : AreSorted state.declarations state.terms) (on
 
   -- the representative of a term, and that it is one of its class
   rep_of : (t : TermId) (s : SortId) → IsOfSort state.terms t s → (r : TermId) × (slice_get state.reps t.0 ≡ Some r)
-  rep_of t s has = there state.reps t.0 (omega (arith, long, slice_get_within state.terms t.0 (has.0, s) has.1))
+  rep_of t s has = slice_get-there state.reps t.0 (omega (arith, long, slice_get_within state.terms t.0 (has.0, s) has.1))
 
   own : (i : ℕ) (r : TermId) → slice_get list i ≡ Some r → slice_get state.reps r.0 ≡ Some r
   own = list_own state order list ordered listed
@@ -69,7 +70,7 @@ module _ (state : State) (sorted : AreSorted state.declarations state.terms) (on
   -- the sort of a term of the list
   sort_at : (i : ℕ) (r : TermId) → slice_get list i ≡ Some r → (s : SortId) × IsOfSort state.terms r s
   sort_at i r at =
-      let entry = there state.terms r.0 (omega (arith, long, slice_get_within state.reps r.0 r (own i r at))) in
+      let entry = slice_get-there state.terms r.0 (omega (arith, long, slice_get_within state.reps r.0 r (own i r at))) in
       (entry.0.1, (entry.0.0, entry.1))
 
   -- the node of a class has its sort
@@ -89,9 +90,9 @@ module _ (state : State) (sorted : AreSorted state.declarations state.terms) (on
   -- the reserved node of a class has its sort
   reserved_sort : (i : ℕ) (r : TermId) (n : NodeId) (s : SortId) → slice_get list i ≡ Some r → n.0 ≡ length g + i → IsOfSort state.terms r s → HasNodeSort d longer n s
   reserved_sort i r n s at number has =
-      let node = there added i (omega (arith, are.long, slice_get_within list i r at)) in (
+      let node = slice_get-there added i (omega (arith, are.long, slice_get_within list i r at)) in (
         node.0,
-        ap (slice_get longer) number ∙ append_after g added i ∙ node.1,
+        ap (slice_get longer) number ∙ slice_get-append_after g added i ∙ node.1,
         class_node_sort i r node.0 s at node.1 has,
       )
 
@@ -118,7 +119,7 @@ module _ (state : State) (sorted : AreSorted state.declarations state.terms) (on
   -- the node of a class fits
   pub class_node_fits : (i : ℕ) (node : Node) → slice_get added i ≡ Some node → FitsNode d longer node
   class_node_fits i node at_node =
-      let rep = there list i (omega (arith, are.long, slice_get_within added i node at_node)) in
+      let rep = slice_get-there list i (omega (arith, are.long, slice_get_within added i node at_node)) in
       elim (are.each i rep.0 node rep.1 at_node) [
         | inl of ↦
             let built = sorted of.con.0 (Con of.ctor of.args) of.stands.0 of.stands.1 in
@@ -153,12 +154,12 @@ module _ (state : State) (sorted : AreSorted state.declarations state.terms) (on
   -- under the node of a class of a datatype the nodes of datatypes have smaller numbers
   class_node_before : (i k : ℕ) (node : Node) (child : NodeId) → slice_get added i ≡ Some node → slice_get (node_children node) k ≡ Some child → IsData d longer (record { 0 = length g + i }) → IsData d longer child → child.0 < length g + i
   class_node_before i k node child at_node listed_at is_data data_child =
-      let rep = there list i (omega (arith, are.long, slice_get_within added i node at_node)) in
+      let rep = slice_get-there list i (omega (arith, are.long, slice_get_within added i node at_node)) in
       let r = rep.0 in
       elim (are.each i r node rep.1 at_node) [
         | inl of ↦
             let built = sorted of.con.0 (Con of.ctor of.args) of.stands.0 of.stands.1 in
-            let source = map_source (node_under nodes_of) of.args k child (ap (λ (x : Node). slice_get (node_children x) k) (sym of.is) ∙ listed_at) in
+            let source = slice_get-map_source (node_under nodes_of) of.args k child (ap (λ (x : Node). slice_get (node_children x) k) (sym of.is) ∙ listed_at) in
             let field = argument_sort of.args built.ctor.sels k source.0 built.fields source.1 in
             let at_child : slice_get nodes_of source.0.0 ≡ Some child = under_at source.0 field.0 field.1 ∙ ap Some source.2 in
             let rep_a = rep_of source.0 field.0 field.1 in

@@ -1,6 +1,7 @@
 -- Stored nodes of sorts.
 use Rattle.std.proofs.Common.{◌≡◌, ℕ, ◌+◌, List, [], ◌∷◌, ◌++◌, length, set, replicate, slice_get, Some, None, Option, refl, sym, ◌∙◌, ap, subst, inl, inr}
 use Rattle.std.proofs.lemmas.Option.{none-some, same_Some}
+use Rattle.ct_lemmas.proofs.Lists.{slice_get-replicate}
 use Rattle.ct_sorts.specs.declared.ids.SortId.{SortId}
 use Rattle.ct_sorts.specs.Declarations.{Declarations}
 use Rattle.ct_sorts.specs.Grown.{Begins}
@@ -8,13 +9,13 @@ use Rattle.ct_values.specs.declared.node.NodeId.{NodeId}
 use Rattle.ct_values.specs.Graph.{Nodes}
 use Rattle.ct_values.specs.Fitting.{HasNodeSort}
 use Rattle.ct_build.specs.Nodes.{AreStored, AreOfAllSorts}
-use Rattle.ct_build.proofs.ListLemmas.{pushed_at, length-push, set_at, replicate_at}
+use Rattle.ct_build.proofs.ListLemmas.{pushed_at, length-push, set_at}
 use Rattle.ct_build.proofs.GraphLemmas.{begins_sort}
 
 module _ (d : Declarations) where
   -- none is stored
   pub stored_none : (g : Nodes) (count : ℕ) → AreStored d g (replicate count None)
-  stored_none g count s n at = absurd (none-some n (sym (replicate_at count s None (Some n) at)))
+  stored_none g count s n at = absurd (none-some n (sym (slice_get-replicate count s None (Some n) at)))
 
   -- one more is stored
   pub stored_set : (g : Nodes) (found : List (Option NodeId)) (s : SortId) (n : NodeId) → AreStored d g found → HasNodeSort d g n s → AreStored d g (set found s.0 (Some n))

@@ -2,6 +2,8 @@
 use Rattle.std.proofs.Common.{◌≡◌, ℕ, zero, suc, ◌+◌, ◌<◌, List, [], ◌∷◌, ◌++◌, length, slice_get, Some, None, Option, option_map, All, Contains, refl, sym, ◌∙◌, ap, subst, inl, inr, arith, length-append}
 use Rattle.std.specs.List.{AllZip}
 use Rattle.std.proofs.lemmas.Option.{none-some, same_Some, slice_get_within, slice_get-get_or}
+use Rattle.ct_lemmas.proofs.Each.{All-from_slice_get}
+use Rattle.ct_lemmas.proofs.Lists.{slice_get-append_cases, slice_get-append_left, slice_get-last, slice_get-there}
 use Rattle.ct_sorts.specs.declared.ids.CtorId.{CtorId}
 use Rattle.ct_sorts.specs.declared.ids.SelId.{SelId}
 use Rattle.ct_sorts.specs.declared.ids.SortId.{SortId}
@@ -15,11 +17,10 @@ use Rattle.ct_values.specs.declared.node.Node.TheVariants.{Con, Elem}
 use Rattle.ct_values.specs.Graph.{Nodes, HasChildrenBelow, node_head, node_children}
 use Rattle.ct_values.specs.Fitting.{HasNodeSort, IsNodeOfField, IsElement, FitsNode, node_sort}
 use Rattle.ct_values.specs.WellFormed.{IsData, IsWellFormedGraph}
-use Rattle.ct_build.proofs.ListLemmas.{append_left, append_split, all_from, last_at, there}
 
 -- a node of a graph keeps its sort
 pub longer_sort : (d : Declarations) (g more : Nodes) (n : NodeId) (s : SortId) → HasNodeSort d g n s → HasNodeSort d (g ++ more) n s
-longer_sort d g more n s (node, at, sorted) = (node, append_left g more n.0 node at, sorted)
+longer_sort d g more n s (node, at, sorted) = (node, slice_get-append_left g more n.0 node at, sorted)
 
 pub begins_sort : (d : Declarations) (g longer : Nodes) (n : NodeId) (s : SortId) → Begins g longer → HasNodeSort d g n s → HasNodeSort d longer n s
 begins_sort d g longer n s (more, is) has = subst (λ (h : Nodes). HasNodeSort d h n s) (sym is) (longer_sort d g more n s has)
@@ -36,7 +37,7 @@ one_node_sort d g n s t (x, at_x, of_x) (y, at_y, of_y) =
 -- and had it before
 shorter_sort : (d : Declarations) (g more : Nodes) (n : NodeId) (s : SortId) → n.0 < length g → HasNodeSort d (g ++ more) n s → HasNodeSort d g n s
 shorter_sort d g more n s within (node, at, sorted) =
-    elim (append_split g more n.0 node at) [
+    elim (slice_get-append_cases g more n.0 node at) [
       | inl h ↦ (node, h, sorted)
       | inr (k, e, h) ↦ absurd (omega arith)
     ]
@@ -78,13 +79,13 @@ pub well_formed_longer : (d : Declarations) (g more : Nodes) → IsWellFormedGra
     → IsWellFormedGraph d (g ++ more)
 well_formed_longer d g more formed fit before =
     record {
-      fits = λ n node at. elim (append_split g more n node at) [
+      fits = λ n node at. elim (slice_get-append_cases g more n node at) [
         | inl h ↦ longer_fits d g more node (formed.fits n node h)
         | inr (k, e, h) ↦ fit k node h
       ];
       finite = λ n child node at contains data_n data_child.
           let listed = listed_child (node_children node) child contains in
-          elim (append_split g more n.0 node at) [
+          elim (slice_get-append_cases g more n.0 node at) [
             | inl h ↦
                 let within : child.0 < length g = fits_within d g node listed.0 child (formed.fits n.0 node h) listed.1 in
                 formed.finite n child node h contains (shorter_data d g more n (slice_get_within g n.0 node h) data_n) (shorter_data d g more child within data_child)
@@ -97,7 +98,7 @@ well_formed_longer d g more formed fit before =
 
 -- the children of nodes that fit are below the end of the longer graph
 pub fitting_below : (d : Declarations) (g more : Nodes) → ((i : ℕ) (node : Node) → slice_get more i ≡ Some node → FitsNode d (g ++ more) node) → All (HasChildrenBelow (length g + length more)) more
-fitting_below d g more fit = all_from (HasChildrenBelow (length g + length more)) more (λ i node at. all_from (λ child. child.0 < length g + length more) (node_children node) (λ k child listed.
+fitting_below d g more fit = All-from_slice_get (HasChildrenBelow (length g + length more)) more (λ i node at. All-from_slice_get (λ child. child.0 < length g + length more) (node_children node) (λ k child listed.
     let within : child.0 < length (g ++ more) = fits_within d (g ++ more) node k child (fit i node at) listed in
     omega (arith, within, length-append g more)))
 
@@ -116,12 +117,12 @@ well_formed_pushed d g node formed fit =
 
 -- the sort of the node that was pushed
 pub pushed_sort : (d : Declarations) (g : Nodes) (node : Node) (n : NodeId) (s : SortId) → n.0 ≡ length g → node_sort d node ≡ Some s → HasNodeSort d (g ++ node ∷ []) n s
-pushed_sort d g node n s e sorted = (node, ap (slice_get (g ++ node ∷ [])) e ∙ last_at g node, sorted)
+pushed_sort d g node n s e sorted = (node, ap (slice_get (g ++ node ∷ [])) e ∙ slice_get-last g node, sorted)
 
 -- a sort of this kind has elements
 pub element_of : (d : Declarations) (s : ℕ) → s < length d.sorts → option_map (λ (x : Sort). x.kind) (slice_get d.sorts s) ≡ Some Free → IsElement d s
 element_of d s within e =
-    let sort = there d.sorts s within in
+    let sort = slice_get-there d.sorts s within in
     record { sort = sort.0; declared = sort.1; free = same_Some _ _ (ap (option_map (λ (x : Sort). x.kind)) (sym sort.1) ∙ e) }
 
 -- a node is told by its head and its children

@@ -1,36 +1,18 @@
 -- Points with their children one after the other, one point more.
-use Rattle.std.proofs.Common.{◌≡◌, ℕ, zero, suc, ◌+◌, ◌<◌, ◌≤◌, List, [], ◌∷◌, ◌++◌, length, slice_get, slice_index, Some, All, refl, sym, ◌∙◌, ap, subst, inl, inr, arith, length-append}
-use Rattle.std.proofs.lemmas.List.{get_or_append_left, get_or-append-add}
+use Rattle.std.proofs.Common.{◌≡◌, ℕ, ◌+◌, ◌<◌, ◌≤◌, List, [], ◌∷◌, ◌++◌, length, slice_index, All, refl, sym, ◌∙◌, ap, subst, inl, inr, arith, length-append}
 use Rattle.std.proofs.lemmas.Bool.{cases_order}
-use Rattle.std.proofs.lemmas.Option.{none-some, same_Some, slice_get_within, get_or_from_slice_get}
+use Rattle.std.proofs.lemmas.Option.{none-some}
+use Rattle.ct_lemmas.proofs.Each.{All-at, All-from_slice_get}
+use Rattle.ct_lemmas.proofs.Lists.{slice_get-append_cases}
+use Rattle.ct_lemmas.proofs.Slices.{index-last, index-left}
 use Rattle.ct_partition.specs.Points.{ArePoints}
-use Rattle.ct_build.proofs.ListLemmas.{append_split, all_from, length-push}
-
--- what holds of all holds of each
-pub all_at : {X : Type 0} (P : X → Type 0) (xs : List X) (k : ℕ) (x : X) → All P xs → slice_get xs k ≡ Some x → P x
-all_at P xs k x all at = subst P (get_or_from_slice_get xs k x x at) (all k x (slice_get_within xs k x at))
+use Rattle.ct_build.proofs.ListLemmas.{length-push}
 
 pub all_append : {X : Type 0} (P : X → Type 0) (xs ys : List X) → All P xs → All P ys → All P (xs ++ ys)
-all_append P xs ys left right = all_from P (xs ++ ys) (λ k x at. elim (append_split xs ys k x at) [
-  | inl h ↦ all_at P xs k x left h
-  | inr (j, e, h) ↦ all_at P ys j x right h
+all_append P xs ys left right = All-from_slice_get P (xs ++ ys) (λ k x at. elim (slice_get-append_cases xs ys k x at) [
+  | inl h ↦ All-at P xs k x left h
+  | inr (j, e, h) ↦ All-at P ys j x right h
 ])
-
-pub all_one : {X : Type 0} (P : X → Type 0) (x : X) → P x → All P (x ∷ [])
-all_one {X} P x is = all_from P (x ∷ []) one
-  where
-    one : (k : ℕ) (y : X) → slice_get (x ∷ []) k ≡ Some y → P y
-    one zero y at = subst P (same_Some x y at) is
-    one (suc k) y at = absurd (none-some y at)
-
--- a number before a new one, and the new one
-index-left : (xs : List ℕ) (x i : ℕ) → i < length xs → slice_index (xs ++ x ∷ []) i ≡ slice_index xs i
-index-left xs x i within = get_or_append_left xs (x ∷ []) 0 i within
-
-index-last : (xs : List ℕ) (x i : ℕ) → i ≡ length xs → slice_index (xs ++ x ∷ []) i ≡ x
-index-last xs x i e =
-    let at : i ≡ length xs + 0 = omega (arith, e) in
-    ap (slice_index (xs ++ x ∷ [])) at ∙ get_or-append-add xs (x ∷ []) 0 0
 
 -- so many points, whose children are below the bound
 pub record AreFirstPoints (bound count : ℕ) (labels starts children : List ℕ) : Type 0 where
@@ -46,7 +28,7 @@ first_points bound = record {
   long = refl;
   rising = λ i before. absurd (omega (arith, before));
   last = refl;
-  within = all_from (λ child. child < bound) [] (λ k x at. absurd (none-some x at));
+  within = All-from_slice_get (λ child. child < bound) [] (λ k x at. absurd (none-some x at));
 }
 
 pub more_points : (bound count : ℕ) (labels starts children : List ℕ) (label : ℕ) (more : List ℕ) → AreFirstPoints bound count labels starts children → All (λ child. child < bound) more → AreFirstPoints bound (count + 1) (labels ++ label ∷ []) (starts ++ length (children ++ more) ∷ []) (children ++ more)

@@ -1,6 +1,8 @@
 -- Nodes of terms, one term more, and nodes of classes.
 use Rattle.std.proofs.Common.{◌≡◌, ℕ, ◌+◌, ◌<◌, ◌⊎◌, List, [], ◌∷◌, ◌++◌, length, set, slice_get, Some, All, refl, sym, ◌∙◌, ap, subst, inl, inr, arith}
 use Rattle.std.proofs.lemmas.Option.{none-some, same_Some, slice_get_within}
+use Rattle.ct_lemmas.proofs.Each.{All-from_slice_get}
+use Rattle.ct_lemmas.proofs.Lists.{slice_get-there}
 use Rattle.ct_sorts.specs.declared.ids.SortId.{SortId}
 use Rattle.ct_sorts.specs.Declarations.{Declarations}
 use Rattle.ct_sorts.specs.Grown.{Begins}
@@ -11,7 +13,7 @@ use Rattle.ct_terms.specs.declared.ids.TermId.{TermId}
 use Rattle.ct_terms.specs.Terms.{Terms, IsOfSort}
 use Rattle.ct_congr.specs.State.{State}
 use Rattle.ct_build.specs.Nodes.{HaveSortedNodes, AreNumbered, IsReserved}
-use Rattle.ct_build.proofs.ListLemmas.{pushed_at, length-push, set_at, set_length, all_from, there}
+use Rattle.ct_build.proofs.ListLemmas.{pushed_at, length-push, set_at, set_length}
 use Rattle.ct_build.proofs.GraphLemmas.{begins_sort, sort_within}
 use Rattle.ct_build.proofs.TermLemmas.{one_term_sort}
 use Rattle.ct_build.proofs.ClassLemmas.{HaveOneSort}
@@ -58,8 +60,8 @@ module _ (d : Declarations) (terms : Terms) where
 
 -- nodes of terms are in the graph
 pub nodes_within : (d : Declarations) (terms : Terms) (g : Nodes) (list : List NodeId) → HaveSortedNodes d terms g list → All (λ (n : NodeId). n.0 < length g) list
-nodes_within d terms g list have = all_from (λ (n : NodeId). n.0 < length g) list (λ k n at.
-    let entry = there terms k (omega (arith, have.long, slice_get_within list k n at)) in
+nodes_within d terms g list have = All-from_slice_get (λ (n : NodeId). n.0 < length g) list (λ k n at.
+    let entry = slice_get-there terms k (omega (arith, have.long, slice_get_within list k n at)) in
     sort_within d g n entry.0.1 (have.sorted (record { 0 = k }) entry.0.1 n (entry.0.0, entry.1) at))
 
 module _ (state : State) where

@@ -2,6 +2,8 @@
 use Rattle.std.proofs.Common.{◌≡◌, ℕ, zero, suc, ◌<◌, false, List, [], ◌∷◌, length, map, slice_get, slice_set, Some, Option, option_map, unwrap_or, refl, sym, ◌∙◌, ap, subst}
 use Rattle.std.specs.List.{AllZip}
 use Rattle.std.proofs.lemmas.Option.{none-some, same_Some, slice_get_within}
+use Rattle.ct_lemmas.proofs.Each.{All-from_slice_get}
+use Rattle.ct_lemmas.proofs.Lists.{slice_get-map_at, slice_get-map_source, slice_get-there}
 use Rattle.ct_sorts.specs.declared.ids.CtorId.{CtorId}
 use Rattle.ct_sorts.specs.declared.ids.SelId.{SelId}
 use Rattle.ct_sorts.specs.declared.ids.SortId.{SortId}
@@ -19,8 +21,6 @@ use Rattle.ct_card.specs.declared.departure.Step.{Step}
 use Rattle.ct_card.specs.Fields.{field_sort, sels_of, ctor_fields, ctors_of}
 use Rattle.ct_card.specs.Defaults.{is_free_sort, node_of_sort, AreChosen}
 use Rattle.ct_card.specs.Built.{HaveTheirSorts, node_over, node_with}
-use Rattle.ct_card.proofs.ListLemmas.{map_source, map_target, all_from}
-use Rattle.ct_card.proofs.SizeLemmas.{there}
 use Rattle.ct_card.proofs.RuleLemmas.{sels_at, ctors_at, field_at, ctor_field}
 use Rattle.ct_card.proofs.WellFormedLemmas.{fits_within}
 use Rattle.ct_card.proofs.DefaultLemmas.{free_at, has_ctors}
@@ -52,13 +52,13 @@ head_at g n node at = ap (option_map node_head) at
 pub child_at : (g : Nodes) (n : NodeId) (c : CtorId) (ids : List NodeId) (k : ℕ) (id : NodeId) → slice_get g n.0 ≡ Some (Con c ids) → slice_get ids k ≡ Some id → slice_get (children (node_point g n)) k ≡ Some (node_point g id)
 child_at g n c ids k id at listed =
     ap (λ (o : Option Node). slice_get (map (point g) (map reference (unwrap_or (option_map node_children o) []))) k) at
-    ∙ map_target (point g) (map reference ids) k (reference id) (map_target reference ids k id listed)
+    ∙ slice_get-map_at (point g) (map reference ids) k (reference id) (slice_get-map_at reference ids k id listed)
 
 module _ (d : Declarations) (consistent : IsConsistent d) (own : HaveOwnConstructors d) (own_sels : HaveOwnSelectors d) (of_sorts : AreOfTheirSorts d) (of_ctors : AreOfTheirConstructors d) where
   -- a constructor of a sort is there, and is of the sort
   pub own_ctor : (s index : ℕ) (c : CtorId) → s < length d.sorts → slice_get (ctors_of d s) index ≡ Some c → (ctor : Constructor) × (slice_get d.ctors c.0 ≡ Some ctor) × (ctor.sort.0 ≡ s)
   own_ctor s index c within listed =
-      let sort = there d.sorts s within in
+      let sort = slice_get-there d.sorts s within in
       own s index sort.0 c sort.1 (ap (λ (l : List CtorId). slice_get l index) (sym (ctors_at d consistent own own_sels of_sorts of_ctors s sort.0 sort.1)) ∙ listed)
 
   pub own_within : (s index : ℕ) (c : CtorId) → s < length d.sorts → slice_get (ctors_of d s) index ≡ Some c → c.0 < length d.ctors
@@ -67,14 +67,14 @@ module _ (d : Declarations) (consistent : IsConsistent d) (own : HaveOwnConstruc
   -- the chosen constructor of a sort is one of the sort's
   pub listed_choice : (ranks : List ℕ) (ctors : List CtorId) → AreChosen d ranks ctors → (s : ℕ) (c : CtorId) → s < length d.sorts → is_free_sort d s ≡ false → slice_get ctors s ≡ Some c → (index : ℕ) × (slice_get (ctors_of d s) index ≡ Some c)
   listed_choice ranks ctors chosen s c within other at =
-      let sort = there d.sorts s within in
+      let sort = slice_get-there d.sorts s within in
       let choice = chosen.each s sort.0 c sort.1 at (has_ctors d consistent own own_sels of_sorts of_ctors s sort.0 sort.1 (sym (free_at d consistent own own_sels of_sorts of_ctors s sort.0 sort.1) ∙ other)) in
       (choice.index, ap (λ (l : List CtorId). slice_get l choice.index) (ctors_at d consistent own own_sels of_sorts of_ctors s sort.0 sort.1) ∙ choice.listed)
 
   -- the sort of a field is there
   pub field_within : (c : CtorId) (k t : ℕ) → c.0 < length d.ctors → slice_get (ctor_fields d c) k ≡ Some t → t < length d.sorts
   field_within c k t within listed =
-      let ctor = there d.ctors c.0 within in
+      let ctor = slice_get-there d.ctors c.0 within in
       let field = ctor_field d consistent own own_sels of_sorts of_ctors c ctor.0 k t ctor.1 listed in
       subst (λ n. n < length d.sorts) field.sorted (consistent.fields field.id.0 field.selector field.declared)
 
@@ -95,12 +95,12 @@ module _ (d : Declarations) (consistent : IsConsistent d) (own : HaveOwnConstruc
         (default_fields ctor.sels (λ index id listed. let h = own_sels c.0 index ctor id at listed in (h.0, h.1)))
 
     pub fits_over : (c : CtorId) → c.0 < length d.ctors → FitsNode d g (node_over d ranks base c)
-    fits_over c within = let ctor = there d.ctors c.0 within in record { ctor = ctor.0; declared = ctor.1; fields = over_fields c ctor.0 ctor.1 }
+    fits_over c within = let ctor = slice_get-there d.ctors c.0 within in record { ctor = ctor.0; declared = ctor.1; fields = over_fields c ctor.0 ctor.1 }
 
     pub fits_with : (step : Step) (child : NodeId) → step.ctor.0 < length d.ctors → slice_get (ctor_fields d step.ctor) step.place ≡ Some step.next → HasNodeSort d g child (record { 0 = step.next }) → FitsNode d g (node_with d ranks base step child)
     fits_with step child within field child_sorted =
-        let ctor = there d.ctors step.ctor.0 within in
-        let source = map_source (field_sort d) (sels_of d step.ctor) step.place step.next field in
+        let ctor = slice_get-there d.ctors step.ctor.0 within in
+        let source = slice_get-map_source (field_sort d) (sels_of d step.ctor) step.place step.next field in
         let at_sel : slice_get ctor.0.sels step.place ≡ Some source.0 = ap (λ (l : List SelId). slice_get l step.place) (sym (sels_at d consistent own own_sels of_sorts of_ctors step.ctor ctor.0 ctor.1)) ∙ source.1 in
         let sel = own_sels step.ctor.0 step.place ctor.0 source.0 ctor.1 at_sel in
         let sort : step.next ≡ sel.0.sort.0 = sym source.2 ∙ field_at d consistent own own_sels of_sorts of_ctors source.0 sel.0 sel.1 in
@@ -118,7 +118,7 @@ module _ (d : Declarations) (consistent : IsConsistent d) (own : HaveOwnConstruc
 
 -- the children of a node that fits are below the end of the graph
 pub fits_below : (d : Declarations) (g : Nodes) (node : Node) → FitsNode d g node → HasChildrenBelow (length g) node
-fits_below d g node fits = all_from (λ child. child.0 < length g) (node_children node) (λ k child at. fits_within d g node k child fits at)
+fits_below d g node fits = All-from_slice_get (λ child. child.0 < length g) (node_children node) (λ k child at. fits_within d g node k child fits at)
 
 -- the sort of a node with a constructor of the sort
 pub con_sort : (d : Declarations) (c : CtorId) (ids : List NodeId) (ctor : Constructor) (s : ℕ) → slice_get d.ctors c.0 ≡ Some ctor → ctor.sort.0 ≡ s → node_sort d (Con c ids) ≡ Some (record { 0 = s })

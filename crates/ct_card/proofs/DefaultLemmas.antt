@@ -3,6 +3,8 @@ use Rattle.std.proofs.Common.{◌≡◌, ℕ, suc, ◌+◌, ◌-◌, ◌<◌, �
 use Rattle.std.specs.List.{AllZip}
 use Rattle.std.proofs.lemmas.Bool.{false≢true}
 use Rattle.std.proofs.lemmas.Option.{none-some, same_Some, slice_get_within}
+use Rattle.ct_lemmas.proofs.Each.{All-from_slice_get}
+use Rattle.ct_lemmas.proofs.Lists.{slice_get-append_after, slice_get-map_source, slice_get-there}
 use Rattle.ct_sorts.specs.declared.ids.CtorId.{CtorId}
 use Rattle.ct_sorts.specs.declared.ids.SelId.{SelId}
 use Rattle.ct_sorts.specs.declared.ids.SortId.{SortId}
@@ -20,8 +22,7 @@ use Rattle.ct_values.specs.WellFormed.{IsData, IsWellFormedGraph}
 use Rattle.ct_card.specs.Fields.{field_sort, ctor_fields}
 use Rattle.ct_card.specs.Founding.{AreFounded}
 use Rattle.ct_card.specs.Defaults.{is_free, is_free_sort, IsChoice, AreChosen, node_of_sort, default_node, AreDefaultNodes, HasDefaults, IsPlan}
-use Rattle.ct_card.proofs.ListLemmas.{map_source, append_after, all_from}
-use Rattle.ct_card.proofs.SizeLemmas.{there, derived_within, bool_two}
+use Rattle.ct_card.proofs.SizeLemmas.{derived_within, bool_two}
 use Rattle.ct_card.proofs.RuleLemmas.{ctor_field, sels_at, field_at}
 use Rattle.ct_card.proofs.WellFormedLemmas.{well_formed_longer, fits_within}
 
@@ -48,7 +49,7 @@ module _ (d : Declarations) (consistent : IsConsistent d) (own : HaveOwnConstruc
   -- the chosen constructor of a sort that is not uninterpreted is there
   pub chosen_within : (ranks : List ℕ) (ctors : List CtorId) → AreChosen d ranks ctors → (s : ℕ) (c : CtorId) → s < length d.sorts → is_free_sort d s ≡ false → slice_get ctors s ≡ Some c → c.0 < length d.ctors
   chosen_within ranks ctors chosen s c within other at =
-      let sort = there d.sorts s within in
+      let sort = slice_get-there d.sorts s within in
       let choice = chosen.each s sort.0 c sort.1 at (has_ctors s sort.0 sort.1 (sym (free_at s sort.0 sort.1) ∙ other)) in
       let mine = own s choice.index sort.0 c sort.1 choice.listed in
       slice_get_within d.ctors c.0 mine.0 mine.1
@@ -68,9 +69,9 @@ module _ (d : Declarations) (consistent : IsConsistent d) (own : HaveOwnConstruc
         let ranked : 0 < get_or ranks s 0 = plan.founded.all s within in
         let here : get_or ranks s 0 ≡ suc (get_or ranks s 0 - 1) = omega arith in
         let in_order = plan.founded.ordered.of (get_or ranks s 0 - 1) s here in
-        let c = there ctors s (omega (arith, plan.chosen.long)) in
-        let node = there nodes (get_or ranks s 0 - 1) (omega (arith, are.long, slice_get_within order (get_or ranks s 0 - 1) s in_order)) in
-        (c.0, c.1, append_after g nodes (get_or ranks s 0 - 1) ∙ node.1 ∙ ap Some (are.each (get_or ranks s 0 - 1) s c.0 node.0 node.1 in_order c.1))
+        let c = slice_get-there ctors s (omega (arith, plan.chosen.long)) in
+        let node = slice_get-there nodes (get_or ranks s 0 - 1) (omega (arith, are.long, slice_get_within order (get_or ranks s 0 - 1) s in_order)) in
+        (c.0, c.1, slice_get-append_after g nodes (get_or ranks s 0 - 1) ∙ node.1 ∙ ap Some (are.each (get_or ranks s 0 - 1) s c.0 node.0 node.1 in_order c.1))
 
     -- all default nodes stand after the graph
     pub defaults_stand : HasDefaults d ranks ctors (g ++ nodes) (length g)
@@ -101,7 +102,7 @@ module _ (d : Declarations) (consistent : IsConsistent d) (own : HaveOwnConstruc
     pub defaults_sorted : (s : ℕ) → s < length d.sorts → HasNodeSort d (g ++ nodes) (node_of_sort (length g) ranks s) (record { 0 = s })
     defaults_sorted s within =
         let stands = standing s within in
-        let sort = there d.sorts s within in
+        let sort = slice_get-there d.sorts s within in
         elim (default_cases s sort.0 stands.0 sort.1 stands.1) [
           | inl (free, is) ↦ (Elem (record { 0 = s }) 0, stands.2 ∙ ap Some is, refl)
           | inr (choice, is) ↦
@@ -122,11 +123,11 @@ module _ (d : Declarations) (consistent : IsConsistent d) (own : HaveOwnConstruc
 
     fits_default : (i : ℕ) (node : Node) → slice_get nodes i ≡ Some node → FitsNode d (g ++ nodes) node
     fits_default i node at =
-        let s = there order i (omega (arith, are.long, slice_get_within nodes i node at)) in
+        let s = slice_get-there order i (omega (arith, are.long, slice_get_within nodes i node at)) in
         let rank : get_or ranks s.0 0 ≡ suc i = plan.founded.ordered.at i s.0 s.1 in
         let within : s.0 < length d.sorts = subst (λ n. s.0 < n) plan.founded.long (derived_within ranks s.0 (omega arith)) in
-        let sort = there d.sorts s.0 within in
-        let c = there ctors s.0 (omega (arith, plan.chosen.long)) in
+        let sort = slice_get-there d.sorts s.0 within in
+        let c = slice_get-there ctors s.0 (omega (arith, plan.chosen.long)) in
         let is = are.each i s.0 c.0 node at s.1 c.1 in
         elim (default_cases s.0 sort.0 c.0 sort.1 c.1) [
           | inl (free, shape) ↦ subst (λ (x : Node). FitsNode d (g ++ nodes) x) (sym (is ∙ shape)) (record { sort = sort.0; declared = sort.1; free = free })
@@ -144,13 +145,13 @@ module _ (d : Declarations) (consistent : IsConsistent d) (own : HaveOwnConstruc
     -- a child of the node of a datatype has a smaller number
     before_default : (i k : ℕ) (node : Node) (child : NodeId) → slice_get nodes i ≡ Some node → slice_get (node_children node) k ≡ Some child → IsData d (g ++ nodes) (record { 0 = length g + i }) → child.0 < length g + i
     before_default i k node child at listed (sort_id, data_sort, (other, at_other, sorted), at_sort, data_kind) =
-        let s = there order i (omega (arith, are.long, slice_get_within nodes i node at)) in
+        let s = slice_get-there order i (omega (arith, are.long, slice_get_within nodes i node at)) in
         let rank : get_or ranks s.0 0 ≡ suc i = plan.founded.ordered.at i s.0 s.1 in
         let within : s.0 < length d.sorts = subst (λ n. s.0 < n) plan.founded.long (derived_within ranks s.0 (omega arith)) in
-        let sort = there d.sorts s.0 within in
-        let c = there ctors s.0 (omega (arith, plan.chosen.long)) in
+        let sort = slice_get-there d.sorts s.0 within in
+        let c = slice_get-there ctors s.0 (omega (arith, plan.chosen.long)) in
         let is = are.each i s.0 c.0 node at s.1 c.1 in
-        let same_node : other ≡ node = same_Some _ _ (sym at_other ∙ append_after g nodes i ∙ at) in
+        let same_node : other ≡ node = same_Some _ _ (sym at_other ∙ slice_get-append_after g nodes i ∙ at) in
         elim (default_cases s.0 sort.0 c.0 sort.1 c.1) [
           | inl (free, shape) ↦ absurd (none-some _ (ap (λ (x : Node). slice_get (node_children x) k) (sym (is ∙ shape)) ∙ listed))
           | inr (choice, shape) ↦
@@ -160,7 +161,7 @@ module _ (d : Declarations) (consistent : IsConsistent d) (own : HaveOwnConstruc
               let same_id : sort_id.0 ≡ s.0 = ap (λ (x : SortId). x.0) (sym (same_Some _ _ of_top) ∙ ctor.2) in
               let same_sort : data_sort ≡ sort.0 = same_Some _ _ (sym at_sort ∙ ap (slice_get d.sorts) same_id ∙ sort.1) in
               let lower = choice.lower (ap (λ (x : Sort). x.kind) (sym same_sort) ∙ data_kind) in
-              let source = map_source (node_of_sort (length g) ranks) (ctor_fields d c.0) k child (ap (λ (x : Node). slice_get (node_children x) k) (sym (is ∙ shape)) ∙ listed) in
+              let source = slice_get-map_source (node_of_sort (length g) ranks) (ctor_fields d c.0) k child (ap (λ (x : Node). slice_get (node_children x) k) (sym (is ∙ shape)) ∙ listed) in
               let less : get_or ranks source.0 0 < get_or ranks s.0 0 = lower k source.0 source.1 in
               let number : (node_of_sort (length g) ranks source.0).0 ≡ child.0 = ap (λ (x : NodeId). x.0) source.2 in
               let field = ctor_field d consistent own own_sels of_sorts of_ctors c.0 ctor.0 k source.0 ctor.1 source.1 in
@@ -174,7 +175,7 @@ module _ (d : Declarations) (consistent : IsConsistent d) (own : HaveOwnConstruc
 
     -- their children are below the end of the longer graph
     pub defaults_below : All (HasChildrenBelow (length g + length nodes)) nodes
-    defaults_below = all_from (HasChildrenBelow (length g + length nodes)) nodes (λ i node at. all_from (λ child. child.0 < length g + length nodes) (node_children node) (λ k child listed.
+    defaults_below = All-from_slice_get (HasChildrenBelow (length g + length nodes)) nodes (λ i node at. All-from_slice_get (λ child. child.0 < length g + length nodes) (node_children node) (λ k child listed.
         let within : child.0 < length (g ++ nodes) = fits_within d (g ++ nodes) node k child (fits_default i node at) listed in
         omega (arith, length-append g nodes)))
 

@@ -1,8 +1,9 @@
 -- How values may depart: a sort of several values with one constructor has a field of a lower rank; and infinite sorts have layers.
-use Rattle.std.proofs.Common.{◌≡◌, ℕ, zero, suc, ◌+◌, ◌<◌, ◌⊎◌, false, List, [], ◌∷◌, length, get_or, slice_get, Some, Option, option_map, unwrap_or, refl, sym, ◌∙◌, ap, subst, inl, inr, arith}
+use Rattle.std.proofs.Common.{◌≡◌, ℕ, zero, suc, ◌+◌, ◌<◌, false, List, [], ◌∷◌, length, get_or, slice_get, Some, Option, option_map, unwrap_or, refl, sym, ◌∙◌, ap, subst, inl, inr, arith}
 use Rattle.std.specs.List.{flat_map}
-use Rattle.std.proofs.lemmas.Bool.{cases_order}
 use Rattle.std.proofs.lemmas.Option.{none-some, same_Some, slice_get_within}
+use Rattle.ct_lemmas.proofs.Lists.{slice_get-append_after, slice_get-append_left, slice_get-there}
+use Rattle.ct_lemmas.proofs.Numbers.{same_or_other}
 use Rattle.ct_sorts.specs.declared.ids.CtorId.{CtorId}
 use Rattle.ct_sorts.specs.Declarations.{Declarations, Sort, ctor_ids}
 use Rattle.ct_sorts.specs.Consistent.{IsConsistent}
@@ -17,8 +18,7 @@ use Rattle.ct_card.specs.Rules.{IsDerived}
 use Rattle.ct_card.specs.Ranked.{AreSeveral, AreSmall}
 use Rattle.ct_card.specs.Defaults.{is_free, is_free_sort}
 use Rattle.ct_card.specs.Departures.{IsLower, IsDeparture, HasNoDeparture, IsLayer, IsLargeStep, HasSmallFields}
-use Rattle.ct_card.proofs.ListLemmas.{append_left, append_after}
-use Rattle.ct_card.proofs.SizeLemmas.{there, derived_or, one_of, finite_small, infinite_large}
+use Rattle.ct_card.proofs.SizeLemmas.{derived_or, one_of, finite_small, infinite_large}
 use Rattle.ct_card.proofs.RuleLemmas.{ctors_at, field_ctor}
 use Rattle.ct_card.proofs.DefaultLemmas.{free_at, has_ctors}
 use Rattle.ct_card.proofs.BuiltLemmas.{own_within, field_within}
@@ -27,10 +27,10 @@ use Rattle.ct_card.proofs.BuiltLemmas.{own_within, field_within}
 flat_offset : {X Y : Type 0} (f : X → List Y) (xs : List X) (i : ℕ) (x : X) → slice_get xs i ≡ Some x → (o : ℕ) × ((p : ℕ) (y : Y) → slice_get (f x) p ≡ Some y → slice_get (flat_map f xs) (o + p) ≡ Some y)
 flat_offset f [] i x at = absurd (none-some _ at)
 flat_offset {X} f (z ∷ xs) zero x at =
-    (0, λ p y h. let e : 0 + p ≡ p = omega arith in rw e (append_left (f z) (flat_map f xs) p y (subst (λ (w : X). slice_get (f w) p ≡ Some y) (sym (same_Some _ _ at)) h)))
+    (0, λ p y h. let e : 0 + p ≡ p = omega arith in rw e (slice_get-append_left (f z) (flat_map f xs) p y (subst (λ (w : X). slice_get (f w) p ≡ Some y) (sym (same_Some _ _ at)) h)))
 flat_offset f (z ∷ xs) (suc i) x at =
     let rest = flat_offset f xs i x at in
-    (length (f z) + rest.0, λ p y h. let e : length (f z) + rest.0 + p ≡ length (f z) + (rest.0 + p) = omega arith in rw e (append_after (f z) (flat_map f xs) (rest.0 + p) ∙ rest.1 p y h))
+    (length (f z) + rest.0, λ p y h. let e : length (f z) + rest.0 + p ≡ length (f z) + (rest.0 + p) = omega arith in rw e (slice_get-append_after (f z) (flat_map f xs) (rest.0 + p) ∙ rest.1 p y h))
 
 -- an element of a row of constructors
 row_at : (first count k : ℕ) (c : CtorId) → slice_get (ctor_ids first count) k ≡ Some c → c.0 ≡ first + k
@@ -77,16 +77,9 @@ field_departs d several s c Nowhere field other = tt
 field_departs d several s c (Other ctor) field other = absurd (other ctor refl)
 field_departs d several s c (Field step) field other = let h = field step refl in record { ctor = h.0; field = h.1; lower = h.2 }
 
-equal_or : (m n : ℕ) → (m ≡ n) ⊎ (m ≡ n → ⊥)
-equal_or m n = elim (cases_order m n) [
-  | inl e ↦ inl e
-  | inr (inl less) ↦ inr (λ e. omega arith)
-  | inr (inr more) ↦ inr (λ e. omega arith)
-]
-
 pub distinct_list : (d : Declarations) → IsConsistent d → (s : ℕ) (own : List CtorId) → s < length d.sorts → option_map (λ (x : Sort). x.ctors) (slice_get d.sorts s) ≡ Some own → (i j : ℕ) (c : CtorId) → slice_get own i ≡ Some c → slice_get own j ≡ Some c → i ≡ j
 distinct_list d consistent s own within e i j c at_i at_j =
-    let sort = there d.sorts s within in
+    let sort = slice_get-there d.sorts s within in
     let same : own ≡ sort.0.ctors = same_Some _ _ (sym e ∙ ap (option_map (λ (x : Sort). x.ctors)) sort.1) in
     distinct_ctors d consistent s sort.0 sort.1 i j c (ap (λ (l : List CtorId). slice_get l i) (sym same) ∙ at_i) (ap (λ (l : List CtorId). slice_get l j) (sym same) ∙ at_j)
 
@@ -121,7 +114,7 @@ module _ (d : Declarations) (consistent : IsConsistent d) (own : HaveOwnConstruc
   skipped_lower : (s index : ℕ) (c : CtorId) (skip next : ℕ) → s < length d.sorts → slice_get (ctors_of d s) index ≡ Some c → IsDerived several s → slice_get (ctor_fields d c) skip ≡ Some next → HasNoDeparture d several s c skip → get_or several next 0 < get_or several s 0
   skipped_lower s index c skip next within listed derived at none =
       let lower = lower_field s index c within listed none.only derived in
-      elim (equal_or lower.0 skip) [
+      elim (same_or_other lower.0 skip) [
         | inl e ↦
             let same : lower.1 ≡ next = same_Some _ _ (sym lower.2 ∙ ap (slice_get (ctor_fields d c)) e ∙ at) in
             subst (λ n. get_or several n 0 < get_or several s 0) same lower.3.1
@@ -136,7 +129,7 @@ module _ (d : Declarations) (consistent : IsConsistent d) (own : HaveOwnConstruc
     -- a sort with constructors all of whose fields are small is not infinite
     pub not_infinite : (s : ℕ) → s < length d.sorts → is_free_sort d s ≡ false → HasSmallFields d small s → IsInfinite d s → ⊥
     not_infinite s within other all infinite =
-        let sort = there d.sorts s within in
+        let sort = slice_get-there d.sorts s within in
         let kind : is_free sort.0.kind ≡ false = sym (free_at d consistent own own_sels of_sorts of_ctors s sort.0 sort.1) ∙ other in
         let some : 0 < length sort.0.ctors = has_ctors d consistent own own_sels of_sorts of_ctors s sort.0 sort.1 kind in
         finite_small d consistent own several sev small ranks s (ranks.built s sort.0 sort.1 some (λ t step.

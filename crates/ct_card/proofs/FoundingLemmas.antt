@@ -3,6 +3,7 @@ use Rattle.std.proofs.Common.{◌≡◌, ℕ, ◌+◌, ◌-◌, ◌<◌, Bool, t
 use Rattle.std.proofs.lemmas.Bool.{cases_order}
 use Rattle.std.proofs.lemmas.Bool.Decides.{Decides-ltb}
 use Rattle.std.proofs.lemmas.Option.{same_Some, slice_get_within}
+use Rattle.ct_lemmas.proofs.Lists.{slice_get-there}
 use Rattle.ct_sorts.specs.declared.ids.CtorId.{CtorId}
 use Rattle.ct_sorts.specs.declared.ids.Kind.{Kind}
 use Rattle.ct_sorts.specs.declared.ids.Kind.TheVariants.{Bool as BoolKind, Free, Data, Codata}
@@ -13,7 +14,6 @@ use Rattle.ct_sorts.specs.Structure.{HaveOwnConstructors, AreOfTheirSorts, HaveO
 use Rattle.ct_card.specs.declared.chain.Rule.{Rule}
 use Rattle.ct_card.specs.Rules.{IsDerived, IsGrounded, AreRanks, IsOrder}
 use Rattle.ct_card.specs.Founding.{is_data, IsKindRule, IsCtorRule, AreFoundingRules, HasLowerFields, AreFounded}
-use Rattle.ct_card.proofs.SizeLemmas.{there}
 use Rattle.ct_card.proofs.RuleLemmas.{ctor_field, ready_none}
 
 -- the numbers with ranks
@@ -35,13 +35,13 @@ module _ (d : Declarations) (consistent : IsConsistent d) (own : HaveOwnConstruc
   founding_heads rules are k rule at =
       elim (cases_order k (length d.sorts)) [
         | inl e ↦ remaining (k - length d.sorts) (omega arith)
-        | inr (inl less) ↦ let sort = there d.sorts k less in let is = are.kinds k rule less at sort.0 sort.1 in omega (arith, is.0)
+        | inr (inl less) ↦ let sort = slice_get-there d.sorts k less in let is = are.kinds k rule less at sort.0 sort.1 in omega (arith, is.0)
         | inr (inr more) ↦ remaining (k - length d.sorts) (omega arith)
       ]
     where
       remaining : (i : ℕ) → k ≡ length d.sorts + i → rule.head < length d.sorts
       remaining i e =
-          let ctor = there d.ctors i (omega (arith, are.long, slice_get_within rules k rule at)) in
+          let ctor = slice_get-there d.ctors i (omega (arith, are.long, slice_get_within rules k rule at)) in
           let sort = of_sorts i ctor.0 ctor.1 in
           let is = are.ctors i rule (ap (slice_get rules) (sym e) ∙ at) ctor.0 ctor.1 in
           subst (λ n. n < length d.sorts) (sym is.0) (slice_get_within d.sorts ctor.0.sort.0 sort.0 sort.2)
@@ -67,11 +67,11 @@ module _ (d : Declarations) (consistent : IsConsistent d) (own : HaveOwnConstruc
           record {
             others = λ s sort at other.
                 let within : s < length d.sorts = slice_get_within d.sorts s sort at in
-                let rule = there rules s (omega (arith, are.long)) in
+                let rule = slice_get-there rules s (omega (arith, are.long)) in
                 let is = are.kinds s rule.0 within rule.1 sort at in
                 set_in s (subst (λ n. IsDerived ranks n) is.0 (made.complete s rule.0 rule.1 (ready_none d consistent own own_sels of_sorts of_ctors ranks rule.0 (not_data sort.kind s rule.0.body.items other is.1))));
             built = λ s sort index c ctor at listed declared fields.
-                let rule = there rules (length d.sorts + c.0) (omega (arith, are.long, slice_get_within d.ctors c.0 ctor declared)) in
+                let rule = slice_get-there rules (length d.sorts + c.0) (omega (arith, are.long, slice_get_within d.ctors c.0 ctor declared)) in
                 let is = are.ctors c.0 rule.0 rule.1 ctor declared in
                 let mine = own s index sort c at listed in
                 let same : mine.0 ≡ ctor = same_Some _ _ (sym mine.1 ∙ declared) in
@@ -98,7 +98,7 @@ module _ (d : Declarations) (consistent : IsConsistent d) (own : HaveOwnConstruc
         where
           of_kind : (g : IsGrounded rules ranks s) → g.cause < length d.sorts → ⊥
           of_kind g less =
-              let there_sort = there d.sorts g.cause less in
+              let there_sort = slice_get-there d.sorts g.cause less in
               let is = are.kinds g.cause g.rule less g.stated there_sort.0 there_sort.1 in
               let same : g.cause ≡ s = sym is.0 ∙ g.head in
               let same_sort : there_sort.0 ≡ sort = same_Some _ _ (sym there_sort.1 ∙ ap (slice_get d.sorts) same ∙ at) in
@@ -110,7 +110,7 @@ module _ (d : Declarations) (consistent : IsConsistent d) (own : HaveOwnConstruc
           of_ctor : (g : IsGrounded rules ranks s) (i : ℕ) → g.cause ≡ length d.sorts + i → (index : ℕ) × (c : CtorId) × (slice_get sort.ctors index ≡ Some c) × HasLowerFields d ranks s c
           of_ctor g i e =
               let stated : slice_get rules (length d.sorts + i) ≡ Some g.rule = ap (slice_get rules) (sym e) ∙ g.stated in
-              let ctor = there d.ctors i (omega (arith, are.long, slice_get_within rules g.cause g.rule g.stated)) in
+              let ctor = slice_get-there d.ctors i (omega (arith, are.long, slice_get_within rules g.cause g.rule g.stated)) in
               let is = are.ctors i g.rule stated ctor.0 ctor.1 in
               let owner = of_sorts i ctor.0 ctor.1 in
               let same : ctor.0.sort.0 ≡ s = sym is.0 ∙ g.head in

@@ -3,6 +3,7 @@ use Rattle.std.proofs.Common.{◌≡◌, ℕ, zero, suc, ◌+◌, ◌-◌, ◌*�
 use Rattle.std.proofs.lemmas.Bool.{cases_order}
 use Rattle.std.proofs.Math.Nat.{suc-mul}
 use Rattle.std.proofs.lemmas.Option.{same_Some, slice_get_within}
+use Rattle.ct_lemmas.proofs.Lists.{slice_get-last, slice_get-map_at}
 use Rattle.ct_sorts.specs.declared.ids.CtorId.{CtorId}
 use Rattle.ct_sorts.specs.Declarations.{Declarations}
 use Rattle.ct_sorts.specs.Consistent.{IsConsistent}
@@ -25,7 +26,6 @@ use Rattle.ct_card.specs.Built.{node_with, IsDepartingNode, IsEndNode}
 use Rattle.ct_card.specs.Signs.{HasAllDefaults, HasAllSeconds}
 use Rattle.ct_card.specs.Nth.{IsPlain, Departs, IsPassed, IsNthIn, layer_count}
 use Rattle.ct_card.specs.Descent.{LeadsDown, HasComeDown, IsStepDown, total}
-use Rattle.ct_card.proofs.ListLemmas.{last_at, map_target}
 use Rattle.ct_card.proofs.SizeLemmas.{derived_within}
 use Rattle.ct_card.proofs.PathLemmas.{Agrees}
 use Rattle.ct_card.proofs.NthLemmas.{nth_same}
@@ -97,7 +97,7 @@ module _ (laws : Agrees) (d : Declarations) (several ranks : List ℕ) (ctors : 
       let by : IsDeparture d several s layer.step.ctor (Field step) = subst (λ (z : Departure). IsDeparture d several s layer.step.ctor z) e is.departs in
       let field : slice_get (ctor_fields d layer.step.ctor) place ≡ Some step.next = ap (slice_get (ctor_fields d layer.step.ctor)) place_is ∙ by.field in
       let ids = slice_set (map (node_of_sort base ranks) (ctor_fields d layer.step.ctor)) layer.step.place top in
-      let at : slice_get ids place ≡ Some (node_of_sort base ranks step.next) = set_elsewhere (map (node_of_sort base ranks) (ctor_fields d layer.step.ctor)) layer.step.place place top (node_of_sort base ranks step.next) (λ same. is.apart step e (sym place_is ∙ same)) (map_target (node_of_sort base ranks) (ctor_fields d layer.step.ctor) place step.next field) in
+      let at : slice_get ids place ≡ Some (node_of_sort base ranks step.next) = set_elsewhere (map (node_of_sort base ranks) (ctor_fields d layer.step.ctor)) layer.step.place place top (node_of_sort base ranks step.next) (λ same. is.apart step e (sym place_is ∙ same)) (slice_get-map_at (node_of_sort base ranks) (ctor_fields d layer.step.ctor) place step.next field) in
       let inside : step.next < length d.sorts = subst (λ x. step.next < x) long (derived_within several step.next by.lower.0) in (
         node_point g (node_of_sort base ranks step.next),
         child_at g n layer.step.ctor ids place (node_of_sort base ranks step.next) stands at,
@@ -107,12 +107,12 @@ module _ (laws : Agrees) (d : Declarations) (several ranks : List ℕ) (ctors : 
   layer_child : (g : Nodes) (s : ℕ) (n top : NodeId) (layer : Layer) → IsLayer d several s layer → slice_get g n.0 ≡ Some (node_with d ranks base layer.step top) → slice_get (children (node_point g n)) layer.step.place ≡ Some (node_point g top)
   layer_child g s n top layer is stands =
       child_at g n layer.step.ctor (slice_set (map (node_of_sort base ranks) (ctor_fields d layer.step.ctor)) layer.step.place top) layer.step.place top stands
-      (set_there (map (node_of_sort base ranks) (ctor_fields d layer.step.ctor)) layer.step.place top (node_of_sort base ranks layer.step.next) (map_target (node_of_sort base ranks) (ctor_fields d layer.step.ctor) layer.step.place layer.step.next is.field))
+      (set_there (map (node_of_sort base ranks) (ctor_fields d layer.step.ctor)) layer.step.place top (node_of_sort base ranks layer.step.next) (slice_get-map_at (node_of_sort base ranks) (ctor_fields d layer.step.ctor) layer.step.place layer.step.next is.field))
 
   -- a layer around a value counts one more, or as many
   pub layer_nth : (g : Nodes) (s k t m : ℕ) (n top : NodeId) (layer : Layer) (node : Node) → IsClosed g → n.0 ≡ length g → top.0 < length g → HasAllDefaults d ranks ctors base g → IsLayer d several s layer → IsPassed d layers s k t m layer → IsNthIn d ctors seconds layers t m (node_point g top) → node ≡ node_with d ranks base layer.step top → IsNthIn d ctors seconds layers s k (node_point (g ++ node ∷ []) n)
   layer_nth g s k t m n top layer node closed number within all is passed (count, inner) node_is =
-      let stands : slice_get (g ++ node ∷ []) n.0 ≡ Some (node_with d ranks base layer.step top) = ap (slice_get (g ++ node ∷ [])) number ∙ last_at g node ∙ ap Some node_is in
+      let stands : slice_get (g ++ node ∷ []) n.0 ≡ Some (node_with d ranks base layer.step top) = ap (slice_get (g ++ node ∷ [])) number ∙ slice_get-last g node ∙ ap Some node_is in
       let same = laws.turned (node_point (g ++ node ∷ []) top) (node_point g top) (laws.grown g (node ∷ []) (reference top) closed within) in (
         suc count,
         (
@@ -205,6 +205,6 @@ module _ (d : Declarations) (consistent : IsConsistent d) (own : HaveOwnConstruc
   layer_sort several ranks base g x layer n top is inside number =
       let mine = own_ctor d consistent own own_sels of_sorts of_ctors x is.index layer.step.ctor inside is.listed in (
         node_with d ranks base layer.step top,
-        ap (slice_get (g ++ node_with d ranks base layer.step top ∷ [])) number ∙ last_at g (node_with d ranks base layer.step top),
+        ap (slice_get (g ++ node_with d ranks base layer.step top ∷ [])) number ∙ slice_get-last g (node_with d ranks base layer.step top),
         con_sort d layer.step.ctor (slice_set (map (node_of_sort base ranks) (ctor_fields d layer.step.ctor)) layer.step.place top) mine.0 x mine.1 mine.2,
       )

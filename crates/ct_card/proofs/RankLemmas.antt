@@ -5,8 +5,9 @@ use Rattle.std.proofs.lemmas.Bool.{cases_order}
 use Rattle.std.proofs.Math.ListN.{set}
 use Rattle.std.proofs.lemmas.Option.{same_Some}
 use Rattle.std.specs.Bool.{OnFalse}
+use Rattle.ct_lemmas.proofs.Lists.{slice_get-append_left, slice_get-last}
 use Rattle.ct_card.specs.declared.chain.Rule.{Rule}
-use Rattle.ct_card.proofs.ListLemmas.{pushed_at, append_left, last_at, none_at}
+use Rattle.ct_card.proofs.ListLemmas.{pushed_at, none_at}
 use Rattle.ct_card.specs.Rules.{IsDerived, IsReady, AreGrounded}
 use Rattle.ct_card.specs.Derived.{IsUnderWay, missing_ranks}
 
@@ -74,8 +75,8 @@ IsUnderWay-fired rules ranks order k rule stated before within fresh ready =
     of_order : (i n : ℕ) → get_or (set ranks rule.head (length order + 1)) n 0 ≡ suc i → slice_get (order ++ rule.head ∷ []) i ≡ Some n
     of_order i n is =
         elim (set_at ranks rule.head (length order + 1) n within) [
-          | inl (e, at) ↦ let here : i ≡ length order = omega arith in ap (slice_get (order ++ rule.head ∷ [])) here ∙ last_at order rule.head ∙ ap Some (sym e)
-          | inr (ne, at) ↦ append_left order (rule.head ∷ []) i n (before.ordered.of i n (sym at ∙ is))
+          | inl (e, at) ↦ let here : i ≡ length order = omega arith in ap (slice_get (order ++ rule.head ∷ [])) here ∙ slice_get-last order rule.head ∙ ap Some (sym e)
+          | inr (ne, at) ↦ slice_get-append_left order (rule.head ∷ []) i n (before.ordered.of i n (sym at ∙ is))
         ]
 
 -- one less is missing then

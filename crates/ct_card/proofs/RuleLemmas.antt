@@ -3,6 +3,7 @@ use Rattle.std.proofs.Common.{◌≡◌, ℕ, zero, suc, ◌+◌, ◌-◌, ◌<�
 use Rattle.std.proofs.lemmas.Bool.{cases_order}
 use Rattle.std.proofs.lemmas.Bool.Decides.{Decides-eqb}
 use Rattle.std.proofs.lemmas.Option.{none-some, same_Some, slice_get_within}
+use Rattle.ct_lemmas.proofs.Lists.{slice_get-flat_map, slice_get-map_at, slice_get-map_source, slice_get-there}
 use Rattle.ct_sorts.specs.declared.ids.CtorId.{CtorId}
 use Rattle.ct_sorts.specs.declared.ids.SelId.{SelId}
 use Rattle.ct_sorts.specs.Declarations.{Declarations, Sort, Constructor, Selector}
@@ -14,8 +15,8 @@ use Rattle.ct_card.specs.Rules.{IsDerived, IsReady, IsGrounded, AreRanks}
 use Rattle.ct_card.specs.Ranked.{HasOtherCount, HasLower, AreSeveral, IsBuiltLower, AreSmall}
 use Rattle.ct_card.specs.Fields.{field_sort, sels_of, ctor_fields, ctors_of, sort_fields}
 use Rattle.ct_card.specs.Ruled.{IsCountRule, IsFieldRule, AreSeveralRules, AreSmallRules}
-use Rattle.ct_card.proofs.ListLemmas.{none_at, map_source, map_target, flat_source, flat_target}
-use Rattle.ct_card.proofs.SizeLemmas.{there, derived_within}
+use Rattle.ct_card.proofs.ListLemmas.{none_at, flat_source}
+use Rattle.ct_card.proofs.SizeLemmas.{derived_within}
 
 module _ (d : Declarations) (consistent : IsConsistent d) (own : HaveOwnConstructors d) (own_sels : HaveOwnSelectors d) (of_sorts : AreOfTheirSorts d) (of_ctors : AreOfTheirConstructors d) where
   pub sels_at : (c : CtorId) (ctor : Constructor) → slice_get d.ctors c.0 ≡ Some ctor → sels_of d c ≡ ctor.sels
@@ -30,7 +31,7 @@ module _ (d : Declarations) (consistent : IsConsistent d) (own : HaveOwnConstruc
   -- the list of a constructor's field sorts has the sorts of its fields
   pub ctor_field : (c : CtorId) (ctor : Constructor) (k t : ℕ) → slice_get d.ctors c.0 ≡ Some ctor → slice_get (ctor_fields d c) k ≡ Some t → HasFieldOf d ctor t
   ctor_field c ctor k t at listed =
-      let source = map_source (field_sort d) (sels_of d c) k t listed in
+      let source = slice_get-map_source (field_sort d) (sels_of d c) k t listed in
       let at_sel : slice_get ctor.sels k ≡ Some source.0 = ap (λ l. slice_get l k) (sym (sels_at c ctor at)) ∙ source.1 in
       let sel = own_sels c.0 k ctor source.0 at at_sel in
       record { index = k; id = source.0; selector = sel.0; listed = at_sel; declared = sel.1; sorted = sym (field_at source.0 sel.0 sel.1) ∙ source.2 }
@@ -38,20 +39,20 @@ module _ (d : Declarations) (consistent : IsConsistent d) (own : HaveOwnConstruc
   pub field_ctor : (c : CtorId) (ctor : Constructor) (t : ℕ) → slice_get d.ctors c.0 ≡ Some ctor → (f : HasFieldOf d ctor t) → slice_get (ctor_fields d c) f.index ≡ Some t
   field_ctor c ctor t at f =
       let listed : slice_get (sels_of d c) f.index ≡ Some f.id = ap (λ l. slice_get l f.index) (sels_at c ctor at) ∙ f.listed in
-      map_target (field_sort d) (sels_of d c) f.index f.id listed ∙ ap Some (field_at f.id f.selector f.declared ∙ f.sorted)
+      slice_get-map_at (field_sort d) (sels_of d c) f.index f.id listed ∙ ap Some (field_at f.id f.selector f.declared ∙ f.sorted)
 
   -- and that of a sort
   pub step_listed : (s k t : ℕ) → s < length d.sorts → slice_get (sort_fields d s) k ≡ Some t → DependsOn d s t
   step_listed s k t within listed =
       let source = flat_source (ctor_fields d) (ctors_of d s) k t listed in
-      let sort = there d.sorts s within in
+      let sort = slice_get-there d.sorts s within in
       let at_c : slice_get sort.0.ctors source.0 ≡ Some source.1 = ap (λ l. slice_get l source.0) (sym (ctors_at s sort.0 sort.1)) ∙ source.3 in
       let ctor = own s source.0 sort.0 source.1 sort.1 at_c in
       record { sort = sort.0; index = source.0; id = source.1; ctor = ctor.0; of_sort = sort.1; listed = at_c; declared = ctor.1; field = ctor_field source.1 ctor.0 source.2 t ctor.1 source.4 }
 
   pub listed_step : (s t : ℕ) → DependsOn d s t → (k : ℕ) × (slice_get (sort_fields d s) k ≡ Some t)
   listed_step s t step =
-      flat_target (ctor_fields d) (ctors_of d s) step.index step.field.index step.id t (ap (λ l. slice_get l step.index) (ctors_at s step.sort step.of_sort) ∙ step.listed) (field_ctor step.id step.ctor t step.declared step.field)
+      slice_get-flat_map (ctor_fields d) (ctors_of d s) step.index step.field.index step.id t (ap (λ l. slice_get l step.index) (ctors_at s step.sort step.of_sort) ∙ step.listed) (field_ctor step.id step.ctor t step.declared step.field)
 
   -- ---- sorts of several values
 
@@ -84,7 +85,7 @@ module _ (d : Declarations) (consistent : IsConsistent d) (own : HaveOwnConstruc
     where
       remaining : (i : ℕ) → k ≡ length d.sorts + i → rule.head < length d.sorts
       remaining i e =
-          let sel = there d.sels i (omega (arith, are.long, slice_get_within rules k rule at)) in
+          let sel = slice_get-there d.sels i (omega (arith, are.long, slice_get_within rules k rule at)) in
           let ctor = of_ctors i sel.0 sel.1 in
           let sort = of_sorts sel.0.ctor.0 ctor.0 ctor.1 in
           let is = are.fields i rule (ap (slice_get rules) (sym e) ∙ at) sel.0 ctor.0 sel.1 ctor.1 in
@@ -97,7 +98,7 @@ module _ (d : Declarations) (consistent : IsConsistent d) (own : HaveOwnConstruc
       counted : (s : ℕ) → HasOtherCount d s → IsDerived ranks s
       counted s other =
           let within : s < length d.sorts = slice_get_within d.sorts s other.sort other.of_sort in
-          let rule = there rules s (omega (arith, are.long)) in
+          let rule = slice_get-there rules s (omega (arith, are.long)) in
           let is = are.counts s rule.0 within rule.1 in
           let same : length (ctors_of d s) ≡ length other.sort.ctors = ap length (ctors_at s other.sort other.of_sort) in
           elim (if_one (length (ctors_of d s)) s rule.0.body.items is.1) [
@@ -109,7 +110,7 @@ module _ (d : Declarations) (consistent : IsConsistent d) (own : HaveOwnConstruc
       field s t step derived =
           let id = step.field.id in
           let selector = step.field.selector in
-          let rule = there rules (length d.sorts + id.0) (omega (arith, are.long, slice_get_within d.sels id.0 selector step.field.declared)) in
+          let rule = slice_get-there rules (length d.sorts + id.0) (omega (arith, are.long, slice_get_within d.sels id.0 selector step.field.declared)) in
           let sel = own_sels step.id.0 step.field.index step.ctor id step.declared step.field.listed in
           let same_sel : sel.0 ≡ selector = same_Some _ _ (sym sel.1 ∙ step.field.declared) in
           let of_ctor : selector.ctor.0 ≡ step.id.0 = ap (λ (x : Selector). x.ctor.0) (sym same_sel) ∙ sel.2 in
@@ -140,7 +141,7 @@ module _ (d : Declarations) (consistent : IsConsistent d) (own : HaveOwnConstruc
                     let e : get_or ranks g.cause 0 ≡ get_or ranks s 0 = ap (λ n. get_or ranks n 0) same in
                     absurd (omega arith)
                 | inr (more, body) ↦
-                    let sort = there d.sorts g.cause less in
+                    let sort = slice_get-there d.sorts g.cause less in
                     inl (record { sort = sort.0; of_sort = ap (slice_get d.sorts) (sym same) ∙ sort.1; count = λ e. more (ap length (ctors_at g.cause sort.0 sort.1) ∙ e) })
               ]
 
@@ -152,7 +153,7 @@ module _ (d : Declarations) (consistent : IsConsistent d) (own : HaveOwnConstruc
               by i e =
                   let stated : slice_get rules (length d.sorts + i) ≡ Some g.rule = ap (slice_get rules) (sym e) ∙ g.stated in
                   let within : i < length d.sels = omega (arith, are.long, slice_get_within rules g.cause g.rule g.stated) in
-                  let sel = there d.sels i within in
+                  let sel = slice_get-there d.sels i within in
                   let ctor = of_ctors i sel.0 sel.1 in
                   let sort = of_sorts sel.0.ctor.0 ctor.0 ctor.1 in
                   let is = are.fields i g.rule stated sel.0 ctor.0 sel.1 ctor.1 in
@@ -191,7 +192,7 @@ module _ (d : Declarations) (consistent : IsConsistent d) (own : HaveOwnConstruc
 
       single : (s : ℕ) → s < length d.sorts → (IsDerived several s → ⊥) → IsDerived ranks s
       single s within none =
-          let rule = there rules s (omega (arith, are.long)) in
+          let rule = slice_get-there rules s (omega (arith, are.long)) in
           let is = are.each s rule.0 rule.1 in
           let zero_rank : get_or several s 0 ≡ 0 = elim (cases_order (get_or several s 0) 0) [ inl e ↦ e | inr (inl less) ↦ absurd (omega arith) | inr (inr more) ↦ absurd (none more) ] in
           elim (body_of s (length (ctors_of d s)) rule.0.body.items is.1) [
@@ -203,7 +204,7 @@ module _ (d : Declarations) (consistent : IsConsistent d) (own : HaveOwnConstruc
       built : (s : ℕ) (sort : Sort) → slice_get d.sorts s ≡ Some sort → 0 < length sort.ctors → ((t : ℕ) → DependsOn d s t → IsDerived ranks t) → IsDerived ranks s
       built s sort at some fields =
           let within : s < length d.sorts = slice_get_within d.sorts s sort at in
-          let rule = there rules s (omega (arith, are.long)) in
+          let rule = slice_get-there rules s (omega (arith, are.long)) in
           let is = are.each s rule.0 rule.1 in
           let same : length (ctors_of d s) ≡ length sort.ctors = ap length (ctors_at s sort at) in
           elim (body_of s (length (ctors_of d s)) rule.0.body.items is.1) [
@@ -231,7 +232,7 @@ module _ (d : Declarations) (consistent : IsConsistent d) (own : HaveOwnConstruc
               let e : get_or ranks g.cause 0 ≡ get_or ranks s 0 = ap (λ n. get_or ranks n 0) same in
               absurd (omega arith)
           by g same is within (inr (inr h)) =
-              let sort = there d.sorts s within in
+              let sort = slice_get-there d.sorts s within in
               let count : length (ctors_of d g.cause) ≡ length sort.0.ctors = ap (λ n. length (ctors_of d n)) same ∙ ap length (ctors_at s sort.0 sort.1) in
               let body : g.rule.body.items ≡ sort_fields d s = h.2 ∙ ap (sort_fields d) same in
               let some : 0 < length sort.0.ctors = elim (cases_order 0 (length sort.0.ctors)) [ inl e ↦ absurd (h.1 (count ∙ sym e)) | inr (inl less) ↦ less | inr (inr more) ↦ absurd (omega arith) ] in

@@ -2,6 +2,7 @@
 use Rattle.std.proofs.Common.{◌≡◌, ℕ, suc, ◌+◌, ◌-◌, ◌<◌, ◌≤◌, true, false, cond, List, [], ◌∷◌, ◌++◌, length, map, get_or, slice_get, slice_set, Some, refl, sym, ◌∙◌, ap, subst, inl, inr, arith}
 use Rattle.std.proofs.lemmas.Bool.{cases_order}
 use Rattle.std.proofs.lemmas.Option.{same_Some, slice_get_within}
+use Rattle.ct_lemmas.proofs.Lists.{slice_get-append_left, slice_get-last, slice_get-map_at, slice_get-there}
 use Rattle.ct_sorts.specs.declared.ids.CtorId.{CtorId}
 use Rattle.ct_sorts.specs.Declarations.{Declarations}
 use Rattle.ct_sorts.specs.Consistent.{IsConsistent}
@@ -24,8 +25,7 @@ use Rattle.ct_card.specs.Departures.{IsDeparture, AreSeconds}
 use Rattle.ct_card.specs.Paths.{HasHeadAt}
 use Rattle.ct_card.specs.Built.{node_with, IsEndNode}
 use Rattle.ct_card.specs.Signs.{IsSign, LacksSign, IsSecondValue, HasAllDefaults, HasSeconds}
-use Rattle.ct_card.proofs.ListLemmas.{append_left, last_at, map_target}
-use Rattle.ct_card.proofs.SizeLemmas.{there, derived_within}
+use Rattle.ct_card.proofs.SizeLemmas.{derived_within}
 use Rattle.ct_card.proofs.WellFormedLemmas.{longer_sort}
 use Rattle.ct_card.proofs.PathLemmas.{Agrees, same_head_at}
 use Rattle.ct_card.proofs.NthLemmas.{same_element}
@@ -43,7 +43,7 @@ rank_in_order ranks order is s derived =
 
 pub longer_defaults : (d : Declarations) (ranks : List ℕ) (ctors : List CtorId) (base : ℕ) (g more : Nodes) → HasAllDefaults d ranks ctors base g → HasAllDefaults d ranks ctors base (g ++ more)
 longer_defaults d ranks ctors base g more all = record {
-  stand = λ s c within at. append_left g more (node_of_sort base ranks s).0 (default_node d ranks base s c) (all.stand s c within at);
+  stand = λ s c within at. slice_get-append_left g more (node_of_sort base ranks s).0 (default_node d ranks base s c) (all.stand s c within at);
   sorted = λ s within. longer_sort d g more (node_of_sort base ranks s) (record { 0 = s }) (all.sorted s within);
 }
 
@@ -74,18 +74,18 @@ module _ (d : Declarations) (several ranks : List ℕ) (ctors : List CtorId) (se
   -- the default value of a sort has the signs of it
   pub default_sign : (g : Nodes) → HasAllDefaults d ranks ctors base g → (path : List ℕ) (s : ℕ) (h : Head) → s < length d.sorts → IsSign d ctors seconds s path h → HasHeadAt path h (node_point g (node_of_sort base ranks s))
   default_sign g all [] s h within (inl (free, is)) =
-      let c = there ctors s (omega (arith, are.chosen)) in
+      let c = slice_get-there ctors s (omega (arith, are.chosen)) in
       head_at g (node_of_sort base ranks s) (default_node d ranks base s c.0) (all.stand s c.0 within c.1) ∙ ap (λ (x : Node). Some (node_head x)) (default_free d ranks base s c.0 free) ∙ ap Some (sym is)
   default_sign g all [] s h within (inr (other_kind, c, other, at_second, at_c, is)) =
       head_at g (node_of_sort base ranks s) (default_node d ranks base s c) (all.stand s c within at_c) ∙ ap (λ (x : Node). Some (node_head x)) (default_built d ranks base s c other_kind) ∙ ap Some (sym is)
   default_sign g all (place ∷ path) s h within (step, other_kind, at_second, place_is, rest) =
-      let c = there ctors s (omega (arith, are.chosen)) in
+      let c = slice_get-there ctors s (omega (arith, are.chosen)) in
       let field = are.each s c.0 (Field step) c.1 at_second other_kind in
       let at : slice_get (ctor_fields d c.0) place ≡ Some step.next = ap (slice_get (ctor_fields d c.0)) place_is ∙ field.field in
       let stands = all.stand s c.0 within c.1 ∙ ap Some (default_built d ranks base s c.0 other_kind) in
       let inside : step.next < length d.sorts = subst (λ n. step.next < n) long (derived_within several step.next field.lower.0) in (
         node_point g (node_of_sort base ranks step.next),
-        child_at g (node_of_sort base ranks s) c.0 (map (node_of_sort base ranks) (ctor_fields d c.0)) place (node_of_sort base ranks step.next) stands (map_target (node_of_sort base ranks) (ctor_fields d c.0) place step.next at),
+        child_at g (node_of_sort base ranks s) c.0 (map (node_of_sort base ranks) (ctor_fields d c.0)) place (node_of_sort base ranks step.next) stands (slice_get-map_at (node_of_sort base ranks) (ctor_fields d c.0) place step.next at),
         default_sign g all path step.next h inside rest,
       )
 
@@ -97,8 +97,8 @@ module _ (d : Declarations) (several ranks : List ℕ) (ctors : List CtorId) (se
   departing_lacks laws g second n step child node closed is field node_is number =
       let (path, h, sign, none) = is.lacks in
       let ids = slice_set (map (node_of_sort base ranks) (ctor_fields d step.ctor)) step.place child in
-      let stands : slice_get (g ++ node ∷ []) n.0 ≡ Some (Con step.ctor ids) = ap (slice_get (g ++ node ∷ [])) number ∙ last_at g node ∙ ap Some node_is in
-      let at : slice_get ids step.place ≡ Some child = set_there (map (node_of_sort base ranks) (ctor_fields d step.ctor)) step.place child (node_of_sort base ranks step.next) (map_target (node_of_sort base ranks) (ctor_fields d step.ctor) step.place step.next field) in
+      let stands : slice_get (g ++ node ∷ []) n.0 ≡ Some (Con step.ctor ids) = ap (slice_get (g ++ node ∷ [])) number ∙ slice_get-last g node ∙ ap Some node_is in
+      let at : slice_get ids step.place ≡ Some child = set_there (map (node_of_sort base ranks) (ctor_fields d step.ctor)) step.place child (node_of_sort base ranks step.next) (slice_get-map_at (node_of_sort base ranks) (ctor_fields d step.ctor) step.place step.next field) in
       let there_is = child_at (g ++ node ∷ []) n step.ctor ids step.place child stands at in (
         path,
         h,
@@ -110,7 +110,7 @@ module _ (d : Declarations) (several ranks : List ℕ) (ctors : List CtorId) (se
 
   -- the head of a node that was pushed
   pub pushed_head : (g : Nodes) (n : NodeId) (node : Node) → n.0 ≡ length g → head (node_point (g ++ node ∷ []) n) ≡ Some (node_head node)
-  pushed_head g n node number = head_at (g ++ node ∷ []) n node (ap (slice_get (g ++ node ∷ [])) number ∙ last_at g node)
+  pushed_head g n node number = head_at (g ++ node ∷ []) n node (ap (slice_get (g ++ node ∷ [])) number ∙ slice_get-last g node)
 
   -- ---- second values
 
@@ -129,7 +129,7 @@ module _ (d : Declarations) (several ranks : List ℕ) (ctors : List CtorId) (se
   )
   second_lacks laws g second s n Nowhere node closed within number stored lower (inr (other, is)) = absurd is
   second_lacks laws g second s n (Other ctor) node closed within number stored lower (inr (other, is)) =
-      let c = there ctors s (omega (arith, are.chosen)) in
+      let c = slice_get-there ctors s (omega (arith, are.chosen)) in
       let differ = are.each s c.0 (Other ctor) c.1 stored other in (
         [],
         heads.Con c.0,
@@ -139,7 +139,7 @@ module _ (d : Declarations) (several ranks : List ℕ) (ctors : List CtorId) (se
             differ.differ (same_ctor ctor c.0 e),
       )
   second_lacks laws g second s n (Field step) node closed within number stored lower (inr (other, is)) =
-      let c = there ctors s (omega (arith, are.chosen)) in
+      let c = slice_get-there ctors s (omega (arith, are.chosen)) in
       let field = are.each s c.0 (Field step) c.1 stored other in
       let own_field : slice_get (ctor_fields d step.ctor) step.place ≡ Some step.next = ap (λ (z : CtorId). slice_get (ctor_fields d z) step.place) field.ctor ∙ field.field in
       let (path, h, sign, none) = departing_lacks laws g second n step (node_of_sort second several step.next) node closed (lower step.next field.lower.0 field.lower.1) own_field is number in
@@ -149,7 +149,7 @@ module _ (d : Declarations) (several ranks : List ℕ) (ctors : List CtorId) (se
     -- how the second value of a sort departs
     pub second_departs : (s : ℕ) (departure : Departure) → s < length d.sorts → slice_get seconds s ≡ Some departure → is_free_sort d s ≡ false → (c : CtorId) × ((index : ℕ) × (slice_get (ctors_of d s) index ≡ Some c)) × IsDeparture d several s c departure
     second_departs s departure within stored other =
-        let c = there ctors s (omega (arith, are.chosen)) in
+        let c = slice_get-there ctors s (omega (arith, are.chosen)) in
         (c.0, listed s c.0 within other c.1, are.each s c.0 departure c.1 stored other)
 
     -- one more second value, that of the next sort of the queue
@@ -163,7 +163,7 @@ module _ (d : Declarations) (several ranks : List ℕ) (ctors : List CtorId) (se
               let same : s ≡ t = same_Some _ _ (sym at ∙ order.of index t e) in
               let place : n ≡ node_of_sort second several s = ap (λ m. record { 0 = m }) (omega (arith, count, number, rank)) in
               let lacks = second_lacks laws g second s n departure node closed within number stored (λ u derived_u less. all u derived_u (omega arith)) is in
-              let stands : slice_get (g ++ node ∷ []) n.0 ≡ Some node = ap (slice_get (g ++ node ∷ [])) number ∙ last_at g node in
+              let stands : slice_get (g ++ node ∷ []) n.0 ≡ Some node = ap (slice_get (g ++ node ∷ [])) number ∙ slice_get-last g node in
               let new : IsSecondValue d ctors seconds (g ++ node ∷ []) s n = record { sorted = (node, stands, end_sort d consistent own own_sels of_sorts of_ctors several ranks base s second 1 departure node within (second_departs s departure within stored) is); lacks = lacks } in
               subst (λ m. IsSecondValue d ctors seconds (g ++ node ∷ []) m (node_of_sort second several m)) same (subst (λ (z : NodeId). IsSecondValue d ctors seconds (g ++ node ∷ []) s z) place new)
           | inr (inl less) ↦ longer_second laws d ctors seconds g (node ∷ []) t (node_of_sort second several t) closed (all t derived (omega arith))

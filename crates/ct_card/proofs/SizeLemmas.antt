@@ -6,6 +6,7 @@ use Rattle.std.proofs.lemmas.Bool.{false≢true, cases_order}
 use Rattle.std.proofs.lemmas.Bool.Decides.{Decides-ltb, Decides-eqb}
 use Rattle.std.proofs.lemmas.Option.{none-some, same_Some, slice_get_within}
 use Rattle.std.proofs.lemmas.Map.Steps.{length-le_from_distinct_below}
+use Rattle.ct_lemmas.proofs.Lists.{slice_get-there}
 use Rattle.ct_sorts.specs.declared.ids.CtorId.{CtorId}
 use Rattle.ct_sorts.specs.declared.ids.Kind.{Kind}
 use Rattle.ct_sorts.specs.declared.ids.Kind.TheVariants.{Bool as BoolKind, Free, Data, Codata}
@@ -46,11 +47,6 @@ derived_within ranks s derived =
       | inr (inl less) ↦ less
       | inr (inr more) ↦ let z : get_or ranks s 0 ≡ 0 = get_or-past ranks s (omega arith) in absurd (omega arith)
     ]
-
-pub there : {X : Type 0} (xs : List X) (i : ℕ) → i < length xs → (x : X) × (slice_get xs i ≡ Some x)
-there [] i h = absurd (omega arith)
-there (x ∷ xs) zero h = (x, refl)
-there (x ∷ xs) (suc i) h = there xs i (omega arith)
 
 -- a list of one element
 pub one_of : {X : Type 0} (xs : List X) → length xs ≡ 1 → (x : X) × (xs ≡ x ∷ [])
@@ -124,7 +120,7 @@ module _ (d : Declarations) (consistent : IsConsistent d) (own : HaveOwnConstruc
     unranked_shape s inside =
         let out = unranked_out s inside in
         let none : IsDerived several s → ⊥ = λ h. let z : get_or several s 0 ≡ 0 = out.1 in omega arith in
-        let at = there d.sorts s out.0 in
+        let at = slice_get-there d.sorts s out.0 in
         elim (one_or (length at.0.ctors)) [
           | inr other ↦ absurd (none (ranked.counted s (record { sort = at.0; of_sort = at.1; count = other })))
           | inl one ↦
@@ -298,7 +294,7 @@ module _ (d : Declarations) (consistent : IsConsistent d) (own : HaveOwnConstruc
               }) (to_within d consistent u t step) none_t out_t
 
           at : (x : Sort) × (slice_get d.sorts u ≡ Some x)
-          at = there d.sorts u within
+          at = slice_get-there d.sorts u within
 
           fields : list_any (nat_eq u) met ≡ false → (t : ℕ) → DependsOn d u t → IsDerived small t
           fields fresh t step =

@@ -2,6 +2,7 @@
 use Rattle.std.proofs.Common.{◌≡◌, ℕ, zero, suc, ◌+◌, ◌<◌, List, [], ◌∷◌, ◌++◌, length, slice_get, Some, Contains, ◌∙◌, ap, subst, inl, inr, arith}
 use Rattle.std.specs.List.{AllZip}
 use Rattle.std.proofs.lemmas.Option.{none-some, same_Some, slice_get_within, slice_get-get_or}
+use Rattle.ct_lemmas.proofs.Lists.{slice_get-append_cases, slice_get-append_left}
 use Rattle.ct_sorts.specs.declared.ids.SelId.{SelId}
 use Rattle.ct_sorts.specs.declared.ids.SortId.{SortId}
 use Rattle.ct_sorts.specs.Declarations.{Declarations}
@@ -11,16 +12,15 @@ use Rattle.ct_values.specs.declared.node.Node.TheVariants.{Con, Elem}
 use Rattle.ct_values.specs.Graph.{Nodes, node_children}
 use Rattle.ct_values.specs.Fitting.{HasNodeSort, IsNodeOfField, FitsNode}
 use Rattle.ct_values.specs.WellFormed.{IsData, IsWellFormedGraph}
-use Rattle.ct_card.proofs.ListLemmas.{append_left, append_split}
 
 -- a node of a graph keeps its sort
 pub longer_sort : (d : Declarations) (g more : Nodes) (n : NodeId) (s : SortId) → HasNodeSort d g n s → HasNodeSort d (g ++ more) n s
-longer_sort d g more n s (node, at, sorted) = (node, append_left g more n.0 node at, sorted)
+longer_sort d g more n s (node, at, sorted) = (node, slice_get-append_left g more n.0 node at, sorted)
 
 -- and had it before
 shorter_sort : (d : Declarations) (g more : Nodes) (n : NodeId) (s : SortId) → n.0 < length g → HasNodeSort d (g ++ more) n s → HasNodeSort d g n s
 shorter_sort d g more n s within (node, at, sorted) =
-    elim (append_split g more n.0 node at) [
+    elim (slice_get-append_cases g more n.0 node at) [
       | inl h ↦ (node, h, sorted)
       | inr (k, e, h) ↦ absurd (omega arith)
     ]
@@ -62,13 +62,13 @@ pub well_formed_longer : (d : Declarations) (g more : Nodes) → IsWellFormedGra
     → IsWellFormedGraph d (g ++ more)
 well_formed_longer d g more formed fit before =
     record {
-      fits = λ n node at. elim (append_split g more n node at) [
+      fits = λ n node at. elim (slice_get-append_cases g more n node at) [
         | inl h ↦ longer_fits d g more node (formed.fits n node h)
         | inr (k, e, h) ↦ fit k node h
       ];
       finite = λ n child node at contains data_n data_child.
           let listed = listed_child (node_children node) child contains in
-          elim (append_split g more n.0 node at) [
+          elim (slice_get-append_cases g more n.0 node at) [
             | inl h ↦
                 let within : child.0 < length g = fits_within d g node listed.0 child (formed.fits n.0 node h) listed.1 in
                 formed.finite n child node h contains (shorter_data d g more n (slice_get_within g n.0 node h) data_n) (shorter_data d g more child within data_child)

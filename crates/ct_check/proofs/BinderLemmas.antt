@@ -1,14 +1,15 @@
 -- What `let`, `match` and `!` come to, step by step.
 use Rattle.std.proofs.Common.{◌≡◌, ℕ, Bool, true, false, not, ◌&&◌, ◌==◌, List, [], ◌∷◌, length, get_or, Option, None, Vec, Global, Ok, Err, refl, sym, ◌∙◌, ap, arith, true≢false}
 use Rattle.std.proofs.lemmas.Bool.Decides.{Decides-eqb}
+use Rattle.ct_lemmas.proofs.Booleans.{not_true}
 use Rattle.ct_sexpr.specs.declared.sexpr.Sexpr.{Sexpr, List as list_in_memory}
 use Rattle.ct_sexpr.specs.View.{expression_of, expressions_of}
 use Rattle.ct_sorts.specs.declared.ids.SortId.{SortId}
 use Rattle.ct_sorts.specs.Declarations.{Declarations}
-use Rattle.ct_terms.specs.declared.tree.Tree.{Tree}
-use Rattle.ct_terms.specs.Formula as formula
-use Rattle.ct_terms.specs.Formula.{bind}
-use Rattle.ct_terms.specs.TreeFormula.{formulas_of_trees}
+use Rattle.ct_formulas.specs.declared.tree.Tree.{Tree}
+use Rattle.ct_formulas.specs.Formula as formula
+use Rattle.ct_formulas.specs.Formula.{bind}
+use Rattle.ct_formulas.specs.TreeFormula.{formulas_of_trees}
 use Rattle.ct_names.specs.Outcome.{Outcome, Sorted, and_then, unless_refused}
 use Rattle.ct_names.specs.Refusals.{out_of_scope, repeated_variable}
 use Rattle.ct_names.specs.Variables.{Variable, variables, present_names, has_repeated}
@@ -27,10 +28,6 @@ empty_is xs empty is e = (Decides-eqb (length xs) 0).0 (sym is ∙ e)
 
 pub some_are : {X : Type 0} (xs : List X) (empty : Bool) → empty ≡ (length xs == 0) → empty ≡ false → length xs ≡ 0 → ⊥
 some_are xs empty is e h = true≢false (sym ((Decides-eqb (length xs) 0).1 h) ∙ sym is ∙ e)
-
-not_true : (b : Bool) → (b ≡ true → ⊥) → b ≡ false
-not_true true h = absurd (h refl)
-not_true false h = refl
 
 some_parts : (n : ℕ) → (n ≡ 0 → ⊥) → (n == 0) ≡ false
 some_parts n h = not_true (n == 0) (λ e. h ((Decides-eqb n 0).0 e))

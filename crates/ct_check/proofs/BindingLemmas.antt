@@ -5,9 +5,9 @@ use Rattle.ct_sexpr.specs.declared.sexpr.Sexpr.{Sexpr}
 use Rattle.ct_sexpr.specs.View.{expression_of, expressions_of}
 use Rattle.ct_sorts.specs.declared.ids.SortId.{SortId}
 use Rattle.ct_sorts.specs.Declarations.{Declarations}
-use Rattle.ct_terms.specs.declared.tree.Tree.{Tree}
-use Rattle.ct_terms.specs.Formula.{with_formula}
-use Rattle.ct_terms.specs.TreeFormula.{formula_of, formulas_of_trees}
+use Rattle.ct_formulas.specs.declared.tree.Tree.{Tree}
+use Rattle.ct_formulas.specs.Formula.{with_formula}
+use Rattle.ct_formulas.specs.TreeFormula.{formula_of, formulas_of_trees}
 use Rattle.ct_names.specs.declared.error.CheckError.{CheckError}
 use Rattle.ct_names.specs.declared.error.CheckError.TheVariants.{Refused, NoMemory}
 use Rattle.ct_names.specs.Outcome.{Outcome, Sorted, and_then}

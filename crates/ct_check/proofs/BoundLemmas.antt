@@ -1,7 +1,7 @@
 -- Variables that were bound leave.
 use Rattle.std.proofs.Common.{◌≡◌, ℕ, ◌+◌, List, [], ◌∷◌, length, drop, refl, sym, ◌∙◌, ap, arith}
 use Rattle.std.proofs.lemmas.List.{drop-drop}
-use Rattle.ct_terms.specs.Formula.{bind}
+use Rattle.ct_formulas.specs.Formula.{bind}
 
 -- what was bound last leaves first
 pub drop-bind : {X : Type 0} (xs env : List X) → drop (length xs) (bind xs env) ≡ env

@@ -4,9 +4,9 @@ use Rattle.ct_sexpr.specs.declared.sexpr.Sexpr.{Sexpr}
 use Rattle.ct_sexpr.specs.View.{expression_of, expressions_of}
 use Rattle.ct_sorts.specs.declared.ids.SortId.{SortId}
 use Rattle.ct_sorts.specs.Declarations.{Declarations}
-use Rattle.ct_terms.specs.declared.tree.Pattern.{Pattern}
-use Rattle.ct_terms.specs.Formula.{Formula, Cases, no_cases, with_case, bind}
-use Rattle.ct_terms.specs.TreeFormula.{cases_of}
+use Rattle.ct_formulas.specs.declared.tree.Pattern.{Pattern}
+use Rattle.ct_formulas.specs.Formula.{Formula, Cases, no_cases, with_case, bind}
+use Rattle.ct_formulas.specs.TreeFormula.{cases_of}
 use Rattle.ct_names.specs.Outcome.{Outcome, Sorted, and_then, unless_refused}
 use Rattle.ct_names.specs.Refusals.{wrong_sort}
 use Rattle.ct_names.specs.Variables.{Variable}

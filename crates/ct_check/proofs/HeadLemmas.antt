@@ -7,8 +7,8 @@ use Rattle.ct_sexpr.specs.Written.{is_reserved}
 use Rattle.ct_sorts.specs.declared.ids.SortId.{SortId}
 use Rattle.ct_sorts.specs.declared.ids.CtorId.{CtorId}
 use Rattle.ct_sorts.specs.Declarations.{Declarations, bool_sort}
-use Rattle.ct_terms.specs.Formula as formula
-use Rattle.ct_terms.specs.Formula.{Formula, Formulas, with_formula, no_formulas}
+use Rattle.ct_formulas.specs.Formula as formula
+use Rattle.ct_formulas.specs.Formula.{Formula, Formulas, with_formula, no_formulas}
 use Rattle.ct_names.specs.declared.operator.CoreOperator.{CoreOperator}
 use Rattle.ct_names.specs.declared.variables.Found.{Found}
 use Rattle.ct_check.specs.declared.callees.Callee.TheVariants.{Tester, Connective}

@@ -2,7 +2,7 @@
 use Rattle.std.proofs.Common.{◌≡◌, ℕ, Bool, true, false, Ok, Err, refl, ◌∙◌, ap}
 use Rattle.std.proofs.lemmas.Bool.Decides.{Decides-eqb}
 use Rattle.ct_sorts.specs.declared.ids.SortId.{SortId}
-use Rattle.ct_terms.specs.Formula.{Formula}
+use Rattle.ct_formulas.specs.Formula.{Formula}
 use Rattle.ct_names.specs.Outcome.{Outcome, Sorted, and_then, unless_refused, is_sort, of_sort}
 use Rattle.ct_names.specs.Refusals.{wrong_sort}
 

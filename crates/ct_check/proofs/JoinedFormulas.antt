@@ -1,8 +1,8 @@
 -- Formulas after others, and what is left past the end of a list.
 use Rattle.std.proofs.Common.{◌≡◌, ℕ, zero, suc, ◌≤◌, List, [], ◌∷◌, ◌++◌, length, drop, refl, ap, arith}
-use Rattle.ct_terms.specs.declared.tree.Tree.{Tree}
-use Rattle.ct_terms.specs.Formula.{Formulas, no_formulas, with_formula}
-use Rattle.ct_terms.specs.TreeFormula.{formula_of, formulas_of_trees}
+use Rattle.ct_formulas.specs.declared.tree.Tree.{Tree}
+use Rattle.ct_formulas.specs.Formula.{Formulas, no_formulas, with_formula}
+use Rattle.ct_formulas.specs.TreeFormula.{formula_of, formulas_of_trees}
 
 -- formulas after others
 abbrev pub joined : Formulas → Formulas → Formulas

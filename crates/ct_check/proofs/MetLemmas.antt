@@ -1,12 +1,12 @@
 -- Terms one after the other: what is left of them, after the trees of those that were gone over.
 use Rattle.std.proofs.Common.{◌≡◌, ℕ, ◌+◌, ◌<◌, ◌≤◌, List, [], ◌∷◌, ◌++◌, length, get_or, drop, Option, Some, None, Result, IfOk, Ok, Err, refl, sym, ◌∙◌, ap}
-use Rattle.std.proofs.lemmas.List.{append_assoc}
+use Rattle.std.proofs.lemmas.List.{append_assoc, append-nil}
 use Rattle.ct_sexpr.specs.declared.sexpr.Sexpr.{Sexpr}
 use Rattle.ct_sexpr.specs.View.{expression_of, expressions_of}
 use Rattle.ct_sorts.specs.declared.ids.SortId.{SortId}
 use Rattle.ct_sorts.specs.Declarations.{Declarations}
-use Rattle.ct_terms.specs.declared.tree.Tree.{Tree}
-use Rattle.ct_terms.specs.TreeFormula.{formula_of, formulas_of_trees}
+use Rattle.ct_formulas.specs.declared.tree.Tree.{Tree}
+use Rattle.ct_formulas.specs.TreeFormula.{formula_of, formulas_of_trees}
 use Rattle.ct_names.specs.declared.error.CheckError.{CheckError}
 use Rattle.ct_check.specs.declared.arguments.Elaborated.{Elaborated}
 use Rattle.ct_names.specs.declared.error.CheckError.TheVariants.{Refused, NoMemory}
@@ -18,10 +18,6 @@ use Rattle.ct_names.specs.Elaboration.{part_of, parts_of, meaning_of_part, witho
 use Rattle.ct_check.specs.Arguments.{Met, met, met_first, HoldsMetTerms}
 use Rattle.ct_check.proofs.JoinedFormulas.{joined, joined-none, joined-push, drop_past}
 use Rattle.ct_names.proofs.PartLemmas.{drop_item}
-
-append-none : {X : Type 0} (xs : List X) → xs ++ [] ≡ xs
-append-none [] = refl
-append-none (x ∷ xs) = ap (λ rest. x ∷ rest) (append-none xs)
 
 -- what is left from an index on
 abbrev pub left_from : Declarations → List Variable → List Sexpr → ℕ → Met
@@ -59,7 +55,7 @@ module _ (d : Declarations) (scope : List Variable) (exprs : List Sexpr) (i : �
       let step = left-item d scope exprs i x (Err n) ix ex means in
       record {
         formulas = at.formulas ∙ ap (λ (m : Met). joined (formulas_of_trees trees) (without_sorts m.terms)) step ∙ joined-none (formulas_of_trees trees);
-        sorted = at.sorted ∙ ap (λ (m : Met). sorts ++ sorts_of m.terms) step ∙ append-none sorts;
+        sorted = at.sorted ∙ ap (λ (m : Met). sorts ++ sorts_of m.terms) step ∙ append-nil sorts;
         refused = at.refused ∙ ap (λ (m : Met). m.error) step;
       }
 
@@ -76,7 +72,7 @@ module _ (d : Declarations) (scope : List Variable) (exprs : List Sexpr) (i : �
       let step : left_from d scope exprs i ≡ record { terms = []; error = None } = ap (λ xs. met d scope (parts_of d (expressions_of xs))) (drop_past exprs i past) in
       record {
         formulas = at.formulas ∙ ap (λ (m : Met). joined (formulas_of_trees trees) (without_sorts m.terms)) step ∙ joined-none (formulas_of_trees trees);
-        sorted = at.sorted ∙ ap (λ (m : Met). sorts ++ sorts_of m.terms) step ∙ append-none sorts;
+        sorted = at.sorted ∙ ap (λ (m : Met). sorts ++ sorts_of m.terms) step ∙ append-nil sorts;
         refused = at.refused ∙ ap (λ (m : Met). m.error) step;
       }
 

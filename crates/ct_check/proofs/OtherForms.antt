@@ -7,9 +7,9 @@ use Rattle.ct_sexpr.specs.Atom.{Atom, symbol, quoted, keyword, text, numeral, de
 use Rattle.ct_sexpr.specs.View.{expression_of, expressions_of}
 use Rattle.ct_sorts.specs.declared.ids.SortId.{SortId}
 use Rattle.ct_sorts.specs.Declarations.{Declarations}
-use Rattle.ct_terms.specs.declared.tree.Tree.{Tree}
-use Rattle.ct_terms.specs.declared.tree.Pattern.{Pattern}
-use Rattle.ct_terms.specs.Formula.{Formula}
+use Rattle.ct_formulas.specs.declared.tree.Tree.{Tree}
+use Rattle.ct_formulas.specs.declared.tree.Pattern.{Pattern}
+use Rattle.ct_formulas.specs.Formula.{Formula}
 use Rattle.ct_names.specs.Outcome.{Outcome, Sorted, and_then}
 use Rattle.ct_names.specs.Refusals.{out_of_scope}
 use Rattle.ct_names.specs.Variables.{Variable}

@@ -1,6 +1,7 @@
 -- The formula of every expression is well sorted.
 use Rattle.std.proofs.Common.{◌≡◌, ℕ, ◌<◌, Bool, true, false, not, List, length, nat_le, Option, Some, None, is_some, codes, Ok, Err, refl, ◌∙◌, ap, subst, if◌then◌else◌}
 use Rattle.std.specs.Str.{bytes_eq}
+use Rattle.ct_lemmas.proofs.Lists.{slice_get-there}
 use Rattle.ct_sexpr.specs.Atom.{Atom, symbol, quoted, keyword, text, numeral, decimal, binary, hexadecimal}
 use Rattle.ct_sexpr.specs.Expression.{Expression, Expressions, leaf, list, none, more}
 use Rattle.ct_sexpr.specs.Written.{is_reserved}
@@ -10,8 +11,8 @@ use Rattle.ct_sorts.specs.declared.ids.Symbol.{Symbol}
 use Rattle.ct_sorts.specs.declared.ids.Symbol.TheVariants.{Ctor, Sel, Fun, Def}
 use Rattle.ct_sorts.specs.Declarations.{Declarations, bool_sort}
 use Rattle.ct_sorts.specs.Lookup.{ResolvesTo, IsSymbol}
-use Rattle.ct_terms.specs.Formula as formula
-use Rattle.ct_terms.specs.FormulaSorts.{IsSorted}
+use Rattle.ct_formulas.specs.Formula as formula
+use Rattle.ct_formulas.specs.FormulaSorts.{IsSorted}
 use Rattle.ct_names.specs.declared.operator.CoreOperator.{CoreOperator}
 use Rattle.ct_names.specs.Refusals.{unknown_symbol, wrong_count, wrong_sort, out_of_scope}
 use Rattle.ct_names.specs.Outcome.{Sorted, and_then, unless_refused, is_sort, of_sort}
@@ -22,7 +23,7 @@ use Rattle.ct_names.specs.Parts.{Part, Parts, atom_part, list_part, no_parts, wi
 use Rattle.ct_names.specs.Elaboration.{meaning_of_part, takes, operated, applied_symbol, global, application, let_form, match_form, annotated, lone_symbol, may_qualify, qualified_name, qualified_symbol, sort_of_part, testable, tested_name, is_text_of_name, tester, tested_term, qualified, reserved, headed, list_meaning, part_of, parts_of, elaborated}
 use Rattle.ct_check.proofs.Inversions.{and_then-inverse, unless-inverse, same_value, of_sort-inverse}
 use Rattle.ct_names.proofs.SymbolLemmas.{resolves}
-use Rattle.ct_check.proofs.SymbolSorts.{Theorems, there, owner_at}
+use Rattle.ct_check.proofs.SymbolSorts.{Theorems, owner_at}
 use Rattle.ct_check.proofs.SoundLemmas.{IsSoundMeaning, IsSoundPart, AreSoundParts, HasOwnSort, carried, meaning_sound, lone_symbol_sound}
 use Rattle.ct_check.proofs.SoundForms.{operated_sound, applied_sound, bound_sound}
 use Rattle.ct_check.proofs.SoundPatterns.{ctor_inside}
@@ -79,7 +80,7 @@ module _ (d : Declarations) (theorems : Theorems d) where
     tested_term_sound c inside (with_part p (with_part q ps)) sound t e = absurd cc
     tested_term_sound c inside (with_part p no_parts) sound t e =
         let step = and_then-inverse (of_sort (ctor_sort d c) (meaning_of_part d scope p)) (λ u. Ok (formula.Test c u, bool_sort)) t e in
-        let ctor = there d.ctors c.0 inside in
+        let ctor = slice_get-there d.ctors c.0 inside in
         let own : ctor_sort d c ≡ ctor.0.sort = ap owner_at ctor.1 in
         let sorted = meaning_sound d theorems scope p sound.0 (step.0, ctor_sort d c) (of_sort-inverse (ctor_sort d c) (meaning_of_part d scope p) step.0 step.1) in
         carried d (variable_sorts scope) (formula.Test c step.0, bool_sort) t step.2

@@ -6,9 +6,9 @@ use Rattle.ct_sorts.specs.declared.ids.SortId.{SortId}
 use Rattle.ct_sorts.specs.declared.ids.Symbol.{Symbol}
 use Rattle.ct_sorts.specs.Declarations.{Declarations, bool_sort}
 use Rattle.ct_sorts.specs.Lookup.{IsSymbol}
-use Rattle.ct_terms.specs.Formula as formula
-use Rattle.ct_terms.specs.Formula.{Formulas, no_formulas, with_formula, bind}
-use Rattle.ct_terms.specs.FormulaSorts.{IsSorted, AllSorted, AreOfSort, HasFormula, AreAtLeastTwo}
+use Rattle.ct_formulas.specs.Formula as formula
+use Rattle.ct_formulas.specs.Formula.{Formulas, no_formulas, with_formula, bind}
+use Rattle.ct_formulas.specs.FormulaSorts.{IsSorted, AllSorted, AreOfSort, HasFormula, AreAtLeastTwo}
 use Rattle.ct_names.specs.declared.operator.CoreOperator.{CoreOperator}
 use Rattle.ct_names.specs.declared.operator.CoreOperator.TheVariants.{Not, And, Or, Xor, Implies, Equal, Distinct, Ite}
 use Rattle.ct_names.specs.Refusals.{wrong_count, repeated_variable, out_of_scope}

@@ -1,17 +1,17 @@
 -- A `match` with terms that are well sorted is well sorted.
-use Rattle.std.proofs.Common.{◌≡◌, ℕ, zero, suc, inl, inr, Bool, true, false, ◌==◌, List, [], ◌∷◌, Option, Some, None, option_map, unwrap_or, slice_get, Ok, refl, sym, ◌∙◌, ap, subst}
+use Rattle.std.proofs.Common.{◌≡◌, ℕ, inl, inr, Bool, true, false, ◌==◌, List, [], ◌∷◌, Option, Some, None, option_map, unwrap_or, slice_get, Ok, refl, sym, ◌∙◌, ap, subst}
 use Rattle.std.specs.List.{list_any, list_all}
-use Rattle.std.proofs.lemmas.Bool.{false≢true, and_parts}
-use Rattle.std.proofs.lemmas.Option.{same_Some}
+use Rattle.std.proofs.lemmas.Bool.{false≢true}
 use Rattle.std.proofs.lemmas.Bool.Decides.{Decides-eqb}
+use Rattle.ct_lemmas.proofs.Lists.{list_all-at}
 use Rattle.ct_sorts.specs.declared.ids.SortId.{SortId}
 use Rattle.ct_sorts.specs.declared.ids.CtorId.{CtorId}
 use Rattle.ct_sorts.specs.Declarations.{Declarations, Sort, Constructor}
-use Rattle.ct_terms.specs.declared.tree.Pattern.{Pattern}
-use Rattle.ct_terms.specs.declared.tree.Pattern.TheVariants.{Ctor, Any}
-use Rattle.ct_terms.specs.Formula as formula
-use Rattle.ct_terms.specs.Formula.{Formula, Cases, no_cases, with_case, bind}
-use Rattle.ct_terms.specs.FormulaSorts.{IsSorted, AreSortedCases, HasPattern, IsExhaustive, HasSomeCase, IsMatchable}
+use Rattle.ct_formulas.specs.declared.tree.Pattern.{Pattern}
+use Rattle.ct_formulas.specs.declared.tree.Pattern.TheVariants.{Ctor, Any}
+use Rattle.ct_formulas.specs.Formula as formula
+use Rattle.ct_formulas.specs.Formula.{Formula, Cases, no_cases, with_case, bind}
+use Rattle.ct_formulas.specs.FormulaSorts.{IsSorted, AreSortedCases, HasPattern, IsExhaustive, HasSomeCase, IsMatchable}
 use Rattle.ct_names.specs.Refusals.{wrong_sort, not_exhaustive, out_of_scope}
 use Rattle.ct_names.specs.Outcome.{Sorted}
 use Rattle.ct_names.specs.Variables.{Variable, variable_sorts}
@@ -51,14 +51,6 @@ of_ctor c (with_case (Ctor k) body cases) e = by (k.0 == c.0) refl (of_ctor c ca
         let rest : list_any (is_of_ctor c) (patterns_of cases) ≡ true = rw is at e in
         inr (further rest)
 
--- what all of a list pass each of them passes
-passes-at : {X : Type 0} (test : X → Bool) (xs : List X) (i : ℕ) (x : X) → list_all test xs ≡ true → slice_get xs i ≡ Some x → test x ≡ true
-passes-at test [] i x e at = absurd cc
-passes-at test (y ∷ xs) zero x e at =
-    let same : y ≡ x = same_Some y x at in
-    subst (λ z. test z ≡ true) same (and_parts (test y) (list_all test xs) e).0
-passes-at test (y ∷ xs) (suc i) x e at = passes-at test xs i x (and_parts (test y) (list_all test xs) e).1 at
-
 ctors_at : Option Sort → List CtorId
 ctors_at o = unwrap_or (option_map (λ (sort : Sort). sort.ctors) o) []
 
@@ -68,7 +60,7 @@ each_ctor d theorems side cases all c ctor at own =
     let owner = theorems.of_their_sorts c.0 ctor at in
     let there : slice_get d.sorts side.0 ≡ Some owner.0 = subst (λ (s : SortId). slice_get d.sorts s.0 ≡ Some owner.0) own owner.2 in
     let ctors : sort_ctors d side ≡ owner.0.ctors = ap ctors_at there in
-    of_ctor c cases (passes-at (λ k. list_any (is_of_ctor k) (patterns_of cases)) (sort_ctors d side) owner.1 c all (ap (λ (cs : List CtorId). slice_get cs owner.1) ctors ∙ owner.3))
+    of_ctor c cases (list_all-at (λ k. list_any (is_of_ctor k) (patterns_of cases)) (sort_ctors d side) owner.1 c all (ap (λ (cs : List CtorId). slice_get cs owner.1) ctors ∙ owner.3))
 
 exhaustive_sound : (d : Declarations) (theorems : Theorems d) (side : SortId) (cases : Cases) → are_exhaustive d side (patterns_of cases) ≡ true → IsExhaustive d side cases
 exhaustive_sound d theorems side cases e = by (list_any fits_all (patterns_of cases)) refl

@@ -1,6 +1,7 @@
 -- Patterns bind variables of the sorts of what they fit; and what a `match` may match.
 use Rattle.std.proofs.Common.{◌≡◌, ℕ, ◌<◌, inl, inr, true, not, ◌==◌, List, [], length, Option, Some, None, option_map, unwrap_or, slice_get, Ok, refl, sym, ◌∙◌, ap, subst}
 use Rattle.std.proofs.lemmas.Bool.Decides.{Decides-eqb}
+use Rattle.ct_lemmas.proofs.Lists.{slice_get-there}
 use Rattle.ct_sorts.specs.declared.ids.SortId.{SortId}
 use Rattle.ct_sorts.specs.declared.ids.CtorId.{CtorId}
 use Rattle.ct_sorts.specs.declared.ids.Symbol.{Symbol}
@@ -10,8 +11,8 @@ use Rattle.ct_sorts.specs.declared.ids.Kind.TheVariants.{Bool as BoolKind, Free,
 use Rattle.ct_sorts.specs.Declarations.{Declarations, Sort}
 use Rattle.ct_sorts.specs.Lookup.{ResolvesTo}
 use Rattle.ct_terms.specs.CoreSorts.{AreFieldSorts}
-use Rattle.ct_terms.specs.declared.tree.Pattern.TheVariants.{Ctor}
-use Rattle.ct_terms.specs.FormulaSorts.{IsMatchable, BindsSorts}
+use Rattle.ct_formulas.specs.declared.tree.Pattern.TheVariants.{Ctor}
+use Rattle.ct_formulas.specs.FormulaSorts.{IsMatchable, BindsSorts}
 use Rattle.ct_names.specs.Refusals.{foreign_pattern, wrong_count, out_of_scope, repeated_variable}
 use Rattle.ct_names.specs.Outcome.{Outcome, is_sort}
 use Rattle.ct_names.specs.Parts.{Part, atom_part, list_part, no_parts, with_part, name_of}
@@ -20,7 +21,7 @@ use Rattle.ct_names.specs.Variables.{variables, variable_sorts, has_repeated, pr
 use Rattle.ct_names.specs.Patterns.{Binding, any_pattern, lone_ctor, lone_pattern, leaf_pattern, ctor_with, headed_pattern, ctor_at, variable_names, pattern, matchable, matchable_kind}
 use Rattle.ct_check.proofs.Inversions.{unless-inverse, same_value, one_sort}
 use Rattle.ct_names.proofs.SymbolLemmas.{resolves}
-use Rattle.ct_check.proofs.SymbolSorts.{Theorems, there, field_sorts, owner_at}
+use Rattle.ct_check.proofs.SymbolSorts.{Theorems, field_sorts, owner_at}
 use Rattle.ct_check.proofs.SoundLemmas.{empty_from}
 use Rattle.ct_check.proofs.SoundForms.{sorts-variables}
 
@@ -66,7 +67,7 @@ module _ (d : Declarations) (theorems : Theorems d) (side : SortId) where
   -- a constructor of the sort binds variables of the sorts of its fields
   ctor_binds : (c : CtorId) → c.0 < length d.ctors → is_sort (ctor_sort d c) side ≡ true → (sorts : List SortId) → sorts ≡ ctor_field_sorts d c → BindsSorts d side (Ctor c) sorts
   ctor_binds c inside own sorts are =
-      let ctor = there d.ctors c.0 inside in (
+      let ctor = slice_get-there d.ctors c.0 inside in (
         ctor.0,
         ctor.1,
         sym (ap owner_at ctor.1) ∙ one_sort (ctor_sort d c) side own,

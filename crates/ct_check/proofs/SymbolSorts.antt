@@ -1,6 +1,7 @@
 -- Symbols with arguments of their sorts are well sorted.
-use Rattle.std.proofs.Common.{◌≡◌, ℕ, zero, suc, ◌<◌, List, [], ◌∷◌, length, map, Option, Some, option_map, unwrap_or, slice_get, refl, sym, ◌∙◌, ap, subst, arith}
+use Rattle.std.proofs.Common.{◌≡◌, ℕ, suc, ◌<◌, List, [], ◌∷◌, length, map, Option, Some, option_map, unwrap_or, slice_get, refl, sym, ◌∙◌, ap, subst}
 use Rattle.std.specs.List.{AllZip}
+use Rattle.ct_lemmas.proofs.Lists.{slice_get-there}
 use Rattle.ct_sorts.specs.declared.ids.SortId.{SortId}
 use Rattle.ct_sorts.specs.declared.ids.CtorId.{CtorId}
 use Rattle.ct_sorts.specs.declared.ids.SelId.{SelId}
@@ -10,8 +11,8 @@ use Rattle.ct_sorts.specs.Declarations.{Declarations, Constructor, Selector, Fun
 use Rattle.ct_sorts.specs.Lookup.{ResolvesTo, IsSymbol}
 use Rattle.ct_sorts.specs.Structure.{HaveOwnConstructors, AreOfTheirSorts, HaveOwnSelectors, AreOfTheirConstructors}
 use Rattle.ct_terms.specs.CoreSorts.{IsFieldSort, AreFieldSorts}
-use Rattle.ct_terms.specs.Formula.{Formula, Formulas, no_formulas, with_formula, Sel as SelFormula}
-use Rattle.ct_terms.specs.FormulaSorts.{IsSorted, AllSorted}
+use Rattle.ct_formulas.specs.Formula.{Formula, Formulas, no_formulas, with_formula, Sel as SelFormula}
+use Rattle.ct_formulas.specs.FormulaSorts.{IsSorted, AllSorted}
 use Rattle.ct_names.specs.Symbols.{field_sort_id, ctor_field_sorts, ctor_sort, sel_argument, argument_sorts, result_sort, symbol_applied}
 
 -- what holds of consistent declarations
@@ -21,12 +22,6 @@ pub record Theorems (d : Declarations) : Type 0 where
   pub own_selectors : HaveOwnSelectors d
   pub of_their_constructors : AreOfTheirConstructors d
   pub symbol_inside : (name : List ℕ) (symbol : Symbol) → ResolvesTo d name (Some symbol) → IsSymbol d symbol
-
--- what stands at an index that is inside
-pub there : {X : Type 0} (xs : List X) (i : ℕ) → i < length xs → (x : X) × (slice_get xs i ≡ Some x)
-there [] i h = absurd (omega arith)
-there (x ∷ xs) zero h = (x, refl)
-there (x ∷ xs) (suc i) h = there xs i (omega arith)
 
 abbrev sort_at : Option Selector → SortId
 sort_at o = unwrap_or (option_map (λ (sel : Selector). sel.sort) o) (record { 0 = 0 })
@@ -58,7 +53,7 @@ function_result o = unwrap_or (option_map (λ (f : Function). f.result) o) (reco
 module _ (d : Declarations) (theorems : Theorems d) (env : List SortId) where
   selected_sorted : (s : SelId) → s.0 < length d.sels → (t : Formula) → IsSorted d env t (sel_argument d s) → IsSorted d env (SelFormula s t) (field_sort_id d s)
   selected_sorted s h t sorted =
-      let sel = there d.sels s.0 h in
+      let sel = slice_get-there d.sels s.0 h in
       let own = theorems.of_their_constructors s.0 sel.0 sel.1 in
       let side : sel_argument d s ≡ own.0.sort =
       ap (λ (o : Option Selector). unwrap_or (option_map (λ (x : Selector). ctor_sort d x.ctor) o) (record { 0 = 0 })) sel.1 ∙ ap owner_at own.1 in
@@ -66,14 +61,14 @@ module _ (d : Declarations) (theorems : Theorems d) (env : List SortId) where
 
   pub applied_sorted : (s : Symbol) → IsSymbol d s → (ts : Formulas) → AllSorted d env ts (argument_sorts d s) → IsSorted d env (symbol_applied s ts) (result_sort d s)
   applied_sorted (Ctor c) h ts sorted =
-      let ctor = there d.ctors c.0 h in
+      let ctor = slice_get-there d.ctors c.0 h in
       (ctor.0, ctor_field_sorts d c, ctor.1, field_sorts d theorems c ctor.0 ctor.1, sorted, sym (ap owner_at ctor.1))
   applied_sorted (Sel s) h no_formulas sorted = absurd sorted
   applied_sorted (Sel s) h (with_formula t no_formulas) sorted = selected_sorted s h t sorted.0
   applied_sorted (Sel s) h (with_formula t (with_formula u ts)) sorted = absurd sorted.1
   applied_sorted (Fun f) h ts sorted =
-      let function = there d.functions f.0 h in
+      let function = slice_get-there d.functions f.0 h in
       (function.0, function.1, subst (λ (r : List SortId). AllSorted d env ts r) (ap function_args function.1) sorted, sym (ap function_result function.1))
   applied_sorted (Def k) h ts sorted =
-      let definition = there d.definitions k.0 h in
+      let definition = slice_get-there d.definitions k.0 h in
       (definition.0, definition.1, subst (λ (r : List SortId). AllSorted d env ts r) (ap function_args definition.1) sorted, sym (ap function_result definition.1))

@@ -3,10 +3,10 @@ use Rattle.std.proofs.Common.{◌≡◌, ℕ, suc, Bool, true, false, List, [], 
 use Rattle.std.proofs.lemmas.Bool.Decides.{Decides-eqb}
 use Rattle.ct_sorts.specs.declared.ids.SortId.{SortId}
 use Rattle.ct_sorts.specs.Declarations.{Declarations, bool_sort}
-use Rattle.ct_terms.specs.declared.tree.Tree.{Tree}
-use Rattle.ct_terms.specs.Formula as formula
-use Rattle.ct_terms.specs.Formula.{Formula, Formulas, no_formulas, with_formula}
-use Rattle.ct_terms.specs.TreeFormula.{formulas_of_trees}
+use Rattle.ct_formulas.specs.declared.tree.Tree.{Tree}
+use Rattle.ct_formulas.specs.Formula as formula
+use Rattle.ct_formulas.specs.Formula.{Formula, Formulas, no_formulas, with_formula}
+use Rattle.ct_formulas.specs.TreeFormula.{formulas_of_trees}
 use Rattle.ct_names.specs.declared.operator.CoreOperator.{CoreOperator}
 use Rattle.ct_check.specs.declared.callees.Callee.{Callee}
 use Rattle.ct_check.specs.declared.heads.Head.TheVariants.{Equation}

@@ -2,10 +2,10 @@
 use Rattle.std.specs.Prelude.{◌≡◌, ℕ, List, [], ◌∷◌, replicate, Option, Some, None, Ok, Err, if◌then◌else◌}
 use Rattle.ct_sorts.specs.declared.ids.SortId.{SortId}
 use Rattle.ct_sorts.specs.Declarations.{Declarations, bool_sort}
-use Rattle.ct_terms.specs.declared.tree.Tree.{Tree}
-use Rattle.ct_terms.specs.Formula as formula
-use Rattle.ct_terms.specs.Formula.{Formula, Formulas, no_formulas, with_formula}
-use Rattle.ct_terms.specs.TreeFormula.{formulas_of_trees}
+use Rattle.ct_formulas.specs.declared.tree.Tree.{Tree}
+use Rattle.ct_formulas.specs.Formula as formula
+use Rattle.ct_formulas.specs.Formula.{Formula, Formulas, no_formulas, with_formula}
+use Rattle.ct_formulas.specs.TreeFormula.{formulas_of_trees}
 use Rattle.ct_names.specs.Outcome.{Outcome, Sorted, is_sort}
 use Rattle.ct_names.specs.Refusals.{wrong_count, wrong_sort}
 use Rattle.ct_names.specs.Variables.{Variable}

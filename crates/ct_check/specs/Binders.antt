@@ -1,8 +1,8 @@
 -- What bindings come to once their names were looked at.
 use Rattle.std.specs.Prelude.{ℕ, List, Option, Ok}
 use Rattle.ct_sorts.specs.Declarations.{Declarations}
-use Rattle.ct_terms.specs.Formula as formula
-use Rattle.ct_terms.specs.Formula.{bind}
+use Rattle.ct_formulas.specs.Formula as formula
+use Rattle.ct_formulas.specs.Formula.{bind}
 use Rattle.ct_names.specs.Outcome.{Outcome, Sorted, and_then}
 use Rattle.ct_names.specs.Variables.{Variable, variables}
 use Rattle.ct_names.specs.Parts.{Part, Parts}

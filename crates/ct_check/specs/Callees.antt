@@ -4,8 +4,8 @@ use Rattle.ct_sorts.specs.declared.ids.SortId.{SortId}
 use Rattle.ct_sorts.specs.declared.ids.CtorId.{CtorId}
 use Rattle.ct_sorts.specs.Declarations.{Declarations, IsConstructor, bool_sort}
 use Rattle.ct_sorts.specs.Lookup.{IsSymbol}
-use Rattle.ct_terms.specs.Formula as formula
-use Rattle.ct_terms.specs.Formula.{Formula, Formulas, no_formulas, with_formula}
+use Rattle.ct_formulas.specs.Formula as formula
+use Rattle.ct_formulas.specs.Formula.{Formula, Formulas, no_formulas, with_formula}
 use Rattle.ct_check.specs.declared.callees.Callee.{Callee}
 use Rattle.ct_check.specs.declared.callees.Callee.TheVariants.{Symbol, Tester, Connective}
 use Rattle.ct_names.specs.Outcome.{Outcome, Sorted, and_then}

@@ -2,8 +2,8 @@
 use Rattle.std.specs.Prelude.{List, [], ◌∷◌, map}
 use Rattle.std.specs.Global.{Vec}
 use Rattle.ct_sorts.specs.declared.ids.SortId.{SortId}
-use Rattle.ct_terms.specs.declared.tree.Tree.{Tree}
-use Rattle.ct_terms.specs.TreeFormula.{formula_of, cases_of}
+use Rattle.ct_formulas.specs.declared.tree.Tree.{Tree}
+use Rattle.ct_formulas.specs.TreeFormula.{formula_of, cases_of}
 use Rattle.ct_occurrence.specs.CaseFormula.{case_of}
 use Rattle.ct_check.specs.declared.binders.Checked.{Checked as CheckedTrees}
 use Rattle.ct_names.specs.Elaboration.{Checked}

@@ -1,7 +1,7 @@
 //! Terms that were elaborated one after the other, as arguments of what stands at the head.
 ghost use Rattle.std.specs.Prelude.{◌≡◌, ◌∷◌, ℕ, List, [], Some, MatchOption, IfOk, IfErr};
 ghost use Rattle.ct_sorts.specs.Declarations.{Declarations};
-ghost use Rattle.ct_terms.specs.TreeFormula.{formula_of, formulas_of_trees};
+ghost use Rattle.ct_formulas.specs.TreeFormula.{formula_of, formulas_of_trees};
 ghost use Rattle.ct_names.specs.Answer.{IsAnswerFor};
 ghost use Rattle.ct_check.specs.Arguments.{met, HoldsMetTerms, misfit, same_sorts, second_sort, choice_sorts, chosen};
 ghost use Rattle.ct_check.specs.Callees.{called, IsCallee};
@@ -14,9 +14,9 @@ ghost use Rattle.ct_check.specs.declared.heads.Head.TheVariants.{Equation};
 
 use crate::callees::{BOOL, Callee, callee_result, callee_sorts, is_sort, repeated};
 use crate::trees::{callee_tree, operator_tree};
+use ct_formulas::Tree;
 use ct_names::{CheckError, CoreOperator, WRONG_COUNT, WRONG_SORT};
 use ct_sorts::{Signature, SortId};
-use ct_terms::Tree;
 use std::alloc::Global;
 
 /// The terms before the first error, with their sorts, and the number of that error, where there is

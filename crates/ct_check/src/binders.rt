@@ -2,8 +2,8 @@
 ghost use Rattle.std.specs.Prelude.{◌≡◌, ◌++◌, ◌∷◌, [], Some, List, map, IfOk, IfErr, OnOk};
 ghost use Rattle.ct_sexpr.specs.View.{expressions_of};
 ghost use Rattle.ct_sorts.specs.Declarations.{Declarations};
-ghost use Rattle.ct_terms.specs.Formula.{Let};
-ghost use Rattle.ct_terms.specs.TreeFormula.{formula_of, formulas_of_trees};
+ghost use Rattle.ct_formulas.specs.Formula.{Let};
+ghost use Rattle.ct_formulas.specs.TreeFormula.{formula_of, formulas_of_trees};
 ghost use Rattle.ct_names.specs.Answer.{IsAnswerFor, ContinuesWith};
 ghost use Rattle.ct_check.specs.Binders.{let_of_names};
 ghost use Rattle.ct_names.specs.Bounds.{held_name};
@@ -15,13 +15,13 @@ ghost use Rattle.ct_names.specs.Variables.{Variable};
 
 use crate::callees::is_sort;
 use crate::exhaustive::are_exhaustive;
+use ct_formulas::{Case, Pattern, Tree};
 use ct_names::{
     CheckError, NOT_EXHAUSTIVE, OUT_OF_SCOPE, REPEATED_VARIABLE, are_bindings, bound_names,
     has_repeated,
 };
 use ct_sexpr::Sexpr;
 use ct_sorts::{Signature, SortId};
-use ct_terms::{Case, Pattern, Tree};
 use std::alloc::Global;
 
 /// The cases of a `match`, with their patterns and their common sort, none where there is no case.

@@ -5,9 +5,9 @@ ghost use Rattle.ct_names.specs.Elaboration.{takes};
 ghost use Rattle.ct_names.specs.Outcome.{is_sort};
 ghost use Rattle.ct_check.specs.Callees.{callee_sorts, callee_result, IsCallee};
 
+use ct_formulas::Tree;
 use ct_names::{CheckError, CoreOperator, argument_sorts, result_sort};
 use ct_sorts::{CtorId, Signature, SortId, Symbol};
-use ct_terms::Tree;
 use std::alloc::Global;
 
 /// The sort Bool.

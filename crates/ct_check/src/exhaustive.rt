@@ -2,13 +2,13 @@
 ghost use Rattle.std.specs.Prelude.{◌≡◌, ◌||◌, IfOk, IfErr, OnOk};
 ghost use Rattle.std.specs.List.{list_all, list_any};
 ghost use Rattle.ct_sorts.specs.declared.ids.CtorId.{CtorId};
-ghost use Rattle.ct_terms.specs.Compiled.{is_among};
+ghost use Rattle.ct_formulas.specs.Compiled.{is_among};
 ghost use Rattle.ct_names.specs.Patterns.{are_exhaustive, fits_all, is_of_ctor, sort_ctors};
 
+use ct_formulas::Pattern;
 use ct_names::CheckError;
 use ct_occurrence::Earlier;
 use ct_sorts::{Signature, SortId};
-use ct_terms::Pattern;
 use std::alloc::Global;
 
 /// Whether some pattern fits everything, or each constructor of the sort has one.

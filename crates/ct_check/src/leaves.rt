@@ -8,13 +8,13 @@ ghost use Rattle.ct_names.specs.Elaboration.{part_of, lone, lone_global, lone_sy
 ghost use Rattle.ct_check.specs.Trees.{sorted_of};
 
 use crate::trees::symbol_tree;
+use ct_formulas::Tree;
 use ct_names::{
     CheckError, OUT_OF_SCOPE, UNKNOWN_SYMBOL, Variables, WRONG_COUNT, argument_count, name_of,
     operator_of, result_sort, symbol_named,
 };
 use ct_sexpr::Sexpr;
 use ct_sorts::{Signature, SortId, Symbol};
-use ct_terms::Tree;
 use std::alloc::Global;
 
 /// An expression that is no list: a name.

@@ -1,16 +1,16 @@
 //! The sort that an expression names, and the formula that it writes.
 ghost use Rattle.std.specs.Prelude.{◌≡◌, ℕ, Ok, Err, IfOk, IfErr, IsErrOf};
 ghost use Rattle.ct_sexpr.specs.View.{expression_of};
-ghost use Rattle.ct_terms.specs.TreeFormula.{formula_of};
+ghost use Rattle.ct_formulas.specs.TreeFormula.{formula_of};
 ghost use Rattle.ct_names.specs.Bounds.{parameter_variables};
 ghost use Rattle.ct_names.specs.Elaboration.{elaborated, sort_of};
 
 use crate::terms::term;
+use ct_formulas::Tree;
 use ct_names::{CheckError, Param, Variables, named_sort, parameters};
 use ct_scope::Scope;
 use ct_sexpr::Sexpr;
 use ct_sorts::SortId;
-use ct_terms::Tree;
 use std::alloc::Global;
 
 /// The sort that an expression names (SMT-LIB 2.7, section 3.5). It is refused with 28 where the

@@ -1,6 +1,6 @@
 //! Expressions with variables in scope, as trees with their sorts.
 ghost use Rattle.std.specs.Prelude.{◌≡◌, map, length, None, IfOk, IfErr};
-ghost use Rattle.ct_terms.specs.Formula.{bind};
+ghost use Rattle.ct_formulas.specs.Formula.{bind};
 ghost use Rattle.ct_sexpr.specs.View.{expression_of, expressions_of};
 ghost use Rattle.ct_names.specs.Answer.{IsAnswerFor};
 ghost use Rattle.ct_check.specs.Arguments.{met, HoldsMetTerms};
@@ -12,13 +12,13 @@ use crate::arguments::{Elaborated, called, choice, equation, stopped};
 use crate::binders::{Checked, add_case, binding_names, goes_with, let_tree, match_tree};
 use crate::heads::{Head, head_of};
 use crate::leaves::{lone, lone_symbol};
+use ct_formulas::Tree;
 use ct_names::{
     BoundVariable, CheckError, OUT_OF_SCOPE, Variables, WRONG_SORT, are_attributes, are_cases,
     bounds, matchable, pattern,
 };
 use ct_sexpr::Sexpr;
 use ct_sorts::{Signature, SortId};
-use ct_terms::Tree;
 use std::alloc::Global;
 
 /// The tree of an expression and its sort where these variables are in scope, or its first error.

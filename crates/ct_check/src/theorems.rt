@@ -4,15 +4,15 @@ ghost use Rattle.ct_sexpr.specs.Expression.{Expression};
 ghost use Rattle.ct_sorts.specs.declared.ids.SortId.{SortId};
 ghost use Rattle.ct_sorts.specs.Consistent.{IsConsistent};
 ghost use Rattle.ct_sorts.specs.Declarations.{Declarations};
-ghost use Rattle.ct_terms.specs.Formula.{Formula, MentionsBelow, bind};
-ghost use Rattle.ct_terms.specs.FormulaSorts.{IsSorted};
+ghost use Rattle.ct_formulas.specs.Formula.{Formula, MentionsBelow, bind};
+ghost use Rattle.ct_formulas.specs.FormulaSorts.{IsSorted};
 ghost use Rattle.ct_names.specs.declared.variables.Param.{Param};
 ghost use Rattle.ct_names.specs.Bounds.{parameter_variables};
 ghost use Rattle.ct_names.specs.Elaboration.{elaborated};
 ghost use Rattle.ct_names.specs.Variables.{Variable, variable_sorts};
 
+use ct_formulas::formulas;
 use ct_sorts::{naming, structure};
-use ct_terms::formulas;
 
 /// The theorems on elaboration, for whoever speaks of its formulas. The function does nothing.
 ///

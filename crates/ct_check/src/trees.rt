@@ -1,15 +1,15 @@
 //! Trees of symbols, testers and operators with their arguments.
 ghost use Rattle.std.specs.Prelude.{◌≡◌, ◌∷◌, [], List, MatchOption, IfOk, IfErr};
-ghost use Rattle.ct_terms.specs.declared.tree.Tree.{Tree};
-ghost use Rattle.ct_terms.specs.TreeFormula.{formula_of, formulas_of_trees};
+ghost use Rattle.ct_formulas.specs.declared.tree.Tree.{Tree};
+ghost use Rattle.ct_formulas.specs.TreeFormula.{formula_of, formulas_of_trees};
 ghost use Rattle.ct_names.specs.Symbols.{symbol_applied};
 ghost use Rattle.ct_names.specs.Elaboration.{connected};
 ghost use Rattle.ct_check.specs.Callees.{callee_formula, tester_formula};
 
 use crate::callees::Callee;
+use ct_formulas::Tree;
 use ct_names::{CheckError, CoreOperator};
 use ct_sorts::{CtorId, SelId, Symbol};
-use ct_terms::Tree;
 use std::alloc::Global;
 
 /// What takes arguments of stated sorts, with its arguments.

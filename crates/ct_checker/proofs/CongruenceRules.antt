@@ -1,6 +1,6 @@
 -- The rules of equality are sound: reflexivity, transitivity and congruence.
-use Rattle.std.proofs.Common.{List, [], ◌∷◌, subst}
-use Rattle.std.specs.List.{AllZip}
+use Rattle.std.proofs.Common.{subst}
+use Rattle.ct_lemmas.proofs.Pairs.{AllZip-weaker}
 use Rattle.ct_sorts.specs.Declarations.{Declarations}
 use Rattle.ct_terms.specs.declared.ids.TermId.{TermId}
 use Rattle.ct_terms.specs.Children.{core_children}
@@ -8,13 +8,6 @@ use Rattle.ct_terms.specs.Terms.{Terms}
 use Rattle.ct_eval.specs.declared.interp.Interp.{Interp}
 use Rattle.ct_rules.specs.Rules.{Equations, IsReflexive, IsTransitive, IsCongruence}
 use Rattle.ct_checker.proofs.Setting.{Setting, Equal, value_point}
-
--- a relation that holds where another does, one for one
-pub AllZip-weaker : {X Y : Type 0} (R S : X → Y → Type 0) → ((x : X) (y : Y) → R x y → S x y) → (xs : List X) (ys : List Y) → AllZip R xs ys → AllZip S xs ys
-AllZip-weaker R S each [] [] all = tt
-AllZip-weaker R S each [] (y ∷ ys) all = absurd all
-AllZip-weaker R S each (x ∷ xs) [] all = absurd all
-AllZip-weaker R S each (x ∷ xs) (y ∷ ys) all = (each x y all.0, AllZip-weaker R S each xs ys all.1)
 
 module _ (d : Declarations) (i : Interp) (terms : Terms) (setting : Setting d i terms) (known : Equations) (sound : (x y : TermId) → known x y → Equal d i terms x y) where
   pub reflexive_sound : (x y : TermId) → IsReflexive terms x y → Equal d i terms x y

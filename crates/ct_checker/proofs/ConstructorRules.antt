@@ -1,7 +1,8 @@
 -- The rules of constructors are sound: injection, selection, testing and expansion.
-use Rattle.std.proofs.Common.{◌≡◌, ℕ, suc, inl, inr, Bool, true, false, List, [], ◌∷◌, map, Some, slice_get, refl, sym, ap, subst, ◌∙◌}
+use Rattle.std.proofs.Common.{◌≡◌, ℕ, suc, inl, inr, true, false, List, [], ◌∷◌, map, Some, slice_get, refl, sym, ap, subst, ◌∙◌}
 use Rattle.std.specs.List.{AllZip}
 use Rattle.std.proofs.lemmas.Option.{same_Some}
+use Rattle.ct_lemmas.proofs.Booleans.{not_true}
 use Rattle.ct_sorts.specs.declared.ids.CtorId.{CtorId}
 use Rattle.ct_sorts.specs.declared.ids.SelId.{SelId}
 use Rattle.ct_sorts.specs.Declarations.{Declarations, Constructor}
@@ -19,11 +20,6 @@ use Rattle.ct_eval.specs.Truth.{truth_value}
 use Rattle.ct_rules.specs.Rules.{Equations, truth_term, IsInjection, IsSelection, IsTesting, IsSelected, IsExpansion}
 use Rattle.ct_checker.proofs.Setting.{Setting, Equal, value_point}
 use Rattle.ct_checker.proofs.ValueLemmas.{same_at, stated, read, equal_built, equal_children, argument_at}
-
--- a test that is not true is false
-pub not_true : (b : Bool) → (b ≡ true → ⊥) → b ≡ false
-not_true true h = absurd (h refl)
-not_true false h = refl
 
 -- one constructor stands in one head
 pub one_ctor : (c k : CtorId) → Some (heads.Con c) ≡ Some (heads.Con k) → c ≡ k

@@ -1,5 +1,6 @@
 -- Cycles are impossible: along one the values make a chain through datatypes that comes back to where it began.
 use Rattle.std.proofs.Common.{ℕ, List, [], ◌∷◌, ◌++◌}
+use Rattle.ct_lemmas.proofs.Contained.{Contains-from_slice_get}
 use Rattle.ct_sorts.specs.Declarations.{Declarations}
 use Rattle.ct_values.specs.Value.{Value}
 use Rattle.ct_values.specs.ValueSort.{IsOfData, IsLinked, IsDataChain}
@@ -9,7 +10,6 @@ use Rattle.ct_eval.specs.declared.interp.Interp.{Interp}
 use Rattle.ct_eval.specs.Evaluation.{value_of}
 use Rattle.ct_rules.specs.Rules.{Equations}
 use Rattle.ct_rules.specs.Cycle.{IsOfDatatype, LeadsTo, LeadBack, IsCycle}
-use Rattle.ct_checker.proofs.ListLemmas.{Contains-at}
 use Rattle.ct_checker.proofs.Setting.{Setting, Equal, value_point}
 use Rattle.ct_checker.proofs.ValueLemmas.{argument_at}
 
@@ -22,7 +22,7 @@ module _ (d : Declarations) (i : Interp) (terms : Terms) (setting : Setting d i 
   linked : (con : TermId) (place : ℕ) (next : TermId) → LeadsTo d terms known con place next → IsLinked i.graph (value_of d i terms con) (value_of d i terms next)
   linked con place next leads = (
     value_of d i terms leads.argument,
-    Contains-at _ place _ (argument_at d i terms setting con leads.ctor leads.args place leads.argument leads.stands leads.at),
+    Contains-from_slice_get _ place _ (argument_at d i terms setting con leads.ctor leads.args place leads.argument leads.stands leads.at),
     sound leads.argument next leads.equal,
   )
 

@@ -2,6 +2,9 @@
 use Rattle.std.proofs.Common.{◌≡◌, ℕ, zero, suc, Bool, true, false, not, ◌&&◌, ◌||◌, List, [], ◌∷◌, Some, slice_get, if◌then◌else◌, refl, sym, ap, subst, ◌∙◌, true≢false}
 use Rattle.std.specs.List.{list_all, list_any}
 use Rattle.std.proofs.lemmas.Option.{none-some, same_Some}
+use Rattle.ct_lemmas.proofs.Booleans.{not_true}
+use Rattle.ct_lemmas.proofs.Contained.{Contains-first, Contains-rest}
+use Rattle.ct_lemmas.proofs.Lists.{list_all-at}
 use Rattle.ct_sorts.specs.Declarations.{Declarations}
 use Rattle.ct_values.specs.Value.{Value}
 use Rattle.ct_values.specs.Agreement.{point, AgreeAlways}
@@ -19,10 +22,8 @@ use Rattle.ct_rules.specs.Rules.{truth_term}
 use Rattle.ct_log.specs.declared.rules.Gate.{Gate}
 use Rattle.ct_log.specs.declared.rules.Gate.TheVariants.{True, False, AndPos, AndNeg, OrPos, OrNeg, Iff1, Iff2, Iff3, Iff4, Ite1, Ite2, Ite3, Ite4, Then, Else}
 use Rattle.ct_log.specs.Gates.{positive, negative, literals_of, IsGateClause}
-use Rattle.ct_checker.proofs.ListLemmas.{Contains-first, Contains-rest}
 use Rattle.ct_checker.proofs.Setting.{Setting, value_point}
 use Rattle.ct_checker.proofs.ValueLemmas.{truth_of-truth}
-use Rattle.ct_checker.proofs.ConstructorRules.{not_true}
 
 -- a negation that is not true is of what is true
 not_false : (b : Bool) → not b ≡ false → b ≡ true
@@ -44,12 +45,6 @@ opposite_value true value = refl
 opposite_value false true = refl
 opposite_value false false = refl
 
--- both parts of what is true, and of what is false
-both : (a b : Bool) → (a && b) ≡ true → (a ≡ true) × (b ≡ true)
-both true true e = (refl, refl)
-both true false e = absurd (true≢false (sym e))
-both false b e = absurd (true≢false (sym e))
-
 neither : (a b : Bool) → (a || b) ≡ false → (a ≡ false) × (b ≡ false)
 neither true b e = absurd (true≢false e)
 neither false true e = absurd (true≢false e)
@@ -57,11 +52,6 @@ neither false false e = (refl, refl)
 
 -- each part of a conjunction that is true is true, and of a disjunction that is false is false
 module _ {X : Type 0} (p : X → Bool) where
-  all_at : (xs : List X) (index : ℕ) (x : X) → list_all p xs ≡ true → slice_get xs index ≡ Some x → p x ≡ true
-  all_at [] index x all at = absurd (none-some x at)
-  all_at (y ∷ ys) zero x all at = ap p (sym (same_Some y x at)) ∙ (both (p y) (list_all p ys) all).0
-  all_at (y ∷ ys) (suc index) x all at = all_at ys index x (both (p y) (list_all p ys) all).1 at
-
   any_at : (xs : List X) (index : ℕ) (x : X) → list_any p xs ≡ false → slice_get xs index ≡ Some x → p x ≡ false
   any_at [] index x none at = absurd (none-some x at)
   any_at (y ∷ ys) zero x none at = ap p (sym (same_Some y x at)) ∙ (neither (p y) (list_any p ys) none).0
@@ -182,7 +172,7 @@ module _ (d : Declarations) (i : Interp) (terms : Terms) (setting : Setting d i 
   gate_sound True t place clause is = named clause _ is.2 (of_first (positive (truth_term true)) [] (truth_of-truth d i terms setting true))
   gate_sound False t place clause is = named clause _ is.2 (of_first (negative (truth_term false)) [] (ap not (truth_of-truth d i terms setting false)))
   gate_sound AndPos t place clause (args, a, stands, at, is) =
-      named clause _ is (of_two (negative t) (literal_of terms a) (λ no_t. literal_is a true (all_at true_in args place a (sym (setting.truths.conjunction t args stands) ∙ not_false _ no_t) at)))
+      named clause _ is (of_two (negative t) (literal_of terms a) (λ no_t. literal_is a true (list_all-at true_in args place a (sym (setting.truths.conjunction t args stands) ∙ not_false _ no_t) at)))
   gate_sound AndNeg t place clause (args, stands, no_place, is) =
       named clause _ is (of_rest (positive t) (opposites (literals_of terms args)) (λ no_t. some_false args (sym (setting.truths.conjunction t args stands) ∙ no_t)))
   gate_sound OrPos t place clause (args, stands, no_place, is) =

@@ -3,6 +3,8 @@ use Rattle.std.proofs.Common.{◌≡◌, ℕ, zero, suc, ◌⊎◌, inl, inr, Bo
 use Rattle.std.specs.List.{AllZip}
 use Rattle.std.proofs.lemmas.List.Elements.{All-contains}
 use Rattle.std.proofs.lemmas.Option.{none-some, same_Some}
+use Rattle.ct_lemmas.proofs.Contained.{Contains-first, Contains-rest}
+use Rattle.ct_lemmas.proofs.Each.{All-at}
 use Rattle.ct_sorts.specs.declared.ids.CtorId.{CtorId}
 use Rattle.ct_sorts.specs.declared.ids.Kind.{Kind}
 use Rattle.ct_sorts.specs.declared.ids.Kind.TheVariants.{Free, Data, Codata}
@@ -21,7 +23,6 @@ use Rattle.ct_log.specs.declared.line.Step.{Step}
 use Rattle.ct_log.specs.declared.line.Step.TheVariants.{Input, Gate, Exhaust, Theory, Learn}
 use Rattle.ct_log.specs.Gates.{IsTestOf, IsExhaustion}
 use Rattle.ct_log.specs.Acceptance.{Justifies, IsAccepted}
-use Rattle.ct_checker.proofs.ListLemmas.{All-at, Contains-first, Contains-rest}
 use Rattle.ct_checker.proofs.Setting.{Setting}
 use Rattle.ct_checker.proofs.GateLemmas.{literal_is, gate_sound}
 use Rattle.ct_checker.proofs.RefutationLemmas.{refutation_sound}

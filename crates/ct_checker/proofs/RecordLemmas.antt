@@ -1,5 +1,9 @@
 -- A record that passes has no model: all its clauses would be true there, and the last is empty.
 use Rattle.std.proofs.Common.{◌≡◌, ℕ, zero, suc, ◌<◌, List, [], length, take, Some, slice_get, ap, subst, ◌∙◌, arith}
+use Rattle.ct_lemmas.proofs.Contained.{Contains-none}
+use Rattle.ct_lemmas.proofs.Each.{All-from_Contains}
+use Rattle.ct_lemmas.proofs.Lists.{slice_get-last}
+use Rattle.ct_lemmas.proofs.Prefixes.{slice_get-take, slice_get-take_below}
 use Rattle.ct_sorts.specs.Declarations.{Declarations}
 use Rattle.ct_terms.specs.declared.ids.TermId.{TermId}
 use Rattle.ct_terms.specs.Terms.{Terms}
@@ -7,7 +11,7 @@ use Rattle.ct_eval.specs.declared.interp.Interp.{Interp}
 use Rattle.ct_eval.specs.Truth.{Holds, TrueIn}
 use Rattle.ct_log.specs.declared.line.Line.{Line}
 use Rattle.ct_log.specs.Acceptance.{clauses_of, AreAccepted, Passes}
-use Rattle.ct_checker.proofs.ListLemmas.{All-from, Contains-map_cases, Contains-none, slice_get-last, slice_get-take, slice_get-take_below}
+use Rattle.ct_checker.proofs.ListLemmas.{Contains-map_cases}
 use Rattle.ct_checker.proofs.Setting.{Setting}
 use Rattle.ct_checker.proofs.LineLemmas.{line_sound}
 
@@ -17,7 +21,7 @@ module _ (d : Declarations) (i : Interp) (terms : Terms) (setting : Setting d i 
   true_below zero index line within at = absurd (omega arith)
   true_below (suc bound) index line within at =
       line_sound d i terms setting asserts (clauses_of (take index lines)) line (accepted index line at) holds
-      (All-from (TrueIn d i terms) (clauses_of (take index lines)) (λ clause inside.
+      (All-from_Contains (TrueIn d i terms) (clauses_of (take index lines)) (λ clause inside.
       let one = Contains-map_cases (λ (l : Line). l.clause) (take index lines) clause inside in
       let below : one.0 < index = slice_get-take_below index lines one.0 one.1 one.2 in
       subst (TrueIn d i terms) one.3 (true_below bound one.0 one.1 (omega arith) (slice_get-take index lines one.0 one.1 one.2))))

@@ -1,6 +1,7 @@
 -- A line of equality steps is sound: its equations contradict each other, so not every literal of its clause is false.
 use Rattle.std.proofs.Common.{◌≡◌, ℕ, ◌⊎◌, inl, inr, Bool, true, false, List, [], ◌∷◌, map, All, refl, sym, ◌∙◌}
 use Rattle.std.proofs.lemmas.List.Elements.{All-nil, All-cons}
+use Rattle.ct_lemmas.proofs.Contained.{Contains-first, Contains-rest}
 use Rattle.ct_sorts.specs.Declarations.{Declarations}
 use Rattle.ct_terms.specs.declared.ids.TermId.{TermId}
 use Rattle.ct_terms.specs.Literal.{IsStripped}
@@ -17,7 +18,6 @@ use Rattle.ct_log.specs.declared.rules.Close.TheVariants.{Clash, Cycle}
 use Rattle.ct_log.specs.Equations.{Gave}
 use Rattle.ct_log.specs.Closing.{IsClash, LeadBackBy, IsCycleBy, Closes}
 use Rattle.ct_log.specs.Acceptance.{IsRefuted}
-use Rattle.ct_checker.proofs.ListLemmas.{Contains-first, Contains-rest}
 use Rattle.ct_checker.proofs.Setting.{Setting, Equal, value_point}
 use Rattle.ct_checker.proofs.ConstructorRules.{one_ctor}
 use Rattle.ct_checker.proofs.CycleLemmas.{no_cycle}

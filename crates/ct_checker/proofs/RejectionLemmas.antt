@@ -1,6 +1,8 @@
 -- Lines one after the other: up to the first that is not accepted, or to the end of a record that passes.
-use Rattle.std.proofs.Common.{◌≡◌, ℕ, zero, suc, ◌+◌, ◌<◌, ◌≤◌, ◌⊎◌, inl, inr, List, length, Some, slice_get, sym, ap, subst, ◌∙◌, arith}
+use Rattle.std.proofs.Common.{◌≡◌, ℕ, ◌+◌, ◌<◌, ◌≤◌, inl, inr, List, length, Some, slice_get, sym, ap, subst, ◌∙◌, arith}
 use Rattle.std.proofs.lemmas.Option.{slice_get_within}
+use Rattle.ct_lemmas.proofs.Lists.{slice_get-there}
+use Rattle.ct_lemmas.proofs.Numbers.{last_or_before}
 use Rattle.ct_sorts.specs.Declarations.{Declarations}
 use Rattle.ct_terms.specs.declared.ids.TermId.{TermId}
 use Rattle.ct_terms.specs.Terms.{Terms}
@@ -9,15 +11,6 @@ use Rattle.ct_log.specs.Acceptance.{AreAccepted, Passes}
 use Rattle.ct_checker.specs.declared.reject.Why.{Why}
 use Rattle.ct_checker.specs.declared.reject.Why.TheVariants.{Step, NoEmptyClause}
 use Rattle.ct_checker.specs.Rejection.{IsAcceptedAt, AreAcceptedBelow, IsFirstRefused, EndsEmpty, IsRejectedAt}
-use Rattle.ct_checker.proofs.ListLemmas.{slice_get_some}
-
--- a number that is not past the last is before it, or is it
-last_or_before : (k n : ℕ) → k < n + 1 → (k < n) ⊎ (k ≡ n)
-last_or_before zero zero h = inr (omega arith)
-last_or_before zero (suc n) h = inl (omega arith)
-last_or_before (suc k) zero h = absurd (omega arith)
-last_or_before (suc k) (suc n) h =
-    elim (last_or_before k n (omega arith)) [ inl before ↦ inl (omega arith) | inr last ↦ inr (ap suc last) ]
 
 module _ (d : Declarations) (terms : Terms) (asserts : List TermId) (lines : List Line) where
   -- one line more
@@ -31,7 +24,7 @@ module _ (d : Declarations) (terms : Terms) (asserts : List TermId) (lines : Lis
   -- the first that is not accepted
   pub refused_at : (index : ℕ) → index < length lines → AreAcceptedBelow d terms asserts lines index → ((line : Line) → slice_get lines index ≡ Some line → IsAcceptedAt d terms asserts lines index line → ⊥) → IsFirstRefused d terms asserts lines index
   refused_at index within before refused =
-      let at = slice_get_some lines index within in
+      let at = slice_get-there lines index within in
       record { line = at.0; stands = at.1; refused = refused at.0 at.1; before = before }
 
   -- all of them

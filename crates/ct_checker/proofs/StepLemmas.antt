@@ -3,6 +3,9 @@ use Rattle.std.proofs.Common.{◌≡◌, ℕ, zero, suc, ◌<◌, inl, inr, Bool
 use Rattle.std.specs.List.{AllZip}
 use Rattle.std.proofs.lemmas.List.Elements.{All-contains}
 use Rattle.std.proofs.lemmas.Option.{slice_get_within}
+use Rattle.ct_lemmas.proofs.Contained.{Contains-from_slice_get}
+use Rattle.ct_lemmas.proofs.Lists.{slice_get-map_at, slice_get-there}
+use Rattle.ct_lemmas.proofs.Prefixes.{slice_get-take, slice_get-take_below}
 use Rattle.ct_sorts.specs.Declarations.{Declarations}
 use Rattle.ct_terms.specs.declared.ids.TermId.{TermId}
 use Rattle.ct_terms.specs.declared.ids.Lit.{Lit}
@@ -21,7 +24,7 @@ use Rattle.ct_log.specs.declared.rules.Pair.{Pair}
 use Rattle.ct_log.specs.declared.rules.EqStep.{EqStep}
 use Rattle.ct_log.specs.declared.rules.EqStep.TheVariants.{Hyp, Refl, Sym, Trans, Cong, Inject, Sel, Test, Expand, EqualIn, EqualOut, Neg, Single, Unique}
 use Rattle.ct_log.specs.Equations.{equation, Gave, GaveEach, IsEntryFor, AreEntriesFor, IsPairBy, AreUnique, Gives, GiveAll}
-use Rattle.ct_checker.proofs.ListLemmas.{Contains-at, Contains-map_cases, map-at, slice_get-take, slice_get-take_below, slice_get_some}
+use Rattle.ct_checker.proofs.ListLemmas.{Contains-map_cases}
 use Rattle.ct_checker.proofs.Setting.{Setting, Equal, value_point}
 use Rattle.ct_checker.proofs.ValueLemmas.{stated}
 use Rattle.ct_checker.proofs.RuleLemmas.{follows_sound}
@@ -56,7 +59,7 @@ module _ (given : List Equation) (pairs : List Pair) where
   entry_matched : (e : Entry) (x y : TermId) → IsEntryFor given pairs e x y → AreMatched (IsGiven given) (map sides pairs) x y
   entry_matched (entry.Step n) x y gave = inl (n, gave)
   entry_matched (entry.Pair k m n) x y named =
-      inr (sides named.0, Contains-at (map sides pairs) k (sides named.0) (map-at sides pairs k named.0 named.1), (m, named.2), (n, named.3))
+      inr (sides named.0, Contains-from_slice_get (map sides pairs) k (sides named.0) (slice_get-map_at sides pairs k named.0 named.1), (m, named.2), (n, named.3))
 
   entries_matched : (es : List Entry) (xs ys : List TermId) → AreEntriesFor given pairs es xs ys → AllZip (AreMatched (IsGiven given) (map sides pairs)) xs ys
   entries_matched [] [] [] each = tt
@@ -95,7 +98,7 @@ module _ (d : Declarations) (i : Interp) (terms : Terms) (setting : Setting d i 
         renamed x y unique.asked.left unique.asked.right (sym unique.left) (sym unique.right)
         (uniqueness_sound d i terms setting (IsGiven given) sound unique.asked.left unique.asked.right (record {
           pairs = map sides pairs;
-          listed = Contains-at (map sides pairs) number (sides unique.asked) (map-at sides pairs number unique.asked unique.stands);
+          listed = Contains-from_slice_get (map sides pairs) number (sides unique.asked) (slice_get-map_at sides pairs number unique.asked unique.stands);
           matched = λ pair listed. let one = Contains-map_cases sides pairs pair listed in
               subst (λ (e : Equation). IsPairMatched terms (IsGiven given) (map sides pairs) e.left e.right) one.3 (pair_matched given pairs terms one.1 (unique.each one.0 one.1 one.2));
         }))
@@ -191,7 +194,7 @@ module _ (d : Declarations) (i : Interp) (terms : Terms) (setting : Setting d i 
     given_below zero number x y within gave = absurd (omega arith)
     given_below (suc bound) number x y within gave =
         let inside : number < length steps = subst (λ (n : ℕ). number < n) all.long (slice_get_within given number (equation x y) gave) in
-        let step = slice_get_some steps number inside in
+        let step = slice_get-there steps number inside in
         gives_sound (take number given)
         (λ earlier a b before. given_below bound earlier a b (let below = slice_get-take_below number given earlier (equation a b) before in omega arith) (slice_get-take number given earlier (equation a b) before))
         clause literals untrue step.0 x y (all.each number step.0 (equation x y) step.1 gave)

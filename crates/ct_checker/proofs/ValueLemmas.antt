@@ -2,6 +2,8 @@
 use Rattle.std.proofs.Common.{◌≡◌, ℕ, zero, suc, Bool, true, false, List, [], ◌∷◌, map, Some, slice_get, refl, sym, ap, subst, ◌∙◌}
 use Rattle.std.specs.List.{AllZip}
 use Rattle.std.proofs.lemmas.Option.{none-some, same_Some}
+use Rattle.ct_lemmas.proofs.Lists.{slice_get-map_at}
+use Rattle.ct_lemmas.proofs.Prefixes.{slice_get-take}
 use Rattle.ct_sorts.specs.declared.ids.CtorId.{CtorId}
 use Rattle.ct_sorts.specs.declared.ids.SortId.{SortId}
 use Rattle.ct_sorts.specs.Declarations.{Declarations, bool_sort}
@@ -18,7 +20,6 @@ use Rattle.ct_eval.specs.declared.interp.Interp.{Interp}
 use Rattle.ct_eval.specs.Evaluation.{value_of}
 use Rattle.ct_eval.specs.Truth.{truth_value}
 use Rattle.ct_rules.specs.Rules.{truth_term}
-use Rattle.ct_checker.proofs.ListLemmas.{slice_get-take, map-at}
 use Rattle.ct_checker.proofs.Setting.{Setting, Equal, value_point}
 
 -- values that are the same one for one are so at each index
@@ -75,7 +76,7 @@ module _ (d : Declarations) (i : Interp) (terms : Terms) (setting : Setting d i 
   -- and where they stand for constructor terms, so are heads and arguments
   pub argument_at : (t : TermId) (c : CtorId) (args : List TermId) (index : ℕ) (a : TermId) → Has terms (core.Con c args) t.0 → slice_get args index ≡ Some a → slice_get (children_of i.graph (value_of d i terms t)) index ≡ Some (value_of d i terms a)
   argument_at t c args index a stands at =
-      ap (λ (vs : List Value). slice_get vs index) (setting.table.ctor_children t c args stands) ∙ map-at (value_of d i terms) args index a at
+      ap (λ (vs : List Value). slice_get vs index) (setting.table.ctor_children t c args stands) ∙ slice_get-map_at (value_of d i terms) args index a at
 
   -- what holds of the arguments of constructor terms, one for one, holds of the children of their values
   pub over_arguments : (R : Point → Point → Type 0) (x y : TermId) (c k : CtorId) (xs ys : List TermId) → Has terms (core.Con c xs) x.0 → Has terms (core.Con k ys) y.0 → AllZip R (map (point i.graph) (map (value_of d i terms) xs)) (map (point i.graph) (map (value_of d i terms) ys)) → AllZip R (children (value_point d i terms x)) (children (value_point d i terms y))

@@ -4,6 +4,7 @@ use Rattle.std.specs.List.{AllZip, range_with_len}
 use Rattle.std.proofs.lemmas.Bool.Decides.{Decides-eqb}
 use Rattle.std.proofs.lemmas.List.Elements.{Contains-append_left, Contains-append_right}
 use Rattle.std.proofs.lemmas.Option.{same_Some, slice_get_within, slice_get-map}
+use Rattle.ct_lemmas.proofs.Contained.{Contains-first, Contains-map, Contains-map_cases, Contains-rest, slice_get-from_Contains}
 use Rattle.ct_sorts.specs.declared.ids.CtorId.{CtorId}
 use Rattle.ct_sorts.specs.declared.ids.SortId.{SortId}
 use Rattle.ct_sorts.specs.Declarations.{Declarations, Sort, bool_sort}
@@ -24,7 +25,6 @@ use Rattle.ct_log.specs.declared.line.Step.TheVariants as step
 use Rattle.ct_log.specs.Acceptance.{Justifies, AreAccepted, clauses_of}
 use Rattle.ct_log.specs.Gates.{positive, negative, literals_of, IsGateClause, OfEquivalence, OfChoice, IsOtherChoice, IsExhaustion, IsTestOf}
 use Rattle.ct_clauses.specs.Initial.{firsts, whole, at_each, choice_gates, all_gates, initial_steps, steps_of, IsInitialStep, IsInitialLine, AreInitialLines, AreSplitTerms}
-use Rattle.ct_clauses.proofs.ListLemmas.{Contains-first, Contains-rest, Contains-map, Contains-from_map, index_of}
 use Rattle.ct_clauses.proofs.GateLemmas.{Has-same}
 use Rattle.ct_clauses.proofs.InputLemmas.{same_term}
 use Rattle.ct_clauses.proofs.OrderLemmas.{Once, once_at, range_has}
@@ -247,7 +247,7 @@ initial_all d terms asserts split lines single exact rising accepted steps = rec
 
     to : (line : Line) → Contains lines line → IsInitialLine d terms asserts line
     to line h =
-        let found = index_of lines line h in
+        let found = slice_get-from_Contains lines line h in
         record {
           initial = inside line h;
           justified = anywhere d terms asserts (clauses_of (take found.0 lines)) [] line.step line.clause (inside line h) (accepted found.0 line found.1).justified;
@@ -256,7 +256,7 @@ initial_all d terms asserts split lines single exact rising accepted steps = rec
     from : (line : Line) → IsInitialLine d terms asserts line → Contains lines line
     from line h =
         let among : Contains (steps_of lines) line.step = subst (λ (ss : List Step). Contains ss line.step) (sym steps) (step_has d terms asserts split exact line.step line.clause h.initial h.justified) in
-        let found = Contains-from_map (λ (l : Line). l.step) lines line.step among in
+        let found = Contains-map_cases (λ (l : Line). l.step) lines line.step among in
         let other = to found.0 found.1 in
         let clause : found.0.clause ≡ line.clause = one_clause d terms asserts [] [] single line.step found.0.clause line.clause h.initial (subst (λ (s : Step). Justifies d terms asserts [] s found.0.clause) found.2 other.justified) h.justified in
         let of : Clause → Step → Line = λ x s. record { clause = x; step = s } in

@@ -8,7 +8,7 @@ use Rattle.ct_sorts.specs.Declarations.{Declarations, Sort}
 use Rattle.ct_terms.specs.declared.ids.TermId.{TermId}
 use Rattle.ct_terms.specs.declared.term.Core.{Core}
 use Rattle.ct_terms.specs.declared.term.Core.TheVariants as core
-use Rattle.ct_terms.specs.Compiled.{ctor_ids_of_sort}
+use Rattle.ct_terms.specs.Fields.{ctor_ids_of_sort}
 use Rattle.ct_terms.specs.Terms.{Terms, IsOfSort}
 use Rattle.ct_closure.specs.ClosedTable.{IsPresent, IsSplitTerm, HasCases}
 

@@ -1,7 +1,9 @@
 -- The clauses of gates, and that their literals are over Boolean terms that are no negations.
 use Rattle.std.proofs.Common.{◌≡◌, ℕ, Bool, true, false, List, [], ◌∷◌, map, All, Some, slice_get, refl, sym, ap, subst, ◌∙◌, nat_eq, if◌then◌else◌}
-use Rattle.std.proofs.lemmas.List.Elements.{All-nil, All-cons}
+use Rattle.std.proofs.lemmas.List.Elements.{All-cons}
 use Rattle.std.proofs.lemmas.Option.{same_Some}
+use Rattle.ct_lemmas.proofs.Each.{All-one}
+use Rattle.ct_lemmas.proofs.Prefixes.{slice_get-take}
 use Rattle.ct_sorts.specs.declared.ids.CtorId.{CtorId}
 use Rattle.ct_sorts.specs.declared.ids.SortId.{SortId}
 use Rattle.ct_sorts.specs.Declarations.{bool_sort}
@@ -19,7 +21,6 @@ use Rattle.ct_log.specs.Gates.{literals_of, IsGateClause}
 use Rattle.ct_log.specs.Look.{AreSortedTerms, signed}
 use Rattle.ct_clauses.specs.Initial.{whole, choice_gates}
 use Rattle.ct_clauses.specs.Growth.{IsGateLine}
-use Rattle.ct_clauses.proofs.ListLemmas.{slice_get-take}
 
 -- one number has one term
 pub Has-same : (terms : Terms) (a b : Core) (t : ℕ) → Has terms a t → Has terms b t → a ≡ b
@@ -80,11 +81,8 @@ opposites-map terms (a ∷ args) = ap (λ (ls : List Lit). opposite (literal_of 
 
 -- clauses of one, two and three literals
 module _ {X : Type 0} (P : X → Type 0) where
-  pub All-one : (x : X) → P x → All P (x ∷ [])
-  All-one x h = All-cons P x [] h (All-nil P)
-
   pub All-two : (x y : X) → P x → P y → All P (x ∷ (y ∷ []))
-  All-two x y h k = All-cons P x (y ∷ []) h (All-one y k)
+  All-two x y h k = All-cons P x (y ∷ []) h (All-one P y k)
 
   pub All-three : (x y z : X) → P x → P y → P z → All P (x ∷ (y ∷ (z ∷ [])))
   All-three x y z h k l = All-cons P x (y ∷ (z ∷ [])) h (All-two y z k l)

@@ -3,6 +3,7 @@ use Rattle.std.proofs.Common.{◌≡◌, List, [], ◌∷◌, ◌++◌, Contains
 use Rattle.std.proofs.lemmas.List.{map_push}
 use Rattle.std.proofs.lemmas.List.Elements.{All-push, All-contains, Contains-append_right}
 use Rattle.std.proofs.lemmas.Option.{none-some}
+use Rattle.ct_lemmas.proofs.Contained.{Contains-first}
 use Rattle.ct_sorts.specs.Declarations.{Declarations}
 use Rattle.ct_terms.specs.declared.ids.TermId.{TermId}
 use Rattle.ct_terms.specs.Terms.{Terms}
@@ -13,7 +14,6 @@ use Rattle.ct_log.specs.declared.line.Step.TheVariants as step
 use Rattle.ct_log.specs.Acceptance.{IsAccepted, Justifies}
 use Rattle.ct_clauses.specs.Initial.{steps_of}
 use Rattle.ct_clauses.specs.Growth.{HaveGrown, HaveGates, AreAlwaysAccepted}
-use Rattle.ct_clauses.proofs.ListLemmas.{Contains-first}
 
 module _ (d : Declarations) (terms : Terms) (asserts : List TermId) where
   -- nothing is added

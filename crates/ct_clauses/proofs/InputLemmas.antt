@@ -1,20 +1,14 @@
 -- The different assertions, and which were seen.
-use Rattle.std.proofs.Common.{◌≡◌, ℕ, zero, suc, ◌<◌, ◌⊎◌, inl, inr, Bool, true, false, not, cond, nat_eq, List, [], ◌∷◌, ◌++◌, length, set, replicate, filter, Contains, Some, slice_get, refl, sym, ap, subst, ◌∙◌, append-nil, arith}
+use Rattle.std.proofs.Common.{◌≡◌, ℕ, ◌<◌, ◌⊎◌, inl, inr, Bool, true, false, not, cond, nat_eq, List, [], ◌∷◌, ◌++◌, length, set, replicate, filter, Contains, Some, slice_get, refl, sym, ap, subst, ◌∙◌, append-nil}
 use Rattle.std.proofs.lemmas.Bool.Decides.{Decides-eqb}
 use Rattle.std.proofs.lemmas.List.Elements.{filter-append, Contains-append_left, Contains-push, Contains-push_cases}
-use Rattle.std.proofs.lemmas.Option.{same_Some, none-some}
+use Rattle.std.proofs.lemmas.Option.{same_Some}
+use Rattle.ct_lemmas.proofs.Contained.{Contains-cons, Contains-first, Contains-none, Contains-rest}
+use Rattle.ct_lemmas.proofs.Lists.{slice_get-replicate_false, slice_get-set_other, slice_get-set_same}
+use Rattle.ct_lemmas.proofs.Numbers.{same_or_other}
 use Rattle.ct_terms.specs.declared.ids.TermId.{TermId}
 use Rattle.ct_clauses.specs.Initial.{firsts}
 use Rattle.ct_clauses.specs.Growth.{AreSeen}
-use Rattle.ct_clauses.proofs.ListLemmas.{Contains-cons, Contains-first, Contains-rest, Contains-none}
-
--- two numbers are one or are not
-pub same_or_other : (i j : ℕ) → (i ≡ j) ⊎ (i ≡ j → ⊥)
-same_or_other zero zero = inl refl
-same_or_other zero (suc j) = inr (λ e. omega arith)
-same_or_other (suc i) zero = inr (λ e. omega arith)
-same_or_other (suc i) (suc j) =
-    elim (same_or_other i j) [ inl e ↦ inl (ap suc e) | inr n ↦ inr (λ e. n (omega arith)) ]
 
 -- terms with one number are one
 pub same_term : (t u : TermId) → t.0 ≡ u.0 → t ≡ u
@@ -76,19 +70,6 @@ firsts_old (u ∷ ts) t h =
           ]
     ]
 
--- an element that was written stands there, and the others stay
-slice_get-set_same : {X : Type 0} (xs : List X) (i : ℕ) (x : X) → i < length xs → slice_get (set xs i x) i ≡ Some x
-slice_get-set_same [] i x h = absurd (omega arith)
-slice_get-set_same (y ∷ ys) zero x h = refl
-slice_get-set_same (y ∷ ys) (suc i) x h = slice_get-set_same ys i x (omega arith)
-
-slice_get-set_other : {X : Type 0} (xs : List X) (i j : ℕ) (x : X) → (j ≡ i → ⊥) → slice_get (set xs i x) j ≡ slice_get xs j
-slice_get-set_other [] i j x h = refl
-slice_get-set_other (y ∷ ys) zero zero x h = absurd (h refl)
-slice_get-set_other (y ∷ ys) zero (suc j) x h = refl
-slice_get-set_other (y ∷ ys) (suc i) zero x h = refl
-slice_get-set_other (y ∷ ys) (suc i) (suc j) x h = slice_get-set_other ys i j x (λ e. h (ap suc e))
-
 -- a term that was seen is seen again
 pub seen_again : (marks : List Bool) (ts : List TermId) (t : TermId) → slice_get marks t.0 ≡ Some true → AreSeen marks ts → AreSeen marks (ts ++ t ∷ [])
 seen_again marks ts t at seen u = (
@@ -112,7 +93,7 @@ seen_new marks ts t within seen u =
 
 -- nothing is seen at the start
 pub seen_none : (marks : List Bool) → ((i : ℕ) → slice_get marks i ≡ Some true → ⊥) → AreSeen marks []
-seen_none marks none_set u = (λ at. absurd (none_set u.0 at), λ h. absurd (Contains-none u h))
+seen_none marks all_unset u = (λ at. absurd (all_unset u.0 at), λ h. absurd (Contains-none u h))
 
 -- what is not set was not seen
 pub unseen : (marks : List Bool) (ts : List TermId) (t : TermId) → slice_get marks t.0 ≡ Some false → AreSeen marks ts → Contains ts t → ⊥
@@ -121,14 +102,5 @@ unseen marks ts t at seen h = true_false (same_Some true false (sym ((seen t).1 
     true_false : true ≡ false → ⊥
     true_false e = cc
 
--- marks that are all unset
-none_set : (n i : ℕ) → slice_get (replicate n false) i ≡ Some true → ⊥
-none_set zero i e = none-some true e
-none_set (suc n) zero e = let h : false ≡ true = same_Some false true e in true_false (sym h)
-  where
-    true_false : true ≡ false → ⊥
-    true_false k = cc
-none_set (suc n) (suc i) e = none_set n i e
-
 pub seen_start : (marks : List Bool) (n : ℕ) → marks ≡ replicate n false → AreSeen marks []
-seen_start marks n is = seen_none marks (λ i at. none_set n i (sym (ap (λ (ms : List Bool). slice_get ms i) is) ∙ at))
+seen_start marks n is = seen_none marks (λ i at. slice_get-replicate_false n i (sym (ap (λ (ms : List Bool). slice_get ms i) is) ∙ at))

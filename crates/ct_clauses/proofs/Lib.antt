@@ -1,6 +1,5 @@
 mod GrowthLemmas
 mod GateLemmas
-mod ListLemmas
 mod InputLemmas
 mod OrderLemmas
 mod StepLemmas

@@ -3,9 +3,9 @@ use Rattle.std.proofs.Common.{◌≡◌, ℕ, zero, suc, ◌+◌, ◌<◌, ◌�
 use Rattle.std.specs.List.{range_with_len}
 use Rattle.std.proofs.lemmas.List.Elements.{Contains-append_cases, All-contains, All-contains_itself, All-filter, filter_passes}
 use Rattle.std.proofs.lemmas.Option.{none-some, same_Some}
+use Rattle.ct_lemmas.proofs.Contained.{Contains-cons, Contains-first, Contains-from_slice_get, Contains-map_cases, Contains-none, Contains-rest, slice_get-from_Contains}
 use Rattle.ct_terms.specs.declared.ids.TermId.{TermId}
 use Rattle.ct_closure.specs.ClosedTable.{AreRising}
-use Rattle.ct_clauses.proofs.ListLemmas.{Contains-cons, Contains-first, Contains-rest, Contains-none, Contains-from_map, contained, index_of}
 
 -- each element stands once
 abbrev pub Once : {X : Type 0} → List X → Type 0
@@ -25,8 +25,8 @@ module _ {X : Type 0} where
   pub once_at : (xs : List X) → Once xs → (i j : ℕ) (x : X) → slice_get xs i ≡ Some x → slice_get xs j ≡ Some x → i ≡ j
   once_at [] h i j x a b = absurd (none-some x a)
   once_at (y ∷ xs) h zero zero x a b = refl
-  once_at (y ∷ xs) h zero (suc j) x a b = absurd (h.0 (subst (Contains xs) (sym (same_Some y x a)) (contained xs j x b)))
-  once_at (y ∷ xs) h (suc i) zero x a b = absurd (h.0 (subst (Contains xs) (sym (same_Some y x b)) (contained xs i x a)))
+  once_at (y ∷ xs) h zero (suc j) x a b = absurd (h.0 (subst (Contains xs) (sym (same_Some y x a)) (Contains-from_slice_get xs j x b)))
+  once_at (y ∷ xs) h (suc i) zero x a b = absurd (h.0 (subst (Contains xs) (sym (same_Some y x b)) (Contains-from_slice_get xs i x a)))
   once_at (y ∷ xs) h (suc i) (suc j) x a b = ap suc (once_at xs h.1 i j x a b)
 
   -- what a filter passes
@@ -85,7 +85,7 @@ module _ {X : Type 0} (code : X → ℕ) where
 pub once_map : {X Y : Type 0} (f : X → Y) → ((x y : X) → f x ≡ f y → x ≡ y) → (xs : List X) → Once xs → Once (map f xs)
 once_map f one [] h = tt
 once_map f one (x ∷ xs) h = (
-  λ k. let from = Contains-from_map f xs (f x) k in h.0 (subst (Contains xs) (one from.0 x from.2) from.1),
+  λ k. let from = Contains-map_cases f xs (f x) k in h.0 (subst (Contains xs) (one from.0 x from.2) from.1),
   once_map f one xs h.1,
 )
 
@@ -93,7 +93,7 @@ once_map f one (x ∷ xs) h = (
 pub once_rising : (ts : List TermId) → AreRising ts → Once ts
 once_rising [] r = tt
 once_rising (t ∷ ts) r = (
-  λ h. let at = index_of ts t h in let less : t.0 < t.0 = r 0 (suc at.0) t t (omega arith) refl at.1 in absurd (omega (arith, less)),
+  λ h. let at = slice_get-from_Contains ts t h in let less : t.0 < t.0 = r 0 (suc at.0) t t (omega arith) refl at.1 in absurd (omega (arith, less)),
   once_rising ts (λ i j u v less a b. r (suc i) (suc j) u v (omega (arith, less)) a b),
 )
 

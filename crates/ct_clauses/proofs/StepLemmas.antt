@@ -4,6 +4,8 @@ use Rattle.std.specs.List.{range_with_len, AllByRecursion}
 use Rattle.std.proofs.lemmas.List.Elements.{Contains-append_left, Contains-append_right, Contains-append_cases, All-contains, All-from_recursion}
 use Rattle.std.proofs.lemmas.List.{take_more}
 use Rattle.std.proofs.lemmas.Option.{none-some, same_Some}
+use Rattle.ct_lemmas.proofs.Contained.{Contains-cons, Contains-first, Contains-map_cases, Contains-none, Contains-rest}
+use Rattle.ct_lemmas.proofs.Numbers.{same_or_other}
 use Rattle.ct_sorts.specs.declared.ids.SortId.{SortId}
 use Rattle.ct_sorts.specs.Declarations.{Declarations}
 use Rattle.ct_terms.specs.declared.ids.TermId.{TermId}
@@ -17,8 +19,7 @@ use Rattle.ct_log.specs.declared.rules.Gate.TheVariants.{True, False, AndPos, An
 use Rattle.ct_log.specs.declared.line.Step.{Step}
 use Rattle.ct_log.specs.declared.line.Step.TheVariants as step
 use Rattle.ct_clauses.specs.Initial.{firsts, whole, at_each, choice_gates, gates_of, gates_from, all_gates, initial_steps, IsInitialStep, AreSplitTerms}
-use Rattle.ct_clauses.proofs.ListLemmas.{Contains-cons, Contains-first, Contains-rest, Contains-none, Contains-from_map}
-use Rattle.ct_clauses.proofs.InputLemmas.{same_or_other, same_term, differs, not_differs}
+use Rattle.ct_clauses.proofs.InputLemmas.{same_term, differs, not_differs}
 use Rattle.ct_clauses.proofs.OrderLemmas.{Once, once_append, once_map, once_filter, once_rising, once_range, once_codes, Contains-filter, Contains-from_filter}
 
 -- a number for each gate, in the order of the rules, and past them for the other steps
@@ -81,7 +82,7 @@ among_each : (n : ℕ) (s : Step) (xs : List Step) → AllByRecursion (IsGateAt 
 among_each n s xs all h = All-contains (IsGateAt n) xs s (All-from_recursion (IsGateAt n) xs all) h
 
 at_each_are : (gate : Gate) (t : TermId) (args : List TermId) (s : Step) → Contains (at_each gate t args) s → (place : ℕ) × (step.Gate gate t place ≡ s)
-at_each_are gate t args s h = let from = Contains-from_map (λ (place : ℕ). step.Gate gate t place) (range_with_len 0 (length args)) s h in (from.0, from.2)
+at_each_are gate t args s h = let from = Contains-map_cases (λ (place : ℕ). step.Gate gate t place) (range_with_len 0 (length args)) s h in (from.0, from.2)
 
 choice_are : (t : TermId) (sort : SortId) (s : Step) → Contains (choice_gates t sort) s → IsGateAt t.0 s
 choice_are t sort s = by (nat_eq sort.0 0)
@@ -247,10 +248,10 @@ once_firsts (u ∷ ts) = (
     true_false e = cc
 
 inputs_are : (asserts : List TermId) (s : Step) → Contains (map step.Input (firsts asserts)) s → step_code s ≡ 16
-inputs_are asserts s h = let from = Contains-from_map step.Input (firsts asserts) s h in ap step_code (sym from.2)
+inputs_are asserts s h = let from = Contains-map_cases step.Input (firsts asserts) s h in ap step_code (sym from.2)
 
 exhausts_are : (split : List TermId) (s : Step) → Contains (map step.Exhaust split) s → step_code s ≡ 17
-exhausts_are split s h = let from = Contains-from_map step.Exhaust split s h in ap step_code (sym from.2)
+exhausts_are split s h = let from = Contains-map_cases step.Exhaust split s h in ap step_code (sym from.2)
 
 -- each initial step stands once
 pub once_initial : (terms : Terms) (asserts split : List TermId) → AreRising split → Once (initial_steps terms asserts split)
@@ -283,7 +284,7 @@ initial_are d terms asserts split exact s h =
       | inr more ↦
           elim (Contains-append_cases (all_gates terms) (map step.Exhaust split) s more) [
             | inl k ↦ let a = all_are terms s k in low_step d terms s (omega (arith, a))
-            | inr k ↦ let from = Contains-from_map step.Exhaust split s k in subst (IsInitialStep d terms) from.2 ((exact from.0).0 from.1)
+            | inr k ↦ let from = Contains-map_cases step.Exhaust split s k in subst (IsInitialStep d terms) from.2 ((exact from.0).0 from.1)
           ]
     ]
 

@@ -2,6 +2,10 @@
 use Rattle.std.proofs.Common.{◌≡◌, ℕ, ◌<◌, List, [], ◌∷◌, ◌++◌, ◌+◌, length, take, Option, Contains, slice_get, Some, option_map, unwrap_or, refl, sym, ap, subst, ◌∙◌, inl, inr}
 use Rattle.std.specs.List.{AllZip}
 use Rattle.std.proofs.lemmas.Option.{slice_get_within, same_Some}
+use Rattle.ct_lemmas.proofs.Contained.{Contains-from_slice_get, Contains-map, slice_get-from_Contains}
+use Rattle.ct_lemmas.proofs.Numbers.{last_or_before}
+use Rattle.ct_lemmas.proofs.Pairs.{AllZip-push}
+use Rattle.ct_lemmas.proofs.Prefixes.{take-slice_get_next}
 use Rattle.ct_sorts.specs.declared.ids.CtorId.{CtorId}
 use Rattle.ct_sorts.specs.declared.ids.SelId.{SelId}
 use Rattle.ct_sorts.specs.declared.ids.SortId.{SortId}
@@ -14,13 +18,12 @@ use Rattle.ct_terms.specs.declared.term.Core.TheVariants.{Con, Sel, Test, Eq, It
 use Rattle.ct_terms.specs.Terms.{Terms, Has, IsOfSort, IsOfField, HasSort, Selects}
 use Rattle.ct_terms.specs.CoreTree.{CoreTree, con, sel, test, equation, choice, trees_of, tree_layer, term_at}
 use Rattle.ct_terms.specs.CoreSorts.{HasTreeSort}
-use Rattle.ct_terms.specs.Compiled.{fields_of, ctor_ids_of_sort}
+use Rattle.ct_terms.specs.Fields.{fields_of, ctor_ids_of_sort}
 use Rattle.ct_closure.specs.Closed.{IsClosed, IsSplit, IsBuilt}
 use Rattle.ct_closure.specs.ClosedTable.{IsPresent, IsSplitTerm, IsFieldTerm, HasCase, HasCases}
 use Rattle.ct_card.specs.Fields.{sels_of}
 use Rattle.ct_closure.specs.Steps.{IsSound, IsAdded, IsStep, IsCaseOf, IsConditionalTaken}
 use Rattle.ct_closure.specs.Trees.{TreeTheorems}
-use Rattle.ct_closure.proofs.ListLemmas.{index_of, contained, before_or_last, Contains-map, AllZip-push, take-slice_get_next}
 use Rattle.ct_closure.proofs.TreeLemmas.{list_of_trees_of, IsBuilt-layer, subtree_child, layer_at, fields_are}
 use Rattle.ct_closure.proofs.GrowthLemmas.{AreInBelow, HasCase-stays, IsPresent-stays, step_then, step_added, stays_at, Has-stays, fields_stay}
 
@@ -39,7 +42,7 @@ module _ (d : Declarations) (ctors : HaveOwnConstructors d) (sels : HaveOwnSelec
   pub declared_of : (table : Terms) (t : TermId) (s : SortId) (c : CtorId) → IsSplitTerm d table t s → Contains (ctor_ids_of_sort d s) c → IsDeclaredOf s c
   declared_of table t s c split of_sort =
       let found = split.unsettled.structured in
-      let at = index_of found.0.ctors c (subst (λ (cs : List CtorId). Contains cs c) (ctors_are d s found.0 found.1) of_sort) in
+      let at = slice_get-from_Contains found.0.ctors c (subst (λ (cs : List CtorId). Contains cs c) (ctors_are d s found.0 found.1) of_sort) in
       let own = ctors s.0 at.0 found.0 c found.1 at.1 in
       let id : ℕ → SortId = λ n. record { 0 = n } in
       (own.0, own.1, ap id own.2)
@@ -50,7 +53,7 @@ module _ (d : Declarations) (ctors : HaveOwnConstructors d) (sels : HaveOwnSelec
   -- the selector is declared, and is of the constructor
   pub selector_of : (c : CtorId) (ctor : Constructor) (s : SelId) → slice_get d.ctors c.0 ≡ Some ctor → Contains ctor.sels s → (selector : Selector) × (slice_get d.sels s.0 ≡ Some selector) × (selector.ctor ≡ c)
   selector_of c ctor s declared of_ctor =
-      let at = index_of ctor.sels s of_ctor in
+      let at = slice_get-from_Contains ctor.sels s of_ctor in
       let own = sels c.0 at.0 ctor s declared at.1 in
       let id : ℕ → CtorId = λ n. record { 0 = n } in
       (own.0, own.1, ap id own.2)
@@ -202,7 +205,7 @@ case_inside d ctors sels table t c case =
 pub case_at : (d : Declarations) (table : Terms) (t : TermId) (r s : SortId) (ctors : List CtorId) (k : ℕ) (c : CtorId) → IsOfSort table t r → option_map (λ (x : Sort). x.ctors) (slice_get d.sorts r.0) ≡ Some ctors → slice_get ctors k ≡ Some c → IsSplitTerm d table t s → IsCaseOf d table t c
 case_at d table t r s ctors k c at are here split =
     let same : r ≡ s = one_sort_at table t r s at (split.unsettled.core, split.unsettled.stands) in
-    let inside : Contains (ctor_ids_of_sort d r) c = subst (λ (cs : List CtorId). Contains cs c) (sym (ap (λ (o : Option (List CtorId)). unwrap_or o []) are)) (contained ctors k c here) in
+    let inside : Contains (ctor_ids_of_sort d r) c = subst (λ (cs : List CtorId). Contains cs c) (sym (ap (λ (o : Option (List CtorId)). unwrap_or o []) are)) (Contains-from_slice_get ctors k c here) in
     (s, split, subst (λ (u : SortId). Contains (ctor_ids_of_sort d u) c) same inside)
 
 -- and all of them are all cases
@@ -210,7 +213,7 @@ pub cases_at : (d : Declarations) (old new : Terms) (t : TermId) (r : SortId) (c
 cases_at d old new t r ctors at are each s split c of_sort =
     let same : s ≡ r = one_sort_at old t s r (split.unsettled.core, split.unsettled.stands) at in
     let inside : Contains ctors c = subst (λ (cs : List CtorId). Contains cs c) (ap (λ (o : Option (List CtorId)). unwrap_or o []) are) (subst (λ (u : SortId). Contains (ctor_ids_of_sort d u) c) same of_sort) in
-    let found = index_of ctors c inside in
+    let found = slice_get-from_Contains ctors c inside in
     each found.0 c (slice_get_within ctors found.0 c found.1) found.1
 
 -- the selectors of a constructor, as a signature has them
@@ -226,7 +229,7 @@ fields_more d old new step t sels i s args after field at so_far here grown =
 -- the cases so far with one more
 pub cases_more : (d : Declarations) (old new : Terms) → IsStep d old new → (t : TermId) (ctors : List CtorId) (i : ℕ) (c : CtorId) → slice_get ctors i ≡ Some c → ((k : ℕ) (e : CtorId) → k < i → slice_get ctors k ≡ Some e → HasCase d old t e) → HasCase d new t c → (k : ℕ) (e : CtorId) → k < i + 1 → slice_get ctors k ≡ Some e → HasCase d new t e
 cases_more d old new step t ctors i c at so_far here k e less at_k =
-    elim (before_or_last k i less) [
+    elim (last_or_before k i less) [
       | inl before ↦ HasCase-stays old new step.grown d t e (so_far k e before at_k)
       | inr last ↦ subst (λ (x : CtorId). HasCase d new t x) (same_Some c e (sym at ∙ ap (slice_get ctors) (sym last) ∙ at_k)) here
     ]

@@ -2,6 +2,8 @@
 use Rattle.std.proofs.Common.{◌≡◌, ℕ, ◌<◌, Bool, List, [], ◌∷◌, length, Contains, slice_get, Some, refl, sym, ap, subst, ◌∙◌, inl, inr, arith}
 use Rattle.std.specs.List.{AllZip, AllByRecursion}
 use Rattle.std.proofs.lemmas.Option.{slice_get_within, same_Some}
+use Rattle.ct_lemmas.proofs.Contained.{Contains-first, Contains-map, Contains-rest}
+use Rattle.ct_lemmas.proofs.Lists.{slice_get-there}
 use Rattle.ct_sorts.specs.declared.ids.CtorId.{CtorId}
 use Rattle.ct_sorts.specs.declared.ids.SelId.{SelId}
 use Rattle.ct_sorts.specs.declared.ids.SortId.{SortId}
@@ -12,13 +14,12 @@ use Rattle.ct_terms.specs.declared.term.Core.TheVariants.{Con, Sel, Test, Eq, It
 use Rattle.ct_terms.specs.Terms.{Terms, HasArgumentsBelow}
 use Rattle.ct_terms.specs.CoreTree.{CoreTree, con, sel, test, equation, choice, trees_of, subtrees, tree_layer, term_at}
 use Rattle.ct_terms.specs.CoreSorts.{HasTreeSort}
-use Rattle.ct_terms.specs.Compiled.{fields_of, ctor_ids_of_sort}
+use Rattle.ct_terms.specs.Fields.{fields_of, ctor_ids_of_sort}
 use Rattle.ct_closure.specs.Closed.{IsBuilt, IsStructured, IsSplit}
 use Rattle.ct_closure.specs.ClosedTable.{HasTree, IsClosedTable, IsPresent, IsOpen, IsSplitTerm, IsFieldTerm, HasCases}
 use Rattle.ct_card.specs.Fields.{sels_of}
 use Rattle.ct_closure.specs.Steps.{IsSound, IsMarked, IsUnderWay}
 use Rattle.ct_closure.specs.Trees.{TreeTheorems}
-use Rattle.ct_closure.proofs.ListLemmas.{Contains-first, Contains-rest, Contains-map, entry_at}
 use Rattle.ct_closure.proofs.TreeLemmas.{list_of_trees_of, IsBuilt-layer, IsConstruction-layer, conditional_layer, subtree_child, layer_at, fields_are}
 
 module _ (th : TreeTheorems) (d : Declarations) (table : Terms) (sound : IsSound d table) where
@@ -38,7 +39,7 @@ module _ (th : TreeTheorems) (d : Declarations) (table : Terms) (sound : IsSound
 
   open_from : (t : TermId) (sort : SortId) → t.0 < length table → HasTreeSort d (term_at table t) sort → IsStructured d sort → (IsBuilt (term_at table t) → ⊥) → IsOpen d table t sort
   open_from t sort within sorted structured unbuilt =
-      let e = entry_at table t.0 within in
+      let e = slice_get-there table t.0 within in
       let same : e.0.1 ≡ sort = sort_at t e.0.0 e.0.1 sort e.1 sorted in
       record {
         core = e.0.0;
@@ -134,7 +135,7 @@ module _ (th : TreeTheorems) (d : Declarations) (table : Terms) (sound : IsSound
 
     closed_conditionals : (c a b : CoreTree) (sort : SortId) → HasTree table (choice c a b) → HasTreeSort d (choice c a b) sort → (sort ≡ bool_sort → ⊥) → HasTree table (equation (choice c a b) a) × HasTree table (equation (choice c a b) b)
     closed_conditionals c a b sort (n, within, e) sorted other =
-        let here = entry_at table n.0 within in
+        let here = slice_get-there table n.0 within in
         let layer : term_at table n ≡ tree_layer (term_at table) here.0.0 = layer_at th table sound.ordered here.0.0 n (here.0.1, here.1) in
         let parts = conditional_layer (term_at table) here.0.0 c a b (sym layer ∙ e) in
         let same : here.0.1 ≡ sort = sort_at n here.0.0 here.0.1 sort here.1 (subst (λ (u : CoreTree). HasTreeSort d u sort) (sym e) sorted) in

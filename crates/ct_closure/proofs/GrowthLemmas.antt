@@ -2,6 +2,9 @@
 use Rattle.std.proofs.Common.{◌≡◌, ℕ, ◌+◌, ◌<◌, ◌≤◌, Bool, List, [], ◌∷◌, ◌++◌, length, Contains, slice_get, Some, sym, ap, subst, ◌∙◌, inl, inr, arith, append_assoc, length-append, Result, Ok, Err, IfOk, OnErr}
 use Rattle.std.specs.List.{AllZip}
 use Rattle.std.proofs.lemmas.List.{append-nil}
+use Rattle.ct_lemmas.proofs.Lists.{slice_get-append_left, slice_get-last, slice_get-prefix}
+use Rattle.ct_lemmas.proofs.Numbers.{last_or_before}
+use Rattle.ct_lemmas.proofs.Pairs.{AllZip-weaker}
 use Rattle.ct_sorts.specs.declared.ids.CtorId.{CtorId}
 use Rattle.ct_sorts.specs.declared.ids.SelId.{SelId}
 use Rattle.ct_sorts.specs.declared.ids.SortId.{SortId}
@@ -18,7 +21,6 @@ use Rattle.ct_closure.specs.ClosedTable.{IsPresent, IsOpen, IsArgument, IsSplitT
 use Rattle.ct_card.specs.Fields.{sels_of}
 use Rattle.ct_closure.specs.Steps.{IsSound, IsAdded, IsStep, IsCaseOf, IsMarked, AreMarked, IsConditionalTaken, IsArgumentOf, IsArgumentTaken, IsFiniteTaken, IsTaken}
 use Rattle.ct_closure.specs.Trees.{TreeTheorems}
-use Rattle.ct_closure.proofs.ListLemmas.{before_or_last, slice_get-append_left, slice_get-prefix, slice_get-last, AllZip-weaker}
 use Rattle.ct_closure.proofs.TreeLemmas.{layer_at, term_stays}
 
 -- each list begins with itself, and with what its beginnings begin with
@@ -140,7 +142,7 @@ step_added th d old new core sound (inr (sort, sorted, is)) forced =
       sound = sound;
       forced = λ set closed all t within.
           let before : AreInBelow set new (length old) = λ u below. subst (Contains set) (sym (term_stays th old new grown sound.ordered u below)) (all u below) in
-          elim (before_or_last t.0 (length old) (omega arith)) [
+          elim (last_or_before t.0 (length old) (omega arith)) [
             | inl below ↦ before t below
             | inr last ↦
                 let here : slice_get new t.0 ≡ Some (core, sort) = ap (slice_get new) last ∙ at in

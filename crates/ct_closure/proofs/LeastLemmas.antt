@@ -2,6 +2,10 @@
 use Rattle.std.proofs.Common.{◌≡◌, ℕ, zero, suc, ◌<◌, List, [], ◌∷◌, ◌++◌, length, All, Contains, slice_get, Some, refl, sym, ap, subst, ◌∙◌, inl, inr, arith, length-append}
 use Rattle.std.proofs.lemmas.List.Elements.{Contains-append_cases, All-contains}
 use Rattle.std.proofs.lemmas.Option.{slice_get_within, same_Some}
+use Rattle.ct_lemmas.proofs.Contained.{Contains-cons, Contains-from_slice_get, Contains-map_cases, Contains-none, slice_get-from_Contains}
+use Rattle.ct_lemmas.proofs.Lists.{slice_get-append_left, slice_get-last}
+use Rattle.ct_lemmas.proofs.Numbers.{last_or_before}
+use Rattle.ct_lemmas.proofs.Prefixes.{slice_get-take}
 use Rattle.ct_sorts.specs.declared.ids.SortId.{SortId}
 use Rattle.ct_sorts.specs.Declarations.{Declarations, bool_sort}
 use Rattle.ct_terms.specs.declared.ids.TermId.{TermId}
@@ -12,7 +16,6 @@ use Rattle.ct_closure.specs.Closed.{IsSplit, IsClosed, InClosure, HasMoreThan, t
 use Rattle.ct_closure.specs.ClosedTable.{HasTree, IsClosedTable, AreSubtermsOf, terms_at}
 use Rattle.ct_closure.specs.Steps.{IsStep}
 use Rattle.ct_closure.specs.Trees.{TreeTheorems}
-use Rattle.ct_closure.proofs.ListLemmas.{before_or_last, Contains-cons, Contains-none, index_of, contained, Contains-from_map, slice_get-append_left, slice_get-last, slice_get-take}
 use Rattle.ct_closure.proofs.TreeLemmas.{layer_at, term_stays}
 use Rattle.ct_closure.proofs.GrowthLemmas.{longer}
 
@@ -55,7 +58,7 @@ module _ (table : Terms) where
   unfolding trees_below
   tree_below_at zero k h = absurd (omega arith)
   tree_below_at (suc n) k h =
-      elim (before_or_last k n (omega arith)) [
+      elim (last_or_before k n (omega arith)) [
         | inl before ↦ slice_get-append_left (trees_below table n) (term_at table (record { 0 = n }) ∷ []) k (term_at table (record { 0 = k })) (tree_below_at n k before)
         | inr last ↦
             subst (λ (i : ℕ). slice_get (trees_below table n ++ (term_at table (record { 0 = n }) ∷ [])) i ≡ Some (term_at table (record { 0 = i }))) (sym last)
@@ -76,11 +79,11 @@ module _ (table : Terms) where
 
   pub Stands-listed : (t : CoreTree) → HasTree table t → Contains (all_trees table) t
   unfolding all_trees
-  Stands-listed t (n, within, e) = contained (trees_below table (length table)) n.0 t (tree_below_at table (length table) n.0 within ∙ ap Some e)
+  Stands-listed t (n, within, e) = Contains-from_slice_get (trees_below table (length table)) n.0 t (tree_below_at table (length table) n.0 within ∙ ap Some e)
 
   pub listed-Stands : (t : CoreTree) → Contains (all_trees table) t → HasTree table t
   listed-Stands t h =
-      let found = index_of (all_trees table) t h in
+      let found = slice_get-from_Contains (all_trees table) t h in
       let here = tree_at found.0 t found.1 in
       (record { 0 = found.0 }, here.0, here.1)
 
@@ -119,7 +122,7 @@ module _ (th : TreeTheorems) (d : Declarations) (old new : Terms) (asserts : Lis
 
   roots_stand : (t : CoreTree) → Contains (terms_at old asserts) t → HasTree new t
   roots_stand t h =
-      let found = Contains-from_map (term_at old) asserts t h in
+      let found = Contains-map_cases (term_at old) asserts t h in
       subst (HasTree new) found.2 (root_stands found.0 found.1)
 
   -- a closed table has the whole closure

@@ -3,6 +3,9 @@ use Rattle.std.proofs.Common.{◌≡◌, ℕ, ◌+◌, ◌<◌, Bool, true, fals
 use Rattle.std.proofs.lemmas.List.Elements.{Contains-append_left, Contains-push, Contains-push_cases}
 use Rattle.std.proofs.lemmas.List.Sums.{count_by_more_no, count_by_more_yes}
 use Rattle.std.proofs.lemmas.Option.{slice_get_within, same_Some, none-some, get_or_from_slice_get}
+use Rattle.ct_lemmas.proofs.Contained.{Contains-from_slice_get, Contains-none}
+use Rattle.ct_lemmas.proofs.Lists.{slice_get-push_cases}
+use Rattle.ct_lemmas.proofs.Numbers.{last_or_before}
 use Rattle.ct_sorts.specs.declared.ids.SortId.{SortId}
 use Rattle.ct_terms.specs.declared.ids.TermId.{TermId}
 use Rattle.ct_terms.specs.declared.term.Core.{Core}
@@ -10,7 +13,6 @@ use Rattle.ct_terms.specs.Terms.{Terms}
 use Rattle.ct_closure.specs.ClosedTable.{AreRising}
 use Rattle.ct_closure.specs.Steps.{IsMarked}
 use Rattle.ct_closure.specs.Variables.{is_variable, variable_count}
-use Rattle.ct_closure.proofs.ListLemmas.{before_or_last, Contains-none, contained, slice_get-push_cases}
 
 -- the marked terms with numbers below this one are listed in order
 pub record IsListing (marks : List Bool) (n : ℕ) (terms : List TermId) : Type 0 where
@@ -41,14 +43,14 @@ listing_marked marks n terms so_far marked =
         | inl old ↦ so_far.only t old
         | inr same ↦ subst (IsMarked marks) same marked
       ];
-      all = λ t less here. elim (before_or_last t.0 n less) [
+      all = λ t less here. elim (last_or_before t.0 n less) [
         | inl before ↦ Contains-append_left terms (new ∷ []) t (so_far.all t before here)
         | inr last ↦ subst (Contains (terms ++ new ∷ [])) (ap id (sym last)) (Contains-push terms new)
       ];
       rising = λ i j t u less at_i at_j. elim (slice_get-push_cases terms new t i at_i) [
         | inl old_t ↦ elim (slice_get-push_cases terms new u j at_j) [
           | inl old_u ↦ so_far.rising i j t u less old_t old_u
-          | inr new_u ↦ let e : n ≡ u.0 = ap (λ (v : TermId). v.0) new_u.1 in let below = so_far.below t (contained terms i t old_t) in omega arith
+          | inr new_u ↦ let e : n ≡ u.0 = ap (λ (v : TermId). v.0) new_u.1 in let below = so_far.below t (Contains-from_slice_get terms i t old_t) in omega arith
         ]
         | inr new_t ↦ elim (slice_get-push_cases terms new u j at_j) [
           | inl old_u ↦ let within = slice_get_within terms j u old_u in absurd (omega (arith, less, within, new_t.0))
@@ -62,7 +64,7 @@ listing_unmarked marks n terms so_far unmarked =
     record {
       below = λ t h. let less = so_far.below t h in omega arith;
       only = so_far.only;
-      all = λ t less here. elim (before_or_last t.0 n less) [
+      all = λ t less here. elim (last_or_before t.0 n less) [
         | inl before ↦ so_far.all t before here
         | inr last ↦ absurd (true≢false (same_Some true false (sym (ap (slice_get marks) (sym last) ∙ here) ∙ unmarked)))
       ];

@@ -2,6 +2,7 @@
 use Rattle.std.proofs.Common.{◌≡◌, ℕ, zero, suc, ◌<◌, ◌≤◌, List, [], ◌∷◌, length, map, Contains, slice_get, Some, refl, sym, ap, subst, ◌∙◌, arith}
 use Rattle.std.specs.List.{AllZip, flat_map}
 use Rattle.std.proofs.lemmas.Option.{slice_get_within}
+use Rattle.ct_lemmas.proofs.Contained.{Contains-first, Contains-rest}
 use Rattle.ct_sorts.specs.declared.ids.SelId.{SelId}
 use Rattle.ct_sorts.specs.declared.ids.SortId.{SortId}
 use Rattle.ct_sorts.specs.Declarations.{Declarations, bool_sort}
@@ -17,7 +18,7 @@ use Rattle.ct_terms.specs.CoreTree.{CoreTree, sel, choice, list_of_trees, trees_
 use Rattle.ct_closure.specs.Closed.{IsBuilt}
 use Rattle.ct_closure.specs.ClosedTable.{IsConstruction, IsFieldTerm}
 use Rattle.ct_closure.specs.Trees.{TreeTheorems}
-use Rattle.ct_closure.proofs.ListLemmas.{Contains-first, Contains-rest, Contains-flat_map}
+use Rattle.ct_closure.proofs.ListLemmas.{Contains-flat_map}
 
 -- the arguments made of a list are the list
 pub list_of_trees_of : (ts : List CoreTree) → list_of_trees (trees_of ts) ≡ ts

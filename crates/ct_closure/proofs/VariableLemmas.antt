@@ -4,6 +4,10 @@ use Rattle.std.proofs.lemmas.Bool.Decides.{Decides-eqb}
 use Rattle.std.proofs.lemmas.List.Elements.{Contains-append_left, Contains-push, Contains-push_cases}
 use Rattle.std.proofs.lemmas.List.Sums.{count_by_more_no, count_by_more_yes}
 use Rattle.std.proofs.lemmas.Option.{slice_get_within, same_Some, none-some, get_or_from_slice_get}
+use Rattle.ct_lemmas.proofs.Contained.{Contains-cons, Contains-first, Contains-from_slice_get, Contains-none, Contains-rest}
+use Rattle.ct_lemmas.proofs.Lists.{slice_get-push_cases, slice_get-there}
+use Rattle.ct_lemmas.proofs.Numbers.{last_or_before}
+use Rattle.ct_lemmas.proofs.Prefixes.{slice_get-take, take-past}
 use Rattle.ct_sorts.specs.declared.ids.CtorId.{CtorId}
 use Rattle.ct_sorts.specs.declared.ids.SelId.{SelId}
 use Rattle.ct_sorts.specs.declared.ids.SortId.{SortId}
@@ -21,7 +25,6 @@ use Rattle.ct_closure.specs.ClosedTable.{HasTree, IsConstruction}
 use Rattle.ct_closure.specs.Steps.{IsSound}
 use Rattle.ct_closure.specs.Trees.{TreeTheorems}
 use Rattle.ct_closure.specs.Variables.{is_settled, is_variable, variable_count}
-use Rattle.ct_closure.proofs.ListLemmas.{before_or_last, Contains-cons, Contains-none, Contains-first, Contains-rest, contained, slice_get-push_cases, slice_get-take, take_past, entry_at}
 use Rattle.ct_closure.proofs.TreeLemmas.{IsBuilt-layer, layer_at}
 use Rattle.ct_closure.proofs.ClosedLemmas.{sort_at}
 
@@ -172,7 +175,7 @@ module _ (th : TreeTheorems) (d : Declarations) (consistent : IsConsistent d) (o
             | inl old ↦ let w = so_far.only t old in (w.0, w.1, omega (arith, w.2), w.3, w.4, w.5)
             | inr same ↦ (n, e, omega arith, at, counts, same)
           ];
-          all = λ k f less at_k counts_k. elim (before_or_last k n less) [
+          all = λ k f less at_k counts_k. elim (last_or_before k n less) [
             | inl before ↦ Contains-append_left ts (new ∷ []) (term_at table (id k)) (so_far.all k f before at_k counts_k)
             | inr last ↦ subst (Contains (ts ++ new ∷ [])) (ap (λ (i : ℕ). term_at table (id i)) (sym last)) (Contains-push ts new)
           ];
@@ -180,13 +183,13 @@ module _ (th : TreeTheorems) (d : Declarations) (consistent : IsConsistent d) (o
             | inl old_i ↦ elim (slice_get-push_cases ts new t j at_j) [
               | inl old_j ↦ so_far.different i j t old_i old_j
               | inr new_j ↦
-                  let w = so_far.only t (contained ts i t old_i) in
+                  let w = so_far.only t (Contains-from_slice_get ts i t old_i) in
                   let same : w.0 ≡ n = one_number w.0 n w.1 e w.3 at (w.5 ∙ sym new_j.1) in
                   absurd (omega (arith, same, w.2))
             ]
             | inr new_i ↦ elim (slice_get-push_cases ts new t j at_j) [
               | inl old_j ↦
-                  let w = so_far.only t (contained ts j t old_j) in
+                  let w = so_far.only t (Contains-from_slice_get ts j t old_j) in
                   let same : w.0 ≡ n = one_number w.0 n w.1 e w.3 at (w.5 ∙ sym new_i.1) in
                   absurd (omega (arith, same, w.2))
               | inr new_j ↦ new_i.0 ∙ sym new_j.0
@@ -201,7 +204,7 @@ module _ (th : TreeTheorems) (d : Declarations) (consistent : IsConsistent d) (o
         record {
           number = so_far.number ∙ sym count;
           only = λ t h. let w = so_far.only t h in (w.0, w.1, omega (arith, w.2), w.3, w.4, w.5);
-          all = λ k f less at_k counts_k. elim (before_or_last k n less) [
+          all = λ k f less at_k counts_k. elim (last_or_before k n less) [
             | inl before ↦ so_far.all k f before at_k counts_k
             | inr last ↦ absurd (true≢false (sym counts_k ∙ ap is_variable (same_Some f e (sym at_k ∙ ap (slice_get table) last ∙ at)) ∙ fails))
           ];
@@ -220,7 +223,7 @@ module _ (th : TreeTheorems) (d : Declarations) (consistent : IsConsistent d) (o
     },
   )
   variable_list (suc n) h =
-      let e = entry_at table n (omega (arith, h)) in
+      let e = slice_get-there table n (omega (arith, h)) in
       let next : n + 1 ≡ suc n = omega arith in
       subst HasVariableList next (variable_more n e.0 e.1 (variable_list n (omega (arith, h))) (is_variable e.0) refl)
 
@@ -230,7 +233,7 @@ module _ (th : TreeTheorems) (d : Declarations) (consistent : IsConsistent d) (o
       let all = variable_list (length table) (omega arith) in
       record {
         variables = all.0;
-        number = all.1.number ∙ ap variable_count (take_past (length table) table (omega arith));
+        number = all.1.number ∙ ap variable_count (take-past (length table) table (omega arith));
         different = all.1.different;
         exact = λ t. (
           λ h.
@@ -238,7 +241,7 @@ module _ (th : TreeTheorems) (d : Declarations) (consistent : IsConsistent d) (o
               (inside t (id w.0, w.2, w.5), subst (IsVariable d) w.5 (variable_tree w.0 w.1 w.3 w.4)),
           λ (member, v).
               let at = stands t member in
-              let e = entry_at table at.0.0 at.1 in
+              let e = slice_get-there table at.0.0 at.1 in
               subst (Contains all.0) at.2 (all.1.all at.0.0 e.0 at.1 e.1 (tree_variable at.0.0 e.0 e.1 (subst (IsVariable d) (sym at.2) v))),
         );
       }

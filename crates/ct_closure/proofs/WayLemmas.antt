@@ -2,6 +2,8 @@
 use Rattle.std.proofs.Common.{◌≡◌, ℕ, zero, suc, ◌+◌, ◌<◌, ◌⊎◌, Bool, true, false, List, [], ◌∷◌, ◌++◌, length, slice_get, Some, refl, sym, ap, subst, ◌∙◌, inl, inr, arith, length-append, true≢false, IsTrue}
 use Rattle.std.proofs.Math.ListN.{set}
 use Rattle.std.proofs.lemmas.Option.{none-some}
+use Rattle.ct_lemmas.proofs.Lists.{slice_get-append_left, slice_get-push_cases}
+use Rattle.ct_lemmas.proofs.Numbers.{last_or_before}
 use Rattle.ct_sorts.specs.declared.ids.SortId.{SortId}
 use Rattle.ct_sorts.specs.Declarations.{Declarations}
 use Rattle.ct_terms.specs.declared.ids.TermId.{TermId}
@@ -11,7 +13,6 @@ use Rattle.ct_sorts.specs.declared.ids.CtorId.{CtorId}
 use Rattle.ct_terms.specs.Terms.{Terms}
 use Rattle.ct_closure.specs.ClosedTable.{IsConstruction, IsArgument, IsSplitTerm, HasCases}
 use Rattle.ct_closure.specs.Steps.{IsArgumentOf, IsStep, IsMarked, AreMarked, HasMarks, IsConditionalTaken, IsArgumentTaken, IsFiniteTaken, IsTaken, IsUnderWay}
-use Rattle.ct_closure.proofs.ListLemmas.{before_or_last, slice_get-append_left, slice_get-push_cases}
 use Rattle.ct_closure.proofs.GrowthLemmas.{Begins-further, longer, AreMarked-stay, IsConditionalTaken-stays, IsArgumentTaken-stays, IsTaken-stays}
 
 -- one mark more that is not set
@@ -84,7 +85,7 @@ taken_next d table first second third marks after last within under to_first con
     } in (
       long,
       record {
-        taken = λ u less. elim (before_or_last u.0 (length marks) (omega (arith, long, less))) [
+        taken = λ u less. elim (last_or_before u.0 (length marks) (omega (arith, long, less))) [
           | inl before ↦
               IsTaken-stays table third grown d marks last (λ v was. marks_last.stay v (marks_after.stay v (pushed_stay marks v was))) to_third.sound.ordered u
               (omega (arith, before, within)) (under.taken u before)

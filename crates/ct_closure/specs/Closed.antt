@@ -10,7 +10,7 @@ use Rattle.ct_card.specs.declared.size.Size.TheVariants.{Finite}
 use Rattle.ct_card.specs.Cardinality.{HasSize}
 use Rattle.ct_terms.specs.CoreTree.{CoreTree, con, sel, test, equation, negation, choice, no_trees, trees_of, subtrees}
 use Rattle.ct_terms.specs.CoreSorts.{HasTreeSort}
-use Rattle.ct_terms.specs.Compiled.{fields_of, ctor_ids_of_sort}
+use Rattle.ct_terms.specs.Fields.{fields_of, ctor_ids_of_sort}
 
 -- `true` and `false`
 abbrev pub truth_trees : List CoreTree

@@ -13,7 +13,7 @@ use Rattle.ct_terms.specs.declared.term.Core.{Core}
 use Rattle.ct_terms.specs.declared.term.Core.TheVariants.{Con, Sel, Test}
 use Rattle.ct_terms.specs.Terms.{Terms, Has}
 use Rattle.ct_terms.specs.CoreTree.{CoreTree, subtrees, term_at}
-use Rattle.ct_terms.specs.Compiled.{ctor_ids_of_sort}
+use Rattle.ct_terms.specs.Fields.{ctor_ids_of_sort}
 use Rattle.ct_closure.specs.Closed.{IsStructured, IsClosed, truth_trees}
 
 -- the term stands in the table, at some number

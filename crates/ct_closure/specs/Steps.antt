@@ -12,7 +12,7 @@ use Rattle.ct_terms.specs.declared.term.Core.{Core}
 use Rattle.ct_terms.specs.declared.term.Core.TheVariants.{Sel, Test, Eq, Ite}
 use Rattle.ct_terms.specs.Terms.{Terms, HasSort, AreSorted, AreOrdered, AreSingle, Has}
 use Rattle.ct_terms.specs.CoreTree.{CoreTree, term_at}
-use Rattle.ct_terms.specs.Compiled.{ctor_ids_of_sort}
+use Rattle.ct_terms.specs.Fields.{ctor_ids_of_sort}
 use Rattle.ct_closure.specs.Closed.{IsClosed}
 use Rattle.ct_closure.specs.ClosedTable.{IsPresent, IsOpen, IsSplitTerm, HasCases}
 

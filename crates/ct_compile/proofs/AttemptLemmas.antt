@@ -1,11 +1,12 @@
 -- Attempts to compile a closed formula: first parts that are made, and calls that are put off.
 use Rattle.std.proofs.Common.{◌≡◌, ◌⊎◌, ◌-◌, ℕ, suc, ◌<◌, Bool, List, [], ◌∷◌, ◌++◌, Contains, length, Result, Ok, Err, Option, Some, None, is_some, option_map, slice_get, get_or, IfOk, IsErrOf, true, false, true≢false, refl, sym, ap, ap₂, subst, ◌∙◌, inl, inr, arith}
-use Rattle.std.specs.List.{AllZip}
 use Rattle.std.proofs.Math.Seq.{get_or-append_seam}
 use Rattle.std.proofs.lemmas.List.{append-nil, append_assoc, length-append}
 use Rattle.std.proofs.lemmas.List.Elements.{Contains-append_cases, Contains-append_left}
 use Rattle.std.proofs.lemmas.Option.{none-some, same_Some}
 use Rattle.std.proofs.lemmas.Result.{IfOk-weaker}
+use Rattle.ct_lemmas.proofs.Contained.{Contains-cons, Contains-none}
+use Rattle.ct_lemmas.proofs.Pairs.{AllZip-none}
 use Rattle.indexmap.specs.IndexMap.{IndexMap, get}
 use Rattle.ct_sorts.specs.declared.ids.DefId.{DefId}
 use Rattle.ct_sorts.specs.declared.ids.SortId.{SortId}
@@ -15,8 +16,8 @@ use Rattle.ct_terms.specs.declared.error.TermError.{TermError}
 use Rattle.ct_terms.specs.declared.error.TermError.TheVariants.{Full, NoMemory}
 use Rattle.ct_terms.specs.Terms.{Terms, AreOrdered}
 use Rattle.ct_terms.specs.CoreTree.{CoreTree, subtrees}
-use Rattle.ct_terms.specs.Formula.{Formula, bind}
-use Rattle.ct_terms.specs.Compiled.{compiled}
+use Rattle.ct_formulas.specs.Formula.{Formula, bind}
+use Rattle.ct_formulas.specs.Compiled.{compiled}
 use Rattle.ct_occurrence.specs.declared.definitions.Worked.{Worked}
 use Rattle.ct_scope.specs.declared.known.Called.{Called}
 use Rattle.ct_scope.specs.declared.stop.DeferredCall.{DeferredCall}
@@ -34,7 +35,7 @@ use Rattle.ct_compile.specs.Attempts.{MakesFirst, closed_core, closed_making, Is
 use Rattle.ct_operators.proofs.EffectLemmas.{prefix_itself, effect_none, effect_then, effect_because}
 use Rattle.ct_scope.proofs.CompilableLemmas.{bounds_stay, ready_stays}
 use Rattle.ct_operators.proofs.OperatorLemmas.{stands_as}
-use Rattle.ct_operators.proofs.MakesLemmas.{prefix_ordered, have_stay, have_left, have_right, makes_then, makes_none, makes_nothing, makes_split, makes_has, Contains-cons, Contains-none}
+use Rattle.ct_operators.proofs.MakesLemmas.{prefix_ordered, have_stay, have_left, have_right, makes_then, makes_none, makes_nothing, makes_split, makes_has}
 use Rattle.ct_scope.proofs.MakingLemmas.{makes_is}
 use Rattle.ct_scope.proofs.DefinitionLemmas.{given_is}
 use Rattle.ct_operators.proofs.WithinLemmas.{within_subtrees}
@@ -225,13 +226,9 @@ last_none known calls empty (Err s) = tt
 
 -- ---- a closed formula
 
-zip_none : {X Y : Type 0} (R : X → Y → Type 0) (ys : List Y) → AllZip R [] ys → ys ≡ []
-zip_none R [] h = refl
-zip_none R (y ∷ ys) h = absurd h
-
 module _ (d : Declarations) (bodies : List Formula) (rows : Rows) (n : ℕ) (t : Formula) where
   no_trees : (table : Terms) (trees : List CoreTree) (sorts : List SortId) (sort : SortId) → IsCompilable d bodies table n [] t trees sorts sort → trees ≡ []
-  no_trees table trees sorts sort h = zip_none (IsBound table) trees h.setting.bound
+  no_trees table trees sorts sort h = AllZip-none (IsBound table) trees h.setting.bound
 
   pub closed_compiles : (old new : Terms) (r : Result TermId TermError) → IfOk r (λ u. Stands new u (closed_core d bodies n t)) → ((allowed : List CoreTree) → Within allowed (closed_core d bodies n t) → Effect d allowed old new (IsErrOf r Full)) → IfOk r (λ u. MakesInOrder old (closed_making d bodies n t) new) → Compiles d bodies n old new [] t r
   closed_compiles old new r core effect order = record {

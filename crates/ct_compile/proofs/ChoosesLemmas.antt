@@ -3,18 +3,19 @@ use Rattle.std.proofs.Common.{◌≡◌, ℕ, ◌+◌, ◌<◌, ◌≤◌, List,
 use Rattle.std.specs.List.{AllByRecursion}
 use Rattle.std.proofs.lemmas.Result.{IfOk-weaker}
 use Rattle.std.proofs.lemmas.List.{append-nil, append_assoc}
+use Rattle.ct_lemmas.proofs.Contained.{Contains-cons, Contains-none}
 use Rattle.ct_sorts.specs.declared.ids.CtorId.{CtorId}
 use Rattle.ct_sorts.specs.declared.ids.SortId.{SortId}
 use Rattle.ct_sorts.specs.Declarations.{Declarations}
 use Rattle.ct_terms.specs.declared.ids.TermId.{TermId}
 use Rattle.ct_terms.specs.declared.error.TermError.{TermError}
 use Rattle.ct_terms.specs.declared.error.TermError.TheVariants.{Full}
-use Rattle.ct_terms.specs.declared.tree.Pattern.{Pattern}
+use Rattle.ct_formulas.specs.declared.tree.Pattern.{Pattern}
 use Rattle.ct_terms.specs.Terms.{Terms, AreOrdered}
 use Rattle.ct_terms.specs.CoreTree.{CoreTree, choice, tree_children, subtrees, term_at}
 use Rattle.ct_terms.specs.CoreSorts.{HasTreeSort}
-use Rattle.ct_terms.specs.Formula.{Formula, Cases, no_cases, with_case}
-use Rattle.ct_terms.specs.Compiled.{compiled_cases}
+use Rattle.ct_formulas.specs.Formula.{Formula, Cases, no_cases, with_case}
+use Rattle.ct_formulas.specs.Compiled.{compiled_cases}
 use Rattle.ct_scope.specs.declared.bound.Bound.{Bound}
 use Rattle.ct_scope.specs.declared.stop.Stop.{Stop}
 use Rattle.ct_scope.specs.Deferral.{ended, DefersCases}
@@ -30,7 +31,7 @@ use Rattle.ct_scope.specs.Matching.{AreCases, MayCases, CompilesCases}
 use Rattle.ct_scope.proofs.Weight.{weight, case_weights, weights_below}
 use Rattle.ct_operators.proofs.EffectLemmas.{effect_none, effect_then}
 use Rattle.ct_operators.proofs.WithinLemmas.{within_subtrees, within_itself, within_choice}
-use Rattle.ct_operators.proofs.MakesLemmas.{makes_then, Contains-cons, Contains-none, has_subterm, subterm_cases, Rises, rises_stay, makes_rising}
+use Rattle.ct_operators.proofs.MakesLemmas.{makes_then, has_subterm, subterm_cases, Rises, rises_stay, makes_rising}
 use Rattle.ct_operators.proofs.OperatorLemmas.{stands_as}
 use Rattle.ct_scope.proofs.DeferralLemmas.{ended_by, too_deep_by, waits_under}
 use Rattle.ct_scope.proofs.MatchLemmas.{IsChosen, cases_sorted}

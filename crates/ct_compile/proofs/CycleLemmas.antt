@@ -10,10 +10,10 @@ use Rattle.ct_terms.specs.declared.error.TermError.{TermError}
 use Rattle.ct_terms.specs.declared.error.TermError.TheVariants.{Full, NoMemory}
 use Rattle.ct_terms.specs.Terms.{Terms}
 use Rattle.ct_terms.specs.CoreTree.{CoreTree, subtrees, term_at}
-use Rattle.ct_terms.specs.Formula.{Formula, Formulas, no_formulas, with_formula}
-use Rattle.ct_terms.specs.Compiled.{compiled, compiled_all}
+use Rattle.ct_formulas.specs.Formula.{Formula, Formulas, no_formulas, with_formula}
+use Rattle.ct_formulas.specs.Compiled.{compiled, compiled_all}
 use Rattle.ct_scope.specs.declared.bound.Bound.{Bound}
-use Rattle.ct_terms.specs.Occurrence.{count_of}
+use Rattle.ct_formulas.specs.Occurrence.{count_of}
 use Rattle.ct_operators.specs.Effect.{Stands, AllStand, IsSoundTable, Within, AllWithin, IsPrefix, Effect}
 use Rattle.ct_scope.specs.declared.stop.DeferredCall.{DeferredCall}
 use Rattle.ct_occurrence.specs.Marks.{Rows}

@@ -5,14 +5,14 @@ use Rattle.ct_sorts.specs.declared.ids.SortId.{SortId}
 use Rattle.ct_sorts.specs.Declarations.{Declarations}
 use Rattle.ct_sorts.specs.Consistent.{IsConsistent}
 use Rattle.ct_terms.specs.declared.ids.TermId.{TermId}
-use Rattle.ct_terms.specs.declared.tree.Tree.{Tree}
+use Rattle.ct_formulas.specs.declared.tree.Tree.{Tree}
 use Rattle.ct_terms.specs.Terms.{Terms, AreSorted as AreSortedTerms, AreOrdered, AreSingle}
 use Rattle.ct_terms.specs.CoreTree.{CoreTree, subtrees, term_at}
-use Rattle.ct_terms.specs.Formula.{Formula, MentionsBelow}
-use Rattle.ct_terms.specs.FormulaSorts.{IsSorted, AreSound}
-use Rattle.ct_terms.specs.TreeFormula.{formula_of}
+use Rattle.ct_formulas.specs.Formula.{Formula, MentionsBelow}
+use Rattle.ct_formulas.specs.FormulaSorts.{IsSorted, AreSound}
+use Rattle.ct_formulas.specs.TreeFormula.{formula_of}
 use Rattle.ct_scope.specs.declared.bound.Bound.{Bound}
-use Rattle.ct_terms.specs.Occurrence.{uses_below}
+use Rattle.ct_formulas.specs.Occurrence.{uses_below}
 use Rattle.ct_occurrence.specs.Calls.{CallsAre}
 use Rattle.ct_occurrence.specs.Marks.{Rows, IsKnown, HaveRows, MayMark}
 use Rattle.ct_occurrence.specs.Working.{AreRight}

@@ -6,10 +6,10 @@ use Rattle.ct_sorts.specs.declared.ids.DefId.{DefId}
 use Rattle.ct_sorts.specs.Declarations.{Declarations}
 use Rattle.ct_terms.specs.declared.error.TermError.{TermError}
 use Rattle.ct_terms.specs.declared.ids.TermId.{TermId}
-use Rattle.ct_terms.specs.Formula.{Formula, Formulas, Cases}
-use Rattle.ct_terms.specs.Occurrence.{uses_below}
+use Rattle.ct_formulas.specs.Formula.{Formula, Formulas, Cases}
+use Rattle.ct_formulas.specs.Occurrence.{uses_below}
 use Rattle.ct_terms.specs.Terms.{Terms}
-use Rattle.ct_terms.specs.TreeFormula.{formula_of}
+use Rattle.ct_formulas.specs.TreeFormula.{formula_of}
 use Rattle.ct_occurrence.specs.declared.notes.Notes.{Notes}
 use Rattle.ct_occurrence.specs.Marks.{Rows, worked_in}
 use Rattle.ct_occurrence.specs.Noted.{IsOfFirst, IsNoted, AreNoted, AreNotedWhere, CasesNoted, HaveNotes}

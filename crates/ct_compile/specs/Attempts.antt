@@ -5,8 +5,8 @@ use Rattle.ct_sorts.specs.Declarations.{Declarations}
 use Rattle.ct_terms.specs.declared.ids.TermId.{TermId}
 use Rattle.ct_terms.specs.Terms.{Terms}
 use Rattle.ct_terms.specs.CoreTree.{CoreTree}
-use Rattle.ct_terms.specs.Formula.{Formula}
-use Rattle.ct_terms.specs.Compiled.{compiled}
+use Rattle.ct_formulas.specs.Formula.{Formula}
+use Rattle.ct_formulas.specs.Compiled.{compiled}
 use Rattle.ct_scope.specs.declared.known.Called.{Called}
 use Rattle.ct_scope.specs.declared.stop.DeferredCall.{DeferredCall}
 use Rattle.ct_scope.specs.Calling.{same_call, call_of}

@@ -2,8 +2,8 @@
 ghost use Rattle.std.specs.Prelude.{◌≡◌, suc, [], map, List, Some, IfOk, IsErrOf};
 ghost use Rattle.indexmap.specs.IndexMap.{get};
 ghost use Rattle.ct_terms.specs.CoreTree.{CoreTree};
-ghost use Rattle.ct_terms.specs.TreeFormula.{formula_of};
-ghost use Rattle.ct_terms.specs.Occurrence.{uses_below};
+ghost use Rattle.ct_formulas.specs.TreeFormula.{formula_of};
+ghost use Rattle.ct_formulas.specs.Occurrence.{uses_below};
 ghost use Rattle.ct_scope.specs.declared.stop.DeferredCall.{DeferredCall};
 ghost use Rattle.ct_compile.specs.Attempts.{MakesFirst, closed_core, closed_making, IsWaiting, AreWaiting, IsLastKnown};
 ghost use Rattle.ct_scope.specs.Calling.{same_call, call_of, IsState, IsUnknown};
@@ -18,9 +18,10 @@ ghost use Rattle.ct_compile.specs.AtLevel.{IsNotedAt, IsStateAt, MayCompileAt, b
 
 use crate::level::{Level, room_under};
 use crate::terms::compile_tree;
+use ct_formulas::Tree;
 use ct_occurrence::{Definitions, Notes, notes_at};
 use ct_scope::{DeferredCall, Environment, Known, Scope, Stop, body_at, call_with, remember};
-use ct_terms::{TermError, TermId, TermTable, Tree};
+use ct_terms::{TermError, TermId, TermTable};
 use std::alloc::Global;
 
 /// How deep the bodies of calls under calls may nest under a formula, or in a call that is compiled first, with its own body:

@@ -4,18 +4,19 @@ ghost use Rattle.ct_sorts.specs.declared.ids.SortId.{SortId};
 ghost use Rattle.ct_terms.specs.declared.ids.TermId.{TermId};
 ghost use Rattle.ct_terms.specs.Terms.{AreSorted};
 ghost use Rattle.ct_terms.specs.CoreTree.{CoreTree, subtrees, term_at};
-ghost use Rattle.ct_terms.specs.FormulaSorts.{IsSorted, AreSound};
-ghost use Rattle.ct_terms.specs.TreeFormula.{formula_of};
-ghost use Rattle.ct_terms.specs.Compiled.{core_of};
+ghost use Rattle.ct_formulas.specs.FormulaSorts.{IsSorted, AreSound};
+ghost use Rattle.ct_formulas.specs.TreeFormula.{formula_of};
+ghost use Rattle.ct_formulas.specs.Compiled.{core_of};
 ghost use Rattle.ct_operators.specs.Effect.{IsPrefix, DoNotFit};
 ghost use Rattle.ct_operators.specs.Made.{MakesInOrder};
 ghost use Rattle.ct_scope.specs.Making.{making_of};
 
 use crate::deferring::compile_deferring;
+use ct_formulas::Tree;
 use ct_occurrence::{no_definitions, notes_on, work_out_named};
 use ct_operators::term_theorems;
 use ct_scope::Scope;
-use ct_terms::{TermError, TermId, TermTable, Tree};
+use ct_terms::{TermError, TermId, TermTable};
 use indexmap::IndexMap;
 use std::alloc::Global;
 

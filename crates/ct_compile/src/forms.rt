@@ -1,11 +1,11 @@
 //! Operators: which one a formula is, and the formulas under it.
 ghost use Rattle.std.specs.Prelude.{◌≡◌, true, false, IfSome, IfNone};
-ghost use Rattle.ct_terms.specs.TreeFormula.{formula_of, formulas_of_trees};
+ghost use Rattle.ct_formulas.specs.TreeFormula.{formula_of, formulas_of_trees};
 ghost use Rattle.ct_occurrence.specs.Plain.{is_plain, formulas_under};
 ghost use Rattle.ct_operators.specs.Forms.{operator_for};
 
+use ct_formulas::Tree;
 use ct_operators::Operator;
-use ct_terms::Tree;
 use std::slice;
 
 /// The operator and the formulas under it, where a formula is one.

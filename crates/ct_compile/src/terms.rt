@@ -4,8 +4,8 @@ ghost use Rattle.ct_sorts.specs.declared.ids.SortId.{SortId};
 ghost use Rattle.ct_terms.specs.CoreTree.{CoreTree};
 ghost use Rattle.ct_terms.specs.CoreSorts.{HasTreeSort};
 ghost use Rattle.ct_operators.specs.Effect.{Stands, IsSoundTable, IsPrefix, Effect};
-ghost use Rattle.ct_terms.specs.Formula.{Var, Ite, Def, Let, Match, no_formulas, with_formula, bind as bound_over};
-ghost use Rattle.ct_terms.specs.TreeFormula.{formula_of, formulas_of_trees};
+ghost use Rattle.ct_formulas.specs.Formula.{Var, Ite, Def, Let, Match, no_formulas, with_formula, bind as bound_over};
+ghost use Rattle.ct_formulas.specs.TreeFormula.{formula_of, formulas_of_trees};
 ghost use Rattle.ct_scope.specs.Calling.{IsUnknown};
 ghost use Rattle.ct_scope.specs.Deferral.{ended, UnlessFailed, WhenTooDeep};
 ghost use Rattle.ct_occurrence.specs.CaseFormula.{cases_of_trees};
@@ -19,6 +19,7 @@ ghost use Rattle.ct_compile.specs.AtLevel.{AreNotedAt, AreNotedCasesAt, AreNoted
 
 use crate::forms::operands;
 use crate::level::{Level, room_under};
+use ct_formulas::{Case, Pattern, Tree};
 use ct_occurrence::{Earlier, Notes, body_of, notes_at, pattern_of, row_at, tested};
 use ct_operators::{Guarded, Operator, choices, combine, follow, make};
 use ct_scope::{
@@ -26,7 +27,7 @@ use ct_scope::{
     pattern_bounds, remember,
 };
 use ct_sorts::{DefId, Items, Signature};
-use ct_terms::{Args, Case, Core, Pattern, TermError, TermId, TermTable, Tree};
+use ct_terms::{Args, Core, TermError, TermId, TermTable};
 use std::slice;
 
 /// The term of a formula.

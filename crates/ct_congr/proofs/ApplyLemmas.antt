@@ -1,6 +1,7 @@
 -- Adding the merges of a list one after the other.
 use Rattle.std.proofs.Common.{◌≡◌, ◌<◌, ◌⊎◌, List, [], ◌∷◌, ◌++◌, length, Option, slice_get, Some, refl, sym, ap, subst, ◌∙◌, inl, inr, arith}
 use Rattle.std.proofs.lemmas.List.{append-nil, append_assoc}
+use Rattle.ct_lemmas.proofs.Lists.{slice_get-append_left, slice_get-last}
 use Rattle.ct_sorts.specs.Declarations.{Declarations}
 use Rattle.ct_terms.specs.declared.ids.TermId.{TermId}
 use Rattle.ct_terms.specs.declared.ids.Lit.{Lit}
@@ -11,7 +12,6 @@ use Rattle.ct_congr.specs.Partition.{InOneClass}
 use Rattle.ct_congr.specs.Needed.{IsNeeded}
 use Rattle.ct_congr.specs.Sound.{roots, AreCons, IsJoined, IsSound}
 use Rattle.ct_congr.specs.Grown.{IsLater, AreApart}
-use Rattle.ct_congr.proofs.ListLemmas.{slice_get-append_left, slice_get-last}
 use Rattle.ct_congr.proofs.MergeLemmas.{IsReason-wider, IsSound-more}
 use Rattle.ct_congr.proofs.StoreLemmas.{IsLater-more}
 use Rattle.ct_congr.proofs.CompleteLemmas.{Theorems, Derives-reason}

@@ -1,6 +1,7 @@
 -- Whether a class has two terms of different constructors, by the shapes of all classes.
 use Rattle.std.proofs.Common.{◌≡◌, ℕ, ◌⊎◌, List, length, slice_get, Some, None, sym, subst, ◌∙◌, inl, inr, arith}
 use Rattle.std.proofs.lemmas.Option.{none-some, same_Some, slice_get_within}
+use Rattle.ct_lemmas.proofs.Lists.{slice_get-there}
 use Rattle.ct_terms.specs.declared.ids.TermId.{TermId}
 use Rattle.ct_terms.specs.declared.term.Core.TheVariants.{Con}
 use Rattle.ct_terms.specs.Terms.{Terms, Has}
@@ -8,7 +9,6 @@ use Rattle.ct_congr.specs.declared.constructors.Shape.{Shape}
 use Rattle.ct_congr.specs.Rules.{AreShapes}
 use Rattle.ct_congr.specs.State.{IsClashOf}
 use Rattle.ct_congr.proofs.TermLemmas.{Has-inside, Has-constructor}
-use Rattle.ct_congr.proofs.RuleLemmas.{element_at}
 
 module _ (terms : Terms) (reps : List TermId) (shapes : List Shape) (long : length shapes ≡ length reps) (own : (x r : TermId) → slice_get reps x.0 ≡ Some r → slice_get reps r.0 ≡ Some r) (are : AreShapes terms reps (length terms) shapes) where
   pub IsClashOf-shape : (k : ℕ) (shape : Shape) (f o : TermId) → slice_get shapes k ≡ Some shape → shape.first ≡ Some f → shape.other ≡ Some o → IsClashOf terms reps f o
@@ -30,7 +30,7 @@ module _ (terms : Terms) (reps : List TermId) (shapes : List Shape) (long : leng
   pub no_clash : ((k : ℕ) (shape : Shape) → slice_get shapes k ≡ Some shape → (shape.first ≡ None) ⊎ (shape.other ≡ None)) → (a b : TermId) → IsClashOf terms reps a b → ⊥
   no_clash each a b clash =
       let r = clash.equal.0 in
-      let s = element_at shapes r.0 (omega (arith, long, slice_get_within reps r.0 r (own a r clash.equal.1))) in
+      let s = slice_get-there shapes r.0 (omega (arith, long, slice_get_within reps r.0 r (own a r clash.equal.1))) in
       let is = are r s.0 s.1 in
       let left = is.all a clash.first (Has-inside terms (Con clash.first clash.xs) a.0 clash.left) (clash.xs, clash.left, clash.equal.1) in
       let right = is.all b clash.second (Has-inside terms (Con clash.second clash.ys) b.0 clash.right) (clash.ys, clash.right, clash.equal.2) in

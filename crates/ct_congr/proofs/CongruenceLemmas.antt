@@ -1,6 +1,7 @@
 -- The rule of congruence: a map from terms over representatives to the first terms that have them.
 use Rattle.std.proofs.Common.{◌≡◌, ℕ, ◌+◌, ◌<◌, List, length, sym, ap, subst, ◌∙◌, inl, inr, arith}
 use Rattle.std.proofs.lemmas.Option.{same_Some}
+use Rattle.ct_lemmas.proofs.Numbers.{same_or_other}
 use Rattle.indexmap.specs.IndexMap.{IndexMap, get}
 use Rattle.ct_terms.specs.declared.ids.TermId.{TermId}
 use Rattle.ct_terms.specs.declared.term.Core.{Core}
@@ -10,7 +11,6 @@ use Rattle.ct_congr.specs.Partition.{InOneClass}
 use Rattle.ct_congr.specs.Normal.{IsNormal}
 use Rattle.ct_congr.specs.Index.{same_core, IsUnder, IsEntered}
 use Rattle.ct_congr.specs.Rules.{IsCongruent}
-use Rattle.ct_congr.proofs.ListLemmas.{nat_cases}
 use Rattle.ct_congr.proofs.ClassLemmas.{InOneClass-sym, InOneClass-trans}
 use Rattle.ct_congr.proofs.TermLemmas.{Has-same, Has-inside}
 use Rattle.ct_congr.proofs.NormalLemmas.{congruent_from_normal, normal_from_congruent}
@@ -50,7 +50,7 @@ module _ {S : Type 0} (terms : Terms) (reps : List TermId) (index more : IndexMa
   ]
 
   pub AreListed-more : AreListed terms reps index t.0 → InOneClass reps t first → AreListed terms reps more (t.0 + 1)
-  AreListed-more old equal u below = elim (nat_cases u.0 t.0) [
+  AreListed-more old equal u below = elim (same_or_other u.0 t.0) [
     | inl e ↦
         let same : t ≡ u = λ i. record { 0 = sym e i } in
         subst (IsListed terms reps more) same (record { key = key; first = first; is = is; under = entered.under; equal = equal })

@@ -2,6 +2,8 @@
 use Rattle.std.proofs.Common.{◌≡◌, ℕ, ◌+◌, ◌<◌, ◌⊎◌, List, length, slice_get, set, Some, None, refl, sym, ap, subst, ◌∙◌, inl, inr, arith}
 use Rattle.std.proofs.lemmas.Option.{none-some, same_Some, slice_get_within}
 use Rattle.std.proofs.lemmas.List.{length-set}
+use Rattle.ct_lemmas.proofs.Lists.{slice_get-one_length, slice_get-set_other, slice_get-set_same}
+use Rattle.ct_lemmas.proofs.Numbers.{same_or_other}
 use Rattle.indexmap.specs.IndexMap.{IndexMap, get}
 use Rattle.ct_sorts.specs.declared.ids.CtorId.{CtorId}
 use Rattle.ct_sorts.specs.Declarations.{Declarations}
@@ -13,13 +15,12 @@ use Rattle.ct_congr.specs.declared.constructors.Shape.{Shape}
 use Rattle.ct_congr.specs.Partition.{InOneClass}
 use Rattle.ct_congr.specs.Index.{same_core, IsUnder, IsEntered, IsConIndex, IsInjectedAt, class_key}
 use Rattle.ct_congr.specs.Rules.{IsInjective, IsBuiltIn, IsShape, AreShapes}
-use Rattle.ct_congr.proofs.ListLemmas.{nat_cases, slice_get-one_length, slice_get-set_same, slice_get-set_other}
 use Rattle.ct_congr.proofs.ClassLemmas.{InOneClass-sym, InOneClass-trans}
 use Rattle.ct_congr.proofs.TermLemmas.{Has-inside, Has-constructor, one_arity}
 
 -- a number below the next one is below or is it
 below_cases : (t u : TermId) → u.0 < t.0 + 1 → (u.0 < t.0) ⊎ (t ≡ u)
-below_cases t u below = elim (nat_cases u.0 t.0) [
+below_cases t u below = elim (same_or_other u.0 t.0) [
   | inl e ↦ inr (λ i. record { 0 = sym e i })
   | inr other ↦ inl (omega (arith, other, below))
 ]
@@ -148,7 +149,7 @@ pub AreShapes-skip : (terms : Terms) (reps : List TermId) (t : TermId) (shapes :
 AreShapes-skip terms reps t shapes none old r shape at = IsShape-skip terms reps r t shape (λ c built. none c built.0 built.1) (old r shape at)
 
 pub AreShapes-more : (terms : Terms) (reps : List TermId) (t r : TermId) (shapes : List Shape) (shape : Shape) → slice_get reps t.0 ≡ Some r → IsShape terms reps (t.0 + 1) r shape → AreShapes terms reps t.0 shapes → AreShapes terms reps (t.0 + 1) (set shapes r.0 shape)
-AreShapes-more terms reps t r shapes shape at mine old s other at_s = elim (nat_cases s.0 r.0) [
+AreShapes-more terms reps t r shapes shape at mine old s other at_s = elim (same_or_other s.0 r.0) [
   | inl e ↦
       let is : r ≡ s = λ i. record { 0 = sym e i } in
       let within : r.0 < length shapes = omega (arith, slice_get_within (set shapes r.0 shape) s.0 other at_s, length-set shapes r.0 shape, e) in

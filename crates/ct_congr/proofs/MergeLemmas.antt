@@ -4,6 +4,8 @@ use Rattle.std.specs.List.{Contains}
 use Rattle.std.proofs.lemmas.List.{take-append-le, take_at}
 use Rattle.std.proofs.lemmas.List.Elements.{Contains-append_left, Contains-push, Contains-push_cases}
 use Rattle.std.proofs.lemmas.Option.{slice_get_within}
+use Rattle.ct_lemmas.proofs.Lists.{slice_get-push_cases}
+use Rattle.ct_lemmas.proofs.Pairs.{AllZip-weaker}
 use Rattle.ct_sorts.specs.Declarations.{Declarations}
 use Rattle.ct_terms.specs.declared.ids.TermId.{TermId}
 use Rattle.ct_terms.specs.declared.ids.Lit.{Lit}
@@ -20,7 +22,6 @@ use Rattle.ct_congr.specs.Partition.{InOneClass}
 use Rattle.ct_congr.specs.Reasons.{IsReason, IsJustified, IsRule}
 use Rattle.ct_congr.specs.Merges.{IsLink, IsChain, AreConnected, AreJustified}
 use Rattle.ct_congr.specs.Sound.{AreCons, IsJoined, IsSound}
-use Rattle.ct_congr.proofs.ListLemmas.{AllZip-weaker, slice_get-push_cases}
 use Rattle.ct_congr.proofs.ClassLemmas.{InOneClass-refl, InOneClass-sym, InOneClass-trans, InOneClass-inside}
 
 -- ---- chains

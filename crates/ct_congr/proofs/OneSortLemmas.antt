@@ -2,6 +2,8 @@
 use Rattle.std.proofs.Common.{◌≡◌, ℕ, zero, suc, ◌<◌, Bool, true, false, List, [], ◌∷◌, take, slice_get, Some, refl, sym, ap, subst, ◌∙◌, inl, inr, arith}
 use Rattle.std.specs.List.{AllZip, Contains}
 use Rattle.std.proofs.lemmas.Option.{none-some, same_Some}
+use Rattle.ct_lemmas.proofs.Contained.{slice_get-from_Contains}
+use Rattle.ct_lemmas.proofs.Pairs.{AllZip-at_left}
 use Rattle.ct_sorts.specs.declared.ids.CtorId.{CtorId}
 use Rattle.ct_sorts.specs.declared.ids.SelId.{SelId}
 use Rattle.ct_sorts.specs.declared.ids.SortId.{SortId}
@@ -21,7 +23,6 @@ use Rattle.ct_congr.specs.declared.merge.Merge.{Merge}
 use Rattle.ct_congr.specs.Partition.{InOneClass}
 use Rattle.ct_congr.specs.Reasons.{IsReason}
 use Rattle.ct_congr.specs.Merges.{IsChain, AreConnected, AreJustified}
-use Rattle.ct_congr.proofs.ListLemmas.{slice_get-from_Contains}
 
 -- both are of one sort
 abbrev pub AreOfOneSort : Terms → TermId → TermId → Type 0
@@ -30,12 +31,6 @@ AreOfOneSort terms x y = (s : SortId) × IsOfSort terms x s × IsOfSort terms y 
 -- the second is of the first one's sort
 abbrev pub KeepsSort : Terms → TermId → TermId → Type 0
 KeepsSort terms x y = (s : SortId) → IsOfSort terms x s → IsOfSort terms y s
-
-AllZip-first : {X Y : Type 0} (R : X → Y → Type 0) (xs : List X) (ys : List Y) (k : ℕ) (x : X) → AllZip R xs ys → slice_get xs k ≡ Some x → (y : Y) × (slice_get ys k ≡ Some y) × R x y
-AllZip-first R [] ys k x all at = absurd (none-some x at)
-AllZip-first R (z ∷ xs) [] k x all at = absurd all
-AllZip-first R (z ∷ xs) (w ∷ ys) zero x all at = (w, refl, subst (λ q. R q w) (same_Some z x at) all.0)
-AllZip-first R (z ∷ xs) (w ∷ ys) (suc k) x all at = AllZip-first R xs ys k x all.1 at
 
 slice_get-of_take : {X : Type 0} (n : ℕ) (xs : List X) (k : ℕ) (x : X) → slice_get (take n xs) k ≡ Some x → (k < n) × (slice_get xs k ≡ Some x)
 slice_get-of_take zero xs k x at = absurd (none-some x at)
@@ -84,7 +79,7 @@ module _ (d : Declarations) (terms : Terms) (sorted : AreSorted d terms) (begins
   argument_sort t c ctor xs k x has declared at =
       let built = sorted t.0 (Con c xs) has.0 has.1 in
       let same : built.ctor ≡ ctor = same_Some built.ctor ctor (sym built.declared ∙ declared) in
-      let field = AllZip-first (IsOfField d terms) xs built.ctor.sels k x built.fields at in
+      let field = AllZip-at_left (IsOfField d terms) xs built.ctor.sels k x built.fields at in
       (field.0, subst (λ (q : Constructor). slice_get q.sels k ≡ Some field.0) same field.1, field.2)
 
   fields_sort : (x y : TermId) (s r : SelId) → s ≡ r → IsOfField d terms x s → IsOfField d terms y r → AreOfOneSort terms x y
@@ -114,7 +109,7 @@ module _ (d : Declarations) (terms : Terms) (sorted : AreSorted d terms) (begins
     same_gives (sel_head c) xs ys s r all p q = p.2 ∙ ap (λ (k : Selector). k.sort) (same_Some p.0 q.0 (sym p.1 ∙ q.1)) ∙ sym q.2
     same_gives (apply_head c) xs ys s r all p q = p.2 ∙ ap (λ (k : Function). k.result) (same_Some p.0 q.0 (sym p.1 ∙ q.1)) ∙ sym q.2
     same_gives ite_head xs ys s r all p q =
-        let other = AllZip-first known xs ys 1 p.0 all p.1 in
+        let other = AllZip-at_left known xs ys 1 p.0 all p.1 in
         let same : other.0 ≡ q.0 = same_Some other.0 q.0 (sym other.1 ∙ q.1) in
         one_sort q.0 s r (subst (λ (t : TermId). IsOfSort terms t s) same (each p.0 other.0 other.2 s p.2)) q.2
     same_gives (test_head c) xs ys s r all p q = p ∙ sym q

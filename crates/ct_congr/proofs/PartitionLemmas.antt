@@ -5,13 +5,15 @@ use Rattle.std.specs.List.{Contains}
 use Rattle.std.proofs.lemmas.List.{length-set}
 use Rattle.std.proofs.lemmas.List.Elements.{Contains-append_left, Contains-append_right, Contains-append_cases, Contains-push_cases}
 use Rattle.std.proofs.lemmas.Option.{none-some, same_Some, slice_get-get_or, slice_get_within}
+use Rattle.ct_lemmas.proofs.Contained.{Contains-from_slice_get, slice_get-from_Contains}
+use Rattle.ct_lemmas.proofs.Lists.{slice_get-append_cases, slice_get-push_cases, slice_get-set_other, slice_get-set_same}
+use Rattle.ct_lemmas.proofs.Numbers.{same_or_other}
 use Rattle.ct_terms.specs.declared.ids.TermId.{TermId}
 use Rattle.ct_congr.specs.Partition.{InOneClass, AreAlone, AreDistinct, IsClass, IsPartition, IsRelabelling, IsRelabelled, IsUnion}
-use Rattle.ct_congr.proofs.ListLemmas.{Contains-from_slice_get, slice_get-from_Contains, slice_get-set_same, slice_get-set_other, slice_get-push_cases, slice_get-append_cases, nat_cases}
 
 -- two terms are one or not
 pub term_cases : (x y : TermId) → (x ≡ y) ⊎ (x ≡ y → ⊥)
-term_cases x y = elim (nat_cases x.0 y.0) [
+term_cases x y = elim (same_or_other x.0 y.0) [
   | inl e ↦ inl (λ i. record { 0 = e i })
   | inr other ↦ inr (λ e. other (ap (λ t. t.0) e))
 ]
@@ -21,14 +23,14 @@ term_cases x y = elim (nat_cases x.0 y.0) [
 pub IsRelabelling-more : (before now : List TermId) (rep : TermId) (done : List TermId) (t : TermId) → t.0 < length before → length (set now t.0 rep) ≡ length now → IsRelabelling before now rep done → IsRelabelling before (set now t.0 rep) rep (done ++ t ∷ [])
 IsRelabelling-more before now rep done t within kept old = record {
   long = kept ∙ old.long;
-  given = λ u has. elim (nat_cases u.0 t.0) [
+  given = λ u has. elim (same_or_other u.0 t.0) [
     | inl e ↦ subst (λ n. slice_get (set now t.0 rep) n ≡ Some rep) (sym e) (slice_get-set_same now t.0 rep (omega (arith, old.long)))
     | inr other ↦ slice_get-set_other now t.0 u.0 rep other ∙ elim (Contains-push_cases done t u has) [
       | inl before ↦ old.given u before
       | inr same ↦ absurd (other (ap (λ v. v.0) (sym same)))
     ]
   ];
-  others = λ u outside. elim (nat_cases u.0 t.0) [
+  others = λ u outside. elim (same_or_other u.0 t.0) [
     | inl e ↦ absurd (outside (subst (Contains (done ++ t ∷ [])) (λ i. record { 0 = sym e i }) (Contains-append_right done (t ∷ []) t (0, omega arith, refl))))
     | inr other ↦ slice_get-set_other now t.0 u.0 rep other ∙ old.others u (λ before. outside (Contains-append_left done (t ∷ []) u before))
   ];
@@ -185,13 +187,13 @@ IsPartition-restored {A} reps rows more winner loser mine moved none joined old 
     in_winner = omega (arith, slice_get_within rows winner.0 mine at_winner, length-set rows loser.0 none)
 
     row_of : (r : TermId) (row : Vec TermId A) → slice_get (set (set (set rows loser.0 none) winner.0 joined) loser.0 moved) r.0 ≡ Some row → (was : Vec TermId A) × (slice_get rows r.0 ≡ Some was) × (row.items ≡ was.items)
-    row_of r row at = elim (nat_cases r.0 loser.0) [
+    row_of r row at = elim (same_or_other r.0 loser.0) [
       | inl e ↦
           let there : slice_get (set (set (set rows loser.0 none) winner.0 joined) loser.0 moved) r.0 ≡ Some moved = ap (λ (n : ℕ). slice_get (set (set (set rows loser.0 none) winner.0 joined) loser.0 moved) n) e ∙ slice_get-set_same (set (set rows loser.0 none) winner.0 joined) loser.0 moved in_loser in
           (moved, ap (slice_get rows) e ∙ at_loser, ap (λ (v : Vec TermId A). v.items) (same_Some row moved (sym at ∙ there)))
       | inr not_loser ↦
           let second : slice_get (set (set rows loser.0 none) winner.0 joined) r.0 ≡ Some row = sym (slice_get-set_other (set (set rows loser.0 none) winner.0 joined) loser.0 r.0 moved not_loser) ∙ at in
-          elim (nat_cases r.0 winner.0) [
+          elim (same_or_other r.0 winner.0) [
             | inl e ↦
                 let there : slice_get (set (set rows loser.0 none) winner.0 joined) r.0 ≡ Some joined = ap (λ (n : ℕ). slice_get (set (set rows loser.0 none) winner.0 joined) n) e ∙ slice_get-set_same (set rows loser.0 none) winner.0 joined in_winner in
                 (mine, ap (slice_get rows) e ∙ at_winner, ap (λ (v : Vec TermId A). v.items) (same_Some row joined (sym second ∙ there)) ∙ same)

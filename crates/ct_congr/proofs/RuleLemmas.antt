@@ -3,6 +3,7 @@ use Rattle.std.proofs.Common.{◌≡◌, ℕ, zero, suc, ◌<◌, Bool, true, fa
 use Rattle.std.specs.List.{AllZip}
 use Rattle.std.specs.Option.{IfSome, IfNone}
 use Rattle.std.proofs.lemmas.Option.{none-some, same_Some, slice_get-get_or, slice_get_within}
+use Rattle.ct_lemmas.proofs.Options.{option_map-source}
 use Rattle.ct_sorts.specs.declared.ids.CtorId.{CtorId}
 use Rattle.ct_sorts.specs.declared.ids.SelId.{SelId}
 use Rattle.ct_sorts.specs.Declarations.{Declarations, Constructor, Selector}
@@ -14,7 +15,6 @@ use Rattle.ct_rules.specs.Rules.{IsSelection, IsTesting, IsExpansion, IsSelected
 use Rattle.ct_congr.specs.Partition.{InOneClass}
 use Rattle.ct_congr.specs.declared.constructors.Shape.{Shape}
 use Rattle.ct_congr.specs.Rules.{IsCongruent, IsInjective, IsSingular, IsTestedTrue, IsTestedFalse, IsNegated, IsShape, AreShapes, IsClosedAt, AreClosedOf, AreClosedBelow, AreRulesClosed}
-use Rattle.ct_congr.proofs.ListLemmas.{option_map-source}
 use Rattle.ct_congr.proofs.ClassLemmas.{InOneClass-sym, InOneClass-trans}
 use Rattle.ct_congr.proofs.TermLemmas.{Has-same, Has-inside}
 
@@ -203,12 +203,6 @@ pub shape_at : (terms : Terms) (reps : List TermId) (u : TermId) (shapes : List 
 shape_at terms reps u shapes inside own long are =
     let r = get_or reps u.0 (record { 0 = 0 }) in
     are r (get_or shapes r.0 (record { first = None; other = None })) (slice_get-get_or shapes r.0 (record { first = None; other = None }) (shape_inside reps u (length shapes) inside own long))
-
--- what stands at an index below the length
-pub element_at : {X : Type 0} (xs : List X) (k : ℕ) → k < length xs → (x : X) × (slice_get xs k ≡ Some x)
-element_at [] k within = absurd (omega (arith, within))
-element_at (x ∷ xs) zero within = (x, refl)
-element_at (x ∷ xs) (suc k) within = element_at xs k (omega (arith, within))
 
 -- a look-up finds the term that is there
 pub find_unique : (terms : Terms) (core : Core) (o : Option TermId) (t : TermId) → AreSingle terms → IfSome o (λ u. Has terms core u.0) → IfNone o (IsAbsent terms core) → Has terms core t.0 → o ≡ Some t

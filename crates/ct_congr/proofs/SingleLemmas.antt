@@ -1,6 +1,8 @@
 -- The first terms of sorts with one value.
 use Rattle.std.proofs.Common.{◌≡◌, ℕ, ◌+◌, ◌<◌, ◌⊎◌, ◌↔◌, Bool, true, false, MatchBool, List, [], ◌∷◌, ◌++◌, length, Option, slice_get, Some, None, refl, sym, ap, subst, ◌∙◌, inl, inr, arith, true≢false}
 use Rattle.std.proofs.lemmas.Option.{none-some, same_Some, slice_get_within}
+use Rattle.ct_lemmas.proofs.Lists.{slice_get-append_left, slice_get-last, slice_get-push_cases}
+use Rattle.ct_lemmas.proofs.Numbers.{same_or_other}
 use Rattle.ct_sorts.specs.declared.ids.SortId.{SortId}
 use Rattle.ct_sorts.specs.Declarations.{Declarations}
 use Rattle.ct_terms.specs.declared.ids.TermId.{TermId}
@@ -10,7 +12,6 @@ use Rattle.ct_card.specs.declared.size.Size.TheVariants.{One}
 use Rattle.ct_card.specs.Cardinality.{IsSingle, HasSize}
 use Rattle.ct_congr.specs.Partition.{InOneClass}
 use Rattle.ct_congr.specs.Rules.{IsSingular, AreSingleSorts, IsFirst}
-use Rattle.ct_congr.proofs.ListLemmas.{nat_cases, slice_get-append_left, slice_get-push_cases, slice_get-last}
 use Rattle.ct_congr.proofs.ClassLemmas.{InOneClass-sym, InOneClass-trans}
 
 -- each stored term is of its sort, which has one value
@@ -26,7 +27,7 @@ one_sort : (terms : Terms) (t : TermId) (r s : SortId) → IsOfSort terms t r �
 one_sort terms t r s p q = ap (λ e. e.1) (same_Some (p.0, r) (q.0, s) (sym p.1 ∙ q.1))
 
 below_cases : (t u : TermId) → u.0 < t.0 + 1 → (u.0 < t.0) ⊎ (t ≡ u)
-below_cases t u below = elim (nat_cases u.0 t.0) [
+below_cases t u below = elim (same_or_other u.0 t.0) [
   | inl e ↦ inr (λ i. record { 0 = sym e i })
   | inr other ↦ inl (omega (arith, other, below))
 ]
@@ -44,7 +45,7 @@ module _ (terms : Terms) (single : List Bool) (old new : List (Option TermId)) (
   AreFirsts-more firsts (inl h) = subst (AreFirsts terms single) (sym h.1) firsts
   AreFirsts-more firsts (inr h) = elim h.1 [
     | inl p ↦ subst (AreFirsts terms single) (sym p.1) firsts
-    | inr p ↦ λ r u at. elim (nat_cases r.0 s.0) [
+    | inr p ↦ λ r u at. elim (same_or_other r.0 s.0) [
       | inl e ↦
           let is : s ≡ r = λ i. record { 0 = sym e i } in
           let same : t ≡ u = same_Some t u (same_Some (Some t) (Some u) (sym (ap (slice_get new) e ∙ p.1) ∙ at)) in
@@ -60,7 +61,7 @@ module _ (terms : Terms) (single : List Bool) (old new : List (Option TermId)) (
         let same : s ≡ r = one_sort terms v s r (subst (λ (w : TermId). IsOfSort terms w s) is sorted) of_sort in
         absurd (h.0 (ap (λ (q : SortId). slice_get single q.0) same ∙ one))
   ]
-  AreSingled-more reps singled equal (inr h) v r below of_sort one = elim (nat_cases r.0 s.0) [
+  AreSingled-more reps singled equal (inr h) v r below of_sort one = elim (same_or_other r.0 s.0) [
     | inl e ↦ elim (below_cases t v below) [
       | inl before ↦ let p = singled v r before of_sort one in elim h.1 [
         | inl q ↦ (p.0, ap (λ list. slice_get list r.0) q.1 ∙ p.1, p.2)
@@ -108,7 +109,7 @@ abbrev pub AreMarked : Declarations → List Bool → ℕ → Type 0
 AreMarked d single n = (k : ℕ) → k < n → (slice_get single k ≡ Some true) ↔ IsSingle d k
 
 pub AreMarked-more : (d : Declarations) (single : List Bool) (n : ℕ) (size : Size) (b : Bool) → length single ≡ n → AreMarked d single n → HasSize d n size → ((p q : Size) → HasSize d n p → HasSize d n q → p ≡ q) → MatchBool b (size ≡ One) (size ≡ One → ⊥) → AreMarked d (single ++ b ∷ []) (n + 1)
-AreMarked-more d single n size b long marked sized unique is k below = elim (nat_cases k n) [
+AreMarked-more d single n size b long marked sized unique is k below = elim (same_or_other k n) [
   | inl e ↦
       let here : slice_get (single ++ b ∷ []) k ≡ Some b = rw (e ∙ sym long) (slice_get-last single b) in (
         λ h. subst (IsSingle d) (sym e) (subst (HasSize d n) (one_from b (size ≡ One) is (same_Some b true (sym here ∙ h))) sized),

@@ -2,6 +2,7 @@
 use Rattle.std.proofs.Common.{◌≡◌, ◌<◌, List, [], ◌∷◌, ◌++◌, length, set, Option, slice_get, get_or, Some, None, refl, sym, ap, subst, ◌∙◌, inl, inr, arith, append_assoc}
 use Rattle.std.proofs.lemmas.List.{append-nil}
 use Rattle.std.proofs.lemmas.Option.{none-some, same_Some, slice_get_within, slice_get-get_or}
+use Rattle.ct_lemmas.proofs.Lists.{slice_get-push_cases, slice_get-set_other, slice_get-set_same}
 use Rattle.ct_sorts.specs.Declarations.{Declarations}
 use Rattle.ct_terms.specs.declared.ids.TermId.{TermId}
 use Rattle.ct_terms.specs.declared.ids.Lit.{Lit}
@@ -12,7 +13,6 @@ use Rattle.ct_congr.specs.Partition.{AreAlone, IsUnion}
 use Rattle.ct_congr.specs.State.{IsConstructorTerm}
 use Rattle.ct_congr.specs.Sound.{IsConOf, AreCons, IsJoined, IsSound}
 use Rattle.ct_congr.specs.Grown.{IsLater, IsOwnCon, AreOwnCons, AreConsJoined}
-use Rattle.ct_congr.proofs.ListLemmas.{slice_get-push_cases, slice_get-set_same, slice_get-set_other}
 use Rattle.ct_congr.proofs.PartitionLemmas.{relabelled_from, term_cases}
 
 module _ (terms : Terms) (old new : List TermId) (a b winner loser : TermId) (union : IsUnion old new a b winner loser) where

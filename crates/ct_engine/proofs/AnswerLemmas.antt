@@ -1,6 +1,8 @@
 -- What a search that has ended found.
 use Rattle.std.proofs.Common.{◌≡◌, ℕ, ◌<◌, inl, inr, Bool, List, [], ◌∷◌, length, Contains, sym, ap, subst, ◌∙◌}
 use Rattle.std.proofs.lemmas.List.Elements.{All-contains}
+use Rattle.ct_lemmas.proofs.Contained.{Contains-map, Contains-map_cases}
+use Rattle.ct_lemmas.proofs.Numbers.{same_or_other}
 use Rattle.ct_sorts.specs.declared.ids.CtorId.{CtorId}
 use Rattle.ct_sorts.specs.Declarations.{Declarations}
 use Rattle.ct_terms.specs.declared.ids.TermId.{TermId}
@@ -24,7 +26,6 @@ use Rattle.ct_engine.specs.Moves.{FollowsIn, IsSpentRecord}
 use Rattle.ct_engine.specs.Saturated.{AreComplete, AreUncontradicted, AreDecided}
 use Rattle.ct_engine.specs.Progress.{IsAccounted}
 use Rattle.ct_engine.specs.Theorems.{UnitTheorems, ClassTheorems}
-use Rattle.ct_engine.proofs.ListLemmas.{Contains-map, Contains-map_cases, same_or_other}
 use Rattle.ct_engine.proofs.ValuedLemmas.{opposites_apart, true_literal, HasValue-more}
 use Rattle.ct_engine.proofs.ReplayLemmas.{from_replay}
 

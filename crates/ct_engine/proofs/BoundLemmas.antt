@@ -4,6 +4,7 @@ use Rattle.std.specs.List.{count_by}
 use Rattle.std.proofs.lemmas.List.{length-map, map-append}
 use Rattle.std.proofs.lemmas.List.Sums.{sum_by-cons}
 use Rattle.std.proofs.lemmas.List.Elements.{All-contains, All-weaker, Contains-push}
+use Rattle.ct_lemmas.proofs.Contained.{Contains-cons, Contains-none}
 use Rattle.ct_terms.specs.declared.ids.TermId.{TermId}
 use Rattle.ct_terms.specs.declared.ids.Lit.{Lit}
 use Rattle.ct_terms.specs.Literal.{opposite}
@@ -14,7 +15,6 @@ use Rattle.ct_engine.specs.declared.verdict.Move.{Move}
 use Rattle.ct_engine.specs.declared.verdict.Move.TheVariants as move
 use Rattle.ct_engine.specs.Moves.{Choice, Replay, FollowsIn, IsLineWith, Decides, Adds, Learns, IsLegal, AreLegal, is_decision, decisions_of, LackValue}
 use Rattle.ct_engine.specs.Theorems.{GrowthTheorems}
-use Rattle.ct_engine.proofs.ListLemmas.{Contains-cons, Contains-none}
 use Rattle.ct_engine.proofs.ValuedLemmas.{HasValue-more, valued_by}
 use Rattle.ct_engine.proofs.TrailLemmas.{Place, by_choice, by_clause, variables_of, variable_of, choices_of, weight, doubled, some_weight, weight-bound, IsRecorded, IsNext, ArePlaces, ArePlaces-more, assigned_at, cut_at}
 

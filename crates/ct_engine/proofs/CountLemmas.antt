@@ -1,20 +1,17 @@
 -- Different trees that stand in a table are at most as many as its terms.
-use Rattle.std.proofs.Common.{◌≡◌, ℕ, zero, suc, ◌<◌, ◌≤◌, ◌⊎◌, inl, inr, Bool, true, false, ◌||◌, eqb, List, [], ◌∷◌, length, map, Some, option_map, slice_get, Contains, refl, sym, ap, subst, ◌∙◌, arith, true≢false}
+use Rattle.std.proofs.Common.{◌≡◌, ℕ, zero, suc, ◌<◌, ◌≤◌, inl, inr, true, false, eqb, List, [], ◌∷◌, length, map, Some, option_map, slice_get, Contains, refl, sym, ap, subst, ◌∙◌, arith, true≢false}
 use Rattle.std.specs.List.{IsDistinct, list_any}
 use Rattle.std.proofs.lemmas.Bool.Decides.{Decides-eqb}
 use Rattle.std.proofs.lemmas.List.{length-map}
 use Rattle.std.proofs.lemmas.List.Elements.{recursion_from_All}
 use Rattle.std.proofs.lemmas.Map.Steps.{length-le_from_distinct_below}
 use Rattle.std.proofs.lemmas.Option.{slice_get-map, none-some, same_Some}
+use Rattle.ct_lemmas.proofs.Booleans.{not_true, or_cases}
+use Rattle.ct_lemmas.proofs.Contained.{Contains-first, Contains-from_slice_get, Contains-rest, slice_get-from_Contains}
+use Rattle.ct_lemmas.proofs.Each.{All-from_Contains}
 use Rattle.ct_terms.specs.declared.ids.TermId.{TermId}
 use Rattle.ct_terms.specs.Terms.{Terms}
 use Rattle.ct_terms.specs.CoreTree.{CoreTree, term_at}
-use Rattle.ct_engine.proofs.ListLemmas.{All-from, at-Contains, Contains-at, Contains-first, Contains-rest}
-
--- a test that is not true is false
-pub false_by : (b : Bool) → (b ≡ true → ⊥) → b ≡ false
-false_by true h = absurd (h refl)
-false_by false h = refl
 
 -- no number stands twice in the list
 abbrev pub StandOnce : List ℕ → Type 0
@@ -25,19 +22,14 @@ IsDistinct-once : (ns : List ℕ) → StandOnce ns → IsDistinct eqb ns
 unfolding IsDistinct
 IsDistinct-once [] once = tt
 IsDistinct-once (n ∷ ns) once = (
-  recursion_from_All (λ (m : ℕ). eqb n m ≡ false) ns (All-from (λ (m : ℕ). eqb n m ≡ false) ns (λ m inside.
-      false_by (eqb n m) (λ same.
-      let at = at-Contains ns m inside in
+  recursion_from_All (λ (m : ℕ). eqb n m ≡ false) ns (All-from_Contains (λ (m : ℕ). eqb n m ≡ false) ns (λ m inside.
+      not_true (eqb n m) (λ same.
+      let at = slice_get-from_Contains ns m inside in
       let one : n ≡ m = (Decides-eqb n m).0 same in
       let first : zero ≡ suc at.0 = once zero (suc at.0) n refl (at.1 ∙ ap (λ (k : ℕ). Some k) (sym one)) in
       absurd (omega (arith, first))))),
   IsDistinct-once ns (λ i j m here there. let step : suc i ≡ suc j = once (suc i) (suc j) m here there in omega (arith, step)),
 )
-
--- what some element is equal to is in the list
-or_cases : (a b : Bool) → (a || b) ≡ true → (a ≡ true) ⊎ (b ≡ true)
-or_cases true b h = inl refl
-or_cases false b h = inr h
 
 pub Contains-any : (ns : List ℕ) (q : ℕ) → list_any (eqb q) ns ≡ true → Contains ns q
 Contains-any [] q h = absurd (true≢false (sym h))
@@ -50,13 +42,13 @@ Contains-any (n ∷ ns) q h =
 -- trees that stand in a table have numbers there
 module _ (table : Terms) where
   numbers : (trees : List CoreTree) → ((t : CoreTree) → Contains trees t → (n : TermId) × (n.0 < length table) × (term_at table n ≡ t)) → (ns : List ℕ) × (map (λ (n : ℕ). term_at table (record { 0 = n })) ns ≡ trees) × ((q : ℕ) → Contains ns q → q < length table)
-  numbers [] stand = ([], refl, λ q h. let at = at-Contains [] q h in absurd (none-some q at.1))
+  numbers [] stand = ([], refl, λ q h. let at = slice_get-from_Contains [] q h in absurd (none-some q at.1))
   numbers (t ∷ trees) stand =
       let found = stand t (Contains-first t trees) in
       let rest = numbers trees (λ s h. stand s (Contains-rest t trees s h)) in (
         found.0.0 ∷ rest.0,
         both (term_at table (record { 0 = found.0.0 })) t (map (λ (n : ℕ). term_at table (record { 0 = n })) rest.0) trees found.2 rest.1,
-        λ q h. within found.0.0 rest.0 q found.1 rest.2 (at-Contains (found.0.0 ∷ rest.0) q h).0 (at-Contains (found.0.0 ∷ rest.0) q h).1,
+        λ q h. within found.0.0 rest.0 q found.1 rest.2 (slice_get-from_Contains (found.0.0 ∷ rest.0) q h).0 (slice_get-from_Contains (found.0.0 ∷ rest.0) q h).1,
       )
     where
       both : (a b : CoreTree) (xs ys : List CoreTree) → a ≡ b → xs ≡ ys → a ∷ xs ≡ b ∷ ys
@@ -64,7 +56,7 @@ module _ (table : Terms) where
 
       within : (n : ℕ) (ns : List ℕ) (q : ℕ) → n < length table → ((k : ℕ) → Contains ns k → k < length table) → (i : ℕ) → slice_get (n ∷ ns) i ≡ Some q → q < length table
       within n ns q here there zero at = subst (λ (k : ℕ). k < length table) (same_Some n q at) here
-      within n ns q here there (suc i) at = there q (Contains-at ns i q at)
+      within n ns q here there (suc i) at = there q (Contains-from_slice_get ns i q at)
 
   -- different trees have different numbers
   once_by : (ns : List ℕ) → ((i j : ℕ) (t : CoreTree) → slice_get (map (λ (n : ℕ). term_at table (record { 0 = n })) ns) i ≡ Some t → slice_get (map (λ (n : ℕ). term_at table (record { 0 = n })) ns) j ≡ Some t → i ≡ j) → StandOnce ns

@@ -1,6 +1,8 @@
 -- Assertions hold in one table where they hold in another in which they are the same terms.
 use Rattle.std.proofs.Common.{◌≡◌, true, List, Contains, sym, ap, subst, ◌∙◌}
 use Rattle.std.proofs.lemmas.List.Elements.{All-contains}
+use Rattle.ct_lemmas.proofs.Contained.{Contains-map, Contains-map_cases}
+use Rattle.ct_lemmas.proofs.Each.{All-from_Contains}
 use Rattle.ct_sorts.specs.Declarations.{Declarations}
 use Rattle.ct_sorts.specs.Consistent.{IsConsistent}
 use Rattle.ct_terms.specs.declared.ids.TermId.{TermId}
@@ -17,7 +19,6 @@ use Rattle.ct_log.specs.Recorded.{Derived, IsDerivation}
 use Rattle.ct_checker.specs.Rejection.{EndsEmpty}
 use Rattle.ct_engine.specs.Theorems.{ModelTheorems}
 use Rattle.ct_engine.specs.Verdict.{IsRefutation}
-use Rattle.ct_engine.proofs.ListLemmas.{All-from, Contains-map, Contains-map_cases}
 
 module _ (theorems : ModelTheorems) (d : Declarations) (i : Interp) where
   -- a term is true where its tree is
@@ -34,7 +35,7 @@ module _ (theorems : ModelTheorems) (d : Declarations) (i : Interp) where
   -- assertions hold where they are the same terms
   Holds-same : (terms other : Terms) (asserts others : List TermId) → terms_at other others ≡ terms_at terms asserts → Holds d i terms asserts → Holds d i other others
   Holds-same terms other asserts others same holds =
-      All-from (λ (t : TermId). truth_value d i other t ≡ true) others (λ t inside.
+      All-from_Contains (λ (t : TermId). truth_value d i other t ≡ true) others (λ t inside.
       by_tree other t ∙ trees_hold terms asserts holds (term_at other t)
       (subst (λ (trees : List CoreTree). Contains trees (term_at other t)) same (Contains-map (term_at other) others t inside)))
 

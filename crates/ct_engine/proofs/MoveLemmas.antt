@@ -6,6 +6,7 @@ use Rattle.std.proofs.Math.Nat.{add-zero}
 use Rattle.std.proofs.lemmas.List.Sums.{sum_by-append}
 use Rattle.std.proofs.lemmas.List.Elements.{Contains-push_cases}
 use Rattle.std.proofs.lemmas.Option.{slice_get_within}
+use Rattle.ct_lemmas.proofs.Lists.{slice_get-append_left, slice_get-last}
 use Rattle.ct_terms.specs.declared.ids.TermId.{TermId}
 use Rattle.ct_terms.specs.Clause.{Clause}
 use Rattle.ct_log.specs.declared.line.Line.{Line}
@@ -17,7 +18,6 @@ use Rattle.ct_terms.specs.Propagation.{IsNumbered}
 use Rattle.ct_engine.specs.declared.verdict.Move.{Move}
 use Rattle.ct_engine.specs.declared.verdict.Move.TheVariants as move
 use Rattle.ct_engine.specs.Moves.{Replay, IsLineWith, IsLegal, AreLegal, is_decision}
-use Rattle.ct_engine.proofs.ListLemmas.{slice_get-append_left, slice_get-last}
 
 -- a line keeps its number as lines are added
 IsLineWith-longer : (lines more : List Line) (number : ℕ) (line : Line) → IsLineWith lines number line → IsLineWith (lines ++ more) number line

@@ -2,6 +2,9 @@
 use Rattle.std.proofs.Common.{◌≡◌, ◌↔◌, ℕ, ◌<◌, ◌≤◌, List, [], ◌∷◌, ◌++◌, length, Some, slice_get, All, Contains, refl, sym, ap, subst, ◌∙◌, arith}
 use Rattle.std.proofs.lemmas.Option.{slice_get_within}
 use Rattle.std.proofs.lemmas.List.Elements.{All-weaker, All-head, All-tail}
+use Rattle.ct_lemmas.proofs.Contained.{slice_get-from_Contains}
+use Rattle.ct_lemmas.proofs.Each.{All-from_Contains}
+use Rattle.ct_lemmas.proofs.Lists.{slice_get-append_left}
 use Rattle.ct_sorts.specs.Declarations.{Declarations, bool_sort}
 use Rattle.ct_sorts.specs.Grown.{Begins}
 use Rattle.ct_terms.specs.declared.ids.TermId.{TermId}
@@ -20,7 +23,6 @@ use Rattle.ct_log.specs.Recorded.{Derived}
 use Rattle.ct_sat.specs.State.{SearchState, begun, clauses_of as clauses_in}
 use Rattle.ct_engine.specs.declared.course.Course.{Course}
 use Rattle.ct_engine.specs.Progress.{IsClosureOf, IsBegunOver, IsSearchOver, IsTaskOf}
-use Rattle.ct_engine.proofs.ListLemmas.{All-from, at-Contains, slice_get-append_left}
 use Rattle.ct_engine.proofs.CountLemmas.{few_trees}
 
 -- a term keeps its sort in a longer table
@@ -59,8 +61,8 @@ closure_fits d roots table exact few more =
 -- the literals of accepted lines are over the variables
 pub lines_over : (d : Declarations) (terms : Terms) (asserts : List TermId) (lines : List Line) (variables : List TermId) → AreVariables terms variables → AreAccepted d terms asserts lines → All (λ (line : Line). AreOver variables line.clause) lines
 lines_over d terms asserts lines variables are accepted =
-    All-from (λ (line : Line). AreOver variables line.clause) lines (λ line inside.
-    let at = at-Contains lines line inside in
+    All-from_Contains (λ (line : Line). AreOver variables line.clause) lines (λ line inside.
+    let at = slice_get-from_Contains lines line inside in
     All-weaker (λ (l : Lit). IsStripped terms l.term) (λ (l : Lit). Contains variables l.term) (λ l h. are.each l.term h) line.clause (accepted at.0 line at.1).literals)
 
 -- a search over the closure of the assertions is of their task

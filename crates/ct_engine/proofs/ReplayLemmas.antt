@@ -3,6 +3,9 @@ use Rattle.std.proofs.Common.{◌≡◌, ℕ, ◌+◌, ◌<◌, ◌⊎◌, inl, 
 use Rattle.std.proofs.lemmas.List.{length-map, map-append, take-map, take-append-le, take-take}
 use Rattle.std.proofs.lemmas.Option.{slice_get_within}
 use Rattle.std.proofs.lemmas.List.Elements.{All-weaker}
+use Rattle.ct_lemmas.proofs.Each.{All-at}
+use Rattle.ct_lemmas.proofs.Lists.{slice_get-push_cases, slice_get-there}
+use Rattle.ct_lemmas.proofs.Prefixes.{slice_get-take, slice_get-take_below}
 use Rattle.ct_terms.specs.declared.ids.TermId.{TermId}
 use Rattle.ct_terms.specs.declared.ids.Lit.{Lit}
 use Rattle.ct_terms.specs.Literal.{opposite}
@@ -19,7 +22,7 @@ use Rattle.ct_sat.specs.Learning.{LearnsClause}
 use Rattle.ct_engine.specs.Moves.{Choice, Replay, FollowsIn, AreAssigned, IsTaught, Decides, Adds, Learns, decisions_of}
 use Rattle.ct_engine.specs.Progress.{IsReplayOf}
 use Rattle.ct_engine.specs.Theorems.{UnitTheorems}
-use Rattle.ct_engine.proofs.ListLemmas.{All-at, slice_get_some, slice_get-push_cases, slice_get-take, slice_get-take_below, take-push}
+use Rattle.ct_engine.proofs.ListLemmas.{take-push}
 use Rattle.ct_engine.proofs.ValuedLemmas.{AreValued-same, valued_terms}
 use Rattle.ct_engine.proofs.MoveLemmas.{IsLineWith-last}
 
@@ -157,7 +160,7 @@ pub learns : UnitTheorems → (old new : SearchState) (replay : Replay) (lines :
 learns theorems old new replay lines number keep conflict lits hints sound false_one is numbered learned =
     let within : keep < length old.decided = slice_get_within old.decided keep learned.next learned.stands in
     let long = decided_long old replay is in
-    let choice = slice_get_some replay.decided keep (omega (arith, within, long)) in
+    let choice = slice_get-there replay.decided keep (omega (arith, within, long)) in
     record {
       line = record { clause = lits; step = step.Learn hints };
       stands = IsLineWith-last lines number (record { clause = lits; step = step.Learn hints }) numbered;

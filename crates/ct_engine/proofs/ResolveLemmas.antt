@@ -1,5 +1,5 @@
 -- Answers after a step that keeps the count and the decisions.
-use Rattle.std.proofs.Common.{◌≡◌, ℕ, ◌+◌, ◌<◌, length, Option, None, Some, Result, Ok, Err, OnOk, IfOk, MatchOption, List, ap, subst, ◌∙◌}
+use Rattle.std.proofs.Common.{◌≡◌, ℕ, ◌+◌, ◌<◌, length, Option, None, Some, Result, Ok, Err, IfOk, MatchOption, List, ap, subst, ◌∙◌}
 use Rattle.ct_sat.specs.declared.decided.Decided.{Decided}
 use Rattle.ct_sat.specs.State.{SearchState}
 use Rattle.ct_engine.specs.declared.course.Course.{Course}
@@ -7,11 +7,6 @@ use Rattle.ct_engine.specs.declared.error.SolveError.{SolveError}
 use Rattle.ct_engine.specs.declared.outcome.Settled.{Settled}
 use Rattle.ct_engine.specs.declared.outcome.Ending.{Ending}
 use Rattle.ct_engine.specs.Progress.{IsUnderWay, TakesBack, IsCounted, IsSettled, IsEnded}
-
--- what follows from what holds where there is no error
-pub OnOk-then : {A E : Type 0} (r : Result A E) (P Q : Type 0) → (P → Q) → OnOk r P → OnOk r Q
-OnOk-then (Ok x) P Q f h = f h
-OnOk-then (Err e) P Q f h = h
 
 -- a decision was taken back since before
 TakesBack-since : (old middle new : SearchState) → middle.count ≡ old.count → middle.decided ≡ old.decided → TakesBack middle new → TakesBack old new

@@ -2,9 +2,13 @@
 use Rattle.std.proofs.Common.{◌≡◌, ◌↔◌, ℕ, zero, suc, ◌^◌, ◌<◌, ◌≤◌, ◌⊎◌, inl, inr, Bool, true, false, eqb, List, [], ◌∷◌, ◌++◌, length, take, Some, slice_get, All, Contains, refl, sym, ap, subst, ◌∙◌, arith}
 use Rattle.std.specs.List.{IsDistinct}
 use Rattle.std.proofs.lemmas.Bool.Decides.{Decides-eqb}
-use Rattle.std.proofs.lemmas.List.Elements.{All-weaker, All-contains, All-cons, All-nil, recursion_from_All}
+use Rattle.std.proofs.lemmas.List.Elements.{All-weaker, All-contains, recursion_from_All}
 use Rattle.std.proofs.lemmas.Map.Steps.{length-le_from_distinct_below}
 use Rattle.std.proofs.lemmas.Option.{same_Some, none-some, slice_get_within}
+use Rattle.ct_lemmas.proofs.Booleans.{not_true}
+use Rattle.ct_lemmas.proofs.Contained.{slice_get-from_Contains, Contains-cons, Contains-first, Contains-map, Contains-none, Contains-rest}
+use Rattle.ct_lemmas.proofs.Each.{All-from_Contains, All-one}
+use Rattle.ct_lemmas.proofs.Prefixes.{slice_get-take}
 use Rattle.ct_sorts.specs.declared.ids.SortId.{SortId}
 use Rattle.ct_sorts.specs.Declarations.{Declarations, bool_sort}
 use Rattle.ct_terms.specs.declared.ids.TermId.{TermId}
@@ -26,8 +30,7 @@ use Rattle.ct_sat.specs.Up.{Up, IsAssigned, positive_of, negative_of}
 use Rattle.ct_engine.specs.declared.verdict.Move.{Move}
 use Rattle.ct_engine.specs.Moves.{IsLineWith, IsSpentRecord}
 use Rattle.ct_engine.specs.Theorems.{GrowthTheorems, TreeTheorems}
-use Rattle.ct_engine.proofs.ListLemmas.{All-from, Contains-at, at-Contains, Contains-cons, Contains-first, Contains-map, Contains-none, Contains-rest, slice_get-take}
-use Rattle.ct_engine.proofs.CountLemmas.{false_by, Contains-any}
+use Rattle.ct_engine.proofs.CountLemmas.{Contains-any}
 use Rattle.ct_engine.proofs.BoundLemmas.{AreCounted, few_decisions}
 
 -- the term is `true`, is `false`, or is another
@@ -93,7 +96,7 @@ module _ (growth : GrowthTheorems) (trees : TreeTheorems) (d : Declarations) (te
   unit_first : (l : Lit) → Contains first (l ∷ []) → Up first [] l
   unit_first l listed =
       growth.forced first [] (l ∷ []) l listed (Contains-first l [])
-      (All-cons (λ k. (k ≡ l) ⊎ Up first [] (opposite k)) l [] (inl refl) (All-nil (λ k. (k ≡ l) ⊎ Up first [] (opposite k))))
+      (All-one (λ k. (k ≡ l) ⊎ Up first [] (opposite k)) l (inl refl))
 
   true_first : IsAssigned (Up first []) (truth_term true)
   unfolding first
@@ -145,7 +148,7 @@ module _ (growth : GrowthTheorems) (trees : TreeTheorems) (d : Declarations) (te
     place_of : (t : TermId) → Counts t → (k : ℕ) × IsAt t k
     place_of t c =
         let inside = within t (stripped t c.listed) in
-        let found = at-Contains has.variables (term_at terms t) ((has.exact (term_at terms t)).1 ((closure (term_at terms t)).0 (t, inside, refl), c.variable)) in
+        let found = slice_get-from_Contains has.variables (term_at terms t) ((has.exact (term_at terms t)).1 ((closure (term_at terms t)).0 (t, inside, refl), c.variable)) in
         (found.0, record { inside = inside; stands = found.1 })
 
     one_at : (t u : TermId) (k : ℕ) → IsAt t k → IsAt u k → t ≡ u
@@ -168,8 +171,8 @@ module _ (growth : GrowthTheorems) (trees : TreeTheorems) (d : Declarations) (te
           record {
             long = ap suc rest.1.long;
             distinct = (
-              recursion_from_All (λ (m : ℕ). eqb here.0 m ≡ false) rest.0 (All-from (λ (m : ℕ). eqb here.0 m ≡ false) rest.0 (λ m inside.
-                  false_by (eqb here.0 m) (λ same.
+              recursion_from_All (λ (m : ℕ). eqb here.0 m ≡ false) rest.0 (All-from_Contains (λ (m : ℕ). eqb here.0 m ≡ false) rest.0 (λ m inside.
+                  not_true (eqb here.0 m) (λ same.
                   let there = rest.1.each m inside in
                   let is : here.0 ≡ m = (Decides-eqb here.0 m).0 same in
                   fresh (subst (Contains ts) (one_at there.0 t m there.2 (subst (IsAt t) is here.1)) there.1)))),

@@ -4,13 +4,15 @@ use Rattle.std.proofs.Common.{◌≡◌, ℕ, zero, suc, ◌+◌, ◌^◌, ◌<�
 use Rattle.std.proofs.Math.Nat.{pow-suc}
 use Rattle.std.proofs.lemmas.List.{map-append, take-append-le}
 use Rattle.std.proofs.lemmas.Option.{none-some, slice_get_within}
+use Rattle.ct_lemmas.proofs.Contained.{Contains-cons, Contains-none}
+use Rattle.ct_lemmas.proofs.Lists.{slice_get-push_cases}
 use Rattle.ct_terms.specs.declared.ids.TermId.{TermId}
 use Rattle.ct_terms.specs.declared.ids.Lit.{Lit}
 use Rattle.ct_terms.specs.Clause.{Clause}
 use Rattle.ct_sat.specs.Up.{Up, IsAssigned}
 use Rattle.ct_engine.specs.Moves.{Choice, decisions_of}
 use Rattle.ct_engine.specs.Theorems.{GrowthTheorems}
-use Rattle.ct_engine.proofs.ListLemmas.{Contains-cons, Contains-none, slice_get-push_cases, take-push}
+use Rattle.ct_engine.proofs.ListLemmas.{take-push}
 use Rattle.ct_engine.proofs.ValuedLemmas.{HasValue-more}
 
 -- a place of the trail: of a decision, or of a variable whose literal a learned clause asserted

@@ -1,9 +1,13 @@
 -- The classes under literals that decide a closed table give each Boolean term the truth value of its parts, and each term that
 -- is split a constructor.
-use Rattle.std.proofs.Common.{◌≡◌, ℕ, zero, suc, ◌<◌, ◌⊎◌, inl, inr, Bool, true, false, not, List, [], ◌∷◌, length, Option, Some, option_map, unwrap_or, slice_get, All, Contains, refl, sym, ap, subst, ◌∙◌, arith}
+use Rattle.std.proofs.Common.{◌≡◌, ℕ, zero, suc, ◌<◌, ◌⊎◌, inl, inr, Bool, true, false, List, [], ◌∷◌, length, Option, Some, option_map, unwrap_or, slice_get, All, Contains, refl, sym, ap, subst, ◌∙◌, arith}
 use Rattle.std.specs.List.{AllZip}
 use Rattle.std.proofs.lemmas.Option.{slice_get_within, same_Some}
 use Rattle.std.proofs.lemmas.List.Elements.{All-contains}
+use Rattle.ct_lemmas.proofs.Booleans.{not_twice}
+use Rattle.ct_lemmas.proofs.Contained.{Contains-cons, Contains-first, Contains-from_slice_get, Contains-map_cases, Contains-none, Contains-rest, slice_get-from_Contains}
+use Rattle.ct_lemmas.proofs.Numbers.{same_or_other}
+use Rattle.ct_lemmas.proofs.Prefixes.{slice_get-take}
 use Rattle.ct_sorts.specs.declared.ids.CtorId.{CtorId}
 use Rattle.ct_sorts.specs.declared.ids.SortId.{SortId}
 use Rattle.ct_sorts.specs.Declarations.{Declarations, Sort, bool_sort}
@@ -13,7 +17,7 @@ use Rattle.ct_terms.specs.declared.term.Core.{Core}
 use Rattle.ct_terms.specs.declared.term.Core.TheVariants as core
 use Rattle.ct_terms.specs.Literal.{opposite, literal_step, literal_below, literal_of, IsStripped}
 use Rattle.ct_terms.specs.Clause.{Clause, opposites}
-use Rattle.ct_terms.specs.Compiled.{ctor_ids_of_sort}
+use Rattle.ct_terms.specs.Fields.{ctor_ids_of_sort}
 use Rattle.ct_terms.specs.Terms.{Terms, Has, IsBoolean, IsOfSort, AreOrdered, AreSingle, AreSorted, BeginsWithTruths}
 use Rattle.ct_rules.specs.declared.equation.Equation.{Equation}
 use Rattle.ct_rules.specs.Rules.{Follows, by_negation, by_equation_out, truth_term}
@@ -30,7 +34,6 @@ use Rattle.ct_theory.specs.Entailment.{Entails, IsSaturation}
 use Rattle.ct_build.specs.Assignment.{IsTrueTerm, IsFalseTerm, HaveOneTruth, HaveTwoTruths, AreDecided as GiveTruths}
 use Rattle.ct_engine.specs.Saturated.{AreComplete, AreDecided}
 use Rattle.ct_engine.specs.Theorems.{ClassTheorems, ClosureTheorems}
-use Rattle.ct_engine.proofs.ListLemmas.{Contains-at, at-Contains, Contains-first, Contains-rest, Contains-cons, Contains-none, Contains-map_cases, slice_get-take, same_or_other}
 use Rattle.ct_engine.proofs.ValuedLemmas.{true_or_false}
 
 -- what is known of the classes, the table and the literals
@@ -61,10 +64,6 @@ Tells terms literals state t l = IsStripped terms l.term × (Contains literals l
 abbrev truth_core : Bool → Core
 truth_core true = core.Con (record { 0 = 0 }) []
 truth_core false = core.Con (record { 0 = 1 }) []
-
-not_twice : (b : Bool) → not (not b) ≡ b
-not_twice true = refl
-not_twice false = refl
 
 opposite_twice : (l : Lit) → opposite (opposite l) ≡ l
 opposite_twice l = ap (λ (b : Bool). (let k : Lit = record { term = l.term; positive = b } in k)) (not_twice l.positive)
@@ -176,7 +175,7 @@ module _ (d : Declarations) (terms : Terms) (asserts : List TermId) (literals : 
 
   conjunction_false : (t : TermId) (args : List TermId) → Has terms (core.And args) t.0 → (a : TermId) → Contains args a → IsFalseTerm state a → IsFalseTerm state t
   conjunction_false t args stands a inside fails =
-      let at = at-Contains args a inside in
+      let at = slice_get-from_Contains args a inside in
       elim (among_two literals (negative t) (literal_of terms a) (of_gate gate.AndPos t at.0 (negative t ∷ (literal_of terms a ∷ [])) (args, a, stands, at.1, refl))) [
         | inl h ↦ given.holds (negative t) h
         | inr h ↦ absurd (not_both a (true_by a (All-contains (IsBoolean terms) args a (conjuncts t args stands) inside) h) fails)
@@ -202,7 +201,7 @@ module _ (d : Declarations) (terms : Terms) (asserts : List TermId) (literals : 
 
   disjunction_true : (t : TermId) (args : List TermId) → Has terms (core.Or args) t.0 → (a : TermId) → Contains args a → IsTrueTerm state a → IsTrueTerm state t
   disjunction_true t args stands a inside holds =
-      let at = at-Contains args a inside in
+      let at = slice_get-from_Contains args a inside in
       elim (among_two literals (positive t) (opposite (literal_of terms a)) (of_gate gate.OrNeg t at.0 (positive t ∷ (opposite (literal_of terms a) ∷ [])) (args, a, stands, at.1, refl))) [
         | inl h ↦ given.holds (positive t) h
         | inr h ↦ absurd (not_both a holds (false_by a (All-contains (IsBoolean terms) args a (disjuncts t args stands) inside) h))
@@ -374,7 +373,7 @@ module _ (classes : ClassTheorems) (closures : ClosureTheorems) (d : Declaration
             | inl same ↦ subst (λ (g : Equation). (g.left.0 < length terms) × (g.right.0 < length terms)) same (literal_within l h, truth_within l.positive)
             | inr none ↦ absurd (Contains-none f none)
           ];
-          each = λ index f at. elim (Contains-cons e [] f (Contains-at (e ∷ []) index f at)) [
+          each = λ index f at. elim (Contains-cons e [] f (Contains-from_slice_get (e ∷ []) index f at)) [
             | inl same ↦ inl (subst (λ (g : Equation). IsHypothesis literals g.left g.right) same (l, h, (refl, refl)))
             | inr none ↦ absurd (Contains-none f none)
           ];

@@ -2,6 +2,8 @@
 use Rattle.std.proofs.Common.{◌≡◌, ◌⊎◌, inl, inr, Bool, true, false, not, List, [], ◌∷◌, map, Some, slice_get, Contains, refl, sym, ap, subst, ◌∙◌}
 use Rattle.std.proofs.lemmas.Option.{same_Some}
 use Rattle.std.proofs.lemmas.List.Elements.{All-contains, All-nil, All-cons}
+use Rattle.ct_lemmas.proofs.Booleans.{not_differs}
+use Rattle.ct_lemmas.proofs.Contained.{Contains-first, Contains-map, Contains-map_cases, Contains-rest, slice_get-from_Contains}
 use Rattle.ct_terms.specs.declared.ids.TermId.{TermId}
 use Rattle.ct_terms.specs.declared.ids.Lit.{Lit}
 use Rattle.ct_terms.specs.Literal.{opposite}
@@ -10,18 +12,12 @@ use Rattle.ct_terms.specs.Propagation.{IsFalseIn, AreFalseIn}
 use Rattle.ct_sat.specs.Up.{IsAssigned, positive_of, negative_of}
 use Rattle.ct_sat.specs.State.{AreOver, IsConsistent}
 use Rattle.ct_engine.specs.Moves.{AreAssigned}
-use Rattle.ct_engine.proofs.ListLemmas.{at-Contains, Contains-map, Contains-map_cases, Contains-first, Contains-rest}
-
--- a sign and its opposite differ
-not_differs : (b : Bool) → not b ≡ b → ⊥
-not_differs true e = cc
-not_differs false e = cc
 
 -- a consistent list does not hold a literal and its opposite
 pub opposites_apart : (trail : List Lit) (l : Lit) → IsConsistent trail → Contains trail l → Contains trail (opposite l) → ⊥
 opposites_apart trail l consistent one other =
-    let i = at-Contains trail l one in
-    let j = at-Contains trail (opposite l) other in
+    let i = slice_get-from_Contains trail l one in
+    let j = slice_get-from_Contains trail (opposite l) other in
     let same : i.0 ≡ j.0 = consistent i.0 j.0 l (opposite l) i.1 j.1 refl in
     let both : Some (opposite l) ≡ Some l = sym j.1 ∙ ap (slice_get trail) (sym same) ∙ i.1 in
     not_differs l.positive (ap (λ (k : Lit). k.positive) (same_Some (opposite l) l both))

@@ -4,7 +4,7 @@ ghost use Rattle.ct_engine.specs.Theorems.{UnitTheorems, GrowthTheorems, TreeThe
 use ct_checker::accepted_lines;
 use ct_closure::closed_tables;
 use ct_congr::classes_of_merges;
-use ct_eval::meanings;
+use ct_eval::values_of_trees;
 use ct_sat::what_follows_by_units;
 use ct_terms::core_trees;
 
@@ -48,5 +48,5 @@ pub(crate) fn models()
     ensures models { ModelTheorems }
 {
     accepted_lines();
-    meanings();
+    values_of_trees();
 }

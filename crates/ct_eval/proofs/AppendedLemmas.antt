@@ -3,6 +3,8 @@ use Rattle.std.proofs.Common.{◌≡◌, ℕ, zero, suc, ◌<◌, Bool, true, fa
 use Rattle.std.specs.List.{AllZip, AllByRecursion, list_all, list_any}
 use Rattle.std.proofs.lemmas.List.Elements.{recursion_from_All}
 use Rattle.std.proofs.lemmas.Option.{slice_get_within}
+use Rattle.ct_lemmas.proofs.Lists.{slice_get-there}
+use Rattle.ct_lemmas.proofs.Pairs.{AllZip-left_parts}
 use Rattle.ct_sorts.specs.declared.ids.SelId.{SelId}
 use Rattle.ct_sorts.specs.declared.ids.SortId.{SortId}
 use Rattle.ct_sorts.specs.Declarations.{Declarations, Selector}
@@ -25,7 +27,6 @@ use Rattle.ct_eval.specs.LookUp.{are_same, row_for, look_up}
 use Rattle.ct_eval.specs.Evaluation.{is_same, table_value, select, core_value, layer, value_below, value_of}
 use Rattle.ct_eval.specs.Truth.{truth_value}
 use Rattle.ct_eval.specs.Appended.{IsRowOver, IsTableOver, AreTablesOver, IsClosedInterp, with_nodes}
-use Rattle.ct_eval.proofs.ListLemmas.{stands, AllZip-left_parts}
 use Rattle.ct_eval.proofs.CongruenceLemmas.{Alike, look_up_across, same_alike}
 
 -- what a graph that grows keeps
@@ -57,11 +58,11 @@ proper_closed d i own closed proper = record {
   graph = closed;
   functions = λ t table at.
       let within = slice_get_within i.funs t table at in
-      let function = stands d.functions t (subst (λ (k : ℕ). t < k) proper.functions.one_each within) in
+      let function = slice_get-there d.functions t (subst (λ (k : ℕ). t < k) proper.functions.one_each within) in
       table_over d i.graph function.0.args function.0.result table (proper.functions.fit t function.0 table function.1 at);
   selectors = λ t table at.
       let within = slice_get_within i.offs t table at in
-      let selector = stands d.sels t (subst (λ (k : ℕ). t < k) proper.selectors.one_each within) in
+      let selector = slice_get-there d.sels t (subst (λ (k : ℕ). t < k) proper.selectors.one_each within) in
       let ctor = own t selector.0 selector.1 in
       table_over d i.graph (ctor.0.sort ∷ []) selector.0.sort table (proper.selectors.fit t selector.0 ctor.0 table selector.1 ctor.1 at);
 }

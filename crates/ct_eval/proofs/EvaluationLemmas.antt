@@ -3,6 +3,7 @@
 use Rattle.std.proofs.Common.{◌≡◌, ℕ, zero, suc, ◌<◌, Bool, not, ◌||◌, List, [], ◌∷◌, ◌++◌, length, map, Option, Some, None, slice_get, if◌then◌else◌, refl, sym, ap, ◌∙◌, arith}
 use Rattle.std.specs.List.{list_all, list_any, AllByRecursion}
 use Rattle.std.proofs.lemmas.List.Folds.{list_all-map}
+use Rattle.ct_lemmas.proofs.Lists.{slice_get-prefix}
 use Rattle.ct_sorts.specs.declared.ids.SortId.{SortId}
 use Rattle.ct_sorts.specs.Declarations.{Declarations}
 use Rattle.ct_values.specs.Value.{Value, construct, values_of}
@@ -13,7 +14,6 @@ use Rattle.ct_terms.specs.Terms.{Terms, HasArgumentsBelow, AreOrdered}
 use Rattle.ct_eval.specs.declared.interp.Interp.{Interp}
 use Rattle.ct_values.specs.TruthValue.{truth, is_built, is_true}
 use Rattle.ct_eval.specs.Evaluation.{is_same, table_value, select, core_value, layer, value_below, value_of}
-use Rattle.ct_eval.proofs.ListLemmas.{slice_get-prefix}
 
 -- lists over which two functions agree
 module _ {X Y : Type 0} (f g : X → Y) (P : X → Type 0) (agree : (x : X) → P x → f x ≡ g x) where

@@ -2,6 +2,7 @@
 use Rattle.std.proofs.Common.{◌≡◌, ℕ, ◌↔◌, ◌<◌, Bool, true, false, not, get_or, List, [], ◌∷◌, Option, Some, None, slice_get, option_map, IsTrue, refl, sym, ap, subst, ◌∙◌}
 use Rattle.std.proofs.lemmas.List.Elements.{All-contains, All-contains_itself}
 use Rattle.std.proofs.lemmas.Option.{none-some, same_Some}
+use Rattle.ct_lemmas.proofs.Options.{option_map-source, same_found}
 use Rattle.ct_sorts.specs.declared.ids.SortId.{SortId}
 use Rattle.ct_sorts.specs.declared.ids.CtorId.{CtorId}
 use Rattle.ct_sorts.specs.declared.ids.Kind.TheVariants.{Data}
@@ -22,21 +23,12 @@ FitsFunction d g f table = (function : Function) → slice_get d.functions f ≡
 abbrev pub FitsSelector : Declarations → Nodes → ℕ → Table → Type 0
 FitsSelector d g s table = (selector : Selector) (ctor : Constructor) → slice_get d.sels s ≡ Some selector → slice_get d.ctors selector.ctor.0 ≡ Some ctor → FitsTable d g (ctor.sort ∷ []) selector.sort table
 
--- what a look-up through a function finds
-pub there : {X Y : Type 0} (f : X → Y) (o : Option X) (y : Y) → option_map f o ≡ Some y → (x : X) × (o ≡ Some x) × (f x ≡ y)
-there f None y e = absurd (none-some y e)
-there f (Some x) y e = (x, refl, same_Some (f x) y e)
-
--- two look-ups at one index find one thing
-pub same_there : {X : Type 0} (o : Option X) (x y : X) → o ≡ Some x → o ≡ Some y → x ≡ y
-same_there o x y h k = same_Some x y (sym h ∙ k)
-
 -- a node is of a datatype where the sort that is found for it is one
 pub IsData-tested : (d : Declarations) (g : Nodes) (n : NodeId) (o : Option SortId) (sort : SortId) (r : Bool) → o ≡ Some sort → ((s : SortId) → (o ≡ Some s) ↔ HasNodeSort d g n s) → (IsTrue r ↔ ((x : Sort) × (slice_get d.sorts sort.0 ≡ Some x) × (x.kind ≡ Data))) → IsTrue r ↔ IsData d g n
 IsData-tested d g n o sort r at means reported = (
   λ yes. let h = reported.0 yes in (sort, h.0, (means sort).0 at, h.1, h.2),
   λ h.
-      let same : h.0 ≡ sort = same_there o h.0 sort ((means h.0).1 h.2) at in
+      let same : h.0 ≡ sort = same_found o h.0 sort ((means h.0).1 h.2) at in
       reported.1 (h.1, ap (λ (s : SortId). slice_get d.sorts s.0) (sym same) ∙ h.3, h.4),
 )
 
@@ -71,10 +63,10 @@ module _ (d : Declarations) (g : Nodes) where
 pub function-tested : (d : Declarations) (g : Nodes) (f : ℕ) (args : List SortId) (sort : SortId) (table : Table) (r : Bool) → option_map (λ (x : Function). x.args) (slice_get d.functions f) ≡ Some args → option_map (λ (x : Function). x.result) (slice_get d.functions f) ≡ Some sort → (IsTrue r ↔ FitsTable d g args sort table) → IsTrue r ↔ FitsFunction d g f table
 function-tested d g f args sort table r at_args at_sort reported =
     let fits : List SortId → SortId → Type 0 = λ xs s. FitsTable d g xs s table in
-    let function = there (λ (x : Function). x.args) (slice_get d.functions f) args at_args in
+    let function = option_map-source (λ (x : Function). x.args) (slice_get d.functions f) args at_args in
     let result : function.0.result ≡ sort = same_Some function.0.result sort (ap (option_map (λ (x : Function). x.result)) (sym function.1) ∙ at_sort) in (
       λ yes other at.
-          let one : function.0 ≡ other = same_there (slice_get d.functions f) function.0 other function.1 at in
+          let one : function.0 ≡ other = same_found (slice_get d.functions f) function.0 other function.1 at in
           subst (λ (x : Function). fits x.args x.result) one (subst (λ (xs : List SortId). fits xs function.0.result) (sym function.2) (subst (fits args) (sym result) (reported.0 yes))),
       λ h. reported.1 (subst (fits args) result (subst (λ (xs : List SortId). fits xs function.0.result) function.2 (h function.0 function.1))),
     )
@@ -83,13 +75,13 @@ function-tested d g f args sort table r at_args at_sort reported =
 pub selector-tested : (d : Declarations) (g : Nodes) (s : ℕ) (c : CtorId) (of sort : SortId) (table : Table) (r : Bool) → option_map (λ (x : Selector). x.ctor) (slice_get d.sels s) ≡ Some c → option_map (λ (x : Constructor). x.sort) (slice_get d.ctors c.0) ≡ Some of → option_map (λ (x : Selector). x.sort) (slice_get d.sels s) ≡ Some sort → (IsTrue r ↔ FitsTable d g (of ∷ []) sort table) → IsTrue r ↔ FitsSelector d g s table
 selector-tested d g s c of sort table r at_ctor at_of at_sort reported =
     let fits : SortId → SortId → Type 0 = λ x y. FitsTable d g (x ∷ []) y table in
-    let selector = there (λ (x : Selector). x.ctor) (slice_get d.sels s) c at_ctor in
-    let ctor = there (λ (x : Constructor). x.sort) (slice_get d.ctors c.0) of at_of in
+    let selector = option_map-source (λ (x : Selector). x.ctor) (slice_get d.sels s) c at_ctor in
+    let ctor = option_map-source (λ (x : Constructor). x.sort) (slice_get d.ctors c.0) of at_of in
     let result : selector.0.sort ≡ sort = same_Some selector.0.sort sort (ap (option_map (λ (x : Selector). x.sort)) (sym selector.1) ∙ at_sort) in (
       λ yes other own at at_own.
-          let one : selector.0 ≡ other = same_there (slice_get d.sels s) selector.0 other selector.1 at in
+          let one : selector.0 ≡ other = same_found (slice_get d.sels s) selector.0 other selector.1 at in
           let named : c ≡ other.ctor = sym selector.2 ∙ ap (λ (x : Selector). x.ctor) one in
-          let two : ctor.0 ≡ own = same_there (slice_get d.ctors c.0) ctor.0 own ctor.1 (ap (λ (k : CtorId). slice_get d.ctors k.0) named ∙ at_own) in
+          let two : ctor.0 ≡ own = same_found (slice_get d.ctors c.0) ctor.0 own ctor.1 (ap (λ (k : CtorId). slice_get d.ctors k.0) named ∙ at_own) in
           subst (λ (x : SortId). fits x other.sort) (sym ctor.2 ∙ ap (λ (x : Constructor). x.sort) two) (subst (fits of) (sym result ∙ ap (λ (x : Selector). x.sort) one) (reported.0 yes)),
       λ h.
           let at_own : slice_get d.ctors selector.0.ctor.0 ≡ Some ctor.0 = ap (λ (k : CtorId). slice_get d.ctors k.0) selector.2 ∙ ctor.1 in

@@ -19,11 +19,3 @@ pub mod AppendedLemmas
 pub mod TermLemmas
 pub mod ValueLemmas
 pub mod TreeValueLemmas
-pub mod MeaningFacts
-pub mod FactLemmas
-pub mod MeaningSorted
-pub mod MeaningAgrees
-pub mod MeaningReach
-pub mod CompiledOperators
-pub mod CompiledMeaning
-pub mod TreeSortLemmas

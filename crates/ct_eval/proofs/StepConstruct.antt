@@ -1,6 +1,7 @@
 -- The node of a constructor over representatives is the representative of the constructor over their values.
 use Rattle.std.proofs.Common.{◌≡◌, ◌⊎◌, ◌<◌, List, [], ◌∷◌, ◌++◌, map, length, Some, option_map, refl, sym, ap, subst, ◌∙◌}
 use Rattle.std.specs.List.{AllZip, AllByRecursion}
+use Rattle.ct_lemmas.proofs.Pairs.{AllZip-weaker}
 use Rattle.ct_sorts.specs.declared.ids.CtorId.{CtorId}
 use Rattle.ct_sorts.specs.declared.ids.SortId.{SortId}
 use Rattle.ct_sorts.specs.Declarations.{Declarations, Constructor}
@@ -17,7 +18,6 @@ use Rattle.ct_terms.specs.Terms.{Terms, Constructs}
 use Rattle.ct_eval.specs.declared.interp.Interp.{Interp}
 use Rattle.ct_eval.specs.Index.{AreRepresentatives}
 use Rattle.ct_eval.specs.EvaluationStep.{AreValued, Theorems, IsResult, node_under}
-use Rattle.ct_eval.proofs.StepLists.{zip-weaken}
 use Rattle.ct_eval.proofs.StepNodes.{IsRepresentative-longer, head_of_representative}
 use Rattle.ct_eval.proofs.StepSorts.{sorted_by_head, FitsGraph-grown, IsLonger-grown}
 use Rattle.ct_eval.proofs.StepTerms.{are_representatives, fields_fit, fields_sorted}
@@ -45,7 +45,7 @@ constructed_alike theorems g h c ns vs all =
 pub constructed : Theorems → (d : Declarations) (i : Interp) (old new : Nodes) (c : CtorId) (ns : List NodeId) (vs : List Value) (sort : SortId) (n : NodeId) → IsClosed old → FitsGraph d old → (built : IsBuilt d old c.0 ns) → built.ctor.sort ≡ sort → AreRepresentatives i.graph old ns vs → (new ≡ old) ⊎ (new ≡ old ++ Con c ns ∷ []) → IsRepresentative new (point new (node_value (Con c ns))) n → IsResult d i new (construct c (values_of vs)) sort n
 constructed theorems d i old new c ns vs sort n closed fits built is first grown f =
     let longer = IsLonger-grown old new (Con c ns) grown in
-    let agree : AllZip (λ m v. AgreeAlways (node_point new m) (point i.graph v)) ns vs = zip-weaken (λ (m : NodeId) (v : Value). IsRepresentative old (point i.graph v) m) (λ (m : NodeId) (v : Value). AgreeAlways (node_point new m) (point i.graph v)) (λ m v e. (IsRepresentative-longer theorems old new (point i.graph v) m closed longer e).same) ns vs first in
+    let agree : AllZip (λ m v. AgreeAlways (node_point new m) (point i.graph v)) ns vs = AllZip-weaker (λ (m : NodeId) (v : Value). IsRepresentative old (point i.graph v) m) (λ (m : NodeId) (v : Value). AgreeAlways (node_point new m) (point i.graph v)) (λ m v e. (IsRepresentative-longer theorems old new (point i.graph v) m closed longer e).same) ns vs first in
     let same : AgreeAlways (point new (node_value (Con c ns))) (point i.graph (construct c (values_of vs))) = constructed_alike theorems new i.graph c ns vs agree in (
       FitsGraph-grown d old new (Con c ns) fits built grown,
       record {

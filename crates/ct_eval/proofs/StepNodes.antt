@@ -2,6 +2,7 @@
 use Rattle.std.proofs.Common.{◌≡◌, ℕ, ◌<◌, List, [], ◌++◌, length, Some, slice_get, sym, ap, subst, ◌∙◌, append_assoc}
 use Rattle.std.specs.List.{AllZip}
 use Rattle.std.proofs.lemmas.List.{append-nil}
+use Rattle.ct_lemmas.proofs.Lists.{slice_get-append_left}
 use Rattle.ct_sorts.specs.declared.ids.CtorId.{CtorId}
 use Rattle.ct_sorts.specs.declared.ids.SortId.{SortId}
 use Rattle.ct_sorts.specs.Declarations.{Declarations}
@@ -17,7 +18,6 @@ use Rattle.ct_eval.specs.declared.interp.Interp.{Interp}
 use Rattle.ct_values.specs.TruthValue.{is_head, is_built}
 use Rattle.ct_eval.specs.Valued.{IsLonger}
 use Rattle.ct_eval.specs.EvaluationStep.{HasValue, AreValued, Theorems}
-use Rattle.ct_eval.proofs.ListLemmas.{slice_get-append_left}
 
 -- a graph goes on from itself, and what goes on from a longer graph goes on from the graph
 pub IsLonger-itself : (g : Nodes) → IsLonger g g

@@ -3,6 +3,7 @@ use Rattle.std.proofs.Common.{◌≡◌, ℕ, zero, suc, ◌<◌, Bool, true, fa
 use Rattle.std.specs.List.{AllZip}
 use Rattle.std.proofs.lemmas.Option.{none-some, same_Some, slice_get-get_or, slice_get_within}
 use Rattle.std.proofs.lemmas.Bool.Decides.{Decides-eqb}
+use Rattle.ct_lemmas.proofs.Pairs.{AllZip-at_right}
 use Rattle.ct_sorts.specs.declared.ids.CtorId.{CtorId}
 use Rattle.ct_sorts.specs.declared.ids.SelId.{SelId}
 use Rattle.ct_sorts.specs.declared.ids.SortId.{SortId}
@@ -22,7 +23,6 @@ use Rattle.ct_values.specs.TruthValue.{is_head, is_built}
 use Rattle.ct_eval.specs.Evaluation.{table_value, select}
 use Rattle.ct_eval.specs.LookUp.{look_up}
 use Rattle.ct_eval.specs.EvaluationStep.{HasValue, Theorems}
-use Rattle.ct_eval.proofs.StepLists.{zip-at_right}
 use Rattle.ct_eval.proofs.StepNodes.{head_of_representative, children_of_representative, built_alike}
 use Rattle.ct_eval.proofs.StepSorts.{same_sorts}
 
@@ -33,7 +33,7 @@ module _ (d : Declarations) (g : Nodes) (n : NodeId) (s : SelId) (selector : Sel
       let ctor = own s.0 selector declared in
       let same : built.ctor ≡ ctor.0 = same_Some built.ctor ctor.0 (sym built.declared ∙ ap (λ (j : ℕ). slice_get d.ctors j) one ∙ ctor.1) in
       let at : slice_get built.ctor.sels selector.place ≡ Some s = subst (λ (c : Constructor). slice_get c.sels selector.place ≡ Some s) (sym same) ctor.2 in
-      let child = zip-at_right (IsNodeOfField d g) ns built.ctor.sels selector.place s built.fields at in
+      let child = AllZip-at_right (IsNodeOfField d g) ns built.ctor.sels selector.place s built.fields at in
       let field : child.2.selector ≡ selector = same_Some child.2.selector selector (sym child.2.declared ∙ declared) in
       (child.0, child.1, subst (λ (f : Selector). HasNodeSort d g child.0 f.sort) field child.2.sorted)
 

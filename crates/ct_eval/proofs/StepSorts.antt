@@ -1,6 +1,8 @@
 -- Sorts of nodes: a node has the sort of its head, and a graph fits with one more node that does.
 use Rattle.std.proofs.Common.{◌≡◌, ◌⊎◌, inl, inr, [], ◌∷◌, ◌++◌, length, Option, Some, None, option_map, slice_get, refl, sym, ap, subst, ◌∙◌}
 use Rattle.std.proofs.lemmas.Option.{none-some, same_Some}
+use Rattle.ct_lemmas.proofs.Lists.{slice_get-push_cases}
+use Rattle.ct_lemmas.proofs.Pairs.{AllZip-weaker}
 use Rattle.ct_sorts.specs.declared.ids.SelId.{SelId}
 use Rattle.ct_sorts.specs.declared.ids.SortId.{SortId}
 use Rattle.ct_sorts.specs.Declarations.{Declarations}
@@ -15,8 +17,6 @@ use Rattle.ct_values.specs.Agreement.{head_of}
 use Rattle.ct_values.specs.Fitting.{node_sort, HasNodeSort, IsNodeOfField, FitsNode, FitsGraph}
 use Rattle.ct_eval.specs.Valued.{IsLonger}
 use Rattle.ct_eval.specs.EvaluationStep.{IsGrown}
-use Rattle.ct_eval.proofs.ListLemmas.{slice_get-push_cases}
-use Rattle.ct_eval.proofs.StepLists.{zip-weaken}
 use Rattle.ct_eval.proofs.StepNodes.{HasNodeSort-longer, IsLonger-itself}
 
 -- the sort of a head
@@ -55,7 +55,7 @@ FitsNode-longer : (d : Declarations) (g longer : Nodes) (node : Node) → IsLong
 FitsNode-longer d g longer (Con c children) l h = record {
   ctor = h.ctor;
   declared = h.declared;
-  fields = zip-weaken (IsNodeOfField d g) (IsNodeOfField d longer) (IsNodeOfField-longer d g longer l) children h.ctor.sels h.fields;
+  fields = AllZip-weaker (IsNodeOfField d g) (IsNodeOfField d longer) (IsNodeOfField-longer d g longer l) children h.ctor.sels h.fields;
 }
 FitsNode-longer d g longer (Elem s n) l h = h
 

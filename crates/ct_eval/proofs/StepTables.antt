@@ -1,6 +1,7 @@
 -- What a table gives: a node of the graph of the interpretation, of the table's sort.
 use Rattle.std.proofs.Common.{◌≡◌, ℕ, suc, ◌<◌, Bool, true, false, List, [], ◌∷◌, length, Option, Some, unwrap_or, if◌then◌else◌, slice_get, refl, sym, ap, subst}
 use Rattle.std.proofs.lemmas.Option.{slice_get_within}
+use Rattle.ct_lemmas.proofs.Lists.{slice_get-there}
 use Rattle.ct_sorts.specs.declared.ids.SortId.{SortId}
 use Rattle.ct_sorts.specs.Declarations.{Declarations, Constructor, Selector, Function}
 use Rattle.ct_values.specs.declared.node.NodeId.{NodeId}
@@ -17,7 +18,6 @@ use Rattle.ct_eval.specs.Evaluation.{table_value}
 use Rattle.ct_eval.specs.LookUp.{are_same, row_for, look_up}
 use Rattle.ct_eval.specs.Valued.{IsLonger}
 use Rattle.ct_eval.specs.EvaluationStep.{HasValue, Theorems}
-use Rattle.ct_eval.proofs.ListLemmas.{stands}
 use Rattle.ct_eval.proofs.StepNodes.{HasNodeSort-longer, node_lasts, head_of_representative}
 use Rattle.ct_eval.proofs.StepSorts.{same_sorts}
 
@@ -52,14 +52,14 @@ looked_up theorems d g longer n r sort closed l has f = (
 pub function_table : (d : Declarations) (i : Interp) (f : ℕ) (function : Function) → IsProper d i → slice_get d.functions f ≡ Some function → (table : Table) × (slice_get i.funs f ≡ Some table) × FitsTable d i.graph function.args function.result table
 function_table d i f function proper declared =
     let within : f < length i.funs = subst (λ (n : ℕ). f < n) (sym proper.functions.one_each) (slice_get_within d.functions f function declared) in
-    let table = stands i.funs f within in
+    let table = slice_get-there i.funs f within in
     (table.0, table.1, proper.functions.fit f function table.0 declared table.1)
 
 -- and each selector one over the sort of its constructor
 pub selector_table : (d : Declarations) (i : Interp) (s : ℕ) (selector : Selector) (ctor : Constructor) → IsProper d i → slice_get d.sels s ≡ Some selector → slice_get d.ctors selector.ctor.0 ≡ Some ctor → (table : Table) × (slice_get i.offs s ≡ Some table) × FitsTable d i.graph (ctor.sort ∷ []) selector.sort table
 selector_table d i s selector ctor proper declared built =
     let within : s < length i.offs = subst (λ (n : ℕ). s < n) (sym proper.selectors.one_each) (slice_get_within d.sels s selector declared) in
-    let table = stands i.offs s within in
+    let table = slice_get-there i.offs s within in
     (table.0, table.1, proper.selectors.fit s selector ctor table.0 declared built table.1)
 
 -- what a table gives is a value that a reference stands for

@@ -3,6 +3,7 @@ use Rattle.std.proofs.Common.{◌≡◌, ◌<◌, List, [], ◌∷◌, map, leng
 use Rattle.std.specs.List.{AllZip, AllByRecursion}
 use Rattle.std.proofs.lemmas.Option.{slice_get-get_or}
 use Rattle.std.proofs.lemmas.List.Elements.{recursion_from_All, All-from_recursion}
+use Rattle.ct_lemmas.proofs.Each.{AllByRecursion-weaker}
 use Rattle.ct_sorts.specs.declared.ids.SortId.{SortId}
 use Rattle.ct_sorts.specs.declared.ids.SelId.{SelId}
 use Rattle.ct_sorts.specs.Declarations.{Declarations, bool_sort}
@@ -18,7 +19,7 @@ use Rattle.ct_eval.specs.declared.interp.Interp.{Interp}
 use Rattle.ct_values.specs.TruthValue.{is_true}
 use Rattle.ct_eval.specs.Index.{AreRepresentatives}
 use Rattle.ct_eval.specs.EvaluationStep.{HasValue, AreValued, Theorems, HasNode, node_under}
-use Rattle.ct_eval.proofs.StepLists.{zip-left, each-weaken}
+use Rattle.ct_eval.proofs.StepLists.{zip-left}
 use Rattle.ct_eval.proofs.StepNodes.{built_alike}
 
 -- each of the terms has a sort
@@ -32,7 +33,7 @@ pub sorts_sorted : (terms : Terms) (args : List TermId) (sorts : List SortId) �
 sorts_sorted terms = zip-left (IsOfSort terms) (HasSomeSort terms) (λ t s h. (s, h))
 
 pub booleans_sorted : (terms : Terms) (args : List TermId) → All (IsBoolean terms) args → AllByRecursion (HasSomeSort terms) args
-booleans_sorted terms args all = each-weaken (IsBoolean terms) (HasSomeSort terms) (λ t h. (bool_sort, h)) args (recursion_from_All (IsBoolean terms) args all)
+booleans_sorted terms args all = AllByRecursion-weaker (IsBoolean terms) (HasSomeSort terms) (λ t h. (bool_sort, h)) args (recursion_from_All (IsBoolean terms) args all)
 
 module _ (d : Declarations) (i : Interp) (terms : Terms) (g : Nodes) (nodes : List NodeId) (value : TermId → Value) (valued : AreValued d i terms g nodes value) where
   -- the node of a term is its value

@@ -1,8 +1,8 @@
 -- The nodes of truth values, and the terms that have them.
-use Rattle.std.proofs.Common.{◌≡◌, ◌⊎◌, ◌↔◌, ℕ, zero, suc, ◌<◌, Bool, true, false, IsTrue, List, [], ◌∷◌, ◌++◌, take, Some, Result, IfOk, slice_get, refl, sym, subst, arith}
+use Rattle.std.proofs.Common.{◌≡◌, ◌⊎◌, ◌↔◌, ℕ, zero, suc, ◌<◌, Bool, true, false, IsTrue, List, [], ◌∷◌, ◌++◌, Some, Result, IfOk, slice_get, refl, sym, subst, arith}
 use Rattle.std.specs.List.{AllZip}
-use Rattle.std.proofs.lemmas.Option.{none-some}
 use Rattle.std.proofs.lemmas.Result.{IfOk-weaker}
+use Rattle.ct_lemmas.proofs.Prefixes.{slice_get-take}
 use Rattle.ct_sorts.specs.declared.ids.CtorId.{CtorId}
 use Rattle.ct_sorts.specs.declared.ids.SelId.{SelId}
 use Rattle.ct_sorts.specs.declared.ids.SortId.{SortId}
@@ -24,13 +24,6 @@ use Rattle.ct_eval.specs.Evaluation.{core_value, is_same}
 use Rattle.ct_eval.specs.EvaluationStep.{HasValue, AreValued, Theorems, IsResult, IsNodeFor}
 use Rattle.ct_eval.proofs.StepConstruct.{constructed}
 
--- what stands at an index of the first part stands in the whole
-pub at_take : {X : Type 0} (n : ℕ) (xs : List X) (k : ℕ) (x : X) → slice_get (take n xs) k ≡ Some x → slice_get xs k ≡ Some x
-at_take zero xs k x e = absurd (none-some x e)
-at_take (suc n) [] k x e = e
-at_take (suc n) (y ∷ xs) zero x e = e
-at_take (suc n) (y ∷ xs) (suc k) x e = at_take n xs k x e
-
 -- the constructors 0 and 1 are of the sort Bool, and take nothing
 truth_declared : (k : ℕ) → k < 2 → (ctor : Constructor) × (slice_get start.ctors k ≡ Some ctor) × (ctor.sort ≡ bool_sort) × (ctor.sels ≡ [])
 truth_declared zero below = (_, refl, refl, refl)
@@ -40,7 +33,7 @@ truth_declared (suc (suc k)) below = absurd (omega arith)
 pub truth_ctor : (d : Declarations) (k : ℕ) → IsConsistent d → k < 2 → (ctor : Constructor) × (slice_get d.ctors k ≡ Some ctor) × (ctor.sort ≡ bool_sort) × (ctor.sels ≡ [])
 truth_ctor d k consistent below =
     let at = truth_declared k below in
-    (at.0, at_take 2 d.ctors k at.0 (subst (λ (cs : List Constructor). slice_get cs k ≡ Some at.0) (sym consistent.first_ctors) at.1), at.2, at.3)
+    (at.0, slice_get-take 2 d.ctors k at.0 (subst (λ (cs : List Constructor). slice_get cs k ≡ Some at.0) (sym consistent.first_ctors) at.1), at.2, at.3)
 
 -- the node of `true` or `false`
 pub truth_constructed : Theorems → (d : Declarations) (i : Interp) (old new : Nodes) (c : CtorId) (ns : List NodeId) (b : Bool) (n : NodeId) → IsConsistent d → IsClosed old → FitsGraph d old → c.0 < 2 → ns ≡ [] → truth b ≡ construct c no_values → (new ≡ old) ⊎ (new ≡ old ++ Con c ns ∷ []) → IsRepresentative new (point new (node_value (Con c ns))) n → IsResult d i new (truth b) bool_sort n

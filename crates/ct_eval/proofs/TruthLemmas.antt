@@ -1,8 +1,7 @@
 -- The truth of a term from its node, and tests that two lists pass together.
-use Rattle.std.proofs.Common.{◌≡◌, ℕ, ◌<◌, Bool, true, List, [], ◌∷◌, All, length, Some, slice_get, get_or, sym, ap, subst, ◌∙◌, ◌↔◌}
+use Rattle.std.proofs.Common.{◌≡◌, Bool, true, List, [], ◌∷◌, All, Some, slice_get, sym, ap, ◌∙◌, ◌↔◌}
 use Rattle.std.specs.List.{AllZip, AllByRecursion}
 use Rattle.std.proofs.lemmas.List.Elements.{recursion_from_All, All-from_recursion}
-use Rattle.std.proofs.lemmas.Option.{slice_get-get_or}
 use Rattle.ct_sorts.specs.Declarations.{Declarations}
 use Rattle.ct_values.specs.declared.node.NodeId.{NodeId}
 use Rattle.ct_values.specs.Value.{reference}
@@ -20,10 +19,6 @@ use Rattle.ct_eval.specs.Valued.{IsValuation}
 pub truth_of-node : ((p q : Point) → AgreeAlways p q ↔ ((head p ≡ head q) × AllZip AgreeAlways (children p) (children q))) → (d : Declarations) (i : Interp) (terms : Terms) (v : Valuation) (t : TermId) → IsValuation d i terms v → (node : NodeId) → slice_get v.nodes t.0 ≡ Some node → is_true v.graph (reference node) ≡ truth_value d i terms t
 truth_of-node always d i terms v t valued node at =
     ap (is_head (record { 0 = 0 })) ((always (node_point v.graph node) (point i.graph (value_of d i terms t))).0 (valued.values t node at).same).0
-
--- what an index reads of a list under another name
-pub slice_get-read : {X : Type 0} (xs ys : List X) → ys ≡ xs → (k : ℕ) (d : X) → k < length xs → slice_get xs k ≡ Some (get_or ys k d)
-slice_get-read {X = X} xs ys e k d within = subst (λ (zs : List X). slice_get xs k ≡ Some (get_or zs k d)) (sym e) (slice_get-get_or xs k d within)
 
 -- tests of two lists that are the same element by element, where the elements of the second have a property
 module _ {X Y : Type 0} (R : X → Y → Type 0) (S : Y → Type 0) (p : X → Bool) (q : Y → Bool) (same : (x : X) (y : Y) → R x y → S y → p x ≡ q y) where

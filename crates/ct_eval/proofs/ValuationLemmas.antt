@@ -3,6 +3,9 @@ use Rattle.std.proofs.Common.{◌≡◌, ℕ, ◌<◌, inl, inr, List, [], ◌�
 use Rattle.std.proofs.lemmas.List.{append-nil, length_push}
 use Rattle.std.proofs.lemmas.List.Elements.{Contains-append_left, Contains-push}
 use Rattle.std.proofs.lemmas.Option.{none-some, same_Some, slice_get_within, slice_get-get_or}
+use Rattle.ct_lemmas.proofs.Lists.{slice_get-append_left, slice_get-push_cases, slice_get-there}
+use Rattle.ct_lemmas.proofs.Numbers.{last_or_before}
+use Rattle.ct_lemmas.proofs.Pairs.{AllZip-left_parts}
 use Rattle.ct_sorts.specs.declared.ids.SortId.{SortId}
 use Rattle.ct_sorts.specs.Declarations.{Declarations}
 use Rattle.ct_sorts.specs.Structure.{AreOfTheirConstructors}
@@ -25,7 +28,6 @@ use Rattle.ct_eval.specs.Interpretation.{FitsTable, IsProper}
 use Rattle.ct_eval.specs.Evaluation.{core_value, value_of}
 use Rattle.ct_eval.specs.Valued.{IsLonger, AreNewAmong, IsValuation}
 use Rattle.ct_eval.specs.EvaluationStep.{HasValue, AreValued, HaveNodes, IsGrown}
-use Rattle.ct_eval.proofs.ListLemmas.{stands, slice_get-append_left, slice_get-push_cases, AllZip-left_parts, last_or_before}
 use Rattle.ct_eval.proofs.StepNodes.{IsLonger-further}
 use Rattle.ct_eval.proofs.EvaluationLemmas.{value_of-unfolds}
 
@@ -80,13 +82,13 @@ module _ (d : Declarations) where
     functions-fit : AreRowsWithin i.graph i.funs
     functions-fit t table r row at stands_at =
         let within = slice_get_within i.funs t table at in
-        let function = stands d.functions t (subst (λ k. t < k) proper.functions.one_each within) in
+        let function = slice_get-there d.functions t (subst (λ k. t < k) proper.functions.one_each within) in
         FitsTable-within i.graph function.0.args function.0.result table (proper.functions.fit t function.0 table function.1 at) r row stands_at
 
     selectors-fit : AreOfTheirConstructors d → AreRowsWithin i.graph i.offs
     selectors-fit constructors t table r row at stands_at =
         let within = slice_get_within i.offs t table at in
-        let selector = stands d.sels t (subst (λ k. t < k) proper.selectors.one_each within) in
+        let selector = slice_get-there d.sels t (subst (λ k. t < k) proper.selectors.one_each within) in
         let ctor = constructors t selector.0 selector.1 in
         FitsTable-within i.graph (ctor.0.sort ∷ []) selector.0.sort table (proper.selectors.fit t selector.0 ctor.0 table selector.1 ctor.1 at) r row stands_at
 
@@ -157,14 +159,14 @@ module _ (d : Declarations) where
           all = all;
           sorts = λ t sort n sorted at. (have.valued t sort n sorted at).sorted;
           values = λ t n at.
-              let stood = stands terms t.0 (subst (λ k. t.0 < k) all (slice_get_within nodes t.0 n at)) in
+              let stood = slice_get-there terms t.0 (subst (λ k. t.0 < k) all (slice_get_within nodes t.0 n at)) in
               (have.valued t stood.0.1 n (stood.0.0, stood.1) at).first;
         }
 
     -- each node of a valuation is one of its graph
     pub IsValuation-nodes : (v : Valuation) → IsValuation d i terms v → All (λ n. n.0 < length v.graph) v.nodes
     IsValuation-nodes v valued k e within =
-        let stood = stands terms k (subst (λ n. k < n) valued.all within) in
+        let stood = slice_get-there terms k (subst (λ n. k < n) valued.all within) in
         let node = get_or v.nodes k e in
         HasNodeSort-within v.graph node stood.0.1 (valued.sorts (record { 0 = k }) stood.0.1 node (stood.0.0, stood.1) (slice_get-get_or v.nodes k e within))
 

@@ -8,4 +8,3 @@ pub mod Valued
 pub mod Index
 pub mod EvaluationStep
 pub mod TreeValue
-pub mod Meaning

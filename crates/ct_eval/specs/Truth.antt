@@ -1,14 +1,12 @@
 -- When an interpretation makes terms and clauses true (SMT-LIB 2.7, section 5.3).
-use Rattle.std.specs.Prelude.{◌≡◌, ℕ, true, Bool, List, [], All, take, Some, slice_get}
+use Rattle.std.specs.Prelude.{◌≡◌, ℕ, true, Bool, List, All, take, Some, slice_get}
 use Rattle.ct_sorts.specs.Declarations.{Declarations}
 use Rattle.ct_terms.specs.declared.ids.TermId.{TermId}
 use Rattle.ct_terms.specs.Terms.{Terms}
 use Rattle.ct_terms.specs.Clause.{Clause, HoldsUnder}
-use Rattle.ct_terms.specs.Formula.{Formula}
 use Rattle.ct_eval.specs.declared.interp.Interp.{Interp}
 use Rattle.ct_values.specs.TruthValue.{is_true}
 use Rattle.ct_eval.specs.Evaluation.{value_of}
-use Rattle.ct_eval.specs.Meaning.{eval}
 
 -- the truth value of a term
 abbrev pub truth_value : Declarations → Interp → Terms → TermId → Bool
@@ -28,7 +26,3 @@ pub record IsFirstUntrue (d : Declarations) (i : Interp) (terms : Terms) (assert
   pub stands : slice_get asserts position ≡ Some assert
   pub untrue : truth_value d i terms assert ≡ true → ⊥
   pub before : Holds d i terms (take position asserts)
-
--- the interpretation makes every assertion true: each, a closed formula over definitions with these bodies, evaluates to `true`
-abbrev pub AllTrue : Declarations → Interp → List Formula → List Formula → Type 0
-AllTrue d i bodies asserts = All (λ t. is_true i.graph (eval d i bodies [] t) ≡ true) asserts

@@ -6,7 +6,6 @@ mod assertions;
 mod boolean;
 mod error;
 mod fitting;
-mod formula_theorems;
 mod index;
 mod interp;
 mod nodes;
@@ -18,8 +17,9 @@ mod valuation;
 
 pub use assertions::holds;
 pub use error::EvalError;
-pub use formula_theorems::meanings;
 pub use interp::{Interp, Row, Rows, Table, Tables, Valuation};
 pub use proper::is_proper;
-pub use theorems::{appended_nodes, congruence, constructor_terms, evaluation, truth_values};
+pub use theorems::{
+    appended_nodes, congruence, constructor_terms, evaluation, truth_values, values_of_trees,
+};
 pub use valuation::evaluate;

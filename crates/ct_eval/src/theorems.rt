@@ -18,6 +18,7 @@ ghost use Rattle.ct_terms.specs.declared.term.Core.{Core};
 ghost use Rattle.ct_terms.specs.declared.term.Core.TheVariants.{Con, Sel, Test, Eq, Not, And, Or};
 ghost use Rattle.ct_terms.specs.declared.term.Core.TheVariants.{Iff, Ite};
 ghost use Rattle.ct_terms.specs.Terms.{Terms, IsOfSort, IsBoolean, AreSorted, AreOrdered};
+ghost use Rattle.ct_terms.specs.CoreTree.{term_at};
 ghost use Rattle.ct_terms.specs.Literal.{literal_of};
 ghost use Rattle.ct_terms.specs.Clause.{literal_value};
 ghost use Rattle.ct_eval.specs.declared.interp.Table.{Table};
@@ -25,6 +26,7 @@ ghost use Rattle.ct_eval.specs.declared.interp.Interp.{Interp};
 ghost use Rattle.ct_eval.specs.Interpretation.{IsProper};
 ghost use Rattle.ct_eval.specs.LookUp.{look_up};
 ghost use Rattle.ct_eval.specs.Evaluation.{table_value, select, value_of, core_value};
+ghost use Rattle.ct_eval.specs.TreeValue.{tree_value};
 ghost use Rattle.ct_eval.specs.Congruence.{AreCongruent, HaveOneValue};
 ghost use Rattle.ct_eval.specs.Appended.{IsTableOver, IsClosedInterp, with_nodes};
 ghost use Rattle.ct_eval.specs.Truth.{truth_value};
@@ -249,3 +251,10 @@ pub fn appended_nodes()
     longer_graphs();
     fitting_graphs();
 }
+
+/// The theorem on values of terms as trees. It does nothing: a proof that needs it calls it.
+pub fn values_of_trees()
+    // The value of a term of a table is that of its tree: it does not depend on the table.
+    ensures tree { (d : Declarations) (i : Interp) (terms : Terms) (t : TermId)
+        → value_of d i terms t ≡ tree_value d i (term_at terms t) }
+{}

@@ -4,6 +4,8 @@ use Rattle.std.specs.List.{Contains}
 use Rattle.std.proofs.Math.Seq.{take-append-add}
 use Rattle.std.proofs.lemmas.List.{take-append-le}
 use Rattle.std.proofs.lemmas.Option.{none-some, same_Some, slice_get_within, slice_get-get_or}
+use Rattle.ct_lemmas.proofs.Lists.{slice_get-append_cases, slice_get-set_other, slice_get-set_same}
+use Rattle.ct_lemmas.proofs.Numbers.{same_or_other}
 use Rattle.ct_terms.specs.declared.ids.TermId.{TermId}
 use Rattle.ct_terms.specs.declared.ids.Lit.{Lit}
 use Rattle.ct_terms.specs.Literal.{opposite}
@@ -16,7 +18,7 @@ use Rattle.ct_congr.specs.declared.merge.Merge.{Merge}
 use Rattle.ct_congr.specs.State.{State}
 use Rattle.ct_explain.specs.Writing.{Written, Told, Opposes, AreWritten, AreDone}
 use Rattle.ct_explain.specs.Explained.{IsExplained}
-use Rattle.ct_explain.proofs.ListLemmas.{slice_get-append_cases, slice_get-set_same, slice_get-set_other, slice_get-replicate, nat_cases}
+use Rattle.ct_explain.proofs.ListLemmas.{slice_get-replicate}
 
 -- nothing was written
 pub AreWritten-none : (state : State) (w : Written) → w.steps ≡ [] → w.stated ≡ [] → AreWritten state w
@@ -99,7 +101,7 @@ explained state w old new number a b first stays written told = record {
 pub AreDone-put : (w : Written) (merges : List Merge) (done : List (Option ℕ)) (k n : ℕ) (m : Merge)
     → k < length done → slice_get merges k ≡ Some m → Told w n m.left m.right → AreDone w merges done → AreDone w merges (set done k (Some n))
 AreDone-put w merges done k n m within at told are = λ j i q at_done at_merge.
-    elim (nat_cases j k) [
+    elim (same_or_other j k) [
       | inl same ↦
           let put : slice_get (set done k (Some n)) k ≡ Some (Some i) = subst (λ (x : ℕ). slice_get (set done k (Some n)) x ≡ Some (Some i)) same at_done in
           let number : n ≡ i = same_Some n i (same_Some (Some n) (Some i) (sym (slice_get-set_same done k (Some n) within) ∙ put)) in

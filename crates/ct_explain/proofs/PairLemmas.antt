@@ -1,6 +1,7 @@
 -- Pairs of constructor terms with the steps of their arguments.
 use Rattle.std.proofs.Common.{◌≡◌, ℕ, zero, suc, ◌+◌, ◌<◌, List, [], ◌∷◌, ◌++◌, length, take, get_or, Some, slice_get, refl, sym, subst}
 use Rattle.std.proofs.lemmas.Option.{none-some, same_Some, slice_get-get_or}
+use Rattle.ct_lemmas.proofs.Prefixes.{take-slice_get_next}
 use Rattle.ct_terms.specs.declared.ids.TermId.{TermId}
 use Rattle.ct_terms.specs.Terms.{Terms}
 use Rattle.ct_rules.specs.declared.equation.Equation.{Equation}
@@ -12,7 +13,6 @@ use Rattle.ct_log.specs.Equations.{Gave, IsEntryFor, AreEntriesFor}
 use Rattle.ct_congr.specs.State.{State}
 use Rattle.ct_explain.specs.Writing.{Written, IsStep, HasWrittenMore}
 use Rattle.ct_explain.specs.Pairs.{ToldEntry, ToldEntries, IsPairTold, ArePairsTold}
-use Rattle.ct_explain.proofs.ListLemmas.{take-next}
 use Rattle.ct_explain.proofs.WritingLemmas.{Told-later}
 
 ToldEntry-later : (state : State) (old new : Written) (equations : List Equation) (entry : Entry) (x y : TermId) → HasWrittenMore state old new → ToldEntry old equations entry x y → ToldEntry new equations entry x y
@@ -50,7 +50,7 @@ ToldEntries-next state old new equations es all xs ys i entry d e grown within l
     let x_at = slice_get-get_or xs i d within in
     let y_at = slice_get-get_or ys i e (subst (λ (m : ℕ). i < m) long within) in
     let now = ToldEntries-later state old new equations es (take i xs) (take i ys) grown told in
-    rw (all_are, take-next xs i (get_or xs i d) x_at, take-next ys i (get_or ys i e) y_at)
+    rw (all_are, take-slice_get_next xs i (get_or xs i d) x_at, take-slice_get_next ys i (get_or ys i e) y_at)
     (ToldEntries-push new equations es (take i xs) (take i ys) entry (get_or xs i d) (get_or ys i e) now last)
 
 IsPairTold-later : (state : State) (terms : Terms) (old new : Written) (equations : List Equation) (e : Equation) (p : pairs.Pair) → HasWrittenMore state old new → IsPairTold terms old equations e p → IsPairTold terms new equations e p
@@ -85,7 +85,7 @@ pub ArePairsTold-next : (state : State) (terms : Terms) (old new : Written) (equ
     → ArePairsTold terms new equations (take (i + 1) equations) all
 ArePairsTold-next state terms old new equations ps all i p d grown within all_are told last =
     let now = ArePairsTold-later state terms old new equations (take i equations) ps grown told in
-    rw (all_are, take-next equations i (get_or equations i d) (slice_get-get_or equations i d within))
+    rw (all_are, take-slice_get_next equations i (get_or equations i d) (slice_get-get_or equations i d within))
     (ArePairsTold-push terms new equations (take i equations) ps (get_or equations i d) p now last)
 
 -- each equation has its pair

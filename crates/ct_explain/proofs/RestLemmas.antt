@@ -1,8 +1,12 @@
 -- What merges rest on, by the ways that their premises have.
 use Rattle.std.proofs.Common.{◌≡◌, ℕ, zero, suc, ◌+◌, ◌-◌, ◌<◌, ◌≤◌, ◌⊎◌, inl, inr, Bool, true, false, true≢false, List, [], ◌∷◌, length, take, get_or, set, Option, None, Some, slice_get, refl, sym, ap, subst, ◌∙◌, arith}
 use Rattle.std.specs.Bool.{OnTrue, OnFalse}
-use Rattle.std.specs.List.{AllZip, AllByRecursion, Contains}
+use Rattle.std.specs.List.{AllByRecursion, Contains}
 use Rattle.std.proofs.lemmas.Option.{none-some, same_Some, slice_get-get_or, slice_get_within}
+use Rattle.ct_lemmas.proofs.Contained.{Contains-from_slice_get, slice_get-from_Contains}
+use Rattle.ct_lemmas.proofs.Lists.{slice_get-set_other, slice_get-set_same}
+use Rattle.ct_lemmas.proofs.Numbers.{order_cases, same_or_other}
+use Rattle.ct_lemmas.proofs.Pairs.{AllZip-at, AllZip-one_length, AllZip-weaker}
 use Rattle.ct_sorts.specs.Declarations.{Declarations}
 use Rattle.ct_terms.specs.declared.ids.TermId.{TermId}
 use Rattle.ct_terms.specs.declared.ids.Lit.{Lit}
@@ -23,20 +27,9 @@ use Rattle.ct_explain.specs.declared.forest.Link.{Link}
 use Rattle.ct_explain.specs.Trees.{HasRoot, IsForestOf, IsForestOfClasses, IsForestPath, IsRoute}
 use Rattle.ct_explain.specs.Premises.{IsOver, HasNoPremise}
 use Rattle.ct_explain.specs.Resting.{IsPaved, IsDetour, IsMatching, IsPavedBy, IsEntryPaved, AreEntriesPaved, AreArgumentsPaved, IsEntry, AreEntries, AreArgumentsMatched, IsLone, Rests, IsMarked, IsMarkedBelow, AreMarkedMore, HasNumber, AreEqualAlong}
-use Rattle.ct_explain.proofs.ListLemmas.{nat_cases, slice_get-from_Contains, Contains-from_slice_get, slice_get-set_same, slice_get-set_other}
 use Rattle.ct_explain.proofs.ReasonLemmas.{one_under}
 use Rattle.ct_explain.proofs.StepLemmas.{Has-same}
 use Rattle.ct_explain.proofs.WayLemmas.{one_path, route_of_path}
-
--- of two numbers the one is less, or they are one
-order_cases : (m n : ℕ) → (m < n) ⊎ ((m ≡ n) ⊎ (n < m))
-order_cases zero zero = inr (inl refl)
-order_cases zero (suc n) = inl (omega arith)
-order_cases (suc m) zero = inr (inr (omega arith))
-order_cases (suc m) (suc n) = elim (order_cases m n) [
-  | inl h ↦ inl (omega (arith, h))
-  | inr h ↦ elim h [ inl e ↦ inr (inl (ap suc e)) | inr g ↦ inr (inr (omega (arith, g))) ]
-]
 
 same_found : (f g : ℕ × Equation) → f.0 ≡ g.0 → f.1 ≡ g.1 → f ≡ g
 same_found f g p q = ap (λ (n : ℕ). (n, f.1)) p ∙ ap (λ (e : Equation). (g.0, e)) q
@@ -191,25 +184,6 @@ lone_inside d terms hyps known l r (Neg t) x y ordered h p =
     let rule = h.1 in
     under_inside terms (core.Not rule.argument) t x [] ordered (subst (λ (z : TermId). Has terms (core.Not rule.argument) z.0) h.0 rule.stands) p.0
 
--- lists that go side by side
-zip_at : {X Y : Type 0} (R : X → Y → Type 0) (xs : List X) (ys : List Y) (i : ℕ) (x : X) (y : Y) → AllZip R xs ys → slice_get xs i ≡ Some x → slice_get ys i ≡ Some y → R x y
-zip_at R [] ys i x y all at_x at_y = absurd (none-some x at_x)
-zip_at R (a ∷ xs) [] i x y all at_x at_y = absurd all
-zip_at R (a ∷ xs) (b ∷ ys) zero x y all at_x at_y = subst (λ q. R q y) (same_Some a x at_x) (subst (R a) (same_Some b y at_y) all.0)
-zip_at R (a ∷ xs) (b ∷ ys) (suc i) x y all at_x at_y = zip_at R xs ys i x y all.1 at_x at_y
-
-zip_long : {X Y : Type 0} (R : X → Y → Type 0) (xs : List X) (ys : List Y) → AllZip R xs ys → length xs ≡ length ys
-zip_long R [] [] all = refl
-zip_long R [] (y ∷ ys) all = absurd all
-zip_long R (x ∷ xs) [] all = absurd all
-zip_long R (x ∷ xs) (y ∷ ys) all = ap suc (zip_long R xs ys all.1)
-
-zip_weaker : {X Y : Type 0} (P Q : X → Y → Type 0) → ((x : X) (y : Y) → P x y → Q x y) → (xs : List X) (ys : List Y) → AllZip P xs ys → AllZip Q xs ys
-zip_weaker P Q each [] [] h = tt
-zip_weaker P Q each [] (y ∷ ys) h = absurd h
-zip_weaker P Q each (x ∷ xs) [] h = absurd h
-zip_weaker P Q each (x ∷ xs) (y ∷ ys) h = (each x y h.0, zip_weaker P Q each xs ys h.1)
-
 -- the arguments of congruent terms, and those of the sides of a pair
 pub congruent_arguments : (d : Declarations) (terms : Terms) (hyps : List Lit) (known : Equations) (l r t u : TermId)
     → IsReason d terms hyps known l r (Cong t u) → AreArgumentsMatched terms known [] t u
@@ -220,7 +194,7 @@ congruent_arguments d terms hyps known l r t u h =
       right = rule.right;
       left_stands = subst (λ (q : TermId). Has terms rule.left q.0) h.0 rule.left_stands;
       right_stands = subst (λ (q : TermId). Has terms rule.right q.0) h.1 rule.right_stands;
-      arguments = zip_weaker known (AreMatched known []) (λ x y p. inl p) (core_children rule.left) (core_children rule.right) rule.arguments;
+      arguments = AllZip-weaker known (AreMatched known []) (λ x y p. inl p) (core_children rule.left) (core_children rule.right) rule.arguments;
     }
 
 pub pair_arguments : (terms : Terms) (known : Equations) (equations : List Equation) (t u : TermId) → IsPairMatched terms known equations t u → AreArgumentsMatched terms known equations t u
@@ -237,7 +211,7 @@ pub arguments_long : (terms : Terms) (known : Equations) (equations : List Equat
     → AreArgumentsMatched terms known equations t u → Has terms left t.0 → Has terms right u.0 → length (core_children left) ≡ length (core_children right)
 arguments_long terms known equations t u left right h at_left at_right =
     ap (λ (c : Core). length (core_children c)) (Has-same terms left h.left t.0 at_left h.left_stands)
-    ∙ zip_long (AreMatched known equations) (core_children h.left) (core_children h.right) h.arguments
+    ∙ AllZip-one_length (AreMatched known equations) (core_children h.left) (core_children h.right) h.arguments
     ∙ ap (λ (c : Core). length (core_children c)) (Has-same terms h.right right u.0 h.right_stands at_right)
 
 pub arguments_entries : (terms : Terms) (known : Equations) (equations : List Equation) (t u : TermId) (left right : Core)
@@ -246,7 +220,7 @@ pub arguments_entries : (terms : Terms) (known : Equations) (equations : List Eq
 arguments_entries terms known equations t u left right h at_left at_right left_below right_below = λ i x y at_x at_y. record {
   left = each_below (length terms) (core_children left) i x left_below at_x;
   right = each_below (length terms) (core_children right) i y right_below at_y;
-  matched = zip_at (AreMatched known equations) (core_children h.left) (core_children h.right) i x y h.arguments
+  matched = AllZip-at (AreMatched known equations) (core_children h.left) (core_children h.right) i x y h.arguments
       (subst (λ (c : Core). slice_get (core_children c) i ≡ Some x) (Has-same terms left h.left t.0 at_left h.left_stands) at_x)
       (subst (λ (c : Core). slice_get (core_children c) i ≡ Some y) (Has-same terms right h.right u.0 at_right h.right_stands) at_y);
 }
@@ -313,14 +287,14 @@ one_marked old new k within are = subst (λ (l : List Bool). slice_get l k ≡ S
 
 pub one_stays : (old new : List Bool) (k : ℕ) → k < length old → new ≡ set old k true → (j : ℕ) → IsMarked old j → IsMarked new j
 one_stays old new k within are j h =
-    elim (nat_cases j k) [
+    elim (same_or_other j k) [
       | inl same ↦ subst (IsMarked new) (sym same) (one_marked old new k within are)
       | inr other ↦ subst (λ (l : List Bool). slice_get l j ≡ Some true) (sym are) (slice_get-set_other old k j true other ∙ h)
     ]
 
 pub one_only : (old new : List Bool) (k : ℕ) → new ≡ set old k true → (j : ℕ) → IsMarked new j → IsMarked old j ⊎ (j ≡ k)
 one_only old new k are j h =
-    elim (nat_cases j k) [
+    elim (same_or_other j k) [
       | inl same ↦ inr same
       | inr other ↦ inl (sym (slice_get-set_other old k j true other) ∙ subst (λ (l : List Bool). slice_get l j ≡ Some true) are h)
     ]
@@ -408,7 +382,7 @@ pub entries_next : (links : List (Option Link)) (known : Equations) (equations :
     → ((j : ℕ) (x y : TermId) → j < i → slice_get xs j ≡ Some x → slice_get ys j ≡ Some y → IsEntryPaved links known (IsMarkedBelow old bound) equations x y)
     → (j : ℕ) (x y : TermId) → j < i + 1 → slice_get xs j ≡ Some x → slice_get ys j ≡ Some y → IsEntryPaved links known (IsMarkedBelow new bound) equations x y
 entries_next links known equations xs ys i bound d e old new within long more here before j x y below at_x at_y =
-    elim (nat_cases j i) [
+    elim (same_or_other j i) [
       | inl same ↦
           let x_is : get_or xs i d ≡ x = same_Some (get_or xs i d) x (sym (slice_get-get_or xs i d within) ∙ subst (λ (n : ℕ). slice_get xs n ≡ Some x) same at_x) in
           let y_is : get_or ys i e ≡ y = same_Some (get_or ys i e) y (sym (slice_get-get_or ys i e (subst (λ (n : ℕ). i < n) long within)) ∙ subst (λ (n : ℕ). slice_get ys n ≡ Some y) same at_y) in
@@ -425,7 +399,7 @@ pub pairs_next : (terms : Terms) (links : List (Option Link)) (known : Equations
     → ((j : ℕ) (e : Equation) → j < i → slice_get equations j ≡ Some e → AreArgumentsPaved terms links known (IsMarkedBelow old bound) equations e.left e.right)
     → (j : ℕ) (e : Equation) → j < i + 1 → slice_get equations j ≡ Some e → AreArgumentsPaved terms links known (IsMarkedBelow new bound) equations e.left e.right
 pairs_next terms links known equations i bound d old new within more here before j e below at =
-    elim (nat_cases j i) [
+    elim (same_or_other j i) [
       | inl same ↦
           let is : get_or equations i d ≡ e = same_Some (get_or equations i d) e (sym (slice_get-get_or equations i d within) ∙ subst (λ (n : ℕ). slice_get equations n ≡ Some e) same at) in
           subst (λ (q : Equation). AreArgumentsPaved terms links known (IsMarkedBelow new bound) equations q.left q.right) is here
@@ -440,7 +414,7 @@ pub closed_next : (state : State) (links : List (Option Link)) (old new : List B
     → ((j : ℕ) (m : Merge) → count ≤ j + i → slice_get state.merges j ≡ Some m → IsMarked old j → Rests state.terms links (AreConnected (take j state.merges)) (IsMarkedBelow old j) m.right m.why)
     → (j : ℕ) (m : Merge) → count ≤ j + (i + 1) → slice_get state.merges j ≡ Some m → IsMarked new j → Rests state.terms links (AreConnected (take j state.merges)) (IsMarkedBelow new j) m.right m.why
 closed_next state links old new i k count within k_is more here before j m past at marked =
-    elim (nat_cases j k) [
+    elim (same_or_other j k) [
       | inl same ↦
           subst (λ (n : ℕ). Rests state.terms links (AreConnected (take n state.merges)) (IsMarkedBelow new n) m.right m.why) (sym same)
           (here m (subst (λ (n : ℕ). slice_get state.merges n ≡ Some m) same at) (subst (IsMarked new) same marked))
@@ -455,7 +429,7 @@ number_put done new k n within are = (n, subst (λ (l : List (Option ℕ)). slic
 
 pub number_stays : (done new : List (Option ℕ)) (k n : ℕ) → k < length done → new ≡ set done k (Some n) → (j : ℕ) → HasNumber done j → HasNumber new j
 number_stays done new k n within are j h =
-    elim (nat_cases j k) [
+    elim (same_or_other j k) [
       | inl same ↦ subst (HasNumber new) (sym same) (number_put done new k n within are)
       | inr other ↦ (h.0, subst (λ (l : List (Option ℕ)). slice_get l j ≡ Some (Some h.0)) (sym are) (slice_get-set_other done k j (Some n) other ∙ h.1))
     ]
@@ -463,7 +437,7 @@ number_stays done new k n within are j h =
 pub numbers_next : (marks : List Bool) (old new : List (Option ℕ)) (k : ℕ) → ((j : ℕ) → HasNumber old j → HasNumber new j) → (IsMarked marks k → HasNumber new k)
     → ((j : ℕ) → j < k → IsMarked marks j → HasNumber old j) → (j : ℕ) → j < k + 1 → IsMarked marks j → HasNumber new j
 numbers_next marks old new k stays here before j below marked =
-    elim (nat_cases j k) [
+    elim (same_or_other j k) [
       | inl same ↦ subst (HasNumber new) (sym same) (here (subst (IsMarked marks) same marked))
       | inr other ↦ stays j (before j (omega (arith, below, other)) marked)
     ]
@@ -495,7 +469,7 @@ pub marks_next : (path : List ℕ) (first old new : List Bool) (i d : ℕ) → i
     → ((j k : ℕ) → j < i → slice_get path j ≡ Some k → k < length first → IsMarked old k)
     → (j k : ℕ) → j < i + 1 → slice_get path j ≡ Some k → k < length first → IsMarked new k
 marks_next path first old new i d within long stays here before j k below at inside =
-    elim (nat_cases j i) [
+    elim (same_or_other j i) [
       | inl same ↦
           let is : get_or path i d ≡ k = same_Some (get_or path i d) k (sym (slice_get-get_or path i d within) ∙ subst (λ (n : ℕ). slice_get path n ≡ Some k) same at) in
           subst (IsMarked new) is (here (omega (arith, is, inside, long)))
@@ -520,7 +494,7 @@ pub no_match-next : (links : List (Option Link)) (bound : ℕ) (equations : List
     → ((i : ℕ) (f : Equation) → i < k → slice_get equations i ≡ Some f → IsNoMatch links bound x y f)
     → (i : ℕ) (f : Equation) → i < k + 1 → slice_get equations i ≡ Some f → IsNoMatch links bound x y f
 no_match-next links bound equations x y k d within here before i f below at =
-    elim (nat_cases i k) [
+    elim (same_or_other i k) [
       | inl same ↦
           let is : get_or equations k d ≡ f = same_Some (get_or equations k d) f (sym (slice_get-get_or equations k d within) ∙ subst (λ (n : ℕ). slice_get equations n ≡ Some f) same at) in
           subst (IsNoMatch links bound x y) is here

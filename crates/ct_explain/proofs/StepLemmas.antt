@@ -2,6 +2,8 @@
 use Rattle.std.proofs.Common.{◌≡◌, ℕ, ◌+◌, ◌<◌, List, [], ◌∷◌, ◌++◌, length, take, get_or, refl, sym, ap, subst, ◌∙◌}
 use Rattle.std.proofs.lemmas.List.{append_assoc}
 use Rattle.std.proofs.lemmas.Option.{same_Some, slice_get-get_or}
+use Rattle.ct_lemmas.proofs.Lists.{slice_get-append_left}
+use Rattle.ct_lemmas.proofs.Prefixes.{take-slice_get_next}
 use Rattle.ct_terms.specs.declared.ids.TermId.{TermId}
 use Rattle.ct_terms.specs.declared.ids.Lit.{Lit}
 use Rattle.ct_terms.specs.declared.term.Core.{Core}
@@ -18,7 +20,6 @@ use Rattle.ct_explain.specs.declared.premises.Rule.{Rule}
 use Rattle.ct_explain.specs.declared.premises.Rule.TheVariants.{Inject, Sel, Test, Expand, EqualIn, EqualOut, Neg}
 use Rattle.ct_explain.specs.Writing.{Written, Told, ToldEach, Names, IsStep, HasWrittenMore}
 use Rattle.ct_explain.specs.Premises.{HasReason, IsPremise, step_by}
-use Rattle.ct_explain.proofs.ListLemmas.{slice_get-append_left, take-next}
 
 -- one number has one term
 pub Has-same : (terms : Terms) (a b : Core) (t : ℕ) → Has terms a t → Has terms b t → a ≡ b
@@ -122,5 +123,5 @@ ToldEach-next state old new ns all xs ys i n d e grown within long all_are told 
     let x_at = slice_get-get_or xs i d within in
     let y_at = slice_get-get_or ys i e (subst (λ (m : ℕ). i < m) long within) in
     let now = ToldEach-later state old new ns (take i xs) (take i ys) grown told in
-    λ before first. rw (all_are, take-next xs i (get_or xs i d) x_at, take-next ys i (get_or ys i e) y_at)
+    λ before first. rw (all_are, take-slice_get_next xs i (get_or xs i d) x_at, take-slice_get_next ys i (get_or ys i e) y_at)
     (GaveEach-push (before ++ new.stated) ns (take i xs) (take i ys) n (get_or xs i d) (get_or ys i e) (now before first) (last before first))

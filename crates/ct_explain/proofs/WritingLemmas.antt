@@ -2,6 +2,7 @@
 use Rattle.std.proofs.Common.{◌≡◌, ℕ, ◌+◌, ◌≤◌, inl, inr, List, [], ◌∷◌, ◌++◌, length, take, Option, Some, None, slice_get, refl, sym, ap, subst, ◌∙◌, arith, length-append}
 use Rattle.std.proofs.lemmas.List.{take-append-le, append_assoc}
 use Rattle.std.proofs.lemmas.Option.{slice_get_within}
+use Rattle.ct_lemmas.proofs.Lists.{slice_get-append_left, slice_get-append_right, slice_get-last, slice_get-push_cases}
 use Rattle.ct_terms.specs.declared.ids.TermId.{TermId}
 use Rattle.ct_terms.specs.Clause.{Clause}
 use Rattle.ct_rules.specs.declared.equation.Equation.{Equation}
@@ -10,7 +11,7 @@ use Rattle.ct_log.specs.Equations.{equation, Gives}
 use Rattle.ct_congr.specs.declared.merge.Merge.{Merge}
 use Rattle.ct_congr.specs.State.{State}
 use Rattle.ct_explain.specs.Writing.{Written, Told, Names, IsStep, AreWritten, HasWrittenMore, AreDone, HasCome}
-use Rattle.ct_explain.proofs.ListLemmas.{slice_get-push_cases, slice_get-append_left, slice_get-append_right, slice_get-last, Contains-append_left, Contains-last, Contains-push_cases}
+use Rattle.ct_explain.proofs.ListLemmas.{Contains-append_left, Contains-last, Contains-push_cases}
 
 -- the last step states its equation
 pub stated_last : (first : ℕ) (stated : List Equation) (e : Equation) (before : List Equation) → length before ≡ first → slice_get (before ++ (stated ++ e ∷ [])) (first + length stated) ≡ Some e

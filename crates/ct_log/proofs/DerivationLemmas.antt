@@ -2,6 +2,7 @@
 use Rattle.std.proofs.Common.{◌≡◌, inl, inr, List, [], ◌∷◌, ◌++◌, take, sym, subst, ◌∙◌, arith}
 use Rattle.std.proofs.lemmas.List.{take_all, take-append-le}
 use Rattle.std.proofs.lemmas.Option.{none-some, slice_get_within}
+use Rattle.ct_lemmas.proofs.Lists.{slice_get-push_cases}
 use Rattle.ct_sorts.specs.Declarations.{Declarations}
 use Rattle.ct_card.specs.Sizes.{Table}
 use Rattle.ct_terms.specs.declared.ids.TermId.{TermId}
@@ -9,7 +10,6 @@ use Rattle.ct_terms.specs.Terms.{Terms}
 use Rattle.ct_log.specs.declared.line.Line.{Line}
 use Rattle.ct_log.specs.Acceptance.{IsAccepted, AreAccepted, clauses_of}
 use Rattle.ct_log.specs.Recorded.{AreJudges, Derived, IsDerivation}
-use Rattle.ct_log.proofs.ListLemmas.{slice_get-push_cases}
 
 -- no line yet
 pub IsDerivation-begun : (d : Declarations) (sizes : Table) (terms : Terms) (asserts : List TermId) → AreJudges d sizes terms asserts → IsDerivation (record { declarations = d; sizes = sizes; rec = record { terms = terms; lines = [] }; asserts = asserts })

@@ -1,6 +1,7 @@
 -- Steps of a line follow by the rules of equality.
 use Rattle.std.proofs.Common.{◌≡◌, ℕ, ◌<◌, ◌⊎◌, inl, inr, true, false, length, List, [], ◌∷◌, map, Contains, sym, ap, subst, ◌∙◌}
 use Rattle.std.specs.List.{AllZip}
+use Rattle.ct_lemmas.proofs.Contained.{Contains-from_slice_get, Contains-map, Contains-map_cases, slice_get-from_Contains}
 use Rattle.ct_sorts.specs.Declarations.{Declarations}
 use Rattle.ct_terms.specs.declared.ids.TermId.{TermId}
 use Rattle.ct_terms.specs.Clause.{Clause, opposites}
@@ -20,7 +21,6 @@ use Rattle.ct_log.specs.declared.rules.EqStep.{EqStep}
 use Rattle.ct_log.specs.declared.rules.EqStep.TheVariants.{Hyp, Refl, Sym, Trans, Cong, Inject, Sel, Test, Expand, EqualIn, EqualOut, Neg, Single, Unique}
 use Rattle.ct_log.specs.Closing.{IsCycleBy, LeadBackBy}
 use Rattle.ct_log.specs.Equations.{Gives, Gave, GaveEach, AreEntriesFor, IsEntryFor, AreUnique, equation}
-use Rattle.ct_log.proofs.ListLemmas.{Contains-at, at-Contains, Contains-map, Contains-map_cases}
 use Rattle.ct_log.proofs.MarkLemmas.{Contains-opposites}
 
 -- the term is in the table, and is this one
@@ -33,7 +33,7 @@ HasAt terms term t = Has terms term t.0
 module _ (given : List Equation) where
   -- what a step gave is among the equations
   among : (step : ℕ) (x y : TermId) → Gave given step x y → AreAmong given x y
-  among step x y gave = Contains-at given step (equation x y) gave
+  among step x y gave = Contains-from_slice_get given step (equation x y) gave
 
   among_each : (steps : List ℕ) (xs ys : List TermId) → GaveEach given steps xs ys → AllZip (AreAmong given) xs ys
   among_each [] [] [] all = tt
@@ -50,7 +50,7 @@ module _ (given : List Equation) where
   module _ (pairs : List Pair) where
     matched_one : (e : Entry) (x y : TermId) → IsEntryFor given pairs e x y → AreMatched (AreAmong given) (map pair_equation pairs) x y
     matched_one (entry.Step i) x y h = inl (among i x y h)
-    matched_one (entry.Pair k i j) x y h = inr (pair_equation h.0, Contains-map pair_equation pairs h.0 (Contains-at pairs k h.0 h.1), among i x h.0.left h.2, among j h.0.right y h.3)
+    matched_one (entry.Pair k i j) x y h = inr (pair_equation h.0, Contains-map pair_equation pairs h.0 (Contains-from_slice_get pairs k h.0 h.1), among i x h.0.left h.2, among j h.0.right y h.3)
 
     matched_each : (es : List Entry) (xs ys : List TermId) → AreEntriesFor given pairs es xs ys → AllZip (AreMatched (AreAmong given) (map pair_equation pairs)) xs ys
     matched_each [] [] [] all = tt
@@ -65,10 +65,10 @@ module _ (given : List Equation) where
         let asked : pair_equation h.asked ≡ equation x y = ap (λ (t : TermId). equation t h.asked.right) h.left ∙ ap (λ (t : TermId). equation x t) h.right in
         record {
           pairs = map pair_equation pairs;
-          listed = subst (λ (e : Equation). Contains (map pair_equation pairs) e) asked (Contains-map pair_equation pairs h.asked (Contains-at pairs number h.asked h.stands));
+          listed = subst (λ (e : Equation). Contains (map pair_equation pairs) e) asked (Contains-map pair_equation pairs h.asked (Contains-from_slice_get pairs number h.asked h.stands));
           matched = λ e inside.
               let found = Contains-map_cases pair_equation pairs e inside in
-              let at = at-Contains pairs found.0 found.1 in
+              let at = slice_get-from_Contains pairs found.0 found.1 in
               let by = h.each at.0 found.0 at.1 in
               let matched : IsPairMatched terms (AreAmong given) (map pair_equation pairs) found.0.left found.0.right =
               record { ctor = by.ctor; xs = by.xs; ys = by.ys; left_stands = by.left_stands; right_stands = by.right_stands; arguments = matched_each found.0.entries by.xs by.ys by.entries } in

@@ -1,8 +1,10 @@
 -- Acceptance lasts: over a longer table, with more assertions, after more earlier lines.
 use Rattle.std.proofs.Common.{◌≡◌, ℕ, zero, suc, ◌<◌, List, [], ◌∷◌, ◌++◌, length, take, Option, Some, None, slice_get, All, Contains, refl, sym, ap, subst, ◌∙◌, arith, length-append}
-use Rattle.std.specs.List.{AllZip, AllByRecursion}
+use Rattle.std.specs.List.{AllByRecursion}
 use Rattle.std.proofs.lemmas.List.Elements.{All-contains, Contains-append_left, Contains-push}
 use Rattle.std.proofs.lemmas.Option.{none-some, same_Some, slice_get_within}
+use Rattle.ct_lemmas.proofs.Lists.{slice_get-append_left, slice_get-prefix}
+use Rattle.ct_lemmas.proofs.Pairs.{AllZip-weaker}
 use Rattle.ct_sorts.specs.declared.ids.SortId.{SortId}
 use Rattle.ct_sorts.specs.Declarations.{Declarations, bool_sort}
 use Rattle.ct_terms.specs.declared.ids.TermId.{TermId}
@@ -31,26 +33,12 @@ use Rattle.ct_log.specs.Acceptance.{IsAccepted, Justifies}
 use Rattle.ct_log.specs.Closing.{Closes, IsCycleBy, LeadBackBy}
 use Rattle.ct_log.specs.Equations.{Gives, Gave}
 use Rattle.ct_log.specs.Gates.{IsGateClause, IsExhaustion, IsTestOf, OfEquivalence, OfChoice, literals_of, positive, negative}
-use Rattle.ct_log.proofs.ListLemmas.{slice_get-append_left}
-
--- what stands at an index of the first list
-slice_get-prefix : {X : Type 0} (xs ys : List X) (k : ℕ) → k < length xs → slice_get (xs ++ ys) k ≡ slice_get xs k
-slice_get-prefix [] ys k within = absurd (omega (arith, within))
-slice_get-prefix (x ∷ xs) ys zero within = refl
-slice_get-prefix (x ∷ xs) ys (suc k) within = slice_get-prefix xs ys k (omega (arith, within))
 
 -- an element of such a list is below
 at_below : (n : ℕ) (args : List TermId) (k : ℕ) (a : TermId) → AllByRecursion (λ t. t.0 < n) args → slice_get args k ≡ Some a → a.0 < n
 at_below n [] k a all at = absurd (none-some a at)
 at_below n (x ∷ xs) zero a all at = subst (λ (t : TermId). t.0 < n) (same_Some x a at) all.0
 at_below n (x ∷ xs) (suc k) a all at = at_below n xs k a all.1 at
-
--- element by element, what follows
-AllZip-weaker : {X Y : Type 0} (R S : X → Y → Type 0) → ((x : X) (y : Y) → R x y → S x y) → (xs : List X) (ys : List Y) → AllZip R xs ys → AllZip S xs ys
-AllZip-weaker R S each [] [] all = tt
-AllZip-weaker R S each [] (y ∷ ys) all = absurd all
-AllZip-weaker R S each (x ∷ xs) [] all = absurd all
-AllZip-weaker R S each (x ∷ xs) (y ∷ ys) all = (each x y all.0, AllZip-weaker R S each xs ys all.1)
 
 -- the literal of a term that is not there is itself
 literal_outside : (terms : Terms) (t : TermId) → slice_get terms t.0 ≡ None → literal_of terms t ≡ positive t

@@ -4,7 +4,6 @@ mod EqualLemmas
 mod FollowLemmas
 mod GateLemmas
 mod LastLemmas
-mod ListLemmas
 mod LookLemmas
 mod MarkLemmas
 mod PropagatedLemmas

@@ -3,6 +3,7 @@ use Rattle.std.proofs.Common.{◌≡◌, ℕ, zero, suc, ◌+◌, ◌<◌, ◌�
 use Rattle.std.proofs.lemmas.Option.{none-some, same_Some}
 use Rattle.std.proofs.lemmas.Bool.Decides.{Decides-eqb}
 use Rattle.std.proofs.lemmas.List.{drop_all}
+use Rattle.ct_lemmas.proofs.Prefixes.{drop-next}
 use Rattle.ct_sorts.specs.declared.ids.CtorId.{CtorId}
 use Rattle.ct_sorts.specs.Declarations.{Declarations}
 use Rattle.ct_terms.specs.declared.ids.TermId.{TermId}
@@ -15,7 +16,6 @@ use Rattle.ct_log.specs.Equations.{Gave, equation}
 use Rattle.ct_log.specs.Closing.{IsClash, LeadBackBy}
 use Rattle.ct_log.specs.Look.{IsBuiltBy, HasArgument, AreApart}
 use Rattle.ct_log.proofs.GateLemmas.{Has-same}
-use Rattle.ct_log.proofs.RestLemmas.{cons}
 
 -- a relation that holds of nothing is that of no answer
 pub none_gives : (P : Type 0) (e : Equation) → (P → ⊥) → P ↔ (None ≡ Some e)
@@ -123,7 +123,7 @@ module _ (d : Declarations) (terms : Terms) (given : List Equation) (hops : List
   LeadsOn i next = LeadsTo d terms (Gave given (get_or hops i h).step) (get_or hops i h).con (get_or hops i h).place next
 
   LeadBackBy-cons : (i : ℕ) → i < length hops → i + 1 < length hops → LeadBackBy d terms given (drop i hops) end ↔ (LeadsOn i (get_or hops (i + 1) h).con × LeadBackBy d terms given (drop (i + 1) hops) end)
-  LeadBackBy-cons i in_i in_next = rw (cons hops i h in_i, cons hops (i + 1) h in_next) (λ p. p, λ p. p)
+  LeadBackBy-cons i in_i in_next = rw (drop-next hops i h in_i, drop-next hops (i + 1) h in_next) (λ p. p, λ p. p)
 
   pub LeadBackBy-next : (i : ℕ) → i + 1 < length hops → (LeadBackBy d terms given (drop i hops) end ↔ LeadBackBy d terms given hops end) → LeadsOn i (get_or hops (i + 1) h).con → LeadBackBy d terms given (drop (i + 1) hops) end ↔ LeadBackBy d terms given hops end
   LeadBackBy-next i within inv leads =
@@ -135,6 +135,6 @@ module _ (d : Declarations) (terms : Terms) (given : List Equation) (hops : List
 
   pub LeadBackBy-end : (i last : ℕ) (r : Bool) → i ≡ last → last + 1 ≡ length hops → (LeadBackBy d terms given (drop i hops) end ↔ LeadBackBy d terms given hops end) → (IsTrue r ↔ LeadsOn last end) → IsTrue r ↔ LeadBackBy d terms given hops end
   LeadBackBy-end i last r same long inv told =
-      let one : LeadBackBy d terms given (drop last hops) end ↔ LeadsOn last end = rw (cons hops last h (omega arith), drop_all (last + 1) hops (omega arith)) (λ p. p, λ p. p) in
+      let one : LeadBackBy d terms given (drop last hops) end ↔ LeadsOn last end = rw (drop-next hops last h (omega arith), drop_all (last + 1) hops (omega arith)) (λ p. p, λ p. p) in
       let whole = subst (λ (n : ℕ). LeadBackBy d terms given (drop n hops) end ↔ LeadBackBy d terms given hops end) same inv in
       (λ yes. whole.0 (one.1 (told.0 yes)), λ all. told.1 (one.0 (whole.1 all)))

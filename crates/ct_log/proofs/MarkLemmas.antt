@@ -2,11 +2,14 @@
 use Rattle.std.proofs.Common.{◌≡◌, ℕ, ◌+◌, ◌*◌, ◌<◌, ◌≤◌, ◌↔◌, inl, inr, Bool, true, false, not, List, [], ◌∷◌, ◌++◌, length, set, slice_get, All, Contains, refl, sym, ap, subst, ◌∙◌, arith}
 use Rattle.std.proofs.lemmas.List.Elements.{Contains-append_left, Contains-push, Contains-push_cases, All-set}
 use Rattle.std.proofs.lemmas.Option.{none-some}
+use Rattle.ct_lemmas.proofs.Contained.{Contains-map, Contains-map_cases, slice_get-from_Contains}
+use Rattle.ct_lemmas.proofs.Each.{All-at}
+use Rattle.ct_lemmas.proofs.Lists.{slice_get-set_other, slice_get-set_same}
+use Rattle.ct_lemmas.proofs.Numbers.{same_or_other}
 use Rattle.ct_terms.specs.declared.ids.Lit.{Lit}
 use Rattle.ct_terms.specs.Literal.{opposite}
 use Rattle.ct_terms.specs.Clause.{Clause, opposites}
 use Rattle.ct_log.specs.Marks.{Marking, sign_index, stamp_index, AreMarked}
-use Rattle.ct_log.proofs.ListLemmas.{All-at, at-Contains, Contains-map, Contains-map_cases, slice_get-set_same, slice_get-set_other, same_or_other}
 
 -- one index is that of one literal
 stamp_parts : (s t : ℕ) (p q : Bool) → s * 2 + sign_index p ≡ t * 2 + sign_index q → (s ≡ t) × (p ≡ q)
@@ -36,7 +39,7 @@ AreMarked-none stamps round room others below empty l = (
     | inl at ↦ absurd (let b : round < round = All-at (λ s. s < round) stamps (stamp_index l) round below at in omega arith)
     | inr c ↦ subst (λ (ls : List Lit). Contains ls l) empty c
   ],
-  λ c. absurd (none-some l (at-Contains [] l c).1),
+  λ c. absurd (none-some l (slice_get-from_Contains [] l c).1),
 )
 
 -- a literal that is stamped

@@ -4,13 +4,13 @@ use Rattle.std.proofs.lemmas.Bool.Decides.{Decides-eqb}
 use Rattle.std.proofs.lemmas.List.{drop_all}
 use Rattle.std.proofs.lemmas.List.Elements.{All-contains}
 use Rattle.std.proofs.lemmas.Option.{none-some, same_Some, slice_get_within, slice_get-map}
+use Rattle.ct_lemmas.proofs.Prefixes.{drop-next}
 use Rattle.ct_terms.specs.declared.ids.Lit.{Lit}
 use Rattle.ct_terms.specs.Clause.{Clause, opposites}
 use Rattle.ct_terms.specs.Propagation.{Rup, Propagates, IsUnit, IsNumbered, IsFalseIn, AreFalseIn}
 use Rattle.ct_log.specs.declared.line.Line.{Line}
 use Rattle.ct_log.specs.Acceptance.{clauses_of}
 use Rattle.ct_log.specs.Propagated.{IsUnitAt, IsFalseAt}
-use Rattle.ct_log.proofs.RestLemmas.{cons}
 
 -- a clause has one unit
 pub IsUnit-one : (set : List Lit) (clause : Clause) (l m : Lit) → IsUnit set clause l → IsUnit set clause m → l ≡ m
@@ -79,7 +79,7 @@ IsFalseAt-told clauses number set clause at h = subst (AreFalseIn set) (IsNumber
 module _ (clauses : List Clause) (hints : List ℕ) (i : ℕ) (within : i < length hints) (set : List Lit) where
   pub Propagates-next : (l : Lit) (before after : List Lit) → ((k : Lit) → IsUnitAt clauses (get_or hints i 0) set k ↔ (Some l ≡ Some k)) → (Propagates clauses hints before after ↔ Propagates clauses (drop i hints) set after) → Propagates clauses hints before after ↔ Propagates clauses (drop (i + 1) hints) (set ++ l ∷ []) after
   Propagates-next l before after unit inv =
-      let r = rw (cons hints i 0 within) at inv in (
+      let r = rw (drop-next hints i 0 within) at inv in (
         λ all.
             let h = r.0 all in
             let same : l ≡ h.1 = same_Some l h.1 ((unit h.1).0 (h.0, h.2, h.3)) in
@@ -89,7 +89,7 @@ module _ (clauses : List Clause) (hints : List ℕ) (i : ℕ) (within : i < leng
 
   pub Propagates-stop : (before after : List Lit) → ((k : Lit) → IsUnitAt clauses (get_or hints i 0) set k ↔ (None ≡ Some k)) → (Propagates clauses hints before after ↔ Propagates clauses (drop i hints) set after) → Propagates clauses hints before after → ⊥
   Propagates-stop before after unit inv all =
-      let r = rw (cons hints i 0 within) at inv in
+      let r = rw (drop-next hints i 0 within) at inv in
       let h = r.0 all in
       none-some h.1 ((unit h.1).0 (h.0, h.2, h.3))
 

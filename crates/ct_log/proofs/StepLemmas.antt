@@ -2,6 +2,7 @@
 use Rattle.std.proofs.Common.{◌≡◌, ℕ, ◌↔◌, ◌⊎◌, inl, inr, Bool, true, false, not, nat_eq, List, Option, Some, None, slice_get, option_map, refl, sym, ap, subst, ◌∙◌, true≢false}
 use Rattle.std.proofs.lemmas.Option.{none-some, same_Some}
 use Rattle.std.proofs.lemmas.Bool.Decides.{Decides-eqb}
+use Rattle.ct_lemmas.proofs.Options.{option_map-source}
 use Rattle.ct_sorts.specs.declared.ids.CtorId.{CtorId}
 use Rattle.ct_sorts.specs.declared.ids.SelId.{SelId}
 use Rattle.ct_sorts.specs.Declarations.{Declarations, Selector}
@@ -67,16 +68,11 @@ injected-told terms given i place e o at told x y = (
       record { left = e.left; right = e.right; ctor = h.0; xs = h.1.0; ys = h.2.0; equal = at; left_stands = h.1.1; right_stands = h.2.1; left_at = h.1.2; right_at = h.2.2 },
 )
 
--- what a look-up through a function finds
-there : {X Y : Type 0} (f : X → Y) (o : Option X) (y : Y) → option_map f o ≡ Some y → (x : X) × (o ≡ Some x) × (f x ≡ y)
-there f None y e = absurd (none-some y e)
-there f (Some x) y e = (x, refl, same_Some (f x) y e)
-
 -- the field of a selector, by its constructor and place
 pub field-told : (d : Declarations) (terms : Terms) (s : SelId) (con : TermId) (c : CtorId) (place : ℕ) (o : Option TermId) → option_map (λ (g : Selector). g.ctor) (slice_get d.sels s.0) ≡ Some c → option_map (λ (g : Selector). g.place) (slice_get d.sels s.0) ≡ Some place → ((x : TermId) → HasArgument terms con c place x ↔ (o ≡ Some x)) → (x : TermId) → SelectsFrom d terms s con x ↔ (o ≡ Some x)
 field-told d terms s con c place o at_ctor at_place told x =
-    let ctor = there (λ (g : Selector). g.ctor) (slice_get d.sels s.0) c at_ctor in
-    let of_place = there (λ (g : Selector). g.place) (slice_get d.sels s.0) place at_place in
+    let ctor = option_map-source (λ (g : Selector). g.ctor) (slice_get d.sels s.0) c at_ctor in
+    let of_place = option_map-source (λ (g : Selector). g.place) (slice_get d.sels s.0) place at_place in
     let one : of_place.0 ≡ ctor.0 = same_Some of_place.0 ctor.0 (sym of_place.1 ∙ ctor.1) in
     let places : ctor.0.place ≡ place = ap (λ (g : Selector). g.place) (sym one) ∙ of_place.2 in (
       λ h.

@@ -2,6 +2,8 @@
 use Rattle.std.proofs.Common.{◌≡◌, ℕ, ◌+◌, ◌≤◌, ◌↔◌, inl, inr, true, List, [], ◌∷◌, ◌++◌, length, take, Some, None, slice_get, refl, sym, ap, subst, ◌∙◌, arith, length-append}
 use Rattle.std.proofs.lemmas.List.{take_all, take-append-le}
 use Rattle.std.proofs.lemmas.Option.{none-some, same_Some, slice_get_within}
+use Rattle.ct_lemmas.proofs.Lists.{slice_get-push_cases, slice_get-there}
+use Rattle.ct_lemmas.proofs.Prefixes.{take-slice_get_next}
 use Rattle.ct_sorts.specs.Declarations.{Declarations}
 use Rattle.ct_terms.specs.declared.ids.TermId.{TermId}
 use Rattle.ct_terms.specs.Clause.{Clause}
@@ -10,7 +12,6 @@ use Rattle.ct_rules.specs.declared.equation.Equation.{Equation}
 use Rattle.ct_log.specs.declared.rules.EqStep.{EqStep}
 use Rattle.ct_log.specs.Equations.{Gives, GiveAll, equation}
 use Rattle.ct_log.specs.Steps.{Given}
-use Rattle.ct_log.proofs.ListLemmas.{take-next, slice_get_some, slice_get-push_cases}
 
 module _ (d : Declarations) (terms : Terms) (clause : Clause) where
   -- no step gives an equation yet
@@ -52,7 +53,7 @@ module _ (d : Declarations) (terms : Terms) (clause : Clause) where
   given_next steps i given step at begin all give =
       let within = slice_get_within steps i step at in
       let long = give.long in
-      let found = slice_get_some all i (omega arith) in
+      let found = slice_get-there all i (omega arith) in
       (found.0, found.1, subst (λ (g : List Equation). Gives d terms clause g step found.0.left found.0.right) (begin all give) (give.each i step found.0 at found.1))
 
   pub Given-stop : (steps : List EqStep) (i : ℕ) (given : List Equation) (step : EqStep) → slice_get steps i ≡ Some step → ((x y : TermId) → Gives d terms clause given step x y ↔ (None ≡ Some (equation x y))) → BeginAll steps i given → (all : List Equation) → GiveAll d terms clause steps all → ⊥
@@ -62,11 +63,11 @@ module _ (d : Declarations) (terms : Terms) (clause : Clause) where
 
   pub Given-next : (steps : List EqStep) (i : ℕ) (given : List Equation) (step : EqStep) (e : Equation) → slice_get steps i ≡ Some step → ((x y : TermId) → Gives d terms clause given step x y ↔ (Some e ≡ Some (equation x y))) → GiveAll d terms clause (take i steps) given → BeginAll steps i given → GiveAll d terms clause (take (i + 1) steps) (given ++ e ∷ []) × BeginAll steps (i + 1) (given ++ e ∷ [])
   Given-next steps i given step e at told so_far begin = (
-    rw (take-next steps i step at) (GiveAll-push (take i steps) given step e so_far ((told e.left e.right).1 refl)),
+    rw (take-slice_get_next steps i step at) (GiveAll-push (take i steps) given step e so_far ((told e.left e.right).1 refl)),
     λ all give.
         let f = given_next steps i given step at begin all give in
         let same : e ≡ f.0 = same_Some e f.0 ((told f.0.left f.0.right).0 f.2) in
-        take-next all i f.0 f.1 ∙ ap (λ (g : List Equation). g ++ f.0 ∷ []) (begin all give) ∙ ap (λ (x : Equation). given ++ x ∷ []) (sym same),
+        take-slice_get_next all i f.0 f.1 ∙ ap (λ (g : List Equation). g ++ f.0 ∷ []) (begin all give) ∙ ap (λ (x : Equation). given ++ x ∷ []) (sym same),
   )
 
   pub Given-end : (steps : List EqStep) (i : ℕ) (given : List Equation) → length steps ≤ i → GiveAll d terms clause (take i steps) given → BeginAll steps i given → Given d terms clause steps given true

@@ -2,6 +2,7 @@
 use Rattle.std.proofs.Common.{◌≡◌, ℕ, ◌+◌, ◌≤◌, Bool, true, false, ◌&&◌, ◌||◌, ◌==◌, nat_lt, List, [], ◌∷◌, ◌++◌, length, Some, Ok, option_and_then, refl, sym, ap, ◌∙◌, append_assoc, append-nil, length-append, arith}
 use Rattle.std.proofs.lemmas.Bool.{eqb-true, eq-eqb}
 use Rattle.std.specs.List.{list_all}
+use Rattle.ct_lemmas.proofs.Booleans.{both_parts}
 use Rattle.ct_sexpr.specs.Expression.{none, more, word}
 use Rattle.ct_terms.specs.declared.ids.TermId.{TermId}
 use Rattle.ct_terms.specs.Terms.{Terms, most_terms}
@@ -18,7 +19,7 @@ use Rattle.ct_log_text.specs.Fitting.{is_term, has_terms_step, has_terms_close, 
 use Rattle.ct_log_text.specs.Reading.{read_lines}
 use Rattle.ct_log_text.specs.Written.{items_as, literal, step_item, close_item, gate_numbers, rule_parts, line_item, header_item, end_item, line_items}
 use Rattle.ct_log_text.specs.Writable.{is_bare, is_writable, is_short, are_short}
-use Rattle.ct_log_text.proofs.NumbersBack.{both_true, number_back, numbers_back, numbered_back, term_back, literal_back, each_back}
+use Rattle.ct_log_text.proofs.NumbersBack.{number_back, numbers_back, numbered_back, term_back, literal_back, each_back}
 use Rattle.ct_log_text.proofs.StepsBack.{step_back, close_back}
 
 -- a number is itself
@@ -58,7 +59,7 @@ module _ (count : ℕ) (few : count ≤ most_terms) where
   gate_back : (gate : Gate) (t : TermId) (place : ℕ) → is_term count t ≡ true → is_bare (steps.Gate gate t place) ≡ true → are_short (rule_parts (steps.Gate gate t place)) ≡ true
       → option_and_then rule_step (first_with_rest (rule_parts (steps.Gate gate t place))) ≡ Some (steps.Gate gate t place)
   gate_back gate t place fits bare short =
-      let parts = both_true (has_term gate || t.0 == 0) (has_place gate || place == 0) bare in
+      let parts = both_parts (has_term gate || t.0 == 0) (has_place gate || place == 0) bare in
       rw (gate_name_back gate, numbers_back (gate_numbers gate t place) short)
       (gate_over_back gate t place (has_place gate) (has_term gate) refl refl (numbered_back count t few fits) parts.0 parts.1)
 
@@ -69,18 +70,18 @@ module _ (count : ℕ) (few : count ≤ most_terms) where
   rule_back (steps.Gate gate t place) fits bare short = gate_back gate t place fits bare short
   rule_back (steps.Exhaust t) fits bare short = rw (term_back count t few fits) refl
   rule_back (steps.Theory all close) fits bare short =
-      let terms = both_true (list_all (has_terms_step count) all) (has_terms_close count close) fits in
-      let first = both_true (are_short (items_as step_item all)) (is_short (close_item close) && true) short in
-      let second = both_true (is_short (close_item close)) true first.1 in
+      let terms = both_parts (list_all (has_terms_step count) all) (has_terms_close count close) fits in
+      let first = both_parts (are_short (items_as step_item all)) (is_short (close_item close) && true) short in
+      let second = both_parts (is_short (close_item close)) true first.1 in
       rw (each_back step_in step_item (has_terms_step count) (step_back count few) all terms.0 first.0, close_back count few close terms.1 second.0) refl
   rule_back (steps.Learn hints) fits bare short = rw (numbers_back hints short) refl
 
   -- a line
   pub line_back : (n : ℕ) (line : Line) → has_terms count line ≡ true → is_bare line.step ≡ true → is_short (line_item n line) ≡ true → line_in n (line_item n line) ≡ Some line
   line_back n line fits bare short =
-      let terms = both_true (list_all (λ l. is_term count l.term) line.clause) (has_terms_rule count line.step) fits in
-      let first = both_true (nat_lt n number_bound) (are_short (items_as literal line.clause) && are_short (rule_parts line.step)) short in
-      let second = both_true (are_short (items_as literal line.clause)) (are_short (rule_parts line.step)) first.1 in
+      let terms = both_parts (list_all (λ l. is_term count l.term) line.clause) (has_terms_rule count line.step) fits in
+      let first = both_parts (nat_lt n number_bound) (are_short (items_as literal line.clause) && are_short (rule_parts line.step)) short in
+      let second = both_parts (are_short (items_as literal line.clause)) (are_short (rule_parts line.step)) first.1 in
       rw (number_back n first.0, same_number n)
       (rw (each_back literal_in literal (λ l. is_term count l.term) (λ l good _. literal_back count l few good) line.clause terms.0 second.0, rule_back line.step terms.1 bare second.1) refl)
 
@@ -103,15 +104,15 @@ pub lines_back : (terms : Terms) → length terms ≤ most_terms → (place : �
     → read_lines place terms done (line_items n lines (more (end_item m) none)) ≡ Ok (record { terms = terms; lines = done ++ lines })
 lines_back terms few place done n [] m next count writable short =
     let all : length done ≡ m = omega (arith, count) in
-    let parts = both_true (nat_lt m number_bound && true) true short in
-    let inner = both_true (nat_lt m number_bound) true parts.0 in
+    let parts = both_parts (nat_lt m number_bound && true) true short in
+    let inner = both_parts (nat_lt m number_bound) true parts.0 in
     rw (all, end_back m inner.0) (ap (λ ls. Ok (record { terms = terms; lines = ls })) (sym (append-nil done)))
 lines_back terms few place done n (line ∷ lines) m next count writable short =
-    let good = both_true (is_writable terms line) (list_all (is_writable terms) lines) writable in
-    let fits = both_true (has_terms (length terms) line) (has_stripped terms line && is_bare line.step) good.0 in
-    let other = both_true (has_stripped terms line) (is_bare line.step) fits.1 in
+    let good = both_parts (is_writable terms line) (list_all (is_writable terms) lines) writable in
+    let fits = both_parts (has_terms (length terms) line) (has_stripped terms line && is_bare line.step) good.0 in
+    let other = both_parts (has_stripped terms line) (is_bare line.step) fits.1 in
     let items = line_items (n + 1) lines (more (end_item m) none) in
-    let parts = both_true (is_short (line_item n line)) (are_short items) short in
+    let parts = both_parts (is_short (line_item n line)) (are_short items) short in
     let longer : length (done ++ line ∷ []) ≡ length done + 1 = length-append done (line ∷ []) in
     let next_number : length (done ++ line ∷ []) + 1 ≡ n + 1 = omega (arith, longer, next) in
     let whole : length (done ++ line ∷ []) + length lines ≡ m = omega (arith, longer, count) in

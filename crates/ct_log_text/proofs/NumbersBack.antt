@@ -1,7 +1,8 @@
 -- Numbers and literals that are written are read back.
-use Rattle.std.proofs.Common.{◌≡◌, ℕ, ◌<◌, ◌≤◌, Bool, true, false, ◌&&◌, nat_lt, min, List, [], ◌∷◌, Option, Some, refl, sym, ap, true≢false, arith}
+use Rattle.std.proofs.Common.{◌≡◌, ℕ, ◌<◌, ◌≤◌, Bool, true, false, nat_lt, min, List, [], ◌∷◌, Option, Some, refl, ap, arith}
 use Rattle.std.proofs.lemmas.Bool.{ltb-true, lt-ltb}
 use Rattle.std.specs.List.{list_all}
+use Rattle.ct_lemmas.proofs.Booleans.{both_parts}
 use Rattle.ct_sexpr.specs.Expression.{Expression}
 use Rattle.ct_sexpr.specs.Written.{is_reserved, forms_symbol}
 use Rattle.ct_terms.specs.declared.ids.TermId.{TermId}
@@ -13,11 +14,6 @@ use Rattle.ct_log_text.specs.Fitting.{is_term}
 use Rattle.ct_log_text.specs.Written.{number, numbers, name, literal, items_as}
 use Rattle.ct_log_text.specs.Writable.{is_short, are_short}
 
--- both parts of a test
-pub both_true : (a b : Bool) → (a && b) ≡ true → (a ≡ true) × (b ≡ true)
-both_true true b h = (refl, h)
-both_true false b h = absurd (true≢false (sym h))
-
 -- a number below the bound
 pub number_back : (n : ℕ) → nat_lt n number_bound ≡ true → number_in (number n) ≡ Some n
 number_back n h = rw h refl
@@ -26,7 +22,7 @@ number_back n h = rw h refl
 pub numbers_back : (ns : List ℕ) → are_short (numbers ns) ≡ true → numbers_in (numbers ns) ≡ Some ns
 numbers_back [] h = refl
 numbers_back (n ∷ ns) h =
-    let parts = both_true (nat_lt n number_bound) (are_short (numbers ns)) h in
+    let parts = both_parts (nat_lt n number_bound) (are_short (numbers ns)) h in
     rw (number_back n parts.0, numbers_back ns parts.1) refl
 
 -- the number of a term of a table
@@ -67,6 +63,6 @@ module _ {X : Type 0} (read : Expression → Option X) (item : X → Expression)
   pub each_back : (xs : List X) → list_all fits xs ≡ true → are_short (items_as item xs) ≡ true → each read (items_as item xs) ≡ Some xs
   each_back [] h k = refl
   each_back (x ∷ xs) h k =
-      let good = both_true (fits x) (list_all fits xs) h in
-      let short = both_true (is_short (item x)) (are_short (items_as item xs)) k in
+      let good = both_parts (fits x) (list_all fits xs) h in
+      let short = both_parts (is_short (item x)) (are_short (items_as item xs)) k in
       rw (back x good.0 short.0, each_back xs good.1 short.1) refl

@@ -3,6 +3,7 @@ use Rattle.std.proofs.Common.{◌≡◌, ℕ, zero, suc, ◌+◌, ◌<◌, ◌�
 use Rattle.std.proofs.lemmas.Bool.{ltb-true, eqb-true}
 use Rattle.std.proofs.lemmas.Option.{none-some, same_Some}
 use Rattle.std.specs.List.{list_all}
+use Rattle.ct_lemmas.proofs.Booleans.{both_parts}
 use Rattle.ct_sexpr.specs.Token.{is_in_quoted_symbol}
 use Rattle.ct_sexpr.specs.Expression.{Expression, list, Expressions, none, more, word, nesting, nesting_of_each}
 use Rattle.ct_sexpr.specs.Readable.{IsReadable, AreReadable}
@@ -37,7 +38,6 @@ use Rattle.ct_log_lines.specs.TermLines.{kind_word}
 use Rattle.ct_log_lines.specs.Gates.{gate_name}
 use Rattle.ct_log_text.specs.Written.{number, numbers, term_numbers, name, row, items_as, kind_of, core_parts, term_item, literal, entry_item, pair_item, hop_item, step_item, close_item, gate_numbers, rule_parts, line_item, end_item, term_items, line_items, expression_of_record, IsNamed}
 use Rattle.ct_log_text.specs.Writable.{is_short, are_short, CanBeRead}
-use Rattle.ct_log_text.proofs.NumbersBack.{both_true}
 use Rattle.ct_log_text.proofs.WriteLemmas.{named}
 use Rattle.ct_log_text.proofs.TermsBack.{name_there}
 use Rattle.ct_log_text.proofs.WholeBack.{true_name, false_name}
@@ -81,7 +81,7 @@ plain_name k bytes fit = plain_name_of k bytes (forms_symbol bytes) (is_reserved
 plain_numbers : (k : ℕ) (ns : List ℕ) → are_short (numbers ns) ≡ true → ArePlain k (numbers ns)
 plain_numbers k [] h = plain_none k
 plain_numbers k (n ∷ ns) h =
-    let parts = both_true (nat_lt n number_bound) (are_short (numbers ns)) h in
+    let parts = both_parts (nat_lt n number_bound) (are_short (numbers ns)) h in
     plain_more k (number n) (numbers ns) (plain_number k n parts.0) (plain_numbers k ns parts.1)
 
 plain_row : (k : ℕ) (w : List ℕ) (es : Expressions) → forms_symbol w ≡ true → ArePlain k es → IsPlain (k + 1) (row w es)
@@ -91,7 +91,7 @@ module _ {X : Type 0} (item : X → Expression) (k : ℕ) (plain : (x : X) → i
   plain_all : (xs : List X) → are_short (items_as item xs) ≡ true → ArePlain k (items_as item xs)
   plain_all [] h = plain_none k
   plain_all (x ∷ xs) h =
-      let parts = both_true (is_short (item x)) (are_short (items_as item xs)) h in
+      let parts = both_parts (is_short (item x)) (are_short (items_as item xs)) h in
       plain_more k (item x) (items_as item xs) (plain x parts.0) (plain_all xs parts.1)
 
 plain_literal_of : (k : ℕ) (t : TermId) (positive : Bool) → is_short (literal (record { term = t; positive = positive })) ≡ true → IsPlain (k + 1) (literal (record { term = t; positive = positive }))
@@ -107,15 +107,15 @@ plain_entry k (entries.Pair p i j) h = plain_row k (codes "pair") (numbers (p �
 
 plain_pair : (pair : Pair) → is_short (pair_item pair) ≡ true → IsPlain 2 (pair_item pair)
 plain_pair pair h =
-    let first = both_true (nat_lt pair.left.0 number_bound) (nat_lt pair.right.0 number_bound && are_short (items_as entry_item pair.entries)) h in
-    let second = both_true (nat_lt pair.right.0 number_bound) (are_short (items_as entry_item pair.entries)) first.1 in
+    let first = both_parts (nat_lt pair.left.0 number_bound) (nat_lt pair.right.0 number_bound && are_short (items_as entry_item pair.entries)) h in
+    let second = both_parts (nat_lt pair.right.0 number_bound) (are_short (items_as entry_item pair.entries)) first.1 in
     plain_list 1 _ (plain_more 1 _ _ (plain_number 1 pair.left.0 first.0) (plain_more 1 _ _ (plain_number 1 pair.right.0 second.0) (plain_all entry_item 1 (plain_entry 0) pair.entries second.1)))
 
 plain_hop : (hop : Hop) → is_short (hop_item hop) ≡ true → IsPlain 2 (hop_item hop)
 plain_hop hop h = plain_list 1 _ (plain_numbers 1 (hop.con.0 ∷ (hop.place ∷ (hop.step ∷ []))) h)
 
 plain_step : (step : EqStep) → is_short (step_item step) ≡ true → IsPlain 3 (step_item step)
-plain_step (Hyp l) h = let parts = both_true (is_short (literal l)) true h in plain_row 2 (codes "hyp") (more (literal l) none) refl (plain_more 2 _ _ (plain_literal 1 l parts.0) (plain_none 2))
+plain_step (Hyp l) h = let parts = both_parts (is_short (literal l)) true h in plain_row 2 (codes "hyp") (more (literal l) none) refl (plain_more 2 _ _ (plain_literal 1 l parts.0) (plain_none 2))
 plain_step (Refl t) h = plain_row 2 (codes "refl") (numbers (t.0 ∷ [])) refl (plain_numbers 2 (t.0 ∷ []) h)
 plain_step (Sym i) h = plain_row 2 (codes "sym") (numbers (i ∷ [])) refl (plain_numbers 2 (i ∷ []) h)
 plain_step (Trans i j) h = plain_row 2 (codes "trans") (numbers (i ∷ (j ∷ []))) refl (plain_numbers 2 (i ∷ (j ∷ [])) h)
@@ -129,7 +129,7 @@ plain_step (EqualOut i) h = plain_row 2 (codes "equal-out") (numbers (i ∷ []))
 plain_step (Neg t i) h = plain_row 2 (codes "neg") (numbers (t.0 ∷ (i ∷ []))) refl (plain_numbers 2 (t.0 ∷ (i ∷ [])) h)
 plain_step (Single x y) h = plain_row 2 (codes "single") (numbers (x.0 ∷ (y.0 ∷ []))) refl (plain_numbers 2 (x.0 ∷ (y.0 ∷ [])) h)
 plain_step (Unique p pairs) h =
-    let parts = both_true (nat_lt p number_bound) (are_short (items_as pair_item pairs)) h in
+    let parts = both_parts (nat_lt p number_bound) (are_short (items_as pair_item pairs)) h in
     plain_row 2 (codes "unique") (more (number p) (items_as pair_item pairs)) refl (plain_more 2 _ _ (plain_number 2 p parts.0) (plain_all pair_item 2 plain_pair pairs parts.1))
 
 plain_close : (close : Close) → is_short (close_item close) ≡ true → IsPlain 3 (close_item close)
@@ -160,8 +160,8 @@ plain_rule (steps.Gate gate t place) h =
     plain_more 4 _ _ (plain_word 4 (codes "gate") refl) (plain_more 4 _ _ (plain_word 4 (gate_name gate) (gate_symbol gate)) (plain_numbers 4 (gate_numbers gate t place) h))
 plain_rule (steps.Exhaust t) h = plain_more 4 _ _ (plain_word 4 (codes "exhaust") refl) (plain_numbers 4 (t.0 ∷ []) h)
 plain_rule (steps.Theory all close) h =
-    let first = both_true (are_short (items_as step_item all)) (is_short (close_item close) && true) h in
-    let second = both_true (is_short (close_item close)) true first.1 in
+    let first = both_parts (are_short (items_as step_item all)) (is_short (close_item close) && true) h in
+    let second = both_parts (is_short (close_item close)) true first.1 in
     plain_more 4 _ _ (plain_word 4 (codes "theory") refl)
     (plain_more 4 _ _ (plain_list 3 _ (plain_all step_item 3 plain_step all first.0))
     (plain_more 4 _ _ (plain_higher 3 4 (close_item close) (omega arith) (plain_close close second.0)) (plain_none 4)))
@@ -169,8 +169,8 @@ plain_rule (steps.Learn hints) h = plain_more 4 _ _ (plain_word 4 (codes "learn"
 
 plain_line : (n : ℕ) (line : Line) → is_short (line_item n line) ≡ true → IsPlain 5 (line_item n line)
 plain_line n line h =
-    let first = both_true (nat_lt n number_bound) (are_short (items_as literal line.clause) && are_short (rule_parts line.step)) h in
-    let second = both_true (are_short (items_as literal line.clause)) (are_short (rule_parts line.step)) first.1 in
+    let first = both_parts (nat_lt n number_bound) (are_short (items_as literal line.clause) && are_short (rule_parts line.step)) h in
+    let second = both_parts (are_short (items_as literal line.clause)) (are_short (rule_parts line.step)) first.1 in
     plain_row 4 (codes "s") _ refl
     (plain_more 4 _ _ (plain_number 4 n first.0) (plain_more 4 _ _ (plain_list 3 _ (plain_all literal 3 (plain_literal 2) line.clause second.0)) (plain_rule line.step second.1)))
 
@@ -212,7 +212,7 @@ kind_symbol kind.Ite = refl
 module _ (d : Declarations) (consistent : IsConsistent d) where
   plain_named : (bytes : List ℕ) (ns : List ℕ) → list_all is_in_quoted_symbol bytes ≡ true → are_short (more (name bytes) (numbers ns)) ≡ true → ArePlain 4 (more (name bytes) (numbers ns))
   plain_named bytes ns fit h =
-      let parts = both_true (is_short (name bytes)) (are_short (numbers ns)) h in
+      let parts = both_parts (is_short (name bytes)) (are_short (numbers ns)) h in
       plain_more 4 (name bytes) (numbers ns) (plain_name 4 bytes fit) (plain_numbers 4 ns parts.1)
 
   ctor_name_fits : (c : ℕ) → c < length d.ctors → list_all is_in_quoted_symbol (unwrap_or (slice_get (ctor_names d) c) []) ≡ true
@@ -232,25 +232,25 @@ module _ (d : Declarations) (consistent : IsConsistent d) where
 
   plain_term : (n : ℕ) (core : Core) → IsNamed d core → is_short (term_item d n core) ≡ true → IsPlain 5 (term_item d n core)
   plain_term n core is h =
-      let first = both_true (nat_lt n number_bound) (is_short (word (kind_word (kind_of core))) && are_short (core_parts d core)) h in
-      let second = both_true (is_short (word (kind_word (kind_of core)))) (are_short (core_parts d core)) first.1 in
+      let first = both_parts (nat_lt n number_bound) (is_short (word (kind_word (kind_of core))) && are_short (core_parts d core)) h in
+      let second = both_parts (is_short (word (kind_word (kind_of core)))) (are_short (core_parts d core)) first.1 in
       plain_row 4 (codes "t") _ refl (plain_more 4 _ _ (plain_number 4 n first.0) (plain_more 4 _ _ (plain_word 4 (kind_word (kind_of core)) (kind_symbol (kind_of core))) (plain_core core is second.1)))
 
   plain_lines : (n : ℕ) (lines : List Line) (after : Expressions) → are_short (line_items n lines after) ≡ true → (are_short after ≡ true → ArePlain 5 after) → ArePlain 5 (line_items n lines after)
   plain_lines n [] after h plain = plain h
   plain_lines n (line ∷ lines) after h plain =
-      let parts = both_true (is_short (line_item n line)) (are_short (line_items (n + 1) lines after)) h in
+      let parts = both_parts (is_short (line_item n line)) (are_short (line_items (n + 1) lines after)) h in
       plain_more 5 _ _ (plain_line n line parts.0) (plain_lines (n + 1) lines after parts.1 plain)
 
   plain_terms : (n : ℕ) (terms : Terms) (after : Expressions) → ((t : ℕ) (entry : Core × SortId) → slice_get terms t ≡ Some entry → IsNamed d entry.0) → are_short (term_items d n terms after) ≡ true
       → (are_short after ≡ true → ArePlain 5 after) → ArePlain 5 (term_items d n terms after)
   plain_terms n [] after is h plain = plain h
   plain_terms n ((core, sort) ∷ terms) after is h plain =
-      let parts = both_true (is_short (term_item d n core)) (are_short (term_items d (n + 1) terms after)) h in
+      let parts = both_parts (is_short (term_item d n core)) (are_short (term_items d (n + 1) terms after)) h in
       plain_more 5 _ _ (plain_term n core (is 0 (core, sort) refl) parts.0) (plain_terms (n + 1) terms after (λ t entry at. is (suc t) entry at) parts.1 plain)
 
   plain_end : (m : ℕ) → are_short (more (end_item m) none) ≡ true → ArePlain 5 (more (end_item m) none)
-  plain_end m h = let parts = both_true (are_short (numbers (m ∷ []))) true h in plain_more 5 _ _ (plain_row 4 (codes "end") _ refl (plain_numbers 4 (m ∷ []) parts.0)) (plain_none 5)
+  plain_end m h = let parts = both_parts (are_short (numbers (m ∷ []))) true h in plain_more 5 _ _ (plain_row 4 (codes "end") _ refl (plain_numbers 4 (m ∷ []) parts.0)) (plain_none 5)
 
   -- the expression of a record
   pub plain_record : (k : ℕ) (rec : Recorded) → CanBeRead d k rec
@@ -258,7 +258,7 @@ module _ (d : Declarations) (consistent : IsConsistent d) where
   plain_record k rec can =
       let last = more (end_item (length rec.lines)) none in
       let lines = line_items 1 rec.lines last in
-      let first = both_true (are_short (numbers (k ∷ []))) (are_short (term_items d 0 rec.terms lines)) can.short in
+      let first = both_parts (are_short (numbers (k ∷ []))) (are_short (term_items d 0 rec.terms lines)) can.short in
       plain_list 5 _ (plain_more 5 _ _ (plain_row 4 (codes "cosmt-derivation") _ refl (plain_numbers 4 (k ∷ []) first.0))
       (plain_terms 0 rec.terms lines (λ t entry at. named d rec.terms entry.0 entry.1 (can.sorted t entry.0 entry.1 at)) first.1
       (λ h. plain_lines 1 rec.lines last h (plain_end (length rec.lines)))))

@@ -2,6 +2,7 @@
 use Rattle.std.proofs.Common.{◌≡◌, ℕ, ◌+◌, Bool, true, false, not, ◌&&◌, ◌||◌, ◌==◌, List, [], ◌∷◌, ◌++◌, length, Option, Some, None, is_some, Result, Ok, Err, option_map, option_and_then, IfSome, IfOk, MatchResult, if◌then◌else◌, codes, refl, sym, subst, true≢false}
 use Rattle.std.specs.Bool.{MatchBool}
 use Rattle.std.specs.List.{list_all}
+use Rattle.ct_lemmas.proofs.Booleans.{both_parts, both_true, or_true}
 use Rattle.ct_sexpr.specs.Expression.{Expression, Expressions, none, more}
 use Rattle.ct_sorts.specs.Declarations.{Declarations}
 use Rattle.ct_terms.specs.declared.ids.Lit.{Lit}
@@ -21,14 +22,6 @@ use Rattle.ct_log_lines.specs.Lines.{one_term_in, steps_in, theory_of, clause_in
 use Rattle.ct_log_text.specs.Fitting.{has_terms, has_stripped}
 use Rattle.ct_log_text.specs.Reading.{ReadOutcome, GivesTerm, checked_line, ended_derivation, after_line, read_lines, ReadsTerms, AfterItem, Reads, items_in, after_constant}
 use Rattle.ct_log_text.specs.Writable.{is_bare, is_writable}
-use Rattle.ct_log_text.proofs.NumbersBack.{both_true}
-
-both_are : (a b : Bool) → a ≡ true → b ≡ true → (a && b) ≡ true
-both_are a b p q = rw (p, q) refl
-
-or_true : (a : Bool) → (a || true) ≡ true
-or_true true = refl
-or_true false = refl
 
 -- the step, where there is one, is bare
 abbrev Bare : Option Step → Type 0
@@ -55,16 +48,16 @@ place_term Else h = refl
 
 bare_none : (gate : Gate) (of : Bool) → has_term gate ≡ of → Bare (if of then None else Some (steps.Gate gate (term_numbered 0) 0))
 bare_none gate true h = tt
-bare_none gate false h = both_are (has_term gate || true) (has_place gate || true) (or_true (has_term gate)) (or_true (has_place gate))
+bare_none gate false h = both_parts (has_term gate || true) (has_place gate || true) (or_true (has_term gate)) (or_true (has_place gate))
 
 bare_term : (gate : Gate) (t : ℕ) (of : Bool) → (has_term gate && not (has_place gate)) ≡ of → Bare (if of then Some (steps.Gate gate (term_numbered t) 0) else None)
 bare_term gate t true h =
-    let term = (both_true (has_term gate) (not (has_place gate)) h).0 in
-    both_are (has_term gate || (term_numbered t).0 == 0) (has_place gate || true) (rw term refl) (or_true (has_place gate))
+    let term = (both_parts (has_term gate) (not (has_place gate)) h).0 in
+    both_parts (has_term gate || (term_numbered t).0 == 0) (has_place gate || true) (rw term refl) (or_true (has_place gate))
 bare_term gate t false h = tt
 
 bare_place : (gate : Gate) (t k : ℕ) (at : Bool) → has_place gate ≡ at → Bare (if at then Some (steps.Gate gate (term_numbered t) k) else None)
-bare_place gate t k true h = both_are (has_term gate || (term_numbered t).0 == 0) (has_place gate || k == 0) (rw (place_term gate h) refl) (rw h refl)
+bare_place gate t k true h = both_parts (has_term gate || (term_numbered t).0 == 0) (has_place gate || k == 0) (rw (place_term gate h) refl) (rw h refl)
 bare_place gate t k false h = tt
 
 bare_gate : (gate : Gate) (ns : List ℕ) → Bare (gate_over gate ns)
@@ -138,8 +131,8 @@ AllFit (Err at) = Unit {0}
 fit_push : (terms : Terms) (done : List Line) (line : Line) → list_all (is_writable terms) done ≡ true → is_writable terms line ≡ true → list_all (is_writable terms) (done ++ line ∷ []) ≡ true
 fit_push terms [] line h k = rw k refl
 fit_push terms (l ∷ done) line h k =
-    let parts = both_true (is_writable terms l) (list_all (is_writable terms) done) h in
-    both_are (is_writable terms l) (list_all (is_writable terms) (done ++ line ∷ [])) parts.0 (fit_push terms done line parts.1 k)
+    let parts = both_parts (is_writable terms l) (list_all (is_writable terms) done) h in
+    both_parts (is_writable terms l) (list_all (is_writable terms) (done ++ line ∷ [])) parts.0 (fit_push terms done line parts.1 k)
 
 fit_if : (test : Bool) (x y : ReadOutcome) → AllFit x → AllFit y → AllFit (if test then x else y)
 fit_if true x y p q = p

@@ -1,7 +1,8 @@
 -- The sort of a term over the first terms of a table, when the terms right under it are among these.
-use Rattle.std.proofs.Common.{◌≡◌, ℕ, zero, suc, ◌<◌, List, [], ◌∷◌, ◌++◌, length, slice_get, All, Some, refl, arith, ◌∙◌, sym}
+use Rattle.std.proofs.Common.{◌≡◌, ℕ, ◌<◌, List, [], ◌∷◌, ◌++◌, length, slice_get, All, Some, refl, ◌∙◌, sym}
 use Rattle.std.specs.List.{AllZip, AllByRecursion}
 use Rattle.std.proofs.lemmas.List.Elements.{All-from_recursion}
+use Rattle.ct_lemmas.proofs.Lists.{slice_get-prefix}
 use Rattle.ct_sorts.specs.declared.ids.SortId.{SortId}
 use Rattle.ct_sorts.specs.declared.ids.SelId.{SelId}
 use Rattle.ct_sorts.specs.Declarations.{Declarations, bool_sort}
@@ -10,12 +11,6 @@ use Rattle.ct_terms.specs.declared.term.Core.{Core}
 use Rattle.ct_terms.specs.declared.term.Core.TheVariants.{Con, Sel, Test, Apply, Eq, Not, And, Or, Iff, Ite}
 use Rattle.ct_terms.specs.Children.{HasArgumentsBelow}
 use Rattle.ct_terms.specs.Terms.{Terms, IsOfSort, IsBoolean, IsOfField, Joins, HasSort}
-
--- an index of the first list
-pub slice_get-prefix : {X : Type 0} (xs ys : List X) (k : ℕ) → k < length xs → slice_get (xs ++ ys) k ≡ slice_get xs k
-slice_get-prefix [] ys k within = absurd (omega (arith, within))
-slice_get-prefix (x ∷ xs) ys zero within = refl
-slice_get-prefix (x ∷ xs) ys (suc k) within = slice_get-prefix xs ys k (omega (arith, within))
 
 -- a new last element stands at the old length
 pub slice_get-last : {X : Type 0} (xs : List X) (x : X) (ys : List X) → slice_get (xs ++ x ∷ ys) (length xs) ≡ Some x

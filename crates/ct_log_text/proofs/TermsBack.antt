@@ -3,6 +3,8 @@ use Rattle.std.proofs.Common.{◌≡◌, ℕ, zero, suc, ◌+◌, ◌<◌, ◌�
 use Rattle.std.proofs.lemmas.Bool.{eq-eqb, lt-ltb}
 use Rattle.std.proofs.lemmas.Option.{slice_get_within}
 use Rattle.std.specs.List.{AllByRecursion, list_all}
+use Rattle.ct_lemmas.proofs.Booleans.{both_parts}
+use Rattle.ct_lemmas.proofs.Lists.{slice_get-prefix}
 use Rattle.ct_sexpr.specs.Expression.{more, word}
 use Rattle.ct_sorts.specs.declared.ids.SortId.{SortId}
 use Rattle.ct_sorts.specs.declared.ids.Symbol.{Symbol}
@@ -22,9 +24,9 @@ use Rattle.ct_log_text.specs.Reading.{StandsFor, GivesTerm}
 use Rattle.ct_log_text.specs.Written.{numbers, name, term_numbers, kind_of, core_parts, term_item, IsNamed}
 use Rattle.ct_log_lines.specs.TermLines.{kind_word}
 use Rattle.ct_log_text.specs.Writable.{is_short, are_short}
-use Rattle.ct_log_text.proofs.NumbersBack.{both_true, number_back, numbers_back, name_back, numbered_back}
+use Rattle.ct_log_text.proofs.NumbersBack.{number_back, numbers_back, name_back, numbered_back}
 use Rattle.ct_log_text.proofs.WriteLemmas.{named}
-use Rattle.ct_log_text.proofs.SortsBack.{slice_get-prefix, slice_get-last, sort_stays}
+use Rattle.ct_log_text.proofs.SortsBack.{slice_get-last, sort_stays}
 
 -- the name that stands in a term line
 abbrev pub name_in_line : Declarations → Core → List ℕ
@@ -40,7 +42,7 @@ line_of d core = record { kind = kind_of core; name = name_in_line d core; numbe
 
 -- a line with a name, and one without
 named_back : (bytes : List ℕ) (ns : List ℕ) → are_short (more (name bytes) (numbers ns)) ≡ true → are_short (numbers ns) ≡ true
-named_back bytes ns short = (both_true (is_short (name bytes)) (are_short (numbers ns)) short).1
+named_back bytes ns short = (both_parts (is_short (name bytes)) (are_short (numbers ns)) short).1
 
 parts_back : (d : Declarations) (core : Core) → are_short (core_parts d core) ≡ true → line_after_kind (word (kind_word (kind_of core)), core_parts d core) ≡ Some (line_of d core)
 parts_back d (Con c args) short =
@@ -65,8 +67,8 @@ parts_back d (Ite c a b) short = rw (numbers_back (c.0 ∷ (a.0 ∷ (b.0 ∷ [])
 -- a term line as it stands in the text
 pub term_line_back : (d : Declarations) (n : ℕ) (core : Core) → n < most_terms → is_short (term_item d n core) ≡ true → term_line n (term_item d n core) ≡ Some (line_of d core)
 term_line_back d n core few short =
-    let first = both_true (nat_lt n number_bound) (is_short (word (kind_word (kind_of core))) && are_short (core_parts d core)) short in
-    let second = both_true (is_short (word (kind_word (kind_of core)))) (are_short (core_parts d core)) first.1 in
+    let first = both_parts (nat_lt n number_bound) (is_short (word (kind_word (kind_of core))) && are_short (core_parts d core)) short in
+    let second = both_parts (is_short (word (kind_word (kind_of core)))) (are_short (core_parts d core)) first.1 in
     rw (lt-ltb n 400000 few, number_back n first.0, eq-eqb n n refl) (parts_back d core second.1)
 
 -- the terms that it names

@@ -1,6 +1,7 @@
 -- Whole derivations that are written are read back.
 use Rattle.std.proofs.Common.{◌≡◌, ℕ, ◌+◌, ◌<◌, ◌≤◌, true, ◌&&◌, nat_lt, List, [], ◌∷◌, ◌++◌, length, map, take, drop, Some, Ok, slice_get, codes, bytes_eq, refl, sym, ap, subst, ◌∙◌, length-append, append_assoc, append-nil, take-append-drop, arith}
 use Rattle.std.specs.List.{list_all}
+use Rattle.ct_lemmas.proofs.Booleans.{both_parts}
 use Rattle.ct_sexpr.specs.Expression.{none, more}
 use Rattle.ct_sorts.specs.declared.ids.CtorId.{CtorId}
 use Rattle.ct_sorts.specs.Declarations.{Declarations, Constructor, ctor_names}
@@ -14,7 +15,6 @@ use Rattle.ct_log_lines.specs.TermLines.{term_line, is_alone}
 use Rattle.ct_log_text.specs.Reading.{ReadOutcome, GivesTerm, read_lines, ReadsTerms, Reads, number_of}
 use Rattle.ct_log_text.specs.Written.{term_item, header_item, end_item, term_items, line_items, expression_of_record}
 use Rattle.ct_log_text.specs.Writable.{is_writable, is_short, are_short, CanBeRead}
-use Rattle.ct_log_text.proofs.NumbersBack.{both_true}
 use Rattle.ct_log_text.proofs.LinesBack.{lines_back, header_back}
 use Rattle.ct_log_text.proofs.TermsBack.{term_line_back, term_back}
 
@@ -35,7 +35,7 @@ module _ (d : Declarations) (terms : Terms) (table : IsTermTable terms) (sorted 
       (at_lines place lines (Ok (record { terms = terms; lines = lines })) (sym (lines_back terms table.few place [] 1 lines m refl none_done writable short)))
   terms_back before n ((core, sort) ∷ after) place long is short =
       let items = term_items d (n + 1) after (line_items 1 lines (more (end_item m) none)) in
-      let parts = both_true (is_short (term_item d n core)) (are_short items) short in
+      let parts = both_parts (is_short (term_item d n core)) (are_short items) short in
       let given = term_back d before after core sort (subst (λ ts. length ts ≤ most_terms) is table.few) (subst AreOrdered is table.ordered) (subst AreSingle is table.single) (subst (AreSorted d) is sorted)
       (subst (λ k. is_short (term_item d k core) ≡ true) (sym long) parts.0) in
       let longer : length (before ++ (core, sort) ∷ []) ≡ length before + 1 = length-append before ((core, sort) ∷ []) in
@@ -75,10 +75,10 @@ record_back d k others lines consistent some table sorted writable short =
     let yes = term_item d 0 (Con (record { 0 = 0 }) []) in
     let no_line = term_item d 1 (Con (record { 0 = 1 }) []) in
     let items = term_items d 2 others tail in
-    let first = both_true (is_short (header_item k)) (is_short yes && (is_short no_line && are_short items)) short in
-    let number = both_true (nat_lt k number_bound) true first.0 in
-    let second = both_true (is_short yes) (is_short no_line && are_short items) first.1 in
-    let third = both_true (is_short no_line) (are_short items) second.1 in
+    let first = both_parts (is_short (header_item k)) (is_short yes && (is_short no_line && are_short items)) short in
+    let number = both_parts (nat_lt k number_bound) true first.0 in
+    let second = both_parts (is_short yes) (is_short no_line && are_short items) first.1 in
+    let third = both_parts (is_short no_line) (are_short items) second.1 in
     rw (header_back k some number.0)
     (rw (alone_back d 0 (record { 0 = 0 }) (codes "true") (omega arith) (true_name d consistent) refl second.0)
     (rw (alone_back d 1 (record { 0 = 1 }) (codes "false") (omega arith) (false_name d consistent) refl third.0)
@@ -98,6 +98,6 @@ read_back d k rec consistent can =
 pub number_read_back : (d : Declarations) (k : ℕ) (rec : Recorded) → CanBeRead d k rec → number_of (expression_of_record d k rec) ≡ Some k
 number_read_back d k rec can =
     let items = term_items d 0 rec.terms (line_items 1 rec.lines (more (end_item (length rec.lines)) none)) in
-    let first = both_true (is_short (header_item k)) (are_short items) can.short in
-    let number = both_true (nat_lt k number_bound) true first.0 in
+    let first = both_parts (is_short (header_item k)) (are_short items) can.short in
+    let number = both_parts (nat_lt k number_bound) true first.0 in
     header_back k can.some number.0

@@ -1,31 +1,10 @@
--- Lists that grow by one at the end: what is related element by element, ranges, and what is written of a list.
-use Rattle.std.proofs.Common.{◌≡◌, ℕ, zero, suc, ◌+◌, ◌<◌, ◌≤◌, List, [], ◌∷◌, ◌++◌, length, take, get_or, All, Some, slice_get, refl, sym, ap, subst, ◌∙◌, arith, append_assoc, append-nil}
+-- Lists that grow by one at the end: ranges, and what is written of a list.
+use Rattle.std.proofs.Common.{◌≡◌, ℕ, zero, suc, ◌+◌, ◌<◌, ◌≤◌, List, [], ◌∷◌, ◌++◌, length, take, get_or, sym, ap, subst, ◌∙◌, arith, append_assoc, append-nil}
 use Rattle.std.specs.List.{AllZip, range_with_len}
 use Rattle.std.proofs.lemmas.List.{take_more, length-take, take_all}
 use Rattle.std.proofs.lemmas.List.FromFn.{length-range_with_len}
 use Rattle.std.proofs.lemmas.Slice.Zip.{AllZip-long}
-
--- something stands at each index within
-pub stands : {X : Type 0} (xs : List X) (k : ℕ) → k < length xs → (x : X) × (slice_get xs k ≡ Some x)
-stands [] k within = absurd (omega arith)
-stands (x ∷ xs) zero within = (x, refl)
-stands (x ∷ xs) (suc k) within = stands xs k (omega arith)
-
--- what follows for each left part of lists that are related element by element
-module _ {X Y : Type 0} (R : X → Y → Type 0) (P : X → Type 0) (part : (x : X) (y : Y) → R x y → P x) where
-  pub AllZip-left_parts : (xs : List X) (ys : List Y) → AllZip R xs ys → All P xs
-  AllZip-left_parts [] ys all k e within = absurd (omega arith)
-  AllZip-left_parts (x ∷ xs) [] all k e within = absurd all
-  AllZip-left_parts (x ∷ xs) (y ∷ ys) all zero e within = part x y all.0
-  AllZip-left_parts (x ∷ xs) (y ∷ ys) all (suc k) e within = AllZip-left_parts xs ys all.1 k e (omega arith)
-
-module _ {X Y : Type 0} (R : X → Y → Type 0) where
-  -- two lists with one more element each
-  pub AllZip-one_more : (xs : List X) (ys : List Y) (x : X) (y : Y) → AllZip R xs ys → R x y → AllZip R (xs ++ x ∷ []) (ys ++ y ∷ [])
-  AllZip-one_more [] [] x y all last = (last, tt)
-  AllZip-one_more [] (z ∷ ys) x y all last = absurd all
-  AllZip-one_more (z ∷ xs) [] x y all last = absurd all
-  AllZip-one_more (z ∷ xs) (w ∷ ys) x y all last = (all.0, AllZip-one_more xs ys x y all.1 last)
+use Rattle.ct_lemmas.proofs.Pairs.{AllZip-push}
 
 -- one number more
 range-from : (a n : ℕ) → range_with_len a (n + 1) ≡ range_with_len a n ++ (a + n) ∷ []
@@ -63,7 +42,7 @@ module _ {X Y : Type 0} (R : X → Y → Type 0) (render : List Y → List ℕ) 
         let y = last.0 in
         let long : length xs ≡ length ys = sym (AllZip-long R xs ys before.1) in (
           ys ++ y ∷ [],
-          AllZip-one_more R xs ys x y before.1 last.1,
+          AllZip-push R xs ys x y before.1 last.1,
           last.2
               ∙ ap (λ w. w ++ piece (length xs) y) before.2
               ∙ append_assoc old (render ys) (piece (length xs) y)

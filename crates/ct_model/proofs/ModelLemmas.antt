@@ -1,10 +1,10 @@
 -- Lines of a model, and a whole model from its parts.
-use Rattle.std.proofs.Common.{◌≡◌, ℕ, ◌+◌, Bool, true, false, List, [], ◌∷◌, ◌++◌, refl, sym, ap, subst, ◌∙◌, append_assoc, append-nil, cond, codes, Option, Some, None, option_map, slice_get, length, unwrap_or}
+use Rattle.std.proofs.Common.{◌≡◌, ℕ, ◌+◌, Bool, true, false, List, [], ◌∷◌, ◌++◌, refl, sym, ap, subst, ◌∙◌, append_assoc, append-nil, cond, codes, Some, option_map, slice_get, length, unwrap_or}
 use Rattle.std.specs.Bool.{MatchBool}
 use Rattle.std.specs.List.{filter, range_with_len}
 use Rattle.std.proofs.lemmas.List.Elements.{filter-append}
 use Rattle.std.specs.Prelude.{option_and_then}
-use Rattle.std.proofs.lemmas.Option.{none-some, same_Some}
+use Rattle.ct_lemmas.proofs.Options.{option_map-source}
 use Rattle.ct_sorts.specs.declared.ids.CtorId.{CtorId}
 use Rattle.ct_sorts.specs.declared.ids.SortId.{SortId}
 use Rattle.ct_sorts.specs.Declarations.{Declarations, Sort, Constructor, Selector}
@@ -46,18 +46,13 @@ at_true b P Q e p = subst (λ x. MatchBool x P Q) (sym e) p
 pub at_false : (b : Bool) (P Q : Type 0) → b ≡ false → Q → MatchBool b P Q
 at_false b P Q e q = subst (λ x. MatchBool x P Q) (sym e) q
 
--- what stands where a part of it is read
-some-of : {X Y : Type 0} (h : X → Y) (o : Option X) (y : Y) → option_map h o ≡ Some y → (x : X) × (o ≡ Some x) × (h x ≡ y)
-some-of h None y e = absurd (none-some y e)
-some-of h (Some x) y e = (x, refl, same_Some (h x) y e)
-
 -- how many constructors the sort of a selector's argument has
 pub count-parts : (d : Declarations) (s : ℕ) (c : CtorId) (of : SortId) (ctors : List CtorId)
     → option_map (λ (x : Selector). x.ctor) (slice_get d.sels s) ≡ Some c → option_map (λ (x : Constructor). x.sort) (slice_get d.ctors c.0) ≡ Some of → option_map (λ (x : Sort). x.ctors) (slice_get d.sorts of.0) ≡ Some ctors
     → constructor_count d s ≡ length ctors
 count-parts d s c of ctors p q r =
-    let selector = some-of (λ (x : Selector). x.ctor) (slice_get d.sels s) c p in
-    let sort = some-of (λ (x : Sort). x.ctors) (slice_get d.sorts of.0) ctors r in
+    let selector = option_map-source (λ (x : Selector). x.ctor) (slice_get d.sels s) c p in
+    let sort = option_map-source (λ (x : Sort). x.ctors) (slice_get d.sorts of.0) ctors r in
     let argument : argument_sort d s ≡ Some of =
     ap (option_and_then (λ (x : Selector). option_map (λ (k : Constructor). k.sort) (slice_get d.ctors x.ctor.0))) selector.1
     ∙ ap (λ (k : CtorId). option_map (λ (x : Constructor). x.sort) (slice_get d.ctors k.0)) selector.2

@@ -8,8 +8,8 @@ use Rattle.ct_sexpr.specs.View.{expression_of}
 use Rattle.ct_sexpr.specs.Written.{written}
 use Rattle.ct_values.specs.declared.node.NodeId.{NodeId}
 use Rattle.ct_values.specs.Graph.{Nodes}
-use Rattle.ct_values.specs.Separation.{gap}
-use Rattle.ct_values.specs.ValueText.{IsValueText}
+use Rattle.ct_value_text.specs.Separation.{gap}
+use Rattle.ct_value_text.specs.ValueText.{IsValueText}
 use Rattle.ct_model.specs.Listed.{joined, listed}
 use Rattle.ct_model.specs.PairsText.{IsPairText, IsPairAt, IsPairsText}
 use Rattle.ct_model.proofs.ListLemmas.{AreWritten, one_more_number}

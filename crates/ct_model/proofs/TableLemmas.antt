@@ -1,11 +1,13 @@
 -- Tables of functions and of selectors: their values are nodes, and their texts from their parts.
 use Rattle.std.proofs.Common.{◌≡◌, ℕ, ◌<◌, List, [], ◌∷◌, ◌++◌, length, get_or, Some, slice_get, option_map, map, refl, sym, ap, subst, ◌∙◌, append_assoc, append-nil, codes}
 use Rattle.std.proofs.lemmas.Option.{slice_get_within, slice_get-get_or, slice_get-map, same_Some}
+use Rattle.ct_lemmas.proofs.Lists.{slice_get-there}
+use Rattle.ct_lemmas.proofs.Pairs.{AllZip-left_parts}
 use Rattle.ct_sorts.specs.declared.ids.SortId.{SortId}
 use Rattle.ct_sorts.specs.declared.ids.CtorId.{CtorId}
 use Rattle.ct_sorts.specs.Declarations.{Declarations, Constructor, Selector, Function, function_names, sel_names}
 use Rattle.ct_sexpr.specs.Written.{written_name}
-use Rattle.ct_values.specs.ValueText.{sort_name}
+use Rattle.ct_value_text.specs.ValueText.{sort_name}
 use Rattle.ct_values.specs.Graph.{Nodes}
 use Rattle.ct_values.specs.Fitting.{HasNodeSort}
 use Rattle.ct_eval.specs.declared.interp.Row.{Row}
@@ -16,7 +18,6 @@ use Rattle.ct_model.specs.Within.{IsNode, IsRowWithin, IsTableWithin}
 use Rattle.ct_model.specs.Listed.{listed}
 use Rattle.ct_model.specs.TableText.{parameters, definition, IsBodyText, IsTableText, IsOffText}
 use Rattle.ct_model.specs.Opening.{heading}
-use Rattle.ct_model.proofs.ListLemmas.{AllZip-left_parts, stands}
 
 module _ (d : Declarations) (g : Nodes) where
   row-within : (args : List SortId) (sort : SortId) (row : Row) → FitsRow d g args sort row → IsRowWithin g row
@@ -69,7 +70,7 @@ module _ (d : Declarations) (i : Interp) (proper : IsProper d i) where
   -- the table of a declared function
   pub function-within : (f : ℕ) (args : List SortId) (table : Table) → f < length d.functions → option_map (λ (x : Function). x.args) (slice_get d.functions f) ≡ Some args → slice_get i.funs f ≡ Some table → IsTableWithin i.graph table
   function-within f args table within read at =
-      let function = stands d.functions f within in
+      let function = slice_get-there d.functions f within in
       table-within d i.graph function.0.args function.0.result table (proper.functions.fit f function.0 table function.1 at)
 
   pub function-parts : (f : ℕ) (name : List ℕ) (args : List SortId) (sort : SortId) (table : Table) (old begun headed bodied new : List ℕ) → f < length d.functions
@@ -79,7 +80,7 @@ module _ (d : Declarations) (i : Interp) (proper : IsProper d i) where
       → (body : List ℕ) × IsBodyText d i.graph args table body × (bodied ≡ headed ++ body) → new ≡ bodied ++ 41 ∷ []
       → (text : List ℕ) × IsTableText d i f text × (new ≡ old ++ text)
   function-parts f name args sort table old begun headed bodied new within name_is args_are sort_is at p q r s =
-      let function = stands d.functions f within in
+      let function = slice_get-there d.functions f within in
       let h = function.0 in
       let named : h.name ≡ name = name-at (λ (x : Function). x.name) d.functions f h name function.1 name_is in
       let over : h.args ≡ args = part-at (λ (x : Function). x.args) d.functions f h args function.1 args_are in
@@ -105,8 +106,8 @@ module _ (d : Declarations) (i : Interp) (proper : IsProper d i) where
       → option_map (λ (x : Selector). x.ctor) (slice_get d.sels s) ≡ Some c → option_map (λ (x : Constructor). x.sort) (slice_get d.ctors c.0) ≡ Some of → c.0 < length d.ctors
       → slice_get i.offs s ≡ Some table → IsTableWithin i.graph table
   selector-within s c of table within ctor_is sort_is ctor_within at =
-      let selector = stands d.sels s within in
-      let ctor = stands d.ctors c.0 ctor_within in
+      let selector = slice_get-there d.sels s within in
+      let ctor = slice_get-there d.ctors c.0 ctor_within in
       let built : selector.0.ctor ≡ c = part-at (λ (x : Selector). x.ctor) d.sels s selector.0 c selector.1 ctor_is in
       let constructed : slice_get d.ctors selector.0.ctor.0 ≡ Some ctor.0 = ap (λ (k : CtorId). slice_get d.ctors k.0) built ∙ ctor.1 in
       table-within d i.graph (ctor.0.sort ∷ []) selector.0.sort table (proper.selectors.fit s selector.0 ctor.0 table selector.1 constructed at)
@@ -119,8 +120,8 @@ module _ (d : Declarations) (i : Interp) (proper : IsProper d i) where
       → (body : List ℕ) × IsBodyText d i.graph (of ∷ []) table body × (bodied ≡ headed ++ body) → new ≡ bodied ++ 41 ∷ []
       → (text : List ℕ) × IsOffText d i s text × (new ≡ old ++ text)
   selector-parts s name c of sort table old begun headed bodied new within name_is ctor_is ctor_within of_is sort_is at p q r t =
-      let selector = stands d.sels s within in
-      let ctor = stands d.ctors c.0 ctor_within in
+      let selector = slice_get-there d.sels s within in
+      let ctor = slice_get-there d.ctors c.0 ctor_within in
       let h = selector.0 in
       let k = ctor.0 in
       let named : h.name ≡ name = name-at (λ (x : Selector). x.name) d.sels s h name selector.1 name_is in

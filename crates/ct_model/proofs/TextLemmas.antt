@@ -3,7 +3,7 @@ use Rattle.std.proofs.Common.{◌≡◌, ℕ, ◌+◌, ◌<◌, ◌≤◌, List,
 use Rattle.std.proofs.lemmas.List.{take_more, length-take, take_all}
 use Rattle.ct_sorts.specs.declared.ids.SortId.{SortId}
 use Rattle.ct_sorts.specs.Declarations.{Declarations}
-use Rattle.ct_values.specs.Separation.{gap}
+use Rattle.ct_value_text.specs.Separation.{gap}
 use Rattle.ct_model.specs.Listed.{joined, listed}
 use Rattle.ct_model.specs.TableText.{parameters, sorted_parameter}
 use Rattle.ct_model.proofs.WrittenLemmas.{parameters-push}

@@ -2,7 +2,7 @@
 use Rattle.std.proofs.Common.{◌≡◌, ◌≢◌, ℕ, zero, suc, ◌+◌, List, [], ◌∷◌, ◌++◌, length, refl, sym, ap, ◌∙◌, arith, append_assoc, append-nil, codes}
 use Rattle.ct_sorts.specs.declared.ids.SortId.{SortId}
 use Rattle.ct_sorts.specs.Declarations.{Declarations}
-use Rattle.ct_values.specs.Separation.{gap}
+use Rattle.ct_value_text.specs.Separation.{gap}
 use Rattle.ct_model.specs.Listed.{spaced, joined, listed, lines}
 use Rattle.ct_model.specs.TableText.{parameters, sorted_parameter, equation, equations, conjunction, RowTexts, row_test, choice}
 use Rattle.ct_model.specs.Opening.{opening, openings, closings}

@@ -4,7 +4,7 @@ use Rattle.std.specs.Prelude.{ℕ, zero, suc, List, [], ◌∷◌, ◌++◌, cod
 use Rattle.ct_sorts.specs.declared.ids.SortId.{SortId}
 use Rattle.ct_sorts.specs.Declarations.{Declarations}
 use Rattle.ct_sexpr.specs.Written.{written_name}
-use Rattle.ct_values.specs.ValueText.{sort_name}
+use Rattle.ct_value_text.specs.ValueText.{sort_name}
 use Rattle.ct_model.specs.Listed.{listed}
 use Rattle.ct_model.specs.TableText.{RowTexts, row_test, parameters}
 

@@ -7,7 +7,7 @@ use Rattle.ct_sexpr.specs.View.{expression_of}
 use Rattle.ct_sexpr.specs.Written.{written}
 use Rattle.ct_values.specs.declared.node.NodeId.{NodeId}
 use Rattle.ct_values.specs.Graph.{Nodes}
-use Rattle.ct_values.specs.ValueText.{IsValueText}
+use Rattle.ct_value_text.specs.ValueText.{IsValueText}
 use Rattle.ct_model.specs.Listed.{listed}
 
 -- the expression and the value of the node, as `(t v)`

@@ -7,8 +7,8 @@ use Rattle.ct_sorts.specs.Declarations.{Declarations, Constructor, Selector, Fun
 use Rattle.ct_sexpr.specs.Written.{written_name}
 use Rattle.ct_values.specs.declared.node.NodeId.{NodeId}
 use Rattle.ct_values.specs.Graph.{Nodes}
-use Rattle.ct_values.specs.Numeral.{numeral}
-use Rattle.ct_values.specs.ValueText.{sort_name, IsValueText}
+use Rattle.ct_value_text.specs.Numeral.{numeral}
+use Rattle.ct_value_text.specs.ValueText.{sort_name, IsValueText}
 use Rattle.ct_eval.specs.declared.interp.Row.{Row}
 use Rattle.ct_eval.specs.declared.interp.Table.{Table}
 use Rattle.ct_eval.specs.declared.interp.Interp.{Interp}

@@ -2,7 +2,7 @@
 ghost use Rattle.std.specs.Prelude.{◌≡◌, ℕ, ◌<◌, List, ◌∷◌, ◌++◌, length, All, OnOk};
 ghost use Rattle.std.specs.List.{AllZip};
 ghost use Rattle.ct_values.specs.Fitting.{FitsGraph};
-ghost use Rattle.ct_values.specs.ValueText.{IsValueText};
+ghost use Rattle.ct_value_text.specs.ValueText.{IsValueText};
 ghost use Rattle.ct_model.specs.Within.{IsNode, IsRowWithin, IsTableWithin};
 ghost use Rattle.ct_model.specs.Listed.{spaced};
 ghost use Rattle.ct_model.specs.Opening as spec;

@@ -3,9 +3,9 @@ ghost use Rattle.std.specs.Prelude.{◌≡◌, ℕ, ◌<◌, List, ◌++◌, len
 ghost use Rattle.ct_sorts.specs.Declarations.{IsSort};
 ghost use Rattle.ct_sexpr.specs.Written.{written_name};
 ghost use Rattle.ct_values.specs.Fitting.{FitsGraph};
-ghost use Rattle.ct_values.specs.Numeral.{numeral};
-ghost use Rattle.ct_values.specs.Separation.{gap};
-ghost use Rattle.ct_values.specs.ValueText.{sort_name, IsValueText};
+ghost use Rattle.ct_value_text.specs.Numeral.{numeral};
+ghost use Rattle.ct_value_text.specs.Separation.{gap};
+ghost use Rattle.ct_value_text.specs.ValueText.{sort_name, IsValueText};
 ghost use Rattle.ct_model.specs.Within.{IsNode};
 ghost use Rattle.ct_model.specs.Listed.{listed};
 ghost use Rattle.ct_model.specs.TableText.{parameter, sorted_parameter, parameters};
@@ -13,7 +13,8 @@ ghost use Rattle.ct_model.specs.TableText.{parameter, sorted_parameter, paramete
 use crate::error::ModelError;
 use ct_sexpr::is_simple;
 use ct_sorts::{Signature, SortId};
-use ct_values::{Graph, NodeId, value_text};
+use ct_value_text::value_text;
+use ct_values::{Graph, NodeId};
 use std::alloc::Global;
 
 /// Writes the name, quoted where it needs to be.

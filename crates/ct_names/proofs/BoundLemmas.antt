@@ -1,6 +1,6 @@
 -- Variables in the order in which they were bound.
 use Rattle.std.proofs.Common.{◌≡◌, List, [], ◌∷◌, ◌++◌, refl}
-use Rattle.ct_terms.specs.Formula.{bind}
+use Rattle.ct_formulas.specs.Formula.{bind}
 
 -- binding some and then others is binding all of them in order
 pub bind-append : {X : Type 0} (xs ys env : List X) → bind (xs ++ ys) env ≡ bind ys (bind xs env)

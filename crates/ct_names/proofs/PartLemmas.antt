@@ -21,17 +21,6 @@ pub count-parts : (d : Declarations) (xs : List Sexpr) → count (parts_of d (ex
 count-parts d [] = refl
 count-parts d (x ∷ xs) = ap suc (count-parts d xs)
 
--- a list that is not empty is its first item and the others
-take-all : {X : Type 0} (xs : List X) → take (length xs) xs ≡ xs
-take-all [] = refl
-take-all (x ∷ xs) = ap (λ rest. x ∷ rest) (take-all xs)
-
-pub first_and_rest : {X : Type 0} (items : List X) (x : X) → 1 ≤ length items → x ≡ get_or items 0 x → items ≡ x ∷ take (length items - 1) (drop 1 items)
-first_and_rest [] x h e = absurd (omega arith)
-first_and_rest (y ∷ items) x h e =
-    let n : length items ≡ suc (length items) - 1 = omega arith in
-    ap (λ z. z ∷ items) (sym e) ∙ ap (λ rest. x ∷ rest) (sym (take-all items)) ∙ ap (λ k. x ∷ take k items) n
-
 -- what is left from an index on begins with the item there
 pub drop_item : {X : Type 0} (xs : List X) (i : ℕ) (x : X) → i < length xs → x ≡ get_or xs i x → drop i xs ≡ x ∷ drop (i + 1) xs
 drop_item [] i x h e = absurd (omega arith)

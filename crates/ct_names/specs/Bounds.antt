@@ -1,11 +1,11 @@
 -- The variables that the program holds: they stand in the order in which they were bound.
 use Rattle.std.specs.Prelude.{ℕ, List, [], map, Option, Some, option_map}
 use Rattle.std.specs.Borrow.{Bor}
-use Rattle.ct_terms.specs.Formula.{bind}
+use Rattle.ct_formulas.specs.Formula.{bind}
 use Rattle.ct_names.specs.declared.variables.BoundVariable.{BoundVariable}
 use Rattle.ct_names.specs.declared.variables.Param.{Param}
 use Rattle.ct_names.specs.Variables.{Variable}
-use Rattle.ct_terms.specs.declared.tree.Pattern.{Pattern}
+use Rattle.ct_formulas.specs.declared.tree.Pattern.{Pattern}
 use Rattle.std.specs.Global.{Vec}
 use Rattle.ct_names.specs.Patterns.{Binding}
 

@@ -13,9 +13,9 @@ use Rattle.ct_sexpr.specs.Atom.{Atom, symbol, quoted, keyword, text, numeral, de
 use Rattle.ct_sexpr.specs.Expression.{Expression, Expressions, leaf, list, none, more}
 use Rattle.ct_sexpr.specs.Written.{is_reserved}
 use Rattle.ct_sexpr.specs.Readable.{name_of_atom}
-use Rattle.ct_terms.specs.declared.tree.Pattern.{Pattern}
-use Rattle.ct_terms.specs.Formula as formula
-use Rattle.ct_terms.specs.Formula.{Formula, Formulas, Cases, no_formulas, with_formula, no_cases, with_case, bind}
+use Rattle.ct_formulas.specs.declared.tree.Pattern.{Pattern}
+use Rattle.ct_formulas.specs.Formula as formula
+use Rattle.ct_formulas.specs.Formula.{Formula, Formulas, Cases, no_formulas, with_formula, no_cases, with_case, bind}
 use Rattle.ct_names.specs.declared.operator.CoreOperator.{CoreOperator}
 use Rattle.ct_names.specs.declared.operator.CoreOperator.TheVariants.{Not, And, Or, Xor, Implies, Equal, Distinct, Ite}
 use Rattle.ct_names.specs.Refusals.{unknown_sort, unknown_symbol, wrong_count, wrong_sort, not_exhaustive, repeated_variable, out_of_scope}

@@ -1,7 +1,7 @@
 -- What comes of a step that may be refused: a value, or the number of an error.
 use Rattle.std.specs.Prelude.{ℕ, Bool, ◌==◌, Result, Ok, Err, if◌then◌else◌}
 use Rattle.ct_sorts.specs.declared.ids.SortId.{SortId}
-use Rattle.ct_terms.specs.Formula.{Formula}
+use Rattle.ct_formulas.specs.Formula.{Formula}
 use Rattle.ct_names.specs.Refusals.{wrong_sort}
 
 -- a value, or the number of the first error

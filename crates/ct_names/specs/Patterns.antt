@@ -6,8 +6,8 @@ use Rattle.ct_sorts.specs.declared.ids.CtorId.{CtorId}
 use Rattle.ct_sorts.specs.declared.ids.Kind.{Kind}
 use Rattle.ct_sorts.specs.declared.ids.Kind.TheVariants.{Bool as BoolKind, Free, Data, Codata}
 use Rattle.ct_sorts.specs.Declarations.{Declarations, Sort}
-use Rattle.ct_terms.specs.declared.tree.Pattern.{Pattern}
-use Rattle.ct_terms.specs.declared.tree.Pattern.TheVariants.{Ctor, Any}
+use Rattle.ct_formulas.specs.declared.tree.Pattern.{Pattern}
+use Rattle.ct_formulas.specs.declared.tree.Pattern.TheVariants.{Ctor, Any}
 use Rattle.ct_names.specs.Refusals.{unknown_symbol, wrong_count, wrong_sort, foreign_pattern, repeated_variable, out_of_scope}
 use Rattle.ct_names.specs.Outcome.{Outcome, unless_refused, is_sort}
 use Rattle.ct_names.specs.Symbols.{ctor_named, ctor_sort, ctor_field_sorts}

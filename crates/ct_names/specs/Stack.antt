@@ -3,7 +3,7 @@ use Rattle.std.specs.Prelude.{◌≡◌, ℕ, List, [], ◌∷◌, map, length, 
 use Rattle.std.specs.Borrow.{Bor}
 use Rattle.std.specs.Str.{bytes_eq}
 use Rattle.indexmap.specs.IndexMap.{IndexMap, get_by}
-use Rattle.ct_terms.specs.Formula.{bind}
+use Rattle.ct_formulas.specs.Formula.{bind}
 use Rattle.ct_names.specs.declared.stack.Entry.{Entry}
 use Rattle.ct_names.specs.declared.stack.Position.{Position}
 use Rattle.ct_names.specs.Bounds.{variable_of, held_name}

@@ -7,7 +7,7 @@ use Rattle.ct_sorts.specs.declared.ids.SelId.{SelId}
 use Rattle.ct_sorts.specs.declared.ids.Symbol.{Symbol}
 use Rattle.ct_sorts.specs.declared.ids.Symbol.TheVariants.{Ctor, Sel, Fun, Def}
 use Rattle.ct_sorts.specs.Declarations.{Declarations, Constructor, Selector, Function, sort_names, ctor_names, sel_names, function_names, definition_names}
-use Rattle.ct_terms.specs.Formula.{Formula, Formulas, Con, Apply, Def as DefFormula, Sel as SelFormula, no_formulas, with_formula}
+use Rattle.ct_formulas.specs.Formula.{Formula, Formulas, Con, Apply, Def as DefFormula, Sel as SelFormula, no_formulas, with_formula}
 use Rattle.ct_names.specs.declared.operator.CoreOperator.{CoreOperator}
 use Rattle.ct_names.specs.declared.operator.CoreOperator.TheVariants.{Not, And, Or, Xor, Implies, Equal, Distinct, Ite}
 

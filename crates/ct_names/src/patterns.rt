@@ -22,9 +22,9 @@ use crate::refusals::{
 use crate::repeats::has_repeated;
 use crate::symbols::{ctor_fields, ctor_named};
 use crate::variables::BoundVariable;
+use ct_formulas::Pattern;
 use ct_sexpr::Sexpr;
 use ct_sorts::{CtorId, Kind, Signature, SortId};
-use ct_terms::Pattern;
 use std::alloc::Global;
 
 /// What the expression, which has the form of a pattern, fits and binds, against values of the

@@ -1,6 +1,6 @@
 //! The variables in scope as a stack, with the position of the innermost of each name.
 ghost use Rattle.std.specs.Prelude.{◌≡◌, ◌∷◌, [], List, ℕ, map, drop, option_map, if◌then◌else◌, IfOk, IfErr, OnOk, OnErr};
-ghost use Rattle.ct_terms.specs.Formula.{bind};
+ghost use Rattle.ct_formulas.specs.Formula.{bind};
 ghost use Rattle.ct_names.specs.Variables.{find, is_named};
 ghost use Rattle.ct_names.specs.Bounds.{variable_of, held_name};
 ghost use Rattle.ct_names.specs.Stack.{stored_position, stored_position_at, flat, HasNoPosition};
@@ -45,7 +45,7 @@ impl<'e> Model for Variables<'e> {
 
     ghost Value = { List Variable };
 
-    ghost use Rattle.ct_terms.specs.Formula.{bind};
+    ghost use Rattle.ct_formulas.specs.Formula.{bind};
     ghost use Rattle.ct_names.specs.Stack.{variables_of, IsStack};
 
     ghost view = { λ s. variables_of (bind s.entries.items []) };

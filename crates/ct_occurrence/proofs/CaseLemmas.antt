@@ -1,10 +1,10 @@
 -- Cases of a tree, and the cases of the formula.
 use Rattle.std.proofs.Common.{◌≡◌, ◌==◌, suc, Bool, true, false, List, [], ◌∷◌, length, refl, sym, ap, ap₂, ◌∙◌, arith}
 use Rattle.std.proofs.lemmas.Bool.Decides.{Decides-eqb}
-use Rattle.ct_terms.specs.declared.tree.Pattern.{Pattern}
-use Rattle.ct_terms.specs.declared.tree.Case.{Case}
-use Rattle.ct_terms.specs.Formula.{Formula, with_case}
-use Rattle.ct_terms.specs.Compiled.{are_none}
+use Rattle.ct_formulas.specs.declared.tree.Pattern.{Pattern}
+use Rattle.ct_formulas.specs.declared.tree.Case.{Case}
+use Rattle.ct_formulas.specs.Formula.{Formula, with_case}
+use Rattle.ct_formulas.specs.Compiled.{are_none}
 use Rattle.ct_occurrence.specs.CaseFormula.{case_of, cases_of_trees}
 
 pub cases_is : (cases rest : List Case) (case : Case) (p : Pattern) (body : Formula) → cases ≡ case ∷ rest → p ≡ (case_of case).0 → body ≡ (case_of case).1 → cases_of_trees cases ≡ with_case p body (cases_of_trees rest)

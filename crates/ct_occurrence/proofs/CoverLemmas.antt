@@ -1,15 +1,16 @@
 -- Which constructors of a sort have cases: cases of too few constructors leave one out.
-use Rattle.std.proofs.Common.{◌≡◌, ℕ, zero, suc, ◌+◌, ◌<◌, ◌≤◌, ◌⊎◌, inl, inr, Bool, true, false, true≢false, cond, ◌||◌, ◌&&◌, ◌==◌, List, [], ◌∷◌, ◌++◌, length, reverse, Option, Some, None, option_map, slice_get, refl, sym, ap, subst, ◌∙◌, arith}
+use Rattle.std.proofs.Common.{◌≡◌, ℕ, zero, suc, ◌+◌, ◌<◌, ◌≤◌, inl, inr, Bool, true, false, true≢false, cond, ◌||◌, ◌==◌, List, [], ◌∷◌, ◌++◌, length, reverse, Option, Some, None, option_map, slice_get, refl, sym, ap, subst, ◌∙◌, arith}
 use Rattle.std.specs.List.{AllByRecursion, IsDistinct, list_all, flat_map}
 use Rattle.std.specs.Set.{is_member, unique_keys}
 use Rattle.std.proofs.lemmas.Bool.{ne_eqb}
 use Rattle.std.proofs.lemmas.Map.Made.{length-le_from_is_member}
 use Rattle.std.proofs.lemmas.Map.Steps.{list_any_congr}
 use Rattle.std.proofs.lemmas.Option.{none-some, same_Some}
+use Rattle.ct_lemmas.proofs.Booleans.{both_parts, not_true, or_cases}
 use Rattle.ct_sorts.specs.declared.ids.CtorId.{CtorId}
 use Rattle.ct_sorts.specs.Declarations.{Declarations, Sort, ctor_ids}
 use Rattle.ct_sorts.specs.Consistent.{IsConsistent}
-use Rattle.ct_terms.specs.Compiled.{is_among}
+use Rattle.ct_formulas.specs.Compiled.{is_among}
 use Rattle.ct_occurrence.specs.Earlier.{same_ctor, distinct_ctors}
 use Rattle.ct_occurrence.proofs.EarlierLemmas.{same_equiv, among_is_member}
 use Rattle.ct_occurrence.proofs.FlagLemmas.{among_reversed}
@@ -60,19 +61,11 @@ covered earlier c k = (k.0 == c.0) || is_among earlier k
 member_by : (earlier : List CtorId) (c k q : CtorId) → same_ctor q k ≡ true → covered earlier c k ≡ true → is_member same_ctor (c ∷ earlier) q ≡ true
 member_by earlier c k q e h = list_any_congr same_equiv q k (c ∷ earlier) e ∙ (sym (ap (λ (x : Bool). (k.0 == c.0) || x) (among_is_member earlier k)) ∙ h)
 
-both_true : (a b : Bool) → (a && b) ≡ true → (a ≡ true) × (b ≡ true)
-both_true true b h = (refl, h)
-both_true false b h = absurd (true≢false (sym h))
-
-one_true : (a b : Bool) → (a || b) ≡ true → (a ≡ true) ⊎ (b ≡ true)
-one_true true b h = inl refl
-one_true false b h = inr h
-
 members : (earlier : List CtorId) (c : CtorId) (all : List CtorId) → list_all (covered earlier c) all ≡ true → (q : CtorId) → is_member same_ctor all q ≡ true → is_member same_ctor (c ∷ earlier) q ≡ true
 members earlier c [] h q m = absurd (true≢false (sym m))
 members earlier c (k ∷ ks) h q m =
-    let parts = both_true (covered earlier c k) (list_all (covered earlier c) ks) h in
-    elim (one_true (same_ctor q k) (is_member same_ctor ks q) m) [
+    let parts = both_parts (covered earlier c k) (list_all (covered earlier c) ks) h in
+    elim (or_cases (same_ctor q k) (is_member same_ctor ks q) m) [
       | inl here ↦ member_by earlier c k q here parts.0
       | inr later ↦ members earlier c ks parts.1 q later
     ]
@@ -96,10 +89,6 @@ in-unique (c ∷ cs) q h = by (is_member same_ctor cs c) (same_ctor q c) refl re
 -- a list without repetitions is at most as long as one in which all its constructors stand has distinct ones
 most_distinct : (all cs : List CtorId) → IsDistinct same_ctor all → ((q : CtorId) → is_member same_ctor all q ≡ true → is_member same_ctor cs q ≡ true) → length all ≤ distinct_ctors cs
 most_distinct all cs d h = length-le_from_is_member same_equiv all (unique_keys same_ctor cs) d (λ q m. in-unique cs q (h q m))
-
-not_true : (b : Bool) → (b ≡ true → ⊥) → b ≡ false
-not_true true h = absurd (h refl)
-not_true false h = refl
 
 -- where the cases are of fewer constructors than the sort has, some constructor has none
 pub too_few : (d : Declarations) (s : ℕ) (all earlier : List CtorId) (c : CtorId) → IsConsistent d → option_map (λ (x : Sort). x.ctors) (slice_get d.sorts s) ≡ Some all → distinct_ctors (c ∷ earlier) < length all → list_all (covered (reverse earlier) c) all ≡ false

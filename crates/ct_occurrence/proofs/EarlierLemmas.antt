@@ -6,7 +6,7 @@ use Rattle.std.proofs.lemmas.Cmp.{nat_eq_equiv, on_equiv}
 use Rattle.std.proofs.lemmas.Map.Made.{hash_set_len-from_list}
 use Rattle.indexmap.specs.IndexSet.{IndexSet, contains, index_set_len}
 use Rattle.ct_sorts.specs.declared.ids.CtorId.{CtorId}
-use Rattle.ct_terms.specs.Compiled.{is_among}
+use Rattle.ct_formulas.specs.Compiled.{is_among}
 use Rattle.ct_occurrence.specs.Earlier.{same_ctor, distinct_ctors, IsSetOf}
 
 pub same_equiv : IsEquivalence same_ctor

@@ -1,35 +1,29 @@
 -- One flag that is set, and which case surely fits.
-use Rattle.std.proofs.Common.{◌≡◌, ℕ, zero, suc, ◌+◌, ◌≤◌, Bool, true, false, ◌||◌, ◌==◌, List, [], ◌∷◌, length, reverse, set, Option, Some, None, option_map, unwrap_or, slice_get, refl, sym, ap, ap₂, ◌∙◌, arith}
+use Rattle.std.proofs.Common.{◌≡◌, ℕ, zero, suc, ◌+◌, ◌≤◌, Bool, true, ◌||◌, ◌==◌, List, [], ◌∷◌, length, reverse, set, Option, Some, None, option_map, unwrap_or, slice_get, refl, sym, ap, ap₂, ◌∙◌, arith}
 use Rattle.std.proofs.lemmas.Option.{same_Some}
 use Rattle.std.proofs.lemmas.Bool.{ne_eqb, eq-eqb}
 use Rattle.std.proofs.lemmas.List.Sorted.{list_any-IsPermutation, IsPermutation-reverse}
+use Rattle.ct_lemmas.proofs.Booleans.{or_false, or_true}
 use Rattle.ct_sorts.specs.declared.ids.CtorId.{CtorId}
 use Rattle.ct_sorts.specs.declared.ids.SortId.{SortId}
 use Rattle.ct_sorts.specs.Declarations.{Declarations, Sort, Constructor}
-use Rattle.ct_terms.specs.Compiled.{ctor_ids_of_sort, siblings, is_among}
+use Rattle.ct_terms.specs.Fields.{ctor_ids_of_sort}
+use Rattle.ct_formulas.specs.Compiled.{siblings, is_among}
 use Rattle.ct_occurrence.specs.Marks.{mark_each}
-
-or_none : (b : Bool) → (b || false) ≡ b
-or_none true = refl
-or_none false = refl
-
-or_all : (b : Bool) → (b || true) ≡ true
-or_all true = refl
-or_all false = refl
 
 -- a variable that has no flag
 pub marked_outside : (i : ℕ) (bs : List Bool) → length bs ≤ i → mark_each (λ k. i == k) bs ≡ bs
 marked_outside i [] h = refl
 marked_outside i (b ∷ bs) h =
-    ap₂ (λ (x : Bool) (xs : List Bool). x ∷ xs) (ap (λ (x : Bool). b || x) (ne_eqb i (length bs) (λ e. omega (arith, h, e))) ∙ or_none b) (marked_outside i bs (omega (arith, h)))
+    ap₂ (λ (x : Bool) (xs : List Bool). x ∷ xs) (ap (λ (x : Bool). b || x) (ne_eqb i (length bs) (λ e. omega (arith, h, e))) ∙ or_false b) (marked_outside i bs (omega (arith, h)))
 
 -- a variable that has one: its place is counted from the end
 pub marked_one : (i place : ℕ) (bs : List Bool) → suc (place + i) ≡ length bs → mark_each (λ k. i == k) bs ≡ set bs place true
 marked_one i place [] h = absurd (omega (arith, h))
 marked_one i zero (b ∷ bs) h =
-    ap₂ (λ (x : Bool) (xs : List Bool). x ∷ xs) (ap (λ (x : Bool). b || x) (eq-eqb i (length bs) (omega (arith, h))) ∙ or_all b) (marked_outside i bs (omega (arith, h)))
+    ap₂ (λ (x : Bool) (xs : List Bool). x ∷ xs) (ap (λ (x : Bool). b || x) (eq-eqb i (length bs) (omega (arith, h))) ∙ or_true b) (marked_outside i bs (omega (arith, h)))
 marked_one i (suc place) (b ∷ bs) h =
-    ap₂ (λ (x : Bool) (xs : List Bool). x ∷ xs) (ap (λ (x : Bool). b || x) (ne_eqb i (length bs) (λ e. omega (arith, h, e))) ∙ or_none b) (marked_one i place bs (omega (arith, h)))
+    ap₂ (λ (x : Bool) (xs : List Bool). x ∷ xs) (ap (λ (x : Bool). b || x) (ne_eqb i (length bs) (λ e. omega (arith, h, e))) ∙ or_false b) (marked_one i place bs (omega (arith, h)))
 
 -- ---- constructors of one sort
 

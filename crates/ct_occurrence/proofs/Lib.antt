@@ -9,8 +9,11 @@ mod WorkingLemmas
 mod MarkedCases
 mod CaseLemmas
 mod OperandLemmas
-mod RestLemmas
 mod DefinitionLemmas
 mod NoteLemmas
 mod UnderWayLemmas
 mod SizeLemmas
+mod ReachLemmas
+mod CallLemmas
+mod MeaningLemmas
+mod CoreLemmas

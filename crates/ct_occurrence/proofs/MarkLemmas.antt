@@ -1,20 +1,13 @@
 -- Flags of variables, step by step.
 use Rattle.std.proofs.Common.{◌≡◌, ℕ, zero, suc, ◌+◌, Bool, true, false, ◌||◌, List, [], ◌∷◌, ◌++◌, length, replicate, refl, sym, ap, ap₂, ◌∙◌, true≢false}
 use Rattle.std.proofs.lemmas.List.{length-append}
+use Rattle.ct_lemmas.proofs.Booleans.{or_assoc, or_false}
 use Rattle.ct_sorts.specs.declared.ids.DefId.{DefId}
 use Rattle.ct_sorts.specs.Declarations.{Declarations}
-use Rattle.ct_terms.specs.Formula.{Formula, Var, Con, Sel, Test, Apply, Def, Not, And, Or, Xor, Implies, Equal, Distinct, Ite, Let, Match}
-use Rattle.ct_terms.specs.Occurrence.{occurs, occurs_in_some}
+use Rattle.ct_formulas.specs.Formula.{Formula, Var, Con, Sel, Test, Apply, Def, Not, And, Or, Xor, Implies, Equal, Distinct, Ite, Let, Match}
+use Rattle.ct_formulas.specs.Occurrence.{occurs, occurs_in_some}
 use Rattle.ct_occurrence.specs.Plain.{is_plain, formulas_under}
 use Rattle.ct_occurrence.specs.Marks.{flags_below, mark_each}
-
-or_assoc : (a b c : Bool) → ((a || b) || c) ≡ (a || (b || c))
-or_assoc true b c = refl
-or_assoc false b c = refl
-
-or_none : (b : Bool) → (b || false) ≡ b
-or_none true = refl
-or_none false = refl
 
 pub or_swapped : (a b : Bool) → (a || b) ≡ (b || a)
 or_swapped true true = refl
@@ -42,7 +35,7 @@ marked_then p q (b ∷ bs) =
 -- no test
 pub marked_none : (bs : List Bool) → mark_each (λ i. false) bs ≡ bs
 marked_none [] = refl
-marked_none (b ∷ bs) = ap₂ (λ (x : Bool) (xs : List Bool). x ∷ xs) (or_none b) (marked_none bs)
+marked_none (b ∷ bs) = ap₂ (λ (x : Bool) (xs : List Bool). x ∷ xs) (or_false b) (marked_none bs)
 
 -- flags of outer variables, and of a binder's
 pub marked_append : (p : ℕ → Bool) (xs ys : List Bool) → mark_each p (xs ++ ys) ≡ mark_each (λ i. p (i + length ys)) xs ++ mark_each p ys
@@ -61,10 +54,10 @@ listed_marked p (suc n) = ap₂ (λ (b : Bool) (bs : List Bool). b ∷ bs) (ap p
 -- what occurs in an operator occurs under it
 pub plain_occurs_same : (d : Declarations) (uses : DefId → ℕ → Bool) (t : Formula) → is_plain t ≡ true → (i : ℕ) → occurs_in_some d uses (formulas_under t) i ≡ occurs d uses t i
 plain_occurs_same d uses (Con c ts) plain i = refl
-plain_occurs_same d uses (Sel s t) plain i = or_none (occurs d uses t i)
-plain_occurs_same d uses (Test c t) plain i = or_none (occurs d uses t i)
+plain_occurs_same d uses (Sel s t) plain i = or_false (occurs d uses t i)
+plain_occurs_same d uses (Test c t) plain i = or_false (occurs d uses t i)
 plain_occurs_same d uses (Apply f ts) plain i = refl
-plain_occurs_same d uses (Not t) plain i = or_none (occurs d uses t i)
+plain_occurs_same d uses (Not t) plain i = or_false (occurs d uses t i)
 plain_occurs_same d uses (And ts) plain i = refl
 plain_occurs_same d uses (Or ts) plain i = refl
 plain_occurs_same d uses (Xor ts) plain i = refl

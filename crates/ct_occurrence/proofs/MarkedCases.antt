@@ -2,14 +2,15 @@
 use Rattle.std.proofs.Common.{◌≡◌, ℕ, ◌+◌, ◌≤◌, Bool, true, false, ◌||◌, List, [], ◌∷◌, ◌++◌, Some, None, if◌then◌else◌, refl, sym, ap, subst, ◌∙◌, arith}
 use Rattle.std.proofs.lemmas.Option.{none-some, same_Some}
 use Rattle.std.proofs.lemmas.List.{append_assoc, append-nil}
+use Rattle.ct_lemmas.proofs.Booleans.{or_false, or_true}
 use Rattle.ct_sorts.specs.declared.ids.CtorId.{CtorId}
 use Rattle.ct_sorts.specs.declared.ids.DefId.{DefId}
 use Rattle.ct_sorts.specs.Declarations.{Declarations}
-use Rattle.ct_terms.specs.declared.tree.Pattern.{Pattern}
-use Rattle.ct_terms.specs.declared.tree.Pattern.TheVariants.{Ctor, Any}
-use Rattle.ct_terms.specs.Formula.{Formula, Cases, no_cases, with_case}
-use Rattle.ct_terms.specs.Compiled.{surely_fits, are_none}
-use Rattle.ct_terms.specs.Occurrence.{occurs, matched_occurs, occurs_in_cases}
+use Rattle.ct_formulas.specs.declared.tree.Pattern.{Pattern}
+use Rattle.ct_formulas.specs.declared.tree.Pattern.TheVariants.{Ctor, Any}
+use Rattle.ct_formulas.specs.Formula.{Formula, Cases, no_cases, with_case}
+use Rattle.ct_formulas.specs.Compiled.{surely_fits, are_none}
+use Rattle.ct_formulas.specs.Occurrence.{occurs, matched_occurs, occurs_in_cases}
 use Rattle.ct_occurrence.specs.declared.notes.Notes.{Notes}
 use Rattle.ct_occurrence.specs.Marks.{flags_below, mark_each, has_set, pattern_variable_count, Rows, MayMark, MayMarkCases}
 use Rattle.ct_occurrence.specs.Matching.{tested_by, IsPatternDeclared}
@@ -18,14 +19,6 @@ use Rattle.ct_occurrence.proofs.Size.{size, case_sizes}
 use Rattle.ct_occurrence.proofs.MarkLemmas.{marked_none}
 use Rattle.ct_occurrence.proofs.MayLemmas.{may_case, may_later, matched_last, marks_last, matched_more, marks_more, matched_any, marks_any}
 use Rattle.ct_occurrence.proofs.NoteLemmas.{cases_last, cases_more}
-
-or_true : (b : Bool) → (b || true) ≡ true
-or_true true = refl
-or_true false = refl
-
-or_false : (b : Bool) → (b || false) ≡ b
-or_false true = refl
-or_false false = refl
 
 -- a test that chooses
 chosen_none : (b : Bool) (k : CtorId) → (if b then None else Some k) ≡ None → b ≡ true

@@ -5,19 +5,19 @@ use Rattle.ct_sorts.specs.declared.ids.CtorId.{CtorId}
 use Rattle.ct_sorts.specs.declared.ids.DefId.{DefId}
 use Rattle.ct_sorts.specs.declared.ids.SortId.{SortId}
 use Rattle.ct_sorts.specs.Declarations.{Declarations, IsConstructor, bool_sort}
-use Rattle.ct_terms.specs.declared.tree.Pattern.{Pattern}
-use Rattle.ct_terms.specs.declared.tree.Pattern.TheVariants.{Ctor, Any}
-use Rattle.ct_terms.specs.Formula.{Formula, Formulas, Cases, Var, Con, Sel, Test, Apply, Def, Not, And, Or, Xor, Implies, Equal, Distinct, Ite, Let, Match, no_formulas, with_formula, with_case, bind}
-use Rattle.ct_terms.specs.FormulaSorts.{IsSorted, AllSorted}
-use Rattle.ct_terms.specs.Compiled.{surely_fits, are_none}
-use Rattle.ct_terms.specs.Occurrence.{count_of, field_count, any_below, occurs, occurs_in_some, occurs_in_bound, matched_occurs, occurs_in_cases}
+use Rattle.ct_formulas.specs.declared.tree.Pattern.{Pattern}
+use Rattle.ct_formulas.specs.declared.tree.Pattern.TheVariants.{Ctor, Any}
+use Rattle.ct_formulas.specs.Formula.{Formula, Formulas, Cases, Var, Con, Sel, Test, Apply, Def, Not, And, Or, Xor, Implies, Equal, Distinct, Ite, Let, Match, no_formulas, with_formula, with_case, bind}
+use Rattle.ct_formulas.specs.FormulaSorts.{IsSorted, AllSorted}
+use Rattle.ct_formulas.specs.Compiled.{surely_fits, are_none}
+use Rattle.ct_formulas.specs.Occurrence.{count_of, field_count, any_below, occurs, occurs_in_some, occurs_in_bound, matched_occurs, occurs_in_cases}
 use Rattle.ct_occurrence.specs.Plain.{is_plain, formulas_under}
 use Rattle.ct_occurrence.proofs.Size.{size, sizes}
 use Rattle.ct_occurrence.specs.Calls.{CallsAre, AllCallsAre}
 use Rattle.ct_occurrence.specs.Marks.{flags_below, mark_each, has_set, Rows, row_in, IsKnown, MayMark, MayMarkAll, MayMarkCases}
 use Rattle.ct_occurrence.proofs.OperandLemmas.{plain_sorted, plain_mentions}
-use Rattle.ct_terms.specs.declared.tree.Tree.{Tree}
-use Rattle.ct_terms.specs.TreeFormula.{formulas_of_trees}
+use Rattle.ct_formulas.specs.declared.tree.Tree.{Tree}
+use Rattle.ct_formulas.specs.TreeFormula.{formulas_of_trees}
 use Rattle.std.proofs.Math.Seq.{take-append_seam, drop-append_seam}
 use Rattle.std.proofs.lemmas.List.{length-append}
 use Rattle.ct_occurrence.proofs.MarkLemmas.{or_swapped, marked_same, marked_then, marked_none, marked_append, marked_length, listed_marked, plain_occurs_same}
@@ -312,11 +312,6 @@ module _ (p : ℕ → Bool) (count : ℕ) (first added later : List Bool) (adds 
 pub ok_then : {T E : Type 0} (r : Result T E) (x y z : List Bool) → y ≡ z → OnOk r (x ≡ y) → OnOk r (x ≡ z)
 ok_then (Ok v) x y z e h = h ∙ e
 ok_then (Err v) x y z e h = tt
-
--- a list without elements
-pub nothing_left : {X : Type 0} (xs : List X) → length xs < 1 → xs ≡ []
-nothing_left [] h = refl
-nothing_left (x ∷ xs) h = absurd (omega (arith, h))
 
 pub counted : (ts : List Tree) → count_of (formulas_of_trees ts) ≡ length ts
 counted [] = refl

@@ -1,18 +1,13 @@
 -- The definitions that a formula names, from those that the formulas under it name.
-use Rattle.std.proofs.Common.{Result, Ok, Err, OnOk, ◌≡◌, ℕ, ◌<◌, ◌≤◌, Bool, true, List, [], ◌∷◌, ◌++◌, Contains, sym, subst, inl, inr, arith}
+use Rattle.std.proofs.Common.{◌≡◌, ℕ, ◌<◌, ◌≤◌, Bool, true, List, [], ◌∷◌, ◌++◌, Contains, sym, subst, inl, inr, arith}
 use Rattle.std.proofs.lemmas.List.Elements.{Contains-append_left, Contains-push, Contains-push_cases}
 use Rattle.ct_sorts.specs.declared.ids.DefId.{DefId}
-use Rattle.ct_terms.specs.declared.tree.Pattern.{Pattern}
-use Rattle.ct_terms.specs.Formula.{Formula, Formulas, Cases, Var, Con, Sel, Test, Apply, Def, Not, And, Or, Xor, Implies, Equal, Distinct, Ite, Let, Match, no_formulas, with_formula, no_cases, with_case, MentionsBelow, AllMentionBelow, CasesMentionBelow}
+use Rattle.ct_formulas.specs.declared.tree.Pattern.{Pattern}
+use Rattle.ct_formulas.specs.Formula.{Formula, Formulas, Cases, Var, Con, Sel, Test, Apply, Def, Not, And, Or, Xor, Implies, Equal, Distinct, Ite, Let, Match, no_formulas, with_formula, no_cases, with_case, MentionsBelow, AllMentionBelow, CasesMentionBelow}
 use Rattle.ct_occurrence.specs.Calls.{CallsAre, AllCallsAre, CaseCallsAre, AllPass, AddsNamed, AddsAllNamed, AddsCaseNamed}
 use Rattle.ct_occurrence.specs.Plain.{is_plain, formulas_under}
 use Rattle.ct_occurrence.proofs.Size.{size, sizes, case_sizes}
 use Rattle.ct_occurrence.proofs.MayLemmas.{plain_calls}
-
--- a clause on an answer that is no error
-pub ok_so : {X E : Type 0} (r : Result X E) (P Q : Type 0) → (P → Q) → OnOk r P → OnOk r Q
-ok_so (Ok x) P Q f h = f h
-ok_so (Err e) P Q f h = tt
 
 -- where every definition that is such is also such another
 module _ (P Q : DefId → Type 0) (more : (k : DefId) → P k → Q k) where

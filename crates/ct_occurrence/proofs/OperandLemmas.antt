@@ -2,8 +2,8 @@
 use Rattle.std.proofs.Common.{◌≡◌, ℕ, true, List, [], ◌∷◌, sym, true≢false}
 use Rattle.ct_sorts.specs.declared.ids.SortId.{SortId}
 use Rattle.ct_sorts.specs.Declarations.{Declarations, bool_sort}
-use Rattle.ct_terms.specs.Formula.{Formula, Formulas, Var, Con, Sel, Test, Apply, Def, Not, And, Or, Xor, Implies, Equal, Distinct, Ite, Let, Match, no_formulas, with_formula, MentionsBelow, AllMentionBelow}
-use Rattle.ct_terms.specs.FormulaSorts.{IsSorted, AllSorted, AreOfSort}
+use Rattle.ct_formulas.specs.Formula.{Formula, Formulas, Var, Con, Sel, Test, Apply, Def, Not, And, Or, Xor, Implies, Equal, Distinct, Ite, Let, Match, no_formulas, with_formula, MentionsBelow, AllMentionBelow}
+use Rattle.ct_formulas.specs.FormulaSorts.{IsSorted, AllSorted, AreOfSort}
 use Rattle.ct_occurrence.specs.Plain.{is_plain, formulas_under}
 
 pub each_sorted : (d : Declarations) (env : List SortId) (ts : Formulas) (side : SortId) → AreOfSort d env ts side → (each : List SortId) × AllSorted d env ts each

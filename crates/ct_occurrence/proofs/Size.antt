@@ -1,6 +1,6 @@
 -- How large a formula is: a bound for recursion over it.
 use Rattle.std.specs.Prelude.{ℕ, ◌+◌}
-use Rattle.ct_terms.specs.Formula.{Formula, Formulas, Cases, Var, Con, Sel, Test, Apply, Def, Not, And, Or, Xor, Implies, Equal, Distinct, Ite, Let, Match, no_formulas, with_formula, no_cases, with_case}
+use Rattle.ct_formulas.specs.Formula.{Formula, Formulas, Cases, Var, Con, Sel, Test, Apply, Def, Not, And, Or, Xor, Implies, Equal, Distinct, Ite, Let, Match, no_formulas, with_formula, no_cases, with_case}
 
 abbrev mutual
   -- the size of a formula

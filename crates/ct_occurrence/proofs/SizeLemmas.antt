@@ -1,7 +1,7 @@
 -- The sizes of the first of several formulas and of the others.
 use Rattle.std.proofs.Common.{ℕ, ◌<◌, ◌≤◌, arith}
-use Rattle.ct_terms.specs.declared.tree.Pattern.{Pattern}
-use Rattle.ct_terms.specs.Formula.{Formula, Formulas, Cases, with_formula, with_case}
+use Rattle.ct_formulas.specs.declared.tree.Pattern.{Pattern}
+use Rattle.ct_formulas.specs.Formula.{Formula, Formulas, Cases, with_formula, with_case}
 use Rattle.ct_occurrence.proofs.Size.{size, sizes, case_sizes}
 
 pub first_size : (t : Formula) (ts : Formulas) (n : ℕ) → sizes (with_formula t ts) ≤ n → (size t < n) × (sizes ts ≤ n)

@@ -4,31 +4,22 @@ use Rattle.std.specs.Bool.{OnTrue, OnFalse}
 use Rattle.std.proofs.lemmas.Bool.Decides.{Decides-eqb}
 use Rattle.std.proofs.lemmas.Option.{same_Some, slice_get_within}
 use Rattle.std.proofs.lemmas.List.Elements.{Contains-append_left, Contains-push, Contains-push_cases}
+use Rattle.ct_lemmas.proofs.Contained.{Contains-cons, Contains-first, Contains-rest}
+use Rattle.ct_lemmas.proofs.Numbers.{not_same_number, same_number}
 use Rattle.ct_sorts.specs.declared.ids.DefId.{DefId}
 use Rattle.ct_sorts.specs.Declarations.{Declarations}
-use Rattle.ct_terms.specs.Formula.{Formula}
+use Rattle.ct_formulas.specs.Formula.{Formula}
 use Rattle.ct_occurrence.specs.declared.definitions.Worked.{Worked}
 use Rattle.ct_occurrence.specs.declared.under_way.Frame.{Frame}
 use Rattle.ct_occurrence.specs.Calls.{CallsAre, AreBelow}
 use Rattle.ct_occurrence.specs.Marks.{Rows, IsKnown}
 use Rattle.ct_occurrence.specs.Working.{AreRight, StayKnown}
 use Rattle.ct_occurrence.specs.UnderWay.{IsFrame, BeginsBody, AreLeftOut, Descend, AreFramesUnderWay, IsWorkedOrWaits, count_unless_worked, work_left_below, top, IsWorkStep}
-use Rattle.ct_occurrence.proofs.DefinitionLemmas.{same_number, other_number}
 use Rattle.ct_occurrence.proofs.NameLemmas.{calls_more}
 use Rattle.ct_occurrence.proofs.WorkingLemmas.{same_id}
 
 none_contained : {X : Type 0} {P : Type 0} (x : X) → Contains [] x → P
 none_contained x h = absurd (omega (arith, h.1))
-
-one_contained : {X : Type 0} (x : X) (xs : List X) → Contains (x ∷ xs) x
-one_contained x xs = (0, omega arith, refl)
-
-more_contained : {X : Type 0} (y : X) (xs : List X) (x : X) → Contains xs x → Contains (y ∷ xs) x
-more_contained y xs x h = (suc h.0, omega (arith, h.1), h.2)
-
-first_or_more : {X : Type 0} (y : X) (ys : List X) (x : X) → Contains (y ∷ ys) x → (y ≡ x) ⊎ Contains ys x
-first_or_more y ys x (zero, inside, e) = inl e
-first_or_more y ys x (suc n, inside, e) = inr (n, omega (arith, inside), e)
 
 -- what a test says where it came out so
 pub on_true : (b : Bool) (P : Type 0) → b ≡ true → OnTrue b P → P
@@ -46,9 +37,9 @@ descend_push [] x h less = (λ g i. none_contained g i, tt)
 descend_push (f ∷ fs) x h less = (
   λ g i. elim (Contains-push_cases fs x g i) [
     | inl before ↦ h.0 g before
-    | inr one ↦ subst (λ (y : Frame). y.definition.0 < f.definition.0) one (less f (one_contained f fs))
+    | inr one ↦ subst (λ (y : Frame). y.definition.0 < f.definition.0) one (less f (Contains-first f fs))
   ],
-  descend_push fs x h.1 (λ g i. less g (more_contained f fs g i)),
+  descend_push fs x h.1 (λ g i. less g (Contains-rest f fs g i)),
 )
 
 descend_first : (fs : List Frame) (x : Frame) → Descend (fs ++ x ∷ []) → Descend fs
@@ -57,7 +48,7 @@ descend_first (f ∷ fs) x h = (λ g i. h.0 g (Contains-append_left fs (x ∷ []
 
 descend_last : (fs : List Frame) (x : Frame) → Descend (fs ++ x ∷ []) → (f : Frame) → Contains fs f → x.definition.0 < f.definition.0
 descend_last [] x h f i = none_contained f i
-descend_last (g ∷ fs) x h f i = elim (first_or_more g fs f i) [
+descend_last (g ∷ fs) x h f i = elim (Contains-cons g fs f i) [
   | inl one ↦ subst (λ (y : Frame). x.definition.0 < y.definition.0) one (h.0 x (Contains-push fs x))
   | inr more ↦ descend_last fs x h.1 f more
 ]
@@ -69,8 +60,8 @@ top_push (f ∷ (g ∷ fs)) x = top_push (g ∷ fs) x
 
 top_within : (fs : List Frame) (n : ℕ) → ((f : Frame) → Contains fs f → f.definition.0 < n) → top fs ≤ n
 top_within [] n h = omega arith
-top_within (f ∷ []) n h = let k = h f (one_contained f []) in omega (arith, k)
-top_within (f ∷ (g ∷ fs)) n h = top_within (g ∷ fs) n (λ x i. h x (more_contained f (g ∷ fs) x i))
+top_within (f ∷ []) n h = let k = h f (Contains-first f []) in omega (arith, k)
+top_within (f ∷ (g ∷ fs)) n h = top_within (g ∷ fs) n (λ x i. h x (Contains-rest f (g ∷ fs) x i))
 
 -- ---- one definition is worked out
 
@@ -112,7 +103,7 @@ module _ (old new : Rows) (k : DefId) (w : Worked) (only : (j : DefId) → new j
           let rest = room_same each n (omega (arith, number)) in
           omega (arith, before, after, rest)
       by false e =
-          let differ = other_number k.0 n e in
+          let differ = not_same_number k.0 n e in
           let one : count_unless_worked each (new last) ≡ count_unless_worked each (old last) = ap (count_unless_worked each) (there last differ) in
           let rest = smaller (omega (arith, h, differ)) in
           omega (arith, one, rest)
@@ -145,13 +136,13 @@ module _ (d : Declarations) (bodies : List Formula) where
   first_waits rows k f none stack empty is right begins unknown = subst (λ (fs : List Frame). AreFramesUnderWay d bodies rows fs × IsWorkedOrWaits rows fs k) (sym (is ∙ ap (λ (fs : List Frame). fs ++ f ∷ []) empty)) (
     record {
       right = right;
-      frames = λ g i. elim (first_or_more f [] g i) [
+      frames = λ g i. elim (Contains-cons f [] g i) [
         | inl one ↦ subst (IsFrame bodies rows) one (begins_waits rows k f begins unknown)
         | inr more ↦ none_contained g more
       ];
       descend = (λ g i. none_contained g i, tt);
     },
-    inr (f, one_contained f [], begins.definition_is),
+    inr (f, Contains-first f [], begins.definition_is),
   )
 
   -- the last one waits for another

@@ -9,12 +9,12 @@ use Rattle.ct_sorts.specs.declared.ids.CtorId.{CtorId}
 use Rattle.ct_sorts.specs.declared.ids.DefId.{DefId}
 use Rattle.ct_sorts.specs.declared.ids.SortId.{SortId}
 use Rattle.ct_sorts.specs.Declarations.{Declarations, Function}
-use Rattle.ct_terms.specs.declared.tree.Pattern.TheVariants.{Ctor, Any}
-use Rattle.ct_terms.specs.Formula.{Formula, Formulas, Cases, Var, Con, Sel, Test, Apply, Def, Not, And, Or, Xor, Implies, Equal, Distinct, Ite, Let, Match, no_formulas, with_formula, no_cases, with_case, bind}
-use Rattle.ct_terms.specs.declared.tree.Tree.{Tree}
-use Rattle.ct_terms.specs.TreeFormula.{formula_of}
-use Rattle.ct_terms.specs.FormulaSorts.{AreSound}
-use Rattle.ct_terms.specs.Occurrence.{count_of, occurs, uses_below}
+use Rattle.ct_formulas.specs.declared.tree.Pattern.TheVariants.{Ctor, Any}
+use Rattle.ct_formulas.specs.Formula.{Formula, Formulas, Cases, Var, Con, Sel, Test, Apply, Def, Not, And, Or, Xor, Implies, Equal, Distinct, Ite, Let, Match, no_formulas, with_formula, no_cases, with_case, bind}
+use Rattle.ct_formulas.specs.declared.tree.Tree.{Tree}
+use Rattle.ct_formulas.specs.TreeFormula.{formula_of}
+use Rattle.ct_formulas.specs.FormulaSorts.{AreSound}
+use Rattle.ct_formulas.specs.Occurrence.{count_of, occurs, uses_below}
 use Rattle.ct_occurrence.specs.declared.definitions.Worked.{Worked}
 use Rattle.ct_occurrence.specs.declared.notes.Notes.{Notes}
 use Rattle.ct_occurrence.specs.Calls.{CallsAre, AreBelow, AllPass, AddsNamed}

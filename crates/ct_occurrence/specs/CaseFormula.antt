@@ -1,10 +1,10 @@
 -- The cases of a formula that cases of a tree stand for.
 use Rattle.std.specs.Prelude.{List, map}
-use Rattle.ct_terms.specs.declared.tree.Pattern.{Pattern}
-use Rattle.ct_terms.specs.declared.tree.Case.{Case}
-use Rattle.ct_terms.specs.declared.tree.Tree.TheFolds.{fold-Case}
-use Rattle.ct_terms.specs.Formula.{Formula, Cases}
-use Rattle.ct_terms.specs.TreeFormula.{cases_of, case_layer, formula_layer}
+use Rattle.ct_formulas.specs.declared.tree.Pattern.{Pattern}
+use Rattle.ct_formulas.specs.declared.tree.Case.{Case}
+use Rattle.ct_formulas.specs.declared.tree.Tree.TheFolds.{fold-Case}
+use Rattle.ct_formulas.specs.Formula.{Formula, Cases}
+use Rattle.ct_formulas.specs.TreeFormula.{cases_of, case_layer, formula_layer}
 
 -- the pattern of a case, and the formula of its body
 abbrev pub case_of : Case → Pattern × Formula

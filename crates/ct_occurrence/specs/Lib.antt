@@ -7,3 +7,4 @@ pub mod Earlier
 pub mod Noted
 pub mod Working
 pub mod UnderWay
+pub mod Reach

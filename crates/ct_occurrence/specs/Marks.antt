@@ -6,11 +6,11 @@ use Rattle.ct_sorts.specs.declared.ids.SortId.{SortId}
 use Rattle.ct_sorts.specs.Declarations.{Declarations, Function}
 use Rattle.ct_occurrence.specs.declared.definitions.Worked.{Worked}
 use Rattle.ct_occurrence.specs.Calls.{CallsAre, AllCallsAre, CaseCallsAre}
-use Rattle.ct_terms.specs.Formula.{Formula, Formulas, Cases, MentionsBelow, AllMentionBelow, CasesMentionBelow}
-use Rattle.ct_terms.specs.declared.tree.Pattern.{Pattern}
-use Rattle.ct_terms.specs.declared.tree.Pattern.TheVariants.{Ctor, Any}
-use Rattle.ct_terms.specs.Occurrence.{field_count}
-use Rattle.ct_terms.specs.FormulaSorts.{IsSorted, AllSorted, AreSortedCases}
+use Rattle.ct_formulas.specs.Formula.{Formula, Formulas, Cases, MentionsBelow, AllMentionBelow, CasesMentionBelow}
+use Rattle.ct_formulas.specs.declared.tree.Pattern.{Pattern}
+use Rattle.ct_formulas.specs.declared.tree.Pattern.TheVariants.{Ctor, Any}
+use Rattle.ct_formulas.specs.Occurrence.{field_count}
+use Rattle.ct_formulas.specs.FormulaSorts.{IsSorted, AllSorted, AreSortedCases}
 
 -- the test for each number below the bound, the greatest first: the flags of a binder's variables, in the order of binding
 abbrev pub flags_below : (ℕ → Bool) → ℕ → List Bool

@@ -1,6 +1,6 @@
 -- Operators: formulas that bind nothing, but for `ite`, and the formulas under them.
 use Rattle.std.specs.Prelude.{Bool, true, false}
-use Rattle.ct_terms.specs.Formula.{Formula, Formulas, Con, Sel, Test, Apply, Not, And, Or, Xor, Implies, Equal, Distinct, no_formulas, with_formula}
+use Rattle.ct_formulas.specs.Formula.{Formula, Formulas, Con, Sel, Test, Apply, Not, And, Or, Xor, Implies, Equal, Distinct, no_formulas, with_formula}
 
 -- the formula is an operator over formulas of one environment
 abbrev pub is_plain : Formula → Bool

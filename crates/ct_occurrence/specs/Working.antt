@@ -2,8 +2,8 @@
 use Rattle.std.specs.Prelude.{List, length}
 use Rattle.ct_sorts.specs.declared.ids.DefId.{DefId}
 use Rattle.ct_sorts.specs.Declarations.{Declarations}
-use Rattle.ct_terms.specs.Formula.{Formula}
-use Rattle.ct_terms.specs.Occurrence.{uses_below}
+use Rattle.ct_formulas.specs.Formula.{Formula}
+use Rattle.ct_formulas.specs.Occurrence.{uses_below}
 use Rattle.ct_occurrence.specs.Marks.{Rows, IsKnown, HaveRows}
 use Rattle.ct_occurrence.specs.Noted.{HaveNotes}
 

@@ -1,9 +1,9 @@
 //! The parts of a case of a `match`.
 ghost use Rattle.std.specs.Prelude.{◌≡◌};
-ghost use Rattle.ct_terms.specs.TreeFormula.{formula_of};
+ghost use Rattle.ct_formulas.specs.TreeFormula.{formula_of};
 ghost use Rattle.ct_occurrence.specs.CaseFormula.{case_of};
 
-use ct_terms::{Case, Pattern, Tree};
+use ct_formulas::{Case, Pattern, Tree};
 
 /// What a case fits.
 pub fn pattern_of(case: &Case) -> Pattern

@@ -3,15 +3,15 @@ ghost use Rattle.std.specs.Prelude.{◌≡◌, ◌<◌, List, length, map, Some,
 ghost use Rattle.std.specs.Bool.{OnTrue, OnFalse};
 ghost use Rattle.ct_sorts.specs.declared.ids.DefId.{DefId};
 ghost use Rattle.ct_sorts.specs.Declarations.{Declarations};
-ghost use Rattle.ct_terms.specs.Formula.{Formula};
-ghost use Rattle.ct_terms.specs.TreeFormula.{formula_of};
+ghost use Rattle.ct_formulas.specs.Formula.{Formula};
+ghost use Rattle.ct_formulas.specs.TreeFormula.{formula_of};
 ghost use Rattle.ct_occurrence.specs.declared.definitions.Worked.{Worked};
 ghost use Rattle.ct_occurrence.specs.Marks.{worked_in, row_in, IsKnown};
 ghost use Rattle.ct_occurrence.specs.Working.{AreRight};
 
 use crate::notes::Notes;
+use ct_formulas::Tree;
 use ct_sorts::DefId;
-use ct_terms::Tree;
 use indexmap::IndexMap;
 use std::alloc::{AllocError, Global};
 

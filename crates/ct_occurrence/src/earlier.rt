@@ -1,6 +1,6 @@
 //! The constructors of the cases before a case of a `match`.
 ghost use Rattle.std.specs.Prelude.{◌≡◌, [], ◌∷◌, ◌++◌, OnOk, OnErr};
-ghost use Rattle.ct_terms.specs.Compiled.{is_among};
+ghost use Rattle.ct_formulas.specs.Compiled.{is_among};
 ghost use Rattle.ct_occurrence.specs.Earlier.{distinct_ctors};
 
 use ct_sorts::CtorId;

@@ -2,14 +2,14 @@
 //! binds.
 ghost use Rattle.std.specs.Prelude.{◌≡◌, ◌<◌, ◌||◌, ◌==◌, length, reverse};
 ghost use Rattle.std.specs.List.{list_all};
-ghost use Rattle.ct_terms.specs.Compiled.{surely_fits, is_among};
-ghost use Rattle.ct_terms.specs.Occurrence.{field_count};
+ghost use Rattle.ct_formulas.specs.Compiled.{surely_fits, is_among};
+ghost use Rattle.ct_formulas.specs.Occurrence.{field_count};
 ghost use Rattle.ct_occurrence.specs.Marks.{pattern_variable_count};
 ghost use Rattle.ct_occurrence.specs.Matching.{IsPatternDeclared};
 
 use crate::earlier::Earlier;
+use ct_formulas::Pattern;
 use ct_sorts::{CtorId, Signature};
-use ct_terms::Pattern;
 
 /// Whether a case of the constructor fits all that the cases before it, of the constructors `earlier` in order, do not.
 ///

@@ -2,7 +2,7 @@
 
 use crate::cases::body_of;
 use crate::plain::operands;
-use ct_terms::{Case, Tree};
+use ct_formulas::{Case, Tree};
 
 /// How many levels of a formula take as much of the stack as a call of a definition does beside the body.
 const CALL_HEIGHT: usize = 3;

@@ -1,5 +1,5 @@
 //! Occurrence: which variables of a formula occur in its core term, worked out once for all binders in it, and once a
-//! definition.
+//! definition; and which definitions a formula can reach.
 #![tactic(auto)]
 
 mod cases;
@@ -13,6 +13,7 @@ mod needed;
 mod notes;
 mod occurrence;
 mod plain;
+mod theorems;
 mod under_way;
 
 pub use cases::{body_of, pattern_of};
@@ -22,3 +23,4 @@ pub use matching::tested;
 pub use needed::work_out_named;
 pub use notes::Notes;
 pub use occurrence::notes_on;
+pub use theorems::reachable_definitions;

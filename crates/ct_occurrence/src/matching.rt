@@ -4,8 +4,8 @@ ghost use Rattle.ct_occurrence.specs.Matching.{IsPatternDeclared, tested_by};
 
 use crate::earlier::Earlier;
 use crate::fitting::surely_fits;
+use ct_formulas::Pattern;
 use ct_sorts::{CtorId, Signature};
-use ct_terms::Pattern;
 
 /// The constructor that is tested before a case, after cases of the constructors `earlier`: none where
 /// the case surely fits or is the last.

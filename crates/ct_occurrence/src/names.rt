@@ -1,14 +1,14 @@
 //! The definitions that a formula names.
 ghost use Rattle.std.specs.Prelude.{OnOk};
-ghost use Rattle.ct_terms.specs.TreeFormula.{formula_of, formulas_of_trees};
-ghost use Rattle.ct_terms.specs.Formula.{Ite, Def, Let, Match};
+ghost use Rattle.ct_formulas.specs.TreeFormula.{formula_of, formulas_of_trees};
+ghost use Rattle.ct_formulas.specs.Formula.{Ite, Def, Let, Match};
 ghost use Rattle.ct_occurrence.specs.CaseFormula.{cases_of_trees};
 ghost use Rattle.ct_occurrence.specs.Calls.{AddsNamed, AddsAllNamed, AddsCaseNamed};
 
 use crate::cases::body_of;
 use crate::plain::operands;
+use ct_formulas::{Case, Tree};
 use ct_sorts::DefId;
-use ct_terms::{Case, Tree};
 use std::alloc::AllocError;
 
 /// Adds the definitions that a formula names to those that there are.

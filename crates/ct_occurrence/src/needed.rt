@@ -1,9 +1,9 @@
 //! The definitions that a formula needs are worked out: those that it names, and those that their bodies name.
 ghost use Rattle.std.specs.Prelude.{◌≤◌, length, map, Contains, OnOk};
 ghost use Rattle.ct_sorts.specs.declared.ids.DefId.{DefId};
-ghost use Rattle.ct_terms.specs.Formula.{MentionsBelow};
-ghost use Rattle.ct_terms.specs.FormulaSorts.{AreSound};
-ghost use Rattle.ct_terms.specs.TreeFormula.{formula_of};
+ghost use Rattle.ct_formulas.specs.Formula.{MentionsBelow};
+ghost use Rattle.ct_formulas.specs.FormulaSorts.{AreSound};
+ghost use Rattle.ct_formulas.specs.TreeFormula.{formula_of};
 ghost use Rattle.ct_occurrence.specs.Calls.{CallsAre, AreBelow};
 ghost use Rattle.ct_occurrence.specs.Marks.{worked_in, IsKnown};
 ghost use Rattle.ct_occurrence.specs.Working.{AreRight, StayKnown};
@@ -11,8 +11,8 @@ ghost use Rattle.ct_occurrence.specs.Working.{AreRight, StayKnown};
 use crate::definitions::Definitions;
 use crate::names::add_names;
 use crate::under_way::work_out;
+use ct_formulas::Tree;
 use ct_sorts::{DefId, Signature};
-use ct_terms::Tree;
 use std::alloc::{AllocError, Global};
 
 /// Works out the definitions that a formula names, all of which are below the number, and those that their bodies name.

@@ -1,9 +1,9 @@
 //! Which variables occur in the core term of a formula: what is bound to the others makes no term.
 ghost use Rattle.std.specs.Prelude.{◌≡◌, ℕ, ◌+◌, ◌++◌, Bool, true, false, ◌&&◌, ◌||◌, ◌==◌, [], replicate, IfOk, OnOk};
 ghost use Rattle.ct_sorts.specs.declared.ids.DefId.{DefId};
-ghost use Rattle.ct_terms.specs.TreeFormula.{formula_of, formulas_of_trees};
-ghost use Rattle.ct_terms.specs.Formula.{Ite, Let, Match};
-ghost use Rattle.ct_terms.specs.Occurrence.{count_of, occurs, occurs_in_some, occurs_in_bound, matched_occurs, occurs_in_cases};
+ghost use Rattle.ct_formulas.specs.TreeFormula.{formula_of, formulas_of_trees};
+ghost use Rattle.ct_formulas.specs.Formula.{Ite, Let, Match};
+ghost use Rattle.ct_formulas.specs.Occurrence.{count_of, occurs, occurs_in_some, occurs_in_bound, matched_occurs, occurs_in_cases};
 ghost use Rattle.ct_occurrence.specs.CaseFormula.{cases_of_trees};
 ghost use Rattle.ct_occurrence.specs.Noted.{IsOfFirst, IsNoted, AreNoted, AreNotedWhere, CasesNoted, AddsNotes, AddsAllNotes};
 ghost use Rattle.ct_occurrence.specs.Marks.{worked_in, flags_below, mark_each, has_set, MayMark, MayMarkAll, MayMarkCases};
@@ -16,8 +16,8 @@ use crate::height::height_of_call;
 use crate::matching::tested;
 use crate::notes::Notes;
 use crate::plain::operands;
+use ct_formulas::{Case, Tree};
 use ct_sorts::Signature;
-use ct_terms::{Case, Tree};
 use std::alloc::{AllocError, Global};
 
 /// What is worked out of a definition with so many parameters: the flags of those that occur in its body, the notes on

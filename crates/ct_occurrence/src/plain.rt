@@ -1,9 +1,9 @@
 //! Operators: the formulas under one.
 ghost use Rattle.std.specs.Prelude.{◌≡◌, true, false, IfSome, IfNone};
-ghost use Rattle.ct_terms.specs.TreeFormula.{formula_of, formulas_of_trees};
+ghost use Rattle.ct_formulas.specs.TreeFormula.{formula_of, formulas_of_trees};
 ghost use Rattle.ct_occurrence.specs.Plain.{is_plain, formulas_under};
 
-use ct_terms::Tree;
+use ct_formulas::Tree;
 use std::slice;
 
 /// The formulas under an operator, where the formula is one.

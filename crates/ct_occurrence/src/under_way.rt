@@ -5,9 +5,9 @@
 //! names it: for the names in it, for what occurs, and for its height.
 ghost use Rattle.std.specs.Prelude.{◌≡◌, ◌<◌, ◌++◌, [], ◌∷◌, length, map, Some, slice_get, nat_eq, if◌then◌else◌, IfOk, OnOk};
 ghost use Rattle.ct_sorts.specs.declared.ids.DefId.{DefId};
-ghost use Rattle.ct_terms.specs.Formula.{Formula, MentionsBelow};
-ghost use Rattle.ct_terms.specs.FormulaSorts.{AreSound};
-ghost use Rattle.ct_terms.specs.TreeFormula.{formula_of};
+ghost use Rattle.ct_formulas.specs.Formula.{Formula, MentionsBelow};
+ghost use Rattle.ct_formulas.specs.FormulaSorts.{AreSound};
+ghost use Rattle.ct_formulas.specs.TreeFormula.{formula_of};
 ghost use Rattle.ct_occurrence.specs.declared.definitions.Worked.{Worked};
 ghost use Rattle.ct_occurrence.specs.declared.under_way.Frame.{Frame};
 ghost use Rattle.ct_occurrence.specs.Calls.{CallsAre};
@@ -18,8 +18,8 @@ ghost use Rattle.ct_occurrence.specs.UnderWay.{AreFramesUnderWay, BeginsBody, Ar
 use crate::definitions::{Definitions, body_at, is_known, put};
 use crate::names::add_names;
 use crate::occurrence::occurring;
+use ct_formulas::Tree;
 use ct_sorts::{DefId, Signature};
-use ct_terms::Tree;
 use std::alloc::{AllocError, Global};
 
 /// A definition that waits.

@@ -2,19 +2,19 @@
 use Rattle.std.proofs.Common.{◌≡◌, ◌-◌, ◌<◌, ◌≤◌, Bool, true, false, List, [], ◌∷◌, ◌++◌, length, take, drop, get_or, map, refl, sym, ap, ap₂, subst, ◌∙◌, arith}
 use Rattle.std.specs.List.{AllByRecursion}
 use Rattle.std.proofs.lemmas.List.{append_assoc, append-nil}
+use Rattle.ct_lemmas.proofs.Prefixes.{rest-step}
 use Rattle.ct_sorts.specs.declared.ids.SortId.{SortId}
 use Rattle.ct_sorts.specs.Declarations.{Declarations}
 use Rattle.ct_terms.specs.declared.ids.TermId.{TermId}
 use Rattle.ct_terms.specs.Terms.{Terms}
 use Rattle.ct_terms.specs.CoreTree.{CoreTree, negation, subtrees, term_at}
 use Rattle.ct_terms.specs.CoreSorts.{HasTreeSort}
-use Rattle.ct_terms.specs.Pairs.{neighbours_from, pairs}
+use Rattle.ct_formulas.specs.Pairs.{neighbours_from, pairs}
 use Rattle.ct_operators.specs.Effect.{Stands, AllStand, IsSoundTable, Within, AllWithin, IsPrefix, Effect}
-use Rattle.ct_terms.specs.Compiled.{equality}
+use Rattle.ct_formulas.specs.Compiled.{equality}
 use Rattle.ct_operators.specs.Made.{HasTree, MakesInOrder, leaf, made_for}
 use Rattle.ct_operators.specs.Pairing.{both, compared_as, compared_all, made_compared, made_compared_all, IsPair}
 use Rattle.ct_operators.proofs.EffectLemmas.{prefix_itself, prefix_trans, prefix_length, same_tree, all_stay, effect_none, effect_then, effect_because}
-use Rattle.ct_operators.proofs.RestLemmas.{rest_step}
 use Rattle.ct_operators.proofs.WithinLemmas.{within_subtrees}
 use Rattle.ct_operators.proofs.MakesLemmas.{makes_then, makes_one, makes_two}
 use Rattle.ct_operators.proofs.FollowLemmas.{equality_under}
@@ -26,26 +26,22 @@ pub neighbours_step : (found new : List (TermId × TermId)) (left d : TermId) (r
 neighbours_step found new left d rest goal some items inv =
     ap (λ (xs : List (TermId × TermId)). xs ++ neighbours_from both (get_or rest 0 d) (rest_of rest)) items
     ∙ append_assoc found ((left, get_or rest 0 d) ∷ []) (neighbours_from both (get_or rest 0 d) (rest_of rest))
-    ∙ ap (λ (xs : List TermId). found ++ neighbours_from both left xs) (sym (rest_step rest d some))
+    ∙ ap (λ (xs : List TermId). found ++ neighbours_from both left xs) (sym (rest-step rest d some))
     ∙ inv
 
 pub added_step : (found new : List (TermId × TermId)) (first d : TermId) (rest : List TermId) (goal : List (TermId × TermId)) → 1 ≤ length rest → new ≡ found ++ (first, get_or rest 0 d) ∷ [] → found ++ map (both first) rest ≡ goal → new ++ map (both first) (take (length rest - 1) (drop 1 rest)) ≡ goal
 added_step found new first d rest goal some items inv =
     ap (λ (xs : List (TermId × TermId)). xs ++ map (both first) (rest_of rest)) items
     ∙ append_assoc found ((first, get_or rest 0 d) ∷ []) (map (both first) (rest_of rest))
-    ∙ ap (λ (xs : List TermId). found ++ map (both first) xs) (sym (rest_step rest d some))
+    ∙ ap (λ (xs : List TermId). found ++ map (both first) xs) (sym (rest-step rest d some))
     ∙ inv
 
 pub pairs_step : (found new : List (TermId × TermId)) (d : TermId) (rest : List TermId) (goal : List (TermId × TermId)) → 1 ≤ length rest → new ≡ found ++ map (both (get_or rest 0 d)) (take (length rest - 1) (drop 1 rest)) → found ++ pairs both rest ≡ goal → new ++ pairs both (take (length rest - 1) (drop 1 rest)) ≡ goal
 pairs_step found new d rest goal some items inv =
     ap (λ (xs : List (TermId × TermId)). xs ++ pairs both (rest_of rest)) items
     ∙ append_assoc found (map (both (get_or rest 0 d)) (rest_of rest)) (pairs both (rest_of rest))
-    ∙ ap (λ (xs : List TermId). found ++ pairs both xs) (sym (rest_step rest d some))
+    ∙ ap (λ (xs : List TermId). found ++ pairs both xs) (sym (rest-step rest d some))
     ∙ inv
-
-pub nothing_left : {X : Type 0} (xs : List X) → length xs < 1 → xs ≡ []
-nothing_left [] h = refl
-nothing_left (x ∷ xs) h = absurd (omega (arith, h))
 
 -- ---- what is made
 

@@ -10,8 +10,8 @@ use Rattle.ct_terms.specs.declared.error.TermError.TheVariants.{Full}
 use Rattle.ct_terms.specs.Terms.{Terms}
 use Rattle.ct_terms.specs.CoreTree.{CoreTree, negation, equivalence, equation, tree_children, subtrees, term_at}
 use Rattle.ct_terms.specs.CoreSorts.{HasTreeSort, tree_sort}
-use Rattle.ct_terms.specs.Pairs.{neighbours_from, neighbours, pairs}
-use Rattle.ct_terms.specs.Compiled.{exclusive, exclusive_of, implied_from, implication_of, equality, inequality}
+use Rattle.ct_formulas.specs.Pairs.{neighbours_from, neighbours, pairs}
+use Rattle.ct_formulas.specs.Compiled.{exclusive, exclusive_of, implied_from, implication_of, equality, inequality}
 use Rattle.ct_operators.specs.declared.operator.Operator.{Operator}
 use Rattle.ct_operators.specs.declared.operator.Operator.TheVariants.{Exclusion, Implication, Equality, Inequality}
 use Rattle.ct_operators.specs.Effect.{Stands, Within, AllWithin, Effect}

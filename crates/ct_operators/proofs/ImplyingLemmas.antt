@@ -7,7 +7,7 @@ use Rattle.ct_terms.specs.declared.ids.TermId.{TermId}
 use Rattle.ct_terms.specs.Terms.{Terms}
 use Rattle.ct_terms.specs.CoreTree.{CoreTree, negation, subtrees, term_at}
 use Rattle.ct_terms.specs.CoreSorts.{HasTreeSort}
-use Rattle.ct_terms.specs.Compiled.{implied_from, implication_of}
+use Rattle.ct_formulas.specs.Compiled.{implied_from, implication_of}
 use Rattle.ct_operators.specs.Effect.{Stands, IsSoundTable, Within, Effect}
 use Rattle.ct_operators.specs.Forms.{implication}
 use Rattle.ct_operators.proofs.EffectLemmas.{effect_none, effect_then, effect_because}

@@ -1,10 +1,11 @@
 -- One more term: it is well sorted where its tree is, and the table grows by its tree or had it.
-use Rattle.std.proofs.Common.{◌≡◌, ◌⊎◌, ℕ, zero, suc, ◌+◌, ◌<◌, ◌≤◌, List, [], ◌∷◌, ◌++◌, length, map, Contains, Some, Result, Ok, Err, slice_get, refl, sym, ap, subst, ◌∙◌, inl, inr, arith}
+use Rattle.std.proofs.Common.{◌≡◌, ℕ, ◌+◌, ◌<◌, ◌≤◌, List, [], ◌∷◌, ◌++◌, length, map, Contains, Some, Result, Ok, Err, refl, sym, ap, subst, ◌∙◌, inl, inr, arith}
 use Rattle.std.specs.Prelude.{IfOk, OnErr, IsErrOf}
 use Rattle.std.specs.List.{AllZip, AllByRecursion}
 use Rattle.std.proofs.lemmas.List.{length-append}
 use Rattle.std.proofs.lemmas.List.Elements.{All-from_recursion}
-use Rattle.std.proofs.lemmas.Option.{none-some, same_Some}
+use Rattle.std.proofs.lemmas.Option.{slice_get_within}
+use Rattle.ct_lemmas.proofs.Lists.{slice_get-last, slice_get-push_cases, slice_get-there}
 use Rattle.ct_sorts.specs.declared.ids.SelId.{SelId}
 use Rattle.ct_sorts.specs.declared.ids.SortId.{SortId}
 use Rattle.ct_sorts.specs.Declarations.{Declarations, bool_sort}
@@ -19,29 +20,6 @@ use Rattle.ct_terms.specs.CoreTree.{CoreTree, con, sel, test, apply, equation, n
 use Rattle.ct_terms.specs.CoreSorts.{AreFieldSorts, HasSome, HasTreeSort, HaveTreeSorts, AreBooleanTrees}
 use Rattle.ct_operators.specs.Effect.{Stands, IsSoundTable, Effect}
 use Rattle.ct_operators.proofs.EffectLemmas.{effect_none}
-
--- ---- lists
-
-pub slice_get-below : {X : Type 0} (xs : List X) (k : ℕ) (x : X) → slice_get xs k ≡ Some x → k < length xs
-slice_get-below [] k x e = absurd (none-some x e)
-slice_get-below (y ∷ ys) zero x e = omega arith
-slice_get-below (y ∷ ys) (suc k) x e = let h = slice_get-below ys k x e in omega arith
-
-pub slice_get-there : {X : Type 0} (xs : List X) (k : ℕ) → k < length xs → (x : X) × (slice_get xs k ≡ Some x)
-slice_get-there [] k h = absurd (omega (arith, h))
-slice_get-there (x ∷ xs) zero h = (x, refl)
-slice_get-there (x ∷ xs) (suc k) h = slice_get-there xs k (omega (arith, h))
-
-pub slice_get-last : {X : Type 0} (xs : List X) (x : X) → slice_get (xs ++ x ∷ []) (length xs) ≡ Some x
-slice_get-last [] x = refl
-slice_get-last (z ∷ zs) x = slice_get-last zs x
-
-pub slice_get-push_cases : {X : Type 0} (xs : List X) (x y : X) (i : ℕ) → slice_get (xs ++ x ∷ []) i ≡ Some y → (slice_get xs i ≡ Some y) ⊎ ((i ≡ length xs) × (x ≡ y))
-slice_get-push_cases [] x y zero e = inr (refl, same_Some x y e)
-slice_get-push_cases [] x y (suc i) e = absurd (none-some y e)
-slice_get-push_cases (z ∷ zs) x y zero e = inl e
-slice_get-push_cases (z ∷ zs) x y (suc i) e =
-    elim (slice_get-push_cases zs x y i e) [ inl h ↦ inl h | inr h ↦ inr (ap suc h.0, h.1) ]
 
 -- ---- sorts, back from the tree
 
@@ -181,7 +159,7 @@ module _ (d : Declarations) (old : Terms) (core : Core) (sort : SortId) (kept : 
 module _ (d : Declarations) (old new : Terms) (core : Core) (t : TermId) (kept : IsSoundTable d old) (below : HasArgumentsBelow (length old) core) (sorted : AreSorted d old → AreSorted d new) where
   pub made_stands : Makes d old new core t.0 → Stands new t (tree_layer (term_at old) core)
   made_stands (inl h) = (
-    subst (λ (ts : Terms). t.0 < length ts) (sym h.0) (slice_get-below old t.0 (core, h.1.0) h.1.1),
+    subst (λ (ts : Terms). t.0 < length ts) (sym h.0) (slice_get_within old t.0 (core, h.1.0) h.1.1),
     ap (λ (ts : Terms). term_at ts t) h.0 ∙ kept.theorems.unfolds old t core h.1.0 kept.ordered h.1.1,
   )
   made_stands (inr h) =

@@ -1,10 +1,11 @@
 -- Tables that grow by trees in order: one growth after the other, and growth whose order has no choice.
-use Rattle.std.proofs.Common.{◌≡◌, ◌⊎◌, ℕ, zero, suc, ◌+◌, ◌<◌, ◌≤◌, List, [], ◌∷◌, ◌++◌, length, Contains, Some, slice_get, slice_index_or, refl, sym, ap, subst, ◌∙◌, inl, inr, arith}
+use Rattle.std.proofs.Common.{◌≡◌, ◌⊎◌, ℕ, suc, ◌+◌, ◌<◌, ◌≤◌, List, [], ◌∷◌, ◌++◌, length, Contains, Some, slice_get, refl, sym, ap, subst, ◌∙◌, inl, inr, arith}
 use Rattle.std.specs.List.{AllByRecursion, flat_map}
 use Rattle.std.proofs.lemmas.List.{append-nil, append_assoc, length-append}
 use Rattle.std.proofs.lemmas.List.Elements.{Contains-append_cases, Contains-append_left}
-use Rattle.std.proofs.lemmas.Option.{none-some}
 use Rattle.std.proofs.lemmas.Bool.{cases_lt}
+use Rattle.ct_lemmas.proofs.Contained.{Contains-cons, Contains-first, Contains-none, Contains-rest}
+use Rattle.ct_lemmas.proofs.Lists.{slice_get-append_left}
 use Rattle.ct_sorts.specs.Declarations.{Declarations}
 use Rattle.ct_sorts.specs.declared.ids.SortId.{SortId}
 use Rattle.ct_terms.specs.declared.ids.TermId.{TermId}
@@ -15,20 +16,14 @@ use Rattle.ct_operators.specs.Theorems.{Theorems}
 use Rattle.ct_operators.specs.Effect.{Stands, IsPrefix, Effect}
 use Rattle.ct_operators.specs.Made.{HasTree, HasTrees, MakesInOrder}
 use Rattle.ct_operators.proofs.EffectLemmas.{prefix_length, prefix_trans}
-use Rattle.ct_operators.proofs.WithinLemmas.{Contains-first, Contains-rest}
 
 abbrev id : ℕ → TermId
 id k = record { 0 = k }
 
 -- ---- first parts of a table
 
-slice_front : {X : Type 0} (xs ys : List X) (k : ℕ) (x : X) → slice_get xs k ≡ Some x → slice_get (xs ++ ys) k ≡ Some x
-slice_front [] ys k x e = absurd (none-some x e)
-slice_front (z ∷ zs) ys zero x e = e
-slice_front (z ∷ zs) ys (suc k) x e = slice_front zs ys k x e
-
 pub prefix_ordered : (old new : Terms) → IsPrefix old new → AreOrdered new → AreOrdered old
-prefix_ordered old new grown ordered t core has = ordered t core (has.0, subst (λ (ts : Terms). slice_get ts t ≡ Some (core, has.0)) (sym grown.1) (slice_front old grown.0 t (core, has.0) has.1))
+prefix_ordered old new grown ordered t core has = ordered t core (has.0, subst (λ (ts : Terms). slice_get ts t ≡ Some (core, has.0)) (sym grown.1) (slice_get-append_left old grown.0 t (core, has.0) has.1))
 
 pub longer_tree : (theorems : Theorems) (old new : Terms) (t : TermId) → IsPrefix old new → AreOrdered new → t.0 < length old → term_at new t ≡ term_at old t
 longer_tree theorems old new t grown ordered within = ap (λ (ts : Terms). term_at ts t) grown.1 ∙ theorems.longer old grown.0 t (subst AreOrdered grown.1 ordered) within
@@ -91,16 +86,6 @@ makes_has theorems (x ∷ xs) a b ordered (inr h) = (
 )
 
 -- ---- growth whose order has no choice: each tree is a subterm of the later ones
-
-pub Contains-cons : {X : Type 0} (x : X) (xs : List X) (y : X) → Contains (x ∷ xs) y → (x ≡ y) ⊎ Contains xs y
-Contains-cons {X} x xs y h = by h.0 h.1 h.2
-  where
-    by : (k : ℕ) → k < length (x ∷ xs) → slice_index_or (x ∷ xs) k y ≡ y → (x ≡ y) ⊎ Contains xs y
-    by zero within is = inl is
-    by (suc k) within is = inr (k, omega (arith, within), is)
-
-pub Contains-none : {X : Type 0} (x : X) → Contains [] x → ⊥
-Contains-none x h = omega (arith, h.1)
 
 abbrev pub Climbs : List CoreTree → Type 0
 Climbs [] = Unit {0}

@@ -2,19 +2,20 @@
 use Rattle.std.proofs.Common.{◌≡◌, ℕ, suc, ◌<◌, ◌==◌, Bool, true, false, List, [], ◌∷◌, ◌++◌, length, map, if◌then◌else◌, refl, sym, ap, subst, ◌∙◌, arith}
 use Rattle.std.specs.List.{AllByRecursion, fold}
 use Rattle.std.proofs.lemmas.List.Elements.{Contains-append_left, Contains-append_right}
+use Rattle.ct_lemmas.proofs.Contained.{Contains-rest}
 use Rattle.ct_sorts.specs.declared.ids.SortId.{SortId}
 use Rattle.ct_sorts.specs.Declarations.{Declarations, bool_sort}
 use Rattle.ct_terms.specs.declared.ids.TermId.{TermId}
 use Rattle.ct_terms.specs.Terms.{Terms}
 use Rattle.ct_terms.specs.CoreTree.{CoreTree, equation, negation, equivalence, trees_of, subtrees, term_at}
 use Rattle.ct_terms.specs.CoreSorts.{HasTreeSort, AreBooleanTrees, tree_sort}
-use Rattle.ct_terms.specs.Pairs.{neighbours_from, neighbours, pairs}
-use Rattle.ct_terms.specs.Compiled.{all_of, any_of, exclusive, implied_from, equality, inequality}
+use Rattle.ct_formulas.specs.Pairs.{neighbours_from, neighbours, pairs}
+use Rattle.ct_formulas.specs.Compiled.{all_of, any_of, exclusive, implied_from, equality, inequality}
 use Rattle.ct_operators.specs.Effect.{AllStand, Within, AllWithin}
 use Rattle.ct_operators.specs.declared.operator.Operator.{Operator}
 use Rattle.ct_operators.specs.declared.operator.Operator.TheVariants.{Construct, Select, Inspect, Call, Negation, Conjunction, Disjunction, Exclusion, Implication, Equality, Inequality}
 use Rattle.ct_operators.specs.Forms.{head_tree, combined, AllHaveSort, AreOperands}
-use Rattle.ct_operators.proofs.WithinLemmas.{Contains-rest, within_negation, within_equivalence, within_sel, within_test, within_con, within_apply, within_conjunction, within_disjunction}
+use Rattle.ct_operators.proofs.WithinLemmas.{within_negation, within_equivalence, within_sel, within_test, within_con, within_apply, within_conjunction, within_disjunction}
 
 module _ (allowed : List CoreTree) where
   pub within_all_of : (us : List CoreTree) → Within allowed (all_of us) → AllWithin allowed us

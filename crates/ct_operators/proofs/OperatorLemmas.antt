@@ -8,7 +8,7 @@ use Rattle.ct_terms.specs.declared.ids.TermId.{TermId}
 use Rattle.ct_terms.specs.Terms.{Terms, IsOfSort}
 use Rattle.ct_terms.specs.CoreTree.{CoreTree, negation, conjunction, disjunction, equivalence, equation, trees_of, subtrees, term_at}
 use Rattle.ct_terms.specs.CoreSorts.{HasTreeSort, tree_sort}
-use Rattle.ct_terms.specs.Compiled.{all_of, any_of, exclusive, equality}
+use Rattle.ct_formulas.specs.Compiled.{all_of, any_of, exclusive, equality}
 use Rattle.ct_operators.specs.Forms.{implication}
 use Rattle.ct_operators.specs.Effect.{Stands, IsSoundTable, Within, IsPrefix, Effect}
 use Rattle.ct_operators.proofs.EffectLemmas.{prefix_length, same_tree, effect_none, effect_then, effect_because}

@@ -8,8 +8,8 @@ use Rattle.ct_terms.specs.declared.ids.TermId.{TermId}
 use Rattle.ct_terms.specs.Terms.{Terms}
 use Rattle.ct_terms.specs.CoreTree.{CoreTree, equivalence, equation, subtrees, term_at}
 use Rattle.ct_terms.specs.CoreSorts.{HasTreeSort, tree_sort}
-use Rattle.ct_terms.specs.Pairs.{neighbours_from, neighbours, pairs}
-use Rattle.ct_terms.specs.Compiled.{all_of, equality, inequality}
+use Rattle.ct_formulas.specs.Pairs.{neighbours_from, neighbours, pairs}
+use Rattle.ct_formulas.specs.Compiled.{all_of, equality, inequality}
 use Rattle.ct_operators.specs.Theorems.{Theorems}
 use Rattle.ct_operators.specs.Effect.{Stands, AllStand, IsSoundTable, Effect}
 use Rattle.ct_operators.specs.Made.{HasTrees, MakesInOrder, Made, leaf, terms, made_for, made_all, made_inequality}

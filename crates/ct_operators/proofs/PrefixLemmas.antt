@@ -5,8 +5,8 @@ use Rattle.std.proofs.lemmas.List.{append-nil, append_assoc}
 use Rattle.ct_sorts.specs.Declarations.{Declarations}
 use Rattle.ct_terms.specs.Terms.{Terms, AreOrdered}
 use Rattle.ct_terms.specs.CoreTree.{CoreTree, con, apply, sel, test, negation, conjunction, disjunction, equivalence, trees_of}
-use Rattle.ct_terms.specs.Pairs.{neighbours_from, pairs}
-use Rattle.ct_terms.specs.Compiled.{equality}
+use Rattle.ct_formulas.specs.Pairs.{neighbours_from, pairs}
+use Rattle.ct_formulas.specs.Compiled.{equality}
 use Rattle.ct_operators.specs.declared.operator.Operator.{Operator}
 use Rattle.ct_operators.specs.declared.operator.Operator.TheVariants.{Construct, Select, Inspect, Call, Negation, Conjunction, Disjunction, Exclusion, Implication, Equality, Inequality}
 use Rattle.ct_operators.specs.Theorems.{Theorems}

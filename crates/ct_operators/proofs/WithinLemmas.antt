@@ -1,18 +1,13 @@
 -- Trees whose subterms are all in a list: with a tree those under it are.
-use Rattle.std.proofs.Common.{suc, List, [], ◌∷◌, ◌++◌, Contains, refl, sym, subst, arith}
+use Rattle.std.proofs.Common.{List, [], ◌∷◌, ◌++◌, Contains, sym, subst}
 use Rattle.std.proofs.lemmas.List.Elements.{Contains-append_left, Contains-append_right}
+use Rattle.ct_lemmas.proofs.Contained.{Contains-first, Contains-rest}
 use Rattle.ct_sorts.specs.declared.ids.CtorId.{CtorId}
 use Rattle.ct_sorts.specs.declared.ids.FunId.{FunId}
 use Rattle.ct_sorts.specs.declared.ids.SelId.{SelId}
 use Rattle.ct_terms.specs.CoreTree.{CoreTree, con, sel, test, apply, negation, conjunction, disjunction, equivalence, choice, trees_of, subtrees, subtrees_of_all}
 use Rattle.ct_operators.specs.Theorems.{Theorems}
 use Rattle.ct_operators.specs.Effect.{Within, AllWithin}
-
-pub Contains-first : {X : Type 0} (x : X) (xs : List X) → Contains (x ∷ xs) x
-Contains-first x xs = (0, omega arith, refl)
-
-pub Contains-rest : {X : Type 0} (x : X) (xs : List X) (y : X) → Contains xs y → Contains (x ∷ xs) y
-Contains-rest x xs y h = (suc h.0, omega (arith, h.1), h.2)
 
 -- a tree is a subterm of itself
 pub within_itself : (theorems : Theorems) (allowed : List CoreTree) (t : CoreTree) → Within allowed t → Contains allowed t

@@ -2,11 +2,12 @@
 use Rattle.std.proofs.Common.{◌≡◌, ◌<◌, List, [], ◌∷◌, ◌++◌, length, map, Contains, refl, sym, ap, ap₂, subst, ◌∙◌, inl, inr, arith}
 use Rattle.std.specs.List.{fold}
 use Rattle.std.proofs.lemmas.List.{append-nil, append_assoc}
+use Rattle.ct_lemmas.proofs.Contained.{Contains-cons, Contains-none}
 use Rattle.ct_sorts.specs.Declarations.{Declarations}
 use Rattle.ct_terms.specs.Terms.{Terms, AreOrdered}
 use Rattle.ct_terms.specs.CoreTree.{CoreTree, con, apply, sel, test, negation, conjunction, disjunction, equivalence, trees_of, list_of_trees, subtrees}
-use Rattle.ct_terms.specs.Pairs.{neighbours_from, pairs}
-use Rattle.ct_terms.specs.Compiled.{exclusive, exclusive_of, implied_from, equality, inequality}
+use Rattle.ct_formulas.specs.Pairs.{neighbours_from, pairs}
+use Rattle.ct_formulas.specs.Compiled.{exclusive, exclusive_of, implied_from, equality, inequality}
 use Rattle.ct_operators.specs.declared.operator.Operator.{Operator}
 use Rattle.ct_operators.specs.declared.operator.Operator.TheVariants.{Construct, Select, Inspect, Call, Negation, Conjunction, Disjunction, Exclusion, Implication, Equality, Inequality}
 use Rattle.ct_operators.specs.Theorems.{Theorems}
@@ -15,7 +16,7 @@ use Rattle.ct_operators.specs.Forms.{head_tree, combined, AreOperands}
 use Rattle.ct_operators.specs.Following.{last_from, last_tree, between, woven}
 use Rattle.ct_operators.specs.Made.{HasTree, HasTrees, MakesInOrder, Made, leaf, terms, made_for, over, made_negation, made_equality, made_inequality, made_exclusive, made_implied, made_by}
 use Rattle.ct_operators.proofs.WithinLemmas.{within_itself, within_subtrees, within_disjunction}
-use Rattle.ct_operators.proofs.MakesLemmas.{prefix_ordered, have_stay, have_both, have_left, have_right, makes_grown, makes_then, makes_none, makes_nothing, makes_split, makes_has, Contains-cons, Contains-none, has_subterm, subterm_cases, makes_one, makes_same, Rises, makes_rising}
+use Rattle.ct_operators.proofs.MakesLemmas.{prefix_ordered, have_stay, have_both, have_left, have_right, makes_grown, makes_then, makes_none, makes_nothing, makes_split, makes_has, has_subterm, subterm_cases, makes_one, makes_same, Rises, makes_rising}
 use Rattle.ct_operators.proofs.FollowLemmas.{last_of_push, exclusive_more}
 
 -- the arguments as a list

@@ -6,7 +6,7 @@ use Rattle.ct_terms.specs.declared.error.TermError.{TermError}
 use Rattle.ct_terms.specs.declared.error.TermError.TheVariants.{Full}
 use Rattle.ct_terms.specs.Terms.{Terms}
 use Rattle.ct_terms.specs.CoreTree.{CoreTree, negation, equivalence, no_term, term_at}
-use Rattle.ct_terms.specs.Compiled.{exclusive, exclusive_of, equality, inequality}
+use Rattle.ct_formulas.specs.Compiled.{exclusive, exclusive_of, equality, inequality}
 use Rattle.ct_operators.specs.declared.operator.Operator.{Operator}
 use Rattle.ct_operators.specs.declared.operator.Operator.TheVariants.{Exclusion, Implication, Equality, Inequality}
 use Rattle.ct_operators.specs.Effect.{Stands, IsSoundTable, Within, Effect}

@@ -5,11 +5,11 @@ use Rattle.ct_sorts.specs.declared.ids.SortId.{SortId}
 use Rattle.ct_sorts.specs.Declarations.{Declarations, bool_sort}
 use Rattle.ct_terms.specs.CoreTree.{CoreTree, con, sel, test, apply, negation, trees_of, no_term}
 use Rattle.ct_terms.specs.CoreSorts.{HasTreeSort}
-use Rattle.ct_terms.specs.Formula.{Formula, Con, Sel, Test, Apply, Not, And, Or, Xor, Implies, Equal, Distinct}
+use Rattle.ct_formulas.specs.Formula.{Formula, Con, Sel, Test, Apply, Not, And, Or, Xor, Implies, Equal, Distinct}
 use Rattle.ct_operators.specs.declared.operator.Operator.{Operator}
 use Rattle.ct_operators.specs.declared.operator.Operator.TheVariants.{Construct, Select, Inspect, Call, Negation, Conjunction, Disjunction, Exclusion, Implication, Equality, Inequality}
-use Rattle.ct_terms.specs.Pairs.{neighbours, pairs}
-use Rattle.ct_terms.specs.Compiled.{all_of, any_of, exclusive_of, implication_of, implied_from, equality, inequality}
+use Rattle.ct_formulas.specs.Pairs.{neighbours, pairs}
+use Rattle.ct_formulas.specs.Compiled.{all_of, any_of, exclusive_of, implication_of, implied_from, equality, inequality}
 
 -- the first of the terms
 abbrev pub head_tree : List CoreTree → CoreTree

@@ -7,8 +7,8 @@ use Rattle.ct_terms.specs.declared.ids.TermId.{TermId}
 use Rattle.ct_terms.specs.declared.term.Core.{Core}
 use Rattle.ct_terms.specs.Terms.{Terms}
 use Rattle.ct_terms.specs.CoreTree.{CoreTree, negation, conjunction, disjunction, equivalence, trees_of, no_term}
-use Rattle.ct_terms.specs.Pairs.{neighbours, pairs}
-use Rattle.ct_terms.specs.Compiled.{equality}
+use Rattle.ct_formulas.specs.Pairs.{neighbours, pairs}
+use Rattle.ct_formulas.specs.Compiled.{equality}
 use Rattle.ct_operators.specs.declared.operator.Operator.{Operator}
 use Rattle.ct_operators.specs.declared.operator.Operator.TheVariants.{Construct, Select, Inspect, Call, Negation, Conjunction, Disjunction, Exclusion, Implication, Equality, Inequality}
 use Rattle.ct_operators.specs.Effect.{Stands, IsMissing}

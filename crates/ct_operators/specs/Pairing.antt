@@ -6,7 +6,7 @@ use Rattle.ct_terms.specs.declared.ids.TermId.{TermId}
 use Rattle.ct_terms.specs.Terms.{Terms}
 use Rattle.ct_terms.specs.CoreTree.{CoreTree, term_at}
 use Rattle.ct_terms.specs.CoreSorts.{HasTreeSort}
-use Rattle.ct_terms.specs.Compiled.{equality, inequality}
+use Rattle.ct_formulas.specs.Compiled.{equality, inequality}
 use Rattle.ct_operators.specs.Made.{Made, leaf, made_equality, made_inequality}
 
 -- two terms

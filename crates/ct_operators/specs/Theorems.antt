@@ -11,11 +11,12 @@ use Rattle.ct_terms.specs.declared.term.Core.{Core}
 use Rattle.ct_terms.specs.Terms.{Terms, IsOfSort, AreSorted as AreSortedTerms, AreOrdered, AreSingle}
 use Rattle.ct_terms.specs.CoreTree.{CoreTree, tree_children, subtrees, tree_layer, no_term, term_at}
 use Rattle.ct_terms.specs.CoreSorts.{AreFieldSorts, HasTreeSort, tree_sort}
-use Rattle.ct_terms.specs.Formula.{Formula, MentionsBelow}
-use Rattle.ct_terms.specs.FormulaSorts.{IsSorted, AreSound}
-use Rattle.ct_terms.specs.Calls.{calls_below}
-use Rattle.ct_terms.specs.Compiled.{fields_of, compiled, GiveSorted}
-use Rattle.ct_terms.specs.Occurrence.{occurs, uses_below, AreSameAt, UseSame, GiveUsed}
+use Rattle.ct_formulas.specs.Formula.{Formula, MentionsBelow}
+use Rattle.ct_formulas.specs.FormulaSorts.{IsSorted, AreSound}
+use Rattle.ct_formulas.specs.Calls.{calls_below}
+use Rattle.ct_terms.specs.Fields.{fields_of}
+use Rattle.ct_formulas.specs.Compiled.{compiled, GiveSorted}
+use Rattle.ct_formulas.specs.Occurrence.{occurs, uses_below, AreSameAt, UseSame, GiveUsed}
 
 pub record Theorems : Type 0 where
   pub unfolds : (table : Terms) (t : TermId) (core : Core) (sort : SortId) → AreOrdered table → slice_get table t.0 ≡ Some (core, sort) → term_at table t ≡ tree_layer (term_at table) core

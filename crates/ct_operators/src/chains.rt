@@ -3,8 +3,8 @@ ghost use Rattle.std.specs.Prelude.{◌≡◌, ◌<◌, length, map, List, [], �
 ghost use Rattle.std.specs.List.{AllByRecursion};
 ghost use Rattle.ct_sorts.specs.declared.ids.SortId.{SortId};
 ghost use Rattle.ct_terms.specs.CoreTree.{CoreTree, term_at};
-ghost use Rattle.ct_terms.specs.Pairs.{neighbours_from, neighbours, pairs};
-ghost use Rattle.ct_terms.specs.Compiled.{all_of as conjunction_of, equality as equality_of, inequality as inequality_of};
+ghost use Rattle.ct_formulas.specs.Pairs.{neighbours_from, neighbours, pairs};
+ghost use Rattle.ct_formulas.specs.Compiled.{all_of as conjunction_of, equality as equality_of, inequality as inequality_of};
 ghost use Rattle.ct_operators.specs.Effect.{Stands, AllStand, IsSoundTable, Within, AllWithin, Effect};
 ghost use Rattle.ct_operators.specs.Forms.{AllHaveSort};
 ghost use Rattle.ct_operators.specs.Pairing.{both, compared_as, compared_all, made_compared_all, IsPair};

@@ -5,7 +5,7 @@ ghost use Rattle.ct_sorts.specs.declared.ids.SortId.{SortId};
 ghost use Rattle.ct_sorts.specs.Declarations.{bool_sort};
 ghost use Rattle.ct_terms.specs.CoreTree.{CoreTree, negation, term_at};
 ghost use Rattle.ct_terms.specs.CoreSorts.{HasTreeSort};
-ghost use Rattle.ct_terms.specs.Compiled.{all_of as conjunction_of, any_of as disjunction_of, exclusive as exclusion, exclusive_of as exclusions_of, implication_of as implications_of, equality as equality_of, inequality as inequality_of};
+ghost use Rattle.ct_formulas.specs.Compiled.{all_of as conjunction_of, any_of as disjunction_of, exclusive as exclusion, exclusive_of as exclusions_of, implication_of as implications_of, equality as equality_of, inequality as inequality_of};
 ghost use Rattle.ct_operators.specs.Effect.{Stands, IsSoundTable, Within, Effect};
 ghost use Rattle.ct_operators.specs.Forms.{implication, AllHaveSort};
 

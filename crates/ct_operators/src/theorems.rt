@@ -1,7 +1,8 @@
 //! The theorems on terms and formulas that compiling stands on.
 ghost use Rattle.ct_operators.specs.Theorems.{Theorems};
 
-use ct_terms::{core_trees, formulas};
+use ct_formulas::formulas;
+use ct_terms::core_trees;
 
 /// The theorems, as one. The function does nothing.
 pub fn term_theorems()

@@ -1,38 +1,13 @@
--- Lists by their indices: what stands at an index, after one more element, after a write, and in the rest of a list.
-use Rattle.std.proofs.Common.{◌≡◌, ℕ, zero, suc, ◌+◌, ◌<◌, ◌≤◌, ◌⊎◌, inl, inr, List, [], ◌∷◌, ◌++◌, length, drop, Some, None, slice_get, slice_set, refl, sym, ap, arith}
+-- Lists by their indices: what stands there after a write, and in the rest of a list.
+use Rattle.std.proofs.Common.{◌≡◌, ℕ, zero, suc, ◌+◌, ◌<◌, ◌≤◌, ◌⊎◌, inl, inr, List, [], ◌∷◌, length, drop, Some, None, slice_get, slice_set, refl, sym, ap, arith}
 use Rattle.std.proofs.lemmas.Option.{none-some, same_Some}
 
 module _ {X : Type 0} where
-  -- something stands at each index within
-  pub stands : (xs : List X) (k : ℕ) → k < length xs → (x : X) × (slice_get xs k ≡ Some x)
-  stands [] k within = absurd (omega arith)
-  stands (x ∷ xs) zero within = (x, refl)
-  stands (x ∷ xs) (suc k) within = stands xs k (omega arith)
-
   -- an index at which nothing stands is past the end
   pub none-past : (xs : List X) (k : ℕ) → slice_get xs k ≡ None → length xs ≤ k
   none-past [] k none = omega arith
   none-past (x ∷ xs) zero none = absurd (none-some x (sym none))
   none-past (x ∷ xs) (suc k) none = let later = none-past xs k none in omega (arith, later)
-
-  -- with more after it, it stands there
-  pub slice_get-append_left : (xs ys : List X) (k : ℕ) (x : X) → slice_get xs k ≡ Some x → slice_get (xs ++ ys) k ≡ Some x
-  slice_get-append_left [] ys k x e = absurd (none-some x e)
-  slice_get-append_left (z ∷ zs) ys zero x e = e
-  slice_get-append_left (z ∷ zs) ys (suc k) x e = slice_get-append_left zs ys k x e
-
-  -- with a new last element, what stands at an index stood there before, or is the new one at the end
-  pub slice_get-push_cases : (xs : List X) (x y : X) (k : ℕ) → slice_get (xs ++ x ∷ []) k ≡ Some y → (slice_get xs k ≡ Some y) ⊎ ((k ≡ length xs) × (x ≡ y))
-  slice_get-push_cases [] x y zero e = inr (refl, same_Some x y e)
-  slice_get-push_cases [] x y (suc k) e = absurd (none-some y e)
-  slice_get-push_cases (z ∷ zs) x y zero e = inl e
-  slice_get-push_cases (z ∷ zs) x y (suc k) e =
-      elim (slice_get-push_cases zs x y k e) [ inl h ↦ inl h | inr h ↦ inr (ap suc h.0, h.1) ]
-
-  -- the new one stands at the end
-  pub slice_get-last : (xs : List X) (x : X) → slice_get (xs ++ x ∷ []) (length xs) ≡ Some x
-  slice_get-last [] x = refl
-  slice_get-last (z ∷ zs) x = slice_get-last zs x
 
   -- what stands in the rest of a list
   pub slice_get-drop : (n : ℕ) (xs : List X) (k i : ℕ) → i ≡ n + k → slice_get (drop n xs) k ≡ slice_get xs i
@@ -63,11 +38,3 @@ module _ {X : Type 0} where
   slice_set-other (z ∷ zs) zero x (suc k) y other e = e
   slice_set-other (z ∷ zs) (suc n) x zero y other e = e
   slice_set-other (z ∷ zs) (suc n) x (suc k) y other e = slice_set-other zs n x k y (λ same. other (ap suc same)) e
-
--- a number that is not past the last is before it, or is it
-pub last_or_before : (k i : ℕ) → k < i + 1 → (k < i) ⊎ (k ≡ i)
-last_or_before zero zero h = inr refl
-last_or_before zero (suc i) h = inl (omega arith)
-last_or_before (suc k) zero h = absurd (omega arith)
-last_or_before (suc k) (suc i) h =
-    elim (last_or_before k i (omega arith)) [ inl before ↦ inl (omega arith) | inr last ↦ inr (ap suc last) ]

@@ -1,18 +1,10 @@
 -- The lists that give a graph: where the kids of a point begin and end, and that they are points.
-use Rattle.std.proofs.Common.{◌≡◌, ℕ, zero, suc, ◌+◌, ◌-◌, ◌<◌, ◌≤◌, List, length, drop, slice_index, All, ap, subst, arith}
+use Rattle.std.proofs.Common.{ℕ, ◌+◌, ◌-◌, ◌<◌, ◌≤◌, List, length, drop, slice_index, All, subst, arith}
 use Rattle.std.proofs.lemmas.List.{length-take, length-drop}
 use Rattle.std.proofs.lemmas.List.Elements.{All-take, All-drop}
 use Rattle.std.proofs.lemmas.Option.{slice_get_within, get_or_from_slice_get}
+use Rattle.ct_lemmas.proofs.Slices.{rises}
 use Rattle.ct_ordering.specs.Graph.{graph, ArePoints, HasKid}
-
-rises : (starts : List ℕ) (n : ℕ) → ((i : ℕ) → i < n → slice_index starts i ≤ slice_index starts (i + 1)) → (d i : ℕ) → i + d ≡ n → slice_index starts i ≤ slice_index starts n
-rises starts n rising zero i e =
-    let same : slice_index starts i ≡ slice_index starts n = ap (slice_index starts) (omega arith) in
-    omega arith
-rises starts n rising (suc d) i e =
-    let step = rising i (omega arith) in
-    let rest = rises starts n rising d (i + 1) (omega arith) in
-    omega arith
 
 -- no start is past the end of the kids
 pub starts_within : (starts kids : List ℕ) → ArePoints starts kids → (i : ℕ) → i < length starts → slice_index starts i ≤ length kids

@@ -3,13 +3,15 @@ use Rattle.std.proofs.Common.{◌≡◌, ℕ, ◌+◌, ◌-◌, ◌<◌, ◌⊎�
 use Rattle.std.proofs.lemmas.List.{length-set, length-drop, length_push}
 use Rattle.std.proofs.lemmas.List.Elements.{All-drop}
 use Rattle.std.proofs.lemmas.Option.{same_Some, slice_get_within, slice_get-get_or}
+use Rattle.ct_lemmas.proofs.Lists.{slice_get-append_left, slice_get-last, slice_get-push_cases}
+use Rattle.ct_lemmas.proofs.Numbers.{last_or_before}
 use Rattle.ct_ordering.specs.declared.hop.Hop.{Hop}
 use Rattle.ct_ordering.specs.declared.search.Colour.{Colour}
 use Rattle.ct_ordering.specs.declared.search.Colour.TheVariants.{White, Grey, Black}
 use Rattle.ct_ordering.specs.Graph.{Graph, HasKid}
 use Rattle.ct_ordering.specs.Order.{GoesTo, IsPath, IsCycle}
 use Rattle.ct_ordering.specs.Search.{HasColour, StandsIn, IsAtDepth, first_hop, next_hop, IsPartialOrder, IsUnderWay}
-use Rattle.ct_ordering.proofs.ListLemmas.{none-past, slice_get-append_left, slice_get-push_cases, slice_get-last, slice_get-drop, slice_set-cases, slice_set-here, slice_set-other, last_or_before}
+use Rattle.ct_ordering.proofs.ListLemmas.{none-past, slice_get-drop, slice_set-cases, slice_set-here, slice_set-other}
 
 -- ---- colours
 

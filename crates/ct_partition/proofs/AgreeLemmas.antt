@@ -5,9 +5,9 @@ use Rattle.std.specs.Cmp.{IsEquivalence}
 use Rattle.std.specs.Cmp.Lexicographic.{pointwise}
 use Rattle.std.proofs.lemmas.Cmp.{and_equiv, on_equiv, lists_equiv, nat_eq_equiv}
 use Rattle.std.proofs.lemmas.Bool.{eqb-true, eq-eqb}
+use Rattle.ct_lemmas.proofs.Booleans.{both_parts, both_true}
 use Rattle.ct_partition.specs.Points.{Points}
 use Rattle.ct_partition.specs.Bisimilarity.{agree, AgreeAlways, IsBisimulation}
-use Rattle.ct_partition.proofs.SetLemmas.{both, both_parts}
 
 -- the children of each point are points
 abbrev pub IsClosed : Points → Type 0
@@ -29,7 +29,7 @@ agree-zero p i j = refl
 -- agreement to a greater depth is that of labels and children
 pub agree-suc : (p : Points) (depth i j : ℕ) → p.label i ≡ p.label j → IsTrue (pointwise (agree p depth) (p.children i) (p.children j)) → IsTrue (agree p (suc depth) i j)
 unfolding agree
-agree-suc p depth i j labels each = both (nat_eq (p.label i) (p.label j)) (pointwise (agree p depth) (p.children i) (p.children j)) (eq-eqb (p.label i) (p.label j) labels) each
+agree-suc p depth i j labels each = both_true (nat_eq (p.label i) (p.label j)) (pointwise (agree p depth) (p.children i) (p.children j)) (eq-eqb (p.label i) (p.label j) labels) each
 
 agree-parts : (p : Points) (depth i j : ℕ) → IsTrue (agree p (suc depth) i j) → (p.label i ≡ p.label j) × IsTrue (pointwise (agree p depth) (p.children i) (p.children j))
 unfolding agree
@@ -60,7 +60,7 @@ pointwise-weaken count E F weaker [] (n ∷ ns) ms_in ns_in h = h
 pointwise-weaken count E F weaker (m ∷ ms) [] ms_in ns_in h = h
 pointwise-weaken count E F weaker (m ∷ ms) (n ∷ ns) ms_in ns_in h =
     let parts = both_parts (E m n) (pointwise E ms ns) h in
-    both
+    both_true
     (F m n)
     (pointwise F ms ns)
     (weaker m n (ms_in 0 m (omega arith)) (ns_in 0 n (omega arith)) parts.0)

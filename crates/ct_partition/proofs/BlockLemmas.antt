@@ -4,11 +4,12 @@ use Rattle.std.proofs.lemmas.Bool.{eqb-true, eqb-false, eq-eqb, ne_eqb}
 use Rattle.std.proofs.lemmas.List.Elements.{All-set, All-nil, All-cons, All-push, All-weaker, All-from_get_or}
 use Rattle.std.proofs.lemmas.List.Sorted.{All-permutation}
 use Rattle.std.specs.List.Sorted.{IsPermutation}
+use Rattle.ct_lemmas.proofs.Booleans.{both_parts, or_false, or_true}
 use Rattle.ct_partition.specs.Points.{Points}
 use Rattle.ct_partition.specs.Partition.{block_at}
 use Rattle.ct_partition.specs.Sets.{has, row_at, IsSaturated}
 use Rattle.ct_partition.specs.Blocks.{AreBlocks, KeepAlike}
-use Rattle.ct_partition.proofs.SetLemmas.{both_parts, has-nil, has-more, has-push, has-All, All-from_has, or-false, or-true}
+use Rattle.ct_partition.proofs.SetLemmas.{has-nil, has-more, has-push, has-All, All-from_has}
 use Rattle.ct_partition.proofs.SaturatedLemmas.{IsSaturated-nil, IsSaturated-block, KeepsTogether-renumbered}
 
 -- ---- numbers
@@ -27,9 +28,9 @@ AreRenumbered-none old number = record {
 written : (new : List ℕ) (x i number old : ℕ) (a c : Bool) → nat_eq x i ≡ c → x < length new → block_at new i ≡ cond a number old → block_at (set new x number) i ≡ cond (a || c) number old
 written new x i number old a true e within h =
     let same : i ≡ x = sym (eqb-true x i e) in
-    ap (block_at (set new x number)) same ∙ get_or-set_same new x number 0 within ∙ ap (λ b. cond b number old) (sym (or-true a))
+    ap (block_at (set new x number)) same ∙ get_or-set_same new x number 0 within ∙ ap (λ b. cond b number old) (sym (or_true a))
 written new x i number old a false e within h =
-    get_or-set_other new x i number 0 (λ same. eqb-false x i e (sym same)) ∙ h ∙ ap (λ b. cond b number old) (sym (or-false a))
+    get_or-set_other new x i number 0 (λ same. eqb-false x i e (sym same)) ∙ h ∙ ap (λ b. cond b number old) (sym (or_false a))
 
 -- one more point of the set has the number
 pub AreRenumbered-more : (old new points : List ℕ) (k d number : ℕ) → k < length points → get_or points k d < length old → AreRenumbered old new (take k points) number → AreRenumbered old (set new (get_or points k d) number) (take (k + 1) points) number
@@ -62,7 +63,7 @@ left_more h a true t e fails = e ∙ ap (λ b. a && b) (fails refl) ∙ nothing 
     nothing : (b : Bool) → (b && false) ≡ false
     nothing true = refl
     nothing false = refl
-left_more h a false t e fails = e ∙ ap (λ b. b && t) (sym (or-false a))
+left_more h a false t e fails = e ∙ ap (λ b. b && t) (sym (or_false a))
 
 pub stored-left : (stored points numbers : List ℕ) (k d number : ℕ) → k < length points → (block_at numbers (get_or points k d) ≡ number → ⊥) → ((i : ℕ) → has stored i ≡ (has (take k points) i && nat_eq (block_at numbers i) number)) → (i : ℕ) → has stored i ≡ (has (take (k + 1) points) i && nat_eq (block_at numbers i) number)
 stored-left stored points numbers k d number within other done i =

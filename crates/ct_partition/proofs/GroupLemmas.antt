@@ -3,6 +3,7 @@ use Rattle.std.proofs.Common.{◌≡◌, ℕ, zero, suc, ◌+◌, ◌<◌, ◌�
 use Rattle.std.proofs.lemmas.Bool.{eqb-true, eqb-false, eq-eqb}
 use Rattle.std.proofs.lemmas.Option.{same_Some, none-some}
 use Rattle.std.proofs.lemmas.List.Elements.{All-from_get_or}
+use Rattle.ct_lemmas.proofs.Booleans.{both_parts, both_true, or_cases, or_false, or_left, or_right}
 use Rattle.indexmap.specs.IndexMap.{IndexMap, get}
 use Rattle.std.specs.Map.{lookup}
 use Rattle.ct_partition.specs.declared.key.Key.{Key}
@@ -10,14 +11,9 @@ use Rattle.ct_partition.specs.KeyTest.{same_key}
 use Rattle.ct_partition.specs.Points.{Points}
 use Rattle.ct_partition.specs.Sets.{has, row_at, IsSaturated}
 use Rattle.ct_partition.specs.Refinement.{KeepsTogether, key_of}
-use Rattle.ct_partition.proofs.SetLemmas.{same_tests, both, both_parts, or-left, or-right, or-false, has-nil, has-more, has-push, has-All, All-from_has}
+use Rattle.ct_partition.proofs.SetLemmas.{same_tests, has-nil, has-more, has-push, has-All, All-from_has}
 use Rattle.ct_partition.proofs.AgreeLemmas.{IsClosed}
 use Rattle.ct_partition.proofs.SaturatedLemmas.{keys_together}
-
--- one of two tests passes
-pub either : (a b : Bool) → (a || b) ≡ true → (a ≡ true) ⊎ (b ≡ true)
-either true b e = inl refl
-either false b e = inr e
 
 -- ---- rows
 
@@ -33,7 +29,7 @@ put_at rows group i g j true e within =
     let here : g ≡ group = sym (eqb-true group g e) in
     ap (λ n. has (row_at (set rows group (row_at rows group ++ i ∷ [])) n) j) here ∙ ap (λ (row : List ℕ). has row j) (get_or-set_same rows group (row_at rows group ++ i ∷ []) [] within) ∙ has-push (row_at rows group) i j ∙ ap (λ n. has (row_at rows n) j || nat_eq i j) (sym here)
 put_at rows group i g j false e within =
-    ap (λ (row : List ℕ). has row j) (get_or-set_other rows group g (row_at rows group ++ i ∷ []) [] (λ same. eqb-false group g e (sym same))) ∙ sym (or-false (has (row_at rows g) j))
+    ap (λ (row : List ℕ). has row j) (get_or-set_other rows group g (row_at rows group ++ i ∷ []) [] (λ same. eqb-false group g e (sym same))) ∙ sym (or_false (has (row_at rows g) j))
 
 -- a point at the end of one row
 pub row_at-put : (rows : List (List ℕ)) (group i : ℕ) → group < length rows → (g j : ℕ) → has (row_at (set rows group (row_at rows group ++ i ∷ [])) g) j ≡ (has (row_at rows g) j || (nat_eq group g && nat_eq i j))
@@ -64,32 +60,32 @@ AreGrouped-more p blocks waiting k d known more groups next count key group with
         let same : group ≡ n = same_Some group n (sym found ∙ ap (get same_key more) (sym new.0) ∙ h) in
         subst (λ m. m < length next) same room
   ];
-  grouped = λ i h. grouped_at i (either (has (take k waiting) i) (nat_eq (get_or waiting k d) i) (sym (has-more waiting k d i within) ∙ h));
-  only = λ g i h. only_at g i (either (has (row_at groups g) i) (nat_eq group g && nat_eq (get_or waiting k d) i) (sym (put g i) ∙ h));
+  grouped = λ i h. grouped_at i (or_cases (has (take k waiting) i) (nat_eq (get_or waiting k d) i) (sym (has-more waiting k d i within) ∙ h));
+  only = λ g i h. only_at g i (or_cases (has (row_at groups g) i) (nat_eq group g && nat_eq (get_or waiting k d) i) (sym (put g i) ∙ h));
 }
   where
     grouped_at : (i : ℕ) → (has (take k waiting) i ≡ true) ⊎ (nat_eq (get_or waiting k d) i ≡ true) → (g : ℕ) × (get same_key more (key_of p blocks i) ≡ Some g) × (has (row_at next g) i ≡ true)
     grouped_at i (inl before) =
         let old = grouped.grouped i before in
-        (old.0, stay (key_of p blocks i) old.0 old.1, put old.0 i ∙ or-left (has (row_at groups old.0) i) (nat_eq group old.0 && nat_eq (get_or waiting k d) i) old.2)
+        (old.0, stay (key_of p blocks i) old.0 old.1, put old.0 i ∙ or_left (has (row_at groups old.0) i) (nat_eq group old.0 && nat_eq (get_or waiting k d) i) old.2)
     grouped_at i (inr here) =
         let same = eqb-true (get_or waiting k d) i here in (
           group,
           ap (λ n. get same_key more (key_of p blocks n)) (sym same) ∙ ap (get same_key more) at ∙ found,
-          put group i ∙ or-right (has (row_at groups group) i) (nat_eq group group && nat_eq (get_or waiting k d) i) (both (nat_eq group group) (nat_eq (get_or waiting k d) i) (eq-eqb group group refl) here),
+          put group i ∙ or_right (has (row_at groups group) i) (nat_eq group group && nat_eq (get_or waiting k d) i) (both_true (nat_eq group group) (nat_eq (get_or waiting k d) i) (eq-eqb group group refl) here),
         )
 
     only_at : (g i : ℕ) → (has (row_at groups g) i ≡ true) ⊎ ((nat_eq group g && nat_eq (get_or waiting k d) i) ≡ true) → (get same_key more (key_of p blocks i) ≡ Some g) × (has (take (k + 1) waiting) i ≡ true)
     only_at g i (inl before) =
         let old = grouped.only g i before in (
           stay (key_of p blocks i) g old.0,
-          has-more waiting k d i within ∙ or-left (has (take k waiting) i) (nat_eq (get_or waiting k d) i) old.1,
+          has-more waiting k d i within ∙ or_left (has (take k waiting) i) (nat_eq (get_or waiting k d) i) old.1,
         )
     only_at g i (inr new) =
         let parts = both_parts (nat_eq group g) (nat_eq (get_or waiting k d) i) new in
         let same = eqb-true (get_or waiting k d) i parts.1 in (
           ap (λ n. get same_key more (key_of p blocks n)) (sym same) ∙ ap (get same_key more) at ∙ found ∙ ap Some (eqb-true group g parts.0),
-          has-more waiting k d i within ∙ or-right (has (take k waiting) i) (nat_eq (get_or waiting k d) i) parts.1,
+          has-more waiting k d i within ∙ or_right (has (take k waiting) i) (nat_eq (get_or waiting k d) i) parts.1,
         )
 
 -- the groups of a set have points of it

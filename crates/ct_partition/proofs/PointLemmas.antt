@@ -1,17 +1,9 @@
 -- The lists that give points: where the children of a point begin and end, and that they are points.
-use Rattle.std.proofs.Common.{◌≡◌, ℕ, zero, suc, ◌+◌, ◌-◌, ◌<◌, ◌≤◌, List, length, drop, slice_index, ap, arith}
+use Rattle.std.proofs.Common.{ℕ, ◌+◌, ◌-◌, ◌<◌, ◌≤◌, List, length, drop, slice_index, arith}
 use Rattle.std.proofs.lemmas.List.Elements.{All-take, All-drop}
+use Rattle.ct_lemmas.proofs.Slices.{rises}
 use Rattle.ct_partition.specs.Points.{points, ArePoints}
 use Rattle.ct_partition.proofs.AgreeLemmas.{IsClosed}
-
-rises : (starts : List ℕ) (n : ℕ) → ((i : ℕ) → i < n → slice_index starts i ≤ slice_index starts (i + 1)) → (d i : ℕ) → i + d ≡ n → slice_index starts i ≤ slice_index starts n
-rises starts n rising zero i e =
-    let same : slice_index starts i ≡ slice_index starts n = ap (slice_index starts) (omega arith) in
-    omega arith
-rises starts n rising (suc d) i e =
-    let step = rising i (omega arith) in
-    let rest = rises starts n rising d (i + 1) (omega arith) in
-    omega arith
 
 -- no start is past the end of the children
 pub starts_within : (labels starts children : List ℕ) → ArePoints labels starts children → (i : ℕ) → i ≤ length labels → slice_index starts i ≤ length children

@@ -5,11 +5,11 @@ use Rattle.std.specs.Cmp.Lexicographic.{pointwise}
 use Rattle.std.proofs.lemmas.Grind.{get_or_default_zero}
 use Rattle.std.proofs.lemmas.List.Elements.{All-from_get_or}
 use Rattle.std.proofs.lemmas.List.Sums.{sum_by-cons, sum_by-le}
+use Rattle.ct_lemmas.proofs.Booleans.{both_true}
 use Rattle.ct_partition.specs.Points.{Points}
 use Rattle.ct_partition.specs.Bisimilarity.{agree}
 use Rattle.ct_partition.specs.Partition.{block_at}
 use Rattle.ct_partition.specs.Refinement.{key_of, KeepsTogether, IsPartition, IsRefined}
-use Rattle.ct_partition.proofs.SetLemmas.{both}
 use Rattle.ct_partition.proofs.AgreeLemmas.{IsClosed, agree-zero, agree-suc}
 use Rattle.ct_partition.proofs.SaturatedLemmas.{keys_together}
 
@@ -39,7 +39,7 @@ pointwise-blocks count blocks E each [] [] ms_in ns_in e = refl
 pointwise-blocks count blocks E each [] (n ∷ ns) ms_in ns_in e = cc
 pointwise-blocks count blocks E each (m ∷ ms) [] ms_in ns_in e = cc
 pointwise-blocks count blocks E each (m ∷ ms) (n ∷ ns) ms_in ns_in e =
-    both
+    both_true
     (E m n)
     (pointwise E ms ns)
     (each m n (ms_in 0 m (omega arith)) (ns_in 0 n (omega arith)) (cc))

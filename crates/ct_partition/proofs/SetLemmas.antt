@@ -1,9 +1,10 @@
 -- Sets of points as lists: what a longer list has, and tests that are the same.
-use Rattle.std.proofs.Common.{◌≡◌, ℕ, zero, suc, ◌+◌, ◌<◌, Bool, true, false, ◌&&◌, ◌||◌, List, [], ◌∷◌, ◌++◌, length, take, get_or, nat_eq, All, refl, sym, ap, ap₂, subst, ◌∙◌, arith, true≢false}
+use Rattle.std.proofs.Common.{◌≡◌, ℕ, zero, suc, ◌+◌, ◌<◌, Bool, true, false, ◌||◌, List, [], ◌∷◌, ◌++◌, length, take, get_or, nat_eq, All, refl, sym, ap, ap₂, subst, ◌∙◌, arith, true≢false}
 use Rattle.std.specs.List.{list_any}
 use Rattle.std.proofs.lemmas.Bool.{eqb-true, eq-eqb}
 use Rattle.std.proofs.lemmas.List.{take_more}
 use Rattle.std.proofs.lemmas.List.Elements.{All-from_get_or}
+use Rattle.ct_lemmas.proofs.Booleans.{or_assoc, or_false, or_left, or_right}
 use Rattle.ct_partition.specs.Sets.{has}
 
 -- ---- tests
@@ -13,37 +14,6 @@ pub same_tests : (a b : Bool) → (a ≡ true → b ≡ true) → (b ≡ true �
 same_tests true b there back = sym (there refl)
 same_tests false true there back = back refl
 same_tests false false there back = refl
-
--- both tests pass where both do
-pub both : (a b : Bool) → a ≡ true → b ≡ true → (a && b) ≡ true
-both true b e h = h
-both false b e h = absurd (true≢false (sym e))
-
-pub both_parts : (a b : Bool) → (a && b) ≡ true → (a ≡ true) × (b ≡ true)
-both_parts true b h = (refl, h)
-both_parts false b h = absurd (true≢false (sym h))
-
--- or in any order and grouping
-pub or-assoc : (a b c : Bool) → ((a || b) || c) ≡ (a || (b || c))
-or-assoc true b c = refl
-or-assoc false b c = refl
-
-pub or-false : (a : Bool) → (a || false) ≡ a
-or-false true = refl
-or-false false = refl
-
-pub or-true : (a : Bool) → (a || true) ≡ true
-or-true true = refl
-or-true false = refl
-
--- either test passes where one does
-pub or-left : (a b : Bool) → a ≡ true → (a || b) ≡ true
-or-left true b e = refl
-or-left false b e = absurd (true≢false (sym e))
-
-pub or-right : (a b : Bool) → b ≡ true → (a || b) ≡ true
-or-right true b e = refl
-or-right false b e = e
 
 -- what passes already is not changed by what passes only then
 pub or-old : (a b : Bool) → (b ≡ true → a ≡ true) → (a || b) ≡ a
@@ -62,13 +32,13 @@ has-nil i = refl
 pub has-append : (xs ys : List ℕ) (i : ℕ) → has (xs ++ ys) i ≡ (has xs i || has ys i)
 unfolding has
 has-append [] ys i = refl
-has-append (x ∷ xs) ys i = ap (λ b. nat_eq x i || b) (has-append xs ys i) ∙ sym (or-assoc (nat_eq x i) (has xs i) (has ys i))
+has-append (x ∷ xs) ys i = ap (λ b. nat_eq x i || b) (has-append xs ys i) ∙ sym (or_assoc (nat_eq x i) (has xs i) (has ys i))
 
 -- what is in a set with one more
 pub has-push : (xs : List ℕ) (x i : ℕ) → has (xs ++ x ∷ []) i ≡ (has xs i || nat_eq x i)
 unfolding has
-has-push [] x i = or-false (nat_eq x i)
-has-push (y ∷ xs) x i = ap (λ b. nat_eq y i || b) (has-push xs x i) ∙ sym (or-assoc (nat_eq y i) (has xs i) (nat_eq x i))
+has-push [] x i = or_false (nat_eq x i)
+has-push (y ∷ xs) x i = ap (λ b. nat_eq y i || b) (has-push xs x i) ∙ sym (or_assoc (nat_eq y i) (has xs i) (nat_eq x i))
 
 -- what is in one more of a list
 pub has-more : (xs : List ℕ) (k d i : ℕ) → k < length xs → has (take (k + 1) xs) i ≡ (has (take k xs) i || nat_eq (get_or xs k d) i)
@@ -78,8 +48,8 @@ has-more xs k d i within = ap (λ (ys : List ℕ). has ys i) (take_more xs k d w
 pub has-at : (xs : List ℕ) (k d : ℕ) → k < length xs → has xs (get_or xs k d) ≡ true
 unfolding has
 has-at [] k d within = absurd (omega arith)
-has-at (x ∷ xs) zero d within = or-left (nat_eq x x) (has xs x) (eq-eqb x x refl)
-has-at (x ∷ xs) (suc k) d within = or-right (nat_eq x (get_or xs k d)) (has xs (get_or xs k d)) (has-at xs k d (omega arith))
+has-at (x ∷ xs) zero d within = or_left (nat_eq x x) (has xs x) (eq-eqb x x refl)
+has-at (x ∷ xs) (suc k) d within = or_right (nat_eq x (get_or xs k d)) (has xs (get_or xs k d)) (has-at xs k d (omega arith))
 
 -- what holds of all in the set holds of each element, and back
 pub All-from_has : (P : ℕ → Type 0) (xs : List ℕ) → ((i : ℕ) → has xs i ≡ true → P i) → All P xs

@@ -3,18 +3,19 @@ use Rattle.std.proofs.Common.{◌≡◌, ℕ, zero, suc, ◌+◌, ◌<◌, ◌�
 use Rattle.std.proofs.lemmas.List.{take_more}
 use Rattle.std.proofs.lemmas.Bool.{eqb-true, eqb-false, eq-eqb, ltb-true, lt-ltb}
 use Rattle.std.proofs.lemmas.List.Elements.{All-set, All-nil, All-cons, All-from_get_or}
+use Rattle.ct_lemmas.proofs.Booleans.{both_parts, or_assoc, or_cases, or_false, or_left, or_right, or_true}
 use Rattle.ct_partition.specs.Sets.{has, row_at, IsSaturated}
 use Rattle.ct_partition.specs.Blocks.{AreBlocks, KeepAlike}
 use Rattle.ct_partition.specs.Points.{Points}
 use Rattle.ct_partition.specs.Parents.{AreParents, in_row_of}
 use Rattle.ct_partition.proofs.RoundLemmas.{last_or_before}
-use Rattle.ct_partition.proofs.GroupLemmas.{either, row_at-put}
-use Rattle.ct_partition.proofs.SetLemmas.{same_tests, or-right, both_parts, All-from_has, or-assoc, or-false, or-true, or-left, or-old, has-nil, has-more, has-push}
+use Rattle.ct_partition.proofs.GroupLemmas.{row_at-put}
+use Rattle.ct_partition.proofs.SetLemmas.{same_tests, All-from_has, or-old, has-nil, has-more, has-push}
 
 in_row-push : (rows : List (List ℕ)) (set : List ℕ) (x i : ℕ) → in_row_of rows (set ++ x ∷ []) i ≡ (in_row_of rows set i || has (row_at rows x) i)
-in_row-push rows [] x i = or-false (has (row_at rows x) i)
+in_row-push rows [] x i = or_false (has (row_at rows x) i)
 in_row-push rows (y ∷ set) x i =
-    ap (λ b. has (row_at rows y) i || b) (in_row-push rows set x i) ∙ sym (or-assoc (has (row_at rows y) i) (in_row_of rows set i) (has (row_at rows x) i))
+    ap (λ b. has (row_at rows y) i || b) (in_row-push rows set x i) ∙ sym (or_assoc (has (row_at rows y) i) (in_row_of rows set i) (has (row_at rows x) i))
 
 -- one more of the set
 pub in_row-more : (rows : List (List ℕ)) (set : List ℕ) (k d i : ℕ) → k < length set → in_row_of rows (take (k + 1) set) i ≡ (in_row_of rows (take k set) i || has (row_at rows (get_or set k d)) i)
@@ -32,7 +33,7 @@ AreStamped-none old before stamp low stamped = record {
   long = refl;
   low = low;
   stamped = stamped;
-  added = λ i. sym (ap (λ b. has before i || b) (has-nil i) ∙ or-false (has before i));
+  added = λ i. sym (ap (λ b. has before i || b) (has-nil i) ∙ or_false (has before i));
 }
 
 -- one more point that has the stamp
@@ -47,7 +48,7 @@ AreStamped-old old before points k d stamp stamps waiting within inside here don
   where
     more : (before points : List ℕ) (k d i : ℕ) (waiting : List ℕ) → k < length points → ((j : ℕ) → has waiting j ≡ (has before j || has (take k points) j)) → (has waiting i || nat_eq (get_or points k d) i) ≡ (has before i || has (take (k + 1) points) i)
     more before points k d i waiting within added =
-        ap (λ b. b || nat_eq (get_or points k d) i) (added i) ∙ or-assoc (has before i) (has (take k points) i) (nat_eq (get_or points k d) i) ∙ ap (λ b. has before i || b) (sym (has-more points k d i within))
+        ap (λ b. b || nat_eq (get_or points k d) i) (added i) ∙ or_assoc (has before i) (has (take k points) i) (nat_eq (get_or points k d) i) ∙ ap (λ b. has before i || b) (sym (has-more points k d i within))
 
 -- one more point that gets it
 pub AreStamped-new : (old before points : List ℕ) (k d stamp : ℕ) (stamps waiting : List ℕ) → k < length points → get_or points k d < length stamps → AreStamped old before (take k points) stamp stamps waiting → AreStamped old before (take (k + 1) points) stamp (set stamps (get_or points k d) stamp) (waiting ++ get_or points k d ∷ [])
@@ -56,13 +57,13 @@ AreStamped-new old before points k d stamp stamps waiting within inside done = r
   low = All-set (λ s. s ≤ stamp) stamps (get_or points k d) stamp (omega arith) done.low;
   stamped = λ i i_in h. has-push waiting (get_or points k d) i ∙ stamped_at i (subst (λ n. i < n) (length-set stamps (get_or points k d) stamp) i_in) h (nat_eq (get_or points k d) i) refl;
   added = λ i.
-      has-push waiting (get_or points k d) i ∙ ap (λ b. b || nat_eq (get_or points k d) i) (done.added i) ∙ or-assoc (has before i) (has (take k points) i) (nat_eq (get_or points k d) i) ∙ ap (λ b. has before i || b) (sym (has-more points k d i within));
+      has-push waiting (get_or points k d) i ∙ ap (λ b. b || nat_eq (get_or points k d) i) (done.added i) ∙ or_assoc (has before i) (has (take k points) i) (nat_eq (get_or points k d) i) ∙ ap (λ b. has before i || b) (sym (has-more points k d i within));
 }
   where
     stamped_at : (i : ℕ) → i < length stamps → slice_index (set stamps (get_or points k d) stamp) i ≡ stamp → (same : Bool) → nat_eq (get_or points k d) i ≡ same → (has waiting i || same) ≡ true
-    stamped_at i i_in h true e = or-true (has waiting i)
+    stamped_at i i_in h true e = or_true (has waiting i)
     stamped_at i i_in h false e =
-        or-left (has waiting i) false (done.stamped i i_in (sym (get_or-set_other stamps (get_or points k d) i stamp 0 (λ same. eqb-false (get_or points k d) i e (sym same))) ∙ h))
+        or_left (has waiting i) false (done.stamped i i_in (sym (get_or-set_other stamps (get_or points k d) i stamp 0 (λ same. eqb-false (get_or points k d) i e (sym same))) ∙ h))
 
 -- ---- parents
 
@@ -114,7 +115,7 @@ AreParentsBelow-none p rows long empty = record {
 
 next_parent : (p : Points) (k child i : ℕ) (a b c : Bool) → nat_lt i k ≡ a → nat_eq k i ≡ b → nat_lt i (k + 1) ≡ c → ((a && has (p.children i) child) || (b && has (p.children k) child)) ≡ (c && has (p.children i) child)
 next_parent p k child i true true c below same next = absurd (omega (arith, ltb-true i k below, eqb-true k i same))
-next_parent p k child i true false true below same next = or-false (has (p.children i) child)
+next_parent p k child i true false true below same next = or_false (has (p.children i) child)
 next_parent p k child i true false false below same next = absurd (true≢false (sym (lt-ltb i (k + 1) (omega (arith, ltb-true i k below))) ∙ next))
 next_parent p k child i false true true below same next = ap (λ n. has (p.children n) child) (eqb-true k i same)
 next_parent p k child i false true false below same next = absurd (true≢false (sym (lt-ltb i (k + 1) (omega (arith, eqb-true k i same))) ∙ next))
@@ -140,7 +141,7 @@ rows_within p rows parents =
 in_row_within : (p : Points) (rows : List (List ℕ)) (set : List ℕ) (i : ℕ) → AreParents p rows → in_row_of rows set i ≡ true → i < p.count
 in_row_within p rows [] i parents h = absurd (true≢false (sym h))
 in_row_within p rows (x ∷ set) i parents h =
-    elim (either (has (row_at rows x) i) (in_row_of rows set i) h) [
+    elim (or_cases (has (row_at rows x) i) (in_row_of rows set i) h) [
       | inl here ↦ ltb-true i p.count (both_parts (nat_lt i p.count) (has (p.children i) x) (sym (parents.parents x i) ∙ here)).0
       | inr later ↦ in_row_within p rows set i parents later
     ]
@@ -185,13 +186,13 @@ below_next i k =
     same_tests
     (nat_lt i k || nat_eq k i)
     (nat_lt i (k + 1))
-    (λ h. elim (either (nat_lt i k) (nat_eq k i) h) [
+    (λ h. elim (or_cases (nat_lt i k) (nat_eq k i) h) [
       | inl before ↦ lt-ltb i (k + 1) (omega (arith, ltb-true i k before))
       | inr here ↦ lt-ltb i (k + 1) (omega (arith, eqb-true k i here))
     ])
     (λ h. elim (last_or_before i k (ltb-true i (k + 1) h)) [
-      | inl here ↦ or-right (nat_lt i k) (nat_eq k i) (eq-eqb k i (sym here))
-      | inr before ↦ or-left (nat_lt i k) (nat_eq k i) (lt-ltb i k before)
+      | inl here ↦ or_right (nat_lt i k) (nat_eq k i) (eq-eqb k i (sym here))
+      | inr before ↦ or_left (nat_lt i k) (nat_eq k i) (lt-ltb i k before)
     ])
 
 -- the blocks keep points together, and the points that wait are saturated

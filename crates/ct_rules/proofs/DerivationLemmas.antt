@@ -4,6 +4,10 @@ use Rattle.std.proofs.Common.{◌≡◌, ℕ, zero, suc, ◌+◌, ◌<◌, ◌�
 use Rattle.std.specs.List.{AllZip, Contains}
 use Rattle.std.proofs.lemmas.Option.{none-some, same_Some, slice_get_within}
 use Rattle.std.proofs.lemmas.List.Elements.{Contains-append_left, Contains-append_right, Contains-push}
+use Rattle.ct_lemmas.proofs.Contained.{Contains-from_slice_get, slice_get-from_Contains}
+use Rattle.ct_lemmas.proofs.Lists.{slice_get-append_cases, slice_get-append_left, slice_get-append_right}
+use Rattle.ct_lemmas.proofs.Pairs.{AllZip-weaker}
+use Rattle.ct_lemmas.proofs.Prefixes.{slice_get-take, slice_get-take_below, take-slice_get}
 use Rattle.ct_sorts.specs.Declarations.{Declarations}
 use Rattle.ct_terms.specs.declared.ids.TermId.{TermId}
 use Rattle.ct_terms.specs.declared.ids.Lit.{Lit}
@@ -12,7 +16,6 @@ use Rattle.ct_terms.specs.Terms.{Terms}
 use Rattle.ct_rules.specs.declared.equation.Equation.{Equation}
 use Rattle.ct_rules.specs.Rules.{Equations, Follows, by_reflexivity, by_symmetry, by_transitivity, by_congruence, by_injection, by_selection, by_testing, by_expansion, by_equation_in, by_equation_out, by_negation, by_singleton}
 use Rattle.ct_rules.specs.Derivation.{AreAmong, States, IsHypothesis, AreDerived, Derives}
-use Rattle.ct_rules.proofs.ListLemmas.{Contains-from_slice_get, slice_get-from_Contains, slice_get-take, slice_get-take_below, take-slice_get, slice_get-append_left, slice_get-append_right, slice_get-append_cases, AllZip-weaker}
 use Rattle.ct_rules.proofs.FollowsLemmas.{Follows-wider}
 
 abbrev equation : TermId → TermId → Equation

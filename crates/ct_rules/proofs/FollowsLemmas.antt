@@ -1,11 +1,11 @@
 -- What follows from equations follows from more of them.
 use Rattle.std.proofs.Common.{◌⊎◌, inl, inr}
+use Rattle.ct_lemmas.proofs.Pairs.{AllZip-weaker}
 use Rattle.ct_sorts.specs.Declarations.{Declarations}
 use Rattle.ct_terms.specs.declared.ids.TermId.{TermId}
 use Rattle.ct_terms.specs.Children.{core_children}
 use Rattle.ct_terms.specs.Terms.{Terms}
 use Rattle.ct_rules.specs.Rules.{Equations, truth_term, IsReflexive, IsTransitive, IsCongruence, IsInjection, IsSelection, IsTesting, IsExpansion, IsEquationIn, IsEquationOut, IsNegation, IsSingleton, Follows, by_reflexivity, by_symmetry, by_transitivity, by_congruence, by_injection, by_selection, by_testing, by_expansion, by_equation_in, by_equation_out, by_negation, by_singleton}
-use Rattle.ct_rules.proofs.ListLemmas.{AllZip-weaker}
 
 module _ (d : Declarations) (terms : Terms) (known wider : Equations) (each : (x y : TermId) → known x y → wider x y) where
   pub Follows-wider : (x y : TermId) → Follows d terms known x y → Follows d terms wider x y

@@ -1,13 +1,13 @@
 -- Commands that are answered after others.
 use Rattle.std.proofs.Common.{◌≡◌, ℕ, Bool, true, false, List, [], ◌∷◌, ◌++◌, refl, ap, sym, ◌∙◌, subst, append_assoc}
 use Rattle.std.specs.Bool.{MatchBool}
+use Rattle.std.proofs.lemmas.List.{append-nil}
 use Rattle.ct_sexpr.specs.Text.{Located, Ending, clean, EndingSoFar}
 use Rattle.ct_engine.specs.declared.verdict.Verdict.{Verdict}
 use Rattle.ct_step.specs.State.{State}
 use Rattle.ct_step.specs.Step.{CommandEffect, Step, counted, refusal_text}
 use Rattle.ct_script.specs.Answers.{Answers, Leads, IsSilent, IsFollowed, lines_of, errors_of}
 use Rattle.ct_run.specs.SoFar.{AnswersSoFar, TextState, ends, stands, AnswersTo, refusal}
-use Rattle.ct_run.proofs.WritingLemmas.{append_nil}
 
 pub silence : IsSilent [] [] []
 silence = record { no_verdict = refl; no_error = refl; no_line = refl }
@@ -23,9 +23,9 @@ followed_on line e vs vs' more_vs es es' more_es ls ls' more_ls f = record {
 -- an effect that nothing follows
 followed_by_nothing : (line : ℕ) (e : CommandEffect) → IsFollowed line e e.verdicts [] (errors_of line e.error) [] (lines_of e.text) []
 followed_by_nothing line e = record {
-  verdicts_are = sym (append_nil e.verdicts);
-  errors_are = sym (append_nil (errors_of line e.error));
-  lines_are = sym (append_nil (lines_of e.text));
+  verdicts_are = sym (append-nil e.verdicts);
+  errors_are = sym (append-nil (errors_of line e.error));
+  lines_are = sym (append-nil (lines_of e.text));
 }
 
 -- silence before more

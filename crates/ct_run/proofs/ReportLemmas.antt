@@ -1,6 +1,7 @@
 -- What a run reports is true of its script.
 use Rattle.std.specs.List.{concat}
 use Rattle.std.proofs.Common.{◌≡◌, ℕ, ◌⊎◌, ⊎_elim, inl, inr, true, false, List, [], ◌∷◌, ◌++◌, Option, refl, ap, sym, ◌∙◌, subst}
+use Rattle.std.proofs.lemmas.List.{append-nil}
 use Rattle.ct_io.specs.declared.status.Status.{Status}
 use Rattle.ct_io.specs.declared.status.Status.TheVariants as status
 use Rattle.ct_io.specs.declared.sink.SinkError.{SinkError}
@@ -19,7 +20,7 @@ use Rattle.ct_run.specs.SoFar.{TextState, ends, stands, HasReadSoFar, AnswersTo,
 use Rattle.ct_run.specs.Progress.{Progress, progress, WentOn, CameToEnd, EndsWith, BrokeOff}
 use Rattle.ct_run.specs.Refusal.{status_of_error, status_of_script, refusal_line, IsRefused, IsConcluded}
 use Rattle.ct_run.specs.Run.{IsAnswered, IsAnsweredSoFar, Finishes, Solves}
-use Rattle.ct_run.proofs.WritingLemmas.{append_nil, all_written, wrote-later, IsLeft-later}
+use Rattle.ct_run.proofs.WritingLemmas.{all_written, wrote-later, IsLeft-later}
 use Rattle.ct_run.proofs.AnswerLemmas.{Answers-after, Answers-none, AnswersTo-after, AnswersTo-refusal}
 
 -- a sink's error ends a run with OutputFault where it is a fault, and never with InputFault
@@ -113,7 +114,7 @@ module _ (bytes : List ℕ) (u : Unread) (of : IsReadOf bytes u) (old : Option (
         last = now.course.state;
         count = now.course.number;
         lines = went.lines;
-        read = read_head bytes u of.line w went.commands waiting (subst (λ (cs : List Located). ReadsSoFar u.line u.bytes cs waiting) (append_nil went.commands) has.1);
+        read = read_head bytes u of.line w went.commands waiting (subst (λ (cs : List Located). ReadsSoFar u.line u.bytes cs waiting) (append-nil went.commands) has.1);
         answered =
             subst (λ (vs : List Verdict). Leads first_state 0 went.commands now.course.state now.course.number vs now.course.errors went.lines) (sym went.adds.verdicts_are)
             (subst (λ (es : List (ℕ × ℕ)). Leads first_state 0 went.commands now.course.state now.course.number went.verdicts es went.lines) (sym went.adds.errors_are) went.answered);
@@ -137,7 +138,7 @@ module _ (bytes : List ℕ) (u : Unread) (of : IsReadOf bytes u) (old : Option (
     reported : (errors : List (ℕ × ℕ)) → errors ≡ now.course.errors ++ error ∷ [] → IsAnswered bytes now.course.verdicts errors (went.lines ++ refusal_line error)
     reported errors is = answered_by (went.commands ++ []) (refusal now.unread.ended error) now.course.verdicts errors (went.lines ++ refusal_line error)
         (went.read [] (refusal now.unread.ended error) stopped)
-        (subst (λ (vs : List Verdict). AnswersTo first_state 0 (went.commands ++ []) (refusal now.unread.ended error) vs errors (went.lines ++ refusal_line error)) (append_nil went.verdicts ∙ sym went.adds.verdicts_are)
+        (subst (λ (vs : List Verdict). AnswersTo first_state 0 (went.commands ++ []) (refusal now.unread.ended error) vs errors (went.lines ++ refusal_line error)) (append-nil went.verdicts ∙ sym went.adds.verdicts_are)
         (subst (λ (es : List (ℕ × ℕ)). AnswersTo first_state 0 (went.commands ++ []) (refusal now.unread.ended error) (went.verdicts ++ []) es (went.lines ++ refusal_line error)) (ap (λ (es : List (ℕ × ℕ)). es ++ error ∷ []) (sym went.adds.errors_are) ∙ sym is)
         (AnswersTo-after first_state now.course.state 0 now.course.number went.commands [] (refusal now.unread.ended error) went.verdicts [] went.errors (error ∷ []) went.lines (refusal_line error) went.answered
         (AnswersTo-refusal now.course.state now.course.number now.unread.ended error))))
@@ -145,10 +146,10 @@ module _ (bytes : List ℕ) (u : Unread) (of : IsReadOf bytes u) (old : Option (
     unreported : IsAnsweredSoFar bytes now.course.verdicts now.course.errors went.lines
     unreported = begun_by went.commands [] (refusal now.unread.ended error) now.course.verdicts now.course.errors went.lines
         (went.read [] (refusal now.unread.ended error) stopped)
-        (subst (λ (cs : List Located). Answers first_state 0 cs clean now.course.verdicts now.course.errors went.lines) (append_nil went.commands)
-        (subst (λ (vs : List Verdict). Answers first_state 0 (went.commands ++ []) clean vs now.course.errors went.lines) (append_nil went.verdicts ∙ sym went.adds.verdicts_are)
-        (subst (λ (es : List (ℕ × ℕ)). Answers first_state 0 (went.commands ++ []) clean (went.verdicts ++ []) es went.lines) (append_nil went.errors ∙ sym went.adds.errors_are)
-        (subst (λ (ls : List (List ℕ)). Answers first_state 0 (went.commands ++ []) clean (went.verdicts ++ []) (went.errors ++ []) ls) (append_nil went.lines)
+        (subst (λ (cs : List Located). Answers first_state 0 cs clean now.course.verdicts now.course.errors went.lines) (append-nil went.commands)
+        (subst (λ (vs : List Verdict). Answers first_state 0 (went.commands ++ []) clean vs now.course.errors went.lines) (append-nil went.verdicts ∙ sym went.adds.verdicts_are)
+        (subst (λ (es : List (ℕ × ℕ)). Answers first_state 0 (went.commands ++ []) clean (went.verdicts ++ []) es went.lines) (append-nil went.errors ∙ sym went.adds.errors_are)
+        (subst (λ (ls : List (List ℕ)). Answers first_state 0 (went.commands ++ []) clean (went.verdicts ++ []) (went.errors ++ []) ls) (append-nil went.lines)
         (Answers-after first_state now.course.state 0 now.course.number went.commands [] clean went.verdicts [] went.errors [] went.lines [] went.answered
         (Answers-none now.course.state now.course.number))))))
 

@@ -1,5 +1,6 @@
 -- Commands one after another: what is read, answered and written.
 use Rattle.std.proofs.Common.{◌≡◌, ℕ, ◌⊎◌, inl, inr, Bool, true, false, List, [], ◌∷◌, ◌++◌, Option, refl, ap, sym, ◌∙◌, subst, append_assoc}
+use Rattle.std.proofs.lemmas.List.{append-nil}
 use Rattle.ct_io.specs.declared.sink.SinkError.{SinkError}
 use Rattle.ct_io.specs.declared.sink.SinkError.TheVariants as sink
 use Rattle.ct_sexpr.specs.Expression.{Expression}
@@ -13,7 +14,7 @@ use Rattle.ct_script.specs.Answers.{Leads, lines_of, errors_of}
 use Rattle.ct_run.specs.Output.{wrote, IsLeft}
 use Rattle.ct_run.specs.SoFar.{TextState, ends, stands, HasReadSoFar, refusal}
 use Rattle.ct_run.specs.Progress.{Progress, AnsweredWith, IsUnanswered, IsCutOff, Adds, WentOn, CameToEnd, BrokeOff}
-use Rattle.ct_run.proofs.WritingLemmas.{append_nil, appended-nothing, nothing_written, wrote-later, IsLeft-later}
+use Rattle.ct_run.proofs.WritingLemmas.{appended-nothing, nothing_written, wrote-later, IsLeft-later}
 use Rattle.ct_run.proofs.AnswerLemmas.{silence, Answers-after, Leads-after, Leads-one, Answers-one, Answers-none, AnswersTo-after, AnswersTo-last}
 
 -- what a reader was fed has some reading
@@ -32,7 +33,7 @@ refused_where : (u : Unread) (code line : ℕ) → IsLast u code line → (b : B
 refused_where u code line last true ended = (ended, last.ended)
 refused_where u code line last false ended = (
   ended,
-  subst (λ (b : List ℕ). ReadsSoFar u.line b [] (refused code line)) (append_nil u.bytes) (last.so_far (last.definite ended) []),
+  subst (λ (b : List ℕ). ReadsSoFar u.line b [] (refused code line)) (append-nil u.bytes) (last.so_far (last.definite ended) []),
 )
 
 pub refused_text : (u : Unread) (code line : ℕ) → IsLast u code line → HasReadSoFar u [] (refusal u.ended (line, code))
@@ -40,7 +41,7 @@ refused_text u code line last = refused_where u code line last u.ended refl
 
 -- nothing was added yet
 adds_nothing : (c : Course) → Adds c c [] []
-adds_nothing c = record { verdicts_are = sym (append_nil c.verdicts); errors_are = sym (append_nil c.errors) }
+adds_nothing c = record { verdicts_are = sym (append-nil c.verdicts); errors_are = sym (append-nil c.errors) }
 
 -- more was added
 adds_more : (old mid new : Course) (vs ws : List Verdict) (es fs : List (ℕ × ℕ)) → Adds old mid vs es → Adds mid new ws fs → Adds old new (vs ++ ws) (es ++ fs)
@@ -73,13 +74,13 @@ WentOn-start p = record {
 first_read : (u v : Unread) (first : Located) → IsFirstCommand u v first → v.ended ≡ u.ended → (cs : List Located) (x : TextState) → HasReadSoFar v cs x → HasReadSoFar u (first ∷ cs) x
 first_read u v first is same cs (ends x) (ended, reads) = (
   sym same ∙ ended,
-  subst (λ (b : List ℕ). Reads u.line b (first ∷ cs) x) (append_nil u.bytes)
-      (is.ended [] cs x (subst (λ (b : List ℕ). Reads v.line b cs x) (sym (append_nil v.bytes)) reads)),
+  subst (λ (b : List ℕ). Reads u.line b (first ∷ cs) x) (append-nil u.bytes)
+      (is.ended [] cs x (subst (λ (b : List ℕ). Reads v.line b cs x) (sym (append-nil v.bytes)) reads)),
 )
 first_read u v first is same cs (stands x) (goes_on, reads) = (
   sym same ∙ goes_on,
-  subst (λ (b : List ℕ). ReadsSoFar u.line b (first ∷ cs) x) (append_nil u.bytes)
-      (is.so_far [] cs x (subst (λ (b : List ℕ). ReadsSoFar v.line b cs x) (sym (append_nil v.bytes)) reads)),
+  subst (λ (b : List ℕ). ReadsSoFar u.line b (first ∷ cs) x) (append-nil u.bytes)
+      (is.so_far [] cs x (subst (λ (b : List ℕ). ReadsSoFar v.line b cs x) (sym (append-nil v.bytes)) reads)),
 )
 
 module _ (old mid : Progress) (went : WentOn old mid) where
@@ -94,7 +95,7 @@ module _ (old mid : Progress) (went : WentOn old mid) where
     read = went.read [] (ends clean) reads;
     answered = Answers-after old.course.state mid.course.state old.course.number mid.course.number went.commands [] clean went.verdicts [] went.errors [] went.lines [] went.answered (Answers-none mid.course.state mid.course.number);
     adds = adds_more old.course mid.course new went.verdicts [] went.errors [] went.adds (subst (λ (c : Course). Adds mid.course c [] []) (sym same) (adds_nothing mid.course));
-    written = went.written ∙ ap (λ (ls : List (List ℕ)). wrote ls old.written) (sym (append_nil went.lines));
+    written = went.written ∙ ap (λ (ls : List (List ℕ)). wrote ls old.written) (sym (append-nil went.lines));
   }
 
   -- memory ran out before the next command was answered
@@ -108,7 +109,7 @@ module _ (old mid : Progress) (went : WentOn old mid) where
         verdicts = went.verdicts ++ [];
         errors = went.errors ++ [];
         lines = went.lines ++ [];
-        read = subst (λ (cs : List Located). HasReadSoFar old.unread (cs ++ rest.0) rest.1) (sym (append_nil went.commands)) (went.read rest.0 rest.1 rest.2);
+        read = subst (λ (cs : List Located). HasReadSoFar old.unread (cs ++ rest.0) rest.1) (sym (append-nil went.commands)) (went.read rest.0 rest.1 rest.2);
         answered = Answers-after old.course.state mid.course.state old.course.number mid.course.number went.commands [] clean went.verdicts [] went.errors [] went.lines [] went.answered (Answers-none mid.course.state mid.course.number);
         adds = adds_more old.course mid.course new went.verdicts [] went.errors [] went.adds (subst (λ (c : Course). Adds mid.course c [] []) (sym same) (adds_nothing mid.course));
         left = IsLeft-later sink.NoMemory went.lines [] old.written mid.written now went.written (nothing_written [] mid.written now unwritten);

@@ -3,20 +3,17 @@ use Rattle.std.specs.List.{concat}
 use Rattle.std.proofs.Common.{◌≡◌, ℕ, ◌+◌, List, [], ◌∷◌, ◌++◌, length, take, Option, Some, None, refl, ap, sym, ◌∙◌, subst, arith, append_assoc, length-append}
 use Rattle.std.proofs.Math.Seq.{take-append-add, take-length}
 use Rattle.std.proofs.lemmas.List.Folds.{concat-append}
+use Rattle.std.proofs.lemmas.List.{append-nil}
 use Rattle.ct_io.specs.Bytes.{appended, GrewByPrefix, GrewByPart}
 use Rattle.ct_io.specs.declared.sink.SinkError.{SinkError}
 use Rattle.ct_io.specs.declared.sink.SinkError.TheVariants.{Fault, NoMemory}
 use Rattle.ct_script.specs.Answers.{lines_of}
 use Rattle.ct_run.specs.Output.{wrote, BreaksInLine, IsLeft}
 
-pub append_nil : {X : Type 0} (xs : List X) → xs ++ [] ≡ xs
-append_nil [] = refl
-append_nil (x ∷ xs) = ap (λ ys. x ∷ ys) (append_nil xs)
-
 -- nothing was appended
 pub appended-nothing : (o : Option (List ℕ)) → appended [] o ≡ o
 appended-nothing None = refl
-appended-nothing (Some bytes) = ap (λ (b : List ℕ). Some b) (append_nil bytes)
+appended-nothing (Some bytes) = ap (λ (b : List ℕ). Some b) (append-nil bytes)
 
 -- two pieces one after the other are one piece
 pub appended-twice : (xs ys : List ℕ) (o : Option (List ℕ)) → appended ys (appended xs o) ≡ appended (xs ++ ys) o
@@ -84,7 +81,7 @@ IsLeft-later NoMemory first lines old mid new begun left =
 -- one line up to an error
 pub IsLeft-one : (e : SinkError) (line : List ℕ) (old new : Option (List ℕ)) → GrewByPart line old new → IsLeft e (line ∷ []) old new
 IsLeft-one Fault line old new part = BreaksInLine-one line old new part
-IsLeft-one NoMemory line old new part = subst (λ (text : List ℕ). GrewByPrefix text old new) (sym (append_nil line)) (prefix_of_part line old new part)
+IsLeft-one NoMemory line old new part = subst (λ (text : List ℕ). GrewByPrefix text old new) (sym (append-nil line)) (prefix_of_part line old new part)
 
 -- the line of a text
 pub line_of_some : (text : List ℕ) → (text ≡ [] → ⊥) → lines_of text ≡ (text ++ 10 ∷ []) ∷ []
@@ -95,7 +92,7 @@ line_of_some (b ∷ bs) some = refl
 pub line_written : (text piece : List ℕ) (old new : Option (List ℕ)) → (text ≡ [] → ⊥) → piece ≡ text ++ 10 ∷ [] → new ≡ appended piece old → new ≡ wrote (lines_of text) old
 line_written text piece old new some is grown =
     grown
-    ∙ ap (λ (xs : List ℕ). appended xs old) (is ∙ sym (append_nil (text ++ 10 ∷ [])))
+    ∙ ap (λ (xs : List ℕ). appended xs old) (is ∙ sym (append-nil (text ++ 10 ∷ [])))
     ∙ ap (λ (lines : List (List ℕ)). wrote lines old) (sym (line_of_some text some))
 
 pub line_left : (e : SinkError) (text piece : List ℕ) (old new : Option (List ℕ)) → (text ≡ [] → ⊥) → piece ≡ text ++ 10 ∷ [] → GrewByPart piece old new → IsLeft e (lines_of text) old new

@@ -3,6 +3,10 @@ use Rattle.std.proofs.Common.{◌≡◌, ℕ, ◌+◌, ◌<◌, ◌≤◌, ◌�
 use Rattle.std.proofs.lemmas.Option.{same_Some}
 use Rattle.std.proofs.lemmas.List.{reverse-append}
 use Rattle.std.proofs.lemmas.List.Elements.{All-weaker, All-contains, All-push, Contains-append_left, Contains-append_right, Contains-push, Contains-append_cases}
+use Rattle.ct_lemmas.proofs.Contained.{Contains-from_slice_get, Contains-map, Contains-map_cases, slice_get-from_Contains}
+use Rattle.ct_lemmas.proofs.Each.{All-from_Contains}
+use Rattle.ct_lemmas.proofs.Numbers.{order_cases}
+use Rattle.ct_lemmas.proofs.Prefixes.{slice_get-take, slice_get-take_below}
 use Rattle.ct_terms.specs.declared.ids.Lit.{Lit}
 use Rattle.ct_terms.specs.Literal.{opposite}
 use Rattle.ct_terms.specs.Clause.{Clause, opposites}
@@ -14,7 +18,6 @@ use Rattle.ct_sat.specs.Assigned.{IsReason}
 use Rattle.ct_sat.specs.Trail.{AreDecisions}
 use Rattle.ct_sat.specs.Learning.{HasStep, PropagatesBy, FollowsBy, StandAtSteps}
 use Rattle.ct_sat.specs.Analysis.{IsMarked, IsIndexOf, MarksClause, Lowers, Raises, IsBase, Leads, HasNoMark, HasNoDecision}
-use Rattle.ct_sat.proofs.ListLemmas.{Contains-at, at-Contains, All-from, slice_get-take, slice_get-take_below, Contains-map, Contains-map_cases, below_same_above}
 use Rattle.ct_sat.proofs.UpLemmas.{opposites_apart, opposite-opposite}
 
 -- where the index has no mark, the analysis goes on below it
@@ -23,7 +26,7 @@ Leads-skip clauses trail marks hints p q put conflict unmarked h = record {
   leads = λ set base. h.leads set (record {
     inside = base.inside;
     false = base.false;
-    marked = λ k l below mark at. elim (below_same_above k q) [
+    marked = λ k l below mark at. elim (order_cases k q) [
       | inl low ↦ base.marked k l low mark at
       | inr high ↦ absurd (unmarked k (elim high [ inl e ↦ omega arith | inr g ↦ omega arith ]) below mark)
     ];
@@ -45,8 +48,8 @@ pub Leads-put : (clauses : List StepClause) (trail : List Lit) (marks : List Boo
 Leads-put clauses trail marks hints p put conflict l at h = record {
   leads = λ set base. h.leads set (record {
     inside = base.inside;
-    false = All-from (IsFalseIn set) put (λ k inside. All-contains (IsFalseIn set) (put ++ opposite l ∷ []) k base.false (Contains-append_left put (opposite l ∷ []) k inside));
-    marked = λ k m below mark at_k. elim (below_same_above k p) [
+    false = All-from_Contains (IsFalseIn set) put (λ k inside. All-contains (IsFalseIn set) (put ++ opposite l ∷ []) k base.false (Contains-append_left put (opposite l ∷ []) k inside));
+    marked = λ k m below mark at_k. elim (order_cases k p) [
       | inl low ↦ base.marked k m low mark at_k
       | inr high ↦ elim high [
         | inl e ↦ (let is : l ≡ m = same_Some l m (sym at ∙ ap (slice_get trail) (sym e) ∙ at_k) in
@@ -64,12 +67,12 @@ Leads-explain clauses trail old new hints p put conflict c consistent reason mar
   leads = λ set base.
       (let l = reason.literal in
       let larger : List Lit = set ++ l ∷ [] in
-      let in_trail : Contains trail l = Contains-at trail p l reason.stands in
+      let in_trail : Contains trail l = Contains-from_slice_get trail p l reason.stands in
       let others : All (λ k. (k ≡ l) ⊎ IsFalseIn set k) c.literals =
-      All-from (λ k. (k ≡ l) ⊎ IsFalseIn set k) c.literals (λ k inside.
+      All-from_Contains (λ k. (k ≡ l) ⊎ IsFalseIn set k) c.literals (λ k inside.
       elim (All-contains (λ m. (m ≡ l) ⊎ IsFalseIn (take p trail) m) c.literals k reason.forces.others_false inside) [
         | inl same ↦ inl same
-        | inr earlier ↦ (let at = at-Contains (take p trail) (opposite k) earlier in
+        | inr earlier ↦ (let at = slice_get-from_Contains (take p trail) (opposite k) earlier in
             let below = slice_get-take_below p trail at.0 (opposite k) at.1 in
             let at_trail = slice_get-take p trail at.0 (opposite k) at.1 in
             inr (base.marked at.0 (opposite k) below (marks.done k at.0 inside (opposite k, at_trail, refl)) at_trail))
@@ -82,7 +85,7 @@ Leads-explain clauses trail old new hints p put conflict c consistent reason mar
       let wider : IsBase trail old (p + 1) put larger = record {
         inside = All-push (Contains trail) set l base.inside in_trail;
         false = All-weaker (IsFalseIn set) (IsFalseIn larger) (λ k f. Contains-append_left set (l ∷ []) (opposite k) f) put base.false;
-        marked = λ k m below mark at. elim (below_same_above k p) [
+        marked = λ k m below mark at. elim (order_cases k p) [
           | inl low ↦ Contains-append_left set (l ∷ []) m (base.marked k m low (marks.stored k mark) at)
           | inr high ↦ elim high [
             | inl e ↦ (let is : l ≡ m = same_Some l m (sym reason.stands ∙ ap (slice_get trail) (sym e) ∙ at) in
@@ -105,8 +108,8 @@ Leads-start clauses trail marks p conflict false_all marked = record {
   leads = λ set base. record {
     after = set;
     propagates = refl;
-    false = All-from (IsFalseIn set) conflict (λ l inside.
-        let at = at-Contains trail (opposite l) (All-contains (IsFalseIn trail) conflict l false_all inside) in
+    false = All-from_Contains (IsFalseIn set) conflict (λ l inside.
+        let at = slice_get-from_Contains trail (opposite l) (All-contains (IsFalseIn trail) conflict l false_all inside) in
         let here = marked l at.0 inside (opposite l, at.1, refl) in
         base.marked at.0 (opposite l) here.1 here.0 at.1);
   };
@@ -115,12 +118,12 @@ Leads-start clauses trail marks p conflict false_all marked = record {
 -- at the foot of the trail the clause follows by the hints
 pub Leads-end : (clauses : List StepClause) (trail : List Lit) (marks : List Bool) (hints : List ℕ) (lits : Clause) (c : StepClause) → Contains clauses c → AreFalseIn trail lits → Leads clauses trail marks hints 0 lits c.literals → FollowsBy clauses (reverse hints ++ c.step ∷ []) lits
 Leads-end clauses trail marks hints lits c listed false_lits h =
-    let inside : All (Contains trail) (opposites lits) = All-from (Contains trail) (opposites lits) (λ k has.
+    let inside : All (Contains trail) (opposites lits) = All-from_Contains (Contains trail) (opposites lits) (λ k has.
     let l = Contains-map_cases opposite lits k has in
     subst (Contains trail) l.2 (All-contains (IsFalseIn trail) lits l.0 false_lits l.1)) in
     let end = h.leads (opposites lits) (record {
       inside = inside;
-      false = All-from (IsFalseIn (opposites lits)) lits (λ l has. Contains-map opposite lits l has);
+      false = All-from_Contains (IsFalseIn (opposites lits)) lits (λ l has. Contains-map opposite lits l has);
       marked = λ k l below mark at. absurd (omega arith);
     }) in
     record {

@@ -1,8 +1,12 @@
 -- The clause that a conflict teaches.
-use Rattle.std.proofs.Common.{◌≡◌, ℕ, zero, suc, ◌+◌, ◌<◌, ◌≤◌, ◌⊎◌, inl, inr, Bool, true, false, List, [], ◌∷◌, ◌++◌, length, take, reverse, Option, Some, slice_get, get_or, set, replicate, All, Contains, refl, sym, ap, subst, ◌∙◌, arith, true≢false}
+use Rattle.std.proofs.Common.{◌≡◌, ℕ, ◌+◌, ◌<◌, ◌≤◌, ◌⊎◌, inl, inr, Bool, true, false, List, [], ◌∷◌, ◌++◌, length, take, reverse, Option, Some, slice_get, get_or, set, replicate, All, Contains, refl, sym, ap, subst, ◌∙◌, arith, true≢false}
 use Rattle.std.proofs.lemmas.Option.{none-some, same_Some, slice_get_within, slice_get-get_or, slice_get_read}
 use Rattle.std.proofs.lemmas.List.{append-nil, append_assoc, length-set}
 use Rattle.std.proofs.lemmas.List.Elements.{All-weaker, All-push, All-nil, All-append, Contains-append_left, Contains-push, Contains-push_cases}
+use Rattle.ct_lemmas.proofs.Contained.{Contains-from_slice_get, Contains-take, Contains-take_at, Contains-take_more, slice_get-from_Contains}
+use Rattle.ct_lemmas.proofs.Lists.{slice_get-replicate_false, slice_get-set_other, slice_get-set_same, slice_get-there}
+use Rattle.ct_lemmas.proofs.Numbers.{order_cases, same_or_other}
+use Rattle.ct_lemmas.proofs.Prefixes.{slice_get-take, slice_get-take_below}
 use Rattle.ct_terms.specs.declared.ids.Lit.{Lit}
 use Rattle.ct_terms.specs.Literal.{opposite}
 use Rattle.ct_terms.specs.Clause.{Clause}
@@ -15,7 +19,6 @@ use Rattle.ct_sat.specs.Status.{IsFalseAt}
 use Rattle.ct_sat.specs.Trail.{AreDecisions}
 use Rattle.ct_sat.specs.Learning.{FollowsBy}
 use Rattle.ct_sat.specs.Analysis.{IsIndexOf, MarksClause, Lowers, Raises, Leads, GoesDown, HasNoMark, HasNoDecision, StandBefore, Collects, IsStart, IsLocated, IsAnalysed}
-use Rattle.ct_sat.proofs.ListLemmas.{Contains-at, at-Contains, slice_get-take, slice_get-take_below, slice_get_some, Contains-take, Contains-take_more, Contains-take_at, slice_get-set_same, slice_get-set_other, same_or_other, below_same_above}
 use Rattle.ct_sat.proofs.UpLemmas.{opposite-opposite}
 use Rattle.ct_sat.proofs.AnalysisLemmas.{Leads-skip, Leads-put, Leads-start, Leads-end}
 
@@ -46,7 +49,7 @@ pub StandBefore-some : (decided : List Decided) (index n : ℕ) (d : Decided) �
 StandBefore-some decided index n d in_order at high before = record {
   fits = (let h = slice_get_within decided n d at in omega arith);
   before = before;
-  after = λ j e at_e from. elim (below_same_above n j) [
+  after = λ j e at_e from. elim (order_cases n j) [
     | inl low ↦ (let h = in_order n j d e low at at_e in omega arith)
     | inr rest ↦ elim rest [
       | inl same ↦ (let is : d ≡ e = same_Some d e (sym at ∙ ap (slice_get decided) same ∙ at_e) in
@@ -66,7 +69,7 @@ StandBefore-all decided index n long before = record {
 -- one decision more stands before the index
 pub before-more : (decided : List Decided) (index n : ℕ) (d : Decided) → slice_get decided n ≡ Some d → d.index < index → ((j : ℕ) (e : Decided) → slice_get decided j ≡ Some e → j < n → e.index < index) → (j : ℕ) (e : Decided) → slice_get decided j ≡ Some e → j < n + 1 → e.index < index
 before-more decided index n d at low before j e at_e below =
-    elim (below_same_above j n) [
+    elim (order_cases j n) [
       | inl h ↦ before j e at_e h
       | inr h ↦ elim h [
         | inl same ↦ (let is : d ≡ e = same_Some d e (sym at ∙ ap (slice_get decided) (sym same) ∙ at_e) in
@@ -81,7 +84,7 @@ start_first decided index start h j d at from below = let high = h.after j d at 
 
 pub start_last : (decided : List Decided) (index n : ℕ) (d : Decided) → ((i j : ℕ) (d e : Decided) → i < j → slice_get decided i ≡ Some d → slice_get decided j ≡ Some e → d.index < e.index) → StandBefore decided index (n + 1) → slice_get decided n ≡ Some d → HasNoDecision decided (d.index + 1) index
 start_last decided index n d in_order h at j e at_e from below =
-    elim (below_same_above j n) [
+    elim (order_cases j n) [
       | inl low ↦ (let g = in_order j n e d low at_e at in omega arith)
       | inr rest ↦ elim rest [
         | inl same ↦ (let is : e ≡ d = same_Some e d (sym at_e ∙ ap (slice_get decided) same ∙ at) in
@@ -109,7 +112,7 @@ IsAnalysed-from clauses trail reasons decided lits hints keep start unique above
     record {
       follows = follows;
       false = subst (AreFalseIn trail) (sym collects.put) (All-append (IsFalseIn trail) (opposite l ∷ []) collects.more
-          (All-push (IsFalseIn trail) [] (opposite l) (All-nil (IsFalseIn trail)) (subst (Contains trail) (sym (opposite-opposite l)) (Contains-at trail unique l at)))
+          (All-push (IsFalseIn trail) [] (opposite l) (All-nil (IsFalseIn trail)) (subst (Contains trail) (sym (opposite-opposite l)) (Contains-from_slice_get trail unique l at)))
           (All-weaker (IsFalseIn (take above trail)) (IsFalseIn trail) (λ k h. Contains-take above trail (opposite k) h) collects.more collects.false));
       next = next.0;
       stands = next.1;
@@ -125,19 +128,19 @@ IsAnalysed-from clauses trail reasons decided lits hints keep start unique above
     }
   where
     keep_le : keep ≤ j
-    keep_le = elim (below_same_above j keep) [
+    keep_le = elim (order_cases j keep) [
       | inl bad ↦ (let h = before.before j d at_j bad in absurd (omega arith))
       | inr rest ↦ elim rest [ inl e ↦ omega arith | inr g ↦ omega arith ]
     ]
 
     next : (e : Decided) × (slice_get decided keep ≡ Some e)
-    next = slice_get_some decided keep (let h = slice_get_within decided j d at_j in let k = keep_le in omega arith)
+    next = slice_get-there decided keep (let h = slice_get_within decided j d at_j in let k = keep_le in omega arith)
 
     after : above ≤ next.0.index
     after = before.after keep next.0 next.1 (omega arith)
 
     next_le : next.0.index ≤ start
-    next_le = elim (below_same_above keep j) [
+    next_le = elim (order_cases keep j) [
       | inl low ↦ (let h = decisions.in_order keep j next.0 d low next.1 at_j in omega arith)
       | inr rest ↦ elim rest [
         | inl same ↦ (let is : next.0 ≡ d = same_Some next.0 d (sym next.1 ∙ ap (slice_get decided) same ∙ at_j) in
@@ -148,7 +151,7 @@ IsAnalysed-from clauses trail reasons decided lits hints keep start unique above
 
     elsewhere : (k : Lit) → k.term.0 ≡ l.term.0 → Contains (take next.0.index trail) k → ⊥
     elsewhere k same h =
-        let at_k = at-Contains (take next.0.index trail) k h in
+        let at_k = slice_get-from_Contains (take next.0.index trail) k h in
         let below = slice_get-take_below next.0.index trail at_k.0 k at_k.1 in
         let index_is : at_k.0 ≡ unique = consistent at_k.0 unique k l (slice_get-take next.0.index trail at_k.0 k at_k.1) at same in
         let low = next_le in omega arith
@@ -242,22 +245,16 @@ false_there clauses trail i x (c, at, false_one) read =
     let within = slice_get_within clauses i c at in
     let here = slice_get_read clauses (length clauses) i x refl within read in
     let same : c ≡ x = same_Some c x (sym at ∙ here) in
-    (c, ap (λ (y : StepClause). y.step) same, Contains-at clauses i c at, false_one)
+    (c, ap (λ (y : StepClause). y.step) same, Contains-from_slice_get clauses i c at, false_one)
 
 -- the clause with the conflict's number is the conflict
 pub conflict_found : (clauses : List StepClause) (trail : List Lit) (i step : ℕ) → HaveOneNumber clauses → (c : StepClause) × (slice_get clauses i ≡ Some c) × (c.step ≡ step) → (c : StepClause) × (c.step ≡ step) × Contains clauses c × AreFalseIn trail c.literals → IsFalseAt clauses trail i
 conflict_found clauses trail i step one (c, at, number) (d, same_number, listed, false_one) =
-    let same : d ≡ c = one d c listed (Contains-at clauses i c at) (same_number ∙ sym number) in
+    let same : d ≡ c = one d c listed (Contains-from_slice_get clauses i c at) (same_number ∙ sym number) in
     (c, at, subst (λ (y : StepClause). AreFalseIn trail y.literals) same false_one)
 
--- a list of unset marks has no mark
-unmarked_replicate : (n k : ℕ) → slice_get (replicate n false) k ≡ Some true → ⊥
-unmarked_replicate zero k e = absurd (none-some true e)
-unmarked_replicate (suc n) zero e = true≢false (sym (same_Some false true e))
-unmarked_replicate (suc n) (suc k) e = unmarked_replicate n k e
-
 pub HasNoMark-new : (marks : List Bool) (n from to : ℕ) → marks ≡ replicate n false → HasNoMark marks from to
-HasNoMark-new marks n from to is k low high mark = unmarked_replicate n k (ap (λ (xs : List Bool). slice_get xs k) (sym is) ∙ mark)
+HasNoMark-new marks n from to is k low high mark = slice_get-replicate_false n k (ap (λ (xs : List Bool). slice_get xs k) (sym is) ∙ mark)
 
 -- the first decision stands in the trail, and none before it
 pub first_fits : (literals : List Lit) (reasons : List (Option ℕ)) (decided : List Decided) (d : Decided) → AreDecisions literals reasons decided → 0 < length decided → (get_or decided 0 d).index ≤ length literals
@@ -270,7 +267,7 @@ pub first_decision : (literals : List Lit) (reasons : List (Option ℕ)) (decide
 first_decision literals reasons decided d decisions some j e at low high =
     let first = get_or decided 0 d in
     let here = slice_get-get_or decided 0 d some in
-    elim (below_same_above 0 j) [
+    elim (order_cases 0 j) [
       | inl later ↦ (let h = decisions.in_order 0 j first e later here at in omega arith)
       | inr rest ↦ elim rest [
         | inl same ↦ (let is : first ≡ e = same_Some first e (sym here ∙ ap (slice_get decided) same ∙ at) in
@@ -287,7 +284,7 @@ HasNoDecision-none decided from to is j d at low high = none-some d (sym (ap (λ
 put_false : (trail : List Lit) (above unique : ℕ) (l : Lit) (lits : Clause) → slice_get trail unique ≡ Some l → Collects trail above (opposite l ∷ []) lits → AreFalseIn trail lits
 put_false trail above unique l lits at collects =
     subst (AreFalseIn trail) (sym collects.put) (All-append (IsFalseIn trail) (opposite l ∷ []) collects.more
-    (All-push (IsFalseIn trail) [] (opposite l) (All-nil (IsFalseIn trail)) (subst (Contains trail) (sym (opposite-opposite l)) (Contains-at trail unique l at)))
+    (All-push (IsFalseIn trail) [] (opposite l) (All-nil (IsFalseIn trail)) (subst (Contains trail) (sym (opposite-opposite l)) (Contains-from_slice_get trail unique l at)))
     (All-weaker (IsFalseIn (take above trail)) (IsFalseIn trail) (λ k h. Contains-take above trail (opposite k) h) collects.more collects.false))
 
 -- the whole analysis while decisions stand
@@ -309,4 +306,4 @@ refuted clauses trail old marks marks' hints' n c listed false_one marking long 
 pub listed_at : (clauses : List StepClause) (trail : List Lit) (i : ℕ) (x : StepClause) → IsFalseAt clauses trail i → x ≡ get_or clauses i x → Contains clauses x
 listed_at clauses trail i x (c, at, false_one) read =
     let within = slice_get_within clauses i c at in
-    Contains-at clauses i x (slice_get_read clauses (length clauses) i x refl within read)
+    Contains-from_slice_get clauses i x (slice_get_read clauses (length clauses) i x refl within read)

@@ -1,4 +1,3 @@
-pub mod ListLemmas
 pub mod UpLemmas
 pub mod TrailLemmas
 pub mod StatusLemmas

@@ -4,6 +4,11 @@ use Rattle.std.proofs.Common.{min}
 use Rattle.std.proofs.lemmas.List.{length-take, take-take}
 use Rattle.std.proofs.lemmas.Option.{none-some, same_Some, slice_get_within}
 use Rattle.std.proofs.lemmas.List.Elements.{All-weaker, All-contains, All-push, All-nil, All-append, All-take, Contains-append_left, Contains-push_cases}
+use Rattle.ct_lemmas.proofs.Contained.{Contains-from_slice_get, Contains-map_cases, slice_get-from_Contains}
+use Rattle.ct_lemmas.proofs.Each.{All-at, All-from_Contains}
+use Rattle.ct_lemmas.proofs.Lists.{slice_get-append_left, slice_get-there}
+use Rattle.ct_lemmas.proofs.Numbers.{order_cases}
+use Rattle.ct_lemmas.proofs.Prefixes.{slice_get-take, slice_get-take_below, take-slice_get}
 use Rattle.ct_terms.specs.declared.ids.TermId.{TermId}
 use Rattle.ct_terms.specs.declared.ids.Lit.{Lit}
 use Rattle.ct_terms.specs.Literal.{opposite}
@@ -21,7 +26,6 @@ use Rattle.ct_sat.specs.Learning.{LearnsClause}
 use Rattle.ct_sat.specs.Analysis.{IsAnalysed}
 use Rattle.ct_sat.specs.Status.{IsSettled, Propagated}
 use Rattle.ct_sat.specs.Stored.{IsSearch}
-use Rattle.ct_sat.proofs.ListLemmas.{Contains-at, at-Contains, All-from, All-at, slice_get-append_left, slice_get_some, slice_get-take, slice_get-take_below, take-slice_get, Contains-map_cases, below_same_above}
 use Rattle.ct_sat.proofs.UpLemmas.{trail_follows}
 use Rattle.ct_sat.proofs.StatusLemmas.{IsSettled-not_false, IsSettled-forced, HaveReasons-decided}
 
@@ -35,7 +39,7 @@ IsSound-from variables clauses a count budget stored consistent decisions = reco
   justified = justified;
   consistent = consistent;
   decisions = record {
-    stand = All-from (λ d. slice_get a.literals d.index ≡ Some d.literal) a.decided (λ d h. let at = at-Contains a.decided d h in decisions.stand at.0 d at.1);
+    stand = All-from_Contains (λ d. slice_get a.literals d.index ≡ Some d.literal) a.decided (λ d h. let at = slice_get-from_Contains a.decided d h in decisions.stand at.0 d at.1);
     in_order = decisions.in_order;
   };
   one_number = stored.one_number;
@@ -52,7 +56,7 @@ IsSound-from variables clauses a count budget stored consistent decisions = reco
         let literal : d.1.literal ≡ l = same_Some d.1.literal l (sym stands ∙ ap (slice_get a.literals) d.3 ∙ e) in
         let with_index : ℕ → Decided = λ n. record { literal = d.1.literal; index = n } in
         let with_literal : Lit → Decided = λ k. record { literal = k; index = i } in
-        inl (subst (Contains a.decided) (ap with_index d.3 ∙ ap with_literal literal) (Contains-at a.decided d.0 d.1 d.2))
+        inl (subst (Contains a.decided) (ap with_index d.3 ∙ ap with_literal literal) (Contains-from_slice_get a.decided d.0 d.1 d.2))
     by_reason i l (Some r) e at =
         let p = stored.reasons.each i r at in
         let same : p.2.literal ≡ l = same_Some p.2.literal l (sym p.2.stands ∙ e) in
@@ -62,7 +66,7 @@ IsSound-from variables clauses a count budget stored consistent decisions = reco
     justified i l e =
         let within = slice_get_within a.literals i l e in
         let long = stored.reasons.long in
-        let r = slice_get_some a.reasons i (omega arith) in
+        let r = slice_get-there a.reasons i (omega arith) in
         by_reason i l r.0 e r.1
 
 -- propagation keeps it
@@ -91,10 +95,10 @@ IsQuiet-settled s sound settled = record {
   where
     closed : IsClosed (clauses_of s.clauses) (literals_of s.decided) s.trail
     closed = record {
-      holds_decided = All-from (Contains s.trail) (literals_of s.decided) (λ l h.
+      holds_decided = All-from_Contains (Contains s.trail) (literals_of s.decided) (λ l h.
           let d = Contains-map_cases (λ (e : Decided). e.literal) s.decided l h in
           let stands = All-contains (λ e. slice_get s.trail e.index ≡ Some e.literal) s.decided d.0 sound.decisions.stand d.1 in
-          subst (Contains s.trail) d.2 (Contains-at s.trail d.0.index d.0.literal stands));
+          subst (Contains s.trail) d.2 (Contains-from_slice_get s.trail d.0.index d.0.literal stands));
       holds_forced = λ clause l listed forced.
           let c = Contains-map_cases (λ (d : StepClause). d.literals) s.clauses clause listed in
           IsSettled-forced s.trail c.0.literals l sound.consistent (All-contains (λ d. IsSettled s.trail d.literals) s.clauses c.0 settled c.1) (subst (λ (k : Clause). IsForced s.trail k l) (sym c.2) forced);
@@ -183,8 +187,8 @@ IsSearch-cut variables clauses a count budget keep next stored = record {
 
 -- a term without a literal has no value
 pub no_value : (trail : List Lit) (t : TermId) → ((i : ℕ) (l : Lit) → slice_get trail i ≡ Some l → l.term.0 ≡ t.0 → ⊥) → IsAssigned (Contains trail) t → ⊥
-no_value trail t none (inl h) = let at = at-Contains trail (positive_of t) h in none at.0 (positive_of t) at.1 refl
-no_value trail t none (inr h) = let at = at-Contains trail (negative_of t) h in none at.0 (negative_of t) at.1 refl
+no_value trail t none (inl h) = let at = slice_get-from_Contains trail (positive_of t) h in none at.0 (positive_of t) at.1 refl
+no_value trail t none (inr h) = let at = slice_get-from_Contains trail (negative_of t) h in none at.0 (negative_of t) at.1 refl
 
 -- the literal of a term's number with a sign
 abbrev made : ℕ → Bool → Lit
@@ -195,17 +199,17 @@ pub has_value : (trail : List Lit) (t : TermId) (i : ℕ) (l : Lit) → slice_ge
 has_value trail t i l at same = by l.positive refl
   where
     by : (b : Bool) → l.positive ≡ b → IsAssigned (Contains trail) t
-    by true e = inl (subst (Contains trail) (ap (λ (n : ℕ). made n l.positive) same ∙ ap (made t.0) e) (Contains-at trail i l at))
-    by false e = inr (subst (Contains trail) (ap (λ (n : ℕ). made n l.positive) same ∙ ap (made t.0) e) (Contains-at trail i l at))
+    by true e = inl (subst (Contains trail) (ap (λ (n : ℕ). made n l.positive) same ∙ ap (made t.0) e) (Contains-from_slice_get trail i l at))
+    by false e = inr (subst (Contains trail) (ap (λ (n : ℕ). made n l.positive) same ∙ ap (made t.0) e) (Contains-from_slice_get trail i l at))
 
 -- the first variable without a value is the lowest
 pub IsLowest-first : (variables : List TermId) (trail : List Lit) (i : ℕ) (t : TermId) → AreIncreasing variables → slice_get variables i ≡ Some t → All (IsAssigned (Contains trail)) (take i variables) → (IsAssigned (Contains trail) t → ⊥) → IsLowest variables (Contains trail) t
 IsLowest-first variables trail i t increasing at before unset = record {
-  variable = Contains-at variables i t at;
+  variable = Contains-from_slice_get variables i t at;
   unset = unset;
   lowest = λ u h below.
-      (let at_u = at-Contains variables u h in
-      elim (below_same_above at_u.0 i) [
+      (let at_u = slice_get-from_Contains variables u h in
+      elim (order_cases at_u.0 i) [
         | inl low ↦ All-at (IsAssigned (Contains trail)) (take i variables) at_u.0 u before (take-slice_get i variables at_u.0 u low at_u.1)
         | inr high ↦ elim high [
           | inl e ↦ (let is : u ≡ t = same_Some u t (sym at_u.1 ∙ ap (slice_get variables) e ∙ at) in

@@ -3,6 +3,8 @@ use Rattle.std.proofs.Common.{◌≡◌, ℕ, ◌+◌, ◌⊎◌, inl, inr, List
 use Rattle.std.proofs.lemmas.Option.{none-some, same_Some, slice_get_within}
 use Rattle.std.proofs.lemmas.List.{length_push, length-append, append-nil, append_assoc, take_at, take-append-le}
 use Rattle.std.proofs.lemmas.List.Elements.{All-weaker, All-contains, All-push, All-nil, All-append, Contains-append_left, Contains-push}
+use Rattle.ct_lemmas.proofs.Contained.{Contains-from_slice_get}
+use Rattle.ct_lemmas.proofs.Lists.{slice_get-append_left, slice_get-last, slice_get-push_cases}
 use Rattle.ct_terms.specs.declared.ids.Lit.{Lit}
 use Rattle.ct_terms.specs.Clause.{Clause}
 use Rattle.ct_terms.specs.Propagation.{IsFalseIn, AreFalseIn}
@@ -11,7 +13,6 @@ use Rattle.ct_sat.specs.Up.{IsForced}
 use Rattle.ct_sat.specs.State.{IsConsistent}
 use Rattle.ct_sat.specs.Assigned.{Assigned, IsReason, HaveReasons}
 use Rattle.ct_sat.specs.Status.{IsUnset, IsSettled, IsSeen, Examined, stays, grows, Propagated}
-use Rattle.ct_sat.proofs.ListLemmas.{Contains-at, slice_get-append_left, slice_get-last, slice_get-push_cases}
 use Rattle.ct_sat.proofs.UpLemmas.{opposites_apart}
 
 -- one more literal of the clause, which is false
@@ -101,7 +102,7 @@ HaveReasons-implied clauses literals reasons l r c old at forced = record {
           c,
           ap (slice_get clauses) (sym number) ∙ at,
           subst (λ (k : ℕ). IsReason clauses (literals ++ l ∷ []) k c) index (record {
-            clause = Contains-at clauses r c at;
+            clause = Contains-from_slice_get clauses r c at;
             literal = l;
             stands = slice_get-last literals l;
             forces = subst (λ (xs : List Lit). IsForced xs c.literals l) (sym (take_at literals (l ∷ []) (length literals) refl)) forced;
@@ -148,7 +149,7 @@ Propagated-examined clauses i c a b at (grows l is unit) = subst (Propagated cla
   decided = refl;
   room = refl;
   reasons = λ h. HaveReasons-implied clauses a.literals a.reasons l i c h at unit.forced;
-  over = All-push (λ l. (d : StepClause) × Contains clauses d × Contains d.literals l) [] l (All-nil (λ l. (d : StepClause) × Contains clauses d × Contains d.literals l)) (c, Contains-at clauses i c at, unit.forced.inside);
+  over = All-push (λ l. (d : StepClause) × Contains clauses d × Contains d.literals l) [] l (All-nil (λ l. (d : StepClause) × Contains clauses d × Contains d.literals l)) (c, Contains-from_slice_get clauses i c at, unit.forced.inside);
 })
 
 -- one clause more was looked at

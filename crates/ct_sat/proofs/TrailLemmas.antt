@@ -2,13 +2,16 @@
 use Rattle.std.proofs.Common.{◌≡◌, ℕ, zero, suc, ◌+◌, ◌<◌, ◌≤◌, ◌^◌, ◌⊎◌, inl, inr, Bool, true, false, not, List, [], ◌∷◌, ◌++◌, length, take, set, replicate, Option, Some, None, slice_get, Contains, refl, sym, ap, subst, ◌∙◌, arith}
 use Rattle.std.proofs.lemmas.Option.{none-some, same_Some, slice_get_within}
 use Rattle.std.proofs.lemmas.List.{length-set, length_push, take_all, length-replicate}
+use Rattle.ct_lemmas.proofs.Contained.{Contains-from_slice_get}
+use Rattle.ct_lemmas.proofs.Lists.{slice_get-append_left, slice_get-last, slice_get-push_cases, slice_get-set_other, slice_get-set_same, slice_get-there}
+use Rattle.ct_lemmas.proofs.Numbers.{order_cases, same_or_other}
+use Rattle.ct_lemmas.proofs.Prefixes.{slice_get-take, slice_get-take_below, take-slice_get, take-slice_get_next}
 use Rattle.ct_terms.specs.declared.ids.Lit.{Lit}
 use Rattle.ct_terms.specs.Literal.{opposite}
 use Rattle.ct_sat.specs.declared.decided.Decided.{Decided}
 use Rattle.ct_sat.specs.State.{IsConsistent}
 use Rattle.ct_sat.specs.Trail.{unset_count, AreIndexed, AreDecisions, IsWhole}
 use Rattle.ct_sat.specs.Status.{IsUnset}
-use Rattle.ct_sat.proofs.ListLemmas.{Contains-at, slice_get-append_left, slice_get-last, slice_get-push_cases, slice_get-take, slice_get-take_below, take-slice_get, slice_get-set_same, slice_get-set_other, slice_get_some, take-next, same_or_other, below_same_above}
 
 -- two signs are one, or opposites
 signs : (a b : Bool) → (a ≡ b) ⊎ (a ≡ not b)
@@ -30,8 +33,8 @@ one_or_opposite k l e =
 pub no_literal : (literals : List Lit) (l : Lit) → IsUnset literals l → (i : ℕ) (k : Lit) → slice_get literals i ≡ Some k → k.term.0 ≡ l.term.0 → ⊥
 no_literal literals l unset i k at same =
     elim (one_or_opposite k l same) [
-      | inl e ↦ unset.0 (subst (Contains literals) e (Contains-at literals i k at))
-      | inr e ↦ unset.1 (subst (Contains literals) e (Contains-at literals i k at))
+      | inl e ↦ unset.0 (subst (Contains literals) e (Contains-from_slice_get literals i k at))
+      | inr e ↦ unset.1 (subst (Contains literals) e (Contains-from_slice_get literals i k at))
     ]
 
 -- the index of one term is set, or unset again
@@ -82,7 +85,7 @@ AreDecisions-start = record {
 -- a term without a literal has no index
 pub index_unset : (literals : List Lit) (reasons indices : List (Option ℕ)) (l : Lit) → AreIndexed literals reasons indices → IsUnset literals l → l.term.0 < length indices → slice_get indices l.term.0 ≡ Some None
 index_unset literals reasons indices l indexed unset within =
-    let at = slice_get_some indices l.term.0 within in by at.0 at.1
+    let at = slice_get-there indices l.term.0 within in by at.0 at.1
   where
     by : (o : Option ℕ) → slice_get indices l.term.0 ≡ Some o → slice_get indices l.term.0 ≡ Some None
     by None e = e
@@ -158,7 +161,7 @@ AreIndexed-consistent literals reasons indices indexed i j l k at_i at_j same =
 pub decisions_fit : (literals : List Lit) (reasons : List (Option ℕ)) (decided : List Decided) → AreDecisions literals reasons decided → length decided ≤ length literals
 decisions_fit literals reasons [] h = omega arith
 decisions_fit literals reasons (d ∷ ds) h =
-    let last = slice_get_some (d ∷ ds) (length ds) (omega arith) in
+    let last = slice_get-there (d ∷ ds) (length ds) (omega arith) in
     let a = h.counted (length ds) last.0 last.1 in
     let b = slice_get_within literals last.0.index last.0.literal (h.stand (length ds) last.0 last.1) in
     omega arith
@@ -210,7 +213,7 @@ AreDecisions-cut literals reasons decided keep next at old = record {
       (let o = old.each i (slice_get-take next.index reasons i None e) in
       let below = slice_get-take_below next.index reasons i None e in
       let index = o.3 in
-      elim (below_same_above o.0 keep) [
+      elim (order_cases o.0 keep) [
         | inl h ↦ (o.0, o.1, take-slice_get keep decided o.0 o.1 h o.2, o.3)
         | inr h ↦ elim h [
           | inl same ↦ (let is : o.1 ≡ next = same_Some o.1 next (sym o.2 ∙ ap (slice_get decided) same ∙ at) in
@@ -231,13 +234,13 @@ IsWhole-from literals reasons indices decided indexed decisions = record {
 
 -- a list is its first part and its last element
 pub split_last : {X : Type 0} (xs : List X) (n : ℕ) (x : X) → length xs ≡ n + 1 → slice_get xs n ≡ Some x → xs ≡ take n xs ++ x ∷ []
-split_last xs n x long at = sym (take_all (n + 1) xs (omega arith)) ∙ take-next xs n x at
+split_last xs n x long at = sym (take_all (n + 1) xs (omega arith)) ∙ take-slice_get_next xs n x at
 
 -- the last literal is taken back
 pub AreIndexed-truncate : (literals : List Lit) (reasons indices : List (Option ℕ)) (n : ℕ) (l : Lit) → AreIndexed literals reasons indices → length literals ≡ n + 1 → slice_get literals n ≡ Some l → AreIndexed (take n literals) (take n reasons) (set indices l.term.0 None)
 AreIndexed-truncate literals reasons indices n l indexed long at =
     let one_each = indexed.one_each in
-    let r = slice_get_some reasons n (omega arith) in
+    let r = slice_get-there reasons n (omega arith) in
     let by_literals : AreIndexed (take n literals ++ l ∷ []) reasons indices = subst (λ (xs : List Lit). AreIndexed xs reasons indices) (split_last literals n l long at) indexed in
     AreIndexed-pop (take n literals) (take n reasons) indices l r.0
     (subst (λ (rs : List (Option ℕ)). AreIndexed (take n literals ++ l ∷ []) rs indices) (split_last reasons n r.0 (omega arith) r.1) by_literals)

@@ -2,6 +2,11 @@
 use Rattle.std.proofs.Common.{◌≡◌, ℕ, zero, suc, ◌<◌, ◌⊎◌, inl, inr, Bool, true, false, not, List, ◌++◌, take, Some, slice_get, All, Contains, refl, sym, ap, subst, ◌∙◌, arith}
 use Rattle.std.proofs.lemmas.Option.{same_Some}
 use Rattle.std.proofs.lemmas.List.Elements.{All-weaker, All-contains, Contains-append_left}
+use Rattle.ct_lemmas.proofs.Booleans.{not_differs}
+use Rattle.ct_lemmas.proofs.Contained.{Contains-from_slice_get, Contains-map, Contains-map_cases, slice_get-from_Contains}
+use Rattle.ct_lemmas.proofs.Each.{All-from_Contains}
+use Rattle.ct_lemmas.proofs.Numbers.{order_cases}
+use Rattle.ct_lemmas.proofs.Prefixes.{slice_get-take, slice_get-take_below, take-slice_get}
 use Rattle.ct_terms.specs.declared.ids.TermId.{TermId}
 use Rattle.ct_terms.specs.declared.ids.Lit.{Lit}
 use Rattle.ct_terms.specs.Literal.{opposite}
@@ -11,12 +16,6 @@ use Rattle.ct_sat.specs.declared.clause.StepClause.{StepClause}
 use Rattle.ct_sat.specs.declared.decided.Decided.{Decided}
 use Rattle.ct_sat.specs.Up.{IsForced, Up, IsContradictory, IsAssigned, IsLowest, positive_of, negative_of}
 use Rattle.ct_sat.specs.State.{SearchState, clauses_of, literals_of, FollowsByUnits, IsConsistent, IsSound, IsConflict, IsQuiet}
-use Rattle.ct_sat.proofs.ListLemmas.{Contains-at, at-Contains, All-from, slice_get-take, slice_get-take_below, take-slice_get, Contains-map, Contains-map_cases, below_same_above}
-
--- a sign and its opposite differ
-pub not_differs : (b : Bool) → not b ≡ b → ⊥
-not_differs true e = cc
-not_differs false e = cc
 
 -- the opposite of the opposite is the literal
 pub opposite-opposite : (l : Lit) → opposite (opposite l) ≡ l
@@ -29,8 +28,8 @@ opposite-opposite l = let signed : Bool → Lit = λ b. record { term = l.term; 
 -- a consistent list does not hold a literal and its opposite
 pub opposites_apart : (trail : List Lit) (l : Lit) → IsConsistent trail → Contains trail l → Contains trail (opposite l) → ⊥
 opposites_apart trail l consistent one other =
-    let i = at-Contains trail l one in
-    let j = at-Contains trail (opposite l) other in
+    let i = slice_get-from_Contains trail l one in
+    let j = slice_get-from_Contains trail (opposite l) other in
     let same : i.0 ≡ j.0 = consistent i.0 j.0 l (opposite l) i.1 j.1 refl in
     let both : Some (opposite l) ≡ Some l = sym j.1 ∙ ap (slice_get trail) (sym same) ∙ i.1 in
     not_differs l.positive (ap (λ (k : Lit). k.positive) (same_Some (opposite l) l both))
@@ -46,7 +45,7 @@ IsForced-larger set larger clause l more forced = record {
 
 -- the decided literals follow
 pub Up-decided : (clauses : List Clause) (decided : List Lit) → All (Up clauses decided) decided
-Up-decided clauses decided = All-from (Up clauses decided) decided (λ l h set closed. All-contains (Contains set) decided l closed.holds_decided h)
+Up-decided clauses decided = All-from_Contains (Up clauses decided) decided (λ l h set closed. All-contains (Contains set) decided l closed.holds_decided h)
 
 -- what a clause forces by what follows does
 pub Up-forced : (clauses : List Clause) (decided : List Lit) (clause : Clause) (l : Lit) → Contains clauses clause → Contains clause l → All (λ k. (k ≡ l) ⊎ Up clauses decided (opposite k)) clause → Up clauses decided l
@@ -67,7 +66,7 @@ Up-more_clauses clauses more decided l up set closed = up set (record {
 
 pub Up-more_decided : (clauses : List Clause) (decided more : List Lit) (l : Lit) → Up clauses decided l → Up clauses (decided ++ more) l
 Up-more_decided clauses decided more l up set closed = up set (record {
-  holds_decided = All-from (Contains set) decided (λ k h. All-contains (Contains set) (decided ++ more) k closed.holds_decided (Contains-append_left decided more k h));
+  holds_decided = All-from_Contains (Contains set) decided (λ k h. All-contains (Contains set) (decided ++ more) k closed.holds_decided (Contains-append_left decided more k h));
   holds_forced = closed.holds_forced;
 })
 
@@ -84,7 +83,7 @@ prefix_inside s sound set n holds forces (suc m) i l h k e =
       | inr p ↦ forces p.0.literals l (clause_listed s.clauses p.0 p.1)
           (IsForced-larger (take i s.trail) set p.0.literals l
           (λ x inside.
-          let at = at-Contains (take i s.trail) x inside in
+          let at = slice_get-from_Contains (take i s.trail) x inside in
           let below : at.0 < i = slice_get-take_below i s.trail at.0 x at.1 in
           prefix_inside s sound set n holds forces m at.0 x (omega arith) (omega arith) (slice_get-take i s.trail at.0 x at.1))
           p.2)
@@ -93,7 +92,7 @@ prefix_inside s sound set n holds forces (suc m) i l h k e =
 -- the trail follows
 pub trail_follows : (s : SearchState) (l : Lit) → IsSound s → Contains s.trail l → FollowsByUnits s l
 trail_follows s l sound inside set closed =
-    let at = at-Contains s.trail l inside in
+    let at = slice_get-from_Contains s.trail l inside in
     prefix_inside s sound set (suc at.0)
     (λ d h _. All-contains (Contains set) (literals_of s.decided) d.literal closed.holds_decided (Contains-map (λ (e : Decided). e.literal) s.decided d h))
     closed.holds_forced (suc at.0) at.0 l (omega arith) (omega arith) at.1
@@ -101,9 +100,9 @@ trail_follows s l sound inside set closed =
 -- a decision before another in the trail is among those before it
 decided_before : (s : SearchState) (k : ℕ) (next d : Decided) → IsSound s → slice_get s.decided k ≡ Some next → Contains s.decided d → d.index < next.index → Contains (take k s.decided) d
 decided_before s k next d sound at_k listed below =
-    let at = at-Contains s.decided d listed in
-    elim (below_same_above at.0 k) [
-      | inl h ↦ Contains-at (take k s.decided) at.0 d (take-slice_get k s.decided at.0 d h at.1)
+    let at = slice_get-from_Contains s.decided d listed in
+    elim (order_cases at.0 k) [
+      | inl h ↦ Contains-from_slice_get (take k s.decided) at.0 d (take-slice_get k s.decided at.0 d h at.1)
       | inr h ↦ elim h [
         | inl e ↦ (let same : d ≡ next = same_Some d next (sym at.1 ∙ ap (slice_get s.decided) e ∙ at_k) in
             let index : d.index ≡ next.index = ap (λ (x : Decided). x.index) same in absurd (omega arith))
@@ -114,7 +113,7 @@ decided_before s k next d sound at_k listed below =
 -- the trail before a decision follows from the decisions before it
 pub prefix_follows : (s : SearchState) (k : ℕ) (next : Decided) (l : Lit) → IsSound s → slice_get s.decided k ≡ Some next → Contains (take next.index s.trail) l → Up (clauses_of s.clauses) (literals_of (take k s.decided)) l
 prefix_follows s k next l sound at_k inside set closed =
-    let at = at-Contains (take next.index s.trail) l inside in
+    let at = slice_get-from_Contains (take next.index s.trail) l inside in
     prefix_inside s sound set next.index
     (λ d h below. All-contains (Contains set) (literals_of (take k s.decided)) d.literal closed.holds_decided (Contains-map (λ (e : Decided). e.literal) (take k s.decided) d (decided_before s k next d sound at_k h below)))
     closed.holds_forced (suc at.0) at.0 l (omega arith) (slice_get-take_below next.index s.trail at.0 l at.1) (slice_get-take next.index s.trail at.0 l at.1)

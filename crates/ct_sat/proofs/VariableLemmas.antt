@@ -1,13 +1,15 @@
 -- The variables of a table.
-use Rattle.std.proofs.Common.{◌≡◌, ℕ, zero, suc, ◌+◌, ◌<◌, ◌≤◌, ◌⊎◌, inl, inr, List, [], ◌∷◌, ◌++◌, length, All, Contains, refl, sym, ap, subst, arith}
+use Rattle.std.proofs.Common.{◌≡◌, ℕ, ◌+◌, ◌<◌, ◌≤◌, inl, inr, List, [], ◌∷◌, ◌++◌, length, All, Contains, sym, ap, subst, arith}
 use Rattle.std.proofs.lemmas.Option.{none-some, slice_get_within}
 use Rattle.std.proofs.lemmas.List.{length_push}
 use Rattle.std.proofs.lemmas.List.Elements.{All-push, All-nil, Contains-append_left, Contains-push}
+use Rattle.ct_lemmas.proofs.Each.{All-at}
+use Rattle.ct_lemmas.proofs.Lists.{slice_get-push_cases}
+use Rattle.ct_lemmas.proofs.Numbers.{last_or_before}
 use Rattle.ct_terms.specs.declared.ids.TermId.{TermId}
 use Rattle.ct_terms.specs.Terms.{Terms}
 use Rattle.ct_terms.specs.Literal.{IsStripped}
 use Rattle.ct_sat.specs.State.{AreIncreasing, AreVariables}
-use Rattle.ct_sat.proofs.ListLemmas.{slice_get-push_cases, All-at}
 
 -- the variables whose numbers are below a bound
 pub record AreVariablesBelow (table : Terms) (n : ℕ) (variables : List TermId) : Type 0 where
@@ -28,18 +30,11 @@ AreVariablesBelow-none table = record {
 same_term : (t : TermId) (n : ℕ) → t.0 ≡ n → t ≡ record { 0 = n }
 same_term t n e = let of : ℕ → TermId = λ k. record { 0 = k } in ap of e
 
--- two cases of a number below the next
-last_or_below : (k n : ℕ) → k < n + 1 → (k < n) ⊎ (k ≡ n)
-last_or_below zero zero h = inr refl
-last_or_below zero (suc n) h = inl (omega arith)
-last_or_below (suc k) zero h = absurd (omega arith)
-last_or_below (suc k) (suc n) h = elim (last_or_below k n (omega arith)) [ inl b ↦ inl (omega arith) | inr e ↦ inr (ap suc e) ]
-
 pub AreVariablesBelow-skip : (table : Terms) (n : ℕ) (variables : List TermId) → AreVariablesBelow table n variables → (IsStripped table (record { 0 = n }) → ⊥) → AreVariablesBelow table (n + 1) variables
 AreVariablesBelow-skip table n variables old other = record {
   boolean = old.boolean;
   below = λ k d h. (let b = old.below k d h in omega arith);
-  each = λ t below stripped. elim (last_or_below t.0 n below) [
+  each = λ t below stripped. elim (last_or_before t.0 n below) [
     | inl b ↦ old.each t b stripped
     | inr e ↦ absurd (other (subst (IsStripped table) (same_term t n e) stripped))
   ];
@@ -50,7 +45,7 @@ pub AreVariablesBelow-push : (table : Terms) (n : ℕ) (variables : List TermId)
 AreVariablesBelow-push table n variables old here = record {
   boolean = All-push (IsStripped table) variables new old.boolean here;
   below = All-push (λ t. t.0 < n + 1) variables new (λ k d h. (let b = old.below k d h in omega arith)) (omega arith);
-  each = λ t below stripped. elim (last_or_below t.0 n below) [
+  each = λ t below stripped. elim (last_or_before t.0 n below) [
     | inl b ↦ Contains-append_left variables (new ∷ []) t (old.each t b stripped)
     | inr e ↦ subst (Contains (variables ++ new ∷ [])) (sym (same_term t n e)) (Contains-push variables new)
   ];

@@ -2,19 +2,20 @@
 use Rattle.std.proofs.Common.{◌≡◌, ℕ, suc, ◌<◌, ◌≤◌, Bool, true, false, List, [], ◌∷◌, ◌++◌, length, drop, slice_get, Some, Result, Ok, Err, IsErrOf, refl, sym, ap, ap₂, subst, arith}
 use Rattle.std.proofs.lemmas.List.{append_assoc, append-nil}
 use Rattle.std.proofs.lemmas.Option.{none-some, same_Some}
+use Rattle.ct_lemmas.proofs.Booleans.{or_left, or_right}
 use Rattle.ct_sorts.specs.declared.ids.DefId.{DefId}
 use Rattle.ct_sorts.specs.declared.ids.SortId.{SortId}
 use Rattle.ct_sorts.specs.Declarations.{Declarations}
 use Rattle.ct_terms.specs.declared.ids.TermId.{TermId}
 use Rattle.ct_terms.specs.declared.error.TermError.{TermError}
 use Rattle.ct_terms.specs.declared.error.TermError.TheVariants.{Full, NoMemory}
-use Rattle.ct_terms.specs.declared.tree.Tree.{Tree}
-use Rattle.ct_terms.specs.TreeFormula.{formula_of, formulas_of_trees}
+use Rattle.ct_formulas.specs.declared.tree.Tree.{Tree}
+use Rattle.ct_formulas.specs.TreeFormula.{formula_of, formulas_of_trees}
 use Rattle.ct_terms.specs.Terms.{Terms}
 use Rattle.ct_terms.specs.CoreTree.{CoreTree, subtrees}
-use Rattle.ct_terms.specs.Formula.{Formula, Formulas, no_formulas, with_formula}
-use Rattle.ct_terms.specs.Compiled.{compiled, compiled_all}
-use Rattle.ct_terms.specs.Occurrence.{count_of, occurs, uses_below}
+use Rattle.ct_formulas.specs.Formula.{Formula, Formulas, no_formulas, with_formula}
+use Rattle.ct_formulas.specs.Compiled.{compiled, compiled_all}
+use Rattle.ct_formulas.specs.Occurrence.{count_of, occurs, uses_below}
 use Rattle.ct_scope.specs.declared.bound.Bound.{Bound}
 use Rattle.ct_scope.specs.declared.stop.Stop.{Stop}
 use Rattle.ct_scope.specs.Deferral.{ended, Defers, DefersBound}
@@ -28,7 +29,7 @@ use Rattle.ct_scope.specs.Binding.{occurs_where, WithinWhere, making_where, AreB
 use Rattle.ct_operators.proofs.EffectLemmas.{prefix_itself, prefix_trans, effect_none, effect_then, effect_because}
 use Rattle.ct_operators.proofs.WithinLemmas.{within_subtrees}
 use Rattle.ct_operators.proofs.MakesLemmas.{makes_then}
-use Rattle.ct_scope.proofs.CompilableLemmas.{bound_stays, setting_stays, present_less, or_left, or_right}
+use Rattle.ct_scope.proofs.CompilableLemmas.{bound_stays, setting_stays, present_less}
 use Rattle.ct_operators.proofs.EffectLemmas.{same_error}
 use Rattle.ct_scope.proofs.DeferralLemmas.{ended_by, too_deep_by, waits_under}
 

@@ -4,6 +4,8 @@ use Rattle.std.specs.List.{AllZip}
 use Rattle.std.proofs.lemmas.Option.{none-some, same_Some}
 use Rattle.std.proofs.lemmas.List.{append-nil}
 use Rattle.std.specs.Map.{lookup}
+use Rattle.ct_lemmas.proofs.Contained.{Contains-first}
+use Rattle.ct_lemmas.proofs.Pairs.{AllZip-none, AllZip-one_length}
 use Rattle.indexmap.specs.IndexMap.{IndexMap, get}
 use Rattle.ct_sorts.specs.declared.ids.DefId.{DefId}
 use Rattle.ct_sorts.specs.declared.ids.SortId.{SortId}
@@ -12,10 +14,10 @@ use Rattle.ct_terms.specs.declared.ids.TermId.{TermId}
 use Rattle.ct_terms.specs.Terms.{Terms}
 use Rattle.ct_terms.specs.CoreTree.{CoreTree, subtrees}
 use Rattle.ct_terms.specs.CoreSorts.{HasTreeSort}
-use Rattle.ct_terms.specs.Formula.{Formula, Formulas, Def, bind}
-use Rattle.ct_terms.specs.FormulaSorts.{AreSound}
-use Rattle.ct_terms.specs.Compiled.{compiled, compiled_all}
-use Rattle.ct_terms.specs.Occurrence.{count_of, uses_below, AreBoundSame}
+use Rattle.ct_formulas.specs.Formula.{Formula, Formulas, Def, bind}
+use Rattle.ct_formulas.specs.FormulaSorts.{AreSound}
+use Rattle.ct_formulas.specs.Compiled.{compiled, compiled_all}
+use Rattle.ct_formulas.specs.Occurrence.{count_of, uses_below, AreBoundSame}
 use Rattle.ct_scope.specs.declared.bound.Bound.{Bound}
 use Rattle.ct_scope.specs.declared.bound.Bound.TheVariants.{Term, Field, Absent}
 use Rattle.ct_scope.specs.declared.known.Called.{Called}
@@ -29,12 +31,11 @@ use Rattle.ct_occurrence.specs.Marks.{flags_below, Rows, row_in, HaveRows}
 use Rattle.ct_scope.specs.Binding.{IsBoundAs, making_where, Binds}
 use Rattle.ct_scope.specs.Calling.{same_call, terms_bound, call_of, IsRecalled, IsState}
 use Rattle.ct_operators.proofs.EffectLemmas.{stands_stays}
-use Rattle.ct_operators.proofs.WithinLemmas.{Contains-first, within_subtrees}
+use Rattle.ct_operators.proofs.WithinLemmas.{within_subtrees}
 use Rattle.ct_scope.proofs.CompilableLemmas.{bounds_stay}
 use Rattle.ct_operators.proofs.OperatorLemmas.{stands_as}
 use Rattle.ct_operators.proofs.MakesLemmas.{have_stay}
 use Rattle.ct_scope.proofs.MakingLemmas.{makes_is, makes_same_below}
-use Rattle.ct_scope.proofs.BindLemmas.{zip_length}
 use Rattle.ct_scope.proofs.DefinitionLemmas.{given_is, fewer_rows}
 use Rattle.ct_scope.proofs.UnderLemmas.{Under, count_sorted, count_terms, call_view, body_ready}
 
@@ -129,13 +130,9 @@ bound_same table p [] (u ∷ us) vs marked_as h k = absurd h
 bound_same table p (b ∷ bs) [] vs marked_as h k = absurd h
 bound_same table p (b ∷ bs) (u ∷ us) [] marked_as h k = absurd k
 bound_same table p (b ∷ bs) (u ∷ us) (v ∷ vs) marked_as h k = (
-  λ e. one_tree table (p (length bs)) b u v marked_as.0 h.0 k.0 (ap p (zip_length (IsBound table) bs us h.1) ∙ e),
+  λ e. one_tree table (p (length bs)) b u v marked_as.0 h.0 k.0 (ap p (AllZip-one_length (IsBound table) bs us h.1) ∙ e),
   bound_same table p bs us vs marked_as.1 h.1 k.1,
 )
-
-zip_none : {X Y : Type 0} (R : X → Y → Type 0) (ys : List Y) → AllZip R [] ys → ys ≡ []
-zip_none R [] h = refl
-zip_none R (y ∷ ys) h = absurd h
 
 same_definition : (call : Called) (k : DefId) (bs : List Bound) → call ≡ call_of k bs → call.definition ≡ k
 same_definition call k bs e = ap (λ (c : Called). c.definition) e
@@ -163,7 +160,7 @@ module _ (d : Declarations) (bodies : List Formula) (n : ℕ) (rows : Rows) (old
         let one : bs ≡ is.bounds = same_bounds row bs is.bounds all.flagged flags (ap (λ (c : Called). c.args) is.args) in
         let stand : AllZip (IsBound mid) bs is.trees = subst (λ (xs : List Bound). AllZip (IsBound mid) xs is.trees) (sym one) is.stand in
         let core = all.core trees sorts view.each view.binding in
-        let count : count_of ts ≡ length bs = sym (count_terms d (compiled_calls d bodies n) trees ts) ∙ sym (zip_length (IsBound mid) bs (parts trees) core) in
+        let count : count_of ts ≡ length bs = sym (count_terms d (compiled_calls d bodies n) trees ts) ∙ sym (AllZip-one_length (IsBound mid) bs (parts trees) core) in
         let marked_as : AllZip IsBoundAs (flags_below (uses_below d bodies n k) (length bs)) bs = subst (λ (xs : List Bool). AllZip IsBoundAs xs bs) (row_is trees sorts sort h ∙ ap (flags_below (uses_below d bodies n k)) count) all.flagged in
         stands_as mid t _ _
         (given_is bodies k body at d (suc k.0) is.trees (omega arith)
@@ -180,14 +177,14 @@ module _ (d : Declarations) (bodies : List Formula) (n : ℕ) (rows : Rows) (old
         let one : bs ≡ is.bounds = same_bounds row bs is.bounds all.flagged flags (ap (λ (c : Called). c.args) is.args) in
         let stand : AllZip (IsBound mid) bs is.trees = subst (λ (xs : List Bound). AllZip (IsBound mid) xs is.trees) (sym one) is.stand in
         let core = all.core trees sorts view.each view.binding in
-        let count : count_of ts ≡ length bs = sym (count_terms d (compiled_calls d bodies n) trees ts) ∙ sym (zip_length (IsBound mid) bs (parts trees) core) in
+        let count : count_of ts ≡ length bs = sym (count_terms d (compiled_calls d bodies n) trees ts) ∙ sym (AllZip-one_length (IsBound mid) bs (parts trees) core) in
         let marked_as : AllZip IsBoundAs (flags_below (uses_below d bodies n k) (length bs)) bs = subst (λ (xs : List Bool). AllZip IsBoundAs xs bs) (row_is trees sorts sort h ∙ ap (flags_below (uses_below d bodies n k)) count) all.flagged in
         subst (HasTrees mid)
         (makes_is bodies k body at d (suc k.0) is.trees (omega arith)
         ∙ sym (makes_is bodies k body at d n is.trees h.mentions.0)
         ∙ sym (makes_same_below h.setting.kept.theorems d bodies n k (parts trees) is.trees (bound_same mid (uses_below d bodies n k) bs (parts trees) is.trees marked_as core stand))
         ∙ makes_is bodies k body at d n (parts trees) h.mentions.0
-        ∙ ap (λ (us : List CoreTree). making d (defined d bodies k.0) (bind (parts trees) us) body) (sym (zip_none (IsBound old) view.others view.bound)))
+        ∙ ap (λ (us : List CoreTree). making d (defined d bodies k.0) (bind (parts trees) us) body) (sym (AllZip-none (IsBound old) view.others view.bound)))
         is.made
 
     -- the term of the call is put down
@@ -203,7 +200,7 @@ module _ (d : Declarations) (bodies : List Formula) (n : ℕ) (rows : Rows) (old
           flags = all.flagged;
           stand = bounds_stay d mid new bs (parts trees) grown kept (all.core trees sorts view.each view.binding);
           stands = stands_as new t _ _ (given_is bodies k body at d n (parts trees) h.mentions.0 ∙ sym (given_is bodies k body at d (suc k.0) (parts trees) (omega arith))) stands;
-          made = subst (HasTrees new) (ap (λ (us : List CoreTree). making d (defined d bodies k.0) (bind (parts trees) us) body) (zip_none (IsBound old) view.others view.bound) ∙ sym (makes_is bodies k body at d (suc k.0) (parts trees) (omega arith))) made;
+          made = subst (HasTrees new) (ap (λ (us : List CoreTree). making d (defined d bodies k.0) (bind (parts trees) us) body) (AllZip-none (IsBound old) view.others view.bound) ∙ sym (makes_is bodies k body at d (suc k.0) (parts trees) (omega arith))) made;
         }
 
     -- the call is put off: its arguments are made
@@ -211,8 +208,8 @@ module _ (d : Declarations) (bodies : List Formula) (n : ℕ) (rows : Rows) (old
     call_waits trees sorts sort h =
         let view = call_under trees sorts sort h in
         let before = making_where d (defined d bodies n) trees row ts in
-        let none : view.others ≡ [] = zip_none (IsBound old) view.others view.bound in
-        let no_sorts : view.other_sorts ≡ [] = zip_none (HasTreeSort d) view.other_sorts (subst (λ (us : List CoreTree). AllZip (HasTreeSort d) us view.other_sorts) none view.fitting) in
+        let none : view.others ≡ [] = AllZip-none (IsBound old) view.others view.bound in
+        let no_sorts : view.other_sorts ≡ [] = AllZip-none (HasTreeSort d) view.other_sorts (subst (λ (us : List CoreTree). AllZip (HasTreeSort d) us view.other_sorts) none view.fitting) in
         let ready = body_ready d bodies n k.0 old env [] row (Def k ts) ts body call_under mid bs all trees sorts sort h in
         record {
           trees = parts trees;

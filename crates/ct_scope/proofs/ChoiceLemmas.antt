@@ -1,10 +1,12 @@
 -- Compiling a variable, and a choice between two formulas.
-use Rattle.std.proofs.Common.{◌≡◌, ℕ, zero, suc, ◌<◌, Bool, ◌||◌, List, [], ◌∷◌, ◌++◌, length, Contains, Result, Ok, Err, IfOk, IsErrOf, Option, Some, unwrap_or, slice_get, refl, sym, ap, ap₂, subst, ◌∙◌, arith}
-use Rattle.std.specs.List.{AllZip, AllByRecursion}
-use Rattle.std.proofs.lemmas.Option.{none-some, same_Some}
+use Rattle.std.proofs.Common.{◌≡◌, ℕ, ◌<◌, Bool, ◌||◌, List, [], ◌∷◌, ◌++◌, length, Contains, Result, Ok, Err, IfOk, IsErrOf, Option, Some, unwrap_or, slice_get, refl, sym, ap, ap₂, subst, ◌∙◌, arith}
+use Rattle.std.specs.List.{AllByRecursion}
+use Rattle.std.proofs.lemmas.Option.{same_Some, slice_get_within}
 use Rattle.std.proofs.lemmas.Bool.Decides.{Decides-eqb}
 use Rattle.std.proofs.lemmas.List.{append_assoc}
 use Rattle.std.proofs.lemmas.Result.{IfOk-weaker}
+use Rattle.ct_lemmas.proofs.Booleans.{or_left, or_right}
+use Rattle.ct_lemmas.proofs.Pairs.{AllZip-at_right}
 use Rattle.ct_sorts.specs.declared.ids.SortId.{SortId}
 use Rattle.ct_sorts.specs.Declarations.{Declarations, bool_sort}
 use Rattle.ct_terms.specs.declared.ids.TermId.{TermId}
@@ -13,9 +15,9 @@ use Rattle.ct_terms.specs.declared.error.TermError.TheVariants.{Full}
 use Rattle.ct_terms.specs.Terms.{Terms}
 use Rattle.ct_terms.specs.CoreTree.{CoreTree, choice, tree_children, subtrees, no_term, term_at}
 use Rattle.ct_terms.specs.CoreSorts.{HasTreeSort}
-use Rattle.ct_terms.specs.Formula.{Formula, Var, Ite}
-use Rattle.ct_terms.specs.Compiled.{compiled}
-use Rattle.ct_terms.specs.Occurrence.{occurs, uses_below}
+use Rattle.ct_formulas.specs.Formula.{Formula, Var, Ite}
+use Rattle.ct_formulas.specs.Compiled.{compiled}
+use Rattle.ct_formulas.specs.Occurrence.{occurs, uses_below}
 use Rattle.ct_scope.specs.declared.bound.Bound.{Bound}
 use Rattle.ct_scope.specs.declared.bound.Bound.TheVariants.{Term, Field, Absent}
 use Rattle.ct_operators.specs.Made.{HasTree, HasTrees, MakesInOrder}
@@ -29,21 +31,8 @@ use Rattle.ct_operators.proofs.WithinLemmas.{within_subtrees, within_itself, wit
 use Rattle.ct_operators.proofs.OperatorLemmas.{stands_as}
 use Rattle.ct_operators.proofs.MakesLemmas.{makes_then, makes_none, makes_one, makes_same}
 use Rattle.ct_scope.proofs.DeferralLemmas.{IsPutOff, waits_under}
-use Rattle.ct_scope.proofs.CompilableLemmas.{ready_stays, present_less, or_left, or_right}
+use Rattle.ct_scope.proofs.CompilableLemmas.{ready_stays, present_less}
 use Rattle.ct_scope.proofs.PlainLemmas.{whole_sorted}
-
--- what stands at an index of one list stands with what stands there in the other
-pub AllZip-at_right : {X Y : Type 0} (R : X → Y → Type 0) (xs : List X) (ys : List Y) (k : ℕ) (y : Y) → AllZip R xs ys → slice_get ys k ≡ Some y → (x : X) × (slice_get xs k ≡ Some x) × R x y
-AllZip-at_right R [] [] k y h at = absurd (none-some y at)
-AllZip-at_right R [] (z ∷ ys) k y h at = absurd h
-AllZip-at_right R (x ∷ xs) [] k y h at = absurd h
-AllZip-at_right R (x ∷ xs) (z ∷ ys) zero y h at = (x, refl, subst (R x) (same_Some z y at) h.0)
-AllZip-at_right R (x ∷ xs) (z ∷ ys) (suc k) y h at = AllZip-at_right R xs ys k y h.1 at
-
-slice_below : {X : Type 0} (xs : List X) (k : ℕ) (x : X) → slice_get xs k ≡ Some x → k < length xs
-slice_below [] k x e = absurd (none-some x e)
-slice_below (y ∷ ys) zero x e = omega arith
-slice_below (y ∷ ys) (suc k) x e = let h = slice_below ys k x e in omega arith
 
 -- ---- a variable
 
@@ -72,7 +61,7 @@ module _ (d : Declarations) (bodies : List Formula) (n : ℕ) (table : Terms) (e
       record { bound = b.0; at = b.1; tree = t.0; is = t.1; stands = b.2; sorted = t.2 }
 
   pub variable_inside : MayCompile d bodies table n env (Var i) → i < length env
-  variable_inside may = let s = stood may.0 may.1 may.2 may.3 in slice_below env i s.bound s.at
+  variable_inside may = let s = stood may.0 may.1 may.2 may.3 in slice_get_within env i s.bound s.at
 
   module _ (b : Bound) (at : slice_get env i ≡ Some b) where
     pub variable_there : MayCompile d bodies table n env (Var i) → IsThere b

@@ -1,14 +1,15 @@
 -- What is ready to be compiled: the formulas under a formula, and all of it in a table that has grown.
 use Rattle.std.proofs.Common.{◌≡◌, ℕ, Bool, true, false, ◌||◌, List, [], ◌∷◌, refl, sym, ap, ◌∙◌, arith, true≢false}
 use Rattle.std.specs.List.{AllZip}
+use Rattle.ct_lemmas.proofs.Booleans.{or_left, or_right}
 use Rattle.ct_sorts.specs.declared.ids.SortId.{SortId}
 use Rattle.ct_sorts.specs.Declarations.{Declarations, bool_sort}
 use Rattle.ct_terms.specs.Terms.{Terms}
 use Rattle.ct_terms.specs.CoreTree.{CoreTree, sel}
-use Rattle.ct_terms.specs.Formula.{Formula, Formulas, Var, Con, Sel, Test, Apply, Def, Not, And, Or, Xor, Implies, Equal, Distinct, Ite, Let, Match, no_formulas, with_formula, MentionsBelow, AllMentionBelow}
-use Rattle.ct_terms.specs.FormulaSorts.{IsSorted, AllSorted, AreOfSort}
-use Rattle.ct_terms.specs.Compiled.{compiled, compiled_all}
-use Rattle.ct_terms.specs.Occurrence.{occurs, occurs_in_some, uses_below}
+use Rattle.ct_formulas.specs.Formula.{Formula, Formulas, Var, Con, Sel, Test, Apply, Def, Not, And, Or, Xor, Implies, Equal, Distinct, Ite, Let, Match, no_formulas, with_formula, MentionsBelow, AllMentionBelow}
+use Rattle.ct_formulas.specs.FormulaSorts.{IsSorted, AllSorted, AreOfSort}
+use Rattle.ct_formulas.specs.Compiled.{compiled, compiled_all}
+use Rattle.ct_formulas.specs.Occurrence.{occurs, occurs_in_some, uses_below}
 use Rattle.ct_scope.specs.declared.bound.Bound.{Bound}
 use Rattle.ct_scope.specs.declared.bound.Bound.TheVariants.{Term, Field, Absent}
 use Rattle.ct_operators.specs.Effect.{IsSoundTable, IsPrefix}
@@ -56,13 +57,6 @@ all_ready_stay d bodies old new n env ts trees sorts each grown kept h = record 
 }
 
 -- ---- variables of a part
-
-pub or_left : (a b : Bool) → a ≡ true → (a || b) ≡ true
-or_left a b h = ap (λ (x : Bool). x || b) h
-
-pub or_right : (a b : Bool) → b ≡ true → (a || b) ≡ true
-or_right true b h = refl
-or_right false b h = h
 
 pub present_less : (p q : ℕ → Bool) (env : List Bound) → ((i : ℕ) → p i ≡ true → q i ≡ true) → ArePresent q env → ArePresent p env
 present_less p q env less h i b e at = h i b (less i e) at

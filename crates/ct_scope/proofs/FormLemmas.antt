@@ -1,25 +1,26 @@
 -- Compiling a `let`, a call and a `match`: what is needed of the formulas under them, and what they give.
-use Rattle.std.proofs.Common.{◌≡◌, ℕ, suc, ◌+◌, ◌<◌, ◌==◌, Bool, true, false, ◌&&◌, ◌||◌, List, [], ◌∷◌, length, Result, Ok, Err, Some, slice_get, IsErrOf, refl, sym, ap, ap₂, subst, ◌∙◌, arith, true≢false, ◌++◌, if◌then◌else◌}
+use Rattle.std.proofs.Common.{◌≡◌, ℕ, suc, ◌+◌, ◌<◌, ◌==◌, Bool, true, false, ◌&&◌, List, [], ◌∷◌, length, Result, Ok, Err, Some, slice_get, IsErrOf, refl, sym, ap, ap₂, subst, ◌∙◌, arith, true≢false, ◌++◌, if◌then◌else◌}
 use Rattle.std.specs.List.{AllZip}
 use Rattle.std.proofs.lemmas.Option.{none-some, same_Some}
 use Rattle.std.proofs.lemmas.Bool.Decides.{Decides-eqb}
 use Rattle.std.proofs.lemmas.List.{append-nil}
 use Rattle.std.proofs.lemmas.Result.{IfOk-weaker}
+use Rattle.ct_lemmas.proofs.Booleans.{or_false, or_left, or_right}
 use Rattle.ct_sorts.specs.declared.ids.DefId.{DefId}
 use Rattle.ct_sorts.specs.declared.ids.SortId.{SortId}
 use Rattle.ct_sorts.specs.Declarations.{Declarations}
 use Rattle.ct_terms.specs.declared.ids.TermId.{TermId}
 use Rattle.ct_terms.specs.declared.error.TermError.{TermError}
 use Rattle.ct_terms.specs.declared.error.TermError.TheVariants.{Full, NoMemory}
-use Rattle.ct_terms.specs.declared.tree.Pattern.{Pattern}
-use Rattle.ct_terms.specs.declared.tree.Case.{Case}
-use Rattle.ct_terms.specs.declared.tree.Tree.{Tree}
+use Rattle.ct_formulas.specs.declared.tree.Pattern.{Pattern}
+use Rattle.ct_formulas.specs.declared.tree.Case.{Case}
+use Rattle.ct_formulas.specs.declared.tree.Tree.{Tree}
 use Rattle.ct_terms.specs.Terms.{Terms}
 use Rattle.ct_terms.specs.CoreTree.{CoreTree}
-use Rattle.ct_terms.specs.Formula.{Formula, Formulas, Cases, Match, no_formulas, with_formula, with_case}
-use Rattle.ct_terms.specs.TreeFormula.{formula_of, formulas_of_trees}
-use Rattle.ct_terms.specs.Compiled.{are_none, compiled, compiled_cases}
-use Rattle.ct_terms.specs.Occurrence.{count_of, occurs, matched_occurs, occurs_in_cases, uses_below}
+use Rattle.ct_formulas.specs.Formula.{Formula, Formulas, Cases, Match, no_formulas, with_formula, with_case}
+use Rattle.ct_formulas.specs.TreeFormula.{formula_of, formulas_of_trees}
+use Rattle.ct_formulas.specs.Compiled.{are_none, compiled, compiled_cases}
+use Rattle.ct_formulas.specs.Occurrence.{count_of, occurs, matched_occurs, occurs_in_cases, uses_below}
 use Rattle.ct_scope.specs.declared.bound.Bound.{Bound}
 use Rattle.ct_scope.specs.declared.stop.Stop.{Stop}
 use Rattle.ct_scope.specs.Deferral.{ended, Defers, DefersBound, DefersCases}
@@ -34,7 +35,7 @@ use Rattle.ct_occurrence.specs.CaseFormula.{case_of, cases_of_trees}
 use Rattle.ct_scope.specs.Matching.{IsTerm, AreCases, MayCases, CompilesCases}
 use Rattle.ct_scope.proofs.Weight.{weight, weights}
 use Rattle.ct_operators.proofs.EffectLemmas.{effect_then, effect_because}
-use Rattle.ct_scope.proofs.CompilableLemmas.{setting_stays, present_less, or_left, or_right}
+use Rattle.ct_scope.proofs.CompilableLemmas.{setting_stays, present_less}
 use Rattle.ct_operators.proofs.EffectLemmas.{same_error}
 use Rattle.ct_operators.proofs.MakesLemmas.{makes_then}
 use Rattle.ct_scope.proofs.MatchLemmas.{matched_under}
@@ -77,10 +78,6 @@ binds_as d bodies n old new env flags others ts us r e f h =
 pub defers_as : (d : Declarations) (bodies : List Formula) (rows : Rows) (n : ℕ) (old new : Terms) (env : List Bound) (flags others : List Bool) (ts us : Formulas) (r : Result (List Bound) Stop) → flags ≡ others → ts ≡ us → DefersBound d bodies rows n old new env flags ts r → DefersBound d bodies rows n old new env others us r
 defers_as d bodies rows n old new env flags others ts us r e f h =
     subst (λ (xs : Formulas). DefersBound d bodies rows n old new env others xs r) f (subst (λ (bs : List Bool). DefersBound d bodies rows n old new env bs ts r) e h)
-
-or_false : (b : Bool) → (b || false) ≡ b
-or_false true = refl
-or_false false = refl
 
 -- where it is a term that is bound
 term_as : (b : Bool) (x : Bound) → IsBoundAs b x → b ≡ true → IsTerm x

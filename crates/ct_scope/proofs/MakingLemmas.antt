@@ -1,14 +1,17 @@
 -- What is made for a formula depends on the terms of the variables that occur in its core term alone.
 use Rattle.std.proofs.Common.{◌≡◌, ℕ, zero, suc, ◌+◌, ◌<◌, Bool, true, false, not, ◌&&◌, ◌||◌, ◌==◌, List, [], ◌∷◌, ◌++◌, length, map, Option, Some, None, option_map, unwrap_or, slice_get, if◌then◌else◌, refl, sym, ap, ap₂, subst, ◌∙◌, arith, true≢false}
+use Rattle.ct_lemmas.proofs.Booleans.{both_true, or_left, or_right}
+use Rattle.ct_lemmas.proofs.Numbers.{by_last}
 use Rattle.ct_sorts.specs.declared.ids.CtorId.{CtorId}
 use Rattle.ct_sorts.specs.declared.ids.DefId.{DefId}
 use Rattle.ct_sorts.specs.declared.ids.SelId.{SelId}
 use Rattle.ct_sorts.specs.Declarations.{Declarations, Constructor}
-use Rattle.ct_terms.specs.declared.tree.Pattern.TheVariants.{Ctor, Any}
+use Rattle.ct_formulas.specs.declared.tree.Pattern.TheVariants.{Ctor, Any}
 use Rattle.ct_terms.specs.CoreTree.{CoreTree, sel, test, choice}
-use Rattle.ct_terms.specs.Formula.{Formula, Formulas, Cases, Var, Con, Sel, Test, Apply, Def, Not, And, Or, Xor, Implies, Equal, Distinct, Ite, Let, Match, no_formulas, with_formula, no_cases, with_case, bind}
-use Rattle.ct_terms.specs.Compiled.{fields_of, surely_fits, are_none, compiled, compiled_all, compiled_cases}
-use Rattle.ct_terms.specs.Occurrence.{count_of, field_count, any_below, occurs, occurs_in_some, occurs_in_bound, matched_occurs, occurs_in_cases, body_uses, uses_below, AreSameAt, AreBoundSame}
+use Rattle.ct_formulas.specs.Formula.{Formula, Formulas, Cases, Var, Con, Sel, Test, Apply, Def, Not, And, Or, Xor, Implies, Equal, Distinct, Ite, Let, Match, no_formulas, with_formula, no_cases, with_case, bind}
+use Rattle.ct_terms.specs.Fields.{fields_of}
+use Rattle.ct_formulas.specs.Compiled.{surely_fits, are_none, compiled, compiled_all, compiled_cases}
+use Rattle.ct_formulas.specs.Occurrence.{count_of, field_count, any_below, occurs, occurs_in_some, occurs_in_bound, matched_occurs, occurs_in_cases, body_uses, uses_below, AreSameAt, AreBoundSame}
 use Rattle.ct_operators.specs.declared.operator.Operator.TheVariants.{Construct, Select, Inspect, Call, Negation, Conjunction, Disjunction, Exclusion, Implication, Equality, Inequality}
 use Rattle.ct_operators.specs.Theorems.{Theorems}
 use Rattle.ct_occurrence.specs.Plain.{is_plain, formulas_under}
@@ -18,11 +21,6 @@ use Rattle.ct_occurrence.specs.Marks.{flags_below}
 use Rattle.ct_scope.specs.Binding.{making_where}
 use Rattle.ct_operators.specs.Made.{Made, terms, made_by}
 use Rattle.ct_scope.specs.Making.{Defined, making, made_each, making_bound, making_cases, body_makes, makes_below, defined}
-use Rattle.ct_scope.proofs.CompilableLemmas.{or_left, or_right}
-use Rattle.ct_scope.proofs.DefinitionLemmas.{by_last}
-
-and_both : (a b : Bool) → a ≡ true → b ≡ true → (a && b) ≡ true
-and_both a b h k = ap (λ (x : Bool). x && b) h ∙ k
 
 -- what is bound, and what was there
 bound_at : (p : ℕ → Bool) (n : ℕ) (t u : CoreTree) (xs ys : List CoreTree) → (p n ≡ true → t ≡ u) → ((i : ℕ) → p (i + suc n) ≡ true → slice_get xs i ≡ slice_get ys i) → (i : ℕ) → p (i + n) ≡ true → slice_get (t ∷ xs) i ≡ slice_get (u ∷ ys) i
@@ -90,7 +88,7 @@ module _ (d : Declarations) (defs : Defined) (core_same : (t : Formula) (xs ys :
         (λ i e.
         h i
         (or_left (inner (count_of ts) && occurs d uses t i) (occurs_in_bound d uses inner ts i)
-        (and_both (inner (count_of ts)) (occurs d uses t i) (subst (λ (m : ℕ). inner m ≡ true) (count_compiled ts xs) used) e))),
+        (both_true (inner (count_of ts)) (occurs d uses t i) (subst (λ (m : ℕ). inner m ≡ true) (count_compiled ts xs) used) e))),
     all_bound ts inner xs ys (λ i e. h i (or_right (inner (count_of ts) && occurs d uses t i) (occurs_in_bound d uses inner ts i) e)),
   )
 
@@ -107,7 +105,7 @@ module _ (d : Declarations) (defs : Defined) (core_same : (t : Formula) (xs ys :
   rest_same : (c : CtorId) (body : Formula) (cases : Cases) (earlier : List CtorId) (xs ys : List CoreTree) → (surely_fits d earlier c || are_none cases) ≡ false → AreSameAt (occurs_in_cases d uses earlier (with_case (Ctor c) body cases)) xs ys → AreSameAt (occurs_in_cases d uses (c ∷ earlier) cases) xs ys
   rest_same c body cases earlier xs ys e h i o =
       let sure : Bool = surely_fits d earlier c || are_none cases in
-      h i (or_right (occurs d uses body (i + field_count d c)) (not sure && occurs_in_cases d uses (c ∷ earlier) cases i) (and_both (not sure) (occurs_in_cases d uses (c ∷ earlier) cases i) (not_sure sure e) o))
+      h i (or_right (occurs d uses body (i + field_count d c)) (not sure && occurs_in_cases d uses (c ∷ earlier) cases i) (both_true (not sure) (occurs_in_cases d uses (c ∷ earlier) cases i) (not_sure sure e) o))
 
   tested_same : (c : CtorId) (body : Formula) (cases : Cases) (earlier : List CtorId) (t u : CoreTree) → (surely_fits d earlier c || are_none cases) ≡ false → (matched_occurs d uses earlier (with_case (Ctor c) body cases) ≡ true → t ≡ u) → t ≡ u
   tested_same c body cases earlier t u e matched =
@@ -170,7 +168,7 @@ module _ (d : Declarations) (defs : Defined) (core_same : (t : Formula) (xs ys :
         (all_bound ts (occurs d uses u) xs ys (λ i e. h i (or_left (occurs_in_bound d uses (occurs d uses u) ts i) (occurs d uses u (i + count_of ts)) e)))
         (λ i e. h i (or_right (occurs_in_bound d uses (occurs d uses u) ts i) (occurs d uses u (i + count_of ts)) (subst (λ (m : ℕ). occurs d uses u (i + m) ≡ true) (count_compiled ts xs) e)))))
     making_same (Match t cases) xs ys h =
-        let matched : matched_occurs d uses [] cases ≡ true → AreSameAt (occurs d uses t) xs ys = λ m i e. h i (or_left (matched_occurs d uses [] cases && occurs d uses t i) (occurs_in_cases d uses [] cases i) (and_both (matched_occurs d uses [] cases) (occurs d uses t i) m e)) in
+        let matched : matched_occurs d uses [] cases ≡ true → AreSameAt (occurs d uses t) xs ys = λ m i e. h i (or_left (matched_occurs d uses [] cases && occurs d uses t i) (occurs_in_cases d uses [] cases i) (both_true (matched_occurs d uses [] cases) (occurs d uses t i) m e)) in
         ap₂ (λ (vs ws : List CoreTree). vs ++ ws)
         (where_same (matched_occurs d uses [] cases) (making d defs xs t) (making d defs ys t) (λ m. making_same t xs ys (matched m)))
         (cases_same cases [] xs ys (core xs t) (core ys t) (λ m. core_same t xs ys (matched m))
@@ -189,7 +187,7 @@ module _ (d : Declarations) (defs : Defined) (core_same : (t : Formula) (xs ys :
     bound_same no_formulas inner xs ys h = refl
     bound_same (with_formula t ts) inner xs ys h =
         ap₂ (λ (vs ws : List CoreTree). vs ++ ws)
-        (where_same (inner (count_of ts)) (making d defs xs t) (making d defs ys t) (λ b. making_same t xs ys (λ i e. h i (or_left (inner (count_of ts) && occurs d uses t i) (occurs_in_bound d uses inner ts i) (and_both (inner (count_of ts)) (occurs d uses t i) b e)))))
+        (where_same (inner (count_of ts)) (making d defs xs t) (making d defs ys t) (λ b. making_same t xs ys (λ i e. h i (or_left (inner (count_of ts) && occurs d uses t i) (occurs_in_bound d uses inner ts i) (both_true (inner (count_of ts)) (occurs d uses t i) b e)))))
         (bound_same ts inner xs ys (λ i e. h i (or_right (inner (count_of ts) && occurs d uses t i) (occurs_in_bound d uses inner ts i) e)))
 
     cases_same : (cases : Cases) (earlier : List CtorId) (xs ys : List CoreTree) (t u : CoreTree) → (matched_occurs d uses earlier cases ≡ true → t ≡ u) → AreSameAt (occurs_in_cases d uses earlier cases) xs ys → making_cases d defs xs t earlier cases ≡ making_cases d defs ys u earlier cases

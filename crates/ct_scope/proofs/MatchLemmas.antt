@@ -5,6 +5,8 @@ use Rattle.std.proofs.lemmas.Option.{none-some, same_Some}
 use Rattle.std.proofs.lemmas.Result.{IfOk-weaker}
 use Rattle.std.proofs.lemmas.Bool.{cases_lt}
 use Rattle.std.proofs.lemmas.List.{append-nil}
+use Rattle.ct_lemmas.proofs.Booleans.{or_left, or_right}
+use Rattle.ct_lemmas.proofs.Contained.{Contains-rest}
 use Rattle.ct_sorts.specs.declared.ids.CtorId.{CtorId}
 use Rattle.ct_sorts.specs.declared.ids.DefId.{DefId}
 use Rattle.ct_sorts.specs.declared.ids.SelId.{SelId}
@@ -14,15 +16,16 @@ use Rattle.ct_sorts.specs.Consistent.{IsConsistent}
 use Rattle.ct_terms.specs.declared.ids.TermId.{TermId}
 use Rattle.ct_terms.specs.declared.error.TermError.{TermError}
 use Rattle.ct_terms.specs.declared.error.TermError.TheVariants.{Full, NoMemory}
-use Rattle.ct_terms.specs.declared.tree.Pattern.{Pattern}
-use Rattle.ct_terms.specs.declared.tree.Pattern.TheVariants.{Ctor, Any}
+use Rattle.ct_formulas.specs.declared.tree.Pattern.{Pattern}
+use Rattle.ct_formulas.specs.declared.tree.Pattern.TheVariants.{Ctor, Any}
 use Rattle.ct_terms.specs.Terms.{Terms}
 use Rattle.ct_terms.specs.CoreTree.{CoreTree, sel, test, choice, subtrees, term_at}
 use Rattle.ct_terms.specs.CoreSorts.{HasTreeSort}
-use Rattle.ct_terms.specs.Formula.{Formula, Cases, no_cases, with_case, bind}
-use Rattle.ct_terms.specs.FormulaSorts.{BindsSorts, AreSortedCases, HasSomeCase}
-use Rattle.ct_terms.specs.Compiled.{fields_of, surely_fits, are_none, compiled, compiled_cases}
-use Rattle.ct_terms.specs.Occurrence.{any_below, field_count, occurs, matched_occurs, occurs_in_cases, uses_below, GiveUsed}
+use Rattle.ct_formulas.specs.Formula.{Formula, Cases, no_cases, with_case, bind}
+use Rattle.ct_formulas.specs.FormulaSorts.{BindsSorts, AreSortedCases, HasSomeCase}
+use Rattle.ct_terms.specs.Fields.{fields_of}
+use Rattle.ct_formulas.specs.Compiled.{surely_fits, are_none, compiled, compiled_cases}
+use Rattle.ct_formulas.specs.Occurrence.{any_below, field_count, occurs, matched_occurs, occurs_in_cases, uses_below, GiveUsed}
 use Rattle.ct_scope.specs.declared.bound.Bound.{Bound}
 use Rattle.ct_scope.specs.declared.stop.Stop.{Stop}
 use Rattle.ct_scope.specs.Deferral.{ended, Defers, DefersCases}
@@ -36,8 +39,8 @@ use Rattle.ct_scope.specs.Making.{Defined, making, making_cases, defined}
 use Rattle.ct_scope.specs.Matching.{IsTerm, bound_field, sels_of, bound_by, trees_by, AreCases, MayCases, CompilesCases}
 use Rattle.ct_occurrence.specs.Matching.{tested_by, IsPatternDeclared}
 use Rattle.ct_operators.proofs.EffectLemmas.{prefix_trans, stands_stays, effect_none, effect_then, effect_because}
-use Rattle.ct_operators.proofs.WithinLemmas.{Contains-rest, within_subtrees, within_itself, within_choice, within_test}
-use Rattle.ct_scope.proofs.CompilableLemmas.{bound_stays, setting_stays, present_less, or_left, or_right}
+use Rattle.ct_operators.proofs.WithinLemmas.{within_subtrees, within_itself, within_choice, within_test}
+use Rattle.ct_scope.proofs.CompilableLemmas.{bound_stays, setting_stays, present_less}
 use Rattle.ct_operators.proofs.OperatorLemmas.{stands_as}
 use Rattle.ct_operators.proofs.MakesLemmas.{makes_then, makes_one}
 use Rattle.ct_scope.proofs.BindLemmas.{bind_zip, bind_first, bind_present}

@@ -5,9 +5,9 @@ use Rattle.ct_sorts.specs.Declarations.{Declarations, bool_sort}
 use Rattle.ct_terms.specs.Terms.{Terms}
 use Rattle.ct_terms.specs.CoreTree.{CoreTree}
 use Rattle.ct_terms.specs.CoreSorts.{HasTreeSort}
-use Rattle.ct_terms.specs.Formula.{Formula, Formulas, Var, Con, Sel, Test, Apply, Def, Not, And, Or, Xor, Implies, Equal, Distinct, Ite, Let, Match, no_formulas, with_formula, AllMentionBelow}
-use Rattle.ct_terms.specs.FormulaSorts.{AreOfSort, HasFormula, AreAtLeastTwo}
-use Rattle.ct_terms.specs.Compiled.{compiled, compiled_all}
+use Rattle.ct_formulas.specs.Formula.{Formula, Formulas, Var, Con, Sel, Test, Apply, Def, Not, And, Or, Xor, Implies, Equal, Distinct, Ite, Let, Match, no_formulas, with_formula, AllMentionBelow}
+use Rattle.ct_formulas.specs.FormulaSorts.{AreOfSort, HasFormula, AreAtLeastTwo}
+use Rattle.ct_formulas.specs.Compiled.{compiled, compiled_all}
 use Rattle.ct_scope.specs.declared.bound.Bound.{Bound}
 use Rattle.ct_occurrence.specs.Plain.{is_plain, formulas_under}
 use Rattle.ct_operators.specs.Forms.{operator_for, AllHaveSort, AreOperands}

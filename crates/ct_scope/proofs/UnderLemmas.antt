@@ -4,6 +4,8 @@ use Rattle.std.specs.List.{AllZip}
 use Rattle.std.proofs.lemmas.Option.{none-some}
 use Rattle.std.proofs.lemmas.List.{append-nil}
 use Rattle.std.proofs.lemmas.Result.{IfOk-weaker}
+use Rattle.ct_lemmas.proofs.Booleans.{or_left, or_right}
+use Rattle.ct_lemmas.proofs.Pairs.{AllZip-one_length}
 use Rattle.ct_sorts.specs.declared.ids.DefId.{DefId}
 use Rattle.ct_sorts.specs.declared.ids.SortId.{SortId}
 use Rattle.ct_sorts.specs.Declarations.{Declarations}
@@ -13,10 +15,10 @@ use Rattle.ct_terms.specs.declared.error.TermError.TheVariants.{Full, NoMemory}
 use Rattle.ct_terms.specs.Terms.{Terms}
 use Rattle.ct_terms.specs.CoreTree.{CoreTree, subtrees}
 use Rattle.ct_terms.specs.CoreSorts.{HasTreeSort}
-use Rattle.ct_terms.specs.Formula.{Formula, Formulas, Def, Let, no_formulas, with_formula, bind, MentionsBelow, AllMentionBelow}
-use Rattle.ct_terms.specs.FormulaSorts.{IsSorted, AllSorted}
-use Rattle.ct_terms.specs.Compiled.{compiled, compiled_all}
-use Rattle.ct_terms.specs.Occurrence.{count_of, occurs, occurs_in_bound, uses_below}
+use Rattle.ct_formulas.specs.Formula.{Formula, Formulas, Def, Let, no_formulas, with_formula, bind, MentionsBelow, AllMentionBelow}
+use Rattle.ct_formulas.specs.FormulaSorts.{IsSorted, AllSorted}
+use Rattle.ct_formulas.specs.Compiled.{compiled, compiled_all}
+use Rattle.ct_formulas.specs.Occurrence.{count_of, occurs, occurs_in_bound, uses_below}
 use Rattle.ct_scope.specs.declared.bound.Bound.{Bound}
 use Rattle.ct_scope.specs.declared.stop.Stop.{Stop}
 use Rattle.ct_scope.specs.declared.stop.DeferredCall.{DeferredCall}
@@ -29,12 +31,12 @@ use Rattle.ct_operators.specs.Made.{HasTrees, MakesInOrder}
 use Rattle.ct_scope.specs.Making.{making, defined}
 use Rattle.ct_scope.specs.Binding.{IsBoundAs, occurs_where, WithinWhere, making_where, AreBinding, MayBind, Binds}
 use Rattle.ct_operators.proofs.EffectLemmas.{effect_then, effect_because}
-use Rattle.ct_scope.proofs.CompilableLemmas.{bounds_stay, present_less, or_left, or_right}
+use Rattle.ct_scope.proofs.CompilableLemmas.{bounds_stay, present_less}
 use Rattle.ct_operators.proofs.OperatorLemmas.{stands_as}
 use Rattle.ct_operators.proofs.MakesLemmas.{makes_then, makes_none, makes_has}
 use Rattle.ct_scope.proofs.MakingLemmas.{makes_is, making_listed}
 use Rattle.ct_operators.proofs.EffectLemmas.{same_error}
-use Rattle.ct_scope.proofs.BindLemmas.{zip_length, bind_zip, bind_present, all_there, where_within}
+use Rattle.ct_scope.proofs.BindLemmas.{bind_zip, bind_present, all_there, where_within}
 use Rattle.ct_scope.proofs.DefinitionLemmas.{given_is, uses_is, listed_same}
 use Rattle.ct_scope.proofs.DeferralLemmas.{ended_by, too_deep_by, waits_under}
 
@@ -150,7 +152,7 @@ module _ (d : Declarations) (bodies : List Formula) (n m : ℕ) (old : Terms) (e
     body_ready trees sorts sort h =
         let u = view trees sorts sort h in
         let g = all.grown trees sorts u.each u.binding in
-        let count : count_of ts ≡ length bs = sym u.binding.long ∙ zip_length IsBoundAs flags bs all.flagged in
+        let count : count_of ts ≡ length bs = sym u.binding.long ∙ AllZip-one_length IsBoundAs flags bs all.flagged in
         record {
           setting = record {
             consistent = h.setting.consistent;

@@ -8,10 +8,10 @@ use Rattle.ct_terms.specs.declared.error.TermError.{TermError}
 use Rattle.ct_terms.specs.declared.error.TermError.TheVariants.{Full}
 use Rattle.ct_terms.specs.Terms.{Terms}
 use Rattle.ct_terms.specs.CoreTree.{CoreTree}
-use Rattle.ct_terms.specs.Formula.{Formula, Formulas, no_formulas, with_formula, AllMentionBelow}
-use Rattle.ct_terms.specs.FormulaSorts.{AllSorted}
-use Rattle.ct_terms.specs.Compiled.{compiled_all}
-use Rattle.ct_terms.specs.Occurrence.{count_of, occurs, uses_below}
+use Rattle.ct_formulas.specs.Formula.{Formula, Formulas, no_formulas, with_formula, AllMentionBelow}
+use Rattle.ct_formulas.specs.FormulaSorts.{AllSorted}
+use Rattle.ct_formulas.specs.Compiled.{compiled_all}
+use Rattle.ct_formulas.specs.Occurrence.{count_of, occurs, uses_below}
 use Rattle.ct_scope.specs.declared.bound.Bound.{Bound}
 use Rattle.ct_scope.specs.declared.bound.Bound.TheVariants.{Term, Field, Absent}
 use Rattle.ct_operators.specs.Made.{MakesInOrder}

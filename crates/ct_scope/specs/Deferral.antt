@@ -9,8 +9,8 @@ use Rattle.ct_terms.specs.declared.error.TermError.{TermError}
 use Rattle.ct_terms.specs.declared.error.TermError.TheVariants.{NoMemory}
 use Rattle.ct_terms.specs.Terms.{Terms}
 use Rattle.ct_terms.specs.CoreTree.{CoreTree}
-use Rattle.ct_terms.specs.Formula.{Formula, Formulas, Cases, bind}
-use Rattle.ct_terms.specs.Compiled.{compiled, compiled_all, compiled_cases}
+use Rattle.ct_formulas.specs.Formula.{Formula, Formulas, Cases, bind}
+use Rattle.ct_formulas.specs.Compiled.{compiled, compiled_all, compiled_cases}
 use Rattle.ct_scope.specs.declared.bound.Bound.{Bound}
 use Rattle.ct_operators.specs.declared.operator.Operator.{Operator}
 use Rattle.ct_scope.specs.declared.stop.DeferredCall.{DeferredCall}

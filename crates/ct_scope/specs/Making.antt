@@ -4,12 +4,13 @@ use Rattle.std.specs.Prelude.{ℕ, zero, suc, Bool, ◌||◌, ◌==◌, List, []
 use Rattle.ct_sorts.specs.declared.ids.CtorId.{CtorId}
 use Rattle.ct_sorts.specs.declared.ids.DefId.{DefId}
 use Rattle.ct_sorts.specs.Declarations.{Declarations}
-use Rattle.ct_terms.specs.declared.tree.Pattern.TheVariants.{Ctor, Any}
+use Rattle.ct_formulas.specs.declared.tree.Pattern.TheVariants.{Ctor, Any}
 use Rattle.ct_terms.specs.CoreTree.{CoreTree, test, choice, no_term}
-use Rattle.ct_terms.specs.Formula.{Formula, Formulas, Cases, Var, Con, Sel, Test, Apply, Def, Not, And, Or, Xor, Implies, Equal, Distinct, Ite, Let, Match, no_formulas, with_formula, no_cases, with_case, bind}
-use Rattle.ct_terms.specs.Calls.{calls_below}
-use Rattle.ct_terms.specs.Compiled.{fields_of, surely_fits, are_none, compiled, compiled_all, compiled_cases}
-use Rattle.ct_terms.specs.Occurrence.{count_of, occurs, matched_occurs, uses_below}
+use Rattle.ct_formulas.specs.Formula.{Formula, Formulas, Cases, Var, Con, Sel, Test, Apply, Def, Not, And, Or, Xor, Implies, Equal, Distinct, Ite, Let, Match, no_formulas, with_formula, no_cases, with_case, bind}
+use Rattle.ct_formulas.specs.Calls.{calls_below}
+use Rattle.ct_terms.specs.Fields.{fields_of}
+use Rattle.ct_formulas.specs.Compiled.{surely_fits, are_none, compiled, compiled_all, compiled_cases}
+use Rattle.ct_formulas.specs.Occurrence.{count_of, occurs, matched_occurs, uses_below}
 use Rattle.ct_operators.specs.declared.operator.Operator.TheVariants.{Construct, Select, Inspect, Call, Negation, Conjunction, Disjunction, Exclusion, Implication, Equality, Inequality}
 use Rattle.ct_operators.specs.Made.{Made, made_by}
 

@@ -7,15 +7,16 @@ use Rattle.ct_sorts.specs.Declarations.{Declarations, Constructor}
 use Rattle.ct_terms.specs.declared.ids.TermId.{TermId}
 use Rattle.ct_terms.specs.declared.error.TermError.{TermError}
 use Rattle.ct_terms.specs.declared.error.TermError.TheVariants.{Full}
-use Rattle.ct_terms.specs.declared.tree.Pattern.{Pattern}
-use Rattle.ct_terms.specs.declared.tree.Pattern.TheVariants.{Ctor, Any}
+use Rattle.ct_formulas.specs.declared.tree.Pattern.{Pattern}
+use Rattle.ct_formulas.specs.declared.tree.Pattern.TheVariants.{Ctor, Any}
 use Rattle.ct_terms.specs.Terms.{Terms}
 use Rattle.ct_terms.specs.CoreTree.{CoreTree}
 use Rattle.ct_terms.specs.CoreSorts.{HasTreeSort}
-use Rattle.ct_terms.specs.Formula.{Formula, Cases, CasesMentionBelow}
-use Rattle.ct_terms.specs.FormulaSorts.{AreSortedCases, HasSomeCase}
-use Rattle.ct_terms.specs.Compiled.{fields_of, compiled_cases}
-use Rattle.ct_terms.specs.Occurrence.{matched_occurs, occurs_in_cases, uses_below}
+use Rattle.ct_formulas.specs.Formula.{Formula, Cases, CasesMentionBelow}
+use Rattle.ct_formulas.specs.FormulaSorts.{AreSortedCases, HasSomeCase}
+use Rattle.ct_terms.specs.Fields.{fields_of}
+use Rattle.ct_formulas.specs.Compiled.{compiled_cases}
+use Rattle.ct_formulas.specs.Occurrence.{matched_occurs, occurs_in_cases, uses_below}
 use Rattle.ct_scope.specs.declared.bound.Bound.{Bound}
 use Rattle.ct_scope.specs.declared.bound.Bound.TheVariants.{Term, Field, Absent}
 use Rattle.ct_operators.specs.Made.{MakesInOrder}

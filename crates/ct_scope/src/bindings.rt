@@ -4,8 +4,8 @@ ghost use Rattle.ct_scope.specs.Matching.{bound_field, bound_by};
 ghost use Rattle.ct_occurrence.specs.Matching.{IsPatternDeclared};
 
 use crate::bound::Bound;
+use ct_formulas::Pattern;
 use ct_sorts::{SelId, Signature};
-use ct_terms::Pattern;
 use std::alloc::{AllocError, Global};
 
 /// What the variables of a pattern stand for, in order.

@@ -1,6 +1,6 @@
 //! Environments: what the variables in scope stand for.
 ghost use Rattle.std.specs.Prelude.{◌≡◌, ◌<◌, [], length, drop, Some, slice_get, OnOk, OnErr};
-ghost use Rattle.ct_terms.specs.Formula.{bind as bound_over};
+ghost use Rattle.ct_formulas.specs.Formula.{bind as bound_over};
 
 use crate::bound::Bound;
 use std::alloc::{AllocError, Global};

@@ -1,9 +1,9 @@
 //! What a formula may name: declarations, and definitions with their bodies.
 ghost use Rattle.std.specs.Prelude.{◌≡◌, ◌<◌, length, map, Some, slice_get};
-ghost use Rattle.ct_terms.specs.TreeFormula.{formula_of};
+ghost use Rattle.ct_formulas.specs.TreeFormula.{formula_of};
 
+use ct_formulas::Tree;
 use ct_sorts::{DefId, Items, Signature};
-use ct_terms::Tree;
 
 /// What a script has declared and defined so far.
 #[derive(Drop)]

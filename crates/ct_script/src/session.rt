@@ -1,7 +1,7 @@
 //! The session: commands in order, with the verdicts and the errors that they gave.
 ghost use Rattle.std.specs.Prelude.{◌≡◌, [], map, Ok, IfOk, OnErr};
 ghost use Rattle.ct_sexpr.specs.View.{expression_of};
-ghost use Rattle.ct_terms.specs.TreeFormula.{formula_of};
+ghost use Rattle.ct_formulas.specs.TreeFormula.{formula_of};
 ghost use Rattle.ct_command.specs.Reading.{command};
 ghost use Rattle.ct_command.specs.Seen.{command_seen};
 ghost use Rattle.ct_stack.specs.Stack.{in_force};
@@ -17,10 +17,10 @@ use crate::replay::Replayed;
 use ct_check::Scope;
 use ct_command::{Command, CommandError, command_of};
 use ct_engine::Verdict;
+use ct_formulas::Tree;
 use ct_sexpr::Sexpr;
 use ct_stack::AssertionStack;
 use ct_step::{Answer, Options, SessionState, perform, refused};
-use ct_terms::Tree;
 use std::alloc::Global;
 use std::marker::Model;
 

@@ -1,8 +1,8 @@
 -- What a reader keeps, as it reads and is fed.
-use Rattle.std.proofs.Common.{◌≡◌, ℕ, ◌+◌, ◌-◌, ◌≤◌, List, [], ◌++◌, length, drop, Result, Ok, Err, refl, sym, ap, ◌∙◌, subst, arith, length-drop}
+use Rattle.std.proofs.Common.{◌≡◌, ℕ, ◌+◌, ◌-◌, ◌<◌, ◌≤◌, List, [], ◌++◌, length, drop, Result, Ok, Err, refl, sym, ap, ◌∙◌, subst, arith, length-drop}
 use Rattle.std.proofs.lemmas.List.{append-nil, drop-drop}
-use Rattle.ct_sexpr.specs.Scanning.{Reached, IsFresh, Completes, Refutes, Scans}
-use Rattle.ct_sexpr.specs.Buffered.{IsBuffered}
+use Rattle.ct_sexpr.specs.Scanning.{Reached, IsFresh, Completes, Refutes, Scans, Takes}
+use Rattle.ct_sexpr.specs.Buffered.{IsBuffered, IsTight}
 use Rattle.ct_sexpr.specs.Expression.{Expression}
 use Rattle.ct_sexpr.specs.View.{expression_of}
 use Rattle.ct_sexpr.specs.declared.sexpr.Sexpr.{Sexpr}
@@ -44,6 +44,29 @@ buffered-scan buffer start scanned count old new lines fed bytes b is le scans =
           (scans (drop start buffer ++ more) more (subst (λ l. Reached old (drop start buffer ++ more) (l ++ more)) (sym is) (b.reached more)));
       few = b.few;
     }
+
+-- the same bytes in another buffer
+pub buffered-settled : (old new : List ℕ) (start scanned start_new scanned_new : ℕ) (s : Scanner) (lines fed : ℕ) → IsBuffered old start scanned s lines fed →
+    drop start_new new ≡ drop start old → drop scanned_new new ≡ drop scanned old → start_new ≤ scanned_new → scanned_new ≤ length new → IsBuffered new start_new scanned_new s lines fed
+buffered-settled old new start scanned start_new scanned_new s lines fed b kept unread order within = record {
+  start_le = order;
+  scanned_le = within;
+  reached = λ more.
+      subst (λ l. Reached s (l ++ more) (drop scanned_new new ++ more)) (sym kept) (subst (λ l. Reached s (drop start old ++ more) (l ++ more)) (sym unread) (b.reached more));
+  few = let h = b.few in omega (arith, ap length kept);
+}
+
+-- where an error is definite, or memory runs out, some byte was not read
+tight-short : (buffer : List ℕ) (start scanned count : ℕ) (bytes : List ℕ) → bytes ≡ drop scanned buffer → scanned ≤ length buffer → count < length bytes → IsTight buffer start (scanned + count)
+tight-short buffer start scanned count bytes is le short h = absurd (omega (arith, ap length is, length-drop scanned buffer))
+
+pub tight-failed : (buffer : List ℕ) (start scanned count : ℕ) (bytes : List ℕ) (outcome : Result ScanStep ReadError) → bytes ≡ drop scanned buffer → scanned ≤ length buffer →
+    Takes (length bytes) count outcome → (e : ReadError) → outcome ≡ Err e → IsTight buffer start (scanned + count)
+tight-failed buffer start scanned count bytes outcome is le takes e o = tight-short buffer start scanned count bytes is le (subst (Takes (length bytes) count) o takes)
+
+pub tight-wrong : (buffer : List ℕ) (start scanned count : ℕ) (bytes : List ℕ) (outcome : Result ScanStep ReadError) → bytes ≡ drop scanned buffer → scanned ≤ length buffer →
+    Takes (length bytes) count outcome → (code : ℕ) → outcome ≡ Ok (Wrong code) → IsTight buffer start (scanned + count)
+tight-wrong buffer start scanned count bytes outcome is le takes code o = tight-short buffer start scanned count bytes is le (subst (Takes (length bytes) count) o takes)
 
 -- where the scanner is in the bytes that were fed so far
 pub reached_now : (buffer : List ℕ) (start scanned : ℕ) (s : Scanner) (lines fed : ℕ) → IsBuffered buffer start scanned s lines fed →

@@ -1,18 +1,19 @@
 -- Quoting makes no other name, and no other text where it is not needed.
 use Rattle.std.proofs.Common.{◌≡◌, ℕ, Bool, true, false, not, cond, List, ◌∷◌, ◌++◌, [], Option, Some, None, refl, sym, ap, ◌∙◌}
 use Rattle.std.specs.Cmp.Derive.{both_true}
+use Rattle.ct_lemmas.proofs.Booleans.{both_parts, not_is_false}
 use Rattle.ct_sexpr.specs.Atom.{Atom, symbol, quoted, keyword, text, numeral, decimal, binary, hexadecimal}
 use Rattle.ct_sexpr.specs.Expression.{Expression, leaf, list, Expressions, none, more}
 use Rattle.ct_sexpr.specs.Written.{is_reserved, forms_symbol, is_simple, written_name, written_atom, written, written_items, written_after, canonical_atom, canonical, canonical_each}
 use Rattle.ct_sexpr.specs.Readable.{HasForm, name_of_atom}
-use Rattle.ct_sexpr.proofs.Branches.{by_test, negated, both}
+use Rattle.ct_sexpr.proofs.Branches.{by_test}
 
 -- an atom that is quoted only where it needs to be is the same name
 pub simple_name : (a : Atom) → name_of_atom (canonical_atom a) ≡ name_of_atom a
 simple_name (symbol w) = refl
 simple_name (quoted w) =
     by_test (λ a. name_of_atom a ≡ Some w) (is_simple w) (symbol w) (quoted w)
-    (λ e. rw (negated (is_reserved w) (both (forms_symbol w) (not (is_reserved w)) e).1) refl) (λ _. refl)
+    (λ e. rw (not_is_false (is_reserved w) (both_parts (forms_symbol w) (not (is_reserved w)) e).1) refl) (λ _. refl)
 simple_name (keyword w) = refl
 simple_name (text w) = refl
 simple_name (numeral n) = refl

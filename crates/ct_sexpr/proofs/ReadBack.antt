@@ -1,6 +1,7 @@
 -- What is written of a readable expression is read as the same expression, with symbols quoted only where they need to be.
 use Rattle.std.proofs.Common.{◌≡◌, ℕ, ◌+◌, ◌≤◌, Bool, true, false, not, eqb, cond, List, [], ◌∷◌, ◌++◌, length, length-append, inl, inr, refl, sym, ap, ◌∙◌, append_assoc, arith}
 use Rattle.std.proofs.lemmas.List.{append-nil}
+use Rattle.ct_lemmas.proofs.Booleans.{both_parts}
 use Rattle.ct_sexpr.specs.Whitespace.{after_whitespace}
 use Rattle.ct_sexpr.specs.TakeWhile.{drop_while}
 use Rattle.ct_sexpr.specs.Atom.{Atom, symbol, quoted, keyword, text, numeral, decimal, binary, hexadecimal, is_word_byte}
@@ -10,7 +11,6 @@ use Rattle.ct_sexpr.specs.Reading.{nesting_limit, open_after, BeginsCommand}
 use Rattle.ct_sexpr.specs.Written.{is_reserved, forms_symbol, is_simple, doubled, written_atom, written, written_items, written_after, canonical_atom, canonical, canonical_each}
 use Rattle.ct_sexpr.specs.Readable.{HasForm, IsReadable, AreReadable}
 use Rattle.ct_sexpr.specs.Scanning.{BeginsWord}
-use Rattle.ct_sexpr.proofs.Branches.{both}
 use Rattle.ct_sexpr.proofs.WhitespaceLemmas.{after_whitespace-atom}
 use Rattle.ct_sexpr.proofs.Lexemes.{lexeme-word, lexeme-quoted, lexeme-text}
 use Rattle.ct_sexpr.proofs.Trees.{tokens_of-injective}
@@ -42,7 +42,7 @@ word_is_read a (b ∷ bs) s e =
 -- so are a name, quoted where it needs to be, and a string
 name_is_read : (w tail : List ℕ) (needs_none : Bool) → is_simple w ≡ needs_none → drop_while is_in_quoted_symbol w ≡ [] → EndsAtom tail
     → GivesCommand (cond needs_none w (124 ∷ (w ++ 124 ∷ [])) ++ tail) (atom (cond needs_none (symbol w) (quoted w))) tail
-name_is_read w tail true h s e = word_is_read (symbol w) tail (symbol_IsWord w (both (forms_symbol w) (not (is_reserved w)) h).0) e
+name_is_read w tail true h s e = word_is_read (symbol w) tail (symbol_IsWord w (both_parts (forms_symbol w) (not (is_reserved w)) h).0) e
 name_is_read w tail false h s e = ap (λ bs. lexeme_at (124 ∷ bs)) (append_assoc w (124 ∷ []) tail) ∙ lexeme-quoted w tail s
 
 text_is_read : (w tail : List ℕ) → EndsAtom tail → GivesCommand ((34 ∷ (doubled w ++ 34 ∷ [])) ++ tail) (atom (text w)) tail

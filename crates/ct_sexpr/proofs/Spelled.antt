@@ -6,6 +6,7 @@ use Rattle.std.specs.Fmt.{decimal}
 use Rattle.std.specs.Cmp.Derive.{both_true}
 use Rattle.std.proofs.lemmas.Bool.{eqb-true}
 use Rattle.std.proofs.lemmas.Bool.Decides.{eqb_tells, nat_tests}
+use Rattle.ct_lemmas.proofs.Booleans.{both_parts, not_is_false}
 use Rattle.ct_sexpr.specs.Whitespace.{after_whitespace}
 use Rattle.ct_sexpr.specs.TakeWhile.{take_while, drop_while}
 use Rattle.ct_sexpr.specs.Atom.{Atom, symbol, quoted, keyword, numeral, decimal as decimal_atom, binary, hexadecimal, is_word_byte, begins_word, word_of, after_word, are_digits, is_binary_digit, is_point_and_digits, numeral_value, numeral_bound, number, keyword_of, literal, atom_of}
@@ -14,7 +15,7 @@ use Rattle.ct_sexpr.specs.Expression.{Expression, leaf, list, Expressions, none,
 use Rattle.ct_sexpr.specs.Written.{forms_symbol, written_atom}
 use Rattle.ct_sexpr.specs.Readable.{is_keyword, is_decimal, is_literal, HasForm, IsReadable, AreReadable}
 use Rattle.ct_sexpr.specs.Scanning.{BeginsWord}
-use Rattle.ct_sexpr.proofs.Branches.{by_test, negated, both}
+use Rattle.ct_sexpr.proofs.Branches.{by_test}
 use Rattle.ct_sexpr.proofs.WhitespaceLemmas.{distinguished, run_goes_on}
 use Rattle.ct_sexpr.proofs.Numbers.{AreDigitsOf, decimal-AreDigitsOf}
 
@@ -26,7 +27,7 @@ IsWord a = BeginsWord (written_atom a) × (atom_of (written_atom a) ≡ Ok a)
 pub all_run : (test : ℕ → Bool) (bs : List ℕ) → list_all test bs ≡ true → drop_while test bs ≡ []
 all_run test [] h = refl
 all_run test (b ∷ bs) h =
-    let p = both (test b) (list_all test bs) h in
+    let p = both_parts (test b) (list_all test bs) h in
     rw p.0 (all_run test bs p.1)
 
 run_all : (test : ℕ → Bool) (bs : List ℕ) → drop_while test bs ≡ [] → list_all test bs ≡ true
@@ -39,7 +40,7 @@ run_all test (b ∷ bs) h =
 within_word : (test : ℕ → Bool) → ((b : ℕ) → test b ≡ true → is_word_byte b ≡ true) → (bs : List ℕ) → list_all test bs ≡ true → after_word bs ≡ []
 within_word test f [] h = refl
 within_word test f (b ∷ bs) h =
-    let p = both (test b) (list_all test bs) h in
+    let p = both_parts (test b) (list_all test bs) h in
     rw (f b p.0) (within_word test f bs p.1)
 
 digit_in_word : (b : ℕ) → is_ascii_digit b ≡ true → is_word_byte b ≡ true
@@ -67,22 +68,22 @@ some_digits test (d ∷ ds) h = h
 pub symbol_IsWord : (w : List ℕ) → forms_symbol w ≡ true → IsWord (symbol w)
 symbol_IsWord [] h = cc
 symbol_IsWord (b ∷ bs) h =
-    let p = both (not (is_ascii_digit b)) (list_all is_word_byte (b ∷ bs)) h in
-    let q = both (is_word_byte b) (list_all is_word_byte bs) p.1 in
-    let no_digit : is_ascii_digit b ≡ false = negated (is_ascii_digit b) p.0 in
+    let p = both_parts (not (is_ascii_digit b)) (list_all is_word_byte (b ∷ bs)) h in
+    let q = both_parts (is_word_byte b) (list_all is_word_byte bs) p.1 in
+    let no_digit : is_ascii_digit b ≡ false = not_is_false (is_ascii_digit b) p.0 in
     ((rw q.0 refl, all_run is_word_byte bs q.1), rw (distinguished is_word_byte b 58 q.0 refl, distinguished is_word_byte b 35 q.0 refl, no_digit) refl)
 
 -- so it is after a colon
 after_colon : (bs : List ℕ) → forms_symbol bs ≡ true → IsWord (keyword (58 ∷ bs))
 after_colon [] h = cc
 after_colon (c ∷ cs) h =
-    let p = both (not (is_ascii_digit c)) (list_all is_word_byte (c ∷ cs)) h in
-    ((refl, all_run is_word_byte (c ∷ cs) p.1), rw (negated (is_ascii_digit c) p.0) refl)
+    let p = both_parts (not (is_ascii_digit c)) (list_all is_word_byte (c ∷ cs)) h in
+    ((refl, all_run is_word_byte (c ∷ cs) p.1), rw (not_is_false (is_ascii_digit c) p.0) refl)
 
 pub keyword_IsWord : (w : List ℕ) → is_keyword w ≡ true → IsWord (keyword w)
 keyword_IsWord [] h = cc
 keyword_IsWord (b ∷ bs) h =
-    let p = both (eqb b 58) (forms_symbol bs) h in
+    let p = both_parts (eqb b 58) (forms_symbol bs) h in
     subst (λ c. IsWord (keyword (c ∷ bs))) (sym (eqb-true b 58 p.0)) (after_colon bs p.1)
 
 number_is : (n : ℕ) (w : List ℕ) → n < numeral_bound → AreDigitsOf n w → number w ≡ Ok (numeral n)
@@ -97,7 +98,7 @@ atom_of-digit b bs h = rw (distinguished is_ascii_digit b 58 h refl, distinguish
 numeral_is : (n : ℕ) (w : List ℕ) → n < numeral_bound → AreDigitsOf n w → BeginsWord w × (atom_of w ≡ Ok (numeral n))
 numeral_is n [] small d = absurd (omega arith)
 numeral_is n (b ∷ bs) small d =
-    let p = both (is_ascii_digit b) (list_all is_ascii_digit bs) d.0 in
+    let p = both_parts (is_ascii_digit b) (list_all is_ascii_digit bs) d.0 in
     ((rw p.0 refl, within_word is_ascii_digit digit_in_word bs p.1), atom_of-digit b bs p.0 ∙ number_is n (b ∷ bs) small d)
 
 pub numeral_IsWord : (n : ℕ) → n < numeral_bound → IsWord (numeral n)
@@ -113,7 +114,7 @@ digits_and_more (d ∷ ds) h =
 point_in_word : (bs : List ℕ) → is_point_and_digits bs ≡ true → after_word bs ≡ []
 point_in_word [] h = refl
 point_in_word (b ∷ bs) h =
-    let p = both (eqb b 46) (are_digits is_ascii_digit bs) h in
+    let p = both_parts (eqb b 46) (are_digits is_ascii_digit bs) h in
     subst (λ c. after_word (c ∷ bs) ≡ []) (sym (eqb-true b 46 p.0)) (within_word is_ascii_digit digit_in_word bs (some_digits is_ascii_digit bs p.1))
 
 not_all_digits : (ds : List ℕ) (all : Bool) → list_all is_ascii_digit ds ≡ all → is_point_and_digits (drop_while is_ascii_digit ds) ≡ true → all ≡ false
@@ -125,7 +126,7 @@ not_all_digits ds false e h = refl
 pub decimal_IsWord : (w : List ℕ) → is_decimal w ≡ true → IsWord (decimal_atom w)
 decimal_IsWord [] h = cc
 decimal_IsWord (d ∷ ds) h =
-    let p = both (is_ascii_digit d) (is_point_and_digits (drop_while is_ascii_digit ds)) h in
+    let p = both_parts (is_ascii_digit d) (is_point_and_digits (drop_while is_ascii_digit ds)) h in
     let not_all : list_all is_ascii_digit ds ≡ false = not_all_digits ds (list_all is_ascii_digit ds) refl p.1 in
     ((rw p.0 refl, digits_and_more ds (point_in_word (drop_while is_ascii_digit ds) p.1)), atom_of-digit d ds p.0 ∙ rw (p.0, not_all, p.1) refl)
 
@@ -134,8 +135,8 @@ pub binary_IsWord : (w : List ℕ) → is_literal 98 is_binary_digit w ≡ true 
 binary_IsWord [] h = cc
 binary_IsWord (b ∷ []) h = cc
 binary_IsWord (b ∷ (c ∷ ds)) h =
-    let p = both (eqb b 35) (eqb c 98 && are_digits is_binary_digit ds) h in
-    let q = both (eqb c 98) (are_digits is_binary_digit ds) p.1 in
+    let p = both_parts (eqb b 35) (eqb c 98 && are_digits is_binary_digit ds) h in
+    let q = both_parts (eqb c 98) (are_digits is_binary_digit ds) p.1 in
     let whole : IsWord (binary (35 ∷ (98 ∷ ds))) = ((refl, within_word is_binary_digit binary_digit_in_word ds (some_digits is_binary_digit ds q.1)), rw q.1 refl) in
     subst (λ x. IsWord (binary (x ∷ (c ∷ ds)))) (sym (eqb-true b 35 p.0)) (subst (λ x. IsWord (binary (35 ∷ (x ∷ ds)))) (sym (eqb-true c 98 q.0)) whole)
 
@@ -143,8 +144,8 @@ pub hexadecimal_IsWord : (w : List ℕ) → is_literal 120 is_ascii_hexdigit w �
 hexadecimal_IsWord [] h = cc
 hexadecimal_IsWord (b ∷ []) h = cc
 hexadecimal_IsWord (b ∷ (c ∷ ds)) h =
-    let p = both (eqb b 35) (eqb c 120 && are_digits is_ascii_hexdigit ds) h in
-    let q = both (eqb c 120) (are_digits is_ascii_hexdigit ds) p.1 in
+    let p = both_parts (eqb b 35) (eqb c 120 && are_digits is_ascii_hexdigit ds) h in
+    let q = both_parts (eqb c 120) (are_digits is_ascii_hexdigit ds) p.1 in
     let whole : IsWord (hexadecimal (35 ∷ (120 ∷ ds))) = ((refl, within_word is_ascii_hexdigit hexadecimal_digit_in_word ds (some_digits is_ascii_hexdigit ds q.1)), rw q.1 refl) in
     subst (λ x. IsWord (hexadecimal (x ∷ (c ∷ ds)))) (sym (eqb-true b 35 p.0)) (subst (λ x. IsWord (hexadecimal (35 ∷ (x ∷ ds)))) (sym (eqb-true c 120 q.0)) whole)
 

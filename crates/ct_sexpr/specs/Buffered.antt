@@ -1,5 +1,5 @@
 -- What a reader keeps.
-use Rattle.std.specs.Prelude.{ℕ, ◌+◌, ◌≤◌, List, ◌++◌, length, drop}
+use Rattle.std.specs.Prelude.{◌≡◌, ℕ, ◌+◌, ◌≤◌, List, ◌++◌, length, drop}
 use Rattle.ct_sexpr.specs.Scanning.{Reached}
 use Rattle.ct_sexpr.specs.declared.scanner.Scanner.{Scanner}
 
@@ -10,3 +10,7 @@ pub record IsBuffered (buffer : List ℕ) (start scanned : ℕ) (scanner : Scann
   pub scanned_le : scanned ≤ length buffer
   pub reached : (more : List ℕ) → Reached scanner (drop start buffer ++ more) (drop scanned buffer ++ more)
   pub few : lines + length (drop start buffer) ≤ fed
+
+-- where a buffer was read whole, it holds no byte of a command that was given
+abbrev pub IsTight : List ℕ → ℕ → ℕ → Type 0
+IsTight buffer start scanned = scanned ≡ length buffer → start ≡ 0

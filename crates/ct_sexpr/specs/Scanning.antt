@@ -113,3 +113,11 @@ Scans old new bytes left (Ok Going) = (left ≡ []) × ((whole more : List ℕ) 
 Scans old new bytes left (Ok (Command e)) = (whole more : List ℕ) → Reached old whole (bytes ++ more) → Completes new (expression_of e) whole (left ++ more)
 Scans old new bytes left (Ok (Wrong code)) = (whole more : List ℕ) → Reached old whole (bytes ++ more) → Refutes new code whole (left ++ more)
 Scans old new bytes left (Err e) = (e ≡ NoMemory) × ((whole more : List ℕ) → Reached old whole (bytes ++ more) → Reached new whole (left ++ more))
+
+-- how many of so many bytes reading takes: all of them, or as many as close a command; a byte at which an error is definite,
+-- or at which memory runs out, is not taken
+abbrev pub Takes : ℕ → ℕ → Result ScanStep ReadError → Type 0
+Takes size count (Ok Going) = count ≡ size
+Takes size count (Ok (Command e)) = count ≤ size
+Takes size count (Ok (Wrong code)) = count < size
+Takes size count (Err e) = count < size

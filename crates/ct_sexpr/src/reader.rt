@@ -1,6 +1,7 @@
 //! The reader: bytes are fed, and whole commands, errors or the end come out.
 
-ghost use Rattle.std.specs.Prelude.{◌≡◌, ℕ, ◌+◌, ◌^◌, ◌<◌, List, [], ◌++◌, true, false, length, OnOk, OnErr, IfOk, IfErr};
+ghost use Rattle.std.specs.Prelude.{◌≡◌, ℕ, ◌+◌, ◌^◌, ◌<◌, ◌≤◌, List, [], ◌++◌, true, false, length, drop, OnOk, OnErr, IfOk, IfErr};
+ghost use Rattle.ct_sexpr.specs.Buffered.{IsTight};
 ghost use Rattle.ct_sexpr.specs.Scanning.{Reached};
 ghost use Rattle.ct_sexpr.specs.Answer.{IsAnswer, ReadsOn};
 ghost use Rattle.ct_sexpr.specs.Nested.{NestsWithinLimit};
@@ -31,9 +32,13 @@ pub enum Next {
 /// Reads commands from bytes that are fed in any pieces.
 ///
 /// Each byte is read once, whatever the pieces are. Only a byte at which an error becomes definite,
-/// or at which memory runs out, is not taken, and each later call of `next` looks at it again. The
-/// bytes of commands that were given are dropped where they are more than those that are left, so
-/// that the moves take linear time in all.
+/// or at which memory runs out, is not taken, and each later call of `next` looks at it again.
+///
+/// Once all bytes were read, the reader stores only those that belong to no command given so far: so
+/// whoever asks for commands up to `Need` and then feeds a piece holds what is left of a command and
+/// one piece, and each byte is moved once at most. Where more is fed before, the bytes of commands that
+/// were given are dropped as soon as they are more than those that are left. So the moves take linear
+/// time in all.
 #[derive(Drop)]
 pub struct Reader {
     buffer: Vec<u8>,
@@ -55,11 +60,11 @@ impl Model for Reader {
 
     ghost Value = { Unread };
 
-    ghost use Rattle.ct_sexpr.specs.Buffered.{IsBuffered};
+    ghost use Rattle.ct_sexpr.specs.Buffered.{IsBuffered, IsTight};
 
     ghost view = { λ r. record { bytes = drop r.start r.buffer.items; line = r.lines + 1; fed = r.fed; ended = r.ended } };
 
-    ghost invariant = { λ r. IsBuffered r.buffer.items r.start r.scanned r.scanner r.lines r.fed };
+    ghost invariant = { λ r. IsBuffered r.buffer.items r.start r.scanned r.scanner r.lines r.fed × IsTight r.buffer.items r.start r.scanned };
 }
 
 impl Reader {
@@ -104,6 +109,15 @@ impl Reader {
         }
     }
 
+    /// How many bytes were fed that belong to no command given so far. Once all bytes were read, as after `Need`, these are
+    /// all bytes that the reader stores.
+    pub fn kept_bytes(&self) -> u64
+        ensures value { result ≡ length self.now.bytes }
+        ensures within { result ≤ self.now.fed }
+    {
+        (self.buffer.len() - self.start) as u64
+    }
+
     /// Says that the input has ended.
     pub fn end(&mut self)
         ensures over { self.new ≡ record self.old { ended = true } }
@@ -127,16 +141,38 @@ impl Reader {
         let Scanned { count, outcome } = scan_bytes(&mut self.scanner, unread);
         self.scanned += count;
         match outcome? {
-            ScanStep::Going => next_at_end(&self.scanner, self.lines, self.ended),
+            ScanStep::Going => {
+                drop_if_read(&mut self.buffer, &mut self.start, &mut self.scanned);
+                next_at_end(&self.scanner, self.lines, self.ended)
+            }
             ScanStep::Wrong(code) => Err(lexical(code, self.lines + self.scanner.lines_read())),
             ScanStep::Command(expr) => {
                 let line = self.lines + self.scanner.begun() + 1;
                 self.lines += self.scanner.take_line_feeds();
                 self.start = self.scanned;
+                drop_if_read(&mut self.buffer, &mut self.start, &mut self.scanned);
                 Ok(Next::Command { expr, line })
             }
         }
     }
+}
+
+/// Drops the bytes before `start`, which belong to commands that were given, where all bytes were read.
+fn drop_if_read(buffer: &mut Vec<u8>, start: &mut usize, scanned: &mut usize)
+    requires order { start.old ≤ scanned.old }
+    requires within { scanned.old ≤ length buffer.old.items }
+    ensures kept { drop start.new buffer.new.items ≡ drop start.old buffer.old.items }
+    ensures unread { drop scanned.new buffer.new.items ≡ drop scanned.old buffer.old.items }
+    ensures order { start.new ≤ scanned.new }
+    ensures within { scanned.new ≤ length buffer.new.items }
+    ensures tight { IsTight buffer.new.items start.new scanned.new }
+{
+    if *start == 0 || *scanned < buffer.len() {
+        return;
+    }
+    buffer.drain(..*start);
+    *scanned -= *start;
+    *start = 0;
 }
 
 /// What there is after bytes that a scanner has read whole, and that complete no command. They

@@ -1,7 +1,7 @@
 //! Reads as many bytes as belong to the next command.
 
 ghost use Rattle.std.specs.Prelude.{◌≡◌, ◌+◌, ◌<◌, ◌≤◌, ◌^◌, length, drop};
-ghost use Rattle.ct_sexpr.specs.Scanning.{Scans};
+ghost use Rattle.ct_sexpr.specs.Scanning.{Scans, Takes};
 
 use crate::error::ReadError;
 use crate::scanner::{ScanStep, Scanner};
@@ -19,6 +19,7 @@ pub(crate) struct Scanned {
 pub(crate) fn scan_bytes(scanner: &mut Scanner, bytes: &[u8]) -> Scanned
     requires few { scanner.old.line_feeds + length bytes.now < 2 ^ 64 }
     ensures within { result.count ≤ length bytes.now }
+    ensures takes { Takes (length bytes.now) result.count result.outcome }
     ensures scans { Scans scanner.old scanner.new bytes.now (drop result.count bytes.now) result.outcome }
 {
     for (index, byte) in bytes.iter().enumerate() {

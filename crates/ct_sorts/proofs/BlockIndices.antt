@@ -2,6 +2,7 @@
 use Rattle.std.proofs.Common.{◌≡◌, ℕ, zero, suc, ◌+◌, List, [], ◌∷◌, ◌++◌, length, slice_get, Some, refl, sym, ◌∙◌, ap, subst, arith}
 use Rattle.std.proofs.Math.Nat.{add-zero, zero-add}
 use Rattle.std.proofs.lemmas.Option.{none-some, same_Some}
+use Rattle.ct_lemmas.proofs.Lists.{slice_get-append_after, slice_get-append_left}
 use Rattle.ct_sorts.specs.declared.ids.SortId.{SortId}
 use Rattle.ct_sorts.specs.declared.ids.Kind.{Kind}
 use Rattle.ct_sorts.specs.declared.block.Field.{Field}
@@ -9,7 +10,6 @@ use Rattle.ct_sorts.specs.declared.block.CtorDecl.{CtorDecl}
 use Rattle.ct_sorts.specs.declared.block.SortDecl.{SortDecl}
 use Rattle.ct_sorts.specs.Declarations.{Sort, Constructor, Selector, ctor_ids, sel_ids}
 use Rattle.ct_sorts.specs.Block.{block_ctors, all_fields, new_sorts, new_ctors, new_sels, ctors_of_sort, sels_of_ctor}
-use Rattle.ct_sorts.proofs.Lists.{slice_get_left, slice_get_right}
 use Rattle.ct_sorts.proofs.BlockLemmas.{new_sels-append, length-ctors_of_sort, length-sels_of_ctor, length-new_sels}
 
 regroup : (e l m : ℕ) → e + l + m ≡ e + (l + m)
@@ -37,7 +37,7 @@ ctor_at find (u ∷ ctors) zero t at = (
     ctor = λ s e. (record { name = u.name; sort = record { 0 = s }; sels = sel_ids e (length u.fields) }, refl, ap (λ n. sel_ids n (length u.fields)) (sym (add-zero e)));
     sel = λ c p f at_f.
         let found = field_at find c 0 u.fields p f at_f in
-        (found.0, ap (slice_get (new_sels find c (u ∷ ctors))) (zero-add p) ∙ slice_get_left (sels_of_ctor find c 0 u.fields) (new_sels find (c + 1) ctors) p found.0 found.1, found.2);
+        (found.0, ap (slice_get (new_sels find c (u ∷ ctors))) (zero-add p) ∙ slice_get-append_left (sels_of_ctor find c 0 u.fields) (new_sels find (c + 1) ctors) p found.0 found.1, found.2);
   }),
 )
 ctor_at find (u ∷ ctors) (suc j) t at =
@@ -48,7 +48,7 @@ ctor_at find (u ∷ ctors) (suc j) t at =
         ctor = λ s e. let made = rest.1.ctor s (e + l) in (made.0, made.1, made.2 ∙ ap (λ n. sel_ids n (length t.fields)) (regroup e l rest.0));
         sel = λ c p f at_f.
             let made = rest.1.sel (c + 1) p f at_f in
-            (made.0, ap (slice_get (new_sels find c (u ∷ ctors))) (shift l rest.0 p (length (sels_of_ctor find c 0 u.fields)) (length-sels_of_ctor find c 0 u.fields)) ∙ slice_get_right (sels_of_ctor find c 0 u.fields) (new_sels find (c + 1) ctors) (rest.0 + p) ∙ made.1, made.2);
+            (made.0, ap (slice_get (new_sels find c (u ∷ ctors))) (shift l rest.0 p (length (sels_of_ctor find c 0 u.fields)) (length-sels_of_ctor find c 0 u.fields)) ∙ slice_get-append_after (sels_of_ctor find c 0 u.fields) (new_sels find (c + 1) ctors) (rest.0 + p) ∙ made.1, made.2);
       },
     )
 
@@ -68,10 +68,10 @@ indexed find (d ∷ block) zero j decl t at_i at_j =
         sort = λ kind a. (record { name = d.name; kind = kind; ctors = ctor_ids a (length d.ctors) }, refl, ap (λ n. ctor_ids n (length d.ctors)) (sym (add-zero a)));
         ctor = λ s e.
             let made = found.1.ctor s e in
-            (made.0, ap (slice_get (new_ctors s e (d ∷ block))) (zero-add j) ∙ slice_get_left (ctors_of_sort s e d.ctors) (new_ctors (s + 1) (e + length (all_fields d.ctors)) block) j made.0 made.1, made.2);
+            (made.0, ap (slice_get (new_ctors s e (d ∷ block))) (zero-add j) ∙ slice_get-append_left (ctors_of_sort s e d.ctors) (new_ctors (s + 1) (e + length (all_fields d.ctors)) block) j made.0 made.1, made.2);
         sel = λ c p f at_f.
             let made = found.1.sel c p f at_f in
-            (made.0, ap (λ xs. slice_get xs (found.0 + p)) (new_sels-append find c d.ctors (block_ctors block)) ∙ slice_get_left (new_sels find c d.ctors) (new_sels find (c + length d.ctors) (block_ctors block)) (found.0 + p) made.0 made.1, made.2);
+            (made.0, ap (λ xs. slice_get xs (found.0 + p)) (new_sels-append find c d.ctors (block_ctors block)) ∙ slice_get-append_left (new_sels find c d.ctors) (new_sels find (c + length d.ctors) (block_ctors block)) (found.0 + p) made.0 made.1, made.2);
       }),
     )
 indexed find (d ∷ block) (suc i) j decl t at_i at_j =
@@ -84,9 +84,9 @@ indexed find (d ∷ block) (suc i) j decl t at_i at_j =
         sort = λ kind a. let made = rest.2.sort kind (a + l) in (made.0, made.1, made.2 ∙ ap (λ q. ctor_ids q (length decl.ctors)) (regroup a l rest.0));
         ctor = λ s e.
             let made = rest.2.ctor (s + 1) (e + n) in
-            (made.0, ap (slice_get (new_ctors s e (d ∷ block))) (shift l rest.0 j (length (ctors_of_sort s e d.ctors)) (length-ctors_of_sort s e d.ctors)) ∙ slice_get_right (ctors_of_sort s e d.ctors) (new_ctors (s + 1) (e + n) block) (rest.0 + j) ∙ made.1, made.2 ∙ ap (λ q. sel_ids q (length t.fields)) (regroup e n rest.1));
+            (made.0, ap (slice_get (new_ctors s e (d ∷ block))) (shift l rest.0 j (length (ctors_of_sort s e d.ctors)) (length-ctors_of_sort s e d.ctors)) ∙ slice_get-append_after (ctors_of_sort s e d.ctors) (new_ctors (s + 1) (e + n) block) (rest.0 + j) ∙ made.1, made.2 ∙ ap (λ q. sel_ids q (length t.fields)) (regroup e n rest.1));
         sel = λ c p f at_f.
             let made = rest.2.sel (c + l) p f at_f in
-            (made.0, ap (λ xs. slice_get xs (n + rest.1 + p)) (new_sels-append find c d.ctors (block_ctors block)) ∙ ap (slice_get (new_sels find c d.ctors ++ new_sels find (c + l) (block_ctors block))) (shift n rest.1 p (length (new_sels find c d.ctors)) (length-new_sels find c d.ctors)) ∙ slice_get_right (new_sels find c d.ctors) (new_sels find (c + l) (block_ctors block)) (rest.1 + p) ∙ made.1, made.2);
+            (made.0, ap (λ xs. slice_get xs (n + rest.1 + p)) (new_sels-append find c d.ctors (block_ctors block)) ∙ ap (slice_get (new_sels find c d.ctors ++ new_sels find (c + l) (block_ctors block))) (shift n rest.1 p (length (new_sels find c d.ctors)) (length-new_sels find c d.ctors)) ∙ slice_get-append_after (new_sels find c d.ctors) (new_sels find (c + l) (block_ctors block)) (rest.1 + p) ∙ made.1, made.2);
       },
     )

@@ -6,6 +6,7 @@ use Rattle.std.specs.Option.{option_or}
 use Rattle.std.proofs.lemmas.List.Concat.{flat_map-append}
 use Rattle.std.proofs.lemmas.List.FromFn.{length-map-range_with_len}
 use Rattle.std.specs.List.{flat_map, range_with_len}
+use Rattle.ct_lemmas.proofs.Lists.{slice_get-append_cases}
 use Rattle.ct_sorts.specs.declared.ids.SortId.{SortId}
 use Rattle.ct_sorts.specs.declared.ids.SelId.{SelId}
 use Rattle.ct_sorts.specs.declared.ids.Kind.{Kind}
@@ -14,7 +15,7 @@ use Rattle.ct_sorts.specs.declared.block.CtorDecl.{CtorDecl}
 use Rattle.ct_sorts.specs.declared.block.SortDecl.{SortDecl}
 use Rattle.ct_sorts.specs.Declarations.{Sort, Constructor, Selector, ctor_ids, sel_ids}
 use Rattle.ct_sorts.specs.Consistent.{owners, indices}
-use Rattle.ct_sorts.proofs.Lists.{range-append, owners-append, slice_get_either}
+use Rattle.ct_sorts.proofs.Lists.{range-append, owners-append}
 use Rattle.ct_sorts.proofs.NumberedLemmas.{index_of-cases}
 use Rattle.ct_sorts.specs.Availability.{IsListed}
 use Rattle.ct_sorts.specs.Lookup.{index_of}
@@ -183,7 +184,7 @@ sorts-sels_of_ctor sort_of_entry c p (f ∷ fields) (suc i) sel at = sorts-sels_
 pub sorts-new_sels : (sort_of_entry : List ℕ → SortId) (c : ℕ) (ctors : List CtorDecl) (i : ℕ) (sel : Selector) → slice_get (new_sels sort_of_entry c ctors) i ≡ Some sel → (name : List ℕ) × (sel.sort ≡ sort_of_entry name)
 sorts-new_sels sort_of_entry c [] i sel at = absurd (none-some _ at)
 sorts-new_sels sort_of_entry c (t ∷ ctors) i sel at =
-    ⊎_elim (λ h. sorts-sels_of_ctor sort_of_entry c 0 t.fields i sel h) (λ h. sorts-new_sels sort_of_entry (c + 1) ctors h.0 sel h.2) (slice_get_either (sels_of_ctor sort_of_entry c 0 t.fields) (new_sels sort_of_entry (c + 1) ctors) i sel at)
+    ⊎_elim (λ h. sorts-sels_of_ctor sort_of_entry c 0 t.fields i sel h) (λ h. sorts-new_sels sort_of_entry (c + 1) ctors h.0 sel h.2) (slice_get-append_cases (sels_of_ctor sort_of_entry c 0 t.fields) (new_sels sort_of_entry (c + 1) ctors) i sel at)
 
 -- a field's sort is an earlier one or one of the block
 pub sort_of_field-within : (earlier own : List (List ℕ)) (name : List ℕ) → 0 < length earlier → (sort_of_field earlier own name).0 < length earlier + length own

@@ -8,6 +8,8 @@ use Rattle.std.proofs.lemmas.List.Folds.{flat_map-map}
 use Rattle.std.proofs.lemmas.List.FromFn.{length-map-range_with_len}
 use Rattle.std.proofs.lemmas.Option.{none-some, same_Some, slice_get-map, slice_get-get_or}
 use Rattle.std.specs.List.{flat_map}
+use Rattle.ct_lemmas.proofs.Lists.{slice_get-append_cases, slice_get-flat_map}
+use Rattle.ct_lemmas.proofs.Prefixes.{slice_get-take}
 use Rattle.ct_sorts.specs.declared.ids.SortId.{SortId}
 use Rattle.ct_sorts.specs.declared.ids.CtorId.{CtorId}
 use Rattle.ct_sorts.specs.declared.ids.SelId.{SelId}
@@ -16,11 +18,11 @@ use Rattle.ct_sorts.specs.Declarations.{Declarations, Sort, Constructor, Selecto
 use Rattle.ct_sorts.specs.Lookup.{AreDistinct}
 use Rattle.ct_sorts.specs.Founded.{IsFounded}
 use Rattle.ct_sorts.specs.Consistent.{AreFew, AreAvailable, AreFit, IsOverSorts, AreOverSorts, owners, indices, FitsKind, IsConsistent}
-use Rattle.ct_sorts.proofs.Lists.{from_part, slice_get_either, slice_get-range, range-append0, slice_get-drop, owners-append, owners-take, indices-take, in_flat_map}
+use Rattle.ct_sorts.proofs.Lists.{from_part, slice_get-range, range-append0, slice_get-drop, owners-append, owners-take, indices-take}
 use Rattle.ct_sorts.specs.Lengths.{Lengths}
 use Rattle.ct_sorts.specs.Marks.{CanCut, cut}
 use Rattle.ct_sorts.proofs.Counts.{occurrences, occurrences-append, occurrences-take, occurrences-unlisted, one_if_same, one_if_same-cases, one_if_same-le, AreDistinct-once, AreOnce-distinct, AreDistinct-middle}
-use Rattle.ct_sorts.proofs.NumberedLemmas.{slice_get-take, slice_get-push, AreDistinct-take}
+use Rattle.ct_sorts.proofs.NumberedLemmas.{slice_get-push, AreDistinct-take}
 use Rattle.ct_sorts.proofs.AdmitLemmas.{IsUnavailable-left}
 use Rattle.ct_sorts.proofs.FoundedLemmas.{more, IsFounded-more, IsFounded-cut, ctor_within, sel_within}
 
@@ -43,7 +45,7 @@ pub record IsMore (d : Declarations) (sorts : List Sort) (ctors : List Construct
 
 -- what holds of each element of two lists holds of both together
 pub each-append : {X : Type 0} (P : ℕ → X → Type 0) (xs ys : List X) → ((i : ℕ) (x : X) → slice_get xs i ≡ Some x → P i x) → ((i : ℕ) (x : X) → slice_get ys i ≡ Some x → P (length xs + i) x) → (i : ℕ) (x : X) → slice_get (xs ++ ys) i ≡ Some x → P i x
-each-append P xs ys left right i x at = ⊎_elim (left i x) (λ h. subst (λ k. P k x) (sym h.1) (right h.0 x h.2)) (slice_get_either xs ys i x at)
+each-append P xs ys left right i x at = ⊎_elim (left i x) (λ h. subst (λ k. P k x) (sym h.1) (right h.0 x h.2)) (slice_get-append_cases xs ys i x at)
 
 -- a list that begins with two elements has two
 pub begins : {X : Type 0} (n : ℕ) (xs ys : List X) → take n xs ≡ ys → length ys ≡ n → n ≤ length xs
@@ -226,7 +228,7 @@ IsConsistent-cut d m c can stays =
         let first : take 1 (take m.sorts d.sorts) ≡ start.sorts = take-take 1 m.sorts d.sorts stays ∙ c.first_sort in
         let at : slice_get (take m.sorts d.sorts) 0 ≡ Some bool = slice_get-take 1 (take m.sorts d.sorts) 0 bool (ap (λ xs. slice_get xs 0) first) in
         let id : CtorId = record { 0 = 1 } in
-        let found = in_flat_map (λ (s : Sort). s.ctors) (take m.sorts d.sorts) 0 1 bool id at refl in
+        let found = slice_get-flat_map (λ (s : Sort). s.ctors) (take m.sorts d.sorts) 0 1 bool id at refl in
         let row = slice_get-range (λ n. record { 0 = n }) 0 m.ctors found.0 id (subst (λ (ids : List CtorId). slice_get ids found.0 ≡ Some id) can.whole_sorts found.1) in
         let is : 1 ≡ 0 + found.0 = ap (λ (t : CtorId). t.0) row.1 in
         omega (arith, row.0)
@@ -253,7 +255,7 @@ IsConsistent-cut d m c can stays =
 pub owner_within : {X : Type 0} (n : ℕ) (gs : List (List X)) (i k : ℕ) → slice_get (owners n gs) i ≡ Some k → k < n + length gs
 owner_within n [] i k at = absurd (none-some _ at)
 owner_within n (g ∷ gs) i k at =
-    ⊎_elim (λ here. omega (arith, replicated (length g) n i k here)) (λ remaining. omega (arith, owner_within (n + 1) gs remaining.0 k remaining.2)) (slice_get_either (replicate (length g) n) (owners (n + 1) gs) i k at)
+    ⊎_elim (λ here. omega (arith, replicated (length g) n i k here)) (λ remaining. omega (arith, owner_within (n + 1) gs remaining.0 k remaining.2)) (slice_get-append_cases (replicate (length g) n) (owners (n + 1) gs) i k at)
   where
     replicated : (count n i k : ℕ) → slice_get (replicate count n) i ≡ Some k → k ≡ n
     replicated zero n i k at = absurd (none-some _ at)

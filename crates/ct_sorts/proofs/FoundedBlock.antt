@@ -7,6 +7,7 @@ use Rattle.std.proofs.lemmas.List.{length-map}
 use Rattle.std.proofs.lemmas.Option.{none-some, same_Some, slice_get_within}
 use Rattle.std.specs.List.{list_any, list_all}
 use Rattle.std.specs.Option.{option_or}
+use Rattle.ct_lemmas.proofs.Lists.{slice_get-append_after, slice_get-append_cases, slice_get-there}
 use Rattle.ct_sorts.specs.declared.ids.SortId.{SortId}
 use Rattle.ct_sorts.specs.declared.ids.CtorId.{CtorId}
 use Rattle.ct_sorts.specs.declared.ids.SelId.{SelId}
@@ -22,7 +23,7 @@ use Rattle.ct_sorts.specs.Consistent.{IsConsistent}
 use Rattle.ct_sorts.specs.Marked.{is_field_in, is_ctor_in, IsClosedInBlock, IsFoundedInBlock}
 use Rattle.ct_sorts.specs.Block.{block_ctors, block_names, sort_of_field, with_block, new_sorts, new_ctors, new_sels}
 use Rattle.ct_sorts.proofs.NumberedLemmas.{index_of-cases}
-use Rattle.ct_sorts.proofs.Lists.{slice_get_right, slice_get_either, slice_get_there, slice_get-range, range-slice_get}
+use Rattle.ct_sorts.proofs.Lists.{slice_get-range, range-slice_get}
 use Rattle.ct_sorts.proofs.FoundedLemmas.{IsFounded-more}
 use Rattle.ct_sorts.proofs.ConsistentLemmas.{begins}
 use Rattle.ct_sorts.proofs.BlockLemmas.{length-new_sorts, kinds-new_sorts}
@@ -108,16 +109,16 @@ module _ (d : Declarations) (kind : Kind) (block : List SortDecl) (consistent : 
       let sort = index.2.sort kind (length d.ctors) in
       let ctor = index.2.ctor (length d.sorts) (length d.sels) in
       let c : CtorId = record { 0 = length d.ctors + index.0 + j } in
-      let at_s : slice_get (with_block d kind block).sorts (length d.sorts + i) ≡ Some sort.0 = slice_get_right d.sorts (new_sorts kind (length d.ctors) block) i ∙ sort.1 in
+      let at_s : slice_get (with_block d kind block).sorts (length d.sorts + i) ≡ Some sort.0 = slice_get-append_after d.sorts (new_sorts kind (length d.ctors) block) i ∙ sort.1 in
       let at_c : slice_get sort.0.ctors j ≡ Some c = ap (λ ids. slice_get ids j) sort.2 ∙ range-slice_get (λ n. record { 0 = n }) (length d.ctors + index.0) (length decl.ctors) j (slice_get_within decl.ctors j t found.2) in
       let shift : length d.ctors + index.0 + j ≡ length d.ctors + (index.0 + j) = omega arith in
-      let at_ctor : slice_get (with_block d kind block).ctors c.0 ≡ Some ctor.0 = ap (slice_get (with_block d kind block).ctors) shift ∙ slice_get_right d.ctors (new_ctors (length d.sorts) (length d.sels) block) (index.0 + j) ∙ ctor.1 in
+      let at_ctor : slice_get (with_block d kind block).ctors c.0 ≡ Some ctor.0 = ap (slice_get (with_block d kind block).ctors) shift ∙ slice_get-append_after d.ctors (new_ctors (length d.sorts) (length d.sels) block) (index.0 + j) ∙ ctor.1 in
       closed.built (length d.sorts + i) sort.0 j c ctor.0 at_s at_c at_ctor (λ p id sel at_id at_sel.
       let row = slice_get-range (λ n. record { 0 = n }) (length d.sels + index.1) (length t.fields) p id (ap (λ ids. slice_get ids p) (sym ctor.2) ∙ at_id) in
-      let f = slice_get_there t.fields p row.0 in
+      let f = slice_get-there t.fields p row.0 in
       let made = index.2.sel (length d.ctors) p f.0 f.1 in
       let shift' : length d.sels + index.1 + p ≡ length d.sels + (index.1 + p) = omega arith in
-      let here : slice_get (with_block d kind block).sels id.0 ≡ Some made.0 = ap (slice_get (with_block d kind block).sels) (ap (λ (s : SelId). s.0) row.1 ∙ shift') ∙ slice_get_right d.sels (new_sels find (length d.ctors) (block_ctors block)) (index.1 + p) ∙ made.1 in
+      let here : slice_get (with_block d kind block).sels id.0 ≡ Some made.0 = ap (slice_get (with_block d kind block).sels) (ap (λ (s : SelId). s.0) row.1 ∙ shift') ∙ slice_get-append_after d.sels (new_sels find (length d.ctors) (block_ctors block)) (index.1 + p) ∙ made.1 in
       let same : made.0 ≡ sel = same_Some _ _ (sym here ∙ at_sel) in
       let inside = each_passes (is_field_in (block_names block) (λ k. set (length d.sorts + k))) t.fields found.3 p f.0 f.1 in
       let whole = field_in_whole (sort_names d) (block_names block) (length d.sorts) count has_bool set (λ s h. IsFounded-more d (new_sorts kind (length d.ctors) block) (new_ctors (length d.sorts) (length d.sels) block) (new_sels find (length d.ctors) (block_ctors block)) consistent.all_sels s (consistent.founded s h) set closed) f.0 inside in
@@ -131,8 +132,8 @@ module _ (d : Declarations) (kind : Kind) (block : List SortDecl) (consistent : 
   closed_in_whole : kind ≡ Data → (set : ℕ → Bool) → IsClosedInBlock (block_names block) block set → IsClosedSet (with_block d kind block) (shifted (length d.sorts) set)
   closed_in_whole is_data set closed =
       record {
-        others = λ s sort at other. ⊎_elim (λ here. shifted-below (length d.sorts) set s (slice_get_within d.sorts s sort here)) (λ remaining. absurd (other ((kinds-new_sorts kind (length d.ctors) block remaining.0 sort remaining.2).2 ∙ is_data))) (slice_get_either d.sorts (new_sorts kind (length d.ctors) block) s sort at);
-        built = λ s sort index c ctor at_s at_c at_ctor has. ⊎_elim (λ here. shifted-below (length d.sorts) set s (slice_get_within d.sorts s sort here)) (λ remaining. ap (shifted (length d.sorts) set) remaining.1 ∙ shifted-remaining (length d.sorts) set remaining.0 ∙ built remaining.0 sort index c ctor remaining.2 at_c at_ctor has) (slice_get_either d.sorts (new_sorts kind (length d.ctors) block) s sort at_s);
+        others = λ s sort at other. ⊎_elim (λ here. shifted-below (length d.sorts) set s (slice_get_within d.sorts s sort here)) (λ remaining. absurd (other ((kinds-new_sorts kind (length d.ctors) block remaining.0 sort remaining.2).2 ∙ is_data))) (slice_get-append_cases d.sorts (new_sorts kind (length d.ctors) block) s sort at);
+        built = λ s sort index c ctor at_s at_c at_ctor has. ⊎_elim (λ here. shifted-below (length d.sorts) set s (slice_get_within d.sorts s sort here)) (λ remaining. ap (shifted (length d.sorts) set) remaining.1 ∙ shifted-remaining (length d.sorts) set remaining.0 ∙ built remaining.0 sort index c ctor remaining.2 at_c at_ctor has) (slice_get-append_cases d.sorts (new_sorts kind (length d.ctors) block) s sort at_s);
       }
     where
       built : (k : ℕ) (sort : Sort) (index : ℕ) (c : CtorId) (ctor : Constructor) → slice_get (new_sorts kind (length d.ctors) block) k ≡ Some sort → slice_get sort.ctors index ≡ Some c → slice_get (with_block d kind block).ctors c.0 ≡ Some ctor → HasFieldsIn (with_block d kind block) (shifted (length d.sorts) set) ctor → set k ≡ true
@@ -140,7 +141,7 @@ module _ (d : Declarations) (kind : Kind) (block : List SortDecl) (consistent : 
           let find = sort_of_field (sort_names d) (block_names block) in
           let made = kinds-new_sorts kind (length d.ctors) block k sort at_s in
           let decl = made.0 in
-          let t = slice_get_there decl.ctors index (omega (arith, made.3, slice_get_within sort.ctors index c at_c)) in
+          let t = slice_get-there decl.ctors index (omega (arith, made.3, slice_get_within sort.ctors index c at_c)) in
           let where_ = indexed find block k index decl t.0 made.1 t.1 in
           let indexed_sort = where_.2.sort kind (length d.ctors) in
           let indexed_ctor = where_.2.ctor (length d.sorts) (length d.sels) in
@@ -148,7 +149,7 @@ module _ (d : Declarations) (kind : Kind) (block : List SortDecl) (consistent : 
           let ids : sort.ctors ≡ ctor_ids (length d.ctors + where_.0) (length decl.ctors) = ap (λ (u : Sort). u.ctors) (sym same_sort) ∙ indexed_sort.2 in
           let row = slice_get-range (λ n. record { 0 = n }) (length d.ctors + where_.0) (length decl.ctors) index c (ap (λ xs. slice_get xs index) (sym ids) ∙ at_c) in
           let shift : length d.ctors + where_.0 + index ≡ length d.ctors + (where_.0 + index) = omega arith in
-          let at_made : slice_get (with_block d kind block).ctors c.0 ≡ Some indexed_ctor.0 = ap (slice_get (with_block d kind block).ctors) (ap (λ (u : CtorId). u.0) row.1 ∙ shift) ∙ slice_get_right d.ctors (new_ctors (length d.sorts) (length d.sels) block) (where_.0 + index) ∙ indexed_ctor.1 in
+          let at_made : slice_get (with_block d kind block).ctors c.0 ≡ Some indexed_ctor.0 = ap (slice_get (with_block d kind block).ctors) (ap (λ (u : CtorId). u.0) row.1 ∙ shift) ∙ slice_get-append_after d.ctors (new_ctors (length d.sorts) (length d.sels) block) (where_.0 + index) ∙ indexed_ctor.1 in
           let same_ctor : indexed_ctor.0 ≡ ctor = same_Some _ _ (sym at_made ∙ at_ctor) in
           let sels : ctor.sels ≡ sel_ids (length d.sels + where_.1) (length t.0.fields) = ap (λ (u : Constructor). u.sels) (sym same_ctor) ∙ indexed_ctor.2 in
           let fields : list_all (is_field_in (block_names block) set) t.0.fields ≡ true = all_pass (is_field_in (block_names block) set) t.0.fields (λ p f at_f.
@@ -156,7 +157,7 @@ module _ (d : Declarations) (kind : Kind) (block : List SortDecl) (consistent : 
           let id : SelId = record { 0 = length d.sels + where_.1 + p } in
           let at_id : slice_get ctor.sels p ≡ Some id = ap (λ xs. slice_get xs p) sels ∙ range-slice_get (λ n. record { 0 = n }) (length d.sels + where_.1) (length t.0.fields) p (slice_get_within t.0.fields p f at_f) in
           let shift' : length d.sels + where_.1 + p ≡ length d.sels + (where_.1 + p) = omega arith in
-          let at_sel : slice_get (with_block d kind block).sels id.0 ≡ Some sel.0 = ap (slice_get (with_block d kind block).sels) shift' ∙ slice_get_right d.sels (new_sels find (length d.ctors) (block_ctors block)) (where_.1 + p) ∙ sel.1 in
+          let at_sel : slice_get (with_block d kind block).sels id.0 ≡ Some sel.0 = ap (slice_get (with_block d kind block).sels) shift' ∙ slice_get-append_after d.sels (new_sels find (length d.ctors) (block_ctors block)) (where_.1 + p) ∙ sel.1 in
           field_in_block (sort_names d) (block_names block) (length d.sorts) (length-map d.sorts (λ (u : Sort). u.name)) set (shifted (length d.sorts) set) (shifted-remaining (length d.sorts) set) f
           (ap (λ (u : SortId). shifted (length d.sorts) set u.0) (sym sel.2) ∙ has p id sel.0 at_id at_sel)) in
           closed k decl made.1 (pass_any (is_ctor_in (block_names block) set) decl.ctors index t.0 t.1 fields)
@@ -169,6 +170,6 @@ module _ (d : Declarations) (kind : Kind) (block : List SortDecl) (consistent : 
 pub IsFounded-other : (d : Declarations) (kind : Kind) (block : List SortDecl) → (kind ≡ Data → ⊥) → (i : ℕ) → i < length block → IsFounded (with_block d kind block) (length d.sorts + i)
 IsFounded-other d kind block other i within set closed =
     let sorts = new_sorts kind (length d.ctors) block in
-    let at = slice_get_there sorts i (omega (arith, length-new_sorts kind (length d.ctors) block)) in
+    let at = slice_get-there sorts i (omega (arith, length-new_sorts kind (length d.ctors) block)) in
     let made = kinds-new_sorts kind (length d.ctors) block i at.0 at.1 in
-    closed.others (length d.sorts + i) at.0 (slice_get_right d.sorts sorts i ∙ at.1) (λ e. other (sym made.2 ∙ e))
+    closed.others (length d.sorts + i) at.0 (slice_get-append_after d.sorts sorts i ∙ at.1) (λ e. other (sym made.2 ∙ e))

@@ -4,14 +4,15 @@ use Rattle.std.proofs.lemmas.Bool.{true≢false}
 use Rattle.std.proofs.lemmas.Bool.Decides.{Decides-ltb}
 use Rattle.std.proofs.lemmas.List.{length-take-le}
 use Rattle.std.specs.List.{flat_map}
+use Rattle.ct_lemmas.proofs.Lists.{slice_get-append_cases, slice_get-append_left, slice_get-flat_map}
+use Rattle.ct_lemmas.proofs.Prefixes.{slice_get-take}
 use Rattle.ct_sorts.specs.declared.ids.CtorId.{CtorId}
 use Rattle.ct_sorts.specs.declared.ids.SelId.{SelId}
 use Rattle.ct_sorts.specs.Declarations.{Declarations, Sort, Constructor, Selector, ctor_ids, sel_ids}
 use Rattle.ct_sorts.specs.Founded.{HasFieldsIn, IsClosedSet, IsFounded}
 use Rattle.ct_sorts.specs.Lengths.{Lengths}
 use Rattle.ct_sorts.specs.Marks.{CanCut, cut}
-use Rattle.ct_sorts.proofs.NumberedLemmas.{slice_get-take}
-use Rattle.ct_sorts.proofs.Lists.{slice_get_left, slice_get_either, in_flat_map, slice_get-range, take-slice_get}
+use Rattle.ct_sorts.proofs.Lists.{slice_get-range, take-slice_get}
 
 -- more sorts, constructors and selectors at the ends
 abbrev pub more : Declarations → List Sort → List Constructor → List Selector → Declarations
@@ -20,7 +21,7 @@ more d sorts ctors sels = record d { sorts = d.sorts ++ sorts; ctors = d.ctors +
 -- the selectors of a constructor are there
 pub sel_within : (d : Declarations) → flat_map (λ c. c.sels) d.ctors ≡ sel_ids 0 (length d.sels) → (c : ℕ) (ctor : Constructor) (index : ℕ) (s : SelId) → slice_get d.ctors c ≡ Some ctor → slice_get ctor.sels index ≡ Some s → s.0 < length d.sels
 sel_within d all_sels c ctor index s at_c at_s =
-    let found = in_flat_map (λ (c : Constructor). c.sels) d.ctors c index ctor s at_c at_s in
+    let found = slice_get-flat_map (λ (c : Constructor). c.sels) d.ctors c index ctor s at_c at_s in
     let row = slice_get-range (λ n. record { 0 = n }) 0 (length d.sels) found.0 s (subst (λ (ids : List SelId). slice_get ids found.0 ≡ Some s) all_sels found.1) in
     let is : s.0 ≡ 0 + found.0 = ap (λ (t : SelId). t.0) row.1 in
     omega (arith, row.0)
@@ -28,7 +29,7 @@ sel_within d all_sels c ctor index s at_c at_s =
 -- the constructors of a sort are there
 pub ctor_within : (d : Declarations) → flat_map (λ s. s.ctors) d.sorts ≡ ctor_ids 0 (length d.ctors) → (s : ℕ) (sort : Sort) (index : ℕ) (c : CtorId) → slice_get d.sorts s ≡ Some sort → slice_get sort.ctors index ≡ Some c → c.0 < length d.ctors
 ctor_within d all_ctors s sort index c at_s at_c =
-    let found = in_flat_map (λ (s : Sort). s.ctors) d.sorts s index sort c at_s at_c in
+    let found = slice_get-flat_map (λ (s : Sort). s.ctors) d.sorts s index sort c at_s at_c in
     let row = slice_get-range (λ n. record { 0 = n }) 0 (length d.ctors) found.0 c (subst (λ (ids : List CtorId). slice_get ids found.0 ≡ Some c) all_ctors found.1) in
     let is : c.0 ≡ 0 + found.0 = ap (λ (t : CtorId). t.0) row.1 in
     omega (arith, row.0)
@@ -37,13 +38,13 @@ ctor_within d all_ctors s sort index c at_s at_c =
 pub IsClosedSet-less : (d : Declarations) (sorts : List Sort) (ctors : List Constructor) (sels : List Selector) → flat_map (λ c. c.sels) d.ctors ≡ sel_ids 0 (length d.sels) → (set : ℕ → Bool) → IsClosedSet (more d sorts ctors sels) set → IsClosedSet d set
 IsClosedSet-less d sorts ctors sels all_sels set closed =
     record {
-      others = λ s sort at other. closed.others s sort (slice_get_left d.sorts sorts s sort at) other;
-      built = λ s sort index c ctor at_s at_c at_ctor has. closed.built s sort index c ctor (slice_get_left d.sorts sorts s sort at_s) at_c (slice_get_left d.ctors ctors c.0 ctor at_ctor) (fields c ctor at_ctor has);
+      others = λ s sort at other. closed.others s sort (slice_get-append_left d.sorts sorts s sort at) other;
+      built = λ s sort index c ctor at_s at_c at_ctor has. closed.built s sort index c ctor (slice_get-append_left d.sorts sorts s sort at_s) at_c (slice_get-append_left d.ctors ctors c.0 ctor at_ctor) (fields c ctor at_ctor has);
     }
   where
     fields : (c : CtorId) (ctor : Constructor) → slice_get d.ctors c.0 ≡ Some ctor → HasFieldsIn d set ctor → HasFieldsIn (more d sorts ctors sels) set ctor
     fields c ctor at_ctor has index s sel at_s at_sel =
-        ⊎_elim (λ here. has index s sel at_s here) (λ remaining. by remaining.0 remaining.1) (slice_get_either d.sels sels s.0 sel at_sel)
+        ⊎_elim (λ here. has index s sel at_s here) (λ remaining. by remaining.0 remaining.1) (slice_get-append_cases d.sels sels s.0 sel at_sel)
       where
         by : (k : ℕ) → s.0 ≡ length d.sels + k → set sel.sort.0 ≡ true
         by k e = absurd (omega (arith, sel_within d all_sels c.0 ctor index s at_ctor at_s))

@@ -4,8 +4,9 @@ use Rattle.std.proofs.lemmas.Option.{none-some, same_Some, slice_get_within}
 use Rattle.std.proofs.lemmas.List.{length-replicate}
 use Rattle.std.proofs.lemmas.List.FromFn.{length-range_with_len}
 use Rattle.std.specs.List.{flat_map, range_with_len}
+use Rattle.ct_lemmas.proofs.Lists.{slice_get-append_after, slice_get-append_cases, slice_get-append_left}
 use Rattle.ct_sorts.specs.Consistent.{owners, indices}
-use Rattle.ct_sorts.proofs.Lists.{slice_get_left, slice_get_right, slice_get_either, slice_get-numbers}
+use Rattle.ct_sorts.proofs.Lists.{slice_get-numbers}
 
 -- all items, one group after the other
 abbrev pub row : {X : Type 0} → List (List X) → List X
@@ -28,9 +29,9 @@ stands_here {X} first group groups p x at =
     let within = slice_get_within group p x at in
     let e : first + 0 ≡ first = omega arith in
     record {
-      item = slice_get_left group (row groups) p x at;
-      owner = slice_get_left (replicate (length group) first) (owners (first + 1) groups) p _ (rw e (slice_get-replicate (length group) first p within));
-      place = slice_get_left (range_with_len 0 (length group)) (indices groups) p p (slice_get-numbers 0 (length group) p within ∙ ap Some (omega arith));
+      item = slice_get-append_left group (row groups) p x at;
+      owner = slice_get-append_left (replicate (length group) first) (owners (first + 1) groups) p _ (rw e (slice_get-replicate (length group) first p within));
+      place = slice_get-append_left (range_with_len 0 (length group)) (indices groups) p p (slice_get-numbers 0 (length group) p within ∙ ap Some (omega arith));
     }
 
 -- in a later group
@@ -38,9 +39,9 @@ stands_later : {X : Type 0} (first : ℕ) (group : List X) (groups : List (List 
 stands_later {X} first group groups k g p x h =
     let e : first + suc g ≡ first + 1 + g = omega arith in
     record {
-      item = slice_get_right group (row groups) k ∙ h.item;
-      owner = subst (λ n. slice_get (replicate (length group) first ++ owners (first + 1) groups) (n + k) ≡ Some (first + suc g)) (length-replicate (length group) first) (slice_get_right (replicate (length group) first) (owners (first + 1) groups) k ∙ h.owner ∙ ap Some (sym e));
-      place = subst (λ n. slice_get (range_with_len 0 (length group) ++ indices groups) (n + k) ≡ Some p) (length-range_with_len 0 (length group)) (slice_get_right (range_with_len 0 (length group)) (indices groups) k ∙ h.place);
+      item = slice_get-append_after group (row groups) k ∙ h.item;
+      owner = subst (λ n. slice_get (replicate (length group) first ++ owners (first + 1) groups) (n + k) ≡ Some (first + suc g)) (length-replicate (length group) first) (slice_get-append_after (replicate (length group) first) (owners (first + 1) groups) k ∙ h.owner ∙ ap Some (sym e));
+      place = subst (λ n. slice_get (range_with_len 0 (length group) ++ indices groups) (n + k) ≡ Some p) (length-range_with_len 0 (length group)) (slice_get-append_after (range_with_len 0 (length group)) (indices groups) k ∙ h.place);
     }
 
 -- an item of a group stands in the row
@@ -62,7 +63,7 @@ pub record IsOf {X : Type 0} (first : ℕ) (groups : List (List X)) (k : ℕ) (x
 
 pub of_row : {X : Type 0} (first : ℕ) (groups : List (List X)) (k : ℕ) (x : X) → slice_get (row groups) k ≡ Some x → IsOf first groups k x
 of_row first [] k x at = absurd (none-some _ at)
-of_row {X} first (h ∷ groups) k x at = by (slice_get_either h (row groups) k x at) (of_row (first + 1) groups)
+of_row {X} first (h ∷ groups) k x at = by (slice_get-append_cases h (row groups) k x at) (of_row (first + 1) groups)
   where
     by : (slice_get h k ≡ Some x) ⊎ ((j : ℕ) × (k ≡ length h + j) × (slice_get (row groups) j ≡ Some x)) → ((j : ℕ) (y : X) → slice_get (row groups) j ≡ Some y → IsOf (first + 1) groups j y) → IsOf first (h ∷ groups) k x
     by (inl here) rest = record { g = 0; p = k; group = h; at_g = refl; at_p = here; stands = stands_here first h groups k x here }

@@ -1,5 +1,5 @@
 -- Elements of lists by their indices.
-use Rattle.std.proofs.Common.{◌≡◌, ℕ, zero, suc, ◌+◌, ◌<◌, ◌⊎◌, List, [], ◌∷◌, ◌++◌, length, map, take, drop, replicate, slice_get, Some, option_map, refl, sym, ◌∙◌, ap, subst, inl, inr, ⊎_elim, arith, length-append}
+use Rattle.std.proofs.Common.{◌≡◌, ℕ, zero, suc, ◌+◌, ◌<◌, List, [], ◌∷◌, ◌++◌, length, map, take, drop, replicate, slice_get, Some, option_map, refl, sym, ◌∙◌, ap, subst, arith, length-append}
 use Rattle.std.proofs.lemmas.Option.{none-some, same_Some, slice_get-map, slice_get-get_or}
 use Rattle.std.proofs.lemmas.List.{append_assoc, length-replicate, take-append-drop, take_at}
 use Rattle.std.proofs.lemmas.List.Concat.{flat_map-append}
@@ -7,45 +7,11 @@ use Rattle.std.proofs.lemmas.List.FromFn.{length-range_with_len, get_or-range_wi
 use Rattle.std.specs.List.{flat_map, range_with_len}
 use Rattle.ct_sorts.specs.Consistent.{owners, indices}
 
--- what stands in the first list stands at the same index in both
-pub slice_get_left : {X : Type 0} (xs ys : List X) (i : ℕ) (x : X) → slice_get xs i ≡ Some x → slice_get (xs ++ ys) i ≡ Some x
-slice_get_left [] ys i x e = absurd (none-some _ e)
-slice_get_left (z ∷ xs) ys zero x e = e
-slice_get_left (z ∷ xs) ys (suc i) x e = slice_get_left xs ys i x e
-
--- what stands in the second list stands after the first
-pub slice_get_right : {X : Type 0} (xs ys : List X) (k : ℕ) → slice_get (xs ++ ys) (length xs + k) ≡ slice_get ys k
-slice_get_right [] ys k = let e : 0 + k ≡ k = omega arith in rw e refl
-slice_get_right (z ∷ xs) ys k = let e : suc (length xs) + k ≡ suc (length xs + k) = omega arith in rw e (slice_get_right xs ys k)
-
--- what stands in two lists stands in one of them
-pub slice_get_either : {X : Type 0} (xs ys : List X) (i : ℕ) (x : X) → slice_get (xs ++ ys) i ≡ Some x → (slice_get xs i ≡ Some x) ⊎ ((k : ℕ) × (i ≡ length xs + k) × (slice_get ys k ≡ Some x))
-slice_get_either [] ys i x e = inr (i, omega arith, e)
-slice_get_either (z ∷ xs) ys zero x e = inl e
-slice_get_either (z ∷ xs) ys (suc i) x e = ⊎_elim (λ h. inl h) (λ h. inr (h.0, by h.0 h.1, h.2)) (slice_get_either xs ys i x e)
-  where
-    by : (k : ℕ) → i ≡ length xs + k → suc i ≡ suc (length xs) + k
-    by k h = omega arith
-
--- an index inside has an element
-pub slice_get_there : {X : Type 0} (xs : List X) (i : ℕ) → i < length xs → (x : X) × (slice_get xs i ≡ Some x)
-slice_get_there [] i h = absurd (omega arith)
-slice_get_there (x ∷ xs) zero h = (x, refl)
-slice_get_there (x ∷ xs) (suc i) h = slice_get_there xs i (omega arith)
-
 -- what a getter of a part tells of the whole
 pub from_part : {X P : Type 0} (part : X → P) (xs : List X) (i : ℕ) (p : P) → option_map part (slice_get xs i) ≡ Some p → (x : X) × (slice_get xs i ≡ Some x) × (part x ≡ p)
 from_part part [] i p at = absurd (none-some _ at)
 from_part part (x ∷ xs) zero p at = (x, refl, same_Some _ _ at)
 from_part part (x ∷ xs) (suc i) p at = from_part part xs i p at
-
--- what stands in a piece stands in the pieces put together
-pub in_flat_map : {X Y : Type 0} (f : X → List Y) (xs : List X) (i j : ℕ) (x : X) (y : Y) → slice_get xs i ≡ Some x → slice_get (f x) j ≡ Some y → (k : ℕ) × (slice_get (flat_map f xs) k ≡ Some y)
-in_flat_map f [] i j x y at_i at_j = absurd (none-some _ at_i)
-in_flat_map f (z ∷ xs) zero j x y at_i at_j = (j, slice_get_left (f z) (flat_map f xs) j y (subst (λ w. slice_get (f w) j ≡ Some y) (sym (same_Some _ _ at_i)) at_j))
-in_flat_map f (z ∷ xs) (suc i) j x y at_i at_j =
-    let found = in_flat_map f xs i j x y at_i at_j in
-    (length (f z) + found.0, slice_get_right (f z) (flat_map f xs) found.0 ∙ found.1)
 
 -- an element of a row of numbers
 pub slice_get-range : {X : Type 0} (f : ℕ → X) (first count i : ℕ) (x : X) → slice_get (map f (range_with_len first count)) i ≡ Some x → (i < count) × (x ≡ f (first + i))

@@ -3,22 +3,22 @@ use Rattle.std.proofs.Common.{◌≡◌, ℕ, ◌+◌, ◌⊎◌, List, ◌++◌
 use Rattle.std.proofs.lemmas.Bool.{true≢false}
 use Rattle.std.proofs.lemmas.List.{length-map}
 use Rattle.std.proofs.lemmas.Option.{slice_get_within}
+use Rattle.ct_lemmas.proofs.Lists.{slice_get-append_after, slice_get-append_cases, slice_get-append_left}
 use Rattle.ct_sorts.specs.declared.ids.SortId.{SortId}
 use Rattle.ct_sorts.specs.declared.ids.Symbol.{Symbol}
 use Rattle.ct_sorts.specs.declared.ids.Symbol.TheVariants.{Ctor, Sel, Fun, Def}
 use Rattle.ct_sorts.specs.Availability.{IsListed}
 use Rattle.ct_sorts.specs.Declarations.{Declarations, Constructor, Selector, Function, ctor_names, sel_names, function_names, definition_names, symbol_names}
 use Rattle.ct_sorts.specs.Lookup.{ResolvesTo, IsSymbol}
-use Rattle.ct_sorts.proofs.Lists.{slice_get_left, slice_get_right, slice_get_either}
 
 pub IsListed-left : (xs ys : List (List ℕ)) (name : List ℕ) → IsListed xs name → IsListed (xs ++ ys) name
-IsListed-left xs ys name found = (found.0, slice_get_left xs ys found.0 name found.1)
+IsListed-left xs ys name found = (found.0, slice_get-append_left xs ys found.0 name found.1)
 
 pub IsListed-right : (xs ys : List (List ℕ)) (name : List ℕ) → IsListed ys name → IsListed (xs ++ ys) name
-IsListed-right xs ys name found = (length xs + found.0, slice_get_right xs ys found.0 ∙ found.1)
+IsListed-right xs ys name found = (length xs + found.0, slice_get-append_after xs ys found.0 ∙ found.1)
 
 pub IsListed-either : (xs ys : List (List ℕ)) (name : List ℕ) → IsListed (xs ++ ys) name → IsListed xs name ⊎ IsListed ys name
-IsListed-either xs ys name found = ⊎_elim (λ h. inl (found.0, h)) (λ h. inr (h.0, h.2)) (slice_get_either xs ys found.0 name found.1)
+IsListed-either xs ys name found = ⊎_elim (λ h. inl (found.0, h)) (λ h. inr (h.0, h.2)) (slice_get-append_cases xs ys found.0 name found.1)
 
 -- what has a name is there
 pub named_inside : {X : Type 0} (name_of : X → List ℕ) (xs : List X) (i : ℕ) (name : List ℕ) → slice_get (map name_of xs) i ≡ Some name → i < length xs

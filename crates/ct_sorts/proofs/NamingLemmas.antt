@@ -2,6 +2,7 @@
 use Rattle.std.proofs.Common.{◌≡◌, ℕ, ◌+◌, ◌<◌, List, ◌++◌, length, map, take, drop, slice_get, Option, Some, None, refl, sym, ◌∙◌, ap, subst, arith}
 use Rattle.std.proofs.lemmas.List.{length-map, map-append, take-append-drop}
 use Rattle.std.proofs.lemmas.Option.{slice_get_within}
+use Rattle.ct_lemmas.proofs.Lists.{slice_get-append_after, slice_get-append_left, slice_get-there}
 use Rattle.ct_sorts.specs.declared.ids.SortId.{SortId}
 use Rattle.ct_sorts.specs.declared.ids.Symbol.{Symbol}
 use Rattle.ct_sorts.specs.declared.ids.Symbol.TheVariants.{Ctor, Sel, Fun, Def}
@@ -10,7 +11,6 @@ use Rattle.ct_sorts.specs.Declarations.{Declarations, Sort, Constructor, Selecto
 use Rattle.ct_sorts.specs.Lookup.{ResolvesTo, IsSymbol}
 use Rattle.ct_sorts.specs.Consistent.{IsConsistent}
 use Rattle.ct_sorts.specs.Grown.{Begins, Extends}
-use Rattle.ct_sorts.proofs.Lists.{slice_get_left, slice_get_right, slice_get_there}
 use Rattle.ct_sorts.proofs.LookupLemmas.{is_some-symbol, named_inside, symbol_inside}
 
 -- the index of a symbol among the names of all symbols
@@ -21,18 +21,18 @@ index_of d (Fun f) = length (ctor_names d) + (length (sel_names d) + f.0)
 index_of d (Def f) = length (ctor_names d) + (length (sel_names d) + (length (function_names d) + f.0))
 
 at_index : (d : Declarations) (name : List ℕ) (symbol : Symbol) → ResolvesTo d name (Some symbol) → slice_get (symbol_names d) (index_of d symbol) ≡ Some name
-at_index d name (Ctor c) at = slice_get_left (ctor_names d) (sel_names d ++ (function_names d ++ definition_names d)) c.0 name at
+at_index d name (Ctor c) at = slice_get-append_left (ctor_names d) (sel_names d ++ (function_names d ++ definition_names d)) c.0 name at
 at_index d name (Sel s) at =
-    slice_get_right (ctor_names d) (sel_names d ++ (function_names d ++ definition_names d)) s.0
-    ∙ slice_get_left (sel_names d) (function_names d ++ definition_names d) s.0 name at
+    slice_get-append_after (ctor_names d) (sel_names d ++ (function_names d ++ definition_names d)) s.0
+    ∙ slice_get-append_left (sel_names d) (function_names d ++ definition_names d) s.0 name at
 at_index d name (Fun f) at =
-    slice_get_right (ctor_names d) (sel_names d ++ (function_names d ++ definition_names d)) (length (sel_names d) + f.0)
-    ∙ slice_get_right (sel_names d) (function_names d ++ definition_names d) f.0
-    ∙ slice_get_left (function_names d) (definition_names d) f.0 name at
+    slice_get-append_after (ctor_names d) (sel_names d ++ (function_names d ++ definition_names d)) (length (sel_names d) + f.0)
+    ∙ slice_get-append_after (sel_names d) (function_names d ++ definition_names d) f.0
+    ∙ slice_get-append_left (function_names d) (definition_names d) f.0 name at
 at_index d name (Def f) at =
-    slice_get_right (ctor_names d) (sel_names d ++ (function_names d ++ definition_names d)) (length (sel_names d) + (length (function_names d) + f.0))
-    ∙ slice_get_right (sel_names d) (function_names d ++ definition_names d) (length (function_names d) + f.0)
-    ∙ slice_get_right (function_names d) (definition_names d) f.0
+    slice_get-append_after (ctor_names d) (sel_names d ++ (function_names d ++ definition_names d)) (length (sel_names d) + (length (function_names d) + f.0))
+    ∙ slice_get-append_after (sel_names d) (function_names d ++ definition_names d) (length (function_names d) + f.0)
+    ∙ slice_get-append_after (function_names d) (definition_names d) f.0
     ∙ at
 
 -- a symbol with a name is within its own list of names
@@ -93,7 +93,7 @@ sort_there d name s at = named_inside (λ (t : Sort). t.name) d.sorts s.0 name a
 
 -- and what is there has a name
 named : {X : Type 0} (name_of : X → List ℕ) (xs : List X) (i : ℕ) → i < length xs → (name : List ℕ) × (slice_get (map name_of xs) i ≡ Some name)
-named name_of xs i h = slice_get_there (map name_of xs) i (subst (λ (n : ℕ). i < n) (sym (length-map xs name_of)) h)
+named name_of xs i h = slice_get-there (map name_of xs) i (subst (λ (n : ℕ). i < n) (sym (length-map xs name_of)) h)
 
 pub symbol_named : (d : Declarations) (symbol : Symbol) → IsSymbol d symbol → (name : List ℕ) × ResolvesTo d name (Some symbol)
 symbol_named d (Ctor c) h = named (λ (t : Constructor). t.name) d.ctors c.0 h
@@ -108,7 +108,7 @@ sort_has_name d s h = named (λ (t : Sort). t.name) d.sorts s.0 h
 name_stays : {X : Type 0} (name_of : X → List ℕ) (first second : List X) → Begins first second → (i : ℕ) (name : List ℕ) → slice_get (map name_of first) i ≡ Some name → slice_get (map name_of second) i ≡ Some name
 name_stays {X} name_of first second h i name at =
     subst (λ (xs : List X). slice_get (map name_of xs) i ≡ Some name) (sym h.1)
-    (subst (λ (names : List (List ℕ)). slice_get names i ≡ Some name) (sym (map-append name_of first h.0)) (slice_get_left (map name_of first) (map name_of h.0) i name at))
+    (subst (λ (names : List (List ℕ)). slice_get names i ≡ Some name) (sym (map-append name_of first h.0)) (slice_get-append_left (map name_of first) (map name_of h.0) i name at))
 
 pub symbol_stays : (later earlier : Declarations) (name : List ℕ) (symbol : Symbol) → Extends later earlier → ResolvesTo earlier name (Some symbol) → ResolvesTo later name (Some symbol)
 symbol_stays later earlier name (Ctor c) h at = name_stays (λ (t : Constructor). t.name) earlier.ctors later.ctors h.ctors c.0 name at

@@ -8,6 +8,7 @@ use Rattle.std.specs.Global.{Vec}
 use Rattle.std.specs.Map.{keys_of}
 use Rattle.std.specs.List.{position_or_len}
 use Rattle.std.specs.Str.{bytes_eq}
+use Rattle.ct_lemmas.proofs.Prefixes.{slice_get-take}
 use Rattle.indexmap.specs.IndexMap.{insert_entry}
 use Rattle.ct_sorts.specs.Availability.{IsListed}
 use Rattle.ct_sorts.specs.Lookup.{AreDistinct, names_of, index_of}
@@ -66,13 +67,6 @@ AreDistinct-push listed name distinct fresh i j text at_i at_j =
     (λ here_i. ⊎_elim (λ here_j. distinct i j text here_i here_j) (λ last_j. absurd (fresh (i, here_i ∙ ap Some last_j.1))) (slice_get-push listed name j text at_j))
     (λ last_i. ⊎_elim (λ here_j. absurd (fresh (j, here_j ∙ ap Some last_i.1))) (λ last_j. last_i.0 ∙ sym last_j.0) (slice_get-push listed name j text at_j))
     (slice_get-push listed name i text at_i)
-
--- what stands in the first part stands in the whole
-pub slice_get-take : {X : Type 0} (n : ℕ) (xs : List X) (i : ℕ) (x : X) → slice_get (take n xs) i ≡ Some x → slice_get xs i ≡ Some x
-slice_get-take zero xs i x e = absurd (none-some _ e)
-slice_get-take (suc n) [] i x e = e
-slice_get-take (suc n) (y ∷ xs) zero x e = e
-slice_get-take (suc n) (y ∷ xs) (suc i) x e = slice_get-take n xs i x e
 
 -- the first of distinct names are distinct
 pub AreDistinct-take : (n : ℕ) (listed : List (List ℕ)) → AreDistinct listed → AreDistinct (take n listed)

@@ -1,23 +1,17 @@
 -- Which constructor is of which sort, and which selector of which constructor.
-use Rattle.std.proofs.Common.{◌≡◌, ℕ, ◌<◌, List, length, map, slice_get, Some, option_map, sym, ◌∙◌, ap, subst}
+use Rattle.std.proofs.Common.{◌≡◌, ℕ, ◌<◌, List, length, map, slice_get, Some, sym, ◌∙◌, ap, subst}
 use Rattle.std.proofs.Math.Nat.{zero-add}
-use Rattle.std.proofs.lemmas.Option.{same_Some, slice_get_within, slice_get-map}
+use Rattle.std.proofs.lemmas.Option.{same_Some, slice_get_within}
 use Rattle.std.proofs.lemmas.List.Folds.{flat_map-map}
 use Rattle.std.specs.List.{range_with_len}
+use Rattle.ct_lemmas.proofs.Lists.{slice_get-map_at, slice_get-map_source, slice_get-there}
 use Rattle.ct_sorts.specs.declared.ids.CtorId.{CtorId}
 use Rattle.ct_sorts.specs.declared.ids.SelId.{SelId}
 use Rattle.ct_sorts.specs.Declarations.{Declarations, Sort, Constructor, Selector}
 use Rattle.ct_sorts.specs.Consistent.{owners, indices, IsConsistent}
 use Rattle.ct_sorts.specs.Structure.{HaveOwnConstructors, AreOfTheirSorts, HaveOwnSelectors, AreOfTheirConstructors}
-use Rattle.ct_sorts.proofs.Lists.{from_part, slice_get_there, slice_get-range, range-slice_get}
+use Rattle.ct_sorts.proofs.Lists.{slice_get-range, range-slice_get}
 use Rattle.ct_sorts.proofs.GroupLemmas.{row, in_row, of_row}
-
--- what a map has at an index comes from what stands there
-source_of : {A B : Type 0} (f : A → B) (xs : List A) (i : ℕ) (y : B) → slice_get (map f xs) i ≡ Some y → (x : A) × (slice_get xs i ≡ Some x) × (f x ≡ y)
-source_of f xs i y at = from_part f xs i y (sym (slice_get-map f xs i) ∙ at)
-
-map_at : {A B : Type 0} (f : A → B) (xs : List A) (i : ℕ) (x : A) → slice_get xs i ≡ Some x → slice_get (map f xs) i ≡ Some (f x)
-map_at f xs i x at = slice_get-map f xs i ∙ ap (option_map f) at
 
 -- the items of the groups are those of a row of numbers, in order
 module _ {X : Type 0} (number : ℕ → X) (groups : List (List X)) (count : ℕ) (all : row groups ≡ map number (range_with_len 0 count)) where
@@ -44,27 +38,27 @@ module _ (d : Declarations) (c : IsConsistent d) where
 
   pub own_constructors : HaveOwnConstructors d
   own_constructors s index sort k at listed =
-      let item = item_number (λ n. record { 0 = n }) (map (λ (s : Sort). s.ctors) d.sorts) (length d.ctors) ctor_groups s index sort.ctors k (map_at _ d.sorts s sort at) listed in
-      let there = slice_get_there d.ctors item.0 item.1 in
-      (there.0, subst (λ (i : CtorId). slice_get d.ctors i.0 ≡ Some there.0) (sym item.2) there.1, same_Some _ _ (sym (map_at (λ (t : Constructor). t.sort.0) d.ctors item.0 there.0 there.1) ∙ ap (λ l. slice_get l item.0) c.ctor_sorts ∙ item.3))
+      let item = item_number (λ n. record { 0 = n }) (map (λ (s : Sort). s.ctors) d.sorts) (length d.ctors) ctor_groups s index sort.ctors k (slice_get-map_at _ d.sorts s sort at) listed in
+      let there = slice_get-there d.ctors item.0 item.1 in
+      (there.0, subst (λ (i : CtorId). slice_get d.ctors i.0 ≡ Some there.0) (sym item.2) there.1, same_Some _ _ (sym (slice_get-map_at (λ (t : Constructor). t.sort.0) d.ctors item.0 there.0 there.1) ∙ ap (λ l. slice_get l item.0) c.ctor_sorts ∙ item.3))
 
   pub of_their_sorts : AreOfTheirSorts d
   of_their_sorts k ctor at =
       let item = number_item (λ n. record { 0 = n }) (map (λ (s : Sort). s.ctors) d.sorts) (length d.ctors) ctor_groups k (slice_get_within d.ctors k ctor at) in
-      let sort = source_of (λ (s : Sort). s.ctors) d.sorts item.0 item.2 item.3 in
-      let owner : ctor.sort.0 ≡ item.0 = same_Some _ _ (sym (map_at (λ (t : Constructor). t.sort.0) d.ctors k ctor at) ∙ ap (λ l. slice_get l k) c.ctor_sorts ∙ item.5) in
+      let sort = slice_get-map_source (λ (s : Sort). s.ctors) d.sorts item.0 item.2 item.3 in
+      let owner : ctor.sort.0 ≡ item.0 = same_Some _ _ (sym (slice_get-map_at (λ (t : Constructor). t.sort.0) d.ctors k ctor at) ∙ ap (λ l. slice_get l k) c.ctor_sorts ∙ item.5) in
       (sort.0, item.1, subst (λ i. slice_get d.sorts i ≡ Some sort.0) (sym owner) sort.1, subst (λ (l : List CtorId). slice_get l item.1 ≡ Some (record { 0 = k })) (sym sort.2) item.4)
 
   pub own_selectors : HaveOwnSelectors d
   own_selectors k index ctor s at listed =
-      let item = item_number (λ n. record { 0 = n }) (map (λ (t : Constructor). t.sels) d.ctors) (length d.sels) sel_groups k index ctor.sels s (map_at _ d.ctors k ctor at) listed in
-      let there = slice_get_there d.sels item.0 item.1 in
-      (there.0, subst (λ (i : SelId). slice_get d.sels i.0 ≡ Some there.0) (sym item.2) there.1, same_Some _ _ (sym (map_at (λ (t : Selector). t.ctor.0) d.sels item.0 there.0 there.1) ∙ ap (λ l. slice_get l item.0) c.sel_ctors ∙ item.3), same_Some _ _ (sym (map_at (λ (t : Selector). t.place) d.sels item.0 there.0 there.1) ∙ ap (λ l. slice_get l item.0) c.sel_places ∙ item.4))
+      let item = item_number (λ n. record { 0 = n }) (map (λ (t : Constructor). t.sels) d.ctors) (length d.sels) sel_groups k index ctor.sels s (slice_get-map_at _ d.ctors k ctor at) listed in
+      let there = slice_get-there d.sels item.0 item.1 in
+      (there.0, subst (λ (i : SelId). slice_get d.sels i.0 ≡ Some there.0) (sym item.2) there.1, same_Some _ _ (sym (slice_get-map_at (λ (t : Selector). t.ctor.0) d.sels item.0 there.0 there.1) ∙ ap (λ l. slice_get l item.0) c.sel_ctors ∙ item.3), same_Some _ _ (sym (slice_get-map_at (λ (t : Selector). t.place) d.sels item.0 there.0 there.1) ∙ ap (λ l. slice_get l item.0) c.sel_places ∙ item.4))
 
   pub of_their_constructors : AreOfTheirConstructors d
   of_their_constructors s sel at =
       let item = number_item (λ n. record { 0 = n }) (map (λ (t : Constructor). t.sels) d.ctors) (length d.sels) sel_groups s (slice_get_within d.sels s sel at) in
-      let ctor = source_of (λ (t : Constructor). t.sels) d.ctors item.0 item.2 item.3 in
-      let owner : sel.ctor.0 ≡ item.0 = same_Some _ _ (sym (map_at (λ (t : Selector). t.ctor.0) d.sels s sel at) ∙ ap (λ l. slice_get l s) c.sel_ctors ∙ item.5) in
-      let index : sel.place ≡ item.1 = same_Some _ _ (sym (map_at (λ (t : Selector). t.place) d.sels s sel at) ∙ ap (λ l. slice_get l s) c.sel_places ∙ item.6) in
+      let ctor = slice_get-map_source (λ (t : Constructor). t.sels) d.ctors item.0 item.2 item.3 in
+      let owner : sel.ctor.0 ≡ item.0 = same_Some _ _ (sym (slice_get-map_at (λ (t : Selector). t.ctor.0) d.sels s sel at) ∙ ap (λ l. slice_get l s) c.sel_ctors ∙ item.5) in
+      let index : sel.place ≡ item.1 = same_Some _ _ (sym (slice_get-map_at (λ (t : Selector). t.place) d.sels s sel at) ∙ ap (λ l. slice_get l s) c.sel_places ∙ item.6) in
       (ctor.0, subst (λ i. slice_get d.ctors i ≡ Some ctor.0) (sym owner) ctor.1, subst (λ i. slice_get ctor.0.sels i ≡ Some (record { 0 = s })) (sym index) (subst (λ (l : List SelId). slice_get l item.1 ≡ Some (record { 0 = s })) (sym ctor.2) item.4))

@@ -2,13 +2,13 @@
 use Rattle.std.proofs.Common.{◌≡◌, ℕ, zero, suc, ◌+◌, ◌<◌, List, [], ◌∷◌, ◌++◌, length, slice_get, Some, refl, sym, subst, inl, inr, arith, length-append}
 use Rattle.std.proofs.lemmas.List.{append-nil, map-append}
 use Rattle.std.proofs.lemmas.Option.{none-some, same_Some}
+use Rattle.ct_lemmas.proofs.Lists.{slice_get-append_after}
 use Rattle.ct_sorts.specs.declared.ids.Kind.TheVariants.{Free}
 use Rattle.ct_sorts.specs.Availability.{IsUnavailableSort, IsUnfit}
 use Rattle.ct_sorts.specs.Declarations.{Declarations, Sort, sort_names, symbol_names, most_sorts, with_sort}
 use Rattle.ct_sorts.specs.Lookup.{AreDistinct}
 use Rattle.ct_sorts.specs.Founded.{IsFounded}
 use Rattle.ct_sorts.specs.Consistent.{AreFit, FitsKind, IsConsistent}
-use Rattle.ct_sorts.proofs.Lists.{slice_get_right}
 use Rattle.ct_sorts.proofs.NumberedLemmas.{AreDistinct-push}
 use Rattle.ct_sorts.proofs.FoundedLemmas.{more}
 use Rattle.ct_sorts.proofs.ConsistentLemmas.{IsMore, IsConsistent-more}
@@ -33,7 +33,7 @@ IsConsistent-with_uninterpreted d name c fresh room = subst IsConsistent (sym (w
     kinds (suc s) sort at = absurd (none-some _ at)
 
     founded : (s : ℕ) → s < 1 → IsFounded (more d (free name ∷ []) [] []) (length d.sorts + s)
-    founded zero within set closed = closed.others (length d.sorts + 0) (free name) (slice_get_right d.sorts (free name ∷ []) 0) (λ e. cc)
+    founded zero within set closed = closed.others (length d.sorts + 0) (free name) (slice_get-append_after d.sorts (free name ∷ []) 0) (λ e. cc)
     founded (suc s) within set closed = absurd (omega arith)
 
     fits : IsMore d (free name ∷ []) [] []

@@ -2,6 +2,7 @@
 use Rattle.std.proofs.Common.{◌≡◌, ℕ, zero, suc, ◌+◌, ◌<◌, ◌≤◌, ◌⊎◌, List, map, take, slice_get, Option, Some, None, refl, sym, ◌∙◌, ap, subst, inl, inr, ⊎_elim, arith}
 use Rattle.std.proofs.lemmas.List.{take-map}
 use Rattle.std.proofs.lemmas.Option.{same_Some}
+use Rattle.ct_lemmas.proofs.Prefixes.{slice_get-take}
 use Rattle.ct_sorts.specs.declared.ids.Symbol.{Symbol}
 use Rattle.ct_sorts.specs.declared.ids.Symbol.TheVariants.{Ctor, Sel, Fun, Def}
 use Rattle.ct_sorts.specs.Availability.{core_words}
@@ -9,7 +10,6 @@ use Rattle.ct_sorts.specs.Declarations.{Declarations, Constructor, ctor_names, s
 use Rattle.ct_sorts.specs.Lookup.{ResolvesTo}
 use Rattle.ct_sorts.specs.Consistent.{IsConsistent}
 use Rattle.ct_sorts.proofs.Lists.{slice_get-drop}
-use Rattle.ct_sorts.proofs.NumberedLemmas.{slice_get-take}
 use Rattle.ct_sorts.proofs.NameLemmas.{AreDistinct-differ}
 use Rattle.ct_sorts.proofs.LookupLemmas.{IsListed-left}
 

@@ -7,10 +7,10 @@ use Rattle.ct_sorts.specs.Declarations.{Declarations}
 use Rattle.ct_sorts.specs.Grown.{Begins}
 use Rattle.ct_sorts.specs.Refusals.{IsFirstCause, IsNone}
 use Rattle.ct_terms.specs.declared.ids.TermId.{TermId}
-use Rattle.ct_terms.specs.declared.tree.Tree.{Tree}
+use Rattle.ct_formulas.specs.declared.tree.Tree.{Tree}
 use Rattle.ct_terms.specs.Terms.{Terms}
-use Rattle.ct_terms.specs.Formula.{Formula}
-use Rattle.ct_terms.specs.TreeFormula.{formula_of}
+use Rattle.ct_formulas.specs.Formula.{Formula}
+use Rattle.ct_formulas.specs.TreeFormula.{formula_of}
 use Rattle.ct_command.specs.declared.error.CommandError.{CommandError}
 use Rattle.ct_command.specs.declared.error.CommandError.TheVariants.{Refused}
 use Rattle.ct_scope.specs.declared.scope.Scope.{Scope}

@@ -3,9 +3,9 @@ use Rattle.std.proofs.Common.{◌≡◌, ◌∙◌, Bool, true, false, [], ap, s
 use Rattle.ct_sexpr.specs.Expression.{Expression}
 use Rattle.ct_sorts.specs.declared.ids.SortId.{SortId}
 use Rattle.ct_sorts.specs.Declarations.{Declarations, bool_sort}
-use Rattle.ct_terms.specs.Formula.{Formula}
-use Rattle.ct_terms.specs.FormulaSorts.{IsSorted}
-use Rattle.ct_terms.specs.TreeFormula.{formula_of}
+use Rattle.ct_formulas.specs.Formula.{Formula}
+use Rattle.ct_formulas.specs.FormulaSorts.{IsSorted}
+use Rattle.ct_formulas.specs.TreeFormula.{formula_of}
 use Rattle.ct_names.specs.Outcome.{Outcome, Sorted, and_then, unless_refused, is_sort}
 use Rattle.ct_names.specs.Elaboration.{elaborated}
 use Rattle.ct_check.specs.Trees.{sorted_of}

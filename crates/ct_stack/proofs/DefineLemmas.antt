@@ -6,8 +6,8 @@ use Rattle.ct_sexpr.specs.Expression.{Expression}
 use Rattle.ct_sorts.specs.declared.ids.SortId.{SortId}
 use Rattle.ct_sorts.specs.Declarations.{Declarations, Function, with_definition}
 use Rattle.ct_sorts.specs.Refusals.{IsFirstCause}
-use Rattle.ct_terms.specs.Formula.{Formula, bind}
-use Rattle.ct_terms.specs.FormulaSorts.{IsSorted}
+use Rattle.ct_formulas.specs.Formula.{Formula, bind}
+use Rattle.ct_formulas.specs.FormulaSorts.{IsSorted}
 use Rattle.ct_names.specs.Outcome.{Outcome, Sorted, and_then, unless_refused, is_sort}
 use Rattle.ct_names.specs.Refusals.{wrong_sort, repeated_variable}
 use Rattle.ct_names.specs.Variables.{Variable, variables, variable_sorts, has_repeated}

@@ -1,5 +1,5 @@
 -- A step that is refused, or for which memory runs out, stops all of them.
-use Rattle.std.proofs.Common.{◌≡◌, ℕ, List, ◌∷◌, Result, Ok, Err, IsErrOf, IfOk, OnOk, ap, ◌∙◌}
+use Rattle.std.proofs.Common.{◌≡◌, ℕ, List, ◌∷◌, Err, IsErrOf, ap, ◌∙◌}
 use Rattle.ct_command.specs.declared.error.CommandError.{CommandError}
 use Rattle.ct_command.specs.declared.error.CommandError.TheVariants.{Refused, NoMemory}
 use Rattle.ct_names.specs.Outcome.{Outcome}
@@ -23,11 +23,3 @@ refusal_of seen outcome (Refused m) n is h =
     let same : m ≡ n = cc in
     h ∙ ap (λ (k : ℕ). Err k) same
 refusal_of seen outcome NoMemory n is h = absurd cc
-
-pub IfOk-map : {X E : Type 0} (r : Result X E) (P Q : X → Type 0) → ((x : X) → P x → Q x) → IfOk r P → IfOk r Q
-IfOk-map (Ok x) P Q more h = more x h
-IfOk-map (Err e) P Q more h = tt
-
-pub OnOk-map : {X E : Type 0} (r : Result X E) (P Q : Type 0) → (P → Q) → OnOk r P → OnOk r Q
-OnOk-map (Ok x) P Q more h = more h
-OnOk-map (Err e) P Q more h = tt

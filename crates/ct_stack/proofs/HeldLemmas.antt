@@ -4,6 +4,8 @@ use Rattle.std.specs.List.{flat_map}
 use Rattle.std.proofs.lemmas.List.{map-append, append-nil}
 use Rattle.std.proofs.lemmas.List.Elements.{All-nil, All-append, All-head, All-tail, All-weaker, All-cons, Contains-append_cases, Contains-append_left}
 use Rattle.std.proofs.lemmas.Option.{slice_get_within, none-some}
+use Rattle.ct_lemmas.proofs.Contained.{Contains-cons, Contains-first, Contains-none}
+use Rattle.ct_lemmas.proofs.Lists.{slice_get-append_left, slice_get-there}
 use Rattle.ct_sorts.specs.declared.ids.SortId.{SortId}
 use Rattle.ct_sorts.specs.Declarations.{Declarations, Function, start, bool_sort, with_definition}
 use Rattle.ct_sorts.specs.Consistent.{IsConsistent}
@@ -13,15 +15,14 @@ use Rattle.ct_terms.specs.declared.term.Core.TheVariants.{Con}
 use Rattle.ct_terms.specs.Terms.{Terms, IsBoolean, AreSorted, AreOrdered, truth_terms}
 use Rattle.ct_terms.specs.CoreTree.{CoreTree, con, no_trees, tree_children, subtrees, term_at}
 use Rattle.ct_terms.specs.CoreSorts.{HasTreeSort}
-use Rattle.ct_terms.specs.Formula.{Formula, bind}
-use Rattle.ct_terms.specs.FormulaSorts.{IsSorted, AreSound}
+use Rattle.ct_formulas.specs.Formula.{Formula, bind}
+use Rattle.ct_formulas.specs.FormulaSorts.{IsSorted, AreSound}
 use Rattle.ct_closure.specs.Closed.{truth_trees}
 use Rattle.ct_closure.specs.ClosedTable.{HasTree, terms_at}
 use Rattle.ct_compile.specs.Effect.{IsPrefix}
 use Rattle.ct_stack.specs.Theorems.{Theorems}
 use Rattle.ct_stack.specs.Stack.{Context, core, cores}
 use Rattle.ct_stack.specs.Held.{IsTableOf, IsHeld}
-use Rattle.ct_stack.proofs.ListLemmas.{Contains-cons, Contains-first, Contains-none, entry_at, slice_get-append_left}
 
 module _ (theorems : Theorems) (later earlier : Declarations) (bodies more : List Formula) (consistent : IsConsistent later) (before : IsConsistent earlier) (extends : Extends later earlier) (sound : AreSound earlier bodies) where
   abbrev old : Context
@@ -162,7 +163,7 @@ module _ (theorems : Theorems) where
   -- a term is Boolean where its tree is
   boolean_term : (d : Declarations) (table : Terms) (t : TermId) → AreOrdered table → AreSorted d table → t.0 < length table → HasTreeSort d (term_at table t) bool_sort → IsBoolean table t
   boolean_term d table t ordered sorted within boolean =
-      let found = entry_at table t.0 within in
+      let found = slice_get-there table t.0 within in
       let same : found.0.1 ≡ bool_sort = theorems.one_sort d (term_at table t) found.0.1 bool_sort (theorems.tree_sorted d table t found.0.1 ordered sorted (found.0.0, found.1)) boolean in
       (found.0.0, subst (λ (s : SortId). slice_get table t.0 ≡ Some (found.0.0, s)) same found.1)
 

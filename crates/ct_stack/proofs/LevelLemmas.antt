@@ -4,6 +4,7 @@ use Rattle.std.specs.List.{flat_map}
 use Rattle.std.proofs.lemmas.List.{append-nil, length-append, reverse-append, take-append-drop, take-append-le, drop-append-le}
 use Rattle.std.proofs.lemmas.Grind.{flat_map-append}
 use Rattle.std.proofs.Math.ListN.{drop_of_length-le}
+use Rattle.ct_lemmas.proofs.Prefixes.{take-past}
 use Rattle.ct_sorts.specs.Declarations.{Declarations}
 use Rattle.ct_sorts.specs.Lengths.{Lengths}
 use Rattle.ct_sorts.specs.Marks.{cut, lengths}
@@ -11,15 +12,14 @@ use Rattle.ct_sorts.specs.Consistent.{IsConsistent}
 use Rattle.ct_sorts.specs.Grown.{Begins, Extends}
 use Rattle.ct_terms.specs.declared.ids.TermId.{TermId}
 use Rattle.ct_terms.specs.Terms.{Terms}
-use Rattle.ct_terms.specs.Formula.{Formula}
-use Rattle.ct_terms.specs.FormulaSorts.{AreSound}
+use Rattle.ct_formulas.specs.Formula.{Formula}
+use Rattle.ct_formulas.specs.FormulaSorts.{AreSound}
 use Rattle.ct_stack.specs.Theorems.{Theorems}
 use Rattle.ct_stack.specs.Stack.{Context, Level, Stack, in_force, in_context, declaring, asserting}
 use Rattle.ct_stack.specs.Levels.{pushed, pushed_by, popped}
 use Rattle.ct_stack.specs.Held.{IsHeld, alone, as_one}
 use Rattle.ct_stack.specs.Whole.{Whole, level_at, whole_at, levels_of, stack_of, IsMarkOf, AreHeld}
 use Rattle.ct_stack.specs.declared.levels.LevelMark.{LevelMark}
-use Rattle.ct_stack.proofs.ListLemmas.{take_past}
 use Rattle.ct_stack.proofs.HeldLemmas.{held_lasting}
 
 -- a longer list has the same first part
@@ -153,14 +153,14 @@ module _ (theorems : Theorems) where
     level_whole : level_at m w.level ≡ w.level
     level_whole =
         ap (λ (d : Declarations). record { context = record { declarations = d; bodies = take m.declared.definitions w.level.context.bodies }; assertions = take m.asserts w.level.assertions }) cut_none
-        ∙ ap (λ (bs : List Formula). record { context = record { declarations = w.level.context.declarations; bodies = bs }; assertions = take m.asserts w.level.assertions }) (take_past m.declared.definitions w.level.context.bodies (omega (arith, many)))
-        ∙ ap (λ (fs : List Formula). record { context = w.level.context; assertions = fs }) (take_past m.asserts w.level.assertions (omega (arith, asserts)))
+        ∙ ap (λ (bs : List Formula). record { context = record { declarations = w.level.context.declarations; bodies = bs }; assertions = take m.asserts w.level.assertions }) (take-past m.declared.definitions w.level.context.bodies (omega (arith, many)))
+        ∙ ap (λ (fs : List Formula). record { context = w.level.context; assertions = fs }) (take-past m.asserts w.level.assertions (omega (arith, asserts)))
 
     whole_whole : whole_at m w ≡ w
     whole_whole =
         ap (λ (l : Level). record { level = l; table = take m.terms w.table; numbers = take m.asserts w.numbers }) level_whole
-        ∙ ap (λ (ts : Terms). record { level = w.level; table = ts; numbers = take m.asserts w.numbers }) (take_past m.terms w.table (omega (arith, terms)))
-        ∙ ap (λ (ns : List TermId). record { level = w.level; table = w.table; numbers = ns }) (take_past m.asserts w.numbers (omega (arith, asserts, numbers)))
+        ∙ ap (λ (ts : Terms). record { level = w.level; table = ts; numbers = take m.asserts w.numbers }) (take-past m.terms w.table (omega (arith, terms)))
+        ∙ ap (λ (ns : List TermId). record { level = w.level; table = w.table; numbers = ns }) (take-past m.asserts w.numbers (omega (arith, asserts, numbers)))
 
     mark_whole : IsMarkOf m w
     mark_whole =

@@ -6,7 +6,6 @@ pub mod MarkLemmas
 pub mod OutcomeLemmas
 pub mod ValueLemmas
 pub mod ErrorLemmas
-pub mod RestLemmas
 pub mod StepLemmas
 pub mod SortLemmas
 pub mod CauseLemmas

@@ -7,10 +7,10 @@ use Rattle.ct_sorts.specs.Lengths.{Lengths}
 use Rattle.ct_sorts.specs.Marks.{CanCut, cut, lengths}
 use Rattle.ct_sorts.specs.Consistent.{IsConsistent}
 use Rattle.ct_terms.specs.declared.ids.TermId.{TermId}
-use Rattle.ct_terms.specs.declared.tree.Tree.{Tree}
+use Rattle.ct_formulas.specs.declared.tree.Tree.{Tree}
 use Rattle.ct_terms.specs.Terms.{Terms, BeginsWithTruths, AreSorted, AreOrdered, truth_terms}
-use Rattle.ct_terms.specs.Formula.{Formula}
-use Rattle.ct_terms.specs.TreeFormula.{formula_of}
+use Rattle.ct_formulas.specs.Formula.{Formula}
+use Rattle.ct_formulas.specs.TreeFormula.{formula_of}
 use Rattle.ct_terms.specs.CoreTree.{CoreTree, term_at}
 use Rattle.ct_scope.specs.declared.scope.Scope.{Scope}
 use Rattle.ct_stack.specs.Theorems.{Theorems}

@@ -4,6 +4,9 @@ use Rattle.std.proofs.Common.{◌≡◌, ◌∙◌, ℕ, zero, suc, ◌+◌, ◌
 use Rattle.std.proofs.lemmas.List.{length-append}
 use Rattle.std.proofs.lemmas.List.Elements.{Contains-append_cases, Contains-append_left, Contains-append_right}
 use Rattle.std.proofs.lemmas.Option.{slice_get_within, same_Some}
+use Rattle.ct_lemmas.proofs.Contained.{Contains-cons, Contains-first, Contains-from_slice_get, Contains-none, slice_get-from_Contains}
+use Rattle.ct_lemmas.proofs.Lists.{slice_get-append_left, slice_get-last, slice_get-prefix}
+use Rattle.ct_lemmas.proofs.Numbers.{below_or_not, last_or_before}
 use Rattle.ct_sorts.specs.Declarations.{Declarations}
 use Rattle.ct_terms.specs.declared.ids.TermId.{TermId}
 use Rattle.ct_terms.specs.Terms.{Terms, AreSorted, AreOrdered, AreSingle, most_terms}
@@ -14,7 +17,7 @@ use Rattle.ct_compile.specs.Effect.{IsPrefix, DoNotFit}
 use Rattle.ct_stack.specs.Theorems.{Theorems}
 use Rattle.ct_stack.specs.Refusal.{HasManyTerms}
 use Rattle.ct_stack.specs.Held.{IsTableOf}
-use Rattle.ct_stack.proofs.ListLemmas.{before_or_last, Contains-cons, Contains-first, Contains-none, index_of, contained, slice_get-append_left, slice_get-last, slice_get-prefix, no_longer}
+use Rattle.ct_stack.proofs.ListLemmas.{no_longer}
 
 abbrev id : ℕ → TermId
 id k = record { 0 = k }
@@ -32,7 +35,7 @@ module _ (table : Terms) where
   tree_below_at : (n k : ℕ) → k < n → slice_get (trees_below table n) k ≡ Some (term_at table (id k))
   tree_below_at zero k h = absurd (omega arith)
   tree_below_at (suc n) k h =
-      elim (before_or_last k n (omega arith)) [
+      elim (last_or_before k n (omega arith)) [
         | inl before ↦ slice_get-append_left (trees_below table n) (term_at table (id n) ∷ []) k (term_at table (id k)) (tree_below_at n k before)
         | inr last ↦
             subst (λ (i : ℕ). slice_get (trees_below table n ++ (term_at table (id n) ∷ [])) i ≡ Some (term_at table (id i))) (sym last)
@@ -53,11 +56,11 @@ module _ (table : Terms) where
 
   stands_listed : (t : CoreTree) → HasTree table t → Contains (all_trees table) t
   unfolding all_trees
-  stands_listed t (n, within, e) = contained (trees_below table (length table)) n.0 t (tree_below_at table (length table) n.0 within ∙ ap Some e)
+  stands_listed t (n, within, e) = Contains-from_slice_get (trees_below table (length table)) n.0 t (tree_below_at table (length table) n.0 within ∙ ap Some e)
 
   listed_stands : (t : CoreTree) → Contains (all_trees table) t → HasTree table t
   listed_stands t h =
-      let found = index_of (all_trees table) t h in
+      let found = slice_get-from_Contains (all_trees table) t h in
       let here = tree_at found.0 t found.1 in
       (id found.0, here.0, here.1)
 
@@ -99,12 +102,6 @@ root_cases roots c root h =
       ]
     ]
 
-below_or_not : (k n : ℕ) → (k < n) ⊎ (n ≤ k)
-below_or_not k zero = inr (omega arith)
-below_or_not zero (suc n) = inl (omega arith)
-below_or_not (suc k) (suc n) =
-    elim (below_or_not k n) [ inl below ↦ inl (omega (arith, below)) | inr past ↦ inr (omega (arith, past)) ]
-
 module _ (theorems : Theorems) (d : Declarations) (roots : List CoreTree) (old : Terms) (of : IsTableOf d roots old) (ordered : AreOrdered old) (single : AreSingle old) (c : CoreTree) where
   -- terms that do not fit are too many
   module _ (trees : List CoreTree) (unfit : DoNotFit (subtrees c) old trees) where
@@ -142,7 +139,7 @@ module _ (theorems : Theorems) (d : Declarations) (roots : List CoreTree) (old :
               let n = listed_stands old t there in
               let root = of.covered n.0 n.1 in
               (root.0, more_roots roots c root.0 root.1, subst (Contains (subtrees root.0)) n.2 root.2)
-          | inr new ↦ let at = index_of trees t new in (c, last_root roots c, unfit.inside at.0 t at.1)
+          | inr new ↦ let at = slice_get-from_Contains trees t new in (c, last_root roots c, unfit.inside at.0 t at.1)
         ]
 
     many : most_terms < length all

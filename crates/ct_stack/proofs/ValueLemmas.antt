@@ -4,6 +4,7 @@ use Rattle.std.specs.List.{AllZip, range_with_len}
 use Rattle.std.proofs.lemmas.List.{append_assoc, append-nil, length-append}
 use Rattle.std.proofs.lemmas.List.Elements.{All-head, All-tail, All-nil, All-cons, Contains-append_cases, Contains-append_left, Contains-append_right}
 use Rattle.std.proofs.lemmas.Option.{same_Some, none-some}
+use Rattle.ct_lemmas.proofs.Pairs.{AllZip-one_length, AllZip-push}
 use Rattle.ct_sexpr.specs.declared.sexpr.Sexpr.{Sexpr}
 use Rattle.ct_sexpr.specs.Expression.{Expression}
 use Rattle.ct_sexpr.specs.View.{expression_of}
@@ -11,14 +12,14 @@ use Rattle.ct_sorts.specs.declared.ids.SortId.{SortId}
 use Rattle.ct_sorts.specs.Declarations.{Declarations}
 use Rattle.ct_sorts.specs.Consistent.{IsConsistent}
 use Rattle.ct_terms.specs.declared.ids.TermId.{TermId}
-use Rattle.ct_terms.specs.declared.tree.Tree.{Tree}
+use Rattle.ct_formulas.specs.declared.tree.Tree.{Tree}
 use Rattle.ct_terms.specs.Terms.{Terms, AreSorted, AreOrdered, BeginsWithTruths, most_terms}
 use Rattle.ct_terms.specs.CoreTree.{CoreTree, term_at}
 use Rattle.ct_terms.specs.CoreSorts.{HasTreeSort}
-use Rattle.ct_terms.specs.Formula.{Formula}
-use Rattle.ct_terms.specs.FormulaSorts.{IsSorted, AreSound}
-use Rattle.ct_terms.specs.TreeFormula.{formula_of}
-use Rattle.ct_terms.specs.Compiled.{core_of}
+use Rattle.ct_formulas.specs.Formula.{Formula}
+use Rattle.ct_formulas.specs.FormulaSorts.{IsSorted, AreSound}
+use Rattle.ct_formulas.specs.TreeFormula.{formula_of}
+use Rattle.ct_formulas.specs.Compiled.{core_of}
 use Rattle.ct_closure.specs.Closed.{truth_trees}
 use Rattle.ct_compile.specs.Effect.{Stands, AllStand, IsPrefix}
 use Rattle.ct_names.specs.Outcome.{Outcome, Sorted, and_then}
@@ -36,7 +37,7 @@ use Rattle.ct_eval.specs.declared.interp.Valuation.{Valuation}
 use Rattle.ct_eval.specs.Interpretation.{IsProper}
 use Rattle.ct_eval.specs.Evaluation.{value_of}
 use Rattle.ct_eval.specs.TreeValue.{tree_value}
-use Rattle.ct_eval.specs.Meaning.{eval, Means}
+use Rattle.ct_meaning.specs.Meaning.{eval, Means}
 use Rattle.ct_eval.specs.Valued.{IsValuation}
 use Rattle.ct_sexpr.specs.Written.{written}
 use Rattle.ct_model.specs.Listed.{listed}
@@ -72,19 +73,6 @@ module _ {X Y : Type 0} (step : X → Outcome Y) where
   each_of-long [] (y ∷ ys) e = absurd cc
   each_of-long (x ∷ xs) [] e = absurd (not_none (step x) (each_of step xs) e)
   each_of-long (x ∷ xs) (y ∷ ys) e = ap suc (each_of-long xs ys (each_of-cons x xs y ys e).1)
-
-module _ {X Y : Type 0} (R : X → Y → Type 0) where
-  pub AllZip-push : (xs : List X) (ys : List Y) (x : X) (y : Y) → AllZip R xs ys → R x y → AllZip R (xs ++ x ∷ []) (ys ++ y ∷ [])
-  AllZip-push [] [] x y all last = (last, tt)
-  AllZip-push [] (b ∷ ys) x y all last = absurd all
-  AllZip-push (a ∷ xs) [] x y all last = absurd all
-  AllZip-push (a ∷ xs) (b ∷ ys) x y all last = (all.0, AllZip-push xs ys x y all.1 last)
-
-  pub AllZip-one_length : (xs : List X) (ys : List Y) → AllZip R xs ys → length xs ≡ length ys
-  AllZip-one_length [] [] all = refl
-  AllZip-one_length [] (y ∷ ys) all = absurd all
-  AllZip-one_length (x ∷ xs) [] all = absurd all
-  AllZip-one_length (x ∷ xs) (y ∷ ys) all = ap suc (AllZip-one_length xs ys all.1)
 
 -- the formulas of trees with their sorts are those of the trees
 pub formulas-sorted : (trees : List Tree) (sorts : List SortId) → length trees ≡ length sorts → formula_list (sorted_trees trees sorts) ≡ map formula_of trees

@@ -8,7 +8,7 @@ use Rattle.ct_sorts.specs.declared.block.Field.{Field}
 use Rattle.ct_sorts.specs.declared.block.CtorDecl.{CtorDecl}
 use Rattle.ct_sorts.specs.declared.block.SortDecl.{SortDecl}
 use Rattle.ct_sorts.specs.Declarations.{Declarations, Function, bool_sort}
-use Rattle.ct_terms.specs.Formula.{Formula, bind}
+use Rattle.ct_formulas.specs.Formula.{Formula, bind}
 use Rattle.ct_names.specs.Outcome.{Outcome, Sorted, and_then, unless_refused, is_sort}
 use Rattle.ct_names.specs.Refusals.{wrong_sort, repeated_variable}
 use Rattle.ct_names.specs.Variables.{variables, has_repeated}

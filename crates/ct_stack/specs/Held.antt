@@ -2,10 +2,10 @@
 use Rattle.std.specs.Prelude.{◌≡◌, ◌<◌, List, [], ◌++◌, map, length, All, Contains}
 use Rattle.ct_sorts.specs.Declarations.{Declarations, bool_sort}
 use Rattle.ct_terms.specs.declared.ids.TermId.{TermId}
-use Rattle.ct_terms.specs.declared.tree.Tree.{Tree}
+use Rattle.ct_formulas.specs.declared.tree.Tree.{Tree}
 use Rattle.ct_terms.specs.Terms.{Terms, AreSorted, IsBoolean}
-use Rattle.ct_terms.specs.FormulaSorts.{IsSorted, AreSound}
-use Rattle.ct_terms.specs.TreeFormula.{formula_of}
+use Rattle.ct_formulas.specs.FormulaSorts.{IsSorted, AreSound}
+use Rattle.ct_formulas.specs.TreeFormula.{formula_of}
 use Rattle.ct_terms.specs.CoreTree.{CoreTree, subtrees, term_at}
 use Rattle.ct_closure.specs.Closed.{truth_trees}
 use Rattle.ct_closure.specs.ClosedTable.{HasTree, terms_at}

@@ -7,7 +7,7 @@ use Rattle.ct_sorts.specs.Declarations.{Declarations, sort_names, symbol_names, 
 use Rattle.ct_sorts.specs.Refusals.{IsFirstCause, IsNone, name_taken, symbol_taken, too_many}
 use Rattle.ct_terms.specs.Terms.{most_terms}
 use Rattle.ct_terms.specs.CoreTree.{CoreTree, subtrees}
-use Rattle.ct_terms.specs.Formula.{Formula}
+use Rattle.ct_formulas.specs.Formula.{Formula}
 use Rattle.ct_closure.specs.Closed.{AreDifferent, truth_trees}
 use Rattle.ct_names.specs.Outcome.{Sorted}
 use Rattle.ct_names.specs.Refusals.{out_of_scope}

@@ -4,10 +4,10 @@ use Rattle.std.specs.List.{AllZip}
 use Rattle.std.specs.Global.{Vec}
 use Rattle.ct_sorts.specs.declared.ids.SortId.{SortId}
 use Rattle.ct_sorts.specs.Declarations.{Declarations, Function}
-use Rattle.ct_terms.specs.Formula.{Formula}
-use Rattle.ct_terms.specs.FormulaSorts.{IsSorted}
-use Rattle.ct_terms.specs.TreeFormula.{formula_of}
-use Rattle.ct_terms.specs.declared.tree.Tree.{Tree}
+use Rattle.ct_formulas.specs.Formula.{Formula}
+use Rattle.ct_formulas.specs.FormulaSorts.{IsSorted}
+use Rattle.ct_formulas.specs.TreeFormula.{formula_of}
+use Rattle.ct_formulas.specs.declared.tree.Tree.{Tree}
 use Rattle.ct_names.specs.Outcome.{Sorted}
 use Rattle.ct_check.specs.Trees.{sorted_trees}
 use Rattle.ct_stack.specs.declared.define.Definition.{Definition}

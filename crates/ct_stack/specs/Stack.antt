@@ -3,9 +3,9 @@
 use Rattle.std.specs.Prelude.{List, [], ◌∷◌, ◌++◌, map, reverse}
 use Rattle.std.specs.List.{flat_map}
 use Rattle.ct_sorts.specs.Declarations.{Declarations, Function, start, with_definition}
-use Rattle.ct_terms.specs.Formula.{Formula}
+use Rattle.ct_formulas.specs.Formula.{Formula}
 use Rattle.ct_terms.specs.CoreTree.{CoreTree}
-use Rattle.ct_terms.specs.Compiled.{core_of}
+use Rattle.ct_formulas.specs.Compiled.{core_of}
 
 -- what can be named: what is declared, and a body for each definition
 pub record Context : Type 0 where

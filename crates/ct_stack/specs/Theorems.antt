@@ -11,9 +11,9 @@ use Rattle.ct_terms.specs.declared.term.Core.{Core}
 use Rattle.ct_terms.specs.Terms.{Terms, IsOfSort, AreSorted as AreSortedTerms, AreOrdered, AreSingle}
 use Rattle.ct_terms.specs.CoreTree.{CoreTree, tree_children, subtrees, tree_layer, term_at}
 use Rattle.ct_terms.specs.CoreSorts.{HasTreeSort}
-use Rattle.ct_terms.specs.Formula.{Formula, bind}
-use Rattle.ct_terms.specs.FormulaSorts.{IsSorted, AreSound}
-use Rattle.ct_terms.specs.Compiled.{core_of}
+use Rattle.ct_formulas.specs.Formula.{Formula, bind}
+use Rattle.ct_formulas.specs.FormulaSorts.{IsSorted, AreSound}
+use Rattle.ct_formulas.specs.Compiled.{core_of}
 
 pub record Theorems : Type 0 where
   pub itself : (d : Declarations) → Extends d d

@@ -5,14 +5,14 @@ use Rattle.ct_sexpr.specs.Expression.{Expression}
 use Rattle.ct_sexpr.specs.Written.{written}
 use Rattle.ct_sexpr.specs.View.{expression_of}
 use Rattle.ct_sexpr.specs.declared.sexpr.Sexpr.{Sexpr}
-use Rattle.ct_terms.specs.Formula.{Formula}
+use Rattle.ct_formulas.specs.Formula.{Formula}
 use Rattle.ct_values.specs.declared.node.NodeId.{NodeId}
 use Rattle.ct_values.specs.Graph.{Nodes}
 use Rattle.ct_values.specs.Agreement.{AgreeAlways, point, node_point}
 use Rattle.ct_values.specs.Fitting.{FitsGraph}
-use Rattle.ct_values.specs.ValueText.{IsValueText}
+use Rattle.ct_value_text.specs.ValueText.{IsValueText}
 use Rattle.ct_eval.specs.declared.interp.Interp.{Interp}
-use Rattle.ct_eval.specs.Meaning.{eval}
+use Rattle.ct_meaning.specs.Meaning.{eval}
 use Rattle.ct_names.specs.Outcome.{Sorted}
 use Rattle.ct_names.specs.Elaboration.{elaborated}
 use Rattle.ct_model.specs.Listed.{listed}

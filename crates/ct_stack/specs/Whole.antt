@@ -6,7 +6,7 @@ use Rattle.ct_sorts.specs.Consistent.{IsConsistent}
 use Rattle.ct_sorts.specs.Declarations.{start}
 use Rattle.ct_sorts.specs.Grown.{Extends}
 use Rattle.ct_terms.specs.declared.ids.TermId.{TermId}
-use Rattle.ct_terms.specs.declared.tree.Tree.{Tree}
+use Rattle.ct_formulas.specs.declared.tree.Tree.{Tree}
 use Rattle.ct_terms.specs.Terms.{Terms, AreSorted, truth_terms}
 use Rattle.ct_scope.specs.declared.scope.Scope.{Scope}
 use Rattle.ct_stack.specs.Stack.{Level, Stack}

@@ -6,9 +6,9 @@ ghost use Rattle.ct_sexpr.specs.View.{expression_of};
 ghost use Rattle.ct_sorts.specs.Availability.{IsUnavailable};
 ghost use Rattle.ct_sorts.specs.Declarations.{IsSort, with_definition, symbol_names, most_definitions};
 ghost use Rattle.ct_sorts.specs.Refusals.{IsFirstCause, IsNone, symbol_taken, too_many};
-ghost use Rattle.ct_terms.specs.Formula.{bind};
-ghost use Rattle.ct_terms.specs.FormulaSorts.{IsSorted};
-ghost use Rattle.ct_terms.specs.TreeFormula.{formula_of};
+ghost use Rattle.ct_formulas.specs.Formula.{bind};
+ghost use Rattle.ct_formulas.specs.FormulaSorts.{IsSorted};
+ghost use Rattle.ct_formulas.specs.TreeFormula.{formula_of};
 ghost use Rattle.ct_names.specs.Bounds.{parameter_variables};
 ghost use Rattle.ct_names.specs.Variables.{variables, has_repeated};
 ghost use Rattle.ct_command.specs.Seen.{named_seen};
@@ -22,9 +22,9 @@ use crate::function::SYMBOL_TAKEN;
 use crate::sorts::{is_sort, sort_named, term_of};
 use ct_check::{Param, Scope, elaboration};
 use ct_command::{CommandError, Named};
+use ct_formulas::Tree;
 use ct_sexpr::{Bytes, Sexpr};
 use ct_sorts::{Items, Name, SigError, Signature, SortId, growth};
-use ct_terms::Tree;
 use std::alloc::{AllocError, Global};
 
 /// The number of the error of a repeated variable.

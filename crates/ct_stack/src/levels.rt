@@ -5,8 +5,8 @@ ghost use Rattle.ct_stack.specs.Numbers.{most_levels};
 ghost use Rattle.ct_stack.specs.Whole.{mark_of};
 
 use ct_check::Scope;
+use ct_formulas::Tree;
 use ct_sorts::{Items, Mark};
-use ct_terms::Tree;
 use std::alloc::Global;
 
 /// The most levels within the outermost one.

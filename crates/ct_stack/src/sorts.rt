@@ -13,9 +13,9 @@ ghost use Rattle.ct_stack.specs.Sorts.{sorts_seen};
 
 use ct_check::{CheckError, Param, Scope, elaborate, sort_of};
 use ct_command::CommandError;
+use ct_formulas::Tree;
 use ct_sexpr::Sexpr;
 use ct_sorts::SortId;
-use ct_terms::Tree;
 use std::alloc::Global;
 
 /// Whether the two sorts are one.

@@ -5,9 +5,9 @@ ghost use Rattle.ct_sorts.specs.Declarations.{bool_sort};
 ghost use Rattle.ct_sorts.specs.Grown.{Begins};
 ghost use Rattle.ct_sorts.specs.declared.ids.SortId.{SortId};
 ghost use Rattle.ct_terms.specs.CoreTree.{CoreTree};
-ghost use Rattle.ct_terms.specs.FormulaSorts.{IsSorted, AreSound};
+ghost use Rattle.ct_formulas.specs.FormulaSorts.{IsSorted, AreSound};
 ghost use Rattle.ct_terms.specs.Terms.{AreSorted, most_terms};
-ghost use Rattle.ct_terms.specs.TreeFormula.{formula_of};
+ghost use Rattle.ct_formulas.specs.TreeFormula.{formula_of};
 ghost use Rattle.ct_compile.specs.Effect.{IsPrefix, Stands as Stood};
 ghost use Rattle.ct_stack.specs.Numbers.{too_many_terms};
 ghost use Rattle.ct_stack.specs.Stack.{core, cores};
@@ -21,9 +21,10 @@ use crate::theorems::stack_theorems;
 use ct_check::{Scope, elaboration};
 use ct_command::CommandError;
 use ct_compile::compile;
+use ct_formulas::Tree;
 use ct_sexpr::Sexpr;
 use ct_sorts::SortId;
-use ct_terms::{TermError, TermId, TermTable, Tree};
+use ct_terms::{TermError, TermId, TermTable};
 use std::alloc::{AllocError, Global};
 
 /// The sort Bool.

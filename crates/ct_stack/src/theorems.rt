@@ -1,8 +1,9 @@
 //! The theorems on terms, formulas and declarations that a session stands on.
 ghost use Rattle.ct_stack.specs.Theorems.{Theorems};
 
+use ct_formulas::{formulas, scopes};
 use ct_sorts::growth;
-use ct_terms::{core_trees, formulas, one_lasting_sort, scopes};
+use ct_terms::{core_trees, one_lasting_sort};
 
 /// The theorems, as one. The function does nothing.
 pub(crate) fn stack_theorems()

@@ -2,9 +2,9 @@
 ghost use Rattle.std.specs.Prelude.{◌≡◌, ℕ, ◌<◌, ◌≤◌, List, ◌++◌, map, length, slice_get, Some, Err, All, OnOk, OnErr, IfOk, IsErrOf};
 ghost use Rattle.std.specs.List.{AllZip};
 ghost use Rattle.ct_terms.specs.CoreTree.{CoreTree};
-ghost use Rattle.ct_terms.specs.FormulaSorts.{AreSound};
+ghost use Rattle.ct_formulas.specs.FormulaSorts.{AreSound};
 ghost use Rattle.ct_terms.specs.Terms.{AreSorted, most_terms};
-ghost use Rattle.ct_terms.specs.TreeFormula.{formula_of};
+ghost use Rattle.ct_formulas.specs.TreeFormula.{formula_of};
 ghost use Rattle.ct_compile.specs.Effect.{IsPrefix, AllStand};
 ghost use Rattle.ct_eval.specs.Interpretation.{IsProper};
 ghost use Rattle.ct_values.specs.Fitting.{FitsGraph};
@@ -24,11 +24,13 @@ use crate::sorts::term_of;
 use crate::terms::core_number;
 use ct_check::{Scope, elaboration};
 use ct_command::CommandError;
-use ct_eval::{Interp, Valuation, evaluate, meanings};
+use ct_eval::{Interp, Valuation, evaluate};
+use ct_formulas::Tree;
+use ct_meaning::meanings;
 use ct_model::value_pairs_text;
 use ct_sexpr::Sexpr;
 use ct_sorts::{Signature, SortId};
-use ct_terms::{TermId, TermTable, Tree, core_trees};
+use ct_terms::{TermId, TermTable, core_trees};
 use ct_values::{Graph, NodeId, agreement};
 use std::alloc::Global;
 

@@ -2,6 +2,7 @@
 use Rattle.std.proofs.Common.{◌≡◌, ◌∙◌, ℕ, ◌-◌, List, [], ◌∷◌, ◌++◌, length, slice_get, Option, None, Some, option_map, refl, sym, ap, subst, inl, inr, arith}
 use Rattle.std.proofs.lemmas.List.{append-nil, length-append}
 use Rattle.std.proofs.lemmas.Option.{none-some}
+use Rattle.ct_lemmas.proofs.Lists.{slice_get-last}
 use Rattle.ct_sexpr.specs.Expression.{Expression}
 use Rattle.ct_eval.specs.declared.interp.Interp.{Interp}
 use Rattle.ct_log.specs.Recorded.{Derived}
@@ -21,7 +22,6 @@ use Rattle.ct_step.specs.Refusal.{IsCheckRefusal}
 use Rattle.ct_step.specs.Step.{OfKept, said, decided, word_of}
 use Rattle.ct_step.specs.Done.{IsAnswer, Performs, IsSame, state_of, kept_of, last_of}
 use Rattle.ct_step.specs.Verdict.{IsRight}
-use Rattle.ct_step.proofs.ListLemmas.{slice_get-last}
 use Rattle.ct_step.proofs.SoundLemmas.{same_state}
 
 -- the last verdict is kept

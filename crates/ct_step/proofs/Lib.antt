@@ -1,5 +1,4 @@
 mod AnswerLemmas
-mod ListLemmas
 mod CauseLemmas
 mod VerdictLemmas
 mod CheckLemmas

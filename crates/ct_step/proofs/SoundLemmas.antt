@@ -16,7 +16,7 @@ use Rattle.ct_stack.specs.Stack.{Stack, Context, in_force, declaring, in_context
 use Rattle.ct_stack.specs.Outcomes.{Gives}
 use Rattle.ct_stack.specs.Elaborations.{declared_function, defined_function, asserted_formula}
 use Rattle.ct_stack.specs.Values.{AreValues}
-use Rattle.ct_terms.specs.Formula.{Formula}
+use Rattle.ct_formulas.specs.Formula.{Formula}
 use Rattle.ct_step.specs.declared.answer.Answer.{Answer}
 use Rattle.ct_step.specs.declared.state.SessionState.{SessionState}
 use Rattle.ct_step.specs.declared.options.Options.{Options}

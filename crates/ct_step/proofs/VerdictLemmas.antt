@@ -3,20 +3,21 @@ use Rattle.std.proofs.Common.{◌≡◌, ◌∙◌, ◌↔◌, ℕ, zero, suc, B
 use Rattle.std.specs.List.{AllZip}
 use Rattle.std.proofs.lemmas.List.Elements.{All-nil, All-cons, All-head, All-contains}
 use Rattle.std.proofs.lemmas.Option.{none-some, same_Some}
+use Rattle.ct_lemmas.proofs.Contained.{Contains-from_slice_get}
 use Rattle.ct_sorts.specs.Declarations.{Declarations, bool_sort}
 use Rattle.ct_sorts.specs.Consistent.{IsConsistent}
 use Rattle.ct_terms.specs.declared.ids.TermId.{TermId}
 use Rattle.ct_terms.specs.Terms.{Terms}
 use Rattle.ct_terms.specs.CoreTree.{CoreTree, term_at}
-use Rattle.ct_terms.specs.Compiled.{core_of}
-use Rattle.ct_terms.specs.Formula.{Formula}
-use Rattle.ct_terms.specs.FormulaSorts.{IsSorted, AreSound}
+use Rattle.ct_formulas.specs.Compiled.{core_of}
+use Rattle.ct_formulas.specs.Formula.{Formula}
+use Rattle.ct_formulas.specs.FormulaSorts.{IsSorted, AreSound}
 use Rattle.ct_closure.specs.Closed.{InClosure, HasVariables}
 use Rattle.ct_closure.specs.ClosedTable.{HasTree, terms_at}
 use Rattle.ct_eval.specs.declared.interp.Interp.{Interp}
 use Rattle.ct_eval.specs.Interpretation.{IsProper}
-use Rattle.ct_eval.specs.Meaning.{eval}
-use Rattle.ct_eval.specs.Truth.{Holds, AllTrue, truth_value}
+use Rattle.ct_meaning.specs.Meaning.{AllTrue, eval}
+use Rattle.ct_eval.specs.Truth.{Holds, truth_value}
 use Rattle.ct_values.specs.TruthValue.{is_true}
 use Rattle.ct_engine.specs.declared.verdict.Verdict.{Verdict}
 use Rattle.ct_engine.specs.declared.verdict.Verdict.TheVariants.{Sat, Unsat, Unknown, Stuck}
@@ -25,7 +26,6 @@ use Rattle.ct_engine.specs.Saturated.{IsSaturated}
 use Rattle.ct_stack.specs.Stack.{Context, core, cores}
 use Rattle.ct_stack.specs.Held.{IsHeld}
 use Rattle.ct_step.specs.Verdict.{IsRight}
-use Rattle.ct_step.proofs.ListLemmas.{contained}
 
 -- the theorem on core terms of assertions
 abbrev pub Assertions : Type 0
@@ -89,7 +89,7 @@ module _ (assertions : Assertions) (c : Context) (asserts : List Formula) (table
       }
     where
       sorted_at : (fs : List Formula) (k : ℕ) (f : Formula) → All (λ t. IsSorted c.declarations [] t bool_sort) fs → slice_get fs k ≡ Some f → IsSorted c.declarations [] f bool_sort
-      sorted_at fs k f all e = All-contains (λ t. IsSorted c.declarations [] t bool_sort) fs f all (contained fs k f e)
+      sorted_at fs k f all e = All-contains (λ t. IsSorted c.declarations [] t bool_sort) fs f all (Contains-from_slice_get fs k f e)
 
       -- one assertion is false where its core term is
       untrue : (i : Interp) → IsProper c.declarations i → (n : TermId) (f : Formula) → term_at table n ≡ core c f → truth_value c.declarations i table n ≡ false → IsSorted c.declarations [] f bool_sort → is_true i.graph (eval c.declarations i c.bodies [] f) ≡ false

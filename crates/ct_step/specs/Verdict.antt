@@ -4,13 +4,12 @@ use Rattle.ct_terms.specs.declared.ids.TermId.{TermId}
 use Rattle.ct_terms.specs.declared.ids.Lit.{Lit}
 use Rattle.ct_terms.specs.Terms.{Terms, IsTermTable, AreSorted}
 use Rattle.ct_terms.specs.CoreTree.{CoreTree}
-use Rattle.ct_terms.specs.Formula.{Formula}
+use Rattle.ct_formulas.specs.Formula.{Formula}
 use Rattle.ct_closure.specs.Closed.{InClosure, HasVariables}
 use Rattle.ct_closure.specs.ClosedTable.{HasTree, terms_at}
 use Rattle.ct_eval.specs.declared.interp.Interp.{Interp}
 use Rattle.ct_eval.specs.Interpretation.{IsProper}
-use Rattle.ct_eval.specs.Meaning.{eval}
-use Rattle.ct_eval.specs.Truth.{AllTrue}
+use Rattle.ct_meaning.specs.Meaning.{AllTrue, eval}
 use Rattle.ct_values.specs.TruthValue.{is_true}
 use Rattle.ct_log.specs.Acceptance.{Passes}
 use Rattle.ct_log.specs.Recorded.{Derived}

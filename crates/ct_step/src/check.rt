@@ -10,7 +10,7 @@ use crate::answer::{Answer, said, word_of};
 use crate::state::SessionState;
 use ct_command::CommandError;
 use ct_engine::{SolveError, Verdict, solve};
-use ct_eval::meanings;
+use ct_meaning::meanings;
 use ct_stack::AssertionStack;
 use std::alloc::Global;
 

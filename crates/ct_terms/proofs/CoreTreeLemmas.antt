@@ -2,6 +2,7 @@
 use Rattle.std.proofs.Common.{◌≡◌, ℕ, zero, suc, ◌<◌, List, [], ◌∷◌, ◌++◌, length, map, Option, Some, None, slice_get, refl, sym, ap, ◌∙◌, arith}
 use Rattle.std.specs.List.{AllByRecursion}
 use Rattle.std.proofs.lemmas.Option.{same_Some}
+use Rattle.ct_lemmas.proofs.Lists.{slice_get-prefix}
 use Rattle.ct_sorts.specs.declared.ids.SortId.{SortId}
 use Rattle.ct_terms.specs.declared.ids.TermId.{TermId}
 use Rattle.ct_terms.specs.declared.term.Core.{Core}
@@ -9,7 +10,6 @@ use Rattle.ct_terms.specs.declared.term.Core.TheVariants.{Con, Sel, Test, Apply,
 use Rattle.ct_terms.specs.Children.{CoreHead, con_head, sel_head, test_head, apply_head, eq_head, not_head, and_head, or_head, iff_head, ite_head, core_head, core_children, HasArgumentsBelow}
 use Rattle.ct_terms.specs.Terms.{Terms, Has, AreOrdered, AreSingle}
 use Rattle.ct_terms.specs.CoreTree.{CoreTree, con, sel, test, apply, equation, negation, conjunction, disjunction, equivalence, choice, list_of_trees, trees_of, tree_head, tree_children, tree_layer, tree_of_entry, tree_below, term_at}
-use Rattle.ct_terms.proofs.ListLemmas.{slice_get-prefix}
 
 -- the arguments made of a list are the list
 pub list_of_trees_of : (ts : List CoreTree) → list_of_trees (trees_of ts) ≡ ts

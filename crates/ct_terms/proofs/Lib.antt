@@ -4,12 +4,6 @@ pub mod SortLemmas
 pub mod CoreTreeLemmas
 pub mod CoreSortLemmas
 pub mod SubtreeLemmas
-pub mod CallLemmas
-pub mod FormulaSortLemmas
-pub mod ScopeLemmas
-pub mod OccurrenceLemmas
-pub mod OccurringSubterms
-pub mod CompiledReach
 pub mod TableLemmas
 pub mod SortingLemmas
 pub mod LiteralLemmas

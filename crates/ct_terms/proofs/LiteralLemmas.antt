@@ -2,6 +2,9 @@
 use Rattle.std.proofs.Common.{◌≡◌, ℕ, zero, suc, ◌<◌, Bool, true, false, List, [], ◌∷◌, ◌++◌, length, take, drop, min, Option, Some, None, slice_get, refl, sym, ap, subst, ◌∙◌, inl, inr, arith, length-append, length-take, true≢false}
 use Rattle.std.proofs.lemmas.List.{take-append-drop}
 use Rattle.std.proofs.lemmas.Option.{none-some, same_Some}
+use Rattle.ct_lemmas.proofs.Lists.{slice_get-last, slice_get-prefix}
+use Rattle.ct_lemmas.proofs.Numbers.{last_or_before}
+use Rattle.ct_lemmas.proofs.Prefixes.{take-slice_get}
 use Rattle.ct_sorts.specs.declared.ids.SortId.{SortId}
 use Rattle.ct_sorts.specs.Declarations.{bool_sort}
 use Rattle.ct_terms.specs.declared.ids.TermId.{TermId}
@@ -9,7 +12,6 @@ use Rattle.ct_terms.specs.declared.ids.Lit.{Lit}
 use Rattle.ct_terms.specs.declared.term.Core.{Core}
 use Rattle.ct_terms.specs.declared.term.Core.TheVariants.{Not}
 use Rattle.ct_terms.specs.Terms.{Terms, IsOfSort, Has, AreOrdered, NegatesBooleans, truth_terms}
-use Rattle.ct_terms.proofs.ListLemmas.{slice_get-prefix, slice_get-last, take-slice_get, last_or_before}
 use Rattle.ct_terms.specs.Literal.{opposite, literal_step, literal_below, literal_of, IsLiteral, IsStripped, AreLiterals}
 
 -- one step gives one literal where the two readings agree on the term under a negation

@@ -1,7 +1,7 @@
 -- Unit propagation: under an assignment that makes the named clauses true, what is put into the set is true.
 use Rattle.std.proofs.Common.{◌≡◌, ℕ, ◌⊎◌, inl, inr, Bool, true, false, not, List, [], ◌∷◌, ◌++◌, All, Contains, refl, sym, subst, ◌∙◌, true≢false}
 use Rattle.std.proofs.lemmas.List.Elements.{All-cons, All-nil, All-map, All-push, All-contains, Contains-append_left, Contains-append_right, Contains-push}
-use Rattle.ct_terms.proofs.ListLemmas.{slice_get-append_left}
+use Rattle.ct_lemmas.proofs.Lists.{slice_get-append_left}
 use Rattle.ct_terms.specs.declared.ids.Lit.{Lit}
 use Rattle.ct_terms.specs.Literal.{opposite}
 use Rattle.ct_terms.specs.Clause.{Clause, opposites, with_value, literal_value, HoldsUnder}

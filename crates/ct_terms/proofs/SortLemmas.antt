@@ -4,6 +4,9 @@ use Rattle.std.specs.List.{AllZip, AllByRecursion}
 use Rattle.std.proofs.lemmas.List.{append-nil}
 use Rattle.std.proofs.lemmas.List.Elements.{recursion_from_All, All-from_recursion, All-weaker}
 use Rattle.std.proofs.lemmas.Option.{same_Some, slice_get_within}
+use Rattle.ct_lemmas.proofs.Each.{AllByRecursion-weaker}
+use Rattle.ct_lemmas.proofs.Lists.{slice_get-append_left}
+use Rattle.ct_lemmas.proofs.Prefixes.{slice_get-take, slice_get-take_below, take-slice_get}
 use Rattle.ct_sorts.specs.declared.ids.SortId.{SortId}
 use Rattle.ct_sorts.specs.declared.ids.SelId.{SelId}
 use Rattle.ct_sorts.specs.Declarations.{Declarations, Function, bool_sort, with_function}
@@ -13,7 +16,6 @@ use Rattle.ct_terms.specs.declared.term.Core.TheVariants.{Con, Sel, Test, Apply,
 use Rattle.ct_terms.specs.Children.{core_children, HasArgumentsBelow}
 use Rattle.ct_terms.specs.Terms.{Terms, IsOfSort, IsBoolean, IsOfField, Joins, HasSort, AreSorted, AreOrdered}
 use Rattle.ct_sorts.specs.Grown.{Begins, Extends}
-use Rattle.ct_terms.proofs.ListLemmas.{slice_get-append_left, slice_get-take, slice_get-take_below, take-slice_get, AllByRecursion-weaker}
 
 -- one number has one sort
 IsOfSort-same : (table : Terms) (t : TermId) (r s : SortId) → IsOfSort table t r → IsOfSort table t s → r ≡ s

@@ -1,9 +1,10 @@
 -- The subterms of a term: itself, and those of the terms right under it; those of a term of a table are terms of the table,
 -- those of a subterm are subterms, and those of a well-sorted term are well sorted.
-use Rattle.std.proofs.Common.{◌≡◌, ◌⊎◌, ℕ, zero, suc, ◌<◌, ◌≤◌, List, [], ◌∷◌, ◌++◌, length, map, Contains, slice_index_or, refl, sym, ap, subst, ◌∙◌, inl, inr, arith}
+use Rattle.std.proofs.Common.{◌≡◌, ℕ, zero, suc, ◌<◌, ◌≤◌, List, [], ◌∷◌, ◌++◌, length, map, Contains, refl, sym, ap, subst, ◌∙◌, inl, inr, arith}
 use Rattle.std.specs.List.{AllByRecursion, flat_map}
 use Rattle.std.proofs.lemmas.List.{append-nil}
 use Rattle.std.proofs.lemmas.List.Elements.{Contains-append_cases, Contains-append_left, Contains-append_right}
+use Rattle.ct_lemmas.proofs.Contained.{Contains-cons, Contains-first, Contains-rest}
 use Rattle.ct_sorts.specs.declared.ids.SortId.{SortId}
 use Rattle.ct_sorts.specs.Declarations.{Declarations, bool_sort}
 use Rattle.ct_terms.specs.declared.ids.TermId.{TermId}
@@ -37,14 +38,6 @@ subtrees-unfold (disjunction ts) = ap (λ (us : List CoreTree). disjunction ts �
 subtrees-unfold (equivalence a b) = ap (λ (us : List CoreTree). equivalence a b ∷ us) (two a b)
 subtrees-unfold (choice c a b) = ap (λ (us : List CoreTree). choice c a b ∷ (subtrees c ++ us)) (two a b)
 
--- what a list contains is its first element or in the rest
-pub Contains-cons : {X : Type 0} (x : X) (xs : List X) (y : X) → Contains (x ∷ xs) y → (x ≡ y) ⊎ Contains xs y
-Contains-cons {X} x xs y h = by h.0 h.1 h.2
-  where
-    by : (k : ℕ) → k < length (x ∷ xs) → slice_index_or (x ∷ xs) k y ≡ y → (x ≡ y) ⊎ Contains xs y
-    by zero within is = inl is
-    by (suc k) within is = inr (k, omega (arith, within), is)
-
 -- the subterms of a term of a table, below any bound, are terms of the table with numbers that are not greater
 module _ (table : Terms) (ordered : AreOrdered table) where
   -- the tree stands at a number that is not greater
@@ -77,13 +70,6 @@ module _ (table : Terms) (ordered : AreOrdered table) where
 
   pub subterm_stands : (t : TermId) (s : CoreTree) → t.0 < length table → Contains (subtrees (term_at table t)) s → StandsUpTo t.0 s
   subterm_stands t s within h = below_bound (suc t.0) t (omega arith) within s h
-
--- the first element is contained, and so is what the rest contains
-pub Contains-first : {X : Type 0} (x : X) (xs : List X) → Contains (x ∷ xs) x
-Contains-first x xs = (0, omega arith, refl)
-
-pub Contains-rest : {X : Type 0} (x : X) (xs : List X) (y : X) → Contains xs y → Contains (x ∷ xs) y
-Contains-rest x xs y h = (suc h.0, omega (arith, h.1), h.2)
 
 -- a tree is a subterm of itself
 pub subtrees-itself : (t : CoreTree) → Contains (subtrees t) t

@@ -6,6 +6,9 @@ use Rattle.std.proofs.lemmas.List.Sums.{fails_before_first}
 use Rattle.std.proofs.lemmas.Option.{none-some, same_Some, slice_get_within, slice_get-map, slice_get-get_or, get_or_from_slice_get}
 use Rattle.std.specs.List.{position_or_len}
 use Rattle.std.specs.Map.{keys_of, values_of}
+use Rattle.ct_lemmas.proofs.Booleans.{not_true}
+use Rattle.ct_lemmas.proofs.Lists.{slice_get-last, slice_get-push_cases}
+use Rattle.ct_lemmas.proofs.Prefixes.{slice_get-take, slice_get-take_below, take-slice_get, take-slice_get_next}
 use Rattle.indexmap.specs.IndexMap.{insert_entry}
 use Rattle.ct_sorts.specs.declared.ids.SortId.{SortId}
 use Rattle.ct_sorts.specs.Declarations.{Declarations, start, bool_sort}
@@ -15,7 +18,7 @@ use Rattle.ct_terms.specs.declared.term.Core.TheVariants.{Con, Not}
 use Rattle.ct_terms.specs.Terms.{Terms, IsTermTable, IsOfSort, HasSort, AreSorted, Has, IsAbsent, Makes, StandsSorted, HasArgumentsBelow, AreOrdered, AreSingle, NegatesBooleans, most_terms, truth_terms}
 use Rattle.ct_sorts.specs.Grown.{Extends}
 use Rattle.ct_terms.proofs.CoreLemmas.{same_core, Decides-same_core}
-use Rattle.ct_terms.proofs.ListLemmas.{slice_get-last, slice_get-push_cases, slice_get-take, slice_get-take_below, take-slice_get, take-slice_get_next, position-None, not_true}
+use Rattle.ct_terms.proofs.ListLemmas.{position-None}
 use Rattle.ct_terms.proofs.SortLemmas.{HasSort-same, HasSort-below, IsOfSort-append, HasSort-append, AreSorted-extends}
 
 -- one number has one term

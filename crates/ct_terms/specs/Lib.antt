@@ -3,13 +3,7 @@ pub mod Children
 pub mod Terms
 pub mod CoreTree
 pub mod CoreSorts
-pub mod Formula
-pub mod TreeFormula
-pub mod FormulaSorts
-pub mod Pairs
-pub mod Calls
-pub mod Compiled
-pub mod Occurrence
+pub mod Fields
 pub mod Literal
 pub mod Clause
 pub mod Propagation

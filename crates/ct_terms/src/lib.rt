@@ -8,7 +8,6 @@ mod sorting;
 mod table;
 mod term;
 mod theorems;
-mod tree;
 mod tree_theorems;
 
 pub use args::Args;
@@ -18,5 +17,4 @@ pub use sorting::is_well_sorted;
 pub use table::TermTable;
 pub use term::Core;
 pub use theorems::{one_lasting_sort, propagation_is_sound};
-pub use tree::{Case, Pattern, Tree};
-pub use tree_theorems::{core_trees, formulas, scopes};
+pub use tree_theorems::core_trees;

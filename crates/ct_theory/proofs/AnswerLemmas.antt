@@ -1,7 +1,6 @@
 -- From the answers of the parts of a turn to that of the turn, and of the whole.
-use Rattle.std.proofs.Common.{◌≡◌, ℕ, ◌<◌, ◌≤◌, List, [], ◌∷◌, ◌++◌, length, Result, Ok, Err, sym, subst, arith}
+use Rattle.std.proofs.Common.{◌≡◌, ℕ, ◌<◌, ◌≤◌, List, [], ◌∷◌, ◌++◌, length, sym, subst, arith}
 use Rattle.std.specs.List.{Contains}
-use Rattle.std.specs.Result.{IfOk}
 use Rattle.std.proofs.lemmas.List.Elements.{Contains-push}
 use Rattle.std.proofs.lemmas.Option.{slice_get_within}
 use Rattle.ct_sorts.specs.Declarations.{Declarations}
@@ -44,11 +43,6 @@ AreAllStripped-continues old new later stripped l h =
 pub AreAllStripped-under : (d : Declarations) (terms : Terms) (literals : List Lit) (state : State) → IsUnderWay d terms literals state → ((l : Lit) → Contains literals l → IsStripped terms l.term) → AreAllStripped state
 AreAllStripped-under d terms literals state under stripped l h =
     subst (λ (t : Terms). IsStripped t l.term) (sym under.terms_are) (stripped l (subst (λ (ls : List Lit). Contains ls l) under.hypotheses h))
-
--- what is said of an answer, where that gives something else
-pub IfOk-via : {A E : Type 0} (r : Result A E) (P Q : A → Type 0) → ((x : A) → P x → Q x) → IfOk r P → IfOk r Q
-IfOk-via (Ok x) P Q step h = step x h
-IfOk-via (Err e) P Q step h = tt
 
 -- a turn since classes of no fewer pairs
 pub IsTurn-since : (d : Declarations) (terms : Terms) (literals : List Lit) (old mid new : State) (t : Turn) → unequal mid ≤ unequal old → IsTurn d terms literals mid new t → IsTurn d terms literals old new t

@@ -2,6 +2,10 @@
 use Rattle.std.proofs.Common.{◌≡◌, ℕ, zero, suc, ◌<◌, ◌⊎◌, Bool, true, false, ◌&&◌, ◌||◌, List, [], ◌∷◌, length, Option, Some, None, slice_get, refl, sym, ap, subst, ◌∙◌, inl, inr, arith, true≢false}
 use Rattle.std.proofs.lemmas.Bool.{and_from, eqb-true, eq-eqb}
 use Rattle.std.proofs.lemmas.Option.{none-some, same_Some, slice_get_within}
+use Rattle.ct_lemmas.proofs.Booleans.{both_parts, or_cases, or_left, or_right}
+use Rattle.ct_lemmas.proofs.Contained.{Contains-from_slice_get, slice_get-from_Contains}
+use Rattle.ct_lemmas.proofs.Lists.{slice_get-there}
+use Rattle.ct_lemmas.proofs.Pairs.{AllZip-weaker}
 use Rattle.ct_terms.specs.declared.ids.TermId.{TermId}
 use Rattle.ct_rules.specs.declared.equation.Equation.{Equation}
 use Rattle.ct_rules.specs.Uniqueness.{AreMatched, IsUniqueness, HaveRelatedTerms}
@@ -9,7 +13,6 @@ use Rattle.ct_congr.specs.Partition.{InOneClass}
 use Rattle.ct_congr.specs.State.{State, AreEqual}
 use Rattle.ct_unique.specs.Partition.{AreBisimilar}
 use Rattle.ct_theory.specs.Consulting.{are_one, in_one_class}
-use Rattle.ct_theory.proofs.ListLemmas.{Contains-from_slice_get, slice_get-from_Contains, stands, both_parts, or_true_cases, or_first, or_second, AllZip-weaker}
 
 -- ---- the test of one class
 
@@ -39,7 +42,7 @@ module _ (reps : List TermId) where
   InOneClass-trans x y z p q = (p.0, p.1, q.2 ∙ sym q.1 ∙ p.2)
 
   pub InOneClass-refl : (x : TermId) → x.0 < length reps → InOneClass reps x x
-  InOneClass-refl x inside = let at = stands reps x.0 inside in (at.0, at.1, at.1)
+  InOneClass-refl x inside = let at = slice_get-there reps x.0 inside in (at.0, at.1, at.1)
 
   pub InOneClass-left : (x y : TermId) → InOneClass reps x y → x.0 < length reps
   InOneClass-left x y h = slice_get_within reps x.0 h.0 h.1
@@ -63,16 +66,16 @@ module _ (state : State) where
   meets-from [] k pair x y at left right = absurd (none-some pair at)
   meets-from (p ∷ ps) zero pair x y at left right =
       let here = same_Some p pair at in
-      or_first (in_one_class state.reps x.0 p.left.0 && in_one_class state.reps p.right.0 y.0) (meets ps x y)
+      or_left (in_one_class state.reps x.0 p.left.0 && in_one_class state.reps p.right.0 y.0) (meets ps x y)
       (and_from (in_one_class state.reps x.0 p.left.0) (in_one_class state.reps p.right.0 y.0)
       (in_one_class-from state.reps x p.left (subst (λ (e : Equation). AreEqual state x e.left) (sym here) left))
       (in_one_class-from state.reps p.right y (subst (λ (e : Equation). AreEqual state e.right y) (sym here) right)))
   meets-from (p ∷ ps) (suc k) pair x y at left right =
-      or_second (in_one_class state.reps x.0 p.left.0 && in_one_class state.reps p.right.0 y.0) (meets ps x y) (meets-from ps k pair x y at left right)
+      or_right (in_one_class state.reps x.0 p.left.0 && in_one_class state.reps p.right.0 y.0) (meets ps x y) (meets-from ps k pair x y at left right)
 
   meets-to : (pairs : List Equation) (x y : TermId) → meets pairs x y ≡ true → (k : ℕ) × (pair : Equation) × (slice_get pairs k ≡ Some pair) × AreEqual state x pair.left × AreEqual state pair.right y
   meets-to [] x y h = absurd (true≢false (sym h))
-  meets-to (p ∷ ps) x y h = elim (or_true_cases (in_one_class state.reps x.0 p.left.0 && in_one_class state.reps p.right.0 y.0) (meets ps x y) h) [
+  meets-to (p ∷ ps) x y h = elim (or_cases (in_one_class state.reps x.0 p.left.0 && in_one_class state.reps p.right.0 y.0) (meets ps x y) h) [
     | inl here ↦
         let parts = both_parts (in_one_class state.reps x.0 p.left.0) (in_one_class state.reps p.right.0 y.0) here in
         (0, p, refl, in_one_class-to state.reps x p.left parts.0, in_one_class-to state.reps p.right y parts.1)
@@ -80,13 +83,13 @@ module _ (state : State) where
   ]
 
   related-from : (pairs : List Equation) (x y : TermId) → AreMatched (AreEqual state) pairs x y → related pairs x y ≡ true
-  related-from pairs x y (inl h) = or_first (in_one_class state.reps x.0 y.0) (meets pairs x y) (in_one_class-from state.reps x y h)
+  related-from pairs x y (inl h) = or_left (in_one_class state.reps x.0 y.0) (meets pairs x y) (in_one_class-from state.reps x y h)
   related-from pairs x y (inr h) =
       let at = slice_get-from_Contains pairs h.0 h.1 in
-      or_second (in_one_class state.reps x.0 y.0) (meets pairs x y) (meets-from pairs at.0 h.0 x y at.1 h.2 h.3)
+      or_right (in_one_class state.reps x.0 y.0) (meets pairs x y) (meets-from pairs at.0 h.0 x y at.1 h.2 h.3)
 
   related-to : (pairs : List Equation) (x y : TermId) → related pairs x y ≡ true → AreMatched (AreEqual state) pairs x y
-  related-to pairs x y h = elim (or_true_cases (in_one_class state.reps x.0 y.0) (meets pairs x y) h) [
+  related-to pairs x y h = elim (or_cases (in_one_class state.reps x.0 y.0) (meets pairs x y) h) [
     | inl one ↦ inl (in_one_class-to state.reps x y one)
     | inr found ↦ let m = meets-to pairs x y found in inr (m.1, Contains-from_slice_get pairs m.0 m.1 m.2, m.3, m.4)
   ]

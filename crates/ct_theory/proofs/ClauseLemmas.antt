@@ -1,9 +1,12 @@
 -- How the clause of steps grows, and the stamps with it.
-use Rattle.std.proofs.Common.{◌≡◌, ℕ, ◌+◌, ◌*◌, ◌<◌, Bool, true, false, not, List, [], ◌∷◌, ◌++◌, length, set, replicate, slice_get, Some, refl, sym, ap, subst, ◌∙◌, inl, inr, arith, true≢false}
+use Rattle.std.proofs.Common.{◌≡◌, ℕ, ◌+◌, ◌*◌, ◌<◌, Bool, true, false, List, [], ◌∷◌, ◌++◌, length, set, replicate, slice_get, Some, refl, sym, ap, subst, ◌∙◌, inl, inr, arith, true≢false}
 use Rattle.std.specs.List.{Contains}
 use Rattle.std.proofs.lemmas.Bool.{cases_order}
 use Rattle.std.proofs.lemmas.Option.{none-some}
 use Rattle.std.proofs.lemmas.List.Elements.{Contains-append_left, Contains-push, Contains-push_cases}
+use Rattle.ct_lemmas.proofs.Booleans.{not_twice}
+use Rattle.ct_lemmas.proofs.Contained.{Contains-from_slice_get, slice_get-from_Contains}
+use Rattle.ct_lemmas.proofs.Lists.{slice_get-push_cases, slice_get-replicate, slice_get-set_other, slice_get-set_same}
 use Rattle.ct_terms.specs.declared.ids.Lit.{Lit}
 use Rattle.ct_terms.specs.Literal.{opposite}
 use Rattle.ct_terms.specs.Clause.{Clause}
@@ -11,16 +14,11 @@ use Rattle.ct_log.specs.declared.rules.EqStep.{EqStep}
 use Rattle.ct_log.specs.declared.rules.EqStep.TheVariants.{Hyp}
 use Rattle.ct_theory.specs.Entailment.{StandOnce}
 use Rattle.ct_theory.specs.Steps.{Covers, sign_index, stamp_index, IsClauseOf, AreStamped}
-use Rattle.ct_theory.proofs.ListLemmas.{Contains-from_slice_get, slice_get-from_Contains, slice_get-push_cases, slice_get-set_same, slice_get-set_other, slice_get-replicate}
 
 -- ---- literals
 
-not_not : (b : Bool) → not (not b) ≡ b
-not_not true = refl
-not_not false = refl
-
 pub opposite-twice : (l : Lit) → opposite (opposite l) ≡ l
-opposite-twice l = λ i. record { term = l.term; positive = not_not l.positive i }
+opposite-twice l = λ i. record { term = l.term; positive = not_twice l.positive i }
 
 opposite-one : (l m : Lit) → opposite l ≡ opposite m → l ≡ m
 opposite-one l m e = sym (opposite-twice l) ∙ ap opposite e ∙ opposite-twice m

@@ -1,19 +1,8 @@
 -- How many pairs of numbers do not pass a test that more of them pass later.
-use Rattle.std.proofs.Common.{◌≡◌, ℕ, zero, suc, ◌<◌, ◌≤◌, Bool, true, false, refl, sym, ap, ◌∙◌, inl, inr, arith, true≢false}
-use Rattle.std.specs.Bool.{if◌then◌else◌}
+use Rattle.std.proofs.Common.{◌≡◌, ℕ, zero, suc, ◌<◌, ◌≤◌, Bool, true, false, ap, ◌∙◌, inl, inr, arith}
 use Rattle.std.proofs.lemmas.Bool.{cases_order}
+use Rattle.ct_lemmas.proofs.Booleans.{bit-falls, bit-less}
 use Rattle.ct_unique.specs.Found.{missing, missing_pairs}
-
-bit-falls : (a b : Bool) → (a ≡ true → b ≡ true) → (if b then 0 else 1) ≤ (if a then 0 else 1)
-bit-falls true true h = omega arith
-bit-falls true false h = absurd (true≢false (sym (h refl)))
-bit-falls false true h = omega arith
-bit-falls false false h = omega arith
-
-bit-less : (a b : Bool) → a ≡ false → b ≡ true → (if b then 0 else 1) < (if a then 0 else 1)
-bit-less true b p q = absurd (true≢false p)
-bit-less false true p q = omega arith
-bit-less false false p q = absurd (true≢false (sym q))
 
 module _ (s t : ℕ → Bool) (more : (k : ℕ) → s k ≡ true → t k ≡ true) where
   missing-falls : (n : ℕ) → missing t n ≤ missing s n

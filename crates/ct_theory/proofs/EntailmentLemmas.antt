@@ -3,6 +3,10 @@ use Rattle.std.proofs.Common.{◌≡◌, ℕ, zero, suc, ◌+◌, ◌<◌, ◌�
 use Rattle.std.specs.List.{AllZip, Contains}
 use Rattle.std.proofs.lemmas.Option.{none-some, same_Some, slice_get_within}
 use Rattle.std.proofs.lemmas.List.Elements.{Contains-append_left, Contains-append_right, Contains-push}
+use Rattle.ct_lemmas.proofs.Contained.{Contains-from_slice_get, slice_get-from_Contains}
+use Rattle.ct_lemmas.proofs.Lists.{slice_get-append_cases, slice_get-append_left, slice_get-append_right}
+use Rattle.ct_lemmas.proofs.Pairs.{AllZip-weaker}
+use Rattle.ct_lemmas.proofs.Prefixes.{slice_get-take, slice_get-take_below, take-slice_get}
 use Rattle.ct_sorts.specs.Declarations.{Declarations}
 use Rattle.ct_terms.specs.declared.ids.TermId.{TermId}
 use Rattle.ct_terms.specs.declared.ids.Lit.{Lit}
@@ -13,7 +17,6 @@ use Rattle.ct_rules.specs.Rules.{Equations, truth_term, Follows, by_reflexivity,
 use Rattle.ct_rules.specs.Derivation.{AreAmong, IsHypothesis}
 use Rattle.ct_rules.specs.Uniqueness.{AreMatched, IsPairMatched, IsUniqueness}
 use Rattle.ct_theory.specs.Entailment.{FollowsAtAll, AreEntailed, Entails}
-use Rattle.ct_theory.proofs.ListLemmas.{Contains-from_slice_get, slice_get-from_Contains, slice_get-take, slice_get-take_below, take-slice_get, slice_get-append_left, slice_get-append_right, slice_get-append_cases, AllZip-weaker}
 use Rattle.ct_theory.proofs.FollowsLemmas.{FollowsAtAll-wider, IsPairMatched-wider}
 
 abbrev pub equation : TermId → TermId → Equation

@@ -1,5 +1,6 @@
 -- What follows from equations follows from more of them.
 use Rattle.std.proofs.Common.{List, inl, inr}
+use Rattle.ct_lemmas.proofs.Pairs.{AllZip-weaker}
 use Rattle.ct_sorts.specs.Declarations.{Declarations}
 use Rattle.ct_terms.specs.declared.ids.TermId.{TermId}
 use Rattle.ct_terms.specs.Children.{core_children}
@@ -8,7 +9,6 @@ use Rattle.ct_rules.specs.Rules.{Equations, Follows, by_reflexivity, by_symmetry
 use Rattle.ct_rules.specs.declared.equation.Equation.{Equation}
 use Rattle.ct_rules.specs.Uniqueness.{AreMatched, IsPairMatched, IsUniqueness}
 use Rattle.ct_theory.specs.Entailment.{FollowsAtAll}
-use Rattle.ct_theory.proofs.ListLemmas.{AllZip-weaker}
 
 module _ (d : Declarations) (terms : Terms) (known wider : Equations) (each : (x y : TermId) → known x y → wider x y) where
   pub Follows-wider : (x y : TermId) → Follows d terms known x y → Follows d terms wider x y

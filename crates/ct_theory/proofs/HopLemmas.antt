@@ -1,6 +1,5 @@
 -- Hops of a cycle that are explained one after the other.
-use Rattle.std.proofs.Common.{◌≡◌, ℕ, ◌-◌, ◌≤◌, List, [], ◌∷◌, ◌++◌, length, take, drop, get_or, refl, sym, ap, subst, ◌∙◌, arith}
-use Rattle.std.proofs.Math.Seq.{take-length}
+use Rattle.std.proofs.Common.{◌≡◌, ℕ, ◌-◌, List, [], ◌∷◌, ◌++◌, refl, sym, subst, ◌∙◌}
 use Rattle.ct_terms.specs.declared.ids.TermId.{TermId}
 use Rattle.ct_rules.specs.declared.equation.Equation.{Equation}
 use Rattle.ct_rules.specs.Cycle.{LeadsTo, IsCycle}
@@ -11,13 +10,6 @@ use Rattle.ct_log.specs.Closing.{IsCycleBy}
 use Rattle.ct_congr.specs.State.{State, AreEqual}
 use Rattle.ct_theory.specs.Steps.{Adds, IsPath, IsPathBy, start_term, AreUnderWay}
 use Rattle.ct_theory.proofs.StepLemmas.{Adds-via, Adds-none, Adds-then, IsChain-push, IsPathBy-lasts, IsCycle-path, IsCycleBy-path}
-
--- a list of one or more is its first element and the others
-pub first_and_others : {X : Type 0} (xs : List X) (d : X) → 1 ≤ length xs → xs ≡ get_or xs 0 d ∷ take (length xs - 1) (drop 1 xs)
-first_and_others [] d some = absurd (omega (arith, some))
-first_and_others (x ∷ xs) d some =
-    let e : length (x ∷ xs) - 1 ≡ length xs = omega arith in
-    ap (λ ys. x ∷ ys) (sym (ap (λ k. take k xs) e ∙ take-length xs))
 
 module _ (state : State) where
   -- a path begins where its first hop does

@@ -1,4 +1,3 @@
-pub mod ListLemmas
 pub mod FollowsLemmas
 pub mod EntailmentLemmas
 pub mod BisimulationLemmas

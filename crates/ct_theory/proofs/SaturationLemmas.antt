@@ -3,6 +3,7 @@ use Rattle.std.proofs.Common.{◌≡◌, ℕ, zero, suc, ◌<◌, ◌⊎◌, Lis
 use Rattle.std.specs.List.{Contains}
 use Rattle.std.proofs.lemmas.Option.{none-some, same_Some}
 use Rattle.std.proofs.lemmas.List.Elements.{Contains-push}
+use Rattle.ct_lemmas.proofs.Contained.{slice_get-from_Contains}
 use Rattle.ct_sorts.specs.Declarations.{Declarations}
 use Rattle.ct_terms.specs.declared.ids.TermId.{TermId}
 use Rattle.ct_terms.specs.declared.ids.Lit.{Lit}
@@ -13,7 +14,6 @@ use Rattle.ct_rules.specs.Derivation.{AreAmong, IsHypothesis, Derives}
 use Rattle.ct_congr.specs.State.{State, AreEqual, IsQuiet}
 use Rattle.ct_unique.specs.Partition.{IsStronglyExtensional}
 use Rattle.ct_theory.specs.Entailment.{FollowsAtAll, Entails}
-use Rattle.ct_theory.proofs.ListLemmas.{slice_get-from_Contains}
 use Rattle.ct_theory.proofs.FollowsLemmas.{Follows-wider}
 use Rattle.ct_theory.proofs.EntailmentLemmas.{equation, before, Entails-hypothesis, Entails-inside, Entails-follows, Entails-least}
 use Rattle.ct_theory.proofs.BisimulationLemmas.{InOneClass-left, InOneClass-right, AreBisimilar-unique}

@@ -3,6 +3,9 @@ use Rattle.std.proofs.Common.{◌≡◌, ℕ, ◌<◌, List, [], ◌∷◌, ◌+
 use Rattle.std.specs.List.{Contains}
 use Rattle.std.proofs.lemmas.Option.{none-some, slice_get_within}
 use Rattle.std.proofs.lemmas.List.Elements.{Contains-append_left, Contains-append_right, Contains-append_cases}
+use Rattle.ct_lemmas.proofs.Contained.{slice_get-from_Contains}
+use Rattle.ct_lemmas.proofs.Each.{All-from_Contains}
+use Rattle.ct_lemmas.proofs.Lists.{slice_get-append_left}
 use Rattle.ct_sorts.specs.Declarations.{Declarations}
 use Rattle.ct_terms.specs.declared.ids.TermId.{TermId}
 use Rattle.ct_terms.specs.declared.ids.Lit.{Lit}
@@ -22,7 +25,6 @@ use Rattle.ct_congr.specs.State.{State, IsClashOf}
 use Rattle.ct_explain.specs.Explained.{IsExplained}
 use Rattle.ct_theory.specs.Entailment.{IsConflictOf}
 use Rattle.ct_theory.specs.Steps.{Covers, Adds, IsChain, IsPath, IsPathBy, IsClauseOf}
-use Rattle.ct_theory.proofs.ListLemmas.{slice_get-from_Contains, slice_get-append_left, All-each}
 
 -- ---- steps that are added
 
@@ -82,7 +84,7 @@ module _ (state : State) where
       let named : (l : Lit) → Contains steps (Hyp l) → Contains adds.more (Hyp l) = λ l h. subst (λ (s : List EqStep). Contains s (Hyp l)) adds.stays h in
       let all = adds.accepted clause [] (GiveAll-none clause) (λ l h. is.covers l (subst (λ (s : List EqStep). Contains s (Hyp l)) (sym adds.stays) h)) in
       record {
-        false = All-each (λ l. Contains state.hypotheses (opposite l)) clause (λ l h. adds.named (opposite l) (named (opposite l) (is.used l h)));
+        false = All-from_Contains (λ l. Contains state.hypotheses (opposite l)) clause (λ l h. adds.named (opposite l) (named (opposite l) (is.used l h)));
         used = is.used;
         once = is.once;
         refuted = record { given = all.0; give = all.1; closes = all.2 };

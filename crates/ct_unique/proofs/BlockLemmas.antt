@@ -5,6 +5,8 @@ use Rattle.std.specs.Cmp.Lexicographic.{pointwise}
 use Rattle.std.proofs.lemmas.Bool.{and_from, ltb-true, eqb-true, lt-ltb, eq-eqb}
 use Rattle.std.proofs.lemmas.List.{length-map}
 use Rattle.std.proofs.lemmas.Option.{same_Some, slice_get_within, slice_get-get_or, get_or_from_slice_get, slice_get-map}
+use Rattle.ct_lemmas.proofs.Booleans.{both_parts, or_cases, or_left, or_right}
+use Rattle.ct_lemmas.proofs.Pairs.{AllZip-at, AllZip-at_left, AllZip-at_right, AllZip-from, AllZip-one_length}
 use Rattle.ct_sorts.specs.declared.ids.CtorId.{CtorId}
 use Rattle.ct_terms.specs.declared.ids.TermId.{TermId}
 use Rattle.ct_terms.specs.declared.term.Core.TheVariants.{Con}
@@ -16,7 +18,7 @@ use Rattle.ct_partition.specs.Partition as point_blocks
 use Rattle.ct_congr.specs.State.{State, AreEqual, IsConstructorTerm, IsQuiet}
 use Rattle.ct_unique.specs.Partition.{block_of, in_one_block, AreAlike, IsCoarsest}
 use Rattle.ct_unique.specs.Nodes.{term, IsBuilt, AreLabels, IsRepNumber, IsRow, AreRows, AreBlocks}
-use Rattle.ct_unique.proofs.ListLemmas.{AllZip-left, AllZip-right, AllZip-at, AllZip-from, AllZip-one_length, pointwise-from, pointwise-refl, both_parts, or_true_cases, or_first, or_second}
+use Rattle.ct_unique.proofs.ListLemmas.{pointwise-from, pointwise-refl}
 use Rattle.ct_unique.proofs.ClassLemmas.{one_arity, InOneClass-sym, InOneClass-trans, same_ctor, same_argument}
 
 -- the test that two terms are in one block
@@ -61,8 +63,8 @@ module _ (state : State) (long : length state.reps ≡ length state.terms) (numb
       AllZip-one_length (IsRepNumber state.reps) xs ks left ∙ sym (length-map ks f) ∙ ap length same ∙ length-map ls f ∙ sym (AllZip-one_length (IsRepNumber state.reps) ys ls right) in
       AllZip-from (λ a b. in_one_block blocks a b ≡ true) xs ys lengths
       (λ k a b at_a at_b.
-      let p = AllZip-left (IsRepNumber state.reps) xs ks k a left at_a in
-      let q = AllZip-left (IsRepNumber state.reps) ys ls k b right at_b in
+      let p = AllZip-at_left (IsRepNumber state.reps) xs ks k a left at_a in
+      let q = AllZip-at_left (IsRepNumber state.reps) ys ls k b right at_b in
       let one : slice_get (map f ks) k ≡ Some (f p.0) = slice_get-map f ks k ∙ ap (option_map f) p.1 in
       let two : slice_get (map f ls) k ≡ Some (f q.0) = slice_get-map f ls k ∙ ap (option_map f) q.1 in
       let e : f p.0 ≡ f q.0 = same_Some (f p.0) (f q.0) (sym one ∙ ap (λ list. slice_get list k) same ∙ two) in
@@ -181,16 +183,16 @@ module _ (state : State) (long : length state.reps ≡ length state.terms) (numb
       relates i j = nat_eq i j || (owns i && (owns j && related (term i) (term j)))
 
       relates_self : (i : ℕ) → relates i i ≡ true
-      relates_self i = or_first (nat_eq i i) (owns i && (owns i && related (term i) (term i))) (eq-eqb i i refl)
+      relates_self i = or_left (nat_eq i i) (owns i && (owns i && related (term i) (term i))) (eq-eqb i i refl)
 
       relates_from : (i j : ℕ) → slice_get state.reps i ≡ Some (term i) → slice_get state.reps j ≡ Some (term j) → related (term i) (term j) ≡ true → relates i j ≡ true
       relates_from i j own_i own_j h =
-          or_second (nat_eq i j) (owns i && (owns j && related (term i) (term j)))
+          or_right (nat_eq i j) (owns i && (owns j && related (term i) (term j)))
           (and_from (owns i) (owns j && related (term i) (term j)) (owns_from i own_i) (and_from (owns j) (related (term i) (term j)) (owns_from j own_j) h))
 
       -- related points are one, or their terms have related constructor terms
       relates_cases : (i j : ℕ) → i < count → j < count → relates i j ≡ true → (i ≡ j) ⊎ ((slice_get state.reps i ≡ Some (term i)) × (slice_get state.reps j ≡ Some (term j)) × HaveRelatedTerms state.terms (AreEqual state) related (term i) (term j))
-      relates_cases i j in_i in_j h = elim (or_true_cases (nat_eq i j) (owns i && (owns j && related (term i) (term j))) h) [
+      relates_cases i j in_i in_j h = elim (or_cases (nat_eq i j) (owns i && (owns j && related (term i) (term j))) h) [
         | inl e ↦ inl (eqb-true i j e)
         | inr more ↦
             let first = both_parts (owns i) (owns j && related (term i) (term j)) more in
@@ -231,8 +233,8 @@ module _ (state : State) (long : length state.reps ≡ length state.terms) (numb
           ∙ AllZip-one_length (IsRepNumber state.reps) right.0 (p.children j) right_row in
           pointwise-from relates (p.children i) (p.children j) lengths
           (λ place k l at_k at_l.
-          let a = AllZip-right (IsRepNumber state.reps) left.0 (p.children i) place k left_row at_k in
-          let b = AllZip-right (IsRepNumber state.reps) right.0 (p.children j) place l right_row at_l in
+          let a = AllZip-at_right (IsRepNumber state.reps) left.0 (p.children i) place k left_row at_k in
+          let b = AllZip-at_right (IsRepNumber state.reps) right.0 (p.children j) place l right_row at_l in
           let x = argument_of i h.left h.ctor left.0 h.xs left.1 h.left_equal h.left_stands place a.0 a.1 in
           let y = argument_of j h.right h.ctor right.0 h.ys right.1 h.right_equal h.right_stands place b.0 b.1 in
           let pair : related x.0 y.0 ≡ true = AllZip-at (λ u v. related u v ≡ true) h.xs h.ys place x.0 y.0 h.arguments x.1 y.1 in

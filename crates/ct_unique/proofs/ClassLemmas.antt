@@ -3,6 +3,8 @@ use Rattle.std.proofs.Common.{◌≡◌, ℕ, ◌<◌, ◌⊎◌, List, [], leng
 use Rattle.std.specs.List.{AllZip}
 use Rattle.std.proofs.lemmas.Bool.{cases_order}
 use Rattle.std.proofs.lemmas.Option.{none-some, same_Some, slice_get_within}
+use Rattle.ct_lemmas.proofs.Lists.{slice_get-one_length}
+use Rattle.ct_lemmas.proofs.Pairs.{AllZip-at_right, AllZip-one_length}
 use Rattle.ct_sorts.specs.declared.ids.CtorId.{CtorId}
 use Rattle.ct_sorts.specs.Declarations.{Declarations}
 use Rattle.ct_terms.specs.declared.ids.TermId.{TermId}
@@ -13,7 +15,6 @@ use Rattle.ct_rules.specs.Rules.{Follows}
 use Rattle.ct_congr.specs.Partition.{InOneClass}
 use Rattle.ct_congr.specs.State.{State, AreEqual, IsQuiet}
 use Rattle.ct_unique.specs.Nodes.{IsRepNumber, IsOwnCon, IsBare, IsRow}
-use Rattle.ct_unique.proofs.ListLemmas.{AllZip-right, AllZip-one_length, slice_get-one_length}
 
 -- ---- terms of a table
 
@@ -83,7 +84,7 @@ IsRow-of state t con ctor args row is stands each = record {
       let here : Has state.terms (Con ctor args) built.con.0 = subst (λ (c : TermId). Has state.terms (Con ctor args) c.0) same stands in
       let both = Has-constructor state.terms ctor k args xs built.con.0 here built.stands in
       subst (λ (list : List TermId). AllZip (IsRepNumber state.reps) list row) both.1 each;
-  own = λ place child at. (AllZip-right (IsRepNumber state.reps) args row place child each at).2.own;
+  own = λ place child at. (AllZip-at_right (IsRepNumber state.reps) args row place child each at).2.own;
 }
 
 -- the children of a term are terms

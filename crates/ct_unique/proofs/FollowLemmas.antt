@@ -3,6 +3,9 @@ use Rattle.std.proofs.Common.{◌≡◌, ℕ, ◌+◌, ◌-◌, ◌<◌, ◌≤�
 use Rattle.std.specs.List.{AllZip, Contains}
 use Rattle.std.proofs.lemmas.Bool.{cases_order}
 use Rattle.std.proofs.lemmas.Option.{none-some, same_Some, slice_get_within}
+use Rattle.ct_lemmas.proofs.Contained.{Contains-from_slice_get, slice_get-from_Contains}
+use Rattle.ct_lemmas.proofs.Lists.{slice_get-append_left, slice_get-there}
+use Rattle.ct_lemmas.proofs.Pairs.{AllZip-at, AllZip-from, AllZip-weaker}
 use Rattle.indexmap.specs.IndexMap.{IndexMap}
 use Rattle.ct_sorts.specs.declared.ids.CtorId.{CtorId}
 use Rattle.ct_terms.specs.declared.ids.TermId.{TermId}
@@ -16,7 +19,6 @@ use Rattle.ct_unique.specs.declared.found.Key.{Key}
 use Rattle.ct_unique.specs.Partition.{block_of, in_one_block, IsCoarsest}
 use Rattle.ct_unique.specs.Found.{AreOnce, room, StandsFor, IsAdded, IsOpen, IsMore, IsUnderWay}
 use Rattle.ct_unique.specs.Reached.{IsArgumentPair, IsReached, by_asking, by_arguments}
-use Rattle.ct_unique.proofs.ListLemmas.{stands, slice_get-append_left, AllZip-at, AllZip-from, AllZip-weaker, Contains-from_slice_get, slice_get-from_Contains}
 use Rattle.ct_unique.proofs.ClassLemmas.{InOneClass-sym, InOneClass-trans, one_arity, same_ctor, same_argument}
 use Rattle.ct_unique.proofs.BlockLemmas.{in_block}
 
@@ -84,7 +86,7 @@ module _ {S T : Type 0} (state : State) (blocks : List ℕ) (asked : Equation) w
   IsUnderWay-start empty none places pairs is_none added opens =
       let is : (k : ℕ) (e : Equation) → slice_get pairs k ≡ Some e → e ≡ asked = λ k e at. elim (added.only k e at) [ inl had ↦ absurd (none-some e (subst (λ (list : List Equation). slice_get list k ≡ Some e) is_none had)) | inr same ↦ same ] in
       let inside = slice_get_within pairs added.stands.place added.stands.pair added.stands.at in
-      let head = stands pairs 0 (omega (arith, inside)) in
+      let head = slice_get-there pairs 0 (omega (arith, inside)) in
       record {
         indexed = added.indexed;
         first = head.1 ∙ ap Some (is 0 head.0 head.1);
@@ -108,7 +110,7 @@ module _ {S T : Type 0} (state : State) (blocks : List ℕ) (asked : Equation) w
           opens = λ k e at. elim (more.only k e at) [ inl had ↦ now.opens k e had | inr new ↦ new.0 ];
           reached = λ k e at. elim (more.only k e at) [ inl had ↦ now.reached k e had | inr new ↦ by_arguments pair e (now.reached next pair here) new.1 ];
           done = λ k e soon at.
-              let found = stands before k (omega (arith, soon, inside)) in
+              let found = slice_get-there before k (omega (arith, soon, inside)) in
               let same : found.0 ≡ e = same_Some found.0 e (sym (later known before after more.rest more.grown k found.0 found.1) ∙ at) in
               elim (cases_order k next) [
                 | inl e_k ↦

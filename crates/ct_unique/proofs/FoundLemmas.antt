@@ -2,12 +2,12 @@
 use Rattle.std.proofs.Common.{◌≡◌, ℕ, ◌<◌, ◌⊎◌, Bool, true, false, cond, nat_eq, List, [], ◌∷◌, ◌++◌, length, slice_get, Option, Some, None, Decides, is_some, refl, sym, ap, subst, ◌∙◌, inl, inr, arith, true≢false, append-nil, append_assoc, length-append}
 use Rattle.std.proofs.lemmas.Bool.Decides.{Decides-and, Decides-eqb}
 use Rattle.std.proofs.lemmas.Option.{none-some, same_Some}
+use Rattle.ct_lemmas.proofs.Lists.{slice_get-append_left, slice_get-last, slice_get-push_cases}
 use Rattle.indexmap.specs.IndexMap.{IndexMap, get}
 use Rattle.ct_rules.specs.declared.equation.Equation.{Equation}
 use Rattle.ct_congr.specs.State.{State}
 use Rattle.ct_unique.specs.declared.found.Key.{Key}
 use Rattle.ct_unique.specs.Found.{same_key, key_of, IsIndexed, room, IsAdded, IsOpen, IsMore}
-use Rattle.ct_unique.proofs.ListLemmas.{slice_get-push_cases, slice_get-append_left, slice_get-last}
 use Rattle.ct_unique.proofs.RoomLemmas.{missing_pairs-less}
 
 -- two keys are the same exactly where the derived test says so

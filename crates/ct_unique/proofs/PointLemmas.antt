@@ -1,9 +1,9 @@
 -- Labels, one more.
 use Rattle.std.proofs.Common.{◌≡◌, ℕ, ◌+◌, List, [], ◌∷◌, ◌++◌, slice_index, sym, subst, inl, inr, arith, length-append}
 use Rattle.std.proofs.lemmas.Bool.{cases_order}
+use Rattle.ct_lemmas.proofs.Slices.{index-last, index-left}
 use Rattle.ct_congr.specs.State.{State}
 use Rattle.ct_unique.specs.Nodes.{IsLabel, AreLabels}
-use Rattle.ct_unique.proofs.RowLemmas.{index-left, index-last}
 
 pub AreLabels-more : (state : State) (count label : ℕ) (labels : List ℕ) → AreLabels state count labels → IsLabel state count label → AreLabels state (count + 1) (labels ++ label ∷ [])
 AreLabels-more state count label labels old is = record {

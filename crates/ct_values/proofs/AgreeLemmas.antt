@@ -1,5 +1,5 @@
 -- Agreement: an equivalence at each depth that falls with the depth, and what it says of heads and children.
-use Rattle.std.proofs.Common.{◌≡◌, ℕ, zero, suc, Bool, true, false, ◌&&◌, ◌↔◌, IsTrue, List, [], ◌∷◌, Option, Some, None, Decides, nat_eq, refl, sym, ap, ◌∙◌, true≢false}
+use Rattle.std.proofs.Common.{◌≡◌, ℕ, zero, suc, Bool, true, false, ◌↔◌, IsTrue, List, [], ◌∷◌, Option, Some, None, Decides, nat_eq, refl, sym, ap, ◌∙◌, true≢false}
 use Rattle.std.specs.List.{AllZip}
 use Rattle.std.specs.Option.{option_eq}
 use Rattle.std.specs.Cmp.{IsEquivalence, decided}
@@ -7,19 +7,10 @@ use Rattle.std.specs.Cmp.Lexicographic.{pointwise, options_equiv}
 use Rattle.std.proofs.lemmas.Cmp.{and_equiv, on_equiv, lists_equiv}
 use Rattle.std.proofs.lemmas.Option.{none-some, same_Some}
 use Rattle.std.proofs.lemmas.Bool.Decides.{Decides-and, Decides-eqb}
+use Rattle.ct_lemmas.proofs.Booleans.{both_parts, both_true}
 use Rattle.ct_values.specs.declared.node.Head.{Head}
 use Rattle.ct_values.specs.declared.node.Head.TheVariants.{Con, Elem}
 use Rattle.ct_values.specs.Agreement.{Point, head, children, same_head, agree, AgreeAlways}
-
--- both tests hold
-pub both : (a b : Bool) → a ≡ true → b ≡ true → (a && b) ≡ true
-both true b e h = h
-both false b e h = absurd (true≢false (sym e))
-
--- and so each
-pub both_parts : (a b : Bool) → (a && b) ≡ true → (a ≡ true) × (b ≡ true)
-both_parts true b h = (refl, h)
-both_parts false b h = absurd (true≢false (sym h))
 
 -- the test of heads tells whether they are equal
 Decides-same_head : (a b : Head) → Decides (same_head a b) (a ≡ b)
@@ -55,7 +46,7 @@ pointwise-weaken E F weaker [] (q ∷ qs) h = h
 pointwise-weaken E F weaker (p ∷ ps) [] h = h
 pointwise-weaken E F weaker (p ∷ ps) (q ∷ qs) h =
     let parts = both_parts (E p q) (pointwise E ps qs) h in
-    both (F p q) (pointwise F ps qs) (weaker p q parts.0) (pointwise-weaken E F weaker ps qs parts.1)
+    both_true (F p q) (pointwise F ps qs) (weaker p q parts.0) (pointwise-weaken E F weaker ps qs parts.1)
 
 -- agreement falls with the depth
 pub agree-falls : (k : ℕ) (p q : Point) → agree (suc k) p q ≡ true → agree k p q ≡ true
@@ -63,7 +54,7 @@ unfolding agree
 agree-falls zero p q h = refl
 agree-falls (suc k) p q h =
     let parts = both_parts (option_eq same_head (head p) (head q)) (pointwise (agree (suc k)) (children p) (children q)) h in
-    both
+    both_true
     (option_eq same_head (head p) (head q))
     (pointwise (agree k) (children p) (children q))
     parts.0
@@ -77,7 +68,7 @@ Decides-paired E (p ∷ ps) [] = (λ h. absurd (true≢false (sym h)), λ e. abs
 Decides-paired E (p ∷ ps) (q ∷ qs) =
     let rest = Decides-paired E ps qs in (
       λ h. let parts = both_parts (E p q) (pointwise E ps qs) h in (parts.0, rest.0 parts.1),
-      λ e. both (E p q) (pointwise E ps qs) e.0 (rest.1 e.1),
+      λ e. both_true (E p q) (pointwise E ps qs) e.0 (rest.1 e.1),
     )
 
 -- all points agree to depth 0

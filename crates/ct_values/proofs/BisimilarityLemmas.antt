@@ -4,6 +4,8 @@ use Rattle.std.specs.List.{AllZip, AllByRecursion}
 use Rattle.std.specs.Cmp.Lexicographic.{pointwise}
 use Rattle.std.proofs.lemmas.Bool.{eq-eqb}
 use Rattle.std.proofs.lemmas.Option.{slice_get_within}
+use Rattle.ct_lemmas.proofs.Booleans.{both_true}
+use Rattle.ct_lemmas.proofs.Lists.{slice_get-there}
 use Rattle.ct_sorts.specs.declared.ids.CtorId.{CtorId}
 use Rattle.ct_values.specs.declared.node.NodeId.{NodeId}
 use Rattle.ct_values.specs.declared.node.Node.{Node}
@@ -16,10 +18,8 @@ use Rattle.ct_values.specs.Settled.{TellsTrees, AreSettled}
 use Rattle.ct_values.specs.Sharing.{AreClasses}
 use Rattle.ct_values.specs.Least.{AreLeast, ArePositive}
 use Rattle.ct_values.specs.NodePoints.{label_of, row_of, ArePointsOf}
-use Rattle.ct_values.proofs.AgreeLemmas.{both}
 use Rattle.ct_values.proofs.GraphLemmas.{closed_children}
 use Rattle.ct_values.proofs.NodeLemmas.{id, node_points, AgreeAlways-nodes}
-use Rattle.ct_values.proofs.RenumberLemmas.{stands_within}
 use Rattle.ct_values.proofs.FiniteLemmas.{positive}
 use Rattle.ct_values.proofs.ClassLemmas.{AgreeAlways-stable}
 use Rattle.ct_partition.specs.Points.{Points}
@@ -34,7 +34,7 @@ map_numbers f (n ∷ ns) = ap (λ (cs : List ℕ). f n.0 ∷ cs) (map_numbers f 
 -- points of one label agree to one depth more where their children agree
 agree-suc : (p : Points) (depth i j : ℕ) → p.label i ≡ p.label j → pointwise (agree p depth) (p.children i) (p.children j) ≡ true → agree p (suc depth) i j ≡ true
 unfolding agree
-agree-suc p depth i j labels each = both (nat_eq (p.label i) (p.label j)) (pointwise (agree p depth) (p.children i) (p.children j)) (eq-eqb (p.label i) (p.label j) labels) each
+agree-suc p depth i j labels each = both_true (nat_eq (p.label i) (p.label j)) (pointwise (agree p depth) (p.children i) (p.children j)) (eq-eqb (p.label i) (p.label j) labels) each
 
 agree-zero : (p : Points) (i j : ℕ) → agree p zero i j ≡ true
 unfolding agree
@@ -47,15 +47,15 @@ rows_agree g test zero [] [] each ms_in ns_in h = refl
 rows_agree g test zero [] (n ∷ ns) each ms_in ns_in h = absurd h
 rows_agree g test zero (m ∷ ms) [] each ms_in ns_in h = absurd h
 rows_agree g test zero (m ∷ ms) (n ∷ ns) each ms_in ns_in h =
-    both (test m.0 n.0) (pointwise test (map (λ k. k.0) ms) (map (λ k. k.0) ns)) (each m.0 n.0 ms_in.0 ns_in.0 h.0) (rows_agree g test zero ms ns each ms_in.1 ns_in.1 h.1)
+    both_true (test m.0 n.0) (pointwise test (map (λ k. k.0) ms) (map (λ k. k.0) ns)) (each m.0 n.0 ms_in.0 ns_in.0 h.0) (rows_agree g test zero ms ns each ms_in.1 ns_in.1 h.1)
 
 module _ (g : Nodes) (settled blocks : List ℕ) (p : Points) (closed : IsClosed g) (tells : TellsTrees g settled) (are : ArePointsOf g settled p) where
   -- nodes that agree at every depth agree as points
   points_agree : (depth i j : ℕ) → i < length g → j < length g → Alike g i j → agree p depth i j ≡ true
   points_agree zero i j i_in j_in alike = agree-zero p i j
   points_agree (suc depth) i j i_in j_in alike =
-      let x = stands_within g i i_in in
-      let y = stands_within g j j_in in
+      let x = slice_get-there g i i_in in
+      let y = slice_get-there g j j_in in
       let class : class_at settled i ≡ class_at settled j = tells.keeps.together i j i_in j_in alike in
       let parts = AgreeAlways-nodes g g (id i) (id j) x.0 y.0 x.1 y.1 alike in
       let rows = rows_agree g (agree p depth) (class_at settled i) (node_children x.0) (node_children y.0) (points_agree depth) (closed_children g i x.0 closed x.1) (closed_children g j y.0 closed y.1) parts.1 in
@@ -68,7 +68,7 @@ module _ (g : Nodes) (settled blocks : List ℕ) (p : Points) (closed : IsClosed
   -- a settled node has its class as its label, and no children
   settled_point : (i class : ℕ) → i < length g → class_at settled i ≡ suc class → (p.label i ≡ suc class) × (p.children i ≡ [])
   settled_point i class i_in is =
-      let x = stands_within g i i_in in
+      let x = slice_get-there g i i_in in
       (are.labels i x.0 x.1 ∙ ap (λ c. label_of c (node_head x.0)) is, are.rows i x.0 x.1 ∙ ap (λ c. row_of c (node_children x.0)) is)
 
   -- settled nodes of one class agree as points

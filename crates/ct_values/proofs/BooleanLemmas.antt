@@ -1,8 +1,9 @@
 -- By which constructor a value is built; a value of sort Bool is `true` or `false`.
-use Rattle.std.proofs.Common.{◌≡◌, ℕ, zero, suc, Bool, true, false, List, [], ◌∷◌, map, take, Option, Some, None, slice_get, refl, sym, ap, subst, ◌∙◌, ◌⊎◌, inl, inr, ◌↔◌, true≢false}
+use Rattle.std.proofs.Common.{◌≡◌, ℕ, zero, suc, Bool, true, false, List, [], ◌∷◌, map, Option, Some, None, slice_get, refl, sym, ap, subst, ◌∙◌, ◌⊎◌, inl, inr, ◌↔◌, true≢false}
 use Rattle.std.specs.List.{AllZip}
 use Rattle.std.proofs.lemmas.Option.{none-some, same_Some}
 use Rattle.std.proofs.lemmas.Bool.Decides.{Decides-eqb}
+use Rattle.ct_lemmas.proofs.Prefixes.{slice_get-take}
 use Rattle.ct_sorts.specs.declared.ids.CtorId.{CtorId}
 use Rattle.ct_sorts.specs.declared.ids.SortId.{SortId}
 use Rattle.ct_sorts.specs.Declarations.{Declarations, Sort, Constructor, bool_sort, bool, start}
@@ -20,13 +21,6 @@ use Rattle.ct_values.specs.TruthValue.{truth_ctor, truth, is_head, is_built, is_
 use Rattle.ct_values.proofs.AgreeLemmas.{AgreeAlways-parts}
 use Rattle.ct_values.proofs.SortedLemmas.{inverted}
 
--- what stands at an index of the first part stands in the whole
-at_take : {X : Type 0} (n : ℕ) (xs : List X) (k : ℕ) (x : X) → slice_get (take n xs) k ≡ Some x → slice_get xs k ≡ Some x
-at_take zero xs k x e = absurd (none-some x e)
-at_take (suc n) [] k x e = e
-at_take (suc n) (y ∷ xs) zero x e = e
-at_take (suc n) (y ∷ xs) (suc k) x e = at_take n xs k x e
-
 -- at the start `true` and `false` take nothing
 start_ctor : (b : Bool) → (ctor : Constructor) × (slice_get start.ctors (truth_ctor b).0 ≡ Some ctor) × (ctor.sels ≡ [])
 start_ctor true = (_, refl, refl)
@@ -40,13 +34,13 @@ paired_none R (x ∷ xs) (y ∷ ys) empty all = cc empty
 
 module _ (d : Declarations) (consistent : IsConsistent d) where
   bool_there : slice_get d.sorts 0 ≡ Some bool
-  bool_there = at_take 1 d.sorts 0 bool (subst (λ (ss : List Sort). slice_get ss 0 ≡ Some bool) (sym consistent.first_sort) refl)
+  bool_there = slice_get-take 1 d.sorts 0 bool (subst (λ (ss : List Sort). slice_get ss 0 ≡ Some bool) (sym consistent.first_sort) refl)
 
   -- they still do
   truth_fields : (b : Bool) (ctor : Constructor) → slice_get d.ctors (truth_ctor b).0 ≡ Some ctor → ctor.sels ≡ []
   truth_fields b ctor declared =
       let first = start_ctor b in
-      let there = at_take 2 d.ctors (truth_ctor b).0 first.0 (subst (λ (cs : List Constructor). slice_get cs (truth_ctor b).0 ≡ Some first.0) (sym consistent.first_ctors) first.1) in
+      let there = slice_get-take 2 d.ctors (truth_ctor b).0 first.0 (subst (λ (cs : List Constructor). slice_get cs (truth_ctor b).0 ≡ Some first.0) (sym consistent.first_ctors) first.1) in
       ap (λ (k : Constructor). k.sels) (same_Some ctor first.0 (sym declared ∙ there)) ∙ first.2
 
   -- they are the constructors of Bool

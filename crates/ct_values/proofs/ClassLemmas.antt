@@ -3,6 +3,7 @@ use Rattle.std.proofs.Common.{◌≡◌, ℕ, zero, suc, ◌<◌, ◌≤◌, IsT
 use Rattle.std.specs.List.{AllZip, AllByRecursion}
 use Rattle.std.proofs.lemmas.Bool.{cases_lt}
 use Rattle.std.proofs.lemmas.Grind.{get_or_default_zero}
+use Rattle.ct_lemmas.proofs.Lists.{slice_get-there}
 use Rattle.ct_values.specs.declared.node.NodeId.{NodeId}
 use Rattle.ct_values.specs.declared.node.Node.{Node}
 use Rattle.ct_values.specs.Graph.{Nodes, IsClosed, node_children}
@@ -12,7 +13,6 @@ use Rattle.ct_values.specs.Sharing.{AreClasses}
 use Rattle.ct_values.proofs.AgreeLemmas.{agree-zero, AgreeAlways-refl}
 use Rattle.ct_values.proofs.GraphLemmas.{closed_children}
 use Rattle.ct_values.proofs.NodeLemmas.{id, node_points, agree-nodes}
-use Rattle.ct_values.proofs.RenumberLemmas.{stands_within}
 use Rattle.ct_values.proofs.RepresentativeLemmas.{one_first}
 
 -- what is read at an index is the class there
@@ -57,8 +57,8 @@ together_agree R g classes (m ∷ ms) (n ∷ ns) each ms_in ns_in e =
 pub AgreeAlways-stable : (g : Nodes) (classes : List ℕ) → IsClosed g → ((i j : ℕ) (x y : Node) → slice_get g i ≡ Some x → slice_get g j ≡ Some y → class_at classes i ≡ class_at classes j → node_key classes x ≡ node_key classes y) → (m n : NodeId) → m.0 < length g → n.0 < length g → class_at classes m.0 ≡ class_at classes n.0 → AgreeAlways (node_point g m) (node_point g n)
 AgreeAlways-stable g classes closed stable m n m_in n_in e zero = agree-zero (node_point g m) (node_point g n)
 AgreeAlways-stable g classes closed stable m n m_in n_in e (suc k) =
-    let x = stands_within g m.0 m_in in
-    let y = stands_within g n.0 n_in in
+    let x = slice_get-there g m.0 m_in in
+    let y = slice_get-there g n.0 n_in in
     let same = stable m.0 n.0 x.0 y.0 x.1 y.1 e in
     agree-nodes k g g m n x.0 y.0 x.1 y.1
     (ap (λ key. key.head) same)

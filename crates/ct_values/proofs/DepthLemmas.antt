@@ -4,13 +4,14 @@ use Rattle.std.specs.List.{AllZip, AllByRecursion}
 use Rattle.std.specs.Option.{option_eq}
 use Rattle.std.specs.Cmp.Lexicographic.{pointwise}
 use Rattle.std.proofs.lemmas.List.{length-map}
+use Rattle.ct_lemmas.proofs.Booleans.{both_parts, both_true}
 use Rattle.ct_sorts.specs.declared.ids.CtorId.{CtorId}
 use Rattle.ct_values.specs.declared.node.NodeId.{NodeId}
 use Rattle.ct_values.specs.declared.node.Node.{Node}
 use Rattle.ct_values.specs.Graph.{Nodes, IsClosed, node_children}
 use Rattle.ct_values.specs.Value.{Value, Values, reference, element, construct, no_values, with_value, list_of, subterms, subterms_of_all}
 use Rattle.ct_values.specs.Agreement.{Point, point, head, head_of, children, children_of, same_head, agree, size, same, AgreeAlways}
-use Rattle.ct_values.proofs.AgreeLemmas.{both, both_parts, agree-falls, AgreeAlways-parts}
+use Rattle.ct_values.proofs.AgreeLemmas.{agree-falls, AgreeAlways-parts}
 use Rattle.ct_values.proofs.GraphLemmas.{closed_children}
 use Rattle.ct_values.proofs.SettleLemmas.{In, In-left, In-right, In-split, settles, passes_before}
 
@@ -151,7 +152,7 @@ module _ (p q : Point) (p_closed : IsClosed p.graph) (q_closed : IsClosed q.grap
   all_settled k (v ∷ vs) [] settled vs_in ws_in h = h
   all_settled k (v ∷ vs) (w ∷ ws) settled vs_in ws_in h =
       let now = both_parts (agree k (point p.graph v) (point q.graph w)) (pointwise (agree k) (map (point p.graph) vs) (map (point q.graph) ws)) h in
-      both
+      both_true
       (agree (suc k) (point p.graph v) (point q.graph w))
       (pointwise (agree (suc k)) (map (point p.graph) vs) (map (point q.graph) ws))
       (settled v w (vs_in v (inl refl)) (ws_in w (inl refl)) now.0)
@@ -164,7 +165,7 @@ module _ (p q : Point) (p_closed : IsClosed p.graph) (q_closed : IsClosed q.grap
       let vs = children_of p.graph v in
       let ws = children_of q.graph w in
       let now = both_parts heads (pointwise (agree k) (map (point p.graph) vs) (map (point q.graph) ws)) h in
-      both
+      both_true
       heads
       (pointwise (agree (suc k)) (map (point p.graph) vs) (map (point q.graph) ws))
       now.0

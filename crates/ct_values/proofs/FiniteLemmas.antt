@@ -3,6 +3,8 @@ use Rattle.std.proofs.Common.{◌≡◌, ℕ, zero, suc, ◌+◌, ◌<◌, ◌�
 use Rattle.std.specs.List.{AllZip, AllByRecursion}
 use Rattle.std.proofs.lemmas.List.Elements.{recursion_from_All}
 use Rattle.std.proofs.lemmas.Option.{same_Some, slice_get_within}
+use Rattle.ct_lemmas.proofs.Each.{All-at}
+use Rattle.ct_lemmas.proofs.Lists.{slice_get-there}
 use Rattle.indexmap.specs.IndexSet.{IndexSet}
 use Rattle.ct_values.specs.declared.node.NodeId.{NodeId}
 use Rattle.ct_values.specs.declared.node.Node.{Node}
@@ -15,9 +17,8 @@ use Rattle.ct_values.specs.Renumbering.{Stay}
 use Rattle.ct_values.specs.Shape.{Spells, AreSteps}
 use Rattle.ct_values.specs.Postorder.{HasEach}
 use Rattle.ct_values.specs.Settled.{IsTree, AreSettled, unsettled, IsSettling, IsTried, AreTried, TellsTrees}
-use Rattle.ct_values.proofs.GraphLemmas.{All-at, closed_children}
+use Rattle.ct_values.proofs.GraphLemmas.{closed_children}
 use Rattle.ct_values.proofs.NodeLemmas.{id, node_points, AgreeAlways-nodes}
-use Rattle.ct_values.proofs.RenumberLemmas.{stands_within}
 use Rattle.ct_values.proofs.AgreeLemmas.{AgreeAlways-sym}
 use Rattle.ct_values.proofs.ShapeLemmas.{Spells-stay, Spells-one, Spells-unique}
 
@@ -136,7 +137,7 @@ IsSettling-set g classes steps more i c x inside_x old at zero_at settled apart 
 -- the same, as a program knows it
 pub IsSettling-step : {S : Type 0} (g : Nodes) (classes : List ℕ) (steps more : IndexSet ShapeStep S) (i c : ℕ) (head : Head) (kids : List NodeId) → IsSettling g classes steps → i < length g → class_at classes i ≡ 0 → option_map node_head (slice_get g i) ≡ Some head → option_map node_children (slice_get g i) ≡ Some kids → All (λ n. n.0 < length g) kids → All (λ n. 0 < class_at classes n.0) kids → AreSteps more → Stay steps.keys more.keys → Spells more.keys c head (child_classes classes kids) → IsSettling g (set classes i (suc c)) more
 IsSettling-step g classes steps more i c head kids old inside zero_at head_at kids_at kids_in settled apart stay spells =
-    let x = stands_within g i inside in
+    let x = slice_get-there g i inside in
     let its_head : head ≡ node_head x.0 = same_Some head (node_head x.0) (sym head_at ∙ ap (option_map node_head) x.1) in
     let its_kids : kids ≡ node_children x.0 = same_Some kids (node_children x.0) (sym kids_at ∙ ap (option_map node_children) x.1) in
     let below : AllByRecursion (λ n. n.0 < length g) (node_children x.0) = subst (AllByRecursion (λ n. n.0 < length g)) its_kids (recursion_from_All (λ n. n.0 < length g) kids kids_in) in
@@ -168,7 +169,7 @@ tree_class : {S : Type 0} (g : Nodes) (classes : List ℕ) (steps : IndexSet Sha
 tree_class g classes steps closed settling tried zero m n m_in n_in tree settled alike = absurd tree
 tree_class g classes steps closed settling tried (suc h) m n m_in n_in tree settled alike =
     let x = tree.0 in
-    let y = stands_within g n.0 n_in in
+    let y = slice_get-there g n.0 n_in in
     let parts = AgreeAlways-nodes g g m n x y.0 tree.1 y.1 alike in
     let below = same_children g classes h (node_children x) (node_children y.0) (tree_class g classes steps closed settling tried h) (closed_children g m.0 x closed tree.1) (closed_children g n.0 y.0 closed y.1) tree.2 (settling.parts m.0 x tree.1 settled) parts.1 in
     let c = positive (class_at classes m.0) settled in

@@ -1,9 +1,8 @@
 -- The tests of fitting: nodes and fields one for one, a field by its sort, and a node by its head and its children.
-use Rattle.std.proofs.Common.{◌≡◌, ℕ, zero, suc, ◌+◌, ◌<◌, ◌↔◌, Bool, true, false, nat_eq, List, [], ◌∷◌, length, get_or, slice_get, Option, Some, None, option_map, IsTrue, refl, sym, ap, subst, ◌∙◌, inl, inr, arith, eq-or-lt_of_le, ◌≤◌}
-use Rattle.std.specs.List.{AllZip}
-use Rattle.std.proofs.lemmas.List.{get_or_default}
+use Rattle.std.proofs.Common.{◌≡◌, ℕ, ◌+◌, ◌<◌, ◌↔◌, Bool, true, false, nat_eq, List, slice_get, Option, Some, None, option_map, IsTrue, refl, sym, ap, subst, ◌∙◌, arith, ◌≤◌}
 use Rattle.std.proofs.lemmas.Option.{none-some, same_Some}
 use Rattle.std.proofs.lemmas.Bool.{eqb-true, eq-eqb}
+use Rattle.ct_lemmas.proofs.Options.{option_map-source, same_found}
 use Rattle.ct_sorts.specs.declared.ids.SortId.{SortId}
 use Rattle.ct_sorts.specs.declared.ids.SelId.{SelId}
 use Rattle.ct_sorts.specs.Declarations.{Declarations, Selector}
@@ -14,43 +13,16 @@ use Rattle.ct_values.specs.declared.node.Head.{Head}
 use Rattle.ct_values.specs.declared.node.Head.TheVariants as heads
 use Rattle.ct_values.specs.Graph.{Nodes, node_head, node_children}
 use Rattle.ct_values.specs.Fitting.{HasNodeSort, IsNodeOfField, IsBuilt, IsElement, FitsNode}
-use Rattle.ct_values.proofs.GraphLemmas.{option_map-Some}
 
 -- two lists, element by element
 module _ {X Y : Type 0} (R : X → Y → Type 0) where
-  -- what holds element by element of lists of one length
-  pub AllZip-from_indices : (xs : List X) (ys : List Y) → length xs ≡ length ys → ((k : ℕ) (d : X) (e : Y) → k < length xs → R (get_or xs k d) (get_or ys k e)) → AllZip R xs ys
-  AllZip-from_indices [] [] long each = tt
-  AllZip-from_indices [] (y ∷ ys) long each = absurd (omega arith)
-  AllZip-from_indices (x ∷ xs) [] long each = absurd (omega arith)
-  AllZip-from_indices (x ∷ xs) (y ∷ ys) long each =
-      (each 0 x y (omega arith), AllZip-from_indices xs ys (omega arith) (λ k d e within. each (suc k) d e (omega arith)))
-
-  -- and back
-  pub AllZip-at_index : (xs : List X) (ys : List Y) → AllZip R xs ys → (k : ℕ) (d : X) (e : Y) → k < length xs → R (get_or xs k d) (get_or ys k e)
-  AllZip-at_index [] ys all k d e within = absurd (omega arith)
-  AllZip-at_index (x ∷ xs) [] all k d e within = absurd all
-  AllZip-at_index (x ∷ xs) (y ∷ ys) all zero d e within = all.0
-  AllZip-at_index (x ∷ xs) (y ∷ ys) all (suc k) d e within = AllZip-at_index xs ys all.1 k d e (omega arith)
-
   last_or_before : (k i : ℕ) → k < i + 1 → k ≤ i
   last_or_before k i h = omega arith
-
-  -- what holds element by element before a number and at it holds up to it
-  pub indices-more : (xs : List X) (ys : List Y) (i : ℕ) (x : X) (y : Y) → i < length xs → i < length ys → ((k : ℕ) (d : X) (e : Y) → k < i → R (get_or xs k d) (get_or ys k e)) → R (get_or xs i x) (get_or ys i y) → (k : ℕ) (d : X) (e : Y) → k < i + 1 → R (get_or xs k d) (get_or ys k e)
-  indices-more xs ys i x y in_xs in_ys before last k d e up_to =
-      elim (eq-or-lt_of_le (last_or_before k i up_to)) [
-        | inr h ↦ before k d e h
-        | inl h ↦
-            let at_x : get_or xs i x ≡ get_or xs k d = get_or_default xs i x d in_xs ∙ ap (λ (n : ℕ). get_or xs n d) (sym h) in
-            let at_y : get_or ys i y ≡ get_or ys k e = get_or_default ys i y e in_ys ∙ ap (λ (n : ℕ). get_or ys n e) (sym h) in
-            subst (R (get_or xs k d)) at_y (subst (λ (z : X). R z (get_or ys i y)) at_x last)
-      ]
 
 -- a node has the sort of a selector's field
 pub IsNodeOfField-tested : (d : Declarations) (g : Nodes) (child : NodeId) (s : SelId) (side : SortId) (r : Bool) → option_map (λ (f : Selector). f.sort) (slice_get d.sels s.0) ≡ Some side → (IsTrue r ↔ HasNodeSort d g child side) → IsTrue r ↔ IsNodeOfField d g child s
 IsNodeOfField-tested d g child s side r at reported =
-    let sel = option_map-Some (λ (f : Selector). f.sort) (slice_get d.sels s.0) side at in (
+    let sel = option_map-source (λ (f : Selector). f.sort) (slice_get d.sels s.0) side at in (
       λ holds. record { selector = sel.0; declared = sel.1; sorted = subst (HasNodeSort d g child) (sym sel.2) (reported.0 holds) },
       λ h. reported.1 (subst (HasNodeSort d g child) (ap (λ (f : Selector). f.sort) (same_Some h.selector sel.0 (sym h.declared ∙ sel.1)) ∙ sel.2) h.sorted),
     )
@@ -76,10 +48,6 @@ FitsNode-tested d g n head r at reported = by (slice_get g n) at reported
           λ holds node is. subst (FitsNode d g) (same_Some x node is) ((by_head d g x).1 (subst (λ (h : Head). FitsHead d g h (node_children x)) (sym same) (here.0 holds))),
           λ fit. here.1 (subst (λ (h : Head). FitsHead d g h (node_children x)) same ((by_head d g x).0 (fit x refl))),
         )
-
--- two look-ups at one index find one thing
-same_found : {X : Type 0} (o : Option X) (x y : X) → o ≡ Some x → o ≡ Some y → x ≡ y
-same_found o x y h k = same_Some x y (sym h ∙ k)
 
 -- what is found is tested against a sort
 pub found-tested : (o : Option SortId) (sort s : SortId) (P : Type 0) (r : Bool) → o ≡ Some sort → r ≡ nat_eq sort.0 s.0 → ((o ≡ Some s) ↔ P) → IsTrue r ↔ P

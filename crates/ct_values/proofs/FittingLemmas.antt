@@ -2,6 +2,7 @@
 use Rattle.std.proofs.Common.{◌≡◌, ℕ, List, [], ◌∷◌, Some, option_map, slice_get, sym, ap, subst, ◌∙◌}
 use Rattle.std.specs.List.{AllZip}
 use Rattle.std.proofs.lemmas.Option.{same_Some, slice_get_within}
+use Rattle.ct_lemmas.proofs.Options.{option_map-source}
 use Rattle.ct_sorts.specs.declared.ids.CtorId.{CtorId}
 use Rattle.ct_sorts.specs.declared.ids.SortId.{SortId}
 use Rattle.ct_sorts.specs.declared.ids.SelId.{SelId}
@@ -17,7 +18,6 @@ use Rattle.ct_values.specs.Fitting.{node_sort, HasNodeSort, IsNodeOfField, FitsN
 use Rattle.ct_values.proofs.AgreeLemmas.{AgreeAlways-sym}
 use Rattle.ct_values.proofs.NodeLemmas.{id, node_points}
 use Rattle.ct_values.proofs.MinimalLemmas.{agreeing_node, like}
-use Rattle.ct_values.proofs.GraphLemmas.{option_map-Some}
 
 -- the constructor of a node that fits is declared, and so is the sort of an element
 ctor_of_node : (d : Declarations) (g : Nodes) (x : Node) (c : CtorId) → FitsNode d g x → node_head x ≡ heads.Con c → IsConstructor d c
@@ -36,12 +36,12 @@ sort_of_node d g (Elem t m) s n fits e =
 
 pub ctor_of_head : (d : Declarations) (g : Nodes) (n : ℕ) (c : CtorId) → FitsGraph d g → option_map node_head (slice_get g n) ≡ Some (heads.Con c) → IsConstructor d c
 ctor_of_head d g n c fits e =
-    let x = option_map-Some node_head (slice_get g n) (heads.Con c) e in
+    let x = option_map-source node_head (slice_get g n) (heads.Con c) e in
     ctor_of_node d g x.0 c (fits n x.0 x.1) x.2
 
 pub sort_of_head : (d : Declarations) (g : Nodes) (n : ℕ) (s : SortId) (number : ℕ) → FitsGraph d g → option_map node_head (slice_get g n) ≡ Some (heads.Elem s number) → IsSort d s
 sort_of_head d g n s number fits e =
-    let x = option_map-Some node_head (slice_get g n) (heads.Elem s number) e in
+    let x = option_map-source node_head (slice_get g n) (heads.Elem s number) e in
     sort_of_node d g x.0 s number (fits n x.0 x.1) x.2
 
 -- ---- the minimal graph fits

@@ -1,32 +1,16 @@
 -- Graphs: children of a closed graph, and nodes added after it.
-use Rattle.std.proofs.Common.{◌≡◌, ℕ, zero, suc, ◌<◌, Bool, List, [], ◌∷◌, ◌++◌, length, map, slice_get, Option, Some, None, option_map, unwrap_or, All, refl, ap, ap₂, subst, ◌∙◌, ◌&&◌, arith}
+use Rattle.std.proofs.Common.{◌≡◌, ℕ, zero, suc, ◌<◌, Bool, List, [], ◌∷◌, ◌++◌, length, map, slice_get, Option, Some, None, option_map, unwrap_or, refl, ap, ap₂, ◌∙◌, ◌&&◌, arith}
 use Rattle.std.specs.List.{AllByRecursion}
 use Rattle.std.specs.Option.{option_eq}
 use Rattle.std.proofs.lemmas.List.Elements.{recursion_from_All}
 use Rattle.std.specs.Cmp.Lexicographic.{pointwise}
 use Rattle.std.proofs.lemmas.List.{length-append}
-use Rattle.std.proofs.lemmas.Option.{none-some, same_Some, slice_get_within, get_or_from_slice_get}
+use Rattle.ct_lemmas.proofs.Each.{All-at}
 use Rattle.ct_values.specs.declared.node.NodeId.{NodeId}
 use Rattle.ct_values.specs.declared.node.Node.{Node}
 use Rattle.ct_values.specs.Graph.{Nodes, IsClosed, HasChildrenBelow, node_head, node_children}
 use Rattle.ct_values.specs.Value.{Value, Values, reference, element, construct, no_values, with_value, list_of, IsOver, AreOver}
 use Rattle.ct_values.specs.Agreement.{Point, point, head, head_of, children, children_of, same_head, agree}
-
-module _ {X : Type 0} where
-  -- what stands at an index stands there with more after it
-  pub slice_get-append_left : (xs ys : List X) (i : ℕ) (x : X) → slice_get xs i ≡ Some x → slice_get (xs ++ ys) i ≡ Some x
-  slice_get-append_left [] ys i x e = absurd (none-some x e)
-  slice_get-append_left (z ∷ zs) ys zero x e = e
-  slice_get-append_left (z ∷ zs) ys (suc i) x e = slice_get-append_left zs ys i x e
-
-  -- what holds of all holds of what stands at an index
-  pub All-at : (P : X → Type 0) (xs : List X) (i : ℕ) (x : X) → All P xs → slice_get xs i ≡ Some x → P x
-  All-at P xs i x all e = subst P (get_or_from_slice_get xs i x x e) (all i x (slice_get_within xs i x e))
-
--- what a function of what may be there has given was given by something that is there
-pub option_map-Some : {X Y : Type 0} (f : X → Y) (found : Option X) (y : Y) → option_map f found ≡ Some y → (x : X) × (found ≡ Some x) × (f x ≡ y)
-option_map-Some f None y e = absurd (none-some y e)
-option_map-Some f (Some x) y e = (x, refl, same_Some (f x) y e)
 
 -- the children of a node of a closed graph are nodes of it
 pub closed_children : (g : Nodes) (i : ℕ) (node : Node) → IsClosed g → slice_get g i ≡ Some node → AllByRecursion (λ child. child.0 < length g) (node_children node)

@@ -4,6 +4,8 @@ use Rattle.std.specs.List.{AllZip}
 use Rattle.std.proofs.lemmas.Option.{same_Some, slice_get_within, slice_get-get_or}
 use Rattle.std.proofs.lemmas.List.Elements.{All-from_recursion}
 use Rattle.std.specs.List.{AllByRecursion}
+use Rattle.ct_lemmas.proofs.Lists.{slice_get-append_left}
+use Rattle.ct_lemmas.proofs.Options.{option_map-source}
 use Rattle.ct_sorts.specs.declared.ids.SelId.{SelId}
 use Rattle.ct_sorts.specs.declared.ids.SortId.{SortId}
 use Rattle.ct_sorts.specs.Declarations.{Declarations, Sort, Constructor}
@@ -17,7 +19,6 @@ use Rattle.ct_values.specs.Value.{Value, Values, reference, element, construct, 
 use Rattle.ct_values.specs.Fitting.{node_sort, HasNodeSort, IsNodeOfField, IsElement, FitsNode, FitsGraph}
 use Rattle.ct_values.specs.ValueSort.{HasValueSort, AreOfFields}
 use Rattle.ct_values.specs.WellFormed.{IsData, IsWellFormedGraph}
-use Rattle.ct_values.proofs.GraphLemmas.{slice_get-append_left, option_map-Some}
 
 -- ---- longer graphs
 
@@ -65,7 +66,7 @@ module _ (later earlier : Declarations) (more : Extends later earlier) where
   -- a node keeps its sort
   sort_stays : (node : Node) (s : SortId) → node_sort earlier node ≡ Some s → node_sort later node ≡ Some s
   sort_stays (Con c ns) s h =
-      let ctor = option_map-Some (λ (k : Constructor). k.sort) (slice_get earlier.ctors c.0) s h in
+      let ctor = option_map-source (λ (k : Constructor). k.sort) (slice_get earlier.ctors c.0) s h in
       ap (option_map (λ (k : Constructor). k.sort)) (stays earlier.ctors later.ctors c.0 ctor.0 more.ctors ctor.1) ∙ ap Some ctor.2
   sort_stays (Elem t n) s h = h
 

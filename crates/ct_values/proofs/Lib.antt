@@ -19,17 +19,9 @@ pub mod LeastLemmas
 pub mod BisimilarityLemmas
 pub mod SharedLemmas
 pub mod FitTestLemmas
-pub mod NumeralLemmas
 pub mod FittingLemmas
 pub mod PathLemmas
 pub mod SortedLemmas
 pub mod ChainLemmas
 pub mod BooleanLemmas
 pub mod LastingLemmas
-pub mod FitNameLemmas
-pub mod PlainLemmas
-pub mod StandLemmas
-pub mod TextLemmas
-pub mod WritingLemmas
-pub mod ValueTextLemmas
-pub mod WalkLemmas

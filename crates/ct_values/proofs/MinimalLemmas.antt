@@ -1,9 +1,12 @@
 -- The minimal graph of a tree is a function of the tree, and no graph of the tree has fewer nodes.
-use Rattle.std.proofs.Common.{◌≡◌, ℕ, zero, suc, ◌+◌, ◌<◌, ◌≤◌, ◌↔◌, Bool, true, false, List, [], ◌∷◌, length, map, Some, slice_get, nat_eq, refl, sym, ap, ap₂, subst, ◌∙◌, inl, inr, arith, true≢false, eq-or-lt_of_le}
+use Rattle.std.proofs.Common.{◌≡◌, ℕ, zero, suc, ◌+◌, ◌<◌, ◌≤◌, ◌↔◌, true, false, List, [], ◌∷◌, length, map, Some, slice_get, nat_eq, refl, sym, ap, ap₂, subst, ◌∙◌, inl, inr, arith, true≢false, eq-or-lt_of_le}
 use Rattle.std.specs.List.{AllZip, AllByRecursion, IsDistinct, list_any}
 use Rattle.std.proofs.lemmas.Bool.Decides.{Decides-eqb}
 use Rattle.std.proofs.lemmas.Option.{none-some, slice_get_within}
 use Rattle.std.proofs.lemmas.Map.Steps.{length-le_from_distinct_below}
+use Rattle.ct_lemmas.proofs.Booleans.{not_true}
+use Rattle.ct_lemmas.proofs.Lists.{slice_get-there}
+use Rattle.ct_lemmas.proofs.Options.{option_map-source}
 use Rattle.ct_values.specs.declared.node.NodeId.{NodeId}
 use Rattle.ct_values.specs.declared.node.Node.{Node}
 use Rattle.ct_values.specs.declared.node.Node.TheVariants.{Con, Elem}
@@ -11,10 +14,9 @@ use Rattle.ct_values.specs.Graph.{Nodes, IsClosed, node_head, node_children}
 use Rattle.ct_values.specs.Agreement.{Point, node_point, AgreeAlways}
 use Rattle.ct_values.specs.Minimal.{IsMinimal}
 use Rattle.ct_values.specs.Numbering.{CountsUp, IsInOrder}
-use Rattle.ct_values.proofs.GraphLemmas.{closed_children, option_map-Some}
+use Rattle.ct_values.proofs.GraphLemmas.{closed_children}
 use Rattle.ct_values.proofs.NodeLemmas.{id, node_points, AgreeAlways-nodes, head_at}
 use Rattle.ct_values.proofs.NumberedLemmas.{numbered-IsBreadthFirst, IsBreadthFirst-positive}
-use Rattle.ct_values.proofs.RenumberLemmas.{stands_within}
 use Rattle.ct_values.proofs.AgreeLemmas.{AgreeAlways-sym, AgreeAlways-trans, AgreeAlways-meet, AgreeAlways-parts}
 use Rattle.ct_values.proofs.CountLemmas.{is_among}
 
@@ -92,7 +94,7 @@ further s index x xs rest i = ap (slice_get s) (omega arith) ∙ rest (suc i)
 
 no_rest : (s : Nodes) (index : ℕ) → IsRest s index [] → index < length s → ⊥
 no_rest s index rest within =
-    let x = stands_within s index within in
+    let x = slice_get-there s index within in
     none-some x.0 (sym (ap (slice_get s) (omega arith) ∙ rest 0) ∙ x.1)
 
 -- from an index on to which all is matched they have the same nodes
@@ -132,7 +134,7 @@ one_minimal g h a b s t first second = (
 pub agreeing_node : (g h : Nodes) (m n : NodeId) (x : Node) → slice_get g m.0 ≡ Some x → AgreeAlways (node_point g m) (node_point h n) → (y : Node) × (slice_get h n.0 ≡ Some y) × (node_head y ≡ node_head x) × AllZip AgreeAlways (node_points g (node_children x)) (node_points h (node_children y))
 agreeing_node g h m n x at always =
     let parts = (AgreeAlways-parts (node_point g m) (node_point h n)).0 always in
-    let y = option_map-Some node_head (slice_get h n.0) (node_head x) (sym parts.0 ∙ head_at g m x at) in
+    let y = option_map-source node_head (slice_get h n.0) (node_head x) (sym parts.0 ∙ head_at g m x at) in
     (y.0, y.1, y.2, (AgreeAlways-nodes g h m n x y.0 at y.1 always).1)
 
 -- a child among the children has one that agrees with it at every depth among children that agree with them
@@ -161,15 +163,11 @@ like g s a minimal n within = like_below g s a minimal (suc n) n (omega arith) w
 
 -- ---- no graph of the tree has fewer nodes
 
-is_false : (t : Bool) → (t ≡ true → ⊥) → t ≡ false
-is_false true other = absurd (other refl)
-is_false false other = refl
-
 -- a number that is not among others differs from each
 not_among : (q : ℕ) (ms : List ℕ) → (list_any (nat_eq q) ms ≡ true → ⊥) → AllByRecursion (λ m. nat_eq q m ≡ false) ms
 not_among q [] none = tt
 not_among q (m ∷ ms) none =
-    (is_false (nat_eq q m) (λ e. none ((is_among q m ms).1 (inl ((Decides-eqb q m).0 e)))), not_among q ms (λ e. none ((is_among q m ms).1 (inr e))))
+    (not_true (nat_eq q m) (λ e. none ((is_among q m ms).1 (inl ((Decides-eqb q m).0 e)))), not_among q ms (λ e. none ((is_among q m ms).1 (inr e))))
 
 -- the minimal graph of a tree is that of each equal node
 IsMinimal-same : (g h : Nodes) (a b : NodeId) (s : Nodes) → IsMinimal g a s → AgreeAlways (node_point h b) (node_point g a) → IsMinimal h b s
@@ -185,7 +183,7 @@ module _ (h s : Nodes) (b : NodeId) (minimal : IsMinimal h b s) where
   node_like : (n : ℕ) → n < length s → (m : NodeId) × (m.0 < length h) × AgreeAlways (node_point s (id n)) (node_point h m)
   node_like n within =
       let m = like h s b minimal n within in
-      let x = stands_within s n within in
+      let x = slice_get-there s n within in
       let y = agreeing_node s h (id n) m.0 x.0 x.1 m.1 in
       (m.0, slice_get_within h m.0.0 y.0 y.1, m.1)
 

@@ -1,8 +1,9 @@
 -- Nodes side by side: one node more, and what stands at a number.
 use Rattle.std.proofs.Common.{◌≡◌, ℕ, zero, suc, ◌+◌, ◌-◌, ◌≤◌, List, [], ◌∷◌, ◌++◌, length, take, drop, Some, option_map, slice_get, refl, sym, ap, ap₂, ◌∙◌, arith, length-append}
 use Rattle.std.proofs.Math.Seq.{drop-append_seam}
-use Rattle.std.proofs.lemmas.List.{length-drop, take_all, take_more, take-append-le, drop-append-le}
-use Rattle.std.proofs.lemmas.Option.{none-some, same_Some, slice_get_within, get_or_from_slice_get}
+use Rattle.std.proofs.lemmas.List.{length-drop, take_all, take-append-le, drop-append-le}
+use Rattle.std.proofs.lemmas.Option.{none-some, same_Some}
+use Rattle.ct_lemmas.proofs.Options.{option_map-source}
 use Rattle.ct_values.specs.declared.node.NodeId.{NodeId}
 use Rattle.ct_values.specs.declared.node.Node.{Node}
 use Rattle.ct_values.specs.declared.node.Node.TheVariants as nodes
@@ -10,7 +11,6 @@ use Rattle.ct_values.specs.declared.node.Head.{Head}
 use Rattle.ct_values.specs.declared.node.Head.TheVariants.{Con, Elem}
 use Rattle.ct_values.specs.Graph.{Nodes, node_head, node_children}
 use Rattle.ct_values.specs.Packed.{node_of, unpacked, ArePacked}
-use Rattle.ct_values.proofs.GraphLemmas.{option_map-Some}
 
 -- ---- a node that is made of a head and children
 
@@ -27,13 +27,9 @@ node_of-parts (nodes.Elem s n) head ns head_is children_are = ap (λ (x : Head).
 -- the same of what stands at an index
 pub node_of-found : (g : Nodes) (n : ℕ) (head : Head) (ns : List NodeId) → option_map node_head (slice_get g n) ≡ Some head → option_map node_children (slice_get g n) ≡ Some ns → slice_get g n ≡ Some (node_of head ns)
 node_of-found g n head ns at_head at_children =
-    let found = option_map-Some node_head (slice_get g n) head at_head in
+    let found = option_map-source node_head (slice_get g n) head at_head in
     let same : Some (node_children found.0) ≡ Some ns = sym (ap (option_map node_children) found.1) ∙ at_children in
     found.1 ∙ ap Some (node_of-parts found.0 head ns found.2 (same_Some (node_children found.0) ns same))
-
--- one more index of a list
-pub take_found : {X : Type 0} (xs : List X) (n : ℕ) (x : X) → slice_get xs n ≡ Some x → take (n + 1) xs ≡ take n xs ++ x ∷ []
-take_found xs n x at = take_more xs n x (slice_get_within xs n x at) ∙ ap (λ y. take n xs ++ y ∷ []) (get_or_from_slice_get xs n x x at)
 
 -- ---- bounds
 

@@ -1,10 +1,10 @@
 -- The nodes of a graph as labelled points: one node more.
-use Rattle.std.proofs.Common.{◌≡◌, ℕ, zero, suc, ◌+◌, ◌-◌, ◌<◌, ◌≤◌, ◌⊎◌, List, [], ◌∷◌, ◌++◌, length, take, drop, slice_get, slice_index, get_or, option_map, Some, All, refl, sym, ap, ap₂, subst, ◌∙◌, inl, inr, arith, length-append, length-drop}
+use Rattle.std.proofs.Common.{◌≡◌, ℕ, zero, suc, ◌+◌, ◌-◌, ◌<◌, ◌≤◌, ◌⊎◌, List, [], ◌∷◌, ◌++◌, length, slice_get, slice_index, get_or, option_map, Some, All, refl, sym, ap, ap₂, subst, ◌∙◌, inl, inr, arith, length-append}
 use Rattle.std.specs.List.{slice_range, AllByRecursion}
-use Rattle.std.proofs.lemmas.List.{take-append-le, drop-append-le, drop_at, take_all, get_or_append_left, get_or-append-add}
 use Rattle.std.proofs.lemmas.List.Elements.{recursion_from_All}
 use Rattle.std.proofs.lemmas.Bool.{cases_order}
 use Rattle.std.proofs.lemmas.Option.{none-some, same_Some, slice_get-get_or, slice_get_within}
+use Rattle.ct_lemmas.proofs.Slices.{index-last, index-left, range-append_left, range-append_right}
 use Rattle.ct_values.specs.declared.node.NodeId.{NodeId}
 use Rattle.ct_values.specs.declared.node.Node.{Node}
 use Rattle.ct_values.specs.declared.node.Head.{Head}
@@ -14,27 +14,6 @@ use Rattle.ct_values.specs.NodePoints.{label_of, row_of, ArePointsOf}
 use Rattle.ct_partition.specs.Points.{points, ArePoints}
 
 -- ---- lists
-
--- a part of the first of two lists
-range-append_left : (xs ys : List ℕ) (a b : ℕ) → a ≤ b → b ≤ length xs → slice_range (xs ++ ys) a b ≡ slice_range xs a b
-range-append_left xs ys a b order within =
-    ap (take (b - a)) (drop-append-le a xs ys (omega (arith, order, within)))
-    ∙ take-append-le (b - a) (drop a xs) ys (omega (arith, order, within, length-drop a xs))
-
--- all of the second
-range-append_right : (xs ys : List ℕ) (a b : ℕ) → length xs ≡ a → b ≡ length (xs ++ ys) → slice_range (xs ++ ys) a b ≡ ys
-range-append_right xs ys a b start end =
-    ap (take (b - a)) (drop_at xs ys a start)
-    ∙ take_all (b - a) ys (omega (arith, start, end, length-append xs ys))
-
--- a number before a new one, and the new one
-index-left : (xs : List ℕ) (x i : ℕ) → i < length xs → slice_index (xs ++ x ∷ []) i ≡ slice_index xs i
-index-left xs x i within = get_or_append_left xs (x ∷ []) 0 i within
-
-index-last : (xs : List ℕ) (x i : ℕ) → i ≡ length xs → slice_index (xs ++ x ∷ []) i ≡ x
-index-last xs x i e =
-    let at : i ≡ length xs + 0 = omega (arith, e) in
-    ap (slice_index (xs ++ x ∷ [])) at ∙ get_or-append-add xs (x ∷ []) 0 0
 
 -- what stands in two lists stands in one of them
 append_cases : (xs ys : List ℕ) (i x : ℕ) → slice_get (xs ++ ys) i ≡ Some x → (slice_get xs i ≡ Some x) ⊎ ((k : ℕ) × (slice_get ys k ≡ Some x))

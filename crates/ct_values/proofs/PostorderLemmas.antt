@@ -3,12 +3,12 @@ use Rattle.std.proofs.Common.{◌≡◌, ℕ, zero, suc, ◌+◌, ◌<◌, ◌�
 use Rattle.std.proofs.lemmas.List.{append-nil, append_assoc, length-set, length-replicate}
 use Rattle.std.proofs.lemmas.Option.{none-some, same_Some, slice_get_within}
 use Rattle.std.proofs.lemmas.List.Elements.{All-nil, All-push, All-pop}
+use Rattle.ct_lemmas.proofs.Options.{option_map-source}
 use Rattle.ct_values.specs.declared.node.NodeId.{NodeId}
 use Rattle.ct_values.specs.declared.node.Node.{Node}
 use Rattle.ct_values.specs.declared.postorder.Visit.{Visit}
 use Rattle.ct_values.specs.declared.postorder.Visit.TheVariants.{Meet, Turn}
 use Rattle.ct_values.specs.Graph.{Nodes, node_children}
-use Rattle.ct_values.proofs.GraphLemmas.{option_map-Some}
 use Rattle.ct_values.specs.Postorder.{StandsIn, numbered, HasEach, visited, AreVisits, AreAdded, IsMet, EachMetStands, StayMet, room, IsUnderWay, WillBeMet, IsMeeting, IsStep}
 
 -- ---- what stands in a list
@@ -154,7 +154,7 @@ meeting-unmet g n met old new node at unmet long added =
 pub meeting-pushed : (g : Nodes) (n : NodeId) (met seen : List Bool) (old pushed new : List Visit) (children : List NodeId) → option_map node_children (slice_get g n.0) ≡ Some children → slice_get met n.0 ≡ Some false → length met ≡ length g
     → seen ≡ slice_set met n.0 true → pushed ≡ old ++ Turn n ∷ [] → AreAdded (length seen) (length children) pushed new → IsMeeting g n met (slice_set met n.0 true) old new
 meeting-pushed g n met seen old pushed new children at unmet long seen_is pushed_is added =
-    let found = option_map-Some node_children (slice_get g n.0) children at in
+    let found = option_map-source node_children (slice_get g n.0) children at in
     let bound : length seen ≡ length g = ap length seen_is ∙ length-set met n.0 true ∙ long in
     let most : length children ≡ length (node_children found.0) = ap length (sym found.2) in
     let here : AreAdded (length g) (length (node_children found.0)) (old ++ Turn n ∷ []) new =

@@ -7,6 +7,7 @@ use Rattle.std.proofs.lemmas.Bool.Decides.{nat_tests}
 use Rattle.std.proofs.lemmas.List.{take_all, get_or_append_left, get_or_push}
 use Rattle.std.proofs.lemmas.List.Elements.{All-nil, All-cons}
 use Rattle.std.proofs.lemmas.Option.{same_Some, slice_get_within, get_or_from_slice_get}
+use Rattle.ct_lemmas.proofs.Lists.{slice_get-there}
 use Rattle.ct_values.specs.declared.node.NodeId.{NodeId}
 use Rattle.ct_values.specs.declared.node.Node.{Node}
 use Rattle.ct_values.specs.declared.node.Node.TheVariants.{Con, Elem}
@@ -23,7 +24,7 @@ use Rattle.ct_values.specs.Quotient.{numbered_child, numbered_node, quotient_fro
 use Rattle.ct_values.proofs.AgreeLemmas.{agree-zero, AgreeAlways-across, AgreeAlways-trans}
 use Rattle.ct_values.proofs.GraphLemmas.{closed_children}
 use Rattle.ct_values.proofs.NodeLemmas.{id, node_points, agree-nodes, AgreeAlways-nodes}
-use Rattle.ct_values.proofs.RenumberLemmas.{stands_within, IsClosed-renumbered, AgreeAlways-renumbered}
+use Rattle.ct_values.proofs.RenumberLemmas.{IsClosed-renumbered, AgreeAlways-renumbered}
 use Rattle.ct_values.proofs.ClassLemmas.{alike_of_one, stored_together}
 use Rattle.ct_values.proofs.CountLemmas.{CountsUp-rises, CountsUp-below, CountsUp-append}
 use Rattle.ct_values.proofs.NumberedLemmas.{IsBreadthFirst-numbered, numbered-IsBreadthFirst, IsBreadthFirst-positive}
@@ -208,7 +209,7 @@ module _ (g : Nodes) (numbers : List ℕ) (closed : IsClosed g) (are : AreNumber
   AgreeAlways-quotient k n within e (suc depth) =
       let h = quotient numbers g in
       let from = source k.0 (subst (λ m. m < are.count) e (number_in n.0 within)) in
-      let y = stands_within g n.0 within in
+      let y = slice_get-there g n.0 within in
       let alike = (are.same from.0 n.0 (slice_get_within g from.0 from.1 from.2) within).0 (from.3 ∙ sym e) in
       let parts = AgreeAlways-nodes g g (id from.0) (id n.0) from.1 y.0 from.2 y.1 alike in
       let R : Point → Point → Type 0 = λ p q. IsTrue (agree depth p q) in
@@ -276,7 +277,7 @@ module _ (g : Nodes) (numbers : List ℕ) (closed : IsClosed g) (are : AreNumber
   none_new index met mid count begun node at before counts so_far old steps =
       let first = first_stands 0 begun index (class_at numbers index) numbers so_far (omega arith) old in
       let first_in : first.0 < length g = omega (arith, first.2, are.long) in
-      let x = stands_within g first.0 first_in in
+      let x = slice_get-there g first.0 first_in in
       let alike = (are.same first.0 index first_in (slice_get_within g index node at)).0 first.3 in
       let parts = AgreeAlways-nodes g g (id first.0) (id index) x.0 node x.1 at alike in
       let x_in = closed_children g first.0 x.0 closed x.1 in

@@ -1,11 +1,12 @@
 -- Nodes with new numbers agree with the nodes that they stand for.
-use Rattle.std.proofs.Common.{◌≡◌, ℕ, zero, suc, ◌<◌, ◌⊎◌, Bool, true, IsTrue, List, [], ◌∷◌, ◌++◌, length, Some, slice_get, get_or, All, refl, sym, ap, ap₂, subst, ◌∙◌, inl, inr, arith, true≢false, eq-or-lt_of_le, nat_eq}
+use Rattle.std.proofs.Common.{◌≡◌, ℕ, zero, suc, ◌<◌, Bool, true, IsTrue, List, [], ◌∷◌, ◌++◌, length, Some, slice_get, get_or, All, refl, sym, ap, ap₂, subst, ◌∙◌, inl, inr, arith, true≢false, eq-or-lt_of_le, nat_eq}
 use Rattle.std.specs.List.{AllZip, IsDistinct}
-use Rattle.std.proofs.lemmas.Option.{none-some, same_Some, slice_get_within, slice_get-get_or, get_or_from_slice_get}
+use Rattle.std.proofs.lemmas.Option.{same_Some, slice_get_within, slice_get-get_or, get_or_from_slice_get}
 use Rattle.std.proofs.lemmas.List.Elements.{All-nil, All-cons}
 use Rattle.std.proofs.lemmas.Bool.{cases_lt}
 use Rattle.std.proofs.lemmas.Map.Keys.{apart_from_distinct}
 use Rattle.std.proofs.lemmas.Bool.Decides.{Decides-eqb}
+use Rattle.ct_lemmas.proofs.Lists.{slice_get-push_cases, slice_get-there}
 use Rattle.ct_values.specs.declared.node.NodeId.{NodeId}
 use Rattle.ct_values.specs.declared.node.Node.{Node}
 use Rattle.ct_values.specs.Graph.{Nodes, IsClosed, HasChildrenBelow, node_children}
@@ -15,20 +16,6 @@ use Rattle.ct_values.proofs.AgreeLemmas.{agree-zero}
 use Rattle.ct_values.proofs.NodeLemmas.{node_points, agree-nodes}
 
 module _ {X : Type 0} where
-  -- something stands at each index within the list
-  pub stands_within : (xs : List X) (i : ℕ) → i < length xs → (x : X) × (slice_get xs i ≡ Some x)
-  stands_within [] i h = absurd (omega arith)
-  stands_within (x ∷ xs) zero h = (x, refl)
-  stands_within (x ∷ xs) (suc i) h = stands_within xs i (omega arith)
-
-  -- with a new last element, what stands at an index stood there before, or is the new one at the end
-  pub slice_get-push_cases : (xs : List X) (x y : X) (i : ℕ) → slice_get (xs ++ x ∷ []) i ≡ Some y → (slice_get xs i ≡ Some y) ⊎ ((i ≡ length xs) × (x ≡ y))
-  slice_get-push_cases [] x y zero e = inr (refl, same_Some x y e)
-  slice_get-push_cases [] x y (suc i) e = absurd (none-some y e)
-  slice_get-push_cases (z ∷ zs) x y zero e = inl e
-  slice_get-push_cases (z ∷ zs) x y (suc i) e =
-      elim (slice_get-push_cases zs x y i e) [ inl h ↦ inl h | inr h ↦ inr (ap suc h.0, h.1) ]
-
   -- where the test holds of no two indices, and of each element and itself, an element stands at one index
   pub one_index : (eq : X → X → Bool) → ((x : X) → eq x x ≡ true) → (xs : List X) → IsDistinct eq xs → (i j : ℕ) (x : X) → slice_get xs i ≡ Some x → slice_get xs j ≡ Some x → i ≡ j
   one_index eq own xs distinct i j x at_i at_j = elim (cases_lt i j) [
@@ -71,7 +58,7 @@ AreRenumbered-push g old new nodes n node stay at_n all one i m x at_x at_m =
       | inl e ↦
           let within : i < length nodes = slice_get_within nodes i x e in
           let end : length nodes < length old = slice_get_within old (length nodes) n at_n in
-          let had = stands_within old i (omega arith) in
+          let had = slice_get-there old i (omega arith) in
           let same : had.0 ≡ m = same_Some had.0 m (sym (stay i had.0 had.1) ∙ at_m) in
           IsRenumbered-stay g old new m x stay (all i m x e (had.1 ∙ ap Some same))
       | inr e ↦
@@ -90,7 +77,7 @@ StandFor-below ids (p ∷ ps) (n ∷ ns) h =
 pub IsClosed-renumbered : (g : Nodes) (ids : List ℕ) (nodes : List Node) → AreRenumbered g ids nodes → length nodes ≡ length ids → IsClosed nodes
 IsClosed-renumbered g ids nodes all long i d within =
     let node = get_or nodes i d in
-    let n = stands_within ids i (omega arith) in
+    let n = slice_get-there ids i (omega arith) in
     let r = all i n.0 node (slice_get-get_or nodes i d within) n.1 in
     subst (λ m. HasChildrenBelow m node) (sym long) (StandFor-below ids (node_children node) (node_children r.source) r.children)
 
@@ -107,7 +94,7 @@ pub AgreeAlways-renumbered : (g : Nodes) (ids : List ℕ) (nodes : List Node) �
 AgreeAlways-renumbered g ids nodes all long p n at zero = agree-zero (node_point nodes p) (node_point g n)
 AgreeAlways-renumbered g ids nodes all long p n at (suc k) =
     let within : p.0 < length ids = slice_get_within ids p.0 n.0 at in
-    let node = stands_within nodes p.0 (omega arith) in
+    let node = slice_get-there nodes p.0 (omega arith) in
     let r = all p.0 n.0 node.0 node.1 at in
     agree-nodes k nodes g p n node.0 r.source node.1 r.stands r.head
     (AllZip-points (λ a b. IsTrue (agree k a b)) nodes g ids (node_children node.0) (node_children r.source) (λ q m e. AgreeAlways-renumbered g ids nodes all long q m e k) r.children)

@@ -4,6 +4,7 @@ use Rattle.std.specs.List.{AllZip, AllByRecursion}
 use Rattle.std.proofs.lemmas.Bool.{cases_lt}
 use Rattle.std.proofs.lemmas.List.Elements.{All-push, recursion_from_All}
 use Rattle.std.proofs.lemmas.Option.{none-some, same_Some, slice_get_within}
+use Rattle.ct_lemmas.proofs.Lists.{slice_get-append_left, slice_get-push_cases, slice_get-there}
 use Rattle.indexmap.specs.IndexMap.{IndexMap, get}
 use Rattle.ct_values.specs.declared.node.NodeId.{NodeId}
 use Rattle.ct_values.specs.declared.node.Node.{Node}
@@ -17,10 +18,9 @@ use Rattle.ct_values.specs.Partition.{class_at, node_key}
 use Rattle.ct_values.specs.KeyTest.{same_key}
 use Rattle.ct_values.specs.Sharing.{IsRepresentative, AreClasses, IsKeyed, IsShared}
 use Rattle.ct_values.proofs.AgreeLemmas.{AgreeAlways-parts, AgreeAlways-refl, AgreeAlways-sym, AgreeAlways-trans, AgreeAlways-meet}
-use Rattle.ct_values.proofs.GraphLemmas.{closed_children, slice_get-append_left}
+use Rattle.ct_values.proofs.GraphLemmas.{closed_children}
 use Rattle.ct_values.proofs.NodeLemmas.{id, node_points, head_at, children_at}
 use Rattle.ct_values.proofs.ClassLemmas.{class_at-before, class_at-last, classes_together, together_agree, alike_of_one, stored_together, class_low, class_own}
-use Rattle.ct_values.proofs.RenumberLemmas.{stands_within, slice_get-push_cases}
 use Rattle.ct_values.proofs.RepresentativeLemmas.{AgreeAlways-grown, IsRepresentative-same, IsRepresentative-grown}
 
 -- all children are nodes of the graph
@@ -121,7 +121,7 @@ IsKeyed-step g classes representatives more index first x are keyed at found sta
     class_is : (class_at classes index ≡ index) ⊎ (class_at classes index < index) → first ≡ class_at classes index
     class_is (inr less) =
         let named = are.named (id index) within in
-        let y = stands_within g (class_at classes index) named.within in
+        let y = slice_get-there g (class_at classes index) named.within in
         let value = AgreeAlways-trans (node_point g (id (class_at classes index))) (node_point g (id index)) (point g (node_value x)) named.same (AgreeAlways-value g (id index) x at) in
         let keys = key_by_alike g classes are (id (class_at classes index)) y.0 x y.1 (closed_children g index x are.closed at) value in
         let before = stay (node_key classes y.0) (class_at classes (class_at classes index)) (keyed.known (class_at classes index) y.0 less y.1) in
@@ -155,7 +155,7 @@ module _ {S : Type 0} (g : Nodes) (classes : List ℕ) (representatives : IndexM
   -- a node that is the value has its key with its class
   known_value : (m : NodeId) → m.0 < length g → AgreeAlways (node_point g m) (point g (node_value x)) → get same_key representatives (node_key classes x) ≡ Some (class_at classes m.0)
   known_value m m_in alike =
-      let y = stands_within g m.0 m_in in
+      let y = slice_get-there g m.0 m_in in
       ap (get same_key representatives) (sym (key_by_alike g classes shared.are_classes m y.0 x y.1 below alike)) ∙ shared.keyed.known m.0 y.0 m_in y.1
 
   -- what the map has for the key of a value is the representative of the value

@@ -1,8 +1,10 @@
 -- Values by their sorts: each is over the graph, is an element or a constructor over its fields, and has one sort with all
 -- that are equal values.
-use Rattle.std.proofs.Common.{◌≡◌, ◌⊎◌, inl, inr, ℕ, zero, suc, ◌<◌, List, [], ◌∷◌, length, map, Option, Some, option_map, unwrap_or, slice_get, refl, sym, ap, subst, ◌∙◌, arith}
+use Rattle.std.proofs.Common.{◌≡◌, ◌⊎◌, inl, inr, ℕ, ◌<◌, List, [], ◌∷◌, length, map, Option, Some, option_map, unwrap_or, slice_get, refl, sym, ap, subst, ◌∙◌, arith}
 use Rattle.std.specs.List.{AllZip}
-use Rattle.std.proofs.lemmas.Option.{none-some, same_Some, slice_get_within}
+use Rattle.std.proofs.lemmas.Option.{same_Some, slice_get_within}
+use Rattle.ct_lemmas.proofs.Options.{option_map-source}
+use Rattle.ct_lemmas.proofs.Pairs.{AllZip-at_right}
 use Rattle.ct_sorts.specs.declared.ids.CtorId.{CtorId}
 use Rattle.ct_sorts.specs.declared.ids.SelId.{SelId}
 use Rattle.ct_sorts.specs.declared.ids.SortId.{SortId}
@@ -23,7 +25,6 @@ use Rattle.ct_values.specs.Fitting.{node_sort, HasNodeSort, IsNodeOfField, IsEle
 use Rattle.ct_values.specs.ValueSort.{HasValueSort, AreOfFields}
 use Rattle.ct_values.specs.Inversion.{IsValueOfField, IsElementOf, IsConstructed}
 use Rattle.ct_values.proofs.AgreeLemmas.{AgreeAlways-parts}
-use Rattle.ct_values.proofs.GraphLemmas.{option_map-Some}
 
 module _ (d : Declarations) (g : Nodes) where
   mutual
@@ -116,7 +117,7 @@ node_sort_by_head d (Elem s n) = refl
 -- a node has the sort of its head
 sorted_by_head : (d : Declarations) (g : Nodes) (n : NodeId) (h : Head) (s : SortId) → head_of g (reference n) ≡ Some h → head_sort d h ≡ Some s → HasNodeSort d g n s
 sorted_by_head d g n h s is sort =
-    let node = option_map-Some node_head (slice_get g n.0) h is in
+    let node = option_map-source node_head (slice_get g n.0) h is in
     (node.0, node.1, node_sort_by_head d node.0 ∙ ap (head_sort d) node.2 ∙ sort)
 
 -- and so has a value
@@ -178,13 +179,6 @@ module _ (d : Declarations) (g : Nodes) where
             let same : is.0 ≡ c = cc in
             subst (λ (k : CtorId). IsConstructed d g v k sort) same is.1
 
--- the first of the pair whose second stands at an index
-at_right : {X Y : Type 0} (R : X → Y → Type 0) (xs : List X) (ys : List Y) (k : ℕ) (y : Y) → AllZip R xs ys → slice_get ys k ≡ Some y → (x : X) × (slice_get xs k ≡ Some x) × R x y
-at_right R xs [] k y all e = absurd (none-some y e)
-at_right R [] (z ∷ ys) k y all e = absurd all
-at_right {Y = Y} R (x ∷ xs) (z ∷ ys) zero y all e = (x, refl, subst (λ (w : Y). R x w) (same_Some z y e) all.0)
-at_right R (x ∷ xs) (z ∷ ys) (suc k) y all e = at_right R xs ys k y all.1 e
-
 -- a value that is built by the constructor of a selector has a child at the selector's place, of its field's sort
 pub field_there : (d : Declarations) (g : Nodes) (v : Value) (sort : SortId) (s : SelId) (selector : Selector) → AreOfTheirConstructors d → FitsGraph d g → slice_get d.sels s.0 ≡ Some selector → HasValueSort d g v sort → head_of g v ≡ Some (heads.Con selector.ctor) → (w : Value) × (slice_get (children_of g v) selector.place ≡ Some w) × HasValueSort d g w selector.sort
 field_there d g v sort s selector own fits declared sorted headed =
@@ -192,7 +186,7 @@ field_there d g v sort s selector own fits declared sorted headed =
     let ctor = own s.0 selector declared in
     let same : built.ctor ≡ ctor.0 = same_Some built.ctor ctor.0 (sym built.declared ∙ ctor.1) in
     let at : slice_get built.ctor.sels selector.place ≡ Some s = subst (λ (k : Constructor). slice_get k.sels selector.place ≡ Some s) (sym same) ctor.2 in
-    let child = at_right (IsValueOfField d g) (children_of g v) built.ctor.sels selector.place s built.fields at in
+    let child = AllZip-at_right (IsValueOfField d g) (children_of g v) built.ctor.sels selector.place s built.fields at in
     let one : child.2.selector ≡ selector = same_Some child.2.selector selector (sym child.2.declared ∙ declared) in
     (child.0, child.1, subst (λ (f : Selector). HasValueSort d g child.0 f.sort) one child.2.sorted)
 

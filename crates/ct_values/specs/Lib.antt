@@ -20,8 +20,4 @@ pub mod ValueSort
 pub mod WellFormed
 pub mod Inversion
 pub mod TruthValue
-pub mod Numeral
-pub mod ValueText
 pub mod Sharing
-pub mod Separation
-pub mod Walk

@@ -1,5 +1,4 @@
-//! Graphs of nodes, the values that their nodes stand for, when two values are equal, and how a
-//! value is written.
+//! Graphs of nodes, the values that their nodes stand for, and when two values are equal.
 #![tactic(auto)]
 
 mod bisimilarity;
@@ -8,11 +7,10 @@ mod error;
 mod finite;
 mod fitting;
 mod graph;
-mod graph_text;
 mod indices;
 mod key;
 mod least;
-mod minimal;
+mod minimising;
 mod node;
 mod node_ids;
 mod packed;
@@ -21,23 +19,20 @@ mod postorder;
 mod reach;
 mod shape;
 mod shared;
-mod text;
 mod theorems;
-mod tree_text;
 mod value;
-mod writing;
 
 pub use equality::same;
 pub use error::ValueError;
 pub use fitting::{fits, has_sort, sort_of};
 pub use graph::{Graph, are_below, are_closed, has_children_below, have_children_below};
-pub use minimal::minimise;
+pub use minimising::{minimal, minimise};
 pub use node::{Head, Node, NodeId};
 pub use node_ids::NodeIds;
+pub use packed::PackedGraph;
 pub use shared::SharedGraph;
 pub use theorems::{
     agreement, boolean_values, finite_values, fitting_graphs, longer_graphs, minimal_graph,
-    representative_nodes, value_texts, well_sorted_values,
+    representative_nodes, well_sorted_values,
 };
 pub use value::Value;
-pub use writing::value_text;

@@ -104,7 +104,7 @@ fn part(children: &[NodeId], start: usize, end: usize) -> &[NodeId]
 
 /// A graph of nodes side by side. Clauses see its nodes.
 #[derive(Drop)]
-pub(crate) struct PackedGraph {
+pub struct PackedGraph {
     nodes: PackedNodes,
 }
 
@@ -128,7 +128,7 @@ impl PackedGraph {
     }
 
     /// The number of nodes.
-    pub(crate) fn len(&self) -> u64
+    pub fn len(&self) -> u64
         ensures count { result ≡ length self.now }
         ensures closed { IsClosed self.now }
     {
@@ -136,7 +136,7 @@ impl PackedGraph {
     }
 
     /// What stands at the top of this node.
-    pub(crate) fn head(&self, n: NodeId) -> Head
+    pub fn head(&self, n: NodeId) -> Head
         requires within { n.0 < length self.now }
         ensures value { option_map node_head (slice_get self.now n.0) ≡ Some result }
     {
@@ -144,7 +144,7 @@ impl PackedGraph {
     }
 
     /// The children of this node, in order; an element has none. They are nodes of the graph.
-    pub(crate) fn children(&self, n: NodeId) -> &[NodeId]
+    pub fn children(&self, n: NodeId) -> &[NodeId]
         requires within { n.0 < length self.now }
         ensures value { option_map node_children (slice_get self.now n.0) ≡ Some result.now }
         ensures below { All (λ child. child.0 < length self.now) result.now }

@@ -23,9 +23,7 @@ ghost use Rattle.ct_values.specs.ValueSort.{HasValueSort, IsDataPath, IsDataChai
 ghost use Rattle.ct_values.specs.WellFormed.{AreFinite, IsWellFormedGraph};
 ghost use Rattle.ct_values.specs.Inversion.{IsElementOf, IsConstructed};
 ghost use Rattle.ct_values.specs.TruthValue.{truth, is_built, is_true, IsTruth};
-ghost use Rattle.ct_values.specs.ValueText.{IsValueText};
 
-use ct_sexpr::written_texts;
 use ct_sorts::structure;
 
 /// The theorems on agreement. It does nothing: a proof that needs them calls it.
@@ -104,26 +102,6 @@ pub fn representative_nodes()
     ensures same { (g : Nodes) (p q : Point) (n : NodeId) → AgreeAlways p q → IsRepresentative g p n
         → IsRepresentative g q n }
 {}
-
-/// The theorems on texts of values. It does nothing: a proof that needs them calls it.
-pub fn value_texts()
-    // The minimal graph of a tree fits the declarations where the tree's graph does.
-    ensures minimal_fits { (d : Declarations) (g : Nodes) (root : NodeId) (h : Nodes)
-        → FitsGraph d g
-        → IsMinimal g root h
-        → FitsGraph d h }
-
-    // Two nodes, each in its own graph, have one text exactly where they are equal values.
-    ensures one { (d : Declarations) (g h : Nodes) (a b : NodeId) (x y : List ℕ)
-        → IsConsistent d
-        → FitsGraph d g
-        → FitsGraph d h
-        → IsValueText d g a x
-        → IsValueText d h b y
-        → (x ≡ y) ↔ AgreeAlways (node_point g a) (node_point h b) }
-{
-    written_texts();
-}
 
 /// The theorems on graphs that fit declarations. It does nothing: a proof that needs them calls it.
 pub fn fitting_graphs()

@@ -2,8 +2,9 @@
 use Rattle.std.proofs.Common.{◌≡◌, ℕ, zero, suc, ◌+◌, ◌-◌, ◌<◌, ◌≤◌, inl, inr, List, length, set, get_or, replicate, slice_get, Some, refl, sym, ap, ◌∙◌, subst, arith}
 use Rattle.std.proofs.lemmas.List.{get_or-set_same, get_or-set_other}
 use Rattle.std.proofs.lemmas.Option.{same_Some}
+use Rattle.ct_lemmas.proofs.Numbers.{last_or_before, same_or_other}
 use Rattle.ct_words.specs.Storage.{IsChained, bucket, bucket_at}
-use Rattle.ct_words.proofs.StorageLemmas.{below_more, same_or_other, bucket_at-name}
+use Rattle.ct_words.proofs.StorageLemmas.{bucket_at-name}
 
 -- each number of a list of zeros is 0, and so is what is read after it
 pub zeros : (n index : ℕ) → ◌≡◌ {A = ℕ} (get_or (replicate n 0) index 0) 0
@@ -31,7 +32,7 @@ module _ (bucket_of : ℕ → ℕ) (count : ℕ) (lasts befores : List ℕ) (b :
       record {
         is_last = λ index below. elim (same_or_other (bucket_of index) b) [
           | inl same ↦ rw (same, new_last) below
-          | inr differs ↦ elim (below_more index count below) [
+          | inr differs ↦ elim (last_or_before index count below) [
             | inl earlier ↦ rw (old_last (bucket_of index) differs) (chained.is_last index earlier)
             | inr at ↦ absurd (differs (ap bucket_of at ∙ is_b))
           ]
@@ -45,11 +46,11 @@ module _ (bucket_of : ℕ → ℕ) (count : ℕ) (lasts befores : List ℕ) (b :
               let stored = chained.last other there_before in
               rw (old_last other differs) (omega (arith, stored.0), stored.1)
         ];
-        is_before = λ index later less below same. elim (below_more later count below) [
+        is_before = λ index later less below same. elim (last_or_before later count below) [
           | inl earlier ↦ rw (old_before later (λ e. omega arith)) (chained.is_before index later less earlier same)
           | inr at ↦ rw (at, new_before) (subst (λ (x : ℕ). index < get_or lasts x 0) (same ∙ ap bucket_of at ∙ is_b) (chained.is_last index (omega arith)))
         ];
-        before = λ index below there. elim (below_more index count below) [
+        before = λ index below there. elim (last_or_before index count below) [
           | inl earlier ↦
               let old = old_before index (λ e. omega arith) in
               let there_before = rw old at there in

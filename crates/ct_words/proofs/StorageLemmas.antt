@@ -1,28 +1,11 @@
 -- How the indices of names are stored.
-use Rattle.std.proofs.Common.{◌≡◌, ℕ, ◌+◌, ◌<◌, ◌≤◌, ◌⊎◌, inl, inr, List, [], ◌∷◌, length, drop, set, get_or, slice_get, Some, sym, ap, ◌∙◌, arith, length-drop, drop-drop}
+use Rattle.std.proofs.Common.{◌≡◌, ℕ, ◌+◌, ◌<◌, ◌≤◌, inl, inr, List, [], ◌∷◌, length, drop, set, get_or, slice_get, Some, sym, ap, ◌∙◌, arith, length-drop, drop-drop}
 use Rattle.std.proofs.lemmas.List.{get_or-set_same, get_or-set_other}
-use Rattle.std.proofs.lemmas.Bool.{cases_lt}
 use Rattle.std.proofs.lemmas.Option.{get_or_from_slice_get}
+use Rattle.ct_lemmas.proofs.Numbers.{last_or_before}
 use Rattle.ct_words.specs.NameList.{names_in}
 use Rattle.ct_words.specs.Storage.{AreStarts, bucket, bucket_at}
 use Rattle.ct_words.proofs.NameLemmas.{slice_get-drop_cons}
-
--- an index below a count and one is below the count or the count
-pub below_more : (index count : ℕ) → index < count + 1 → (index < count) ⊎ (index ≡ count)
-below_more index count below = elim (cases_lt index count) [
-  | inl earlier ↦ inl earlier
-  | inr late ↦ inr (omega arith)
-]
-
--- two numbers are the same or not
-pub same_or_other : (a b : ℕ) → (a ≡ b) ⊎ (a ≡ b → ⊥)
-same_or_other a b = elim (cases_lt a b) [
-  | inl below ↦ inr (λ e. omega arith)
-  | inr above ↦ elim (cases_lt b a) [
-    | inl below ↦ inr (λ e. omega arith)
-    | inr same ↦ inl (omega arith)
-  ]
-]
 
 -- no index has a start at first
 pub AreStarts-none : (text starts : List ℕ) → AreStarts text 0 starts
@@ -30,7 +13,7 @@ AreStarts-none text starts index below = absurd (omega arith)
 
 -- one more start is stored
 pub AreStarts-more : (text starts : List ℕ) (count start : ℕ) → count < length starts → AreStarts text count starts → start ≤ length text → names_in (drop start text) ≡ drop count (names_in text) → AreStarts text (count + 1) (set starts count start)
-AreStarts-more text starts count start room stored within begins index below = elim (below_more index count below) [
+AreStarts-more text starts count start room stored within begins index below = elim (last_or_before index count below) [
   | inl earlier ↦ rw (get_or-set_other starts count index start 0 (λ e. omega arith)) (stored index earlier)
   | inr same ↦ rw (same, get_or-set_same starts count start 0 room) (within, begins)
 ]

@@ -10,10 +10,11 @@ abbrev pub command_names : List (List ℕ)
 command_names =
     codes "set-logic" ∷ (codes "set-option" ∷ (codes "get-option" ∷ (codes "set-info" ∷ (codes "get-info" ∷ (codes "declare-sort" ∷ (codes "declare-datatype" ∷ (codes "declare-codatatype" ∷ (codes "declare-datatypes" ∷ (codes "declare-codatatypes" ∷ (codes "declare-const" ∷ (codes "declare-fun" ∷ (codes "define-fun" ∷ (codes "define-const" ∷ (codes "assert" ∷ (codes "check-sat" ∷ (codes "push" ∷ (codes "pop" ∷ (codes "reset-assertions" ∷ (codes "reset" ∷ (codes "get-model" ∷ (codes "get-value" ∷ (codes "get-proof" ∷ (codes "echo" ∷ (codes "exit" ∷ (codes "define-fun-rec" ∷ (codes "define-funs-rec" ∷ (codes "declare-sort-parameter" ∷ (codes "get-assertions" ∷ (codes "get-assignment" ∷ (codes "define-sort" ∷ (codes "check-sat-assuming" ∷ (codes "get-unsat-core" ∷ (codes "get-unsat-assumptions" ∷ [])))))))))))))))))))))))))))))))))
 
--- the options with their colons (SMT-LIB 2.7, section 4.1.7); the names of infos are no options
+-- the options with their colons (SMT-LIB 2.7, section 4.1.7, and the choice of small unsatisfiable cores as cvc5 has it); the
+-- names of infos are no options
 abbrev pub option_names : List (List ℕ)
 option_names =
-    codes ":print-success" ∷ (codes ":global-declarations" ∷ (codes ":reproducible-resource-limit" ∷ (codes ":produce-models" ∷ (codes ":produce-proofs" ∷ (codes ":produce-assertions" ∷ (codes ":produce-assignments" ∷ (codes ":produce-unsat-cores" ∷ (codes ":produce-unsat-assumptions" ∷ (codes ":verbosity" ∷ [])))))))))
+    codes ":print-success" ∷ (codes ":global-declarations" ∷ (codes ":reproducible-resource-limit" ∷ (codes ":produce-models" ∷ (codes ":produce-proofs" ∷ (codes ":produce-assertions" ∷ (codes ":produce-assignments" ∷ (codes ":produce-unsat-cores" ∷ (codes ":produce-unsat-assumptions" ∷ (codes ":verbosity" ∷ (codes ":minimal-unsat-cores" ∷ []))))))))))
 
 -- the words of the rules of a line: the kinds of lines, and after `gate` the names of the gates
 abbrev pub rule_names : List (List ℕ)

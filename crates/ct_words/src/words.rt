@@ -8,7 +8,7 @@ use crate::name_table::NameTable;
 pub const COMMANDS: usize = 34;
 
 /// The number of different options.
-pub const OPTIONS: usize = 10;
+pub const OPTIONS: usize = 11;
 
 /// The number of different words of derivations.
 pub const DERIVATION_WORDS: usize = 51;
@@ -79,7 +79,8 @@ pub fn options() -> NameTable<OPTIONS>
         ":produce-assignments",
         ":produce-unsat-cores",
         ":produce-unsat-assumptions",
-        ":verbosity"
+        ":verbosity",
+        ":minimal-unsat-cores"
     ))
 }
 

@@ -13,8 +13,9 @@ use ct_card::{CardError, Sizes};
 use ct_cases::CaseError;
 use ct_closure::{CloseError, Closure, close};
 use ct_compile::{Scope, compile};
+use ct_formulas::formulas;
 use ct_sexpr::Sexpr;
-use ct_terms::{TermError, TermId, TermTable, core_trees, formulas};
+use ct_terms::{TermError, TermId, TermTable, core_trees};
 use std::alloc::Global;
 
 /// Shows the closure of formulas.

@@ -1,8 +1,8 @@
 //! Compiling: `(compile EXPRESSION)` shows the expression's sort, the number of its core term in a
 //! new table, and the terms of the table from number 2 on; or the first error, as `E21`.
 ghost use Rattle.std.specs.Prelude.{[], IfOk};
-ghost use Rattle.ct_terms.specs.FormulaSorts.{IsSorted};
-ghost use Rattle.ct_terms.specs.TreeFormula.{formula_of};
+ghost use Rattle.ct_formulas.specs.FormulaSorts.{IsSorted};
+ghost use Rattle.ct_formulas.specs.TreeFormula.{formula_of};
 ghost use Rattle.test_checking.specs.Scopes.{IsSound};
 ghost use Rattle.test_checking.specs.Asserted.{IsAsserted};
 
@@ -11,9 +11,10 @@ use crate::show::{show_number, show_sort_name, show_terms};
 use ct_cases::{CaseError, extends_start};
 use ct_check::{elaborate, elaboration};
 use ct_compile::{Scope, compile};
+use ct_formulas::Tree;
 use ct_sexpr::Sexpr;
 use ct_sorts::{Signature, SortId};
-use ct_terms::{TermError, TermTable, Tree, core_trees};
+use ct_terms::{TermError, TermTable, core_trees};
 use std::alloc::Global;
 
 /// Shows the core term of an expression.

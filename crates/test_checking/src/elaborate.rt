@@ -3,18 +3,18 @@
 //! an expression names.
 ghost use Rattle.std.specs.Prelude.{[], All, IfOk, map};
 ghost use Rattle.ct_sorts.specs.Declarations.{IsSort};
-ghost use Rattle.ct_terms.specs.Formula.{bind};
-ghost use Rattle.ct_terms.specs.FormulaSorts.{IsSorted};
-ghost use Rattle.ct_terms.specs.TreeFormula.{formula_of};
+ghost use Rattle.ct_formulas.specs.Formula.{bind};
+ghost use Rattle.ct_formulas.specs.FormulaSorts.{IsSorted};
+ghost use Rattle.ct_formulas.specs.TreeFormula.{formula_of};
 ghost use Rattle.ct_names.specs.declared.variables.Param.{Param};
 
 use crate::show::show_sort_name;
 use ct_cases::{CaseError, bytes_of, items_of, sort_of as declared_sort};
 use ct_check::{CheckError, Param, elaborate, elaboration, sort_of};
 use ct_compile::Scope;
+use ct_formulas::Tree;
 use ct_sexpr::{Bytes, Sexpr};
 use ct_sorts::{Signature, SortId};
-use ct_terms::Tree;
 use std::alloc::Global;
 
 /// Shows the sort of an expression under parameters, or its first error.

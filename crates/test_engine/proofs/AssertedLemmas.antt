@@ -1,9 +1,12 @@
 -- Tables of asserted formulas: the first one, and one with one more formula.
-use Rattle.std.proofs.Common.{◌≡◌, Bool, true, false, not, nat_eq, true≢false, ℕ, zero, suc, ◌<◌, ◌≤◌, ◌⊎◌, List, [], ◌∷◌, ◌++◌, length, map, Contains, slice_get, slice_index_or, Some, refl, sym, ap, subst, ◌∙◌, inl, inr, arith}
+use Rattle.std.proofs.Common.{◌≡◌, Bool, true, false, not, nat_eq, true≢false, ℕ, zero, suc, ◌<◌, ◌≤◌, List, [], ◌∷◌, ◌++◌, length, Contains, slice_get, Some, refl, sym, ap, subst, ◌∙◌, inl, inr, arith}
 use Rattle.std.specs.List.{flat_map}
 use Rattle.std.proofs.lemmas.List.Elements.{All-nil, All-append, All-contains, All-weaker, All-cons, Contains-append_cases, Contains-append_left, Contains-append_right}
 use Rattle.std.proofs.lemmas.Bool.Decides.{Decides-eqb}
-use Rattle.std.proofs.lemmas.Option.{slice_get_within, none-some}
+use Rattle.std.proofs.lemmas.Option.{slice_get_within}
+use Rattle.ct_lemmas.proofs.Contained.{Contains-first, Contains-map, Contains-map_cases}
+use Rattle.ct_lemmas.proofs.Lists.{slice_get-append_left, slice_get-there}
+use Rattle.ct_lemmas.proofs.Numbers.{below_or_not}
 use Rattle.ct_sorts.specs.declared.ids.SortId.{SortId}
 use Rattle.ct_sorts.specs.Declarations.{Declarations, bool_sort}
 use Rattle.ct_terms.specs.declared.ids.TermId.{TermId}
@@ -16,62 +19,6 @@ use Rattle.ct_closure.specs.Closed.{truth_trees}
 use Rattle.ct_closure.specs.ClosedTable.{AreSubtermsOf, terms_at}
 use Rattle.ct_compile.specs.Effect.{IsPrefix}
 use Rattle.test_engine.specs.Asserted.{IsAsserted}
-
--- what a list contains is its first element or in the rest
-Contains-cons : {X : Type 0} (x : X) (xs : List X) (y : X) → Contains (x ∷ xs) y → (x ≡ y) ⊎ Contains xs y
-Contains-cons {X} x xs y h = by h.0 h.1 h.2
-  where
-    by : (k : ℕ) → k < length (x ∷ xs) → slice_index_or (x ∷ xs) k y ≡ y → (x ≡ y) ⊎ Contains xs y
-    by zero within is = inl is
-    by (suc k) within is = inr (k, omega (arith, within), is)
-
--- the first element is contained, and so is what the rest contains
-Contains-first : {X : Type 0} (x : X) (xs : List X) → Contains (x ∷ xs) x
-Contains-first x xs = (0, omega arith, refl)
-
-Contains-rest : {X : Type 0} (x : X) (xs : List X) (y : X) → Contains xs y → Contains (x ∷ xs) y
-Contains-rest x xs y h = (suc h.0, omega (arith, h.1), h.2)
-
--- an empty list contains nothing
-Contains-none : {X : Type 0} (x : X) → Contains [] x → ⊥
-Contains-none x h = absurd (omega (arith, h.1))
-
--- the function of an element is among those of all elements
-Contains-map : {X Y : Type 0} (f : X → Y) (xs : List X) (x : X) → Contains xs x → Contains (map f xs) (f x)
-Contains-map f [] x h = absurd (Contains-none x h)
-Contains-map f (y ∷ xs) x h =
-    elim (Contains-cons y xs x h) [
-      | inl same ↦ subst (λ z. Contains (f y ∷ map f xs) z) (ap f same) (Contains-first (f y) (map f xs))
-      | inr rest ↦ Contains-rest (f y) (map f xs) (f x) (Contains-map f xs x rest)
-    ]
-
--- and what is among those is that of some element
-Contains-from_map : {X Y : Type 0} (f : X → Y) (xs : List X) (y : Y) → Contains (map f xs) y → (x : X) × Contains xs x × (f x ≡ y)
-Contains-from_map f [] y h = absurd (Contains-none y h)
-Contains-from_map f (x ∷ xs) y h =
-    elim (Contains-cons (f x) (map f xs) y h) [
-      | inl same ↦ (x, Contains-first x xs, same)
-      | inr rest ↦ let found = Contains-from_map f xs y rest in (found.0, Contains-rest x xs found.0 found.1, found.2)
-    ]
-
--- what stands at an index stands there with more after it
-slice_get-append_left : {X : Type 0} (xs ys : List X) (i : ℕ) (x : X) → slice_get xs i ≡ Some x → slice_get (xs ++ ys) i ≡ Some x
-slice_get-append_left [] ys i x e = absurd (none-some x e)
-slice_get-append_left (z ∷ zs) ys zero x e = e
-slice_get-append_left (z ∷ zs) ys (suc i) x e = slice_get-append_left zs ys i x e
-
--- something stands at each index
-entry_at : {X : Type 0} (xs : List X) (k : ℕ) → k < length xs → (x : X) × (slice_get xs k ≡ Some x)
-entry_at [] k h = absurd (omega (arith, h))
-entry_at (x ∷ xs) zero h = (x, refl)
-entry_at (x ∷ xs) (suc k) h = entry_at xs k (omega (arith, h))
-
--- a number is below another, or it is not
-below_or_not : (k n : ℕ) → (k < n) ⊎ (n ≤ k)
-below_or_not k zero = inr (omega arith)
-below_or_not zero (suc n) = inl (omega arith)
-below_or_not (suc k) (suc n) =
-    elim (below_or_not k n) [ inl below ↦ inl (omega (arith, below)) | inr other ↦ inr (omega (arith, other)) ]
 
 -- a tree is a subterm of itself
 subtree_itself : ((t : CoreTree) → subtrees t ≡ t ∷ flat_map subtrees (tree_children t)) → (t : CoreTree) → Contains (subtrees t) t
@@ -111,7 +58,7 @@ same_sort r s told = by (nat_eq r.0 s.0) refl told
 -- a term is Boolean where its tree is
 pub boolean_term : ((d : Declarations) (t : CoreTree) (r s : SortId) → HasTreeSort d t r → HasTreeSort d t s → r ≡ s) → ((d : Declarations) (table : Terms) (t : TermId) (sort : SortId) → AreOrdered table → AreSorted d table → IsOfSort table t sort → HasTreeSort d (term_at table t) sort) → (d : Declarations) (table : Terms) (t : TermId) → AreOrdered table → AreSorted d table → t.0 < length table → HasTreeSort d (term_at table t) bool_sort → IsBoolean table t
 boolean_term one_sort tree_sorted d table t ordered sorted within boolean =
-    let found = entry_at table t.0 within in
+    let found = slice_get-there table t.0 within in
     let same : found.0.1 ≡ bool_sort = one_sort d (term_at table t) found.0.1 bool_sort (tree_sorted d table t found.0.1 ordered sorted (found.0.0, found.1)) boolean in
     (found.0.0, subst (λ (s : SortId). slice_get table t.0 ≡ Some (found.0.0, s)) same found.1)
 
@@ -127,7 +74,7 @@ module _ (longer : (table more : Terms) (t : TermId) → AreOrdered (table ++ mo
   -- the roots are roots still
   formula_stays : (root : CoreTree) → Contains (terms_at old asserts) root → Contains (terms_at new (asserts ++ t ∷ [])) root
   formula_stays root h =
-      let found = Contains-from_map (term_at old) asserts root h in
+      let found = Contains-map_cases (term_at old) asserts root h in
       let of_sort = All-contains (IsBoolean old) asserts found.0 before.boolean found.1 in
       let within : found.0.0 < length old = slice_get_within old found.0.0 (of_sort.0, bool_sort) of_sort.1 in
       subst (Contains (terms_at new (asserts ++ t ∷ []))) (tree_stays found.0 within ∙ found.2)

@@ -1,9 +1,9 @@
 //! Scopes that a case declares: declarations, and then definitions with their bodies.
 ghost use Rattle.std.specs.Prelude.{◌≡◌, ◌++◌, ◌∷◌, [], All, length, IfOk, OnOk, map};
 ghost use Rattle.ct_sorts.specs.Declarations.{start, IsSort};
-ghost use Rattle.ct_terms.specs.Formula.{bind};
-ghost use Rattle.ct_terms.specs.FormulaSorts.{IsSorted};
-ghost use Rattle.ct_terms.specs.TreeFormula.{formula_of};
+ghost use Rattle.ct_formulas.specs.Formula.{bind};
+ghost use Rattle.ct_formulas.specs.FormulaSorts.{IsSorted};
+ghost use Rattle.ct_formulas.specs.TreeFormula.{formula_of};
 ghost use Rattle.ct_names.specs.declared.variables.Param.{Param};
 ghost use Rattle.test_engine.specs.Scopes.{IsSound};
 
@@ -11,9 +11,9 @@ use crate::elaborate::{params_of, term_of};
 use ct_cases::{CaseError, declare as declare_step, items_of, name_of, sort_of, split_word};
 use ct_check::Param;
 use ct_compile::Scope;
+use ct_formulas::{Tree, scopes};
 use ct_sexpr::Sexpr;
 use ct_sorts::{Items, Name, Signature, SortId};
-use ct_terms::{Tree, scopes};
 use std::alloc::Global;
 
 /// The sort Bool.

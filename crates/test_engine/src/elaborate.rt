@@ -1,17 +1,17 @@
 //! Expressions of cases: parameters, and the trees of terms.
 ghost use Rattle.std.specs.Prelude.{[], All, IfOk, map};
 ghost use Rattle.ct_sorts.specs.Declarations.{IsSort};
-ghost use Rattle.ct_terms.specs.Formula.{bind};
-ghost use Rattle.ct_terms.specs.FormulaSorts.{IsSorted};
-ghost use Rattle.ct_terms.specs.TreeFormula.{formula_of};
+ghost use Rattle.ct_formulas.specs.Formula.{bind};
+ghost use Rattle.ct_formulas.specs.FormulaSorts.{IsSorted};
+ghost use Rattle.ct_formulas.specs.TreeFormula.{formula_of};
 ghost use Rattle.ct_names.specs.declared.variables.Param.{Param};
 
 use ct_cases::{CaseError, bytes_of, items_of, sort_of as declared_sort};
 use ct_check::{CheckError, Param, elaborate, elaboration};
 use ct_compile::Scope;
+use ct_formulas::Tree;
 use ct_sexpr::{Bytes, Sexpr};
 use ct_sorts::{Signature, SortId};
-use ct_terms::Tree;
 use std::alloc::Global;
 
 /// The tree of an expression under parameters, and its sort.

@@ -7,9 +7,10 @@ use crate::define::BOOL;
 use crate::elaborate::term_of;
 use ct_cases::{CaseError, extends_start};
 use ct_compile::{Scope, compile};
+use ct_formulas::formulas;
 use ct_sexpr::Sexpr;
 use ct_sorts::Signature;
-use ct_terms::{TermError, TermId, TermTable, core_trees, formulas};
+use ct_terms::{TermError, TermId, TermTable, core_trees};
 use std::alloc::Global;
 
 /// Formulas that are asserted, as terms of a table.

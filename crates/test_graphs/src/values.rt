@@ -11,7 +11,8 @@ use ct_card::{CardError, Size, Sizes};
 use ct_cases::{CaseError, number_of, show_bytes, sort_of};
 use ct_sexpr::Sexpr;
 use ct_sorts::{Signature, SortId};
-use ct_values::{Graph, NodeId, fits, value_text};
+use ct_value_text::value_text;
+use ct_values::{Graph, NodeId, fits};
 use std::alloc::Global;
 
 /// Answers a case of values.

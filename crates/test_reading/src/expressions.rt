@@ -1,9 +1,10 @@
 //! Expressions that are read, one byte a piece and whole, and written. `(read TEXT)` shows the
 //! commands of a text that ends, each with its line, and the next two answers; `(read-on TEXT)`
 //! those of a text that may go on, and the next answer; `(read-again TEXT TEXT)` what comes
-//! before and after a piece that follows an error; `(write TEXT)` what is written of the first
-//! command; `(symbol-and-items TEXT)` which items of the first command are simple symbols, and
-//! how many items those have that are lists.
+//! before and after a piece that follows an error; `(kept TEXT)` how many bytes belong to no
+//! command given so far, at first, after each command and once more is needed; `(write TEXT)` what
+//! is written of the first command; `(symbol-and-items TEXT)` which items of the first command are
+//! simple symbols, and how many items those have that are lists.
 ghost use Rattle.std.specs.Prelude.{◌≡◌};
 
 use crate::steps::show_count;
@@ -27,6 +28,7 @@ pub fn answer(
         [text, more] if kind == "read-again" => {
             read_again(alloc, &bytes_of(alloc, text)?, &bytes_of(alloc, more)?, out)?;
         }
+        [text] if kind == "kept" => show_kept(alloc, &bytes_of(alloc, text)?, out)?,
         [text] if kind == "write" => write_both(alloc, &bytes_of(alloc, text)?, out)?,
         [text] if kind == "symbol-and-items" => show_first(alloc, &bytes_of(alloc, text)?, out)?,
         [] if kind == "theorems" => call_theorems(out)?,
@@ -173,6 +175,32 @@ fn read_on(alloc: Global, text: &[u8], out: &mut String) -> Result<(), CaseError
         show_next(alloc, &mut reader, out)?;
     }
     show_answer(alloc, &mut reader, out)
+}
+
+/// Shows how many bytes of a text are kept, before and after each command.
+fn show_kept(alloc: Global, text: &[u8], out: &mut String) -> Result<(), CaseError> {
+    let mut reader = Reader::new(alloc)?;
+    reader.feed(text)?;
+    show_count(alloc, reader.kept_bytes(), out)?;
+    for _ in text {
+        show_kept_after_next(alloc, &mut reader, out)?;
+    }
+    show_count(alloc, reader.kept_bytes(), out)
+}
+
+/// Shows how many bytes are kept after the next command, if there is one.
+fn show_kept_after_next(
+    alloc: Global,
+    reader: &mut Reader,
+    out: &mut String,
+) -> Result<(), CaseError>
+    ensures ended { reader.new.ended ≡ reader.old.ended }
+    ensures fed { reader.new.fed ≡ reader.old.fed }
+{
+    if let Ok(Next::Command { .. }) = reader.next() {
+        show_count(alloc, reader.kept_bytes(), out)?;
+    }
+    Ok(())
 }
 
 /// Shows two answers after a text, one after what follows it, and two at the end.

@@ -15,7 +15,7 @@ use ct_eval::{Interp, Row, Table, evaluate, evaluation, holds, is_proper};
 use ct_sexpr::Sexpr;
 use ct_sorts::{Signature, SortId};
 use ct_terms::{TermId, TermTable};
-use ct_values::value_text;
+use ct_value_text::value_text;
 use std::alloc::Global;
 
 /// The sort Bool.

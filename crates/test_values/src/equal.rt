@@ -5,9 +5,10 @@ use crate::show::{show_bool, show_graph, show_number};
 use ct_cases::{CaseError, items_of, number_of};
 use ct_sexpr::Sexpr;
 use ct_sorts::Signature;
+use ct_value_text::value_texts;
 use ct_values::{
     Graph, NodeId, NodeIds, ValueError, agreement, are_closed, minimal_graph, minimise,
-    representative_nodes, same, value_texts,
+    representative_nodes, same,
 };
 use std::alloc::Global;
 

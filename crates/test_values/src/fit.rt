@@ -8,7 +8,8 @@ use crate::show::{show_bool, show_number};
 use ct_cases::{CaseError, number_of, show_bytes};
 use ct_sexpr::Sexpr;
 use ct_sorts::Signature;
-use ct_values::{Graph, NodeId, fits, has_sort, value_text};
+use ct_value_text::value_text;
+use ct_values::{Graph, NodeId, fits, has_sort};
 use std::alloc::Global;
 
 /// Answers a case of declarations or texts.

@@ -1,9 +1,9 @@
 use Rattle.std.proofs.Common.{take, get_or}
 use Rattle.std.proofs.lemmas.List.{take_more}
 use Rattle.std.proofs.lemmas.Option.{slice_get-get_or}
+use Rattle.ct_lemmas.proofs.Pairs.{AllZip-push}
 use Rattle.ct_ordering.specs.declared.hop.Hop.{Hop}
 use Rattle.ct_acyclic.specs.Edges.{IsEntry}
-use Rattle.ct_acyclic.proofs.ListLemmas.{AllZip-push}
 use Rattle.ct_acyclic.proofs.entries.entries.Goals as goal
 
 abbrev nowhere : Hop

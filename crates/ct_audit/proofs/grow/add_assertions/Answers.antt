@@ -1,16 +1,16 @@
 use Rattle.std.proofs.Common.{◌≡◌, ◌-◌, ◌≤◌, List, [], ◌∷◌, length, take, drop, map, sym, ap, subst, arith, rules}
 use Rattle.std.proofs.lemmas.List.Elements.{All-head, All-tail}
 use Rattle.std.proofs.lemmas.Result.{err_from_is_err_and}
+use Rattle.ct_lemmas.proofs.Prefixes.{nothing_left, rest-item}
 use Rattle.ct_sorts.specs.Declarations.{bool_sort}
 use Rattle.ct_terms.specs.declared.ids.TermId.{TermId}
 use Rattle.ct_terms.specs.declared.error.TermError.TheVariants.{Full}
-use Rattle.ct_terms.specs.declared.tree.Tree.{Tree}
+use Rattle.ct_formulas.specs.declared.tree.Tree.{Tree}
 use Rattle.ct_terms.specs.Terms.{AreOrdered, AreSingle, most_terms}
-use Rattle.ct_terms.specs.FormulaSorts.{IsSorted}
-use Rattle.ct_terms.specs.TreeFormula.{formula_of}
+use Rattle.ct_formulas.specs.FormulaSorts.{IsSorted}
+use Rattle.ct_formulas.specs.TreeFormula.{formula_of}
 use Rattle.ct_stack.specs.Held.{context_in}
 use Rattle.ct_audit.specs.Growing.{IsGrowing, AreBoolean}
-use Rattle.ct_audit.proofs.ListLemmas.{rest_item, nothing_left}
 use Rattle.ct_audit.proofs.GrowLemmas.{ends, goes_on, too_many, other_err}
 use Rattle.ct_audit.proofs.grow.add_assertions.Goals as goal
 
@@ -19,7 +19,7 @@ returns-in_err-number-clause-full c =
     let loop = c.loop-rest in
     let all = map formula_of c.args.asserts.now in
     let others : List Tree = take (length loop.rest.now - 1) (drop 1 loop.rest.now) in
-    let is : loop.rest.now ≡ c.tree-item.result ∷ others = rest_item loop.rest.now c.tree-item.result c.in-len1-up.len_at_least c.tree-item.is in
+    let is : loop.rest.now ≡ c.tree-item.result ∷ others = rest-item loop.rest.now c.tree-item.result c.in-len1-up.len_at_least c.tree-item.is in
     let growing = subst (λ (xs : List Tree). IsGrowing (context_in c.args.scope.now) all (map formula_of xs) c.args.table.now loop.table loop.numbers.items) is loop.invariant.growing in
     let p = err_from_is_err_and c.from_residual.result c.from_residual.ensures.1 in
     rw (p.1, p.2) (λ full.
@@ -31,7 +31,7 @@ loop-rest-preserved c =
     let loop = c.loop-rest in
     let all = map formula_of c.args.asserts.now in
     let others : List Tree = take (length loop.rest.now - 1) (drop 1 loop.rest.now) in
-    let is : loop.rest.now ≡ c.tree-item.result ∷ others = rest_item loop.rest.now c.tree-item.result c.in-len1-up.len_at_least c.tree-item.is in
+    let is : loop.rest.now ≡ c.tree-item.result ∷ others = rest-item loop.rest.now c.tree-item.result c.in-len1-up.len_at_least c.tree-item.is in
     let growing = subst (λ (xs : List Tree). IsGrowing (context_in c.args.scope.now) all (map formula_of xs) c.args.table.now loop.table loop.numbers.items) is loop.invariant.growing in
     let booleans = subst (λ (xs : List Tree). AreBoolean (context_in c.args.scope.now) (map formula_of xs)) is loop.invariant.booleans in
     let ordered : AreOrdered c.compile.new.table = search rules in

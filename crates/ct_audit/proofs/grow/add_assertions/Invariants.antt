@@ -1,5 +1,5 @@
 use Rattle.std.proofs.Common.{map, length}
-use Rattle.ct_terms.specs.TreeFormula.{formula_of}
+use Rattle.ct_formulas.specs.TreeFormula.{formula_of}
 use Rattle.ct_stack.specs.Held.{context_in}
 use Rattle.ct_audit.specs.Growing.{IsGrowing, AreBoolean}
 use Rattle.ct_audit.proofs.grow.add_assertions.Given as goal

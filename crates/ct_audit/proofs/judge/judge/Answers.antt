@@ -1,6 +1,6 @@
 use Rattle.std.proofs.Common.{Err, map, ap}
 use Rattle.ct_sexpr.specs.View.{expression_of}
-use Rattle.ct_terms.specs.TreeFormula.{formula_of}
+use Rattle.ct_formulas.specs.TreeFormula.{formula_of}
 use Rattle.ct_log.specs.declared.error.LogError.{LogError}
 use Rattle.ct_stack.specs.Held.{context_in}
 use Rattle.ct_audit.proofs.TextLemmas.{read_judged}

@@ -1,5 +1,5 @@
 use Rattle.std.proofs.Common.{map}
-use Rattle.ct_terms.specs.TreeFormula.{formula_of}
+use Rattle.ct_formulas.specs.TreeFormula.{formula_of}
 use Rattle.ct_stack.specs.Held.{context_in}
 use Rattle.ct_audit.proofs.JudgeLemmas.{no_model}
 use Rattle.ct_audit.proofs.judge.judge_lines.Goals as goal

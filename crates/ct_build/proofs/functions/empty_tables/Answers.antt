@@ -1,10 +1,11 @@
 use Rattle.std.proofs.Common.{◌≡◌, ◌+◌, ◌++◌, ◌∷◌, [], List, length, get_or, option_map, sym, ap, ◌∙◌, subst, arith}
 use Rattle.std.proofs.lemmas.Option.{slice_get-get_or, same_Some}
+use Rattle.ct_lemmas.proofs.Lists.{slice_get-there}
 use Rattle.ct_sorts.specs.Declarations.{Function}
 use Rattle.ct_values.specs.Fitting.{HasNodeSort}
 use Rattle.ct_eval.specs.declared.interp.Row.{Row}
 use Rattle.ct_eval.specs.declared.interp.Table.{Table}
-use Rattle.ct_build.proofs.ListLemmas.{there, length-push}
+use Rattle.ct_build.proofs.ListLemmas.{length-push}
 use Rattle.ct_build.proofs.TableLemmas.{HasFirstFunctions, first_function}
 use Rattle.ct_build.proofs.functions.empty_tables.Goals as goal
 
@@ -13,7 +14,7 @@ loop-f-preserved c =
     let d = c.args.sig.now in
     let s = c.fun_result-s.result in
     let n = get_or c.args.defaults.now s.0 (record { 0 = 0 }) in
-    let function = there d.functions c.loop-f.f (omega (arith, c.loop-f-test.true, c.funs-f-end.ensures.count)) in
+    let function = slice_get-there d.functions c.loop-f.f (omega (arith, c.loop-f-test.true, c.funs-f-end.ensures.count)) in
     let is : function.0.result ≡ s = same_Some _ _ (ap (option_map (λ (k : Function). k.result)) (sym function.1) ∙ c.fun_result-s.ensures.value) in
     let rows = c.new-in-loop-f.ensures.value ∙ c.new.ensures.items in
     record {

@@ -1,11 +1,12 @@
 use Rattle.std.proofs.Common.{◌≡◌, ◌+◌, ◌++◌, ◌∷◌, [], List, length, get_or, option_map, sym, ap, ◌∙◌, subst, arith}
 use Rattle.std.proofs.lemmas.Option.{slice_get-get_or, same_Some}
+use Rattle.ct_lemmas.proofs.Lists.{slice_get-there}
 use Rattle.ct_sorts.specs.Declarations.{Selector}
 use Rattle.ct_sorts.specs.Lengths.{Lengths}
 use Rattle.ct_values.specs.Fitting.{HasNodeSort}
 use Rattle.ct_eval.specs.declared.interp.Row.{Row}
 use Rattle.ct_eval.specs.declared.interp.Table.{Table}
-use Rattle.ct_build.proofs.ListLemmas.{there, length-push}
+use Rattle.ct_build.proofs.ListLemmas.{length-push}
 use Rattle.ct_build.proofs.TableLemmas.{HasFirstSelectors, first_selector}
 use Rattle.ct_build.proofs.selectors.empty_tables.Goals as goal
 
@@ -14,7 +15,7 @@ loop-s-preserved c =
     let d = c.args.sig.now in
     let s = c.sel_sort-field.result in
     let n = get_or c.args.defaults.now s.0 (record { 0 = 0 }) in
-    let selector = there d.sels c.loop-s.s (omega (arith, c.loop-s-test.true, c.sels-s-end.ensures.value, ap (λ (m : Lengths). m.sels) c.mark.ensures.lengths)) in
+    let selector = slice_get-there d.sels c.loop-s.s (omega (arith, c.loop-s-test.true, c.sels-s-end.ensures.value, ap (λ (m : Lengths). m.sels) c.mark.ensures.lengths)) in
     let is : selector.0.sort ≡ s = same_Some _ _ (ap (option_map (λ (k : Selector). k.sort)) (sym selector.1) ∙ c.sel_sort-field.ensures.value) in
     let rows = c.new-in-loop-s.ensures.value ∙ c.new.ensures.items in
     record {

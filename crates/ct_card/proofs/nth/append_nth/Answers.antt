@@ -1,6 +1,7 @@
 use Rattle.std.proofs.Common.{◌≡◌, ◌++◌, ◌∷◌, [], false, List, ℕ, slice_get, Some, refl, sym, ◌∙◌, ap, subst, arith}
 use Rattle.std.proofs.lemmas.List.{nil_from_length}
 use Rattle.std.proofs.lemmas.Option.{slice_get_within}
+use Rattle.ct_lemmas.proofs.Lists.{slice_get-last}
 use Rattle.ct_sorts.specs.Grown.{Begins}
 use Rattle.ct_values.specs.Graph.{Nodes}
 use Rattle.ct_values.specs.Agreement.{node_point}
@@ -11,7 +12,7 @@ use Rattle.ct_card.specs.Built.{node_with}
 use Rattle.ct_card.specs.Signs.{HasAllDefaults}
 use Rattle.ct_card.specs.Nth.{IsNthIn}
 use Rattle.ct_card.specs.Descent.{LeadsDown}
-use Rattle.ct_card.proofs.ListLemmas.{begins_pushed, last_at}
+use Rattle.ct_card.proofs.ListLemmas.{begins_pushed}
 use Rattle.ct_card.proofs.WellFormedLemmas.{well_formed_pushed, longer_sort}
 use Rattle.ct_card.proofs.PathLemmas.{Agrees}
 use Rattle.ct_card.proofs.EndLemmas.{can_depart, end_sort}
@@ -62,7 +63,7 @@ loop-x-init c =
         down.left,
         c.in_ok-down.ensures.down,
         subst (λ (x : Nodes). HasNodeSort d x top (record { 0 = down.sort })) (sym pushed.3)
-            (node, ap (slice_get (g ++ node ∷ [])) number ∙ last_at g node, end_sort d k (e.own_constructors d k) (e.own_selectors d k) (e.of_their_sorts d k) (e.of_their_constructors d k) several ranks base down.sort second down.left last.departure node c.in_ok-down.ensures.inside (λ other. (last.step.ctor, ((departs other).index, (departs other).listed), (departs other).departs)) pushed.1),
+            (node, ap (slice_get (g ++ node ∷ [])) number ∙ slice_get-last g node, end_sort d k (e.own_constructors d k) (e.own_selectors d k) (e.of_their_sorts d k) (e.of_their_constructors d k) several ranks base down.sort second down.left last.departure node c.in_ok-down.ensures.inside (λ other. (last.step.ctor, ((departs other).index, (departs other).listed), (departs other).departs)) pushed.1),
         λ ctors seconds are all all_seconds. subst (λ (x : Nodes). IsNthIn d ctors seconds layers down.sort down.left (node_point x top)) (sym pushed.3)
             (end_nth laws d several ranks ctors seconds layers base are c.requires.several.long g second down.sort down.left top last node c.len.ensures.closed number all_seconds stored departs c.in_ok-down.ensures.end pushed.1),
       );

@@ -1,7 +1,7 @@
 use Rattle.std.proofs.Common.{◌≡◌, ◌||◌, length}
 use Rattle.std.specs.List.{list_any}
 use Rattle.ct_sorts.specs.declared.ids.CtorId.{CtorId}
-use Rattle.ct_terms.specs.Compiled.{is_among}
+use Rattle.ct_formulas.specs.Compiled.{is_among}
 use Rattle.ct_names.specs.Patterns.{is_of_ctor}
 use Rattle.ct_check.proofs.exhaustive.ctors_of.Given as goal
 

@@ -1,6 +1,6 @@
 use Rattle.std.proofs.Common.{◌≡◌, ℕ, [], map, Result, IfOk, Ok, Err, sym, ap, ◌∙◌}
 use Rattle.ct_sexpr.specs.View.{expression_of}
-use Rattle.ct_terms.specs.Formula.{bind}
+use Rattle.ct_formulas.specs.Formula.{bind}
 use Rattle.ct_names.specs.declared.error.CheckError.{CheckError}
 use Rattle.ct_names.specs.declared.error.CheckError.TheVariants.{Refused, NoMemory}
 use Rattle.ct_names.specs.Answer.{IsAnswerFor}

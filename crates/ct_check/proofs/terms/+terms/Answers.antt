@@ -1,10 +1,11 @@
 use Rattle.std.proofs.Common.{◌≡◌, ℕ, Option, Vec, Global, ◌-◌, List, length, take, drop, map, None, Ok, Err, refl, sym, ap, ◌∙◌, subst, arith}
 use Rattle.std.proofs.lemmas.Result.{err_from_is_err_and}
 use Rattle.std.specs.Borrow.{Bor}
+use Rattle.ct_lemmas.proofs.Prefixes.{rest-item}
 use Rattle.ct_sexpr.specs.View.{expression_of, expressions_of}
-use Rattle.ct_terms.specs.Formula as formula
-use Rattle.ct_terms.specs.Formula.{bind}
-use Rattle.ct_terms.specs.TreeFormula.{formula_of, formulas_of_trees}
+use Rattle.ct_formulas.specs.Formula as formula
+use Rattle.ct_formulas.specs.Formula.{bind}
+use Rattle.ct_formulas.specs.TreeFormula.{formula_of, formulas_of_trees}
 use Rattle.ct_check.specs.declared.heads.Head.{Head}
 use Rattle.ct_check.specs.declared.heads.Head.TheVariants.{Equation}
 use Rattle.ct_names.specs.Answer.{as_it_is}
@@ -20,7 +21,7 @@ use Rattle.ct_occurrence.specs.CaseFormula.{case_of}
 use Rattle.ct_names.specs.Variables.{variables}
 use Rattle.ct_names.specs.Elaboration.{part_of, parts_of, meaning_of_part, elaborated, list_meaning, let_form, match_form, annotated, lone_symbol, choice_form, let_of, bound_terms, match_of, checked_cases, exhausted, sorts_of, without_sorts}
 use Rattle.ct_names.proofs.AnswerLemmas.{answers_along, answers_error, answers_memory, leads_along, leads_error}
-use Rattle.ct_names.proofs.PartLemmas.{part_of_list, first_and_rest, count-parts}
+use Rattle.ct_names.proofs.PartLemmas.{part_of_list, count-parts}
 use Rattle.ct_check.proofs.HeadLemmas.{list-headed}
 use Rattle.ct_check.proofs.MetLemmas as met_terms
 use Rattle.ct_check.proofs.MetLemmas.{elim-stopped}
@@ -116,7 +117,7 @@ list-returns-in_err-head_of-clause-value t c =
     let p = err_from_is_err_and c.from_residual.result c.from_residual.ensures.1 in
     rw (p.1, p.2) (leads_error next sorted_of whole _
     (leads_along next whole (list_meaning d (with_part (part_of d (expression_of c.first-item.result)) (parts_of d (expressions_of others))) scope) (Err _)
-    (list-headed d scope items c.first-item.result others (first_and_rest items c.first-item.result c.in-len1-up.len_at_least c.first-item.is))
+    (list-headed d scope items c.first-item.result others (rest-item items c.first-item.result c.in-len1-up.len_at_least c.first-item.is))
     c.in_err-head_of.ensures.value))
 
 pub list-returns-in-Let-clause-value : goal.list-returns-in-Let-clause-value
@@ -127,7 +128,7 @@ list-returns-in-Let-clause-value t c =
     let others = take (length items - 1) (drop 1 items) in
     let ps = parts_of d (expressions_of others) in
     answers_along sorted_of (list_meaning d (parts_of d (expressions_of items)) scope) (let_form d scope ps) c.let_form.result
-    (list-headed d scope items c.first-item.result others (first_and_rest items c.first-item.result c.in-len1-up.len_at_least c.first-item.is)
+    (list-headed d scope items c.first-item.result others (rest-item items c.first-item.result c.in-len1-up.len_at_least c.first-item.is)
     ∙ c.in_ok-head_of.ensures.value ∙ ap (λ (h : Head). headed_by d scope h ps) c.in-Let.is)
     c.let_form.ensures.value
 
@@ -139,7 +140,7 @@ list-returns-in-Match-clause-value t c =
     let others = take (length items - 1) (drop 1 items) in
     let ps = parts_of d (expressions_of others) in
     answers_along sorted_of (list_meaning d (parts_of d (expressions_of items)) scope) (match_form d scope ps) c.match_form.result
-    (list-headed d scope items c.first-item.result others (first_and_rest items c.first-item.result c.in-len1-up.len_at_least c.first-item.is)
+    (list-headed d scope items c.first-item.result others (rest-item items c.first-item.result c.in-len1-up.len_at_least c.first-item.is)
     ∙ c.in_ok-head_of.ensures.value ∙ ap (λ (h : Head). headed_by d scope h ps) c.in-Match.is)
     c.match_form.ensures.value
 
@@ -151,7 +152,7 @@ list-returns-in-Annotation-clause-value t c =
     let others = take (length items - 1) (drop 1 items) in
     let ps = parts_of d (expressions_of others) in
     answers_along sorted_of (list_meaning d (parts_of d (expressions_of items)) scope) (annotated d scope ps) c.annotated.result
-    (list-headed d scope items c.first-item.result others (first_and_rest items c.first-item.result c.in-len1-up.len_at_least c.first-item.is)
+    (list-headed d scope items c.first-item.result others (rest-item items c.first-item.result c.in-len1-up.len_at_least c.first-item.is)
     ∙ c.in_ok-head_of.ensures.value ∙ ap (λ (h : Head). headed_by d scope h ps) c.in-Annotation.is)
     c.annotated.ensures.value
 
@@ -169,7 +170,7 @@ list-returns-in-Whole-clause-value t c =
     let others = take (length items - 1) (drop 1 items) in
     let ps = parts_of d (expressions_of others) in
     answers_along sorted_of (list_meaning d (parts_of d (expressions_of items)) scope) (lone_symbol d c.in-Whole.symbol) c.lone_symbol.result
-    (list-headed d scope items c.first-item.result others (first_and_rest items c.first-item.result c.in-len1-up.len_at_least c.first-item.is)
+    (list-headed d scope items c.first-item.result others (rest-item items c.first-item.result c.in-len1-up.len_at_least c.first-item.is)
     ∙ c.in_ok-head_of.ensures.value ∙ ap (λ (h : Head). headed_by d scope h ps) c.in-Whole.is)
     c.lone_symbol.ensures.value
 
@@ -187,7 +188,7 @@ list-returns-in_ok-met-in-Call-clause-value t c =
     let others = take (length items - 1) (drop 1 items) in
     let ps = parts_of d (expressions_of others) in
     answers_along sorted_of (list_meaning d (parts_of d (expressions_of items)) scope) (called d scope c.in-Call.callee ps) c.called.result
-    (list-headed d scope items c.first-item.result others (first_and_rest items c.first-item.result c.in-len1-up.len_at_least c.first-item.is)
+    (list-headed d scope items c.first-item.result others (rest-item items c.first-item.result c.in-len1-up.len_at_least c.first-item.is)
     ∙ c.in_ok-head_of.ensures.value ∙ ap (λ (h : Head). headed_by d scope h ps) c.in-Call.is)
     (c.called.ensures.value scope ps (count-parts d others) c.in_ok-met-in-Call.ensures.held)
 
@@ -205,7 +206,7 @@ list-returns-in_ok-met-in-Equation-clause-value t c =
     let others = take (length items - 1) (drop 1 items) in
     let ps = parts_of d (expressions_of others) in
     answers_along sorted_of (list_meaning d (parts_of d (expressions_of items)) scope) (headed_by d scope (Equation c.in-Equation.operator) ps) c.equation.result
-    (list-headed d scope items c.first-item.result others (first_and_rest items c.first-item.result c.in-len1-up.len_at_least c.first-item.is)
+    (list-headed d scope items c.first-item.result others (rest-item items c.first-item.result c.in-len1-up.len_at_least c.first-item.is)
     ∙ c.in_ok-head_of.ensures.value ∙ ap (λ (h : Head). headed_by d scope h ps) c.in-Equation.is)
     (c.equation.ensures.value d scope ps (count-parts d others) c.in_ok-met-in-Equation.ensures.held)
 
@@ -223,7 +224,7 @@ list-returns-in_ok-met-in-Choice-clause-value t c =
     let others = take (length items - 1) (drop 1 items) in
     let ps = parts_of d (expressions_of others) in
     answers_along sorted_of (list_meaning d (parts_of d (expressions_of items)) scope) (choice_form d scope ps) c.choice.result
-    (list-headed d scope items c.first-item.result others (first_and_rest items c.first-item.result c.in-len1-up.len_at_least c.first-item.is)
+    (list-headed d scope items c.first-item.result others (rest-item items c.first-item.result c.in-len1-up.len_at_least c.first-item.is)
     ∙ c.in_ok-head_of.ensures.value ∙ ap (λ (h : Head). headed_by d scope h ps) c.in-Choice.is)
     (c.choice.ensures.value d scope ps (count-parts d others) c.in_ok-met-in-Choice.ensures.held)
 
@@ -235,7 +236,7 @@ annotated-returns-then-not-are_attributes-clause-value t c =
     let d = c.args.sig.now in
     let args = c.args.args.now in
     annotated-other d c.args.variables.now args c.expr-item.result (take (length args - 1) (drop 1 args))
-    (first_and_rest args c.expr-item.result c.in-len1-up.len_at_least c.expr-item.is)
+    (rest-item args c.expr-item.result c.in-len1-up.len_at_least c.expr-item.is)
     (sym (c.are_attributes.ensures.value d) ∙ c.if-not-are_attributes.true)
 
 pub annotated-returns-clause-value : goal.annotated-returns-clause-value
@@ -245,7 +246,7 @@ annotated-returns-clause-value t c =
     let args = c.args.args.now in
     answers_along sorted_of (annotated d scope (parts_of d (expressions_of args))) (elaborated d scope (expression_of c.expr-item.result)) c.term.result
     (annotated-term d scope args c.expr-item.result (take (length args - 1) (drop 1 args))
-    (first_and_rest args c.expr-item.result c.in-len1-up.len_at_least c.expr-item.is)
+    (rest-item args c.expr-item.result c.in-len1-up.len_at_least c.expr-item.is)
     (sym (c.are_attributes.ensures.value d) ∙ c.if-not-are_attributes.false))
     c.term.ensures.value
 

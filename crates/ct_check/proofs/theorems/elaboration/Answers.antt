@@ -3,8 +3,8 @@ use Rattle.ct_sexpr.specs.Expression.{Expression}
 use Rattle.ct_sorts.specs.Consistent.{IsConsistent}
 use Rattle.ct_sorts.specs.Declarations.{Declarations}
 use Rattle.ct_sorts.specs.declared.ids.SortId.{SortId}
-use Rattle.ct_terms.specs.Formula.{Formula, bind}
-use Rattle.ct_terms.specs.FormulaSorts.{IsSorted}
+use Rattle.ct_formulas.specs.Formula.{Formula, bind}
+use Rattle.ct_formulas.specs.FormulaSorts.{IsSorted}
 use Rattle.ct_names.specs.declared.variables.Param.{Param}
 use Rattle.ct_names.specs.Bounds.{parameter_variables, variable_of_param}
 use Rattle.ct_names.specs.Elaboration.{elaborated}

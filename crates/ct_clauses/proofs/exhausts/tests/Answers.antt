@@ -2,11 +2,11 @@ use Rattle.std.proofs.Common.{◌≡◌, List, [], ◌∷◌, ◌++◌, ◌+◌,
 use Rattle.std.specs.List.{AllZip}
 use Rattle.std.proofs.lemmas.List.{take_more}
 use Rattle.std.proofs.lemmas.List.Elements.{All-push}
+use Rattle.ct_lemmas.proofs.Pairs.{AllZip-push}
 use Rattle.ct_sorts.specs.declared.ids.CtorId.{CtorId}
 use Rattle.ct_terms.specs.declared.ids.Lit.{Lit}
 use Rattle.ct_terms.specs.Literal.{IsStripped}
 use Rattle.ct_log.specs.Gates.{IsTestOf}
-use Rattle.ct_clauses.proofs.ListLemmas.{AllZip-more}
 use Rattle.ct_clauses.proofs.exhausts.tests.Goals as goal
 
 pub loop-c-preserved : goal.loop-c-preserved
@@ -21,7 +21,7 @@ loop-c-preserved c =
       tests =
           subst (AllZip (IsTestOf table c.args.t) c.push.new.self.items) (sym more)
           (subst (λ (ls : List Lit). AllZip (IsTestOf table c.args.t) ls (take i ctors ++ k ∷ [])) (sym pushed)
-          (AllZip-more (IsTestOf table c.args.t) c.loop-c.clause.items (take i ctors) c.test.result k c.loop-c.invariant.tests c.test.ensures.test));
+          (AllZip-push (IsTestOf table c.args.t) c.loop-c.clause.items (take i ctors) c.test.result k c.loop-c.invariant.tests c.test.ensures.test));
       literals =
           subst (All (λ (l : Lit). IsStripped table l.term)) (sym pushed)
           (All-push (λ (l : Lit). IsStripped table l.term) c.loop-c.clause.items c.test.result c.loop-c.invariant.literals c.test.ensures.stripped);

@@ -1,7 +1,7 @@
 use Rattle.std.proofs.Common.{◌≡◌, [], ◌∷◌, All, subst, sym}
+use Rattle.ct_lemmas.proofs.Each.{All-one}
 use Rattle.ct_terms.specs.declared.ids.Lit.{Lit}
 use Rattle.ct_terms.specs.Literal.{literal_of, IsStripped}
-use Rattle.ct_clauses.proofs.GateLemmas.{All-one}
 use Rattle.ct_clauses.proofs.inputs.push_input.Goals as goal
 
 pub returns-clause-grown : goal.returns-clause-grown

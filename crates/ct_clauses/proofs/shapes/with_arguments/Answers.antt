@@ -1,11 +1,12 @@
 use Rattle.std.proofs.Common.{◌≡◌, List, [], ◌∷◌, ◌++◌, ◌∙◌, map, take, get_or, sym, ap, subst, All}
 use Rattle.std.proofs.lemmas.List.{map_more}
 use Rattle.std.proofs.lemmas.List.Elements.{All-push}
+use Rattle.ct_lemmas.proofs.Each.{All-one}
 use Rattle.ct_terms.specs.declared.ids.TermId.{TermId}
 use Rattle.ct_terms.specs.declared.ids.Lit.{Lit}
 use Rattle.ct_terms.specs.Literal.{literal_of, IsStripped}
 use Rattle.ct_log.specs.Look.{signed}
-use Rattle.ct_clauses.proofs.GateLemmas.{All-one, signed_stripped}
+use Rattle.ct_clauses.proofs.GateLemmas.{signed_stripped}
 use Rattle.ct_clauses.proofs.shapes.with_arguments.Goals as goal
 
 pub loop-a-init : goal.loop-a-init

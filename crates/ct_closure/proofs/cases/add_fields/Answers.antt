@@ -1,11 +1,12 @@
 use Rattle.std.proofs.Common.{List, [], get_or, Contains, sym, subst, ◌∙◌}
 use Rattle.std.specs.List.{AllZip}
 use Rattle.std.proofs.lemmas.Option.{slice_get-get_or}
+use Rattle.ct_lemmas.proofs.Contained.{Contains-from_slice_get}
+use Rattle.ct_lemmas.proofs.Prefixes.{take-past}
 use Rattle.ct_sorts.specs.declared.ids.SelId.{SelId}
 use Rattle.ct_terms.specs.declared.ids.TermId.{TermId}
 use Rattle.ct_closure.specs.ClosedTable.{IsFieldTerm}
 use Rattle.ct_closure.proofs.GrowthLemmas.{IsCaseOf-stays, step_none, step_then}
-use Rattle.ct_closure.proofs.ListLemmas.{contained, take_past}
 use Rattle.ct_closure.proofs.CaseLemmas.{case_inside, sels_listed, fields_more}
 use Rattle.ct_closure.proofs.cases.add_fields.Goals as goal
 
@@ -29,7 +30,7 @@ add_field-requires-clause-of_ctor c =
     let sels = c.ctor_sels-sels.result.now in
     let s = get_or sels c.loop-s.s-index (record { 0 = 0 }) in
     subst (λ (ss : List SelId). Contains ss s) (sym (sels_listed c.args.sig.now c.args.c sels c.ctor_sels-sels.ensures.value))
-    (contained sels c.loop-s.s-index s (slice_get-get_or sels c.loop-s.s-index (record { 0 = 0 }) c.loop-s-test.true))
+    (Contains-from_slice_get sels c.loop-s.s-index s (slice_get-get_or sels c.loop-s.s-index (record { 0 = 0 }) c.loop-s-test.true))
 
 pub returns-in_err-field-clause-step : goal.returns-in_err-field-clause-step
 returns-in_err-field-clause-step c = step_then c.args.sig.now c.args.table.now c.loop-s.table c.add_field.new.table c.loop-s.invariant.step c.add_field.ensures.step
@@ -52,5 +53,5 @@ pub returns-clause-fields : goal.returns-clause-fields
 returns-clause-fields c =
     let sels = c.ctor_sels-sels.result.now in
     subst (λ (ss : List SelId). AllZip (IsFieldTerm c.loop-s.table c.args.t) ss c.loop-s.args)
-    (take_past c.loop-s.s-index sels c.loop-s-test.false ∙ sym (sels_listed c.args.sig.now c.args.c sels c.ctor_sels-sels.ensures.value))
+    (take-past c.loop-s.s-index sels c.loop-s-test.false ∙ sym (sels_listed c.args.sig.now c.args.c sels c.ctor_sels-sels.ensures.value))
     c.loop-s.invariant.fields

@@ -1,5 +1,5 @@
 use Rattle.std.proofs.Common.{◌-◌, suc, length, map, sym, arith}
-use Rattle.ct_terms.specs.TreeFormula.{formula_of}
+use Rattle.ct_formulas.specs.TreeFormula.{formula_of}
 use Rattle.ct_occurrence.specs.Marks.{worked_in}
 use Rattle.ct_scope.specs.Compilable.{compiled_calls}
 use Rattle.ct_scope.proofs.CallingLemmas.{state_below}

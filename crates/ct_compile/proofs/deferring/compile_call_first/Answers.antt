@@ -1,8 +1,8 @@
 use Rattle.std.proofs.Common.{◌≡◌, List, [], map, Some, Ok, Err, sym, ap, subst, ◌∙◌}
 use Rattle.std.proofs.lemmas.Result.{err_from_is_err_and}
 use Rattle.indexmap.specs.IndexMap.{get}
-use Rattle.ct_terms.specs.Formula.{bind}
-use Rattle.ct_terms.specs.TreeFormula.{formula_of}
+use Rattle.ct_formulas.specs.Formula.{bind}
+use Rattle.ct_formulas.specs.TreeFormula.{formula_of}
 use Rattle.ct_scope.specs.declared.bound.Bound.{Bound}
 use Rattle.ct_scope.specs.declared.known.Called.{Called}
 use Rattle.ct_scope.specs.Calling.{same_call, call_of, IsRecalled}

@@ -1,7 +1,7 @@
 use Rattle.std.proofs.Common.{◌≡◌, [], map, not, option_to_list, refl, ap, ◌∙◌}
 use Rattle.std.proofs.lemmas.Result.{err_from_is_err_and}
 use Rattle.ct_terms.specs.declared.error.TermError.TheVariants.{NoMemory}
-use Rattle.ct_terms.specs.TreeFormula.{formula_of}
+use Rattle.ct_formulas.specs.TreeFormula.{formula_of}
 use Rattle.ct_occurrence.specs.Marks.{worked_in}
 use Rattle.ct_compile.proofs.AttemptLemmas.{emptied, way_ready, way_out, way_failed, way_next, way_fewer, way_more, way_end}
 use Rattle.ct_compile.proofs.deferring.compile_deferring.Goals.{in-Ok+else-is_none, in-Err-TooDeep+in_ok-push-in-Err-TooDeep}

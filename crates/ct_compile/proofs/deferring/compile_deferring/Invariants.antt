@@ -1,5 +1,5 @@
 use Rattle.std.proofs.Common.{map}
-use Rattle.ct_terms.specs.TreeFormula.{formula_of}
+use Rattle.ct_formulas.specs.TreeFormula.{formula_of}
 use Rattle.ct_occurrence.specs.Marks.{worked_in}
 use Rattle.ct_compile.proofs.AttemptLemmas.{IsUnderWay}
 use Rattle.ct_compile.proofs.deferring.compile_deferring.Given as goal

@@ -1,15 +1,15 @@
 use Rattle.std.proofs.Common.{◌≡◌, ◌≤◌, ℕ, List, [], length, map, Contains, sym, subst, ap, ◌∙◌, arith}
 use Rattle.std.proofs.lemmas.Result.{IfOk-weaker}
 use Rattle.ct_terms.specs.declared.ids.TermId.{TermId}
-use Rattle.ct_terms.specs.declared.tree.Tree.{Tree}
+use Rattle.ct_formulas.specs.declared.tree.Tree.{Tree}
 use Rattle.ct_terms.specs.CoreTree.{CoreTree, subtrees, term_at}
-use Rattle.ct_terms.specs.Formula.{MentionsBelow}
-use Rattle.ct_terms.specs.TreeFormula.{formula_of}
-use Rattle.ct_terms.specs.Compiled.{compiled, core_of}
+use Rattle.ct_formulas.specs.Formula.{MentionsBelow}
+use Rattle.ct_formulas.specs.TreeFormula.{formula_of}
+use Rattle.ct_formulas.specs.Compiled.{compiled, core_of}
 use Rattle.ct_operators.specs.Effect.{Stands, DoNotFit}
 use Rattle.ct_operators.specs.Made.{MakesInOrder}
 use Rattle.ct_scope.specs.Making.{making, defined, making_of}
-use Rattle.ct_terms.specs.Occurrence.{uses_below}
+use Rattle.ct_formulas.specs.Occurrence.{uses_below}
 use Rattle.ct_occurrence.specs.Marks.{worked_in, HaveRows}
 use Rattle.ct_occurrence.specs.Working.{AreRight}
 use Rattle.ct_scope.specs.Compilable.{compiled_calls}

@@ -2,10 +2,11 @@ use Rattle.std.proofs.Common.{◌≡◌, ◌-◌, ◌<◌, ◌==◌, ℕ, Bool, 
 use Rattle.std.proofs.lemmas.List.{reverse-append}
 use Rattle.std.proofs.lemmas.Bool.Decides.{Decides-eqb}
 use Rattle.std.proofs.lemmas.Result.{err_from_is_err_and}
+use Rattle.ct_lemmas.proofs.Prefixes.{nothing_left, rest-item}
 use Rattle.ct_sorts.specs.declared.ids.CtorId.{CtorId}
 use Rattle.ct_terms.specs.declared.ids.TermId.{TermId}
-use Rattle.ct_terms.specs.declared.tree.Tree.{Tree}
-use Rattle.ct_terms.specs.declared.tree.Case.{Case}
+use Rattle.ct_formulas.specs.declared.tree.Tree.{Tree}
+use Rattle.ct_formulas.specs.declared.tree.Case.{Case}
 use Rattle.std.specs.List.{AllByRecursion}
 use Rattle.ct_sorts.specs.declared.ids.SortId.{SortId}
 use Rattle.ct_terms.specs.declared.error.TermError.{TermError}
@@ -15,10 +16,10 @@ use Rattle.ct_terms.specs.CoreSorts.{HasTreeSort}
 use Rattle.ct_operators.specs.declared.choosing.Guarded.{Guarded}
 use Rattle.ct_operators.specs.Effect.{Stands, Within, Effect}
 use Rattle.ct_operators.specs.Chosen.{chosen_from, IsGuardedIn}
-use Rattle.ct_terms.specs.Formula.{Cases, Def, Ite, Let, Match, with_case, bind}
-use Rattle.ct_terms.specs.Compiled.{are_none}
-use Rattle.ct_terms.specs.Occurrence.{count_of, occurs, uses_below}
-use Rattle.ct_terms.specs.TreeFormula.{formula_of, formulas_of_trees}
+use Rattle.ct_formulas.specs.Formula.{Cases, Def, Ite, Let, Match, with_case, bind}
+use Rattle.ct_formulas.specs.Compiled.{are_none}
+use Rattle.ct_formulas.specs.Occurrence.{count_of, occurs, uses_below}
+use Rattle.ct_formulas.specs.TreeFormula.{formula_of, formulas_of_trees}
 use Rattle.ct_scope.specs.declared.bound.Bound.{Bound}
 use Rattle.ct_scope.specs.declared.known.Called.{Called}
 use Rattle.ct_scope.specs.Binding.{Binds}
@@ -31,7 +32,6 @@ use Rattle.ct_occurrence.specs.Matching.{tested_by}
 use Rattle.ct_scope.specs.Compilable.{MayCompile, Compiles, CompilesAll}
 use Rattle.ct_occurrence.specs.Noted.{IsOfFirst, IsNoted, AreNoted, CasesNoted}
 use Rattle.ct_scope.proofs.Weight.{weights_below}
-use Rattle.ct_operators.proofs.RestLemmas.{rest_item}
 use Rattle.ct_scope.proofs.BindLemmas.{bind_left}
 use Rattle.ct_compile.proofs.NoteLemmas.{first_inside, call_known, plain_notes, condition_notes, then_notes, else_notes, let_flags, let_under, let_inner, call_notes, match_inside, match_flag, match_under, match_inner, case_notes, later_cases, where_split}
 use Rattle.ct_compile.proofs.CycleLemmas.{compiles_nothing, compiles_grown, plain_children, plain_waits, plain_failed, plain_kept, plain_below, plain_operands, plain_made, Collects, collects_start, collects_next, collects_lighter, collects_waits, collects_failed, collects_follows, collects_broken, collects_out, collects_grown, collects_more, collects_end}
@@ -46,11 +46,6 @@ use Rattle.ct_scope.proofs.FormLemmas.{match_may, match_stopped, match_waits, ma
 use Rattle.ct_scope.specs.Deferral.{ended, Defers}
 use Rattle.ct_scope.proofs.DeferralLemmas.{ended_by, goes_on_by, too_deep_by, IsPutOff, ArePutOff}
 use Rattle.ct_compile.proofs.terms.+compile.Goals as goal
-
--- a list without elements
-nothing_left : {X : Type 0} (xs : List X) → length xs < 1 → xs ≡ []
-nothing_left [] h = refl
-nothing_left (x ∷ xs) h = absurd (omega (arith, h))
 
 -- where the rest is not empty there is a formula more
 ends_short : (xs : List Tree) (b : Bool) → b ≡ (length xs == 0) → b ≡ false → 0 < count_of (formulas_of_trees xs)
@@ -69,15 +64,15 @@ pub compile_all-compile_tree-requires : goal.compile_all-compile_tree-requires
 compile_all-compile_tree-requires t c =
     let loop = c.loop-rest in
     let more = formulas_of_trees (take (length loop.rest.now - 1) (drop 1 loop.rest.now)) in
-    let split = subst (λ (xs : List Tree). Collects c.args.level.now.scope.now.sig (map formula_of c.args.level.now.scope.now.bodies) c.args.level.now.below c.args.table.now loop.table c.args.env.now c.args.operator (formulas_of_trees c.args.trees.now) loop.args loop.lead (formulas_of_trees xs)) (rest_item loop.rest.now c.tree-item.result c.in-len1-up.len_at_least c.tree-item.is) loop.invariant.done in
+    let split = subst (λ (xs : List Tree). Collects c.args.level.now.scope.now.sig (map formula_of c.args.level.now.scope.now.bodies) c.args.level.now.below c.args.table.now loop.table c.args.env.now c.args.operator (formulas_of_trees c.args.trees.now) loop.args loop.lead (formulas_of_trees xs)) (rest-item loop.rest.now c.tree-item.result c.in-len1-up.len_at_least c.tree-item.is) loop.invariant.done in
     let lighter = collects_lighter c.args.level.now.scope.now.sig (map formula_of c.args.level.now.scope.now.bodies) c.args.level.now.below c.args.table.now loop.table c.args.env.now c.args.operator (formulas_of_trees c.args.trees.now) loop.args loop.lead (formula_of c.tree-item.result) more split in
-    (omega (arith, lighter, c.decreases), (loop.invariant.state, (rw loop.invariant.same (collects_next c.args.level.now.scope.now.sig (map formula_of c.args.level.now.scope.now.bodies) c.args.level.now.below c.args.table.now loop.table c.args.env.now c.args.operator (formulas_of_trees c.args.trees.now) loop.args loop.lead (formula_of c.tree-item.result) more split), (c.requires.noted.0, (subst (λ (xs : List Tree). AreNoted c.args.level.now.scope.now.sig (worked_in c.args.level.now.definitions.now) (uses_below c.args.level.now.scope.now.sig (map formula_of c.args.level.now.scope.now.bodies) c.args.level.now.below) (formulas_of_trees xs) loop.left.now) (rest_item loop.rest.now c.tree-item.result c.in-len1-up.len_at_least c.tree-item.is) loop.invariant.noted).0))))
+    (omega (arith, lighter, c.decreases), (loop.invariant.state, (rw loop.invariant.same (collects_next c.args.level.now.scope.now.sig (map formula_of c.args.level.now.scope.now.bodies) c.args.level.now.below c.args.table.now loop.table c.args.env.now c.args.operator (formulas_of_trees c.args.trees.now) loop.args loop.lead (formula_of c.tree-item.result) more split), (c.requires.noted.0, (subst (λ (xs : List Tree). AreNoted c.args.level.now.scope.now.sig (worked_in c.args.level.now.definitions.now) (uses_below c.args.level.now.scope.now.sig (map formula_of c.args.level.now.scope.now.bodies) c.args.level.now.below) (formulas_of_trees xs) loop.left.now) (rest-item loop.rest.now c.tree-item.result c.in-len1-up.len_at_least c.tree-item.is) loop.invariant.noted).0))))
 
 pub compile_all-returns-in_err-term-clause-outcome : goal.compile_all-returns-in_err-term-clause-outcome
 compile_all-returns-in_err-term-clause-outcome t c =
     let loop = c.loop-rest in
     let more = formulas_of_trees (take (length loop.rest.now - 1) (drop 1 loop.rest.now)) in
-    let split = subst (λ (xs : List Tree). Collects c.args.level.now.scope.now.sig (map formula_of c.args.level.now.scope.now.bodies) c.args.level.now.below c.args.table.now loop.table c.args.env.now c.args.operator (formulas_of_trees c.args.trees.now) loop.args loop.lead (formulas_of_trees xs)) (rest_item loop.rest.now c.tree-item.result c.in-len1-up.len_at_least c.tree-item.is) loop.invariant.done in
+    let split = subst (λ (xs : List Tree). Collects c.args.level.now.scope.now.sig (map formula_of c.args.level.now.scope.now.bodies) c.args.level.now.below c.args.table.now loop.table c.args.env.now c.args.operator (formulas_of_trees c.args.trees.now) loop.args loop.lead (formulas_of_trees xs)) (rest-item loop.rest.now c.tree-item.result c.in-len1-up.len_at_least c.tree-item.is) loop.invariant.done in
     let p = err_from_is_err_and c.from_residual.result c.from_residual.ensures.1 in
     rw (p.1, p.2) (ended_by _ (λ (r : Result TermId TermError). Compiles c.args.level.now.scope.now.sig (map formula_of c.args.level.now.scope.now.bodies) c.args.level.now.below loop.table c.compile_tree.new.table c.args.env.now (formula_of c.tree-item.result) r) (λ (r : Result (List TermId) TermError). CompilesAll c.args.level.now.scope.now.sig (map formula_of c.args.level.now.scope.now.bodies) c.args.level.now.below c.args.table.now c.compile_tree.new.table c.args.env.now c.args.operator (formulas_of_trees c.args.trees.now) r) (λ e k. collects_failed c.args.level.now.scope.now.sig (map formula_of c.args.level.now.scope.now.bodies) c.args.level.now.below c.args.table.now loop.table c.args.env.now c.args.operator (formulas_of_trees c.args.trees.now) loop.args loop.lead (formula_of c.tree-item.result) more split c.compile_tree.new.table e k) (rw loop.invariant.same at c.in_err-term.ensures.outcome))
 
@@ -85,7 +80,7 @@ pub compile_all-returns-in_err-term-clause-waits : goal.compile_all-returns-in_e
 compile_all-returns-in_err-term-clause-waits t c =
     let loop = c.loop-rest in
     let more = formulas_of_trees (take (length loop.rest.now - 1) (drop 1 loop.rest.now)) in
-    let split = subst (λ (xs : List Tree). Collects c.args.level.now.scope.now.sig (map formula_of c.args.level.now.scope.now.bodies) c.args.level.now.below c.args.table.now loop.table c.args.env.now c.args.operator (formulas_of_trees c.args.trees.now) loop.args loop.lead (formulas_of_trees xs)) (rest_item loop.rest.now c.tree-item.result c.in-len1-up.len_at_least c.tree-item.is) loop.invariant.done in
+    let split = subst (λ (xs : List Tree). Collects c.args.level.now.scope.now.sig (map formula_of c.args.level.now.scope.now.bodies) c.args.level.now.below c.args.table.now loop.table c.args.env.now c.args.operator (formulas_of_trees c.args.trees.now) loop.args loop.lead (formulas_of_trees xs)) (rest-item loop.rest.now c.tree-item.result c.in-len1-up.len_at_least c.tree-item.is) loop.invariant.done in
     let p = err_from_is_err_and c.from_residual.result c.from_residual.ensures.1 in
     rw (p.1, p.2) (too_deep_by TermId (List TermId) _ (λ call. IsPutOff c.args.level.now.scope.now.sig (map formula_of c.args.level.now.scope.now.bodies) (worked_in c.args.level.now.definitions.now) c.args.level.now.below loop.table c.compile_tree.new.table c.args.env.now (formula_of c.tree-item.result) call) (λ call. ArePutOff c.args.level.now.scope.now.sig (map formula_of c.args.level.now.scope.now.bodies) (worked_in c.args.level.now.definitions.now) c.args.level.now.below c.args.table.now c.compile_tree.new.table c.args.env.now c.args.operator (formulas_of_trees c.args.trees.now) call) (λ call k. collects_waits c.args.level.now.scope.now.sig (map formula_of c.args.level.now.scope.now.bodies) c.args.level.now.below c.args.table.now loop.table c.args.env.now c.args.operator (formulas_of_trees c.args.trees.now) loop.args loop.lead (formula_of c.tree-item.result) more split (worked_in c.args.level.now.definitions.now) c.compile_tree.new.table call k) (rw loop.invariant.same at c.in_err-term.ensures.waits))
 
@@ -103,14 +98,14 @@ pub compile_all-follow-requires : goal.compile_all-follow-requires
 compile_all-follow-requires t c =
     let loop = c.loop-rest in
     let more = formulas_of_trees (take (length loop.rest.now - 1) (drop 1 loop.rest.now)) in
-    let split = subst (λ (xs : List Tree). Collects c.args.level.now.scope.now.sig (map formula_of c.args.level.now.scope.now.bodies) c.args.level.now.below c.args.table.now loop.table c.args.env.now c.args.operator (formulas_of_trees c.args.trees.now) loop.args loop.lead (formulas_of_trees xs)) (rest_item loop.rest.now c.tree-item.result c.in-len1-up.len_at_least c.tree-item.is) loop.invariant.done in
+    let split = subst (λ (xs : List Tree). Collects c.args.level.now.scope.now.sig (map formula_of c.args.level.now.scope.now.bodies) c.args.level.now.below c.args.table.now loop.table c.args.env.now c.args.operator (formulas_of_trees c.args.trees.now) loop.args loop.lead (formulas_of_trees xs)) (rest-item loop.rest.now c.tree-item.result c.in-len1-up.len_at_least c.tree-item.is) loop.invariant.done in
     record { ready = collects_follows c.args.level.now.scope.now.sig (map formula_of c.args.level.now.scope.now.bodies) c.args.level.now.below c.args.table.now loop.table c.args.env.now c.args.operator (formulas_of_trees c.args.trees.now) loop.args loop.lead (formula_of c.tree-item.result) more split c.compile_tree.new.table c.in_ok-term.term (rw loop.invariant.same at c.in_ok-term.ensures.outcome) }
 
 pub compile_all-returns-in_err-next-clause-outcome : goal.compile_all-returns-in_err-next-clause-outcome
 compile_all-returns-in_err-next-clause-outcome t c =
     let loop = c.loop-rest in
     let more = formulas_of_trees (take (length loop.rest.now - 1) (drop 1 loop.rest.now)) in
-    let split = subst (λ (xs : List Tree). Collects c.args.level.now.scope.now.sig (map formula_of c.args.level.now.scope.now.bodies) c.args.level.now.below c.args.table.now loop.table c.args.env.now c.args.operator (formulas_of_trees c.args.trees.now) loop.args loop.lead (formulas_of_trees xs)) (rest_item loop.rest.now c.tree-item.result c.in-len1-up.len_at_least c.tree-item.is) loop.invariant.done in
+    let split = subst (λ (xs : List Tree). Collects c.args.level.now.scope.now.sig (map formula_of c.args.level.now.scope.now.bodies) c.args.level.now.below c.args.table.now loop.table c.args.env.now c.args.operator (formulas_of_trees c.args.trees.now) loop.args loop.lead (formulas_of_trees xs)) (rest-item loop.rest.now c.tree-item.result c.in-len1-up.len_at_least c.tree-item.is) loop.invariant.done in
     let is_end : c.is_empty.result ≡ false → 0 < count_of more = λ e. ends_short (take (length loop.rest.now - 1) (drop 1 loop.rest.now)) c.is_empty.result c.is_empty.ensures e in
     let is_last : c.is_empty.result ≡ true → count_of more ≡ 0 = λ e. ends_last (take (length loop.rest.now - 1) (drop 1 loop.rest.now)) c.is_empty.result c.is_empty.ensures e in
     let p = err_from_is_err_and c.from_residual-in_err-next.result c.from_residual-in_err-next.ensures.1 in
@@ -120,7 +115,7 @@ pub compile_all-returns-in_err-push-clause-outcome : goal.compile_all-returns-in
 compile_all-returns-in_err-push-clause-outcome t c =
     let loop = c.loop-rest in
     let more = formulas_of_trees (take (length loop.rest.now - 1) (drop 1 loop.rest.now)) in
-    let split = subst (λ (xs : List Tree). Collects c.args.level.now.scope.now.sig (map formula_of c.args.level.now.scope.now.bodies) c.args.level.now.below c.args.table.now loop.table c.args.env.now c.args.operator (formulas_of_trees c.args.trees.now) loop.args loop.lead (formulas_of_trees xs)) (rest_item loop.rest.now c.tree-item.result c.in-len1-up.len_at_least c.tree-item.is) loop.invariant.done in
+    let split = subst (λ (xs : List Tree). Collects c.args.level.now.scope.now.sig (map formula_of c.args.level.now.scope.now.bodies) c.args.level.now.below c.args.table.now loop.table c.args.env.now c.args.operator (formulas_of_trees c.args.trees.now) loop.args loop.lead (formulas_of_trees xs)) (rest-item loop.rest.now c.tree-item.result c.in-len1-up.len_at_least c.tree-item.is) loop.invariant.done in
     let is_end : c.is_empty.result ≡ false → 0 < count_of more = λ e. ends_short (take (length loop.rest.now - 1) (drop 1 loop.rest.now)) c.is_empty.result c.is_empty.ensures e in
     let is_last : c.is_empty.result ≡ true → count_of more ≡ 0 = λ e. ends_last (take (length loop.rest.now - 1) (drop 1 loop.rest.now)) c.is_empty.result c.is_empty.ensures e in
     let p = err_from_is_err_and c.from_residual-in_err-push.result c.from_residual-in_err-push.ensures.1 in
@@ -131,14 +126,14 @@ pub compile_all-loop-rest-preserved : goal.compile_all-loop-rest-preserved
 compile_all-loop-rest-preserved t c =
     let loop = c.loop-rest in
     let more = formulas_of_trees (take (length loop.rest.now - 1) (drop 1 loop.rest.now)) in
-    let split = subst (λ (xs : List Tree). Collects c.args.level.now.scope.now.sig (map formula_of c.args.level.now.scope.now.bodies) c.args.level.now.below c.args.table.now loop.table c.args.env.now c.args.operator (formulas_of_trees c.args.trees.now) loop.args loop.lead (formulas_of_trees xs)) (rest_item loop.rest.now c.tree-item.result c.in-len1-up.len_at_least c.tree-item.is) loop.invariant.done in
+    let split = subst (λ (xs : List Tree). Collects c.args.level.now.scope.now.sig (map formula_of c.args.level.now.scope.now.bodies) c.args.level.now.below c.args.table.now loop.table c.args.env.now c.args.operator (formulas_of_trees c.args.trees.now) loop.args loop.lead (formulas_of_trees xs)) (rest-item loop.rest.now c.tree-item.result c.in-len1-up.len_at_least c.tree-item.is) loop.invariant.done in
     let is_end : c.is_empty.result ≡ false → 0 < count_of more = λ e. ends_short (take (length loop.rest.now - 1) (drop 1 loop.rest.now)) c.is_empty.result c.is_empty.ensures e in
     let is_last : c.is_empty.result ≡ true → count_of more ≡ 0 = λ e. ends_last (take (length loop.rest.now - 1) (drop 1 loop.rest.now)) c.is_empty.result c.is_empty.ensures e in
     let next = collects_more c.args.level.now.scope.now.sig (map formula_of c.args.level.now.scope.now.bodies) c.args.level.now.below c.args.table.now loop.table c.args.env.now c.args.operator (formulas_of_trees c.args.trees.now) loop.args loop.lead (formula_of c.tree-item.result) more split c.compile_tree.new.table c.in_ok-term.term (rw loop.invariant.same at c.in_ok-term.ensures.outcome) c.is_empty.result is_end is_last c.follow.new.table _ c.in_ok-next.ensures.outcome c.in_ok-next.next refl in
     let g = collects_grown c.args.level.now.scope.now.sig (map formula_of c.args.level.now.scope.now.bodies) c.args.level.now.below c.args.table.now loop.table c.args.env.now c.args.operator (formulas_of_trees c.args.trees.now) loop.args loop.lead (formula_of c.tree-item.result) more split c.compile_tree.new.table c.in_ok-term.term (rw loop.invariant.same at c.in_ok-term.ensures.outcome) c.is_empty.result is_end is_last c.follow.new.table _ c.in_ok-next.ensures.outcome in record {
       done = subst (λ (args : List TermId). Collects c.args.level.now.scope.now.sig (map formula_of c.args.level.now.scope.now.bodies) c.args.level.now.below c.args.table.now c.follow.new.table c.args.env.now c.args.operator (formulas_of_trees c.args.trees.now) args (Some c.in_ok-next.next) more) (sym c.in_ok-push.ensures.ok) next;
       state = state_stays c.args.level.now.scope.now.sig (map formula_of c.args.level.now.scope.now.bodies) (worked_in c.args.level.now.definitions.now) c.args.level.now.below c.compile_tree.new.table c.follow.new.table c.compile_tree.new.known g.0 g.1 c.in_ok-term.ensures.state;
-      noted = subst (AreNoted c.args.level.now.scope.now.sig (worked_in c.args.level.now.definitions.now) (uses_below c.args.level.now.scope.now.sig (map formula_of c.args.level.now.scope.now.bodies) c.args.level.now.below) more) (sym c.later_notes-left.ensures.value) (subst (λ (xs : List Tree). AreNoted c.args.level.now.scope.now.sig (worked_in c.args.level.now.definitions.now) (uses_below c.args.level.now.scope.now.sig (map formula_of c.args.level.now.scope.now.bodies) c.args.level.now.below) (formulas_of_trees xs) loop.left.now) (rest_item loop.rest.now c.tree-item.result c.in-len1-up.len_at_least c.tree-item.is) loop.invariant.noted).1;
+      noted = subst (AreNoted c.args.level.now.scope.now.sig (worked_in c.args.level.now.definitions.now) (uses_below c.args.level.now.scope.now.sig (map formula_of c.args.level.now.scope.now.bodies) c.args.level.now.below) more) (sym c.later_notes-left.ensures.value) (subst (λ (xs : List Tree). AreNoted c.args.level.now.scope.now.sig (worked_in c.args.level.now.definitions.now) (uses_below c.args.level.now.scope.now.sig (map formula_of c.args.level.now.scope.now.bodies) c.args.level.now.below) (formulas_of_trees xs) loop.left.now) (rest-item loop.rest.now c.tree-item.result c.in-len1-up.len_at_least c.tree-item.is) loop.invariant.noted).1;
       same = c.in_ok-term.ensures.back ∙ loop.invariant.same;
     }
 
@@ -463,21 +458,21 @@ pub compile_bound-first_flag-occurs-requires : goal.compile_bound-first_flag-occ
 compile_bound-first_flag-occurs-requires t c =
     let loop = c.loop-rest in
     let others = take (length loop.rest.now - 1) (drop 1 loop.rest.now) in
-    let item = rest_item loop.rest.now c.tree-item.result c.in-len1-up.len_at_least c.tree-item.is in
+    let item = rest-item loop.rest.now c.tree-item.result c.in-len1-up.len_at_least c.tree-item.is in
     record { some = completes_flag c.args.level.now.scope.now.sig (map formula_of c.args.level.now.scope.now.bodies) c.args.level.now.below c.args.table.now loop.table c.args.env.now c.args.flags.now (formulas_of_trees c.args.trees.now) loop.bounds.items loop.left.now loop.rest.now others c.tree-item.result item loop.invariant.done }
 
 pub compile_bound-later_flags-left-requires : goal.compile_bound-later_flags-left-requires
 compile_bound-later_flags-left-requires t c =
     let loop = c.loop-rest in
     let others = take (length loop.rest.now - 1) (drop 1 loop.rest.now) in
-    let item = rest_item loop.rest.now c.tree-item.result c.in-len1-up.len_at_least c.tree-item.is in
+    let item = rest-item loop.rest.now c.tree-item.result c.in-len1-up.len_at_least c.tree-item.is in
     record { some = completes_flag c.args.level.now.scope.now.sig (map formula_of c.args.level.now.scope.now.bodies) c.args.level.now.below c.args.table.now loop.table c.args.env.now c.args.flags.now (formulas_of_trees c.args.trees.now) loop.bounds.items loop.left.now loop.rest.now others c.tree-item.result item loop.invariant.done }
 
 pub compile_bound-returns-in_err-push-clause-outcome : goal.compile_bound-returns-in_err-push-clause-outcome
 compile_bound-returns-in_err-push-clause-outcome t c =
     let loop = c.loop-rest in
     let others = take (length loop.rest.now - 1) (drop 1 loop.rest.now) in
-    let item = rest_item loop.rest.now c.tree-item.result c.in-len1-up.len_at_least c.tree-item.is in
+    let item = rest-item loop.rest.now c.tree-item.result c.in-len1-up.len_at_least c.tree-item.is in
     let split = completes_split c.args.level.now.scope.now.sig (map formula_of c.args.level.now.scope.now.bodies) c.args.level.now.below c.args.table.now loop.table c.args.env.now c.args.flags.now (formulas_of_trees c.args.trees.now) loop.bounds.items loop.left.now c.later_flags-left.result.now loop.rest.now others c.tree-item.result c.first_flag-occurs.result false (flags_split loop.left.now c.later_flags-left.result.now c.first_flag-occurs.result c.first_flag-occurs.ensures.value c.later_flags-left.ensures.value) item c.if-not-occurs.true loop.invariant.done in
     let p = err_from_is_err_and c.from_residual.result c.from_residual.ensures.1 in
     rw (p.1, p.2) (completes_out c.args.level.now.scope.now.sig (map formula_of c.args.level.now.scope.now.bodies) c.args.level.now.below c.args.table.now loop.table c.args.env.now c.args.flags.now (formulas_of_trees c.args.trees.now) loop.bounds.items _ _ split NoMemory refl)
@@ -486,7 +481,7 @@ pub compile_bound-loop-rest-preserved-then-not-occurs : goal.compile_bound-loop-
 compile_bound-loop-rest-preserved-then-not-occurs t c =
     let loop = c.loop-rest in
     let others = take (length loop.rest.now - 1) (drop 1 loop.rest.now) in
-    let item = rest_item loop.rest.now c.tree-item.result c.in-len1-up.len_at_least c.tree-item.is in
+    let item = rest-item loop.rest.now c.tree-item.result c.in-len1-up.len_at_least c.tree-item.is in
     let split = completes_split c.args.level.now.scope.now.sig (map formula_of c.args.level.now.scope.now.bodies) c.args.level.now.below c.args.table.now loop.table c.args.env.now c.args.flags.now (formulas_of_trees c.args.trees.now) loop.bounds.items loop.left.now c.later_flags-left.result.now loop.rest.now others c.tree-item.result c.first_flag-occurs.result false (flags_split loop.left.now c.later_flags-left.result.now c.first_flag-occurs.result c.first_flag-occurs.ensures.value c.later_flags-left.ensures.value) item c.if-not-occurs.true loop.invariant.done in
     record { done = subst (λ (xs : List Bound). Completes c.args.level.now.scope.now.sig (map formula_of c.args.level.now.scope.now.bodies) c.args.level.now.below c.args.table.now loop.table c.args.env.now c.args.flags.now (formulas_of_trees c.args.trees.now) xs c.later_flags-left.result.now (formulas_of_trees others)) (sym c.in_ok-push.ensures.items) (completes_absent c.args.level.now.scope.now.sig (map formula_of c.args.level.now.scope.now.bodies) c.args.level.now.below c.args.table.now loop.table c.args.env.now c.args.flags.now (formulas_of_trees c.args.trees.now) loop.bounds.items c.later_flags-left.result.now (formula_of c.tree-item.result) (formulas_of_trees others) split); state = loop.invariant.state; noted = (where_split c.args.level.now.scope.now.sig (worked_in c.args.level.now.definitions.now) (uses_below c.args.level.now.scope.now.sig (map formula_of c.args.level.now.scope.now.bodies) c.args.level.now.below) loop.left.now c.later_flags-left.result.now c.first_flag-occurs.result (formulas_of_trees loop.rest.now) (formula_of c.tree-item.result) (formulas_of_trees others) loop.noted.now c.later_notes-noted.result.now (flags_split loop.left.now c.later_flags-left.result.now c.first_flag-occurs.result c.first_flag-occurs.ensures.value c.later_flags-left.ensures.value) (ap formulas_of_trees item) c.later_notes-noted.ensures.value loop.invariant.noted).1; same = loop.invariant.same }
 
@@ -494,7 +489,7 @@ pub compile_bound-compile_tree-requires : goal.compile_bound-compile_tree-requir
 compile_bound-compile_tree-requires t c =
     let loop = c.loop-rest in
     let others = take (length loop.rest.now - 1) (drop 1 loop.rest.now) in
-    let item = rest_item loop.rest.now c.tree-item.result c.in-len1-up.len_at_least c.tree-item.is in
+    let item = rest-item loop.rest.now c.tree-item.result c.in-len1-up.len_at_least c.tree-item.is in
     let split = completes_split c.args.level.now.scope.now.sig (map formula_of c.args.level.now.scope.now.bodies) c.args.level.now.below c.args.table.now loop.table c.args.env.now c.args.flags.now (formulas_of_trees c.args.trees.now) loop.bounds.items loop.left.now c.later_flags-left.result.now loop.rest.now others c.tree-item.result c.first_flag-occurs.result true (flags_split loop.left.now c.later_flags-left.result.now c.first_flag-occurs.result c.first_flag-occurs.ensures.value c.later_flags-left.ensures.value) item c.if-not-occurs.false loop.invariant.done in
     let lighter = completes_lighter c.args.level.now.scope.now.sig (map formula_of c.args.level.now.scope.now.bodies) c.args.level.now.below c.args.table.now loop.table c.args.env.now c.args.flags.now (formulas_of_trees c.args.trees.now) loop.bounds.items c.later_flags-left.result.now (formula_of c.tree-item.result) (formulas_of_trees others) split in
     (omega (arith, lighter, c.decreases), (loop.invariant.state, (rw loop.invariant.same (completes_next c.args.level.now.scope.now.sig (map formula_of c.args.level.now.scope.now.bodies) c.args.level.now.below c.args.table.now loop.table c.args.env.now c.args.flags.now (formulas_of_trees c.args.trees.now) loop.bounds.items c.later_flags-left.result.now (formula_of c.tree-item.result) (formulas_of_trees others) split), (c.requires.noted.0, (where_split c.args.level.now.scope.now.sig (worked_in c.args.level.now.definitions.now) (uses_below c.args.level.now.scope.now.sig (map formula_of c.args.level.now.scope.now.bodies) c.args.level.now.below) loop.left.now c.later_flags-left.result.now c.first_flag-occurs.result (formulas_of_trees loop.rest.now) (formula_of c.tree-item.result) (formulas_of_trees others) loop.noted.now c.later_notes-noted.result.now (flags_split loop.left.now c.later_flags-left.result.now c.first_flag-occurs.result c.first_flag-occurs.ensures.value c.later_flags-left.ensures.value) (ap formulas_of_trees item) c.later_notes-noted.ensures.value loop.invariant.noted).0 c.if-not-occurs.false))))
@@ -503,7 +498,7 @@ pub compile_bound-returns-in_err-term-clause-outcome : goal.compile_bound-return
 compile_bound-returns-in_err-term-clause-outcome t c =
     let loop = c.loop-rest in
     let others = take (length loop.rest.now - 1) (drop 1 loop.rest.now) in
-    let item = rest_item loop.rest.now c.tree-item.result c.in-len1-up.len_at_least c.tree-item.is in
+    let item = rest-item loop.rest.now c.tree-item.result c.in-len1-up.len_at_least c.tree-item.is in
     let split = completes_split c.args.level.now.scope.now.sig (map formula_of c.args.level.now.scope.now.bodies) c.args.level.now.below c.args.table.now loop.table c.args.env.now c.args.flags.now (formulas_of_trees c.args.trees.now) loop.bounds.items loop.left.now c.later_flags-left.result.now loop.rest.now others c.tree-item.result c.first_flag-occurs.result true (flags_split loop.left.now c.later_flags-left.result.now c.first_flag-occurs.result c.first_flag-occurs.ensures.value c.later_flags-left.ensures.value) item c.if-not-occurs.false loop.invariant.done in
     let p = err_from_is_err_and c.from_residual-in_err-term.result c.from_residual-in_err-term.ensures.1 in
     rw (p.1, p.2) (completes_stopped c.args.level.now.scope.now.sig (map formula_of c.args.level.now.scope.now.bodies) c.args.level.now.below c.args.table.now loop.table c.args.env.now c.args.flags.now (formulas_of_trees c.args.trees.now) loop.bounds.items c.later_flags-left.result.now (formula_of c.tree-item.result) (formulas_of_trees others) split c.compile_tree.new.table _ (rw loop.invariant.same at c.in_err-term.ensures.outcome))
@@ -512,7 +507,7 @@ pub compile_bound-returns-in_err-term-clause-waits : goal.compile_bound-returns-
 compile_bound-returns-in_err-term-clause-waits t c =
     let loop = c.loop-rest in
     let others = take (length loop.rest.now - 1) (drop 1 loop.rest.now) in
-    let item = rest_item loop.rest.now c.tree-item.result c.in-len1-up.len_at_least c.tree-item.is in
+    let item = rest-item loop.rest.now c.tree-item.result c.in-len1-up.len_at_least c.tree-item.is in
     let split = completes_split c.args.level.now.scope.now.sig (map formula_of c.args.level.now.scope.now.bodies) c.args.level.now.below c.args.table.now loop.table c.args.env.now c.args.flags.now (formulas_of_trees c.args.trees.now) loop.bounds.items loop.left.now c.later_flags-left.result.now loop.rest.now others c.tree-item.result c.first_flag-occurs.result true (flags_split loop.left.now c.later_flags-left.result.now c.first_flag-occurs.result c.first_flag-occurs.ensures.value c.later_flags-left.ensures.value) item c.if-not-occurs.false loop.invariant.done in
     let p = err_from_is_err_and c.from_residual-in_err-term.result c.from_residual-in_err-term.ensures.1 in
     rw (p.1, p.2) (completes_waits c.args.level.now.scope.now.sig (map formula_of c.args.level.now.scope.now.bodies) c.args.level.now.below c.args.table.now loop.table c.args.env.now c.args.flags.now (formulas_of_trees c.args.trees.now) loop.bounds.items c.later_flags-left.result.now (formula_of c.tree-item.result) (formulas_of_trees others) split (worked_in c.args.level.now.definitions.now) c.compile_tree.new.table _ (rw loop.invariant.same at c.in_err-term.ensures.waits))
@@ -531,7 +526,7 @@ pub compile_bound-returns-in_err-push-2-clause-outcome : goal.compile_bound-retu
 compile_bound-returns-in_err-push-2-clause-outcome t c =
     let loop = c.loop-rest in
     let others = take (length loop.rest.now - 1) (drop 1 loop.rest.now) in
-    let item = rest_item loop.rest.now c.tree-item.result c.in-len1-up.len_at_least c.tree-item.is in
+    let item = rest-item loop.rest.now c.tree-item.result c.in-len1-up.len_at_least c.tree-item.is in
     let split = completes_split c.args.level.now.scope.now.sig (map formula_of c.args.level.now.scope.now.bodies) c.args.level.now.below c.args.table.now loop.table c.args.env.now c.args.flags.now (formulas_of_trees c.args.trees.now) loop.bounds.items loop.left.now c.later_flags-left.result.now loop.rest.now others c.tree-item.result c.first_flag-occurs.result true (flags_split loop.left.now c.later_flags-left.result.now c.first_flag-occurs.result c.first_flag-occurs.ensures.value c.later_flags-left.ensures.value) item c.if-not-occurs.false loop.invariant.done in
     let p = err_from_is_err_and c.from_residual-in_err-push-2.result c.from_residual-in_err-push-2.ensures.1 in
     rw (p.1, p.2) (completes_out c.args.level.now.scope.now.sig (map formula_of c.args.level.now.scope.now.bodies) c.args.level.now.below c.args.table.now c.compile_tree.new.table c.args.env.now c.args.flags.now (formulas_of_trees c.args.trees.now) _ _ _ (completes_term c.args.level.now.scope.now.sig (map formula_of c.args.level.now.scope.now.bodies) c.args.level.now.below c.args.table.now loop.table c.args.env.now c.args.flags.now (formulas_of_trees c.args.trees.now) loop.bounds.items c.later_flags-left.result.now (formula_of c.tree-item.result) (formulas_of_trees others) split c.compile_tree.new.table c.in_ok-term.term (rw loop.invariant.same at c.in_ok-term.ensures.outcome)) NoMemory refl)
@@ -540,7 +535,7 @@ pub compile_bound-loop-rest-preserved : goal.compile_bound-loop-rest-preserved
 compile_bound-loop-rest-preserved t c =
     let loop = c.loop-rest in
     let others = take (length loop.rest.now - 1) (drop 1 loop.rest.now) in
-    let item = rest_item loop.rest.now c.tree-item.result c.in-len1-up.len_at_least c.tree-item.is in
+    let item = rest-item loop.rest.now c.tree-item.result c.in-len1-up.len_at_least c.tree-item.is in
     let split = completes_split c.args.level.now.scope.now.sig (map formula_of c.args.level.now.scope.now.bodies) c.args.level.now.below c.args.table.now loop.table c.args.env.now c.args.flags.now (formulas_of_trees c.args.trees.now) loop.bounds.items loop.left.now c.later_flags-left.result.now loop.rest.now others c.tree-item.result c.first_flag-occurs.result true (flags_split loop.left.now c.later_flags-left.result.now c.first_flag-occurs.result c.first_flag-occurs.ensures.value c.later_flags-left.ensures.value) item c.if-not-occurs.false loop.invariant.done in
     record { done = subst (λ (xs : List Bound). Completes c.args.level.now.scope.now.sig (map formula_of c.args.level.now.scope.now.bodies) c.args.level.now.below c.args.table.now c.compile_tree.new.table c.args.env.now c.args.flags.now (formulas_of_trees c.args.trees.now) xs c.later_flags-left.result.now (formulas_of_trees others)) (sym c.in_ok-push-2.ensures.items) (completes_term c.args.level.now.scope.now.sig (map formula_of c.args.level.now.scope.now.bodies) c.args.level.now.below c.args.table.now loop.table c.args.env.now c.args.flags.now (formulas_of_trees c.args.trees.now) loop.bounds.items c.later_flags-left.result.now (formula_of c.tree-item.result) (formulas_of_trees others) split c.compile_tree.new.table c.in_ok-term.term (rw loop.invariant.same at c.in_ok-term.ensures.outcome)); state = c.in_ok-term.ensures.state; noted = (where_split c.args.level.now.scope.now.sig (worked_in c.args.level.now.definitions.now) (uses_below c.args.level.now.scope.now.sig (map formula_of c.args.level.now.scope.now.bodies) c.args.level.now.below) loop.left.now c.later_flags-left.result.now c.first_flag-occurs.result (formulas_of_trees loop.rest.now) (formula_of c.tree-item.result) (formulas_of_trees others) loop.noted.now c.later_notes-noted.result.now (flags_split loop.left.now c.later_flags-left.result.now c.first_flag-occurs.result c.first_flag-occurs.ensures.value c.later_flags-left.ensures.value) (ap formulas_of_trees item) c.later_notes-noted.ensures.value loop.invariant.noted).1; same = c.in_ok-term.ensures.back ∙ loop.invariant.same }
 
@@ -607,7 +602,7 @@ compile_cases-loop-rest-init t c =
 pub compile_cases-tested-requires : goal.compile_cases-tested-requires
 compile_cases-tested-requires t c =
     let rest = take (length c.loop-rest.rest.now - 1) (drop 1 c.loop-rest.rest.now) in
-    let whole = cases_is c.loop-rest.rest.now rest c.case-item.result c.pattern_of-pattern.result (formula_of c.body_of-body.result.now) (rest_item c.loop-rest.rest.now c.case-item.result c.in-len1-up.len_at_least c.case-item.is) c.pattern_of-pattern.ensures.value c.body_of-body.ensures.value in
+    let whole = cases_is c.loop-rest.rest.now rest c.case-item.result c.pattern_of-pattern.result (formula_of c.body_of-body.result.now) (rest-item c.loop-rest.rest.now c.case-item.result c.in-len1-up.len_at_least c.case-item.is) c.pattern_of-pattern.ensures.value c.body_of-body.ensures.value in
     let split = subst (λ (cs : Cases). Chooses c.args.level.now.scope.now.sig (map formula_of c.args.level.now.scope.now.bodies) c.args.level.now.below c.args.table.now c.loop-rest.table c.args.env.now c.args.matched (cases_of_trees c.args.cases.now) c.loop-rest.made.items (reverse c.loop-rest.earlier) cs) whole c.loop-rest.invariant.done in
     let may = chooses_may c.args.level.now.scope.now.sig (map formula_of c.args.level.now.scope.now.bodies) c.args.level.now.below c.args.table.now c.loop-rest.table c.args.env.now c.args.matched (cases_of_trees c.args.cases.now) c.loop-rest.made.items (reverse c.loop-rest.earlier) (with_case c.pattern_of-pattern.result (formula_of c.body_of-body.result.now) (cases_of_trees rest)) split in
     record { declared = case_declared c.args.level.now.scope.now.sig (map formula_of c.args.level.now.scope.now.bodies) c.args.level.now.below c.args.env.now c.args.matched (reverse c.loop-rest.earlier) c.pattern_of-pattern.result (formula_of c.body_of-body.result.now) (cases_of_trees rest) c.loop-rest.table may }
@@ -615,7 +610,7 @@ compile_cases-tested-requires t c =
 pub compile_cases-compile_case-requires : goal.compile_cases-compile_case-requires
 compile_cases-compile_case-requires t c =
     let rest = take (length c.loop-rest.rest.now - 1) (drop 1 c.loop-rest.rest.now) in
-    let whole = cases_is c.loop-rest.rest.now rest c.case-item.result c.pattern_of-pattern.result (formula_of c.body_of-body.result.now) (rest_item c.loop-rest.rest.now c.case-item.result c.in-len1-up.len_at_least c.case-item.is) c.pattern_of-pattern.ensures.value c.body_of-body.ensures.value in
+    let whole = cases_is c.loop-rest.rest.now rest c.case-item.result c.pattern_of-pattern.result (formula_of c.body_of-body.result.now) (rest-item c.loop-rest.rest.now c.case-item.result c.in-len1-up.len_at_least c.case-item.is) c.pattern_of-pattern.ensures.value c.body_of-body.ensures.value in
     let split = subst (λ (cs : Cases). Chooses c.args.level.now.scope.now.sig (map formula_of c.args.level.now.scope.now.bodies) c.args.level.now.below c.args.table.now c.loop-rest.table c.args.env.now c.args.matched (cases_of_trees c.args.cases.now) c.loop-rest.made.items (reverse c.loop-rest.earlier) cs) whole c.loop-rest.invariant.done in
     let may = chooses_may c.args.level.now.scope.now.sig (map formula_of c.args.level.now.scope.now.bodies) c.args.level.now.below c.args.table.now c.loop-rest.table c.args.env.now c.args.matched (cases_of_trees c.args.cases.now) c.loop-rest.made.items (reverse c.loop-rest.earlier) (with_case c.pattern_of-pattern.result (formula_of c.body_of-body.result.now) (cases_of_trees rest)) split in
     let lighter = chooses_lighter c.args.level.now.scope.now.sig (map formula_of c.args.level.now.scope.now.bodies) c.args.level.now.below c.args.table.now c.loop-rest.table c.args.env.now c.args.matched (cases_of_trees c.args.cases.now) c.loop-rest.made.items (reverse c.loop-rest.earlier) c.pattern_of-pattern.result (formula_of c.body_of-body.result.now) (cases_of_trees rest) split in
@@ -625,7 +620,7 @@ compile_cases-compile_case-requires t c =
 pub compile_cases-returns-in_err-last-clause-outcome : goal.compile_cases-returns-in_err-last-clause-outcome
 compile_cases-returns-in_err-last-clause-outcome t c =
     let rest = take (length c.loop-rest.rest.now - 1) (drop 1 c.loop-rest.rest.now) in
-    let whole = cases_is c.loop-rest.rest.now rest c.case-item.result c.pattern_of-pattern.result (formula_of c.body_of-body.result.now) (rest_item c.loop-rest.rest.now c.case-item.result c.in-len1-up.len_at_least c.case-item.is) c.pattern_of-pattern.ensures.value c.body_of-body.ensures.value in
+    let whole = cases_is c.loop-rest.rest.now rest c.case-item.result c.pattern_of-pattern.result (formula_of c.body_of-body.result.now) (rest-item c.loop-rest.rest.now c.case-item.result c.in-len1-up.len_at_least c.case-item.is) c.pattern_of-pattern.ensures.value c.body_of-body.ensures.value in
     let split = subst (λ (cs : Cases). Chooses c.args.level.now.scope.now.sig (map formula_of c.args.level.now.scope.now.bodies) c.args.level.now.below c.args.table.now c.loop-rest.table c.args.env.now c.args.matched (cases_of_trees c.args.cases.now) c.loop-rest.made.items (reverse c.loop-rest.earlier) cs) whole c.loop-rest.invariant.done in
     let test_is : c.tested.result ≡ tested_by c.args.level.now.scope.now.sig (reverse c.loop-rest.earlier) c.pattern_of-pattern.result (are_none (cases_of_trees rest)) = c.tested.ensures.value ∙ ap (tested_by c.args.level.now.scope.now.sig (reverse c.loop-rest.earlier) c.pattern_of-pattern.result) (c.is_empty.ensures ∙ none_is rest) in
     let p = err_from_is_err_and c.from_residual.result c.from_residual.ensures.1 in
@@ -634,7 +629,7 @@ compile_cases-returns-in_err-last-clause-outcome t c =
 pub compile_cases-returns-in_err-last-clause-waits : goal.compile_cases-returns-in_err-last-clause-waits
 compile_cases-returns-in_err-last-clause-waits t c =
     let rest = take (length c.loop-rest.rest.now - 1) (drop 1 c.loop-rest.rest.now) in
-    let whole = cases_is c.loop-rest.rest.now rest c.case-item.result c.pattern_of-pattern.result (formula_of c.body_of-body.result.now) (rest_item c.loop-rest.rest.now c.case-item.result c.in-len1-up.len_at_least c.case-item.is) c.pattern_of-pattern.ensures.value c.body_of-body.ensures.value in
+    let whole = cases_is c.loop-rest.rest.now rest c.case-item.result c.pattern_of-pattern.result (formula_of c.body_of-body.result.now) (rest-item c.loop-rest.rest.now c.case-item.result c.in-len1-up.len_at_least c.case-item.is) c.pattern_of-pattern.ensures.value c.body_of-body.ensures.value in
     let split = subst (λ (cs : Cases). Chooses c.args.level.now.scope.now.sig (map formula_of c.args.level.now.scope.now.bodies) c.args.level.now.below c.args.table.now c.loop-rest.table c.args.env.now c.args.matched (cases_of_trees c.args.cases.now) c.loop-rest.made.items (reverse c.loop-rest.earlier) cs) whole c.loop-rest.invariant.done in
     let test_is : c.tested.result ≡ tested_by c.args.level.now.scope.now.sig (reverse c.loop-rest.earlier) c.pattern_of-pattern.result (are_none (cases_of_trees rest)) = c.tested.ensures.value ∙ ap (tested_by c.args.level.now.scope.now.sig (reverse c.loop-rest.earlier) c.pattern_of-pattern.result) (c.is_empty.ensures ∙ none_is rest) in
     let p = err_from_is_err_and c.from_residual.result c.from_residual.ensures.1 in
@@ -653,7 +648,7 @@ compile_cases-returns-in_err-last-clause-unknown t c =
 pub compile_cases-choices-requires-clause-kept : goal.compile_cases-choices-requires-clause-kept
 compile_cases-choices-requires-clause-kept t c =
     let rest = take (length c.loop-rest.rest.now - 1) (drop 1 c.loop-rest.rest.now) in
-    let whole = cases_is c.loop-rest.rest.now rest c.case-item.result c.pattern_of-pattern.result (formula_of c.body_of-body.result.now) (rest_item c.loop-rest.rest.now c.case-item.result c.in-len1-up.len_at_least c.case-item.is) c.pattern_of-pattern.ensures.value c.body_of-body.ensures.value in
+    let whole = cases_is c.loop-rest.rest.now rest c.case-item.result c.pattern_of-pattern.result (formula_of c.body_of-body.result.now) (rest-item c.loop-rest.rest.now c.case-item.result c.in-len1-up.len_at_least c.case-item.is) c.pattern_of-pattern.ensures.value c.body_of-body.ensures.value in
     let split = subst (λ (cs : Cases). Chooses c.args.level.now.scope.now.sig (map formula_of c.args.level.now.scope.now.bodies) c.args.level.now.below c.args.table.now c.loop-rest.table c.args.env.now c.args.matched (cases_of_trees c.args.cases.now) c.loop-rest.made.items (reverse c.loop-rest.earlier) cs) whole c.loop-rest.invariant.done in
     let test_is : c.tested.result ≡ tested_by c.args.level.now.scope.now.sig (reverse c.loop-rest.earlier) c.pattern_of-pattern.result (are_none (cases_of_trees rest)) = c.tested.ensures.value ∙ ap (tested_by c.args.level.now.scope.now.sig (reverse c.loop-rest.earlier) c.pattern_of-pattern.result) (c.is_empty.ensures ∙ none_is rest) in
     let one = case_ends c.args.level.now.scope.now.sig (map formula_of c.args.level.now.scope.now.bodies) c.args.level.now.below c.args.env.now c.args.matched (reverse c.loop-rest.earlier) c.pattern_of-pattern.result (formula_of c.body_of-body.result.now) (cases_of_trees rest) (sym test_is ∙ c.in_default-tested.is) c.loop-rest.table c.compile_case.new.table (Ok c.in_ok-last.last) (rw c.loop-rest.invariant.same at c.in_ok-last.ensures.outcome) in
@@ -662,7 +657,7 @@ compile_cases-choices-requires-clause-kept t c =
 pub compile_cases-choices-requires-clause-below : goal.compile_cases-choices-requires-clause-below
 compile_cases-choices-requires-clause-below t c =
     let rest = take (length c.loop-rest.rest.now - 1) (drop 1 c.loop-rest.rest.now) in
-    let whole = cases_is c.loop-rest.rest.now rest c.case-item.result c.pattern_of-pattern.result (formula_of c.body_of-body.result.now) (rest_item c.loop-rest.rest.now c.case-item.result c.in-len1-up.len_at_least c.case-item.is) c.pattern_of-pattern.ensures.value c.body_of-body.ensures.value in
+    let whole = cases_is c.loop-rest.rest.now rest c.case-item.result c.pattern_of-pattern.result (formula_of c.body_of-body.result.now) (rest-item c.loop-rest.rest.now c.case-item.result c.in-len1-up.len_at_least c.case-item.is) c.pattern_of-pattern.ensures.value c.body_of-body.ensures.value in
     let split = subst (λ (cs : Cases). Chooses c.args.level.now.scope.now.sig (map formula_of c.args.level.now.scope.now.bodies) c.args.level.now.below c.args.table.now c.loop-rest.table c.args.env.now c.args.matched (cases_of_trees c.args.cases.now) c.loop-rest.made.items (reverse c.loop-rest.earlier) cs) whole c.loop-rest.invariant.done in
     let test_is : c.tested.result ≡ tested_by c.args.level.now.scope.now.sig (reverse c.loop-rest.earlier) c.pattern_of-pattern.result (are_none (cases_of_trees rest)) = c.tested.ensures.value ∙ ap (tested_by c.args.level.now.scope.now.sig (reverse c.loop-rest.earlier) c.pattern_of-pattern.result) (c.is_empty.ensures ∙ none_is rest) in
     let one = case_ends c.args.level.now.scope.now.sig (map formula_of c.args.level.now.scope.now.bodies) c.args.level.now.below c.args.env.now c.args.matched (reverse c.loop-rest.earlier) c.pattern_of-pattern.result (formula_of c.body_of-body.result.now) (cases_of_trees rest) (sym test_is ∙ c.in_default-tested.is) c.loop-rest.table c.compile_case.new.table (Ok c.in_ok-last.last) (rw c.loop-rest.invariant.same at c.in_ok-last.ensures.outcome) in
@@ -671,7 +666,7 @@ compile_cases-choices-requires-clause-below t c =
 pub compile_cases-choices-requires-clause-inside : goal.compile_cases-choices-requires-clause-inside
 compile_cases-choices-requires-clause-inside t c =
     let rest = take (length c.loop-rest.rest.now - 1) (drop 1 c.loop-rest.rest.now) in
-    let whole = cases_is c.loop-rest.rest.now rest c.case-item.result c.pattern_of-pattern.result (formula_of c.body_of-body.result.now) (rest_item c.loop-rest.rest.now c.case-item.result c.in-len1-up.len_at_least c.case-item.is) c.pattern_of-pattern.ensures.value c.body_of-body.ensures.value in
+    let whole = cases_is c.loop-rest.rest.now rest c.case-item.result c.pattern_of-pattern.result (formula_of c.body_of-body.result.now) (rest-item c.loop-rest.rest.now c.case-item.result c.in-len1-up.len_at_least c.case-item.is) c.pattern_of-pattern.ensures.value c.body_of-body.ensures.value in
     let split = subst (λ (cs : Cases). Chooses c.args.level.now.scope.now.sig (map formula_of c.args.level.now.scope.now.bodies) c.args.level.now.below c.args.table.now c.loop-rest.table c.args.env.now c.args.matched (cases_of_trees c.args.cases.now) c.loop-rest.made.items (reverse c.loop-rest.earlier) cs) whole c.loop-rest.invariant.done in
     let test_is : c.tested.result ≡ tested_by c.args.level.now.scope.now.sig (reverse c.loop-rest.earlier) c.pattern_of-pattern.result (are_none (cases_of_trees rest)) = c.tested.ensures.value ∙ ap (tested_by c.args.level.now.scope.now.sig (reverse c.loop-rest.earlier) c.pattern_of-pattern.result) (c.is_empty.ensures ∙ none_is rest) in
     let one = case_ends c.args.level.now.scope.now.sig (map formula_of c.args.level.now.scope.now.bodies) c.args.level.now.below c.args.env.now c.args.matched (reverse c.loop-rest.earlier) c.pattern_of-pattern.result (formula_of c.body_of-body.result.now) (cases_of_trees rest) (sym test_is ∙ c.in_default-tested.is) c.loop-rest.table c.compile_case.new.table (Ok c.in_ok-last.last) (rw c.loop-rest.invariant.same at c.in_ok-last.ensures.outcome) in
@@ -680,7 +675,7 @@ compile_cases-choices-requires-clause-inside t c =
 pub compile_cases-choices-requires-clause-sorted : goal.compile_cases-choices-requires-clause-sorted
 compile_cases-choices-requires-clause-sorted t c =
     let rest = take (length c.loop-rest.rest.now - 1) (drop 1 c.loop-rest.rest.now) in
-    let whole = cases_is c.loop-rest.rest.now rest c.case-item.result c.pattern_of-pattern.result (formula_of c.body_of-body.result.now) (rest_item c.loop-rest.rest.now c.case-item.result c.in-len1-up.len_at_least c.case-item.is) c.pattern_of-pattern.ensures.value c.body_of-body.ensures.value in
+    let whole = cases_is c.loop-rest.rest.now rest c.case-item.result c.pattern_of-pattern.result (formula_of c.body_of-body.result.now) (rest-item c.loop-rest.rest.now c.case-item.result c.in-len1-up.len_at_least c.case-item.is) c.pattern_of-pattern.ensures.value c.body_of-body.ensures.value in
     let split = subst (λ (cs : Cases). Chooses c.args.level.now.scope.now.sig (map formula_of c.args.level.now.scope.now.bodies) c.args.level.now.below c.args.table.now c.loop-rest.table c.args.env.now c.args.matched (cases_of_trees c.args.cases.now) c.loop-rest.made.items (reverse c.loop-rest.earlier) cs) whole c.loop-rest.invariant.done in
     let test_is : c.tested.result ≡ tested_by c.args.level.now.scope.now.sig (reverse c.loop-rest.earlier) c.pattern_of-pattern.result (are_none (cases_of_trees rest)) = c.tested.ensures.value ∙ ap (tested_by c.args.level.now.scope.now.sig (reverse c.loop-rest.earlier) c.pattern_of-pattern.result) (c.is_empty.ensures ∙ none_is rest) in
     let one = case_ends c.args.level.now.scope.now.sig (map formula_of c.args.level.now.scope.now.bodies) c.args.level.now.below c.args.env.now c.args.matched (reverse c.loop-rest.earlier) c.pattern_of-pattern.result (formula_of c.body_of-body.result.now) (cases_of_trees rest) (sym test_is ∙ c.in_default-tested.is) c.loop-rest.table c.compile_case.new.table (Ok c.in_ok-last.last) (rw c.loop-rest.invariant.same at c.in_ok-last.ensures.outcome) in
@@ -689,7 +684,7 @@ compile_cases-choices-requires-clause-sorted t c =
 pub compile_cases-returns-in_default-tested-clause-outcome : goal.compile_cases-returns-in_default-tested-clause-outcome
 compile_cases-returns-in_default-tested-clause-outcome t c =
     let rest = take (length c.loop-rest.rest.now - 1) (drop 1 c.loop-rest.rest.now) in
-    let whole = cases_is c.loop-rest.rest.now rest c.case-item.result c.pattern_of-pattern.result (formula_of c.body_of-body.result.now) (rest_item c.loop-rest.rest.now c.case-item.result c.in-len1-up.len_at_least c.case-item.is) c.pattern_of-pattern.ensures.value c.body_of-body.ensures.value in
+    let whole = cases_is c.loop-rest.rest.now rest c.case-item.result c.pattern_of-pattern.result (formula_of c.body_of-body.result.now) (rest-item c.loop-rest.rest.now c.case-item.result c.in-len1-up.len_at_least c.case-item.is) c.pattern_of-pattern.ensures.value c.body_of-body.ensures.value in
     let split = subst (λ (cs : Cases). Chooses c.args.level.now.scope.now.sig (map formula_of c.args.level.now.scope.now.bodies) c.args.level.now.below c.args.table.now c.loop-rest.table c.args.env.now c.args.matched (cases_of_trees c.args.cases.now) c.loop-rest.made.items (reverse c.loop-rest.earlier) cs) whole c.loop-rest.invariant.done in
     let test_is : c.tested.result ≡ tested_by c.args.level.now.scope.now.sig (reverse c.loop-rest.earlier) c.pattern_of-pattern.result (are_none (cases_of_trees rest)) = c.tested.ensures.value ∙ ap (tested_by c.args.level.now.scope.now.sig (reverse c.loop-rest.earlier) c.pattern_of-pattern.result) (c.is_empty.ensures ∙ none_is rest) in
     let one = case_ends c.args.level.now.scope.now.sig (map formula_of c.args.level.now.scope.now.bodies) c.args.level.now.below c.args.env.now c.args.matched (reverse c.loop-rest.earlier) c.pattern_of-pattern.result (formula_of c.body_of-body.result.now) (cases_of_trees rest) (sym test_is ∙ c.in_default-tested.is) c.loop-rest.table c.compile_case.new.table (Ok c.in_ok-last.last) (rw c.loop-rest.invariant.same at c.in_ok-last.ensures.outcome) in
@@ -698,7 +693,7 @@ compile_cases-returns-in_default-tested-clause-outcome t c =
 pub compile_cases-returns-in_err-choices-clause-outcome : goal.compile_cases-returns-in_err-choices-clause-outcome
 compile_cases-returns-in_err-choices-clause-outcome t c =
     let rest = take (length c.loop-rest.rest.now - 1) (drop 1 c.loop-rest.rest.now) in
-    let whole = cases_is c.loop-rest.rest.now rest c.case-item.result c.pattern_of-pattern.result (formula_of c.body_of-body.result.now) (rest_item c.loop-rest.rest.now c.case-item.result c.in-len1-up.len_at_least c.case-item.is) c.pattern_of-pattern.ensures.value c.body_of-body.ensures.value in
+    let whole = cases_is c.loop-rest.rest.now rest c.case-item.result c.pattern_of-pattern.result (formula_of c.body_of-body.result.now) (rest-item c.loop-rest.rest.now c.case-item.result c.in-len1-up.len_at_least c.case-item.is) c.pattern_of-pattern.ensures.value c.body_of-body.ensures.value in
     let split = subst (λ (cs : Cases). Chooses c.args.level.now.scope.now.sig (map formula_of c.args.level.now.scope.now.bodies) c.args.level.now.below c.args.table.now c.loop-rest.table c.args.env.now c.args.matched (cases_of_trees c.args.cases.now) c.loop-rest.made.items (reverse c.loop-rest.earlier) cs) whole c.loop-rest.invariant.done in
     let test_is : c.tested.result ≡ tested_by c.args.level.now.scope.now.sig (reverse c.loop-rest.earlier) c.pattern_of-pattern.result (are_none (cases_of_trees rest)) = c.tested.ensures.value ∙ ap (tested_by c.args.level.now.scope.now.sig (reverse c.loop-rest.earlier) c.pattern_of-pattern.result) (c.is_empty.ensures ∙ none_is rest) in
     let one = case_ends c.args.level.now.scope.now.sig (map formula_of c.args.level.now.scope.now.bodies) c.args.level.now.below c.args.env.now c.args.matched (reverse c.loop-rest.earlier) c.pattern_of-pattern.result (formula_of c.body_of-body.result.now) (cases_of_trees rest) (sym test_is ∙ c.in_default-tested.is) c.loop-rest.table c.compile_case.new.table (Ok c.in_ok-last.last) (rw c.loop-rest.invariant.same at c.in_ok-last.ensures.outcome) in
@@ -712,7 +707,7 @@ compile_cases-returns-in_default-tested-clause-state t c =
 pub compile_cases-make_test-requires-clause-kept : goal.compile_cases-make_test-requires-clause-kept
 compile_cases-make_test-requires-clause-kept t c =
     let rest = take (length c.loop-rest.rest.now - 1) (drop 1 c.loop-rest.rest.now) in
-    let whole = cases_is c.loop-rest.rest.now rest c.case-item.result c.pattern_of-pattern.result (formula_of c.body_of-body.result.now) (rest_item c.loop-rest.rest.now c.case-item.result c.in-len1-up.len_at_least c.case-item.is) c.pattern_of-pattern.ensures.value c.body_of-body.ensures.value in
+    let whole = cases_is c.loop-rest.rest.now rest c.case-item.result c.pattern_of-pattern.result (formula_of c.body_of-body.result.now) (rest-item c.loop-rest.rest.now c.case-item.result c.in-len1-up.len_at_least c.case-item.is) c.pattern_of-pattern.ensures.value c.body_of-body.ensures.value in
     let split = subst (λ (cs : Cases). Chooses c.args.level.now.scope.now.sig (map formula_of c.args.level.now.scope.now.bodies) c.args.level.now.below c.args.table.now c.loop-rest.table c.args.env.now c.args.matched (cases_of_trees c.args.cases.now) c.loop-rest.made.items (reverse c.loop-rest.earlier) cs) whole c.loop-rest.invariant.done in
     let may = chooses_may c.args.level.now.scope.now.sig (map formula_of c.args.level.now.scope.now.bodies) c.args.level.now.below c.args.table.now c.loop-rest.table c.args.env.now c.args.matched (cases_of_trees c.args.cases.now) c.loop-rest.made.items (reverse c.loop-rest.earlier) (with_case c.pattern_of-pattern.result (formula_of c.body_of-body.result.now) (cases_of_trees rest)) split in
     let test_is : c.tested.result ≡ tested_by c.args.level.now.scope.now.sig (reverse c.loop-rest.earlier) c.pattern_of-pattern.result (are_none (cases_of_trees rest)) = c.tested.ensures.value ∙ ap (tested_by c.args.level.now.scope.now.sig (reverse c.loop-rest.earlier) c.pattern_of-pattern.result) (c.is_empty.ensures ∙ none_is rest) in
@@ -721,7 +716,7 @@ compile_cases-make_test-requires-clause-kept t c =
 pub compile_cases-make_test-requires-clause-there : goal.compile_cases-make_test-requires-clause-there
 compile_cases-make_test-requires-clause-there t c =
     let rest = take (length c.loop-rest.rest.now - 1) (drop 1 c.loop-rest.rest.now) in
-    let whole = cases_is c.loop-rest.rest.now rest c.case-item.result c.pattern_of-pattern.result (formula_of c.body_of-body.result.now) (rest_item c.loop-rest.rest.now c.case-item.result c.in-len1-up.len_at_least c.case-item.is) c.pattern_of-pattern.ensures.value c.body_of-body.ensures.value in
+    let whole = cases_is c.loop-rest.rest.now rest c.case-item.result c.pattern_of-pattern.result (formula_of c.body_of-body.result.now) (rest-item c.loop-rest.rest.now c.case-item.result c.in-len1-up.len_at_least c.case-item.is) c.pattern_of-pattern.ensures.value c.body_of-body.ensures.value in
     let split = subst (λ (cs : Cases). Chooses c.args.level.now.scope.now.sig (map formula_of c.args.level.now.scope.now.bodies) c.args.level.now.below c.args.table.now c.loop-rest.table c.args.env.now c.args.matched (cases_of_trees c.args.cases.now) c.loop-rest.made.items (reverse c.loop-rest.earlier) cs) whole c.loop-rest.invariant.done in
     let may = chooses_may c.args.level.now.scope.now.sig (map formula_of c.args.level.now.scope.now.bodies) c.args.level.now.below c.args.table.now c.loop-rest.table c.args.env.now c.args.matched (cases_of_trees c.args.cases.now) c.loop-rest.made.items (reverse c.loop-rest.earlier) (with_case c.pattern_of-pattern.result (formula_of c.body_of-body.result.now) (cases_of_trees rest)) split in
     let test_is : c.tested.result ≡ tested_by c.args.level.now.scope.now.sig (reverse c.loop-rest.earlier) c.pattern_of-pattern.result (are_none (cases_of_trees rest)) = c.tested.ensures.value ∙ ap (tested_by c.args.level.now.scope.now.sig (reverse c.loop-rest.earlier) c.pattern_of-pattern.result) (c.is_empty.ensures ∙ none_is rest) in
@@ -730,7 +725,7 @@ compile_cases-make_test-requires-clause-there t c =
 pub compile_cases-make_test-requires-clause-bound : goal.compile_cases-make_test-requires-clause-bound
 compile_cases-make_test-requires-clause-bound t c =
     let rest = take (length c.loop-rest.rest.now - 1) (drop 1 c.loop-rest.rest.now) in
-    let whole = cases_is c.loop-rest.rest.now rest c.case-item.result c.pattern_of-pattern.result (formula_of c.body_of-body.result.now) (rest_item c.loop-rest.rest.now c.case-item.result c.in-len1-up.len_at_least c.case-item.is) c.pattern_of-pattern.ensures.value c.body_of-body.ensures.value in
+    let whole = cases_is c.loop-rest.rest.now rest c.case-item.result c.pattern_of-pattern.result (formula_of c.body_of-body.result.now) (rest-item c.loop-rest.rest.now c.case-item.result c.in-len1-up.len_at_least c.case-item.is) c.pattern_of-pattern.ensures.value c.body_of-body.ensures.value in
     let split = subst (λ (cs : Cases). Chooses c.args.level.now.scope.now.sig (map formula_of c.args.level.now.scope.now.bodies) c.args.level.now.below c.args.table.now c.loop-rest.table c.args.env.now c.args.matched (cases_of_trees c.args.cases.now) c.loop-rest.made.items (reverse c.loop-rest.earlier) cs) whole c.loop-rest.invariant.done in
     let may = chooses_may c.args.level.now.scope.now.sig (map formula_of c.args.level.now.scope.now.bodies) c.args.level.now.below c.args.table.now c.loop-rest.table c.args.env.now c.args.matched (cases_of_trees c.args.cases.now) c.loop-rest.made.items (reverse c.loop-rest.earlier) (with_case c.pattern_of-pattern.result (formula_of c.body_of-body.result.now) (cases_of_trees rest)) split in
     let test_is : c.tested.result ≡ tested_by c.args.level.now.scope.now.sig (reverse c.loop-rest.earlier) c.pattern_of-pattern.result (are_none (cases_of_trees rest)) = c.tested.ensures.value ∙ ap (tested_by c.args.level.now.scope.now.sig (reverse c.loop-rest.earlier) c.pattern_of-pattern.result) (c.is_empty.ensures ∙ none_is rest) in
@@ -739,7 +734,7 @@ compile_cases-make_test-requires-clause-bound t c =
 pub compile_cases-returns-in_err-condition-clause-outcome : goal.compile_cases-returns-in_err-condition-clause-outcome
 compile_cases-returns-in_err-condition-clause-outcome t c =
     let rest = take (length c.loop-rest.rest.now - 1) (drop 1 c.loop-rest.rest.now) in
-    let whole = cases_is c.loop-rest.rest.now rest c.case-item.result c.pattern_of-pattern.result (formula_of c.body_of-body.result.now) (rest_item c.loop-rest.rest.now c.case-item.result c.in-len1-up.len_at_least c.case-item.is) c.pattern_of-pattern.ensures.value c.body_of-body.ensures.value in
+    let whole = cases_is c.loop-rest.rest.now rest c.case-item.result c.pattern_of-pattern.result (formula_of c.body_of-body.result.now) (rest-item c.loop-rest.rest.now c.case-item.result c.in-len1-up.len_at_least c.case-item.is) c.pattern_of-pattern.ensures.value c.body_of-body.ensures.value in
     let split = subst (λ (cs : Cases). Chooses c.args.level.now.scope.now.sig (map formula_of c.args.level.now.scope.now.bodies) c.args.level.now.below c.args.table.now c.loop-rest.table c.args.env.now c.args.matched (cases_of_trees c.args.cases.now) c.loop-rest.made.items (reverse c.loop-rest.earlier) cs) whole c.loop-rest.invariant.done in
     let test_is : c.tested.result ≡ tested_by c.args.level.now.scope.now.sig (reverse c.loop-rest.earlier) c.pattern_of-pattern.result (are_none (cases_of_trees rest)) = c.tested.ensures.value ∙ ap (tested_by c.args.level.now.scope.now.sig (reverse c.loop-rest.earlier) c.pattern_of-pattern.result) (c.is_empty.ensures ∙ none_is rest) in
     let p = err_from_is_err_and c.from_residual-in_err-condition.result c.from_residual-in_err-condition.ensures.1 in
@@ -748,7 +743,7 @@ compile_cases-returns-in_err-condition-clause-outcome t c =
 pub compile_cases-compile_case-requires-in-len1-up : goal.compile_cases-compile_case-requires-in-len1-up
 compile_cases-compile_case-requires-in-len1-up t c =
     let rest = take (length c.loop-rest.rest.now - 1) (drop 1 c.loop-rest.rest.now) in
-    let whole = cases_is c.loop-rest.rest.now rest c.case-item.result c.pattern_of-pattern.result (formula_of c.body_of-body.result.now) (rest_item c.loop-rest.rest.now c.case-item.result c.in-len1-up.len_at_least c.case-item.is) c.pattern_of-pattern.ensures.value c.body_of-body.ensures.value in
+    let whole = cases_is c.loop-rest.rest.now rest c.case-item.result c.pattern_of-pattern.result (formula_of c.body_of-body.result.now) (rest-item c.loop-rest.rest.now c.case-item.result c.in-len1-up.len_at_least c.case-item.is) c.pattern_of-pattern.ensures.value c.body_of-body.ensures.value in
     let split = subst (λ (cs : Cases). Chooses c.args.level.now.scope.now.sig (map formula_of c.args.level.now.scope.now.bodies) c.args.level.now.below c.args.table.now c.loop-rest.table c.args.env.now c.args.matched (cases_of_trees c.args.cases.now) c.loop-rest.made.items (reverse c.loop-rest.earlier) cs) whole c.loop-rest.invariant.done in
     let may = chooses_may c.args.level.now.scope.now.sig (map formula_of c.args.level.now.scope.now.bodies) c.args.level.now.below c.args.table.now c.loop-rest.table c.args.env.now c.args.matched (cases_of_trees c.args.cases.now) c.loop-rest.made.items (reverse c.loop-rest.earlier) (with_case c.pattern_of-pattern.result (formula_of c.body_of-body.result.now) (cases_of_trees rest)) split in
     let test_is : c.tested.result ≡ tested_by c.args.level.now.scope.now.sig (reverse c.loop-rest.earlier) c.pattern_of-pattern.result (are_none (cases_of_trees rest)) = c.tested.ensures.value ∙ ap (tested_by c.args.level.now.scope.now.sig (reverse c.loop-rest.earlier) c.pattern_of-pattern.result) (c.is_empty.ensures ∙ none_is rest) in
@@ -760,7 +755,7 @@ compile_cases-compile_case-requires-in-len1-up t c =
 pub compile_cases-returns-in_err-term-clause-outcome : goal.compile_cases-returns-in_err-term-clause-outcome
 compile_cases-returns-in_err-term-clause-outcome t c =
     let rest = take (length c.loop-rest.rest.now - 1) (drop 1 c.loop-rest.rest.now) in
-    let whole = cases_is c.loop-rest.rest.now rest c.case-item.result c.pattern_of-pattern.result (formula_of c.body_of-body.result.now) (rest_item c.loop-rest.rest.now c.case-item.result c.in-len1-up.len_at_least c.case-item.is) c.pattern_of-pattern.ensures.value c.body_of-body.ensures.value in
+    let whole = cases_is c.loop-rest.rest.now rest c.case-item.result c.pattern_of-pattern.result (formula_of c.body_of-body.result.now) (rest-item c.loop-rest.rest.now c.case-item.result c.in-len1-up.len_at_least c.case-item.is) c.pattern_of-pattern.ensures.value c.body_of-body.ensures.value in
     let split = subst (λ (cs : Cases). Chooses c.args.level.now.scope.now.sig (map formula_of c.args.level.now.scope.now.bodies) c.args.level.now.below c.args.table.now c.loop-rest.table c.args.env.now c.args.matched (cases_of_trees c.args.cases.now) c.loop-rest.made.items (reverse c.loop-rest.earlier) cs) whole c.loop-rest.invariant.done in
     let test_is : c.tested.result ≡ tested_by c.args.level.now.scope.now.sig (reverse c.loop-rest.earlier) c.pattern_of-pattern.result (are_none (cases_of_trees rest)) = c.tested.ensures.value ∙ ap (tested_by c.args.level.now.scope.now.sig (reverse c.loop-rest.earlier) c.pattern_of-pattern.result) (c.is_empty.ensures ∙ none_is rest) in
     let p = err_from_is_err_and c.from_residual-in_err-term.result c.from_residual-in_err-term.ensures.1 in
@@ -769,7 +764,7 @@ compile_cases-returns-in_err-term-clause-outcome t c =
 pub compile_cases-returns-in_err-term-clause-waits : goal.compile_cases-returns-in_err-term-clause-waits
 compile_cases-returns-in_err-term-clause-waits t c =
     let rest = take (length c.loop-rest.rest.now - 1) (drop 1 c.loop-rest.rest.now) in
-    let whole = cases_is c.loop-rest.rest.now rest c.case-item.result c.pattern_of-pattern.result (formula_of c.body_of-body.result.now) (rest_item c.loop-rest.rest.now c.case-item.result c.in-len1-up.len_at_least c.case-item.is) c.pattern_of-pattern.ensures.value c.body_of-body.ensures.value in
+    let whole = cases_is c.loop-rest.rest.now rest c.case-item.result c.pattern_of-pattern.result (formula_of c.body_of-body.result.now) (rest-item c.loop-rest.rest.now c.case-item.result c.in-len1-up.len_at_least c.case-item.is) c.pattern_of-pattern.ensures.value c.body_of-body.ensures.value in
     let split = subst (λ (cs : Cases). Chooses c.args.level.now.scope.now.sig (map formula_of c.args.level.now.scope.now.bodies) c.args.level.now.below c.args.table.now c.loop-rest.table c.args.env.now c.args.matched (cases_of_trees c.args.cases.now) c.loop-rest.made.items (reverse c.loop-rest.earlier) cs) whole c.loop-rest.invariant.done in
     let test_is : c.tested.result ≡ tested_by c.args.level.now.scope.now.sig (reverse c.loop-rest.earlier) c.pattern_of-pattern.result (are_none (cases_of_trees rest)) = c.tested.ensures.value ∙ ap (tested_by c.args.level.now.scope.now.sig (reverse c.loop-rest.earlier) c.pattern_of-pattern.result) (c.is_empty.ensures ∙ none_is rest) in
     let p = err_from_is_err_and c.from_residual-in_err-term.result c.from_residual-in_err-term.ensures.1 in
@@ -788,7 +783,7 @@ compile_cases-returns-in_err-term-clause-unknown t c =
 pub compile_cases-returns-in_err-push-clause-outcome : goal.compile_cases-returns-in_err-push-clause-outcome
 compile_cases-returns-in_err-push-clause-outcome t c =
     let rest = take (length c.loop-rest.rest.now - 1) (drop 1 c.loop-rest.rest.now) in
-    let whole = cases_is c.loop-rest.rest.now rest c.case-item.result c.pattern_of-pattern.result (formula_of c.body_of-body.result.now) (rest_item c.loop-rest.rest.now c.case-item.result c.in-len1-up.len_at_least c.case-item.is) c.pattern_of-pattern.ensures.value c.body_of-body.ensures.value in
+    let whole = cases_is c.loop-rest.rest.now rest c.case-item.result c.pattern_of-pattern.result (formula_of c.body_of-body.result.now) (rest-item c.loop-rest.rest.now c.case-item.result c.in-len1-up.len_at_least c.case-item.is) c.pattern_of-pattern.ensures.value c.body_of-body.ensures.value in
     let split = subst (λ (cs : Cases). Chooses c.args.level.now.scope.now.sig (map formula_of c.args.level.now.scope.now.bodies) c.args.level.now.below c.args.table.now c.loop-rest.table c.args.env.now c.args.matched (cases_of_trees c.args.cases.now) c.loop-rest.made.items (reverse c.loop-rest.earlier) cs) whole c.loop-rest.invariant.done in
     let test_is : c.tested.result ≡ tested_by c.args.level.now.scope.now.sig (reverse c.loop-rest.earlier) c.pattern_of-pattern.result (are_none (cases_of_trees rest)) = c.tested.ensures.value ∙ ap (tested_by c.args.level.now.scope.now.sig (reverse c.loop-rest.earlier) c.pattern_of-pattern.result) (c.is_empty.ensures ∙ none_is rest) in
     let p = err_from_is_err_and c.from_residual-in_err-push.result c.from_residual-in_err-push.ensures.1 in
@@ -797,7 +792,7 @@ compile_cases-returns-in_err-push-clause-outcome t c =
 pub compile_cases-returns-in_err-push-2-clause-outcome : goal.compile_cases-returns-in_err-push-2-clause-outcome
 compile_cases-returns-in_err-push-2-clause-outcome t c =
     let rest = take (length c.loop-rest.rest.now - 1) (drop 1 c.loop-rest.rest.now) in
-    let whole = cases_is c.loop-rest.rest.now rest c.case-item.result c.pattern_of-pattern.result (formula_of c.body_of-body.result.now) (rest_item c.loop-rest.rest.now c.case-item.result c.in-len1-up.len_at_least c.case-item.is) c.pattern_of-pattern.ensures.value c.body_of-body.ensures.value in
+    let whole = cases_is c.loop-rest.rest.now rest c.case-item.result c.pattern_of-pattern.result (formula_of c.body_of-body.result.now) (rest-item c.loop-rest.rest.now c.case-item.result c.in-len1-up.len_at_least c.case-item.is) c.pattern_of-pattern.ensures.value c.body_of-body.ensures.value in
     let split = subst (λ (cs : Cases). Chooses c.args.level.now.scope.now.sig (map formula_of c.args.level.now.scope.now.bodies) c.args.level.now.below c.args.table.now c.loop-rest.table c.args.env.now c.args.matched (cases_of_trees c.args.cases.now) c.loop-rest.made.items (reverse c.loop-rest.earlier) cs) whole c.loop-rest.invariant.done in
     let test_is : c.tested.result ≡ tested_by c.args.level.now.scope.now.sig (reverse c.loop-rest.earlier) c.pattern_of-pattern.result (are_none (cases_of_trees rest)) = c.tested.ensures.value ∙ ap (tested_by c.args.level.now.scope.now.sig (reverse c.loop-rest.earlier) c.pattern_of-pattern.result) (c.is_empty.ensures ∙ none_is rest) in
     let p = err_from_is_err_and c.from_residual-in_err-push-2.result c.from_residual-in_err-push-2.ensures.1 in
@@ -806,7 +801,7 @@ compile_cases-returns-in_err-push-2-clause-outcome t c =
 pub compile_cases-loop-rest-preserved : goal.compile_cases-loop-rest-preserved
 compile_cases-loop-rest-preserved t c =
     let rest = take (length c.loop-rest.rest.now - 1) (drop 1 c.loop-rest.rest.now) in
-    let whole = cases_is c.loop-rest.rest.now rest c.case-item.result c.pattern_of-pattern.result (formula_of c.body_of-body.result.now) (rest_item c.loop-rest.rest.now c.case-item.result c.in-len1-up.len_at_least c.case-item.is) c.pattern_of-pattern.ensures.value c.body_of-body.ensures.value in
+    let whole = cases_is c.loop-rest.rest.now rest c.case-item.result c.pattern_of-pattern.result (formula_of c.body_of-body.result.now) (rest-item c.loop-rest.rest.now c.case-item.result c.in-len1-up.len_at_least c.case-item.is) c.pattern_of-pattern.ensures.value c.body_of-body.ensures.value in
     let split = subst (λ (cs : Cases). Chooses c.args.level.now.scope.now.sig (map formula_of c.args.level.now.scope.now.bodies) c.args.level.now.below c.args.table.now c.loop-rest.table c.args.env.now c.args.matched (cases_of_trees c.args.cases.now) c.loop-rest.made.items (reverse c.loop-rest.earlier) cs) whole c.loop-rest.invariant.done in
     let test_is : c.tested.result ≡ tested_by c.args.level.now.scope.now.sig (reverse c.loop-rest.earlier) c.pattern_of-pattern.result (are_none (cases_of_trees rest)) = c.tested.ensures.value ∙ ap (tested_by c.args.level.now.scope.now.sig (reverse c.loop-rest.earlier) c.pattern_of-pattern.result) (c.is_empty.ensures ∙ none_is rest) in
     let noted = subst (λ (cs : Cases). CasesNoted c.args.level.now.scope.now.sig (worked_in c.args.level.now.definitions.now) (uses_below c.args.level.now.scope.now.sig (map formula_of c.args.level.now.scope.now.bodies) c.args.level.now.below) (reverse c.loop-rest.earlier) cs c.loop-rest.left.now) whole c.loop-rest.invariant.noted in

@@ -1,6 +1,6 @@
 use Rattle.std.proofs.Common.{◌+◌, map, length, reverse}
-use Rattle.ct_terms.specs.TreeFormula.{formula_of, formulas_of_trees}
-use Rattle.ct_terms.specs.Occurrence.{uses_below}
+use Rattle.ct_formulas.specs.TreeFormula.{formula_of, formulas_of_trees}
+use Rattle.ct_formulas.specs.Occurrence.{uses_below}
 use Rattle.ct_occurrence.specs.Noted.{AreNoted, AreNotedWhere, CasesNoted}
 use Rattle.ct_scope.specs.Calling.{IsState}
 use Rattle.ct_occurrence.specs.Marks.{worked_in}

@@ -1,6 +1,6 @@
 use Rattle.std.proofs.Common.{map}
-use Rattle.ct_terms.specs.Formula.{Var}
-use Rattle.ct_terms.specs.TreeFormula.{formula_of}
+use Rattle.ct_formulas.specs.Formula.{Var}
+use Rattle.ct_formulas.specs.TreeFormula.{formula_of}
 use Rattle.ct_scope.proofs.ChoiceLemmas.{variable_inside, variable_there, variable_bound, variable_made}
 use Rattle.ct_compile.proofs.CycleLemmas.{compiles_grown}
 use Rattle.ct_compile.proofs.terms.variable.Goals as goal

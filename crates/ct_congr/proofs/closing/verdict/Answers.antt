@@ -1,7 +1,7 @@
 use Rattle.std.proofs.Common.{◌≡◌, ◌⊎◌, get_or, slice_get, None, sym, ap, subst, ◌∙◌, inl, inr, arith}
 use Rattle.std.proofs.lemmas.Option.{same_Some, slice_get-get_or, slice_get_within}
+use Rattle.ct_lemmas.proofs.Numbers.{same_or_other}
 use Rattle.ct_congr.specs.declared.constructors.Shape.{Shape}
-use Rattle.ct_congr.proofs.ListLemmas.{nat_cases}
 use Rattle.ct_congr.proofs.ClosingLemmas.{IsClashOf-shape, no_clash}
 use Rattle.ct_congr.proofs.closing.verdict.Goals as goal
 
@@ -12,7 +12,7 @@ pub loop-shape-preserved : goal.loop-shape-preserved
 loop-shape-preserved c = λ k shape below at.
     let shapes = c.args.shapes.now in
     let here = get_or shapes c.loop-shape.shape-index zeroth in
-    elim (nat_cases k c.loop-shape.shape-index) [
+    elim (same_or_other k c.loop-shape.shape-index) [
       | inl e ↦
           let same : here ≡ shape = same_Some here shape (sym (slice_get-get_or shapes c.loop-shape.shape-index zeroth c.loop-shape-test.true) ∙ ap (slice_get shapes) (sym e) ∙ at) in
           subst (λ (s : Shape). (s.first ≡ None) ⊎ (s.other ≡ None)) same c.in_default.ensures.none

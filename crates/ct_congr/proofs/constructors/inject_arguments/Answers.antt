@@ -1,10 +1,11 @@
 use Rattle.std.proofs.Common.{◌≡◌, ◌<◌, List, get_or, slice_get, length, Some, refl, sym, ap, subst, ◌∙◌, inl, inr, arith}
 use Rattle.std.proofs.lemmas.Option.{same_Some, slice_get-get_or, slice_get_within}
+use Rattle.ct_lemmas.proofs.Numbers.{same_or_other}
+use Rattle.ct_lemmas.proofs.Options.{option_map-source}
 use Rattle.ct_sorts.specs.declared.ids.SelId.{SelId}
 use Rattle.ct_sorts.specs.Declarations.{Constructor, Selector}
 use Rattle.ct_terms.specs.declared.ids.TermId.{TermId}
 use Rattle.ct_congr.specs.Partition.{InOneClass}
-use Rattle.ct_congr.proofs.ListLemmas.{nat_cases, option_map-source}
 use Rattle.ct_congr.proofs.constructors.inject_arguments.Goals as goal
 use Rattle.ct_congr.proofs.constructors.inject_arguments.Goals.{In_ok-need}
 
@@ -48,7 +49,7 @@ loop-s-preserved c =
     record {
       pairs = λ none j u v below at_u at_v.
           let both = c.in_ok-need.ensures.none none in
-          elim (nat_cases j c.loop-s.s-index) [
+          elim (same_or_other j c.loop-s.s-index) [
             | inl e ↦
                 let same : j ≡ k = e ∙ sym here.is in
                 let left : x ≡ u = same_Some x u (sym (slice_get-get_or xs k first here.left) ∙ ap (slice_get xs) (sym same) ∙ at_u) in

@@ -1,7 +1,7 @@
 use Rattle.std.proofs.Common.{◌≡◌, sym, subst, inl, inr, arith}
+use Rattle.ct_lemmas.proofs.Numbers.{same_or_other}
 use Rattle.ct_terms.specs.declared.ids.TermId.{TermId}
 use Rattle.ct_congr.specs.Index.{IsInjectedAt}
-use Rattle.ct_congr.proofs.ListLemmas.{nat_cases}
 use Rattle.ct_congr.proofs.ConstructorLemmas.{IsInjective-all}
 use Rattle.ct_congr.proofs.constructors.injections.Goals as goal
 
@@ -11,7 +11,7 @@ loop-t-preserved c =
     record {
       all = λ none u below.
           let both = c.in_ok-inject.ensures.closed none in
-          elim (nat_cases u.0 c.loop-t.t) [
+          elim (same_or_other u.0 c.loop-t.t) [
             | inl e ↦
                 let is : t ≡ u = λ i. record { 0 = sym e i } in
                 subst (IsInjectedAt c.args.table.now c.args.reps.now c.args.index.now) is both.1

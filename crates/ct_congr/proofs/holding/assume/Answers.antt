@@ -1,12 +1,13 @@
 use Rattle.std.proofs.Common.{◌≡◌, false, get_or, length, slice_get, refl, sym, ap, subst, ◌∙◌, inl, inr, arith}
 use Rattle.std.proofs.lemmas.List.Elements.{Contains-get_or}
 use Rattle.std.proofs.lemmas.Option.{same_Some, slice_get-get_or, slice_get_within}
+use Rattle.ct_lemmas.proofs.Contained.{slice_get-from_Contains}
+use Rattle.ct_lemmas.proofs.Numbers.{same_or_other}
 use Rattle.ct_terms.specs.declared.ids.TermId.{TermId}
 use Rattle.ct_terms.specs.declared.ids.Lit.{Lit}
 use Rattle.ct_rules.specs.Rules.{truth_term}
 use Rattle.ct_congr.specs.declared.merge.Reason.TheVariants.{Hyp}
 use Rattle.ct_congr.specs.Partition.{InOneClass}
-use Rattle.ct_congr.proofs.ListLemmas.{nat_cases, slice_get-from_Contains}
 use Rattle.ct_congr.proofs.HeldLemmas.{IsSound-added, truth_inside}
 use Rattle.ct_congr.proofs.holding.assume.Goals as goal
 
@@ -39,7 +40,7 @@ loop-l-preserved c =
       sound = λ d given first.
           IsSound-added d terms hyps given old.parts new.parts old.cons.items new.cons.items old.merges.items new.merges.items l.term c.truth.result (Hyp l) (c.loop-l.invariant.sound d given first) joined c.in_ok-add.ensures.merges c.in_ok-add.ensures.cons_long (c.in_ok-add.ensures.cons terms) (has, (refl, c.truth.ensures.value))
           (c.derivations.ensures.states d terms hyps given l.term c.truth.result (l, has, (refl, c.truth.ensures.value)));
-      states = λ k h below at. elim (nat_cases k c.loop-l.l-index) [
+      states = λ k h below at. elim (same_or_other k c.loop-l.l-index) [
         | inl e ↦
             let same : l ≡ h = same_Some l h (sym (slice_get-get_or hyps c.loop-l.l-index zeroth c.loop-l-test.true) ∙ ap (slice_get hyps) (sym e) ∙ at) in
             subst (λ (q : Lit). InOneClass new.parts q.term (truth_term q.positive)) same (subst (InOneClass new.parts l.term) c.truth.ensures.value joined.joins)

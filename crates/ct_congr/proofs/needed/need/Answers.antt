@@ -1,7 +1,7 @@
 use Rattle.std.proofs.Common.{◌≡◌, List, slice_get, Some, subst, inl, inr}
+use Rattle.ct_lemmas.proofs.Lists.{slice_get-push_cases}
 use Rattle.ct_congr.specs.declared.merge.Merge.{Merge}
 use Rattle.ct_congr.specs.Needed.{IsNeeded}
-use Rattle.ct_congr.proofs.ListLemmas.{slice_get-push_cases}
 use Rattle.ct_congr.proofs.needed.need.Goals as goal
 
 pub returns-clause-needed : goal.returns-clause-needed

@@ -1,10 +1,10 @@
 use Rattle.std.proofs.Common.{take, get_or, length}
 use Rattle.std.proofs.lemmas.List.{take_more}
 use Rattle.std.proofs.lemmas.Option.{slice_get-get_or}
+use Rattle.ct_lemmas.proofs.Pairs.{AllZip-push}
 use Rattle.ct_terms.specs.declared.ids.TermId.{TermId}
 use Rattle.ct_congr.specs.Normal.{IsRepresented}
 use Rattle.ct_congr.proofs.TermLemmas.{argument_below}
-use Rattle.ct_congr.proofs.ListLemmas.{AllZip-push}
 use Rattle.ct_congr.proofs.normal.represented.Goals as goal
 
 abbrev zeroth : TermId

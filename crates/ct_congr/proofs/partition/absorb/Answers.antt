@@ -2,8 +2,8 @@ use Rattle.std.proofs.Common.{◌≡◌, ◌<◌, ◌++◌, [], length, slice_ge
 use Rattle.std.proofs.lemmas.List.{length-set}
 use Rattle.std.proofs.lemmas.Option.{slice_get_read, slice_get_within}
 use Rattle.std.proofs.lemmas.Grind.{common_steps}
+use Rattle.ct_lemmas.proofs.Lists.{slice_get-set_other}
 use Rattle.ct_congr.specs.Partition.{IsClass, IsRelabelling}
-use Rattle.ct_congr.proofs.ListLemmas.{slice_get-set_other}
 use Rattle.ct_congr.proofs.PartitionLemmas.{IsPartition-absorbed, IsPartition-restored, IsRelabelled-class}
 use Rattle.ct_congr.proofs.partition.absorb.Goals as goal
 use Rattle.ct_congr.proofs.partition.absorb.Goals.{After-is_err}

@@ -1,14 +1,15 @@
 use Rattle.std.proofs.Common.{◌≡◌, List, sym, subst, ◌∙◌}
 use Rattle.std.proofs.lemmas.Option.{IfSome_then, same_Some}
+use Rattle.ct_lemmas.proofs.Lists.{slice_get-there}
 use Rattle.ct_terms.specs.declared.ids.TermId.{TermId}
 use Rattle.ct_terms.specs.declared.term.Core.TheVariants.{Con}
 use Rattle.ct_terms.specs.Terms.{Has}
-use Rattle.ct_congr.proofs.RuleLemmas.{element_at, find_unique}
+use Rattle.ct_congr.proofs.RuleLemmas.{find_unique}
 use Rattle.ct_congr.proofs.rules.expansion.Goals as goal
 
 pub returns-in-Some-clause-found : goal.returns-in-Some-clause-found
 returns-in-Some-clause-found c =
-    let ctor = element_at c.args.sig.now.ctors c.args.c.0 c.requires.constructor in
+    let ctor = slice_get-there c.args.sig.now.ctors c.args.c.0 c.requires.constructor in
     let selected = rw c.in-Some.is at c.in_ok-args.ensures.found in
     IfSome_then c.find.result c.find.ensures.found (λ con has. (ctor.0, c.in-Some.args, ctor.1, has, selected ctor.0 ctor.1))
 

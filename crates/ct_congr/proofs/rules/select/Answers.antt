@@ -1,11 +1,11 @@
 use Rattle.std.proofs.Common.{◌≡◌, ℕ, List, slice_get, length, Some, None, refl, sym, ap, subst, ◌∙◌}
 use Rattle.std.proofs.lemmas.Option.{none-some}
+use Rattle.ct_lemmas.proofs.Lists.{slice_get-one_length}
 use Rattle.ct_sorts.specs.declared.ids.CtorId.{CtorId}
 use Rattle.ct_terms.specs.declared.ids.TermId.{TermId}
 use Rattle.ct_terms.specs.declared.term.Core.TheVariants.{Con, Sel}
 use Rattle.ct_terms.specs.Terms.{Has}
 use Rattle.ct_congr.specs.Partition.{InOneClass}
-use Rattle.ct_congr.proofs.ListLemmas.{slice_get-one_length}
 use Rattle.ct_congr.proofs.TermLemmas.{Has-inside, Has-constructor, one_arity}
 use Rattle.ct_congr.proofs.RuleLemmas.{selector_at, place_at, IsSelection-at, selection_parts, selection_closed}
 use Rattle.ct_congr.proofs.rules.select.Goals as goal

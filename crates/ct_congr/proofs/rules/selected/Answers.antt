@@ -1,5 +1,6 @@
 use Rattle.std.proofs.Common.{get_or, Some, sym, ap, subst}
 use Rattle.std.proofs.lemmas.Option.{slice_get-get_or}
+use Rattle.ct_lemmas.proofs.Pairs.{AllZip-push}
 use Rattle.ct_congr.proofs.rules.selected.Goals as goal
 use Rattle.ct_congr.proofs.RuleLemmas.{selected_unique, not_selected, sels_of}
 use Rattle.ct_sorts.specs.declared.ids.SelId.{SelId}
@@ -7,7 +8,6 @@ use Rattle.std.proofs.lemmas.List.{take_more, take_all}
 use Rattle.std.proofs.Common.{take}
 use Rattle.std.specs.List.{AllZip}
 use Rattle.ct_rules.specs.Rules.{IsSelected}
-use Rattle.ct_congr.proofs.ListLemmas.{AllZip-push}
 
 abbrev zeroth : SelId
 zeroth = record { 0 = 0 }

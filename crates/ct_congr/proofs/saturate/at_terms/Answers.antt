@@ -1,8 +1,8 @@
 use Rattle.std.proofs.Common.{◌≡◌, sym, subst, inl, inr, arith}
+use Rattle.ct_lemmas.proofs.Numbers.{same_or_other}
 use Rattle.ct_terms.specs.declared.ids.TermId.{TermId}
 use Rattle.ct_congr.specs.Partition.{InOneClass}
 use Rattle.ct_congr.specs.Rules.{AreClosedOf}
-use Rattle.ct_congr.proofs.ListLemmas.{nat_cases}
 use Rattle.ct_congr.proofs.saturate.at_terms.Goals as goal
 
 pub loop-t-preserved : goal.loop-t-preserved
@@ -10,7 +10,7 @@ loop-t-preserved c =
     let t : TermId = record { 0 = c.loop-t.t } in
     let known = InOneClass c.args.reps.now in
     record {
-      closed = λ none injective u core below has. elim (nat_cases u.0 c.loop-t.t) [
+      closed = λ none injective u core below has. elim (same_or_other u.0 c.loop-t.t) [
         | inl e ↦
             let is : t ≡ u = λ i. record { 0 = sym e i } in
             subst (AreClosedOf c.args.sig.now c.args.table.now known) is (c.in_ok-at_term.ensures.closed none injective) core has

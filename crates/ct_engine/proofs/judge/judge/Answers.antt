@@ -1,4 +1,4 @@
-use Rattle.ct_engine.proofs.CountLemmas.{false_by}
+use Rattle.ct_lemmas.proofs.Booleans.{not_true}
 use Rattle.ct_engine.proofs.judge.judge.Goals as goal
 
 pub interpretation-requires-clause-candidate : goal.interpretation-requires-clause-candidate
@@ -17,5 +17,5 @@ returns-in-Some-clause-verdict c =
       proper = c.in_ok-interp.ensures.proper;
       assert = first.assert;
       stands = first.stands;
-      untrue = false_by _ first.untrue;
+      untrue = not_true _ first.untrue;
     }

@@ -1,5 +1,6 @@
 use Rattle.std.proofs.Common.{◌∙◌}
-use Rattle.ct_eval.proofs.TruthLemmas.{truth_of-node, slice_get-read}
+use Rattle.ct_lemmas.proofs.Lists.{slice_get-read}
+use Rattle.ct_eval.proofs.TruthLemmas.{truth_of-node}
 use Rattle.ct_eval.proofs.assertions.is_true.Goals as goal
 
 pub returns : goal.returns

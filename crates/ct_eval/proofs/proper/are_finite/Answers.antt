@@ -1,13 +1,14 @@
 use Rattle.std.proofs.Common.{sym, refl, ◌∙◌, arith}
+use Rattle.ct_lemmas.proofs.Lists.{slice_get-there}
 use Rattle.ct_values.specs.Graph.{node_children}
 use Rattle.ct_values.specs.WellFormed.{IsData, AreBefore}
-use Rattle.ct_eval.proofs.ListLemmas.{stands, EachBelow-all}
+use Rattle.ct_eval.proofs.ListLemmas.{EachBelow-all}
 use Rattle.ct_eval.proofs.FittingLemmas.{AreFinite-from, AreFinite-at}
 use Rattle.ct_eval.proofs.proper.are_finite.Goals as goal
 
 pub returns-then-not-is_finite : goal.returns-then-not-is_finite
 returns-then-not-is_finite c =
-    let stood = stands c.args.graph.now c.loop-n.n (omega (arith, c.len-n-end.ensures.count, c.loop-n-test.true)) in
+    let stood = slice_get-there c.args.graph.now c.loop-n.n (omega (arith, c.len-n-end.ensures.count, c.loop-n-test.true)) in
     record {
       finite = (
         λ e. cc,

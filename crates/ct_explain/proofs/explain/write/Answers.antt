@@ -1,12 +1,12 @@
 use Rattle.std.proofs.Common.{ℕ, ◌<◌, Bool, List, Option, arith, ap, sym, subst, length, take}
 use Rattle.std.specs.List.{Contains}
 use Rattle.std.proofs.lemmas.Option.{slice_get_within}
+use Rattle.ct_lemmas.proofs.Prefixes.{take-whole}
 use Rattle.ct_congr.specs.declared.merge.Merge.{Merge}
 use Rattle.ct_congr.specs.Merges.{AreConnected}
 use Rattle.ct_explain.specs.Resting.{HasNumber, IsMarked}
 use Rattle.ct_explain.specs.Trees.{IsRoute}
 use Rattle.ct_explain.specs.Writing.{AreDone}
-use Rattle.ct_explain.proofs.ListLemmas.{take-whole}
 use Rattle.ct_explain.proofs.WayLemmas.{route_of_path}
 use Rattle.ct_explain.proofs.explain.write.Goals as goal
 

@@ -1,12 +1,13 @@
 use Rattle.std.proofs.Common.{false, arith}
+use Rattle.ct_lemmas.proofs.Pairs.{AllZip-one_length}
 use Rattle.ct_log.specs.Gates.{IsTestOf}
 use Rattle.ct_log.proofs.LookLemmas.{not_told}
-use Rattle.ct_log.proofs.RestLemmas.{AllZip-lengths, AllZip-next, AllZip-stop, AllZip-end}
+use Rattle.ct_log.proofs.RestLemmas.{AllZip-next, AllZip-stop, AllZip-end}
 use Rattle.ct_log.proofs.exhaust.are_tests.Goals as goal
 
 pub returns-then-literals-ctors : goal.returns-then-literals-ctors
 returns-then-literals-ctors c = record {
-  tests = (λ e. cc, λ all. let long = AllZip-lengths (IsTestOf c.args.table.now c.args.t) c.args.literals.now c.args.ctors.now all in absurd (omega (arith, c.if-literals-ctors.true)));
+  tests = (λ e. cc, λ all. let long = AllZip-one_length (IsTestOf c.args.table.now c.args.t) c.args.literals.now c.args.ctors.now all in absurd (omega (arith, c.if-literals-ctors.true)));
 }
 
 pub returns-then-not-is_test_of : goal.returns-then-not-is_test_of

@@ -1,12 +1,13 @@
 use Rattle.std.proofs.Common.{arith}
+use Rattle.ct_lemmas.proofs.Pairs.{AllZip-one_length}
 use Rattle.ct_rules.specs.Rules.{IsSelected}
 use Rattle.ct_log.proofs.LookLemmas.{not_told}
-use Rattle.ct_log.proofs.RestLemmas.{AllZip-lengths, AllZip-next, AllZip-stop, AllZip-end}
+use Rattle.ct_log.proofs.RestLemmas.{AllZip-next, AllZip-stop, AllZip-end}
 use Rattle.ct_log.proofs.steps.are_selected.Goals as goal
 
 pub returns-then-args-sels : goal.returns-then-args-sels
 returns-then-args-sels c = record {
-  selected = (λ e. cc, λ all. let long = AllZip-lengths (IsSelected c.args.table.now c.args.u) c.args.args.now c.args.sels.now all in absurd (omega (arith, c.if-args-sels.true)));
+  selected = (λ e. cc, λ all. let long = AllZip-one_length (IsSelected c.args.table.now c.args.u) c.args.args.now c.args.sels.now all in absurd (omega (arith, c.if-args-sels.true)));
 }
 
 pub returns-then-not-is_selection : goal.returns-then-not-is_selection

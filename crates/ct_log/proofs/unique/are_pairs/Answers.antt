@@ -1,9 +1,9 @@
 use Rattle.std.proofs.Common.{◌≡◌, ◌∙◌, sym, Some, ap, arith, ℕ, subst, inl, inr, slice_get}
 use Rattle.std.proofs.lemmas.Option.{slice_get-get_or, slice_get_within, same_Some}
+use Rattle.ct_lemmas.proofs.Numbers.{last_or_before}
 use Rattle.ct_log.specs.declared.rules.Pair.{Pair}
 use Rattle.ct_log.specs.Equations.{IsPairBy}
 use Rattle.ct_log.proofs.LookLemmas.{not_told}
-use Rattle.ct_log.proofs.ListLemmas.{last_or_before}
 use Rattle.ct_log.proofs.unique.are_pairs.Goals as goal
 
 pub returns-then-not-is_pair : goal.returns-then-not-is_pair

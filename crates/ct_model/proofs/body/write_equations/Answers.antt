@@ -1,5 +1,5 @@
 use Rattle.std.proofs.Common.{◌++◌, ◌∷◌, [], refl, ap, ◌∙◌, append_assoc}
-use Rattle.ct_values.specs.ValueText.{IsValueText}
+use Rattle.ct_value_text.specs.ValueText.{IsValueText}
 use Rattle.ct_model.specs.Listed.{spaced}
 use Rattle.ct_model.specs.TableText.{equation, equations}
 use Rattle.ct_model.proofs.ListLemmas.{none_written, one_more_taken, all_written}

@@ -1,5 +1,5 @@
 use Rattle.std.proofs.Common.{take}
-use Rattle.ct_values.specs.ValueText.{IsValueText}
+use Rattle.ct_value_text.specs.ValueText.{IsValueText}
 use Rattle.ct_model.specs.Listed.{spaced}
 use Rattle.ct_model.specs.TableText.{equations}
 use Rattle.ct_model.proofs.ListLemmas.{AreWritten}

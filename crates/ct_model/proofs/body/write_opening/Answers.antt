@@ -1,7 +1,7 @@
 use Rattle.std.proofs.Common.{List, subst}
 use Rattle.std.specs.List.{AllZip}
 use Rattle.ct_values.specs.declared.node.NodeId.{NodeId}
-use Rattle.ct_values.specs.ValueText.{IsValueText}
+use Rattle.ct_value_text.specs.ValueText.{IsValueText}
 use Rattle.ct_model.proofs.BodyLemmas.{opening-parts}
 use Rattle.ct_model.proofs.body.write_opening.Goals as goal
 

@@ -1,6 +1,6 @@
 use Rattle.std.proofs.Common.{◌≡◌, ◌||◌, ◌==◌, length, reverse}
 use Rattle.std.specs.List.{list_all}
-use Rattle.ct_terms.specs.Compiled.{is_among}
+use Rattle.ct_formulas.specs.Compiled.{is_among}
 use Rattle.ct_occurrence.proofs.fitting.are_covered.Given as goal
 
 abbrev pub invariant-loop-rest : goal.invariant-loop-rest

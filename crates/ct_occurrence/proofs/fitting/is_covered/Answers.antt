@@ -1,5 +1,5 @@
 use Rattle.std.proofs.Common.{sym, ◌∙◌, reverse}
-use Rattle.ct_terms.specs.Compiled.{is_among}
+use Rattle.ct_formulas.specs.Compiled.{is_among}
 use Rattle.ct_occurrence.proofs.FlagLemmas.{among_reversed, covered_other}
 use Rattle.ct_occurrence.proofs.fitting.is_covered.Goals as goal
 

@@ -1,10 +1,10 @@
 use Rattle.std.proofs.Common.{◌≡◌, ◌-◌, ◌≤◌, List, length, take, drop, refl, subst, arith}
-use Rattle.ct_terms.specs.declared.tree.Tree.{Tree}
-use Rattle.ct_terms.specs.TreeFormula.{formula_of, formulas_of_trees}
-use Rattle.ct_terms.specs.Formula.{Cases, with_case}
+use Rattle.ct_lemmas.proofs.Prefixes.{rest-item}
+use Rattle.ct_formulas.specs.declared.tree.Tree.{Tree}
+use Rattle.ct_formulas.specs.TreeFormula.{formula_of, formulas_of_trees}
+use Rattle.ct_formulas.specs.Formula.{Cases, with_case}
 use Rattle.ct_occurrence.specs.CaseFormula.{case_of, cases_of_trees}
 use Rattle.ct_occurrence.proofs.Size.{sizes, case_sizes}
-use Rattle.ct_occurrence.proofs.RestLemmas.{rest_item}
 use Rattle.ct_occurrence.proofs.CaseLemmas.{cases_is}
 use Rattle.ct_occurrence.proofs.MayLemmas.{heavier_plain}
 use Rattle.ct_occurrence.proofs.SizeLemmas.{first_size, first_case_size}
@@ -20,7 +20,7 @@ highest-height_of-requires t c =
     let all = formulas_of_trees c.args.trees.now in
     let loop = c.loop-rest in
     let others = take (length loop.rest.now - 1) (drop 1 loop.rest.now) in
-    let split = subst (λ (xs : List Tree). sizes (formulas_of_trees xs) ≤ sizes all) (rest_item loop.rest.now c.tree-item.result c.in-len1-up.len_at_least c.tree-item.is) loop.invariant in
+    let split = subst (λ (xs : List Tree). sizes (formulas_of_trees xs) ≤ sizes all) (rest-item loop.rest.now c.tree-item.result c.in-len1-up.len_at_least c.tree-item.is) loop.invariant in
     let first = first_size (formula_of c.tree-item.result) (formulas_of_trees others) (sizes all) split in
     omega (arith, first.0, c.decreases)
 
@@ -29,7 +29,7 @@ highest-loop-rest-preserved t c =
     let all = formulas_of_trees c.args.trees.now in
     let loop = c.loop-rest in
     let others = take (length loop.rest.now - 1) (drop 1 loop.rest.now) in
-    let split = subst (λ (xs : List Tree). sizes (formulas_of_trees xs) ≤ sizes all) (rest_item loop.rest.now c.tree-item.result c.in-len1-up.len_at_least c.tree-item.is) loop.invariant in
+    let split = subst (λ (xs : List Tree). sizes (formulas_of_trees xs) ≤ sizes all) (rest-item loop.rest.now c.tree-item.result c.in-len1-up.len_at_least c.tree-item.is) loop.invariant in
     (first_size (formula_of c.tree-item.result) (formulas_of_trees others) (sizes all) split).1
 
 pub highest_body-height_of-requires : goal.highest_body-height_of-requires
@@ -39,7 +39,7 @@ highest_body-height_of-requires t c =
     let others = take (length loop.rest.now - 1) (drop 1 loop.rest.now) in
     let p = (case_of c.case-item.result).0 in
     let body = formula_of c.body_of.result.now in
-    let whole : cases_of_trees loop.rest.now ≡ with_case p body (cases_of_trees others) = cases_is loop.rest.now others c.case-item.result p body (rest_item loop.rest.now c.case-item.result c.in-len1-up.len_at_least c.case-item.is) refl c.body_of.ensures.value in
+    let whole : cases_of_trees loop.rest.now ≡ with_case p body (cases_of_trees others) = cases_is loop.rest.now others c.case-item.result p body (rest-item loop.rest.now c.case-item.result c.in-len1-up.len_at_least c.case-item.is) refl c.body_of.ensures.value in
     let first = first_case_size p body (cases_of_trees others) (case_sizes all) (subst (λ (cs : Cases). case_sizes cs ≤ case_sizes all) whole loop.invariant) in
     omega (arith, first.0, c.decreases)
 
@@ -50,5 +50,5 @@ highest_body-loop-rest-preserved t c =
     let others = take (length loop.rest.now - 1) (drop 1 loop.rest.now) in
     let p = (case_of c.case-item.result).0 in
     let body = formula_of c.body_of.result.now in
-    let whole : cases_of_trees loop.rest.now ≡ with_case p body (cases_of_trees others) = cases_is loop.rest.now others c.case-item.result p body (rest_item loop.rest.now c.case-item.result c.in-len1-up.len_at_least c.case-item.is) refl c.body_of.ensures.value in
+    let whole : cases_of_trees loop.rest.now ≡ with_case p body (cases_of_trees others) = cases_is loop.rest.now others c.case-item.result p body (rest-item loop.rest.now c.case-item.result c.in-len1-up.len_at_least c.case-item.is) refl c.body_of.ensures.value in
     (first_case_size p body (cases_of_trees others) (case_sizes all) (subst (λ (cs : Cases). case_sizes cs ≤ case_sizes all) whole loop.invariant)).1

@@ -1,18 +1,18 @@
 use Rattle.std.proofs.Common.{◌≡◌, ◌-◌, List, length, take, drop, OnOk, refl, sym, ap, ap₂, subst, ◌∙◌, arith}
-use Rattle.ct_terms.specs.declared.tree.Tree.{Tree}
-use Rattle.ct_terms.specs.declared.tree.Case.{Case}
-use Rattle.ct_terms.specs.declared.tree.Pattern.{Pattern}
-use Rattle.ct_terms.specs.declared.tree.Tree.TheOpen.{Tree-F}
-use Rattle.ct_terms.specs.declared.tree.Tree.TheFolds.{fold-roll-Tree}
-use Rattle.ct_terms.specs.declared.tree.Tree.TheVariants.{rolls-Def, rolls-Let, rolls-Match}
-use Rattle.ct_terms.specs.TreeFormula.{formula_of, formulas_of_trees, formula_layer, case_layer}
-use Rattle.ct_terms.specs.Formula.{Formula, Cases, Def, Let, Match, with_case}
+use Rattle.ct_lemmas.proofs.Options.{OnOk-map}
+use Rattle.ct_lemmas.proofs.Prefixes.{nothing_left, rest-item}
+use Rattle.ct_formulas.specs.declared.tree.Tree.{Tree}
+use Rattle.ct_formulas.specs.declared.tree.Case.{Case}
+use Rattle.ct_formulas.specs.declared.tree.Pattern.{Pattern}
+use Rattle.ct_formulas.specs.declared.tree.Tree.TheOpen.{Tree-F}
+use Rattle.ct_formulas.specs.declared.tree.Tree.TheFolds.{fold-roll-Tree}
+use Rattle.ct_formulas.specs.declared.tree.Tree.TheVariants.{rolls-Def, rolls-Let, rolls-Match}
+use Rattle.ct_formulas.specs.TreeFormula.{formula_of, formulas_of_trees, formula_layer, case_layer}
+use Rattle.ct_formulas.specs.Formula.{Formula, Cases, Def, Let, Match, with_case}
 use Rattle.ct_occurrence.specs.Calls.{AddsNamed}
 use Rattle.ct_occurrence.specs.CaseFormula.{case_of, cases_of_trees}
-use Rattle.ct_occurrence.proofs.RestLemmas.{rest_item}
 use Rattle.ct_occurrence.proofs.CaseLemmas.{cases_is}
-use Rattle.ct_occurrence.proofs.MayLemmas.{nothing_left, heavier_plain}
-use Rattle.ct_occurrence.proofs.NameLemmas.{ok_so}
+use Rattle.ct_occurrence.proofs.MayLemmas.{heavier_plain}
 use Rattle.ct_occurrence.proofs.NameLemmas.{NamesRest, names_next, names_lighter, names_end, CaseNamesRest, case_names_next, case_names_lighter, case_names_end, adds_plain, adds_choice, adds_call, adds_let, adds_match}
 use Rattle.ct_occurrence.proofs.names.+names.Goals as goal
 
@@ -23,7 +23,7 @@ add_names-add_names_of_all-requires t c =
 
 pub add_names-returns-in-Some : goal.add_names-returns-in-Some
 add_names-returns-in-Some t c =
-    record { named = ok_so c.add_names_of_all.result _ _ (adds_plain (formula_of c.args.tree.now) (formulas_of_trees c.in-Some.trees.now) c.args.names.now.items c.add_names_of_all.new.names.items c.in-Some.ensures.plain c.in-Some.ensures.under) c.add_names_of_all.ensures.named }
+    record { named = OnOk-map c.add_names_of_all.result _ _ (adds_plain (formula_of c.args.tree.now) (formulas_of_trees c.in-Some.trees.now) c.args.names.now.items c.add_names_of_all.new.names.items c.in-Some.ensures.plain c.in-Some.ensures.under) c.add_names_of_all.ensures.named }
 
 pub add_names-returns-in-Def : goal.add_names-returns-in-Def
 add_names-returns-in-Def t c =
@@ -48,7 +48,7 @@ add_names_of_all-add_names-requires t c =
     let first = c.args.names.now.items in
     let loop = c.loop-rest in
     let others = take (length loop.rest.now - 1) (drop 1 loop.rest.now) in
-    let split = subst (λ (xs : List Tree). NamesRest all (formulas_of_trees xs) first loop.names.items) (rest_item loop.rest.now c.tree-item.result c.in-len1-up.len_at_least c.tree-item.is) loop.invariant in
+    let split = subst (λ (xs : List Tree). NamesRest all (formulas_of_trees xs) first loop.names.items) (rest-item loop.rest.now c.tree-item.result c.in-len1-up.len_at_least c.tree-item.is) loop.invariant in
     let lighter = names_lighter all (formula_of c.tree-item.result) (formulas_of_trees others) first loop.names.items split in
     omega (arith, lighter, c.decreases)
 
@@ -58,7 +58,7 @@ add_names_of_all-loop-rest-preserved t c =
     let first = c.args.names.now.items in
     let loop = c.loop-rest in
     let others = take (length loop.rest.now - 1) (drop 1 loop.rest.now) in
-    let split = subst (λ (xs : List Tree). NamesRest all (formulas_of_trees xs) first loop.names.items) (rest_item loop.rest.now c.tree-item.result c.in-len1-up.len_at_least c.tree-item.is) loop.invariant in
+    let split = subst (λ (xs : List Tree). NamesRest all (formulas_of_trees xs) first loop.names.items) (rest-item loop.rest.now c.tree-item.result c.in-len1-up.len_at_least c.tree-item.is) loop.invariant in
     names_next all (formula_of c.tree-item.result) (formulas_of_trees others) first loop.names.items c.add_names.new.names.items split c.in_ok-add_names.ensures.named
 
 pub add_names_of_all-returns : goal.add_names_of_all-returns
@@ -97,7 +97,7 @@ add_names_of_cases-add_names-requires t c =
     let others = take (length loop.rest.now - 1) (drop 1 loop.rest.now) in
     let p = (case_of c.case-item.result).0 in
     let body = formula_of c.body_of.result.now in
-    let whole : cases_of_trees loop.rest.now ≡ with_case p body (cases_of_trees others) = cases_is loop.rest.now others c.case-item.result p body (rest_item loop.rest.now c.case-item.result c.in-len1-up.len_at_least c.case-item.is) refl c.body_of.ensures.value in
+    let whole : cases_of_trees loop.rest.now ≡ with_case p body (cases_of_trees others) = cases_is loop.rest.now others c.case-item.result p body (rest-item loop.rest.now c.case-item.result c.in-len1-up.len_at_least c.case-item.is) refl c.body_of.ensures.value in
     let split = subst (λ (cs : Cases). CaseNamesRest all cs first loop.names.items) whole loop.invariant in
     let lighter = case_names_lighter all p body (cases_of_trees others) first loop.names.items split in
     omega (arith, lighter, c.decreases)
@@ -110,7 +110,7 @@ add_names_of_cases-loop-rest-preserved t c =
     let others = take (length loop.rest.now - 1) (drop 1 loop.rest.now) in
     let p = (case_of c.case-item.result).0 in
     let body = formula_of c.body_of.result.now in
-    let whole : cases_of_trees loop.rest.now ≡ with_case p body (cases_of_trees others) = cases_is loop.rest.now others c.case-item.result p body (rest_item loop.rest.now c.case-item.result c.in-len1-up.len_at_least c.case-item.is) refl c.body_of.ensures.value in
+    let whole : cases_of_trees loop.rest.now ≡ with_case p body (cases_of_trees others) = cases_is loop.rest.now others c.case-item.result p body (rest-item loop.rest.now c.case-item.result c.in-len1-up.len_at_least c.case-item.is) refl c.body_of.ensures.value in
     let split = subst (λ (cs : Cases). CaseNamesRest all cs first loop.names.items) whole loop.invariant in
     case_names_next all p body (cases_of_trees others) first loop.names.items c.add_names.new.names.items split c.in_ok-add_names.ensures.named
 

@@ -1,5 +1,5 @@
 use Rattle.std.proofs.Common.{length, map}
-use Rattle.ct_terms.specs.TreeFormula.{formula_of}
+use Rattle.ct_formulas.specs.TreeFormula.{formula_of}
 use Rattle.ct_occurrence.specs.Marks.{worked_in}
 use Rattle.ct_occurrence.proofs.WorkingLemmas.{WorksOut}
 use Rattle.ct_occurrence.proofs.needed.work_out_all.Given as goal

@@ -1,6 +1,6 @@
 use Rattle.std.proofs.Common.{List, Contains, sym, subst}
 use Rattle.ct_sorts.specs.declared.ids.DefId.{DefId}
-use Rattle.ct_terms.specs.TreeFormula.{formula_of}
+use Rattle.ct_formulas.specs.TreeFormula.{formula_of}
 use Rattle.ct_occurrence.specs.Calls.{AreBelow}
 use Rattle.ct_occurrence.specs.Marks.{worked_in, IsKnown}
 use Rattle.ct_occurrence.proofs.NameLemmas.{calls_more, mentions_calls}

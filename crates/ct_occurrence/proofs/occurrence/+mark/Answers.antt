@@ -1,25 +1,25 @@
 use Rattle.std.proofs.Common.{◌≡◌, ℕ, ◌+◌, ◌-◌, ◌&&◌, Bool, true, false, List, [], ◌∷◌, ◌++◌, length, take, drop, reverse, get_or, None, Some, IfOk, sym, ap, ap₂, subst, ◌∙◌, arith}
 use Rattle.std.proofs.lemmas.List.{reverse-append}
 use Rattle.std.proofs.lemmas.Result.{IfOk-weaker}
+use Rattle.ct_lemmas.proofs.Prefixes.{nothing_left, rest-item, rest-step}
 use Rattle.ct_sorts.specs.declared.ids.CtorId.{CtorId}
-use Rattle.ct_terms.specs.declared.tree.Tree.{Tree}
-use Rattle.ct_terms.specs.declared.tree.Case.{Case}
-use Rattle.ct_terms.specs.declared.tree.Pattern.{Pattern}
-use Rattle.ct_terms.specs.declared.tree.Tree.TheOpen.{Tree-F}
-use Rattle.ct_terms.specs.declared.tree.Tree.TheFolds.{fold-roll-Tree}
-use Rattle.ct_terms.specs.declared.tree.Tree.TheVariants.{rolls-Def, rolls-Let, rolls-Match}
-use Rattle.ct_terms.specs.TreeFormula.{formula_of, formulas_of_trees, formula_layer, case_layer}
-use Rattle.ct_terms.specs.Formula.{Formula, Cases, Def, Let, Match, with_formula, with_case}
-use Rattle.ct_terms.specs.Compiled.{are_none}
-use Rattle.ct_terms.specs.Occurrence.{count_of, occurs, occurs_in_bound, matched_occurs, occurs_in_cases}
+use Rattle.ct_formulas.specs.declared.tree.Tree.{Tree}
+use Rattle.ct_formulas.specs.declared.tree.Case.{Case}
+use Rattle.ct_formulas.specs.declared.tree.Pattern.{Pattern}
+use Rattle.ct_formulas.specs.declared.tree.Tree.TheOpen.{Tree-F}
+use Rattle.ct_formulas.specs.declared.tree.Tree.TheFolds.{fold-roll-Tree}
+use Rattle.ct_formulas.specs.declared.tree.Tree.TheVariants.{rolls-Def, rolls-Let, rolls-Match}
+use Rattle.ct_formulas.specs.TreeFormula.{formula_of, formulas_of_trees, formula_layer, case_layer}
+use Rattle.ct_formulas.specs.Formula.{Formula, Cases, Def, Let, Match, with_formula, with_case}
+use Rattle.ct_formulas.specs.Compiled.{are_none}
+use Rattle.ct_formulas.specs.Occurrence.{count_of, occurs, occurs_in_bound, matched_occurs, occurs_in_cases}
 use Rattle.ct_occurrence.specs.declared.notes.Notes.{Notes}
 use Rattle.ct_occurrence.specs.CaseFormula.{cases_of_trees}
 use Rattle.ct_occurrence.proofs.Size.{size, sizes}
 use Rattle.ct_occurrence.specs.Marks.{worked_in, flags_below, mark_each, pattern_variable_count, MayMark}
 use Rattle.ct_occurrence.specs.Noted.{under_of, IsNoted}
-use Rattle.ct_occurrence.proofs.RestLemmas.{rest_item, rest_step}
 use Rattle.ct_occurrence.proofs.MarkLemmas.{marked_none}
-use Rattle.ct_occurrence.proofs.MayLemmas.{may_plain, marks_plain, may_condition, may_then, may_else, marks_choice, may_args, row_there, may_body, may_bound, marks_let, may_matched, may_cases, marks_match, MarksRest, rest_first, rest_lighter, rest_more, rest_end, MarksBound, bound_first, bound_lighter, bound_more, bound_end, bound_short, under_long, under_take, under_drop, ok_then, nothing_left, counted, heavier_plain}
+use Rattle.ct_occurrence.proofs.MayLemmas.{may_plain, marks_plain, may_condition, may_then, may_else, marks_choice, may_args, row_there, may_body, may_bound, marks_let, may_matched, may_cases, marks_match, MarksRest, rest_first, rest_lighter, rest_more, rest_end, MarksBound, bound_first, bound_lighter, bound_more, bound_end, bound_short, under_long, under_take, under_drop, ok_then, counted, heavier_plain}
 use Rattle.ct_occurrence.proofs.NoteLemmas.{noted_operator, noted_call, noted_choice, noted_let, noted_match, NotesRest, notes_more, notes_end, NotesBound, notes_bound_more, notes_bound_end}
 use Rattle.ct_occurrence.specs.Matching.{tested_by}
 use Rattle.ct_occurrence.proofs.CaseLemmas.{cases_is, none_is}
@@ -118,7 +118,7 @@ mark_all-mark-requires t c =
     let all = formulas_of_trees c.args.trees.now in
     let first = c.args.flags.now.items in
     let more = formulas_of_trees (take (length loop.rest.now - 1) (drop 1 loop.rest.now)) in
-    let split = subst (λ (xs : List Tree). MarksRest c.args.sig.now (worked_in c.args.definitions.now) all first (formulas_of_trees xs) loop.flags.items) (rest_item loop.rest.now c.tree-item.result c.in-len1-up.len_at_least c.tree-item.is) loop.invariant.marks in
+    let split = subst (λ (xs : List Tree). MarksRest c.args.sig.now (worked_in c.args.definitions.now) all first (formulas_of_trees xs) loop.flags.items) (rest-item loop.rest.now c.tree-item.result c.in-len1-up.len_at_least c.tree-item.is) loop.invariant.marks in
     let lighter = rest_lighter c.args.sig.now (worked_in c.args.definitions.now) all first (formula_of c.tree-item.result) more loop.flags.items split in
     (omega (arith, lighter, c.decreases), (may.0, may.1, rest_first c.args.sig.now (worked_in c.args.definitions.now) all first (formula_of c.tree-item.result) more loop.flags.items split may.0 may.1 may.2))
 
@@ -128,8 +128,8 @@ mark_all-loop-rest-preserved t c =
     let all = formulas_of_trees c.args.trees.now in
     let first = c.args.flags.now.items in
     let more = formulas_of_trees (take (length loop.rest.now - 1) (drop 1 loop.rest.now)) in
-    let split = subst (λ (xs : List Tree). MarksRest c.args.sig.now (worked_in c.args.definitions.now) all first (formulas_of_trees xs) loop.flags.items) (rest_item loop.rest.now c.tree-item.result c.in-len1-up.len_at_least c.tree-item.is) loop.invariant.marks in
-    let notes = subst (λ (xs : List Tree). NotesRest c.args.sig.now (worked_in c.args.definitions.now) all (formulas_of_trees xs) loop.all.items) (rest_item loop.rest.now c.tree-item.result c.in-len1-up.len_at_least c.tree-item.is) loop.invariant.notes in
+    let split = subst (λ (xs : List Tree). MarksRest c.args.sig.now (worked_in c.args.definitions.now) all first (formulas_of_trees xs) loop.flags.items) (rest-item loop.rest.now c.tree-item.result c.in-len1-up.len_at_least c.tree-item.is) loop.invariant.marks in
+    let notes = subst (λ (xs : List Tree). NotesRest c.args.sig.now (worked_in c.args.definitions.now) all (formulas_of_trees xs) loop.all.items) (rest-item loop.rest.now c.tree-item.result c.in-len1-up.len_at_least c.tree-item.is) loop.invariant.notes in
     record {
       marks = rest_more c.args.sig.now (worked_in c.args.definitions.now) all first (formula_of c.tree-item.result) more loop.flags.items split c.mark.new.flags.items (λ uses n h. c.in_ok-notes.ensures.marks uses n h);
       notes = subst (λ (ms : List Notes). NotesRest c.args.sig.now (worked_in c.args.definitions.now) all more ms) (sym c.in_ok-push.ensures.items) (notes_more c.args.sig.now (worked_in c.args.definitions.now) all (formula_of c.tree-item.result) more loop.all.items c.in_ok-notes.notes notes (λ uses n h. c.in_ok-notes.ensures.noted uses n (rest_first c.args.sig.now (worked_in c.args.definitions.now) all first (formula_of c.tree-item.result) more loop.flags.items split uses n h)));
@@ -161,7 +161,7 @@ mark_bound-returns-in_default-left-clause-marks t c = λ inner uses n h e.
     let all = formulas_of_trees c.args.trees.now in
     let first = c.args.flags.now.items in
     let more = formulas_of_trees (take (length loop.rest.now - 1) (drop 1 loop.rest.now)) in
-    let split = subst (λ (xs : List Tree). MarksBound c.args.sig.now (worked_in c.args.definitions.now) c.args.bound.now all first loop.left.now (formulas_of_trees xs) loop.flags.items) (rest_item loop.rest.now c.tree-item.result c.in-len1-up.len_at_least c.tree-item.is) loop.invariant.marks in
+    let split = subst (λ (xs : List Tree). MarksBound c.args.sig.now (worked_in c.args.definitions.now) c.args.bound.now all first loop.left.now (formulas_of_trees xs) loop.flags.items) (rest-item loop.rest.now c.tree-item.result c.in-len1-up.len_at_least c.tree-item.is) loop.invariant.marks in
     let none : loop.left.now ≡ [] = nothing_left loop.left.now (omega (arith, c.in_default-left.len_below)) in
     let short = subst (λ (bs : List Bool). MarksBound c.args.sig.now (worked_in c.args.definitions.now) c.args.bound.now all first bs (with_formula (formula_of c.tree-item.result) more) loop.flags.items) none split in
     absurd (bound_short c.args.sig.now (worked_in c.args.definitions.now) c.args.bound.now all first (formula_of c.tree-item.result) more loop.flags.items inner uses n short h e)
@@ -172,7 +172,7 @@ mark_bound-returns-in_default-left-clause-noted t c = λ inner uses n h e.
     let all = formulas_of_trees c.args.trees.now in
     let first = c.args.flags.now.items in
     let more = formulas_of_trees (take (length loop.rest.now - 1) (drop 1 loop.rest.now)) in
-    let split = subst (λ (xs : List Tree). MarksBound c.args.sig.now (worked_in c.args.definitions.now) c.args.bound.now all first loop.left.now (formulas_of_trees xs) loop.flags.items) (rest_item loop.rest.now c.tree-item.result c.in-len1-up.len_at_least c.tree-item.is) loop.invariant.marks in
+    let split = subst (λ (xs : List Tree). MarksBound c.args.sig.now (worked_in c.args.definitions.now) c.args.bound.now all first loop.left.now (formulas_of_trees xs) loop.flags.items) (rest-item loop.rest.now c.tree-item.result c.in-len1-up.len_at_least c.tree-item.is) loop.invariant.marks in
     let none : loop.left.now ≡ [] = nothing_left loop.left.now (omega (arith, c.in_default-left.len_below)) in
     let short = subst (λ (bs : List Bool). MarksBound c.args.sig.now (worked_in c.args.definitions.now) c.args.bound.now all first bs (with_formula (formula_of c.tree-item.result) more) loop.flags.items) none split in
     absurd (bound_short c.args.sig.now (worked_in c.args.definitions.now) c.args.bound.now all first (formula_of c.tree-item.result) more loop.flags.items inner uses n short h e)
@@ -185,10 +185,10 @@ mark_bound-mark_where-requires t c =
     let all = formulas_of_trees c.args.trees.now in
     let first = c.args.flags.now.items in
     let more = formulas_of_trees (take (length loop.rest.now - 1) (drop 1 loop.rest.now)) in
-    let split = subst (λ (xs : List Tree). MarksBound c.args.sig.now (worked_in c.args.definitions.now) c.args.bound.now all first loop.left.now (formulas_of_trees xs) loop.flags.items) (rest_item loop.rest.now c.tree-item.result c.in-len1-up.len_at_least c.tree-item.is) loop.invariant.marks in
+    let split = subst (λ (xs : List Tree). MarksBound c.args.sig.now (worked_in c.args.definitions.now) c.args.bound.now all first loop.left.now (formulas_of_trees xs) loop.flags.items) (rest-item loop.rest.now c.tree-item.result c.in-len1-up.len_at_least c.tree-item.is) loop.invariant.marks in
     let b = get_or loop.left.now 0 false in
     let left = take (length loop.left.now - 1) (drop 1 loop.left.now) in
-    let both = subst (λ (bs : List Bool). MarksBound c.args.sig.now (worked_in c.args.definitions.now) c.args.bound.now all first bs (with_formula (formula_of c.tree-item.result) more) loop.flags.items) (rest_step loop.left.now false c.in-len1-up-left.len_at_least) split in
+    let both = subst (λ (bs : List Bool). MarksBound c.args.sig.now (worked_in c.args.definitions.now) c.args.bound.now all first bs (with_formula (formula_of c.tree-item.result) more) loop.flags.items) (rest-step loop.left.now false c.in-len1-up-left.len_at_least) split in
     let lighter = bound_lighter c.args.sig.now (worked_in c.args.definitions.now) c.args.bound.now all first b left (formula_of c.tree-item.result) more loop.flags.items both in
     (omega (arith, lighter, c.decreases), (may.0, may.1, bound_first c.args.sig.now (worked_in c.args.definitions.now) c.args.bound.now all first b left (formula_of c.tree-item.result) more loop.flags.items both flags.0 may.0 may.1 may.2 flags.1))
 
@@ -198,11 +198,11 @@ mark_bound-loop-rest-preserved t c =
     let all = formulas_of_trees c.args.trees.now in
     let first = c.args.flags.now.items in
     let more = formulas_of_trees (take (length loop.rest.now - 1) (drop 1 loop.rest.now)) in
-    let split = subst (λ (xs : List Tree). MarksBound c.args.sig.now (worked_in c.args.definitions.now) c.args.bound.now all first loop.left.now (formulas_of_trees xs) loop.flags.items) (rest_item loop.rest.now c.tree-item.result c.in-len1-up.len_at_least c.tree-item.is) loop.invariant.marks in
+    let split = subst (λ (xs : List Tree). MarksBound c.args.sig.now (worked_in c.args.definitions.now) c.args.bound.now all first loop.left.now (formulas_of_trees xs) loop.flags.items) (rest-item loop.rest.now c.tree-item.result c.in-len1-up.len_at_least c.tree-item.is) loop.invariant.marks in
     let b = get_or loop.left.now 0 false in
     let left = take (length loop.left.now - 1) (drop 1 loop.left.now) in
-    let both = subst (λ (bs : List Bool). MarksBound c.args.sig.now (worked_in c.args.definitions.now) c.args.bound.now all first bs (with_formula (formula_of c.tree-item.result) more) loop.flags.items) (rest_step loop.left.now false c.in-len1-up-left.len_at_least) split in
-    let notes = subst (λ (bs : List Bool). NotesBound c.args.sig.now (worked_in c.args.definitions.now) c.args.bound.now all bs (with_formula (formula_of c.tree-item.result) more) loop.all.items) (rest_step loop.left.now false c.in-len1-up-left.len_at_least) (subst (λ (xs : List Tree). NotesBound c.args.sig.now (worked_in c.args.definitions.now) c.args.bound.now all loop.left.now (formulas_of_trees xs) loop.all.items) (rest_item loop.rest.now c.tree-item.result c.in-len1-up.len_at_least c.tree-item.is) loop.invariant.notes) in
+    let both = subst (λ (bs : List Bool). MarksBound c.args.sig.now (worked_in c.args.definitions.now) c.args.bound.now all first bs (with_formula (formula_of c.tree-item.result) more) loop.flags.items) (rest-step loop.left.now false c.in-len1-up-left.len_at_least) split in
+    let notes = subst (λ (bs : List Bool). NotesBound c.args.sig.now (worked_in c.args.definitions.now) c.args.bound.now all bs (with_formula (formula_of c.tree-item.result) more) loop.all.items) (rest-step loop.left.now false c.in-len1-up-left.len_at_least) (subst (λ (xs : List Tree). NotesBound c.args.sig.now (worked_in c.args.definitions.now) c.args.bound.now all loop.left.now (formulas_of_trees xs) loop.all.items) (rest-item loop.rest.now c.tree-item.result c.in-len1-up.len_at_least c.tree-item.is) loop.invariant.notes) in
     record {
       marks = bound_more c.args.sig.now (worked_in c.args.definitions.now) c.args.bound.now all first b left (formula_of c.tree-item.result) more loop.flags.items both c.mark_where.new.flags.items (λ uses n h. c.in_ok-notes.ensures.marks uses n h);
       notes = subst (λ (ms : List Notes). NotesBound c.args.sig.now (worked_in c.args.definitions.now) c.args.bound.now all left more ms) (sym c.in_ok-push.ensures.items) (notes_bound_more c.args.sig.now (worked_in c.args.definitions.now) c.args.bound.now all b left (formula_of c.tree-item.result) more loop.all.items c.in_ok-notes.notes notes (λ inner uses n h e is. c.in_ok-notes.ensures.noted uses n (bound_first c.args.sig.now (worked_in c.args.definitions.now) c.args.bound.now all first b left (formula_of c.tree-item.result) more loop.flags.items both inner uses n h e) is));
@@ -370,7 +370,7 @@ mark_cases-variable_count-count-requires t c =
     let body = formula_of c.body_of-body.result.now in
     let others = take (length loop.rest.now - 1) (drop 1 loop.rest.now) in
     let later = cases_of_trees others in
-    let whole : cases_of_trees loop.rest.now ≡ with_case p body later = cases_is loop.rest.now others c.case-item.result p body (rest_item loop.rest.now c.case-item.result c.in-len1-up.len_at_least c.case-item.is) c.pattern_of-pattern.ensures.value c.body_of-body.ensures.value in
+    let whole : cases_of_trees loop.rest.now ≡ with_case p body later = cases_is loop.rest.now others c.case-item.result p body (rest-item loop.rest.now c.case-item.result c.in-len1-up.len_at_least c.case-item.is) c.pattern_of-pattern.ensures.value c.body_of-body.ensures.value in
     let split = subst (λ (cs : Cases). MarksCases d rows all first before earlier loop.tests cs loop.flags.items loop.inner.items) whole loop.invariant in
     let may = c.requires.may in
     record { declared = cases_declared d rows all first before earlier loop.tests p body later loop.flags.items loop.inner.items split may.0 may.1 may.2 }
@@ -388,7 +388,7 @@ mark_cases-mark_under-requires t c =
     let body = formula_of c.body_of-body.result.now in
     let others = take (length loop.rest.now - 1) (drop 1 loop.rest.now) in
     let later = cases_of_trees others in
-    let whole : cases_of_trees loop.rest.now ≡ with_case p body later = cases_is loop.rest.now others c.case-item.result p body (rest_item loop.rest.now c.case-item.result c.in-len1-up.len_at_least c.case-item.is) c.pattern_of-pattern.ensures.value c.body_of-body.ensures.value in
+    let whole : cases_of_trees loop.rest.now ≡ with_case p body later = cases_is loop.rest.now others c.case-item.result p body (rest-item loop.rest.now c.case-item.result c.in-len1-up.len_at_least c.case-item.is) c.pattern_of-pattern.ensures.value c.body_of-body.ensures.value in
     let split = subst (λ (cs : Cases). MarksCases d rows all first before earlier loop.tests cs loop.flags.items loop.inner.items) whole loop.invariant in
     let may = c.requires.may in
     let lighter = cases_lighter d rows all first before earlier loop.tests p body later loop.flags.items loop.inner.items split in
@@ -407,7 +407,7 @@ mark_cases-tested-requires t c =
     let body = formula_of c.body_of-body.result.now in
     let others = take (length loop.rest.now - 1) (drop 1 loop.rest.now) in
     let later = cases_of_trees others in
-    let whole : cases_of_trees loop.rest.now ≡ with_case p body later = cases_is loop.rest.now others c.case-item.result p body (rest_item loop.rest.now c.case-item.result c.in-len1-up.len_at_least c.case-item.is) c.pattern_of-pattern.ensures.value c.body_of-body.ensures.value in
+    let whole : cases_of_trees loop.rest.now ≡ with_case p body later = cases_is loop.rest.now others c.case-item.result p body (rest-item loop.rest.now c.case-item.result c.in-len1-up.len_at_least c.case-item.is) c.pattern_of-pattern.ensures.value c.body_of-body.ensures.value in
     let split = subst (λ (cs : Cases). MarksCases d rows all first before earlier loop.tests cs loop.flags.items loop.inner.items) whole loop.invariant in
     let may = c.requires.may in
     record { declared = cases_declared d rows all first before earlier loop.tests p body later loop.flags.items loop.inner.items split may.0 may.1 may.2 }
@@ -425,7 +425,7 @@ mark_cases-returns-in_default-tested-clause-matched t c = λ uses n may.
     let body = formula_of c.body_of-body.result.now in
     let others = take (length loop.rest.now - 1) (drop 1 loop.rest.now) in
     let later = cases_of_trees others in
-    let whole : cases_of_trees loop.rest.now ≡ with_case p body later = cases_is loop.rest.now others c.case-item.result p body (rest_item loop.rest.now c.case-item.result c.in-len1-up.len_at_least c.case-item.is) c.pattern_of-pattern.ensures.value c.body_of-body.ensures.value in
+    let whole : cases_of_trees loop.rest.now ≡ with_case p body later = cases_is loop.rest.now others c.case-item.result p body (rest-item loop.rest.now c.case-item.result c.in-len1-up.len_at_least c.case-item.is) c.pattern_of-pattern.ensures.value c.body_of-body.ensures.value in
     let split = subst (λ (cs : Cases). MarksCases d rows all first before earlier loop.tests cs loop.flags.items loop.inner.items) whole loop.invariant in
     let test : c.tested.result ≡ tested_by d earlier p (are_none later) = c.tested.ensures.value ∙ ap (tested_by d earlier p) (c.is_empty.ensures ∙ none_is others) in
     let end : tested_by d earlier p (are_none later) ≡ None = sym test ∙ c.in_default-tested.is in
@@ -445,7 +445,7 @@ mark_cases-returns-in_default-tested-clause-marks t c = λ uses n may.
     let body = formula_of c.body_of-body.result.now in
     let others = take (length loop.rest.now - 1) (drop 1 loop.rest.now) in
     let later = cases_of_trees others in
-    let whole : cases_of_trees loop.rest.now ≡ with_case p body later = cases_is loop.rest.now others c.case-item.result p body (rest_item loop.rest.now c.case-item.result c.in-len1-up.len_at_least c.case-item.is) c.pattern_of-pattern.ensures.value c.body_of-body.ensures.value in
+    let whole : cases_of_trees loop.rest.now ≡ with_case p body later = cases_is loop.rest.now others c.case-item.result p body (rest-item loop.rest.now c.case-item.result c.in-len1-up.len_at_least c.case-item.is) c.pattern_of-pattern.ensures.value c.body_of-body.ensures.value in
     let split = subst (λ (cs : Cases). MarksCases d rows all first before earlier loop.tests cs loop.flags.items loop.inner.items) whole loop.invariant in
     let test : c.tested.result ≡ tested_by d earlier p (are_none later) = c.tested.ensures.value ∙ ap (tested_by d earlier p) (c.is_empty.ensures ∙ none_is others) in
     let end : tested_by d earlier p (are_none later) ≡ None = sym test ∙ c.in_default-tested.is in
@@ -465,7 +465,7 @@ mark_cases-returns-in_default-tested-clause-noted t c = λ uses n may.
     let body = formula_of c.body_of-body.result.now in
     let others = take (length loop.rest.now - 1) (drop 1 loop.rest.now) in
     let later = cases_of_trees others in
-    let whole : cases_of_trees loop.rest.now ≡ with_case p body later = cases_is loop.rest.now others c.case-item.result p body (rest_item loop.rest.now c.case-item.result c.in-len1-up.len_at_least c.case-item.is) c.pattern_of-pattern.ensures.value c.body_of-body.ensures.value in
+    let whole : cases_of_trees loop.rest.now ≡ with_case p body later = cases_is loop.rest.now others c.case-item.result p body (rest-item loop.rest.now c.case-item.result c.in-len1-up.len_at_least c.case-item.is) c.pattern_of-pattern.ensures.value c.body_of-body.ensures.value in
     let split = subst (λ (cs : Cases). MarksCases d rows all first before earlier loop.tests cs loop.flags.items loop.inner.items) whole loop.invariant in
     let test : c.tested.result ≡ tested_by d earlier p (are_none later) = c.tested.ensures.value ∙ ap (tested_by d earlier p) (c.is_empty.ensures ∙ none_is others) in
     let end : tested_by d earlier p (are_none later) ≡ None = sym test ∙ c.in_default-tested.is in
@@ -484,7 +484,7 @@ mark_cases-loop-rest-preserved t c =
     let body = formula_of c.body_of-body.result.now in
     let others = take (length loop.rest.now - 1) (drop 1 loop.rest.now) in
     let later = cases_of_trees others in
-    let whole : cases_of_trees loop.rest.now ≡ with_case p body later = cases_is loop.rest.now others c.case-item.result p body (rest_item loop.rest.now c.case-item.result c.in-len1-up.len_at_least c.case-item.is) c.pattern_of-pattern.ensures.value c.body_of-body.ensures.value in
+    let whole : cases_of_trees loop.rest.now ≡ with_case p body later = cases_is loop.rest.now others c.case-item.result p body (rest-item loop.rest.now c.case-item.result c.in-len1-up.len_at_least c.case-item.is) c.pattern_of-pattern.ensures.value c.body_of-body.ensures.value in
     let split = subst (λ (cs : Cases). MarksCases d rows all first before earlier loop.tests cs loop.flags.items loop.inner.items) whole loop.invariant in
     let test : c.tested.result ≡ tested_by d earlier p (are_none later) = c.tested.ensures.value ∙ ap (tested_by d earlier p) (c.is_empty.ensures ∙ none_is others) in
     let more : tested_by d earlier p (are_none later) ≡ Some c.in-Some.c = sym test ∙ c.in-Some.is in

@@ -1,5 +1,5 @@
 use Rattle.std.proofs.Common.{List, [], ◌∷◌, ◌++◌, sym, ap, subst, ◌∙◌}
-use Rattle.ct_terms.specs.TreeFormula.{formula_of}
+use Rattle.ct_formulas.specs.TreeFormula.{formula_of}
 use Rattle.ct_occurrence.specs.declared.notes.Notes.{Notes}
 use Rattle.ct_occurrence.specs.Marks.{worked_in}
 use Rattle.ct_occurrence.specs.Noted.{IsOfFirst, IsNoted}

@@ -1,5 +1,5 @@
 use Rattle.std.proofs.Common.{refl}
-use Rattle.ct_terms.specs.TreeFormula.{formula_of}
+use Rattle.ct_formulas.specs.TreeFormula.{formula_of}
 use Rattle.ct_occurrence.proofs.NameLemmas.{mentions_calls}
 use Rattle.ct_occurrence.proofs.WorkingLemmas.{names_below}
 use Rattle.ct_occurrence.proofs.under_way.frame_of.Goals as goal

@@ -1,6 +1,6 @@
 use Rattle.std.proofs.Common.{◌≡◌, ◌<◌, List, [], length, map, subst, sym, arith}
 use Rattle.std.proofs.lemmas.List.{nil_from_length}
-use Rattle.ct_terms.specs.TreeFormula.{formula_of}
+use Rattle.ct_formulas.specs.TreeFormula.{formula_of}
 use Rattle.ct_occurrence.specs.declared.under_way.Frame.{Frame}
 use Rattle.ct_occurrence.specs.Marks.{worked_in}
 use Rattle.ct_occurrence.specs.UnderWay.{AreFramesUnderWay, left_to_do}

@@ -1,6 +1,6 @@
 use Rattle.std.proofs.Common.{map, refl, arith}
-use Rattle.ct_terms.specs.TreeFormula.{formula_of}
-use Rattle.ct_terms.specs.Occurrence.{uses_below}
+use Rattle.ct_formulas.specs.TreeFormula.{formula_of}
+use Rattle.ct_formulas.specs.Occurrence.{uses_below}
 use Rattle.ct_occurrence.specs.Marks.{worked_in}
 use Rattle.ct_occurrence.proofs.WorkingLemmas.{all_below, work_may, put_right}
 use Rattle.ct_occurrence.proofs.under_way.work_out_body.Goals as goal

@@ -3,7 +3,7 @@ use Rattle.std.proofs.lemmas.Result.{err_from_is_err_and, IfOk-weaker}
 use Rattle.ct_sorts.specs.Declarations.{bool_sort}
 use Rattle.ct_terms.specs.declared.error.TermError.TheVariants.{Full}
 use Rattle.ct_terms.specs.CoreTree.{subtrees, subtrees_of_all, trees_of, term_at}
-use Rattle.ct_terms.specs.Compiled.{all_of}
+use Rattle.ct_formulas.specs.Compiled.{all_of}
 use Rattle.ct_operators.specs.Effect.{Stands, Within}
 use Rattle.ct_operators.specs.Made.{MakesInOrder, made_all}
 use Rattle.ct_operators.specs.Pairing.{compared_all, made_compared_all}

@@ -3,8 +3,8 @@ use Rattle.std.specs.List.{AllByRecursion}
 use Rattle.std.proofs.lemmas.Result.{err_from_is_err_and, IfOk-weaker}
 use Rattle.ct_terms.specs.declared.ids.TermId.{TermId}
 use Rattle.ct_terms.specs.CoreTree.{term_at}
-use Rattle.ct_terms.specs.Pairs.{neighbours}
-use Rattle.ct_terms.specs.Compiled.{all_of, equality}
+use Rattle.ct_formulas.specs.Pairs.{neighbours}
+use Rattle.ct_formulas.specs.Compiled.{all_of, equality}
 use Rattle.ct_operators.specs.Effect.{Stands, Within}
 use Rattle.ct_operators.specs.Pairing.{compared_all, IsPair}
 use Rattle.ct_operators.proofs.EffectLemmas.{effect_none}

@@ -1,5 +1,5 @@
 use Rattle.std.proofs.Common.{◌≡◌, ◌++◌, length}
-use Rattle.ct_terms.specs.Pairs.{neighbours_from}
+use Rattle.ct_formulas.specs.Pairs.{neighbours_from}
 use Rattle.ct_operators.specs.Pairing.{both}
 use Rattle.ct_operators.proofs.chains.neighbours_of.Given as goal
 

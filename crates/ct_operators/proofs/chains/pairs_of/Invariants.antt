@@ -1,5 +1,5 @@
 use Rattle.std.proofs.Common.{◌≡◌, ◌++◌, length}
-use Rattle.ct_terms.specs.Pairs.{pairs}
+use Rattle.ct_formulas.specs.Pairs.{pairs}
 use Rattle.ct_operators.specs.Pairing.{both}
 use Rattle.ct_operators.proofs.chains.pairs_of.Given as goal
 

@@ -6,8 +6,8 @@ use Rattle.ct_sorts.specs.Declarations.{bool_sort}
 use Rattle.ct_terms.specs.declared.ids.TermId.{TermId}
 use Rattle.ct_terms.specs.CoreTree.{CoreTree, sel, test, negation, term_at}
 use Rattle.ct_terms.specs.CoreSorts.{HasTreeSort}
-use Rattle.ct_terms.specs.Pairs.{neighbours, pairs}
-use Rattle.ct_terms.specs.Compiled.{all_of, exclusive_of, implication_of, equality, inequality}
+use Rattle.ct_formulas.specs.Pairs.{neighbours, pairs}
+use Rattle.ct_formulas.specs.Compiled.{all_of, exclusive_of, implication_of, equality, inequality}
 use Rattle.ct_operators.specs.declared.operator.Operator.{Operator}
 use Rattle.ct_operators.specs.declared.operator.Operator.TheVariants.{Construct, Select, Inspect, Call, Negation, Conjunction, Disjunction, Exclusion, Implication, Equality, Inequality}
 use Rattle.ct_operators.specs.Effect.{Stands, Within}

@@ -2,7 +2,7 @@ use Rattle.std.proofs.Common.{Contains, sym, subst}
 use Rattle.std.proofs.lemmas.Result.{IfOk-weaker}
 use Rattle.ct_sorts.specs.Declarations.{bool_sort}
 use Rattle.ct_terms.specs.CoreTree.{term_at}
-use Rattle.ct_terms.specs.Compiled.{equality as equality_of}
+use Rattle.ct_formulas.specs.Compiled.{equality as equality_of}
 use Rattle.ct_operators.specs.Effect.{Stands}
 use Rattle.ct_operators.proofs.OperatorLemmas.{stands_as, equality_of_bool, equality_of_other, equivalence_sorted, equation_sorted}
 use Rattle.ct_operators.proofs.operators.equality.Goals as goal

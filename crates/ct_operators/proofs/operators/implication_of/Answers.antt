@@ -4,7 +4,7 @@ use Rattle.ct_sorts.specs.Declarations.{bool_sort}
 use Rattle.ct_terms.specs.declared.ids.TermId.{TermId}
 use Rattle.ct_terms.specs.CoreTree.{term_at}
 use Rattle.ct_terms.specs.CoreSorts.{HasTreeSort}
-use Rattle.ct_terms.specs.Compiled.{implication_of}
+use Rattle.ct_formulas.specs.Compiled.{implication_of}
 use Rattle.ct_operators.specs.Effect.{Within}
 use Rattle.ct_operators.proofs.ImplyingLemmas.{last_step}
 use Rattle.ct_operators.proofs.OperandLemmas.{sorts_of_terms}

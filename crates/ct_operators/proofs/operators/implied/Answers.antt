@@ -1,6 +1,7 @@
 use Rattle.std.proofs.Common.{◌<◌, List, ◌∷◌, [], Contains, sym, subst, refl, length, arith}
 use Rattle.std.specs.List.{AllByRecursion}
 use Rattle.std.proofs.lemmas.Result.{err_from_is_err_and, IfOk-weaker}
+use Rattle.ct_lemmas.proofs.Contained.{Contains-first}
 use Rattle.ct_sorts.specs.Declarations.{bool_sort}
 use Rattle.ct_terms.specs.declared.ids.TermId.{TermId}
 use Rattle.ct_terms.specs.CoreTree.{CoreTree, negation, term_at}
@@ -8,7 +9,7 @@ use Rattle.ct_terms.specs.CoreSorts.{HasTreeSort}
 use Rattle.ct_operators.specs.Effect.{Stands}
 use Rattle.ct_operators.specs.Forms.{implication}
 use Rattle.ct_operators.proofs.EffectLemmas.{effect_then, effect_because, prefix_length}
-use Rattle.ct_operators.proofs.WithinLemmas.{Contains-first, within_itself, within_disjunction}
+use Rattle.ct_operators.proofs.WithinLemmas.{within_itself, within_disjunction}
 use Rattle.ct_operators.proofs.OperatorLemmas.{stands_as, implied_made}
 use Rattle.ct_operators.proofs.operators.implied.Goals as goal
 

@@ -1,9 +1,10 @@
 use Rattle.std.proofs.Common.{◌∷◌, [], Contains, sym, subst}
 use Rattle.std.proofs.lemmas.Result.{err_from_is_err_and}
+use Rattle.ct_lemmas.proofs.Contained.{Contains-first}
 use Rattle.ct_terms.specs.CoreTree.{CoreTree, negation, term_at}
-use Rattle.ct_terms.specs.Compiled.{equality as equality_of}
+use Rattle.ct_formulas.specs.Compiled.{equality as equality_of}
 use Rattle.ct_operators.proofs.EffectLemmas.{effect_then}
-use Rattle.ct_operators.proofs.WithinLemmas.{Contains-first, within_itself, within_negation}
+use Rattle.ct_operators.proofs.WithinLemmas.{within_itself, within_negation}
 use Rattle.ct_operators.proofs.operators.inequality.Goals as goal
 
 pub returns-in_err-same-clause-effect : goal.returns-in_err-same-clause-effect

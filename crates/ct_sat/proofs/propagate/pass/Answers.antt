@@ -1,11 +1,11 @@
 use Rattle.std.proofs.Common.{◌≡◌, length, refl, sym, ap, ◌∙◌, All, subst}
+use Rattle.ct_lemmas.proofs.Prefixes.{take-slice_get_next}
 use Rattle.ct_terms.specs.Clause.{Clause}
 use Rattle.ct_terms.specs.Propagation.{AreFalseIn}
 use Rattle.ct_sat.specs.declared.clause.StepClause.{StepClause}
 use Rattle.std.proofs.lemmas.List.{take_all}
 use Rattle.std.proofs.lemmas.Option.{slice_get_read}
 use Rattle.ct_sat.specs.Status.{IsSettled, Examined}
-use Rattle.ct_sat.proofs.ListLemmas.{take-next}
 use Rattle.ct_sat.proofs.StatusLemmas.{Propagated-both, Propagated-examined, AllSettled-more}
 use Rattle.ct_sat.proofs.propagate.pass.Goals as goal
 
@@ -23,7 +23,7 @@ loop-i-preserved c =
     let examined : Examined c.loop-i.trail c.examine.new.trail c.index-clauses-i.result.literals c.loop-i.i = subst (λ (k : Clause). Examined c.loop-i.trail c.examine.new.trail k c.loop-i.i) literals c.if-examine.ensures.examined in
     record {
       propagated = Propagated-both c.args.clauses.now c.args.trail.now c.loop-i.trail c.examine.new.trail c.loop-i.invariant.propagated (Propagated-examined c.args.clauses.now c.loop-i.i c.index-clauses-i.result c.loop-i.trail c.examine.new.trail at examined);
-      settled = λ long. rw (take-next c.args.clauses.now c.loop-i.i c.index-clauses-i.result at) (AllSettled-more c.args.clauses.now c.loop-i.i c.index-clauses-i.result c.args.trail.now c.loop-i.trail c.examine.new.trail at c.loop-i.invariant.propagated examined c.loop-i.invariant.settled long);
+      settled = λ long. rw (take-slice_get_next c.args.clauses.now c.loop-i.i c.index-clauses-i.result at) (AllSettled-more c.args.clauses.now c.loop-i.i c.index-clauses-i.result c.args.trail.now c.loop-i.trail c.examine.new.trail at c.loop-i.invariant.propagated examined c.loop-i.invariant.settled long);
     }
 
 pub returns-clause-outcome : goal.returns-clause-outcome

@@ -1,9 +1,9 @@
 use Rattle.std.proofs.Common.{false, get_or, take, subst}
 use Rattle.std.proofs.lemmas.List.{take_more, take_all}
 use Rattle.std.proofs.lemmas.List.Elements.{Contains-get_or}
+use Rattle.ct_lemmas.proofs.Contained.{Contains-take}
 use Rattle.ct_terms.specs.declared.ids.Lit.{Lit}
 use Rattle.ct_terms.specs.Propagation.{AreFalseIn}
-use Rattle.ct_sat.proofs.ListLemmas.{Contains-take}
 use Rattle.ct_sat.proofs.StatusLemmas.{IsSeen-false, IsSeen-unset, IsSettled-another}
 use Rattle.ct_sat.proofs.status.status_of.Goals as goal
 use Rattle.ct_sat.proofs.status.status_of.Goals.{in-False, in-Unset+else-is_another}

@@ -1,7 +1,7 @@
 use Rattle.std.proofs.Common.{◌≡◌, ◌∙◌, ◌+◌, ◌-◌, ◌++◌, ◌∷◌, [], ℕ, List, Option, refl, sym, ap, length, arith}
 use Rattle.std.proofs.lemmas.Option.{slice_get_within, slice_get_read}
+use Rattle.ct_lemmas.proofs.Lists.{slice_get-there}
 use Rattle.ct_sat.proofs.TrailLemmas.{AreIndexed-truncate, split_last}
-use Rattle.ct_sat.proofs.ListLemmas.{slice_get_some}
 use Rattle.ct_sat.proofs.trail.pop.Goals as goal
 
 pub index_mut-requires : goal.index_mut-requires
@@ -23,5 +23,5 @@ returns-clause-literals c =
 pub returns-clause-reasons : goal.returns-clause-reasons
 returns-clause-reasons c =
     let long : length c.args.reasons.now.items ≡ c.len-count.result - 1 + 1 = omega (arith, c.args.literals.now.ok.0, c.requires.indexed.one_each) in
-    let r = slice_get_some c.args.reasons.now.items (c.len-count.result - 1) (omega arith) in
+    let r = slice_get-there c.args.reasons.now.items (c.len-count.result - 1) (omega arith) in
     (r.0, split_last c.args.reasons.now.items (c.len-count.result - 1) r.0 long r.1 ∙ ap (λ (rs : List (Option ℕ)). rs ++ r.0 ∷ []) (sym c.truncate-2.ensures.items))

@@ -1,8 +1,8 @@
 use Rattle.std.proofs.Common.{refl, sym, ◌∙◌, arith}
 use Rattle.std.proofs.lemmas.Option.{slice_get_read}
 use Rattle.std.proofs.lemmas.Bool.{false≢true}
+use Rattle.ct_lemmas.proofs.Lists.{slice_get-there}
 use Rattle.ct_sorts.specs.Lookup.{names_of}
-use Rattle.ct_sorts.proofs.Lists.{slice_get_there}
 use Rattle.ct_sorts.proofs.MarkedLemmas.{IsRound-marked, IsRound-stored, IsRound-start}
 use Rattle.ct_sorts.proofs.founded.mark_round.Goals as goal
 use Rattle.ct_sorts.proofs.founded.mark_round.Goals.{then-not-marks-i+then-is_built, else-not-marks-i, else-not-marks-i-via-then-not-marks-i+else-is_built, else-not-marks-i-via-else-not-marks-i}
@@ -24,7 +24,7 @@ loop-i-preserved c =
             | else-not-marks-i-via-then-not-marks-i+else-is_built w' ↦
                 IsRound-stored own block c.args.marks.now marks c.loop-i.changed i w'.index-block-i.result (slice_get_read block _ i w'.index-block-i.result refl c.loop-i-test.true w'.index-block-i.is) c.loop-i.invariant (λ built. absurd (false≢true (sym w'.if-is_built.false ∙ w'.is_built.ensures.value ∙ built)))
             | else-not-marks-i-via-else-not-marks-i w' ↦
-                let at = slice_get_there block i c.loop-i-test.true in
+                let at = slice_get-there block i c.loop-i-test.true in
                 IsRound-stored own block c.args.marks.now marks c.loop-i.changed i at.0 at.1 c.loop-i.invariant (λ _. w'.if-not-marks-i.false)
           ])
     ]

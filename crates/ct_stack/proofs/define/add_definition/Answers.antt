@@ -5,7 +5,7 @@ use Rattle.ct_sorts.specs.Declarations.{Declarations, Function, with_definition}
 use Rattle.ct_sorts.specs.Grown.{Extends}
 use Rattle.ct_sorts.specs.Lengths.{Lengths}
 use Rattle.ct_sorts.specs.Marks.{cut}
-use Rattle.ct_terms.specs.TreeFormula.{formula_of}
+use Rattle.ct_formulas.specs.TreeFormula.{formula_of}
 use Rattle.ct_stack.proofs.define.add_definition.Goals as goal
 
 pub returns-in_err-declare_definition-clause-refused : goal.returns-in_err-declare_definition-clause-refused

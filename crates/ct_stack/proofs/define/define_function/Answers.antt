@@ -5,7 +5,7 @@ use Rattle.ct_sexpr.specs.View.{expression_of}
 use Rattle.ct_sorts.specs.Availability.{IsUnavailable}
 use Rattle.ct_sorts.specs.Declarations.{symbol_names, most_definitions, with_definition}
 use Rattle.ct_sorts.specs.Refusals.{IsFirstCause, IsNone, symbol_taken, too_many}
-use Rattle.ct_terms.specs.TreeFormula.{formula_of}
+use Rattle.ct_formulas.specs.TreeFormula.{formula_of}
 use Rattle.ct_command.specs.Seen.{named_seen}
 use Rattle.ct_stack.specs.Elaborations.{defined_function}
 use Rattle.ct_stack.specs.Refusal.{IsDefinitionRefusal}

@@ -2,8 +2,8 @@ use Rattle.std.proofs.Common.{◌≡◌, List, [], map, Some, sym, ap, ◌∙◌
 use Rattle.std.proofs.lemmas.Result.{err_from_is_err_and}
 use Rattle.ct_sexpr.specs.View.{expression_of}
 use Rattle.ct_sorts.specs.declared.ids.SortId.{SortId}
-use Rattle.ct_terms.specs.Formula.{bind}
-use Rattle.ct_terms.specs.TreeFormula.{formula_of}
+use Rattle.ct_formulas.specs.Formula.{bind}
+use Rattle.ct_formulas.specs.TreeFormula.{formula_of}
 use Rattle.ct_names.specs.Bounds.{parameter_variables}
 use Rattle.ct_names.specs.Variables.{variables}
 use Rattle.ct_command.specs.Seen.{named_seen}

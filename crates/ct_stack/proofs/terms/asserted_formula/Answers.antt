@@ -1,7 +1,7 @@
 use Rattle.std.proofs.Common.{[], sym, ◌∙◌}
 use Rattle.std.proofs.lemmas.Result.{err_from_is_err_and}
 use Rattle.ct_sexpr.specs.View.{expression_of}
-use Rattle.ct_terms.specs.TreeFormula.{formula_of}
+use Rattle.ct_formulas.specs.TreeFormula.{formula_of}
 use Rattle.ct_stack.proofs.AssertionLemmas.{not_elaborated, other_sort, boolean, boolean_sorted}
 use Rattle.ct_stack.proofs.terms.asserted_formula.Goals as goal
 

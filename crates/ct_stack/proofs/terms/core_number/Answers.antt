@@ -1,6 +1,6 @@
 use Rattle.std.proofs.Common.{Err, ap, arith}
 use Rattle.ct_terms.specs.declared.error.TermError.{TermError}
-use Rattle.ct_terms.specs.TreeFormula.{formula_of}
+use Rattle.ct_formulas.specs.TreeFormula.{formula_of}
 use Rattle.ct_stack.specs.Stack.{core}
 use Rattle.ct_stack.specs.Held.{context_in}
 use Rattle.ct_stack.proofs.TableLemmas.{one_more_core, too_many}

@@ -1,6 +1,6 @@
 use Rattle.std.proofs.Common.{◌++◌, map}
 use Rattle.std.proofs.lemmas.Result.{err_from_is_err_and}
-use Rattle.ct_terms.specs.TreeFormula.{formula_of}
+use Rattle.ct_formulas.specs.TreeFormula.{formula_of}
 use Rattle.ct_stack.specs.Stack.{cores}
 use Rattle.ct_stack.specs.Held.{context_in}
 use Rattle.ct_stack.proofs.TableLemmas.{few_terms}

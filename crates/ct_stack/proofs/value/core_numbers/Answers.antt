@@ -2,13 +2,13 @@ use Rattle.std.proofs.Common.{◌≡◌, ◌-◌, List, [], ◌∷◌, ◌++◌,
 use Rattle.std.proofs.lemmas.List.{append-nil}
 use Rattle.std.proofs.lemmas.List.Elements.{All-head, All-tail}
 use Rattle.std.proofs.lemmas.Result.{err_from_is_err_and}
-use Rattle.ct_terms.specs.declared.tree.Tree.{Tree}
+use Rattle.ct_lemmas.proofs.Prefixes.{nothing_left, rest-item}
+use Rattle.ct_formulas.specs.declared.tree.Tree.{Tree}
 use Rattle.ct_terms.specs.CoreTree.{CoreTree}
-use Rattle.ct_terms.specs.TreeFormula.{formula_of}
+use Rattle.ct_formulas.specs.TreeFormula.{formula_of}
 use Rattle.ct_compile.specs.Effect.{AllStand}
 use Rattle.ct_stack.specs.Held.{IsTableOf, context_in}
 use Rattle.ct_stack.specs.Sorts.{HasSomeSort}
-use Rattle.ct_stack.proofs.RestLemmas.{rest_item, nothing_left}
 use Rattle.ct_stack.proofs.ErrorLemmas.{same_refusal}
 use Rattle.ct_stack.proofs.ValueLemmas.{IsUnderWay, not_begun, one_number_more, too_many_by_one, all_made, prefix_of_prefix}
 use Rattle.ct_stack.proofs.value.core_numbers.Goals as goal
@@ -27,7 +27,7 @@ pub core_number-requires-clause-sorted : goal.core_number-requires-clause-sorted
 core_number-requires-clause-sorted c =
     let left = c.loop-left.left.now in
     let others = take (length left - 1) (drop 1 left) in
-    let split : left ≡ c.first-item.result ∷ others = rest_item left c.first-item.result c.in-len1-up.len_at_least c.first-item.is in
+    let split : left ≡ c.first-item.result ∷ others = rest-item left c.first-item.result c.in-len1-up.len_at_least c.first-item.is in
     All-head (HasSomeSort c.args.scope.now.sig) c.first-item.result others (subst (All (HasSomeSort c.args.scope.now.sig)) split c.loop-left.invariant.1)
 
 pub core_number-requires-clause-table : goal.core_number-requires-clause-table
@@ -46,7 +46,7 @@ returns-in_err-number-clause-refused c =
     let all = map formula_of c.args.trees.now in
     let left = loop.left.now in
     let others = take (length left - 1) (drop 1 left) in
-    let split : left ≡ c.first-item.result ∷ others = rest_item left c.first-item.result c.in-len1-up.len_at_least c.first-item.is in
+    let split : left ≡ c.first-item.result ∷ others = rest-item left c.first-item.result c.in-len1-up.len_at_least c.first-item.is in
     let way = subst (λ (ts : List Tree). IsUnderWay context all (map formula_of ts) c.args.table.now loop.table loop.numbers.items) split loop.invariant.0 in
     let p = err_from_is_err_and c.from_residual-in_err-number.result c.from_residual-in_err-number.ensures.1 in
     rw (p.1, p.2)
@@ -67,7 +67,7 @@ loop-left-preserved c =
     let all = map formula_of c.args.trees.now in
     let left = loop.left.now in
     let others = take (length left - 1) (drop 1 left) in
-    let split : left ≡ c.first-item.result ∷ others = rest_item left c.first-item.result c.in-len1-up.len_at_least c.first-item.is in
+    let split : left ≡ c.first-item.result ∷ others = rest-item left c.first-item.result c.in-len1-up.len_at_least c.first-item.is in
     let way = subst (λ (ts : List Tree). IsUnderWay context all (map formula_of ts) c.args.table.now loop.table loop.numbers.items) split loop.invariant.0 in (
       rw c.in_ok-push.ensures.items (one_number_more context all c.args.table.now (formula_of c.first-item.result) (map formula_of others) loop.table loop.numbers.items way c.core_trees.ensures.longer c.core_number.new.table c.in_ok-number.number c.in_ok-number.ensures.grown c.len-in-len1-up.ensures.ordered c.in_ok-number.ensures.sorted c.in_ok-number.ensures.few c.in_ok-number.ensures.stands c.in_ok-number.ensures.made),
       All-tail (HasSomeSort c.args.scope.now.sig) c.first-item.result others (subst (All (HasSomeSort c.args.scope.now.sig)) split loop.invariant.1),

@@ -1,5 +1,5 @@
 use Rattle.std.proofs.Common.{length, map, All}
-use Rattle.ct_terms.specs.TreeFormula.{formula_of}
+use Rattle.ct_formulas.specs.TreeFormula.{formula_of}
 use Rattle.ct_stack.specs.Held.{context_in}
 use Rattle.ct_stack.specs.Sorts.{HasSomeSort}
 use Rattle.ct_stack.proofs.ValueLemmas.{IsUnderWay}

@@ -1,7 +1,8 @@
 use Rattle.std.proofs.Common.{◌≡◌, ◌-◌, List, [], length, get_or, take, drop, subst, arith}
+use Rattle.ct_lemmas.proofs.Lists.{slice_get-read}
+use Rattle.ct_lemmas.proofs.Prefixes.{nothing_left, rest-step}
 use Rattle.ct_terms.specs.declared.ids.TermId.{TermId}
 use Rattle.ct_values.specs.declared.node.NodeId.{NodeId}
-use Rattle.ct_stack.proofs.RestLemmas.{rest_step, nothing_left, read_at}
 use Rattle.ct_stack.proofs.ValueLemmas.{HaveNodes, no_nodes, one_node_more, first_within, all_nodes}
 use Rattle.ct_stack.proofs.value.nodes_of.Goals as goal
 
@@ -20,7 +21,7 @@ bounds-all-first c =
     let numbers = c.args.numbers.now in
     let left = c.loop-left.left.now in
     let others = take (length left - 1) (drop 1 left) in
-    let split = rest_step left zeroth c.in-len1-up.len_at_least in
+    let split = rest-step left zeroth c.in-len1-up.len_at_least in
     rw c.as_slice-all.ensures.value (first_within found numbers (get_or left 0 zeroth) others c.loop-left.nodes.items (subst (λ (ts : List TermId). HaveNodes found numbers ts c.loop-left.nodes.items) split c.loop-left.invariant))
 
 pub loop-left-preserved : goal.loop-left-preserved
@@ -29,12 +30,12 @@ loop-left-preserved c =
     let numbers = c.args.numbers.now in
     let left = c.loop-left.left.now in
     let others = take (length left - 1) (drop 1 left) in
-    let split = rest_step left zeroth c.in-len1-up.len_at_least in
+    let split = rest-step left zeroth c.in-len1-up.len_at_least in
     let way = subst (λ (ts : List TermId). HaveNodes found numbers ts c.loop-left.nodes.items) split c.loop-left.invariant in
     let t = get_or left 0 zeroth in
     rw c.in_ok-push.ensures.items
     (one_node_more found numbers t others c.loop-left.nodes.items (get_or c.as_slice-all.result.now t.0 no_node) way
-    (read_at found c.as_slice-all.result.now c.as_slice-all.ensures.value t.0 no_node (first_within found numbers t others c.loop-left.nodes.items way)))
+    (slice_get-read found c.as_slice-all.result.now c.as_slice-all.ensures.value t.0 no_node (first_within found numbers t others c.loop-left.nodes.items way)))
 
 pub returns-clause-nodes : goal.returns-clause-nodes
 returns-clause-nodes c =

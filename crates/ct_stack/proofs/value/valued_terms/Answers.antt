@@ -1,19 +1,20 @@
 use Rattle.std.proofs.Common.{◌≡◌, ◌-◌, List, [], ◌∷◌, length, take, drop, Ok, subst, sym, arith}
 use Rattle.std.proofs.lemmas.Result.{err_from_is_err_and}
+use Rattle.ct_lemmas.proofs.Pairs.{AllZip-push}
+use Rattle.ct_lemmas.proofs.Prefixes.{nothing_left, rest-item}
 use Rattle.ct_sexpr.specs.declared.sexpr.Sexpr.{Sexpr}
 use Rattle.ct_sexpr.specs.View.{expression_of}
-use Rattle.ct_terms.specs.TreeFormula.{formula_of}
-use Rattle.ct_terms.specs.FormulaSorts.{IsSorted}
+use Rattle.ct_formulas.specs.TreeFormula.{formula_of}
+use Rattle.ct_formulas.specs.FormulaSorts.{IsSorted}
 use Rattle.ct_names.specs.Outcome.{Sorted}
 use Rattle.ct_check.specs.Trees.{sorted_of, sorted_trees}
 use Rattle.ct_names.specs.Elaboration.{elaborated}
 use Rattle.ct_command.specs.Seen.{all_seen}
 use Rattle.ct_stack.specs.Outcomes.{each_of}
 use Rattle.ct_stack.specs.Sorts.{terms_seen}
-use Rattle.ct_stack.proofs.RestLemmas.{rest_item, nothing_left}
 use Rattle.ct_stack.proofs.ErrorLemmas.{stops}
 use Rattle.ct_stack.proofs.OutcomeLemmas.{Completes, nothing_yet, one_more, all_taken}
-use Rattle.ct_stack.proofs.ValueLemmas.{AllZip-push, AreSortedTerms-long, sorted_trees-push}
+use Rattle.ct_stack.proofs.ValueLemmas.{AreSortedTerms-long, sorted_trees-push}
 use Rattle.ct_stack.proofs.value.valued_terms.Goals as goal
 
 pub loop-left-init : goal.loop-left-init
@@ -27,7 +28,7 @@ returns-in_err-tree-clause-value c =
     let out = sorted_trees c.loop-left.trees.items c.loop-left.sorts.items in
     let left = c.loop-left.left.now in
     let others = take (length left - 1) (drop 1 left) in
-    let split : left ≡ c.first-item.result ∷ others = rest_item left c.first-item.result c.in-len1-up.len_at_least c.first-item.is in
+    let split : left ≡ c.first-item.result ∷ others = rest-item left c.first-item.result c.in-len1-up.len_at_least c.first-item.is in
     let completes = subst (λ (es : List Sexpr). Completes step whole out (all_seen es)) split c.loop-left.invariant.0 in
     let p = err_from_is_err_and c.from_residual-in_err-tree.result c.from_residual-in_err-tree.ensures.1 in
     rw (p.1, p.2) (stops step sorted_of terms_seen whole out (expression_of c.first-item.result) (all_seen others) _ completes c.in_err-tree.ensures.value)
@@ -41,7 +42,7 @@ loop-left-preserved c =
     let sorts = c.loop-left.sorts.items in
     let left = c.loop-left.left.now in
     let others = take (length left - 1) (drop 1 left) in
-    let split : left ≡ c.first-item.result ∷ others = rest_item left c.first-item.result c.in-len1-up.len_at_least c.first-item.is in
+    let split : left ≡ c.first-item.result ∷ others = rest-item left c.first-item.result c.in-len1-up.len_at_least c.first-item.is in
     let completes = subst (λ (es : List Sexpr). Completes step whole (sorted_trees trees sorts) (all_seen es)) split c.loop-left.invariant.0 in
     let x = expression_of c.first-item.result in
     let t = c.in_ok-tree.tree in

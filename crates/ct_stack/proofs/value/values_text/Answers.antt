@@ -1,13 +1,14 @@
 use Rattle.std.proofs.Common.{◌∙◌, ℕ, [], take, length, ap, arith}
 use Rattle.std.proofs.lemmas.List.{length-append}
 use Rattle.std.proofs.lemmas.Result.{err_from_is_err_and}
+use Rattle.ct_lemmas.proofs.Options.{IfOk-map, OnOk-map}
 use Rattle.ct_terms.specs.Terms.{Terms}
 use Rattle.ct_names.specs.Elaboration.{elaborated}
 use Rattle.ct_command.specs.Seen.{all_seen}
 use Rattle.ct_stack.specs.Outcomes.{each_of}
 use Rattle.ct_stack.specs.Held.{context_in}
 use Rattle.ct_stack.specs.Sorts.{terms_seen}
-use Rattle.ct_stack.proofs.ErrorLemmas.{OnOk-map, refusal_of, IfOk-map}
+use Rattle.ct_stack.proofs.ErrorLemmas.{refusal_of}
 use Rattle.ct_stack.proofs.ValueLemmas.{AreSortedTerms-each, AreSortedTerms-long, terms-long, terms_refused, terms_too_many, terms_accepted, values_of_terms, cut_back, two_at_least}
 use Rattle.ct_stack.proofs.value.values_text.Goals as goal
 

@@ -1,6 +1,6 @@
 use Rattle.std.proofs.Common.{get_or, sym, ◌∙◌, arith}
+use Rattle.ct_lemmas.proofs.Pairs.{AllZip-at_index, AllZip-from_indices, AllZip-one_length, indices-more}
 use Rattle.ct_terms.specs.Terms.{IsOfField}
-use Rattle.ct_terms.proofs.ListLemmas.{AllZip-one_length, AllZip-at_index, AllZip-from_indices, indices-more}
 use Rattle.ct_terms.proofs.SortingLemmas.{IsOfField-tested}
 use Rattle.ct_terms.proofs.sorting.are_of_fields.Goals as goal
 

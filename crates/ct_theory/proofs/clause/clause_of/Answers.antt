@@ -2,10 +2,10 @@ use Rattle.std.proofs.Common.{◌≡◌, ◌<◌, ◌*◌, take, slice_get, Some
 use Rattle.std.specs.List.{Contains}
 use Rattle.std.proofs.lemmas.List.{take_more}
 use Rattle.std.proofs.lemmas.Option.{slice_get-get_or}
+use Rattle.ct_lemmas.proofs.Contained.{Contains-from_slice_get}
 use Rattle.ct_log.specs.declared.rules.EqStep.{EqStep}
 use Rattle.ct_log.specs.declared.rules.EqStep.TheVariants.{Hyp}
 use Rattle.ct_theory.specs.Steps.{stamp_index}
-use Rattle.ct_theory.proofs.ListLemmas.{Contains-from_slice_get}
 use Rattle.ct_theory.proofs.ClauseLemmas.{stamp_index-within}
 use Rattle.ct_theory.proofs.clause.clause_of.Goals as goal
 

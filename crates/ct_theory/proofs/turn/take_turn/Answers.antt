@@ -1,11 +1,12 @@
 use Rattle.std.proofs.Common.{List}
+use Rattle.ct_lemmas.proofs.Options.{IfOk-map}
 use Rattle.ct_sorts.specs.Declarations.{Declarations}
 use Rattle.ct_terms.specs.declared.ids.Lit.{Lit}
 use Rattle.ct_terms.specs.Terms.{Terms}
 use Rattle.ct_theory.specs.declared.turn.Turn.{Turn}
 use Rattle.ct_theory.specs.Consulting.{IsUnderWay, IsTurn}
 use Rattle.ct_theory.proofs.TurnLemmas.{IsUnderWay-continues}
-use Rattle.ct_theory.proofs.AnswerLemmas.{HaveMerges, Connect, AreAllStripped-continues, IfOk-via, IsTurn-since, unequal-continues}
+use Rattle.ct_theory.proofs.AnswerLemmas.{HaveMerges, Connect, AreAllStripped-continues, IsTurn-since, unequal-continues}
 use Rattle.ct_theory.proofs.turn.take_turn.Goals as goal
 
 pub clash-requires-clause-stripped : goal.clash-requires-clause-stripped
@@ -25,7 +26,7 @@ returns-in-Quiet c =
     let after : HaveMerges mid = record { long = c.merges-2.ensures.long; connected = c.merges-2.ensures.connected; equal = c.merges-2.ensures.equal; states = c.merges-2.ensures.states } in
     let falls = unequal-continues old mid connect before after later in
     record {
-      turn = IfOk-via c.turn_of_quiet.result
+      turn = IfOk-map c.turn_of_quiet.result
           (λ (t : Turn). (d : Declarations) (terms : Terms) (literals : List Lit) → IsUnderWay d terms literals mid → IsTurn d terms literals mid new t)
           (λ (t : Turn). (d : Declarations) (terms : Terms) (literals : List Lit) → IsUnderWay d terms literals old → IsTurn d terms literals old new t)
           (λ t turned d terms literals under. IsTurn-since d terms literals old mid new t falls (turned d terms literals (IsUnderWay-continues d terms literals old under mid later c.in_ok-closed.ensures.given)))

@@ -1,8 +1,8 @@
 use Rattle.std.proofs.Common.{◌++◌, ◌∷◌, [], List, ℕ, take, get_or, ap, ◌∙◌, append_assoc}
 use Rattle.std.proofs.lemmas.List.{take_more}
+use Rattle.ct_lemmas.proofs.Pairs.{AllZip-push}
 use Rattle.ct_terms.specs.declared.ids.TermId.{TermId}
 use Rattle.ct_unique.specs.Nodes.{IsRepNumber}
-use Rattle.ct_unique.proofs.ListLemmas.{AllZip-push}
 use Rattle.ct_unique.proofs.edges.add_reps.Goals as goal
 
 abbrev zeroth : TermId

@@ -1,12 +1,12 @@
 use Rattle.std.proofs.Common.{◌≡◌, ◌<◌, true, length, get_or, slice_get, sym, ap, subst, ◌∙◌, inl, inr, arith}
 use Rattle.std.proofs.lemmas.Bool.{cases_order}
 use Rattle.std.proofs.lemmas.Option.{same_Some, slice_get-get_or, slice_get_within}
+use Rattle.ct_lemmas.proofs.Pairs.{AllZip-at, AllZip-from, AllZip-one_length}
 use Rattle.ct_terms.specs.declared.ids.TermId.{TermId}
 use Rattle.ct_rules.specs.Uniqueness.{AreMatched}
 use Rattle.ct_congr.specs.State.{AreEqual}
 use Rattle.ct_unique.specs.Partition.{in_one_block}
 use Rattle.ct_unique.specs.Reached.{IsPairFor, IsPairAmong}
-use Rattle.ct_unique.proofs.ListLemmas.{AllZip-at, AllZip-from, AllZip-one_length}
 use Rattle.ct_unique.proofs.BlockLemmas.{block_parts}
 use Rattle.ct_unique.proofs.FoundLemmas.{IsMore-trans, IsMore-weaker}
 use Rattle.ct_unique.proofs.FollowLemmas.{AreMatched-more}

@@ -1,7 +1,8 @@
 use Rattle.std.proofs.Common.{get_or, sym, ◌∙◌, arith}
 use Rattle.std.proofs.lemmas.Slice.Zip.{AllZip-long}
+use Rattle.ct_lemmas.proofs.Pairs.{AllZip-at_index, AllZip-from_indices, indices-more}
 use Rattle.ct_values.specs.Fitting.{IsNodeOfField}
-use Rattle.ct_values.proofs.FitTestLemmas.{AllZip-at_index, AllZip-from_indices, indices-more, IsNodeOfField-tested}
+use Rattle.ct_values.proofs.FitTestLemmas.{IsNodeOfField-tested}
 use Rattle.ct_values.proofs.fitting.are_nodes_of_fields.Goals as goal
 
 pub returns-then-children-sels : goal.returns-then-children-sels

@@ -1,6 +1,6 @@
 use Rattle.std.proofs.Common.{◌≡◌, ℕ, [], ◌∷◌, ◌++◌, length, vec_len, refl, ap, ◌∙◌, arith}
+use Rattle.ct_lemmas.proofs.Lists.{slice_get-there}
 use Rattle.ct_values.specs.Partition.{class_at}
-use Rattle.ct_values.proofs.RenumberLemmas.{stands_within}
 use Rattle.ct_values.proofs.PointLemmas.{AreFirstPoints-more, ArePoints-of, ArePointsOf-first}
 use Rattle.ct_values.proofs.points.nodes_as_points.Goals as goal
 
@@ -11,7 +11,7 @@ loop-n-preserved c =
     let n = c.loop-n.n in
     let children = c.add_row.new.children in
     let count : vec_len children ≡ length children.items = omega (arith, children.ok.0) in
-    let there = stands_within g n (omega (arith, c.loop-n-test.true, c.len-n-end.ensures.count)) in
+    let there = slice_get-there g n (omega (arith, c.loop-n-test.true, c.len-n-end.ensures.count)) in
     AreFirstPoints-more g settled n c.loop-n.labels.items c.loop-n.starts.items c.loop-n.children.items c.head.result c.children.result.now (class_at settled n) c.len.result
     c.push-in-loop-n.new.self.items c.push-in-loop-n-2.new.self.items children.items
     c.loop-n.invariant c.head.ensures.value c.children.ensures.value c.children.ensures.below refl there

@@ -2,6 +2,8 @@ use Rattle.std.proofs.Common.{◌≡◌, ℕ, ◌<◌, ◌-◌, List, [], ◌∷
 use Rattle.std.proofs.lemmas.Option.{same_Some, slice_get_within}
 use Rattle.std.proofs.lemmas.Map.Steps.{length-le_from_distinct_below}
 use Rattle.std.proofs.lemmas.List.Elements.{recursion_from_All}
+use Rattle.ct_lemmas.proofs.Each.{All-at}
+use Rattle.ct_lemmas.proofs.Options.{option_map-source}
 use Rattle.ct_values.specs.declared.node.NodeId.{NodeId}
 use Rattle.ct_values.specs.declared.node.Node.{Node}
 use Rattle.ct_values.specs.declared.node.Node.TheVariants.{Con, Elem}
@@ -11,7 +13,6 @@ use Rattle.ct_values.specs.Packed.{node_of}
 use Rattle.ct_values.specs.Minimal.{child_numbers}
 use Rattle.ct_values.specs.Numbering.{CountsUp, IsInOrder}
 use Rattle.ct_values.specs.Renumbering.{StandFor, IsRenumbered, AreRenumbered}
-use Rattle.ct_values.proofs.GraphLemmas.{All-at, option_map-Some}
 use Rattle.ct_values.proofs.NumberedLemmas.{IsInOrder-push}
 use Rattle.ct_values.proofs.RenumberLemmas.{Stay-trans, AreRenumbered-push}
 use Rattle.ct_values.proofs.CountLemmas.{has_below}
@@ -31,7 +32,7 @@ children_stored ids (Elem s n) (p ∷ ps) stand = absurd stand
 -- a node with the head of another, over numbers that stand for its children: it is that node renumbered, and its children are these numbers
 renumbered_node : (g : Nodes) (ids : List ℕ) (n : ℕ) (head : Head) (ps ns : List NodeId) → option_map node_head (slice_get g n) ≡ Some head → option_map node_children (slice_get g n) ≡ Some ns → StandFor ids ps ns → IsRenumbered g ids n (node_of head ps) × (node_children (node_of head ps) ≡ ps)
 renumbered_node g ids n head ps ns at_head at_children stand =
-    let found = option_map-Some node_head (slice_get g n) head at_head in
+    let found = option_map-source node_head (slice_get g n) head at_head in
     let source = found.0 in
     let same : ns ≡ node_children source = same_Some ns (node_children source) (sym at_children ∙ ap (option_map node_children) found.1) in
     let stands : StandFor ids ps (node_children source) = subst (StandFor ids ps) same stand in

@@ -2,9 +2,9 @@ use Rattle.std.proofs.Common.{◌∙◌, List, [], All, subst, sym}
 use Rattle.std.proofs.lemmas.List.Elements.{All-map}
 use Rattle.ct_sorts.specs.declared.ids.SortId.{SortId}
 use Rattle.ct_sorts.specs.Declarations.{IsSort}
-use Rattle.ct_terms.specs.Formula.{bind}
-use Rattle.ct_terms.specs.FormulaSorts.{IsSorted}
-use Rattle.ct_terms.specs.TreeFormula.{formula_of}
+use Rattle.ct_formulas.specs.Formula.{bind}
+use Rattle.ct_formulas.specs.FormulaSorts.{IsSorted}
+use Rattle.ct_formulas.specs.TreeFormula.{formula_of}
 use Rattle.ct_names.specs.declared.variables.Param.{Param}
 use Rattle.test_engine.proofs.ScopeLemmas.{sound_with_body}
 use Rattle.test_engine.proofs.define.add_definition.Goals as goal

@@ -4,8 +4,8 @@ use Rattle.ct_terms.specs.declared.ids.TermId.{TermId}
 use Rattle.ct_terms.specs.Terms.{IsBoolean}
 use Rattle.ct_terms.specs.CoreTree.{CoreTree, subtrees, term_at}
 use Rattle.ct_terms.specs.CoreSorts.{HasTreeSort}
-use Rattle.ct_terms.specs.FormulaSorts.{IsSorted}
-use Rattle.ct_terms.specs.TreeFormula.{formula_of}
+use Rattle.ct_formulas.specs.FormulaSorts.{IsSorted}
+use Rattle.ct_formulas.specs.TreeFormula.{formula_of}
 use Rattle.test_engine.specs.Asserted.{IsAsserted}
 use Rattle.test_engine.proofs.AssertedLemmas.{same_sort, boolean_term, one_more_asserted}
 use Rattle.test_engine.proofs.table.assert_formula.Goals as goal

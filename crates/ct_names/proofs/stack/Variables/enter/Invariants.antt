@@ -1,5 +1,5 @@
 use Rattle.std.proofs.Common.{◌≡◌, ◌+◌, map, drop, length}
-use Rattle.ct_terms.specs.Formula.{bind}
+use Rattle.ct_formulas.specs.Formula.{bind}
 use Rattle.ct_names.specs.Bounds.{variable_of}
 use Rattle.ct_names.proofs.stack.Variables.enter.Given as goal
 

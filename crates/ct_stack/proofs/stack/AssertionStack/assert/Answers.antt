@@ -1,7 +1,7 @@
 use Rattle.std.proofs.Common.{map, reverse}
 use Rattle.std.proofs.lemmas.Result.{err_from_is_err_and}
 use Rattle.ct_sexpr.specs.View.{expression_of}
-use Rattle.ct_terms.specs.TreeFormula.{formula_of}
+use Rattle.ct_formulas.specs.TreeFormula.{formula_of}
 use Rattle.ct_stack.specs.Whole.{whole_in}
 use Rattle.ct_stack.proofs.LevelLemmas.{held_now}
 use Rattle.ct_stack.proofs.StackLemmas.{held_asserted_now}

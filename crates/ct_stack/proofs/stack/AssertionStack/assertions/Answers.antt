@@ -1,6 +1,6 @@
 use Rattle.std.proofs.Common.{List, map, reverse, sym, ap, ◌∙◌}
-use Rattle.ct_terms.specs.declared.tree.Tree.{Tree}
-use Rattle.ct_terms.specs.TreeFormula.{formula_of}
+use Rattle.ct_formulas.specs.declared.tree.Tree.{Tree}
+use Rattle.ct_formulas.specs.TreeFormula.{formula_of}
 use Rattle.ct_stack.specs.Stack.{in_force}
 use Rattle.ct_stack.specs.Held.{level_in}
 use Rattle.ct_stack.proofs.LevelLemmas.{all_in_force}

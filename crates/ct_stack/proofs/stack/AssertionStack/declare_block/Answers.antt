@@ -1,7 +1,7 @@
 use Rattle.std.proofs.Common.{◌≡◌, ℕ, map, reverse, refl, subst, OnOk, IsErrOf}
 use Rattle.ct_sorts.specs.Block.{with_block}
 use Rattle.ct_sorts.specs.Declarations.{Declarations}
-use Rattle.ct_terms.specs.TreeFormula.{formula_of}
+use Rattle.ct_formulas.specs.TreeFormula.{formula_of}
 use Rattle.ct_command.specs.Seen.{head_seen, body_seen}
 use Rattle.ct_command.specs.declared.error.CommandError.TheVariants.{Refused}
 use Rattle.ct_stack.specs.Elaborations.{kind_of, block_of}

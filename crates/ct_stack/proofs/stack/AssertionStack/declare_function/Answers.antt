@@ -1,8 +1,8 @@
 use Rattle.std.proofs.Common.{◌≡◌, ℕ, List, map, reverse, sym, subst, OnOk, OnErr, IsErrOf}
 use Rattle.ct_sexpr.specs.View.{expression_of}
 use Rattle.ct_sorts.specs.Declarations.{Declarations, with_function}
-use Rattle.ct_terms.specs.TreeFormula.{formula_of}
-use Rattle.ct_terms.specs.declared.tree.Tree.{Tree}
+use Rattle.ct_formulas.specs.TreeFormula.{formula_of}
+use Rattle.ct_formulas.specs.declared.tree.Tree.{Tree}
 use Rattle.ct_command.specs.Seen.{all_seen}
 use Rattle.ct_command.specs.declared.error.CommandError.TheVariants.{Refused}
 use Rattle.ct_stack.specs.Stack.{declaring}

@@ -1,7 +1,7 @@
 use Rattle.std.proofs.Common.{◌≡◌, ℕ, [], map, reverse, refl, subst, OnOk, IsErrOf}
 use Rattle.ct_sorts.specs.declared.ids.Kind.TheVariants.{Free}
 use Rattle.ct_sorts.specs.Declarations.{Declarations, Sort, with_sort}
-use Rattle.ct_terms.specs.TreeFormula.{formula_of}
+use Rattle.ct_formulas.specs.TreeFormula.{formula_of}
 use Rattle.ct_command.specs.Seen.{head_seen}
 use Rattle.ct_command.specs.declared.error.CommandError.TheVariants.{Refused}
 use Rattle.ct_stack.specs.Refusal.{IsSortRefusal}

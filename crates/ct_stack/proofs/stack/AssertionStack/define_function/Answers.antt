@@ -1,8 +1,8 @@
 use Rattle.std.proofs.Common.{◌≡◌, ℕ, List, map, reverse, ap, subst, Result, Ok, Err, OnOk, OnErr, IsErrOf}
 use Rattle.ct_sexpr.specs.View.{expression_of}
 use Rattle.ct_sorts.specs.Declarations.{Declarations}
-use Rattle.ct_terms.specs.TreeFormula.{formula_of}
-use Rattle.ct_terms.specs.declared.tree.Tree.{Tree}
+use Rattle.ct_formulas.specs.TreeFormula.{formula_of}
+use Rattle.ct_formulas.specs.declared.tree.Tree.{Tree}
 use Rattle.ct_command.specs.Seen.{named_seen}
 use Rattle.ct_command.specs.declared.error.CommandError.TheVariants.{Refused}
 use Rattle.ct_stack.specs.Elaborations.{defined_function}

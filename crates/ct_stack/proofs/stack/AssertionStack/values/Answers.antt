@@ -1,6 +1,7 @@
 use Rattle.std.proofs.Common.{ℕ, map, reverse, OnOk, IfOk, subst, sym}
+use Rattle.ct_lemmas.proofs.Options.{OnOk-map}
 use Rattle.ct_terms.specs.Terms.{Terms}
-use Rattle.ct_terms.specs.TreeFormula.{formula_of}
+use Rattle.ct_formulas.specs.TreeFormula.{formula_of}
 use Rattle.ct_eval.specs.Interpretation.{IsProper}
 use Rattle.ct_command.specs.Seen.{all_seen}
 use Rattle.ct_stack.specs.Stack.{Level, cores}
@@ -8,7 +9,6 @@ use Rattle.ct_stack.specs.Refusal.{IsTermsRefusal}
 use Rattle.ct_stack.specs.Held.{level_in, context_in}
 use Rattle.ct_stack.specs.Whole.{whole_in, AreHeld}
 use Rattle.ct_stack.specs.Values.{AreValues}
-use Rattle.ct_stack.proofs.ErrorLemmas.{OnOk-map}
 use Rattle.ct_stack.proofs.LevelLemmas.{held_now}
 use Rattle.ct_stack.proofs.StackLemmas.{one_level}
 use Rattle.ct_stack.proofs.stack.AssertionStack.values.Goals as goal

@@ -1,9 +1,9 @@
 use Rattle.std.proofs.Common.{List, [], ◌∷◌, ◌++◌, ◌≡◌, ◌<◌, ◌∙◌, Some, length, ap, inl, inr, refl, arith}
+use Rattle.ct_lemmas.proofs.Lists.{slice_get-last}
 use Rattle.ct_terms.specs.declared.ids.Lit.{Lit}
 use Rattle.ct_terms.specs.Terms.{HasSort, most_terms}
 use Rattle.ct_terms.specs.Literal.{literal_step, literal_of}
 use Rattle.ct_terms.proofs.LiteralLemmas.{AreLiterals-push}
-use Rattle.ct_terms.proofs.ListLemmas.{slice_get-last}
 use Rattle.ct_terms.proofs.SortLemmas.{HasSort-same, HasSort-below, IsOfSort-append}
 use Rattle.ct_terms.proofs.TableLemmas.{IsTermTable-push, IsOfSort-sorted, AreSorted-push, StandsSorted-made, insert_entry-absent}
 use Rattle.ct_terms.proofs.table.TermTable.make.Goals as goal

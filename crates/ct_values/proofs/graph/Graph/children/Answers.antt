@@ -1,8 +1,8 @@
 use Rattle.std.proofs.Common.{◌≡◌, ℕ, ◌<◌, length, slice_get, get_or, option_map, Some, refl, ap, subst, ◌∙◌}
 use Rattle.std.proofs.lemmas.Option.{slice_get_read}
+use Rattle.ct_lemmas.proofs.Each.{All-at}
 use Rattle.ct_values.specs.declared.node.Node.{Node}
 use Rattle.ct_values.specs.Graph.{Nodes, IsClosed, HasChildrenBelow, node_children}
-use Rattle.ct_values.proofs.GraphLemmas.{All-at}
 use Rattle.ct_values.proofs.graph.Graph.children.Goals as goal
 
 -- what is read at a number within a graph stands there

@@ -1,0 +1,9 @@
+pub mod Lists
+pub mod Prefixes
+pub mod Contained
+pub mod Each
+pub mod Pairs
+pub mod Options
+pub mod Booleans
+pub mod Numbers
+pub mod Slices

@@ -1,4 +1,0 @@
-pub mod NameLemmas
-pub mod CallLemmas
-pub mod MeaningLemmas
-pub mod CoreLemmas

@@ -1,0 +1,4 @@
+pub mod Numeral
+pub mod ValueText
+pub mod Separation
+pub mod Walk

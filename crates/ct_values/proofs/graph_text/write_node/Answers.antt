@@ -1,9 +1,0 @@
-use Rattle.std.proofs.Common.{Some, ap, ◌∙◌}
-use Rattle.ct_values.proofs.FittingLemmas.{ctor_of_head, sort_of_head}
-use Rattle.ct_values.proofs.graph_text.write_node.Goals as goal
-
-pub write_constructor-requires : goal.write_constructor-requires
-write_constructor-requires c = record { declared = ctor_of_head c.args.sig.now c.args.g.now c.args.n.0 c.in-Con.c c.requires.fits (c.head.ensures.value ∙ ap Some c.in-Con.is) }
-
-pub write_element-requires : goal.write_element-requires
-write_element-requires c = record { declared = sort_of_head c.args.sig.now c.args.g.now c.args.n.0 c.in-Elem.s c.in-Elem.number c.requires.fits (c.head.ensures.value ∙ ap Some c.in-Elem.is) }
