@@ -10,12 +10,12 @@ use Rattle.ct_terms.specs.declared.ids.Lit.{Lit}
 use Rattle.ct_terms.specs.declared.term.Core.TheVariants.{Con}
 use Rattle.ct_terms.specs.Literal.{IsStripped}
 use Rattle.ct_terms.specs.Clause.{Clause}
-use Rattle.ct_terms.specs.Terms.{Terms, Has}
+use Rattle.ct_terms.specs.Terms.{Terms, IsTermTable, Has}
 use Rattle.ct_rules.specs.Rules.{Equations}
 use Rattle.ct_rules.specs.Cycle.{LeadsTo, LeadBack, IsCycle}
 use Rattle.ct_rules.specs.Uniqueness.{IsBisimulation}
 use Rattle.ct_log.specs.declared.line.Line.{Line}
-use Rattle.ct_log.specs.Recorded.{Derived}
+use Rattle.ct_log.specs.Recorded.{Derived, IsDerivation}
 use Rattle.ct_sat.specs.declared.clause.StepClause.{StepClause}
 use Rattle.ct_sat.specs.Up.{Up, IsContradictory}
 use Rattle.ct_sat.specs.State.{SearchState, clauses_of as clauses_in, AreVariables, AreOver, IsSound, IsQuiet, HaveValues, LacksValue}
@@ -30,8 +30,11 @@ use Rattle.ct_engine.proofs.ValuedLemmas.{opposites_apart, true_literal, HasValu
 use Rattle.ct_engine.proofs.ReplayLemmas.{from_replay}
 
 -- the moves are the record of a search that spent its budget
-pub IsSpentRecord-from : UnitTheorems → (search : SearchState) (derived : Derived) (moves : List Move) → IsQuiet search → LacksValue search → search.count ≡ search.budget → IsAccounted search derived moves → IsSpentRecord derived.declarations derived.rec.terms derived.asserts derived.rec.lines moves search.budget
-IsSpentRecord-from theorems search derived moves quiet (t, inside, unset) spent is = record {
+pub IsSpentRecord-from : UnitTheorems → (search : SearchState) (derived : Derived) (moves : List Move) → IsTermTable derived.rec.terms → IsDerivation derived → IsQuiet search → LacksValue search → search.count ≡ search.budget → IsAccounted search derived moves → IsSpentRecord derived.declarations derived.rec.terms derived.asserts derived.rec.lines moves search.budget
+IsSpentRecord-from theorems search derived moves is_table derivation quiet (t, inside, unset) spent is = record {
+  is_table = is_table;
+  sorted = derivation.judges.sorted;
+  accepted = derivation.accepted;
   variables = search.variables;
   are_variables = is.variables;
   initial = is.initial;

@@ -31,7 +31,7 @@ IsDistinct-once (n ∷ ns) once = (
   IsDistinct-once ns (λ i j m here there. let step : suc i ≡ suc j = once (suc i) (suc j) m here there in omega (arith, step)),
 )
 
-Contains-any : (ns : List ℕ) (q : ℕ) → list_any (eqb q) ns ≡ true → Contains ns q
+pub Contains-any : (ns : List ℕ) (q : ℕ) → list_any (eqb q) ns ≡ true → Contains ns q
 Contains-any [] q h = absurd (true≢false (sym h))
 Contains-any (n ∷ ns) q h =
     elim (or_cases (eqb q n) (list_any (eqb q) ns) h) [

@@ -10,6 +10,9 @@ pub mod TaskLemmas
 pub mod LineLemmas
 pub mod LearnLemmas
 pub mod OutcomeLemmas
+pub mod TrailLemmas
+pub mod BoundLemmas
+pub mod SpentLemmas
 pub mod ResolveLemmas
 pub mod PrepareLemmas
 pub mod TruthLemmas

@@ -6,7 +6,7 @@ use Rattle.ct_lemmas.proofs.Each.{All-from_Contains}
 use Rattle.ct_sorts.specs.Declarations.{Declarations}
 use Rattle.ct_sorts.specs.Consistent.{IsConsistent}
 use Rattle.ct_terms.specs.declared.ids.TermId.{TermId}
-use Rattle.ct_terms.specs.Terms.{Terms, AreOrdered, AreSorted, BeginsWithTruths}
+use Rattle.ct_terms.specs.Terms.{Terms, IsTermTable, AreSorted}
 use Rattle.ct_terms.specs.CoreTree.{CoreTree, term_at}
 use Rattle.ct_closure.specs.ClosedTable.{terms_at}
 use Rattle.ct_values.specs.Value.{Value}
@@ -40,16 +40,20 @@ module _ (theorems : ModelTheorems) (d : Declarations) (i : Interp) where
       (subst (λ (trees : List CoreTree). Contains trees (term_at other t)) same (Contains-map (term_at other) others t inside)))
 
 -- a derivation that ends with the empty clause refutes the assertions
-pub IsRefutation-from : ModelTheorems → (d : Declarations) (table : Terms) (asserts : List TermId) (derived : Derived) → IsConsistent d → AreOrdered derived.rec.terms → BeginsWithTruths derived.rec.terms → derived.declarations ≡ d → terms_at derived.rec.terms derived.asserts ≡ terms_at table asserts → IsDerivation derived → EndsEmpty derived.rec.lines → IsRefutation d table asserts derived
-IsRefutation-from theorems d table asserts derived consistent ordered begins declared same derivation (before, last, ends, empty) = record {
+pub IsRefutation-from : ModelTheorems → (d : Declarations) (table : Terms) (asserts : List TermId) (derived : Derived) → IsConsistent d → IsTermTable derived.rec.terms → derived.declarations ≡ d → terms_at derived.rec.terms derived.asserts ≡ terms_at table asserts → IsDerivation derived → EndsEmpty derived.rec.lines → IsRefutation d table asserts derived
+IsRefutation-from theorems d table asserts derived consistent is_table declared same derivation (before, last, ends, empty) = record {
   declarations = declared;
+  is_table = is_table;
+  sorted = sorted;
   asserted = same;
   passes = passes;
-  no_model = λ i proper holds. theorems.no_model d i derived.rec.terms derived.asserts derived.rec.lines consistent proper ordered begins
-      (subst (λ (e : Declarations). AreSorted e derived.rec.terms) declared derivation.judges.sorted) passes
+  no_model = λ i proper holds. theorems.no_model d i derived.rec.terms derived.asserts derived.rec.lines consistent proper is_table.ordered is_table.begins sorted passes
       (Holds-same theorems d i table derived.rec.terms asserts derived.asserts same holds);
 }
   where
+    sorted : AreSorted d derived.rec.terms
+    sorted = subst (λ (e : Declarations). AreSorted e derived.rec.terms) declared derivation.judges.sorted
+
     passes : Passes d derived.rec.terms derived.asserts derived.rec.lines
     passes = subst (λ (e : Declarations). Passes e derived.rec.terms derived.asserts derived.rec.lines) declared (record {
       accepted = derivation.accepted;

@@ -1,5 +1,5 @@
 -- What each way in which a search ends says of the assertions.
-use Rattle.std.proofs.Common.{◌≡◌, ◌↔◌, ℕ, List, refl, sym, ap, subst, ◌∙◌}
+use Rattle.std.proofs.Common.{◌≡◌, ◌↔◌, ℕ, suc, ◌<◌, ◌^◌, List, refl, sym, ap, subst, ◌∙◌}
 use Rattle.ct_sorts.specs.Declarations.{Declarations}
 use Rattle.ct_terms.specs.declared.ids.TermId.{TermId}
 use Rattle.ct_terms.specs.declared.ids.Lit.{Lit}
@@ -12,7 +12,10 @@ use Rattle.ct_engine.specs.declared.outcome.Candidate.{Candidate}
 use Rattle.ct_engine.specs.declared.verdict.Move.{Move}
 use Rattle.ct_engine.specs.Moves.{IsSpentRecord}
 use Rattle.ct_engine.specs.Saturated.{AreDecided, IsSaturated}
-use Rattle.ct_engine.specs.Verdict.{IsSpending}
+use Rattle.ct_engine.specs.declared.verdict.Spent.{Spent}
+use Rattle.ct_engine.specs.declared.verdict.Verdict.{Verdict}
+use Rattle.ct_engine.specs.declared.verdict.Verdict.TheVariants.{Sat, Unsat, Unknown, Stuck}
+use Rattle.ct_engine.specs.Verdict.{IsSpending, IsVerdict, IsBelowBound}
 use Rattle.ct_engine.specs.Progress.{IsTaskOf, IsOfOneTask, IsCandidate}
 
 -- the record of a search that spent its budget
@@ -59,3 +62,19 @@ IsTaskOf-kept d table asserts budget old new same task = record {
   sorted = subst (AreSorted d) (sym same.terms) task.sorted;
   is_closed = subst (IsClosedTable d) (sym same.terms) task.is_closed;
 }
+
+-- the theorem on searches that spent their decisions
+abbrev pub SpentBound : Type 0
+SpentBound = (d : Declarations) (table : Terms) (asserts : List TermId) (budget : ℕ) (spent : Spent) → IsSpending d table asserts budget spent → suc budget < 2 ^ spent.variables
+
+-- so the budget in the record is below the bound
+pub spending_below : SpentBound → (d : Declarations) (table : Terms) (asserts : List TermId) (budget : ℕ) (spent : Spent) → IsSpending d table asserts budget spent → suc spent.budget < 2 ^ spent.variables
+spending_below theorem d table asserts budget spent is =
+    subst (λ (b : ℕ). suc b < 2 ^ spent.variables) (sym is.allowed) (theorem d table asserts budget spent is)
+
+-- whatever the verdict
+pub verdict_below : SpentBound → (d : Declarations) (table : Terms) (asserts : List TermId) (budget : ℕ) (v : Verdict) → IsVerdict d table asserts budget v → IsBelowBound v
+verdict_below theorem d table asserts budget (Sat i) is = tt
+verdict_below theorem d table asserts budget (Unsat derived) is = tt
+verdict_below theorem d table asserts budget (Unknown spent) is = spending_below theorem d table asserts budget spent is
+verdict_below theorem d table asserts budget (Stuck terms literals i index) is = tt

@@ -6,11 +6,11 @@ use Rattle.ct_terms.specs.declared.ids.TermId.{TermId}
 use Rattle.ct_terms.specs.declared.ids.Lit.{Lit}
 use Rattle.ct_terms.specs.Literal.{opposite}
 use Rattle.ct_terms.specs.Clause.{Clause}
-use Rattle.ct_terms.specs.Terms.{Terms}
+use Rattle.ct_terms.specs.Terms.{Terms, IsTermTable, AreSorted}
 use Rattle.ct_log.specs.declared.line.Line.{Line}
 use Rattle.ct_log.specs.declared.line.Step.{Step}
 use Rattle.ct_log.specs.declared.line.Step.TheVariants as step
-use Rattle.ct_log.specs.Acceptance.{clauses_of}
+use Rattle.ct_log.specs.Acceptance.{AreAccepted, clauses_of}
 use Rattle.ct_sat.specs.Up.{Up, IsContradictory, IsAssigned, IsLowest, negative_of}
 use Rattle.ct_sat.specs.State.{AreVariables}
 use Rattle.ct_clauses.specs.Initial.{AreInitialLines}
@@ -112,11 +112,14 @@ is_decision m = false
 abbrev pub LackValue : List TermId → (Lit → Type 0) → Type 0
 LackValue variables has = (t : TermId) × Contains variables t × (IsAssigned has t → ⊥)
 
--- the record of a search that spent its budget of decisions. The lines are all initial lines over these terms and assertions,
--- each once, and then lines of clauses that the theory gave or that were learned; the moves are legal from the clauses of the
--- initial lines on; so many are decisions as the budget says; and another is needed: nothing is contradictory at the end, and
--- some variable has no value
+-- the record of a search that spent its budget of decisions. The terms are those of a well-sorted table, and each line is accepted
+-- after those before it. The lines are all initial lines over these terms and assertions, each once, and then lines of clauses that
+-- the theory gave or that were learned; the moves are legal from the clauses of the initial lines on; so many are decisions as the
+-- budget says; and another is needed: nothing is contradictory at the end, and some variable has no value
 pub record IsSpentRecord (d : Declarations) (terms : Terms) (asserts : List TermId) (lines : List Line) (moves : List Move) (budget : ℕ) : Type 0 where
+  pub is_table : IsTermTable terms
+  pub sorted : AreSorted d terms
+  pub accepted : AreAccepted d terms asserts lines
   pub variables : List TermId
   pub are_variables : AreVariables terms variables
   pub initial : List Line

@@ -1,13 +1,17 @@
 -- The theorems of lower crates that the proofs of this one rest on.
-use Rattle.std.specs.Prelude.{◌≡◌, ℕ, ◌<◌, List, length, take, Some, slice_get, Contains}
+use Rattle.std.specs.Prelude.{◌≡◌, ℕ, ◌<◌, ◌⊎◌, List, ◌++◌, length, take, All, Some, slice_get, Contains}
 use Rattle.ct_sorts.specs.declared.ids.SortId.{SortId}
 use Rattle.ct_sorts.specs.Declarations.{Declarations, bool_sort}
 use Rattle.ct_sorts.specs.Consistent.{IsConsistent}
 use Rattle.ct_terms.specs.declared.ids.TermId.{TermId}
 use Rattle.ct_terms.specs.declared.ids.Lit.{Lit}
+use Rattle.ct_terms.specs.declared.term.Core.{Core}
 use Rattle.ct_terms.specs.declared.term.Core.TheVariants.{Eq, Ite}
-use Rattle.ct_terms.specs.Terms.{Terms, AreOrdered, AreSingle, AreSorted, BeginsWithTruths}
-use Rattle.ct_terms.specs.CoreTree.{term_at}
+use Rattle.ct_terms.specs.Literal.{opposite}
+use Rattle.ct_terms.specs.Clause.{Clause}
+use Rattle.ct_terms.specs.Terms.{Terms, IsOfSort, AreOrdered, AreSingle, AreSorted, BeginsWithTruths}
+use Rattle.ct_terms.specs.CoreTree.{tree_layer, term_at}
+use Rattle.ct_terms.specs.CoreSorts.{HasTreeSort}
 use Rattle.ct_closure.specs.ClosedTable.{IsClosedTable, IsPresent, IsSplitTerm, HasCases}
 use Rattle.ct_eval.specs.declared.interp.Interp.{Interp}
 use Rattle.ct_eval.specs.Interpretation.{IsProper}
@@ -29,6 +33,20 @@ pub record UnitTheorems : Type 0 where
   pub conflict : (s : SearchState) (step : ℕ) → IsSound s → IsConflict s step → IsContradictory (clauses_of s.clauses) (FollowsByUnits s)
   pub quiet : (s : SearchState) → IsQuiet s → IsContradictory (clauses_of s.clauses) (FollowsByUnits s) → ⊥
   pub lowest : (s : SearchState) (variables : List TermId) (t : TermId) → IsQuiet s → IsLowest variables (Contains s.trail) t → IsLowest variables (FollowsByUnits s) t
+
+-- on what follows by units as clauses and decisions are added
+pub record GrowthTheorems : Type 0 where
+  pub decided : (clauses : List Clause) (decided : List Lit) → All (Up clauses decided) decided
+  pub forced : (clauses : List Clause) (decided : List Lit) (clause : Clause) (l : Lit) → Contains clauses clause
+      → Contains clause l → All (λ k. (k ≡ l) ⊎ Up clauses decided (opposite k)) clause → Up clauses decided l
+  pub more_clauses : (clauses more : List Clause) (decided : List Lit) (l : Lit) → Up clauses decided l → Up (clauses ++ more) decided l
+  pub more_decided : (clauses : List Clause) (decided more : List Lit) (l : Lit) → Up clauses decided l → Up clauses (decided ++ more) l
+
+-- on terms of a table as trees
+pub record TreeTheorems : Type 0 where
+  pub unfolds : (table : Terms) (t : TermId) (core : Core) (sort : SortId) → AreOrdered table → slice_get table t.0 ≡ Some (core, sort) → term_at table t ≡ tree_layer (term_at table) core
+  pub one : (table : Terms) (s t : TermId) → AreOrdered table → AreSingle table → s.0 < length table → t.0 < length table → term_at table s ≡ term_at table t → s ≡ t
+  pub sorted : (d : Declarations) (table : Terms) (t : TermId) (sort : SortId) → AreOrdered table → AreSorted d table → IsOfSort table t sort → HasTreeSort d (term_at table t) sort
 
 -- on classes as equivalences
 pub record ClassTheorems : Type 0 where

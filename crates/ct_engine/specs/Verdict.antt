@@ -1,9 +1,9 @@
 -- What each verdict on assertions says, which are terms of a table.
-use Rattle.std.specs.Prelude.{◌≡◌, ◌↔◌, ℕ, false, List, Some, slice_get}
+use Rattle.std.specs.Prelude.{◌≡◌, ◌↔◌, ℕ, suc, ◌<◌, ◌^◌, false, List, Some, slice_get}
 use Rattle.ct_sorts.specs.Declarations.{Declarations}
 use Rattle.ct_terms.specs.declared.ids.TermId.{TermId}
 use Rattle.ct_terms.specs.declared.ids.Lit.{Lit}
-use Rattle.ct_terms.specs.Terms.{Terms}
+use Rattle.ct_terms.specs.Terms.{Terms, IsTermTable, AreSorted}
 use Rattle.ct_terms.specs.CoreTree.{CoreTree}
 use Rattle.ct_closure.specs.Closed.{InClosure, HasVariables}
 use Rattle.ct_closure.specs.ClosedTable.{HasTree, terms_at}
@@ -23,10 +23,12 @@ pub record IsModel (d : Declarations) (table : Terms) (asserts : List TermId) (i
   pub proper : IsProper d i
   pub holds : Holds d i table asserts
 
--- the derivation is over these declarations and the same assertions, in order, and passes; and the assertions hold in no
--- proper interpretation
+-- the derivation is over these declarations, a well-sorted table and the same assertions, in order, and passes; and the assertions
+-- hold in no proper interpretation
 pub record IsRefutation (d : Declarations) (table : Terms) (asserts : List TermId) (derived : Derived) : Type 0 where
   pub declarations : derived.declarations ≡ d
+  pub is_table : IsTermTable derived.rec.terms
+  pub sorted : AreSorted d derived.rec.terms
   pub asserted : terms_at derived.rec.terms derived.asserts ≡ terms_at table asserts
   pub passes : Passes d derived.rec.terms derived.asserts derived.rec.lines
   pub no_model : (i : Interp) → IsProper d i → Holds d i table asserts → ⊥
@@ -55,3 +57,8 @@ IsVerdict d table asserts budget (Sat i) = IsModel d table asserts i
 IsVerdict d table asserts budget (Unsat derived) = IsRefutation d table asserts derived
 IsVerdict d table asserts budget (Unknown spent) = IsSpending d table asserts budget spent
 IsVerdict d table asserts budget (Stuck terms literals i index) = IsStuck d table asserts terms literals i index
+
+-- decisions are spent only where fewer than 2^V - 1 were allowed, for V variables
+abbrev pub IsBelowBound : Verdict → Type 0
+IsBelowBound (Unknown spent) = suc spent.budget < 2 ^ spent.variables
+IsBelowBound verdict = Unit {0}

@@ -147,6 +147,7 @@ fn spent(course: &Course)
     ensures recorded { IsSpentRecord course.now.derivation.declarations course.now.derivation.rec.terms course.now.derivation.asserts course.now.derivation.rec.lines course.now.moves.items course.now.search.budget }
 {
     facts::units();
+    let _terms = course.derivation.rec().table().len();
 }
 
 // The literals of the trail are saturated.

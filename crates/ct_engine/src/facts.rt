@@ -1,17 +1,32 @@
 //! The theorems of lower crates that the contracts of this one rest on.
-ghost use Rattle.ct_engine.specs.Theorems.{UnitTheorems, ClassTheorems, ClosureTheorems, ModelTheorems};
+ghost use Rattle.ct_engine.specs.Theorems.{UnitTheorems, GrowthTheorems, TreeTheorems, ClassTheorems, ClosureTheorems, ModelTheorems};
 
 use ct_checker::accepted_lines;
 use ct_closure::closed_tables;
 use ct_congr::classes_of_merges;
 use ct_eval::values_of_trees;
 use ct_sat::what_follows_by_units;
+use ct_terms::core_trees;
 
 /// The theorems on what follows by units.
 pub(crate) fn units()
     ensures units { UnitTheorems }
 {
     what_follows_by_units();
+}
+
+/// The theorems on what follows as clauses and decisions are added.
+pub(crate) fn growth()
+    ensures growth { GrowthTheorems }
+{
+    what_follows_by_units();
+}
+
+/// The theorems on terms as trees.
+pub(crate) fn trees()
+    ensures trees { TreeTheorems }
+{
+    core_trees();
 }
 
 /// The theorems on classes.

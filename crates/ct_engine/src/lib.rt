@@ -14,8 +14,10 @@ mod outcome;
 mod prepare;
 mod settle;
 mod solving;
+mod theorems;
 mod verdict;
 
 pub use error::SolveError;
 pub use solving::solve;
+pub use theorems::spent_searches;
 pub use verdict::{Move, Spent, Verdict};

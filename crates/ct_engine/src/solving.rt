@@ -4,7 +4,7 @@ ghost use Rattle.ct_card.specs.Sizes.{AreSizes};
 ghost use Rattle.ct_terms.specs.Terms.{AreSorted, IsBoolean};
 ghost use Rattle.ct_closure.specs.Closed.{HasMoreThan, most_closure_terms};
 ghost use Rattle.ct_closure.specs.ClosedTable.{AreSubtermsOf, terms_at};
-ghost use Rattle.ct_engine.specs.Verdict.{IsVerdict};
+ghost use Rattle.ct_engine.specs.Verdict.{IsVerdict, IsBelowBound};
 ghost use Rattle.ct_engine.specs.Progress.{IsUnderWay, IsTaskOf, IsOutcome};
 
 use crate::answer::conclude;
@@ -14,6 +14,7 @@ use crate::judge::judge;
 use crate::outcome::Outcome;
 use crate::prepare::prepare;
 use crate::settle::run;
+use crate::theorems::spent_searches;
 use crate::verdict::Verdict;
 use ct_card::Sizes;
 use ct_sorts::Signature;
@@ -29,8 +30,9 @@ use std::alloc::Global;
 /// nothing contradicts the trail, an interpretation is built of the classes, and the assertions are evaluated in it.
 ///
 /// `Sat` has an interpretation in which they hold, `Unsat` a derivation of the empty clause, and `Unknown` the record of a
-/// search that spent its decisions. `Stuck` has literals that nothing contradicts and an assertion that is false in a
-/// well-formed interpretation. `TooLarge` comes where the closure has more than 200,000 terms.
+/// search that spent its decisions, which were fewer than 2^V - 1 for V propositional variables. `Stuck` has literals that
+/// nothing contradicts and an assertion that is false in a well-formed interpretation. `TooLarge` comes where the closure has
+/// more than 200,000 terms.
 pub fn solve(
     alloc: Global,
     sig: &Signature,
@@ -42,9 +44,11 @@ pub fn solve(
     requires asserts { All (IsBoolean table.now) asserts.now }
     requires exact { AreSubtermsOf table.now asserts.now }
     ensures verdict { IfOk result (IsVerdict sig.now table.now asserts.now budget) }
+    ensures bound { IfOk result IsBelowBound }
     ensures too_large { IsErrOf result SolveError.TooLarge → HasMoreThan sig.now (terms_at table.now asserts.now) most_closure_terms }
     ensures fits { OnOk result (HasMoreThan sig.now (terms_at table.now asserts.now) most_closure_terms → ⊥) }
 {
+    spent_searches();
     let sizes = sizes_of(alloc, sig)?;
     let outcome = find(alloc, sig, &sizes, table, asserts, budget)?;
     match outcome {

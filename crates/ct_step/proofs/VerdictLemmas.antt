@@ -62,6 +62,8 @@ module _ (assertions : Assertions) (c : Context) (asserts : List Formula) (table
   right budget (Unsat derived) h =
       record {
         declarations = h.declarations;
+        is_table = h.is_table;
+        sorted = h.sorted;
         asserted = h.asserted ∙ roots;
         passes = h.passes;
         no_model = λ i satisfies. h.no_model i satisfies.proper ((truth i satisfies.proper).1 satisfies.holds);

@@ -2,7 +2,7 @@
 use Rattle.std.specs.Prelude.{◌≡◌, ◌↔◌, ℕ, false, List, [], Some, slice_get}
 use Rattle.ct_terms.specs.declared.ids.TermId.{TermId}
 use Rattle.ct_terms.specs.declared.ids.Lit.{Lit}
-use Rattle.ct_terms.specs.Terms.{Terms}
+use Rattle.ct_terms.specs.Terms.{Terms, IsTermTable, AreSorted}
 use Rattle.ct_terms.specs.CoreTree.{CoreTree}
 use Rattle.ct_formulas.specs.Formula.{Formula}
 use Rattle.ct_closure.specs.Closed.{InClosure, HasVariables}
@@ -25,9 +25,12 @@ pub record Satisfies (c : Context) (asserts : List Formula) (i : Interp) : Type 
   pub proper : IsProper c.declarations i
   pub holds : AllTrue c.declarations i c.bodies asserts
 
--- the derivation is over the core terms of the assertions, in order, and passes; and no interpretation makes them all true
+-- the derivation is over a well-sorted table and the core terms of the assertions, in order, and passes; and no interpretation makes
+-- them all true
 pub record Refutes (c : Context) (asserts : List Formula) (derived : Derived) : Type 0 where
   pub declarations : derived.declarations ≡ c.declarations
+  pub is_table : IsTermTable derived.rec.terms
+  pub sorted : AreSorted c.declarations derived.rec.terms
   pub asserted : terms_at derived.rec.terms derived.asserts ≡ cores c asserts
   pub passes : Passes c.declarations derived.rec.terms derived.asserts derived.rec.lines
   pub no_model : (i : Interp) → Satisfies c asserts i → ⊥

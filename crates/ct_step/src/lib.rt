@@ -11,8 +11,10 @@ mod options;
 mod performing;
 mod settings;
 mod state;
+mod theorems;
 
 pub use answer::{Answer, refusal_text, refused};
 pub use options::Options;
 pub use performing::perform;
 pub use state::SessionState;
+pub use theorems::spent_verdicts;

@@ -1,0 +1,12 @@
+use Rattle.ct_closure.specs.ClosedTable.{terms_at}
+use Rattle.ct_engine.proofs.SpentLemmas.{spent_bound}
+use Rattle.ct_engine.proofs.theorems.spent_searches.Goals as goal
+
+pub returns-clause-recorded : goal.returns-clause-recorded
+returns-clause-recorded c = λ d terms asserts lines moves budget count roots recorded closure variables.
+    spent_bound c.growth.ensures.growth c.trees.ensures.trees d terms asserts lines moves budget recorded roots count closure variables
+
+pub returns-clause-bound : goal.returns-clause-bound
+returns-clause-bound c = λ d table asserts budget spent is.
+    spent_bound c.growth.ensures.growth c.trees.ensures.trees d spent.derivation.rec.terms spent.derivation.asserts spent.derivation.rec.lines spent.moves budget
+    is.recorded (terms_at table asserts) spent.variables is.closure is.variables

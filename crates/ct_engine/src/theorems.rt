@@ -1,0 +1,36 @@
+//! What follows from the definitions alone.
+ghost use Rattle.std.specs.Prelude.{◌↔◌, ℕ, suc, ◌<◌, ◌^◌, List};
+ghost use Rattle.ct_sorts.specs.Declarations.{Declarations};
+ghost use Rattle.ct_terms.specs.declared.ids.TermId.{TermId};
+ghost use Rattle.ct_terms.specs.Terms.{Terms};
+ghost use Rattle.ct_terms.specs.CoreTree.{CoreTree};
+ghost use Rattle.ct_closure.specs.Closed.{InClosure, HasVariables};
+ghost use Rattle.ct_closure.specs.ClosedTable.{HasTree};
+ghost use Rattle.ct_log.specs.declared.line.Line.{Line};
+ghost use Rattle.ct_engine.specs.declared.verdict.Move.{Move};
+ghost use Rattle.ct_engine.specs.declared.verdict.Spent.{Spent};
+ghost use Rattle.ct_engine.specs.Moves.{IsSpentRecord};
+ghost use Rattle.ct_engine.specs.Verdict.{IsSpending};
+
+use crate::facts;
+
+/// The theorem on searches that spent their decisions, for whoever relies on their records. The function does nothing.
+///
+/// A search over a closure with V propositional variables that needs another decision has made fewer than 2^V - 1: where it
+/// backs up, the string of its decisions and of what follows from them rises.
+pub fn spent_searches()
+    // For a record over a table that holds exactly the closure of some terms.
+    ensures recorded { (d : Declarations) (terms : Terms) (asserts : List TermId) (lines : List Line) (moves : List Move) (budget variables : ℕ) (roots : List CoreTree)
+        → IsSpentRecord d terms asserts lines moves budget
+        → ((t : CoreTree) → HasTree terms t ↔ InClosure d roots t)
+        → HasVariables d roots variables
+        → suc budget < 2 ^ variables }
+
+    // So for each verdict that is unknown.
+    ensures bound { (d : Declarations) (table : Terms) (asserts : List TermId) (budget : ℕ) (spent : Spent)
+        → IsSpending d table asserts budget spent
+        → suc budget < 2 ^ spent.variables }
+{
+    facts::growth();
+    facts::trees();
+}
