@@ -111,7 +111,17 @@ impl Equivalence {
         ensures of { OnOk result ((terms : Terms) → AreGroupingsOf terms self.old → AreGroupingsOf terms self.new) }
         ensures unchanged { OnErr result (self.new ≡ self.old) }
     {
-        Err(EquivalenceError)
+        let first = self.grouped.rep(left);
+        let second = self.grouped.rep(right);
+        self.log.reserve(1)?;
+        if first == second {
+            self.log.push(None).unwrap();
+            return Ok(None);
+        }
+        let (winner, loser) = self.grouped.by_weight(first, second);
+        let step = self.grouped.join(winner, loser)?;
+        self.log.push(Some(step)).unwrap();
+        Ok(Some(Union { winner, loser }))
     }
 
     /// The members of the class that the last union took, by the representative that it had.

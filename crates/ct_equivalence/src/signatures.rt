@@ -16,13 +16,14 @@ pub struct SignatureTable {
 }
 
 impl Model for SignatureTable {
-    ghost use Rattle.ct_equivalence.specs.Signatures.{Signatures, AreDifferent};
+    ghost use Rattle.indexmap.specs.IndexMap.{IsUnique};
+    ghost use Rattle.ct_equivalence.specs.Signatures.{Signatures, same_core};
 
     ghost Value = { Signatures };
 
     ghost view = { λ t. t.entries.entries };
 
-    ghost invariant = { λ t. AreDifferent t.entries.entries };
+    ghost invariant = { λ t. IsUnique same_core t.entries };
 }
 
 impl SignatureTable {

@@ -1,0 +1,57 @@
+-- What was noted of unions: what holds of the classes before each, and what the last one left as it was.
+use Rattle.std.proofs.Common.{◌≡◌, suc, List, [], ◌∷◌, ◌++◌, length, reverse, slice_get, Option, Some, None, refl, sym, ap, ◌∙◌, subst}
+use Rattle.std.specs.List.{AllByRecursion}
+use Rattle.std.proofs.lemmas.List.{reverse-append, length-reverse}
+use Rattle.ct_terms.specs.declared.ids.TermId.{TermId}
+use Rattle.ct_equivalence.specs.declared.step.Step.{Step}
+use Rattle.ct_equivalence.specs.Grouping.{Grouping, IsGrouping}
+use Rattle.ct_equivalence.specs.Union.{IsTaken}
+use Rattle.ct_equivalence.specs.Undoing.{before, befores, IsNoted, AreNoted, before_join}
+use Rattle.ct_equivalence.proofs.JoinLemmas.{taken_other}
+
+-- all are groupings
+pub AreGroupings-noted : (g : Grouping) (log : List (Option Step)) → AreNoted g log → AllByRecursion IsGrouping (g ∷ befores g log)
+AreGroupings-noted g [] noted = (noted, tt)
+AreGroupings-noted g (last ∷ earlier) noted = (noted.0, AreGroupings-noted (before g last) earlier noted.2)
+
+-- the classes now are one
+pub IsGrouping-noted : (g : Grouping) (log : List (Option Step)) → AreNoted g log → IsGrouping g
+IsGrouping-noted g [] noted = noted
+IsGrouping-noted g (last ∷ earlier) noted = noted.0
+
+-- as many as there are notes
+pub length-befores : (g : Grouping) (log : List (Option Step)) → length (befores g log) ≡ length log
+length-befores g [] = refl
+length-befores g (last ∷ earlier) = ap suc (length-befores (before g last) earlier)
+
+-- one more note at the end is the last one
+pub reverse-push : (log : List (Option Step)) (last : Option Step) → reverse (log ++ last ∷ []) ≡ last ∷ reverse log
+reverse-push log last = reverse-append log (last ∷ [])
+
+-- what one more union comes to
+pub AreNoted-push : (old new : Grouping) (log : List (Option Step)) (last : Option Step) → before new last ≡ old → IsGrouping new → IsNoted new last → AreNoted old (reverse log) → AreNoted new (reverse (log ++ last ∷ []))
+AreNoted-push old new log last back whole noted earlier =
+    subst (AreNoted new) (sym (reverse-push log last)) (whole, noted, subst (λ (g : Grouping). AreNoted g (reverse log)) (sym back) earlier)
+
+pub befores-push : (old new : Grouping) (log : List (Option Step)) (last : Option Step) → before new last ≡ old → befores new (reverse (log ++ last ∷ [])) ≡ old ∷ befores old (reverse log)
+befores-push old new log last back =
+    ap (befores new) (reverse-push log last) ∙ ap (λ (g : Grouping). g ∷ befores g (reverse log)) back
+
+-- the rows at a term that the last union took are as they were, and those before it were a grouping
+pub record IsStill (was now : Grouping) (t : TermId) : Type 0 where
+  pub whole : IsGrouping was
+  pub cons : slice_get now.cons t.0 ≡ slice_get was.cons t.0
+  pub members : slice_get now.members t.0 ≡ slice_get was.members t.0
+  pub uses : slice_get now.uses t.0 ≡ slice_get was.uses t.0
+
+still_before : (g : Grouping) (last : Option Step) (t : TermId) → IsGrouping (before g last) → IsNoted g last → IsTaken (before g last) g t → IsStill (before g last) g t
+still_before g None t whole noted taken = absurd (taken.1 taken.0)
+still_before g (Some step) t whole noted taken =
+    let other = taken_other (before_join g step) g step.winner step.loser noted t taken in
+    record { whole = whole; cons = noted.cons.others t.0 other; members = noted.members.others t.0 other; uses = noted.uses.others t.0 other }
+
+pub IsStill-taken : (g was : Grouping) (earlier : List Grouping) (log : List (Option Step)) (t : TermId) → AreNoted g log → befores g log ≡ was ∷ earlier → IsTaken was g t → IsStill was g t
+IsStill-taken g was earlier [] t noted past taken = cc
+IsStill-taken g was earlier (last ∷ rest) t noted past taken =
+    let is : before g last ≡ was = cc in
+    subst (λ (h : Grouping). IsStill h g t) is (still_before g last t (IsGrouping-noted (before g last) rest noted.2) noted.1 (subst (λ (h : Grouping). IsTaken h g t) (sym is) taken))
