@@ -39,22 +39,19 @@ AreOwnRows-none rows none = record {
 
 pub AreOwnRows-push : (rows : List (List TermId)) (t : TermId) → AreOwnRows t.0 rows → AreOwnRows (t.0 + 1) (set (rows ++ [] ∷ []) t.0 (row_of (rows ++ [] ∷ []) t ++ t ∷ []))
 AreOwnRows-push rows t old = record {
-  long = length-set longer t.0 (row_of longer t ++ t ∷ []) ∙ length-append rows ([] ∷ []) ∙ ap (λ n. n + 1) old.long;
+  long = length-set (rows ++ [] ∷ []) t.0 (row_of (rows ++ [] ∷ []) t ++ t ∷ []) ∙ length-append rows ([] ∷ []) ∙ ap (λ n. n + 1) old.long;
   alone = λ u row at. elim (nat_cases u.0 t.0) [
     | inl e ↦
-        let here : slice_get (set longer t.0 (row_of longer t ++ t ∷ [])) t.0 ≡ Some (row_of longer t ++ t ∷ []) = slice_get-set_same longer t.0 (row_of longer t ++ t ∷ []) (omega (arith, old.long, length-append rows ([] ∷ []))) in
-        let is : row ≡ row_of longer t ++ t ∷ [] = same_Some row (row_of longer t ++ t ∷ []) (sym at ∙ ap (slice_get (set longer t.0 (row_of longer t ++ t ∷ []))) e ∙ here) in
+        let here : slice_get (set (rows ++ [] ∷ []) t.0 (row_of (rows ++ [] ∷ []) t ++ t ∷ [])) t.0 ≡ Some (row_of (rows ++ [] ∷ []) t ++ t ∷ []) = slice_get-set_same (rows ++ [] ∷ []) t.0 (row_of (rows ++ [] ∷ []) t ++ t ∷ []) (omega (arith, old.long, length-append rows ([] ∷ []))) in
+        let is : row ≡ row_of (rows ++ [] ∷ []) t ++ t ∷ [] = same_Some row (row_of (rows ++ [] ∷ []) t ++ t ∷ []) (sym at ∙ ap (slice_get (set (rows ++ [] ∷ []) t.0 (row_of (rows ++ [] ∷ []) t ++ t ∷ []))) e ∙ here) in
         let same : t ≡ u = λ i. record { 0 = sym e i } in
         is ∙ ap (λ (xs : List TermId). xs ++ t ∷ []) (get_or_push rows [] [] t.0 old.long) ∙ ap (λ (s : TermId). s ∷ []) same
-    | inr other ↦ elim (slice_get-push_cases rows [] row u.0 (sym (slice_get-set_other longer t.0 u.0 (row_of longer t ++ t ∷ []) other) ∙ at)) [
+    | inr other ↦ elim (slice_get-push_cases rows [] row u.0 (sym (slice_get-set_other (rows ++ [] ∷ []) t.0 u.0 (row_of (rows ++ [] ∷ []) t ++ t ∷ []) other) ∙ at)) [
       | inl h ↦ old.alone u row h
       | inr h ↦ absurd (other (h.0 ∙ old.long))
     ]
   ];
 }
-  where
-    abbrev longer : List (List TermId)
-    longer = rows ++ [] ∷ []
 
 -- one constructor term more
 pub AreOwnCons-push : (terms : Terms) (cons : List (Option TermId)) (t : TermId) (c : Option TermId) → length cons ≡ t.0 → IsOwnCon terms t c → AreOwnCons terms cons → AreOwnCons terms (cons ++ c ∷ [])

@@ -1,5 +1,5 @@
 -- Lists by their indices.
-use Rattle.std.proofs.Common.{◌≡◌, ℕ, zero, suc, ◌+◌, ◌<◌, ◌⊎◌, List, [], ◌∷◌, ◌++◌, length, set, slice_get, Some, None, refl, sym, ap, ap₂, ◌∙◌, inl, inr, arith}
+use Rattle.std.proofs.Common.{◌≡◌, ℕ, zero, suc, ◌+◌, ◌<◌, ◌⊎◌, List, [], ◌∷◌, ◌++◌, length, set, slice_get, Some, Result, Ok, Err, OnErr, refl, sym, ap, ap₂, ◌∙◌, inl, inr, arith}
 use Rattle.std.specs.List.{Contains}
 use Rattle.std.proofs.lemmas.Option.{none-some, same_Some, slice_get-get_or, slice_get_within, get_or_from_slice_get}
 use Rattle.ct_terms.specs.declared.ids.TermId.{TermId}
@@ -83,3 +83,8 @@ slice_get-one_length [] ys k x long at = absurd (none-some x at)
 slice_get-one_length (z ∷ xs) [] k x long at = absurd (omega (arith, long))
 slice_get-one_length (z ∷ xs) (y ∷ ys) zero x long at = (y, refl)
 slice_get-one_length (z ∷ xs) (y ∷ ys) (suc k) x long at = slice_get-one_length xs ys k x (omega (arith, long)) at
+
+-- what is said of an error
+pub on_err : {T E P : Type 0} (r : Result T E) → P → OnErr r P
+on_err (Ok x) p = tt
+on_err (Err e) p = p

@@ -46,10 +46,12 @@ impl Grouped {
     /// Each term of the table alone in its class.
     pub(crate) fn new(alloc: Global, table: &TermTable) -> Result<Grouped, EquivalenceError>
         ensures of { IfOk result (IsGroupingOf table.now) }
+        ensures whole { IfOk result IsGrouping }
     {
-        let reps = own_representatives(alloc, table.len())?;
+        let count = table.len();
+        let reps = own_representatives(alloc, count)?;
         let cons = own_constructors(alloc, table)?;
-        let members = own_rows(alloc, table.len())?;
+        let members = own_rows(alloc, count)?;
         let uses = parents(alloc, table)?;
         Ok(Grouped {
             reps,

@@ -3,7 +3,7 @@ use Rattle.ct_equivalence.proofs.BeginningLemmas.{AreOwnRows-none, AreOwnRows-pu
 use Rattle.ct_equivalence.proofs.alone.own_rows.Goals as goal
 
 pub loop-t-init : goal.loop-t-init
-loop-t-init c = AreOwnRows-none c.new.result c.new.ensures.empty
+loop-t-init c = AreOwnRows-none c.new-rows.result c.new-rows.ensures.empty
 
 pub loop-t-preserved : goal.loop-t-preserved
 loop-t-preserved c =
