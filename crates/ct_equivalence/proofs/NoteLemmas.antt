@@ -55,3 +55,12 @@ IsStill-taken g was earlier [] t noted past taken = cc
 IsStill-taken g was earlier (last ∷ rest) t noted past taken =
     let is : before g last ≡ was = cc in
     subst (λ (h : Grouping). IsStill h g t) is (still_before g last t (IsGrouping-noted (before g last) rest noted.2) noted.1 (subst (λ (h : Grouping). IsTaken h g t) (sym is) taken))
+
+-- the last note is taken away, and what it says is undone
+pub befores-pop : (g now : Grouping) (log rest : List (Option Step)) (last : Option Step) → log ≡ rest ++ last ∷ [] → now ≡ before g last → (now ∷ befores now (reverse rest)) ≡ befores g (reverse log)
+befores-pop g now log rest last is back =
+    ap (λ (h : Grouping). h ∷ befores h (reverse rest)) back
+    ∙ sym (ap (λ (notes : List (Option Step)). befores g (reverse notes)) is ∙ ap (befores g) (reverse-push rest last))
+
+pub AreNoted-last : (g : Grouping) (log rest : List (Option Step)) (last : Option Step) → log ≡ rest ++ last ∷ [] → AreNoted g (reverse log) → AreNoted g (last ∷ reverse rest)
+AreNoted-last g log rest last is noted = subst (AreNoted g) (ap reverse is ∙ reverse-push rest last) noted

@@ -1,15 +1,19 @@
 -- Tables of signatures: that no signature stands twice, and under which one a term stands.
-use Rattle.std.proofs.Common.{◌≡◌, ℕ, ◌<◌, true, false, List, length, slice_get, get_or, Some, option_map, refl, sym, ap, ap₂, ◌∙◌, inl, inr, arith, true≢false}
+use Rattle.std.proofs.Common.{◌≡◌, ℕ, ◌<◌, ◌↔◌, Bool, true, false, List, [], ◌∷◌, ◌++◌, length, slice_get, get_or, Option, Some, None, option_map, refl, sym, ap, ap₂, ◌∙◌, inl, inr, arith, true≢false}
+use Rattle.std.specs.Cmp.{IsEquivalence}
 use Rattle.std.specs.List.{IsDistinct}
 use Rattle.std.specs.Map.{keys_of}
 use Rattle.std.proofs.lemmas.Bool.{cases_lt}
 use Rattle.std.proofs.lemmas.Map.Entries.{length-keys_of}
 use Rattle.std.proofs.lemmas.Map.Keys.{apart_from_distinct}
+use Rattle.std.proofs.lemmas.Map.Views.{hash_map_get_iff}
 use Rattle.std.proofs.lemmas.Option.{slice_get-map, slice_get_within, get_or_from_slice_get}
+use Rattle.indexmap.specs.IndexMap.{IndexMap, IsUnique, get, insert_entry}
+use Rattle.indexmap.proofs.CallerLemmas.{insert_entry-new}
 use Rattle.ct_terms.specs.declared.ids.TermId.{TermId}
 use Rattle.ct_terms.specs.declared.term.Core.{Core}
-use Rattle.ct_equivalence.specs.Signatures.{Signatures, same_core, AreDifferent}
 use Rattle.ct_terms.proofs.CoreLemmas.{Decides-same_core}
+use Rattle.ct_equivalence.specs.Signatures.{Signatures, same_core, IsUnder, IsFree, AreDifferent}
 use Rattle.ct_equivalence.proofs.ListLemmas.{nat_cases}
 
 -- the signature of an entry is a key, at its index
@@ -38,3 +42,28 @@ AreDifferent-unique entries distinct i j key t u at_i at_j = elim (nat_cases i j
 -- a look-up by the signature finds exactly the term under it
 pub exact : (a b : Core) → same_core a b ≡ true → a ≡ b
 exact a b e = (Decides-same_core a b).0 e
+
+-- tests that say the same
+one_test : (b c : Bool) → (b ≡ true → c ≡ true) → (c ≡ true → b ≡ true) → b ≡ c
+one_test true c there back = sym (there refl)
+one_test false true there back = back refl
+one_test false false there back = refl
+
+pub laws : IsEquivalence same_core
+laws = record {
+  refl = λ a. (Decides-same_core a a).1 refl;
+  symm = λ a b. one_test (same_core a b) (same_core b a) (λ h. (Decides-same_core b a).1 (sym (exact a b h))) (λ h. (Decides-same_core a b).1 (sym (exact b a h)));
+  congr = λ a b c h. ap (λ (x : Core). same_core x c) (exact a b h);
+}
+
+module _ {S : Type 0} (table : IndexMap Core TermId S) (unique : IsUnique same_core table) where
+  pub get_iff : (key : Core) (t : TermId) → (get same_core table key ≡ Some t) ↔ IsUnder table.entries key t
+  get_iff key t = hash_map_get_iff laws exact table unique key t
+
+  -- a signature under which no term stands goes to the end
+  pub entries-new : (key : Core) (t : TermId) → IsFree table.entries key → insert_entry same_core table.entries key t ≡ table.entries ++ (key, t) ∷ []
+  entries-new key t free = insert_entry-new same_core table key t (at (get same_core table key) refl)
+    where
+      at : (found : Option TermId) → get same_core table key ≡ found → get same_core table key ≡ None
+      at None e = e
+      at (Some u) e = absurd (free u ((get_iff key u).0 e))

@@ -2,7 +2,7 @@
 ghost use Rattle.std.specs.Prelude.{◌≡◌, ◌<◌, [], ◌∷◌, List, length, IfOk, OnOk, OnErr, Some, slice_get};
 ghost use Rattle.ct_terms.specs.declared.ids.TermId.{TermId};
 ghost use Rattle.ct_terms.specs.Terms.{Terms};
-ghost use Rattle.ct_equivalence.specs.Partition.{IsClass};
+ghost use Rattle.ct_equivalence.specs.Partition.{AreAlone, IsClass};
 ghost use Rattle.ct_equivalence.specs.Grouping.{Grouping, AreGroupings};
 ghost use Rattle.ct_equivalence.specs.Over.{IsConOf, AreUsesOf, IsGroupingOf, AreGroupingsOf};
 ghost use Rattle.ct_equivalence.specs.Union.{IsUnited, IsTaken};
@@ -40,6 +40,7 @@ impl Equivalence {
     /// Each term of the table alone in its class, in linear time. The terms themselves are not stored.
     pub fn new(alloc: Global, table: &TermTable) -> Result<Equivalence, EquivalenceError>
         ensures of { IfOk result (AreGroupingsOf table.now) }
+        ensures alone { IfOk result (λ e. AreAlone (length table.now) e.now.reps) }
         ensures past { IfOk result (λ e. e.past ≡ []) }
     {
         let grouped = Grouped::new(alloc, table)?;
@@ -53,6 +54,13 @@ impl Equivalence {
         ensures whole { AreGroupings self.now }
     {
         self.grouped.reps()
+    }
+
+    /// For each representative a constructor term of its class, if there is any.
+    pub fn cons(&self) -> &[Option<TermId>]
+        ensures value { result.now ≡ self.now.now.cons }
+    {
+        self.grouped.cons()
     }
 
     /// The number of unions that stand, those of one class too.
@@ -157,8 +165,9 @@ impl Equivalence {
         ensures before { (self.new.now ∷ self.new.past) ≡ self.old.past }
         ensures of { (terms : Terms) → AreGroupingsOf terms self.old → AreGroupingsOf terms self.new }
     {
-        if let Some(Some(step)) = self.log.pop() {
-            self.grouped.undo(step);
-        }
+        let Some(last) = self.log.pop() else {
+            return;
+        };
+        self.grouped.take_back(last);
     }
 }

@@ -4,10 +4,11 @@
 //! as they were beside those of the joined class, so that the union can be undone without memory.
 ghost use Rattle.std.specs.Prelude.{◌≡◌, ◌<◌, ◌⊎◌, length, IfOk, OnOk, OnErr, Some, None, slice_get};
 ghost use Rattle.ct_terms.specs.declared.ids.TermId.{TermId};
+ghost use Rattle.ct_equivalence.specs.Partition.{AreAlone};
 ghost use Rattle.ct_equivalence.specs.Grouping.{IsGrouping};
 ghost use Rattle.ct_equivalence.specs.Over.{IsGroupingOf};
 ghost use Rattle.ct_equivalence.specs.Union.{IsJoin};
-ghost use Rattle.ct_equivalence.specs.Undoing.{before_join};
+ghost use Rattle.ct_equivalence.specs.Undoing.{before, before_join, IsNoted};
 
 use crate::alone::{own_constructors, own_representatives, own_rows};
 use crate::error::EquivalenceError;
@@ -47,6 +48,7 @@ impl Grouped {
     pub(crate) fn new(alloc: Global, table: &TermTable) -> Result<Grouped, EquivalenceError>
         ensures of { IfOk result (IsGroupingOf table.now) }
         ensures whole { IfOk result IsGrouping }
+        ensures alone { IfOk result (λ g. AreAlone (length table.now) g.reps) }
     {
         let count = table.len();
         let reps = own_representatives(alloc, count)?;
@@ -67,6 +69,13 @@ impl Grouped {
         ensures whole { IsGrouping self.now }
     {
         self.reps.as_slice()
+    }
+
+    /// The constructor term that is stored for each term.
+    pub(crate) fn cons(&self) -> &[Option<TermId>]
+        ensures value { result.now ≡ self.now.cons }
+    {
+        self.cons.as_slice()
     }
 
     /// The representative of the term's class.
@@ -146,8 +155,19 @@ impl Grouped {
         })
     }
 
-    /// Takes the two classes apart again. Takes no memory.
-    pub(crate) fn undo(&mut self, step: Step)
+    /// Takes the two classes of the last union apart again, where it joined two. Takes no memory.
+    pub(crate) fn take_back(&mut self, last: Option<Step>)
+        requires noted { IsNoted self.old last }
+        requires whole { IsGrouping (before self.old last) }
+        ensures before { self.new ≡ before self.old last }
+    {
+        if let Some(step) = last {
+            self.undo(step);
+        }
+    }
+
+    // Takes the two classes apart again.
+    fn undo(&mut self, step: Step)
         requires joined { IsJoin (before_join self.old step) self.old step.winner step.loser }
         requires whole { IsGrouping (before_join self.old step) }
         ensures before { self.new ≡ before_join self.old step }

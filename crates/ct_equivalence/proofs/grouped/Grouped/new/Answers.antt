@@ -18,4 +18,5 @@ returns c =
     record {
       of = IsGroupingOf-alone terms c.in_ok-reps.reps.items c.in_ok-cons.cons.items c.in_ok-members.members c.in_ok-uses.uses alone c.in_ok-cons.ensures.long rows c.in_ok-uses.ensures.parents c.in_ok-cons.ensures.cons;
       whole = IsGrouping-alone terms c.in_ok-reps.reps.items c.in_ok-cons.cons.items c.in_ok-members.members c.in_ok-uses.uses alone c.in_ok-cons.ensures.long rows c.in_ok-uses.ensures.parents;
+      alone = alone;
     }
