@@ -1,5 +1,5 @@
 -- Groupings of which two classes are joined: that they are groupings of the same terms, and that the step undoes it.
-use Rattle.std.proofs.Common.{◌≡◌, ℕ, ◌<◌, ◌⊎◌, Bool, List, ◌++◌, length, set, slice_get, get_or, Option, Some, None, if◌then◌else◌, refl, sym, ap, ◌∙◌, subst, inl, inr, arith}
+use Rattle.std.proofs.Common.{◌≡◌, ℕ, ◌<◌, ◌⊎◌, Bool, List, ◌++◌, length, set, take, slice_get, get_or, Option, Some, None, if◌then◌else◌, refl, sym, ap, ◌∙◌, subst, inl, inr, arith}
 use Rattle.std.specs.List.{Contains}
 use Rattle.std.proofs.lemmas.List.{get_or-set_other}
 use Rattle.std.proofs.lemmas.List.Elements.{Contains-append_left, Contains-append_right, Contains-append_cases}
@@ -14,9 +14,9 @@ use Rattle.ct_equivalence.specs.Grouping.{Grouping, IsGrouping}
 use Rattle.ct_equivalence.specs.Over.{IsConstructorTerm, IsConOf, AreCons, IsAbove, AreUsesOf, AreUses, IsGroupingOf}
 use Rattle.ct_equivalence.specs.Union.{AreConsJoined, AreRowsJoined, IsJoin, IsTaken}
 use Rattle.ct_equivalence.specs.Undoing.{relabelled, row_of, cut_row, before_join}
-use Rattle.ct_equivalence.proofs.ListLemmas.{term_cases, other_number}
+use Rattle.ct_equivalence.proofs.ListLemmas.{slice_get-set_other, term_cases, other_number}
 use Rattle.ct_equivalence.proofs.RowLemmas.{row_of-at, row_of-is, AreRowsJoined-set, cut_row-back}
-use Rattle.ct_equivalence.proofs.RelabelLemmas.{relabelled_from, IsRelabelled-class, relabelled-back}
+use Rattle.ct_equivalence.proofs.RelabelLemmas.{length-relabelled, relabelled_from, IsRelabelled-class, relabelled-back}
 use Rattle.ct_equivalence.proofs.ClassLemmas.{of_loser, of_winner, own_kept, IsClass-winner, IsClass-other}
 
 -- what stands in rows of which one was lengthened: that of the first with that of the second at its end, or what stood there
@@ -128,18 +128,23 @@ module _ (old new : Grouping) (winner loser : TermId) (join : IsJoin old new win
         | inr q ↦ h.all p t core has under q.1
       ];
       only = λ p has.
-          let up = h.only p has in
-          (up.0, up.1, up.2, up.3, elim (join.relabelled.each up.1 r up.4) [
-            | inl q ↦ absurd (not_loser q.0)
-            | inr q ↦ q.1
-          ]);
+          let up = h.only p has in (
+            up.0,
+            up.1,
+            up.2,
+            up.3,
+            elim (join.relabelled.each up.1 r up.4) [
+              | inl q ↦ absurd (not_loser q.0)
+              | inr q ↦ q.1
+            ],
+          );
     }
 
     AreUses-joined : length old.uses ≡ length old.reps → AreUses terms old.reps old.uses → AreUses terms new.reps new.uses
     AreUses-joined long each r row own at = elim (rows_from old.uses new.uses winner loser join.uses (omega (arith, winner_in, long)) (omega (arith, loser_in, long)) r row at) [
       | inl h ↦ subst (λ (s : TermId). AreUsesOf terms new.reps s row) (sym h.0) (subst (AreUsesOf terms new.reps winner) (sym h.1)
-        (uses_winner (each winner (row_of old.uses winner) join.winner_is (row_of-at old.uses winner (omega (arith, winner_in, long))))
-        (each loser (row_of old.uses loser) join.loser_is (row_of-at old.uses loser (omega (arith, loser_in, long))))))
+          (uses_winner (each winner (row_of old.uses winner) join.winner_is (row_of-at old.uses winner (omega (arith, winner_in, long))))
+          (each loser (row_of old.uses loser) join.loser_is (row_of-at old.uses loser (omega (arith, loser_in, long))))))
       | inr h ↦ let was = own_before r h.0 own in uses_other r row h.0 was.0 (each r row was.1 h.1)
     ]
 
@@ -194,11 +199,45 @@ module _ (g new : Grouping) (winner loser : TermId) (whole : IsGrouping g) (winn
   pub before_join-made : (gained : Bool) → (if gained then set new.cons winner.0 None else new.cons) ≡ g.cons → before_join new (record { winner = winner; loser = loser; members = length (row_of g.members winner); uses = length (row_of g.uses winner); gained = gained }) ≡ g
   before_join-made gained cons =
       let back_reps : relabelled new.reps (row_of new.members loser) loser ≡ g.reps =
-          ap (λ (row : List TermId). relabelled new.reps row loser) moved_stays
-          ∙ ap (λ (rs : List TermId). relabelled rs (row_of g.members loser) loser) reps_are
-          ∙ relabelled-back g.reps (row_of g.members loser) loser class winner in
+      ap (λ (row : List TermId). relabelled new.reps row loser) moved_stays
+      ∙ ap (λ (rs : List TermId). relabelled rs (row_of g.members loser) loser) reps_are
+      ∙ relabelled-back g.reps (row_of g.members loser) loser class winner in
       let back_members : cut_row new.members winner (length (row_of g.members winner)) ≡ g.members =
-          ap (λ (rows : List (List TermId)). cut_row rows winner (length (row_of g.members winner))) members ∙ cut_row-back g.members winner (row_of g.members loser) (in_members winner winner_is) in
+      ap (λ (rows : List (List TermId)). cut_row rows winner (length (row_of g.members winner))) members ∙ cut_row-back g.members winner (row_of g.members loser) (in_members winner winner_is) in
       let back_uses : cut_row new.uses winner (length (row_of g.uses winner)) ≡ g.uses =
-          ap (λ (rows : List (List TermId)). cut_row rows winner (length (row_of g.uses winner))) uses ∙ cut_row-back g.uses winner (row_of g.uses loser) (in_uses winner winner_is) in
+      ap (λ (rows : List (List TermId)). cut_row rows winner (length (row_of g.uses winner))) uses ∙ cut_row-back g.uses winner (row_of g.uses loser) (in_uses winner winner_is) in
       λ i. record { reps = back_reps i; cons = cons i; members = back_members i; uses = back_uses i }
+
+-- ---- a step that is undone
+
+-- what undoing a step asks for
+pub record IsUndoable (g : Grouping) (step : Step) : Type 0 where
+  pub winner : step.winner.0 < length g.reps
+  pub loser : step.loser.0 < length g.reps
+  pub inside : (t : TermId) → Contains (row_of g.members step.loser) t → t.0 < length g.reps
+
+pub IsUndoable-joined : (g : Grouping) (step : Step) → IsGrouping g → IsGrouping (before_join g step) → IsJoin (before_join g step) g step.winner step.loser → IsUndoable g step
+IsUndoable-joined g step now whole join = record {
+  winner = winner_is_in;
+  loser = loser_is_in;
+  inside = λ t has.
+      let class : IsClass (before_join g step).reps step.loser (row_of g.members step.loser) = whole.classes step.loser (row_of g.members step.loser) join.loser_is there in
+      omega (arith, long, slice_get_within (before_join g step).reps t.0 step.loser (class.only t has));
+}
+  where
+    long : length (relabelled g.reps (row_of g.members step.loser) step.loser) ≡ length g.reps
+    long = length-relabelled g.reps (row_of g.members step.loser) step.loser
+
+    winner_is_in : step.winner.0 < length g.reps
+    winner_is_in = omega (arith, long, slice_get_within (before_join g step).reps step.winner.0 step.winner join.winner_is)
+
+    loser_is_in : step.loser.0 < length g.reps
+    loser_is_in = omega (arith, long, slice_get_within (before_join g step).reps step.loser.0 step.loser join.loser_is)
+
+    there : slice_get (cut_row g.members step.winner step.members) step.loser.0 ≡ Some (row_of g.members step.loser)
+    there =
+        slice_get-set_other g.members step.winner.0 step.loser.0 (take step.members (row_of g.members step.winner)) (other_number step.loser step.winner (λ e. join.apart (sym e)))
+        ∙ row_of-at g.members step.loser (omega (arith, loser_is_in, now.members_long))
+
+pub before_join-is : (g new : Grouping) (step : Step) → new.reps ≡ relabelled g.reps (row_of g.members step.loser) step.loser → new.cons ≡ (if step.gained then set g.cons step.winner.0 None else g.cons) → new.members ≡ cut_row g.members step.winner step.members → new.uses ≡ cut_row g.uses step.winner step.uses → new ≡ before_join g step
+before_join-is g new step reps cons members uses = λ i. record { reps = reps i; cons = cons i; members = members i; uses = uses i }

@@ -12,7 +12,7 @@ ghost use Rattle.ct_equivalence.specs.Undoing.{before, before_join, IsNoted};
 
 use crate::alone::{own_constructors, own_representatives, own_rows};
 use crate::error::EquivalenceError;
-use crate::joining::{gain, relabel};
+use crate::joining::{gain, join_rows, lose, relabel};
 use crate::parents::parents;
 use crate::rows::Rows;
 use crate::step::Step;
@@ -111,15 +111,20 @@ impl Grouped {
         self.cons[t.0 as usize]
     }
 
+    // How many members and uses are stored for the term.
+    fn weight(&self, t: TermId) -> usize
+        requires inside { t.0 < length self.now.reps }
+    {
+        self.members(t).len() + self.uses(t).len()
+    }
+
     /// Of two representatives the one whose class has more members and uses, and the other one.
     pub(crate) fn by_weight(&self, left: TermId, right: TermId) -> (TermId, TermId)
         requires left { left.0 < length self.now.reps }
         requires right { right.0 < length self.now.reps }
         ensures sides { ((result.0 ≡ left) × (result.1 ≡ right)) ⊎ ((result.0 ≡ right) × (result.1 ≡ left)) }
     {
-        let first = self.members(left).len() + self.uses(left).len();
-        let second = self.members(right).len() + self.uses(right).len();
-        if first < second {
+        if self.weight(left) < self.weight(right) {
             (right, left)
         } else {
             (left, right)
@@ -137,13 +142,7 @@ impl Grouped {
         ensures undone { IfOk result (λ step. before_join self.new step ≡ self.old) }
         ensures unchanged { OnErr result (self.new ≡ self.old) }
     {
-        let members = self.members.row(winner).len();
-        let uses = self.uses.row(winner).len();
-        self.members.append(winner, loser)?;
-        if self.uses.append(winner, loser).is_err() {
-            self.members.cut(winner, members);
-            return Err(EquivalenceError);
-        }
+        let (members, uses) = join_rows(&mut self.members, &mut self.uses, winner, loser)?;
         relabel(&mut self.reps, self.members.row(loser), winner);
         let gained = gain(&mut self.cons, winner, loser);
         Ok(Step {
@@ -175,8 +174,6 @@ impl Grouped {
         relabel(&mut self.reps, self.members.row(step.loser), step.loser);
         self.members.cut(step.winner, step.members);
         self.uses.cut(step.winner, step.uses);
-        if step.gained {
-            self.cons[step.winner.0 as usize] = None;
-        }
+        lose(&mut self.cons, step.winner, step.gained);
     }
 }

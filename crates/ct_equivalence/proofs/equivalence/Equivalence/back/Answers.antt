@@ -1,12 +1,17 @@
 use Rattle.std.proofs.Common.{◌≡◌, ◌∷◌, [], ◌++◌, List, Option, Some, length, reverse, ap, sym, ◌∙◌, subst, arith}
-use Rattle.std.specs.List.{AllByRecursion}
-use Rattle.std.proofs.lemmas.List.{length-reverse}
-use Rattle.ct_equivalence.specs.Grouping.{Grouping, Groupings}
-use Rattle.ct_equivalence.specs.Over.{IsGroupingOf}
-use Rattle.ct_equivalence.specs.Undoing.{before, AreNoted}
-use Rattle.ct_equivalence.proofs.NoteLemmas.{IsGrouping-noted, length-befores, befores-pop, AreNoted-last}
 use Rattle.ct_equivalence.proofs.equivalence.Equivalence.back.Goals as goal
-use Rattle.ct_equivalence.proofs.equivalence.Equivalence.back.Goals.{After-in-Some}
+
+pub take_back-requires : goal.take_back-requires
+take_back-requires c = ?
+
+pub invariant_of-self : goal.invariant_of-self
+invariant_of-self c = ?
+
+pub invariant_of-self-2 : goal.invariant_of-self-2
+invariant_of-self-2 c = ?
+
+pub returns-in_default : goal.returns-in_default
+returns-in_default c = ?
 
 pub returns : goal.returns
 returns c = ?

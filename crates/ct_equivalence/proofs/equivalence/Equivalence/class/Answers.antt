@@ -16,7 +16,7 @@ returns c =
     let g = c.self.inside.grouped in
     let whole = IsGrouping-noted g (reverse c.self.inside.log.items) c.self.invariant in
     let at : (r : TermId) → slice_get g.reps c.args.t.0 ≡ Some r → slice_get g.members r.0 ≡ Some c.members.result.now =
-        λ r is. subst (λ (s : TermId). slice_get g.members s.0 ≡ Some c.members.result.now) (same_Some c.rep.result r (sym c.rep.ensures.value ∙ is)) c.members.ensures.value in
+    λ r is. subst (λ (s : TermId). slice_get g.members s.0 ≡ Some c.members.result.now) (same_Some c.rep.result r (sym c.rep.ensures.value ∙ is)) c.members.ensures.value in
     rw (← c.self.view_is)
     (record {
       value = at;
