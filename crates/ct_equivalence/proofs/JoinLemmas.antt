@@ -1,5 +1,5 @@
 -- Groupings of which two classes are joined: that they are groupings of the same terms, and that the step undoes it.
-use Rattle.std.proofs.Common.{◌≡◌, ℕ, ◌<◌, ◌⊎◌, Bool, List, ◌++◌, length, set, take, slice_get, get_or, Option, Some, None, if◌then◌else◌, refl, sym, ap, ◌∙◌, subst, inl, inr, arith}
+use Rattle.std.proofs.Common.{◌≡◌, ℕ, ◌<◌, ◌⊎◌, Bool, List, [], ◌++◌, length, set, take, slice_get, get_or, Option, Some, None, if◌then◌else◌, refl, sym, ap, ◌∙◌, subst, inl, inr, arith}
 use Rattle.std.specs.List.{Contains}
 use Rattle.std.proofs.lemmas.List.{get_or-set_other}
 use Rattle.std.proofs.lemmas.List.Elements.{Contains-append_left, Contains-append_right, Contains-append_cases}
@@ -163,6 +163,16 @@ module _ (old new : Grouping) (winner loser : TermId) (join : IsJoin old new win
 
 -- ---- one join, and back
 
+-- the row of the second one stays
+pub moved_stays : (rows more : List (List TermId)) (winner loser : TermId) (joined : List TermId) → (winner ≡ loser → ⊥) → more ≡ set rows winner.0 joined → row_of more loser ≡ row_of rows loser
+moved_stays rows more winner loser joined apart is =
+    let other = other_number loser winner (λ e. apart (sym e)) in
+    ap (λ (list : List (List TermId)). row_of list loser) is ∙ get_or-set_other rows winner.0 loser.0 joined [] other
+
+-- the row of a representative is its class
+pub class_of : (g : Grouping) (r : TermId) → IsGrouping g → slice_get g.reps r.0 ≡ Some r → IsClass g.reps r (row_of g.members r)
+class_of g r whole own = whole.classes r (row_of g.members r) own (row_of-at g.members r (omega (arith, slice_get_within g.reps r.0 r own, whole.members_long)))
+
 module _ (g new : Grouping) (winner loser : TermId) (whole : IsGrouping g) (winner_is : slice_get g.reps winner.0 ≡ Some winner) (loser_is : slice_get g.reps loser.0 ≡ Some loser) (apart : winner ≡ loser → ⊥)
     (members : new.members ≡ set g.members winner.0 (row_of g.members winner ++ row_of g.members loser))
     (uses : new.uses ≡ set g.uses winner.0 (row_of g.uses winner ++ row_of g.uses loser))
@@ -173,17 +183,14 @@ module _ (g new : Grouping) (winner loser : TermId) (whole : IsGrouping g) (winn
   in_uses : (t : TermId) → slice_get g.reps t.0 ≡ Some t → t.0 < length g.uses
   in_uses t is = omega (arith, slice_get_within g.reps t.0 t is, whole.uses_long)
 
-  -- the row of the second one stays
-  moved_stays : row_of new.members loser ≡ row_of g.members loser
-  moved_stays =
-      let other = other_number loser winner (λ e. apart (sym e)) in
-      ap (λ (rows : List (List TermId)). row_of rows loser) members ∙ get_or-set_other g.members winner.0 loser.0 (row_of g.members winner ++ row_of g.members loser) [] other
+  stays : row_of new.members loser ≡ row_of g.members loser
+  stays = moved_stays g.members new.members winner loser (row_of g.members winner ++ row_of g.members loser) apart members
 
   class : IsClass g.reps loser (row_of g.members loser)
-  class = whole.classes loser (row_of g.members loser) loser_is (row_of-at g.members loser (in_members loser loser_is))
+  class = class_of g loser whole loser_is
 
   reps_are : new.reps ≡ relabelled g.reps (row_of g.members loser) winner
-  reps_are = reps ∙ ap (λ (row : List TermId). relabelled g.reps row winner) moved_stays
+  reps_are = reps ∙ ap (λ (row : List TermId). relabelled g.reps row winner) stays
 
   pub IsJoin-made : AreConsJoined g.cons new.cons winner loser → IsJoin g new winner loser
   IsJoin-made cons = record {
@@ -199,7 +206,7 @@ module _ (g new : Grouping) (winner loser : TermId) (whole : IsGrouping g) (winn
   pub before_join-made : (gained : Bool) → (if gained then set new.cons winner.0 None else new.cons) ≡ g.cons → before_join new (record { winner = winner; loser = loser; members = length (row_of g.members winner); uses = length (row_of g.uses winner); gained = gained }) ≡ g
   before_join-made gained cons =
       let back_reps : relabelled new.reps (row_of new.members loser) loser ≡ g.reps =
-      ap (λ (row : List TermId). relabelled new.reps row loser) moved_stays
+      ap (λ (row : List TermId). relabelled new.reps row loser) stays
       ∙ ap (λ (rs : List TermId). relabelled rs (row_of g.members loser) loser) reps_are
       ∙ relabelled-back g.reps (row_of g.members loser) loser class winner in
       let back_members : cut_row new.members winner (length (row_of g.members winner)) ≡ g.members =

@@ -4,7 +4,9 @@ use Rattle.std.specs.List.{AllByRecursion}
 use Rattle.std.proofs.lemmas.List.{reverse-append, length-reverse}
 use Rattle.ct_terms.specs.declared.ids.TermId.{TermId}
 use Rattle.ct_equivalence.specs.declared.step.Step.{Step}
-use Rattle.ct_equivalence.specs.Grouping.{Grouping, IsGrouping}
+use Rattle.ct_terms.specs.Terms.{Terms}
+use Rattle.ct_equivalence.specs.Grouping.{Grouping, Groupings, IsGrouping}
+use Rattle.ct_equivalence.specs.Over.{IsGroupingOf, AreGroupingsOf}
 use Rattle.ct_equivalence.specs.Union.{IsTaken}
 use Rattle.ct_equivalence.specs.Undoing.{before, befores, IsNoted, AreNoted, before_join}
 use Rattle.ct_equivalence.proofs.JoinLemmas.{taken_other}
@@ -64,3 +66,11 @@ befores-pop g now log rest last is back =
 
 pub AreNoted-last : (g : Grouping) (log rest : List (Option Step)) (last : Option Step) → log ≡ rest ++ last ∷ [] → AreNoted g (reverse log) → AreNoted g (last ∷ reverse rest)
 AreNoted-last g log rest last is noted = subst (AreNoted g) (ap reverse is ∙ reverse-push rest last) noted
+
+-- the classes are of a table where the last ones are and those before were
+pub AreGroupingsOf-push : (terms : Terms) (old new : Groupings) → new.past ≡ old.now ∷ old.past → IsGroupingOf terms new.now → AreGroupingsOf terms old → AreGroupingsOf terms new
+AreGroupingsOf-push terms old new past last earlier = (last, subst (AllByRecursion (IsGroupingOf terms)) (sym past) earlier)
+
+-- and where the last ones are taken away
+pub AreGroupingsOf-pop : (terms : Terms) (old new : Groupings) → (new.now ∷ new.past) ≡ old.past → AreGroupingsOf terms old → AreGroupingsOf terms new
+AreGroupingsOf-pop terms old new past all = subst (AllByRecursion (IsGroupingOf terms)) (sym past) all.1
