@@ -1,13 +1,14 @@
 -- What was noted of unions: what holds of the classes before each, and what the last one left as it was.
-use Rattle.std.proofs.Common.{◌≡◌, suc, List, [], ◌∷◌, ◌++◌, length, reverse, slice_get, Option, Some, None, refl, sym, ap, ◌∙◌, subst}
+use Rattle.std.proofs.Common.{◌≡◌, suc, ◌⊎◌, inl, inr, true, false, nat_eq, true≢false, List, [], ◌∷◌, ◌++◌, length, reverse, slice_get, Option, Some, None, refl, sym, ap, ◌∙◌, subst}
 use Rattle.std.specs.List.{AllByRecursion}
-use Rattle.std.proofs.lemmas.List.{reverse-append, length-reverse}
+use Rattle.std.proofs.lemmas.Bool.Decides.{Decides-eqb}
+use Rattle.std.proofs.lemmas.List.{reverse-append}
 use Rattle.ct_terms.specs.declared.ids.TermId.{TermId}
 use Rattle.ct_equivalence.specs.declared.step.Step.{Step}
 use Rattle.ct_terms.specs.Terms.{Terms}
 use Rattle.ct_equivalence.specs.Grouping.{Grouping, Groupings, IsGrouping}
 use Rattle.ct_equivalence.specs.Over.{IsGroupingOf, AreGroupingsOf}
-use Rattle.ct_equivalence.specs.Union.{IsTaken}
+use Rattle.ct_equivalence.specs.Union.{IsJoin, IsTaken}
 use Rattle.ct_equivalence.specs.Undoing.{before, befores, IsNoted, AreNoted, before_join}
 use Rattle.ct_equivalence.proofs.JoinLemmas.{taken_other}
 
@@ -74,3 +75,32 @@ AreGroupingsOf-push terms old new past last earlier = (last, subst (AllByRecursi
 -- and where the last ones are taken away
 pub AreGroupingsOf-pop : (terms : Terms) (old new : Groupings) → (new.now ∷ new.past) ≡ old.past → AreGroupingsOf terms old → AreGroupingsOf terms new
 AreGroupingsOf-pop terms old new past all = subst (AllByRecursion (IsGroupingOf terms)) (sym past) all.1
+
+-- what was noted of one join
+pub IsNoted-joined : (old new : Grouping) (winner loser : TermId) (step : Step) → IsJoin old new winner loser → step.winner ≡ winner → step.loser ≡ loser → before_join new step ≡ old → IsNoted new (Some step)
+IsNoted-joined old new winner loser step join winner_is loser_is back =
+    subst (λ (g : Grouping). IsJoin g new step.winner step.loser) (sym back)
+    (subst (λ (w : TermId). IsJoin old new w step.loser) (sym winner_is) (subst (IsJoin old new winner) (sym loser_is) join))
+
+-- two terms in some order
+abbrev pub AreSides : TermId → TermId → TermId → TermId → Type 0
+AreSides first second winner loser = ((winner ≡ first) × (loser ≡ second)) ⊎ ((winner ≡ second) × (loser ≡ first))
+
+module _ (first second winner loser : TermId) (sides : AreSides first second winner loser) where
+  pub side_owners : (reps : List TermId) → slice_get reps first.0 ≡ Some first → slice_get reps second.0 ≡ Some second → (slice_get reps winner.0 ≡ Some winner) × (slice_get reps loser.0 ≡ Some loser)
+  side_owners reps first_is second_is = elim sides [
+    | inl h ↦ (own winner first h.0 first_is, own loser second h.1 second_is)
+    | inr h ↦ (own winner second h.0 second_is, own loser first h.1 first_is)
+  ]
+    where
+      own : (x y : TermId) → x ≡ y → slice_get reps y.0 ≡ Some y → slice_get reps x.0 ≡ Some x
+      own x y is at = subst (λ (t : TermId). slice_get reps t.0 ≡ Some t) (sym is) at
+
+  pub sides_apart : nat_eq first.0 second.0 ≡ false → winner ≡ loser → ⊥
+  sides_apart other is =
+      let one : first ≡ second = elim sides [ inl h ↦ sym h.0 ∙ is ∙ h.1 | inr h ↦ sym h.1 ∙ sym is ∙ h.0 ] in
+      true≢false (sym ((Decides-eqb first.0 second.0).1 (ap (λ (t : TermId). t.0) one)) ∙ other)
+
+-- terms whose numbers are the same for the test are one
+pub same_term : (first second : TermId) → nat_eq first.0 second.0 ≡ true → first ≡ second
+same_term first second e = let n = (Decides-eqb first.0 second.0).0 e in λ i. record { 0 = n i }

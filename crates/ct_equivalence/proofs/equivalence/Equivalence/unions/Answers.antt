@@ -7,4 +7,4 @@ pub returns : goal.returns
 returns c =
     let e = c.self.inside in
     rw (← c.self.view_is)
-    (record { value = c.len.ensures.len ∙ sym (length-reverse e.log.items) ∙ sym (length-befores e.grouped (reverse e.log.items)); whole = AreGroupings-noted e.grouped (reverse e.log.items) c.self.invariant })
+    (record { value = c.len.ensures ∙ e.log.ok.0 ∙ sym (length-reverse e.log.items) ∙ sym (length-befores e.grouped (reverse e.log.items)); whole = AreGroupings-noted e.grouped (reverse e.log.items) c.self.invariant })
