@@ -1,0 +1,17 @@
+use Rattle.std.proofs.Common.{length, reverse, ap, sym, ◌∙◌, arith}
+use Rattle.ct_equivalence.specs.Grouping.{Groupings}
+use Rattle.ct_equivalence.proofs.NoteLemmas.{IsStill-taken}
+use Rattle.ct_equivalence.proofs.equivalence.Equivalence.taken_con.Goals as goal
+
+pub con-requires : goal.con-requires
+con-requires c = record { inside = omega (arith, c.requires.inside, ap (λ (gs : Groupings). length gs.now.reps) c.self.view_is) }
+
+pub returns : goal.returns
+returns c =
+    let g = c.self.inside.grouped in
+    let log = reverse c.self.inside.log.items in
+    rw (← c.self.view_is)
+    (record {
+      value = c.con.ensures.value;
+      con = λ was earlier past taken. sym (IsStill-taken g was earlier log c.args.loser c.self.invariant past taken).cons ∙ c.con.ensures.value;
+    })

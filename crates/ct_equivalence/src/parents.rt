@@ -1,0 +1,63 @@
+//! The terms right above each term.
+ghost use Rattle.std.specs.Prelude.{◌≡◌, ◌<◌, [], ◌∷◌, length, IfOk, OnOk, Contains, All};
+ghost use Rattle.std.specs.List.{AllByRecursion};
+ghost use Rattle.ct_terms.specs.Children.{core_children, HasArgumentsBelow};
+ghost use Rattle.ct_equivalence.specs.Parents.{AreAdded, AreParents};
+
+use crate::error::EquivalenceError;
+use crate::rows::Rows;
+use ct_terms::{Core, TermId, TermTable};
+use std::alloc::Global;
+
+/// For each term of the table the terms right above it.
+pub(crate) fn parents(alloc: Global, table: &TermTable) -> Result<Rows, EquivalenceError>
+    ensures parents { IfOk result (AreParents table.now (length table.now)) }
+{
+    let mut rows = empty_rows(alloc, table.len())?;
+    for t in 0..table.len() {
+        add_parent(&mut rows, table.core(TermId(t)), TermId(t))?;
+    }
+    Ok(rows)
+}
+
+// So many empty rows.
+fn empty_rows(alloc: Global, count: u32) -> Result<Rows, EquivalenceError>
+    ensures long { IfOk result (λ rows. length rows ≡ count) }
+    ensures empty { IfOk result (All (λ row. row ≡ [])) }
+{
+    let mut rows = Rows::new(alloc);
+    for _ in 0..count {
+        rows.add_row()?;
+    }
+    Ok(rows)
+}
+
+// Puts the term into the rows of those right under it.
+fn add_parent(rows: &mut Rows, core: &Core, p: TermId) -> Result<(), EquivalenceError>
+    requires inside { HasArgumentsBelow (length rows.old) core.now }
+    ensures added { OnOk result (AreAdded rows.old rows.new (core_children core.now) p) }
+{
+    match core {
+        Core::Con(_, args) => add_to_each(rows, args.as_slice(), p),
+        Core::Sel(_, a) => add_to_each(rows, &[*a], p),
+        Core::Test(_, a) => add_to_each(rows, &[*a], p),
+        Core::Apply(_, args) => add_to_each(rows, args.as_slice(), p),
+        Core::Eq(a, b) => add_to_each(rows, &[*a, *b], p),
+        Core::Not(a) => add_to_each(rows, &[*a], p),
+        Core::And(args) => add_to_each(rows, args.as_slice(), p),
+        Core::Or(args) => add_to_each(rows, args.as_slice(), p),
+        Core::Iff(a, b) => add_to_each(rows, &[*a, *b], p),
+        Core::Ite(c, a, b) => add_to_each(rows, &[*c, *a, *b], p),
+    }
+}
+
+// Puts the term into the rows of all these.
+fn add_to_each(rows: &mut Rows, terms: &[TermId], p: TermId) -> Result<(), EquivalenceError>
+    requires inside { AllByRecursion (λ t. t.0 < length rows.old) terms.now }
+    ensures added { OnOk result (AreAdded rows.old rows.new terms.now p) }
+{
+    for t in terms {
+        rows.push(*t, p)?;
+    }
+    Ok(())
+}
