@@ -48,16 +48,16 @@ place_term Else h = refl
 
 bare_none : (gate : Gate) (of : Bool) → has_term gate ≡ of → Bare (if of then None else Some (steps.Gate gate (term_numbered 0) 0))
 bare_none gate true h = tt
-bare_none gate false h = both_parts (has_term gate || true) (has_place gate || true) (or_true (has_term gate)) (or_true (has_place gate))
+bare_none gate false h = both_true (has_term gate || true) (has_place gate || true) (or_true (has_term gate)) (or_true (has_place gate))
 
 bare_term : (gate : Gate) (t : ℕ) (of : Bool) → (has_term gate && not (has_place gate)) ≡ of → Bare (if of then Some (steps.Gate gate (term_numbered t) 0) else None)
 bare_term gate t true h =
     let term = (both_parts (has_term gate) (not (has_place gate)) h).0 in
-    both_parts (has_term gate || (term_numbered t).0 == 0) (has_place gate || true) (rw term refl) (or_true (has_place gate))
+    both_true (has_term gate || (term_numbered t).0 == 0) (has_place gate || true) (rw term refl) (or_true (has_place gate))
 bare_term gate t false h = tt
 
 bare_place : (gate : Gate) (t k : ℕ) (at : Bool) → has_place gate ≡ at → Bare (if at then Some (steps.Gate gate (term_numbered t) k) else None)
-bare_place gate t k true h = both_parts (has_term gate || (term_numbered t).0 == 0) (has_place gate || k == 0) (rw (place_term gate h) refl) (rw h refl)
+bare_place gate t k true h = both_true (has_term gate || (term_numbered t).0 == 0) (has_place gate || k == 0) (rw (place_term gate h) refl) (rw h refl)
 bare_place gate t k false h = tt
 
 bare_gate : (gate : Gate) (ns : List ℕ) → Bare (gate_over gate ns)
@@ -132,7 +132,7 @@ fit_push : (terms : Terms) (done : List Line) (line : Line) → list_all (is_wri
 fit_push terms [] line h k = rw k refl
 fit_push terms (l ∷ done) line h k =
     let parts = both_parts (is_writable terms l) (list_all (is_writable terms) done) h in
-    both_parts (is_writable terms l) (list_all (is_writable terms) (done ++ line ∷ [])) parts.0 (fit_push terms done line parts.1 k)
+    both_true (is_writable terms l) (list_all (is_writable terms) (done ++ line ∷ [])) parts.0 (fit_push terms done line parts.1 k)
 
 fit_if : (test : Bool) (x y : ReadOutcome) → AllFit x → AllFit y → AllFit (if test then x else y)
 fit_if true x y p q = p
