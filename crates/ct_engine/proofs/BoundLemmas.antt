@@ -1,5 +1,5 @@
 -- How many decisions a legal list of moves has: the weight of the trail rises with each, and does not fall.
-use Rattle.std.proofs.Common.{◌≡◌, ℕ, zero, suc, ◌+◌, ◌^◌, ◌<◌, ◌≤◌, ◌⊎◌, inl, inr, cond, List, [], ◌∷◌, ◌++◌, length, map, take, Some, slice_get, All, Contains, refl, sym, ap, subst, ◌∙◌, arith}
+use Rattle.std.proofs.Common.{◌≡◌, ℕ, zero, suc, ◌+◌, ◌^◌, ◌<◌, ◌≤◌, ◌⊎◌, inl, inr, cond, List, [], ◌∷◌, ◌++◌, length, take, slice_get, All, Contains, refl, sym, ap, subst, ◌∙◌, arith}
 use Rattle.std.specs.List.{count_by}
 use Rattle.std.proofs.lemmas.List.{length-map, map-append}
 use Rattle.std.proofs.lemmas.List.Sums.{sum_by-cons}
@@ -16,7 +16,7 @@ use Rattle.ct_engine.specs.declared.verdict.Move.TheVariants as move
 use Rattle.ct_engine.specs.Moves.{Choice, Replay, FollowsIn, IsLineWith, Decides, Adds, Learns, IsLegal, AreLegal, is_decision, decisions_of, LackValue}
 use Rattle.ct_engine.specs.Theorems.{GrowthTheorems}
 use Rattle.ct_engine.proofs.ValuedLemmas.{HasValue-more, valued_by}
-use Rattle.ct_engine.proofs.TrailLemmas.{Place, by_choice, by_clause, variables_of, variable_of, choices_of, weight, doubled, some_weight, weight-bound, IsRecorded, IsNext, ArePlaces, ArePlaces-more, assigned_at, cut_at}
+use Rattle.ct_engine.proofs.TrailLemmas.{Place, by_choice, by_clause, variables_of, variable_of, choices_of, weight, doubled, some_weight, weight-bound, IsNext, ArePlaces, ArePlaces-more, assigned_at, cut_at}
 
 -- the variables differ, and each counts
 abbrev pub AreCounted : (TermId → Type 0) → List TermId → Type 0
@@ -133,8 +133,8 @@ module _ (theorems : GrowthTheorems) (variables : List TermId) (lines : List Lin
       let kept : choices_of cut.rest ≡ take keep old.decided = cut.kept ∙ ap (take keep) w.choices in
       let follows : Up clauses (decisions_of (take keep old.decided)) l.asserted =
       theorems.forced clauses (decisions_of (take keep old.decided)) clause l.asserted (Contains-push old.clauses clause) l.inside
-          (All-weaker (λ k. (k ≡ l.asserted) ⊎ Up old.clauses (decisions_of (take keep old.decided)) (opposite k)) (λ k. (k ≡ l.asserted) ⊎ Up clauses (decisions_of (take keep old.decided)) (opposite k))
-          (λ k h. elim h [ inl same ↦ inl same | inr up ↦ inr (theorems.more_clauses old.clauses (clause ∷ []) (decisions_of (take keep old.decided)) (opposite k) up) ]) clause l.others_false) in
+      (All-weaker (λ k. (k ≡ l.asserted) ⊎ Up old.clauses (decisions_of (take keep old.decided)) (opposite k)) (λ k. (k ≡ l.asserted) ⊎ Up clauses (decisions_of (take keep old.decided)) (opposite k))
+      (λ k h. elim h [ inl same ↦ inl same | inr up ↦ inr (theorems.more_clauses old.clauses (clause ∷ []) (decisions_of (take keep old.decided)) (opposite k) up) ]) clause l.others_false) in
       let listed : Contains variables t = All-contains (λ (k : Lit). Contains variables k.term) clause l.asserted (over number l.line l.stands) l.inside in
       let counts : Counts t = elim (others t listed) [ inl is ↦ is | inr has ↦ absurd (l.unset (cut.recorded.start t listed has)) ] in
       let fits = cut.fits in

@@ -1,10 +1,10 @@
 -- A record of a search that spent its decisions: they are fewer than 2^V - 1, where its terms have V propositional variables.
-use Rattle.std.proofs.Common.{◌≡◌, ◌↔◌, ℕ, zero, suc, ◌^◌, ◌<◌, ◌≤◌, ◌⊎◌, inl, inr, Bool, true, false, eqb, List, [], ◌∷◌, ◌++◌, length, take, Some, slice_get, All, Contains, refl, sym, ap, subst, ◌∙◌, arith}
+use Rattle.std.proofs.Common.{◌≡◌, ◌↔◌, ℕ, zero, suc, ◌^◌, ◌<◌, ◌≤◌, ◌⊎◌, inl, inr, true, false, eqb, List, [], ◌∷◌, length, Some, slice_get, All, Contains, refl, sym, ap, subst, ◌∙◌, arith}
 use Rattle.std.specs.List.{IsDistinct}
 use Rattle.std.proofs.lemmas.Bool.Decides.{Decides-eqb}
 use Rattle.std.proofs.lemmas.List.Elements.{All-weaker, All-contains, recursion_from_All}
 use Rattle.std.proofs.lemmas.Map.Steps.{length-le_from_distinct_below}
-use Rattle.std.proofs.lemmas.Option.{same_Some, none-some, slice_get_within}
+use Rattle.std.proofs.lemmas.Option.{same_Some, slice_get_within}
 use Rattle.ct_lemmas.proofs.Booleans.{not_true}
 use Rattle.ct_lemmas.proofs.Contained.{slice_get-from_Contains, Contains-cons, Contains-first, Contains-map, Contains-none, Contains-rest}
 use Rattle.ct_lemmas.proofs.Each.{All-from_Contains, All-one}
@@ -17,9 +17,9 @@ use Rattle.ct_terms.specs.declared.term.Core.{Core}
 use Rattle.ct_terms.specs.declared.term.Core.TheVariants.{Con, Sel, Test, Apply, Eq, Not, And, Or, Iff, Ite}
 use Rattle.ct_terms.specs.Clause.{Clause}
 use Rattle.ct_terms.specs.Literal.{IsStripped, opposite}
-use Rattle.ct_terms.specs.Terms.{Terms, BeginsWithTruths, truth_terms, IsTermTable, AreSorted, Has}
+use Rattle.ct_terms.specs.Terms.{Terms, truth_terms}
 use Rattle.ct_terms.specs.CoreTree.{CoreTree, con, no_trees, tree_layer, term_at}
-use Rattle.ct_closure.specs.Closed.{InClosure, HasVariables, IsVariable, IsNegation, truth_trees}
+use Rattle.ct_closure.specs.Closed.{InClosure, HasVariables, IsVariable, IsNegation}
 use Rattle.ct_closure.specs.ClosedTable.{HasTree}
 use Rattle.ct_rules.specs.Rules.{truth_term}
 use Rattle.ct_log.specs.declared.rules.Gate.TheVariants as gate
@@ -189,7 +189,7 @@ module _ (growth : GrowthTheorems) (trees : TreeTheorems) (d : Declarations) (te
     few ts counted =
         let p = placed ts counted in
         let h : length p.0 ≤ length has.variables = length-le_from_distinct_below p.0 (length has.variables) p.1.distinct
-            (λ q h. let at = p.1.each q (Contains-any p.0 q h) in slice_get_within has.variables q (term_at terms at.0) at.2.stands) in
+        (λ q h. let at = p.1.each q (Contains-any p.0 q h) in slice_get_within has.variables q (term_at terms at.0) at.2.stands) in
         let long = p.1.long in
         let number = has.number in
         omega arith
