@@ -1,0 +1,3 @@
+mod RenamedLemmas
+mod MarkLemmas
+mod CopyLemmas
