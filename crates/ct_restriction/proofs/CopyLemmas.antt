@@ -1,8 +1,8 @@
 -- Copies of marked terms in a table that begins with `true` and `false`: the first two, one more, and what all of them are.
-use Rattle.std.proofs.Common.{◌≡◌, ℕ, zero, suc, ◌+◌, ◌<◌, ◌≤◌, ◌⊎◌, Bool, true, List, [], ◌∷◌, ◌++◌, length, map, take, drop, get_or, All, Some, slice_get, Contains, refl, sym, ap, subst, ◌∙◌, inl, inr, arith, length-append}
+use Rattle.std.proofs.Common.{◌≡◌, ℕ, zero, suc, ◌+◌, ◌<◌, Bool, true, List, [], ◌∷◌, ◌++◌, length, map, drop, get_or, Some, slice_get, Contains, refl, sym, ap, subst, ◌∙◌, inl, inr, arith, length-append}
 use Rattle.std.specs.List.{AllZip, AllByRecursion}
 use Rattle.std.proofs.lemmas.List.{take-append-drop, append-nil}
-use Rattle.std.proofs.lemmas.List.Elements.{Contains-append_left, Contains-append_right, All-from_recursion, All-map}
+use Rattle.std.proofs.lemmas.List.Elements.{Contains-append_left, Contains-append_right}
 use Rattle.std.proofs.lemmas.Option.{same_Some, slice_get_within, slice_get-get_or}
 use Rattle.ct_sorts.specs.declared.ids.SortId.{SortId}
 use Rattle.ct_sorts.specs.Declarations.{Declarations}
@@ -10,11 +10,11 @@ use Rattle.ct_terms.specs.declared.ids.TermId.{TermId}
 use Rattle.ct_terms.specs.declared.term.Core.{Core}
 use Rattle.ct_terms.specs.Children.{core_children}
 use Rattle.ct_terms.specs.Terms.{Terms, IsOfSort, HasSort, AreSorted, Has, Makes, AreOrdered, BeginsWithTruths, truth_terms}
-use Rattle.ct_terms.specs.CoreTree.{CoreTree, subtrees, tree_layer, tree_below, term_at}
+use Rattle.ct_terms.specs.CoreTree.{CoreTree, subtrees, tree_below, term_at}
 use Rattle.ct_closure.specs.Closed.{truth_trees}
-use Rattle.ct_closure.specs.ClosedTable.{terms_at, HasTree, AreSubtermsOf}
+use Rattle.ct_closure.specs.ClosedTable.{terms_at, HasTree}
 use Rattle.ct_restriction.specs.Renamed.{renamed, number_in}
-use Rattle.ct_restriction.specs.Restricted.{IsSubtermOfOne, StandsFor, IsRestriction, IsMarked, MarksUnder, MarksSubterms, AreMarked, IsCopy, AreCopied}
+use Rattle.ct_restriction.specs.Restricted.{IsSubtermOfOne, StandsFor, IsRestriction, IsMarked, MarksUnder, AreMarked, IsCopy, AreCopied}
 use Rattle.ct_lemmas.proofs.Contained.{Contains-cons}
 use Rattle.ct_lemmas.proofs.Lists.{slice_get-prefix, slice_get-push_cases, slice_get-last}
 use Rattle.ct_lemmas.proofs.Numbers.{last_or_before}
