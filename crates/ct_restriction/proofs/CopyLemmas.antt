@@ -1,8 +1,8 @@
 -- Copies of marked terms in a table that begins with `true` and `false`: the first two, one more, and what all of them are.
-use Rattle.std.proofs.Common.{◌≡◌, ℕ, zero, suc, ◌+◌, ◌<◌, ◌≤◌, ◌⊎◌, Bool, true, List, [], ◌∷◌, ◌++◌, length, map, take, drop, get_or, All, Some, slice_get, Contains, refl, sym, ap, subst, ◌∙◌, inl, inr, arith, length-append}
+use Rattle.std.proofs.Common.{◌≡◌, ℕ, zero, suc, ◌+◌, ◌<◌, Bool, true, List, [], ◌∷◌, ◌++◌, length, map, drop, get_or, Some, slice_get, Contains, refl, sym, ap, subst, ◌∙◌, inl, inr, arith, length-append, length-take}
 use Rattle.std.specs.List.{AllZip, AllByRecursion}
 use Rattle.std.proofs.lemmas.List.{take-append-drop, append-nil}
-use Rattle.std.proofs.lemmas.List.Elements.{Contains-append_left, Contains-append_right, All-from_recursion, All-map}
+use Rattle.std.proofs.lemmas.List.Elements.{Contains-append_cases, Contains-append_left, Contains-append_right}
 use Rattle.std.proofs.lemmas.Option.{same_Some, slice_get_within, slice_get-get_or}
 use Rattle.ct_sorts.specs.declared.ids.SortId.{SortId}
 use Rattle.ct_sorts.specs.Declarations.{Declarations}
@@ -10,11 +10,11 @@ use Rattle.ct_terms.specs.declared.ids.TermId.{TermId}
 use Rattle.ct_terms.specs.declared.term.Core.{Core}
 use Rattle.ct_terms.specs.Children.{core_children}
 use Rattle.ct_terms.specs.Terms.{Terms, IsOfSort, HasSort, AreSorted, Has, Makes, AreOrdered, BeginsWithTruths, truth_terms}
-use Rattle.ct_terms.specs.CoreTree.{CoreTree, subtrees, tree_layer, tree_below, term_at}
+use Rattle.ct_terms.specs.CoreTree.{CoreTree, subtrees, tree_below, term_at}
 use Rattle.ct_closure.specs.Closed.{truth_trees}
-use Rattle.ct_closure.specs.ClosedTable.{terms_at, HasTree, AreSubtermsOf}
+use Rattle.ct_closure.specs.ClosedTable.{terms_at, HasTree}
 use Rattle.ct_restriction.specs.Renamed.{renamed, number_in}
-use Rattle.ct_restriction.specs.Restricted.{IsSubtermOfOne, StandsFor, IsRestriction, IsMarked, MarksUnder, MarksSubterms, AreMarked, IsCopy, AreCopied}
+use Rattle.ct_restriction.specs.Restricted.{IsSubtermOfOne, StandsFor, IsRestriction, IsMarked, MarksUnder, AreMarked, IsCopy, AreCopied}
 use Rattle.ct_lemmas.proofs.Contained.{Contains-cons}
 use Rattle.ct_lemmas.proofs.Lists.{slice_get-prefix, slice_get-push_cases, slice_get-last}
 use Rattle.ct_lemmas.proofs.Numbers.{last_or_before}
@@ -34,6 +34,12 @@ truth_tree zero within = (0, omega arith, refl)
 truth_tree (suc zero) within = (1, omega arith, refl)
 truth_tree (suc (suc k)) within = absurd (omega (arith, within))
 
+-- and so they do in each table
+truth_stays : (table : Terms) → BeginsWithTruths table → AreOrdered table → (t : TermId) → t.0 < 2 → term_at table t ≡ term_at truth_terms t
+truth_stays table begins ordered t within =
+    let split : table ≡ truth_terms ++ drop 2 table = sym (take-append-drop 2 table) ∙ ap (λ (ts : Terms). ts ++ drop 2 table) begins in
+    ap (λ (ts : Terms). term_at ts t) split ∙ term_at-longer truth_terms (drop 2 table) t (subst AreOrdered split ordered) within
+
 -- a number that is its own index
 own_number : (t u : TermId) → slice_get (id 0 ∷ id 1 ∷ []) t.0 ≡ Some u → (t ≡ u) × (t.0 < 2)
 own_number t u at = by t.0 at
@@ -50,12 +56,10 @@ copied_truths table marks begins ordered =
     record {
       each = λ t u is_marked at.
           let own = own_number t u at in
-          let tree : term_at table t ≡ term_at truth_terms t =
-          ap (λ (ts : Terms). term_at ts t) split ∙ term_at-longer truth_terms (drop 2 table) t (subst AreOrdered split ordered) own.1 in
           subst (StandsFor table truth_terms t) own.0
           (record {
             within = own.1;
-            tree = sym tree;
+            tree = sym (truth_stays table begins ordered t own.1);
             sort = λ s h. (h.0, sym (slice_get-prefix truth_terms (drop 2 table) t.0 own.1) ∙ ap (λ (ts : Terms). slice_get ts t.0) (sym split) ∙ h.1);
           });
       only = λ u within. inl (truth_tree u.0 within);
@@ -208,21 +212,38 @@ module _ (table restricted : Terms) where
         | inr later ↦ root_stands ts us all.1 root later
       ]
 
-  -- and so does each subterm of them
-  subterm_there : AreOrdered restricted → (ts us : List TermId) → AllZip (StandsFor table restricted) ts us → (t : CoreTree) → IsSubtermOfOne (terms_at table ts) t → HasTree restricted t
-  subterm_there ordered ts us all t h =
-      let root = root_stands ts us all h.0 h.1 in
-      let found = subterm_stands restricted ordered root.0 t root.1 (subst (λ (r : CoreTree). Contains (subtrees r) t) (sym root.2) h.2) in
-      (found.0, (let within = root.1 in omega (arith, found.1)), found.2)
+-- `true` and `false` stand in each table
+truths_there : (table : Terms) → BeginsWithTruths table → AreOrdered table → (t : CoreTree) → Contains truth_trees t → HasTree table t
+unfolding tree_below
+truths_there table begins ordered t h =
+    elim (Contains-cons (term_at truth_terms (id 0)) (term_at truth_terms (id 1) ∷ []) t h) [
+      | inl first ↦ (id 0, omega (arith, ap length begins, length-take 2 table), truth_stays table begins ordered (id 0) (omega arith) ∙ first)
+      | inr rest ↦ elim (Contains-cons (term_at truth_terms (id 1)) [] t rest) [
+        | inl second ↦ (id 1, omega (arith, ap length begins, length-take 2 table), truth_stays table begins ordered (id 1) (omega arith) ∙ second)
+        | inr none ↦ absurd (omega (arith, none.1))
+      ]
+    ]
+
+-- what `true`, `false` and terms with these trees are built of stands in the new table
+subterm_there : (table restricted : Terms) → BeginsWithTruths restricted → AreOrdered restricted → (ts us : List TermId) → AllZip (StandsFor table restricted) ts us → (t : CoreTree) →
+    IsSubtermOfOne (truth_trees ++ terms_at table ts) t → HasTree restricted t
+subterm_there table restricted begins ordered ts us all t h =
+    let root : HasTree restricted h.0 =
+    elim (Contains-append_cases truth_trees (terms_at table ts) h.0 h.1) [
+      | inl truth ↦ truths_there restricted begins ordered h.0 truth
+      | inr given ↦ root_stands table restricted ts us all h.0 given
+    ] in
+    let found = subterm_stands restricted ordered root.0 t root.1 (subst (λ (r : CoreTree). Contains (subtrees r) t) (sym root.2) h.2) in
+    (found.0, (let within = root.1 in omega (arith, found.1)), found.2)
 
 -- the table of all marked terms is what is wanted
-pub restriction : (table : Terms) (roots : List TermId) (marks : List Bool) (restricted : Terms) (numbers found : List TermId) → AreOrdered restricted → AreMarked table roots marks →
+pub restriction : (table : Terms) (roots : List TermId) (marks : List Bool) (restricted : Terms) (numbers found : List TermId) → BeginsWithTruths restricted → AreOrdered restricted → AreMarked table roots marks →
     length numbers ≡ length table → AreCopied table marks restricted numbers → AllByRecursion (λ t. t.0 < length table) roots → found ≡ map (number_in numbers) roots → IsRestriction table roots restricted found
-restriction table roots marks restricted numbers found ordered marked long copied within is =
+restriction table roots marks restricted numbers found begins ordered marked long copied within is =
     let stand = subst (AllZip (StandsFor table restricted) roots) (sym is) (roots_stand table marks restricted numbers long copied roots within marked.rooted) in
     record {
       stand = stand;
-      all = subterm_there table restricted ordered roots found stand;
+      all = subterm_there table restricted begins ordered roots found stand;
       only = λ u there.
           elim (copied.only u there) [
             | inl truth ↦ (term_at restricted u, Contains-append_left truth_trees (terms_at restricted found) (term_at restricted u) truth, subtrees-itself (term_at restricted u))

@@ -1,5 +1,5 @@
 -- A table that holds `true`, `false`, the subterms of some terms of another table, and no others.
-use Rattle.std.specs.Prelude.{◌≡◌, ℕ, ◌<◌, ◌≤◌, ◌⊎◌, Bool, true, List, length, Some, slice_get, Contains}
+use Rattle.std.specs.Prelude.{◌≡◌, ℕ, ◌<◌, ◌≤◌, ◌⊎◌, Bool, true, List, ◌++◌, length, Some, slice_get, Contains}
 use Rattle.std.specs.List.{AllZip, AllByRecursion}
 use Rattle.ct_sorts.specs.declared.ids.SortId.{SortId}
 use Rattle.ct_terms.specs.declared.ids.TermId.{TermId}
@@ -24,7 +24,7 @@ pub record StandsFor (old new : Terms) (t u : TermId) : Type 0 where
 -- in it, in order.
 pub record IsRestriction (table : Terms) (roots : List TermId) (restricted : Terms) (numbers : List TermId) : Type 0 where
   pub stand : AllZip (StandsFor table restricted) roots numbers
-  pub all : (t : CoreTree) → IsSubtermOfOne (terms_at table roots) t → HasTree restricted t
+  pub all : (t : CoreTree) → IsSubtermOfOne (truth_trees ++ terms_at table roots) t → HasTree restricted t
   pub only : AreSubtermsOf restricted numbers
 
 -- the term is marked

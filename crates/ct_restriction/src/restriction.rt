@@ -6,7 +6,7 @@ ghost use Rattle.std.specs.Prelude.{◌≡◌, ◌<◌, ◌≤◌, ◌++◌, ◌
 ghost use Rattle.ct_sorts.specs.declared.ids.SortId.{SortId};
 ghost use Rattle.ct_terms.specs.Terms.{IsOfSort, AreSorted};
 ghost use Rattle.ct_closure.specs.ClosedTable.{terms_at};
-ghost use Rattle.ct_restriction.specs.Restricted.{IsRestriction, AreMarked, MarksUnder, AreCopied};
+ghost use Rattle.ct_restriction.specs.Restricted.{IsRestriction, MarksUnder, AreCopied};
 
 use crate::marking::marked;
 use crate::renaming::{numbers_in, renamed};

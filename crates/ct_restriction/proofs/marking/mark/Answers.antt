@@ -1,4 +1,4 @@
-use Rattle.std.proofs.Common.{◌∙◌, refl, inl, inr, sym, subst, take, length, arith}
+use Rattle.std.proofs.Common.{◌∙◌, refl, inl, inr, sym, subst, take, arith}
 use Rattle.std.specs.List.{Contains}
 use Rattle.std.proofs.lemmas.List.{take_all}
 use Rattle.std.proofs.lemmas.List.Elements.{All-nil, All-more, All-weaker, All-same, recursion_from_All, Contains-get_or}

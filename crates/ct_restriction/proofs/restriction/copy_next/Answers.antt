@@ -1,6 +1,5 @@
-use Rattle.std.proofs.Common.{◌≡◌, ◌∙◌, length, sym, subst, arith, true≢false}
+use Rattle.std.proofs.Common.{◌∙◌, length, sym, subst, arith, true≢false}
 use Rattle.std.proofs.lemmas.Option.{get_or_from_slice_get}
-use Rattle.ct_sorts.specs.declared.ids.SortId.{SortId}
 use Rattle.ct_terms.specs.declared.term.Core.{Core}
 use Rattle.ct_terms.specs.Terms.{HasSort, Makes}
 use Rattle.ct_restriction.specs.Restricted.{IsMarked}

@@ -1,7 +1,7 @@
-use Rattle.std.proofs.Common.{◌<◌, ◌∙◌, List, length, map, sym, ap, subst, arith}
+use Rattle.std.proofs.Common.{◌<◌, ◌∙◌, List, length, map, sym, ap, subst}
 use Rattle.std.proofs.lemmas.List.Elements.{All-from_recursion, recursion_from_All}
 use Rattle.ct_terms.specs.declared.ids.TermId.{TermId}
-use Rattle.ct_terms.specs.Terms.{IsOfSort, AreOrdered}
+use Rattle.ct_terms.specs.Terms.{IsOfSort, AreOrdered, BeginsWithTruths}
 use Rattle.ct_restriction.specs.Renamed.{number_in}
 use Rattle.ct_restriction.specs.Restricted.{IsRestriction, AreMarked}
 use Rattle.ct_restriction.proofs.CopyLemmas.{restriction, same_trees, same_sort}
@@ -11,7 +11,7 @@ use Rattle.ct_restriction.proofs.restriction.restrict.Goals.{In_ok-found}
 -- the table of the marked terms is what is wanted
 made : (c : In_ok-found) → IsRestriction c.args.table.now c.args.roots.now c.in_ok-restricted.restricted.value c.in_ok-found.found.items
 made c =
-    restriction c.args.table.now c.args.roots.now c.deref.result.now c.in_ok-restricted.restricted.value c.in_ok-restricted.numbers.items c.in_ok-found.found.items (subst AreOrdered c.deref-2.ensures c.len-terms.ensures.ordered)
+    restriction c.args.table.now c.args.roots.now c.deref.result.now c.in_ok-restricted.restricted.value c.in_ok-restricted.numbers.items c.in_ok-found.found.items (subst BeginsWithTruths c.deref-2.ensures c.len-terms.ensures.begins) (subst AreOrdered c.deref-2.ensures c.len-terms.ensures.ordered)
     (subst (AreMarked c.args.table.now c.args.roots.now) (sym c.deref.ensures.value) c.in_ok-marks.ensures.marked)
     c.in_ok-restricted.ensures.long c.in_ok-restricted.ensures.copied
     (recursion_from_All (λ (t : TermId). t.0 < length c.args.table.now) c.args.roots.now c.requires.within)
