@@ -1,6 +1,6 @@
 //! What holds of verdicts. A theorem is the contract of a function that does nothing.
 ghost use Rattle.std.specs.Prelude.{ℕ, suc, ◌<◌, ◌^◌, List};
-ghost use Rattle.ct_terms.specs.Formula.{Formula};
+ghost use Rattle.ct_formulas.specs.Formula.{Formula};
 ghost use Rattle.ct_engine.specs.declared.verdict.Spent.{Spent};
 ghost use Rattle.ct_stack.specs.Stack.{Context};
 ghost use Rattle.ct_step.specs.Verdict.{IsSpent};
