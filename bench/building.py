@@ -28,12 +28,13 @@ def with_those_below(crates):
 
 
 def laid_out(folder, name, crates, sources):
-    """The place of the program `name` in the folder, beside copies of these crates.
+    """The place of the program `name` in the folder, beside copies of these crates and of those below them.
 
     Its files lie in bench/`name` under other names, since the gate takes sources in crates alone: `sources` says
     which is which.
     """
     below = os.path.join(folder, "crates")
+    crates = with_those_below(crates)
     for crate in crates:
         shutil.copytree(os.path.join("crates", crate), os.path.join(below, crate), ignore=shutil.ignore_patterns("out"))
     place = os.path.join(below, name)
@@ -49,8 +50,8 @@ def laid_out(folder, name, crates, sources):
 
 
 def built(folder, name, crates, sources, words):
-    """The program `name`, built in the folder over copies of these crates. It is run once with these words, and must end
-    with status 0."""
+    """The program `name`, built in the folder over copies of these crates. It is run once with these words, and must end with
+    status 0."""
     place = laid_out(folder, name, crates, sources)
     run = subprocess.run(["rt", "run", "--", *words], cwd=place, stdout=subprocess.PIPE, check=False)
     program = os.path.join(place, "out", name)
@@ -61,7 +62,7 @@ def built(folder, name, crates, sources, words):
 
 def tried(folder, name, crates, sources, inputs):
     """What the program `name` writes, without any proof, on each input of a list of names and texts, by name."""
-    place = laid_out(folder, name, with_those_below(crates), sources)
+    place = laid_out(folder, name, crates, sources)
     cases = os.path.join(folder, "cases")
     os.makedirs(cases)
     for case, text in inputs:
