@@ -32,10 +32,10 @@ same_at : Option TermId → Option TermId → Bool
 same_at (Some r) (Some s) = nat_eq r.0 s.0
 same_at p q = false
 
-same_class : List TermId → TermId → TermId → Bool
+pub same_class : List TermId → TermId → TermId → Bool
 same_class reps x y = same_at (slice_get reps x.0) (slice_get reps y.0)
 
-class_of : (reps : List TermId) (x y : TermId) → same_class reps x y ≡ true → InOneClass reps x y
+pub class_of : (reps : List TermId) (x y : TermId) → same_class reps x y ≡ true → InOneClass reps x y
 unfolding same_class same_at
 class_of reps x y h = at (slice_get reps x.0) (slice_get reps y.0) refl refl h
   where
@@ -44,7 +44,7 @@ class_of reps x y h = at (slice_get reps x.0) (slice_get reps y.0) refl refl h
     at (Some r) None p q e = absurd (true≢false (sym e))
     at None q p e h = absurd (true≢false (sym h))
 
-test_of : (reps : List TermId) (x y : TermId) → InOneClass reps x y → same_class reps x y ≡ true
+pub test_of : (reps : List TermId) (x y : TermId) → InOneClass reps x y → same_class reps x y ≡ true
 unfolding same_class same_at
 test_of reps x y h = rw (h.1, h.2) ((Decides-eqb h.0.0 h.0.0).1 refl)
 

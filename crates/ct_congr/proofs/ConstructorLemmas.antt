@@ -26,12 +26,6 @@ below_cases t u below = elim (same_or_other u.0 t.0) [
 ]
 
 module _ {S : Type 0} (terms : Terms) (reps : List TermId) where
-  pub IsConIndex-none : (index : IndexMap Core TermId S) → ((key : Core) → get same_core index key ≡ None) → IsConIndex terms reps 0 index
-  IsConIndex-none index empty = record {
-    listed = λ t r c args below has at. absurd (omega (arith, below));
-    only = λ r u c under. absurd (none-some u (sym (empty (class_key c r)) ∙ under));
-  }
-
   pub IsConIndex-more : (index more : IndexMap Core TermId S) (t u r : TermId) (c : CtorId) (args : List TermId) → Has terms (Con c args) t.0 → slice_get reps t.0 ≡ Some r → IsEntered index more (class_key c r) t u → IsConIndex terms reps t.0 index → IsConIndex terms reps (t.0 + 1) more
   IsConIndex-more index more t u r c args has at entered old = record {
     listed = λ v s k ys below stands rep. elim (below_cases t v below) [
@@ -160,15 +154,6 @@ AreShapes-more terms reps t r shapes shape at mine old s other at_s = elim (same
       IsShape-skip terms reps s t other (λ c built. apart (ap (λ q. q.0) (same_Some s r (sym built.2 ∙ at))))
       (old s other (sym (slice_get-set_other shapes r.0 s.0 shape apart) ∙ at_s))
 ]
-
-pub AreShapes-none : (terms : Terms) (reps : List TermId) (shapes : List Shape) → ((k : ℕ) (shape : Shape) → slice_get shapes k ≡ Some shape → shape ≡ record { first = None; other = None }) → AreShapes terms reps 0 shapes
-AreShapes-none terms reps shapes none r shape at =
-    let is = none r.0 shape at in
-    record {
-      first = λ t e. absurd (none-some t (sym (ap (λ (s : Shape). s.first) is) ∙ e));
-      other = λ t e. absurd (none-some t (sym (ap (λ (s : Shape). s.other) is) ∙ e));
-      all = λ t c below built. absurd (omega (arith, below));
-    }
 
 -- where the first is of the constructor and there is no other, all are
 pub different-none : (terms : Terms) (reps : List TermId) (n : ℕ) (r : TermId) (shape : Shape) (f : TermId) (c k : CtorId) (t : TermId) (args : List TermId) → shape.first ≡ Some f → Has terms (Con c args) f.0 → shape.other ≡ None → IsShape terms reps n r shape → t.0 < n → IsBuiltIn terms reps r k t → c ≡ k

@@ -32,7 +32,7 @@ AreOfOneSort terms x y = (s : SortId) × IsOfSort terms x s × IsOfSort terms y 
 abbrev pub KeepsSort : Terms → TermId → TermId → Type 0
 KeepsSort terms x y = (s : SortId) → IsOfSort terms x s → IsOfSort terms y s
 
-slice_get-of_take : {X : Type 0} (n : ℕ) (xs : List X) (k : ℕ) (x : X) → slice_get (take n xs) k ≡ Some x → (k < n) × (slice_get xs k ≡ Some x)
+pub slice_get-of_take : {X : Type 0} (n : ℕ) (xs : List X) (k : ℕ) (x : X) → slice_get (take n xs) k ≡ Some x → (k < n) × (slice_get xs k ≡ Some x)
 slice_get-of_take zero xs k x at = absurd (none-some x at)
 slice_get-of_take (suc n) [] k x at = absurd (none-some x at)
 slice_get-of_take (suc n) (z ∷ xs) zero x at = (omega arith, at)

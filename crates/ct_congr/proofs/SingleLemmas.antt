@@ -10,17 +10,19 @@ use Rattle.ct_terms.specs.Terms.{Terms, IsOfSort}
 use Rattle.ct_card.specs.declared.size.Size.{Size}
 use Rattle.ct_card.specs.declared.size.Size.TheVariants.{One}
 use Rattle.ct_card.specs.Cardinality.{IsSingle, HasSize}
-use Rattle.ct_congr.specs.Partition.{InOneClass}
+use Rattle.ct_rules.specs.Rules.{Equations}
 use Rattle.ct_congr.specs.Rules.{IsSingular, AreSingleSorts, IsFirst}
-use Rattle.ct_congr.proofs.ClassLemmas.{InOneClass-sym, InOneClass-trans}
 
 -- each stored term is of its sort, which has one value
 abbrev pub AreFirsts : Terms → List Bool → List (Option TermId) → Type 0
 AreFirsts terms single firsts = (s : SortId) (u : TermId) → slice_get firsts s.0 ≡ Some (Some u) → IsOfSort terms u s × (slice_get single s.0 ≡ Some true)
 
--- each term below a number that is of such a sort is of one class with the stored one
-abbrev pub AreSingled : Terms → List Bool → List TermId → List (Option TermId) → ℕ → Type 0
-AreSingled terms single reps firsts n = (t : TermId) (s : SortId) → t.0 < n → IsOfSort terms t s → slice_get single s.0 ≡ Some true → (u : TermId) × (slice_get firsts s.0 ≡ Some (Some u)) × InOneClass reps t u
+-- each term below a number that is of such a sort is known to be equal to the stored one
+abbrev pub AreSingled : Terms → List Bool → Equations → List (Option TermId) → ℕ → Type 0
+AreSingled terms single known firsts n = (t : TermId) (s : SortId) → t.0 < n → IsOfSort terms t s → slice_get single s.0 ≡ Some true → (u : TermId) × (slice_get firsts s.0 ≡ Some (Some u)) × known t u
+
+pub AreSingled-wider : (terms : Terms) (single : List Bool) (known wider : Equations) (firsts : List (Option TermId)) (n : ℕ) → ((x y : TermId) → known x y → wider x y) → AreSingled terms single known firsts n → AreSingled terms single wider firsts n
+AreSingled-wider terms single known wider firsts n each all t s below of one = let h = all t s below of one in (h.0, h.1, each t h.0 h.2)
 
 -- a term has one sort
 one_sort : (terms : Terms) (t : TermId) (r s : SortId) → IsOfSort terms t r → IsOfSort terms t s → r ≡ s
@@ -54,14 +56,14 @@ module _ (terms : Terms) (single : List Bool) (old new : List (Option TermId)) (
     ]
   ]
 
-  pub AreSingled-more : (reps : List TermId) → AreSingled terms single reps old t.0 → InOneClass reps t first → IsFirst single old new s t first → AreSingled terms single reps new (t.0 + 1)
-  AreSingled-more reps singled equal (inl h) v r below of_sort one = elim (below_cases t v below) [
+  pub AreSingled-more : (known : Equations) → AreSingled terms single known old t.0 → known t first → IsFirst single old new s t first → AreSingled terms single known new (t.0 + 1)
+  AreSingled-more known singled equal (inl h) v r below of_sort one = elim (below_cases t v below) [
     | inl before ↦ let p = singled v r before of_sort one in (p.0, ap (λ list. slice_get list r.0) h.1 ∙ p.1, p.2)
     | inr is ↦
         let same : s ≡ r = one_sort terms v s r (subst (λ (w : TermId). IsOfSort terms w s) is sorted) of_sort in
         absurd (h.0 (ap (λ (q : SortId). slice_get single q.0) same ∙ one))
   ]
-  AreSingled-more reps singled equal (inr h) v r below of_sort one = elim (same_or_other r.0 s.0) [
+  AreSingled-more known singled equal (inr h) v r below of_sort one = elim (same_or_other r.0 s.0) [
     | inl e ↦ elim (below_cases t v below) [
       | inl before ↦ let p = singled v r before of_sort one in elim h.1 [
         | inl q ↦ (p.0, ap (λ list. slice_get list r.0) q.1 ∙ p.1, p.2)
@@ -72,7 +74,7 @@ module _ (terms : Terms) (single : List Bool) (old new : List (Option TermId)) (
             | inl q ↦ ap (λ list. slice_get list s.0) q.1 ∙ q.0
             | inr q ↦ q.1 ∙ ap (λ (w : TermId). Some (Some w)) (sym q.0)
           ] in
-          (first, ap (slice_get new) e ∙ here, subst (λ (w : TermId). InOneClass reps w first) is equal)
+          (first, ap (slice_get new) e ∙ here, subst (λ (w : TermId). known w first) is equal)
     ]
     | inr other ↦ elim (below_cases t v below) [
       | inl before ↦ let p = singled v r before of_sort one in elim h.1 [
@@ -86,13 +88,13 @@ module _ (terms : Terms) (single : List Bool) (old new : List (Option TermId)) (
   ]
 
 -- where all are with the stored ones, two of one sort are of one class
-pub IsSingular-all : (d : Declarations) (terms : Terms) (single : List Bool) (reps : List TermId) (firsts : List (Option TermId)) → AreSingleSorts d single → AreSingled terms single reps firsts (length terms) → IsSingular d terms (InOneClass reps)
-IsSingular-all d terms single reps firsts sorts all x y rule =
+pub IsSingular-all : (d : Declarations) (terms : Terms) (single : List Bool) (known : Equations) (firsts : List (Option TermId)) → ((x y : TermId) → known x y → known y x) → ((x y z : TermId) → known x y → known y z → known x z) → AreSingleSorts d single → AreSingled terms single known firsts (length terms) → IsSingular d terms known
+IsSingular-all d terms single known firsts back through sorts all x y rule =
     let one = (sorts rule.sort.0).1 rule.single in
     let p = all x rule.sort (slice_get_within terms x.0 (rule.left.0, rule.sort) rule.left.1) rule.left one in
     let q = all y rule.sort (slice_get_within terms y.0 (rule.right.0, rule.sort) rule.right.1) rule.right one in
     let same : p.0 ≡ q.0 = same_Some p.0 q.0 (same_Some (Some p.0) (Some q.0) (sym p.1 ∙ q.1)) in
-    InOneClass-trans reps x q.0 y (subst (InOneClass reps x) same p.2) (InOneClass-sym reps y q.0 q.2)
+    through x q.0 y (subst (known x) same p.2) (back y q.0 q.2)
 
 -- ---- which sorts have one value
 

@@ -1,18 +1,13 @@
 -- Stored constructor terms of classes, and lists of merges that are added one after the other.
-use Rattle.std.proofs.Common.{◌≡◌, ◌<◌, List, [], ◌∷◌, ◌++◌, length, set, Option, slice_get, get_or, Some, None, refl, sym, ap, subst, ◌∙◌, inl, inr, arith, append_assoc}
+use Rattle.std.proofs.Common.{◌≡◌, ◌<◌, List, [], ◌∷◌, ◌++◌, length, Option, slice_get, get_or, Some, None, refl, sym, ap, subst, ◌∙◌, inl, inr, arith, append_assoc}
 use Rattle.std.proofs.lemmas.List.{append-nil}
-use Rattle.std.proofs.lemmas.Option.{none-some, same_Some, slice_get_within, slice_get-get_or}
-use Rattle.ct_lemmas.proofs.Lists.{slice_get-push_cases, slice_get-set_other, slice_get-set_same}
-use Rattle.ct_sorts.specs.Declarations.{Declarations}
+use Rattle.std.proofs.lemmas.Option.{same_Some, slice_get_within, slice_get-get_or}
 use Rattle.ct_terms.specs.declared.ids.TermId.{TermId}
-use Rattle.ct_terms.specs.declared.ids.Lit.{Lit}
 use Rattle.ct_terms.specs.Terms.{Terms}
-use Rattle.ct_rules.specs.declared.equation.Equation.{Equation}
 use Rattle.ct_congr.specs.declared.merge.Merge.{Merge}
-use Rattle.ct_congr.specs.Partition.{AreAlone, IsUnion}
-use Rattle.ct_congr.specs.State.{IsConstructorTerm}
-use Rattle.ct_congr.specs.Sound.{IsConOf, AreCons, IsJoined, IsSound}
-use Rattle.ct_congr.specs.Grown.{IsLater, IsOwnCon, AreOwnCons, AreConsJoined}
+use Rattle.ct_congr.specs.Partition.{IsUnion}
+use Rattle.ct_congr.specs.Sound.{IsConOf, AreCons, IsJoined}
+use Rattle.ct_congr.specs.Grown.{IsLater, AreConsJoined}
 use Rattle.ct_congr.proofs.PartitionLemmas.{relabelled_from, term_cases}
 
 module _ (terms : Terms) (old new : List TermId) (a b winner loser : TermId) (union : IsUnion old new a b winner loser) where
@@ -65,30 +60,6 @@ module _ (terms : Terms) (old new : List TermId) (a b winner loser : TermId) (un
           subst (IsConOf terms new winner) same (from_winner w (each winner (Some w) union.winner_is had))
       at_winner None had now = from_loser c (each winner None union.winner_is had) (each loser c union.loser_is (sym (joined.comes had) ∙ now))
 
--- ---- terms alone
-
-pub IsSound-alone : (d : Declarations) (terms : Terms) (hyps : List Lit) (given : List Equation) (reps : List TermId) (cons : List (Option TermId)) (merges : List Merge) → AreAlone (length terms) reps → length cons ≡ length terms → AreOwnCons terms cons → merges ≡ [] → IsSound d terms hyps given reps cons merges
-IsSound-alone d terms hyps given reps cons merges alone cons_long own empty =
-    subst (IsSound d terms hyps given reps cons) (sym empty) (record {
-      long = alone.long;
-      cons_long = cons_long;
-      stored = λ r c is at. con_of r c (own r c at);
-      connected = λ x y h. ([], same_of x h.0 h.1 ∙ sym (same_of y h.0 h.2));
-      held = λ m has. absurd (omega (arith, has.1));
-      justified = λ k m at. absurd (none-some m at);
-      derives = λ m has. absurd (omega (arith, has.1));
-    })
-  where
-    same_of : (x r : TermId) → slice_get reps x.0 ≡ Some r → x ≡ r
-    same_of x r at = same_Some x r (sym (alone.own x (omega (arith, slice_get_within reps x.0 r at, alone.long))) ∙ at)
-
-    con_of : (r : TermId) (c : Option TermId) → IsOwnCon terms r c → IsConOf terms reps r c
-    con_of r None none = λ t at built. none (subst (IsConstructorTerm terms) (same_of t r at) built)
-    con_of r (Some c) h = (subst (λ (s : TermId). slice_get reps s.0 ≡ Some r) (sym h.0) (own_of r h.1), subst (IsConstructorTerm terms) (sym h.0) h.1)
-      where
-        own_of : (s : TermId) → IsConstructorTerm terms s → slice_get reps s.0 ≡ Some s
-        own_of s built = alone.own s (slice_get_within terms s.0 _ built.2.1)
-
 -- ---- lists of merges
 
 pub IsLater-same : (reps : List TermId) (merges : List Merge) → IsLater reps reps merges merges
@@ -116,32 +87,4 @@ IsLater-trans old now new merges between later first second = record {
   no_more = omega (arith, second.no_more, first.no_more);
   more = first.more ++ second.more;
   grown = second.grown ∙ ap (λ list. list ++ second.more) first.grown ∙ append_assoc merges first.more second.more;
-}
-
--- one constructor term more
-pub AreOwnCons-push : (terms : Terms) (cons : List (Option TermId)) (t : TermId) (c : Option TermId) → length cons ≡ t.0 → IsOwnCon terms t c → AreOwnCons terms cons → AreOwnCons terms (cons ++ c ∷ [])
-AreOwnCons-push terms cons t c long own old u d at = elim (slice_get-push_cases cons c d u.0 at) [
-  | inl h ↦ old u d h
-  | inr h ↦
-      let e : t.0 ≡ u.0 = sym long ∙ sym h.0 in
-      let is : t ≡ u = λ i. record { 0 = e i } in
-      subst (λ (q : TermId). IsOwnCon terms q d) is (subst (IsOwnCon terms t) h.1 own)
-]
-
-pub AreOwnCons-none : (terms : Terms) (cons : List (Option TermId)) → cons ≡ [] → AreOwnCons terms cons
-AreOwnCons-none terms cons empty t c at = absurd (none-some c (ap (λ list. slice_get list t.0) (sym empty) ∙ at))
-
--- what stands at the first is written where nothing stood there
-pub AreConsJoined-set : (cons : List (Option TermId)) (winner loser : TermId) (c : Option TermId) → winner.0 < length cons → slice_get cons winner.0 ≡ Some None → slice_get cons loser.0 ≡ Some c → AreConsJoined cons (set cons winner.0 c) winner loser
-AreConsJoined-set cons winner loser c within none at = record {
-  others = λ k other. slice_get-set_other cons winner.0 k c other;
-  stays = λ d had. absurd (none-some d (same_Some None (Some d) (sym none ∙ had)));
-  comes = λ had. slice_get-set_same cons winner.0 c within ∙ sym at;
-}
-
-pub AreConsJoined-same : (cons : List (Option TermId)) (winner loser : TermId) (d : TermId) → slice_get cons winner.0 ≡ Some (Some d) → AreConsJoined cons cons winner loser
-AreConsJoined-same cons winner loser d had = record {
-  others = λ k other. refl;
-  stays = λ e at. at;
-  comes = λ none. absurd (none-some d (same_Some None (Some d) (sym none ∙ had)));
 }

@@ -1,10 +1,8 @@
 -- How classes change while merges are added, and what adding a list of merges needs.
 use Rattle.std.specs.Prelude.{◌≡◌, ℕ, ◌<◌, ◌≤◌, List, ◌++◌, length, Option, Some, None, slice_get}
 use Rattle.ct_terms.specs.declared.ids.TermId.{TermId}
-use Rattle.ct_terms.specs.Terms.{Terms}
 use Rattle.ct_congr.specs.declared.merge.Merge.{Merge}
 use Rattle.ct_congr.specs.Partition.{InOneClass}
-use Rattle.ct_congr.specs.State.{IsConstructorTerm}
 use Rattle.ct_congr.specs.Sound.{roots}
 
 -- there are more merges at the end, and what was of one class still is
@@ -22,14 +20,6 @@ AreInside n found = (k : ℕ) (m : Merge) → slice_get found k ≡ Some m → (
 -- no merge has sides of one class
 abbrev pub AreApart : List TermId → List Merge → Type 0
 AreApart reps found = (k : ℕ) (m : Merge) → slice_get found k ≡ Some m → InOneClass reps m.left m.right → ⊥
-
--- where the term is a constructor term it stands there, and else nothing does
-abbrev pub IsOwnCon : Terms → TermId → Option TermId → Type 0
-IsOwnCon terms t None = IsConstructorTerm terms t → ⊥
-IsOwnCon terms t (Some c) = (c ≡ t) × IsConstructorTerm terms t
-
-abbrev pub AreOwnCons : Terms → List (Option TermId) → Type 0
-AreOwnCons terms cons = (t : TermId) (c : Option TermId) → slice_get cons t.0 ≡ Some c → IsOwnCon terms t c
 
 -- what stood at the first stays, and where nothing did it is what stands at the second
 pub record AreConsJoined (old new : List (Option TermId)) (winner loser : TermId) : Type 0 where

@@ -6,6 +6,13 @@ pub mod Normal
 pub mod Index
 pub mod Rules
 pub mod State
+pub mod Outside
 pub mod Sound
 pub mod Grown
 pub mod Held
+pub mod Joined
+pub mod Covered
+pub mod Step
+pub mod History
+pub mod Kept
+pub mod Marks

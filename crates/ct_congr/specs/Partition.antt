@@ -1,15 +1,10 @@
 -- Classes of terms, by the representative of each term.
-use Rattle.std.specs.Prelude.{◌≡◌, ℕ, ◌<◌, ◌⊎◌, List, length, Option, Some, None, slice_get, Contains, Vec}
+use Rattle.std.specs.Prelude.{◌≡◌, ℕ, ◌⊎◌, List, length, Option, Some, None, slice_get, Contains}
 use Rattle.ct_terms.specs.declared.ids.TermId.{TermId}
 
 -- the two terms have one representative
 abbrev pub InOneClass : List TermId → TermId → TermId → Type 0
 InOneClass reps x y = (r : TermId) × (slice_get reps x.0 ≡ Some r) × (slice_get reps y.0 ≡ Some r)
-
--- so many terms, each its own representative
-pub record AreAlone (count : ℕ) (reps : List TermId) : Type 0 where
-  pub long : length reps ≡ count
-  pub own : (x : TermId) → x.0 < count → slice_get reps x.0 ≡ Some x
 
 -- no term stands twice in the list
 abbrev pub AreDistinct : List TermId → Type 0
@@ -20,18 +15,6 @@ pub record IsClass (reps : List TermId) (r : TermId) (members : List TermId) : T
   pub all : (t : TermId) → slice_get reps t.0 ≡ Some r → Contains members t
   pub only : (t : TermId) → Contains members t → slice_get reps t.0 ≡ Some r
   pub once : AreDistinct members
-
--- a representative is its own, and there is a row with the members of the class of each
-pub record IsPartition {A : Type 0} (reps : List TermId) (rows : List (Vec TermId A)) : Type 0 where
-  pub long : length rows ≡ length reps
-  pub own : (x r : TermId) → slice_get reps x.0 ≡ Some r → slice_get reps r.0 ≡ Some r
-  pub classes : (r : TermId) (row : Vec TermId A) → slice_get rows r.0 ≡ Some row → IsClass reps r row.items
-
--- the terms of the list have this representative, and the others have theirs
-pub record IsRelabelling (before now : List TermId) (rep : TermId) (done : List TermId) : Type 0 where
-  pub long : length now ≡ length before
-  pub given : (t : TermId) → Contains done t → slice_get now t.0 ≡ Some rep
-  pub others : (t : TermId) → (Contains done t → ⊥) → slice_get now t.0 ≡ slice_get before t.0
 
 -- the terms with the second representative have the first one, and the others have theirs
 pub record IsRelabelled (old new : List TermId) (winner loser : TermId) : Type 0 where

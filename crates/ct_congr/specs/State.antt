@@ -1,5 +1,5 @@
 -- What contracts see of congruence classes, and what closing them under the rules comes to.
-use Rattle.std.specs.Prelude.{◌≡◌, ◌<◌, ◌↔◌, List, ◌++◌, length, Option}
+use Rattle.std.specs.Prelude.{◌≡◌, ℕ, ◌<◌, ◌≤◌, ◌↔◌, List, ◌++◌, length, Option, Some, slice_get}
 use Rattle.ct_sorts.specs.declared.ids.CtorId.{CtorId}
 use Rattle.ct_sorts.specs.Declarations.{Declarations}
 use Rattle.ct_terms.specs.declared.ids.TermId.{TermId}
@@ -14,8 +14,17 @@ use Rattle.ct_congr.specs.declared.merge.Closed.{Closed}
 use Rattle.ct_congr.specs.declared.merge.Closed.TheVariants.{Quiet, Clash}
 use Rattle.ct_congr.specs.Partition.{InOneClass}
 
+-- what stood when a mark was set
+pub record Marked : Type 0 where
+  pub hypotheses : List Lit
+  pub given : List Equation
+  pub merges : List Merge
+  pub reps : List TermId
+  pub cons : List (Option TermId)
+
 -- congruence classes: the declarations, the terms and the hypotheses that they are of, the equations that were given from
--- outside and all merges, both in order, and for each term its representative and a constructor term of its class
+-- outside and all merges, both in order, for each term its representative and a constructor term of its class, and what stood
+-- at each mark that is kept, the first one first
 pub record State : Type 0 where
   pub declarations : Declarations
   pub terms : Terms
@@ -24,16 +33,33 @@ pub record State : Type 0 where
   pub merges : List Merge
   pub reps : List TermId
   pub cons : List (Option TermId)
+  pub marks : List Marked
+
+-- what stands now
+abbrev pub marked_now : State → Marked
+marked_now state = record { hypotheses = state.hypotheses; given = state.given; merges = state.merges; reps = state.reps; cons = state.cons }
+
+-- the classes as they were at a mark, with these marks
+abbrev pub state_at : State → Marked → List Marked → State
+state_at state at marks = record { declarations = state.declarations; terms = state.terms; hypotheses = at.hypotheses; given = at.given; merges = at.merges; reps = at.reps; cons = at.cons; marks = marks }
+
+-- the mark is the first of those that are kept after so many merges, with this number
+pub record IsFirstMark (marks : List Marked) (merges : ℕ) (k : ℕ) (at : Marked) : Type 0 where
+  pub stands : slice_get marks k ≡ Some at
+  pub long : length at.merges ≡ merges
+  pub first : (j : ℕ) (other : Marked) → slice_get marks j ≡ Some other → length other.merges ≡ merges → k ≤ j
 
 -- the two terms are of one class
 abbrev pub AreEqual : State → TermId → TermId → Type 0
 AreEqual state x y = InOneClass state.reps x y
 
--- the two hold terms of the same table over the same declarations and hypotheses, and the later has at least the merges
+-- the two hold terms of the same table over the same declarations and hypotheses with the same marks, and the later has at
+-- least the merges
 pub record Continues (later earlier : State) : Type 0 where
   pub declarations : later.declarations ≡ earlier.declarations
   pub terms : later.terms ≡ earlier.terms
   pub hypotheses : later.hypotheses ≡ earlier.hypotheses
+  pub marks : later.marks ≡ earlier.marks
   pub more : List Merge
   pub merges : later.merges ≡ earlier.merges ++ more
 

@@ -4,17 +4,22 @@ ghost use Rattle.ct_terms.specs.declared.ids.TermId.{TermId};
 ghost use Rattle.ct_terms.specs.declared.ids.Lit.{Lit};
 ghost use Rattle.ct_terms.specs.Terms.{Terms, AreSorted};
 ghost use Rattle.ct_rules.specs.declared.equation.Equation.{Equation};
+ghost use Rattle.ct_congr.specs.declared.merge.Closed.TheVariants.{Quiet};
 ghost use Rattle.ct_congr.specs.Partition.{InOneClass};
 ghost use Rattle.ct_congr.specs.Rules.{AreShapes, AreSingleSorts, AreRulesClosed};
 ghost use Rattle.ct_congr.specs.State.{IsVerdict};
-ghost use Rattle.ct_congr.specs.Grown.{IsLater};
-ghost use Rattle.ct_congr.specs.Held.{AreHeld};
+ghost use Rattle.ct_congr.specs.Sound.{IsSound};
+ghost use Rattle.ct_congr.specs.History.{IsFurther};
+ghost use Rattle.ct_congr.specs.Kept.{IsKept};
 
+use crate::adding::Progress;
 use crate::constructors::{Shape, shapes};
+use crate::covered::covering;
 use crate::error::CongrError;
 use crate::merge::Closed;
+use crate::running::{is_quiet, run};
 use crate::saturate::saturate;
-use crate::store::Store;
+use crate::store::reps;
 use ct_sorts::Signature;
 use ct_terms::{TermId, TermTable};
 use std::alloc::Global;
@@ -26,21 +31,84 @@ pub(crate) fn settle(
     sig: &Signature,
     table: &TermTable,
     single: &[bool],
-    store: &mut Store,
+    progress: &mut Progress,
 ) -> Result<Closed, CongrError>
     requires sorted { AreSorted sig.now table.now }
     requires single { AreSingleSorts sig.now single.now }
-    requires long { length store.old.parts ≡ length table.now }
-    requires cons_long { length store.old.cons.items ≡ length table.now }
-    ensures later { IsLater store.old.parts store.new.parts store.old.merges.items store.new.merges.items }
-    ensures held { (hyps : List Lit) (given : List Equation)
-        → AreHeld sig.now table.now single.now hyps given store.old.parts store.old.cons.items store.old.merges.items
-        → AreHeld sig.now table.now single.now hyps given store.new.parts store.new.cons.items store.new.merges.items }
-    ensures closed { OnOk result (AreRulesClosed sig.now table.now (InOneClass store.new.parts)) }
-    ensures verdict { IfOk result (IsVerdict table.now store.new.parts) }
+    requires kept { IsKept sig.now table.now progress.old.store.parts progress.old.keys progress.old.waiting.items progress.old.covered }
+    ensures kept { IsKept sig.now table.now progress.new.store.parts progress.new.keys progress.new.waiting.items progress.new.covered }
+    ensures further { IsFurther table.now progress.old.store.parts progress.new.store.parts progress.old.store.merges.items progress.new.store.merges.items progress.old.keys progress.new.keys }
+    ensures sound { (hyps : List Lit) (given : List Equation)
+        → IsSound sig.now table.now hyps given progress.old.store.parts.now.reps progress.old.store.parts.now.cons progress.old.store.merges.items
+        → IsSound sig.now table.now hyps given progress.new.store.parts.now.reps progress.new.store.parts.now.cons progress.new.store.merges.items }
+    ensures closed { OnOk result (AreRulesClosed sig.now table.now (InOneClass progress.new.store.parts.now.reps)) }
+    ensures verdict { IfOk result (IsVerdict table.now progress.new.store.parts.now.reps) }
 {
-    saturate(alloc, sig, table, single, store)?;
-    let shapes = shapes(alloc, table, store.parts.reps())?;
+    let answer = settle_or_clash(alloc, sig, table, single, progress)?;
+    if is_quiet(answer) {
+        return Ok(answer);
+    }
+    let answer = settle_slowly(alloc, sig, table, single, progress)?;
+    Ok(answer)
+}
+
+/// The same, but stops where two terms of different constructors meet: then some rule may apply.
+pub(crate) fn settle_or_clash(
+    alloc: Global,
+    sig: &Signature,
+    table: &TermTable,
+    single: &[bool],
+    progress: &mut Progress,
+) -> Result<Closed, CongrError>
+    requires sorted { AreSorted sig.now table.now }
+    requires single { AreSingleSorts sig.now single.now }
+    requires kept { IsKept sig.now table.now progress.old.store.parts progress.old.keys progress.old.waiting.items progress.old.covered }
+    ensures kept { IsKept sig.now table.now progress.new.store.parts progress.new.keys progress.new.waiting.items progress.new.covered }
+    ensures further { IsFurther table.now progress.old.store.parts progress.new.store.parts progress.old.store.merges.items progress.new.store.merges.items progress.old.keys progress.new.keys }
+    ensures sound { (hyps : List Lit) (given : List Equation)
+        → IsSound sig.now table.now hyps given progress.old.store.parts.now.reps progress.old.store.parts.now.cons progress.old.store.merges.items
+        → IsSound sig.now table.now hyps given progress.new.store.parts.now.reps progress.new.store.parts.now.cons progress.new.store.merges.items }
+    ensures closed { IfOk result (λ answer. answer ≡ Quiet → AreRulesClosed sig.now table.now (InOneClass progress.new.store.parts.now.reps)) }
+    ensures verdict { IfOk result (IsVerdict table.now progress.new.store.parts.now.reps) }
+{
+    let fast = progress.covered;
+    if !fast {
+        let answer = settle_slowly(alloc, sig, table, single, progress)?;
+        return Ok(answer);
+    }
+    covering();
+    prove!(table.len() >= 2);
+    progress.covered = false;
+    let answer = run(alloc, sig, table, progress)?;
+    prove!(progress.store.parts.unions() >= 0);
+    prove!(progress.keys.len() >= 0);
+    progress.covered = is_quiet(answer);
+    Ok(answer)
+}
+
+// Closes the classes by rounds over all terms, so that a long chain of consequences takes as many rounds.
+fn settle_slowly(
+    alloc: Global,
+    sig: &Signature,
+    table: &TermTable,
+    single: &[bool],
+    progress: &mut Progress,
+) -> Result<Closed, CongrError>
+    requires sorted { AreSorted sig.now table.now }
+    requires single { AreSingleSorts sig.now single.now }
+    requires kept { IsKept sig.now table.now progress.old.store.parts progress.old.keys progress.old.waiting.items progress.old.covered }
+    ensures kept { IsKept sig.now table.now progress.new.store.parts progress.new.keys progress.new.waiting.items progress.new.covered }
+    ensures further { IsFurther table.now progress.old.store.parts progress.new.store.parts progress.old.store.merges.items progress.new.store.merges.items progress.old.keys progress.new.keys }
+    ensures sound { (hyps : List Lit) (given : List Equation)
+        → IsSound sig.now table.now hyps given progress.old.store.parts.now.reps progress.old.store.parts.now.cons progress.old.store.merges.items
+        → IsSound sig.now table.now hyps given progress.new.store.parts.now.reps progress.new.store.parts.now.cons progress.new.store.merges.items }
+    ensures closed { OnOk result (AreRulesClosed sig.now table.now (InOneClass progress.new.store.parts.now.reps)) }
+    ensures verdict { IfOk result (IsVerdict table.now progress.new.store.parts.now.reps) }
+{
+    prove!(progress.store.parts.unions() >= 0);
+    progress.covered = false;
+    saturate(alloc, sig, table, single, &mut progress.store)?;
+    let shapes = shapes(alloc, table, reps(&progress.store))?;
     Ok(verdict(shapes.as_slice()))
 }
 

@@ -1,7 +1,7 @@
 //! Constructor terms by their classes, and the rule that constructors are injective.
-ghost use Rattle.std.specs.Prelude.{◌≡◌, ◌<◌, ◌+◌, [], ℕ, List, length, IfOk, OnOk, IfSome, IfNone, MatchBool, Some, None, All, slice_get};
+ghost use Rattle.std.specs.Prelude.{◌≡◌, ◌<◌, ◌+◌, [], ℕ, List, length, IfOk, OnOk, IfSome, IfNone, MatchBool, Some, None, slice_get};
 ghost use Rattle.ct_sorts.specs.declared.ids.CtorId.{CtorId};
-ghost use Rattle.ct_sorts.specs.Declarations.{Declarations, Constructor, IsConstructor};
+ghost use Rattle.ct_sorts.specs.Declarations.{Constructor, IsConstructor};
 ghost use Rattle.ct_terms.specs.declared.ids.TermId.{TermId};
 ghost use Rattle.ct_terms.specs.declared.ids.Lit.{Lit};
 ghost use Rattle.ct_terms.specs.declared.term.Core.TheVariants.{Con};

@@ -1,6 +1,7 @@
 //! The error of this crate.
 ghost use Rattle.std.specs.Prelude.{⊤};
 
+use ct_equivalence::EquivalenceError;
 use std::alloc::{AllocError, AllocFailed};
 
 /// Memory ran out. Nothing else goes wrong in this crate.
@@ -19,6 +20,14 @@ impl<T: Drop> From<AllocFailed<T>> for CongrError {
     ghost from_gives = { λ _ e. ⊤ };
 
     fn from(_error: AllocFailed<T>) -> CongrError {
+        CongrError
+    }
+}
+
+impl From<EquivalenceError> for CongrError {
+    ghost from_gives = { λ _ e. ⊤ };
+
+    fn from(_error: EquivalenceError) -> CongrError {
         CongrError
     }
 }

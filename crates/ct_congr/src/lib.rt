@@ -1,25 +1,35 @@
 //! Congruence classes of terms under the rules of datatypes and codatatypes.
 #![tactic(auto)]
 
+mod adding;
+mod at_term;
 mod classes;
 mod closing;
 mod congruence;
 mod constructors;
+mod covered;
 mod error;
 mod holding;
 mod index;
+mod level;
+mod marking;
+mod meeting;
 mod merge;
 mod needed;
 mod normal;
-mod partition;
+mod pairing;
 mod rules;
+mod running;
 mod saturate;
 mod singles;
 mod sorts;
+mod spreading;
+mod starting;
 mod store;
 mod theorems;
+mod waiting;
 
 pub use classes::Classes;
 pub use error::CongrError;
-pub use merge::{Closed, Merge, Reason};
-pub use theorems::{classes_of_merges, quiet_classes};
+pub use merge::{ClassMark, Closed, Merge, Reason};
+pub use theorems::{classes_of_merges, closed_classes, quiet_classes};

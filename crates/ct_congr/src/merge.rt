@@ -53,3 +53,10 @@ pub enum Closed {
     /// These two terms of one class have different constructors.
     Clash(TermId, TermId),
 }
+
+/// A mark of classes: how many merges stood when it was set.
+#[derive(Clone, Copy, Debug, PartialEq, Eq)]
+pub struct ClassMark {
+    /// The number of merges.
+    pub merges: u64,
+}

@@ -1,16 +1,16 @@
 //! The rules that begin at one term: selections, tests, equations and negations.
-ghost use Rattle.std.specs.Prelude.{◌≡◌, ◌<◌, [], ℕ, true, false, not, List, length, IfOk, IfSome, IfNone, OnOk, Some, slice_get};
+ghost use Rattle.std.specs.Prelude.{◌≡◌, ◌<◌, [], true, false, List, length, IfOk, IfSome, OnOk, Some, slice_get};
 ghost use Rattle.std.specs.List.{AllZip};
 ghost use Rattle.ct_sorts.specs.Declarations.{Declarations, Constructor, IsConstructor, IsSelector};
 ghost use Rattle.ct_terms.specs.declared.ids.TermId.{TermId};
 ghost use Rattle.ct_terms.specs.declared.ids.Lit.{Lit};
 ghost use Rattle.ct_terms.specs.declared.term.Core.TheVariants.{Con, Sel, Test, Eq, Not};
-ghost use Rattle.ct_terms.specs.Terms.{Terms, Has, AreSorted};
-ghost use Rattle.ct_rules.specs.Rules.{IsSelected, IsTesting, IsExpansion, IsEquationIn, IsEquationOut, IsNegation, truth_term};
+ghost use Rattle.ct_terms.specs.Terms.{Has, AreSorted};
+ghost use Rattle.ct_rules.specs.Rules.{IsSelected, IsExpansion, IsEquationIn, IsEquationOut, truth_term};
 ghost use Rattle.ct_congr.specs.Partition.{InOneClass};
 ghost use Rattle.ct_congr.specs.Needed.{AreNeeded};
 ghost use Rattle.ct_congr.specs.Index.{IsConIndex};
-ghost use Rattle.ct_congr.specs.Rules.{IsInjective, IsShape, IsClosedAt, AreClosedBelow, AreShapes, IsTestedTrue, IsTestedFalse, IsNegated};
+ghost use Rattle.ct_congr.specs.Rules.{IsInjective, IsClosedAt, AreShapes, IsTestedTrue, IsTestedFalse, IsNegated};
 
 use crate::constructors::{Shape, built_by, different};
 use crate::error::CongrError;
@@ -66,7 +66,7 @@ pub(crate) fn select(
 }
 
 // The argument at the index.
-fn argument_at(args: &[TermId], place: usize) -> Option<TermId>
+pub(crate) fn argument_at(args: &[TermId], place: usize) -> Option<TermId>
     ensures value { result ≡ slice_get args.now place }
 {
     args.get(place).copied()
@@ -175,7 +175,7 @@ pub(crate) fn expand(
 }
 
 // The constructor over its selectors of the term, where the table has it.
-fn expansion(
+pub(crate) fn expansion(
     alloc: Global,
     sig: &Signature,
     table: &TermTable,

@@ -1,16 +1,18 @@
 //! Closing classes under the rules: rounds that collect the merges that all rules ask for, until none
 //! is asked for.
-ghost use Rattle.std.specs.Prelude.{◌≡◌, ◌<◌, ◌≤◌, [], ℕ, List, length, IfOk, OnOk, Some, slice_get};
+ghost use Rattle.std.specs.Prelude.{◌≡◌, ◌<◌, [], List, length, IfOk, OnOk, Some, slice_get};
 ghost use Rattle.ct_sorts.specs.Declarations.{Declarations};
 ghost use Rattle.ct_terms.specs.declared.ids.TermId.{TermId};
 ghost use Rattle.ct_terms.specs.declared.ids.Lit.{Lit};
-ghost use Rattle.ct_terms.specs.Terms.{Terms, Has, AreSorted};
+ghost use Rattle.ct_terms.specs.Terms.{Terms, AreSorted};
 ghost use Rattle.ct_rules.specs.declared.equation.Equation.{Equation};
 ghost use Rattle.ct_congr.specs.Partition.{InOneClass};
 ghost use Rattle.ct_congr.specs.Needed.{AreNeeded};
 ghost use Rattle.ct_congr.specs.Index.{IsConIndex};
-ghost use Rattle.ct_congr.specs.Rules.{IsInjective, IsClosedAt, AreClosedBelow, AreShapes, AreSingleSorts, AreRulesClosed, AreClosedOf};
+ghost use Rattle.ct_congr.specs.Rules.{IsInjective, AreClosedBelow, AreShapes, AreSingleSorts, AreRulesClosed, AreClosedOf};
 ghost use Rattle.ct_congr.specs.Sound.{roots, IsSound};
+ghost use Rattle.ct_equivalence.specs.Over.{AreGroupingsOf};
+ghost use Rattle.ct_congr.specs.History.{IsExtended};
 ghost use Rattle.ct_congr.specs.Grown.{IsLater, AreInside, AreApart};
 
 use crate::congruence::congruences;
@@ -20,7 +22,7 @@ use crate::index::TermIndex;
 use crate::merge::Merge;
 use crate::rules::{equal_in, equal_out, expand, negate, select, test_false, test_true};
 use crate::singles::singles;
-use crate::store::{Store, add};
+use crate::store::{Store, add, reps};
 use ct_rules::derivations;
 use ct_sorts::Signature;
 use ct_terms::{Core, TermId, TermTable};
@@ -36,18 +38,20 @@ pub(crate) fn saturate(
 ) -> Result<(), CongrError>
     requires sorted { AreSorted sig.now table.now }
     requires single { AreSingleSorts sig.now single.now }
-    requires long { length store.old.parts ≡ length table.now }
-    requires cons_long { length store.old.cons.items ≡ length table.now }
-    ensures later { IsLater store.old.parts store.new.parts store.old.merges.items store.new.merges.items }
+    requires long { length store.old.parts.now.reps ≡ length table.now }
+    requires cons_long { length store.old.parts.now.cons ≡ length table.now }
+    ensures later { IsLater store.old.parts.now.reps store.new.parts.now.reps store.old.merges.items store.new.merges.items }
+    ensures extended { IsExtended store.old.parts store.new.parts store.old.merges.items store.new.merges.items }
+    ensures of { AreGroupingsOf table.now store.old.parts → AreGroupingsOf table.now store.new.parts }
     ensures sound { (hyps : List Lit) (given : List Equation)
-        → IsSound sig.now table.now hyps given store.old.parts store.old.cons.items store.old.merges.items
-        → IsSound sig.now table.now hyps given store.new.parts store.new.cons.items store.new.merges.items }
-    ensures closed { OnOk result (AreRulesClosed sig.now table.now (InOneClass store.new.parts)) }
+        → IsSound sig.now table.now hyps given store.old.parts.now.reps store.old.parts.now.cons store.old.merges.items
+        → IsSound sig.now table.now hyps given store.new.parts.now.reps store.new.parts.now.cons store.new.merges.items }
+    ensures closed { OnOk result (AreRulesClosed sig.now table.now (InOneClass store.new.parts.now.reps)) }
 {
-    let mut found = needed(alloc, sig, table, single, store.parts.reps())?;
+    let mut found = needed(alloc, sig, table, single, reps(store))?;
     while !found.is_empty() {
         apply(store, found)?;
-        found = needed(alloc, sig, table, single, store.parts.reps())?;
+        found = needed(alloc, sig, table, single, reps(store))?;
     }
     Ok(())
 }
@@ -160,17 +164,19 @@ fn at_term(
 
 // Adds the merges, from the last to the first.
 fn apply(store: &mut Store, mut found: Vec<Merge>) -> Result<(), CongrError>
-    requires inside { AreInside (length store.old.parts) found.items }
-    requires cons_long { length store.old.cons.items ≡ length store.old.parts }
-    ensures later { IsLater store.old.parts store.new.parts store.old.merges.items store.new.merges.items }
-    ensures cons_long { length store.new.cons.items ≡ length store.old.cons.items }
+    requires inside { AreInside (length store.old.parts.now.reps) found.items }
+    requires cons_long { length store.old.parts.now.cons ≡ length store.old.parts.now.reps }
+    ensures later { IsLater store.old.parts.now.reps store.new.parts.now.reps store.old.merges.items store.new.merges.items }
+    ensures cons_long { length store.new.parts.now.cons ≡ length store.old.parts.now.cons }
+    ensures extended { IsExtended store.old.parts store.new.parts store.old.merges.items store.new.merges.items }
+    ensures of { (terms : Terms) → AreGroupingsOf terms store.old.parts → AreGroupingsOf terms store.new.parts }
     ensures sound { (d : Declarations) (terms : Terms) (hyps : List Lit) (given : List Equation)
-        → IsSound d terms hyps given store.old.parts store.old.cons.items store.old.merges.items
-        → AreNeeded d terms hyps store.old.parts found.items
-        → IsSound d terms hyps given store.new.parts store.new.cons.items store.new.merges.items }
+        → IsSound d terms hyps given store.old.parts.now.reps store.old.parts.now.cons store.old.merges.items
+        → AreNeeded d terms hyps store.old.parts.now.reps found.items
+        → IsSound d terms hyps given store.new.parts.now.reps store.new.parts.now.cons store.new.merges.items }
     ensures fewer { OnOk result (0 < length found.items
-        → AreApart store.old.parts found.items
-        → roots store.new.parts < roots store.old.parts) }
+        → AreApart store.old.parts.now.reps found.items
+        → roots store.new.parts.now.reps < roots store.old.parts.now.reps) }
 {
     derivations();
     while let Some(merge) = found.pop() {

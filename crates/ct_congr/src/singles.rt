@@ -42,7 +42,12 @@ pub(crate) fn singles(
 }
 
 // The first term of the sort, if the sort has one value; else the term itself.
-fn first_of_sort(single: &[bool], firsts: &mut Vec<Option<TermId>>, s: SortId, t: TermId) -> TermId
+pub(crate) fn first_of_sort(
+    single: &[bool],
+    firsts: &mut Vec<Option<TermId>>,
+    s: SortId,
+    t: TermId,
+) -> TermId
     requires long { length firsts.old.items ≡ length single.now }
     ensures long { length firsts.new.items ≡ length single.now }
     ensures first { IsFirst single.now firsts.old.items firsts.new.items s t result }

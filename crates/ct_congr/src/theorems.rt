@@ -5,7 +5,7 @@ ghost use Rattle.ct_rules.specs.Rules.{Follows};
 ghost use Rattle.ct_rules.specs.Derivation.{Derives};
 ghost use Rattle.ct_congr.specs.declared.merge.Merge.{Merge};
 ghost use Rattle.ct_congr.specs.Merges.{AreConnected};
-ghost use Rattle.ct_congr.specs.State.{State, AreEqual, IsClash, IsQuiet};
+ghost use Rattle.ct_congr.specs.State.{State, AreEqual, IsClash, IsClosed, IsQuiet};
 
 /// The theorems on classes as they are after a close that found no clash. It does nothing: a proof
 /// that needs them calls it.
@@ -23,6 +23,21 @@ pub fn quiet_classes()
 
     // No class has two terms of different constructors.
     ensures one { (state : State) → IsQuiet state → (a b : TermId) → IsClash state a b → ⊥ }
+{}
+
+/// Closed classes are those of any other closed classes of the same terms under the same hypotheses and given
+/// equations: those that were made at once, and those that were marked, merged and taken back. It does
+/// nothing: a proof that needs this calls it.
+pub fn closed_classes()
+    ensures same { (one other : State)
+        → IsClosed one
+        → IsClosed other
+        → one.declarations ≡ other.declarations
+        → one.terms ≡ other.terms
+        → one.hypotheses ≡ other.hypotheses
+        → one.given ≡ other.given
+        → (t u : TermId) → t.0 < length one.terms → u.0 < length one.terms
+        → AreEqual one t u ↔ AreEqual other t u }
 {}
 
 /// The theorems on the classes of any merges. It does nothing: a proof that needs them calls it.

@@ -124,7 +124,7 @@ impl Grouped {
         requires right { right.0 < length self.now.reps }
         ensures sides { ((result.0 ≡ left) × (result.1 ≡ right)) ⊎ ((result.0 ≡ right) × (result.1 ≡ left)) }
     {
-        if self.weight(left) < self.weight(right) {
+        if self.weight(left) <= self.weight(right) {
             (right, left)
         } else {
             (left, right)

@@ -1,33 +1,28 @@
-use Rattle.std.proofs.Common.{List, length, sym, ap, subst, ◌∙◌}
-use Rattle.ct_terms.specs.declared.ids.TermId.{TermId}
-use Rattle.ct_congr.specs.declared.constructors.Shape.{Shape}
-use Rattle.ct_congr.specs.Rules.{AreShapes}
-use Rattle.ct_congr.proofs.HeldLemmas.{AreHeld-later}
+use Rattle.ct_congr.proofs.AddingLemmas.{IsFurther-trans}
 use Rattle.ct_congr.proofs.closing.settle.Goals as goal
 
-pub returns-in_err-saturate-clause-held : goal.returns-in_err-saturate-clause-held
-returns-in_err-saturate-clause-held c = λ hyps given held.
-    let old = c.args.store.now in
-    let new = c.saturate.new.store in
-    AreHeld-later c.args.sig.now c.args.table.now c.args.single.now hyps given old.parts new.parts old.cons.items new.cons.items old.merges.items new.merges.items held c.in_err-saturate.ensures.later (c.in_err-saturate.ensures.sound hyps given held.sound)
+pub settle_slowly-requires-clause-kept : goal.settle_slowly-requires-clause-kept
+settle_slowly-requires-clause-kept c = c.in_ok-answer.ensures.kept
 
-pub returns-in_err-shapes-clause-held : goal.returns-in_err-shapes-clause-held
-returns-in_err-shapes-clause-held c = λ hyps given held.
-    let old = c.args.store.now in
-    let new = c.saturate.new.store in
-    AreHeld-later c.args.sig.now c.args.table.now c.args.single.now hyps given old.parts new.parts old.cons.items new.cons.items old.merges.items new.merges.items held c.in_ok-saturate.ensures.later (c.in_ok-saturate.ensures.sound hyps given held.sound)
+pub returns-then-is_quiet-clause-closed : goal.returns-then-is_quiet-clause-closed
+returns-then-is_quiet-clause-closed c = c.in_ok-answer.ensures.closed (rw c.if-is_quiet.true at c.is_quiet.ensures.value)
 
-pub returns-clause-held : goal.returns-clause-held
-returns-clause-held c = λ hyps given held.
-    let old = c.args.store.now in
-    let new = c.saturate.new.store in
-    AreHeld-later c.args.sig.now c.args.table.now c.args.single.now hyps given old.parts new.parts old.cons.items new.cons.items old.merges.items new.merges.items held c.in_ok-saturate.ensures.later (c.in_ok-saturate.ensures.sound hyps given held.sound)
+pub returns-in_err-answer-2-clause-further : goal.returns-in_err-answer-2-clause-further
+returns-in_err-answer-2-clause-further c =
+    let old = c.args.progress.now in
+    let now = c.settle_or_clash.new.progress in
+    let new = c.settle_slowly.new.progress in
+    IsFurther-trans c.args.table.now old.store.parts now.store.parts new.store.parts old.store.merges.items now.store.merges.items new.store.merges.items old.keys now.keys new.keys c.in_ok-answer.ensures.further c.in_err-answer-2.ensures.further
 
-pub returns-clause-verdict : goal.returns-clause-verdict
-returns-clause-verdict c =
-    let terms = c.args.table.now in
-    let reps = c.saturate.new.store.parts in
-    let value = c.reps.ensures.value in
-    let list = c.as_slice.ensures.value in
-    let are : AreShapes terms reps (length terms) c.in_ok-shapes.shapes.items = subst (λ (q : List TermId). AreShapes terms q (length terms) c.in_ok-shapes.shapes.items) value c.in_ok-shapes.ensures.shapes in
-    c.verdict.ensures.verdict terms reps (ap length list ∙ c.in_ok-shapes.ensures.long ∙ ap length value) c.reps.ensures.own (subst (λ (l : List Shape). AreShapes terms reps (length terms) l) (sym list) are)
+pub returns-in_err-answer-2-clause-sound : goal.returns-in_err-answer-2-clause-sound
+returns-in_err-answer-2-clause-sound c = λ hyps given sound. c.in_err-answer-2.ensures.sound hyps given (c.in_ok-answer.ensures.sound hyps given sound)
+
+pub returns-clause-further : goal.returns-clause-further
+returns-clause-further c =
+    let old = c.args.progress.now in
+    let now = c.settle_or_clash.new.progress in
+    let new = c.settle_slowly.new.progress in
+    IsFurther-trans c.args.table.now old.store.parts now.store.parts new.store.parts old.store.merges.items now.store.merges.items new.store.merges.items old.keys now.keys new.keys c.in_ok-answer.ensures.further c.in_ok-answer-2.ensures.further
+
+pub returns-clause-sound : goal.returns-clause-sound
+returns-clause-sound c = λ hyps given sound. c.in_ok-answer-2.ensures.sound hyps given (c.in_ok-answer.ensures.sound hyps given sound)

@@ -3,7 +3,7 @@ use Rattle.ct_terms.specs.declared.ids.TermId.{TermId}
 use Rattle.ct_congr.specs.declared.merge.Merge.{Merge}
 use Rattle.ct_congr.specs.Needed.{AreNeeded}
 use Rattle.ct_congr.specs.Partition.{InOneClass}
-use Rattle.ct_congr.proofs.ClassLemmas.{InOneClass-refl}
+use Rattle.ct_congr.proofs.ClassLemmas.{InOneClass-refl, InOneClass-sym, InOneClass-trans}
 use Rattle.ct_congr.proofs.SingleLemmas.{first_sorted, AreFirsts-more, AreSingled-more, IsSingular-all}
 use Rattle.ct_congr.proofs.singles.singles.Goals as goal
 
@@ -23,7 +23,7 @@ loop-t-preserved c =
       firsts = AreFirsts-more terms single old new c.sort.result t first sorted c.loop-t.invariant.firsts is;
       singled = λ none.
           let both = c.in_ok-need.ensures.none none in
-          AreSingled-more terms single old new c.sort.result t first sorted reps (c.loop-t.invariant.singled both.0) both.1 is;
+          AreSingled-more terms single old new c.sort.result t first sorted (InOneClass reps) (c.loop-t.invariant.singled both.0) both.1 is;
       before = λ none. c.loop-t.invariant.before (c.in_ok-need.ensures.none none).0;
       needed = λ d hyps sorts had.
           let before = c.loop-t.invariant.needed d hyps sorts had in
@@ -38,5 +38,5 @@ loop-t-preserved c =
 pub returns-clause-closed : goal.returns-clause-closed
 returns-clause-closed c = λ none. (
   c.loop-t.invariant.before none,
-  λ d sorts. IsSingular-all d c.args.table.now c.args.single.now c.args.reps.now c.loop-t.firsts.items sorts (λ t s below. c.loop-t.invariant.singled none t s (omega (arith, below, c.len-t-end.ensures.count, c.loop-t-test.false))),
+  λ d sorts. IsSingular-all d c.args.table.now c.args.single.now (InOneClass c.args.reps.now) c.loop-t.firsts.items (InOneClass-sym c.args.reps.now) (InOneClass-trans c.args.reps.now) sorts (λ t s below. c.loop-t.invariant.singled none t s (omega (arith, below, c.len-t-end.ensures.count, c.loop-t-test.false))),
 )
