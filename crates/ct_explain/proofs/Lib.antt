@@ -9,3 +9,5 @@ mod HangLemmas
 mod WayLemmas
 mod RestLemmas
 mod PlantLemmas
+mod CutLemmas
+mod GrowthLemmas

@@ -24,7 +24,7 @@ use Rattle.ct_congr.specs.Merges.{AreConnected}
 use Rattle.ct_congr.specs.Reasons.{IsReason}
 use Rattle.ct_congr.specs.State.{State}
 use Rattle.ct_explain.specs.declared.forest.Link.{Link}
-use Rattle.ct_explain.specs.Trees.{HasRoot, IsForestOf, IsForestOfClasses, IsForestPath, IsRoute}
+use Rattle.ct_explain.specs.Trees.{HasRoot, IsForestOf, IsForestOver, IsForestPath, IsRoute}
 use Rattle.ct_explain.specs.Premises.{IsOver, HasNoPremise}
 use Rattle.ct_explain.specs.Resting.{IsPaved, IsDetour, IsMatching, IsPavedBy, IsEntryPaved, AreEntriesPaved, AreArgumentsPaved, IsEntry, AreEntries, AreArgumentsMatched, IsLone, Rests, IsMarked, IsMarkedBelow, AreMarkedMore, HasNumber, AreEqualAlong}
 use Rattle.ct_explain.proofs.ReasonLemmas.{one_under}
@@ -236,7 +236,7 @@ sides_within terms known equations e all inside =
     let pair = all e inside in
     (stands_inside terms (core.Con pair.ctor pair.xs) e.left.0 pair.left_stands, stands_inside terms (core.Con pair.ctor pair.ys) e.right.0 pair.right_stands)
 
-pub matching_of : (state : State) (links : List (Option Link)) (bound : ℕ) (equations : List Equation) (x y : TermId) → IsForestOfClasses state links
+pub matching_of : (state : State) (links : List (Option Link)) (bound : ℕ) (equations : List Equation) (x y : TermId) → IsForestOver state links
     → AreAllMatched state.terms (AreConnected (take bound state.merges)) equations → IsEntry state.terms (AreConnected (take bound state.merges)) equations x y
     → IsMatching state.merges links bound equations x y
 matching_of state links bound equations x y forest all entry = record {
@@ -448,19 +448,19 @@ pub rests_numbered : (terms : Terms) (links : List (Option Link)) (known : Equat
 rests_numbered terms links known marks done k right why before p = rests_more links (IsMarkedBelow marks k) (HasNumber done) (λ j h. before j h.0 h.1) terms known right why p
 
 -- the way of a ready premise is a route of merges with the property
-pub ready_route : (state : State) (links : List (Option Link)) (b : ℕ) (has : ℕ → Type 0) (x y : TermId) (slice path : List ℕ) → IsForestOfClasses state links
+pub ready_route : (state : State) (links : List (Option Link)) (b : ℕ) (has : ℕ → Type 0) (x y : TermId) (slice path : List ℕ) → IsForestOver state links
     → AreEqualAlong state.terms links (AreConnected (take b state.merges)) has x y → ((r s : TermId) → HasRoot links x r → HasRoot links y s → IsForestPath links x y path) → slice ≡ path → IsRoute state.merges x slice y
 ready_route state links b has x y slice path forest ready ways same =
     subst (λ (l : List ℕ). IsRoute state.merges x l y) (sym same) (route_of_path state links b x y path forest ready.inside ready.equal ways).1
 
-pub ready_paved : (state : State) (links : List (Option Link)) (b : ℕ) (has : ℕ → Type 0) (x y : TermId) (slice path : List ℕ) → IsForestOfClasses state links
+pub ready_paved : (state : State) (links : List (Option Link)) (b : ℕ) (has : ℕ → Type 0) (x y : TermId) (slice path : List ℕ) → IsForestOver state links
     → AreEqualAlong state.terms links (AreConnected (take b state.merges)) has x y → ((r s : TermId) → HasRoot links x r → HasRoot links y s → IsForestPath links x y path) → slice ≡ path
     → (k : ℕ) → Contains slice k → has k
 ready_paved state links b has x y slice path forest ready ways same k inside =
     ready.paved path (route_of_path state links b x y path forest ready.inside ready.equal ways).0 k (subst (λ (l : List ℕ). Contains l k) same inside)
 
 -- a term of the table is one of the forest
-pub inside_forest : (state : State) (links : List (Option Link)) (x : TermId) → IsForestOfClasses state links → x.0 < length state.terms → x.0 < length links
+pub inside_forest : (state : State) (links : List (Option Link)) (x : TermId) → IsForestOver state links → x.0 < length state.terms → x.0 < length links
 inside_forest state links x forest inside = subst (λ (n : ℕ). x.0 < n) (sym forest.long) inside
 
 -- the marks of a path, one after another

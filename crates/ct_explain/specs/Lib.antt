@@ -4,3 +4,4 @@ pub mod Pairs
 pub mod Explained
 pub mod Trees
 pub mod Resting
+pub mod Growth

@@ -3,7 +3,7 @@ ghost use Rattle.std.specs.Prelude.{◌≡◌, ◌<◌, ℕ, None, replicate, le
 ghost use Rattle.ct_congr.specs.State.{AreEqual};
 ghost use Rattle.ct_explain.specs.Writing.{Told, HasWrittenMore, AreDone};
 ghost use Rattle.ct_explain.specs.Explained.{IsExplained};
-ghost use Rattle.ct_explain.specs.Trees.{IsForestOfClasses};
+ghost use Rattle.ct_explain.specs.Trees.{IsForestOver, IsForestOfClasses};
 ghost use Rattle.ct_explain.specs.Resting.{AreClosed, HasNumber, IsMarked};
 
 use crate::error::ExplainError;
@@ -51,7 +51,7 @@ fn write(
     writer: &mut Writer,
 ) -> Result<u64, ExplainError>
     requires equal { AreEqual classes.now a b }
-    requires forest { IsForestOfClasses classes.now forest.now }
+    requires forest { IsForestOver classes.now forest.now.links }
     ensures grown { OnOk result (HasWrittenMore classes.now writer.old writer.new) }
     ensures told { IfOk result (λ n. Told writer.new n a b) }
 {
@@ -74,8 +74,8 @@ fn write_needed(
     marks: &[bool],
     writer: &mut Writer,
 ) -> Result<Vec<Option<u64>>, ExplainError>
-    requires forest { IsForestOfClasses classes.now forest.now }
-    requires closed { AreClosed classes.now forest.now marks.now }
+    requires forest { IsForestOver classes.now forest.now.links }
+    requires closed { AreClosed classes.now forest.now.links marks.now }
     ensures grown { OnOk result (HasWrittenMore classes.now writer.old writer.new) }
     ensures done { IfOk result (λ done. AreDone writer.new classes.now.merges done.items) }
     ensures marked { IfOk result (λ done. (k : ℕ) → k < length classes.now.merges → IsMarked marks.now k → HasNumber done.items k) }
@@ -108,11 +108,11 @@ fn write_next(
     done: &mut Vec<Option<u64>>,
     writer: &mut Writer,
 ) -> Result<(), ExplainError>
-    requires forest { IsForestOfClasses classes.now forest.now }
+    requires forest { IsForestOver classes.now forest.now.links }
     requires inside { k < length classes.now.merges }
     requires long { length done.old.items ≡ length classes.now.merges }
     requires done { AreDone writer.old classes.now.merges done.old.items }
-    requires closed { AreClosed classes.now forest.now marks.now }
+    requires closed { AreClosed classes.now forest.now.links marks.now }
     requires before { (j : ℕ) → j < k → IsMarked marks.now j → HasNumber done.old.items j }
     ensures grown { OnOk result (HasWrittenMore classes.now writer.old writer.new) }
     ensures long { length done.new.items ≡ length done.old.items }

@@ -4,7 +4,7 @@ ghost use Rattle.ct_terms.specs.declared.ids.TermId.{TermId};
 ghost use Rattle.ct_congr.specs.declared.merge.Reason.TheVariants as reason;
 ghost use Rattle.ct_congr.specs.Merges.{AreConnected};
 ghost use Rattle.ct_congr.specs.Reasons.{IsReason};
-ghost use Rattle.ct_explain.specs.Trees.{IsForestOfClasses};
+ghost use Rattle.ct_explain.specs.Trees.{IsForestOver};
 ghost use Rattle.ct_explain.specs.Resting.{AreArgumentsPaved, IsLone, IsPaved, AreEqualAlong, Rests, HasNumber};
 ghost use Rattle.ct_explain.specs.Writing.{Told, ToldEach, HasWrittenMore, AreDone};
 ghost use Rattle.ct_explain.specs.Premises.{HasReason, HasNoPremise};
@@ -30,10 +30,10 @@ pub(crate) fn write_merge(
     m: &Merge,
     writer: &mut Writer,
 ) -> Result<u64, ExplainError>
-    requires forest { IsForestOfClasses classes.now forest.now }
+    requires forest { IsForestOver classes.now forest.now.links }
     requires done { AreDone writer.old classes.now.merges done.now }
     requires reason { IsReason classes.now.declarations classes.now.terms classes.now.hypotheses (AreConnected (take bound classes.now.merges)) m.now.left m.now.right m.now.why }
-    requires rests { Rests classes.now.terms forest.now (AreConnected (take bound classes.now.merges)) (HasNumber done.now) m.now.right m.now.why }
+    requires rests { Rests classes.now.terms forest.now.links (AreConnected (take bound classes.now.merges)) (HasNumber done.now) m.now.right m.now.why }
     ensures grown { OnOk result (HasWrittenMore classes.now writer.old writer.new) }
     ensures told { IfOk result (λ n. Told writer.new n m.now.left m.now.right) }
 {
@@ -117,11 +117,11 @@ fn write_lone(
     m: &Merge,
     writer: &mut Writer,
 ) -> Result<u64, ExplainError>
-    requires forest { IsForestOfClasses classes.now forest.now }
+    requires forest { IsForestOver classes.now forest.now.links }
     requires done { AreDone writer.old classes.now.merges done.now }
     requires lone { HasNoPremise m.now.why → ⊥ }
     requires reason { IsReason classes.now.declarations classes.now.terms classes.now.hypotheses (AreConnected (take bound classes.now.merges)) m.now.left m.now.right m.now.why }
-    requires paved { (x y : TermId) → IsLone classes.now.terms m.now.right m.now.why x y → IsPaved forest.now (HasNumber done.now) x y }
+    requires paved { (x y : TermId) → IsLone classes.now.terms m.now.right m.now.why x y → IsPaved forest.now.links (HasNumber done.now) x y }
     ensures grown { OnOk result (HasWrittenMore classes.now writer.old writer.new) }
     ensures told { IfOk result (λ n. Told writer.new n m.now.left m.now.right) }
 {
@@ -146,10 +146,10 @@ fn write_congruent(
     sides: (TermId, TermId),
     writer: &mut Writer,
 ) -> Result<u64, ExplainError>
-    requires forest { IsForestOfClasses classes.now forest.now }
+    requires forest { IsForestOver classes.now forest.now.links }
     requires done { AreDone writer.old classes.now.merges done.now }
     requires reason { IsReason classes.now.declarations classes.now.terms classes.now.hypotheses (AreConnected (take bound classes.now.merges)) sides.0 sides.1 (reason.Cong terms.0 terms.1) }
-    requires paved { AreArgumentsPaved classes.now.terms forest.now (AreConnected (take bound classes.now.merges)) (HasNumber done.now) [] terms.0 terms.1 }
+    requires paved { AreArgumentsPaved classes.now.terms forest.now.links (AreConnected (take bound classes.now.merges)) (HasNumber done.now) [] terms.0 terms.1 }
     ensures grown { OnOk result (HasWrittenMore classes.now writer.old writer.new) }
     ensures told { IfOk result (λ n. Told writer.new n sides.0 sides.1) }
 {
@@ -172,11 +172,11 @@ fn write_each(
     ys: &[TermId],
     writer: &mut Writer,
 ) -> Result<Vec<u64>, ExplainError>
-    requires forest { IsForestOfClasses classes.now forest.now }
+    requires forest { IsForestOver classes.now forest.now.links }
     requires done { AreDone writer.old classes.now.merges done.now }
     requires long { length xs.now ≡ length ys.now }
     requires ready { (i : ℕ) (x y : TermId) → slice_get xs.now i ≡ Some x → slice_get ys.now i ≡ Some y
-        → AreEqualAlong classes.now.terms forest.now (AreConnected (take bound classes.now.merges)) (HasNumber done.now) x y }
+        → AreEqualAlong classes.now.terms forest.now.links (AreConnected (take bound classes.now.merges)) (HasNumber done.now) x y }
     ensures grown { OnOk result (HasWrittenMore classes.now writer.old writer.new) }
     ensures told { IfOk result (λ numbers. ToldEach writer.new numbers.items xs.now ys.now) }
 {
@@ -199,9 +199,9 @@ pub(crate) fn write_premise(
     right: TermId,
     writer: &mut Writer,
 ) -> Result<u64, ExplainError>
-    requires forest { IsForestOfClasses classes.now forest.now }
+    requires forest { IsForestOver classes.now forest.now.links }
     requires done { AreDone writer.old classes.now.merges done.now }
-    requires ready { AreEqualAlong classes.now.terms forest.now (AreConnected (take bound classes.now.merges)) (HasNumber done.now) left right }
+    requires ready { AreEqualAlong classes.now.terms forest.now.links (AreConnected (take bound classes.now.merges)) (HasNumber done.now) left right }
     ensures grown { OnOk result (HasWrittenMore classes.now writer.old writer.new) }
     ensures told { IfOk result (λ n. Told writer.new n left right) }
 {

@@ -9,7 +9,7 @@ ghost use Rattle.ct_congr.specs.declared.merge.Merge.{Merge};
 ghost use Rattle.ct_congr.specs.declared.merge.Reason.TheVariants as reason;
 ghost use Rattle.ct_congr.specs.Merges.{AreConnected};
 ghost use Rattle.ct_congr.specs.Reasons.{IsReason};
-ghost use Rattle.ct_explain.specs.Trees.{IsForestOf, IsForestOfClasses};
+ghost use Rattle.ct_explain.specs.Trees.{IsForestOf, IsForestOver};
 ghost use Rattle.ct_explain.specs.Resting.{AreArgumentsPaved, AreEntries, AreEntriesPaved, IsEntry, IsEntryPaved, IsDetour, IsMatching, HasNumber};
 ghost use Rattle.ct_explain.specs.Writing.{Told, HasWrittenMore, AreDone};
 ghost use Rattle.ct_explain.specs.Pairs.{ToldEntry, ToldEntries, IsPairTold, ArePairsTold};
@@ -35,11 +35,11 @@ pub(crate) fn write_unique(
     sides: (TermId, TermId),
     writer: &mut Writer,
 ) -> Result<u64, ExplainError>
-    requires forest { IsForestOfClasses classes.now forest.now }
+    requires forest { IsForestOver classes.now forest.now.links }
     requires done { AreDone writer.old classes.now.merges done.now }
     requires reason { IsReason classes.now.declarations classes.now.terms classes.now.hypotheses (AreConnected (take bound classes.now.merges)) sides.0 sides.1 (reason.Unique equations.now) }
     requires paved { (e : Equation) → Contains equations.now e
-        → AreArgumentsPaved classes.now.terms forest.now (AreConnected (take bound classes.now.merges)) (HasNumber done.now) equations.now e.left e.right }
+        → AreArgumentsPaved classes.now.terms forest.now.links (AreConnected (take bound classes.now.merges)) (HasNumber done.now) equations.now e.left e.right }
     ensures grown { OnOk result (HasWrittenMore classes.now writer.old writer.new) }
     ensures told { IfOk result (λ n. Told writer.new n sides.0 sides.1) }
 {
@@ -84,11 +84,11 @@ fn write_pairs(
     equations: &[Equation],
     writer: &mut Writer,
 ) -> Result<Vec<Pair>, ExplainError>
-    requires forest { IsForestOfClasses classes.now forest.now }
+    requires forest { IsForestOver classes.now forest.now.links }
     requires done { AreDone writer.old classes.now.merges done.now }
     requires all { AreAllMatched classes.now.terms (AreConnected (take bound classes.now.merges)) equations.now }
     requires paved { (e : Equation) → Contains equations.now e
-        → AreArgumentsPaved classes.now.terms forest.now (AreConnected (take bound classes.now.merges)) (HasNumber done.now) equations.now e.left e.right }
+        → AreArgumentsPaved classes.now.terms forest.now.links (AreConnected (take bound classes.now.merges)) (HasNumber done.now) equations.now e.left e.right }
     ensures grown { OnOk result (HasWrittenMore classes.now writer.old writer.new) }
     ensures pairs { IfOk result (λ pairs. ArePairsTold classes.now.terms writer.new equations.now equations.now pairs.items) }
 {
@@ -110,11 +110,11 @@ fn write_pair(
     e: Equation,
     writer: &mut Writer,
 ) -> Result<Pair, ExplainError>
-    requires forest { IsForestOfClasses classes.now forest.now }
+    requires forest { IsForestOver classes.now forest.now.links }
     requires done { AreDone writer.old classes.now.merges done.now }
     requires all { AreAllMatched classes.now.terms (AreConnected (take bound classes.now.merges)) equations.now }
     requires matched { IsPairMatched classes.now.terms (AreConnected (take bound classes.now.merges)) equations.now e.left e.right }
-    requires paved { AreArgumentsPaved classes.now.terms forest.now (AreConnected (take bound classes.now.merges)) (HasNumber done.now) equations.now e.left e.right }
+    requires paved { AreArgumentsPaved classes.now.terms forest.now.links (AreConnected (take bound classes.now.merges)) (HasNumber done.now) equations.now e.left e.right }
     ensures grown { OnOk result (HasWrittenMore classes.now writer.old writer.new) }
     ensures pair { IfOk result (IsPairTold classes.now.terms writer.new equations.now e) }
 {
@@ -140,12 +140,12 @@ fn write_entries(
     ys: &[TermId],
     writer: &mut Writer,
 ) -> Result<Vec<Entry>, ExplainError>
-    requires forest { IsForestOfClasses classes.now forest.now }
+    requires forest { IsForestOver classes.now forest.now.links }
     requires done { AreDone writer.old classes.now.merges done.now }
     requires all { AreAllMatched classes.now.terms (AreConnected (take bound classes.now.merges)) equations.now }
     requires long { length xs.now ≡ length ys.now }
     requires entries { AreEntries classes.now.terms (AreConnected (take bound classes.now.merges)) equations.now xs.now ys.now }
-    requires paved { AreEntriesPaved forest.now (AreConnected (take bound classes.now.merges)) (HasNumber done.now) equations.now xs.now ys.now }
+    requires paved { AreEntriesPaved forest.now.links (AreConnected (take bound classes.now.merges)) (HasNumber done.now) equations.now xs.now ys.now }
     ensures grown { OnOk result (HasWrittenMore classes.now writer.old writer.new) }
     ensures entries { IfOk result (λ entries. ToldEntries writer.new equations.now entries.items xs.now ys.now) }
 {
@@ -170,11 +170,11 @@ fn write_entry(
     y: TermId,
     writer: &mut Writer,
 ) -> Result<Entry, ExplainError>
-    requires forest { IsForestOfClasses classes.now forest.now }
+    requires forest { IsForestOver classes.now forest.now.links }
     requires done { AreDone writer.old classes.now.merges done.now }
     requires all { AreAllMatched classes.now.terms (AreConnected (take bound classes.now.merges)) equations.now }
     requires entry { IsEntry classes.now.terms (AreConnected (take bound classes.now.merges)) equations.now x y }
-    requires paved { IsEntryPaved forest.now (AreConnected (take bound classes.now.merges)) (HasNumber done.now) equations.now x y }
+    requires paved { IsEntryPaved forest.now.links (AreConnected (take bound classes.now.merges)) (HasNumber done.now) equations.now x y }
     ensures grown { OnOk result (HasWrittenMore classes.now writer.old writer.new) }
     ensures entry { IfOk result (λ entry. ToldEntry writer.new equations.now entry x y) }
 {
@@ -201,7 +201,7 @@ pub(crate) fn detour(
     y: TermId,
 ) -> Result<Option<(u64, Equation)>, ExplainError>
     ensures answer { IfOk result (λ answer. (merges : List Merge)
-        → IsMatching merges forest.now bound equations.now x y
+        → IsMatching merges forest.now.links bound equations.now x y
         → IsDetour (AreConnected (take bound merges)) equations.now x y answer) }
 {
     let equal = is_way(forest, x, y, bound)?;
@@ -227,13 +227,13 @@ fn joins(
     y: TermId,
 ) -> Result<bool, ExplainError>
     ensures yes { IfOk result (λ answer. OnTrue answer ((merges : List Merge)
-        → IsForestOf merges forest.now
-        → x.0 < length forest.now → e.left.0 < length forest.now
-        → e.right.0 < length forest.now → y.0 < length forest.now
+        → IsForestOf merges forest.now.links
+        → x.0 < length forest.now.links → e.left.0 < length forest.now.links
+        → e.right.0 < length forest.now.links → y.0 < length forest.now.links
         → AreConnected (take bound merges) x e.left × AreConnected (take bound merges) e.right y)) }
     ensures no { IfOk result (λ answer. OnFalse answer ((merges : List Merge)
-        → IsForestOf merges forest.now
-        → x.0 < length forest.now → e.right.0 < length forest.now
+        → IsForestOf merges forest.now.links
+        → x.0 < length forest.now.links → e.right.0 < length forest.now.links
         → AreConnected (take bound merges) x e.left
         → AreConnected (take bound merges) e.right y
         → ⊥)) }

@@ -17,7 +17,7 @@ unreachable-requires c =
     let b = c.args.b in
     let count = ap length c.merges-bound.ensures.value in
     let at = slice_get_within state.reps a.0 c.requires.equal.0 c.requires.equal.1 in
-    let within : a.0 < length c.args.forest.now = omega (arith, at, c.merges-bound.ensures.long, c.requires.forest.long) in
+    let within : a.0 < length c.args.forest.now.links = omega (arith, at, c.merges-bound.ensures.long, c.requires.forest.long) in
     let connected = c.merges-bound.ensures.connected a b c.requires.equal in
     let none = rw c.in-None.is at c.in_ok-path.ensures.none in
     none state.merges c.requires.forest.forest within
@@ -37,7 +37,7 @@ write_way-requires-clause-route c =
     let within : a.0 < length state.terms = omega (arith, at, c.merges-bound.ensures.long) in
     let connected = c.merges-bound.ensures.connected a b c.requires.equal in
     subst (λ (l : List ℕ). IsRoute state.merges a l b) (sym c.deref-in-Some-3.ensures.value)
-    (route_of_path state c.args.forest.now (length state.merges) a b c.in-Some.path.items c.requires.forest within (subst (λ (l : List Merge). AreConnected l a b) (sym (take-whole state.merges)) connected)
+    (route_of_path state c.args.forest.now.links (length state.merges) a b c.in-Some.path.items c.requires.forest within (subst (λ (l : List Merge). AreConnected l a b) (sym (take-whole state.merges)) connected)
     (rw c.in-Some.is at c.in_ok-path.ensures.way)).1
 
 pub write_way-requires-clause-paved : goal.write_way-requires-clause-paved

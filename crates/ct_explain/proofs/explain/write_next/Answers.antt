@@ -17,8 +17,8 @@ write_merge-requires-clause-rests c =
     let m = c.index-merges-k.result in
     let known = AreConnected (take c.args.k state.merges) in
     let at = merge_at state.merges c.merges-merges.result.now c.args.k m c.requires.inside c.merges-merges.ensures.value c.index-merges-k.is in
-    subst (λ (l : List (Option ℕ)). Rests state.terms c.args.forest.now known (HasNumber l) m.right m.why) (sym c.deref.ensures.value)
-    (rests_numbered state.terms c.args.forest.now known c.args.marks.now c.args.done.now.items c.args.k m.right m.why c.requires.before (c.requires.closed c.args.k m at c.if-not-is_marked.ensures.marked))
+    subst (λ (l : List (Option ℕ)). Rests state.terms c.args.forest.now.links known (HasNumber l) m.right m.why) (sym c.deref.ensures.value)
+    (rests_numbered state.terms c.args.forest.now.links known c.args.marks.now c.args.done.now.items c.args.k m.right m.why c.requires.before (c.requires.closed c.args.k m at c.if-not-is_marked.ensures.marked))
 
 pub returns-clause-done : goal.returns-clause-done
 returns-clause-done c =

@@ -45,5 +45,5 @@ write_each-requires-clause-ready c =
       xs_are = c.deref.ensures.value ∙ c.in_ok-xs.ensures.value;
       ys_are = c.deref-2.ensures.value ∙ c.in_ok-ys.ensures.value;
     })
-    c.args.forest.now known (HasNumber c.args.done.now)
+    c.args.forest.now.links known (HasNumber c.args.done.now)
     (congruent_arguments state.declarations state.terms state.hypotheses known c.args.sides.0 c.args.sides.1 c.args.terms.0 c.args.terms.1 c.requires.reason) c.requires.paved

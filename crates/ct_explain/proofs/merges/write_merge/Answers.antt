@@ -12,10 +12,10 @@ write_lone-requires-clause-lone c = has_premise c.args.m.now.why c.in_default.no
 
 pub write_lone-requires-clause-paved : goal.write_lone-requires-clause-paved
 write_lone-requires-clause-paved c =
-    lone_rests c.args.classes.now.terms c.args.forest.now (AreConnected (take c.args.bound c.args.classes.now.merges)) (HasNumber c.args.done.now) c.args.m.now.right c.args.m.now.why c.requires.rests
+    lone_rests c.args.classes.now.terms c.args.forest.now.links (AreConnected (take c.args.bound c.args.classes.now.merges)) (HasNumber c.args.done.now) c.args.m.now.right c.args.m.now.why c.requires.rests
 
 pub write_unique-requires-clause-paved : goal.write_unique-requires-clause-paved
 write_unique-requires-clause-paved c =
     let rests = rw c.in-Unique.is at c.requires.rests in
-    subst (λ (l : List Equation). (e : Equation) → Contains l e → AreArgumentsPaved c.args.classes.now.terms c.args.forest.now (AreConnected (take c.args.bound c.args.classes.now.merges)) (HasNumber c.args.done.now) l e.left e.right)
+    subst (λ (l : List Equation). (e : Equation) → Contains l e → AreArgumentsPaved c.args.classes.now.terms c.args.forest.now.links (AreConnected (take c.args.bound c.args.classes.now.merges)) (HasNumber c.args.done.now) l e.left e.right)
     (sym c.as_slice.ensures.value) rests

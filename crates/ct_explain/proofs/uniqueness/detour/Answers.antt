@@ -16,7 +16,7 @@ returns-then-joined c = record {
       let joined : true ≡ c.in_ok-joined.joined = cc in
       let sides = m.sides (get_or c.args.equations.now c.loop-k.k zeroth) (Contains-get_or c.args.equations.now c.loop-k.k zeroth c.loop-k-test.true) in
       let both = (on_true c.in_ok-joined.joined _ joined c.in_ok-joined.ensures.yes) merges m.forest m.left sides.0 sides.1 m.right in
-      first_match c.args.forest.now c.args.bound c.args.equations.now c.args.x c.args.y c.loop-k.k zeroth merges c.loop-k-test.true m
+      first_match c.args.forest.now.links c.args.bound c.args.equations.now c.args.x c.args.y c.loop-k.k zeroth merges c.loop-k-test.true m
       (λ h. (on_false c.in_ok-equal.equal _ equal c.in_ok-equal.ensures.none) merges m.forest m.left h) both.0 both.1 c.loop-k.invariant;
 }
 
@@ -24,10 +24,10 @@ pub loop-k-preserved : goal.loop-k-preserved
 loop-k-preserved c =
     let j = c.if-joined.false in
     let joined : false ≡ c.in_ok-joined.joined = cc in
-    no_match-next c.args.forest.now c.args.bound c.args.equations.now c.args.x c.args.y c.loop-k.k zeroth c.loop-k-test.true
+    no_match-next c.args.forest.now.links c.args.bound c.args.equations.now c.args.x c.args.y c.loop-k.k zeroth c.loop-k-test.true
     (on_false c.in_ok-joined.joined _ joined c.in_ok-joined.ensures.no) c.loop-k.invariant
 
 pub returns : goal.returns
 returns c = record {
-  answer = λ merges m. match_alone c.args.forest.now c.args.bound c.args.equations.now c.args.x c.args.y c.loop-k.k merges (λ h. omega (arith, h, c.loop-k-test.false)) m c.loop-k.invariant;
+  answer = λ merges m. match_alone c.args.forest.now.links c.args.bound c.args.equations.now c.args.x c.args.y c.loop-k.k merges (λ h. omega (arith, h, c.loop-k-test.false)) m c.loop-k.invariant;
 }

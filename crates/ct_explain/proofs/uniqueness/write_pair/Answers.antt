@@ -44,4 +44,4 @@ write_entries-requires-clause-paved c =
       xs_are = c.deref.ensures.value ∙ c.in_ok-xs.ensures.value;
       ys_are = c.deref-2.ensures.value ∙ c.in_ok-ys.ensures.value;
     })
-    (AreConnected (take c.args.bound c.args.classes.now.merges)) c.args.equations.now c.args.forest.now (HasNumber c.args.done.now) c.requires.paved
+    (AreConnected (take c.args.bound c.args.classes.now.merges)) c.args.equations.now c.args.forest.now.links (HasNumber c.args.done.now) c.requires.paved
