@@ -288,11 +288,11 @@ put_false trail above unique l lits at collects =
     (All-weaker (IsFalseIn (take above trail)) (IsFalseIn trail) (λ k h. Contains-take above trail (opposite k) h) collects.more collects.false))
 
 -- the whole analysis while decisions stand
-pub analysed : (clauses : List StepClause) (trail : List Lit) (reasons : List (Option ℕ)) (decided : List Decided) (marks marks' : List Bool) (hints hints' : List ℕ) (lits : Clause) (c : StepClause) (keep start unique above : ℕ) (l : Lit) (first : Decided) → IsConsistent trail → AreDecisions trail reasons decided → Contains clauses c → IsLocated clauses trail decided marks hints c.literals start unique → slice_get trail unique ≡ Some l → slice_get decided 0 ≡ Some first → ((cs : List StepClause) (hs : List ℕ) (conflict : Clause) (d : Decided) → slice_get decided 0 ≡ Some d → Leads cs trail marks hs start (opposite l ∷ []) conflict → Leads cs trail marks hs d.index lits conflict) → GoesDown clauses trail marks hints first.index marks' hints' 0 → above ≤ start → Collects trail above (opposite l ∷ []) lits → StandBefore decided above keep → IsAnalysed clauses trail decided lits (reverse hints' ++ c.step ∷ []) keep
-analysed clauses trail reasons decided marks marks' hints hints' lits c keep start unique above l first consistent decisions listed located at at_first collected down high collects before =
+pub analysed : (clauses : List StepClause) (trail : List Lit) (reasons : List (Option ℕ)) (decided : List Decided) (marks middle marks' : List Bool) (hints between hints' : List ℕ) (lits : Clause) (c : StepClause) (keep start unique above : ℕ) (l : Lit) (first : Decided) → IsConsistent trail → AreDecisions trail reasons decided → Contains clauses c → IsLocated clauses trail decided marks hints c.literals start unique → slice_get trail unique ≡ Some l → slice_get decided 0 ≡ Some first → ((conflict : Clause) (d : Decided) → slice_get decided 0 ≡ Some d → Leads clauses trail marks hints start (opposite l ∷ []) conflict → Leads clauses trail middle between d.index lits conflict) → GoesDown clauses trail middle between first.index marks' hints' 0 → above ≤ start → Collects trail above (opposite l ∷ []) lits → StandBefore decided above keep → IsAnalysed clauses trail decided lits (reverse hints' ++ c.step ∷ []) keep
+analysed clauses trail reasons decided marks middle marks' hints between hints' lits c keep start unique above l first consistent decisions listed located at at_first collected down high collects before =
     let put : Leads clauses trail marks hints unique (opposite l ∷ []) c.literals = Leads-put clauses trail marks hints unique [] c.literals l at located.leads in
     let low = Leads-skip clauses trail marks hints unique start (opposite l ∷ []) c.literals located.unmarked put in
-    let foot = down lits c.literals (collected clauses hints c.literals first at_first low) in
+    let foot = down lits c.literals (collected c.literals first at_first low) in
     IsAnalysed-from clauses trail reasons decided lits (reverse hints' ++ c.step ∷ []) keep start unique above l consistent decisions
     (Leads-end clauses trail marks' hints' lits c listed (put_false trail above unique l lits at collects) foot)
     at located.from located.decision high collects before

@@ -30,12 +30,12 @@ use Rattle.ct_sat.proofs.UpLemmas.{trail_follows}
 use Rattle.ct_sat.proofs.StatusLemmas.{IsSettled-not_false, IsSettled-forced, HaveReasons-decided}
 
 -- what contracts see of a search
-abbrev pub shown : List TermId → List StepClause → Assigned → ℕ → ℕ → SearchState
-shown variables clauses a count budget = record { variables = variables; clauses = clauses; trail = a.literals; decided = a.decided; count = count; budget = budget }
+abbrev pub shown : List TermId → List StepClause → Assigned → ℕ → ℕ → Bool → SearchState
+shown variables clauses a count budget propagated = record { variables = variables; clauses = clauses; trail = a.literals; decided = a.decided; count = count; budget = budget; propagated = propagated }
 
 -- what always holds of it
-pub IsSound-from : (variables : List TermId) (clauses : List StepClause) (a : Assigned) (count budget : ℕ) → IsSearch variables clauses a count budget → IsConsistent a.literals → AreDecisions a.literals a.reasons a.decided → IsSound (shown variables clauses a count budget)
-IsSound-from variables clauses a count budget stored consistent decisions = record {
+pub IsSound-from : (variables : List TermId) (clauses : List StepClause) (a : Assigned) (count budget : ℕ) (propagated : Bool) → IsSearch variables clauses a count budget → IsConsistent a.literals → AreDecisions a.literals a.reasons a.decided → IsSound (shown variables clauses a count budget propagated)
+IsSound-from variables clauses a count budget propagated stored consistent decisions = record {
   justified = justified;
   consistent = consistent;
   decisions = record {
@@ -191,7 +191,7 @@ no_value trail t none (inl h) = let at = slice_get-from_Contains trail (positive
 no_value trail t none (inr h) = let at = slice_get-from_Contains trail (negative_of t) h in none at.0 (negative_of t) at.1 refl
 
 -- the literal of a term's number with a sign
-abbrev made : ℕ → Bool → Lit
+abbrev pub made : ℕ → Bool → Lit
 made n b = record { term = record { 0 = n }; positive = b }
 
 -- a term with a literal has one
@@ -241,10 +241,10 @@ abbrev with_literals : ℕ → Clause → StepClause
 with_literals step ls = record { step = step; literals = ls }
 
 -- what a conflict teaches while decisions stand
-pub learns : (variables : List TermId) (clauses new : List StepClause) (a b : Assigned) (count budget step keep : ℕ) (lits pushed shown_lits : Clause) (hints shown_hints : List ℕ) → AreOver variables a.literals → IsAnalysed clauses a.literals a.decided lits hints keep → new ≡ clauses ++ record { step = step; literals = pushed } ∷ [] → pushed ≡ lits → ((d : Decided) → slice_get a.decided keep ≡ Some d → b ≡ cut_before a keep d) → shown_lits ≡ lits → shown_hints ≡ hints → LearnsClause (shown variables clauses a count budget) (shown variables new b count budget) step shown_lits shown_hints keep
-learns variables clauses new a b count budget step keep lits pushed shown_lits hints shown_hints over found is pushed_is cut lits_is hints_is =
-    subst (λ (ls : Clause). LearnsClause (shown variables clauses a count budget) (shown variables new b count budget) step ls shown_hints keep) (sym lits_is)
-    (subst (λ (hs : List ℕ). LearnsClause (shown variables clauses a count budget) (shown variables new b count budget) step lits hs keep) (sym hints_is)
+pub learns : (variables : List TermId) (clauses new : List StepClause) (a b : Assigned) (count budget step keep : ℕ) (lits pushed shown_lits : Clause) (hints shown_hints : List ℕ) (propagated : Bool) → AreOver variables a.literals → IsAnalysed clauses a.literals a.decided lits hints keep → new ≡ clauses ++ record { step = step; literals = pushed } ∷ [] → pushed ≡ lits → ((d : Decided) → slice_get a.decided keep ≡ Some d → b ≡ cut_before a keep d) → shown_lits ≡ lits → shown_hints ≡ hints → LearnsClause (shown variables clauses a count budget propagated) (shown variables new b count budget false) step shown_lits shown_hints keep
+learns variables clauses new a b count budget step keep lits pushed shown_lits hints shown_hints propagated over found is pushed_is cut lits_is hints_is =
+    subst (λ (ls : Clause). LearnsClause (shown variables clauses a count budget propagated) (shown variables new b count budget false) step ls shown_hints keep) (sym lits_is)
+    (subst (λ (hs : List ℕ). LearnsClause (shown variables clauses a count budget propagated) (shown variables new b count budget false) step lits hs keep) (sym hints_is)
     (record {
       follows = found.follows;
       over = over_false variables a.literals lits over found.false;
@@ -252,9 +252,9 @@ learns variables clauses new a b count budget step keep lits pushed shown_lits h
       stands = found.stands;
       asserted = found.asserted;
       asserting = found.asserting;
-      after = ap (λ (x : Assigned). shown variables new x count budget) (cut found.next found.stands)
-          ∙ ap (λ (cs : List StepClause). shown variables cs (cut_before a keep found.next) count budget) is
-          ∙ ap (λ (ls : Clause). shown variables (clauses ++ with_literals step ls ∷ []) (cut_before a keep found.next) count budget) pushed_is;
+      after = ap (λ (x : Assigned). shown variables new x count budget false) (cut found.next found.stands)
+          ∙ ap (λ (cs : List StepClause). shown variables cs (cut_before a keep found.next) count budget false) is
+          ∙ ap (λ (ls : Clause). shown variables (clauses ++ with_literals step ls ∷ []) (cut_before a keep found.next) count budget false) pushed_is;
     }))
 
 -- what a term's index tells of its value

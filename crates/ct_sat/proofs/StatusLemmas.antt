@@ -1,7 +1,7 @@
 -- What a clause is under the trail, and propagation.
-use Rattle.std.proofs.Common.{◌≡◌, ℕ, ◌+◌, ◌⊎◌, inl, inr, List, [], ◌∷◌, ◌++◌, length, take, Option, Some, None, slice_get, All, Contains, refl, sym, ap, subst, ◌∙◌, arith}
+use Rattle.std.proofs.Common.{◌≡◌, ℕ, ◌+◌, ◌⊎◌, inl, inr, List, [], ◌∷◌, ◌++◌, length, Option, Some, None, slice_get, All, Contains, refl, sym, ap, subst, ◌∙◌, arith}
 use Rattle.std.proofs.lemmas.Option.{none-some, same_Some, slice_get_within}
-use Rattle.std.proofs.lemmas.List.{length_push, length-append, append-nil, append_assoc, take_at, take-append-le}
+use Rattle.std.proofs.lemmas.List.{length_push, append-nil, append_assoc, take_at, take-append-le}
 use Rattle.std.proofs.lemmas.List.Elements.{All-weaker, All-contains, All-push, All-nil, All-append, Contains-append_left, Contains-push}
 use Rattle.ct_lemmas.proofs.Contained.{Contains-from_slice_get}
 use Rattle.ct_lemmas.proofs.Lists.{slice_get-append_left, slice_get-last, slice_get-push_cases}
@@ -151,15 +151,3 @@ Propagated-examined clauses i c a b at (grows l is unit) = subst (Propagated cla
   reasons = λ h. HaveReasons-implied clauses a.literals a.reasons l i c h at unit.forced;
   over = All-push (λ l. (d : StepClause) × Contains clauses d × Contains d.literals l) [] l (All-nil (λ l. (d : StepClause) × Contains clauses d × Contains d.literals l)) (c, Contains-from_slice_get clauses i c at, unit.forced.inside);
 })
-
--- one clause more was looked at
-pub AllSettled-more : (clauses : List StepClause) (i : ℕ) (c : StepClause) (first a b : Assigned) → slice_get clauses i ≡ Some c → Propagated clauses first a → Examined a b c.literals i → (length a.literals ≡ length first.literals → All (λ d. IsSettled a.literals d.literals) (take i clauses)) → length b.literals ≡ length first.literals → All (λ d. IsSettled b.literals d.literals) (take i clauses ++ c ∷ [])
-AllSettled-more clauses i c first a b at so_far (stays same settled) all long =
-    subst (λ (x : Assigned). All (λ d. IsSettled x.literals d.literals) (take i clauses ++ c ∷ [])) (sym same)
-    (All-push (λ d. IsSettled a.literals d.literals) (take i clauses) c (all (ap (λ (x : Assigned). length x.literals) (sym same) ∙ long)) settled)
-AllSettled-more clauses i c first a b at so_far (grows l is unit) all long =
-    let grown : length b.literals ≡ length (a.literals ++ l ∷ []) = ap (λ (x : Assigned). length x.literals) is in
-    let one = length_push a.literals l in
-    let before : length a.literals ≡ length (first.literals ++ so_far.more) = ap length so_far.literals in
-    let more = length-append first.literals so_far.more in
-    absurd (omega arith)

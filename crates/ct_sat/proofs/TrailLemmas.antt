@@ -230,6 +230,7 @@ IsWhole-from literals reasons indices decided indexed decisions = record {
   few = indexed.few;
   consistent = AreIndexed-consistent literals reasons indices indexed;
   decisions = decisions;
+  below = λ i l at. slice_get_within indices l.term.0 (Some i) (indexed.indexed i l at);
 }
 
 -- a list is its first part and its last element

@@ -1,5 +1,5 @@
 -- What a decision does.
-use Rattle.std.specs.Prelude.{◌≡◌, ◌+◌, ◌<◌, [], ◌∷◌, ◌++◌, length, Contains}
+use Rattle.std.specs.Prelude.{◌≡◌, ◌+◌, ◌<◌, false, [], ◌∷◌, ◌++◌, length, Contains}
 use Rattle.ct_terms.specs.declared.ids.TermId.{TermId}
 use Rattle.ct_terms.specs.declared.ids.Lit.{Lit}
 use Rattle.ct_sat.specs.declared.decision.Decision.{Decision}
@@ -13,6 +13,7 @@ with_decision search l = record search {
   trail = search.trail ++ l ∷ [];
   decided = search.decided ++ record { literal = l; index = length search.trail } ∷ [];
   count = search.count + 1;
+  propagated = false;
 }
 
 -- the lowest variable without a value is made false

@@ -1,5 +1,5 @@
 -- What a conflict teaches (conflict-driven clause learning; Marques-Silva and Sakallah 1999).
-use Rattle.std.specs.Prelude.{◌≡◌, ℕ, ◌⊎◌, List, [], ◌∷◌, ◌++◌, take, Some, slice_get, All, Contains}
+use Rattle.std.specs.Prelude.{◌≡◌, ℕ, ◌⊎◌, false, List, [], ◌∷◌, ◌++◌, take, Some, slice_get, All, Contains}
 use Rattle.ct_terms.specs.declared.ids.Lit.{Lit}
 use Rattle.ct_terms.specs.Clause.{Clause, opposites}
 use Rattle.ct_terms.specs.Propagation.{IsFalseIn, AreFalseIn, IsUnit, IsNumbered}
@@ -54,6 +54,7 @@ pub record LearnsClause (old new : SearchState) (step : ℕ) (lits : Clause) (hi
     clauses = old.clauses ++ record { step = step; literals = lits } ∷ [];
     trail = take next.index old.trail;
     decided = take keep old.decided;
+    propagated = false;
   }
 
 -- no decision stands and the empty clause follows; nothing changes

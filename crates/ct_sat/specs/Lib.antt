@@ -6,4 +6,6 @@ pub mod Status
 pub mod Decision
 pub mod Learning
 pub mod Analysis
+pub mod Watches
+pub mod Watching
 pub mod Stored

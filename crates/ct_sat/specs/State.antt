@@ -1,5 +1,5 @@
 -- What contracts see of a search, and what always holds of it.
-use Rattle.std.specs.Prelude.{◌≡◌, ℕ, ◌<◌, ◌≤◌, ◌⊎◌, List, [], ◌++◌, map, take, Some, slice_get, All, Contains}
+use Rattle.std.specs.Prelude.{◌≡◌, ℕ, ◌<◌, ◌≤◌, ◌⊎◌, Bool, false, List, [], ◌++◌, map, take, Some, slice_get, All, Contains}
 use Rattle.ct_terms.specs.declared.ids.TermId.{TermId}
 use Rattle.ct_terms.specs.declared.ids.Lit.{Lit}
 use Rattle.ct_terms.specs.Terms.{Terms}
@@ -11,7 +11,8 @@ use Rattle.ct_sat.specs.declared.decided.Decided.{Decided}
 use Rattle.ct_sat.specs.Up.{IsForced, Up, IsAssigned}
 
 -- the variables, the clauses with the numbers of their steps, the literals made true in order, those of them that
--- were decided with the index at which each stands, the decisions made so far, and how many may be made
+-- were decided with the index at which each stands, the decisions made so far, how many may be made, and whether the last
+-- propagation gave no conflict and nothing was added or decided since
 pub record SearchState : Type 0 where
   pub variables : List TermId
   pub clauses : List StepClause
@@ -19,6 +20,7 @@ pub record SearchState : Type 0 where
   pub decided : List Decided
   pub count : ℕ
   pub budget : ℕ
+  pub propagated : Bool
 
 -- the clauses without their numbers
 abbrev pub clauses_of : List StepClause → List Clause
@@ -34,7 +36,7 @@ FollowsByUnits search = Up (clauses_of search.clauses) (literals_of search.decid
 
 -- a search over these variables that has done nothing
 abbrev pub begun : List TermId → ℕ → SearchState
-begun variables budget = record { variables = variables; clauses = []; trail = []; decided = []; count = 0; budget = budget }
+begun variables budget = record { variables = variables; clauses = []; trail = []; decided = []; count = 0; budget = budget; propagated = false }
 
 -- the numbers of the terms increase
 abbrev pub AreIncreasing : List TermId → Type 0
@@ -102,6 +104,6 @@ HaveValues search = (t : TermId) → Contains search.variables t → IsAssigned 
 abbrev pub LacksValue : SearchState → Type 0
 LacksValue search = (t : TermId) × Contains search.variables t × (IsAssigned (Contains search.trail) t → ⊥)
 
--- literals were put at the end of the trail, and nothing else changed
+-- literals were put at the end of the trail, and nothing else changed but whether it is propagated
 abbrev pub AppendsTo : SearchState → SearchState → Type 0
-AppendsTo old new = (more : List Lit) × (new ≡ record old { trail = old.trail ++ more })
+AppendsTo old new = (more : List Lit) × (new ≡ record old { trail = old.trail ++ more; propagated = new.propagated })

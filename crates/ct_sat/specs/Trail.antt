@@ -35,6 +35,7 @@ pub record IsWhole (a : Assigned) : Type 0 where
   pub few : a.room < 2 ^ 32
   pub consistent : IsConsistent a.literals
   pub decisions : AreDecisions a.literals a.reasons a.decided
+  pub below : (i : ℕ) (l : Lit) → slice_get a.literals i ≡ Some l → l.term.0 < a.room
 
 -- what is told of a literal is so where those of the list are true
 abbrev pub IsValue : List Lit → Lit → Value → Type 0

@@ -14,6 +14,7 @@ ghost use Rattle.ct_sat.specs.Analysis.{Leads, GoesDown, HasNoMark, HasNoDecisio
 use crate::clause::StepClause;
 use crate::decided::Decided;
 use crate::marks::{lower, mark, top};
+use crate::minimise::covering_reason;
 use crate::trail::Trail;
 use ct_terms::Lit;
 use std::alloc::{AllocError, Global};
@@ -48,7 +49,7 @@ pub(crate) fn analyse(
     let mut lits = Vec::new(alloc);
     let (start, unique) = locate(trail, clauses, conflict, &mut marks, &mut hints)?;
     lits.push(opposite(trail, unique))?;
-    let above = collect(trail, &marks, &mut lits, start)?;
+    let above = collect(trail, clauses, &mut marks, &mut hints, &mut lits, start)?;
     let keep = decisions_before(trail.decided(), above);
     let first = trail.decided()[0].index;
     explain(trail, clauses, &mut marks, &mut hints, first)?;
@@ -247,19 +248,24 @@ fn reason_of<'a>(trail: &Trail, clauses: &'a [StepClause], index: usize) -> &'a 
     }
 }
 
-// Puts the opposites of the marked literals from the first decision up to `start` into the clause. Answers an index
-// before which they all stand; 0 where there is none.
+// Puts the opposites of the marked literals from the first decision up to `start` into the clause, or explains them, where
+// others imply them. Answers an index before which those all stand that were put; 0 where there is none.
 fn collect(
     trail: &Trail,
-    marks: &Vec<bool>,
+    clauses: &[StepClause],
+    marks: &mut Vec<bool>,
+    hints: &mut Vec<u64>,
     lits: &mut Vec<Lit>,
     start: usize,
 ) -> Result<usize, AllocError>
-    requires long { length marks.now.items ≡ length trail.now.literals }
+    requires within { All (λ c. All (λ l. l.term.0 < trail.now.room) c.literals) clauses.now }
+    requires reasons { HaveReasons clauses.now trail.now.literals trail.now.reasons }
+    requires long { length marks.old.items ≡ length trail.now.literals }
     requires start { IsStart trail.now.decided start }
-    ensures leads { IfOk result (λ r. (clauses : List StepClause) (hints : List ℕ) (conflict : Clause) (d : Decided) → slice_get trail.now.decided 0 ≡ Some d
-        → Leads clauses trail.now.literals marks.now.items hints start lits.old.items conflict
-        → Leads clauses trail.now.literals marks.now.items hints d.index lits.new.items conflict) }
+    ensures leads { IfOk result (λ r. (conflict : Clause) (d : Decided) → slice_get trail.now.decided 0 ≡ Some d
+        → Leads clauses.now trail.now.literals marks.old.items hints.old.items start lits.old.items conflict
+        → Leads clauses.now trail.now.literals marks.new.items hints.new.items d.index lits.new.items conflict) }
+    ensures long { length marks.new.items ≡ length marks.old.items }
     ensures above { IfOk result (λ r. r ≤ start) }
     ensures collects { IfOk result (λ r. Collects trail.now.literals r lits.old.items lits.new.items) }
 {
@@ -268,9 +274,66 @@ fn collect(
     let mut index = start;
     while index > first {
         index -= 1;
-        above = put_marked(trail, marks, lits, index, above)?;
+        above = put_or_explain(trail, clauses, marks, hints, lits, index, first, above)?;
     }
     Ok(above)
+}
+
+// Puts the opposite of the literal at the index into the clause, if it is marked, or explains it, where others imply it.
+fn put_or_explain(
+    trail: &Trail,
+    clauses: &[StepClause],
+    marks: &mut Vec<bool>,
+    hints: &mut Vec<u64>,
+    lits: &mut Vec<Lit>,
+    index: usize,
+    first: usize,
+    above: usize,
+) -> Result<usize, AllocError>
+    requires within { All (λ c. All (λ l. l.term.0 < trail.now.room) c.literals) clauses.now }
+    requires reasons { HaveReasons clauses.now trail.now.literals trail.now.reasons }
+    requires long { length marks.old.items ≡ length trail.now.literals }
+    requires fits { index < length trail.now.literals }
+    ensures leads { OnOk result ((conflict : Clause)
+        → Leads clauses.now trail.now.literals marks.old.items hints.old.items (index + 1) lits.old.items conflict
+        → Leads clauses.now trail.now.literals marks.new.items hints.new.items index lits.new.items conflict) }
+    ensures long { length marks.new.items ≡ length marks.old.items }
+    ensures above { IfOk result (λ r. (start : ℕ) → index < start → IsAbove (index + 1) above start → IsAbove index r start) }
+    ensures collects { IfOk result (λ r. (start : ℕ) (older : Clause) → IsAbove (index + 1) above start
+        → Collects trail.now.literals above older lits.old.items → Collects trail.now.literals r older lits.new.items) }
+{
+    match covering_reason(trail, clauses, marks, index, first) {
+        Some(reason) => {
+            explain_by(trail, clauses, marks, hints, index, reason)?;
+            Ok(above)
+        }
+        None => {
+            let above = put_marked(trail, marks, lits, index, above)?;
+            Ok(above)
+        }
+    }
+}
+
+// Explains the literal at the index by its reason, which is the clause with this index.
+fn explain_by(
+    trail: &Trail,
+    clauses: &[StepClause],
+    marks: &mut Vec<bool>,
+    hints: &mut Vec<u64>,
+    index: usize,
+    reason: usize,
+) -> Result<(), AllocError>
+    requires within { All (λ c. All (λ l. l.term.0 < trail.now.room) c.literals) clauses.now }
+    requires long { length marks.old.items ≡ length trail.now.literals }
+    requires reason { (c : StepClause) × (slice_get clauses.now reason ≡ Some c) × IsReason clauses.now trail.now.literals index c }
+    ensures down { OnOk result (GoesDown clauses.now trail.now.literals marks.old.items hints.old.items (index + 1) marks.new.items hints.new.items index) }
+    ensures long { length marks.new.items ≡ length marks.old.items }
+{
+    let _count = trail.len();
+    let clause = &clauses[reason];
+    hints.push(clause.step)?;
+    mark(trail, clause.literals.as_slice(), marks);
+    Ok(())
 }
 
 // Puts the opposite of the literal at the index into the clause, if it is marked.
@@ -297,10 +360,11 @@ fn put_marked(
     Ok(if above == 0 { index + 1 } else { above })
 }
 
-// The opposite of the literal at the index.
-fn opposite(trail: &Trail, index: usize) -> Lit
+/// The opposite of the literal at the index.
+pub(crate) fn opposite(trail: &Trail, index: usize) -> Lit
     requires fits { index < length trail.now.literals }
     ensures value { (l : Lit) × (slice_get trail.now.literals index ≡ Some l) × (result ≡ negated l) }
+    ensures whole { IsWhole trail.now }
 {
     let l = trail.literals()[index];
     Lit {

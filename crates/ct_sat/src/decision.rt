@@ -1,5 +1,5 @@
 //! What a decision answers, and the variable that is decided next.
-ghost use Rattle.std.specs.Prelude.{◌≡◌, ◌<◌, All, Contains, MatchOption};
+ghost use Rattle.std.specs.Prelude.{◌≡◌, ◌<◌, take, All, Contains, MatchOption};
 ghost use Rattle.ct_terms.specs.declared.ids.TermId.{TermId};
 ghost use Rattle.ct_sat.specs.Up.{IsAssigned, IsLowest};
 ghost use Rattle.ct_sat.specs.State.{AreIncreasing};
@@ -18,17 +18,21 @@ pub enum Decision {
     Spent,
 }
 
-/// The lowest variable without a value.
-pub(crate) fn lowest(trail: &Trail, variables: &[TermId]) -> Option<TermId>
+/// The lowest variable without a value, given that those before the cursor have one. The cursor is moved to it.
+pub(crate) fn lowest(trail: &Trail, variables: &[TermId], cursor: &mut usize) -> Option<TermId>
     requires within { All (λ t. t.0 < trail.now.room) variables.now }
     requires increasing { AreIncreasing variables.now }
+    requires before { All (IsAssigned (Contains trail.now.literals)) (take cursor.old variables.now) }
+    ensures before { All (IsAssigned (Contains trail.now.literals)) (take cursor.new variables.now) }
     ensures lowest { MatchOption result (All (IsAssigned (Contains trail.now.literals)) variables.now)
         (IsLowest variables.now (Contains trail.now.literals)) }
 {
-    for variable in variables {
-        if trail.index(*variable).is_none() {
-            return Some(*variable);
+    'variables: while *cursor < variables.len() {
+        let variable = variables[*cursor];
+        if trail.index(variable).is_none() {
+            return Some(variable);
         }
+        *cursor += 1;
     }
     None
 }

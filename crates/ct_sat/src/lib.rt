@@ -2,18 +2,26 @@
 #![tactic(auto)]
 
 mod analysis;
+mod attach;
+mod choose;
 mod clause;
 mod decided;
 mod decision;
 mod error;
 mod learned;
 mod marks;
+mod minimise;
+mod progress;
 mod propagate;
 mod search;
 mod status;
+mod store;
 mod theorems;
 mod trail;
 mod value;
+mod visit;
+mod watch;
+mod watches;
 
 pub use clause::StepClause;
 pub use decided::Decided;

@@ -1,5 +1,7 @@
 //! The search: clauses, trail and decisions.
-ghost use Rattle.std.specs.Prelude.{◌≡◌, ℕ, ◌↔◌, [], ◌∷◌, ◌++◌, ◌<◌, length, All, Some, slice_get, Contains, MatchBool, OnOk, IfOk, MatchOption};
+ghost use Rattle.std.specs.Prelude.{◌≡◌, ℕ, ◌↔◌, [], ◌∷◌, ◌++◌, ◌<◌, length, take, true, false, vec_capacity, All, Some, None, slice_get, Contains, MatchBool, OnOk, IfOk, IfSome, MatchOption};
+ghost use Rattle.ct_sat.specs.declared.progress.Saved.{Saved};
+ghost use Rattle.ct_sat.specs.Watching.{IsGoneBack, HasNoTwo, IsPairOf, AreWellWatched};
 ghost use Rattle.ct_terms.specs.declared.ids.TermId.{TermId};
 ghost use Rattle.ct_sat.specs.State.{begun, AreVariables, AreOver, IsFresh, IsSound, IsConflict, IsQuiet, HaveValues, LacksValue};
 ghost use Rattle.ct_sat.specs.State.{FollowsByUnits, AppendsTo};
@@ -9,12 +11,16 @@ ghost use Rattle.ct_sat.specs.Decision.{Leaves};
 ghost use Rattle.ct_sat.specs.Learning.{Learns};
 
 use crate::analysis::{analyse, refute};
+use crate::choose::is_one;
 use crate::clause::StepClause;
 use crate::decision::{Decision, lowest};
 use crate::error::SatError;
 use crate::learned::Learned;
+use crate::progress::{Progress, Saved};
 use crate::propagate::propagate_all;
+use crate::store::{make_room, put};
 use crate::trail::Trail;
+use crate::watches::{Watches, no_watches};
 use ct_sorts::{Items, SortId};
 use ct_terms::{Core, Lit, TermId, TermTable};
 use std::alloc::{AllocError, Global};
@@ -30,17 +36,35 @@ pub struct Search {
     trail: Trail,
     count: u64,
     budget: u64,
+    watches: Watches,
+    // The indices of the clauses that have fewer than two different literals.
+    short: Vec<usize>,
+    progress: Progress,
+    // With each decision, how far propagation had come.
+    saved: Vec<Saved>,
+    // How many variables, the lowest ones, are known to have a value.
+    cursor: usize,
+    // The index of the clause that propagation found false last.
+    conflict: usize,
+    // Whether the last propagation found no conflict, and nothing was added or decided since.
+    propagated: bool,
 }
 
 impl Model for Search {
     ghost use Rattle.ct_sat.specs.State.{SearchState};
-    ghost use Rattle.ct_sat.specs.Stored.{IsSearch};
+    ghost use Rattle.std.specs.Prelude.{◌≡◌, ◌≤◌, true, vec_capacity};
+    ghost use Rattle.ct_sat.specs.Stored.{IsSearch, IsCursor};
+    ghost use Rattle.ct_sat.specs.Watching.{AreWatching, IsAtRest};
 
     ghost Value = { SearchState };
 
-    ghost view = { λ s. record { variables = s.variables.items; clauses = s.clauses.items; trail = s.trail.literals; decided = s.trail.decided; count = s.count; budget = s.budget } };
+    ghost view = { λ s. record { variables = s.variables.items; clauses = s.clauses.items; trail = s.trail.literals; decided = s.trail.decided; count = s.count; budget = s.budget; propagated = s.propagated } };
 
-    ghost invariant = { λ s. IsSearch s.variables.items s.clauses.items s.trail s.count s.budget };
+    ghost invariant = { λ s. IsSearch s.variables.items s.clauses.items s.trail s.count s.budget
+        × AreWatching s.clauses.items s.trail s.watches.of_clauses.items s.watches.lists.items s.short.items s.saved.items s.progress
+        × (s.trail.room ≤ vec_capacity s.saved)
+        × (s.propagated ≡ true → IsAtRest s.clauses.items s.trail s.short.items s.progress)
+        × IsCursor s.variables.items s.trail s.saved.items s.cursor };
 }
 
 impl Search {
@@ -50,7 +74,8 @@ impl Search {
         ensures begun { IfOk result (λ s. s ≡ begun s.variables budget) }
         ensures variables { IfOk result (λ s. AreVariables table.now s.variables) }
     {
-        let trail = Trail::new(alloc, table.len())?;
+        let terms = table.len();
+        let trail = Trail::new(alloc, terms)?;
         Ok(Search {
             alloc,
             variables: variables_of(alloc, table)?,
@@ -58,6 +83,18 @@ impl Search {
             trail,
             count: 0,
             budget,
+            watches: no_watches(alloc, terms)?,
+            short: Vec::new(alloc),
+            progress: Progress {
+                linked: 0,
+                settled: 0,
+                head: 0,
+                low: usize::MAX,
+            },
+            saved: Vec::with_capacity(alloc, terms as usize)?,
+            cursor: 0,
+            conflict: 0,
+            propagated: false,
         })
     }
 
@@ -66,10 +103,21 @@ impl Search {
     pub fn add_clause(&mut self, lits: &[Lit], step: u64) -> Result<(), SatError>
         requires over { AreOver self.old.variables lits.now }
         requires fresh { IsFresh self.old.clauses step }
-        ensures added { OnOk result (self.new ≡ record self.old { clauses = self.old.clauses ++ record { step = step; literals = lits.now } ∷ [] }) }
+        ensures added { OnOk result (self.new ≡ record self.old { clauses = self.old.clauses ++ record { step = step; literals = lits.now } ∷ []; propagated = false }) }
     {
         let literals = Items::new(Vec::from_slice(self.alloc, lits)?);
-        self.clauses.push(StepClause { step, literals })?;
+        make_room(
+            &mut self.clauses,
+            &mut self.watches.of_clauses,
+            &mut self.short,
+        )?;
+        put(
+            &mut self.clauses,
+            &mut self.watches.of_clauses,
+            &mut self.short,
+            StepClause { step, literals },
+        );
+        self.propagated = false;
         Ok(())
     }
 
@@ -79,10 +127,25 @@ impl Search {
         ensures appends { AppendsTo self.old self.new }
         ensures sound { IsSound self.new }
         ensures quiet { MatchOption result (IsQuiet self.new) (IsConflict self.new) }
+        ensures marked { (self.new.propagated ≡ true) ↔ (result ≡ None) }
     {
-        match propagate_all(&mut self.trail, self.clauses.as_slice()) {
-            None => None,
-            Some(index) => Some(self.clauses[index].step),
+        let conflict = propagate_all(
+            &mut self.trail,
+            self.clauses.as_slice(),
+            &mut self.watches,
+            self.short.as_slice(),
+            &mut self.progress,
+        );
+        match conflict {
+            None => {
+                self.propagated = true;
+                None
+            }
+            Some(index) => {
+                self.propagated = false;
+                self.conflict = index;
+                Some(self.clauses[index].step)
+            }
         }
     }
 
@@ -93,7 +156,8 @@ impl Search {
         ensures spent { (result ≡ Decision.Spent) ↔ (LacksValue self.old × (self.old.count ≡ self.old.budget)) }
         ensures leaves { Leaves self.old self.new result }
     {
-        match lowest(&self.trail, self.variables.as_slice()) {
+        let mut cursor = self.cursor;
+        match lowest(&self.trail, self.variables.as_slice(), &mut cursor) {
             None => Decision::All,
             Some(term) => {
                 if self.count == self.budget {
@@ -104,6 +168,14 @@ impl Search {
                     positive: false,
                 };
                 self.trail.decide(literal);
+                let _count = self.trail.len();
+                self.saved.push_reserved(Saved {
+                    head: self.progress.head,
+                    settled: self.progress.settled,
+                    cursor,
+                });
+                self.cursor = cursor;
+                self.propagated = false;
                 self.count += 1;
                 Decision::Took(literal)
             }
@@ -119,7 +191,10 @@ impl Search {
         requires fresh { IsFresh self.old.clauses step }
         ensures learned { IfOk result (Learns self.old self.new step) }
     {
-        let index = index_of(self.clauses.as_slice(), conflict);
+        let index = match find(self.clauses.as_slice(), conflict, self.conflict) {
+            Some(index) => index,
+            None => unreachable!(),
+        };
         if self.trail.decided().is_empty() {
             let hints = refute(self.alloc, &self.trail, self.clauses.as_slice(), index)?;
             return Ok(Learned::Empty {
@@ -128,13 +203,50 @@ impl Search {
         }
         let found = analyse(self.alloc, &self.trail, self.clauses.as_slice(), index)?;
         let literals = Items::new(Vec::from_slice(self.alloc, found.lits.as_slice())?);
-        self.clauses.push(StepClause { step, literals })?;
+        make_room(
+            &mut self.clauses,
+            &mut self.watches.of_clauses,
+            &mut self.short,
+        )?;
+        put(
+            &mut self.clauses,
+            &mut self.watches.of_clauses,
+            &mut self.short,
+            StepClause { step, literals },
+        );
         self.trail.cut_to(found.keep);
+        self.cursor = self.saved[found.keep].cursor;
+        go_back(
+            &mut self.progress,
+            &mut self.saved,
+            found.keep,
+            self.trail.len(),
+        );
+        self.propagated = false;
         Ok(Learned::Clause {
             lits: Items::new(found.lits),
             hints: Items::new(found.hints),
             keep: found.keep as u32,
         })
+    }
+
+    /// The two watched literals of the clause of this step, which differ. None exactly where there is no such clause or it
+    /// has no two different literals. Once `propagate` has answered none, and until something is added or decided, neither
+    /// of the two is false, or one is true. Takes no memory.
+    pub fn watches(&self, step: u64) -> Option<(Lit, Lit)>
+        ensures watched { MatchOption result (HasNoTwo self.now.clauses step) (λ r. IsPairOf self.now.clauses step r.0 r.1) }
+        ensures well { self.now.propagated ≡ true → IfSome result (λ r. AreWellWatched self.now.trail r.0 r.1) }
+    {
+        match find(self.clauses.as_slice(), step, 0) {
+            None => None,
+            Some(index) => {
+                let watch = self.watches.of_clauses[index];
+                if is_one(watch.one, watch.other) {
+                    return None;
+                }
+                Some((watch.one, watch.other))
+            }
+        }
     }
 
     /// How many decisions were made in all.
@@ -181,14 +293,37 @@ fn is_variable(table: &TermTable, t: TermId) -> bool
     }
 }
 
-// The index of the clause with this number.
-fn index_of(clauses: &[StepClause], step: u64) -> usize
-    requires listed { (c : StepClause) × (c.step ≡ step) × Contains clauses.now c }
-    ensures found { (c : StepClause) × (slice_get clauses.now result ≡ Some c) × (c.step ≡ step) }
+// The index of the clause with this number, looked for at the guess and then from the last one on; none where there is no
+// such clause.
+fn find(clauses: &[StepClause], step: u64, guess: usize) -> Option<usize>
+    ensures found { MatchOption result (IsFresh clauses.now step) (λ i. (c : StepClause) × (slice_get clauses.now i ≡ Some c) × (c.step ≡ step)) }
 {
-    let mut index = 0;
-    while clauses[index].step != step {
-        index += 1;
+    if guess < clauses.len() && clauses[guess].step == step {
+        return Some(guess);
     }
-    index
+    let mut index = clauses.len();
+    'clauses: while index > 0 {
+        index -= 1;
+        if clauses[index].step == step {
+            return Some(index);
+        }
+    }
+    None
+}
+
+// Goes back to how far propagation had come when the first decision was made that is not kept, which stood at the index.
+fn go_back(progress: &mut Progress, saved: &mut Vec<Saved>, keep: usize, index: usize)
+    requires fits { keep < length saved.old.items }
+    ensures saved { saved.new.items ≡ take keep saved.old.items }
+    ensures capacity { vec_capacity saved.new ≡ vec_capacity saved.old }
+    ensures back { (s : Saved) → slice_get saved.old.items keep ≡ Some s → IsGoneBack progress.old s index progress.new }
+{
+    let Saved { head, settled, .. } = saved[keep];
+    let low = progress.low;
+    progress.settled = settled;
+    progress.head = if head < low { head } else { low };
+    if index <= low {
+        progress.low = usize::MAX;
+    }
+    saved.truncate(keep);
 }

@@ -91,6 +91,7 @@ impl Trail {
     pub(crate) fn value(&self, l: Lit) -> Value
         requires within { l.term.0 < self.now.room }
         ensures value { IsValue self.now.literals l result }
+        ensures whole { IsWhole self.now }
     {
         match self.index(l.term) {
             None => Value::Unset,

@@ -30,7 +30,7 @@ returns c =
     let down = rw c.decided-2.ensures.value at c.in_ok-explain.ensures.down in
     record {
       analysed = rw c.in_ok-finish.ensures.hints
-          (analysed c.args.clauses.now c.args.trail.now.literals c.args.trail.now.reasons c.args.trail.now.decided c.locate.new.marks.items c.explain.new.marks.items c.locate.new.hints.items c.explain.new.hints.items c.collect.new.lits.items c.index-clauses-conflict.result c.decisions_before-keep.result c.in_ok-start.start c.in_ok-start.unique c.in_ok-above.above c.opposite.ensures.value.0 (get_or c.args.trail.now.decided 0 default)
+          (analysed c.args.clauses.now c.args.trail.now.literals c.args.trail.now.reasons c.args.trail.now.decided c.locate.new.marks.items c.collect.new.marks.items c.explain.new.marks.items c.locate.new.hints.items c.collect.new.hints.items c.explain.new.hints.items c.collect.new.lits.items c.index-clauses-conflict.result c.decisions_before-keep.result c.in_ok-start.start c.in_ok-start.unique c.in_ok-above.above c.opposite.ensures.value.0 (get_or c.args.trail.now.decided 0 default)
           c.len.ensures.whole.consistent c.len.ensures.whole.decisions
           (listed_at c.args.clauses.now c.args.trail.now.literals c.args.conflict c.index-clauses-conflict.result c.requires.conflict c.index-clauses-conflict.is) c.in_ok-start.ensures.located c.opposite.ensures.value.1 (slice_get-get_or c.args.trail.now.decided 0 default c.requires.decided) collected down c.in_ok-above.ensures.above collects before);
     }

@@ -1,12 +1,12 @@
-use Rattle.std.proofs.Common.{ℕ, ◌≤◌, ◌-◌, List}
+use Rattle.std.proofs.Common.{◌≡◌, ◌≤◌, ◌-◌, length}
 use Rattle.ct_terms.specs.Clause.{Clause}
-use Rattle.ct_sat.specs.declared.clause.StepClause.{StepClause}
 use Rattle.ct_sat.specs.Analysis.{Leads, Collects, IsAbove}
 use Rattle.ct_sat.proofs.analysis.collect.Given as goal
 
 abbrev pub invariant-loop-index : goal.invariant-loop-index
 invariant-loop-index l = record {
-  leads : (clauses : List StepClause) (hints : List ℕ) (conflict : Clause) → Leads clauses l.trail.literals l.marks.items hints l.start l.initial.lits.items conflict → Leads clauses l.trail.literals l.marks.items hints l.index l.lits.items conflict;
+  leads : (conflict : Clause) → Leads l.clauses l.trail.literals l.initial.marks.items l.initial.hints.items l.start l.initial.lits.items conflict → Leads l.clauses l.trail.literals l.marks.items l.hints.items l.index l.lits.items conflict;
+  long : length l.marks.items ≡ length l.initial.marks.items;
   collects : Collects l.trail.literals l.above l.initial.lits.items l.lits.items;
   above : IsAbove l.index l.above l.start;
   index : l.index ≤ l.start;
