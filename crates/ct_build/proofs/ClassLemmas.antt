@@ -1,7 +1,8 @@
 -- A node for each class after a well-formed graph keeps it well formed.
-use Rattle.std.proofs.Common.{◌≡◌, ℕ, zero, suc, ◌+◌, ◌<◌, List, [], ◌∷◌, ◌++◌, length, slice_get, Some, option_map, refl, sym, ◌∙◌, ap, subst, inl, inr, arith, All}
-use Rattle.std.specs.List.{AllZip}
+use Rattle.std.proofs.Common.{◌≡◌, ℕ, zero, suc, ◌+◌, ◌<◌, List, [], ◌∷◌, ◌++◌, length, map, slice_get, Some, option_map, refl, sym, ◌∙◌, ap, subst, inl, inr, arith, All}
+use Rattle.std.specs.List.{AllZip, AllByRecursion}
 use Rattle.std.proofs.lemmas.Option.{none-some, same_Some, slice_get_within, slice_get-get_or}
+use Rattle.ct_lemmas.proofs.Each.{All-from_slice_get}
 use Rattle.ct_lemmas.proofs.Lists.{slice_get-append_after, slice_get-append_cases, slice_get-map_source, slice_get-there}
 use Rattle.ct_sorts.specs.declared.ids.CtorId.{CtorId}
 use Rattle.ct_sorts.specs.declared.ids.SelId.{SelId}
@@ -9,7 +10,7 @@ use Rattle.ct_sorts.specs.declared.ids.SortId.{SortId}
 use Rattle.ct_sorts.specs.Declarations.{Declarations, Constructor}
 use Rattle.ct_values.specs.declared.node.NodeId.{NodeId}
 use Rattle.ct_values.specs.declared.node.Node.{Node}
-use Rattle.ct_values.specs.Graph.{Nodes, HasChildrenBelow, node_children}
+use Rattle.ct_values.specs.Graph.{Nodes, IsClosed, HasChildrenBelow, node_children}
 use Rattle.ct_values.specs.Fitting.{HasNodeSort, IsNodeOfField, FitsNode, node_sort}
 use Rattle.ct_values.specs.WellFormed.{IsData, IsWellFormedGraph}
 use Rattle.ct_terms.specs.declared.ids.TermId.{TermId}
@@ -18,10 +19,10 @@ use Rattle.ct_terms.specs.Terms.{IsOfSort, IsOfField, AreSorted}
 use Rattle.ct_rules.specs.Cycle.{IsOfDatatype}
 use Rattle.ct_congr.specs.State.{State, AreEqual}
 use Rattle.ct_acyclic.specs.Order.{IsClassOrder}
-use Rattle.ct_build.specs.Nodes.{HaveSortedNodes, IsClassList, AreNumbered, AreClassNodes}
+use Rattle.ct_build.specs.Nodes.{HaveSortedNodes, IsClassList, IsReserved, AreClassNodes}
 use Rattle.ct_eval.specs.EvaluationStep.{node_under}
 use Rattle.ct_build.proofs.ListLemmas.{AllZip-map}
-use Rattle.ct_build.proofs.GraphLemmas.{longer_sort, longer_fits, fits_within, fitting_below, well_formed_longer, sort_within, one_node_sort}
+use Rattle.ct_build.proofs.GraphLemmas.{longer_fits, fits_within, well_formed_longer, one_node_sort}
 use Rattle.ct_build.proofs.TermLemmas.{one_term_sort}
 
 abbrev pub HaveOneSort : State → Type 0
@@ -53,7 +54,9 @@ order_at state order list listed i r at is =
       | inr (k, e, h) ↦ absurd ((listed.others k r h).other is)
     ]
 
-module _ (state : State) (sorted : AreSorted state.declarations state.terms) (one_sort : HaveOneSort state) (long : length state.reps ≡ length state.terms) (order list : List TermId) (ordered : IsClassOrder state order) (listed : IsClassList state order list) (g : Nodes) (formed : IsWellFormedGraph state.declarations g) (nodes_of : List NodeId) (numbered : AreNumbered state g list nodes_of) (added : List Node) (are : AreClassNodes state g list nodes_of added) where
+module _ (state : State) (sorted : AreSorted state.declarations state.terms) (one_sort : HaveOneSort state) (long : length state.reps ≡ length state.terms) (order list : List TermId) (ordered : IsClassOrder state order) (listed : IsClassList state order list) (g : Nodes) (formed : IsWellFormedGraph state.declarations g) (values : List NodeId) (have : HaveSortedNodes state.declarations state.terms g values) (nodes_of : List NodeId) (many : length nodes_of ≡ length state.terms)
+    (reserved_of : (t r : TermId) → slice_get state.reps t.0 ≡ Some r → (n : NodeId) × (slice_get nodes_of t.0 ≡ Some n) × IsReserved list (length g) r n)
+    (added : List Node) (are : AreClassNodes state g values list nodes_of added) where
   abbrev d : Declarations
   d = state.declarations
 
@@ -82,7 +85,7 @@ module _ (state : State) (sorted : AreSorted state.declarations state.terms) (on
             let same : of.stands.0 ≡ s = one_term_sort state.terms of.con of.stands.0 s (Con of.ctor of.args, of.stands.1) (one_sort r of.con s of.equal has) in
             ap (node_sort d) of.is ∙ ap (option_map (λ (k : Constructor). k.sort)) built.declared ∙ ap Some (sym built.result ∙ same)
         | inr copied ↦
-            let here = copied.sorted s has in
+            let here = have.sorted r s copied.copied has copied.value in
             let same : here.0 ≡ node = same_Some here.0 node (sym here.1 ∙ copied.at) in
             ap (node_sort d) (sym same) ∙ here.2
       ]
@@ -100,14 +103,13 @@ module _ (state : State) (sorted : AreSorted state.declarations state.terms) (on
   has_node : (t : TermId) (s : SortId) (n : NodeId) → IsOfSort state.terms t s → slice_get nodes_of t.0 ≡ Some n → HasNodeSort d longer n s
   has_node t s n has at =
       let rep = rep_of t s has in
-      elim (numbered.each t rep.0 s n rep.1 has at) [
-        | inl h ↦ longer_sort d g added n s h
-        | inr reserved ↦ reserved_sort reserved.index rep.0 n s reserved.listed reserved.number (one_sort t rep.0 s (rep.0, rep.1, own reserved.index rep.0 reserved.listed) has)
-      ]
+      let (m, at_m, place) = reserved_of t rep.0 rep.1 in
+      let number : n.0 ≡ length g + place.index = ap (λ (q : NodeId). q.0) (same_Some n m (sym at ∙ at_m)) ∙ place.number in
+      reserved_sort place.index rep.0 n s place.listed number (one_sort t rep.0 s (rep.0, rep.1, own place.index rep.0 place.listed) has)
 
   -- the node of a term that has a sort
   under_at : (t : TermId) (s : SortId) → IsOfSort state.terms t s → slice_get nodes_of t.0 ≡ Some (node_under nodes_of t)
-  under_at t s has = slice_get-get_or nodes_of t.0 (record { 0 = 0 }) (omega (arith, numbered.long, slice_get_within state.terms t.0 (has.0, s) has.1))
+  under_at t s has = slice_get-get_or nodes_of t.0 (record { 0 = 0 }) (omega (arith, many, slice_get_within state.terms t.0 (has.0, s) has.1))
 
   field_node : (t : TermId) (sel : SelId) → IsOfField d state.terms t sel → IsNodeOfField d longer (node_under nodes_of t) sel
   field_node t sel is = record {
@@ -163,15 +165,13 @@ module _ (state : State) (sorted : AreSorted state.declarations state.terms) (on
             let field = argument_sort of.args built.ctor.sels k source.0 built.fields source.1 in
             let at_child : slice_get nodes_of source.0.0 ≡ Some child = under_at source.0 field.0 field.1 ∙ ap Some source.2 in
             let rep_a = rep_of source.0 field.0 field.1 in
-            elim (numbered.each source.0 rep_a.0 field.0 child rep_a.1 field.1 at_child) [
-              | inl h ↦ omega (arith, sort_within d g child field.0 h)
-              | inr reserved ↦
-                  let own_sort = sort_at i r rep.1 in
-                  let data_r = datatype_of r own_sort.0 (record { 0 = length g + i }) own_sort.1 (reserved_sort i r (record { 0 = length g + i }) own_sort.0 rep.1 refl own_sort.1) is_data in
-                  let data_a = datatype_of source.0 field.0 child field.1 (has_node source.0 field.0 child field.1 at_child) data_child in
-                  let less : reserved.index < i = argument_before i reserved.index k r source.0 rep_a.0 field.0 of.con of.ctor of.args of.equal of.stands source.1 rep.1 reserved.listed rep_a.1 data_r data_a in
-                  omega (arith, less, reserved.number)
-            ]
+            let (m, at_m, place) = reserved_of source.0 rep_a.0 rep_a.1 in
+            let number : child.0 ≡ length g + place.index = ap (λ (q : NodeId). q.0) (same_Some child m (sym at_child ∙ at_m)) ∙ place.number in
+            let own_sort = sort_at i r rep.1 in
+            let data_r = datatype_of r own_sort.0 (record { 0 = length g + i }) own_sort.1 (reserved_sort i r (record { 0 = length g + i }) own_sort.0 rep.1 refl own_sort.1) is_data in
+            let data_a = datatype_of source.0 field.0 child field.1 (has_node source.0 field.0 child field.1 at_child) data_child in
+            let less : place.index < i = argument_before i place.index k r source.0 rep_a.0 field.0 of.con of.ctor of.args of.equal of.stands source.1 rep.1 place.listed rep_a.1 data_r data_a in
+            omega (arith, less, number)
         | inr copied ↦
             let within : child.0 < length g = fits_within d g node k child (formed.fits copied.copied.0 node copied.at) listed_at in
             omega (arith, within)
@@ -186,8 +186,34 @@ module _ (state : State) (sorted : AreSorted state.declarations state.terms) (on
   pub class_nodes_well_formed : IsWellFormedGraph d longer
   class_nodes_well_formed = well_formed_longer d g added formed class_node_fits class_node_before
 
-  pub class_nodes_below : All (HasChildrenBelow (length g + length added)) added
-  class_nodes_below = fitting_below d g added class_node_fits
-
   pub class_nodes_have : HaveSortedNodes d state.terms longer nodes_of
-  class_nodes_have = record { long = numbered.long; sorted = has_node }
+  class_nodes_have = record { long = many; sorted = has_node }
+
+-- the children of nodes of classes are below the end of the longer graph
+module _ (state : State) (list : List TermId) (g : Nodes) (closed : IsClosed g) (values nodes_of : List NodeId)
+    (inside : (t : ℕ) (n : NodeId) → slice_get nodes_of t ≡ Some n → n.0 < length g + length list)
+    (there_is : (con : TermId) (c : CtorId) (args : List TermId) → (sort : SortId) × (slice_get state.terms con.0 ≡ Some (Con c args, sort)) → AllByRecursion (λ a. a.0 < length nodes_of) args)
+    (added : List Node) (are : AreClassNodes state g values list nodes_of added) where
+  arguments_below : (args : List TermId) → AllByRecursion (λ a. a.0 < length nodes_of) args → (k : ℕ) (n : NodeId) → slice_get (map (node_under nodes_of) args) k ≡ Some n → n.0 < length g + length list
+  arguments_below [] h k n at = absurd (none-some n at)
+  arguments_below (a ∷ args) h zero n at = inside a.0 n (slice_get-get_or nodes_of a.0 (record { 0 = 0 }) h.0 ∙ at)
+  arguments_below (a ∷ args) h (suc k) n at = arguments_below args h.1 k n at
+
+  child_below : (node : Node) (k : ℕ) (n : NodeId) (m : NodeId) → slice_get g m.0 ≡ Some node → slice_get (node_children node) k ≡ Some n → n.0 < length g
+  child_below node k n m at at_n =
+      let within = slice_get_within g m.0 node at in
+      let below : HasChildrenBelow (length g) node = subst (λ (x : Node). HasChildrenBelow (length g) x) (same_Some _ node (sym (slice_get-get_or g m.0 node within) ∙ at)) (closed m.0 node within) in
+      subst (λ (q : NodeId). q.0 < length g) (same_Some _ n (sym (slice_get-get_or (node_children node) k n (slice_get_within (node_children node) k n at_n)) ∙ at_n)) (below k n (slice_get_within (node_children node) k n at_n))
+
+  pub class_nodes_below : All (HasChildrenBelow (length g + length added)) added
+  class_nodes_below = All-from_slice_get (HasChildrenBelow (length g + length added)) added (λ i node at.
+      let rep = slice_get-there list i (omega (arith, are.long, slice_get_within added i node at)) in
+      elim (are.each i rep.0 node rep.1 at) [
+        | inl of ↦ subst (λ (x : Node). HasChildrenBelow (length g + length added) x) (sym of.is)
+            (All-from_slice_get (λ child. child.0 < length g + length added) (map (node_under nodes_of) of.args) (λ k n at_n.
+            let less = arguments_below of.args (there_is of.con of.ctor of.args of.stands) k n at_n in
+            omega (arith, less, are.long)))
+        | inr copied ↦ All-from_slice_get (λ child. child.0 < length g + length added) (node_children node) (λ k n at_n.
+            let less = child_below node k n copied.copied copied.at at_n in
+            omega (arith, less))
+      ])

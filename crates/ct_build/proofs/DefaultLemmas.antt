@@ -8,7 +8,8 @@ use Rattle.ct_sorts.specs.Grown.{Begins}
 use Rattle.ct_values.specs.declared.node.NodeId.{NodeId}
 use Rattle.ct_values.specs.Graph.{Nodes}
 use Rattle.ct_values.specs.Fitting.{HasNodeSort}
-use Rattle.ct_build.specs.Nodes.{AreStored, AreOfAllSorts}
+use Rattle.ct_build.specs.OpenClasses.{AreOfAllSorts}
+use Rattle.ct_build.specs.Nodes.{AreStored}
 use Rattle.ct_build.proofs.ListLemmas.{pushed_at, length-push, set_at}
 use Rattle.ct_build.proofs.GraphLemmas.{begins_sort}
 
@@ -26,10 +27,6 @@ module _ (d : Declarations) where
             subst (λ k. HasNodeSort d g m (record { 0 = k })) (sym e) (subst (λ (k : NodeId). HasNodeSort d g k s) one has)
         | inr (other, had) ↦ old t m had
       ]
-
-  -- they stay where the graph grows
-  pub stored_longer : (g longer : Nodes) (found : List (Option NodeId)) → Begins g longer → AreStored d g found → AreStored d longer found
-  stored_longer g longer found begins old s n at = begins_sort d g longer n (record { 0 = s }) begins (old s n at)
 
   -- a node of each of the first sorts, one more of them
   pub record AreOfFirstSorts (g : Nodes) (count : ℕ) (list : List NodeId) : Type 0 where

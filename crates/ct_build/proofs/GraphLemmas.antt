@@ -96,12 +96,6 @@ well_formed_longer d g more formed fit before =
           ];
     }
 
--- the children of nodes that fit are below the end of the longer graph
-pub fitting_below : (d : Declarations) (g more : Nodes) → ((i : ℕ) (node : Node) → slice_get more i ≡ Some node → FitsNode d (g ++ more) node) → All (HasChildrenBelow (length g + length more)) more
-fitting_below d g more fit = All-from_slice_get (HasChildrenBelow (length g + length more)) more (λ i node at. All-from_slice_get (λ child. child.0 < length g + length more) (node_children node) (λ k child listed.
-    let within : child.0 < length (g ++ more) = fits_within d (g ++ more) node k child (fit i node at) listed in
-    omega (arith, within, length-append g more)))
-
 -- one more node that fits a well-formed graph
 pub well_formed_pushed : (d : Declarations) (g : Nodes) (node : Node) → IsWellFormedGraph d g → FitsNode d g node → IsWellFormedGraph d (g ++ node ∷ [])
 well_formed_pushed d g node formed fit =
@@ -132,9 +126,9 @@ node_of (Con c cs) head children h k (Elem s n) h_too k_too = cc
 node_of (Elem s n) head children h k (Con e es) h_too k_too = cc
 node_of (Elem s n) head children h k (Elem t m) h_too k_too = let same : s ≡ t = cc in let number : n ≡ m = cc in ap (λ (z : SortId). Elem z n) same ∙ ap (Elem t) number
 
-pub node_from_parts : (g : Nodes) (n : ℕ) (node : Node) → option_map node_head (slice_get g n) ≡ Some (node_head node) → option_map node_children (slice_get g n) ≡ Some (node_children node) → slice_get g n ≡ Some node
-node_from_parts g n node h k = by (slice_get g n) h k
-  where
-    by : (o : Option Node) → option_map node_head o ≡ Some (node_head node) → option_map node_children o ≡ Some (node_children node) → o ≡ Some node
-    by None h k = absurd (none-some _ h)
-    by (Some x) h k = ap Some (node_of x (node_head node) (node_children node) (same_Some _ _ h) (same_Some _ _ k) node refl refl)
+-- no nodes are a well-formed graph
+pub empty_well_formed : (d : Declarations) (g : Nodes) → g ≡ [] → IsWellFormedGraph d g
+empty_well_formed d g e = record {
+  fits = λ n node at. absurd (none-some node (ap (λ (h : Nodes). slice_get h n) (sym e) ∙ at));
+  finite = λ n child node at inside is is_child. absurd (none-some node (ap (λ (h : Nodes). slice_get h n.0) (sym e) ∙ at));
+}

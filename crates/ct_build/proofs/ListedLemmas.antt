@@ -1,6 +1,8 @@
 -- Lists of classes, one class more, and what stands in them.
-use Rattle.std.proofs.Common.{◌≡◌, ℕ, ◌<◌, ◌⊎◌, List, [], ◌∷◌, ◌++◌, length, slice_get, Some, append_assoc, append-nil, sym, ◌∙◌, ap, subst, inl, inr, arith}
+use Rattle.std.proofs.Common.{◌≡◌, ℕ, ◌+◌, ◌<◌, ◌⊎◌, List, [], ◌∷◌, ◌++◌, length, slice_get, Some, append_assoc, append-nil, refl, sym, ◌∙◌, ap, subst, inl, inr, arith}
+use Rattle.std.proofs.lemmas.Bool.{cases_eq, cases_order}
 use Rattle.std.proofs.lemmas.Option.{none-some, same_Some, slice_get_within}
+use Rattle.ct_lemmas.proofs.Lists.{slice_get-append_left, slice_get-last}
 use Rattle.ct_sorts.specs.declared.ids.SortId.{SortId}
 use Rattle.ct_card.specs.declared.size.Size.TheVariants.{Infinite}
 use Rattle.ct_card.specs.Cardinality.{HasSize}
@@ -12,22 +14,53 @@ use Rattle.ct_terms.specs.Terms.{IsOfSort}
 use Rattle.ct_congr.specs.State.{State}
 use Rattle.ct_acyclic.specs.Order.{IsClassOrder}
 use Rattle.ct_build.specs.declared.open_classes.OpenClass.{OpenClass}
-use Rattle.ct_build.specs.Nodes.{IsOtherClass, IsClassList, IsOfTerm, IsCopied, IsOpenClass, AreOpenClasses}
+use Rattle.ct_build.specs.OpenClasses.{IsOpenClass, AreOpenClasses, AreFirstOpen, HaveOwnRepresentatives}
+use Rattle.ct_build.specs.Nodes.{IsOtherClass, IsClassList, IsClassListBelow, IsOfTerm, IsCopied}
 use Rattle.ct_build.proofs.ListLemmas.{pushed_at}
 use Rattle.ct_build.proofs.TermLemmas.{one_term_sort}
 use Rattle.ct_build.proofs.ClassLemmas.{list_own}
 
-module _ (state : State) where
-  pub class_list_first : (order list : List TermId) → list ≡ order → IsClassList state order list
-  class_list_first order list e = record { rest = []; is = e ∙ sym (append-nil order); others = λ i t at. absurd (none-some t at) }
+less_or : (m n : ℕ) → m < n + 1 → (m ≡ n → ⊥) → m < n
+less_or m n less apart = elim (cases_order m n) [
+  | inl e ↦ absurd (apart e)
+  | inr sides ↦ elim sides [ inl h ↦ h | inr h ↦ absurd (omega (arith, less, h)) ]
+]
 
-  pub class_list_more : (order list : List TermId) (t : TermId) → IsOtherClass state t → IsClassList state order list → IsClassList state order (list ++ t ∷ [])
+below_more : (m n : ℕ) → m < n → m < n + 1
+below_more m n less = omega (arith, less)
+
+module _ (state : State) where
+  pub class_list_first : (order list : List TermId) → list ≡ order → IsClassListBelow state 0 order list
+  class_list_first order list e = record { rest = []; is = e ∙ sym (append-nil order); others = λ i t at. absurd (none-some t at); all = λ t is less. absurd (omega (arith, less)) }
+
+  pub class_list_more : (order list : List TermId) (t : TermId) → IsOtherClass state t → IsClassListBelow state t.0 order list → IsClassListBelow state (t.0 + 1) order (list ++ t ∷ [])
   class_list_more order list t is old = record {
     rest = old.rest ++ t ∷ [];
     is = ap (λ l. l ++ t ∷ []) old.is ∙ append_assoc order old.rest (t ∷ []);
     others = λ i u at. elim (pushed_at old.rest t u i at) [
       | inl h ↦ old.others i u h
       | inr (e, same) ↦ subst (λ (q : TermId). IsOtherClass state q) (sym same) is
+    ];
+    all = λ u other less. elim (cases_eq u.0 t.0) [
+      | inl e ↦
+          let same : t ≡ u = λ i. record { 0 = sym e i } in
+          (length old.rest, slice_get-last old.rest t ∙ ap Some same)
+      | inr apart ↦
+          let found = old.all u other (less_or u.0 t.0 less apart) in
+          (found.0, slice_get-append_left old.rest (t ∷ []) found.0 u found.1)
+    ];
+  }
+
+  pub class_list_skip : (order list : List TermId) (t : TermId) → (IsOtherClass state t → ⊥) → IsClassListBelow state t.0 order list → IsClassListBelow state (t.0 + 1) order list
+  class_list_skip order list t is_not old = record {
+    rest = old.rest;
+    is = old.is;
+    others = old.others;
+    all = λ u other less. elim (cases_eq u.0 t.0) [
+      | inl e ↦
+          let same : u ≡ t = λ i. record { 0 = e i } in
+          absurd (is_not (subst (λ (q : TermId). IsOtherClass state q) same other))
+      | inr apart ↦ old.all u other (less_or u.0 t.0 less apart)
     ];
   }
 
@@ -36,31 +69,85 @@ module _ (state : State) where
   listed_within order list long ordered listed i r at =
       omega (arith, long, slice_get_within state.reps r.0 r (list_own state order list ordered listed i r at))
 
-  -- one more open class
-  pub open_more : (list : List OpenClass) (class : OpenClass) → AreOpenClasses state list → IsOpenClass state class → AreOpenClasses state (list ++ class ∷ [])
-  open_more list class old is i other at = elim (pushed_at list class other i at) [
-    | inl h ↦ old i other h
-    | inr (e, same) ↦ subst (λ (q : OpenClass). IsOpenClass state q) (sym same) is
+  own_more : (count : ℕ) → ((t r : TermId) → t.0 < count → slice_get state.reps t.0 ≡ Some r → slice_get state.reps r.0 ≡ Some r) → (rep : TermId) → rep.0 ≡ count → ((r : TermId) → slice_get state.reps rep.0 ≡ Some r → slice_get state.reps r.0 ≡ Some r) → (t r : TermId) → t.0 < count + 1 → slice_get state.reps t.0 ≡ Some r → slice_get state.reps r.0 ≡ Some r
+  own_more count before rep is here t r less at = elim (cases_eq t.0 count) [
+    | inl e ↦ here r (ap (slice_get state.reps) (is ∙ sym e) ∙ at)
+    | inr apart ↦ before t r (less_or t.0 count less apart) at
   ]
+
+  pub first_open_skip : (list : List OpenClass) (rep : TermId) → ((class : OpenClass) → class.rep ≡ rep → IsOpenClass state class → ⊥) → ((r : TermId) → slice_get state.reps rep.0 ≡ Some r → slice_get state.reps r.0 ≡ Some r) → AreFirstOpen state rep.0 list → AreFirstOpen state (rep.0 + 1) list
+  first_open_skip list rep is_not own old = record {
+    only = λ i class at. ((old.only i class at).0, below_more class.rep.0 rep.0 (old.only i class at).1);
+    each = λ class is less. elim (cases_eq class.rep.0 rep.0) [
+      | inl e ↦ absurd (is_not class (λ i. record { 0 = e i }) is)
+      | inr apart ↦ old.each class is (less_or class.rep.0 rep.0 less apart)
+    ];
+    once = old.once;
+    own = own_more rep.0 old.own rep refl own;
+  }
+
+  pub first_open_more : (list : List OpenClass) (new : OpenClass) → IsOpenClass state new → ((r : TermId) → slice_get state.reps new.rep.0 ≡ Some r → slice_get state.reps r.0 ≡ Some r) → AreFirstOpen state new.rep.0 list → AreFirstOpen state (new.rep.0 + 1) (list ++ new ∷ [])
+  first_open_more list new is own old = record {
+    only = λ i class at. elim (pushed_at list new class i at) [
+      | inl h ↦ ((old.only i class h).0, below_more class.rep.0 new.rep.0 (old.only i class h).1)
+      | inr (e, same) ↦
+          let here : new.rep.0 < new.rep.0 + 1 = omega arith in
+          subst (λ (q : OpenClass). IsOpenClass state q × (q.rep.0 < new.rep.0 + 1)) (sym same) (is, here)
+    ];
+    each = λ class is_too less. elim (cases_eq class.rep.0 new.rep.0) [
+      | inl e ↦ (length list, new, slice_get-last list new, (λ i. record { 0 = sym e i }))
+      | inr apart ↦
+          let found = old.each class is_too (less_or class.rep.0 new.rep.0 less apart) in
+          (found.0, found.1, slice_get-append_left list (new ∷ []) found.0 found.1 found.2, found.3)
+    ];
+    once = λ i j first second at_i at_j e. elim (pushed_at list new first i at_i) [
+      | inl h ↦ elim (pushed_at list new second j at_j) [
+        | inl k ↦ old.once i j first second h k e
+        | inr (end, same) ↦ absurd (not_there i first second h same e)
+      ]
+      | inr (end, same) ↦ elim (pushed_at list new second j at_j) [
+        | inl k ↦ absurd (not_there j second first k same (sym e))
+        | inr (end_too, same_too) ↦ end ∙ sym end_too
+      ]
+    ];
+    own = own_more new.rep.0 old.own new.rep refl own;
+  }
+    where
+      not_there : (i : ℕ) (first second : OpenClass) → slice_get list i ≡ Some first → second ≡ new → first.rep ≡ second.rep → ⊥
+      not_there i first second at same e =
+          let less = (old.only i first at).1 in
+          let number : first.rep.0 ≡ new.rep.0 = ap (λ (t : TermId). t.0) (e ∙ ap (λ (c : OpenClass). c.rep) same) in
+          omega (arith, less, number)
+
+  -- those of all terms
+  pub all_open : (count : ℕ) (list : List OpenClass) → count ≡ length state.reps → AreFirstOpen state count list → AreOpenClasses state list
+  all_open count list e first = record {
+    only = λ i class at. (first.only i class at).0;
+    each = λ class is. first.each class is (subst (λ (n : ℕ). class.rep.0 < n) (sym e) (slice_get_within state.reps class.rep.0 class.rep is.own));
+    once = first.once;
+  }
+
+  pub all_own : (count : ℕ) (list : List OpenClass) → count ≡ length state.reps → AreFirstOpen state count list → HaveOwnRepresentatives state
+  all_own count list e first = λ t r at. first.own t r (subst (λ (n : ℕ). t.0 < n) (sym e) (slice_get_within state.reps t.0 r at)) at
 
   -- an open class is of a term, whose sort is infinite
   pub open_within : (list : List OpenClass) (i : ℕ) (class : OpenClass) → AreOpenClasses state list → slice_get list i ≡ Some class → class.rep.0 < length state.terms
   open_within list i class are at =
-      let is = are i class at in
+      let is = are.only i class at in
       slice_get_within state.terms class.rep.0 (is.sorted.0, is.sort) is.sorted.1
 
   pub open_infinite : (list : List OpenClass) (i : ℕ) (class : OpenClass) (s : SortId) → AreOpenClasses state list → slice_get list i ≡ Some class → IsOfSort state.terms class.rep s → HasSize state.declarations s.0 Infinite
   open_infinite list i class s are at has =
-      let is = are i class at in
+      let is = are.only i class at in
       subst (λ (q : SortId). HasSize state.declarations q.0 Infinite) (one_term_sort state.terms class.rep is.sort s is.sorted has) is.infinite
 
   -- one more node of a class
-  pub class_node_more : (g : Nodes) (nodes : List NodeId) (list : List TermId) (count : ℕ) (added : List Node) (rep : TermId) (new : Node) → length added ≡ count → slice_get list count ≡ Some rep → IsOfTerm state nodes rep new ⊎ IsCopied state g rep new
-      → ((i : ℕ) (r : TermId) (node : Node) → slice_get list i ≡ Some r → slice_get added i ≡ Some node → IsOfTerm state nodes r node ⊎ IsCopied state g r node)
-      → (i : ℕ) (r : TermId) (node : Node) → slice_get list i ≡ Some r → slice_get (added ++ new ∷ []) i ≡ Some node → IsOfTerm state nodes r node ⊎ IsCopied state g r node
-  class_node_more g nodes list count added rep new long here is old i r node at at_node = elim (pushed_at added new node i at_node) [
+  pub class_node_more : (g : Nodes) (values nodes : List NodeId) (list : List TermId) (count : ℕ) (added : List Node) (rep : TermId) (new : Node) → length added ≡ count → slice_get list count ≡ Some rep → IsOfTerm state nodes rep new ⊎ IsCopied state g values rep new
+      → ((i : ℕ) (r : TermId) (node : Node) → slice_get list i ≡ Some r → slice_get added i ≡ Some node → IsOfTerm state nodes r node ⊎ IsCopied state g values r node)
+      → (i : ℕ) (r : TermId) (node : Node) → slice_get list i ≡ Some r → slice_get (added ++ new ∷ []) i ≡ Some node → IsOfTerm state nodes r node ⊎ IsCopied state g values r node
+  class_node_more g values nodes list count added rep new long here is old i r node at at_node = elim (pushed_at added new node i at_node) [
     | inl h ↦ old i r node at h
     | inr (e, same) ↦
         let one : rep ≡ r = same_Some rep r (sym here ∙ ap (slice_get list) (sym (e ∙ long)) ∙ at) in
-        subst (λ (x : Node). IsOfTerm state nodes r x ⊎ IsCopied state g r x) (sym same) (subst (λ (q : TermId). IsOfTerm state nodes q new ⊎ IsCopied state g q new) one is)
+        subst (λ (x : Node). IsOfTerm state nodes r x ⊎ IsCopied state g values r x) (sym same) (subst (λ (q : TermId). IsOfTerm state nodes q new ⊎ IsCopied state g values q new) one is)
   ]

@@ -1,5 +1,5 @@
 -- Tables that get rows of terms.
-use Rattle.std.proofs.Common.{◌≡◌, ℕ, ◌+◌, ◌<◌, List, [], ◌∷◌, ◌++◌, length, map, slice_get, Some, sym, ◌∙◌, ap, subst, inl, inr, arith}
+use Rattle.std.proofs.Common.{◌≡◌, ℕ, ◌+◌, ◌<◌, List, [], ◌∷◌, ◌++◌, length, map, slice_get, Some, Result, Ok, Err, OnOk, sym, ◌∙◌, ap, subst, inl, inr, arith}
 use Rattle.std.proofs.lemmas.Option.{none-some, same_Some, slice_get_within, slice_get-get_or}
 use Rattle.ct_sorts.specs.declared.ids.FunId.{FunId}
 use Rattle.ct_sorts.specs.declared.ids.SelId.{SelId}
@@ -18,6 +18,15 @@ use Rattle.ct_build.specs.Nodes.{HaveSortedNodes}
 use Rattle.ct_eval.specs.EvaluationStep.{node_under}
 use Rattle.ct_build.specs.Tables.{with_row, AddsFirst}
 use Rattle.ct_build.proofs.ListLemmas.{pushed_at, length-push, set_at, set_length, AllZip-map}
+
+-- what follows from what holds on success
+pub at_ok : {T E : Type 0} {P Q : Type 0} (r : Result T E) → OnOk r P → (P → Q) → OnOk r Q
+at_ok (Ok x) p f = f p
+at_ok (Err e) p f = tt
+
+pub at_ok_both : {T E : Type 0} {P Q R : Type 0} (r : Result T E) → OnOk r P → OnOk r Q → (P → Q → R) → OnOk r R
+at_ok_both (Ok x) p q f = f p q
+at_ok_both (Err e) p q f = tt
 
 -- a selection is by a declared selector, and from a term of the table
 pub selection_inside : (d : Declarations) (terms : Terms) → AreSorted d terms → (t of : TermId) (s : SelId) → Has terms (Sel s of) t.0 → s.0 < length d.sels

@@ -1,3 +1,11 @@
 pub mod Assignment
 pub mod Nodes
 pub mod Tables
+pub mod ClassValues
+pub mod OpenClasses
+pub mod Trials
+pub mod Chosen
+pub mod Buildable
+pub mod Owners
+pub mod Seen
+pub mod Known

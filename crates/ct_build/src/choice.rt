@@ -4,201 +4,217 @@
 //! bisimulation relates, which are one. For two classes at most one value of an open class makes them have one value
 //! (Reynolds and Blanchette 2015, section 4, on models). So a search that gives open classes their values one after the
 //! other, while those that have none yet are told from everything else, need not go back.
-ghost use Rattle.std.specs.Prelude.{◌≡◌, ◌+◌, ◌<◌, ◌≤◌, length, IfOk};
-ghost use Rattle.ct_card.specs.Sizes.{AreSizes};
+ghost use Rattle.std.specs.Prelude.{◌≡◌, ℕ, ◌+◌, ◌<◌, ◌≤◌, ◌⊎◌, ◌∷◌, [], ◌++◌, length, IfOk, OnOk, MatchBool};
+ghost use Rattle.ct_sorts.specs.declared.ids.SortId.{SortId};
+ghost use Rattle.ct_terms.specs.declared.ids.TermId.{TermId};
+ghost use Rattle.ct_card.specs.Made.{IsPrepared};
+ghost use Rattle.ct_card.specs.Nth.{IsNth};
 ghost use Rattle.ct_acyclic.specs.Order.{IsClassOrder};
-ghost use Rattle.ct_build.specs.Nodes.{AreOpenClasses};
+ghost use Rattle.ct_build.specs.ClassValues.{AreApartWith};
+ghost use Rattle.ct_build.specs.OpenClasses.{AreOpenClasses};
+ghost use Rattle.ct_build.specs.Chosen.{AreChosen};
+ghost use Rattle.ct_build.specs.Buildable.{AreBuildable};
+ghost use Rattle.ct_build.specs.Trials.{AreAllChosen, IsNext, IsRefusedNext};
 
-use crate::apart::are_apart;
+use crate::chosen::{Chosen, copy, push_value};
+use crate::collision::collision;
 use crate::error::BuildError;
+use crate::facts::known;
 use crate::open_classes::OpenClass;
-use ct_card::Sizes;
+use ct_card::{Sizes, different_values};
 use ct_congr::Classes;
 use ct_terms::TermId;
+use ct_values::NodeId;
 use std::alloc::Global;
 
 /// The differences between the numbers of values with which all open classes are tried at once.
-const GAPS: [u64; 5] = [1, 2, 4, 8, 16];
+const GAPS: [u64; 13] = [1, 2, 4, 8, 16, 32, 64, 128, 256, 512, 1024, 2048, 4096];
 
-/// For each open class the number of its value. At first all classes are tried at once, with numbers that are further and
-/// further from one another, since values of neighbouring numbers are often built from each other.
+/// Chooses a value for each open class: for all at once, with numbers that are further and further from one another, since
+/// values of neighbouring numbers are often built from each other; and else for one after the other.
 pub(crate) fn choose(
     alloc: Global,
     sizes: &Sizes,
     classes: &Classes,
     order: &[TermId],
+    defaults: &[NodeId],
     unbuilt: &[OpenClass],
-) -> Result<Vec<u64>, BuildError>
-    requires sizes { AreSizes classes.now.declarations sizes.now }
+    chosen: &mut Chosen,
+) -> Result<(), BuildError>
+    requires buildable { AreBuildable classes.now sizes.now }
     requires ordered { IsClassOrder classes.now order.now }
     requires classes { AreOpenClasses classes.now unbuilt.now }
-    ensures long { IfOk result (λ numbers. length numbers.items ≡ length unbuilt.now) }
+    requires chosen { AreChosen classes.now chosen.old.graph defaults.now unbuilt.now chosen.old.nodes.items }
+    requires none { chosen.old.nodes.items ≡ [] }
+    requires prepared { IsPrepared classes.now.declarations sizes.now chosen.old.graph chosen.old.prepared }
+    ensures all { OnOk result (AreAllChosen classes.now defaults.now unbuilt.now chosen.new.graph chosen.new.nodes.items) }
 {
     if unbuilt.is_empty() {
-        return spaced(alloc, unbuilt, 1);
+        return Ok(());
     }
     for gap in &GAPS {
-        let numbers = spaced(alloc, unbuilt, *gap)?;
-        if are_apart(
-            alloc,
-            sizes,
-            classes,
-            order,
-            unbuilt,
-            &numbers,
-            unbuilt.len(),
+        if is_all_at_once(
+            alloc, sizes, classes, order, defaults, unbuilt, *gap, chosen,
         )? {
-            return Ok(numbers);
+            return Ok(());
         }
     }
-    choose_in_turn(alloc, sizes, classes, order, unbuilt)
-}
-
-// For each open class its rank times the gap, and half of the gap: so that also the first of a sort gets another number with
-// another gap.
-fn spaced(alloc: Global, unbuilt: &[OpenClass], gap: u64) -> Result<Vec<u64>, BuildError>
-    ensures long { IfOk result (λ numbers. length numbers.items ≡ length unbuilt.now) }
-{
-    let mut numbers = Vec::with_capacity(alloc, unbuilt.len())?;
-    for class in unbuilt {
-        numbers.push(class.rank.saturating_mul(gap).saturating_add(gap / 2))?;
+    start(alloc, sizes, classes, order, defaults, unbuilt, chosen)?;
+    while chosen.nodes.len() < unbuilt.len() {
+        settle(alloc, sizes, classes, order, defaults, unbuilt, chosen)?;
     }
-    Ok(numbers)
+    Ok(())
 }
 
-// The numbers of the values of the open classes, one after the other, as many at once as are apart.
-fn choose_in_turn(
+// No two classes have one value where all open classes are told from everything else.
+fn start(
     alloc: Global,
     sizes: &Sizes,
     classes: &Classes,
     order: &[TermId],
+    defaults: &[NodeId],
     unbuilt: &[OpenClass],
-) -> Result<Vec<u64>, BuildError>
-    requires sizes { AreSizes classes.now.declarations sizes.now }
+    chosen: &Chosen,
+) -> Result<(), BuildError>
+    requires buildable { AreBuildable classes.now sizes.now }
     requires ordered { IsClassOrder classes.now order.now }
     requires classes { AreOpenClasses classes.now unbuilt.now }
-    ensures long { IfOk result (λ numbers. length numbers.items ≡ length unbuilt.now) }
+    requires chosen { AreChosen classes.now chosen.now.graph defaults.now unbuilt.now chosen.now.nodes.items }
+    requires none { chosen.now.nodes.items ≡ [] }
+    ensures apart { OnOk result (AreApartWith classes.now chosen.now.graph defaults.now unbuilt.now chosen.now.nodes.items) }
 {
-    let mut numbers = spaced(alloc, unbuilt, 1)?;
-    let mut done = 0;
-    let mut step = unbuilt.len();
-    while done < unbuilt.len() {
-        let more = advance(
-            alloc,
-            sizes,
-            classes,
-            order,
-            unbuilt,
-            &mut numbers,
-            done,
-            step,
-        )?;
-        done += more;
-        step = more.saturating_mul(2);
+    known(classes);
+    match collision(alloc, classes, order, defaults, unbuilt, chosen)? {
+        None => Ok(()),
+        Some(_) => unreachable!(),
     }
-    Ok(numbers)
 }
 
-// Fixes the numbers of further classes after those that are done, and gives how many: this number of them, or half of it and
-// so on, or one whose number is raised.
-fn advance(
+// Whether no two classes have one value where each open class has the value whose number is its rank times the gap, and half
+// of the gap: so that also the first of a sort gets another number with another gap. If so these values are chosen.
+fn is_all_at_once(
     alloc: Global,
     sizes: &Sizes,
     classes: &Classes,
     order: &[TermId],
+    defaults: &[NodeId],
     unbuilt: &[OpenClass],
-    numbers: &mut Vec<u64>,
-    done: usize,
-    most: usize,
-) -> Result<usize, BuildError>
-    requires sizes { AreSizes classes.now.declarations sizes.now }
+    gap: u64,
+    chosen: &mut Chosen,
+) -> Result<bool, BuildError>
+    requires buildable { AreBuildable classes.now sizes.now }
     requires ordered { IsClassOrder classes.now order.now }
     requires classes { AreOpenClasses classes.now unbuilt.now }
-    requires long { length numbers.old.items ≡ length unbuilt.now }
-    requires within { done < length unbuilt.now }
-    ensures long { length numbers.new.items ≡ length unbuilt.now }
-    ensures some { IfOk result (λ more. 0 < more) }
-    ensures within { IfOk result (λ more. done + more ≤ length unbuilt.now) }
+    requires chosen { AreChosen classes.now chosen.old.graph defaults.now unbuilt.now chosen.old.nodes.items }
+    requires prepared { IsPrepared classes.now.declarations sizes.now chosen.old.graph chosen.old.prepared }
+    ensures done { IfOk result (λ done. MatchBool done
+        (AreAllChosen classes.now defaults.now unbuilt.now chosen.new.graph chosen.new.nodes.items)
+        (chosen.new ≡ chosen.old)) }
 {
-    let step = widest(alloc, sizes, classes, order, unbuilt, numbers, done, most)?;
-    if step > 0 {
-        return Ok(step);
-    }
-    settle(alloc, sizes, classes, order, unbuilt, numbers, done)?;
-    Ok(1)
-}
-
-// Of this number, half of it, half of that and so on the first such that so many open classes after those that are done
-// are apart with them; 0 where one alone is not.
-fn widest(
-    alloc: Global,
-    sizes: &Sizes,
-    classes: &Classes,
-    order: &[TermId],
-    unbuilt: &[OpenClass],
-    numbers: &[u64],
-    done: usize,
-    most: usize,
-) -> Result<usize, BuildError>
-    requires sizes { AreSizes classes.now.declarations sizes.now }
-    requires ordered { IsClassOrder classes.now order.now }
-    requires classes { AreOpenClasses classes.now unbuilt.now }
-    requires long { length numbers.now ≡ length unbuilt.now }
-    requires within { done < length unbuilt.now }
-    ensures within { IfOk result (λ step. done + step ≤ length unbuilt.now) }
-{
-    let mut step = lesser(most, unbuilt.len() - done);
-    while step > 0 {
-        if are_apart(alloc, sizes, classes, order, unbuilt, numbers, done + step)? {
-            return Ok(step);
+    let mut next = copy(alloc, chosen)?;
+    push_all(sizes, classes, defaults, unbuilt, gap, &mut next)?;
+    match collision(alloc, classes, order, defaults, unbuilt, &next)? {
+        None => {
+            *chosen = next;
+            Ok(true)
         }
-        step /= 2;
+        Some(_) => {
+            drop(next);
+            Ok(false)
+        }
     }
-    Ok(0)
 }
 
-// The lesser of the two.
-fn lesser(a: usize, b: usize) -> usize
-    ensures within { result ≤ b }
+// Chooses these values for all open classes that have none.
+fn push_all(
+    sizes: &Sizes,
+    classes: &Classes,
+    defaults: &[NodeId],
+    unbuilt: &[OpenClass],
+    gap: u64,
+    chosen: &mut Chosen,
+) -> Result<(), BuildError>
+    requires buildable { AreBuildable classes.now sizes.now }
+    requires classes { AreOpenClasses classes.now unbuilt.now }
+    requires chosen { AreChosen classes.now chosen.old.graph defaults.now unbuilt.now chosen.old.nodes.items }
+    requires prepared { IsPrepared classes.now.declarations sizes.now chosen.old.graph chosen.old.prepared }
+    ensures prepared { OnOk result (IsPrepared classes.now.declarations sizes.now chosen.new.graph chosen.new.prepared) }
+    ensures chosen { OnOk result (AreChosen classes.now chosen.new.graph defaults.now unbuilt.now chosen.new.nodes.items) }
+    ensures all { OnOk result (length chosen.new.nodes.items ≡ length unbuilt.now) }
 {
-    if a < b {
-        return a;
+    while chosen.nodes.len() < unbuilt.len() {
+        let rank = unbuilt[chosen.nodes.len()].rank;
+        let number = rank.saturating_mul(gap).saturating_add(gap / 2);
+        push_value(sizes, classes, unbuilt, number, chosen)?;
     }
-    b
+    Ok(())
 }
 
-// Raises the numbers from this class on until it is apart, with those before it.
+// Chooses a value for the next open class: of as many as there are pairs of terms, and one more, one serves.
 fn settle(
     alloc: Global,
     sizes: &Sizes,
     classes: &Classes,
     order: &[TermId],
+    defaults: &[NodeId],
     unbuilt: &[OpenClass],
-    numbers: &mut Vec<u64>,
-    done: usize,
+    chosen: &mut Chosen,
 ) -> Result<(), BuildError>
-    requires sizes { AreSizes classes.now.declarations sizes.now }
+    requires buildable { AreBuildable classes.now sizes.now }
     requires ordered { IsClassOrder classes.now order.now }
     requires classes { AreOpenClasses classes.now unbuilt.now }
-    requires long { length numbers.old.items ≡ length unbuilt.now }
-    requires within { done < length unbuilt.now }
-    ensures long { length numbers.new.items ≡ length unbuilt.now }
+    requires chosen { AreChosen classes.now chosen.old.graph defaults.now unbuilt.now chosen.old.nodes.items }
+    requires apart { AreApartWith classes.now chosen.old.graph defaults.now unbuilt.now chosen.old.nodes.items }
+    requires more { length chosen.old.nodes.items < length unbuilt.now }
+    requires prepared { IsPrepared classes.now.declarations sizes.now chosen.old.graph chosen.old.prepared }
+    ensures prepared { OnOk result (IsPrepared classes.now.declarations sizes.now chosen.new.graph chosen.new.prepared) }
+    ensures next { OnOk result (IsNext classes.now defaults.now unbuilt.now chosen.old.nodes.items chosen.new.graph chosen.new.nodes.items) }
 {
+    known(classes);
+    different_values();
     let count = classes.table().len() as u64;
-    for _ in 0..count * count {
-        raise(numbers, done);
-        if are_apart(alloc, sizes, classes, order, unbuilt, numbers, done + 1)? {
+    for number in 0..count * count + 1 {
+        if is_next(
+            alloc, sizes, classes, order, defaults, unbuilt, number, chosen,
+        )? {
             return Ok(());
         }
     }
-    Ok(())
+    unreachable!()
 }
 
-// Raises the numbers from this index on by one.
-fn raise(numbers: &mut Vec<u64>, from: usize)
-    ensures long { length numbers.new.items ≡ length numbers.old.items }
+// Whether no two classes have one value where the next open class has the value with this number. If so it is chosen.
+fn is_next(
+    alloc: Global,
+    sizes: &Sizes,
+    classes: &Classes,
+    order: &[TermId],
+    defaults: &[NodeId],
+    unbuilt: &[OpenClass],
+    number: u64,
+    chosen: &mut Chosen,
+) -> Result<bool, BuildError>
+    requires buildable { AreBuildable classes.now sizes.now }
+    requires ordered { IsClassOrder classes.now order.now }
+    requires classes { AreOpenClasses classes.now unbuilt.now }
+    requires chosen { AreChosen classes.now chosen.old.graph defaults.now unbuilt.now chosen.old.nodes.items }
+    requires more { length chosen.old.nodes.items < length unbuilt.now }
+    requires prepared { IsPrepared classes.now.declarations sizes.now chosen.old.graph chosen.old.prepared }
+    ensures prepared { OnOk result (IsPrepared classes.now.declarations sizes.now chosen.new.graph chosen.new.prepared) }
+    ensures next { IfOk result (λ done. MatchBool done
+        (IsNext classes.now defaults.now unbuilt.now chosen.old.nodes.items chosen.new.graph chosen.new.nodes.items)
+        ((chosen.new ≡ chosen.old) × IsRefusedNext classes.now (λ s n p. IsNth classes.now.declarations sizes.now s.0 n p) chosen.old.graph defaults.now unbuilt.now chosen.old.nodes.items number)) }
 {
-    for i in from..numbers.len() {
-        numbers[i] = numbers[i].saturating_add(1);
+    let mut next = copy(alloc, chosen)?;
+    push_value(sizes, classes, unbuilt, number, &mut next)?;
+    match collision(alloc, classes, order, defaults, unbuilt, &next)? {
+        None => {
+            *chosen = next;
+            Ok(true)
+        }
+        Some(_) => {
+            drop(next);
+            Ok(false)
+        }
     }
 }

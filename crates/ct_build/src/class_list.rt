@@ -1,7 +1,7 @@
 //! The classes in the order of their nodes.
-ghost use Rattle.std.specs.Prelude.{◌≡◌, ◌<◌, List, length, IfOk, OnOk, IsTrue};
+ghost use Rattle.std.specs.Prelude.{◌+◌, ◌<◌, List, length, IfOk, OnOk, MatchBool};
 ghost use Rattle.ct_terms.specs.declared.ids.TermId.{TermId};
-ghost use Rattle.ct_build.specs.Nodes.{IsOtherClass, IsClassList};
+ghost use Rattle.ct_build.specs.Nodes.{IsOtherClass, IsClassList, IsClassListBelow};
 
 use crate::error::BuildError;
 use crate::open_classes::term_sort;
@@ -28,7 +28,9 @@ pub(crate) fn class_list(
 // Adds the term, if it represents a class that is of no datatype.
 fn add_if_other(classes: &Classes, t: TermId, list: &mut Vec<TermId>) -> Result<(), BuildError>
     requires inside { t.0 < length classes.now.terms }
-    ensures list { OnOk result ((order : List TermId) → IsClassList classes.now order list.old.items → IsClassList classes.now order list.new.items) }
+    ensures list { OnOk result ((order : List TermId)
+        → IsClassListBelow classes.now t.0 order list.old.items
+        → IsClassListBelow classes.now (t.0 + 1) order list.new.items) }
 {
     if is_other_class(classes, t) {
         list.push(t)?;
@@ -40,8 +42,16 @@ fn add_if_other(classes: &Classes, t: TermId, list: &mut Vec<TermId>) -> Result<
 // Whether the term represents a class that is of no datatype.
 fn is_other_class(classes: &Classes, t: TermId) -> bool
     requires inside { t.0 < length classes.now.terms }
-    ensures other { IsTrue result → IsOtherClass classes.now t }
+    ensures other { MatchBool result (IsOtherClass classes.now t) (IsOtherClass classes.now t → ⊥) }
 {
     let s = term_sort(classes, t);
-    classes.rep(t) == t && classes.signature().kind(s) != Kind::Data
+    if classes.rep(t) != t {
+        return false;
+    }
+    match classes.signature().kind(s) {
+        Kind::Data => false,
+        Kind::Bool => true,
+        Kind::Free => true,
+        Kind::Codata => true,
+    }
 }

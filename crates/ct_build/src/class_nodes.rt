@@ -2,7 +2,8 @@
 ghost use Rattle.std.specs.Prelude.{◌≡◌, ℕ, ◌<◌, ◌⊎◌, length, map, Some, slice_get, IfOk};
 ghost use Rattle.std.specs.List.{AllByRecursion};
 ghost use Rattle.ct_terms.specs.declared.ids.TermId.{TermId};
-ghost use Rattle.ct_build.specs.Nodes.{HaveSortedNodes, IsOfTerm, IsCopied, AreClassNodes};
+ghost use Rattle.ct_values.specs.declared.node.NodeId.{NodeId};
+ghost use Rattle.ct_build.specs.Nodes.{IsOfTerm, IsCopied, AreClassNodes};
 ghost use Rattle.ct_eval.specs.EvaluationStep.{node_under};
 
 use crate::error::BuildError;
@@ -20,10 +21,11 @@ pub(crate) fn class_nodes(
     list: &[TermId],
     nodes: &[NodeId],
 ) -> Result<Vec<Node>, BuildError>
-    requires values { HaveSortedNodes classes.now.declarations classes.now.terms g.now values.now }
+    requires values { length values.now ≡ length classes.now.terms }
+    requires within { (t : ℕ) (n : NodeId) → slice_get values.now t ≡ Some n → n.0 < length g.now }
     requires long { length nodes.now ≡ length classes.now.terms }
     requires inside { (i : ℕ) (r : TermId) → slice_get list.now i ≡ Some r → r.0 < length classes.now.terms }
-    ensures added { IfOk result (λ added. AreClassNodes classes.now g.now list.now nodes.now added.items) }
+    ensures added { IfOk result (λ added. AreClassNodes classes.now g.now values.now list.now nodes.now added.items) }
 {
     let mut added = Vec::with_capacity(alloc, list.len())?;
     for i in 0..list.len() {
@@ -41,10 +43,11 @@ fn class_node(
     r: TermId,
     nodes: &[NodeId],
 ) -> Result<Node, BuildError>
-    requires values { HaveSortedNodes classes.now.declarations classes.now.terms g.now values.now }
+    requires values { length values.now ≡ length classes.now.terms }
+    requires within { (t : ℕ) (n : NodeId) → slice_get values.now t ≡ Some n → n.0 < length g.now }
     requires long { length nodes.now ≡ length classes.now.terms }
     requires inside { r.0 < length classes.now.terms }
-    ensures node { IfOk result (λ node. IsOfTerm classes.now nodes.now r node ⊎ IsCopied classes.now g.now r node) }
+    ensures node { IfOk result (λ node. IsOfTerm classes.now nodes.now r node ⊎ IsCopied classes.now g.now values.now r node) }
 {
     match classes.con_of(r) {
         Some(con) => match classes.table().core(con) {

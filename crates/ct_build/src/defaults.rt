@@ -5,7 +5,8 @@ ghost use Rattle.ct_sorts.specs.Declarations.{IsSort};
 ghost use Rattle.ct_values.specs.Fitting.{HasNodeSort};
 ghost use Rattle.ct_values.specs.WellFormed.{IsWellFormedGraph};
 ghost use Rattle.ct_card.specs.Sizes.{AreSizes};
-ghost use Rattle.ct_build.specs.Nodes.{AreStored, AreOfAllSorts};
+ghost use Rattle.ct_build.specs.OpenClasses.{AreOfAllSorts};
+ghost use Rattle.ct_build.specs.Nodes.{AreStored};
 
 use crate::error::BuildError;
 use ct_card::Sizes;

@@ -2,7 +2,6 @@
 ghost use Rattle.std.specs.Prelude.{⊤};
 
 use ct_card::CardError;
-use ct_partition::OutOfMemory;
 use ct_values::ValueError;
 use std::alloc::{AllocError, AllocFailed};
 
@@ -38,14 +37,6 @@ impl From<CardError> for BuildError {
     ghost from_gives = { λ _ e. ⊤ };
 
     fn from(_error: CardError) -> BuildError {
-        BuildError
-    }
-}
-
-impl From<OutOfMemory> for BuildError {
-    ghost from_gives = { λ _ e. ⊤ };
-
-    fn from(_error: OutOfMemory) -> BuildError {
         BuildError
     }
 }

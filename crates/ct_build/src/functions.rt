@@ -1,9 +1,13 @@
 //! Tables of functions.
-ghost use Rattle.std.specs.Prelude.{◌≡◌, ◌<◌, length, IfOk, OnOk};
+ghost use Rattle.std.specs.Prelude.{◌≡◌, ℕ, ◌+◌, ◌<◌, [], length, Some, slice_get, IfOk, OnOk};
+ghost use Rattle.ct_eval.specs.declared.interp.Table.{Table};
+ghost use Rattle.ct_build.specs.Tables.{AreFunctionRows};
+ghost use Rattle.ct_build.specs.Seen.{AreSeen};
 ghost use Rattle.ct_values.specs.Graph.{Nodes};
 ghost use Rattle.ct_terms.specs.Terms.{AreSorted};
 ghost use Rattle.ct_eval.specs.Interpretation.{HasFunctions};
-ghost use Rattle.ct_build.specs.Nodes.{AreOfAllSorts, HaveSortedNodes};
+ghost use Rattle.ct_build.specs.OpenClasses.{AreOfAllSorts};
+ghost use Rattle.ct_build.specs.Nodes.{HaveSortedNodes};
 
 use crate::class_nodes::nodes_of;
 use crate::error::BuildError;
@@ -31,6 +35,7 @@ pub(crate) fn function_tables(
         → AreOfAllSorts sig.now g defaults.now
         → HaveSortedNodes sig.now table.now g nodes.now
         → HasFunctions sig.now g tables.items) }
+    ensures rows { IfOk result (λ tables. AreFunctionRows table.now nodes.now (length table.now) tables.items) }
 {
     let mut tables = empty_tables(alloc, sig, defaults)?;
     let mut seen = IndexSet::new(alloc);
@@ -49,6 +54,7 @@ fn empty_tables(
     requires defaults { length defaults.now ≡ length sig.now.sorts }
     ensures functions { IfOk result (λ tables. (g : Nodes) → AreOfAllSorts sig.now g defaults.now → HasFunctions sig.now g tables.items) }
     ensures long { IfOk result (λ tables. length tables.items ≡ length sig.now.functions) }
+    ensures empty { IfOk result (λ tables. (f : ℕ) (table : Table) → slice_get tables.items f ≡ Some table → table.rows ≡ []) }
 {
     let mut tables = Vec::new(alloc);
     for f in 0..sig.funs() {
@@ -80,6 +86,9 @@ fn add_application(
         → HaveSortedNodes sig.now table.now g nodes.now
         → HasFunctions sig.now g tables.old.items
         → HasFunctions sig.now g tables.new.items) }
+    ensures rows { OnOk result (AreSeen seen.old tables.old.items
+        → AreFunctionRows table.now nodes.now t.0 tables.old.items
+        → AreSeen seen.new tables.new.items × AreFunctionRows table.now nodes.now (t.0 + 1) tables.new.items) }
 {
     match table.core(t) {
         Core::Apply(f, args) => {

@@ -1,9 +1,8 @@
 //! The node of each term, which is that of its class.
-ghost use Rattle.std.specs.Prelude.{◌≡◌, ℕ, ◌+◌, ◌<◌, ◌^◌, ◌⊎◌, length, Some, slice_get, IfOk};
+ghost use Rattle.std.specs.Prelude.{◌≡◌, ℕ, ◌+◌, ◌<◌, ◌^◌, length, Some, slice_get, IfOk};
 ghost use Rattle.ct_terms.specs.declared.ids.TermId.{TermId};
 ghost use Rattle.ct_values.specs.declared.node.NodeId.{NodeId};
-ghost use Rattle.ct_values.specs.Graph.{Nodes};
-ghost use Rattle.ct_build.specs.Nodes.{HaveSortedNodes, AreNumbered, IsReserved};
+ghost use Rattle.ct_build.specs.Nodes.{AreNumbered, IsReserved};
 
 use crate::error::BuildError;
 use crate::facts::facts;
@@ -23,10 +22,7 @@ pub(crate) fn numbered(
     requires long { length values.now ≡ length classes.now.terms }
     requires inside { (i : ℕ) (r : TermId) → slice_get list.now i ≡ Some r → r.0 < length classes.now.terms }
     requires room { base + length list.now < 2 ^ 64 }
-    ensures numbered { IfOk result (λ nodes. (g : Nodes)
-        → length g ≡ base
-        → HaveSortedNodes classes.now.declarations classes.now.terms g values.now
-        → AreNumbered classes.now g list.now nodes.items) }
+    ensures numbered { IfOk result (λ nodes. AreNumbered classes.now list.now base nodes.items) }
 {
     let mut reserved = Vec::from_slice(alloc, values)?;
     reserve(list, base, &mut reserved);
@@ -44,9 +40,9 @@ fn reserve(list: &[TermId], base: u64, nodes: &mut Vec<NodeId>)
     requires inside { (i : ℕ) (r : TermId) → slice_get list.now i ≡ Some r → r.0 < length nodes.old.items }
     requires room { base + length list.now < 2 ^ 64 }
     ensures long { length nodes.new.items ≡ length nodes.old.items }
-    ensures reserved { (r : TermId) (n : NodeId)
-        → slice_get nodes.new.items r.0 ≡ Some n
-        → (slice_get nodes.old.items r.0 ≡ Some n) ⊎ IsReserved list.now base r n }
+    ensures reserved { (i : ℕ) (r : TermId)
+        → slice_get list.now i ≡ Some r
+        → (n : NodeId) × (slice_get nodes.new.items r.0 ≡ Some n) × IsReserved list.now base r n }
 {
     for i in 0..list.len() {
         nodes[list[i].0 as usize] = NodeId(base + i as u64);

@@ -1,13 +1,15 @@
 //! Open classes: those of infinite sorts that have no constructor term, whose values are chosen.
-ghost use Rattle.std.specs.Prelude.{◌≡◌, ◌<◌, length, IfOk, OnOk, IsTrue};
+ghost use Rattle.std.specs.Prelude.{◌≡◌, ℕ, ◌+◌, ◌<◌, length, Some, slice_get, IfOk, OnOk, MatchBool};
 ghost use Rattle.ct_sorts.specs.Declarations.{IsSort};
 ghost use Rattle.ct_card.specs.Sizes.{AreSizes};
 ghost use Rattle.ct_terms.specs.Terms.{IsOfSort};
-ghost use Rattle.ct_build.specs.Nodes.{IsOpenClass, AreOpenClasses};
+ghost use Rattle.ct_terms.specs.declared.ids.TermId.{TermId};
+ghost use Rattle.ct_build.specs.declared.open_classes.OpenClass.{OpenClass};
+ghost use Rattle.ct_build.specs.OpenClasses.{IsOpenClass, AreOpenClasses, AreFirstOpen, HaveOwnRepresentatives};
 
 use crate::error::BuildError;
 use crate::facts::facts;
-use ct_card::{Size, Sizes};
+use ct_card::{Size, Sizes, unique_sizes};
 use ct_congr::Classes;
 use ct_sorts::SortId;
 use ct_terms::TermId;
@@ -22,7 +24,7 @@ pub(crate) struct OpenClass {
     pub(crate) rank: u64,
 }
 
-/// The open classes, in the order of their representatives.
+/// All open classes, each once, in the order of their representatives.
 pub(crate) fn open_classes(
     alloc: Global,
     sizes: &Sizes,
@@ -30,7 +32,9 @@ pub(crate) fn open_classes(
 ) -> Result<Vec<OpenClass>, BuildError>
     requires sizes { AreSizes classes.now.declarations sizes.now }
     ensures classes { IfOk result (λ list. AreOpenClasses classes.now list.items) }
+    ensures own { IfOk result (λ list. HaveOwnRepresentatives classes.now) }
 {
+    facts(classes);
     let mut counts = vec![in alloc; 0u64; classes.signature().sorts() as usize]?;
     let mut list = Vec::new(alloc);
     for t in 0..classes.table().len() {
@@ -50,9 +54,9 @@ fn add_if_open(
     requires sizes { AreSizes classes.now.declarations sizes.now }
     requires inside { rep.0 < length classes.now.terms }
     requires long { length counts.old.items ≡ length classes.now.declarations.sorts }
-    requires classes { AreOpenClasses classes.now list.old.items }
+    requires first { AreFirstOpen classes.now rep.0 list.old.items }
     ensures long { OnOk result (length counts.new.items ≡ length classes.now.declarations.sorts) }
-    ensures classes { OnOk result (AreOpenClasses classes.now list.new.items) }
+    ensures first { OnOk result (AreFirstOpen classes.now (rep.0 + 1) list.new.items) }
 {
     if !is_open(sizes, classes, rep) {
         return Ok(());
@@ -68,10 +72,23 @@ fn add_if_open(
 fn is_open(sizes: &Sizes, classes: &Classes, t: TermId) -> bool
     requires sizes { AreSizes classes.now.declarations sizes.now }
     requires inside { t.0 < length classes.now.terms }
-    ensures class { IsTrue result → (class : OpenClass) → class.rep ≡ t → IsOpenClass classes.now class }
+    ensures class { MatchBool result ((rank : ℕ) → IsOpenClass classes.now (record { rep = t; rank = rank })) ((class : OpenClass) → class.rep ≡ t → IsOpenClass classes.now class → ⊥) }
+    ensures own { (r : TermId) → slice_get classes.now.reps t.0 ≡ Some r → slice_get classes.now.reps r.0 ≡ Some r }
 {
     let s = term_sort(classes, t);
-    classes.rep(t) == t && classes.con_of(t).is_none() && sizes.size_of(s) == Size::Infinite
+    let rep = classes.rep(t);
+    if rep != t {
+        return false;
+    }
+    if classes.con_of(t).is_some() {
+        return false;
+    }
+    unique_sizes();
+    match sizes.size_of(s) {
+        Size::Infinite => true,
+        Size::One => false,
+        Size::Finite => false,
+    }
 }
 
 /// The sort of the term, which is declared.

@@ -1,7 +1,8 @@
 //! Tables, row by row.
 ghost use Rattle.std.specs.Prelude.{◌≡◌, ◌<◌, length, Some, slice_get, slice_set, OnOk};
 ghost use Rattle.ct_eval.specs.declared.interp.Table.{Table};
-ghost use Rattle.ct_build.specs.Tables.{with_row, AddsFirst};
+ghost use Rattle.ct_build.specs.Tables.{with_row, AddsFirst, HasRowFor};
+ghost use Rattle.ct_build.specs.Seen.{AreSeen};
 
 use crate::error::BuildError;
 use ct_eval::{Row, Rows, Table};
@@ -27,6 +28,8 @@ pub(crate) fn add_first(
 ) -> Result<(), BuildError>
     requires within { number < length tables.old.items }
     ensures added { OnOk result (AddsFirst tables.old.items tables.new.items number row) }
+    ensures seen { OnOk result (AreSeen seen.old tables.old.items
+        → AreSeen seen.new tables.new.items × HasRowFor tables.new.items number row.args) }
 {
     let args = NodeIds::from_slice(alloc, row.args.as_slice())?;
     let (_, new) = seen.insert_full(RowKey {

@@ -1,11 +1,18 @@
 //! Tables of selectors where they are wrongly applied.
-ghost use Rattle.std.specs.Prelude.{◌≡◌, ◌<◌, length, IfOk, OnOk};
+ghost use Rattle.std.specs.Prelude.{◌≡◌, ℕ, ◌+◌, ◌<◌, List, [], length, Some, slice_get, IfOk, OnOk, MatchBool};
+ghost use Rattle.ct_terms.specs.declared.ids.TermId.{TermId};
+ghost use Rattle.ct_congr.specs.State.{IsQuiet};
+ghost use Rattle.ct_eval.specs.declared.interp.Table.{Table};
+ghost use Rattle.ct_build.specs.ClassValues.{IsBuiltBy};
+ghost use Rattle.ct_build.specs.Tables.{AreSelectorRows};
+ghost use Rattle.ct_build.specs.Seen.{AreSeen};
 ghost use Rattle.ct_sorts.specs.Declarations.{IsSelector};
 ghost use Rattle.ct_values.specs.Graph.{Nodes};
 ghost use Rattle.ct_terms.specs.Terms.{Has};
 ghost use Rattle.ct_terms.specs.declared.term.Core.TheVariants as Core;
 ghost use Rattle.ct_eval.specs.Interpretation.{HasSelectors};
-ghost use Rattle.ct_build.specs.Nodes.{AreOfAllSorts, HaveSortedNodes};
+ghost use Rattle.ct_build.specs.OpenClasses.{AreOfAllSorts};
+ghost use Rattle.ct_build.specs.Nodes.{HaveSortedNodes};
 
 use crate::error::BuildError;
 use crate::rows::{RowKey, add_first};
@@ -25,12 +32,14 @@ pub(crate) fn selector_tables(
     nodes: &[NodeId],
     defaults: &[NodeId],
 ) -> Result<Vec<Table>, BuildError>
+    requires quiet { IsQuiet classes.now }
     requires long { length nodes.now ≡ length classes.now.terms }
     requires defaults { length defaults.now ≡ length classes.now.declarations.sorts }
     ensures selectors { IfOk result (λ tables. (g : Nodes)
         → AreOfAllSorts classes.now.declarations g defaults.now
         → HaveSortedNodes classes.now.declarations classes.now.terms g nodes.now
         → HasSelectors classes.now.declarations g tables.items) }
+    ensures rows { IfOk result (λ tables. AreSelectorRows classes.now nodes.now (length classes.now.terms) tables.items) }
 {
     let mut tables = empty_tables(alloc, classes.signature(), defaults)?;
     let mut seen = IndexSet::new(alloc);
@@ -49,6 +58,7 @@ fn empty_tables(
     requires defaults { length defaults.now ≡ length sig.now.sorts }
     ensures selectors { IfOk result (λ tables. (g : Nodes) → AreOfAllSorts sig.now g defaults.now → HasSelectors sig.now g tables.items) }
     ensures long { IfOk result (λ tables. length tables.items ≡ length sig.now.sels) }
+    ensures empty { IfOk result (λ tables. (s : ℕ) (table : Table) → slice_get tables.items s ≡ Some table → table.rows ≡ []) }
 {
     let mut tables = Vec::new(alloc);
     for s in 0..sig.mark().sels() {
@@ -70,6 +80,7 @@ fn add_selection(
     tables: &mut Vec<Table>,
     t: TermId,
 ) -> Result<(), BuildError>
+    requires quiet { IsQuiet classes.now }
     requires inside { t.0 < length classes.now.terms }
     requires long { length nodes.now ≡ length classes.now.terms }
     requires one_each { length tables.old.items ≡ length classes.now.declarations.sels }
@@ -78,6 +89,9 @@ fn add_selection(
         → HaveSortedNodes classes.now.declarations classes.now.terms g nodes.now
         → HasSelectors classes.now.declarations g tables.old.items
         → HasSelectors classes.now.declarations g tables.new.items) }
+    ensures rows { OnOk result (AreSeen seen.old tables.old.items
+        → AreSelectorRows classes.now nodes.now t.0 tables.old.items
+        → AreSeen seen.new tables.new.items × AreSelectorRows classes.now nodes.now (t.0 + 1) tables.new.items) }
 {
     match classes.table().core(t) {
         Core::Sel(s, of) => {
@@ -98,12 +112,14 @@ fn add_selection(
 
 // Whether the class of the term has a constructor term of this constructor.
 fn is_of(classes: &Classes, t: TermId, c: CtorId) -> bool
+    requires quiet { IsQuiet classes.now }
     requires inside { t.0 < length classes.now.terms }
+    ensures value { MatchBool result ((args : List TermId) × IsBuiltBy classes.now t c args) ((args : List TermId) → IsBuiltBy classes.now t c args → ⊥) }
 {
     match classes.con_of(t) {
         Some(con) => match classes.table().core(con) {
-            Core::Con(own, _) => *own == c,
-            _ => false,
+            Core::Con(own, _) => own.0 == c.0,
+            _ => unreachable!(),
         },
         None => false,
     }

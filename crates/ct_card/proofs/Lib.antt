@@ -14,3 +14,4 @@ pub mod EndLemmas
 pub mod SignLemmas
 pub mod DepartureLemmas
 pub mod LayerLemmas
+pub mod MadeLemmas

@@ -14,3 +14,4 @@ pub mod Built
 pub mod Signs
 pub mod Nth
 pub mod Descent
+pub mod Made

@@ -11,7 +11,9 @@ mod error;
 mod fields;
 mod founded;
 mod layers;
+mod made;
 mod nth;
+mod prepared;
 mod second_values;
 mod several;
 mod size;
@@ -20,6 +22,7 @@ mod small;
 mod theorems;
 
 pub use error::CardError;
+pub use prepared::Prepared;
 pub use size::Size;
 pub use sizes::Sizes;
 pub use theorems::{different_values, single_sorts, unique_sizes};

@@ -1,5 +1,5 @@
 //! The sizes of all sorts of a signature, and makers of values.
-ghost use Rattle.std.specs.Prelude.{◌≡◌, ◌<◌, ◌↔◌, length, Some, None, slice_get, IfOk, IfSome};
+ghost use Rattle.std.specs.Prelude.{◌≡◌, ◌<◌, ◌↔◌, length, Some, None, slice_get, IfOk, OnOk, IfSome};
 ghost use Rattle.ct_sorts.specs.declared.ids.SortId.{SortId};
 ghost use Rattle.ct_sorts.specs.Declarations.{Declarations, IsSort};
 ghost use Rattle.ct_sorts.specs.Grown.{Begins};
@@ -7,6 +7,7 @@ ghost use Rattle.ct_values.specs.Fitting.{HasNodeSort};
 ghost use Rattle.ct_values.specs.WellFormed.{IsWellFormedGraph};
 ghost use Rattle.ct_values.specs.Agreement.{node_point, AgreeAlways};
 ghost use Rattle.ct_card.specs.Cardinality.{HasSize, IsSingle};
+ghost use Rattle.ct_card.specs.Made.{IsPrepared};
 ghost use Rattle.ct_card.specs.Nth.{IsNth};
 ghost use Rattle.ct_card.specs.Sizes.{AreSizes, AreSizesBy, size_by};
 
@@ -17,13 +18,15 @@ use crate::departure::{Departure, Layer};
 use crate::error::CardError;
 use crate::founded::founding;
 use crate::layers::{layers, seconds};
+use crate::made::store_made;
 use crate::nth::append_nth;
+use crate::prepared::Prepared;
 use crate::second_values::append_seconds;
 use crate::several::several_ranks;
 use crate::size::Size;
 use crate::small::small_ranks;
 use ct_sorts::{CtorId, Signature, SortId, structure};
-use ct_values::{Graph, NodeId};
+use ct_values::{Graph, NodeId, agreement};
 use std::alloc::Global;
 use std::marker::Model;
 
@@ -208,10 +211,81 @@ impl Sizes {
             layers,
             base,
             second,
+            &[],
             g,
             s.0 as usize,
             n,
         )?;
+        Ok(k)
+    }
+
+    /// Puts default values and second values of all sorts after the graph, over which `nth_over` makes others. It keeps the
+    /// values that it makes in so many places. The sizes are those of the signature. Where the answer is an error, the graph
+    /// may have grown.
+    pub fn prepare(
+        &self,
+        sig: &Signature,
+        g: &mut Graph,
+        places: usize,
+    ) -> Result<Prepared, CardError>
+        requires sizes { AreSizes sig.now self.now }
+        ensures grown { Begins g.old g.new }
+        ensures well_formed { IsWellFormedGraph sig.now g.old → IsWellFormedGraph sig.now g.new }
+        ensures prepared { IfOk result (IsPrepared sig.now self.now g.new) }
+    {
+        let ranks = self.ranks.as_slice();
+        let base = append_defaults(self.alloc, sig, ranks, &self.order, &self.ctors, g)?;
+        let second = append_seconds(
+            self.alloc,
+            sig,
+            self.several.as_slice(),
+            &self.queue,
+            ranks,
+            &self.ctors,
+            &self.seconds,
+            base,
+            g,
+        )?;
+        let made = vec![in self.alloc; None; places]?;
+        Ok(Prepared { base, second, made })
+    }
+
+    /// The n-th value of an infinite sort, as by `nth`, over a graph that is prepared: only the layers around a value that was
+    /// made before and is still kept are put after the graph. Where the answer is an error, the graph may have grown.
+    pub fn nth_over(
+        &self,
+        sig: &Signature,
+        g: &mut Graph,
+        prepared: &mut Prepared,
+        s: SortId,
+        n: u64,
+    ) -> Result<NodeId, CardError>
+        requires sizes { AreSizes sig.now self.now }
+        requires inside { IsSort sig.now s }
+        requires infinite { HasSize sig.now s.0 Size.Infinite }
+        requires prepared { IsPrepared sig.now self.now g.old prepared.old }
+        ensures grown { Begins g.old g.new }
+        ensures well_formed { IsWellFormedGraph sig.now g.old → IsWellFormedGraph sig.now g.new }
+        ensures sorted { IfOk result (λ k. HasNodeSort sig.now g.new k s) }
+        ensures nth { IfOk result (λ k. IsNth sig.now self.now s.0 n (node_point g.new k)) }
+        ensures prepared { OnOk result (IsPrepared sig.now self.now g.new prepared.new) }
+    {
+        agreement();
+        prove!(g.len() <= u64::MAX);
+        let k = append_nth(
+            self.alloc,
+            sig,
+            self.several.as_slice(),
+            self.ranks.as_slice(),
+            self.layers.as_slice(),
+            prepared.base,
+            prepared.second,
+            prepared.made.as_slice(),
+            g,
+            s.0 as usize,
+            n,
+        )?;
+        store_made(&mut prepared.made, s.0 as usize, n, k);
         Ok(k)
     }
 }

@@ -7,5 +7,5 @@ use Rattle.ct_build.proofs.class_nodes.class_nodes.Given as goal
 abbrev pub invariant-loop-i : goal.invariant-loop-i
 invariant-loop-i l = record {
   many : length l.added.items ≡ l.i;
-  each : (i : ℕ) (r : TermId) (node : Node) → slice_get l.list i ≡ Some r → slice_get l.added.items i ≡ Some node → IsOfTerm l.classes l.nodes r node ⊎ IsCopied l.classes l.g r node;
+  each : (i : ℕ) (r : TermId) (node : Node) → slice_get l.list i ≡ Some r → slice_get l.added.items i ≡ Some node → IsOfTerm l.classes l.nodes r node ⊎ IsCopied l.classes l.g l.values r node;
 }

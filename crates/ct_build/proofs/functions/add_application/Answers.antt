@@ -1,12 +1,12 @@
-use Rattle.std.proofs.Common.{◌≡◌, List, map, get_or, slice_get, Some, sym, ◌∙◌, ap, subst, arith}
+use Rattle.std.proofs.Common.{◌≡◌, List, map, get_or, slice_get, Some, refl, sym, ◌∙◌, ap, subst, arith}
 use Rattle.std.proofs.lemmas.Option.{slice_get-get_or, slice_get_within}
-use Rattle.ct_lemmas.proofs.Options.{OnOk-then}
 use Rattle.ct_values.specs.declared.node.NodeId.{NodeId}
 use Rattle.ct_terms.specs.declared.term.Core.TheVariants.{Apply}
 use Rattle.ct_terms.specs.Terms.{Applies, Has}
 use Rattle.ct_eval.specs.Interpretation.{FitsRow}
 use Rattle.ct_eval.specs.EvaluationStep.{node_under}
-use Rattle.ct_build.proofs.TableLemmas.{functions_more, application_fits}
+use Rattle.ct_build.proofs.TableLemmas.{at_ok, at_ok_both, functions_more, application_fits}
+use Rattle.ct_build.proofs.RowLemmas.{function_rows_skip, function_rows_more}
 use Rattle.ct_build.proofs.functions.add_application.Goals as goal
 
 pub add_first-requires : goal.add_first-requires
@@ -25,7 +25,26 @@ returns-in_ok-args-in-Apply-clause-functions c =
     let stands : Has terms (Apply f c.in-Apply.args) c.args.t.0 = rw (← c.in-Apply.is) c.core.ensures.value in
     let at : slice_get nodes c.args.t.0 ≡ Some n = slice_get-get_or nodes c.args.t.0 (record { 0 = 0 }) (omega (arith, c.requires.long, c.requires.inside)) in
     let is : c.new.result ≡ map (node_under nodes) c.in-Apply.args = c.new.ensures.value ∙ c.in_ok-args-in-Apply.ensures.value ∙ ap (map (node_under nodes)) c.as_slice.ensures.value in
-    OnOk-then c.add_first.result c.add_first.ensures.added (λ adds g have old.
+    at_ok c.add_first.result c.add_first.ensures.added (λ adds g have old.
     functions_more d g c.args.tables.now.items c.add_first.new.tables.items f.0 (record { args = c.new.result; result = n }) old adds (λ function declared.
     subst (λ (l : List NodeId). FitsRow d g function.args function.result (record { args = l; result = n })) (sym is)
     (application_fits d g terms nodes c.requires.sorted have c.args.t f c.in-Apply.args stands.0 n stands.1 at function declared)))
+
+pub returns-in_ok-args-in-Apply-clause-rows : goal.returns-in_ok-args-in-Apply-clause-rows
+returns-in_ok-args-in-Apply-clause-rows c =
+    let terms = c.args.table.now in
+    let nodes = c.args.nodes.now in
+    let f = c.in-Apply.f in
+    let n = get_or nodes c.args.t.0 (record { 0 = 0 }) in
+    let stands : Has terms (Apply f c.in-Apply.args) c.args.t.0 = rw (← c.in-Apply.is) c.core.ensures.value in
+    let is : c.new.result ≡ map (node_under nodes) c.in-Apply.args = c.new.ensures.value ∙ c.in_ok-args-in-Apply.ensures.value ∙ ap (map (node_under nodes)) c.as_slice.ensures.value in
+    at_ok_both c.add_first.result c.add_first.ensures.added c.add_first.ensures.seen (λ adds seen are before.
+    let step = seen are in
+    (step.0, function_rows_more terms nodes c.args.t f c.in-Apply.args (record { args = c.new.result; result = n }) c.args.tables.now.items c.add_first.new.tables.items stands is refl adds step.1 before))
+
+pub returns-in_default : goal.returns-in_default
+returns-in_default c = record {
+  one_each = c.requires.one_each;
+  functions = λ g have old. old;
+  rows = λ seen before. (seen, function_rows_skip c.args.table.now c.args.nodes.now c.args.t c.core.result.now c.args.tables.now.items c.core.ensures.value c.in_default.not-Apply before);
+}

@@ -20,4 +20,5 @@ loop-down-preserved c =
           (further_down d layers c.args.s c.args.n old.way.items old.sort old.left new.sort new.left step.layer c.loop-down.invariant.down c.loop-down.invariant.infinite step.passed);
       inside = step.inside;
       infinite = step.infinite;
+      made = c.in_ok-go_down.ensures.made;
     }

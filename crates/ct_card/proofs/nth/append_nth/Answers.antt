@@ -1,13 +1,12 @@
-use Rattle.std.proofs.Common.{◌≡◌, ◌++◌, ◌∷◌, [], false, List, ℕ, slice_get, Some, refl, sym, ◌∙◌, ap, subst, arith}
+use Rattle.std.proofs.Common.{◌≡◌, ◌∷◌, [], List, ℕ, refl, sym, subst, arith}
 use Rattle.std.proofs.lemmas.List.{nil_from_length}
 use Rattle.std.proofs.lemmas.Option.{slice_get_within}
-use Rattle.ct_lemmas.proofs.Lists.{slice_get-last}
 use Rattle.ct_sorts.specs.Grown.{Begins}
 use Rattle.ct_values.specs.Graph.{Nodes}
 use Rattle.ct_values.specs.Agreement.{node_point}
 use Rattle.ct_values.specs.Fitting.{HasNodeSort}
 use Rattle.ct_values.specs.WellFormed.{IsWellFormedGraph}
-use Rattle.ct_card.specs.Defaults.{is_free_sort, node_of_sort}
+use Rattle.ct_card.specs.Defaults.{node_of_sort}
 use Rattle.ct_card.specs.Built.{node_with}
 use Rattle.ct_card.specs.Signs.{HasAllDefaults}
 use Rattle.ct_card.specs.Nth.{IsNthIn}
@@ -15,58 +14,23 @@ use Rattle.ct_card.specs.Descent.{LeadsDown}
 use Rattle.ct_card.proofs.ListLemmas.{begins_pushed}
 use Rattle.ct_card.proofs.WellFormedLemmas.{well_formed_pushed, longer_sort}
 use Rattle.ct_card.proofs.PathLemmas.{Agrees}
-use Rattle.ct_card.proofs.EndLemmas.{can_depart, end_sort}
 use Rattle.ct_card.proofs.SignLemmas.{longer_defaults}
-use Rattle.ct_card.proofs.LayerLemmas.{come_down_some, end_nth, layer_nth, popped, layer_sort}
+use Rattle.ct_card.proofs.LayerLemmas.{layer_nth, popped, layer_sort}
 use Rattle.ct_card.proofs.nth.append_nth.Goals as goal
-
-pub push_end-requires-clause-can : goal.push_end-requires-clause-can
-push_end-requires-clause-can c = λ other.
-    let d = c.args.sig.now in
-    let e = c.structure.ensures in
-    let k = c.sorts.ensures.consistent in
-    let layers = c.args.layers.now in
-    let down = c.in_ok-down.down in
-    let last = c.layer_at-last.result in
-    let stored : slice_get layers down.sort ≡ Some last = c.layer_at-last.ensures.value (omega (arith, c.in_ok-down.ensures.inside, c.requires.layered.long)) in
-    let is = c.requires.layered.each down.sort last stored c.in_ok-down.ensures.infinite other in
-    can_depart d k (e.own_constructors d k) (e.own_selectors d k) (e.of_their_sorts d k) (e.of_their_constructors d k) c.args.several.now c.args.ranks.now c.args.base c.args.g.now down.sort c.args.second last.departure last.step.ctor c.in_ok-down.ensures.inside (is.index, is.listed) is.departs
-    (come_down_some d layers down.sort down.left last c.in_ok-down.ensures.end other stored)
-    (λ t derived less. (c.requires.room t derived, c.requires.seconds t derived))
 
 pub loop-x-init : goal.loop-x-init
 loop-x-init c =
     let d = c.args.sig.now in
-    let e = c.structure.ensures in
-    let k = c.sorts.ensures.consistent in
-    let laws : Agrees = record { always = c.agreement.ensures.always; turned = c.agreement.ensures.turned; grown = c.agreement.ensures.always_grown } in
-    let layers = c.args.layers.now in
-    let several = c.args.several.now in
     let ranks = c.args.ranks.now in
     let base = c.args.base in
-    let second = c.args.second in
-    let g = c.args.g.now in
     let down = c.in_ok-down.down in
-    let last = c.layer_at-last.result in
-    let stored : slice_get layers down.sort ≡ Some last = c.layer_at-last.ensures.value (omega (arith, c.in_ok-down.ensures.inside, c.requires.layered.long)) in
-    let top = c.in_ok-top.top in
-    let number = c.in_ok-top.ensures.number in
-    let pushed = c.in_ok-top.ensures.pushed in
-    let node = pushed.0 in
-    let departs = λ (other : is_free_sort d down.sort ≡ false). c.requires.layered.each down.sort last stored c.in_ok-down.ensures.infinite other in
+    let step = c.in_ok-top.ensures in
+    let (more, is) = step.grown in
     record {
-      grown = (node ∷ [], pushed.3);
-      formed = λ formed. subst (λ (x : Nodes). IsWellFormedGraph d x) (sym pushed.3) (well_formed_pushed d g node formed pushed.2);
-      sorted = λ t within. subst (λ (x : Nodes). HasNodeSort d x (node_of_sort base ranks t) (record { 0 = t })) (sym pushed.3) (longer_sort d g (node ∷ []) (node_of_sort base ranks t) (record { 0 = t }) (c.requires.sorted t within));
-      place = (
-        down.sort,
-        down.left,
-        c.in_ok-down.ensures.down,
-        subst (λ (x : Nodes). HasNodeSort d x top (record { 0 = down.sort })) (sym pushed.3)
-            (node, ap (slice_get (g ++ node ∷ [])) number ∙ slice_get-last g node, end_sort d k (e.own_constructors d k) (e.own_selectors d k) (e.of_their_sorts d k) (e.of_their_constructors d k) several ranks base down.sort second down.left last.departure node c.in_ok-down.ensures.inside (λ other. (last.step.ctor, ((departs other).index, (departs other).listed), (departs other).departs)) pushed.1),
-        λ ctors seconds are all all_seconds. subst (λ (x : Nodes). IsNthIn d ctors seconds layers down.sort down.left (node_point x top)) (sym pushed.3)
-            (end_nth laws d several ranks ctors seconds layers base are c.requires.several.long g second down.sort down.left top last node c.len.ensures.closed number all_seconds stored departs c.in_ok-down.ensures.end pushed.1),
-      );
+      grown = step.grown;
+      formed = step.well_formed;
+      sorted = λ t within. subst (λ (x : Nodes). HasNodeSort d x (node_of_sort base ranks t) (record { 0 = t })) (sym is) (longer_sort d c.args.g.now more (node_of_sort base ranks t) (record { 0 = t }) (c.requires.sorted t within));
+      place = (down.sort, down.left, c.in_ok-down.ensures.down, step.sorted, step.nth);
     }
 
 pub push_with-requires : goal.push_with-requires
@@ -114,10 +78,10 @@ loop-x-preserved c =
         p.k,
         p.leads,
         subst (λ (z : Nodes). HasNodeSort d z n (record { 0 = x })) (sym is) (layer_sort d k (e.own_constructors d k) (e.own_selectors d k) (e.of_their_sorts d k) (e.of_their_constructors d k) several ranks base g x layer n top p.is p.inside number),
-        λ ctors seconds are all all_seconds. subst (λ (z : Nodes). IsNthIn d ctors seconds layers x p.k (node_point z n)) (sym is)
-            (layer_nth laws d several ranks ctors seconds layers base are c.requires.several.long g x p.k inv.place.0 inv.place.1 n top layer node c.len-in-Some.ensures.closed number (slice_get_within g top.0 inv.place.3.0 inv.place.3.1)
+        λ ctors seconds are all all_seconds are_made. subst (λ (z : Nodes). IsNthIn d ctors seconds layers x p.k (node_point z n)) (sym is)
+            (layer_nth laws d several ranks ctors seconds layers base are c.requires.several.long g x p.k inv.place.0 inv.place.1 n top layer node c.len.ensures.closed number (slice_get_within g top.0 inv.place.3.0 inv.place.3.1)
             (subst (λ (z : Nodes). HasAllDefaults d ranks ctors base z) (sym inv.grown.1) (longer_defaults d ranks ctors base c.args.g.now inv.grown.0 all))
-            p.is p.passed (inv.place.4 ctors seconds are all all_seconds) refl),
+            p.is p.passed (inv.place.4 ctors seconds are all all_seconds are_made) refl),
       );
     }
 
@@ -132,7 +96,7 @@ returns c =
       grown = inv.grown;
       well_formed = inv.formed;
       sorted = subst (λ u. HasNodeSort d c.loop-x.g c.loop-x.top (record { 0 = u })) (sym here.0) inv.place.3;
-      nth = λ ctors seconds are all all_seconds.
+      nth = λ ctors seconds are all all_seconds are_made.
           subst (λ u. IsNthIn d ctors seconds c.args.layers.now u c.args.n (node_point c.loop-x.g c.loop-x.top)) (sym here.0)
-          (subst (λ u. IsNthIn d ctors seconds c.args.layers.now inv.place.0 u (node_point c.loop-x.g c.loop-x.top)) (sym here.1) (inv.place.4 ctors seconds are all all_seconds));
+          (subst (λ u. IsNthIn d ctors seconds c.args.layers.now inv.place.0 u (node_point c.loop-x.g c.loop-x.top)) (sym here.1) (inv.place.4 ctors seconds are all all_seconds are_made));
     }

@@ -10,6 +10,7 @@ use Rattle.ct_card.specs.Built.{HaveTheirSorts}
 use Rattle.ct_card.specs.Signs.{HasAllDefaults, HasAllSeconds}
 use Rattle.ct_card.specs.Nth.{IsNthIn}
 use Rattle.ct_card.specs.Descent.{LeadsDown}
+use Rattle.ct_card.specs.Made.{AreMadeNth}
 use Rattle.ct_card.proofs.nth.append_nth.Given as goal
 
 abbrev pub invariant-loop-x : goal.invariant-loop-x
@@ -18,7 +19,7 @@ invariant-loop-x l = record {
   formed : IsWellFormedGraph l.sig l.fn.g → IsWellFormedGraph l.sig l.g;
   sorted : HaveTheirSorts l.sig l.ranks l.base l.g;
   place : (t : ℕ) × (m : ℕ) × LeadsDown l.sig l.layers l.s l.n l.down.way.items t m × HasNodeSort l.sig l.g l.top (record { 0 = t })
-      × ((ctors : List CtorId) (seconds : List Departure) → AreSeconds l.sig l.several ctors seconds → HasAllDefaults l.sig l.ranks ctors l.base l.fn.g → HasAllSeconds l.sig l.several ctors seconds l.second l.fn.g → IsNthIn l.sig ctors seconds l.layers t m (node_point l.g l.top));
+      × ((ctors : List CtorId) (seconds : List Departure) → AreSeconds l.sig l.several ctors seconds → HasAllDefaults l.sig l.ranks ctors l.base l.fn.g → HasAllSeconds l.sig l.several ctors seconds l.second l.fn.g → AreMadeNth l.sig ctors seconds l.layers l.fn.g l.made → IsNthIn l.sig ctors seconds l.layers t m (node_point l.g l.top));
 }
 
 abbrev pub decreases-loop-x : goal.decreases-loop-x

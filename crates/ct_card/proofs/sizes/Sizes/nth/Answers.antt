@@ -1,4 +1,5 @@
 use Rattle.std.proofs.Common.{◌≡◌, List, ℕ, sym, ◌∙◌, ap, subst}
+use Rattle.std.proofs.lemmas.Option.{none-some}
 use Rattle.ct_sorts.specs.declared.ids.CtorId.{CtorId}
 use Rattle.ct_values.specs.Agreement.{node_point}
 use Rattle.ct_card.specs.declared.departure.Departure.{Departure}
@@ -31,7 +32,7 @@ returns-clause-nth c =
     (subst (λ (l : List CtorId). AreSeconds d table.several l seconds) (sym same_ctors)
     (subst (λ (l : List Departure). AreSeconds d table.several table.ctors l) (sym same_seconds) c.requires.sizes.departures)) in
     let p = node_point c.append_nth.new.g c.in_ok-k.k in
-    let nth : IsNthIn d ctors seconds layers c.args.s.0 c.args.n p = c.in_ok-k.ensures.nth ctors seconds are c.in_ok-second.ensures.defaults c.in_ok-second.ensures.seconds in
+    let nth : IsNthIn d ctors seconds layers c.args.s.0 c.args.n p = c.in_ok-k.ensures.nth ctors seconds are c.in_ok-second.ensures.defaults c.in_ok-second.ensures.seconds (λ s n k made. absurd (none-some _ made.1)) in
     subst (λ (l : List CtorId). IsNthIn d l table.seconds table.layers c.args.s.0 c.args.n p) same_ctors
     (subst (λ (l : List Departure). IsNthIn d ctors l table.layers c.args.s.0 c.args.n p) same_seconds
     (subst (λ (l : List Layer). IsNthIn d ctors seconds l c.args.s.0 c.args.n p) same_layers nth))

@@ -1,0 +1,13 @@
+use Rattle.std.proofs.Common.{◌-◌, length}
+use Rattle.ct_card.specs.Made.{IsPrepared}
+use Rattle.ct_build.specs.Chosen.{AreChosen}
+use Rattle.ct_build.proofs.choice.push_all.Given as goal
+
+abbrev pub invariant-loop-chosen : goal.invariant-loop-chosen
+invariant-loop-chosen l = record {
+  are_chosen : AreChosen l.classes l.chosen.graph l.defaults l.unbuilt l.chosen.nodes.items;
+  prepared : IsPrepared l.classes.declarations l.sizes l.chosen.graph l.chosen.prepared;
+}
+
+abbrev pub decreases-loop-chosen : goal.decreases-loop-chosen
+decreases-loop-chosen l = length l.unbuilt - length l.chosen.nodes.items
