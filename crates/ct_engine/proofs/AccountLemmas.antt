@@ -1,5 +1,5 @@
 -- A search stays accounted for: with each step its clauses, its lines and its moves go on belonging together.
-use Rattle.std.proofs.Common.{◌≡◌, ℕ, ◌+◌, List, [], ◌∷◌, ◌++◌, length, map, take, All, Contains, refl, sym, ap, subst, ◌∙◌, append_assoc}
+use Rattle.std.proofs.Common.{◌≡◌, ℕ, Bool, false, ◌+◌, List, [], ◌∷◌, ◌++◌, length, map, take, All, Contains, refl, sym, ap, subst, ◌∙◌, append_assoc}
 use Rattle.std.proofs.lemmas.List.{append-nil, map-append}
 use Rattle.std.proofs.lemmas.Option.{none-some}
 use Rattle.std.proofs.lemmas.List.Elements.{All-nil, All-push, Contains-append_left}
@@ -25,8 +25,8 @@ use Rattle.ct_engine.proofs.MoveLemmas.{AreLegal-longer, AreLegal-push, count-de
 use Rattle.ct_engine.proofs.ReplayLemmas.{IsReplayOf-appended, IsReplayOf-added, IsReplayOf-decided, IsReplayOf-learned, adds, decides, learns}
 
 -- literals were put at the end of the trail
-appended : (search : SearchState) (more : List Lit) (derived : Derived) (moves : List Move) → IsSound search → IsAccounted search derived moves → IsAccounted (record search { trail = search.trail ++ more }) derived moves
-appended search more derived moves sound is = record {
+appended : (search : SearchState) (more : List Lit) (propagated : Bool) (derived : Derived) (moves : List Move) → IsSound search → IsAccounted search derived moves → IsAccounted (record search { trail = search.trail ++ more; propagated = propagated }) derived moves
+appended search more propagated derived moves sound is = record {
   variables = is.variables;
   initial = is.initial;
   taught = is.taught;
@@ -36,14 +36,14 @@ appended search more derived moves sound is = record {
   numbered = is.numbered;
   stored = is.stored;
   replay = is.replay;
-  replays = IsReplayOf-appended search more is.replay sound is.replays;
+  replays = IsReplayOf-appended search more propagated is.replay sound is.replays;
   legal = is.legal;
   counted = is.counted;
 }
 
 pub IsAccounted-propagated : (old new : SearchState) (derived : Derived) (moves : List Move) → IsSound old → AppendsTo old new → IsAccounted old derived moves → IsAccounted new derived moves
 IsAccounted-propagated old new derived moves sound (more, is) before =
-    subst (λ (s : SearchState). IsAccounted s derived moves) (sym is) (appended old more derived moves sound before)
+    subst (λ (s : SearchState). IsAccounted s derived moves) (sym is) (appended old more new.propagated derived moves sound before)
 
 -- the lines in their order with one more
 in_order_with : (lines initial taught : List Line) (line : Line) → lines ≡ initial ++ taught → lines ++ line ∷ [] ≡ initial ++ (taught ++ line ∷ [])
@@ -56,7 +56,7 @@ stored_with clauses c clause h =
     (Contains-append_left (clauses_in clauses) (c.literals ∷ []) clause h)
 
 -- a clause of the theory was added
-pub IsAccounted-added : UnitTheorems → (search : SearchState) (derived : Derived) (moves : List Move) (number : ℕ) (line : Line) → IsSound search → number ≡ length derived.rec.lines + 1 → IsTaught line.step → All (λ l. Contains search.trail (opposite l)) line.clause → IsAccounted search derived moves → IsAccounted (record search { clauses = search.clauses ++ record { step = number; literals = line.clause } ∷ [] }) (record derived { rec = record derived.rec { lines = derived.rec.lines ++ line ∷ [] } }) (moves ++ move.Add number ∷ [])
+pub IsAccounted-added : UnitTheorems → (search : SearchState) (derived : Derived) (moves : List Move) (number : ℕ) (line : Line) → IsSound search → number ≡ length derived.rec.lines + 1 → IsTaught line.step → All (λ l. Contains search.trail (opposite l)) line.clause → IsAccounted search derived moves → IsAccounted (record search { clauses = search.clauses ++ record { step = number; literals = line.clause } ∷ []; propagated = false }) (record derived { rec = record derived.rec { lines = derived.rec.lines ++ line ∷ [] } }) (moves ++ move.Add number ∷ [])
 IsAccounted-added theorems search derived moves number line sound numbered taught false_ones is =
     let lines = derived.rec.lines in
     let new : StepClause = record { step = number; literals = line.clause } in
@@ -82,6 +82,7 @@ learned_from : UnitTheorems → (old new : SearchState) (derived : Derived) (mov
   clauses = old.clauses ++ record { step = number; literals = lits } ∷ [];
   trail = take learned.next.index old.trail;
   decided = take keep old.decided;
+  propagated = false;
 }) (record derived { rec = record derived.rec { lines = derived.rec.lines ++ record { clause = lits; step = step.Learn hints } ∷ [] } }) (moves ++ move.Learn number keep ∷ [])
 learned_from theorems old new derived moves number keep conflict lits hints sound false_one numbered learned is =
     let lines = derived.rec.lines in

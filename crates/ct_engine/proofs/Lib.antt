@@ -13,6 +13,7 @@ pub mod OutcomeLemmas
 pub mod TrailLemmas
 pub mod BoundLemmas
 pub mod SpentLemmas
-pub mod ResolveLemmas
+pub mod TurnLemmas
 pub mod PrepareLemmas
 pub mod TruthLemmas
+pub mod HeldLemmas

@@ -1,5 +1,5 @@
 -- Lines for clauses that are added to a search.
-use Rattle.std.proofs.Common.{ℕ, List, [], ◌∷◌, ◌++◌, All, Contains, refl}
+use Rattle.std.proofs.Common.{ℕ, false, List, [], ◌∷◌, ◌++◌, All, Contains, refl}
 use Rattle.std.proofs.lemmas.List.Elements.{All-contains, All-weaker, All-nil, Contains-push}
 use Rattle.ct_sorts.specs.Declarations.{Declarations}
 use Rattle.ct_terms.specs.declared.ids.TermId.{TermId}
@@ -45,7 +45,7 @@ accepted_conflict search d terms asserts earlier clause steps close are sound co
 }
 
 -- and its clause is a conflict of the search to which it is added
-pub conflict_added : (search : SearchState) (number : ℕ) (clause : Clause) → All (λ l. Contains search.trail (opposite l)) clause → IsConflict (record search { clauses = search.clauses ++ record { step = number; literals = clause } ∷ [] }) number
+pub conflict_added : (search : SearchState) (number : ℕ) (clause : Clause) → All (λ l. Contains search.trail (opposite l)) clause → IsConflict (record search { clauses = search.clauses ++ record { step = number; literals = clause } ∷ []; propagated = false }) number
 conflict_added search number clause false_ones =
     let new : StepClause = record { step = number; literals = clause } in
     (new, refl, Contains-push search.clauses new, false_ones)

@@ -33,7 +33,7 @@ module _ (theorems : ModelTheorems) (d : Declarations) (i : Interp) where
       subst (λ (s : CoreTree). is_true i.graph (tree_value d i s) ≡ true) found.2 (sym (by_tree terms found.0) ∙ here)
 
   -- assertions hold where they are the same terms
-  Holds-same : (terms other : Terms) (asserts others : List TermId) → terms_at other others ≡ terms_at terms asserts → Holds d i terms asserts → Holds d i other others
+  pub Holds-same : (terms other : Terms) (asserts others : List TermId) → terms_at other others ≡ terms_at terms asserts → Holds d i terms asserts → Holds d i other others
   Holds-same terms other asserts others same holds =
       All-from_Contains (λ (t : TermId). truth_value d i other t ≡ true) others (λ t inside.
       by_tree other t ∙ trees_hold terms asserts holds (term_at other t)

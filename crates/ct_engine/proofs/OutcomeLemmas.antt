@@ -1,5 +1,5 @@
 -- What each way in which a search ends says of the assertions.
-use Rattle.std.proofs.Common.{◌≡◌, ◌↔◌, ℕ, suc, ◌<◌, ◌^◌, List, refl, sym, ap, subst, ◌∙◌}
+use Rattle.std.proofs.Common.{◌≡◌, ◌↔◌, ℕ, suc, ◌<◌, ◌≤◌, ◌^◌, List, refl, sym, ap, subst, ◌∙◌, arith}
 use Rattle.ct_sorts.specs.Declarations.{Declarations}
 use Rattle.ct_terms.specs.declared.ids.TermId.{TermId}
 use Rattle.ct_terms.specs.declared.ids.Lit.{Lit}
@@ -14,8 +14,8 @@ use Rattle.ct_engine.specs.Moves.{IsSpentRecord}
 use Rattle.ct_engine.specs.Saturated.{AreDecided, IsSaturated}
 use Rattle.ct_engine.specs.declared.verdict.Spent.{Spent}
 use Rattle.ct_engine.specs.declared.verdict.Verdict.{Verdict}
-use Rattle.ct_engine.specs.declared.verdict.Verdict.TheVariants.{Sat, Unsat, Unknown, Stuck}
-use Rattle.ct_engine.specs.Verdict.{IsSpending, IsVerdict, IsBelowBound}
+use Rattle.ct_engine.specs.declared.verdict.Verdict.TheVariants.{Sat, Unsat, Unknown}
+use Rattle.ct_engine.specs.Verdict.{IsSpending, IsVerdict, IsDecisive}
 use Rattle.ct_engine.specs.Progress.{IsTaskOf, IsOfOneTask, IsCandidate}
 
 -- the record of a search that spent its budget
@@ -72,9 +72,8 @@ pub spending_below : SpentBound → (d : Declarations) (table : Terms) (asserts 
 spending_below theorem d table asserts budget spent is =
     subst (λ (b : ℕ). suc b < 2 ^ spent.variables) (sym is.allowed) (theorem d table asserts budget spent is)
 
--- whatever the verdict
-pub verdict_below : SpentBound → (d : Declarations) (table : Terms) (asserts : List TermId) (budget : ℕ) (v : Verdict) → IsVerdict d table asserts budget v → IsBelowBound v
-verdict_below theorem d table asserts budget (Sat i) is = tt
-verdict_below theorem d table asserts budget (Unsat derived) is = tt
-verdict_below theorem d table asserts budget (Unknown spent) is = spending_below theorem d table asserts budget spent is
-verdict_below theorem d table asserts budget (Stuck terms literals i index) is = tt
+-- no verdict is unknown where as many decisions were allowed as are enough
+pub decisive : (d : Declarations) (table : Terms) (asserts : List TermId) (budget variables : ℕ) → ((spent : Spent) → IsSpending d table asserts budget spent → suc budget < 2 ^ variables) → 2 ^ variables ≤ suc budget → (v : Verdict) → IsVerdict d table asserts budget v → IsDecisive v
+decisive d table asserts budget variables bound enough (Sat i) is = tt
+decisive d table asserts budget variables bound enough (Unsat derived) is = tt
+decisive d table asserts budget variables bound enough (Unknown spent) is = let below = bound spent is in omega (arith, below, enough)

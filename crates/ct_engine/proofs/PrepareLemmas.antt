@@ -1,5 +1,5 @@
 -- What a search begins with.
-use Rattle.std.proofs.Common.{◌≡◌, ◌↔◌, ℕ, ◌<◌, ◌≤◌, List, [], ◌∷◌, ◌++◌, length, Some, slice_get, All, Contains, refl, sym, ap, subst, ◌∙◌, arith}
+use Rattle.std.proofs.Common.{◌≡◌, ◌↔◌, ℕ, Bool, false, ◌<◌, ◌≤◌, List, [], ◌∷◌, ◌++◌, length, Some, slice_get, All, Contains, refl, sym, ap, subst, ◌∙◌, arith}
 use Rattle.std.proofs.lemmas.Option.{slice_get_within}
 use Rattle.std.proofs.lemmas.List.Elements.{All-weaker, All-head, All-tail}
 use Rattle.ct_lemmas.proofs.Contained.{slice_get-from_Contains}
@@ -85,7 +85,7 @@ IsBegunOver-itself d terms asserts derived is =
     (subst (λ (e : Declarations). IsBegunOver e terms asserts derived) (sym is.declarations) is))
 
 -- a search that has only the clauses of the lines
-pub IsSearchOver-from : (derived : Derived) (budget : ℕ) (first search : SearchState) (terms : Terms) (lines : List Line) → terms ≡ derived.rec.terms → lines ≡ derived.rec.lines → first ≡ begun first.variables budget → AreVariables terms first.variables → clauses_in search.clauses ≡ clauses_of lines → StandAtSteps search.clauses (clauses_of lines) → search ≡ record first { clauses = search.clauses } → IsSearchOver derived budget search
+pub IsSearchOver-from : (derived : Derived) (budget : ℕ) (first search : SearchState) (terms : Terms) (lines : List Line) → terms ≡ derived.rec.terms → lines ≡ derived.rec.lines → first ≡ begun first.variables budget → AreVariables terms first.variables → clauses_in search.clauses ≡ clauses_of lines → StandAtSteps search.clauses (clauses_of lines) → search ≡ record first { clauses = search.clauses; propagated = search.propagated } → IsSearchOver derived budget search
 IsSearchOver-from derived budget first search terms lines same_terms same_lines is variables clauses numbered same =
     let over : search.variables ≡ first.variables = ap (λ (s : SearchState). s.variables) same in
     record {
@@ -93,13 +93,14 @@ IsSearchOver-from derived budget first search terms lines same_terms same_lines 
       clauses = clauses ∙ ap clauses_of same_lines;
       numbered = subst (λ (ls : List Line). StandAtSteps search.clauses (clauses_of ls)) same_lines numbered;
       only_begun = same
-          ∙ ap (λ (s : SearchState). record s { clauses = search.clauses }) is
-          ∙ ap (λ (vs : List TermId). record (begun vs budget) { clauses = search.clauses }) (sym over);
+          ∙ ap (λ (s : SearchState). record s { clauses = search.clauses; propagated = search.propagated }) is
+          ∙ ap (λ (vs : List TermId). record (begun vs budget) { clauses = search.clauses; propagated = search.propagated }) (sym over);
     }
 
 -- only clauses changed, and clauses only
-pub same_but_clauses : (first old new : SearchState) (clauses : List StepClause) → old ≡ record first { clauses = old.clauses } → new ≡ record old { clauses = clauses } → new ≡ record first { clauses = new.clauses }
+pub same_but_clauses : (first old new : SearchState) (clauses : List StepClause) → old ≡ record first { clauses = old.clauses; propagated = old.propagated } → new ≡ record old { clauses = clauses; propagated = false } → new ≡ record first { clauses = new.clauses; propagated = new.propagated }
 same_but_clauses first old new clauses same is =
     is
-    ∙ ap (λ (s : SearchState). record s { clauses = clauses }) same
-    ∙ ap (λ (cs : List StepClause). record first { clauses = cs }) (sym (ap (λ (s : SearchState). s.clauses) is))
+    ∙ ap (λ (s : SearchState). record s { clauses = clauses; propagated = false }) same
+    ∙ ap (λ (cs : List StepClause). record first { clauses = cs; propagated = false }) (sym (ap (λ (s : SearchState). s.clauses) is))
+    ∙ ap (λ (b : Bool). record first { clauses = new.clauses; propagated = b }) (sym (ap (λ (s : SearchState). s.propagated) is))

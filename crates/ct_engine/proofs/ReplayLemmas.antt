@@ -1,5 +1,5 @@
 -- States of a search, and what each move makes of them.
-use Rattle.std.proofs.Common.{◌≡◌, ℕ, ◌+◌, ◌<◌, ◌⊎◌, inl, inr, List, [], ◌∷◌, ◌++◌, length, take, map, Some, slice_get, All, Contains, refl, sym, ap, subst, ◌∙◌, arith}
+use Rattle.std.proofs.Common.{◌≡◌, ℕ, Bool, false, ◌+◌, ◌<◌, ◌⊎◌, inl, inr, List, [], ◌∷◌, ◌++◌, length, take, map, Some, slice_get, All, Contains, refl, sym, ap, subst, ◌∙◌, arith}
 use Rattle.std.proofs.lemmas.List.{length-map, map-append, take-map, take-append-le, take-take}
 use Rattle.std.proofs.lemmas.Option.{slice_get_within}
 use Rattle.std.proofs.lemmas.List.Elements.{All-weaker}
@@ -47,8 +47,8 @@ decided_within search k d sound stands =
     slice_get_within search.trail d.index d.literal (All-at (λ (e : Decided). slice_get search.trail e.index ≡ Some e.literal) search.decided k d sound.decisions.stand stands)
 
 -- a search whose trail grew at its end has the same state
-pub IsReplayOf-appended : (search : SearchState) (more : List Lit) (replay : Replay) → IsSound search → IsReplayOf search replay → IsReplayOf (record search { trail = search.trail ++ more }) replay
-IsReplayOf-appended search more replay sound is = record {
+pub IsReplayOf-appended : (search : SearchState) (more : List Lit) (propagated : Bool) (replay : Replay) → IsSound search → IsReplayOf search replay → IsReplayOf (record search { trail = search.trail ++ more; propagated = propagated }) replay
+IsReplayOf-appended search more propagated replay sound is = record {
   clauses = is.clauses;
   decided = is.decided;
   valued = λ k choice d at stands.
@@ -63,7 +63,7 @@ clauses_with search replay step clause is =
     let new : StepClause = record { step = step; literals = clause } in
     ap (λ (cs : List Clause). cs ++ clause ∷ []) is.clauses ∙ sym (map-append (λ (c : StepClause). c.literals) search.clauses (new ∷ []))
 
-pub IsReplayOf-added : (search : SearchState) (replay : Replay) (step : ℕ) (clause : Clause) → IsReplayOf search replay → IsReplayOf (record search { clauses = search.clauses ++ record { step = step; literals = clause } ∷ [] }) (record replay { clauses = replay.clauses ++ clause ∷ [] })
+pub IsReplayOf-added : (search : SearchState) (replay : Replay) (step : ℕ) (clause : Clause) → IsReplayOf search replay → IsReplayOf (record search { clauses = search.clauses ++ record { step = step; literals = clause } ∷ []; propagated = false }) (record replay { clauses = replay.clauses ++ clause ∷ [] })
 IsReplayOf-added search replay step clause is = record {
   clauses = clauses_with search replay step clause is;
   decided = is.decided;
@@ -142,6 +142,7 @@ pub IsReplayOf-learned : (search : SearchState) (replay : Replay) (number keep :
   clauses = search.clauses ++ record { step = number; literals = lits } ∷ [];
   trail = take next.index search.trail;
   decided = take keep search.decided;
+  propagated = false;
 }) (record { clauses = replay.clauses ++ lits ∷ []; decided = take keep replay.decided })
 IsReplayOf-learned search replay number keep lits next sound stands is = record {
   clauses = clauses_with search replay number lits is;

@@ -1,6 +1,6 @@
 -- The classes under literals that decide a closed table give each Boolean term the truth value of its parts, and each term that
 -- is split a constructor.
-use Rattle.std.proofs.Common.{◌≡◌, ℕ, zero, suc, ◌<◌, ◌⊎◌, inl, inr, Bool, true, false, List, [], ◌∷◌, length, Option, Some, option_map, unwrap_or, slice_get, All, Contains, refl, sym, ap, subst, ◌∙◌, arith}
+use Rattle.std.proofs.Common.{◌≡◌, ℕ, zero, suc, ◌<◌, ◌⊎◌, inl, inr, Bool, true, false, List, [], ◌∷◌, length, Option, Some, None, option_map, unwrap_or, slice_get, All, Contains, refl, sym, ap, subst, ◌∙◌, arith}
 use Rattle.std.specs.List.{AllZip}
 use Rattle.std.proofs.lemmas.Option.{slice_get_within, same_Some}
 use Rattle.std.proofs.lemmas.List.Elements.{All-contains}
@@ -148,6 +148,36 @@ module _ (d : Declarations) (terms : Terms) (asserts : List TermId) (literals : 
         | inl h ↦ inl (true_by t boolean h)
         | inr h ↦ inr (false_by t boolean h)
       ]
+
+  -- a term whose literal is true is Boolean
+  boolean_by : (t : TermId) (o : Option (Core × SortId)) → slice_get terms t.0 ≡ o → Contains literals (literal_step (literal_below t.0 terms) t o) → IsBoolean terms t
+  boolean_by t None at h = (given.complete.only (positive t) h).0
+  boolean_by t (Some (core.Not a, s)) at h = (core.Not a, at ∙ ap (λ (q : SortId). Some (core.Not a, q)) (given.sorted t.0 (core.Not a) s at).1)
+  boolean_by t (Some (core.Con c args, s)) at h = (given.complete.only (positive t) h).0
+  boolean_by t (Some (core.Sel f a, s)) at h = (given.complete.only (positive t) h).0
+  boolean_by t (Some (core.Test c a, s)) at h = (given.complete.only (positive t) h).0
+  boolean_by t (Some (core.Apply f args, s)) at h = (given.complete.only (positive t) h).0
+  boolean_by t (Some (core.Eq a b, s)) at h = (given.complete.only (positive t) h).0
+  boolean_by t (Some (core.And args, s)) at h = (given.complete.only (positive t) h).0
+  boolean_by t (Some (core.Or args, s)) at h = (given.complete.only (positive t) h).0
+  boolean_by t (Some (core.Iff a b, s)) at h = (given.complete.only (positive t) h).0
+  boolean_by t (Some (core.Ite c a b, s)) at h = (given.complete.only (positive t) h).0
+
+  -- the literal of an assertion is true, and so the assertion is Boolean and true
+  literal_of_assertion : (t : TermId) → Contains asserts t → Contains literals (literal_of terms t)
+  literal_of_assertion t inside =
+      let found = given.initial (record { clause = literal_of terms t ∷ []; step = step.Input t }) (record { initial = tt; justified = (inside, refl) }) in
+      elim (Contains-cons (literal_of terms t) [] found.0 found.1) [
+        | inl same ↦ subst (Contains literals) (sym same) found.2
+        | inr none ↦ absurd (Contains-none found.0 none)
+      ]
+
+  assertion_boolean : (t : TermId) → Contains asserts t → IsBoolean terms t
+  unfolding literal_below
+  assertion_boolean t inside = boolean_by t (slice_get terms t.0) refl (literal_of_assertion t inside)
+
+  assertion_true : (t : TermId) → Contains asserts t → IsTrueTerm state t
+  assertion_true t inside = true_by t (assertion_boolean t inside) (literal_of_assertion t inside)
 
   -- each clause of a gate has a true literal
   of_gate : (g : Gate) (t : TermId) (k : ℕ) (clause : Clause) → IsGateClause terms g t k clause → (l : Lit) × Contains clause l × Contains literals l
@@ -428,3 +458,10 @@ module _ (classes : ClassTheorems) (closures : ClosureTheorems) (d : Declaration
             let found = tested state.declarations state.terms asserts literals state given t sort split in
             record { ctor = found.0; test = found.1; stands = found.2; holds = found.3 };
       }
+
+  -- each assertion is Boolean, and in the class of `true`
+  pub boolean_assertion : (t : TermId) → Contains asserts t → IsBoolean terms t
+  boolean_assertion = assertion_boolean d terms asserts literals state deciding
+
+  pub true_assertion : (t : TermId) → Contains asserts t → IsTrueTerm state t
+  true_assertion = assertion_true d terms asserts literals state deciding

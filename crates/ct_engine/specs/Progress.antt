@@ -12,17 +12,21 @@ use Rattle.ct_log.specs.declared.line.Line.{Line}
 use Rattle.ct_log.specs.Acceptance.{clauses_of}
 use Rattle.ct_log.specs.Recorded.{Derived}
 use Rattle.ct_sat.specs.declared.decided.Decided.{Decided}
+use Rattle.ct_sat.specs.declared.decision.Decision.{Decision}
+use Rattle.ct_sat.specs.declared.decision.Decision.TheVariants as decision
 use Rattle.ct_sat.specs.State.{SearchState, clauses_of as clauses_in, literals_of, begun, AreVariables, IsQuiet, HaveValues, LacksValue}
 use Rattle.ct_sat.specs.Learning.{StandAtSteps}
 use Rattle.ct_checker.specs.Rejection.{EndsEmpty}
 use Rattle.ct_clauses.specs.Initial.{AreInitialLines, AreSplitTerms}
+use Rattle.ct_congr.specs.State.{State}
 use Rattle.ct_theory.specs.Entailment.{IsSaturation}
+use Rattle.ct_theory.specs.Consulting.{IsReady}
 use Rattle.ct_engine.specs.declared.verdict.Move.{Move}
 use Rattle.ct_engine.specs.declared.course.Course.{Course}
-use Rattle.ct_engine.specs.declared.outcome.Settled.{Settled}
-use Rattle.ct_engine.specs.declared.outcome.Settled.TheVariants as settled
 use Rattle.ct_engine.specs.declared.outcome.Ending.{Ending}
 use Rattle.ct_engine.specs.declared.outcome.Ending.TheVariants as ending
+use Rattle.ct_engine.specs.declared.outcome.Turn.{Turn}
+use Rattle.ct_engine.specs.declared.outcome.Turn.TheVariants as turn
 use Rattle.ct_engine.specs.declared.outcome.Candidate.{Candidate}
 use Rattle.ct_engine.specs.declared.outcome.Outcome.{Outcome}
 use Rattle.ct_engine.specs.declared.outcome.Outcome.TheVariants as outcome
@@ -76,20 +80,31 @@ pub record IsCounted (old new : SearchState) : Type 0 where
   pub counted : new.count ≡ old.count + 1
   pub allowed : new.count ≤ new.budget
 
--- how a search stands once its conflicts are resolved
-abbrev pub IsSettled : Course → Settled → Type 0
-IsSettled course settled.Refuted = EndsEmpty course.derivation.rec.lines
-IsSettled course (settled.Saturated classes order) =
-    IsUnderWay course × IsQuiet course.search
-    × IsSaturation course.derivation.declarations course.derivation.rec.terms course.search.trail classes.value order.reps.items
+-- the theory can be asked about literals over the terms of the derivation
+pub record IsTheoryOf (course : Course) (theory : State) : Type 0 where
+  pub declarations : theory.declarations ≡ course.derivation.declarations
+  pub terms : theory.terms ≡ course.derivation.rec.terms
+  pub ready : IsReady theory
 
 -- how a search ends
-abbrev pub IsEnded : Course → Ending → Type 0
-IsEnded course ending.Refuted = EndsEmpty course.derivation.rec.lines
-IsEnded course ending.Spent = IsUnderWay course × IsQuiet course.search × LacksValue course.search × (course.search.count ≡ course.search.budget)
-IsEnded course (ending.Saturated classes order) =
+abbrev pub IsEnded : Course → State → Ending → Type 0
+IsEnded course theory ending.Refuted = EndsEmpty course.derivation.rec.lines
+IsEnded course theory ending.Spent = IsUnderWay course × IsQuiet course.search × LacksValue course.search × (course.search.count ≡ course.search.budget)
+IsEnded course theory (ending.Saturated order) =
     IsUnderWay course × IsQuiet course.search × HaveValues course.search
-    × IsSaturation course.derivation.declarations course.derivation.rec.terms course.search.trail classes.value order.reps.items
+    × IsSaturation course.derivation.declarations course.derivation.rec.terms course.search.trail theory order.reps.items
+
+-- what a turn of a search came to
+abbrev pub IsTurn : Course → Course → State → Turn → Type 0
+IsTurn old new theory turn.Learned = IsUnderWay new × TakesBack old.search new.search
+IsTurn old new theory turn.Decided = IsUnderWay new × IsCounted old.search new.search
+IsTurn old new theory (turn.Ended ending) = IsEnded new theory ending
+
+-- a decision was made; or every variable has a value; or a decision is needed, and none is left
+abbrev pub IsDecided : Course → Course → Decision → Type 0
+IsDecided old new (decision.Took literal) = IsUnderWay new × IsCounted old.search new.search
+IsDecided old new decision.All = IsUnderWay new × IsQuiet new.search × HaveValues new.search × (new.search ≡ old.search)
+IsDecided old new decision.Spent = IsUnderWay new × IsQuiet new.search × LacksValue new.search × (new.search.count ≡ new.search.budget)
 
 -- the derivation is over these declarations, its terms are exactly the closure of the assertions, which it has, and so many of
 -- them are variables; they are well sorted and closed
@@ -124,7 +139,7 @@ pub record IsSearchOver (derived : Derived) (budget : ℕ) (search : SearchState
   pub variables : AreVariables derived.rec.terms search.variables
   pub clauses : clauses_in search.clauses ≡ clauses_of derived.rec.lines
   pub numbered : StandAtSteps search.clauses (clauses_of derived.rec.lines)
-  pub only_begun : search ≡ record (begun search.variables budget) { clauses = search.clauses }
+  pub only_begun : search ≡ record (begun search.variables budget) { clauses = search.clauses; propagated = search.propagated }
 
 -- the table holds exactly the closure of the assertions of the old one, the literals decide it, and the classes are exactly
 -- what they entail

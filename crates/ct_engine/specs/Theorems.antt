@@ -1,8 +1,11 @@
 -- The theorems of lower crates that the proofs of this one rest on.
-use Rattle.std.specs.Prelude.{◌≡◌, ℕ, ◌<◌, ◌⊎◌, List, ◌++◌, length, take, All, Some, slice_get, Contains}
+use Rattle.std.specs.Prelude.{◌≡◌, ◌↔◌, ℕ, ◌<◌, ◌⊎◌, IsTrue, List, ◌++◌, length, take, All, Some, slice_get, Contains}
 use Rattle.ct_sorts.specs.declared.ids.SortId.{SortId}
 use Rattle.ct_sorts.specs.Declarations.{Declarations, bool_sort}
 use Rattle.ct_sorts.specs.Consistent.{IsConsistent}
+use Rattle.ct_values.specs.Graph.{Nodes, IsClosed}
+use Rattle.ct_values.specs.Agreement.{Point, same as same_values, AgreeAlways}
+use Rattle.ct_values.specs.Fitting.{FitsGraph}
 use Rattle.ct_terms.specs.declared.ids.TermId.{TermId}
 use Rattle.ct_terms.specs.declared.ids.Lit.{Lit}
 use Rattle.ct_terms.specs.declared.term.Core.{Core}
@@ -15,9 +18,10 @@ use Rattle.ct_terms.specs.CoreSorts.{HasTreeSort}
 use Rattle.ct_closure.specs.ClosedTable.{IsClosedTable, IsPresent, IsSplitTerm, HasCases}
 use Rattle.ct_eval.specs.declared.interp.Interp.{Interp}
 use Rattle.ct_eval.specs.Interpretation.{IsProper}
-use Rattle.ct_eval.specs.Evaluation.{value_of}
+use Rattle.ct_eval.specs.Congruence.{HaveOneValue}
+use Rattle.ct_eval.specs.Evaluation.{core_value, value_of}
 use Rattle.ct_eval.specs.TreeValue.{tree_value}
-use Rattle.ct_eval.specs.Truth.{Holds}
+use Rattle.ct_eval.specs.Truth.{Holds, truth_value}
 use Rattle.ct_log.specs.declared.line.Line.{Line}
 use Rattle.ct_log.specs.Acceptance.{Passes}
 use Rattle.ct_sat.specs.declared.decided.Decided.{Decided}
@@ -66,3 +70,12 @@ pub record ModelTheorems : Type 0 where
   pub no_model : (d : Declarations) (i : Interp) (terms : Terms) (asserts : List TermId) (lines : List Line) → IsConsistent d → IsProper d i
       → AreOrdered terms → BeginsWithTruths terms → AreSorted d terms → Passes d terms asserts lines → Holds d i terms asserts → ⊥
   pub tree : (d : Declarations) (i : Interp) (terms : Terms) (t : TermId) → value_of d i terms t ≡ tree_value d i (term_at terms t)
+
+-- on values of terms in one interpretation
+pub record ValueTheorems : Type 0 where
+  pub same : (p q : Point) → IsClosed p.graph → IsClosed q.graph → IsTrue (same_values p q) ↔ AgreeAlways p q
+  pub truth : (d : Declarations) (i : Interp) (terms : Terms) (t u : TermId) → HaveOneValue i (value_of d i terms) (value_of d i terms) t u
+      → truth_value d i terms t ≡ truth_value d i terms u
+  pub unfolds : (d : Declarations) (i : Interp) (terms : Terms) (t : TermId) (core : Core) (sort : SortId) → AreOrdered terms
+      → slice_get terms t.0 ≡ Some (core, sort) → value_of d i terms t ≡ core_value d i (value_of d i terms) core
+  pub closed : (d : Declarations) (g : Nodes) → FitsGraph d g → IsClosed g

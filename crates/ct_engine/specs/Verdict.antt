@@ -1,22 +1,20 @@
 -- What each verdict on assertions says, which are terms of a table.
-use Rattle.std.specs.Prelude.{◌≡◌, ◌↔◌, ℕ, suc, ◌<◌, ◌^◌, false, List, Some, slice_get}
+use Rattle.std.specs.Prelude.{◌≡◌, ◌↔◌, ℕ, suc, ◌<◌, ◌^◌, List}
 use Rattle.ct_sorts.specs.Declarations.{Declarations}
 use Rattle.ct_terms.specs.declared.ids.TermId.{TermId}
-use Rattle.ct_terms.specs.declared.ids.Lit.{Lit}
 use Rattle.ct_terms.specs.Terms.{Terms, IsTermTable, AreSorted}
 use Rattle.ct_terms.specs.CoreTree.{CoreTree}
 use Rattle.ct_closure.specs.Closed.{InClosure, HasVariables}
 use Rattle.ct_closure.specs.ClosedTable.{HasTree, terms_at}
 use Rattle.ct_eval.specs.declared.interp.Interp.{Interp}
 use Rattle.ct_eval.specs.Interpretation.{IsProper}
-use Rattle.ct_eval.specs.Truth.{Holds, truth_value}
+use Rattle.ct_eval.specs.Truth.{Holds}
 use Rattle.ct_log.specs.Acceptance.{Passes}
 use Rattle.ct_log.specs.Recorded.{Derived}
 use Rattle.ct_engine.specs.declared.verdict.Spent.{Spent}
 use Rattle.ct_engine.specs.declared.verdict.Verdict.{Verdict}
-use Rattle.ct_engine.specs.declared.verdict.Verdict.TheVariants.{Sat, Unsat, Unknown, Stuck}
+use Rattle.ct_engine.specs.declared.verdict.Verdict.TheVariants.{Sat, Unsat, Unknown}
 use Rattle.ct_engine.specs.Moves.{IsSpentRecord}
-use Rattle.ct_engine.specs.Saturated.{IsSaturated}
 
 -- the assertions hold in a proper interpretation
 pub record IsModel (d : Declarations) (table : Terms) (asserts : List TermId) (i : Interp) : Type 0 where
@@ -43,22 +41,18 @@ pub record IsSpending (d : Declarations) (table : Terms) (asserts : List TermId)
   pub allowed : spent.budget ≡ budget
   pub recorded : IsSpentRecord d spent.derivation.rec.terms spent.derivation.asserts spent.derivation.rec.lines spent.moves budget
 
--- no rule contradicts the literals, and the assertion at the index is false in a proper interpretation
-pub record IsStuck (d : Declarations) (table : Terms) (asserts : List TermId) (terms : Terms) (literals : List Lit) (i : Interp) (index : ℕ) : Type 0 where
-  pub numbers : List TermId
-  pub saturated : IsSaturated d (terms_at table asserts) terms numbers literals
-  pub proper : IsProper d i
-  pub assert : TermId
-  pub stands : slice_get asserts index ≡ Some assert
-  pub untrue : truth_value d i table assert ≡ false
-
+-- what each verdict says
 abbrev pub IsVerdict : Declarations → Terms → List TermId → ℕ → Verdict → Type 0
 IsVerdict d table asserts budget (Sat i) = IsModel d table asserts i
 IsVerdict d table asserts budget (Unsat derived) = IsRefutation d table asserts derived
 IsVerdict d table asserts budget (Unknown spent) = IsSpending d table asserts budget spent
-IsVerdict d table asserts budget (Stuck terms literals i index) = IsStuck d table asserts terms literals i index
 
 -- decisions are spent only where fewer than 2^V - 1 were allowed, for V variables
 abbrev pub IsBelowBound : Verdict → Type 0
 IsBelowBound (Unknown spent) = suc spent.budget < 2 ^ spent.variables
 IsBelowBound verdict = Unit {0}
+
+-- the assertions hold, or they are refuted
+abbrev pub IsDecisive : Verdict → Type 0
+IsDecisive (Unknown spent) = ⊥
+IsDecisive verdict = Unit {0}

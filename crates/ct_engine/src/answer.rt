@@ -21,9 +21,10 @@ use ct_congr::Classes;
 use ct_log::Derivation;
 use ct_sorts::{Items, Signature};
 use ct_terms::{Lit, TermId, TermTable};
+use ct_theory::Theory;
 use std::alloc::Global;
 
-/// What the search found, which ended so.
+/// What the search found, which asked the theory and ended so.
 pub(crate) fn conclude(
     alloc: Global,
     sig: &Signature,
@@ -31,20 +32,21 @@ pub(crate) fn conclude(
     asserts: &[TermId],
     budget: u64,
     course: Box<Course>,
+    theory: Theory,
     ending: Ending,
 ) -> Result<Outcome, SolveError>
     requires sorted { AreSorted sig.now table.now }
     requires asserts { All (IsBoolean table.now) asserts.now }
     requires task { IsTaskOf sig.now table.now asserts.now budget course.value }
-    requires ended { IsEnded course.value ending }
+    requires ended { IsEnded course.value theory ending }
     ensures outcome { IfOk result (IsOutcome sig.now table.now asserts.now budget) }
     ensures err { IsErrOf result SolveError.TooLarge → ⊥ }
 {
     match ending {
         Ending::Refuted => Ok(Outcome::Unsat(refutation_of(sig, table, asserts, budget, course))),
         Ending::Spent => Ok(Outcome::Unknown(spending_of(course, budget))),
-        Ending::Saturated { classes, order } => {
-            let candidate = candidate_of(alloc, course, classes, order)?;
+        Ending::Saturated(order) => {
+            let candidate = candidate_of(alloc, course, theory.into_classes(), order)?;
             Ok(Outcome::Candidate(candidate))
         }
     }

@@ -1,12 +1,13 @@
 //! The theorems of lower crates that the contracts of this one rest on.
-ghost use Rattle.ct_engine.specs.Theorems.{UnitTheorems, GrowthTheorems, TreeTheorems, ClassTheorems, ClosureTheorems, ModelTheorems};
+ghost use Rattle.ct_engine.specs.Theorems.{UnitTheorems, GrowthTheorems, TreeTheorems, ClassTheorems, ClosureTheorems, ModelTheorems, ValueTheorems};
 
 use ct_checker::accepted_lines;
 use ct_closure::closed_tables;
 use ct_congr::classes_of_merges;
-use ct_eval::values_of_trees;
+use ct_eval::{congruence, evaluation, values_of_trees};
 use ct_sat::what_follows_by_units;
 use ct_terms::core_trees;
+use ct_values::{agreement, fitting_graphs};
 
 /// The theorems on what follows by units.
 pub(crate) fn units()
@@ -49,4 +50,14 @@ pub(crate) fn models()
 {
     accepted_lines();
     values_of_trees();
+}
+
+/// The theorems on values.
+pub(crate) fn values()
+    ensures values { ValueTheorems }
+{
+    agreement();
+    congruence();
+    evaluation();
+    fitting_graphs();
 }

@@ -14,7 +14,7 @@ pub(crate) fn add_lines(search: &mut Search, lines: &[Line]) -> Result<(), Solve
     requires over { All (λ line. AreOver search.old.variables line.clause) lines.now }
     ensures clauses { OnOk result (clauses_in search.new.clauses ≡ clauses_of lines.now) }
     ensures numbered { OnOk result (StandAtSteps search.new.clauses (clauses_of lines.now)) }
-    ensures same { OnOk result (search.new ≡ record search.old { clauses = search.new.clauses }) }
+    ensures same { OnOk result (search.new ≡ record search.old { clauses = search.new.clauses; propagated = search.new.propagated }) }
     ensures err { IsErrOf result SolveError.TooLarge → ⊥ }
 {
     for index in 0..lines.len() {

@@ -1,14 +1,15 @@
 //! Conflicts: what a clause that is false in the trail teaches.
-ghost use Rattle.std.specs.Prelude.{◌≡◌, ℕ, ◌+◌, length, OnOk, IfOk, IsErrOf, MatchOption};
+ghost use Rattle.std.specs.Prelude.{◌≡◌, ℕ, ◌+◌, length, OnOk, IfOk, IsErrOf};
+ghost use Rattle.ct_congr.specs.State.{State};
 ghost use Rattle.ct_sat.specs.State.{IsConflict, IsQuiet, IsSound, SearchState};
 ghost use Rattle.ct_sat.specs.Learning.{LearnsClause};
 ghost use Rattle.ct_theory.specs.Entailment.{IsConflictOf};
-ghost use Rattle.ct_engine.specs.Progress.{IsUnderWay, IsAccounted, IsOfOneTask, IsSettled, TakesBack};
+ghost use Rattle.ct_engine.specs.Progress.{IsUnderWay, IsAccounted, IsOfOneTask, IsTurn};
 
 use crate::course::{Course, next_number};
 use crate::error::SolveError;
 use crate::facts::units;
-use crate::outcome::Settled;
+use crate::outcome::{Ending, Turn};
 use crate::verdict::Move;
 use ct_log::{Line, Step};
 use ct_sat::{Learned, learned_clauses_follow};
@@ -19,18 +20,11 @@ use std::alloc::Global;
 
 /// Learns from the clause with this number, which is false in the trail: adds the clause that it teaches and takes back
 /// decisions; or, where none stands, derives the empty clause.
-pub(crate) fn learn(
-    alloc: Global,
-    course: &mut Course,
-    conflict: u64,
-) -> Result<Option<Settled>, SolveError>
+pub(crate) fn learn(alloc: Global, course: &mut Course, conflict: u64) -> Result<Turn, SolveError>
     requires under_way { IsUnderWay course.old }
     requires conflict { IsConflict course.old.search conflict }
     ensures same { OnOk result (IsOfOneTask course.old course.new) }
-    ensures learned { IfOk result (λ r. MatchOption r
-        (IsUnderWay course.new × TakesBack course.old.search course.new.search)
-        (IsSettled course.new)) }
-    ensures counted { OnOk result (course.new.search.count ≡ course.old.search.count) }
+    ensures learned { IfOk result (λ turn. (theory : State) → IsTurn course.old course.new theory turn) }
     ensures err { IsErrOf result SolveError.TooLarge → ⊥ }
 {
     learned_clauses_follow();
@@ -39,7 +33,7 @@ pub(crate) fn learn(
     match course.search.learn(conflict, number)? {
         Learned::Clause { lits, hints, keep } => {
             record_learned(course, number, lits, hints, keep)?;
-            Ok(None)
+            Ok(Turn::Learned)
         }
         Learned::Empty { hints } => {
             let clause = Items::new(Vec::new(alloc));
@@ -47,7 +41,7 @@ pub(crate) fn learn(
                 clause,
                 step: Step::Learn(hints),
             })?;
-            Ok(Some(Settled::Refuted))
+            Ok(Turn::Ended(Ending::Refuted))
         }
     }
 }

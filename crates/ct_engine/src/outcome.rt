@@ -7,15 +7,6 @@ use ct_log::Derivation;
 use ct_sorts::Items;
 use ct_terms::{Lit, TermTable};
 
-/// How a search stands once its conflicts are resolved.
-#[derive(Drop)]
-pub(crate) enum Settled {
-    /// The empty clause was derived.
-    Refuted,
-    /// Nothing contradicts the trail: the classes under its literals, and the order of those of datatypes.
-    Saturated { classes: Box<Classes>, order: Order },
-}
-
 /// How a search ends.
 #[derive(Drop)]
 pub(crate) enum Ending {
@@ -23,8 +14,19 @@ pub(crate) enum Ending {
     Refuted,
     /// A decision is needed, and none is left.
     Spent,
-    /// Every variable has a value, and nothing contradicts the trail.
-    Saturated { classes: Box<Classes>, order: Order },
+    /// Every variable has a value, and nothing contradicts the trail. The classes of datatypes have this order.
+    Saturated(Order),
+}
+
+/// What a turn of a search came to.
+#[derive(Drop)]
+pub(crate) enum Turn {
+    /// A clause was learned from a conflict, and decisions were taken back.
+    Learned,
+    /// A variable was decided.
+    Decided,
+    /// The search ended.
+    Ended(Ending),
 }
 
 /// A candidate for a model: literals that nothing contradicts.

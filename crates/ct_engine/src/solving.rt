@@ -1,16 +1,16 @@
 //! The check of assertions.
-ghost use Rattle.std.specs.Prelude.{◌≡◌, All, IfOk, OnOk, IsErrOf};
+ghost use Rattle.std.specs.Prelude.{◌≡◌, ℕ, suc, ◌≤◌, ◌^◌, All, IfOk, OnOk, IsErrOf};
 ghost use Rattle.ct_card.specs.Sizes.{AreSizes};
 ghost use Rattle.ct_terms.specs.Terms.{AreSorted, IsBoolean};
-ghost use Rattle.ct_closure.specs.Closed.{HasMoreThan, most_closure_terms};
+ghost use Rattle.ct_closure.specs.Closed.{HasMoreThan, HasVariables, most_closure_terms};
 ghost use Rattle.ct_closure.specs.ClosedTable.{AreSubtermsOf, terms_at};
-ghost use Rattle.ct_engine.specs.Verdict.{IsVerdict, IsBelowBound};
-ghost use Rattle.ct_engine.specs.Progress.{IsUnderWay, IsTaskOf, IsOutcome};
+ghost use Rattle.ct_engine.specs.Verdict.{IsVerdict, IsBelowBound, IsDecisive};
+ghost use Rattle.ct_engine.specs.Progress.{IsUnderWay, IsTaskOf, IsTheoryOf, IsOutcome};
 
 use crate::answer::conclude;
 use crate::course::Course;
 use crate::error::SolveError;
-use crate::judge::judge;
+use crate::model::model;
 use crate::outcome::Outcome;
 use crate::prepare::prepare;
 use crate::settle::run;
@@ -19,6 +19,7 @@ use crate::verdict::Verdict;
 use ct_card::Sizes;
 use ct_sorts::Signature;
 use ct_terms::{TermId, TermTable};
+use ct_theory::Theory;
 use std::alloc::Global;
 
 /// Whether assertions hold in some interpretation, by a search of at most so many decisions. The table, which is not changed,
@@ -27,12 +28,11 @@ use std::alloc::Global;
 /// The search goes over the clauses of the closure of the assertions: it propagates, asks the theory of datatypes and
 /// codatatypes whether the trail may hold, learns from conflicts, and makes the lowest variable without a value false
 /// (CDCL(T); Nieuwenhuis, Oliveras and Tinelli 2006; Reynolds and Blanchette 2015). Where every variable has a value and
-/// nothing contradicts the trail, an interpretation is built of the classes, and the assertions are evaluated in it.
+/// nothing contradicts the trail, an interpretation is built of the classes, in which the assertions hold.
 ///
 /// `Sat` has an interpretation in which they hold, `Unsat` a derivation of the empty clause, and `Unknown` the record of a
-/// search that spent its decisions, which were fewer than 2^V - 1 for V propositional variables. `Stuck` has literals that
-/// nothing contradicts and an assertion that is false in a well-formed interpretation. `TooLarge` comes where the closure has
-/// more than 200,000 terms.
+/// search that spent its decisions, which were fewer than 2^V - 1 for V propositional variables: with that many it is `Sat` or
+/// `Unsat`. `TooLarge` comes where the closure has more than 200,000 terms.
 pub fn solve(
     alloc: Global,
     sig: &Signature,
@@ -45,6 +45,8 @@ pub fn solve(
     requires exact { AreSubtermsOf table.now asserts.now }
     ensures verdict { IfOk result (IsVerdict sig.now table.now asserts.now budget) }
     ensures bound { IfOk result IsBelowBound }
+    ensures decides { IfOk result (λ verdict. (variables : ℕ) → HasVariables sig.now (terms_at table.now asserts.now) variables
+        → 2 ^ variables ≤ suc budget → IsDecisive verdict) }
     ensures too_large { IsErrOf result SolveError.TooLarge → HasMoreThan sig.now (terms_at table.now asserts.now) most_closure_terms }
     ensures fits { OnOk result (HasMoreThan sig.now (terms_at table.now asserts.now) most_closure_terms → ⊥) }
 {
@@ -55,8 +57,9 @@ pub fn solve(
         Outcome::Unsat(derivation) => Ok(Verdict::Unsat(derivation)),
         Outcome::Unknown(spent) => Ok(Verdict::Unknown(spent)),
         Outcome::Candidate(candidate) => {
-            let verdict = judge(alloc, sig, &sizes, table, asserts, candidate)?;
-            Ok(verdict)
+            let interp = model(alloc, sig, &sizes, &candidate)?;
+            drop(candidate);
+            Ok(Verdict::Sat(interp))
         }
     }
 }
@@ -79,9 +82,27 @@ fn find(
     ensures fits { OnOk result (HasMoreThan sig.now (terms_at table.now asserts.now) most_closure_terms → ⊥) }
 {
     let mut course = begun(alloc, sig, sizes, table, asserts, budget)?;
-    let ending = run(alloc, sig, sizes, &mut course)?;
-    let outcome = conclude(alloc, sig, table, asserts, budget, course, ending)?;
+    let mut theory = theory_of(alloc, sig, sizes, &course)?;
+    let ending = run(alloc, &mut course, &mut theory)?;
+    let outcome = conclude(alloc, sig, table, asserts, budget, course, theory, ending)?;
     Ok(outcome)
+}
+
+// The theory over the terms of the derivation.
+fn theory_of(
+    alloc: Global,
+    sig: &Signature,
+    sizes: &Sizes,
+    course: &Course,
+) -> Result<Theory, SolveError>
+    requires sizes { AreSizes sig.now sizes.now }
+    requires declarations { course.now.derivation.declarations ≡ sig.now }
+    requires sorted { AreSorted sig.now course.now.derivation.rec.terms }
+    ensures theory { IfOk result (IsTheoryOf course.now) }
+    ensures err { IsErrOf result SolveError.TooLarge → ⊥ }
+{
+    let theory = Theory::new(alloc, sig, sizes, course.derivation.rec().table())?;
+    Ok(theory)
 }
 
 // A search over the closure of the assertions that has made no move.

@@ -1,16 +1,17 @@
 //! What follows from the definitions alone.
-ghost use Rattle.std.specs.Prelude.{◌↔◌, ℕ, suc, ◌<◌, ◌^◌, List};
+ghost use Rattle.std.specs.Prelude.{◌↔◌, ℕ, suc, ◌<◌, ◌≤◌, ◌^◌, List};
 ghost use Rattle.ct_sorts.specs.Declarations.{Declarations};
 ghost use Rattle.ct_terms.specs.declared.ids.TermId.{TermId};
 ghost use Rattle.ct_terms.specs.Terms.{Terms};
 ghost use Rattle.ct_terms.specs.CoreTree.{CoreTree};
 ghost use Rattle.ct_closure.specs.Closed.{InClosure, HasVariables};
-ghost use Rattle.ct_closure.specs.ClosedTable.{HasTree};
+ghost use Rattle.ct_closure.specs.ClosedTable.{HasTree, terms_at};
 ghost use Rattle.ct_log.specs.declared.line.Line.{Line};
 ghost use Rattle.ct_engine.specs.declared.verdict.Move.{Move};
 ghost use Rattle.ct_engine.specs.declared.verdict.Spent.{Spent};
+ghost use Rattle.ct_engine.specs.declared.verdict.Verdict.{Verdict};
 ghost use Rattle.ct_engine.specs.Moves.{IsSpentRecord};
-ghost use Rattle.ct_engine.specs.Verdict.{IsSpending};
+ghost use Rattle.ct_engine.specs.Verdict.{IsSpending, IsVerdict, IsDecisive};
 
 use crate::facts;
 
@@ -30,6 +31,13 @@ pub fn spent_searches()
     ensures bound { (d : Declarations) (table : Terms) (asserts : List TermId) (budget : ℕ) (spent : Spent)
         → IsSpending d table asserts budget spent
         → suc budget < 2 ^ spent.variables }
+
+    // And with 2^V - 1 decisions or more no verdict is unknown.
+    ensures decides { (d : Declarations) (table : Terms) (asserts : List TermId) (budget variables : ℕ) (verdict : Verdict)
+        → IsVerdict d table asserts budget verdict
+        → HasVariables d (terms_at table asserts) variables
+        → 2 ^ variables ≤ suc budget
+        → IsDecisive verdict }
 {
     facts::growth();
     facts::trees();

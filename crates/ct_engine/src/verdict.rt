@@ -3,7 +3,7 @@
 use ct_eval::Interp;
 use ct_log::Derivation;
 use ct_sorts::Items;
-use ct_terms::{Lit, TermId, TermTable};
+use ct_terms::TermId;
 
 /// A move of a search.
 #[derive(Clone, Copy, Debug, PartialEq, Eq)]
@@ -38,15 +38,4 @@ pub enum Verdict {
     Unsat(Derivation),
     /// The decisions that were allowed did not suffice.
     Unknown(Spent),
-    /// No rule contradicts these literals, and yet an assertion is false in the interpretation that was built.
-    Stuck {
-        /// The closure of the assertions.
-        table: TermTable,
-        /// A literal of each variable.
-        lits: Items<Lit>,
-        /// The interpretation that was built.
-        interp: Interp,
-        /// The index of the assertion.
-        assertion: u64,
-    },
 }

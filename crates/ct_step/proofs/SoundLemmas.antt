@@ -11,7 +11,7 @@ use Rattle.ct_command.specs.declared.error.CommandError.{CommandError}
 use Rattle.ct_command.specs.declared.error.CommandError.TheVariants.{Refused, NoMemory}
 use Rattle.ct_command.specs.Command.{Command, set_logic, set_option, get_option, set_info, get_info, declare_sort, declare_block, declare_fun, define_fun, assert, check_sat, push, pop, reset_assertions, reset, get_model, get_value, get_proof, echo, exit, unsupported}
 use Rattle.ct_engine.specs.declared.verdict.Verdict.{Verdict}
-use Rattle.ct_engine.specs.declared.verdict.Verdict.TheVariants.{Sat, Unsat, Unknown, Stuck}
+use Rattle.ct_engine.specs.declared.verdict.Verdict.TheVariants.{Sat, Unsat, Unknown}
 use Rattle.ct_stack.specs.Stack.{Stack, Context, in_force, declaring, in_context, asserting, defined_in}
 use Rattle.ct_stack.specs.Outcomes.{Gives}
 use Rattle.ct_stack.specs.Elaborations.{declared_function, defined_function, asserted_formula}
@@ -43,7 +43,6 @@ right_kept c asserts budget number (Unsat d) right =
       derived = λ p e. ap (λ (q : ℕ × Derived). q.1.declarations) (sym (same_Some (number, d) p e)) ∙ right.declarations;
     }
 right_kept c asserts budget number (Unknown spent) right = record { proper = λ i e. absurd (none-some i e); derived = λ p e. absurd (none-some p e) }
-right_kept c asserts budget number (Stuck table literals m index) right = record { proper = λ i e. absurd (none-some i e); derived = λ p e. absurd (none-some p e) }
 
 pub only : {X : Type 0} (o : Outcome X) (P : X → Type 0) (Q : Type 0) → ((x : X) → P x → Q) → Gives o P → Q
 only (Ok x) P Q more h = more x h

@@ -5,7 +5,7 @@ use Rattle.ct_sorts.specs.Declarations.{Declarations}
 use Rattle.ct_eval.specs.declared.interp.Interp.{Interp}
 use Rattle.ct_log.specs.Recorded.{Derived}
 use Rattle.ct_engine.specs.declared.verdict.Verdict.{Verdict}
-use Rattle.ct_engine.specs.declared.verdict.Verdict.TheVariants.{Sat, Unsat, Unknown, Stuck}
+use Rattle.ct_engine.specs.declared.verdict.Verdict.TheVariants.{Sat, Unsat, Unknown}
 use Rattle.ct_stack.specs.Stack.{Context, Stack, first_stack}
 use Rattle.ct_step.specs.declared.options.Options.{Options}
 use Rattle.ct_step.specs.Options.{first_options}
@@ -41,7 +41,6 @@ abbrev pub model_in : Verdict → Option Interp
 model_in (Sat i) = Some i
 model_in (Unsat derived) = None
 model_in (Unknown spent) = None
-model_in (Stuck table literals i index) = None
 
 -- the model that the last answer left, as long as it stands
 abbrev pub model_kept : Option Kept → Option Interp
@@ -53,7 +52,6 @@ abbrev pub derivation_in : Verdict → Option Derived
 derivation_in (Sat i) = None
 derivation_in (Unsat derived) = Some derived
 derivation_in (Unknown spent) = None
-derivation_in (Stuck table literals i index) = None
 
 -- the number of the last check and the derivation that it left, as long as it stands
 abbrev pub derivation_kept : Option Kept → Option (ℕ × Derived)
@@ -65,7 +63,6 @@ abbrev pub is_undecided : Verdict → Bool
 is_undecided (Sat i) = false
 is_undecided (Unsat derived) = false
 is_undecided (Unknown spent) = true
-is_undecided (Stuck table literals i index) = true
 
 -- the last answer was `unknown`, as long as it stands
 abbrev pub undecided_kept : Option Kept → Bool

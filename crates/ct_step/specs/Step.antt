@@ -10,7 +10,7 @@ use Rattle.ct_sorts.specs.Block.{with_block}
 use Rattle.ct_model.specs.ModelText.{IsModelText}
 use Rattle.ct_log_text.specs.Written.{expression_of_record, text_of}
 use Rattle.ct_engine.specs.declared.verdict.Verdict.{Verdict}
-use Rattle.ct_engine.specs.declared.verdict.Verdict.TheVariants.{Sat, Unsat, Unknown, Stuck}
+use Rattle.ct_engine.specs.declared.verdict.Verdict.TheVariants.{Sat, Unsat, Unknown}
 use Rattle.ct_command.specs.Command.{Command, set_logic, set_option, get_option, set_info, get_info, declare_sort, declare_block, declare_fun, define_fun, assert, check_sat, push, pop, reset_assertions, reset, get_model, get_value, get_proof, echo, exit, unsupported}
 use Rattle.ct_command.specs.Reading.{Read, command}
 use Rattle.ct_stack.specs.Stack.{in_force, declaring, in_context, asserting, defined_in}
@@ -59,7 +59,6 @@ abbrev pub word_of : Verdict → List ℕ
 word_of (Sat i) = codes "sat"
 word_of (Unsat derivation) = codes "unsat"
 word_of (Unknown spent) = codes "unknown"
-word_of (Stuck table literals i index) = codes "unknown"
 
 -- a verdict, which stands from now on
 abbrev pub decided : State → ℕ → Verdict → CommandEffect

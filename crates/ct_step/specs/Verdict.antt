@@ -1,23 +1,19 @@
 -- When a verdict is right: what it says of the assertions in force.
-use Rattle.std.specs.Prelude.{◌≡◌, ◌↔◌, ℕ, false, List, [], Some, slice_get}
-use Rattle.ct_terms.specs.declared.ids.TermId.{TermId}
-use Rattle.ct_terms.specs.declared.ids.Lit.{Lit}
-use Rattle.ct_terms.specs.Terms.{Terms, IsTermTable, AreSorted}
+use Rattle.std.specs.Prelude.{◌≡◌, ◌↔◌, ℕ, List}
+use Rattle.ct_terms.specs.Terms.{IsTermTable, AreSorted}
 use Rattle.ct_terms.specs.CoreTree.{CoreTree}
 use Rattle.ct_formulas.specs.Formula.{Formula}
 use Rattle.ct_closure.specs.Closed.{InClosure, HasVariables}
 use Rattle.ct_closure.specs.ClosedTable.{HasTree, terms_at}
 use Rattle.ct_eval.specs.declared.interp.Interp.{Interp}
 use Rattle.ct_eval.specs.Interpretation.{IsProper}
-use Rattle.ct_meaning.specs.Meaning.{AllTrue, eval}
-use Rattle.ct_values.specs.TruthValue.{is_true}
+use Rattle.ct_meaning.specs.Meaning.{AllTrue}
 use Rattle.ct_log.specs.Acceptance.{Passes}
 use Rattle.ct_log.specs.Recorded.{Derived}
 use Rattle.ct_engine.specs.declared.verdict.Spent.{Spent}
 use Rattle.ct_engine.specs.declared.verdict.Verdict.{Verdict}
-use Rattle.ct_engine.specs.declared.verdict.Verdict.TheVariants.{Sat, Unsat, Unknown, Stuck}
+use Rattle.ct_engine.specs.declared.verdict.Verdict.TheVariants.{Sat, Unsat, Unknown}
 use Rattle.ct_engine.specs.Moves.{IsSpentRecord}
-use Rattle.ct_engine.specs.Saturated.{IsSaturated}
 use Rattle.ct_stack.specs.Stack.{Context, cores}
 
 -- the interpretation makes every assertion true
@@ -45,19 +41,8 @@ pub record IsSpent (c : Context) (asserts : List Formula) (budget : ℕ) (spent 
   pub allowed : spent.budget ≡ budget
   pub recorded : IsSpentRecord c.declarations spent.derivation.rec.terms spent.derivation.asserts spent.derivation.rec.lines spent.moves budget
 
--- no rule contradicts the literals, which decide the closure of the assertions, and yet the assertion at this index is false in a
--- proper interpretation
-pub record IsStuck (c : Context) (asserts : List Formula) (terms : Terms) (literals : List Lit) (i : Interp) (index : ℕ) : Type 0 where
-  pub numbers : List TermId
-  pub saturated : IsSaturated c.declarations (cores c asserts) terms numbers literals
-  pub proper : IsProper c.declarations i
-  pub formula : Formula
-  pub stands : slice_get asserts index ≡ Some formula
-  pub untrue : is_true i.graph (eval c.declarations i c.bodies [] formula) ≡ false
-
 -- the verdict on these assertions is right, where so many decisions are allowed
 abbrev pub IsRight : Context → List Formula → ℕ → Verdict → Type 0
 IsRight c asserts budget (Sat i) = Satisfies c asserts i
 IsRight c asserts budget (Unsat derived) = Refutes c asserts derived
 IsRight c asserts budget (Unknown spent) = IsSpent c asserts budget spent
-IsRight c asserts budget (Stuck terms literals i index) = IsStuck c asserts terms literals i index

@@ -48,7 +48,7 @@ pub(crate) fn word_of(verdict: &Verdict) -> &'static [u8]
     match verdict {
         Verdict::Sat(_) => b"sat",
         Verdict::Unsat(_) => b"unsat",
-        Verdict::Unknown(_) | Verdict::Stuck { .. } => b"unknown",
+        Verdict::Unknown(_) => b"unknown",
     }
 }
 

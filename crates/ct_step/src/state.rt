@@ -32,7 +32,7 @@ pub(crate) fn kept_model(verdicts: &[Verdict], kept: Option<u64>) -> Option<&Int
     }
     match &verdicts[verdicts.len() - 1] {
         Verdict::Sat(interp) => Some(interp),
-        Verdict::Unsat(_) | Verdict::Unknown(_) | Verdict::Stuck { .. } => None,
+        Verdict::Unsat(_) | Verdict::Unknown(_) => None,
     }
 }
 
@@ -46,7 +46,7 @@ pub(crate) fn kept_derivation(verdicts: &[Verdict], kept: Option<u64>) -> Option
     }
     match &verdicts[verdicts.len() - 1] {
         Verdict::Unsat(derivation) => Some((number, derivation)),
-        Verdict::Sat(_) | Verdict::Unknown(_) | Verdict::Stuck { .. } => None,
+        Verdict::Sat(_) | Verdict::Unknown(_) => None,
     }
 }
 
@@ -58,7 +58,7 @@ pub(crate) fn is_undecided(verdicts: &[Verdict], kept: Option<u64>) -> bool
         return false;
     }
     match &verdicts[verdicts.len() - 1] {
-        Verdict::Unknown(_) | Verdict::Stuck { .. } => true,
+        Verdict::Unknown(_) => true,
         Verdict::Sat(_) | Verdict::Unsat(_) => false,
     }
 }

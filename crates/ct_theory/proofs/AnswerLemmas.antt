@@ -8,17 +8,15 @@ use Rattle.ct_terms.specs.declared.ids.TermId.{TermId}
 use Rattle.ct_terms.specs.declared.ids.Lit.{Lit}
 use Rattle.ct_terms.specs.Literal.{IsStripped}
 use Rattle.ct_terms.specs.Terms.{Terms}
-use Rattle.ct_rules.specs.declared.equation.Equation.{Equation}
 use Rattle.ct_rules.specs.Derivation.{IsHypothesis}
-use Rattle.ct_rules.specs.Uniqueness.{AreAllMatched}
 use Rattle.ct_congr.specs.declared.merge.Merge.{Merge}
 use Rattle.ct_congr.specs.Merges.{AreConnected}
-use Rattle.ct_congr.specs.State.{State, AreEqual, Continues, IsQuiet}
+use Rattle.ct_congr.specs.State.{State, AreEqual, Continues}
 use Rattle.ct_unique.specs.Partition.{IsApart}
 use Rattle.ct_theory.specs.declared.turn.Turn.{Turn}
 use Rattle.ct_theory.specs.declared.turn.Turn.TheVariants.{Conflict, Saturated, Merged}
 use Rattle.ct_theory.specs.Consulting.{IsUnderWay, IsTurn, unequal}
-use Rattle.ct_theory.proofs.TurnLemmas.{unequal-falls, unequal-less, AreEqual-stays, IsUnderWay-merged}
+use Rattle.ct_theory.proofs.TurnLemmas.{unequal-falls, unequal-less, AreEqual-stays}
 
 -- what merges connect, and what is of one class
 pub record HaveMerges (state : State) : Type 0 where
@@ -48,26 +46,19 @@ AreAllStripped-under d terms literals state under stripped l h =
 pub IsTurn-since : (d : Declarations) (terms : Terms) (literals : List Lit) (old mid new : State) (t : Turn) → unequal mid ≤ unequal old → IsTurn d terms literals mid new t → IsTurn d terms literals old new t
 IsTurn-since d terms literals old mid new (Conflict c) falls h = h
 IsTurn-since d terms literals old mid new (Saturated order) falls h = h
-IsTurn-since d terms literals old mid new Merged falls h = (h.0, omega (arith, h.1, falls))
+IsTurn-since d terms literals old mid new Merged falls h = omega (arith, h, falls)
 
 -- closing makes no pair of two classes
 pub unequal-continues : (old new : State) → Connect → HaveMerges old → HaveMerges new → Continues new old → unequal new ≤ unequal old
 unequal-continues old new connect before after later =
     unequal-falls old new later.terms (AreEqual-stays old new later.more before.connected after.equal connect.more before.long later.terms later.merges)
 
--- making two bisimilar classes one is a turn
-pub IsTurn-merged : (d : Declarations) (terms : Terms) (literals : List Lit) (old new : State) (blocks : List ℕ) (m : Merge) (pairs : List Equation)
-    → Connect → HaveMerges old → HaveMerges new → IsQuiet old → IsApart old blocks m.left m.right
-    → Contains pairs (record { left = m.left; right = m.right }) → AreAllMatched old.terms (AreEqual old) pairs
-    → new.declarations ≡ old.declarations → new.terms ≡ old.terms → new.hypotheses ≡ old.hypotheses
-    → new.given ≡ old.given ++ (record { left = m.left; right = m.right }) ∷ [] → new.merges ≡ old.merges ++ m ∷ []
-    → IsUnderWay d terms literals old → IsTurn d terms literals old new Merged
-IsTurn-merged d terms literals old new blocks m pairs connect before after quiet apart listed matched declarations terms_are hypotheses given merges under =
+-- making two classes one leaves fewer pairs of two
+pub unequal-merged : (old new : State) (blocks : List ℕ) (m : Merge) → Connect → HaveMerges old → HaveMerges new → IsApart old blocks m.left m.right → new.terms ≡ old.terms → new.merges ≡ old.merges ++ m ∷ [] → unequal new < unequal old
+unequal-merged old new blocks m connect before after apart terms_are merges =
     let in_left : m.left.0 < length old.terms = slice_get_within old.terms m.left.0 _ apart.left.2.1 in
     let in_right : m.right.0 < length old.terms = slice_get_within old.terms m.right.0 _ apart.right.2.1 in
     let in_new : m.left.0 < length new.terms = subst (λ (t : Terms). m.left.0 < length t) (sym terms_are) in_left in
     let there : Contains new.merges m = subst (λ (ms : List Merge). Contains ms m) (sym merges) (Contains-push old.merges m) in
-    let one : AreEqual new m.left m.right = after.equal m.left m.right in_new (connect.sides new.merges m there) in (
-      IsUnderWay-merged d terms literals old under quiet before.long before.states new pairs m.left m.right declarations terms_are hypotheses given apart.left apart.right listed matched,
-      unequal-less old new terms_are (AreEqual-stays old new (m ∷ []) before.connected after.equal connect.more before.long terms_are merges) m.left m.right in_left in_right apart.apart one,
-    )
+    let one : AreEqual new m.left m.right = after.equal m.left m.right in_new (connect.sides new.merges m there) in
+    unequal-less old new terms_are (AreEqual-stays old new (m ∷ []) before.connected after.equal connect.more before.long terms_are merges) m.left m.right in_left in_right apart.apart one

@@ -1,5 +1,5 @@
 -- Hops of a cycle that are explained one after the other.
-use Rattle.std.proofs.Common.{◌≡◌, ℕ, ◌-◌, List, [], ◌∷◌, ◌++◌, refl, sym, subst, ◌∙◌}
+use Rattle.std.proofs.Common.{◌≡◌, ℕ, List, [], ◌∷◌, ◌++◌, refl, sym, subst, ◌∙◌}
 use Rattle.ct_terms.specs.declared.ids.TermId.{TermId}
 use Rattle.ct_rules.specs.declared.equation.Equation.{Equation}
 use Rattle.ct_rules.specs.Cycle.{LeadsTo, IsCycle}

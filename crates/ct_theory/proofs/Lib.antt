@@ -1,6 +1,7 @@
 pub mod FollowsLemmas
 pub mod EntailmentLemmas
 pub mod BisimulationLemmas
+pub mod FiniteLemmas
 pub mod SaturationLemmas
 pub mod StepLemmas
 pub mod ClauseLemmas
@@ -8,3 +9,5 @@ pub mod CountLemmas
 pub mod TurnLemmas
 pub mod HopLemmas
 pub mod AnswerLemmas
+pub mod ReadyLemmas
+pub mod MarkedLemmas

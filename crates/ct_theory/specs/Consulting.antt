@@ -5,7 +5,7 @@ use Rattle.ct_terms.specs.declared.ids.TermId.{TermId}
 use Rattle.ct_terms.specs.declared.ids.Lit.{Lit}
 use Rattle.ct_terms.specs.Terms.{Terms}
 use Rattle.ct_rules.specs.declared.equation.Equation.{Equation}
-use Rattle.ct_congr.specs.State.{State}
+use Rattle.ct_congr.specs.State.{State, Marked}
 use Rattle.ct_unique.specs.Found.{missing_pairs}
 use Rattle.ct_theory.specs.declared.asking.Consulted.{Consulted}
 use Rattle.ct_theory.specs.declared.asking.Consulted.TheVariants as consulted
@@ -13,17 +13,26 @@ use Rattle.ct_theory.specs.declared.turn.Turn.{Turn}
 use Rattle.ct_theory.specs.declared.turn.Turn.TheVariants as turn
 use Rattle.ct_theory.specs.Entailment.{Entails, IsSaturation, IsConflictOf}
 
--- the answer is a conflict of the literals, or classes to which no rule adds under them
-abbrev pub IsConsulted : Declarations → Terms → List Lit → Consulted → Type 0
-IsConsulted d terms literals (consulted.Conflict c) = IsConflictOf d terms literals c.clause c.steps c.close
-IsConsulted d terms literals (consulted.Saturated classes order) = IsSaturation d terms literals classes.value order.reps.items
+-- the answer is a conflict of the literals, or that no rule adds to the classes under them
+abbrev pub IsConsulted : Declarations → Terms → List Lit → State → Consulted → Type 0
+IsConsulted d terms literals state (consulted.Conflict c) = IsConflictOf d terms literals c.clause c.steps c.close
+IsConsulted d terms literals state (consulted.Saturated order) = IsSaturation d terms literals state order.reps.items
+
+-- the literals entail each of these equations
+abbrev pub AreAllEntailed : Declarations → Terms → List Lit → List Equation → Type 0
+AreAllEntailed d terms literals equations = (e : Equation) → Contains equations e → Entails d terms literals e.left e.right
+
+-- classes that can be asked about literals: now and at each of their marks, the hypotheses entail what was given
+pub record IsReady (state : State) : Type 0 where
+  pub now : AreAllEntailed state.declarations state.terms state.hypotheses state.given
+  pub marked : (k : ℕ) (at : Marked) → slice_get state.marks k ≡ Some at → AreAllEntailed state.declarations state.terms at.hypotheses at.given
 
 -- classes of these terms under these literals, to which nothing was given that the literals do not entail
 pub record IsUnderWay (d : Declarations) (terms : Terms) (literals : List Lit) (state : State) : Type 0 where
   pub declarations : state.declarations ≡ d
   pub terms_are : state.terms ≡ terms
   pub hypotheses : state.hypotheses ≡ literals
-  pub given : (e : Equation) → Contains state.given e → Entails d terms literals e.left e.right
+  pub given : AreAllEntailed d terms literals state.given
 
 -- both are representatives, and one
 abbrev pub are_one : Option TermId → Option TermId → Bool
@@ -42,4 +51,4 @@ unequal state = missing_pairs (in_one_class state.reps) (length state.terms) (le
 abbrev pub IsTurn : Declarations → Terms → List Lit → State → State → Turn → Type 0
 IsTurn d terms literals old new (turn.Conflict c) = IsConflictOf d terms literals c.clause c.steps c.close
 IsTurn d terms literals old new (turn.Saturated order) = IsSaturation d terms literals new order.reps.items
-IsTurn d terms literals old new turn.Merged = IsUnderWay d terms literals new × (unequal new < unequal old)
+IsTurn d terms literals old new turn.Merged = unequal new < unequal old

@@ -1,3 +1,4 @@
 pub mod Entailment
 pub mod Steps
 pub mod Consulting
+pub mod Finite

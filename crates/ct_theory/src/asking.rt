@@ -1,52 +1,156 @@
 //! Asking the theory whether literals may hold together.
-ghost use Rattle.std.specs.Prelude.{◌≡◌, Contains, IfOk};
+ghost use Rattle.std.specs.Prelude.{◌≡◌, Contains, IfOk, IfSome, OnOk};
 ghost use Rattle.ct_terms.specs.declared.ids.Lit.{Lit};
 ghost use Rattle.ct_terms.specs.Literal.{IsStripped};
 ghost use Rattle.ct_terms.specs.Terms.{AreSorted};
 ghost use Rattle.ct_card.specs.Sizes.{AreSizes};
-ghost use Rattle.ct_theory.specs.Consulting.{IsConsulted};
+ghost use Rattle.ct_theory.specs.Entailment.{IsConflictOf};
+ghost use Rattle.ct_theory.specs.Consulting.{IsReady, IsConsulted};
 
+use crate::answer::{answer, keep};
 use crate::conflict::Conflict;
 use crate::error::TheoryError;
-use crate::turn::{Turn, take_turn};
+use crate::refuting::refute;
+use crate::shorter::shorter;
+use crate::telling::turn_to;
+use crate::watched::watched_sorts;
 use ct_acyclic::Order;
 use ct_card::Sizes;
 use ct_congr::Classes;
 use ct_sorts::Signature;
 use ct_terms::{Lit, TermTable};
 use std::alloc::Global;
+use std::marker::Model;
 
 /// What the theory says of literals.
-#[derive(Drop)]
+#[derive(Debug, Drop)]
 pub enum Consulted {
     /// They do not hold together.
     Conflict(Conflict),
-    /// No rule finds a contradiction: classes that are exactly the equations that the literals entail, and an order of the
-    /// classes of datatypes.
-    Saturated { classes: Box<Classes>, order: Order },
+    /// No rule finds a contradiction: the classes of the theory are exactly the equations that the literals entail, and those
+    /// of datatypes have this order.
+    Saturated(Order),
 }
 
-/// Whether the literals may hold together, by the rules of the theory of datatypes and codatatypes (Reynolds and Blanchette
-/// 2015, section 4): the classes of terms are closed under the rules, and while bisimilar classes are left two of them are
-/// made one. Each literal is over a Boolean term of the table that is no negation. The only error is out of memory.
-pub fn consult(
+/// The theory of datatypes and codatatypes over the terms of a table, to be asked again and again (Reynolds and Blanchette
+/// 2015, section 4). It keeps its classes from question to question: a question costs what is new since the last one that had
+/// its first literals. Clauses see the state of its classes.
+#[derive(Drop)]
+pub struct Theory {
     alloc: Global,
-    sig: &Signature,
-    sizes: &Sizes,
-    table: &TermTable,
+    classes: Box<Classes>,
+    // How many literals the classes had been told at each of their marks.
+    told: Vec<usize>,
+    // For each sort whether equations between its terms call for a look at cycles and bisimilar classes.
+    watched: Vec<bool>,
+}
+
+impl Model for Theory {
+    ghost use Rattle.ct_congr.specs.State.{State};
+
+    ghost Value = { State };
+
+    ghost view = { λ theory. theory.classes.value };
+}
+
+impl Theory {
+    /// The theory over these terms, ready to be asked. It holds copies of the signature and of the table. The only error is
+    /// out of memory.
+    pub fn new(
+        alloc: Global,
+        sig: &Signature,
+        sizes: &Sizes,
+        table: &TermTable,
+    ) -> Result<Theory, TheoryError>
+        requires sizes { AreSizes sig.now sizes.now }
+        requires sorted { AreSorted sig.now table.now }
+        ensures declarations { IfOk result (λ theory. theory.declarations ≡ sig.now) }
+        ensures terms { IfOk result (λ theory. theory.terms ≡ table.now) }
+        ensures ready { IfOk result IsReady }
+    {
+        let classes = Classes::new(alloc, sig, sizes, table, &[])?;
+        let mut theory = Theory {
+            alloc,
+            classes: Box::new(alloc, classes)?,
+            told: Vec::new(alloc),
+            watched: watched_sorts(alloc, sig, table)?,
+        };
+        let _bottom = theory.consult(&[])?;
+        Ok(theory)
+    }
+
+    /// Whether the literals may hold together, by the rules of the theory: the classes of terms are closed under the rules, and
+    /// while bisimilar classes are left two of them are made one. Each literal is over a Boolean term of the table that is no
+    /// negation. The only error is out of memory; after it the theory is to be dropped.
+    pub fn consult(&mut self, literals: &[Lit]) -> Result<Consulted, TheoryError>
+        requires ready { IsReady self.old }
+        requires stripped { (l : Lit) → Contains literals.now l → IsStripped self.old.terms l.term }
+        ensures declarations { OnOk result (self.new.declarations ≡ self.old.declarations) }
+        ensures terms { OnOk result (self.new.terms ≡ self.old.terms) }
+        ensures ready { OnOk result (IsReady self.new) }
+        ensures consulted { IfOk result (IsConsulted self.new.declarations self.new.terms literals.now self.new) }
+    {
+        ask(self.alloc, &mut self.classes, &mut self.told, literals)
+    }
+
+    /// A contradiction among the literals, if a quick look finds one: it applies the rules, and looks for cycles and for
+    /// bisimilar classes where terms that can form these have become equal. None says nothing. Each literal is over a Boolean
+    /// term of the table that is no negation. The only error is out of memory; after it the theory is to be dropped.
+    pub fn refute(&mut self, literals: &[Lit]) -> Result<Option<Conflict>, TheoryError>
+        requires ready { IsReady self.old }
+        requires stripped { (l : Lit) → Contains literals.now l → IsStripped self.old.terms l.term }
+        ensures declarations { OnOk result (self.new.declarations ≡ self.old.declarations) }
+        ensures terms { OnOk result (self.new.terms ≡ self.old.terms) }
+        ensures ready { OnOk result (IsReady self.new) }
+        ensures conflict { IfOk result (λ found. IfSome found (λ c. IsConflictOf self.new.declarations self.new.terms literals.now c.clause c.steps c.close)) }
+    {
+        refute(
+            self.alloc,
+            &mut self.classes,
+            &mut self.told,
+            self.watched.as_slice(),
+            literals,
+        )
+    }
+
+    /// The classes under the literals that were asked about last.
+    pub fn classes(&self) -> &Classes
+        ensures value { result.now ≡ self.now }
+    {
+        &self.classes
+    }
+
+    /// The same, to be kept.
+    pub fn into_classes(self) -> Box<Classes>
+        ensures value { result.value ≡ self }
+    {
+        self.classes
+    }
+}
+
+// The answer on the literals. The classes had been told so many literals at each of their marks.
+fn ask(
+    alloc: Global,
+    classes: &mut Classes,
+    told: &mut Vec<usize>,
     literals: &[Lit],
 ) -> Result<Consulted, TheoryError>
-    requires sizes { AreSizes sig.now sizes.now }
-    requires sorted { AreSorted sig.now table.now }
-    requires stripped { (l : Lit) → Contains literals.now l → IsStripped table.now l.term }
-    ensures consulted { IfOk result (IsConsulted sig.now table.now literals.now) }
+    requires ready { IsReady classes.old }
+    requires stripped { (l : Lit) → Contains literals.now l → IsStripped classes.old.terms l.term }
+    ensures declarations { OnOk result (classes.new.declarations ≡ classes.old.declarations) }
+    ensures terms { OnOk result (classes.new.terms ≡ classes.old.terms) }
+    ensures ready { OnOk result (IsReady classes.new) }
+    ensures consulted { IfOk result (IsConsulted classes.new.declarations classes.new.terms literals.now classes.new) }
 {
-    let mut classes = Box::new(alloc, Classes::new(alloc, sig, sizes, table, literals)?)?;
-    loop {
-        match take_turn(alloc, &mut classes)? {
-            Turn::Conflict(conflict) => return Ok(Consulted::Conflict(conflict)),
-            Turn::Saturated(order) => return Ok(Consulted::Saturated { classes, order }),
-            Turn::Merged => {}
+    turn_to(alloc, classes, told, literals)?;
+    match answer(alloc, classes)? {
+        Consulted::Conflict(conflict) => {
+            let short = shorter(alloc, &*classes, literals, conflict)?;
+            Ok(Consulted::Conflict(short))
+        }
+        Consulted::Saturated(order) => {
+            keep(classes, told)?;
+            Ok(Consulted::Saturated(order))
         }
     }
 }

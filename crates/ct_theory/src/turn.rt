@@ -1,5 +1,5 @@
 //! One turn of asking the theory: close the classes, look for a contradiction, and make two bisimilar classes one.
-ghost use Rattle.std.specs.Prelude.{ℕ, List, Contains, IfOk};
+ghost use Rattle.std.specs.Prelude.{◌≡◌, ℕ, List, Contains, IfOk, OnOk};
 ghost use Rattle.ct_sorts.specs.Declarations.{Declarations};
 ghost use Rattle.ct_terms.specs.declared.ids.TermId.{TermId};
 ghost use Rattle.ct_terms.specs.declared.ids.Lit.{Lit};
@@ -13,6 +13,7 @@ ghost use Rattle.ct_theory.specs.Consulting.{IsUnderWay, IsTurn};
 use crate::conflict::{Conflict, clash};
 use crate::cycle::cycle;
 use crate::error::TheoryError;
+use crate::finite::{are_finite, finite_classes};
 use ct_acyclic::{Order, OrderError, order};
 use ct_congr::{Classes, Closed, Reason, classes_of_merges};
 use ct_unique::{coarsest, pairs};
@@ -29,16 +30,20 @@ pub(crate) enum Turn {
     Merged,
 }
 
-/// Closes the classes, and looks what they come to. After an error the classes are to be dropped.
+/// Closes the classes, unless two constructors meet, and looks what they come to. After an error the classes are to be dropped.
 pub(crate) fn take_turn(alloc: Global, classes: &mut Classes) -> Result<Turn, TheoryError>
     requires stripped { (l : Lit) → Contains classes.old.hypotheses l → IsStripped classes.old.terms l.term }
+    ensures marks { OnOk result (classes.new.marks ≡ classes.old.marks) }
+    ensures under_way { OnOk result ((d : Declarations) (terms : Terms) (literals : List Lit)
+        → IsUnderWay d terms literals classes.old
+        → IsUnderWay d terms literals classes.new) }
     ensures turn { IfOk result (λ turn. (d : Declarations) (terms : Terms) (literals : List Lit)
         → IsUnderWay d terms literals classes.old
         → IsTurn d terms literals classes.old classes.new turn) }
 {
     classes_of_merges();
     prove!(classes.merges().len() >= 0);
-    let closed = classes.close()?;
+    let closed = classes.close_or_clash()?;
     prove!(classes.merges().len() >= 0);
     match closed {
         Closed::Clash(a, b) => Ok(Turn::Conflict(clash(alloc, &*classes, a, b)?)),
@@ -50,6 +55,10 @@ pub(crate) fn take_turn(alloc: Global, classes: &mut Classes) -> Result<Turn, Th
 fn turn_of_quiet(alloc: Global, classes: &mut Classes) -> Result<Turn, TheoryError>
     requires quiet { IsQuiet classes.old }
     requires stripped { (l : Lit) → Contains classes.old.hypotheses l → IsStripped classes.old.terms l.term }
+    ensures marks { OnOk result (classes.new.marks ≡ classes.old.marks) }
+    ensures under_way { OnOk result ((d : Declarations) (terms : Terms) (literals : List Lit)
+        → IsUnderWay d terms literals classes.old
+        → IsUnderWay d terms literals classes.new) }
     ensures turn { IfOk result (λ turn. (d : Declarations) (terms : Terms) (literals : List Lit)
         → IsUnderWay d terms literals classes.old
         → IsTurn d terms literals classes.old classes.new turn) }
@@ -66,12 +75,20 @@ fn unify(alloc: Global, classes: &mut Classes, found: Order) -> Result<Turn, The
     requires quiet { IsQuiet classes.old }
     requires ordered { IsClassOrder classes.old found.reps.items }
     requires acyclic { (hops : List (TermId × ℕ)) → IsCycle classes.old.declarations classes.old.terms (AreEqual classes.old) hops → ⊥ }
+    ensures marks { OnOk result (classes.new.marks ≡ classes.old.marks) }
+    ensures under_way { OnOk result ((d : Declarations) (terms : Terms) (literals : List Lit)
+        → IsUnderWay d terms literals classes.old
+        → IsUnderWay d terms literals classes.new) }
     ensures turn { IfOk result (λ turn. (d : Declarations) (terms : Terms) (literals : List Lit)
         → IsUnderWay d terms literals classes.old
         → IsTurn d terms literals classes.old classes.new turn) }
 {
     classes_of_merges();
     prove!(classes.merges().len() >= 0);
+    if are_finite(classes.signature(), classes.table()) {
+        finite_classes(&*classes, found.reps.as_slice());
+        return Ok(Turn::Saturated(found));
+    }
     let partition = coarsest(alloc, &*classes)?;
     match partition.first_pair(&*classes) {
         None => Ok(Turn::Saturated(found)),

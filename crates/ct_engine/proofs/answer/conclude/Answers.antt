@@ -1,3 +1,6 @@
+use Rattle.std.proofs.Common.{sym, subst}
+use Rattle.ct_congr.specs.State.{State}
+use Rattle.ct_theory.specs.Entailment.{IsSaturation}
 use Rattle.ct_engine.proofs.answer.conclude.Goals as goal
 
 pub refutation_of-requires-clause-ends : goal.refutation_of-requires-clause-ends
@@ -25,7 +28,10 @@ pub candidate_of-requires-clause-all : goal.candidate_of-requires-clause-all
 candidate_of-requires-clause-all c = let h = rw c.in-Saturated.is at c.requires.ended in h.2
 
 pub candidate_of-requires-clause-saturation : goal.candidate_of-requires-clause-saturation
-candidate_of-requires-clause-saturation c = let h = rw c.in-Saturated.is at c.requires.ended in h.3
+candidate_of-requires-clause-saturation c =
+    let course = c.args.course.value in
+    let h = rw c.in-Saturated.is at c.requires.ended in
+    subst (λ (s : State). IsSaturation course.derivation.declarations course.derivation.rec.terms course.search.trail s c.in-Saturated.order.reps.items) (sym c.into_classes.ensures.value) h.3
 
 pub returns-in-Spent-clause-outcome : goal.returns-in-Spent-clause-outcome
 returns-in-Spent-clause-outcome c =

@@ -18,7 +18,7 @@ returns-in-All-clause-same c =
 pub returns-in-All-clause-decided : goal.returns-in-All-clause-decided
 returns-in-All-clause-decided c =
     let same = c.in-All.ensures.leaves in
-    rw same (c.requires.under_way, c.requires.quiet, c.in-All.ensures.all.0 refl, c.requires.saturated)
+    rw same (c.requires.under_way, c.requires.quiet, c.in-All.ensures.all.0 refl, refl)
 
 pub returns-in-Spent-clause-same : goal.returns-in-Spent-clause-same
 returns-in-Spent-clause-same c =

@@ -8,5 +8,5 @@ abbrev pub invariant-loop-index : goal.invariant-loop-index
 invariant-loop-index l = record {
   clauses : clauses_in l.search.clauses ≡ clauses_of (take l.index l.lines);
   numbered : StandAtSteps l.search.clauses (clauses_of (take l.index l.lines));
-  same : l.search ≡ record l.fn.search { clauses = l.search.clauses };
+  same : l.search ≡ record l.fn.search { clauses = l.search.clauses; propagated = l.search.propagated };
 }

@@ -39,15 +39,11 @@ pub returns-in_ok-record_learned-in-Clause-clause-learned : goal.returns-in_ok-r
 returns-in_ok-record_learned-in-Clause-clause-learned c =
     let course = c.args.course.now in
     let learned = rw c.in-Clause.is at c.in_ok-lits.ensures.learned in
-    let back = takes_back course.search c.learn.new.self c.next_number-number.result c.in-Clause.lits c.in-Clause.hints c.in-Clause.keep learned in (
+    let back = takes_back course.search c.learn.new.self c.next_number-number.result c.in-Clause.lits c.in-Clause.hints c.in-Clause.keep learned in
+    λ theory. (
       c.in_ok-record_learned-in-Clause.ensures.under_way,
       subst (λ (s : SearchState). TakesBack course.search s) (sym c.in_ok-record_learned-in-Clause.ensures.search) back,
     )
-
-pub returns-in_ok-record_learned-in-Clause-clause-counted : goal.returns-in_ok-record_learned-in-Clause-clause-counted
-returns-in_ok-record_learned-in-Clause-clause-counted c =
-    let learned = rw c.in-Clause.is at c.in_ok-lits.ensures.learned in
-    ap (λ (s : SearchState). s.count) c.in_ok-record_learned-in-Clause.ensures.search ∙ ap (λ (s : SearchState). s.count) learned.after
 
 pub returns-in_ok-push-in-Empty-clause-same : goal.returns-in_ok-push-in-Empty-clause-same
 returns-in_ok-push-in-Empty-clause-same c =
@@ -66,9 +62,4 @@ returns-in_ok-push-in-Empty-clause-learned c =
     let course = c.args.course.now in
     let line : Line = record { clause = c.new-clause.result; step = step.Learn c.in-Empty.hints } in
     let empty : c.new-clause.result ≡ [] = cc in
-    (course.derivation.rec.lines, line, ap (λ (x : Derived). x.rec.lines) c.in_ok-push-in-Empty.ensures.ok, empty)
-
-pub returns-in_ok-push-in-Empty-clause-counted : goal.returns-in_ok-push-in-Empty-clause-counted
-returns-in_ok-push-in-Empty-clause-counted c =
-    let learned = rw c.in-Empty.is at c.in_ok-lits.ensures.learned in
-    ap (λ (s : SearchState). s.count) learned.after
+    λ theory. (course.derivation.rec.lines, line, ap (λ (x : Derived). x.rec.lines) c.in_ok-push-in-Empty.ensures.ok, empty)

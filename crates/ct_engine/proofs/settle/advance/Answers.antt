@@ -1,12 +1,36 @@
-use Rattle.ct_lemmas.proofs.Options.{OnOk-map}
-use Rattle.ct_engine.proofs.TaskLemmas.{IsOfOneTask-then}
-use Rattle.ct_engine.proofs.ResolveLemmas.{decided_since}
+use Rattle.std.proofs.Common.{refl, ◌∙◌}
+use Rattle.ct_engine.proofs.TaskLemmas.{IsOfOneTask-itself, IsOfOneTask-then}
+use Rattle.ct_engine.proofs.TurnLemmas.{IsCounted-since}
 use Rattle.ct_engine.proofs.settle.advance.Goals as goal
 
-pub returns-in-Saturated-clause-same : goal.returns-in-Saturated-clause-same
-returns-in-Saturated-clause-same c =
-    OnOk-map c.decide.result _ _ (λ h. IsOfOneTask-then c.args.course.now c.settle.new.course c.decide.new.course c.in_ok-settle.ensures.same h) c.decide.ensures.same
+pub conflicts-init : goal.conflicts-init
+conflicts-init c = record { under_way = c.requires.under_way; same = IsOfOneTask-itself c.args.course.now; counted = refl; theory = c.requires.theory }
 
-pub returns-in-Saturated-clause-decided : goal.returns-in-Saturated-clause-decided
-returns-in-Saturated-clause-decided c =
-    decided_since c.decide.result c.decide.new.course c.args.course.now.search c.settle.new.course.search c.in_ok-settle.ensures.counted c.decide.ensures.decided
+pub returns-in-Ended-clause-same : goal.returns-in-Ended-clause-same
+returns-in-Ended-clause-same c = IsOfOneTask-then c.args.course.now c.conflicts.course c.take_turn.new.course c.conflicts.invariant.same c.in_ok-ending.ensures.same
+
+pub returns-in-Ended-clause-decided : goal.returns-in-Ended-clause-decided
+returns-in-Ended-clause-decided c = rw c.in-Ended.is at c.in_ok-ending.ensures.turn
+
+pub returns-in-Decided-clause-same : goal.returns-in-Decided-clause-same
+returns-in-Decided-clause-same c = IsOfOneTask-then c.args.course.now c.conflicts.course c.take_turn.new.course c.conflicts.invariant.same c.in_ok-ending.ensures.same
+
+pub returns-in-Decided-clause-decided : goal.returns-in-Decided-clause-decided
+returns-in-Decided-clause-decided c =
+    let went = rw c.in-Decided.is at c.in_ok-ending.ensures.turn in
+    (went.0, IsCounted-since c.args.course.now.search c.conflicts.course.search c.take_turn.new.course.search c.conflicts.invariant.counted went.1)
+
+pub conflicts-smaller : goal.conflicts-smaller
+conflicts-smaller c =
+    let went = rw c.in-Learned.is at c.in_ok-ending.ensures.turn in
+    went.1.fewer
+
+pub conflicts-preserved : goal.conflicts-preserved
+conflicts-preserved c =
+    let went = rw c.in-Learned.is at c.in_ok-ending.ensures.turn in
+    record {
+      under_way = went.0;
+      theory = c.in_ok-ending.ensures.theory;
+      same = IsOfOneTask-then c.args.course.now c.conflicts.course c.take_turn.new.course c.conflicts.invariant.same c.in_ok-ending.ensures.same;
+      counted = went.1.counted ∙ c.conflicts.invariant.counted;
+    }

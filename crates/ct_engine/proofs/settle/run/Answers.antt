@@ -3,10 +3,7 @@ use Rattle.ct_engine.proofs.TaskLemmas.{IsOfOneTask-itself, IsOfOneTask-then}
 use Rattle.ct_engine.proofs.settle.run.Goals as goal
 
 pub decisions-init : goal.decisions-init
-decisions-init c = record { under_way = c.requires.under_way; same = IsOfOneTask-itself c.args.course.now }
-
-pub advance-requires-clause-signature : goal.advance-requires-clause-signature
-advance-requires-clause-signature c = c.decisions.invariant.same.declarations ∙ c.requires.signature
+decisions-init c = record { under_way = c.requires.under_way; same = IsOfOneTask-itself c.args.course.now; theory = c.requires.theory }
 
 pub returns-in-Some-clause-same : goal.returns-in-Some-clause-same
 returns-in-Some-clause-same c = IsOfOneTask-then c.args.course.now c.decisions.course c.advance.new.course c.decisions.invariant.same c.in_ok-ending.ensures.same
@@ -27,5 +24,6 @@ decisions-preserved c =
     let went = rw c.in-None.is at c.in_ok-ending.ensures.decided in
     record {
       under_way = went.0;
+      theory = c.in_ok-ending.ensures.theory;
       same = IsOfOneTask-then c.args.course.now c.decisions.course c.advance.new.course c.decisions.invariant.same c.in_ok-ending.ensures.same;
     }

@@ -1,4 +1,5 @@
 use Rattle.ct_closure.specs.ClosedTable.{terms_at}
+use Rattle.ct_engine.proofs.OutcomeLemmas.{decisive}
 use Rattle.ct_engine.proofs.SpentLemmas.{spent_bound}
 use Rattle.ct_engine.proofs.theorems.spent_searches.Goals as goal
 
@@ -10,3 +11,8 @@ pub returns-clause-bound : goal.returns-clause-bound
 returns-clause-bound c = λ d table asserts budget spent is.
     spent_bound c.growth.ensures.growth c.trees.ensures.trees d spent.derivation.rec.terms spent.derivation.asserts spent.derivation.rec.lines spent.moves budget
     is.recorded (terms_at table asserts) spent.variables is.closure is.variables
+
+pub returns-clause-decides : goal.returns-clause-decides
+returns-clause-decides c = λ d table asserts budget count v is variables enough. decisive d table asserts budget count (λ spent spending.
+    spent_bound c.growth.ensures.growth c.trees.ensures.trees d spent.derivation.rec.terms spent.derivation.asserts spent.derivation.rec.lines spent.moves budget
+    spending.recorded (terms_at table asserts) count spending.closure variables) enough v is

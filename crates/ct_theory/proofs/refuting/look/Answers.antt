@@ -1,0 +1,8 @@
+use Rattle.ct_theory.proofs.AnswerLemmas.{AreAllStripped-continues}
+use Rattle.ct_theory.proofs.refuting.look.Goals as goal
+
+pub clash-requires-clause-stripped : goal.clash-requires-clause-stripped
+clash-requires-clause-stripped c = AreAllStripped-continues c.args.classes.now c.close_or_clash.new.self c.in_ok-a.ensures.continues c.requires.stripped
+
+pub look_on-requires-clause-stripped : goal.look_on-requires-clause-stripped
+look_on-requires-clause-stripped c = AreAllStripped-continues c.args.classes.now c.close_or_clash.new.self c.in_ok-a.ensures.continues c.requires.stripped

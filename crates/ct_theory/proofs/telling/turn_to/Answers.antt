@@ -1,0 +1,11 @@
+use Rattle.std.proofs.Common.{◌-◌, ◌∙◌, sym, subst, length}
+use Rattle.ct_terms.specs.Literal.{IsStripped}
+use Rattle.ct_terms.specs.Terms.{Terms}
+use Rattle.ct_theory.proofs.ReadyLemmas.{Contains-part}
+use Rattle.ct_theory.proofs.telling.turn_to.Goals as goal
+
+pub tell-requires-clause-stripped : goal.tell-requires-clause-stripped
+tell-requires-clause-stripped c =
+    let literals = c.args.literals.now in
+    let stand = length c.hypotheses-stand.result.now in
+    λ l has. subst (λ (t : Terms). IsStripped t l.term) (sym (c.in_ok-renew.ensures.terms ∙ c.go_back.ensures.terms)) (c.requires.stripped l (Contains-part literals (length literals - stand) stand l has))
