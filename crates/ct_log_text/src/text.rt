@@ -5,18 +5,40 @@ ghost use Rattle.ct_sexpr.specs.Written.{written};
 ghost use Rattle.ct_terms.specs.Terms.{AreSorted};
 ghost use Rattle.ct_log.specs.declared.error.LogError.TheVariants.{NoMemory};
 ghost use Rattle.ct_log_text.specs.Written.{numbers, row, line_item, term_items, line_items, item_lines, expression_of_record, text_of};
+ghost use Rattle.ct_log_text.specs.Writable.{CanBeRead, IsReadBack};
 
 use crate::put::put_row;
 use crate::put_line::put_line;
 use crate::put_term::put_term;
+use crate::theorems::{reads_back, text_is_read};
 use ct_log::{Line, LogError, Record};
 use ct_sorts::Signature;
 use ct_terms::{TermId, TermTable};
 use std::alloc::{AllocError, Global};
 
 /// The text of a record as a derivation of the check of satisfiability with this number: a line `(`, the items one a
-/// line, and `)`, with which it ends. Its only error is out of memory.
+/// line, and `)`, with which it ends. Of a record that can be written it is read back as that record, with that number,
+/// and nothing is left of it. Its only error is out of memory.
 pub fn derivation_text(
+    alloc: Global,
+    sig: &Signature,
+    number: u64,
+    rec: &Record,
+) -> Result<Vec<u8>, LogError>
+    requires fits { AreSorted sig.now rec.now.terms }
+    ensures text { IfOk result (λ text. text.items ≡ text_of (expression_of_record sig.now number rec.now)) }
+    ensures reads_back { IfOk result (λ text. CanBeRead sig.now number rec.now → IsReadBack sig.now number rec.now text.items) }
+    ensures err { IfErr result (λ e. e ≡ NoMemory) }
+{
+    reads_back();
+    text_is_read();
+    prove!(sig.sorts() > 0);
+    let text = record_text(alloc, sig, number, rec)?;
+    Ok(text)
+}
+
+/// The text of a record.
+fn record_text(
     alloc: Global,
     sig: &Signature,
     number: u64,
