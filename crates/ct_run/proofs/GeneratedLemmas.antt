@@ -1,43 +1,37 @@
 -- What is reported of a generated script.
-use Rattle.std.proofs.Common.{◌≡◌, ◌∙◌, ◌≤◌, ◌+◌, ◌++◌, ℕ, true, false, refl, sym, ap, subst, arith, inl, inr, List, [], Option, length, true≢false}
+use Rattle.std.proofs.Common.{◌≡◌, ◌≢◌, ◌∙◌, ◌≤◌, ◌+◌, ◌++◌, ℕ, true, false, refl, sym, ap, subst, arith, inl, inr, List, [], Option, length, true≢false}
 use Rattle.ct_io.specs.Bytes.{GrewByPart, appended}
 use Rattle.ct_io.specs.declared.sink.SinkError.{SinkError}
 use Rattle.ct_io.specs.declared.sink.SinkError.TheVariants as sink
 use Rattle.ct_io.specs.declared.status.Status.{Status}
 use Rattle.ct_io.specs.declared.status.Status.TheVariants as status
 use Rattle.ct_sexpr.specs.Unread.{Unread}
-use Rattle.ct_input.specs.Slot.{IsReadOf}
+use Rattle.ct_input.specs.Slot.{IsReadWhole}
 use Rattle.ct_gen.specs.Script.{script}
 use Rattle.ct_engine.specs.declared.verdict.Verdict.{Verdict}
 use Rattle.ct_run.specs.Refusal.{status_of_error}
-use Rattle.ct_run.specs.Run.{Solves}
-use Rattle.ct_run.specs.Generated.{IsSolved, IsSolvedSoFar, ReportsCounts, counts_line, is_ended}
+use Rattle.ct_run.specs.Run.{IsAnswered, Solves}
+use Rattle.ct_run.specs.Generated.{IsSolved, IsSolvedSoFar, ReportsCounts, counts_line, is_done}
 use Rattle.ct_run.proofs.LengthLemmas.{script_short}
 
 -- a reader that was fed the script and its end has the whole of it
 pub read_whole : (n : ℕ) (text : List ℕ) (a b d : Unread) → n ≤ 2000 → text ≡ script n → d ≡ record b { ended = true }
-    → b ≡ record a { bytes = a.bytes ++ text; fed = a.fed + length text } → a ≡ record { bytes = []; line = 1; fed = 0; ended = false } → IsReadOf (script n) d
+    → b ≡ record a { bytes = a.bytes ++ text; fed = a.fed + length text } → a ≡ record { bytes = []; line = 1; fed = 0; ended = false } → IsReadWhole (script n) d
 read_whole n text a b d few is over fed new =
     let line : d.line ≡ 1 = ap (λ (u : Unread). u.line) over ∙ ap (λ (u : Unread). u.line) fed ∙ ap (λ (u : Unread). u.line) new in
     let all : d.bytes ≡ script n = ap (λ (u : Unread). u.bytes) over ∙ ap (λ (u : Unread). u.bytes) fed ∙ ap (λ (u : Unread). u.bytes ++ text) new ∙ is in
-    record {
-      line = line;
-      extent = inl (record {
-        has = record { short = script_short n few; all = all };
-        ended = ap (λ (u : Unread). u.ended) over;
-      });
-    }
+    record { line = line; short = script_short n few; all = all; ended = ap (λ (u : Unread). u.ended) over }
 
 pub nothing_solved : (n : ℕ) (vs : List Verdict) → vs ≡ [] → IsSolvedSoFar n vs
 nothing_solved n vs none = record { errors = []; lines = []; answers = inr none }
 
 so_far : (n : ℕ) (vs : List Verdict) → IsSolved n vs → IsSolvedSoFar n vs
-so_far n vs solved = record { errors = solved.errors; lines = solved.lines; answers = inl (inl solved.answers) }
+so_far n vs solved = record { errors = []; lines = solved.lines; answers = inl (inl solved.answers) }
 
--- a script that was answered to its end
-pub solved : (n : ℕ) (s : Status) (vs : List Verdict) (es : List (ℕ × ℕ)) (old new : Option (List ℕ)) → Solves (script n) s vs es old new → is_ended s ≡ true → IsSolved n vs
-solved n status.Done vs es old new h e = record { errors = es; lines = h.0.lines; answers = h.0.answers }
-solved n status.Refused vs es old new h e = record { errors = es; lines = h.0.lines; answers = h.0.answers }
+-- a script that was answered to its end, without an error
+pub solved : (n : ℕ) (s : Status) (vs : List Verdict) (es : List (ℕ × ℕ)) (old new : Option (List ℕ)) → Solves (script n) 0 s vs es old new → is_done s ≡ true → IsSolved n vs
+solved n status.Done vs es old new h e = record { lines = h.0.lines; answers = subst (λ (x : List (ℕ × ℕ)). IsAnswered (script n) vs x h.0.lines) h.1 h.0.answers }
+solved n status.Refused vs es old new h e = absurd (true≢false (sym e))
 solved n status.TooLong vs es old new h e = absurd (true≢false (sym e))
 solved n status.InputFault vs es old new h e = absurd (true≢false (sym e))
 solved n status.OutputFault vs es old new h e = absurd (true≢false (sym e))
@@ -46,16 +40,16 @@ solved n status.Usage vs es old new h e = absurd h
 solved n status.Rejected vs es old new h e = absurd h
 
 -- a script that was answered as far as memory went
-pub stopped : (n : ℕ) (s : Status) (vs : List Verdict) (es : List (ℕ × ℕ)) (old new : Option (List ℕ)) → Solves (script n) s vs es old new → n ≤ 2000 → IsSolvedSoFar n vs
-stopped n status.Done vs es old new h few = record { errors = es; lines = h.0.lines; answers = inl (inl h.0.answers) }
-stopped n status.Refused vs es old new h few = record { errors = es; lines = h.0.lines; answers = inl (inl h.0.answers) }
-stopped n status.TooLong vs es old new h few = absurd (omega (arith, h.long, script_short n few))
-stopped n status.InputFault vs es old new h few = nothing_solved n vs h.0
-stopped n status.OutputFault vs es old new h few = record { errors = es; lines = h.lines; answers = inl h.answers }
-stopped n status.NoMemory vs es old new (inl h) few = record { errors = es; lines = h.lines; answers = inl h.answers }
-stopped n status.NoMemory vs es old new (inr h) few = nothing_solved n vs h.0
-stopped n status.Usage vs es old new h few = absurd h
-stopped n status.Rejected vs es old new h few = absurd h
+pub stopped : (n : ℕ) (s : Status) (vs : List Verdict) (es : List (ℕ × ℕ)) (old new : Option (List ℕ)) → Solves (script n) 0 s vs es old new → s ≢ status.InputFault → n ≤ 2000 → IsSolvedSoFar n vs
+stopped n status.Done vs es old new h read few = record { errors = es; lines = h.0.lines; answers = inl (inl h.0.answers) }
+stopped n status.Refused vs es old new h read few = record { errors = es; lines = h.0.lines; answers = inl (inl h.0.answers) }
+stopped n status.TooLong vs es old new h read few = absurd (omega (arith, h.long, script_short n few))
+stopped n status.InputFault vs es old new h read few = absurd (read refl)
+stopped n status.OutputFault vs es old new h read few = record { errors = es; lines = h.0.lines; answers = inl h.0.answers }
+stopped n status.NoMemory vs es old new (inl h) read few = record { errors = es; lines = h.lines; answers = inl h.answers }
+stopped n status.NoMemory vs es old new (inr h) read few = nothing_solved n vs h.0
+stopped n status.Usage vs es old new h read few = absurd h
+stopped n status.Rejected vs es old new h read few = absurd h
 
 -- ---- the report
 

@@ -1,6 +1,7 @@
 pub mod WritingLemmas
 pub mod AnswerLemmas
 pub mod TurnLemmas
+pub mod StreamLemmas
 pub mod FaultLemmas
 pub mod ReportLemmas
 pub mod RunLemmas

@@ -32,18 +32,18 @@ no_part : (old new : Option (List ℕ)) → new ≡ old → GrewByPart usage_lin
 no_part old new same = record { count = 0; short = omega arith; grown = same ∙ sym (appended-nothing old) }
 
 -- memory ran out before anything was done
-pub does_nothing : (held : List ℕ → Option (List ℕ)) (asked : Asked) (vs : List Verdict) (es : List (ℕ × ℕ)) (old new : Option (List ℕ)) → DoesNothing vs es old new → Does held asked status.NoMemory vs es old new
-does_nothing held (solves name) vs es old new nothing = λ bytes is. inr nothing
-does_nothing held (audits proof script) vs es old new nothing = λ proof_bytes script_bytes first second. inr (tt, nothing)
-does_nothing held (generates count) vs es old new nothing = (
+pub does_nothing : (held : List ℕ → Option (List ℕ)) (asked : Asked) (before after : Option (List ℕ)) (vs : List Verdict) (es : List (ℕ × ℕ)) (old new : Option (List ℕ)) → DoesNothing vs es old new → Does held asked before after status.NoMemory vs es old new
+does_nothing held (solves name) before after vs es old new nothing = λ bytes is. (0, tt, inr nothing)
+does_nothing held (audits proof script) before after vs es old new nothing = λ proof_bytes script_bytes first second. inr (tt, nothing)
+does_nothing held (generates count) before after vs es old new nothing = (
   nothing.1,
   inr (record { solved = record { errors = []; lines = []; answers = inr nothing.0 }; unwritten = nothing.2 }),
 )
-does_nothing held helps vs es old new nothing = (nothing.0, nothing.1, no_part old new nothing.2)
-does_nothing held faulty vs es old new nothing = (nothing.0, nothing.1, no_part old new nothing.2)
+does_nothing held helps before after vs es old new nothing = (nothing.0, nothing.1, no_part old new nothing.2)
+does_nothing held faulty before after vs es old new nothing = (nothing.0, nothing.1, no_part old new nothing.2)
 
 pub does_nothing_of_some : (asked : Asked) (vs : List Verdict) (es : List (ℕ × ℕ)) (old new : Option (List ℕ)) → DoesNothing vs es old new → DoesOfSome asked status.NoMemory vs es old new
-does_nothing_of_some (solves name) vs es old new nothing = ([], inr nothing)
+does_nothing_of_some (solves name) vs es old new nothing = ([], 0, inr nothing)
 does_nothing_of_some (audits proof script) vs es old new nothing = ([], [], inr (tt, nothing))
 does_nothing_of_some (generates count) vs es old new nothing = tt
 does_nothing_of_some helps vs es old new nothing = tt
@@ -57,9 +57,9 @@ pub record Comes (asked : Asked) (s : Status) (es : List (ℕ × ℕ)) : Type 0 
   pub refused : s ≡ status.Refused → es ≢ []
   pub refused_only : s ≡ status.Refused → IsOfScript asked
 
-solve_comes : (name bytes : List ℕ) (s : Status) (vs : List Verdict) (es : List (ℕ × ℕ)) (old new : Option (List ℕ)) → Solves bytes s vs es old new → Comes (solves name) s es
-solve_comes name bytes s vs es old new d =
-    let at : (t : Status) → s ≡ t → Solves bytes t vs es old new = λ t is. subst (λ (x : Status). Solves bytes x vs es old new) is d in
+solve_comes : (name bytes : List ℕ) (taken : ℕ) (s : Status) (vs : List Verdict) (es : List (ℕ × ℕ)) (old new : Option (List ℕ)) → Solves bytes taken s vs es old new → Comes (solves name) s es
+solve_comes name bytes taken s vs es old new d =
+    let at : (t : Status) → s ≡ t → Solves bytes taken t vs es old new = λ t is. subst (λ (x : Status). Solves bytes taken x vs es old new) is d in
     record {
       usage_only = λ is. absurd (at status.Usage is);
       rejected = λ is. absurd (at status.Rejected is);
@@ -126,9 +126,9 @@ usage_comes s vs es old new d =
       refused_only = λ is. absurd (at status.Refused is);
     }
 
-pub comes : (held : List ℕ → Option (List ℕ)) (asked : Asked) (s : Status) (vs : List Verdict) (es : List (ℕ × ℕ)) (old new : Option (List ℕ)) → Does held asked s vs es old new → DoesOfSome asked s vs es old new → Comes asked s es
-comes held (solves name) s vs es old new does of_some = solve_comes name of_some.0 s vs es old new of_some.1
-comes held (audits proof script) s vs es old new does of_some = audit_comes proof script of_some.0 of_some.1 s vs es old new of_some.2
-comes held (generates count) s vs es old new does of_some = counts_come count s vs es old new does
-comes held helps s vs es old new does of_some = help_comes s vs es old new does
-comes held faulty s vs es old new does of_some = usage_comes s vs es old new does
+pub comes : (held : List ℕ → Option (List ℕ)) (asked : Asked) (before after : Option (List ℕ)) (s : Status) (vs : List Verdict) (es : List (ℕ × ℕ)) (old new : Option (List ℕ)) → Does held asked before after s vs es old new → DoesOfSome asked s vs es old new → Comes asked s es
+comes held (solves name) before after s vs es old new does of_some = solve_comes name of_some.0 of_some.1 s vs es old new of_some.2
+comes held (audits proof script) before after s vs es old new does of_some = audit_comes proof script of_some.0 of_some.1 s vs es old new of_some.2
+comes held (generates count) before after s vs es old new does of_some = counts_come count s vs es old new does
+comes held helps before after s vs es old new does of_some = help_comes s vs es old new does
+comes held faulty before after s vs es old new does of_some = usage_comes s vs es old new does

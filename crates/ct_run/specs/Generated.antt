@@ -20,7 +20,6 @@ is_unsat _ = false
 -- the check is answered `unknown`
 abbrev pub is_unknown : Verdict → Bool
 is_unknown (verdict.Unknown spent) = true
-is_unknown (verdict.Stuck table lits interp assertion) = true
 is_unknown _ = false
 
 -- the one line: how many checks had each answer
@@ -29,17 +28,15 @@ counts_line n verdicts =
     codes "gen " ++ (decimal n ++ (codes ": " ++ (decimal (count_by is_sat verdicts) ++ (codes " sat, "
     ++ (decimal (count_by is_unsat verdicts) ++ (codes " unsat, " ++ (decimal (count_by is_unknown verdicts) ++ codes " unknown\n")))))))
 
--- a script that ends with this status was answered to its end
-abbrev pub is_ended : Status → Bool
-is_ended Done = true
-is_ended Refused = true
-is_ended _ = false
+-- a script that ends with this status was answered to its end, without an error
+abbrev pub is_done : Status → Bool
+is_done Done = true
+is_done _ = false
 
--- the generated script is answered to its end by these verdicts, each of which is right where it is given
+-- the generated script is answered to its end by these verdicts, each of which is right where it is given, without an error
 pub record IsSolved (n : ℕ) (verdicts : List Verdict) : Type 0 where
-  pub errors : List (ℕ × ℕ)
   pub lines : List (List ℕ)
-  pub answers : IsAnswered (script n) verdicts errors lines
+  pub answers : IsAnswered (script n) verdicts [] lines
 
 -- the same of its first commands, if any
 pub record IsSolvedSoFar (n : ℕ) (verdicts : List Verdict) : Type 0 where

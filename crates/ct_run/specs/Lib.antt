@@ -1,7 +1,9 @@
 pub mod Output
 pub mod Refusal
 pub mod SoFar
+pub mod Position
 pub mod Progress
+pub mod Streaming
 pub mod Run
 pub mod AuditRun
 pub mod Generated

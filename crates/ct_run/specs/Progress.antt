@@ -1,18 +1,19 @@
 -- How far a script is answered.
-use Rattle.std.specs.Prelude.{◌≡◌, ℕ, List, [], ◌++◌, Option}
+use Rattle.std.specs.Prelude.{◌≡◌, ℕ, ◌⊎◌, List, [], ◌∷◌, ◌++◌, Option}
 use Rattle.ct_io.specs.declared.sink.SinkError.{SinkError}
 use Rattle.ct_io.specs.declared.sink.SinkError.TheVariants as sink
 use Rattle.ct_sexpr.specs.Expression.{Expression}
-use Rattle.ct_sexpr.specs.Text.{Located, clean, waiting}
+use Rattle.ct_sexpr.specs.Text.{Located, Ending, clean, Reads, EndingSoFar, waiting, ReadsSoFar}
 use Rattle.ct_sexpr.specs.Unread.{Unread}
 use Rattle.ct_engine.specs.declared.verdict.Verdict.{Verdict}
 use Rattle.ct_step.specs.Step.{CommandEffect, Step}
 use Rattle.ct_script.specs.Session.{Course, after}
-use Rattle.ct_script.specs.Answers.{Answers, Leads, lines_of}
+use Rattle.ct_script.specs.Answers.{Leads, lines_of}
 use Rattle.ct_run.specs.declared.turn.Ending.{Ending as Ended}
 use Rattle.ct_run.specs.declared.turn.Ending.TheVariants as ended
 use Rattle.ct_run.specs.Output.{wrote, IsLeft}
-use Rattle.ct_run.specs.SoFar.{TextState, stands, HasReadSoFar, AnswersTo, refusal}
+use Rattle.ct_run.specs.Position.{AreFirst}
+use Rattle.ct_run.specs.SoFar.{TextState, ends, stands, HasReadSoFar, AnswersTo, refusal}
 
 -- what a session has come to, what is left of the script, and what was written
 pub record Progress : Type 0 where
@@ -45,44 +46,52 @@ pub record Adds (old new : Course) (verdicts : List Verdict) (errors : List (ℕ
   pub verdicts_are : new.verdicts ≡ old.verdicts ++ verdicts
   pub errors_are : new.errors ≡ old.errors ++ errors
 
+-- The old text begins with these commands, and the new one is what stands behind them, whatever may still come after both: what is
+-- then read of the new text is read of the old one after these commands.
+pub record IsBehind (old new : Unread) (commands : List Located) : Type 0 where
+  pub place : (tail : List ℕ) → AreFirst commands (old.bytes ++ tail) (new.bytes ++ tail)
+  pub ended : (tail : List ℕ) (cs : List Located) (x : Ending) → Reads new.line (new.bytes ++ tail) cs x → Reads old.line (old.bytes ++ tail) (commands ++ cs) x
+  pub so_far : (tail : List ℕ) (cs : List Located) (x : EndingSoFar) → ReadsSoFar new.line (new.bytes ++ tail) cs x → ReadsSoFar old.line (old.bytes ++ tail) (commands ++ cs) x
+
 -- these commands were read, answered and written, none of which ends the script
 pub record WentOn (old new : Progress) : Type 0 where
   pub commands : List Located
   pub verdicts : List Verdict
   pub errors : List (ℕ × ℕ)
   pub lines : List (List ℕ)
-  pub read : (cs : List Located) (x : TextState) → HasReadSoFar new.unread cs x → HasReadSoFar old.unread (commands ++ cs) x
+  pub behind : IsBehind old.unread new.unread commands
+  pub same_fed : new.unread.fed ≡ old.unread.fed
+  pub same_end : new.unread.ended ≡ old.unread.ended
   pub answered : Leads old.course.state old.course.number commands new.course.state new.course.number verdicts errors lines
   pub adds : Adds old.course new.course verdicts errors
   pub written : new.written ≡ wrote lines old.written
 
--- the script was read, answered and written to its end
-pub record CameToEnd (old new : Progress) : Type 0 where
+-- these commands were read, answered and written, the last of which ends the script, whatever follows it
+pub record Stopped (old new : Progress) : Type 0 where
   pub commands : List Located
-  pub outcome : TextState
   pub verdicts : List Verdict
   pub errors : List (ℕ × ℕ)
   pub lines : List (List ℕ)
-  pub read : HasReadSoFar old.unread commands outcome
-  pub answered : AnswersTo old.course.state old.course.number commands outcome verdicts errors lines
+  pub behind : IsBehind old.unread new.unread commands
+  pub same_end : new.unread.ended ≡ old.unread.ended
+  pub answered : (cs : List Located) (x : TextState) → AnswersTo old.course.state old.course.number (commands ++ cs) x verdicts errors lines
   pub adds : Adds old.course new.course verdicts errors
   pub written : new.written ≡ wrote lines old.written
 
--- nothing is left to answer, or an error of the text alone, or the text goes on beyond what is there
+-- a command ended the script, or nothing is left to answer, or an error of the text alone, or the text goes on beyond what is there
 abbrev pub EndsWith : Progress → Progress → Ended → Type 0
-EndsWith old new ended.Clean = CameToEnd old new
+EndsWith old new ended.Clean = Stopped old new ⊎ (WentOn old new × HasReadSoFar new.unread [] (ends clean))
 EndsWith old new (ended.Lexical error) = WentOn old new × HasReadSoFar new.unread [] (refusal new.unread.ended error)
 EndsWith old new ended.Cut = WentOn old new × HasReadSoFar new.unread [] (stands waiting)
 
--- an error of the sink ended the script after these commands
+-- the next command was read and answered, but its line was not written whole
+pub record CutOff (error : SinkError) (old new : Progress) : Type 0 where
+  pub next : Located
+  pub behind : IsBehind old.unread new.unread (next ∷ [])
+  pub cut : IsCutOff error old.course new.course next.line next.command old.written new.written
+
+-- an error of the sink ended the script after commands that were answered and written
 pub record BrokeOff (error : SinkError) (old new : Progress) : Type 0 where
-  pub commands : List Located
-  pub rest : List Located
-  pub outcome : TextState
-  pub verdicts : List Verdict
-  pub errors : List (ℕ × ℕ)
-  pub lines : List (List ℕ)
-  pub read : HasReadSoFar old.unread (commands ++ rest) outcome
-  pub answered : Answers old.course.state old.course.number commands clean verdicts errors lines
-  pub adds : Adds old.course new.course verdicts errors
-  pub left : IsLeft error lines old.written new.written
+  pub mid : Progress
+  pub went : WentOn old mid
+  pub broke : IsUnanswered error mid.course new.course mid.written new.written ⊎ CutOff error mid new

@@ -1,15 +1,18 @@
 -- What a run of the program does, by the status with which it ends.
-use Rattle.std.specs.Prelude.{◌≡◌, ◌≢◌, ℕ, ◌≤◌, ◌<◌, ◌⊎◌, List, [], ◌++◌, length, Option}
+use Rattle.std.specs.Prelude.{◌≡◌, ◌≢◌, ℕ, ◌+◌, ◌≤◌, ◌<◌, ◌⊎◌, List, [], ◌∷◌, ◌++◌, length, take, drop, Option, Some}
 use Rattle.std.specs.List.{concat}
 use Rattle.ct_io.specs.Bytes.{GrewByPrefix, GrewByPart, appended}
 use Rattle.ct_io.specs.declared.status.Status.{Status}
 use Rattle.ct_io.specs.declared.status.Status.TheVariants.{Done, Refused, Usage, InputFault, OutputFault, NoMemory, Rejected, TooLong}
-use Rattle.ct_sexpr.specs.Text.{Located, Ending, clean, Reads, EndingSoFar, waiting, ReadsSoFar}
-use Rattle.ct_input.specs.Slot.{most_bytes, head}
+use Rattle.ct_sexpr.specs.Text.{Located, Ending, clean, lexical, Reads, EndingSoFar, waiting, ReadsSoFar}
+use Rattle.ct_input.specs.Slot.{most_bytes, piece_bytes, head}
 use Rattle.ct_engine.specs.declared.verdict.Verdict.{Verdict}
 use Rattle.ct_step.specs.State.{State, first_state}
-use Rattle.ct_script.specs.Answers.{Answers, Leads}
+use Rattle.ct_step.specs.Step.{CommandEffect, Step}
+use Rattle.ct_script.specs.Answers.{Answers, Leads, lines_of}
 use Rattle.ct_run.specs.Output.{wrote, BreaksInLine, usage_line}
+use Rattle.ct_run.specs.Position.{AreFirst}
+use Rattle.ct_run.specs.Refusal.{refusal_line}
 use Rattle.ct_run.specs.SoFar.{AnswersSoFar}
 
 -- a script that is read whole is answered to its end: its commands are answered by these verdicts, each of which is right where
@@ -85,21 +88,84 @@ pub record StopsInLine (bytes : List ℕ) (verdicts : List Verdict) (errors : Li
   pub answers : IsAnswered bytes verdicts errors lines ⊎ IsAnsweredSoFar bytes verdicts errors lines
   pub written : BreaksInLine lines old new
 
+-- Of a slot so many bytes were taken, and then it failed: every whole command of these bytes was answered, none of which ends the
+-- script, and written. There is no error in them that stands: it would have ended the script.
+pub record IsAnsweredUpTo (bytes : List ℕ) (taken : ℕ) (verdicts : List Verdict) (errors : List (ℕ × ℕ)) (old new : Option (List ℕ)) : Type 0 where
+  pub commands : List Located
+  pub last : State
+  pub count : ℕ
+  pub lines : List (List ℕ)
+  pub read : ReadsSoFar 1 (take taken bytes) commands waiting
+  pub answered : Leads first_state 0 commands last count verdicts errors lines
+  pub written : new ≡ wrote lines old
+
+-- The lines of these commands were written whole, and that of the one after them was not, of which there is one. Behind the closing
+-- parenthesis of that one fewer bytes were taken than one read asks for.
+pub record IsAnsweredSoon (bytes : List ℕ) (taken : ℕ) (old new : Option (List ℕ)) : Type 0 where
+  pub commands : List Located
+  pub unwritten : Located
+  pub later : List Located
+  pub ending : Ending
+  pub read : Reads 1 bytes (commands ++ unwritten ∷ later) ending
+  pub behind : List ℕ
+  pub place : AreFirst (commands ++ unwritten ∷ []) bytes behind
+  pub soon : taken + length behind < length bytes + piece_bytes
+  pub last : State
+  pub count : ℕ
+  pub verdicts : List Verdict
+  pub errors : List (ℕ × ℕ)
+  pub lines : List (List ℕ)
+  pub answered : Leads first_state 0 commands last count verdicts errors lines
+  pub effect : CommandEffect
+  pub step : Step last count unwritten.line unwritten.command effect
+  pub line : List ℕ
+  pub line_is : lines_of effect.text ≡ line ∷ []
+  pub part : GrewByPart line (wrote lines old) new
+
+-- the lines of all commands were written whole, and that of the error in the text was not
+pub record IsCutInRefusal (bytes : List ℕ) (old new : Option (List ℕ)) : Type 0 where
+  pub commands : List Located
+  pub error : ℕ × ℕ
+  pub read : Reads 1 bytes commands (lexical error.1 error.0)
+  pub last : State
+  pub count : ℕ
+  pub verdicts : List Verdict
+  pub errors : List (ℕ × ℕ)
+  pub lines : List (List ℕ)
+  pub answered : Leads first_state 0 commands last count verdicts errors lines
+  pub line : List ℕ
+  pub line_is : refusal_line error ≡ line ∷ []
+  pub part : GrewByPart line (wrote lines old) new
+
 -- nothing was answered and nothing was written
 abbrev pub DoesNothing : List Verdict → List (ℕ × ℕ) → Option (List ℕ) → Option (List ℕ) → Type 0
 DoesNothing verdicts errors old new = (verdicts ≡ []) × (errors ≡ []) × (new ≡ old)
 
--- a run over a slot that holds these bytes, by its status, its verdicts and errors, and the bytes of the sink
+-- a run over a slot with these bytes, of which so many were taken, by its status, its verdicts and errors, and the bytes of the sink
 -- before and after it; after a fault of the sink it stopped inside the last line of what is reported
-abbrev pub Solves : List ℕ → Status → List Verdict → List (ℕ × ℕ) → Option (List ℕ) → Option (List ℕ) → Type 0
-Solves bytes Done verdicts errors old new = Finishes bytes verdicts errors old new × (errors ≡ [])
-Solves bytes Refused verdicts errors old new = Finishes bytes verdicts errors old new × (errors ≢ [])
-Solves bytes TooLong verdicts errors old new = IsCut bytes verdicts errors old new
-Solves bytes InputFault verdicts errors old new = DoesNothing verdicts errors old new
-Solves bytes OutputFault verdicts errors old new = StopsInLine bytes verdicts errors old new
-Solves bytes NoMemory verdicts errors old new = StopsEarly bytes verdicts errors old new ⊎ DoesNothing verdicts errors old new
-Solves bytes Usage verdicts errors old new = ⊥
-Solves bytes Rejected verdicts errors old new = ⊥
+abbrev pub Solves : List ℕ → ℕ → Status → List Verdict → List (ℕ × ℕ) → Option (List ℕ) → Option (List ℕ) → Type 0
+Solves bytes taken Done verdicts errors old new = Finishes bytes verdicts errors old new × (errors ≡ [])
+Solves bytes taken Refused verdicts errors old new = Finishes bytes verdicts errors old new × (errors ≢ [])
+Solves bytes taken TooLong verdicts errors old new = IsCut bytes verdicts errors old new
+Solves bytes taken InputFault verdicts errors old new = IsAnsweredUpTo bytes taken verdicts errors old new
+Solves bytes taken OutputFault verdicts errors old new =
+    StopsInLine bytes verdicts errors old new × (IsAnsweredSoon bytes taken old new ⊎ IsCutInRefusal bytes old new)
+Solves bytes taken NoMemory verdicts errors old new = StopsEarly bytes verdicts errors old new ⊎ DoesNothing verdicts errors old new
+Solves bytes taken Usage verdicts errors old new = ⊥
+Solves bytes taken Rejected verdicts errors old new = ⊥
+
+-- the first bytes, so many, were taken from a slot with these, one at most beyond those that are read, and the others are left
+pub record WereTaken (bytes : List ℕ) (taken : ℕ) (left : Option (List ℕ)) : Type 0 where
+  pub there : taken ≤ length bytes
+  pub few : taken ≤ most_bytes + 1
+  pub rest : left ≡ Some (drop taken bytes)
+
+-- what a run took from a slot with these bytes, by its status and what was left there before and after it: after a fault the slot may not
+-- have been opened, and where memory ran out nothing is said
+abbrev pub Took : Status → List ℕ → ℕ → Option (List ℕ) → Option (List ℕ) → Type 0
+Took InputFault bytes taken before after = WereTaken bytes taken after ⊎ ((taken ≡ 0) × (after ≡ before))
+Took NoMemory bytes taken before after = Unit {0}
+Took status bytes taken before after = WereTaken bytes taken after
 
 -- a run with arguments that have none of the forms: the usage line is written, or a part of it
 abbrev pub ReportsUsage : Status → List Verdict → List (ℕ × ℕ) → Option (List ℕ) → Option (List ℕ) → Type 0

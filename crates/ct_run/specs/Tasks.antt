@@ -3,22 +3,24 @@ use Rattle.std.specs.Prelude.{◌≡◌, ℕ, List, Option, Some}
 use Rattle.ct_io.specs.declared.status.Status.{Status}
 use Rattle.ct_engine.specs.declared.verdict.Verdict.{Verdict}
 use Rattle.ct_arguments.specs.Arguments.{Asked, solves, audits, generates, helps, faulty}
-use Rattle.ct_run.specs.Run.{Solves, ReportsUsage, ReportsHelp}
+use Rattle.ct_run.specs.Run.{Solves, Took, ReportsUsage, ReportsHelp}
 use Rattle.ct_run.specs.AuditRun.{ReportsAudit}
 use Rattle.ct_run.specs.Generated.{ReportsCounts}
 
--- a run that was asked for this does so, where the desk tells what it holds under the names
-abbrev pub Does : (List ℕ → Option (List ℕ)) → Asked → Status → List Verdict → List (ℕ × ℕ) → Option (List ℕ) → Option (List ℕ) → Type 0
-Does held (solves name) status verdicts errors old new = (bytes : List ℕ) → held name ≡ Some bytes → Solves bytes status verdicts errors old new
-Does held (audits proof script) status verdicts errors old new =
+-- a run that was asked for this does so, where the desk tells what it holds under the names; what is left in the script's slot before and
+-- after it
+abbrev pub Does : (List ℕ → Option (List ℕ)) → Asked → Option (List ℕ) → Option (List ℕ) → Status → List Verdict → List (ℕ × ℕ) → Option (List ℕ) → Option (List ℕ) → Type 0
+Does held (solves name) before after status verdicts errors old new =
+    (bytes : List ℕ) → held name ≡ Some bytes → (taken : ℕ) × Took status bytes taken before after × Solves bytes taken status verdicts errors old new
+Does held (audits proof script) before after status verdicts errors old new =
     (proof_bytes script_bytes : List ℕ) → held proof ≡ Some proof_bytes → held script ≡ Some script_bytes → ReportsAudit proof_bytes script_bytes status verdicts errors old new
-Does held (generates count) status verdicts errors old new = ReportsCounts count status verdicts errors old new
-Does held helps status verdicts errors old new = ReportsHelp status verdicts errors old new
-Does held faulty status verdicts errors old new = ReportsUsage status verdicts errors old new
+Does held (generates count) before after status verdicts errors old new = ReportsCounts count status verdicts errors old new
+Does held helps before after status verdicts errors old new = ReportsHelp status verdicts errors old new
+Does held faulty before after status verdicts errors old new = ReportsUsage status verdicts errors old new
 
 -- where the desk tells nothing there are still bytes of which it does so
 abbrev pub DoesOfSome : Asked → Status → List Verdict → List (ℕ × ℕ) → Option (List ℕ) → Option (List ℕ) → Type 0
-DoesOfSome (solves name) status verdicts errors old new = (bytes : List ℕ) × Solves bytes status verdicts errors old new
+DoesOfSome (solves name) status verdicts errors old new = (bytes : List ℕ) × (taken : ℕ) × Solves bytes taken status verdicts errors old new
 DoesOfSome (audits proof script) status verdicts errors old new = (proof_bytes : List ℕ) × (script_bytes : List ℕ) × ReportsAudit proof_bytes script_bytes status verdicts errors old new
 DoesOfSome (generates count) status verdicts errors old new = Unit {0}
 DoesOfSome helps status verdicts errors old new = Unit {0}

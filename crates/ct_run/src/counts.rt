@@ -55,5 +55,5 @@ fn is_unsat(verdict: &Verdict) -> bool
 fn is_unknown(verdict: &Verdict) -> bool
     ensures value { result ≡ spec.is_unknown verdict.now }
 {
-    matches!(verdict, Verdict::Unknown(_) | Verdict::Stuck { .. })
+    matches!(verdict, Verdict::Unknown(_))
 }

@@ -5,7 +5,7 @@ ghost use Rattle.ct_io.specs.Bytes.{appended};
 ghost use Rattle.ct_io.specs.Fault.{HasCause, Rose};
 ghost use Rattle.ct_io.specs.declared.status.Status.TheVariants as status;
 ghost use Rattle.ct_gen.specs.Script.{script};
-ghost use Rattle.ct_input.specs.Slot.{IsReadOf};
+ghost use Rattle.ct_input.specs.Slot.{IsReadWhole};
 ghost use Rattle.ct_run.specs.Generated as spec;
 ghost use Rattle.ct_run.specs.Generated.{IsSolved, IsSolvedSoFar, ReportsCounts};
 
@@ -34,7 +34,8 @@ pub fn generate<K: Sink>(alloc: Global, n: u64, out: &mut K) -> Report
     }
 }
 
-/// The verdicts of the generated script. Where memory ran out, those of the checks before that.
+/// The verdicts of the generated script. Where memory ran out, those of the checks before that; and so where a command was
+/// refused, which none of a generated script is.
 #[tactic(auto, using(crate::proofs::GeneratedLemmas::nothing_solved))]
 fn solve_generated(alloc: Global, n: u64) -> Result<Vec<Verdict>, Vec<Verdict>>
     requires some { 1 ≤ n }
@@ -50,25 +51,25 @@ fn solve_generated(alloc: Global, n: u64) -> Result<Vec<Verdict>, Vec<Verdict>>
         verdicts,
         ..
     } = answer_script(alloc, &mut reader, &mut NoSink);
-    if is_ended(status) {
+    if is_done(status) {
         Ok(verdicts)
     } else {
         Err(verdicts)
     }
 }
 
-/// Whether a script that ends with this status was answered to its end.
-fn is_ended(status: Status) -> bool
-    ensures value { result ≡ spec.is_ended status }
+/// Whether a script that ends with this status was answered to its end, without an error.
+fn is_done(status: Status) -> bool
+    ensures value { result ≡ spec.is_done status }
 {
-    matches!(status, Status::Done | Status::Refused)
+    matches!(status, Status::Done)
 }
 
 /// A reader that was fed the generated script, and its end.
 fn read_generated(alloc: Global, n: u64) -> Result<Reader, ReadError>
     requires some { 1 ≤ n }
     requires few { n ≤ 2000 }
-    ensures fed { IfOk result (λ reader. IsReadOf (script n) reader) }
+    ensures fed { IfOk result (λ reader. IsReadWhole (script n) reader) }
 {
     let Ok(text) = gen_script(alloc, n) else {
         return Err(ReadError::NoMemory);

@@ -8,6 +8,7 @@ mod counts;
 mod generated;
 mod report;
 mod solve;
+mod stream;
 mod top;
 mod turn;
 

@@ -1,59 +1,91 @@
 //! A script is answered from its first command to its end, or as far as it is read.
-ghost use Rattle.std.specs.Prelude.{◌≡◌, ◌≢◌, ℕ, List, [], Some, OnOk, IfErr, ◌≤◌};
+ghost use Rattle.std.specs.Prelude.{◌≡◌, ◌≢◌, ℕ, List, [], Option, Some, OnOk, IfErr, ◌≤◌};
 ghost use Rattle.ct_io.specs.Fault.{HasCause, Rose};
+ghost use Rattle.ct_io.specs.declared.desk.Slot.TheVariants as slot;
 ghost use Rattle.ct_io.specs.declared.status.Status.TheVariants as status;
-ghost use Rattle.ct_input.specs.Slot.{IsReadOf};
+ghost use Rattle.ct_input.specs.Slot.{IsReadWhole};
 ghost use Rattle.ct_run.specs.Output.{wrote, IsLeft};
 ghost use Rattle.ct_run.specs.Refusal.{IsConcluded, IsRefused, status_of_script, refusal_line};
-ghost use Rattle.ct_run.specs.Run.{Solves};
+ghost use Rattle.ct_run.specs.Run.{Solves, Took};
 
 use crate::answer::write_line;
 use crate::report::{Report, ScriptError, status_of, unanswered};
+use crate::stream::{answer_slot, status_of_input, status_of_stream};
 use crate::turn::{Ending, answer_all};
 use ct_engine::Verdict;
-use ct_input::{InputError, read_slot};
+use ct_input::{PIECE_BYTES, open_slot};
 use ct_io::{Desk, Sink, SinkError, Slot, Status};
 use ct_script::{Session, refusal_text};
-use ct_sexpr::Reader;
+use ct_sexpr::{Reader, one_reading, one_text};
 use std::alloc::Global;
 
-/// Reads the script under the name and answers it, as far as it is read.
+/// Answers the script under the name, each command once it is read whole and before the slot is asked for more.
 pub fn solve<D: Desk, K: Sink>(alloc: Global, name: &str, desk: &mut D, out: &mut K) -> Report
     ensures solved { (bytes : List ℕ) → D.held desk.old name.now ≡ Some bytes
-        → Solves bytes result.status result.verdicts.items result.errors.items (K.written out.old) (K.written out.new) }
-    ensures some_script { (bytes : List ℕ)
-        × Solves bytes result.status result.verdicts.items result.errors.items (K.written out.old) (K.written out.new) }
+        → (taken : ℕ) × Took result.status bytes taken (D.left desk.old slot.Script) (D.left desk.new slot.Script)
+        × Solves bytes taken result.status result.verdicts.items result.errors.items (K.written out.old) (K.written out.new) }
+    ensures some_script { (bytes : List ℕ) × (taken : ℕ)
+        × Solves bytes taken result.status result.verdicts.items result.errors.items (K.written out.old) (K.written out.new) }
     ensures input { result.status ≡ status.InputFault → Rose (D.faults desk.old) (D.faults desk.new) }
     ensures output { result.status ≡ status.OutputFault → Rose (K.faults out.old) (K.faults out.new) }
-    ensures usage { result.status ≢ status.Usage }
-    ensures rejected { result.status ≢ status.Rejected }
-    ensures done { result.status ≡ status.Done → result.errors.items ≡ [] }
-    ensures refused { result.status ≡ status.Refused → result.errors.items ≢ [] }
     ensures counts { (D.faults desk.old ≤ D.faults desk.new) × (K.faults out.old ≤ K.faults out.new) }
     ensures desk_uncounted { result.status ≢ status.InputFault
         → D.faults desk.new ≡ D.faults desk.old }
     ensures sink_uncounted { result.status ≢ status.OutputFault
         → K.faults out.new ≡ K.faults out.old }
 {
-    match read_slot(alloc, desk, Slot::Script, name) {
-        Ok(mut reader) => answer_script(alloc, &mut reader, out),
-        Err(InputError::Fault) => unanswered(alloc, Status::InputFault),
-        Err(InputError::NoMemory) => unanswered(alloc, Status::NoMemory),
+    match open_slot(desk, Slot::Script, name) {
+        Ok(()) => answer_opened(alloc, desk, out),
+        Err(error) => unanswered(alloc, status_of_input(error)),
     }
 }
 
-/// Answers the script that the reader was fed, or the first bytes of it.
-pub(crate) fn answer_script<K: Sink>(alloc: Global, reader: &mut Reader, out: &mut K) -> Report
-    ensures solved { (bytes : List ℕ) → IsReadOf bytes reader.old
-        → Solves bytes result.status result.verdicts.items result.errors.items (K.written out.old) (K.written out.new) }
+/// Answers the script in its slot, which was just opened.
+fn answer_opened<D: Desk, K: Sink>(alloc: Global, desk: &mut D, out: &mut K) -> Report
+    ensures solved { (bytes : List ℕ) (before : Option (List ℕ)) → D.left desk.old slot.Script ≡ Some bytes
+        → (taken : ℕ) × Took result.status bytes taken before (D.left desk.new slot.Script)
+        × Solves bytes taken result.status result.verdicts.items result.errors.items (K.written out.old) (K.written out.new) }
+    ensures some_script { (bytes : List ℕ) × (taken : ℕ)
+        × Solves bytes taken result.status result.verdicts.items result.errors.items (K.written out.old) (K.written out.new) }
+    ensures input { result.status ≡ status.InputFault → Rose (D.faults desk.old) (D.faults desk.new) }
     ensures output { result.status ≡ status.OutputFault → Rose (K.faults out.old) (K.faults out.new) }
+    ensures counts { (D.faults desk.old ≤ D.faults desk.new) × (K.faults out.old ≤ K.faults out.new) }
+    ensures desk_uncounted { result.status ≢ status.InputFault → D.faults desk.new ≡ D.faults desk.old }
+    ensures sink_uncounted { result.status ≢ status.OutputFault → K.faults out.new ≡ K.faults out.old }
+{
+    let Ok(mut reader) = Reader::new(alloc) else {
+        return unanswered(alloc, Status::NoMemory);
+    };
+    let Ok(mut buffer) = vec![in alloc; 0u8; PIECE_BYTES] else {
+        return unanswered(alloc, Status::NoMemory);
+    };
+    let Ok(mut session) = Session::new(alloc) else {
+        return unanswered(alloc, Status::NoMemory);
+    };
+    one_text();
+    let ending = answer_slot(desk, &mut reader, buffer.as_mut_slice(), &mut session, out);
+    let (verdicts, errors) = session.finish();
+    match ending {
+        Ok(ending) => conclude(alloc, verdicts, errors, ending, out),
+        Err(error) => Report {
+            status: status_of_stream(error),
+            verdicts,
+            errors,
+        },
+    }
+}
+
+/// Answers the script that the reader was fed whole.
+pub(crate) fn answer_script<K: Sink>(alloc: Global, reader: &mut Reader, out: &mut K) -> Report
+    ensures solved { (bytes : List ℕ) → IsReadWhole bytes reader.old
+        → Solves bytes 0 result.status result.verdicts.items result.errors.items (K.written out.old) (K.written out.new) }
     ensures input { result.status ≢ status.InputFault }
-    ensures count { K.faults out.old ≤ K.faults out.new }
-    ensures uncounted { result.status ≢ status.OutputFault → K.faults out.new ≡ K.faults out.old }
 {
     let Ok(mut session) = Session::new(alloc) else {
         return unanswered(alloc, Status::NoMemory);
     };
+    one_text();
+    one_reading();
     let ending = answer_all(reader, &mut session, out);
     let (verdicts, errors) = session.finish();
     match ending {

@@ -2,10 +2,11 @@
 
 ghost use Rattle.std.specs.Prelude.{◌≡◌, ◌≢◌, ℕ, List, [], Some, ◌≤◌};
 ghost use Rattle.ct_io.specs.Fault.{Rose};
+ghost use Rattle.ct_io.specs.declared.desk.Slot.TheVariants as slot;
 ghost use Rattle.ct_io.specs.declared.status.Status.TheVariants as status;
 ghost use Rattle.ct_arguments.specs.Arguments as arguments;
 ghost use Rattle.ct_arguments.specs.Seen.{task_seen};
-ghost use Rattle.ct_run.specs.Run.{Solves, ReportsUsage, ReportsHelp};
+ghost use Rattle.ct_run.specs.Run.{Solves, Took, ReportsUsage, ReportsHelp};
 ghost use Rattle.ct_run.specs.AuditRun.{ReportsAudit};
 ghost use Rattle.ct_run.specs.Generated.{ReportsCounts};
 ghost use Rattle.ct_run.specs.Tasks.{Does, DoesOfSome, IsAudit, IsOfScript};
@@ -29,9 +30,11 @@ const USAGE: &str = "usage: cosmt [FILE | --audit PROOF FILE | --gen N]\n";
 /// that is generated and counts its answers, and `--help` is answered with the line of usage. So are all
 /// other arguments, with the status of usage.
 pub fn run<D: Desk, K: Sink>(alloc: Global, words: &[Text], desk: &mut D, out: &mut K) -> Report
-    // Where the desk tells what it holds under the script's name, the report and what was written are its answers.
+    // Where the desk tells what it holds under the script's name, the report and what was written are its answers, and after a fault
+    // those to what was taken of the script.
     ensures solved { (name bytes : List ℕ) → arguments.task_of words.now ≡ arguments.solves name → D.held desk.old name ≡ Some bytes
-        → Solves bytes result.status result.verdicts.items result.errors.items (K.written out.old) (K.written out.new) }
+        → (taken : ℕ) × Took result.status bytes taken (D.left desk.old slot.Script) (D.left desk.new slot.Script)
+        × Solves bytes taken result.status result.verdicts.items result.errors.items (K.written out.old) (K.written out.new) }
     // The same of a derivation that is judged by a script.
     ensures audited { (proof script proof_bytes script_bytes : List ℕ) → arguments.task_of words.now ≡ arguments.audits proof script
         → D.held desk.old proof ≡ Some proof_bytes → D.held desk.old script ≡ Some script_bytes
@@ -45,8 +48,8 @@ pub fn run<D: Desk, K: Sink>(alloc: Global, words: &[Text], desk: &mut D, out: &
 
     // Where the desk tells nothing, as that of the host, there are still bytes, whatever the status, of which the
     // report is right, and what was written where the sink tells it.
-    ensures some_script { (name : List ℕ) → arguments.task_of words.now ≡ arguments.solves name → (bytes : List ℕ)
-        × Solves bytes result.status result.verdicts.items result.errors.items (K.written out.old) (K.written out.new) }
+    ensures some_script { (name : List ℕ) → arguments.task_of words.now ≡ arguments.solves name → (bytes : List ℕ) × (taken : ℕ)
+        × Solves bytes taken result.status result.verdicts.items result.errors.items (K.written out.old) (K.written out.new) }
     ensures some_files { (proof script : List ℕ) → arguments.task_of words.now ≡ arguments.audits proof script → (proof_bytes : List ℕ) × (script_bytes : List ℕ)
         × ReportsAudit proof_bytes script_bytes result.status result.verdicts.items result.errors.items (K.written out.old) (K.written out.new) }
 
@@ -75,7 +78,7 @@ pub fn run<D: Desk, K: Sink>(alloc: Global, words: &[Text], desk: &mut D, out: &
 /// Does what the arguments ask for.
 fn perform<D: Desk, K: Sink>(alloc: Global, task: Task<'_>, desk: &mut D, out: &mut K) -> Report
     requires within { arguments.IsWithin (task_seen task) }
-    ensures does { Does (D.held desk.old) (task_seen task.entry) result.status result.verdicts.items result.errors.items (K.written out.old) (K.written out.new) }
+    ensures does { Does (D.held desk.old) (task_seen task.entry) (D.left desk.old slot.Script) (D.left desk.new slot.Script) result.status result.verdicts.items result.errors.items (K.written out.old) (K.written out.new) }
     ensures of_some { DoesOfSome (task_seen task.entry) result.status result.verdicts.items result.errors.items (K.written out.old) (K.written out.new) }
     ensures input { result.status ≡ status.InputFault → Rose (D.faults desk.old) (D.faults desk.new) }
     ensures output { result.status ≡ status.OutputFault → Rose (K.faults out.old) (K.faults out.new) }

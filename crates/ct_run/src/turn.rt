@@ -7,7 +7,7 @@ use crate::answer::answer;
 use crate::report::ScriptError;
 use ct_io::{Sink, SinkError};
 use ct_script::Session;
-use ct_sexpr::{Next, ReadError, Reader, one_text};
+use ct_sexpr::{Next, ReadError, Reader, one_reading};
 
 /// How a script ends.
 pub enum Ending {
@@ -29,7 +29,7 @@ pub fn answer_all<K: Sink>(
     ensures broke { IfErr result (λ error. BrokeOff error (progress session.old reader.old (K.written out.old)) (progress session.new reader.new (K.written out.new))) }
     ensures cause { HasCause SinkError.Fault (K.faults out.old) (K.faults out.new) result }
 {
-    one_text();
+    one_reading();
     loop {
         match reader.next() {
             Ok(Next::Command { expr, line }) => {

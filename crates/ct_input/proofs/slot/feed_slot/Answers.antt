@@ -1,22 +1,17 @@
-use Rattle.std.proofs.Common.{rules, arith, ◌≡◌, ◌+◌, ◌<◌, ◌++◌, length, take}
-use Rattle.std.proofs.lemmas.Grind.{common_steps}
-use Rattle.ct_input.specs.Slot.{most_bytes}
-use Rattle.ct_input.proofs.SlotLemmas.{some_longer, fed_head, taken_head}
+use Rattle.std.proofs.Common.{refl}
+use Rattle.ct_input.specs.Slot.{FeedsHead}
+use Rattle.ct_input.proofs.SlotLemmas.{fed_nothing, too_long_some, head_taken}
 use Rattle.ct_input.proofs.slot.feed_slot.Goals as goal
 
-pub returns-then-fitting-count-clause-fed : goal.returns-then-fitting-count-clause-fed
-returns-then-fitting-count-clause-fed g c =
-    let full : length c.feed.new.self.bytes ≡ most_bytes = first_of (search rules, grind (arith, common_steps)) in
-    some_longer c.feed.new.self full
+pub loop-count-init : goal.loop-count-init
+loop-count-init g c = record { so_far = fed_nothing _ _ c.requires.new; names = λ n. refl; same = refl }
 
-pub returns-then-fitting-count-clause-left : goal.returns-then-fitting-count-clause-left
-returns-then-fitting-count-clause-left g c =
-    let few : c.min-fitting.result < c.in_ok-count.count = first_of (search rules, grind (arith, common_steps)) in
-    let full : length c.loop-count.reader.bytes + c.min-fitting.result ≡ most_bytes = first_of (search rules, grind (arith, common_steps)) in
-    let fed : c.feed.new.self.bytes ≡ c.loop-count.reader.bytes ++ take c.min-fitting.result c.read_piece.new.buffer = first_of (search rules, grind (arith, common_steps)) in
-    fed_head _ _ c.loop-count.reader.bytes c.feed.new.self _ c.read_piece.new.buffer c.in_ok-count.count c.min-fitting.result c.loop-count.invariant.left c.in_ok-count.ensures.bytes few full fed
+pub returns-in-Beyond-clause-fed : goal.returns-in-Beyond-clause-fed
+returns-in-Beyond-clause-fed g c =
+    let f : FeedsHead c.loop-count.reader c.feed_once.new.reader (g.D.Desk.left c.loop-count.desk c.args.slot) (g.D.Desk.left c.feed_once.new.desk c.args.slot) = rw c.in-Beyond.is at c.in_ok-count.ensures.feeds in
+    too_long_some _ _ _ _ _ _ c.loop-count.invariant.so_far f
 
-pub returns-then-fitting-count-clause-taken : goal.returns-then-fitting-count-clause-taken
-returns-then-fitting-count-clause-taken g c =
-    let full : c.loop-count.total + c.in_ok-count.count ≡ most_bytes + 1 = first_of (search rules, grind (arith, common_steps)) in
-    taken_head _ _ _ c.loop-count.total c.in_ok-count.count full c.loop-count.invariant.taken c.in_ok-count.ensures.taken
+pub returns-in-Beyond-clause-taken : goal.returns-in-Beyond-clause-taken
+returns-in-Beyond-clause-taken g c =
+    let f : FeedsHead c.loop-count.reader c.feed_once.new.reader (g.D.Desk.left c.loop-count.desk c.args.slot) (g.D.Desk.left c.feed_once.new.desk c.args.slot) = rw c.in-Beyond.is at c.in_ok-count.ensures.feeds in
+    head_taken _ _ _ _ _ _ c.loop-count.invariant.so_far f
