@@ -12,7 +12,7 @@ use ct_cases::CaseError;
 use ct_explain::EqProof;
 use ct_log::Close;
 use ct_sorts::Signature;
-use ct_theory::{Conflict, Consulted, TheoryError, consult};
+use ct_theory::{Conflict, Consulted, Theory, TheoryError};
 use std::alloc::Global;
 
 /// Shows what the theory says of the hypotheses.
@@ -26,11 +26,14 @@ pub fn show_consulted(
     requires sorted { AreSorted sig.now prepared.now.table.value }
     requires stripped { All (λ (l : Lit). IsStripped prepared.now.table.value l.term) prepared.now.hyps.items }
 {
-    match consult(alloc, sig, &prepared.sizes, &prepared.table, &prepared.hyps) {
+    let Ok(mut theory) = Theory::new(alloc, sig, &prepared.sizes, &prepared.table) else {
+        return Err(CaseError::NoMemory);
+    };
+    match theory.consult(&prepared.hyps) {
         Ok(Consulted::Conflict(conflict)) => show_line(alloc, sig, prepared, conflict, out),
-        Ok(Consulted::Saturated { classes, order: _ }) => {
+        Ok(Consulted::Saturated(_)) => {
             out.push_str("saturated")?;
-            show_members(alloc, &classes, out)
+            show_members(alloc, theory.classes(), out)
         }
         Err(TheoryError) => Err(CaseError::NoMemory),
     }

@@ -24,8 +24,8 @@ pub fn hypotheses_of(
     Ok(hyps)
 }
 
-/// The literal.
-fn hypothesis(table: &TermTable, part: &Sexpr) -> Result<Lit, CaseError>
+/// The literal, over a Boolean term of the table that is no negation.
+pub fn hypothesis(table: &TermTable, part: &Sexpr) -> Result<Lit, CaseError>
     ensures stripped { IfOk result (λ l. IsStripped table.now l.term) }
 {
     let l = literal_of(part)?;

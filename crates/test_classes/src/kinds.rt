@@ -9,7 +9,9 @@
 //! whether the line is accepted that the `clash` or the `cycle` makes. `consult` asks the theory, and
 //! shows the classes that are `saturated`, or the `clash` or the `cycle`, how many of the hypotheses
 //! its line names, and whether it is accepted. `(why (TERM ..) (LITERAL ..) A B)` explains one
-//! equation, and shows the number of steps.
+//! equation, and shows the number of steps. `(steps (TERM ..) (LITERAL ..) STEP ..)` shows what each step on the closed
+//! classes comes to: `(tell LITERAL)` makes it a hypothesis, `(close)` closes them, `(look)` closes them up to the first
+//! clash, `(mark)` closes and marks them, and `(back N)` goes back to the mark with the number N, from 0 on.
 ghost use Rattle.std.specs.Prelude.{All};
 ghost use Rattle.ct_card.specs.Sizes.{AreSizes};
 ghost use Rattle.ct_terms.specs.declared.ids.Lit.{Lit};
@@ -26,6 +28,7 @@ use crate::judge::{clause_of, is_accepted};
 use crate::numbers::term_of;
 use crate::prepare::{Prepared, prepare};
 use crate::show::show_classes;
+use crate::steps::show_steps;
 use ct_acyclic::{OrderError, order};
 use ct_cases::CaseError;
 use ct_congr::{Classes, Closed};
@@ -46,7 +49,10 @@ pub fn answer(
 ) -> Result<(), CaseError> {
     match parts {
         [terms, hyps, rest @ ..] => {
-            let prepared = prepare(alloc, sig, terms, hyps)?;
+            let mut prepared = prepare(alloc, sig, terms, hyps)?;
+            if kind == "steps" {
+                return show_steps(alloc, &mut prepared.classes, rest, out);
+            }
             respond(alloc, sig, &prepared, kind, rest, out)
         }
         _ => Err(CaseError::Bad),

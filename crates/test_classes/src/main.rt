@@ -16,6 +16,7 @@ mod kinds;
 mod numbers;
 mod prepare;
 mod show;
+mod steps;
 mod table;
 
 use ct_cases::{CaseError, declare_all, items_of, read_case, split_named};

@@ -86,7 +86,7 @@ fn classes_of(
 }
 
 /// Closes the classes.
-fn close(classes: &mut Classes) -> Result<Closed, CaseError>
+pub fn close(classes: &mut Classes) -> Result<Closed, CaseError>
     ensures answer { IfOk result (IsAnswer classes.new) }
 {
     match classes.close() {

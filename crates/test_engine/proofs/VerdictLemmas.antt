@@ -6,7 +6,7 @@ use Rattle.ct_terms.specs.declared.ids.TermId.{TermId}
 use Rattle.ct_terms.specs.Terms.{Terms, AreSorted, IsBoolean}
 use Rattle.ct_log.specs.Recorded.{Recorded, Derived, AreJudges, IsDerivation}
 use Rattle.ct_engine.specs.declared.verdict.Verdict.{Verdict}
-use Rattle.ct_engine.specs.declared.verdict.Verdict.TheVariants.{Sat, Unsat, Unknown, Stuck}
+use Rattle.ct_engine.specs.declared.verdict.Verdict.TheVariants.{Sat, Unsat, Unknown}
 use Rattle.ct_engine.specs.Verdict.{IsVerdict}
 use Rattle.test_engine.specs.Verdicts.{IsOver}
 
@@ -15,7 +15,6 @@ pub own_declarations : (d : Declarations) (table : Terms) (asserts : List TermId
 own_declarations d table asserts budget (Sat i) h = tt
 own_declarations d table asserts budget (Unsat derived) h = h.declarations
 own_declarations d table asserts budget (Unknown spent) h = h.declarations
-own_declarations d table asserts budget (Stuck terms literals i index) h = tt
 
 module _ (derived : Derived) (d : Declarations) (rec : Recorded) (holds : IsDerivation derived) (own : derived.declarations ≡ d) (same : rec ≡ derived.rec) where
   -- its terms are well sorted over them

@@ -1,7 +1,7 @@
 //! Verdicts. `(solve BUDGET EXPRESSION ..)` asserts formulas, and shows the verdict on them in at most so many decisions: `sat
 //! verified`, once the interpretation is seen to be proper and to make all of them true; `unsat verified`, once the checker has
-//! passed the derivation; `unknown` with the number of variables and the moves; or `stuck` with the index of an assertion.
-//! `(show BUDGET EXPRESSION ..)` shows derivations as a whole.
+//! passed the derivation; or `unknown` with the number of variables and the moves. `(show BUDGET EXPRESSION ..)` shows
+//! derivations as a whole.
 ghost use Rattle.std.specs.Prelude.{◌≡◌, IfOk, IfSome};
 ghost use Rattle.test_engine.specs.Asserted.{IsAsserted};
 ghost use Rattle.test_engine.specs.Verdicts.{IsOver};
@@ -98,10 +98,6 @@ fn show(
             let text = format!(in alloc; " unknown {}", spent.variables)?;
             out.push_str(text.as_str())?;
             show_moves(alloc, spent, out)
-        }
-        Verdict::Stuck { assertion, .. } => {
-            let text = format!(in alloc; " stuck {assertion}")?;
-            Ok(out.push_str(text.as_str())?)
         }
     }
 }

@@ -74,12 +74,11 @@ fn show_report(alloc: Global, report: &Report, out: &mut String) -> Result<(), C
     Ok(())
 }
 
-/// The word of a verdict: `stuck` is one of those that are printed as `unknown`.
+/// The word of a verdict.
 fn word_of(verdict: &Verdict) -> &'static str {
     match verdict {
         Verdict::Sat(_) => "sat",
         Verdict::Unsat(_) => "unsat",
         Verdict::Unknown(_) => "unknown",
-        Verdict::Stuck { .. } => "stuck",
     }
 }

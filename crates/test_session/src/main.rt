@@ -2,10 +2,10 @@
 //! input is a case, and its answer is one line: `(NAME run SCRIPT SETTING ..)` runs the script
 //! under the name `s`, `(NAME words (WORD ..) SCRIPT SETTING ..)` under these arguments, and
 //! shows the status, the verdicts, the errors, and what was written; where a call of the desk
-//! fails, also how often it was called. A setting is
+//! fails, or `(counts-calls)` asks for it, also how often it was called. A setting is
 //! `(desk-fails CALL)`, `(sink-fails CALL)`, `(piece COUNT)`, for the most bytes that a call
-//! takes, or `(proof SCRIPT)`, for a derivation under the name `p`. A line that is no case is
-//! answered `BAD`.
+//! takes, `(counts-calls)`, or `(proof SCRIPT)`, for a derivation under the name `p`. A line that
+//! is no case is answered `BAD`.
 #![tactic(auto)]
 
 mod answer;

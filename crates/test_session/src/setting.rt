@@ -5,19 +5,21 @@ use ct_io::{DeskInMemory, SinkInMemory, Text};
 use ct_sexpr::Sexpr;
 use std::alloc::Global;
 
-/// The numbers of the calls that fail, if any, the most bytes that a call takes, and the derivation, if there is one.
+/// The numbers of the calls that fail, if any, the most bytes that a call takes, whether the calls of the desk are counted although
+/// none of them fails, and the derivation, if there is one.
 #[derive(Clone, Copy)]
 pub struct Setting<'a> {
     desk_fails: Option<u64>,
     sink_fails: Option<u64>,
     piece: usize,
+    counts: bool,
     proof: Option<&'a Sexpr>,
 }
 
 impl Setting<'_> {
-    /// Whether the number of calls of the desk is shown: where one of them fails.
+    /// Whether the number of calls of the desk is shown: where one of them fails, or where it is asked for.
     pub fn counts_calls(self) -> bool {
-        self.desk_fails.is_some()
+        self.counts || self.desk_fails.is_some()
     }
 }
 
@@ -27,6 +29,7 @@ pub fn setting_of(parts: &[Sexpr]) -> Result<Setting<'_>, CaseError> {
         desk_fails: None,
         sink_fails: None,
         piece: 1 << 30,
+        counts: false,
         proof: None,
     };
     for part in parts {
@@ -48,6 +51,10 @@ fn with_part<'a>(setting: Setting<'a>, part: &'a Sexpr) -> Result<Setting<'a>, C
         }),
         ("piece", [count]) => Ok(Setting {
             piece: number_of(count)? as usize,
+            ..setting
+        }),
+        ("counts-calls", []) => Ok(Setting {
+            counts: true,
             ..setting
         }),
         ("proof", [proof]) => Ok(Setting {
