@@ -22,6 +22,16 @@ def named(letter, count):
     return [f"{letter}{i}" for i in range(count)]
 
 
+def applications(count):
+    """The text of assertions of so many terms with `true` and `false`: constants of a sort without constructors, and predicates of them."""
+    constants, rest = divmod(count - 2, 8)
+    names, predicates = [f"c{n}" for n in range(constants)], [f"p{n}" for n in range(7 + rest)]
+    text = "(declare-sort U 0)\n" + "".join(f"(declare-fun {p} (U) Bool)\n" for p in predicates)
+    text += "".join(f"(declare-const {c} U)\n" for c in names)
+    asserts = [f"(assert ({p} {c}))\n" for c in names for p in predicates[:7]]
+    return text + "".join(asserts + [f"(assert ({p} {names[0]}))\n" for p in predicates[7:]])
+
+
 def clause_chain(n):
     """(or p0 p1), (or p1 p2) .."""
     p = named("p", n)

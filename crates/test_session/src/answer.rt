@@ -1,10 +1,10 @@
-//! A run, and what is shown of it.
+//! The kinds of cases.
+use crate::every::{Cut, show_every};
+use crate::outcome::show_outcome;
 use crate::script::script_of;
-use crate::setting::{Setting, desk_of, setting_of, sink_of};
-use ct_cases::{CaseError, items_of, show_bytes, string_of};
-use ct_engine::Verdict;
+use crate::setting::{Setting, setting_of};
+use ct_cases::{CaseError, items_of, string_of};
 use ct_io::Text;
-use ct_run::{Report, run};
 use ct_sexpr::Sexpr;
 use std::alloc::Global;
 
@@ -17,18 +17,64 @@ pub fn answer(
 ) -> Result<(), CaseError> {
     match (kind, parts) {
         ("run", [script, settings @ ..]) => {
-            let mut words = Vec::new(alloc);
-            words.push(Text::new(String::from_str(alloc, "s")?))?;
             let script = script_of(alloc, script)?;
-            show_run(alloc, &words, script, setting_of(settings)?, out)
+            let words = file_alone(alloc)?;
+            let _status = show_outcome(alloc, &words, script, setting_of(settings)?, out)?;
+            Ok(())
         }
         ("words", [words, script, settings @ ..]) => {
             let words = texts_of(alloc, items_of(words)?)?;
             let script = script_of(alloc, script)?;
-            show_run(alloc, &words, script, setting_of(settings)?, out)
+            let _status = show_outcome(alloc, &words, script, setting_of(settings)?, out)?;
+            Ok(())
+        }
+        ("every-call", [script, settings @ ..]) => {
+            answer_every(alloc, Cut::Call, script, settings, out)
+        }
+        ("every-write", [script, settings @ ..]) => {
+            answer_every(alloc, Cut::Write, script, settings, out)
+        }
+        ("every-prefix", [script, settings @ ..]) => {
+            answer_every(alloc, Cut::Script, script, settings, out)
+        }
+        ("every-prefix-of-the-proof", [script, settings @ ..]) => {
+            answer_every(alloc, Cut::Proof, script, settings, out)
         }
         _ => Err(CaseError::Bad),
     }
+}
+
+/// Answers a case of a run that is cut short at every place: of an audit where the setting has a derivation.
+fn answer_every(
+    alloc: Global,
+    cut: Cut,
+    script: &Sexpr,
+    settings: &[Sexpr],
+    out: &mut String,
+) -> Result<(), CaseError> {
+    let script = script_of(alloc, script)?;
+    let setting = setting_of(settings)?;
+    let words = words_of(alloc, setting)?;
+    show_every(alloc, cut, &words, script.as_slice(), setting, out)
+}
+
+/// The arguments for a run of the setting.
+fn words_of(alloc: Global, setting: Setting<'_>) -> Result<Vec<Text>, CaseError> {
+    if !setting.has_proof() {
+        return file_alone(alloc);
+    }
+    let mut words = Vec::new(alloc);
+    for word in ["--audit", "p", "s"] {
+        words.push(Text::new(String::from_str(alloc, word)?))?;
+    }
+    Ok(words)
+}
+
+/// The name of the script as the only argument.
+fn file_alone(alloc: Global) -> Result<Vec<Text>, CaseError> {
+    let mut words = Vec::new(alloc);
+    words.push(Text::new(String::from_str(alloc, "s")?))?;
+    Ok(words)
 }
 
 /// The texts of these parts.
@@ -38,47 +84,4 @@ fn texts_of(alloc: Global, parts: &[Sexpr]) -> Result<Vec<Text>, CaseError> {
         texts.push(Text::new(string_of(alloc, part)?))?;
     }
     Ok(texts)
-}
-
-/// Runs the script, and shows what comes of it.
-fn show_run(
-    alloc: Global,
-    words: &[Text],
-    script: Vec<u8>,
-    setting: Setting<'_>,
-    out: &mut String,
-) -> Result<(), CaseError> {
-    let mut desk = desk_of(alloc, script, setting)?;
-    let mut sink = sink_of(alloc, setting)?;
-    let report = Box::new(alloc, run(alloc, words, &mut desk, &mut sink))?;
-    show_report(alloc, &report, out)?;
-    out.push_str(" |")?;
-    show_bytes(alloc, sink.bytes(), out)?;
-    out.push('|')?;
-    if setting.counts_calls() {
-        out.push_str(format!(in alloc; " {}", desk.calls())?.as_str())?;
-    }
-    Ok(())
-}
-
-/// Shows the status, the verdicts, and the errors, each with its line and its number.
-fn show_report(alloc: Global, report: &Report, out: &mut String) -> Result<(), CaseError> {
-    out.push_str(format!(in alloc; " {:?}", report.status)?.as_str())?;
-    for verdict in &report.verdicts {
-        out.push(' ')?;
-        out.push_str(word_of(verdict))?;
-    }
-    for (line, code) in &report.errors {
-        out.push_str(format!(in alloc; " line-{line}-E{code}")?.as_str())?;
-    }
-    Ok(())
-}
-
-/// The word of a verdict.
-fn word_of(verdict: &Verdict) -> &'static str {
-    match verdict {
-        Verdict::Sat(_) => "sat",
-        Verdict::Unsat(_) => "unsat",
-        Verdict::Unknown(_) => "unknown",
-    }
 }

@@ -1,14 +1,18 @@
 //! Tests of whole runs of the solver, over a desk and a sink in memory. Each line of standard
-//! input is a case, and its answer is one line: `(NAME run SCRIPT SETTING ..)` runs the script
+//! input is a case: `(NAME run SCRIPT SETTING ..)` runs the script
 //! under the name `s`, `(NAME words (WORD ..) SCRIPT SETTING ..)` under these arguments, and
-//! shows the status, the verdicts, the errors, and what was written; where a call of the desk
-//! fails, or `(counts-calls)` asks for it, also how often it was called. A setting is
-//! `(desk-fails CALL)`, `(sink-fails CALL)`, `(piece COUNT)`, for the most bytes that a call
+//! shows on one line the status, the verdicts, the errors, and what was written; where a call of the desk
+//! fails, or `(counts-calls)` asks for it, also how often it was called. `every-call`, `every-write`,
+//! `every-prefix` and `every-prefix-of-the-proof` in place of `run` run the script, or the audit where there
+//! is a derivation, cut short at every such place, with a line for each stretch of places with one outcome.
+//! A setting is `(desk-fails CALL)`, `(sink-fails CALL)`, `(piece COUNT)`, for the most bytes that a call
 //! takes, `(counts-calls)`, or `(proof SCRIPT)`, for a derivation under the name `p`. A line that
 //! is no case is answered `BAD`.
 #![tactic(auto)]
 
 mod answer;
+mod every;
+mod outcome;
 mod script;
 mod setting;
 

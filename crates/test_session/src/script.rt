@@ -1,6 +1,7 @@
 //! Scripts: bytes of a case, `(lists PART)` for the bytes of a part after declarations of lists, of
 //! streams and of a few constants, `(declares 3)` for declarations of the constants `c0`, `c1` and
-//! `c2`, one a line, and a check on the last line, or `(defines 3 2)` for the definitions `e1`, `e2`
+//! `c2`, one a line, and a check on the last line, `(sorts 3)` for declarations of the sorts `S0`, `S1` and `S2`, one a line, or
+//! `(defines 3 2)` for the definitions `e1`, `e2`
 //! and `e3`, each of which negates the one before it twice, and for an assertion of the last of two constants.
 use ct_cases::{CaseError, bytes_of, items_of, size_of, split_named};
 use ct_sexpr::Sexpr;
@@ -25,6 +26,7 @@ pub fn script_of(alloc: Global, part: &Sexpr) -> Result<Vec<u8>, CaseError> {
     }
     match split_named(items_of(part)?)? {
         ("declares", [count]) => declarations(alloc, size_of(count)?),
+        ("sorts", [count]) => sorts(alloc, size_of(count)?),
         ("defines", [count, depth]) => definitions(alloc, size_of(count)?, size_of(depth)?),
         ("lists", [rest]) => after_lists(alloc, rest),
         _ => bytes_of(alloc, part),
@@ -47,6 +49,16 @@ fn declarations(alloc: Global, count: u32) -> Result<Vec<u8>, CaseError> {
         script.extend_from_slice(line.as_bytes())?;
     }
     script.extend_from_slice(b"(check-sat)\n")?;
+    Ok(script)
+}
+
+/// A script that declares so many sorts.
+fn sorts(alloc: Global, count: u32) -> Result<Vec<u8>, CaseError> {
+    let mut script = Vec::new(alloc);
+    for number in 0..count {
+        let line = format!(in alloc; "(declare-sort S{number} 0)\n")?;
+        script.extend_from_slice(line.as_bytes())?;
+    }
     Ok(script)
 }
 

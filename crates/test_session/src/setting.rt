@@ -1,4 +1,4 @@
-//! Which calls fail in a run, how many bytes a call takes at most, and the derivation that is audited.
+//! Which calls fail in a run, how many bytes a call takes at most, and the derivation that is audited, with where it ends.
 use crate::script::script_of;
 use ct_cases::{CaseError, number_of, split_word};
 use ct_io::{DeskInMemory, SinkInMemory, Text};
@@ -14,12 +14,44 @@ pub struct Setting<'a> {
     piece: usize,
     counts: bool,
     proof: Option<&'a Sexpr>,
+    proof_ends: usize,
 }
 
 impl Setting<'_> {
     /// Whether the number of calls of the desk is shown: where one of them fails, or where it is asked for.
     pub fn counts_calls(self) -> bool {
-        self.counts || self.desk_fails.is_some()
+        self.counts
+    }
+
+    /// Whether there is a derivation.
+    pub fn has_proof(self) -> bool {
+        self.proof.is_some()
+    }
+}
+
+impl<'a> Setting<'a> {
+    /// The same, but this call of the desk fails.
+    pub fn with_desk_failing(self, call: u64) -> Setting<'a> {
+        Setting {
+            desk_fails: Some(call),
+            ..self
+        }
+    }
+
+    /// The same, but this write of the sink fails.
+    pub fn with_sink_failing(self, call: u64) -> Setting<'a> {
+        Setting {
+            sink_fails: Some(call),
+            ..self
+        }
+    }
+
+    /// The same, but the derivation ends after so many bytes.
+    pub fn with_proof_ending(self, bytes: usize) -> Setting<'a> {
+        Setting {
+            proof_ends: bytes,
+            ..self
+        }
     }
 }
 
@@ -31,6 +63,7 @@ pub fn setting_of(parts: &[Sexpr]) -> Result<Setting<'_>, CaseError> {
         piece: 1 << 30,
         counts: false,
         proof: None,
+        proof_ends: usize::MAX,
     };
     for part in parts {
         setting = with_part(setting, part)?;
@@ -43,6 +76,7 @@ fn with_part<'a>(setting: Setting<'a>, part: &'a Sexpr) -> Result<Setting<'a>, C
     match split_word(part)? {
         ("desk-fails", [call]) => Ok(Setting {
             desk_fails: Some(number_of(call)?),
+            counts: true,
             ..setting
         }),
         ("sink-fails", [call]) => Ok(Setting {
@@ -73,12 +107,21 @@ pub fn desk_of(
 ) -> Result<DeskInMemory, CaseError> {
     let mut files = Vec::new(alloc);
     files.push((Text::new(String::from_str(alloc, "s")?), script))?;
-    if let Some(proof) = setting.proof {
-        let proof = script_of(alloc, proof)?;
+    if setting.has_proof() {
+        let mut proof = proof_of(alloc, setting)?;
+        proof.truncate(setting.proof_ends);
         files.push((Text::new(String::from_str(alloc, "p")?), proof))?;
     }
     let fails = numbers(alloc, setting.desk_fails)?;
     Ok(DeskInMemory::new(files, fails, setting.piece.max(1)))
+}
+
+/// The derivation; nothing where there is none.
+pub fn proof_of(alloc: Global, setting: Setting<'_>) -> Result<Vec<u8>, CaseError> {
+    match setting.proof {
+        Some(proof) => script_of(alloc, proof),
+        None => Ok(Vec::new(alloc)),
+    }
 }
 
 /// A sink that has taken nothing.

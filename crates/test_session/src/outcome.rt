@@ -1,0 +1,51 @@
+//! What is shown of a run.
+use crate::setting::{Setting, desk_of, sink_of};
+use ct_cases::{CaseError, show_bytes};
+use ct_engine::Verdict;
+use ct_io::{Status, Text};
+use ct_run::{Report, run};
+use std::alloc::Global;
+
+/// Runs the script, and shows what comes of it: the status, the verdicts, the errors, what was written, and, where the setting
+/// asks for it, how often the desk was called. Gives the status.
+pub fn show_outcome(
+    alloc: Global,
+    words: &[Text],
+    script: Vec<u8>,
+    setting: Setting<'_>,
+    out: &mut String,
+) -> Result<Status, CaseError> {
+    let mut desk = desk_of(alloc, script, setting)?;
+    let mut sink = sink_of(alloc, setting)?;
+    let report = Box::new(alloc, run(alloc, words, &mut desk, &mut sink))?;
+    show_report(alloc, &report, out)?;
+    out.push_str(" |")?;
+    show_bytes(alloc, sink.bytes(), out)?;
+    out.push('|')?;
+    if setting.counts_calls() {
+        out.push_str(format!(in alloc; " {}", desk.calls())?.as_str())?;
+    }
+    Ok(report.status)
+}
+
+/// Shows the status, the verdicts, and the errors, each with its line and its number.
+fn show_report(alloc: Global, report: &Report, out: &mut String) -> Result<(), CaseError> {
+    out.push_str(format!(in alloc; " {:?}", report.status)?.as_str())?;
+    for verdict in &report.verdicts {
+        out.push(' ')?;
+        out.push_str(word_of(verdict))?;
+    }
+    for (line, code) in &report.errors {
+        out.push_str(format!(in alloc; " line-{line}-E{code}")?.as_str())?;
+    }
+    Ok(())
+}
+
+/// The word of a verdict.
+fn word_of(verdict: &Verdict) -> &'static str {
+    match verdict {
+        Verdict::Sat(_) => "sat",
+        Verdict::Unsat(_) => "unsat",
+        Verdict::Unknown(_) => "unknown",
+    }
+}
