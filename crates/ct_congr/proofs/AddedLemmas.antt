@@ -33,7 +33,7 @@ use Rattle.ct_congr.proofs.AddingLemmas.{IsJoined-grouping, cons_united, moves_a
 pub IsSound-united : (d : Declarations) (terms : Terms) (hyps : List Lit) (given : List Equation) (old new : Groupings) (merges later : List Merge) (m : Merge) (answer : Option Union) → IsUnited old.now new.now m.left m.right answer → AreGroupingsOf terms new → later ≡ merges ++ m ∷ [] → IsJustified d terms hyps (InOneClass old.now.reps) m → Derives d terms hyps given m.left m.right → IsSound d terms hyps given old.now.reps old.now.cons merges → IsSound d terms hyps given new.now.reps new.now.cons later
 IsSound-united d terms hyps given old new merges later m answer united of is why derives sound =
     subst (IsSound d terms hyps given new.now.reps new.now.cons) (sym is)
-    (IsSound-more d terms hyps given old.now.reps new.now.reps old.now.cons new.now.cons merges m sound (IsJoined-grouping old.now new.now m.left m.right answer united) why derives (cons_united old.now new.now m.left m.right answer united) of.0.cons)
+    (IsSound-more d terms hyps given old.now.reps new.now.reps old.now.cons new.now.cons merges m sound (IsJoined-grouping old.now new.now m.left m.right answer united) why derives (cons_united old.now new.now m.left m.right answer united) of.now.cons)
 
 module _ (d : Declarations) (terms : Terms) (old new : Grouping) (m : Merge) (before after : List Merge) (joined : IsJoined old.reps new.reps m.left m.right) (still : (n : Merge) → Contains before n → Contains after n) where
   moves : (x y : TermId) → AreJoined old.reps (m ∷ before) x y → AreJoined new.reps after x y

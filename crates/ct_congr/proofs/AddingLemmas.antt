@@ -24,16 +24,16 @@ use Rattle.ct_congr.proofs.MetLemmas.{more_trans}
 -- ---- classes of the terms of a table
 
 pub IsGrouped-now : (terms : Terms) (parts : Groupings) → AreGroupings parts → AreGroupingsOf terms parts → IsGrouped terms parts.now.reps parts.now.cons
-IsGrouped-now terms parts whole of = record { long = of.0.long; cons_long = whole.0.cons_long; own = whole.0.own; stored = of.0.cons }
+IsGrouped-now terms parts whole of = record { long = of.now.long; cons_long = whole.0.cons_long; own = whole.0.own; stored = of.now.cons }
 
 pub IsGrouped-past : (terms : Terms) (parts : Groupings) (was : Grouping) (earlier : List Grouping) → parts.past ≡ was ∷ earlier → AreGroupings parts → AreGroupingsOf terms parts → IsGrouped terms was.reps was.cons
 IsGrouped-past terms parts was earlier is whole of =
     let w = subst (AllByRecursion IsGrouping) is whole.1 in
-    let o = subst (AllByRecursion (IsGroupingOf terms)) is of.1 in
+    let o = subst (AllByRecursion (IsGroupingOf terms)) is of.past in
     record { long = o.0.long; cons_long = w.0.cons_long; own = w.0.own; stored = o.0.cons }
 
 pub IsGroupingOf-past : (terms : Terms) (parts : Groupings) (was : Grouping) (earlier : List Grouping) → parts.past ≡ was ∷ earlier → AreGroupingsOf terms parts → IsGroupingOf terms was
-IsGroupingOf-past terms parts was earlier is of = (subst (AllByRecursion (IsGroupingOf terms)) is of.1).0
+IsGroupingOf-past terms parts was earlier is of = (subst (AllByRecursion (IsGroupingOf terms)) is of.past).0
 
 -- the class of the loser was taken
 pub IsTaken-join : (was now : Grouping) (winner loser : TermId) → IsJoin was now winner loser → IsTaken was now loser

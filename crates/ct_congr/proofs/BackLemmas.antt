@@ -15,7 +15,7 @@ use Rattle.ct_equivalence.specs.Over.{AreGroupingsOf}
 use Rattle.ct_congr.specs.declared.merge.Merge.{Merge}
 use Rattle.ct_congr.specs.declared.merge.ClassMark.{ClassMark}
 use Rattle.ct_congr.specs.declared.level.Level.{Level}
-use Rattle.ct_congr.specs.State.{Marked, State, state_at, IsFirstMark, IsQuiet}
+use Rattle.ct_congr.specs.State.{Marked, State, state_at, marked_now, IsFirstMark, IsFirstPart, IsQuiet}
 use Rattle.ct_congr.specs.Held.{AreHeld}
 use Rattle.ct_congr.specs.Joined.{AreJoined}
 use Rattle.ct_congr.specs.Covered.{Keys, AreKeys, IsCovered}
@@ -85,6 +85,18 @@ module _ (d : Declarations) (terms : Terms) (single : List Bool) (hyps : List Li
       let is : record { hypotheses = was.hypotheses; given = was.given; merges = was.merges; reps = g.reps; cons = g.cons } ≡ at = sym (marked-is hyps given merges parts level g mark.stands) ∙ h.2 in
       rw (declarations_are, terms_are) (subst (λ (m : Marked). IsQuiet (state_at was m marks)) is quiet)
 
+  -- what stood at each mark is the first part of what stands
+  pub first-part-at : (k : ℕ) (at : Marked) → slice_get (marks_of hyps given merges parts levels) k ≡ Some at → (now : State) → now.hypotheses ≡ hyps → now.given ≡ given → now.merges ≡ merges → IsFirstPart now at
+  unfolding marked_at
+  first-part-at k at stands now hyps_are given_are merges_are =
+      let h = level-of k at stands in
+      let mark = marked.each k h.0 h.1 in
+      subst (IsFirstPart now) h.2 (record {
+        hypotheses = rw hyps_are (sym (ap (λ n. take n hyps) (length-take-le h.0.hypotheses hyps mark.few_hypotheses)));
+        given = rw given_are (sym (ap (λ n. take n given) (length-take-le h.0.given given mark.few_given)));
+        merges = rw merges_are (sym (ap (λ n. take n merges) (length-take-le h.0.merges merges mark.few_merges)));
+      })
+
   -- ---- going back
 
   module _ (hyps_left : List Lit) (given_left : List Equation) (merges_left : List Merge) (keys_left : Keys) (parts_left : Groupings) (levels_left : List Level) (k : ℕ) (level : Level) (back : IsBack hyps hyps_left given given_left merges merges_left keys keys_left parts parts_left levels levels_left k level) where
@@ -108,6 +120,18 @@ module _ (d : Declarations) (terms : Terms) (single : List Bool) (hyps : List Li
 
     pub AreHeld-back : AreHeld d terms single hyps_left given_left parts_left.now.reps parts_left.now.cons merges_left
     AreHeld-back = rw (back.hypotheses_are, back.given_are, back.merges_are) (subst (λ (g : Grouping). AreHeld d terms single (take level.hypotheses hyps) (take level.given given) g.reps g.cons (take level.merges merges)) now-is level_mark.held)
+
+    -- what is left is the first part of what stood
+    pub first-part-back : (was now : State) → was.hypotheses ≡ hyps → was.given ≡ given → was.merges ≡ merges → now.hypotheses ≡ hyps_left → now.given ≡ given_left → now.merges ≡ merges_left → IsFirstPart was (marked_now now)
+    first-part-back was now hyps_are given_are merges_are hyps_left_are given_left_are merges_left_are = record {
+      hypotheses = rw (hyps_are, hyps_left_are, back.hypotheses_are) (sym (ap (λ n. take n hyps) (length-take-le level.hypotheses hyps level_mark.few_hypotheses)));
+      given = rw (given_are, given_left_are, back.given_are) (sym (ap (λ n. take n given) (length-take-le level.given given level_mark.few_given)));
+      merges = rw (merges_are, merges_left_are, back.merges_are) (sym (ap (λ n. take n merges) (length-take-le level.merges merges level_mark.few_merges)));
+    }
+
+    -- so many merges are left
+    pub many-back : length merges_left ≡ level.merges
+    many-back = ap length back.merges_are ∙ length-take-le level.merges merges level_mark.few_merges
 
     pub AreQuiet-back : AreQuiet d terms parts_left.now.reps
     AreQuiet-back = subst (λ (g : Grouping). AreQuiet d terms g.reps) now-is level_mark.quiet

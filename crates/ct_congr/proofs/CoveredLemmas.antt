@@ -1,5 +1,6 @@
 -- Where the rules are covered and nothing waits, the classes are closed under all rules and none has two constructors.
-use Rattle.std.proofs.Common.{◌≡◌, ℕ, ◌<◌, Bool, true, false, List, [], length, Option, slice_get, get_or, Some, None, refl, sym, ap, subst, ◌∙◌, inl, inr, arith}
+use Rattle.std.proofs.Common.{◌≡◌, ℕ, suc, ◌<◌, Bool, true, false, List, [], ◌∷◌, length, Option, slice_get, get_or, Some, None, refl, sym, ap, subst, ◌∙◌, inl, inr, arith}
+use Rattle.std.specs.List.{AllZip}
 use Rattle.std.proofs.lemmas.List.{nil_from_length}
 use Rattle.std.proofs.lemmas.Option.{same_Some, slice_get_within, slice_get-get_or}
 use Rattle.ct_sorts.specs.declared.ids.CtorId.{CtorId}
@@ -7,16 +8,17 @@ use Rattle.ct_sorts.specs.Declarations.{Declarations, bool_sort}
 use Rattle.ct_terms.specs.declared.ids.TermId.{TermId}
 use Rattle.ct_terms.specs.declared.term.Core.{Core}
 use Rattle.ct_terms.specs.declared.term.Core.TheVariants.{Con}
+use Rattle.ct_terms.specs.Children.{core_children}
 use Rattle.ct_terms.specs.Terms.{Terms, Has, AreSorted, AreSingle, BeginsWithTruths}
 use Rattle.ct_rules.specs.Rules.{Equations, IsCongruence, IsInjection, IsSelection, IsTesting, IsExpansion, IsEquationOut, IsNegation, truth_term}
 use Rattle.ct_congr.specs.Partition.{InOneClass}
 use Rattle.ct_congr.specs.Rules.{AreRulesClosed}
 use Rattle.ct_congr.specs.State.{IsConstructorTerm, IsClashOf}
 use Rattle.ct_congr.specs.Sound.{IsConOf, AreCons}
-use Rattle.ct_congr.specs.Covered.{HasCon, IsCoveredAt, Keys, IsMet, IsCovered, AreDifferentKeys}
+use Rattle.ct_congr.specs.Covered.{HasCon, IsCoveredAt, Keys, IsMatched, IsMet, IsCovered, AreDifferentKeys}
 use Rattle.ct_lemmas.proofs.Contained.{slice_get-from_Contains}
 use Rattle.ct_lemmas.proofs.Lists.{slice_get-one_length}
-use Rattle.ct_congr.proofs.ClassLemmas.{InOneClass-sym, InOneClass-trans}
+use Rattle.ct_congr.proofs.ClassLemmas.{InOneClass-refl, InOneClass-sym, InOneClass-trans}
 use Rattle.ct_congr.proofs.TermLemmas.{Has-constructor, Has-inside, one_arity}
 use Rattle.ct_congr.proofs.NormalLemmas.{normal_from_congruent}
 use Rattle.ct_congr.proofs.OneSortLemmas.{slice_get-of_take}
@@ -34,13 +36,14 @@ module _ (d : Declarations) (terms : Terms) (known cons joined wider : Equations
   }
 
 pub IsMet-wider : (terms : Terms) (reps : List TermId) (keys : Keys) (joined wider : Equations) → ((x y : TermId) → joined x y → wider x y) → (t : TermId) (core : Core) → IsMet terms reps keys joined t core → IsMet terms reps keys wider t core
-IsMet-wider terms reps keys joined wider each t core met = record {
+IsMet-wider terms reps keys joined wider each t core (inl lone) = inl lone
+IsMet-wider terms reps keys joined wider each t core (inr met) = inr (record {
   key = met.key;
   first = met.first;
   normal = met.normal;
   keyed = met.keyed;
   equal = each t met.first met.equal;
-}
+})
 
 pub IsCovered-wider : (d : Declarations) (terms : Terms) (reps : List TermId) (cons : List (Option TermId)) (keys : Keys) (joined wider : Equations) → ((x y : TermId) → joined x y → wider x y) → IsCovered d terms reps cons keys joined → IsCovered d terms reps cons keys wider
 IsCovered-wider d terms reps cons keys joined wider each covered = record {
@@ -212,10 +215,9 @@ module _ (d : Declarations) (terms : Terms) (reps : List TermId) (cons : List (O
     ];
   })
 
-  congruent : (x y : TermId) → IsCongruence terms (InOneClass reps) x y → InOneClass reps x y
-  congruent x y rule =
-      let p = covered.congruence x rule.left rule.left_stands in
-      let q = covered.congruence y rule.right rule.right_stands in
+  -- two terms that were met
+  matched : (x y : TermId) (rule : IsCongruence terms (InOneClass reps) x y) → IsMatched terms reps keys (InOneClass reps) x rule.left → IsMatched terms reps keys (InOneClass reps) y rule.right → InOneClass reps x y
+  matched x y rule p q =
       let one : p.key ≡ q.key = normal_from_congruent reps rule.left rule.right p.key q.key p.normal q.normal rule.head rule.arguments in
       let left = slice_get-from_Contains keys (p.key, p.first) p.keyed in
       let right = slice_get-from_Contains keys (q.key, q.first) q.keyed in
@@ -223,6 +225,25 @@ module _ (d : Declarations) (terms : Terms) (reps : List TermId) (cons : List (O
       let place : left.0 ≡ right.0 = different left.0 right.0 q.key p.first q.first there right.1 in
       let first : p.first ≡ q.first = ap (λ e. e.1) (same_Some (q.key, p.first) (q.key, q.first) (sym there ∙ ap (slice_get keys) place ∙ right.1)) in
       InOneClass-trans reps x p.first y p.equal (subst (λ (t : TermId). InOneClass reps t y) (sym first) (InOneClass-sym reps y q.first q.equal))
+
+  -- as many arguments on both sides
+  same_many : (xs ys : List TermId) → AllZip (InOneClass reps) xs ys → length xs ≡ length ys
+  same_many [] [] h = refl
+  same_many [] (y ∷ ys) h = absurd h
+  same_many (x ∷ xs) [] h = absurd h
+  same_many (x ∷ xs) (y ∷ ys) h = ap suc (same_many xs ys h.1)
+
+  itself : (x y : TermId) → x.0 < length terms → x ≡ y → InOneClass reps x y
+  itself x y inside is = subst (InOneClass reps x) is (InOneClass-refl reps x (omega (arith, inside, long)))
+
+  congruent : (x y : TermId) → IsCongruence terms (InOneClass reps) x y → InOneClass reps x y
+  congruent x y rule = elim (covered.congruence x rule.left rule.left_stands) [
+    | inl lone ↦ itself x y (Has-inside terms rule.left x.0 rule.left_stands) (lone y rule.left rule.right rule.left_stands rule.right_stands rule.head (same_many (core_children rule.left) (core_children rule.right) rule.arguments))
+    | inr p ↦ elim (covered.congruence y rule.right rule.right_stands) [
+      | inl lone ↦ itself x y (Has-inside terms rule.left x.0 rule.left_stands) (sym (lone x rule.right rule.left rule.right_stands rule.left_stands (sym rule.head) (sym (same_many (core_children rule.left) (core_children rule.right) rule.arguments))))
+      | inr q ↦ matched x y rule p q
+    ]
+  ]
 
   pub AreRulesClosed-covered : AreRulesClosed d terms (InOneClass reps)
   AreRulesClosed-covered = record {

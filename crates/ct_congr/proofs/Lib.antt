@@ -23,6 +23,7 @@ pub mod CoveredLemmas
 pub mod StepLemmas
 pub mod AtTermLemmas
 pub mod MetLemmas
+pub mod LoneLemmas
 pub mod SpreadLemmas
 pub mod AddingLemmas
 pub mod AddedLemmas

@@ -21,13 +21,14 @@ pub more_trans : (first second third : Keys) → (added : Keys) × (second ≡ f
 more_trans first second third p q = (p.0 ++ q.0, q.1 ∙ subst (λ (list : Keys). list ++ q.0 ≡ first ++ (p.0 ++ q.0)) (sym p.1) (append_assoc first p.0 q.0))
 
 pub IsMet-later : (terms : Terms) (reps : List TermId) (keys more : Keys) (joined wider : Equations) → ((key : Core) (t : TermId) → IsKeyed keys key t → IsKeyed more key t) → ((x y : TermId) → joined x y → wider x y) → (t : TermId) (core : Core) → IsMet terms reps keys joined t core → IsMet terms reps more wider t core
-IsMet-later terms reps keys more joined wider grows each t core met = record {
+IsMet-later terms reps keys more joined wider grows each t core (inl lone) = inl lone
+IsMet-later terms reps keys more joined wider grows each t core (inr met) = inr (record {
   key = met.key;
   first = met.first;
   normal = met.normal;
   keyed = grows met.key met.first met.keyed;
   equal = each t met.first met.equal;
-}
+})
 
 -- the key of a term, for the representatives now
 module _ (terms : Terms) (reps : List TermId) (own : (x r : TermId) → slice_get reps x.0 ≡ Some r → slice_get reps r.0 ≡ Some r) where

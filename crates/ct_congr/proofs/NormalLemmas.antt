@@ -10,7 +10,7 @@ use Rattle.ct_congr.specs.Partition.{InOneClass}
 use Rattle.ct_congr.specs.Normal.{IsRepresented, IsNormal}
 
 -- its head and its arguments determine a term
-same_parts : (a b : Core) → core_head a ≡ core_head b → core_children a ≡ core_children b → a ≡ b
+pub same_parts : (a b : Core) → core_head a ≡ core_head b → core_children a ≡ core_children b → a ≡ b
 same_parts (Con c xs) (Con d ys) head args = cc
 same_parts (Sel c s) (Sel d t) head args = cc
 same_parts (Test c s) (Test d t) head args = cc

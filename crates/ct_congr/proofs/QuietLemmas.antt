@@ -114,4 +114,4 @@ pub IsKept-emptied : (d : Declarations) (terms : Terms) (parts : Groupings) (key
 IsKept-emptied d terms parts keys waiting left fast none quiet kept =
     let reps = parts.now.reps in
     IsKept-fast d terms parts keys left fast kept.groupings kept.keyed (λ is. no_waiting d terms reps left none)
-    (λ is. rw none (IsCovered-wider d terms reps parts.now.cons keys (AreJoined reps waiting) (AreJoined reps []) (AreJoined-quiet d terms reps kept.groupings.0.long quiet waiting (kept.waits is)) (kept.covered is)))
+    (λ is. rw none (IsCovered-wider d terms reps parts.now.cons keys (AreJoined reps waiting) (AreJoined reps []) (AreJoined-quiet d terms reps kept.groupings.now.long quiet waiting (kept.waits is)) (kept.covered is)))

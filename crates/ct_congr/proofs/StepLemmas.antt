@@ -260,18 +260,19 @@ module _ (d : Declarations) (terms : Terms) (old new : Grouping) (winner loser :
     ]
 
     met : (t : TermId) (core : Core) → Has terms core t.0 → IsMet terms new.reps more (AreJoined new.reps after) t core
-    met t core has =
-        let before = covered.congruence t core has in
-        elim (moved_cases (core_children core) (core_children before.key) before.normal.arguments) [
-          | inl moved ↦ spread.met t moved.0 core has moved.1 moved.2
-          | inr same ↦ record {
-            key = before.key;
-            first = before.first;
-            normal = record { head = before.normal.head; arguments = same };
-            keyed = grows before.key before.first before.keyed;
-            equal = moves t before.first before.equal;
-          }
-        ]
+    met t core has = elim (covered.congruence t core has) [
+      | inl lone ↦ inl lone
+      | inr before ↦ elim (moved_cases (core_children core) (core_children before.key) before.normal.arguments) [
+        | inl moved ↦ spread.met t moved.0 core has moved.1 moved.2
+        | inr same ↦ inr (record {
+          key = before.key;
+          first = before.first;
+          normal = record { head = before.normal.head; arguments = same };
+          keyed = grows before.key before.first before.keyed;
+          equal = moves t before.first before.equal;
+        })
+      ]
+    ]
 
     pub IsCovered-spread : IsCovered d terms new.reps new.cons more (AreJoined new.reps after)
     unfolding Joined

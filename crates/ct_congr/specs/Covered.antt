@@ -1,5 +1,5 @@
 -- When the merges that wait cover the rules: what a rule gives is of one class, or will be by merges that wait.
-use Rattle.std.specs.Prelude.{◌≡◌, ℕ, List, length, Option, Some, slice_get, Contains}
+use Rattle.std.specs.Prelude.{◌≡◌, ℕ, ◌⊎◌, List, length, Option, Some, slice_get, Contains}
 use Rattle.std.specs.List.{AllZip}
 use Rattle.ct_sorts.specs.declared.ids.CtorId.{CtorId}
 use Rattle.ct_sorts.specs.Declarations.{Declarations}
@@ -9,6 +9,7 @@ use Rattle.ct_terms.specs.declared.term.Core.TheVariants.{Con}
 use Rattle.ct_terms.specs.Children.{core_head, core_children}
 use Rattle.ct_terms.specs.Terms.{Terms, Has}
 use Rattle.ct_rules.specs.Rules.{Equations, IsInjection, IsSelection, IsTesting, IsExpansion, IsEquationIn, IsEquationOut, IsNegation, IsSingleton}
+use Rattle.ct_equivalence.specs.Over.{IsLone}
 use Rattle.ct_congr.specs.Partition.{InOneClass}
 use Rattle.ct_congr.specs.Normal.{IsNormal}
 use Rattle.ct_congr.specs.Sound.{AreCons}
@@ -57,12 +58,16 @@ abbrev pub AreKeys : Terms → List TermId → Keys → Type 0
 AreKeys terms reps keys = (key : Core) (t : TermId) → IsKeyed keys key t → IsKeyOf terms reps key t
 
 -- the term over representatives was met, and its first term is joined with this one
-pub record IsMet (terms : Terms) (reps : List TermId) (keys : Keys) (joined : Equations) (t : TermId) (core : Core) : Type 0 where
+pub record IsMatched (terms : Terms) (reps : List TermId) (keys : Keys) (joined : Equations) (t : TermId) (core : Core) : Type 0 where
   pub key : Core
   pub first : TermId
   pub normal : IsNormal reps core key
   pub keyed : IsKeyed keys key first
   pub equal : joined t first
+
+-- congruence asks for nothing more at the term: it is congruent to itself alone, or it was met
+abbrev pub IsMet : Terms → List TermId → Keys → Equations → TermId → Core → Type 0
+IsMet terms reps keys joined t core = IsLone terms t ⊎ IsMatched terms reps keys joined t core
 
 -- no two constructors in one class, and what a rule gives is joined
 pub record IsCovered (d : Declarations) (terms : Terms) (reps : List TermId) (cons : List (Option TermId)) (keys : Keys) (joined : Equations) : Type 0 where

@@ -12,6 +12,7 @@ pub mod Grown
 pub mod Held
 pub mod Joined
 pub mod Covered
+pub mod Lone
 pub mod Step
 pub mod History
 pub mod Kept

@@ -1,5 +1,5 @@
 -- What contracts see of congruence classes, and what closing them under the rules comes to.
-use Rattle.std.specs.Prelude.{◌≡◌, ℕ, ◌<◌, ◌≤◌, ◌↔◌, List, ◌++◌, length, Option, Some, slice_get}
+use Rattle.std.specs.Prelude.{◌≡◌, ℕ, ◌<◌, ◌≤◌, ◌↔◌, List, ◌++◌, take, length, Option, Some, slice_get}
 use Rattle.ct_sorts.specs.declared.ids.CtorId.{CtorId}
 use Rattle.ct_sorts.specs.Declarations.{Declarations}
 use Rattle.ct_terms.specs.declared.ids.TermId.{TermId}
@@ -48,6 +48,12 @@ pub record IsFirstMark (marks : List Marked) (merges : ℕ) (k : ℕ) (at : Mark
   pub stands : slice_get marks k ≡ Some at
   pub long : length at.merges ≡ merges
   pub first : (j : ℕ) (other : Marked) → slice_get marks j ≡ Some other → length other.merges ≡ merges → k ≤ j
+
+-- what stood at the mark are the first of the hypotheses, the given equations and the merges that stand
+pub record IsFirstPart (state : State) (at : Marked) : Type 0 where
+  pub hypotheses : at.hypotheses ≡ take (length at.hypotheses) state.hypotheses
+  pub given : at.given ≡ take (length at.given) state.given
+  pub merges : at.merges ≡ take (length at.merges) state.merges
 
 -- the two terms are of one class
 abbrev pub AreEqual : State → TermId → TermId → Type 0

@@ -20,7 +20,7 @@ use crate::spreading::follow;
 use crate::store::{Store, join};
 use ct_equivalence::SignatureTable;
 use ct_sorts::Signature;
-use ct_terms::TermTable;
+use ct_terms::{TermId, TermTable};
 use std::alloc::Global;
 use std::collections::VecDeque;
 
@@ -35,6 +35,8 @@ pub(crate) struct Progress {
     pub(crate) waiting: VecDeque<Merge>,
     /// Whether the merges that wait cover the rules. They do so until two constructors meet or memory runs out.
     pub(crate) covered: bool,
+    /// The clash that was met last.
+    pub(crate) clash: Option<(TermId, TermId)>,
 }
 
 /// Adds the merge, and lets wait what it sets off. The answer is a clash where two terms of different

@@ -12,7 +12,7 @@ ghost use Rattle.ct_rules.specs.Derivation.{IsHypothesis};
 ghost use Rattle.ct_congr.specs.declared.merge.Merge.{Merge};
 ghost use Rattle.ct_congr.specs.Partition.{IsClass};
 ghost use Rattle.ct_congr.specs.Merges.{AreConnected, AreJustified};
-ghost use Rattle.ct_congr.specs.State.{State, Marked, marked_now, state_at, IsFirstMark, AreEqual, Continues, IsConstructorTerm, IsClosed, IsQuiet, IsAnswer};
+ghost use Rattle.ct_congr.specs.State.{State, Marked, marked_now, state_at, IsFirstMark, IsFirstPart, AreEqual, Continues, IsConstructorTerm, IsClosed, IsQuiet, IsAnswer};
 ghost use Rattle.ct_congr.specs.Outside.{IsOutside, hypotheses_with, given_with};
 
 use crate::adding::Progress;
@@ -185,10 +185,11 @@ impl Classes {
         Ok(mark)
     }
 
-    /// The marks that are kept, in the order in which they were set.
+    /// The marks that are kept, in the order in which they were set. What stood at each is the first part of what stands now.
     pub fn marks(&self) -> &[ClassMark]
         ensures value { AllZip (λ (mark : ClassMark) (at : Marked). mark.merges ≡ length at.merges) result.now self.now.marks }
         ensures quiet { (k : ℕ) (at : Marked) → slice_get self.now.marks k ≡ Some at → IsQuiet (state_at self.now at (take k self.now.marks)) }
+        ensures first { (k : ℕ) (at : Marked) → slice_get self.now.marks k ≡ Some at → IsFirstPart self.now at }
     {
         derivations();
         self.levels.marks()
@@ -200,6 +201,11 @@ impl Classes {
         requires kept { (k : ℕ) × (at : Marked) × IsFirstMark self.old.marks mark.now.merges k at }
         ensures back { (k : ℕ) (at : Marked) → IsFirstMark self.old.marks mark.now.merges k at → self.new ≡ state_at self.old at (take (k + 1) self.old.marks) }
         ensures quiet { IsQuiet self.new }
+        ensures first { IsFirstPart self.old (marked_now self.new) }
+        ensures merges { self.new.merges ≡ take mark.now.merges self.old.merges }
+        ensures many { length self.new.merges ≡ mark.now.merges }
+        ensures terms { self.new.terms ≡ self.old.terms }
+        ensures declarations { self.new.declarations ≡ self.old.declarations }
     {
         derivations();
         go_back(

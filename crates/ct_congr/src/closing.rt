@@ -13,6 +13,7 @@ ghost use Rattle.ct_congr.specs.History.{IsFurther};
 ghost use Rattle.ct_congr.specs.Kept.{IsKept};
 
 use crate::adding::Progress;
+use crate::clash::{note, standing};
 use crate::constructors::{Shape, shapes};
 use crate::covered::covering;
 use crate::error::CongrError;
@@ -73,7 +74,7 @@ pub(crate) fn settle_or_clash(
 {
     let fast = progress.covered;
     if !fast {
-        let answer = settle_slowly(alloc, sig, table, single, progress)?;
+        let answer = settle_or_tell(alloc, sig, table, single, progress)?;
         return Ok(answer);
     }
     covering();
@@ -83,6 +84,33 @@ pub(crate) fn settle_or_clash(
     prove!(progress.store.parts.unions() >= 0);
     prove!(progress.keys.len() >= 0);
     progress.covered = is_quiet(answer);
+    note(&mut progress.clash, answer);
+    Ok(answer)
+}
+
+// The same where the rules may not be covered: tells the clash that was met last, where it is one still.
+fn settle_or_tell(
+    alloc: Global,
+    sig: &Signature,
+    table: &TermTable,
+    single: &[bool],
+    progress: &mut Progress,
+) -> Result<Closed, CongrError>
+    requires sorted { AreSorted sig.now table.now }
+    requires single { AreSingleSorts sig.now single.now }
+    requires kept { IsKept sig.now table.now progress.old.store.parts progress.old.keys progress.old.waiting.items progress.old.covered }
+    ensures kept { IsKept sig.now table.now progress.new.store.parts progress.new.keys progress.new.waiting.items progress.new.covered }
+    ensures further { IsFurther table.now progress.old.store.parts progress.new.store.parts progress.old.store.merges.items progress.new.store.merges.items progress.old.keys progress.new.keys }
+    ensures sound { (hyps : List Lit) (given : List Equation)
+        → IsSound sig.now table.now hyps given progress.old.store.parts.now.reps progress.old.store.parts.now.cons progress.old.store.merges.items
+        → IsSound sig.now table.now hyps given progress.new.store.parts.now.reps progress.new.store.parts.now.cons progress.new.store.merges.items }
+    ensures closed { IfOk result (λ answer. answer ≡ Quiet → AreRulesClosed sig.now table.now (InOneClass progress.new.store.parts.now.reps)) }
+    ensures verdict { IfOk result (IsVerdict table.now progress.new.store.parts.now.reps) }
+{
+    if let Some((a, b)) = standing(table, reps(&progress.store), progress.clash) {
+        return Ok(Closed::Clash(a, b));
+    }
+    let answer = settle_slowly(alloc, sig, table, single, progress)?;
     Ok(answer)
 }
 

@@ -25,6 +25,7 @@ ghost use Rattle.ct_congr.specs.History.{IsFurther};
 ghost use Rattle.ct_congr.specs.Kept.{IsKept};
 
 use crate::adding::Progress;
+use crate::clash::note;
 use crate::error::CongrError;
 use crate::merge::{Merge, Reason};
 use crate::rules::truth;
@@ -240,12 +241,13 @@ fn put(
         united,
         &mut progress.keys,
         &mut progress.waiting,
+        &mut progress.clash,
     );
     Ok(())
 }
 
 // Lets wait what the last union asks for, where the rules were covered before it. The answer says whether
-// they are covered now: they are not where two constructors met, or memory ran out.
+// they are covered now: they are not where two constructors met, which is noted, or memory ran out.
 fn pursue(
     alloc: Global,
     sig: &Signature,
@@ -255,6 +257,7 @@ fn pursue(
     united: Option<Union>,
     keys: &mut SignatureTable,
     waiting: &mut VecDeque<Merge>,
+    clash: &mut Option<(TermId, TermId)>,
 ) -> bool
     requires sorted { AreSorted sig.now table.now }
     requires groupings { AreGroupingsOf table.now parts.now }
@@ -273,7 +276,10 @@ fn pursue(
         return false;
     }
     match follow(alloc, sig, table, parts, united, keys, waiting) {
-        Ok(answer) => is_quiet(answer),
+        Ok(answer) => {
+            note(clash, answer);
+            is_quiet(answer)
+        }
         Err(_) => false,
     }
 }

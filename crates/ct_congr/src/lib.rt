@@ -3,6 +3,7 @@
 
 mod adding;
 mod at_term;
+mod clash;
 mod classes;
 mod closing;
 mod congruence;
@@ -12,6 +13,7 @@ mod error;
 mod holding;
 mod index;
 mod level;
+mod lone;
 mod marking;
 mod meeting;
 mod merge;

@@ -4,7 +4,7 @@ ghost use Rattle.ct_sorts.specs.Declarations.{Declarations};
 ghost use Rattle.ct_terms.specs.declared.ids.TermId.{TermId};
 ghost use Rattle.ct_terms.specs.declared.term.Core.{Core};
 ghost use Rattle.ct_terms.specs.Terms.{Terms, Has};
-ghost use Rattle.ct_equivalence.specs.Over.{AreGroupingsOf};
+ghost use Rattle.ct_equivalence.specs.Over.{AreLone, AreGroupingsOf};
 ghost use Rattle.ct_congr.specs.declared.level.Level.{Level};
 ghost use Rattle.ct_congr.specs.Joined.{AreJoined, WaitsOn};
 ghost use Rattle.ct_congr.specs.Covered.{Keys, AreKeys, IsMet};
@@ -81,10 +81,12 @@ fn cover(alloc: Global, table: &TermTable, progress: &mut Progress) -> Result<()
         return Ok(());
     }
     let reps = progress.store.parts.reps();
+    let lone = progress.store.parts.lone();
     meet_all(
         alloc,
         table,
         reps,
+        lone,
         &mut progress.keys,
         &mut progress.waiting,
     )?;
@@ -98,11 +100,13 @@ fn meet_all(
     alloc: Global,
     table: &TermTable,
     reps: &[TermId],
+    lone: &[bool],
     keys: &mut SignatureTable,
     waiting: &mut VecDeque<Merge>,
 ) -> Result<(), CongrError>
     requires long { length reps.now ≡ length table.now }
     requires own { (x r : TermId) → slice_get reps.now x.0 ≡ Some r → slice_get reps.now r.0 ≡ Some r }
+    requires lone { AreLone table.now lone.now }
     requires keys { AreKeys table.now reps.now keys.old }
     ensures more { (more : Keys) × (keys.new ≡ keys.old ++ more) }
     ensures keys { AreKeys table.now reps.now keys.new }
@@ -110,7 +114,7 @@ fn meet_all(
     ensures met { OnOk result ((t : TermId) (core : Core) → Has table.now core t.0 → IsMet table.now reps.now keys.new (AreJoined reps.now waiting.new.items) t core) }
 {
     for t in 0..table.len() {
-        meet(alloc, table, reps, TermId(t), keys, waiting)?;
+        meet(alloc, table, reps, lone, TermId(t), keys, waiting)?;
     }
     Ok(())
 }

@@ -48,8 +48,8 @@ pub(crate) fn pair(
     Ok(Closed::Quiet)
 }
 
-// Whether the two are one constructor.
-fn same_constructor(c: CtorId, k: CtorId) -> bool
+/// Whether the two are one constructor.
+pub(crate) fn same_constructor(c: CtorId, k: CtorId) -> bool
     ensures value { MatchBool result (c ≡ k) (c ≡ k → ⊥) }
 {
     c == k

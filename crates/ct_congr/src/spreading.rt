@@ -6,7 +6,7 @@ ghost use Rattle.ct_terms.specs.Children.{core_children};
 ghost use Rattle.ct_terms.specs.Terms.{Has, AreSorted};
 ghost use Rattle.ct_rules.specs.Rules.{truth_term};
 ghost use Rattle.ct_equivalence.specs.Grouping.{Grouping};
-ghost use Rattle.ct_equivalence.specs.Over.{AreGroupingsOf};
+ghost use Rattle.ct_equivalence.specs.Over.{AreLone, AreGroupingsOf};
 ghost use Rattle.ct_equivalence.specs.Union.{IsJoin, IsTaken};
 ghost use Rattle.ct_congr.specs.Partition.{InOneClass};
 ghost use Rattle.ct_congr.specs.Joined.{AreJoined, WaitsOn};
@@ -109,8 +109,9 @@ fn move_uses(
 {
     let reps = parts.reps();
     let cons = parts.cons();
+    let lone = parts.lone();
     let uses = parts.taken_uses(loser);
-    move_terms(alloc, sig, table, reps, cons, uses, keys, waiting)?;
+    move_terms(alloc, sig, table, reps, cons, lone, uses, keys, waiting)?;
     Ok(())
 }
 
@@ -295,12 +296,14 @@ fn move_terms(
     table: &TermTable,
     reps: &[TermId],
     cons: &[Option<TermId>],
+    lone: &[bool],
     terms: &[TermId],
     keys: &mut SignatureTable,
     waiting: &mut VecDeque<Merge>,
 ) -> Result<(), CongrError>
     requires sorted { AreSorted sig.now table.now }
     requires grouped { IsGrouped table.now reps.now cons.now }
+    requires lone { AreLone table.now lone.now }
     requires inside { (t : TermId) → Contains terms.now t → t.0 < length table.now }
     requires keys { AreKeys table.now reps.now keys.old }
     ensures more { (more : Keys) × (keys.new ≡ keys.old ++ more) }
@@ -311,7 +314,7 @@ fn move_terms(
 {
     for t in terms {
         at_term(alloc, sig, table, reps, cons, *t, waiting)?;
-        meet(alloc, table, reps, *t, keys, waiting)?;
+        meet(alloc, table, reps, lone, *t, keys, waiting)?;
     }
     Ok(())
 }

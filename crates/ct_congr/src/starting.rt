@@ -6,7 +6,7 @@ ghost use Rattle.ct_terms.specs.declared.ids.Lit.{Lit};
 ghost use Rattle.ct_terms.specs.declared.term.Core.{Core};
 ghost use Rattle.ct_terms.specs.Terms.{Has, AreSorted};
 ghost use Rattle.ct_rules.specs.declared.equation.Equation.{Equation};
-ghost use Rattle.ct_equivalence.specs.Over.{AreGroupingsOf};
+ghost use Rattle.ct_equivalence.specs.Over.{AreLone, AreGroupingsOf};
 ghost use Rattle.ct_congr.specs.Partition.{InOneClass};
 ghost use Rattle.ct_congr.specs.Rules.{IsSingular, AreSingleSorts};
 ghost use Rattle.ct_congr.specs.Sound.{IsSound};
@@ -16,6 +16,7 @@ ghost use Rattle.ct_congr.specs.Covered.{HasCon, IsGrouped, IsCoveredAt, AreKeys
 use crate::adding::Progress;
 use crate::at_term::at_term;
 use crate::error::CongrError;
+use crate::lone::lone_terms;
 use crate::meeting::meet;
 use crate::merge::{Merge, Reason};
 use crate::singles::first_of_sort;
@@ -46,7 +47,8 @@ pub(crate) fn start(
     ensures covered { IfOk result (λ progress. IsCovered sig.now table.now progress.store.parts.now.reps progress.store.parts.now.cons progress.keys (AreJoined progress.store.parts.now.reps progress.waiting.items)) }
 {
     prove!(table.len() >= 2);
-    let parts = Equivalence::new(alloc, table)?;
+    let lone = lone_terms(alloc, table)?;
+    let parts = Equivalence::new(alloc, table, lone)?;
     let mut keys = SignatureTable::new(alloc);
     let mut waiting = VecDeque::new(alloc);
     begin_terms(
@@ -55,6 +57,7 @@ pub(crate) fn start(
         table,
         parts.reps(),
         parts.cons(),
+        parts.lone(),
         &mut keys,
         &mut waiting,
     )?;
@@ -68,6 +71,7 @@ pub(crate) fn start(
         keys,
         waiting,
         covered: true,
+        clash: None,
     })
 }
 
@@ -78,11 +82,13 @@ fn begin_terms(
     table: &TermTable,
     reps: &[TermId],
     cons: &[Option<TermId>],
+    lone: &[bool],
     keys: &mut SignatureTable,
     waiting: &mut VecDeque<Merge>,
 ) -> Result<(), CongrError>
     requires sorted { AreSorted sig.now table.now }
     requires grouped { IsGrouped table.now reps.now cons.now }
+    requires lone { AreLone table.now lone.now }
     requires keys { AreKeys table.now reps.now keys.old }
     ensures keys { OnOk result (AreKeys table.now reps.now keys.new) }
     ensures waits { OnOk result (WaitsOn sig.now table.now reps.now waiting.old.items waiting.new.items) }
@@ -92,7 +98,7 @@ fn begin_terms(
     for t in 0..table.len() {
         let t = TermId(t);
         at_term(alloc, sig, table, reps, cons, t, waiting)?;
-        meet(alloc, table, reps, t, keys, waiting)?;
+        meet(alloc, table, reps, lone, t, keys, waiting)?;
     }
     Ok(())
 }

@@ -1,5 +1,5 @@
 -- What a search that has ended found.
-use Rattle.std.proofs.Common.{◌≡◌, ℕ, ◌<◌, inl, inr, Bool, List, [], ◌∷◌, length, Contains, sym, ap, subst, ◌∙◌}
+use Rattle.std.proofs.Common.{◌≡◌, ℕ, ◌<◌, inl, inr, Bool, true, List, [], ◌∷◌, length, Contains, refl, sym, ap, subst, ◌∙◌}
 use Rattle.std.proofs.lemmas.List.Elements.{All-contains}
 use Rattle.ct_lemmas.proofs.Contained.{Contains-map, Contains-map_cases}
 use Rattle.ct_lemmas.proofs.Numbers.{same_or_other}
@@ -30,29 +30,30 @@ use Rattle.ct_engine.proofs.ValuedLemmas.{opposites_apart, true_literal, HasValu
 use Rattle.ct_engine.proofs.ReplayLemmas.{from_replay}
 
 -- the moves are the record of a search that spent its budget
-pub IsSpentRecord-from : UnitTheorems → (search : SearchState) (derived : Derived) (moves : List Move) → IsTermTable derived.rec.terms → IsDerivation derived → IsQuiet search → LacksValue search → search.count ≡ search.budget → IsAccounted search derived moves → IsSpentRecord derived.declarations derived.rec.terms derived.asserts derived.rec.lines moves search.budget
-IsSpentRecord-from theorems search derived moves is_table derivation quiet (t, inside, unset) spent is = record {
-  is_table = is_table;
-  sorted = derivation.judges.sorted;
-  accepted = derivation.accepted;
-  variables = search.variables;
-  are_variables = is.variables;
-  initial = is.initial;
-  taught = is.taught;
-  in_order = is.in_order;
-  are_initial = is.are_initial;
-  are_taught = is.are_taught;
-  end = is.replay;
-  legal = is.legal;
-  spent = is.counted ∙ spent;
-  consistent = λ bad. theorems.quiet search quiet (from_replay search is.replay (λ cs ds. IsContradictory cs (Up cs ds)) is.replays bad);
-  lacking = (
-    t,
-    inside,
-    λ has. unset (HasValue-more (FollowsIn is.replay) (Contains search.trail) t
-        (λ l h. quiet.complete l (from_replay search is.replay (λ cs ds. Up cs ds l) is.replays h)) has),
-  );
-}
+pub IsSpentRecord-from : UnitTheorems → (search : SearchState) (derived : Derived) (begun : ℕ) (moves : List Move) → IsTermTable derived.rec.terms → IsDerivation derived → IsQuiet search → LacksValue search → search.count ≡ search.budget → IsAccounted true search derived begun moves → IsSpentRecord derived.declarations derived.rec.terms derived.asserts derived.rec.lines moves search.budget
+IsSpentRecord-from theorems search derived begun moves is_table derivation quiet (t, inside, unset) spent is =
+    let recorded = is.replayed refl in record {
+      is_table = is_table;
+      sorted = derivation.judges.sorted;
+      accepted = derivation.accepted;
+      variables = search.variables;
+      are_variables = is.variables;
+      initial = is.initial;
+      taught = is.taught;
+      in_order = is.in_order;
+      are_initial = is.are_initial;
+      are_taught = is.are_taught;
+      end = recorded.replay;
+      legal = recorded.legal;
+      spent = recorded.counted ∙ spent;
+      consistent = λ bad. theorems.quiet search quiet (from_replay search recorded.replay (λ cs ds. IsContradictory cs (Up cs ds)) recorded.replays bad);
+      lacking = (
+        t,
+        inside,
+        λ has. unset (HasValue-more (FollowsIn recorded.replay) (Contains search.trail) t
+            (λ l h. quiet.complete l (from_replay search recorded.replay (λ cs ds. Up cs ds l) recorded.replays h)) has),
+      );
+    }
 
 -- where all variables have values, the trail holds one literal of each and nothing else
 complete_trail : (search : SearchState) (terms : Terms) → AreVariables terms search.variables → IsSound search → IsQuiet search → HaveValues search → AreComplete terms search.trail
@@ -162,8 +163,8 @@ module _ (theorems : ClassTheorems) (d : Declarations) (terms : Terms) (literals
   }
 
 -- the literals of the trail decide the assertions, and no rule contradicts them
-pub AreDecided-from : ClassTheorems → (search : SearchState) (derived : Derived) (moves : List Move) (state : State) (order : List TermId) → IsSound search → IsQuiet search → HaveValues search → IsSaturation derived.declarations derived.rec.terms search.trail state order → length state.reps ≡ length state.terms → IsAccounted search derived moves → AreDecided derived.declarations derived.rec.terms derived.asserts search.trail
-AreDecided-from theorems search derived moves state order sound quiet all saturation long is = record {
+pub AreDecided-from : ClassTheorems → (search : SearchState) (recorded : Bool) (derived : Derived) (begun : ℕ) (moves : List Move) (state : State) (order : List TermId) → IsSound search → IsQuiet search → HaveValues search → IsSaturation derived.declarations derived.rec.terms search.trail state order → length state.reps ≡ length state.terms → IsAccounted recorded search derived begun moves → AreDecided derived.declarations derived.rec.terms derived.asserts search.trail
+AreDecided-from theorems search recorded derived begun moves state order sound quiet all saturation long is = record {
   complete = complete_trail search derived.rec.terms is.variables sound quiet all;
   initial = λ line initial. true_clause search line.clause sound quiet all
       (is.stored line.clause (Contains-map (λ (l : Line). l.clause) is.initial line ((is.are_initial.exact line).1 initial)));

@@ -1,14 +1,14 @@
 -- What a learned clause changes.
-use Rattle.std.proofs.Common.{◌≡◌, ℕ, ◌<◌, List, length, take, ap, ◌∙◌, arith}
-use Rattle.std.proofs.lemmas.List.{length-take-le}
+use Rattle.std.proofs.Common.{◌≡◌, ℕ, ◌<◌, ◌++◌, List, length, take, drop, sym, ap, ◌∙◌, arith}
+use Rattle.std.proofs.lemmas.List.{length-take-le, take-append-drop}
 use Rattle.std.proofs.lemmas.Option.{slice_get_within}
+use Rattle.ct_sorts.specs.Grown.{Begins}
+use Rattle.ct_terms.specs.declared.ids.Lit.{Lit}
 use Rattle.ct_terms.specs.Clause.{Clause}
-use Rattle.ct_log.specs.Recorded.{Derived}
 use Rattle.ct_sat.specs.declared.decided.Decided.{Decided}
 use Rattle.ct_sat.specs.State.{SearchState}
 use Rattle.ct_sat.specs.Learning.{LearnsClause}
-use Rattle.ct_engine.specs.declared.course.Course.{Course}
-use Rattle.ct_engine.specs.Progress.{IsOfOneTask, TakesBack}
+use Rattle.ct_engine.specs.Progress.{TakesBack}
 
 -- a learned clause takes back a decision
 pub takes_back : (old new : SearchState) (step : ℕ) (lits : Clause) (hints : List ℕ) (keep : ℕ) → LearnsClause old new step lits hints keep → TakesBack old new
@@ -21,13 +21,9 @@ takes_back old new step lits hints keep learned =
       fewer = omega arith;
     }
 
--- and changes nothing of the task
-pub learned_task : (first second third : Course) (step : ℕ) (lits : Clause) (hints : List ℕ) (keep : ℕ) → LearnsClause first.search second.search step lits hints keep → second.derivation ≡ first.derivation → second.variables ≡ first.variables → IsOfOneTask second third → IsOfOneTask first third
-learned_task first second third step lits hints keep learned derivation variables same = record {
-  declarations = same.declarations ∙ ap (λ (x : Derived). x.declarations) derivation;
-  terms = same.terms ∙ ap (λ (x : Derived). x.rec.terms) derivation;
-  asserts = same.asserts ∙ ap (λ (x : Derived). x.asserts) derivation;
-  over = same.over ∙ ap (λ (s : SearchState). s.variables) learned.after;
-  budget = same.budget ∙ ap (λ (s : SearchState). s.budget) learned.after;
-  variables = same.variables ∙ variables;
-}
+-- and cuts the trail
+pub cuts_trail : (old new : SearchState) (step : ℕ) (lits : Clause) (hints : List ℕ) (keep : ℕ) → LearnsClause old new step lits hints keep → Begins new.trail old.trail
+cuts_trail old new step lits hints keep learned =
+    let n = learned.next.index in
+    let is : new.trail ≡ take n old.trail = ap (λ (s : SearchState). s.trail) learned.after in
+    (drop n old.trail, sym (take-append-drop n old.trail) ∙ ap (λ (ls : List Lit). ls ++ drop n old.trail) (sym is))

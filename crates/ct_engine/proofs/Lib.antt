@@ -1,8 +1,10 @@
+pub mod ShorteningLemmas
 pub mod ListLemmas
 pub mod ValuedLemmas
 pub mod MoveLemmas
 pub mod ReplayLemmas
 pub mod AccountLemmas
+pub mod AgainLemmas
 pub mod AnswerLemmas
 pub mod ModelLemmas
 pub mod CountLemmas
@@ -13,6 +15,8 @@ pub mod OutcomeLemmas
 pub mod TrailLemmas
 pub mod BoundLemmas
 pub mod SpentLemmas
+pub mod TaughtLemmas
+pub mod OpeningLemmas
 pub mod TurnLemmas
 pub mod PrepareLemmas
 pub mod TruthLemmas

@@ -1,5 +1,5 @@
 -- Lines for clauses that are added to a search.
-use Rattle.std.proofs.Common.{ℕ, false, List, [], ◌∷◌, ◌++◌, All, Contains, refl}
+use Rattle.std.proofs.Common.{ℕ, Bool, false, List, [], ◌∷◌, ◌++◌, All, Contains, refl}
 use Rattle.std.proofs.lemmas.List.Elements.{All-contains, All-weaker, All-nil, Contains-push}
 use Rattle.ct_sorts.specs.Declarations.{Declarations}
 use Rattle.ct_terms.specs.declared.ids.TermId.{TermId}
@@ -51,13 +51,13 @@ conflict_added search number clause false_ones =
     (new, refl, Contains-push search.clauses new, false_ones)
 
 -- the line of a learned clause is accepted
-pub accepted_learned : ((clauses : List StepClause) (all : List Clause) (hints : List ℕ) (clause : Clause) → StandAtSteps clauses all → FollowsBy clauses hints clause → Rup all hints clause) → (search : SearchState) (derived : Derived) (moves : List Move) (lits : Clause) (hints : List ℕ) → IsAccounted search derived moves → FollowsBy search.clauses hints lits → AreOver search.variables lits → IsAccepted derived.declarations derived.rec.terms derived.asserts (clauses_of derived.rec.lines) (record { clause = lits; step = step.Learn hints })
-accepted_learned listed search derived moves lits hints is follows over = record {
+pub accepted_learned : ((clauses : List StepClause) (all : List Clause) (hints : List ℕ) (clause : Clause) → StandAtSteps clauses all → FollowsBy clauses hints clause → Rup all hints clause) → (recorded : Bool) (search : SearchState) (derived : Derived) (begun : ℕ) (moves : List Move) (lits : Clause) (hints : List ℕ) → IsAccounted recorded search derived begun moves → FollowsBy search.clauses hints lits → AreOver search.variables lits → IsAccepted derived.declarations derived.rec.terms derived.asserts (clauses_of derived.rec.lines) (record { clause = lits; step = step.Learn hints })
+accepted_learned listed recorded search derived begun moves lits hints is follows over = record {
   literals = stripped_over derived.rec.terms search.variables lits is.variables over;
   justified = listed search.clauses (clauses_of derived.rec.lines) hints lits is.numbered follows;
 }
 
 -- so is that of the empty clause
-pub accepted_empty : ((clauses : List StepClause) (all : List Clause) (hints : List ℕ) (clause : Clause) → StandAtSteps clauses all → FollowsBy clauses hints clause → Rup all hints clause) → (search : SearchState) (derived : Derived) (moves : List Move) (hints : List ℕ) → IsAccounted search derived moves → FollowsBy search.clauses hints [] → IsAccepted derived.declarations derived.rec.terms derived.asserts (clauses_of derived.rec.lines) (record { clause = []; step = step.Learn hints })
-accepted_empty listed search derived moves hints is follows =
-    accepted_learned listed search derived moves [] hints is follows (All-nil (λ (l : Lit). Contains search.variables l.term))
+pub accepted_empty : ((clauses : List StepClause) (all : List Clause) (hints : List ℕ) (clause : Clause) → StandAtSteps clauses all → FollowsBy clauses hints clause → Rup all hints clause) → (recorded : Bool) (search : SearchState) (derived : Derived) (begun : ℕ) (moves : List Move) (hints : List ℕ) → IsAccounted recorded search derived begun moves → FollowsBy search.clauses hints [] → IsAccepted derived.declarations derived.rec.terms derived.asserts (clauses_of derived.rec.lines) (record { clause = []; step = step.Learn hints })
+accepted_empty listed recorded search derived begun moves hints is follows =
+    accepted_learned listed recorded search derived begun moves [] hints is follows (All-nil (λ (l : Lit). Contains search.variables l.term))

@@ -66,13 +66,12 @@ lines_over d terms asserts lines variables are accepted =
     All-weaker (λ (l : Lit). IsStripped terms l.term) (λ (l : Lit). Contains variables l.term) (λ l h. are.each l.term h) line.clause (accepted at.0 line at.1).literals)
 
 -- a search over the closure of the assertions is of their task
-pub IsTaskOf-begun : (d : Declarations) (table closed : Terms) (asserts : List TermId) (budget : ℕ) (closure : ClosureValue) (course : Course) → terms_at closed asserts ≡ terms_at table asserts → IsClosureOf d table asserts closed closure → IsBegunOver d closed asserts course.derivation → IsSearchOver course.derivation budget course.search → course.variables ≡ closure.variables → IsTaskOf d table asserts budget course
+pub IsTaskOf-begun : (d : Declarations) (table closed : Terms) (asserts : List TermId) (budget : ℕ) (closure : ClosureValue) (course : Course) → terms_at closed asserts ≡ terms_at table asserts → IsClosureOf d table asserts closed closure → IsBegunOver d closed asserts course.derivation → IsSearchOver course.derivation budget course.search → course.variables ≡ closure.variables → IsTaskOf d table asserts course
 IsTaskOf-begun d table closed asserts budget closure course same closed_is begun_is over counted = record {
   declarations = begun_is.declarations;
   asserted = ap (λ (ts : Terms). terms_at ts course.derivation.asserts) begun_is.terms_are ∙ ap (λ (ids : List TermId). terms_at closed ids) begun_is.asserts_are ∙ same;
   closure = λ t. subst (λ (ts : Terms). HasTree ts t ↔ InClosure d (terms_at table asserts) t) (sym begun_is.terms_are) (closed_is.exact t);
   variables = subst (HasVariables d (terms_at table asserts)) (sym counted) closed_is.variables;
-  budget_is = ap (λ (s : SearchState). s.budget) over.only_begun;
   sorted = subst (AreSorted d) (sym begun_is.terms_are) closed_is.sorted;
   is_closed = subst (IsClosedTable d) (sym begun_is.terms_are) closed_is.is_closed;
 }

@@ -3,3 +3,4 @@ pub mod Saturated
 pub mod Verdict
 pub mod Progress
 pub mod Theorems
+pub mod Opening

@@ -1,5 +1,5 @@
 -- A search under way: how its clauses, its derivation and the record of its moves belong together, and how it ends.
-use Rattle.std.specs.Prelude.{◌≡◌, ◌↔◌, ℕ, ◌+◌, ◌<◌, ◌≤◌, List, ◌++◌, length, take, All, Contains, Some, slice_get, count_by}
+use Rattle.std.specs.Prelude.{◌≡◌, ◌↔◌, ℕ, ◌+◌, ◌<◌, ◌≤◌, Bool, true, List, ◌++◌, length, take, All, Contains, Some, slice_get, count_by}
 use Rattle.ct_sorts.specs.Declarations.{Declarations}
 use Rattle.ct_sorts.specs.Grown.{Begins}
 use Rattle.ct_terms.specs.declared.ids.TermId.{TermId}
@@ -11,6 +11,7 @@ use Rattle.ct_closure.specs.ClosedTable.{HasTree, IsClosedTable, AreRising, Clos
 use Rattle.ct_log.specs.declared.line.Line.{Line}
 use Rattle.ct_log.specs.Acceptance.{clauses_of}
 use Rattle.ct_log.specs.Recorded.{Derived}
+use Rattle.ct_sat.specs.declared.clause.StepClause.{StepClause}
 use Rattle.ct_sat.specs.declared.decided.Decided.{Decided}
 use Rattle.ct_sat.specs.declared.decision.Decision.{Decision}
 use Rattle.ct_sat.specs.declared.decision.Decision.TheVariants as decision
@@ -20,8 +21,9 @@ use Rattle.ct_checker.specs.Rejection.{EndsEmpty}
 use Rattle.ct_clauses.specs.Initial.{AreInitialLines, AreSplitTerms}
 use Rattle.ct_congr.specs.State.{State}
 use Rattle.ct_theory.specs.Entailment.{IsSaturation}
-use Rattle.ct_theory.specs.Consulting.{IsReady}
+use Rattle.ct_theory.specs.Consulting.{IsReady, HaveInCommon}
 use Rattle.ct_engine.specs.declared.verdict.Move.{Move}
+use Rattle.ct_engine.specs.declared.asked.Asked.{Asked}
 use Rattle.ct_engine.specs.declared.course.Course.{Course}
 use Rattle.ct_engine.specs.declared.outcome.Ending.{Ending}
 use Rattle.ct_engine.specs.declared.outcome.Ending.TheVariants as ending
@@ -42,26 +44,31 @@ pub record IsReplayOf (search : SearchState) (replay : Replay) : Type 0 where
   pub valued : (k : ℕ) (choice : Choice) (d : Decided) → slice_get replay.decided k ≡ Some choice → slice_get search.decided k ≡ Some d
       → AreAssigned search.variables (Contains (take d.index search.trail)) choice.valued
 
--- the lines are the initial lines and then those of clauses that were added, each clause of the search has the number of its
--- line, and the moves are legal and led to the state of the search
-pub record IsAccounted (search : SearchState) (derived : Derived) (moves : List Move) : Type 0 where
+-- the moves are legal over these lines from the clauses of the initial ones on, and led to the state of the search
+pub record IsReplayed (search : SearchState) (initial lines : List Line) (moves : List Move) : Type 0 where
+  pub replay : Replay
+  pub replays : IsReplayOf search replay
+  pub legal : AreLegal search.variables lines (first_state initial) moves replay
+  pub counted : count_by is_decision moves ≡ search.count
+
+-- the lines are the initial lines, so many, and then those of clauses that were taught, each clause of the search has the number of
+-- its line, and where the search is recorded its moves led to its state
+pub record IsAccounted (recorded : Bool) (search : SearchState) (derived : Derived) (begun : ℕ) (moves : List Move) : Type 0 where
   pub variables : AreVariables derived.rec.terms search.variables
   pub initial : List Line
   pub taught : List Line
   pub in_order : derived.rec.lines ≡ initial ++ taught
+  pub long : length initial ≡ begun
   pub are_initial : AreInitialLines derived.declarations derived.rec.terms derived.asserts initial
   pub are_taught : All (λ line. IsTaught line.step) taught
   pub numbered : StandAtSteps search.clauses (clauses_of derived.rec.lines)
   pub stored : (clause : Clause) → Contains (clauses_of initial) clause → Contains (clauses_in search.clauses) clause
-  pub replay : Replay
-  pub replays : IsReplayOf search replay
-  pub legal : AreLegal search.variables derived.rec.lines (first_state initial) moves replay
-  pub counted : count_by is_decision moves ≡ search.count
+  pub replayed : recorded ≡ true → IsReplayed search initial derived.rec.lines moves
 
 abbrev pub IsUnderWay : Course → Type 0
-IsUnderWay course = IsAccounted course.search course.derivation course.moves.items
+IsUnderWay course = IsAccounted course.recorded course.search course.derivation course.initial course.moves.items
 
--- both are of the same declarations, terms, assertions, variables and budget
+-- both are of the same declarations, terms, assertions, variables and budget, and both are recorded or neither is
 pub record IsOfOneTask (old new : Course) : Type 0 where
   pub declarations : new.derivation.declarations ≡ old.derivation.declarations
   pub terms : new.derivation.rec.terms ≡ old.derivation.rec.terms
@@ -69,6 +76,22 @@ pub record IsOfOneTask (old new : Course) : Type 0 where
   pub over : new.search.variables ≡ old.search.variables
   pub budget : new.search.budget ≡ old.search.budget
   pub variables : new.variables ≡ old.variables
+  pub recorded : new.recorded ≡ old.recorded
+
+-- both are of the same declarations, terms, assertions and number of variables: searches of one check
+pub record IsOfOneClosure (old new : Course) : Type 0 where
+  pub declarations : new.derivation.declarations ≡ old.derivation.declarations
+  pub terms : new.derivation.rec.terms ≡ old.derivation.rec.terms
+  pub asserts : new.derivation.asserts ≡ old.derivation.asserts
+  pub variables : new.variables ≡ old.variables
+
+-- the search is recorded and may make so many decisions
+abbrev pub IsOnRecord : ℕ → Course → Type 0
+IsOnRecord budget course = (course.recorded ≡ true) × (course.search.budget ≡ budget)
+
+-- the numbers of the clauses go up to this one at most
+abbrev pub AreUpTo : List StepClause → ℕ → Type 0
+AreUpTo clauses number = (c : StepClause) → Contains clauses c → c.step ≤ number
 
 -- a conflict took back some decision, and none was made
 pub record TakesBack (old new : SearchState) : Type 0 where
@@ -86,6 +109,10 @@ pub record IsTheoryOf (course : Course) (theory : State) : Type 0 where
   pub terms : theory.terms ≡ course.derivation.rec.terms
   pub ready : IsReady theory
 
+-- so many first literals of the trail as is noted are those that the theory was told
+abbrev pub IsAsked : Course → State → Asked → Type 0
+IsAsked course theory asked = HaveInCommon asked.shared theory.hypotheses course.search.trail
+
 -- how a search ends
 abbrev pub IsEnded : Course → State → Ending → Type 0
 IsEnded course theory ending.Refuted = EndsEmpty course.derivation.rec.lines
@@ -101,19 +128,18 @@ IsTurn old new theory turn.Decided = IsUnderWay new × IsCounted old.search new.
 IsTurn old new theory (turn.Ended ending) = IsEnded new theory ending
 
 -- a decision was made; or every variable has a value; or a decision is needed, and none is left
-abbrev pub IsDecided : Course → Course → Decision → Type 0
-IsDecided old new (decision.Took literal) = IsUnderWay new × IsCounted old.search new.search
-IsDecided old new decision.All = IsUnderWay new × IsQuiet new.search × HaveValues new.search × (new.search ≡ old.search)
+abbrev pub IsDecided : SearchState → Course → Decision → Type 0
+IsDecided old new (decision.Took literal) = IsUnderWay new × IsCounted old new.search
+IsDecided old new decision.All = IsUnderWay new × IsQuiet new.search × HaveValues new.search × (new.search ≡ old)
 IsDecided old new decision.Spent = IsUnderWay new × IsQuiet new.search × LacksValue new.search × (new.search.count ≡ new.search.budget)
 
 -- the derivation is over these declarations, its terms are exactly the closure of the assertions, which it has, and so many of
 -- them are variables; they are well sorted and closed
-pub record IsTaskOf (d : Declarations) (table : Terms) (asserts : List TermId) (budget : ℕ) (course : Course) : Type 0 where
+pub record IsTaskOf (d : Declarations) (table : Terms) (asserts : List TermId) (course : Course) : Type 0 where
   pub declarations : course.derivation.declarations ≡ d
   pub asserted : terms_at course.derivation.rec.terms course.derivation.asserts ≡ terms_at table asserts
   pub closure : (t : CoreTree) → HasTree course.derivation.rec.terms t ↔ InClosure d (terms_at table asserts) t
   pub variables : HasVariables d (terms_at table asserts) course.variables
-  pub budget_is : course.search.budget ≡ budget
   pub sorted : AreSorted d course.derivation.rec.terms
   pub is_closed : IsClosedTable d course.derivation.rec.terms
 
@@ -140,6 +166,10 @@ pub record IsSearchOver (derived : Derived) (budget : ℕ) (search : SearchState
   pub clauses : clauses_in search.clauses ≡ clauses_of derived.rec.lines
   pub numbered : StandAtSteps search.clauses (clauses_of derived.rec.lines)
   pub only_begun : search ≡ record (begun search.variables budget) { clauses = search.clauses; propagated = search.propagated }
+
+-- the derivation with so many of its lines, the first ones
+abbrev pub beginning_of : Derived → ℕ → Derived
+beginning_of derived count = record derived { rec = record derived.rec { lines = take count derived.rec.lines } }
 
 -- the table holds exactly the closure of the assertions of the old one, the literals decide it, and the classes are exactly
 -- what they entail

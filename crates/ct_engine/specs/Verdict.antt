@@ -31,14 +31,15 @@ pub record IsRefutation (d : Declarations) (table : Terms) (asserts : List TermI
   pub passes : Passes d derived.rec.terms derived.asserts derived.rec.lines
   pub no_model : (i : Interp) → IsProper d i → Holds d i table asserts → ⊥
 
--- the derivation is over these declarations and the same assertions, in order; its terms are exactly their closure, with so many
--- variables; and the record is that of a search which spent the budget
+-- the derivation is over these declarations and the same assertions, in order; its terms are exactly their closure, with V
+-- propositional variables; the budget is below 2^V - 1; and the record is that of a search which spent it
 pub record IsSpending (d : Declarations) (table : Terms) (asserts : List TermId) (budget : ℕ) (spent : Spent) : Type 0 where
   pub declarations : spent.derivation.declarations ≡ d
   pub asserted : terms_at spent.derivation.rec.terms spent.derivation.asserts ≡ terms_at table asserts
   pub closure : (t : CoreTree) → HasTree spent.derivation.rec.terms t ↔ InClosure d (terms_at table asserts) t
   pub variables : HasVariables d (terms_at table asserts) spent.variables
   pub allowed : spent.budget ≡ budget
+  pub below : suc budget < 2 ^ spent.variables
   pub recorded : IsSpentRecord d spent.derivation.rec.terms spent.derivation.asserts spent.derivation.rec.lines spent.moves budget
 
 -- what each verdict says
@@ -46,11 +47,6 @@ abbrev pub IsVerdict : Declarations → Terms → List TermId → ℕ → Verdic
 IsVerdict d table asserts budget (Sat i) = IsModel d table asserts i
 IsVerdict d table asserts budget (Unsat derived) = IsRefutation d table asserts derived
 IsVerdict d table asserts budget (Unknown spent) = IsSpending d table asserts budget spent
-
--- decisions are spent only where fewer than 2^V - 1 were allowed, for V variables
-abbrev pub IsBelowBound : Verdict → Type 0
-IsBelowBound (Unknown spent) = suc spent.budget < 2 ^ spent.variables
-IsBelowBound verdict = Unit {0}
 
 -- the assertions hold, or they are refuted
 abbrev pub IsDecisive : Verdict → Type 0

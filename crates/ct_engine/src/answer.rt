@@ -1,5 +1,5 @@
 //! What a search that has ended found.
-ghost use Rattle.std.specs.Prelude.{◌≡◌, ℕ, List, All, IfOk, IsErrOf};
+ghost use Rattle.std.specs.Prelude.{◌≡◌, true, List, All, IfOk, IsErrOf};
 ghost use Rattle.ct_sorts.specs.Declarations.{Declarations};
 ghost use Rattle.ct_terms.specs.declared.ids.TermId.{TermId};
 ghost use Rattle.ct_terms.specs.Terms.{Terms, AreSorted, IsBoolean};
@@ -9,12 +9,14 @@ ghost use Rattle.ct_theory.specs.Entailment.{IsSaturation};
 ghost use Rattle.ct_engine.specs.Moves.{IsSpentRecord};
 ghost use Rattle.ct_engine.specs.Saturated.{AreDecided};
 ghost use Rattle.ct_engine.specs.Verdict.{IsRefutation, IsSpending};
-ghost use Rattle.ct_engine.specs.Progress.{IsUnderWay, IsTaskOf, IsEnded, IsCandidate, IsOutcome};
+ghost use Rattle.ct_engine.specs.Progress.{IsUnderWay, IsTaskOf, IsEnded, IsOnRecord, IsCandidate, IsOutcome};
 
 use crate::course::Course;
 use crate::error::SolveError;
 use crate::facts;
 use crate::outcome::{Candidate, Ending, Outcome};
+use crate::shortening::shortened;
+use crate::theorems::spent_searches;
 use crate::verdict::Spent;
 use ct_acyclic::Order;
 use ct_congr::Classes;
@@ -37,13 +39,18 @@ pub(crate) fn conclude(
 ) -> Result<Outcome, SolveError>
     requires sorted { AreSorted sig.now table.now }
     requires asserts { All (IsBoolean table.now) asserts.now }
-    requires task { IsTaskOf sig.now table.now asserts.now budget course.value }
+    requires task { IsTaskOf sig.now table.now asserts.now course.value }
     requires ended { IsEnded course.value theory ending }
+    requires spent { ending ≡ Ending.Spent → IsOnRecord budget course.value }
     ensures outcome { IfOk result (IsOutcome sig.now table.now asserts.now budget) }
     ensures err { IsErrOf result SolveError.TooLarge → ⊥ }
 {
     match ending {
-        Ending::Refuted => Ok(Outcome::Unsat(refutation_of(sig, table, asserts, budget, course))),
+        Ending::Refuted => {
+            let whole = refutation_of(sig, table, asserts, course);
+            let derivation = shortened(alloc, sig, table, asserts, whole)?;
+            Ok(Outcome::Unsat(derivation))
+        }
         Ending::Spent => Ok(Outcome::Unknown(spending_of(course, budget))),
         Ending::Saturated(order) => {
             let candidate = candidate_of(alloc, course, theory.into_classes(), order)?;
@@ -57,24 +64,27 @@ fn refutation_of(
     sig: &Signature,
     table: &TermTable,
     asserts: &[TermId],
-    budget: u64,
     course: Box<Course>,
 ) -> Derivation
     requires sorted { AreSorted sig.now table.now }
     requires asserts { All (IsBoolean table.now) asserts.now }
-    requires task { IsTaskOf sig.now table.now asserts.now budget course.value }
+    requires task { IsTaskOf sig.now table.now asserts.now course.value }
     requires ends { EndsEmpty course.value.derivation.rec.lines }
     ensures refutation { IsRefutation sig.now table.now asserts.now result }
 {
-    refuted(sig, table, asserts, budget, &course);
+    refuted(sig, table, asserts, &course);
     let Course {
         search,
         derivation,
+        recorded: _,
         moves,
+        guide,
+        initial: _,
         variables: _,
     } = Box::into_inner(course);
     drop(search);
     drop(moves);
+    drop(guide);
     derivation
 }
 
@@ -84,16 +94,22 @@ fn spending_of(course: Box<Course>, budget: u64) -> Spent
     requires quiet { IsQuiet course.value.search }
     requires lacking { LacksValue course.value.search }
     requires spent { course.value.search.count ≡ course.value.search.budget }
-    ensures spending { (d : Declarations) (table : Terms) (asserts : List TermId) → IsTaskOf d table asserts budget course.value → IsSpending d table asserts budget result }
+    requires on_record { IsOnRecord budget course.value }
+    ensures spending { (d : Declarations) (table : Terms) (asserts : List TermId) → IsTaskOf d table asserts course.value → IsSpending d table asserts budget result }
 {
     spent(&course);
+    spent_searches();
     let Course {
         search,
         derivation,
+        recorded: _,
         moves,
+        guide,
+        initial: _,
         variables,
     } = Box::into_inner(course);
     drop(search);
+    drop(guide);
     Spent {
         variables,
         budget,
@@ -113,7 +129,7 @@ fn candidate_of(
     requires quiet { IsQuiet course.value.search }
     requires all { HaveValues course.value.search }
     requires saturation { IsSaturation course.value.derivation.declarations course.value.derivation.rec.terms course.value.search.trail classes.value order.reps.items }
-    ensures candidate { IfOk result (λ candidate. (d : Declarations) (table : Terms) (asserts : List TermId) (budget : ℕ) → IsTaskOf d table asserts budget course.value → IsCandidate d table asserts candidate) }
+    ensures candidate { IfOk result (λ candidate. (d : Declarations) (table : Terms) (asserts : List TermId) → IsTaskOf d table asserts course.value → IsCandidate d table asserts candidate) }
     ensures err { IsErrOf result SolveError.TooLarge → ⊥ }
 {
     saturated(&course, &classes, order.reps.as_slice());
@@ -128,10 +144,10 @@ fn candidate_of(
 }
 
 // The derivation refutes the assertions.
-fn refuted(sig: &Signature, table: &TermTable, asserts: &[TermId], budget: u64, course: &Course)
+fn refuted(sig: &Signature, table: &TermTable, asserts: &[TermId], course: &Course)
     requires sorted { AreSorted sig.now table.now }
     requires asserts { All (IsBoolean table.now) asserts.now }
-    requires task { IsTaskOf sig.now table.now asserts.now budget course.now }
+    requires task { IsTaskOf sig.now table.now asserts.now course.now }
     requires ends { EndsEmpty course.now.derivation.rec.lines }
     ensures refutation { IsRefutation sig.now table.now asserts.now course.now.derivation }
 {
@@ -146,6 +162,7 @@ fn spent(course: &Course)
     requires quiet { IsQuiet course.now.search }
     requires lacking { LacksValue course.now.search }
     requires budget { course.now.search.count ≡ course.now.search.budget }
+    requires recorded { course.now.recorded ≡ true }
     ensures recorded { IsSpentRecord course.now.derivation.declarations course.now.derivation.rec.terms course.now.derivation.asserts course.now.derivation.rec.lines course.now.moves.items course.now.search.budget }
 {
     facts::units();

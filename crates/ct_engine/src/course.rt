@@ -1,6 +1,8 @@
-//! A search under way, with the derivation that accounts for its clauses and the record of its moves.
-ghost use Rattle.std.specs.Prelude.{◌≡◌, ◌+◌, length};
+//! A search under way, with the derivation that accounts for its clauses and, where it is recorded, its moves.
+ghost use Rattle.std.specs.Prelude.{◌≡◌, ◌+◌, true, [], ◌∷◌, ◌++◌, length, OnOk, IsErrOf};
 
+use crate::error::SolveError;
+use crate::guide::Guide;
 use crate::verdict::Move;
 use ct_log::Derivation;
 use ct_sat::Search;
@@ -12,10 +14,34 @@ pub(crate) struct Course {
     pub(crate) search: Search,
     /// A line for each clause of the search.
     pub(crate) derivation: Derivation,
-    /// What the search did, in order.
+    /// Whether its moves are recorded: then the lowest variable without a value is decided, else one that the guide names.
+    pub(crate) recorded: bool,
+    /// What a recorded search did, in order.
     pub(crate) moves: Vec<Move>,
+    /// What another one goes by.
+    pub(crate) guide: Box<Guide>,
+    /// How many lines of the derivation are initial ones.
+    pub(crate) initial: usize,
     /// How many propositional variables the closure has.
     pub(crate) variables: u64,
+}
+
+/// Writes down a move, where moves are recorded.
+pub(crate) fn note(recorded: bool, moves: &mut Vec<Move>, next: Move) -> Result<(), SolveError>
+    ensures noted { OnOk result (recorded ≡ true → moves.new.items ≡ moves.old.items ++ next ∷ []) }
+    ensures err { IsErrOf result SolveError.TooLarge → ⊥ }
+{
+    if recorded {
+        moves.push(next)?;
+    }
+    Ok(())
+}
+
+/// How many lines the derivation has.
+pub(crate) fn line_count(derivation: &Derivation) -> usize
+    ensures value { result ≡ length derivation.now.rec.lines }
+{
+    derivation.rec().lines().len()
 }
 
 /// The number that the next line of the derivation will have.

@@ -5,6 +5,7 @@ ghost use Rattle.ct_engine.specs.declared.error.SolveError.TheVariants.{NoMemory
 use ct_build::BuildError;
 use ct_card::CardError;
 use ct_eval::EvalError;
+use ct_explain::ExplainError;
 use ct_log::LogError;
 use ct_sat::SatError;
 use ct_terms::TermError;
@@ -56,6 +57,14 @@ impl From<EvalError> for SolveError {
     ghost from_gives = { λ _ e. e ≡ NoMemory };
 
     fn from(_error: EvalError) -> SolveError {
+        SolveError::NoMemory
+    }
+}
+
+impl From<ExplainError> for SolveError {
+    ghost from_gives = { λ _ e. e ≡ NoMemory };
+
+    fn from(_error: ExplainError) -> SolveError {
         SolveError::NoMemory
     }
 }

@@ -1,12 +1,13 @@
 //! Conflicts: what a clause that is false in the trail teaches.
 ghost use Rattle.std.specs.Prelude.{◌≡◌, ℕ, ◌+◌, length, OnOk, IfOk, IsErrOf};
+ghost use Rattle.ct_sorts.specs.Grown.{Begins};
 ghost use Rattle.ct_congr.specs.State.{State};
 ghost use Rattle.ct_sat.specs.State.{IsConflict, IsQuiet, IsSound, SearchState};
 ghost use Rattle.ct_sat.specs.Learning.{LearnsClause};
 ghost use Rattle.ct_theory.specs.Entailment.{IsConflictOf};
 ghost use Rattle.ct_engine.specs.Progress.{IsUnderWay, IsAccounted, IsOfOneTask, IsTurn};
 
-use crate::course::{Course, next_number};
+use crate::course::{Course, next_number, note};
 use crate::error::SolveError;
 use crate::facts::units;
 use crate::outcome::{Ending, Turn};
@@ -25,9 +26,11 @@ pub(crate) fn learn(alloc: Global, course: &mut Course, conflict: u64) -> Result
     requires conflict { IsConflict course.old.search conflict }
     ensures same { OnOk result (IsOfOneTask course.old course.new) }
     ensures learned { IfOk result (λ turn. (theory : State) → IsTurn course.old course.new theory turn) }
+    ensures trail { OnOk result (Begins course.new.search.trail course.old.search.trail) }
     ensures err { IsErrOf result SolveError.TooLarge → ⊥ }
 {
     learned_clauses_follow();
+    course.guide.follow(course.search.trail());
     let _trail = course.search.trail();
     let number = next_number(&course.derivation);
     match course.search.learn(conflict, number)? {
@@ -55,7 +58,7 @@ fn record_learned(
     keep: u32,
 ) -> Result<(), SolveError>
     requires number { number ≡ length course.old.derivation.rec.lines + 1 }
-    requires learned { (before : SearchState) × IsAccounted before course.old.derivation course.old.moves.items × IsSound before × (conflict : ℕ) × IsConflict before conflict × LearnsClause before course.old.search number lits hints keep }
+    requires learned { (before : SearchState) × IsAccounted course.old.recorded before course.old.derivation course.old.initial course.old.moves.items × IsSound before × (conflict : ℕ) × IsConflict before conflict × LearnsClause before course.old.search number lits hints keep }
     ensures under_way { OnOk result (IsUnderWay course.new) }
     ensures same { OnOk result (IsOfOneTask course.old course.new) }
     ensures search { OnOk result (course.new.search ≡ course.old.search) }
@@ -63,11 +66,22 @@ fn record_learned(
 {
     units();
     learned_clauses_follow();
+    course.guide.note_learned(
+        number,
+        lits.as_slice(),
+        hints.as_slice(),
+        course.derivation.rec().lines(),
+    )?;
+    course.guide.go_back(keep, course.search.trail().len());
     course.derivation.push(Line {
         clause: lits,
         step: Step::Learn(hints),
     })?;
-    course.moves.push(Move::Learn(number, keep))?;
+    note(
+        course.recorded,
+        &mut course.moves,
+        Move::Learn(number, keep),
+    )?;
     Ok(())
 }
 
@@ -81,6 +95,7 @@ pub(crate) fn add_conflict(course: &mut Course, conflict: Conflict) -> Result<u6
     ensures conflict { IfOk result (IsConflict course.new.search) }
     ensures counted { OnOk result (course.new.search.count ≡ course.old.search.count) }
     ensures decided { OnOk result (course.new.search.decided ≡ course.old.search.decided) }
+    ensures trail { OnOk result (course.new.search.trail ≡ course.old.search.trail) }
     ensures err { IsErrOf result SolveError.TooLarge → ⊥ }
 {
     units();
@@ -93,6 +108,6 @@ pub(crate) fn add_conflict(course: &mut Course, conflict: Conflict) -> Result<u6
         clause: conflict.clause,
         step: Step::Theory(conflict.steps, conflict.close),
     })?;
-    course.moves.push(Move::Add(number))?;
+    note(course.recorded, &mut course.moves, Move::Add(number))?;
     Ok(number)
 }

@@ -2,18 +2,33 @@
 //! derivation or a record for each answer.
 #![tactic(auto)]
 
+mod again;
 mod answer;
+mod asked;
 mod course;
 mod decide;
+mod draft;
 mod error;
 mod facts;
+mod guide;
+mod guided;
+mod implied;
 mod initial;
 mod learn;
+mod luby;
 mod model;
+mod opening;
 mod outcome;
 mod prepare;
+mod proposal;
+mod queue;
 mod settle;
+mod shortening;
 mod solving;
+mod stages;
+mod taught;
+mod tester_drafts;
+mod testers;
 mod theorems;
 mod verdict;
 

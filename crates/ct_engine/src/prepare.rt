@@ -1,5 +1,5 @@
 //! What a search begins with: the closure of the assertions, its initial lines, and their clauses.
-ghost use Rattle.std.specs.Prelude.{◌≡◌, All, IfOk, OnOk, IsErrOf};
+ghost use Rattle.std.specs.Prelude.{◌≡◌, [], true, All, IfOk, OnOk, IsErrOf};
 ghost use Rattle.ct_card.specs.Sizes.{AreSizes};
 ghost use Rattle.ct_terms.specs.Terms.{AreSorted, IsBoolean};
 ghost use Rattle.ct_closure.specs.Closed.{HasMoreThan, most_closure_terms};
@@ -8,8 +8,9 @@ ghost use Rattle.ct_log.specs.Recorded.{AreJudges};
 ghost use Rattle.ct_clauses.specs.Initial.{AreSplitTerms};
 ghost use Rattle.ct_engine.specs.Progress.{IsUnderWay, IsTaskOf, IsClosureOf, IsBegunOver, IsSearchOver};
 
-use crate::course::Course;
+use crate::course::{Course, line_count};
 use crate::error::SolveError;
+use crate::guide::Guide;
 use crate::initial::add_lines;
 use ct_card::Sizes;
 use ct_clauses::clauses;
@@ -34,8 +35,10 @@ pub(crate) fn prepare(
     requires asserts { All (IsBoolean table.now) asserts.now }
     requires exact { AreSubtermsOf table.now asserts.now }
     ensures declarations { IfOk result (λ course. course.derivation.declarations ≡ sig.now) }
-    ensures task { IfOk result (IsTaskOf sig.now table.now asserts.now budget) }
+    ensures recorded { IfOk result (λ course. course.recorded ≡ true) }
+    ensures task { IfOk result (IsTaskOf sig.now table.now asserts.now) }
     ensures under_way { IfOk result IsUnderWay }
+    ensures start { IfOk result (λ course. course.search.decided ≡ []) }
     ensures too_large { IsErrOf result SolveError.TooLarge → HasMoreThan sig.now (terms_at table.now asserts.now) most_closure_terms }
     ensures fits { OnOk result (HasMoreThan sig.now (terms_at table.now asserts.now) most_closure_terms → ⊥) }
 {
@@ -46,13 +49,18 @@ pub(crate) fn prepare(
     let variables = closure.variables();
     let begun = begin(alloc, sig, sizes, closed, asserts, &closure)?;
     drop(closure);
+    let initial = line_count(&begun);
     let derivation = Box::new(alloc, begun)?;
     let search = search_over(alloc, &derivation, budget)?;
     let moves = Vec::new(alloc);
+    let guide = Box::new(alloc, Guide::empty(alloc)?)?;
     Ok(Course {
         search,
         derivation: Box::into_inner(derivation),
+        recorded: true,
         moves,
+        guide,
+        initial,
         variables,
     })
 }

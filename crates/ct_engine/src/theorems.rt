@@ -8,10 +8,9 @@ ghost use Rattle.ct_closure.specs.Closed.{InClosure, HasVariables};
 ghost use Rattle.ct_closure.specs.ClosedTable.{HasTree, terms_at};
 ghost use Rattle.ct_log.specs.declared.line.Line.{Line};
 ghost use Rattle.ct_engine.specs.declared.verdict.Move.{Move};
-ghost use Rattle.ct_engine.specs.declared.verdict.Spent.{Spent};
 ghost use Rattle.ct_engine.specs.declared.verdict.Verdict.{Verdict};
 ghost use Rattle.ct_engine.specs.Moves.{IsSpentRecord};
-ghost use Rattle.ct_engine.specs.Verdict.{IsSpending, IsVerdict, IsDecisive};
+ghost use Rattle.ct_engine.specs.Verdict.{IsVerdict, IsDecisive};
 
 use crate::facts;
 
@@ -27,12 +26,7 @@ pub fn spent_searches()
         → HasVariables d roots variables
         → suc budget < 2 ^ variables }
 
-    // So for each verdict that is unknown.
-    ensures bound { (d : Declarations) (table : Terms) (asserts : List TermId) (budget : ℕ) (spent : Spent)
-        → IsSpending d table asserts budget spent
-        → suc budget < 2 ^ spent.variables }
-
-    // And with 2^V - 1 decisions or more no verdict is unknown.
+    // So with 2^V - 1 decisions or more no verdict is unknown.
     ensures decides { (d : Declarations) (table : Terms) (asserts : List TermId) (budget variables : ℕ) (verdict : Verdict)
         → IsVerdict d table asserts budget verdict
         → HasVariables d (terms_at table asserts) variables

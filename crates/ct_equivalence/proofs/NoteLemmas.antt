@@ -69,12 +69,18 @@ pub AreNoted-last : (g : Grouping) (log rest : List (Option Step)) (last : Optio
 AreNoted-last g log rest last is noted = subst (AreNoted g) (ap reverse is ∙ reverse-push rest last) noted
 
 -- the classes are of a table where the last ones are and those before were
-pub AreGroupingsOf-push : (terms : Terms) (old new : Groupings) → new.past ≡ old.now ∷ old.past → IsGroupingOf terms new.now → AreGroupingsOf terms old → AreGroupingsOf terms new
-AreGroupingsOf-push terms old new past last earlier = (last, subst (AllByRecursion (IsGroupingOf terms)) (sym past) earlier)
+pub AreGroupingsOf-push : (terms : Terms) (old new : Groupings) → new.past ≡ old.now ∷ old.past → new.lone ≡ old.lone → IsGroupingOf terms new.now → AreGroupingsOf terms old → AreGroupingsOf terms new
+AreGroupingsOf-push terms old new past lone last earlier = record {
+  now = last;
+  past = subst (AllByRecursion (IsGroupingOf terms)) (sym past) (earlier.now, earlier.past);
+  lone = rw lone earlier.lone;
+}
 
 -- and where the last ones are taken away
-pub AreGroupingsOf-pop : (terms : Terms) (old new : Groupings) → (new.now ∷ new.past) ≡ old.past → AreGroupingsOf terms old → AreGroupingsOf terms new
-AreGroupingsOf-pop terms old new past all = subst (AllByRecursion (IsGroupingOf terms)) (sym past) all.1
+pub AreGroupingsOf-pop : (terms : Terms) (old new : Groupings) → (new.now ∷ new.past) ≡ old.past → new.lone ≡ old.lone → AreGroupingsOf terms old → AreGroupingsOf terms new
+AreGroupingsOf-pop terms old new past lone all =
+    let each = subst (AllByRecursion (IsGroupingOf terms)) (sym past) all.past in
+    record { now = each.0; past = each.1; lone = rw lone all.lone }
 
 -- what was noted of one join
 pub IsNoted-joined : (old new : Grouping) (winner loser : TermId) (step : Step) → IsJoin old new winner loser → step.winner ≡ winner → step.loser ≡ loser → before_join new step ≡ old → IsNoted new (Some step)

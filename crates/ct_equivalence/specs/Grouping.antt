@@ -1,5 +1,5 @@
 -- What contracts see of an equivalence: the classes as they are, and as they were before each union that stands.
-use Rattle.std.specs.Prelude.{◌≡◌, ◌∷◌, List, length, Option, Some, slice_get}
+use Rattle.std.specs.Prelude.{◌≡◌, ◌∷◌, Bool, List, length, Option, Some, slice_get}
 use Rattle.std.specs.List.{AllByRecursion}
 use Rattle.ct_terms.specs.declared.ids.TermId.{TermId}
 use Rattle.ct_equivalence.specs.Partition.{IsClass}
@@ -13,10 +13,11 @@ pub record Grouping : Type 0 where
   pub members : List (List TermId)
   pub uses : List (List TermId)
 
--- the classes now, and before each union that stands, the last union first
+-- the classes now, and before each union that stands, the last union first; and which terms are marked as lone
 pub record Groupings : Type 0 where
   pub now : Grouping
   pub past : List Grouping
+  pub lone : List Bool
 
 -- each representative is its own, and has the members of its class
 pub record IsGrouping (g : Grouping) : Type 0 where

@@ -1,11 +1,11 @@
 -- When classes are classes of the terms of a table.
-use Rattle.std.specs.Prelude.{◌≡◌, ◌∷◌, List, length, Option, Some, None, slice_get, Contains}
+use Rattle.std.specs.Prelude.{◌≡◌, Bool, true, List, length, Option, Some, None, slice_get, Contains}
 use Rattle.std.specs.List.{AllByRecursion}
 use Rattle.ct_sorts.specs.declared.ids.CtorId.{CtorId}
 use Rattle.ct_terms.specs.declared.ids.TermId.{TermId}
 use Rattle.ct_terms.specs.declared.term.Core.{Core}
 use Rattle.ct_terms.specs.declared.term.Core.TheVariants.{Con}
-use Rattle.ct_terms.specs.Children.{core_children}
+use Rattle.ct_terms.specs.Children.{core_head, core_children}
 use Rattle.ct_terms.specs.Terms.{Terms, Has}
 use Rattle.ct_equivalence.specs.Grouping.{Grouping, Groupings}
 
@@ -41,6 +41,16 @@ pub record IsGroupingOf (terms : Terms) (g : Grouping) : Type 0 where
   pub cons : AreCons terms g.reps g.cons
   pub uses : AreUses terms g.reps g.uses
 
--- the classes now and those before each union are of the terms of the table
-abbrev pub AreGroupingsOf : Terms → Groupings → Type 0
-AreGroupingsOf terms gs = AllByRecursion (IsGroupingOf terms) (gs.now ∷ gs.past)
+-- no other term has the head of this one and as many arguments, so that it is congruent to itself alone
+abbrev pub IsLone : Terms → TermId → Type 0
+IsLone terms t = (u : TermId) (core other : Core) → Has terms core t.0 → Has terms other u.0 → core_head core ≡ core_head other → length (core_children core) ≡ length (core_children other) → t ≡ u
+
+-- the terms that are marked are lone
+abbrev pub AreLone : Terms → List Bool → Type 0
+AreLone terms lone = (t : TermId) → slice_get lone t.0 ≡ Some true → IsLone terms t
+
+-- the classes now and those before each union are of the terms of the table, and so are the marks
+pub record AreGroupingsOf (terms : Terms) (gs : Groupings) : Type 0 where
+  pub now : IsGroupingOf terms gs.now
+  pub past : AllByRecursion (IsGroupingOf terms) gs.past
+  pub lone : AreLone terms gs.lone

@@ -4,7 +4,7 @@ ghost use Rattle.ct_terms.specs.declared.ids.TermId.{TermId};
 ghost use Rattle.ct_terms.specs.Terms.{Terms};
 ghost use Rattle.ct_equivalence.specs.Partition.{AreAlone, IsClass};
 ghost use Rattle.ct_equivalence.specs.Grouping.{Grouping, AreGroupings};
-ghost use Rattle.ct_equivalence.specs.Over.{IsConOf, AreUsesOf, IsGroupingOf, AreGroupingsOf};
+ghost use Rattle.ct_equivalence.specs.Over.{IsConOf, AreUsesOf, IsGroupingOf, AreLone, AreGroupingsOf};
 ghost use Rattle.ct_equivalence.specs.Union.{IsUnited, IsTaken};
 
 use crate::error::EquivalenceError;
@@ -22,6 +22,8 @@ pub struct Equivalence {
     grouped: Grouped,
     // What undoes each union, and nothing where the two terms were of one class.
     log: Vec<Option<Step>>,
+    // Whether each term is marked as lone.
+    lone: Vec<bool>,
 }
 
 impl Model for Equivalence {
@@ -31,21 +33,34 @@ impl Model for Equivalence {
 
     ghost Value = { Groupings };
 
-    ghost view = { λ e. record { now = e.grouped; past = befores e.grouped (reverse e.log.items) } };
+    ghost view = { λ e. record { now = e.grouped; past = befores e.grouped (reverse e.log.items); lone = e.lone.items } };
 
     ghost invariant = { λ e. AreNoted e.grouped (reverse e.log.items) };
 }
 
 impl Equivalence {
-    /// Each term of the table alone in its class, in linear time. The terms themselves are not stored.
-    pub fn new(alloc: Global, table: &TermTable) -> Result<Equivalence, EquivalenceError>
+    /// Each term of the table alone in its class, in linear time. The terms themselves are not stored. Terms that are
+    /// marked have a head and a number of arguments that no other term has.
+    pub fn new(
+        alloc: Global,
+        table: &TermTable,
+        lone: Vec<bool>,
+    ) -> Result<Equivalence, EquivalenceError>
+        requires lone { AreLone table.now lone.items }
         ensures of { IfOk result (AreGroupingsOf table.now) }
         ensures alone { IfOk result (λ e. AreAlone (length table.now) e.now.reps) }
         ensures past { IfOk result (λ e. e.past ≡ []) }
     {
         let grouped = Grouped::new(alloc, table)?;
         let log = Vec::new(alloc);
-        Ok(Equivalence { grouped, log })
+        Ok(Equivalence { grouped, log, lone })
+    }
+
+    /// Whether each term is marked as lone.
+    pub fn lone(&self) -> &[bool]
+        ensures value { result.now ≡ self.now.lone }
+    {
+        self.lone.as_slice()
     }
 
     /// The representative of each term.

@@ -1,8 +1,9 @@
 //! A reader is fed what one read of a slot gives, up to a fixed number of bytes in all.
 
-ghost use Rattle.std.specs.Prelude.{◌≡◌, ℕ, List, ◌<◌, ◌≤◌, false, length, IfErr, IfOk, IfSome, OnErr, OnOk};
+ghost use Rattle.std.specs.Prelude.{◌≡◌, ◌≢◌, ℕ, List, ◌<◌, ◌≤◌, false, length, IfErr, IfOk, IfSome, OnErr, OnOk};
 ghost use Rattle.ct_io.specs.Bytes.{ReadsBytes, remaining};
 ghost use Rattle.ct_io.specs.Fault.{HasCause};
+ghost use Rattle.ct_io.specs.declared.desk.Slot.{Slot};
 ghost use Rattle.ct_input.specs.Slot.{Feeds};
 
 use ct_io::{Desk, DeskError, Slot};
@@ -38,6 +39,7 @@ pub enum Feeding {
 pub fn open_slot<D: Desk>(desk: &mut D, slot: Slot, name: &str) -> Result<(), InputError>
     ensures opened { OnOk result (D.left desk.new slot ≡ D.held desk.old name.now) }
     ensures refused { OnErr result (D.left desk.new slot ≡ D.left desk.old slot) }
+    ensures other { (s : Slot) → s ≢ slot → D.left desk.new s ≡ D.left desk.old s }
     ensures names { (n : List ℕ) → D.held desk.new n ≡ D.held desk.old n }
     ensures cause { HasCause InputError.Fault (D.faults desk.old) (D.faults desk.new) result }
 {
@@ -67,6 +69,7 @@ pub fn feed_once<D: Desk>(
     ensures feeds { IfOk result (λ feeding. Feeds feeding reader.old reader.new (D.left desk.old slot) (D.left desk.new slot)) }
     ensures same { OnErr result (reader.new ≡ reader.old) }
     ensures untaken { IfErr result (λ error. error ≡ InputError.Fault → D.left desk.new slot ≡ D.left desk.old slot) }
+    ensures other { (s : Slot) → s ≢ slot → D.left desk.new s ≡ D.left desk.old s }
     ensures names { (n : List ℕ) → D.held desk.new n ≡ D.held desk.old n }
     ensures cause { HasCause InputError.Fault (D.faults desk.old) (D.faults desk.new) result }
 {
@@ -93,6 +96,7 @@ fn read_piece<D: Desk>(desk: &mut D, slot: Slot, buffer: &mut [u8]) -> Result<us
     ensures bytes { IfOk result (λ n. IfSome (D.left desk.old slot) (λ bytes. ReadsBytes bytes n buffer.old buffer.new)) }
     ensures taken { IfOk result (λ n. D.left desk.new slot ≡ remaining n (D.left desk.old slot)) }
     ensures refused { OnErr result (D.left desk.new slot ≡ D.left desk.old slot) }
+    ensures other { (s : Slot) → s ≢ slot → D.left desk.new s ≡ D.left desk.old s }
     ensures names { (n : List ℕ) → D.held desk.new n ≡ D.held desk.old n }
     ensures cause { HasCause InputError.Fault (D.faults desk.old) (D.faults desk.new) result }
 {

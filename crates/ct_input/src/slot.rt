@@ -1,7 +1,8 @@
 //! A slot is read whole into a reader, where it holds no more than a fixed number of bytes.
 
-ghost use Rattle.std.specs.Prelude.{◌≡◌, ℕ, List, ◌<◌, ◌≤◌, is_some, length, Some, IfOk, OnOk};
+ghost use Rattle.std.specs.Prelude.{◌≡◌, ◌≢◌, ℕ, List, ◌<◌, ◌≤◌, is_some, length, Some, IfOk, OnOk};
 ghost use Rattle.ct_io.specs.Fault.{HasCause};
+ghost use Rattle.ct_io.specs.declared.desk.Slot.{Slot};
 ghost use Rattle.ct_input.specs.Fresh.{fresh};
 ghost use Rattle.ct_input.specs.Slot.{IsFed, IsTaken, IsWholeOf};
 
@@ -21,6 +22,7 @@ pub fn read_whole_slot<D: Desk>(
     ensures fed { IfOk result (λ read. (bytes : List ℕ) × IsWholeOf bytes read) }
     ensures held { IfOk result (λ read. (bytes : List ℕ) → D.held desk.old name.now ≡ Some bytes → IsWholeOf bytes read) }
     ensures taken { IfOk result (λ read. IsTaken (D.held desk.old name.now) (is_some read) (D.left desk.new slot)) }
+    ensures other { (s : Slot) → s ≢ slot → D.left desk.new s ≡ D.left desk.old s }
     ensures names { (n : List ℕ) → D.held desk.new n ≡ D.held desk.old n }
     ensures cause { HasCause InputError.Fault (D.faults desk.old) (D.faults desk.new) result }
 {
@@ -57,6 +59,7 @@ fn feed_slot<D: Desk>(
     ensures fed { IfOk result (λ whole. (bytes : List ℕ) × IsFed whole bytes reader.new) }
     ensures left { IfOk result (λ whole. (bytes : List ℕ) → D.left desk.old slot ≡ Some bytes → IsFed whole bytes reader.new) }
     ensures taken { IfOk result (λ whole. IsTaken (D.left desk.old slot) whole (D.left desk.new slot)) }
+    ensures other { (s : Slot) → s ≢ slot → D.left desk.new s ≡ D.left desk.old s }
     ensures names { (n : List ℕ) → D.held desk.new n ≡ D.held desk.old n }
     ensures cause { HasCause InputError.Fault (D.faults desk.old) (D.faults desk.new) result }
 {

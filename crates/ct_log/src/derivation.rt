@@ -65,6 +65,15 @@ impl Derivation {
         Ok(())
     }
 
+    /// Moves all lines out, so that others may follow. Takes no memory.
+    pub fn take_lines(&mut self, alloc: Global) -> Vec<Line>
+        ensures lines { result.items ≡ self.old.rec.lines }
+        ensures none { self.new ≡ record self.old { rec = record self.old.rec { lines = [] } } }
+        ensures derivation { IsDerivation self.old }
+    {
+        self.rec.take_lines(alloc)
+    }
+
     /// The terms and the lines. Every line is accepted after those before it.
     pub fn rec(&self) -> &Record
         ensures value { result.now ≡ self.now.rec }

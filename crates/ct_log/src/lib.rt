@@ -22,7 +22,7 @@ mod theorems;
 mod theory;
 mod unique;
 
-pub use acceptance::{accepted, accepted_at};
+pub use acceptance::{accepted, accepted_at, is_accepted};
 pub use derivation::Derivation;
 pub use error::LogError;
 pub use line::{Line, Step};

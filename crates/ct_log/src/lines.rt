@@ -4,8 +4,9 @@ ghost use Rattle.ct_sorts.specs.Grown.{Begins};
 
 use crate::line::Line;
 use ct_terms::TermTable;
-use std::alloc::AllocError;
+use std::alloc::{AllocError, Global};
 use std::marker::Model;
+use std::mem;
 
 /// Terms and lines over them. What it holds need be neither well sorted nor accepted.
 #[derive(Drop)]
@@ -62,5 +63,13 @@ impl Record {
     {
         self.lines.push(line)?;
         Ok(())
+    }
+
+    /// Moves all lines out.
+    pub(crate) fn take_lines(&mut self, alloc: Global) -> Vec<Line>
+        ensures lines { result.items ≡ self.old.lines }
+        ensures none { self.new ≡ record self.old { lines = [] } }
+    {
+        mem::replace(&mut self.lines, Vec::new(alloc))
     }
 }

@@ -42,8 +42,9 @@ impl Room {
         Ok(room)
     }
 
-    /// Room for this number of terms, and for steps of this size.
-    pub(crate) fn with(alloc: Global, terms: u32, size: usize) -> Result<Room, LogError>
+    /// Room for this number of terms, and for lines of the theory of this many steps and learned ones of this many hints. Its
+    /// only error is out of memory.
+    pub fn with(alloc: Global, terms: u32, size: usize) -> Result<Room, LogError>
         ensures room { IfOk result (λ room. room ≡ record { literals = terms * 2; equations = size; others = size }) }
         ensures err { IfErr result (λ e. e ≡ LogError.NoMemory) }
     {

@@ -1,11 +1,12 @@
 -- What each task reports, by its status.
 use Rattle.std.specs.Prelude.{option_to_list}
-use Rattle.std.proofs.Common.{◌≡◌, ◌≢◌, ℕ, inl, inr, List, [], Option, refl, ap, sym, ◌∙◌, subst, arith}
+use Rattle.std.proofs.Common.{◌≡◌, ◌≢◌, ℕ, Bool, true, false, ◌&&◌, inl, inr, List, [], Option, refl, ap, sym, ◌∙◌, subst, arith}
 use Rattle.ct_io.specs.Bytes.{GrewByPart}
 use Rattle.ct_io.specs.declared.sink.SinkError.{SinkError}
 use Rattle.ct_io.specs.declared.sink.SinkError.TheVariants as sink
 use Rattle.ct_io.specs.declared.status.Status.{Status}
 use Rattle.ct_io.specs.declared.status.Status.TheVariants as status
+use Rattle.ct_input.specs.Slot.{IsTaken}
 use Rattle.ct_engine.specs.declared.verdict.Verdict.{Verdict}
 use Rattle.ct_audit.specs.declared.answer.AuditAnswer.{AuditAnswer}
 use Rattle.ct_audit.specs.Answer.{audit_error}
@@ -13,7 +14,7 @@ use Rattle.ct_arguments.specs.Arguments.{Asked, solves, audits, generates, helps
 use Rattle.ct_run.specs.Output.{usage_line}
 use Rattle.ct_run.specs.Refusal.{status_of_error}
 use Rattle.ct_run.specs.Run.{Solves, DoesNothing, ReportsUsage, ReportsHelp}
-use Rattle.ct_run.specs.AuditRun.{ReportsAudit}
+use Rattle.ct_run.specs.AuditRun.{ReportsAudit, AreRead, Reads}
 use Rattle.ct_run.specs.Generated.{ReportsCounts}
 use Rattle.ct_run.specs.Tasks.{Does, DoesOfSome, IsAudit, IsOfScript}
 use Rattle.ct_run.proofs.WritingLemmas.{appended-nothing}
@@ -48,6 +49,23 @@ does_nothing_of_some (audits proof script) vs es old new nothing = ([], [], inr 
 does_nothing_of_some (generates count) vs es old new nothing = tt
 does_nothing_of_some helps vs es old new nothing = tt
 does_nothing_of_some faulty vs es old new nothing = tt
+
+-- of a derivation that was judged both files were read whole, whatever the status
+pub judged_read : (s : Status) (held_proof left_proof held_script left_script : Option (List ℕ)) → AreRead true held_proof left_proof held_script left_script → Reads s held_proof left_proof held_script left_script
+judged_read status.Done held_proof left_proof held_script left_script read = read
+judged_read status.Refused held_proof left_proof held_script left_script read = read
+judged_read status.Usage held_proof left_proof held_script left_script read = read
+judged_read status.InputFault held_proof left_proof held_script left_script read = tt
+judged_read status.OutputFault held_proof left_proof held_script left_script read = read
+judged_read status.NoMemory held_proof left_proof held_script left_script read = tt
+judged_read status.Rejected held_proof left_proof held_script left_script read = read
+judged_read status.TooLong held_proof left_proof held_script left_script read = (true, true, read)
+
+-- both readers are there where both files were read whole
+pub both_read : (first second both : Bool) (held_proof left_proof held_script left_script : Option (List ℕ)) → both ≡ (first && second) → IsTaken held_proof first left_proof → IsTaken held_script second left_script → AreRead both held_proof left_proof held_script left_script
+both_read true true both held_proof left_proof held_script left_script is proof script = rw is (record { proof = proof; script = script })
+both_read true false both held_proof left_proof held_script left_script is proof script = rw is (true, false, record { proof = proof; script = script })
+both_read false second both held_proof left_proof held_script left_script is proof script = rw is (false, second, record { proof = proof; script = script })
 
 -- when each status comes
 pub record Comes (asked : Asked) (s : Status) (es : List (ℕ × ℕ)) : Type 0 where

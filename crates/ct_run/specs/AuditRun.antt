@@ -1,10 +1,10 @@
 -- What an audit of a stored derivation does, by the status with which it ends.
-use Rattle.std.specs.Prelude.{◌≡◌, ◌≢◌, ℕ, ◌≤◌, ◌<◌, ◌⊎◌, List, [], length, Option, None, Some, option_to_list}
+use Rattle.std.specs.Prelude.{◌≡◌, ◌≢◌, ℕ, ◌≤◌, ◌<◌, ◌⊎◌, Bool, true, false, List, [], length, Option, None, Some, option_to_list}
 use Rattle.ct_io.specs.declared.sink.SinkError.TheVariants as sink
 use Rattle.ct_io.specs.declared.status.Status.{Status}
 use Rattle.ct_io.specs.declared.status.Status.TheVariants.{Done, Refused, Usage, InputFault, OutputFault, NoMemory, Rejected, TooLong}
 use Rattle.ct_sexpr.specs.Unread.{Unread}
-use Rattle.ct_input.specs.Slot.{most_bytes, IsWholeOf}
+use Rattle.ct_input.specs.Slot.{most_bytes, IsWholeOf, IsTaken}
 use Rattle.ct_engine.specs.declared.verdict.Verdict.{Verdict}
 use Rattle.ct_script.specs.Answers.{lines_of}
 use Rattle.ct_audit.specs.declared.answer.AuditAnswer.{AuditAnswer}
@@ -82,3 +82,23 @@ pub record Judges (proof script : List ℕ) (status : Status) (verdicts : List V
 abbrev pub ReportsAudit : List ℕ → List ℕ → Status → List Verdict → List (ℕ × ℕ) → Option (List ℕ) → Option (List ℕ) → Type 0
 ReportsAudit proof script status verdicts errors old new =
     Judges proof script status verdicts errors old new ⊎ (Prevents proof script status × DoesNothing verdicts errors old new)
+
+-- of each of the two slots, which was opened under its name, the bytes were taken that are read of it: all, or of one that is too long as
+-- many as are read and one more
+pub record WereRead (whole_proof whole_script : Bool) (held_proof left_proof held_script left_script : Option (List ℕ)) : Type 0 where
+  pub proof : IsTaken held_proof whole_proof left_proof
+  pub script : IsTaken held_script whole_script left_script
+
+-- both files were opened and read, and whole or not
+abbrev pub AreRead : Bool → Option (List ℕ) → Option (List ℕ) → Option (List ℕ) → Option (List ℕ) → Type 0
+AreRead true held_proof left_proof held_script left_script = WereRead true true held_proof left_proof held_script left_script
+AreRead false held_proof left_proof held_script left_script =
+    (whole_proof : Bool) × (whole_script : Bool) × WereRead whole_proof whole_script held_proof left_proof held_script left_script
+
+-- what an audit opened and read, by the status with which it ends: both files whole, where the derivation was judged; both, where one of them is
+-- too long. After a fault of the desk, and where memory ran out, nothing is said
+abbrev pub Reads : Status → Option (List ℕ) → Option (List ℕ) → Option (List ℕ) → Option (List ℕ) → Type 0
+Reads InputFault held_proof left_proof held_script left_script = Unit {0}
+Reads NoMemory held_proof left_proof held_script left_script = Unit {0}
+Reads TooLong held_proof left_proof held_script left_script = AreRead false held_proof left_proof held_script left_script
+Reads status held_proof left_proof held_script left_script = AreRead true held_proof left_proof held_script left_script

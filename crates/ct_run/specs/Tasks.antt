@@ -4,7 +4,7 @@ use Rattle.ct_io.specs.declared.status.Status.{Status}
 use Rattle.ct_engine.specs.declared.verdict.Verdict.{Verdict}
 use Rattle.ct_arguments.specs.Arguments.{Asked, solves, audits, generates, helps, faulty}
 use Rattle.ct_run.specs.Run.{Solves, Took, ReportsUsage, ReportsHelp}
-use Rattle.ct_run.specs.AuditRun.{ReportsAudit}
+use Rattle.ct_run.specs.AuditRun.{ReportsAudit, Reads}
 use Rattle.ct_run.specs.Generated.{ReportsCounts}
 
 -- a run that was asked for this does so, where the desk tells what it holds under the names; what is left in the script's slot before and
@@ -25,6 +25,11 @@ DoesOfSome (audits proof script) status verdicts errors old new = (proof_bytes :
 DoesOfSome (generates count) status verdicts errors old new = Unit {0}
 DoesOfSome helps status verdicts errors old new = Unit {0}
 DoesOfSome faulty status verdicts errors old new = Unit {0}
+
+-- where an audit is asked for, its two files were read; what is left in the slots of the derivation and of the script after it
+abbrev pub ReadsFiles : (List ℕ → Option (List ℕ)) → Asked → Status → Option (List ℕ) → Option (List ℕ) → Type 0
+ReadsFiles held (audits proof script) status left_proof left_script = Reads status (held proof) left_proof (held script) left_script
+ReadsFiles held asked status left_proof left_script = Unit {0}
 
 -- an audit is asked for
 abbrev pub IsAudit : Asked → Type 0

@@ -1,12 +1,13 @@
 //! A stored derivation is judged by its script.
 
-ghost use Rattle.std.specs.Prelude.{◌≡◌, ◌≢◌, ◌≤◌, ℕ, List, Some, IfOk, IfErr, OnOk, option_to_list};
+ghost use Rattle.std.specs.Prelude.{◌≡◌, ◌≢◌, ◌≤◌, ◌&&◌, ℕ, List, Some, is_some, IfOk, IfErr, OnOk, option_to_list};
 ghost use Rattle.ct_io.specs.Fault.{HasCause, Rose};
+ghost use Rattle.ct_io.specs.declared.desk.Slot.TheVariants as slot;
 ghost use Rattle.ct_io.specs.declared.status.Status.TheVariants as status;
 ghost use Rattle.ct_input.specs.Slot.{IsWholeOf};
 ghost use Rattle.ct_audit.specs.Answer.{audit_error};
 ghost use Rattle.ct_run.specs.Output.{wrote, IsLeft};
-ghost use Rattle.ct_run.specs.AuditRun.{AreFiles, Reports, ReportsAudit, answer_line, status_of_answer};
+ghost use Rattle.ct_run.specs.AuditRun.{AreFiles, AreRead, Reads, Reports, ReportsAudit, answer_line, status_of_answer};
 
 use crate::answer::write_line;
 use crate::report::{Report, ScriptError, status_of, unanswered};
@@ -17,7 +18,7 @@ use ct_sexpr::Reader;
 use std::alloc::{AllocError, Global};
 
 /// Reads the derivation and the script under their names, and writes what is judged of the first by
-/// the second. Both are read before anything is judged.
+/// the second. Both are opened and read before anything is judged.
 pub fn audit_files<D: Desk, K: Sink>(
     alloc: Global,
     proof: &str,
@@ -29,6 +30,7 @@ pub fn audit_files<D: Desk, K: Sink>(
         → ReportsAudit proof_bytes script_bytes result.status result.verdicts.items result.errors.items (K.written out.old) (K.written out.new) }
     ensures some_files { (proof_bytes : List ℕ) × (script_bytes : List ℕ)
         × ReportsAudit proof_bytes script_bytes result.status result.verdicts.items result.errors.items (K.written out.old) (K.written out.new) }
+    ensures read { Reads result.status (D.held desk.old proof.now) (D.left desk.new slot.Proof) (D.held desk.old script.now) (D.left desk.new slot.Script) }
     ensures input { result.status ≡ status.InputFault → Rose (D.faults desk.old) (D.faults desk.new) }
     ensures output { result.status ≡ status.OutputFault → Rose (K.faults out.old) (K.faults out.new) }
     ensures counts { (D.faults desk.old ≤ D.faults desk.new) × (K.faults out.old ≤ K.faults out.new) }
@@ -53,6 +55,7 @@ fn read_files<D: Desk>(
     ensures fed { IfOk result (λ files. (proof_bytes : List ℕ) × (script_bytes : List ℕ) × AreFiles proof_bytes script_bytes files) }
     ensures held { IfOk result (λ files. (proof_bytes script_bytes : List ℕ) → D.held desk.old proof.now ≡ Some proof_bytes → D.held desk.old script.now ≡ Some script_bytes
         → AreFiles proof_bytes script_bytes files) }
+    ensures read { IfOk result (λ files. AreRead (is_some files) (D.held desk.old proof.now) (D.left desk.new slot.Proof) (D.held desk.old script.now) (D.left desk.new slot.Script)) }
     ensures cause { HasCause InputError.Fault (D.faults desk.old) (D.faults desk.new) result }
 {
     let proof = read_whole_slot(alloc, desk, Slot::Proof, proof)?;
@@ -63,6 +66,7 @@ fn read_files<D: Desk>(
 /// Both readers, where there are both.
 fn both(proof: Option<Reader>, script: Option<Reader>) -> Option<(Reader, Reader)>
     ensures files { (proof_bytes script_bytes : List ℕ) → IsWholeOf proof_bytes proof → IsWholeOf script_bytes script → AreFiles proof_bytes script_bytes result }
+    ensures some { is_some result ≡ (is_some proof && is_some script) }
 {
     match (proof, script) {
         (Some(proof), Some(script)) => Some((proof, script)),

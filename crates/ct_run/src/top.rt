@@ -7,9 +7,9 @@ ghost use Rattle.ct_io.specs.declared.status.Status.TheVariants as status;
 ghost use Rattle.ct_arguments.specs.Arguments as arguments;
 ghost use Rattle.ct_arguments.specs.Seen.{task_seen};
 ghost use Rattle.ct_run.specs.Run.{Solves, Took, ReportsUsage, ReportsHelp};
-ghost use Rattle.ct_run.specs.AuditRun.{ReportsAudit};
+ghost use Rattle.ct_run.specs.AuditRun.{ReportsAudit, Reads};
 ghost use Rattle.ct_run.specs.Generated.{ReportsCounts};
-ghost use Rattle.ct_run.specs.Tasks.{Does, DoesOfSome, IsAudit, IsOfScript};
+ghost use Rattle.ct_run.specs.Tasks.{Does, DoesOfSome, ReadsFiles, IsAudit, IsOfScript};
 
 use crate::audit::audit_files;
 use crate::generated::generate;
@@ -39,6 +39,9 @@ pub fn run<D: Desk, K: Sink>(alloc: Global, words: &[Text], desk: &mut D, out: &
     ensures audited { (proof script proof_bytes script_bytes : List ℕ) → arguments.task_of words.now ≡ arguments.audits proof script
         → D.held desk.old proof ≡ Some proof_bytes → D.held desk.old script ≡ Some script_bytes
         → ReportsAudit proof_bytes script_bytes result.status result.verdicts.items result.errors.items (K.written out.old) (K.written out.new) }
+    // Both were opened and read before it was judged.
+    ensures read { (proof script : List ℕ) → arguments.task_of words.now ≡ arguments.audits proof script
+        → Reads result.status (D.held desk.old proof) (D.left desk.new slot.Proof) (D.held desk.old script) (D.left desk.new slot.Script) }
     ensures generated { (count : ℕ) → arguments.task_of words.now ≡ arguments.generates count
         → ReportsCounts count result.status result.verdicts.items result.errors.items (K.written out.old) (K.written out.new) }
     ensures helped { arguments.task_of words.now ≡ arguments.helps
@@ -79,6 +82,7 @@ pub fn run<D: Desk, K: Sink>(alloc: Global, words: &[Text], desk: &mut D, out: &
 fn perform<D: Desk, K: Sink>(alloc: Global, task: Task<'_>, desk: &mut D, out: &mut K) -> Report
     requires within { arguments.IsWithin (task_seen task) }
     ensures does { Does (D.held desk.old) (task_seen task.entry) (D.left desk.old slot.Script) (D.left desk.new slot.Script) result.status result.verdicts.items result.errors.items (K.written out.old) (K.written out.new) }
+    ensures read { ReadsFiles (D.held desk.old) (task_seen task.entry) result.status (D.left desk.new slot.Proof) (D.left desk.new slot.Script) }
     ensures of_some { DoesOfSome (task_seen task.entry) result.status result.verdicts.items result.errors.items (K.written out.old) (K.written out.new) }
     ensures input { result.status ≡ status.InputFault → Rose (D.faults desk.old) (D.faults desk.new) }
     ensures output { result.status ≡ status.OutputFault → Rose (K.faults out.old) (K.faults out.new) }

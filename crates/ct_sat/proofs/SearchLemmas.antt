@@ -145,14 +145,14 @@ IsSearch-added variables clauses a count budget new stored over fresh = record {
 }
 
 -- a decision keeps it
-pub IsSearch-decided : (variables : List TermId) (clauses : List StepClause) (a : Assigned) (count budget : ℕ) (t : TermId) → IsSearch variables clauses a count budget → Contains variables t → count < budget → IsSearch variables clauses (decided_on a (negative_of t)) (count + 1) budget
-IsSearch-decided variables clauses a count budget t stored variable left = record {
+pub IsSearch-decided : (variables : List TermId) (clauses : List StepClause) (a : Assigned) (count budget : ℕ) (l : Lit) → IsSearch variables clauses a count budget → Contains variables l.term → count < budget → IsSearch variables clauses (decided_on a l) (count + 1) budget
+IsSearch-decided variables clauses a count budget l stored variable left = record {
   below = stored.below;
   increasing = stored.increasing;
   one_number = stored.one_number;
   clauses_over = stored.clauses_over;
-  trail_over = All-push (λ l. Contains variables l.term) a.literals (negative_of t) stored.trail_over variable;
-  reasons = HaveReasons-decided clauses a.literals a.reasons (negative_of t) stored.reasons;
+  trail_over = All-push (λ l. Contains variables l.term) a.literals l stored.trail_over variable;
+  reasons = HaveReasons-decided clauses a.literals a.reasons l stored.reasons;
   within = omega arith;
 }
 

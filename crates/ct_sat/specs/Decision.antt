@@ -1,7 +1,8 @@
 -- What a decision does.
-use Rattle.std.specs.Prelude.{◌≡◌, ◌+◌, ◌<◌, false, [], ◌∷◌, ◌++◌, length, Contains}
+use Rattle.std.specs.Prelude.{◌≡◌, ◌+◌, ◌<◌, false, [], ◌∷◌, ◌++◌, length, take, Some, slice_get, Contains}
 use Rattle.ct_terms.specs.declared.ids.TermId.{TermId}
 use Rattle.ct_terms.specs.declared.ids.Lit.{Lit}
+use Rattle.ct_sat.specs.declared.decided.Decided.{Decided}
 use Rattle.ct_sat.specs.declared.decision.Decision.{Decision}
 use Rattle.ct_sat.specs.declared.decision.Decision.TheVariants.{Took, All, Spent}
 use Rattle.ct_sat.specs.Up.{IsLowest, negative_of}
@@ -29,3 +30,9 @@ abbrev pub Leaves : SearchState → SearchState → Decision → Type 0
 Leaves old new (Took l) = Takes old new l
 Leaves old new All = new ≡ old
 Leaves old new Spent = new ≡ old
+
+-- all decisions are taken back, and with them the literals from the first one on
+pub record Restarts (old new : SearchState) : Type 0 where
+  pub first : Decided
+  pub stands : slice_get old.decided 0 ≡ Some first
+  pub after : new ≡ record old { trail = take first.index old.trail; decided = []; propagated = false }

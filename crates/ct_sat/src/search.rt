@@ -5,9 +5,10 @@ ghost use Rattle.ct_sat.specs.Watching.{IsGoneBack, HasNoTwo, IsPairOf, AreWellW
 ghost use Rattle.ct_terms.specs.declared.ids.TermId.{TermId};
 ghost use Rattle.ct_sat.specs.State.{begun, AreVariables, AreOver, IsFresh, IsSound, IsConflict, IsQuiet, HaveValues, LacksValue};
 ghost use Rattle.ct_sat.specs.State.{FollowsByUnits, AppendsTo};
+ghost use Rattle.ct_sat.specs.Up.{IsAssigned};
 ghost use Rattle.ct_terms.specs.Literal.{IsStripped};
 ghost use Rattle.ct_sat.specs.declared.clause.StepClause.{StepClause};
-ghost use Rattle.ct_sat.specs.Decision.{Leaves};
+ghost use Rattle.ct_sat.specs.Decision.{Leaves, Restarts, with_decision};
 ghost use Rattle.ct_sat.specs.Learning.{Learns};
 
 use crate::analysis::{analyse, refute};
@@ -182,6 +183,38 @@ impl Search {
         }
     }
 
+    /// Makes this literal true, whose variable has no value, where the budget of decisions is not spent. Takes no memory.
+    pub fn decide_on(&mut self, literal: Lit)
+        requires variable { Contains self.old.variables literal.term }
+        requires unset { IsAssigned (Contains self.old.trail) literal.term → ⊥ }
+        requires left { self.old.count < self.old.budget }
+        ensures decided { self.new ≡ with_decision self.old literal }
+    {
+        self.trail.decide(literal);
+        let _count = self.trail.len();
+        self.saved.push_reserved(Saved {
+            head: self.progress.head,
+            settled: self.progress.settled,
+            cursor: self.cursor,
+        });
+        self.propagated = false;
+        self.count += 1;
+    }
+
+    /// Takes back all decisions. Whether there were any: else nothing changes. Takes no memory.
+    pub fn restart(&mut self) -> bool
+        ensures restarted { MatchBool result (Restarts self.old self.new) ((self.old.decided ≡ []) × (self.new ≡ self.old)) }
+    {
+        if self.trail.decided().len() == 0 {
+            return false;
+        }
+        self.trail.cut_to(0);
+        self.cursor = self.saved[0].cursor;
+        go_back(&mut self.progress, &mut self.saved, 0, self.trail.len());
+        self.propagated = false;
+        true
+    }
+
     /// Learns from the clause of the step `conflict`, which is false in the trail. Answers a clause with the hints by which
     /// it follows, adds it under the number `step`, and keeps so many decisions that all its literals but one are false and
     /// that one has no value; or, exactly where no decision stands, the hints by which the empty clause follows. Its only
@@ -254,6 +287,35 @@ impl Search {
         ensures value { result ≡ self.now.count }
     {
         self.count
+    }
+
+    /// Whether as many decisions were made as may be.
+    pub fn is_spent(&self) -> bool
+        ensures spent { MatchBool result (self.now.count ≡ self.now.budget) (self.now.count < self.now.budget) }
+    {
+        self.count == self.budget
+    }
+
+    /// The variables, in the order of their numbers.
+    pub fn variables(&self) -> &[TermId]
+        ensures value { result.now ≡ self.now.variables }
+    {
+        self.variables.as_slice()
+    }
+
+    /// The variable at this place among them, where it has no value.
+    pub fn unset_variable(&self, place: usize) -> Option<TermId>
+        ensures unset { MatchOption result ((t : TermId) → slice_get self.now.variables place ≡ Some t → IsAssigned (Contains self.now.trail) t)
+            (λ t. (slice_get self.now.variables place ≡ Some t) × (IsAssigned (Contains self.now.trail) t → ⊥)) }
+    {
+        if place >= self.variables.len() {
+            return None;
+        }
+        let variable = self.variables[place];
+        match self.trail.index(variable) {
+            Some(_) => None,
+            None => Some(variable),
+        }
     }
 
     /// The literals made true, in order: each was decided, or follows by units from the clauses and the decisions before.

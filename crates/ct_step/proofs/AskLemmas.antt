@@ -21,7 +21,7 @@ use Rattle.ct_step.specs.State.{State, Kept, model_kept, derivation_kept}
 use Rattle.ct_step.specs.Refusal.{IsCheckRefusal}
 use Rattle.ct_step.specs.Step.{OfKept, said, decided, word_of}
 use Rattle.ct_step.specs.Done.{IsAnswer, Performs, IsSame, state_of, kept_of, last_of}
-use Rattle.ct_step.specs.Verdict.{IsRight}
+use Rattle.ct_step.specs.Verdict.{ComesTo}
 use Rattle.ct_step.proofs.SoundLemmas.{same_state}
 
 -- the last verdict is kept
@@ -35,7 +35,7 @@ kept_last verdicts v number = ap (option_map (λ (w : Verdict). record { verdict
     last = ap (slice_get (verdicts ++ v ∷ [])) long ∙ slice_get-last verdicts v
 
 -- a check of the assertions in force
-pub checked : (old new : SessionState) (number : ℕ) (v : Verdict) (a : Answer) → IsRight old.stack.top.context (in_force old.stack) (budget old.options) v → ((n : ℕ) → IsCheckRefusal old.stack n → ⊥) → new.stack ≡ old.stack → new.options ≡ old.options → new.verdicts.items ≡ old.verdicts.items ++ v ∷ [] → new.kept ≡ Some number → ((s : State) → IsAnswer (said s (word_of v)) a) → Performs old number check_sat new a
+pub checked : (old new : SessionState) (number : ℕ) (v : Verdict) (a : Answer) → ComesTo old.stack.top.context (in_force old.stack) (budget old.options) v → ((n : ℕ) → IsCheckRefusal old.stack n → ⊥) → new.stack ≡ old.stack → new.options ≡ old.options → new.verdicts.items ≡ old.verdicts.items ++ v ∷ [] → new.kept ≡ Some number → ((s : State) → IsAnswer (said s (word_of v)) a) → Performs old number check_sat new a
 checked old new number v a right accepted same_stack same_options given kept answer =
     record {
       effect = decided (state_of old) number v;

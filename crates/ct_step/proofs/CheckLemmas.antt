@@ -1,19 +1,19 @@
 -- What a check of the core terms in a table says of the stack that holds them.
-use Rattle.std.proofs.Common.{◌≡◌, ℕ, List, ◌++◌, Contains, refl, sym, subst}
+use Rattle.std.proofs.Common.{◌≡◌, ℕ, suc, ◌≤◌, ◌^◌, List, ◌++◌, Contains, refl, sym, subst}
 use Rattle.ct_sorts.specs.Declarations.{Declarations}
 use Rattle.ct_sorts.specs.Consistent.{IsConsistent}
 use Rattle.ct_terms.specs.declared.ids.TermId.{TermId}
 use Rattle.ct_terms.specs.Terms.{Terms, AreSorted}
 use Rattle.ct_terms.specs.CoreTree.{CoreTree, subtrees, term_at}
-use Rattle.ct_closure.specs.Closed.{HasMoreThan, most_closure_terms, truth_trees}
+use Rattle.ct_closure.specs.Closed.{HasMoreThan, HasVariables, most_closure_terms, truth_trees}
 use Rattle.ct_closure.specs.ClosedTable.{AreSubtermsOf, terms_at}
 use Rattle.ct_engine.specs.declared.verdict.Verdict.{Verdict}
-use Rattle.ct_engine.specs.Verdict.{IsVerdict}
+use Rattle.ct_engine.specs.Verdict.{IsVerdict, IsDecisive}
 use Rattle.ct_stack.specs.Stack.{Stack, in_force, cores}
 use Rattle.ct_stack.specs.Held.{IsHeld, as_one}
 use Rattle.ct_step.specs.Numbers.{closure_too_large}
 use Rattle.ct_step.specs.Refusal.{IsCheckRefusal}
-use Rattle.ct_step.specs.Verdict.{IsRight}
+use Rattle.ct_step.specs.Verdict.{ComesTo}
 use Rattle.ct_step.proofs.CauseLemmas.{no_last, last_cause}
 use Rattle.ct_step.proofs.VerdictLemmas.{Assertions, right}
 
@@ -41,7 +41,17 @@ module _ (s : Stack) (d : Declarations) (table : Terms) (numbers : List TermId) 
   pub check_too_large : HasMoreThan d (terms_at table numbers) most_closure_terms → IsCheckRefusal s closure_too_large
   check_too_large many = last_cause closure_too_large (HasMoreThan s.top.context.declarations (cores s.top.context (in_force s)) most_closure_terms) closure_too_large refl (more many)
 
-  pub check_right : Assertions → IsConsistent d → (budget : ℕ) (v : Verdict) → IsVerdict d table numbers budget v → IsRight s.top.context (in_force s) budget v
-  check_right assertions consistent budget v verdict =
-      right assertions s.top.context (in_force s) table numbers (subst IsConsistent is consistent) held budget v
-      (subst (λ (x : Declarations). IsVerdict x table numbers budget v) is verdict)
+  pub check_comes_to : Assertions → IsConsistent d → (budget : ℕ) (v : Verdict) → IsVerdict d table numbers budget v
+      → ((variables : ℕ) → HasVariables d (terms_at table numbers) variables → 2 ^ variables ≤ suc budget → IsDecisive v)
+      → ComesTo s.top.context (in_force s) budget v
+  check_comes_to assertions consistent budget v verdict decisive =
+      record {
+        right =
+            right assertions s.top.context (in_force s) table numbers (subst IsConsistent is consistent) held budget v
+            (subst (λ (x : Declarations). IsVerdict x table numbers budget v) is verdict);
+        decisive = λ variables has enough.
+            decisive variables
+            (subst (λ (x : Declarations). HasVariables x (terms_at table numbers) variables) (sym is)
+            (subst (λ (rs : List CoreTree). HasVariables s.top.context.declarations rs variables) (sym held.in_table.stand) has))
+            enough;
+      }

@@ -1,5 +1,5 @@
 -- A verdict that is right of core terms in a table is right of the assertions.
-use Rattle.std.proofs.Common.{◌≡◌, ◌∙◌, ◌↔◌, ℕ, suc, ◌<◌, ◌≤◌, ◌^◌, List, [], ◌∷◌, drop, All, slice_get, sym, ap, subst, arith}
+use Rattle.std.proofs.Common.{◌≡◌, ◌∙◌, ◌↔◌, ◌⊎◌, inl, inr, ℕ, suc, ◌≤◌, ◌^◌, List, [], ◌∷◌, drop, All, slice_get, Ok, codes, sym, ap, subst}
 use Rattle.std.specs.List.{AllZip}
 use Rattle.std.proofs.lemmas.Option.{none-some, same_Some}
 use Rattle.ct_sorts.specs.Declarations.{Declarations, bool_sort}
@@ -10,19 +10,24 @@ use Rattle.ct_terms.specs.CoreTree.{CoreTree, term_at}
 use Rattle.ct_formulas.specs.Compiled.{core_of}
 use Rattle.ct_formulas.specs.Formula.{Formula}
 use Rattle.ct_formulas.specs.FormulaSorts.{IsSorted, AreSound}
-use Rattle.ct_closure.specs.Closed.{InClosure, HasVariables}
+use Rattle.ct_closure.specs.Closed.{InClosure, HasMoreThan, HasVariables, most_closure_terms}
 use Rattle.ct_closure.specs.ClosedTable.{HasTree, terms_at}
 use Rattle.ct_eval.specs.declared.interp.Interp.{Interp}
 use Rattle.ct_eval.specs.Interpretation.{IsProper}
 use Rattle.ct_meaning.specs.Meaning.{AllTrue}
 use Rattle.ct_eval.specs.Truth.{Holds}
-use Rattle.ct_engine.specs.declared.verdict.Spent.{Spent}
+use Rattle.ct_command.specs.Command.{check_sat}
 use Rattle.ct_engine.specs.declared.verdict.Verdict.{Verdict}
 use Rattle.ct_engine.specs.declared.verdict.Verdict.TheVariants.{Sat, Unsat, Unknown}
 use Rattle.ct_engine.specs.Verdict.{IsVerdict, IsDecisive}
-use Rattle.ct_stack.specs.Stack.{Context, core, cores}
+use Rattle.ct_stack.specs.Stack.{Context, core, in_force, cores}
 use Rattle.ct_stack.specs.Held.{IsHeld}
-use Rattle.ct_step.specs.Verdict.{IsSpent, IsRight}
+use Rattle.ct_step.specs.Numbers.{closure_too_large}
+use Rattle.ct_step.specs.Options.{budget}
+use Rattle.ct_step.specs.State.{State, context_of, declared}
+use Rattle.ct_step.specs.Step.{CommandEffect, Steps, word_of}
+use Rattle.ct_step.specs.Verdict.{IsRight}
+use Rattle.ct_step.proofs.CauseLemmas.{no_last}
 
 -- the theorem on core terms of assertions
 abbrev pub Assertions : Type 0
@@ -64,11 +69,18 @@ module _ (assertions : Assertions) (c : Context) (asserts : List Formula) (table
         closure = subst (λ (rs : List CoreTree). (t : CoreTree) → HasTree spent.derivation.rec.terms t ↔ InClosure c.declarations rs t) roots h.closure;
         variables = subst (λ (rs : List CoreTree). HasVariables c.declarations rs spent.variables) roots h.variables;
         allowed = h.allowed;
+        below = h.below;
         recorded = h.recorded;
       }
 
--- no verdict is unknown where as many decisions were allowed as are enough
-pub decisive : (c : Context) (asserts : List Formula) (budget variables : ℕ) → ((spent : Spent) → IsSpent c asserts budget spent → suc budget < 2 ^ variables) → 2 ^ variables ≤ suc budget → (v : Verdict) → IsRight c asserts budget v → IsDecisive v
-decisive c asserts budget variables bound enough (Sat i) is = tt
-decisive c asserts budget variables bound enough (Unsat derived) is = tt
-decisive c asserts budget variables bound enough (Unknown spent) is = let below = bound spent is in omega (arith, below, enough)
+-- the answer of a check that is decided
+pub decided_text : (s : State) (number line variables : ℕ) (e : CommandEffect) → Steps s number line (Ok check_sat) e → (HasMoreThan (declared s) (cores (context_of s) (in_force s.stack)) most_closure_terms → ⊥) → HasVariables (declared s) (cores (context_of s) (in_force s.stack)) variables → 2 ^ variables ≤ suc (budget s.options) → (e.text ≡ codes "sat") ⊎ (e.text ≡ codes "unsat")
+decided_text s number line variables e (inl refused) fits has enough =
+    absurd (no_last closure_too_large (HasMoreThan (declared s) (cores (context_of s) (in_force s.stack)) most_closure_terms) fits refused.0 refused.1)
+decided_text s number line variables e (inr accepted) fits has enough =
+    let does = accepted.1 in by does.0 (ap (λ (x : CommandEffect). x.text) does.2) (does.1.decisive variables has enough)
+  where
+    by : (v : Verdict) → e.text ≡ word_of v → IsDecisive v → (e.text ≡ codes "sat") ⊎ (e.text ≡ codes "unsat")
+    by (Sat i) is decisive = inl is
+    by (Unsat derived) is decisive = inr is
+    by (Unknown spent) is decisive = absurd decisive

@@ -23,7 +23,7 @@ use Rattle.ct_step.specs.Options.{most_decisions, budget, with_setting, value_te
 use Rattle.ct_step.specs.State.{State, first_state, context_of, declared, changed, model_kept, derivation_kept}
 use Rattle.ct_step.specs.Infos.{info_text, unsupported_text}
 use Rattle.ct_step.specs.Refusal.{IsRefusal}
-use Rattle.ct_step.specs.Verdict.{IsRight}
+use Rattle.ct_step.specs.Verdict.{ComesTo}
 
 -- what a command does: the state after it, what is printed, the number of its error, the verdicts that it gives, and whether the
 -- script ends with it
@@ -90,7 +90,7 @@ Does s number (define_fun name params sort t) e =
     Gives (defined_function (declared s) name params sort t) (λ f.
     e ≡ quiet (changed s (in_context s.stack (defined_in (context_of s) f))))
 Does s number (assert t) e = Gives (asserted_formula (declared s) t) (λ formula. e ≡ quiet (changed s (asserting s.stack formula)))
-Does s number check_sat e = (v : Verdict) × IsRight (context_of s) (in_force s.stack) (budget s.options) v × (e ≡ decided s number v)
+Does s number check_sat e = (v : Verdict) × ComesTo (context_of s) (in_force s.stack) (budget s.options) v × (e ≡ decided s number v)
 Does s number (push n) e = e ≡ quiet (changed s (pushed_by n s.stack))
 Does s number (pop n) e = e ≡ quiet (changed s (popped_by s.options.global_declarations n s.stack))
 Does s number reset_assertions e = e ≡ quiet (changed s (emptied s.options.global_declarations s.stack))

@@ -1,5 +1,5 @@
 -- When a verdict is right: what it says of the assertions in force.
-use Rattle.std.specs.Prelude.{◌≡◌, ◌↔◌, ℕ, List}
+use Rattle.std.specs.Prelude.{◌≡◌, ◌↔◌, ℕ, suc, ◌<◌, ◌≤◌, ◌^◌, List}
 use Rattle.ct_terms.specs.Terms.{IsTermTable, AreSorted}
 use Rattle.ct_terms.specs.CoreTree.{CoreTree}
 use Rattle.ct_formulas.specs.Formula.{Formula}
@@ -13,6 +13,7 @@ use Rattle.ct_log.specs.Recorded.{Derived}
 use Rattle.ct_engine.specs.declared.verdict.Spent.{Spent}
 use Rattle.ct_engine.specs.declared.verdict.Verdict.{Verdict}
 use Rattle.ct_engine.specs.declared.verdict.Verdict.TheVariants.{Sat, Unsat, Unknown}
+use Rattle.ct_engine.specs.Verdict.{IsDecisive}
 use Rattle.ct_engine.specs.Moves.{IsSpentRecord}
 use Rattle.ct_stack.specs.Stack.{Context, cores}
 
@@ -31,14 +32,15 @@ pub record Refutes (c : Context) (asserts : List Formula) (derived : Derived) : 
   pub passes : Passes c.declarations derived.rec.terms derived.asserts derived.rec.lines
   pub no_model : (i : Interp) → Satisfies c asserts i → ⊥
 
--- the derivation is over the core terms of the assertions, in order, and over exactly their closure, which has so many variables;
--- and a search over them, which is recorded, spent the decisions that were allowed
+-- the derivation is over the core terms of the assertions, in order, and over exactly their closure, which has V propositional
+-- variables; fewer than 2^V - 1 decisions were allowed; and a search, which is recorded, spent them
 pub record IsSpent (c : Context) (asserts : List Formula) (budget : ℕ) (spent : Spent) : Type 0 where
   pub declarations : spent.derivation.declarations ≡ c.declarations
   pub asserted : terms_at spent.derivation.rec.terms spent.derivation.asserts ≡ cores c asserts
   pub closure : (t : CoreTree) → HasTree spent.derivation.rec.terms t ↔ InClosure c.declarations (cores c asserts) t
   pub variables : HasVariables c.declarations (cores c asserts) spent.variables
   pub allowed : spent.budget ≡ budget
+  pub below : suc budget < 2 ^ spent.variables
   pub recorded : IsSpentRecord c.declarations spent.derivation.rec.terms spent.derivation.asserts spent.derivation.rec.lines spent.moves budget
 
 -- the verdict on these assertions is right, where so many decisions are allowed
@@ -46,3 +48,9 @@ abbrev pub IsRight : Context → List Formula → ℕ → Verdict → Type 0
 IsRight c asserts budget (Sat i) = Satisfies c asserts i
 IsRight c asserts budget (Unsat derived) = Refutes c asserts derived
 IsRight c asserts budget (Unknown spent) = IsSpent c asserts budget spent
+
+-- a check of these assertions, where so many decisions are allowed, comes to a verdict that is right, and that is `sat` or `unsat`
+-- with 2^V - 1 decisions or more, where their closure has V propositional variables
+pub record ComesTo (c : Context) (asserts : List Formula) (budget : ℕ) (v : Verdict) : Type 0 where
+  pub right : IsRight c asserts budget v
+  pub decisive : (variables : ℕ) → HasVariables c.declarations (cores c asserts) variables → 2 ^ variables ≤ suc budget → IsDecisive v

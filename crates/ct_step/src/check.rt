@@ -4,7 +4,7 @@ ghost use Rattle.ct_command.specs.Command.{check_sat};
 ghost use Rattle.ct_stack.specs.Stack.{in_force};
 ghost use Rattle.ct_step.specs.Refusal.{IsCheckRefusal};
 ghost use Rattle.ct_step.specs.Done.{IsDone};
-ghost use Rattle.ct_step.specs.Verdict.{IsRight};
+ghost use Rattle.ct_step.specs.Verdict.{ComesTo};
 
 use crate::answer::{Answer, said, word_of};
 use crate::state::SessionState;
@@ -42,7 +42,7 @@ pub(crate) fn check(
 
 // A verdict on the assertions in force, in at most so many decisions.
 fn verdict(alloc: Global, stack: &AssertionStack, budget: u64) -> Result<Verdict, CommandError>
-    ensures right { IfOk result (IsRight stack.now.top.context (in_force stack.now) budget) }
+    ensures verdict { IfOk result (ComesTo stack.now.top.context (in_force stack.now) budget) }
     ensures accepted { OnOk result ((n : ℕ) → IsCheckRefusal stack.now n → ⊥) }
     ensures refused { (n : ℕ) → IsErrOf result (CommandError.Refused n) → IsCheckRefusal stack.now n }
 {

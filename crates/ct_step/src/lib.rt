@@ -17,4 +17,4 @@ pub use answer::{Answer, refusal_text, refused};
 pub use options::Options;
 pub use performing::perform;
 pub use state::SessionState;
-pub use theorems::spent_verdicts;
+pub use theorems::decided_checks;

@@ -1,29 +1,20 @@
-//! What holds of verdicts. A theorem is the contract of a function that does nothing.
-ghost use Rattle.std.specs.Prelude.{ℕ, suc, ◌<◌, ◌≤◌, ◌^◌, List};
-ghost use Rattle.ct_formulas.specs.Formula.{Formula};
-ghost use Rattle.ct_closure.specs.Closed.{HasVariables};
-ghost use Rattle.ct_engine.specs.declared.verdict.Spent.{Spent};
-ghost use Rattle.ct_engine.specs.declared.verdict.Verdict.{Verdict};
-ghost use Rattle.ct_engine.specs.Verdict.{IsDecisive};
-ghost use Rattle.ct_stack.specs.Stack.{Context, cores};
-ghost use Rattle.ct_step.specs.Verdict.{IsSpent, IsRight};
+//! What holds of checks. A theorem is the contract of a function that does nothing.
+ghost use Rattle.std.specs.Prelude.{◌≡◌, ◌⊎◌, ℕ, suc, ◌≤◌, ◌^◌, Ok, codes};
+ghost use Rattle.ct_closure.specs.Closed.{HasMoreThan, HasVariables, most_closure_terms};
+ghost use Rattle.ct_command.specs.Command.{check_sat};
+ghost use Rattle.ct_stack.specs.Stack.{in_force, cores};
+ghost use Rattle.ct_step.specs.Options.{budget};
+ghost use Rattle.ct_step.specs.State.{State, context_of, declared};
+ghost use Rattle.ct_step.specs.Step.{CommandEffect, Steps};
 
-use ct_engine::spent_searches;
-
-/// The theorem on verdicts that are unknown since the decisions were spent, for whoever relies on them. The function does
-/// nothing.
-///
-/// Where the closure of the assertions has V propositional variables, fewer than 2^V - 1 decisions were allowed. So with that
-/// many no check is answered so.
-pub fn spent_verdicts()
-    ensures bound { (c : Context) (asserts : List Formula) (budget : ℕ) (spent : Spent)
-        → IsSpent c asserts budget spent
-        → suc budget < 2 ^ spent.variables }
-    ensures decides { (c : Context) (asserts : List Formula) (budget variables : ℕ) (verdict : Verdict)
-        → IsRight c asserts budget verdict
-        → HasVariables c.declarations (cores c asserts) variables
-        → 2 ^ variables ≤ suc budget
-        → IsDecisive verdict }
-{
-    spent_searches();
-}
+/// The theorem on checks that are decided, for whoever relies on it. The function does nothing.
+pub fn decided_checks()
+    // Where the closure of the assertions has at most 200,000 terms and V propositional variables, and 2^V - 1 decisions or more
+    // are allowed, a check is answered `sat` or `unsat`.
+    ensures decided { (s : State) (number line variables : ℕ) (e : CommandEffect)
+        → Steps s number line (Ok check_sat) e
+        → (HasMoreThan (declared s) (cores (context_of s) (in_force s.stack)) most_closure_terms → ⊥)
+        → HasVariables (declared s) (cores (context_of s) (in_force s.stack)) variables
+        → 2 ^ variables ≤ suc (budget s.options)
+        → (e.text ≡ codes "sat") ⊎ (e.text ≡ codes "unsat") }
+{}

@@ -10,4 +10,5 @@ pub mod TurnLemmas
 pub mod HopLemmas
 pub mod AnswerLemmas
 pub mod ReadyLemmas
+pub mod ForestLemmas
 pub mod MarkedLemmas

@@ -1,15 +1,16 @@
 -- Classes that can be asked about literals: told more, gone back, marked, and begun anew.
-use Rattle.std.proofs.Common.{◌≡◌, ℕ, zero, suc, ◌≤◌, List, [], ◌∷◌, ◌++◌, length, take, drop, Option, slice_get, Some, None, refl, sym, ap, subst, ◌∙◌, inl, inr, arith}
+use Rattle.std.proofs.Common.{◌≡◌, ℕ, zero, suc, ◌≤◌, List, [], ◌∷◌, ◌++◌, length, take, drop, Option, slice_get, Some, None, refl, sym, ap, subst, ◌∙◌, inl, inr, arith, append_assoc}
 use Rattle.std.specs.List.{AllZip, Contains}
 use Rattle.std.specs.Option.{IfSome}
 use Rattle.std.proofs.lemmas.Bool.{cases_order}
 use Rattle.std.proofs.lemmas.Option.{none-some, same_Some}
 use Rattle.std.proofs.lemmas.List.Elements.{Contains-append_left, Contains-append_right}
-use Rattle.std.proofs.lemmas.List.{take-append-drop}
+use Rattle.std.proofs.lemmas.List.{append-nil, take-append-drop, take-take}
+use Rattle.std.proofs.Math.Seq.{take-append_seam}
 use Rattle.ct_lemmas.proofs.Contained.{Contains-take, slice_get-from_Contains}
 use Rattle.ct_lemmas.proofs.Lists.{slice_get-append_cases}
 use Rattle.ct_lemmas.proofs.Pairs.{AllZip-at_left}
-use Rattle.ct_lemmas.proofs.Prefixes.{slice_get-take, take-past}
+use Rattle.ct_lemmas.proofs.Prefixes.{slice_get-take}
 use Rattle.ct_sorts.specs.Declarations.{Declarations}
 use Rattle.ct_sorts.specs.Grown.{Begins}
 use Rattle.ct_terms.specs.declared.ids.TermId.{TermId}
@@ -19,7 +20,7 @@ use Rattle.ct_rules.specs.declared.equation.Equation.{Equation}
 use Rattle.ct_congr.specs.declared.merge.ClassMark.{ClassMark}
 use Rattle.ct_congr.specs.State.{State, Marked, IsFirstMark, marked_now, state_at}
 use Rattle.ct_theory.specs.Entailment.{Entails}
-use Rattle.ct_theory.specs.Consulting.{AreAllEntailed, IsReady, IsUnderWay}
+use Rattle.ct_theory.specs.Consulting.{AreAllEntailed, IsReady, HaveInCommon, IsUnderWay}
 
 -- ---- more literals entail more
 
@@ -136,12 +137,32 @@ module _ {X : Type 0} where
   Contains-part xs n m x has =
       subst (λ (ys : List X). Contains ys x) (take-append-drop m xs) (Contains-append_right (take m xs) (drop m xs) x (Contains-take n (drop m xs) x has))
 
-  -- a list that shares all of its elements with another one begins it
-  pub begins_shared : (xs ys : List X) (n : ℕ) → length xs ≤ n → take n xs ≡ take n ys → Begins xs ys
-  begins_shared xs ys n all same =
-      (drop n ys, sym (take-append-drop n ys) ∙ ap (λ (zs : List X). zs ++ drop n ys) (sym same ∙ take-past n xs all))
+  -- a list begins itself
+  pub begins_itself : (xs : List X) → Begins xs xs
+  begins_itself xs = ([], sym (append-nil xs))
+
+  -- what begins the beginning of a list begins it
+  pub begins_then : (xs ys zs : List X) → Begins xs ys → Begins ys zs → Begins xs zs
+  begins_then xs ys zs first second =
+      (first.0 ++ second.0, second.1 ∙ ap (λ (ls : List X). ls ++ second.0) first.1 ∙ append_assoc xs first.0 second.0)
+
+  -- the first part of a list begins it
+  pub begins_first : (xs ys : List X) (n : ℕ) → xs ≡ take n ys → Begins xs ys
+  begins_first xs ys n is = (drop n ys, sym (take-append-drop n ys) ∙ ap (λ (zs : List X). zs ++ drop n ys) (sym is))
+
+  -- what begins a list, and is no longer than what this has in common with another one, begins that one
+  pub begins_common : (xs ys zs : List X) (n : ℕ) → Begins xs ys → length xs ≤ n → take n ys ≡ take n zs → Begins xs zs
+  begins_common xs ys zs n begins few same =
+      let m = length xs in
+      let of_first : take m ys ≡ xs = ap (λ (ls : List X). take m ls) begins.1 ∙ take-append_seam xs begins.0 in
+      let of_other : take m ys ≡ take m zs = sym (take-take m n ys few) ∙ ap (λ (ls : List X). take m ls) same ∙ take-take m n zs few in
+      begins_first xs zs m (sym of_first ∙ of_other)
 
 -- the mark that was found, if any
 pub kept_if : (marks : List ClassMark) (at : List Marked) (i : ℕ) → AllZip (λ (m : ClassMark) (s : Marked). m.merges ≡ length s.merges) marks at → (found : Option ClassMark) → found ≡ slice_get marks i → IfSome found (λ (mark : ClassMark). (k : ℕ) × (first : Marked) × IsFirstMark at mark.merges k first)
 kept_if marks at i value None is = tt
 kept_if marks at i value (Some mark) is = first_kept marks at i mark value (sym is)
+
+-- any two lists have nothing in common, if no more is asked
+pub HaveInCommon-none : (xs ys : List Lit) → HaveInCommon 0 xs ys
+HaveInCommon-none xs ys = record { left = omega arith; right = omega arith; same = refl }

@@ -1,5 +1,5 @@
 -- The answers of the theory, and the turns to them.
-use Rattle.std.specs.Prelude.{◌≡◌, ℕ, ◌<◌, Bool, false, List, length, Option, Some, slice_get, nat_eq, Contains}
+use Rattle.std.specs.Prelude.{◌≡◌, ℕ, ◌<◌, ◌≤◌, Bool, false, List, length, take, Option, Some, None, slice_get, nat_eq, Contains}
 use Rattle.ct_sorts.specs.Declarations.{Declarations}
 use Rattle.ct_terms.specs.declared.ids.TermId.{TermId}
 use Rattle.ct_terms.specs.declared.ids.Lit.{Lit}
@@ -7,6 +7,9 @@ use Rattle.ct_terms.specs.Terms.{Terms}
 use Rattle.ct_rules.specs.declared.equation.Equation.{Equation}
 use Rattle.ct_congr.specs.State.{State, Marked}
 use Rattle.ct_unique.specs.Found.{missing_pairs}
+use Rattle.ct_explain.specs.Trees.{Planted, IsForestOfFirst}
+use Rattle.ct_theory.specs.declared.shorter.Spare.{Spare}
+use Rattle.ct_theory.specs.declared.aside.Aside.{Aside}
 use Rattle.ct_theory.specs.declared.asking.Consulted.{Consulted}
 use Rattle.ct_theory.specs.declared.asking.Consulted.TheVariants as consulted
 use Rattle.ct_theory.specs.declared.turn.Turn.{Turn}
@@ -22,10 +25,42 @@ IsConsulted d terms literals state (consulted.Saturated order) = IsSaturation d 
 abbrev pub AreAllEntailed : Declarations → Terms → List Lit → List Equation → Type 0
 AreAllEntailed d terms literals equations = (e : Equation) → Contains equations e → Entails d terms literals e.left e.right
 
+-- so many first literals of the two are the same
+pub record HaveInCommon (count : ℕ) (xs ys : List Lit) : Type 0 where
+  pub left : count ≤ length xs
+  pub right : count ≤ length ys
+  pub same : take count xs ≡ take count ys
+
 -- classes that can be asked about literals: now and at each of their marks, the hypotheses entail what was given
 pub record IsReady (state : State) : Type 0 where
   pub now : AreAllEntailed state.declarations state.terms state.hypotheses state.given
   pub marked : (k : ℕ) (at : Marked) → slice_get state.marks k ≡ Some at → AreAllEntailed state.declarations state.terms at.hypotheses at.given
+
+-- each forest of the first merges of the one is one of the first merges of the other
+abbrev pub KeepsForests : State → State → Type 0
+KeepsForests old new = (planted : Planted) → IsForestOfFirst old planted → IsForestOfFirst new planted
+
+-- spare classes are of the same terms, can be asked, and have a forest of their first merges
+pub record IsSpareOf (state : State) (spare : Spare) : Type 0 where
+  pub declarations : spare.classes.value.declarations ≡ state.declarations
+  pub terms : spare.classes.value.terms ≡ state.terms
+  pub ready : IsReady spare.classes.value
+  pub forest : IsForestOfFirst spare.classes.value spare.forest
+
+-- spare classes, if there are any, are of this kind
+abbrev pub MayBeSpareOf : State → Option Spare → Type 0
+MayBeSpareOf state None = Unit {0}
+MayBeSpareOf state (Some spare) = IsSpareOf state spare
+
+-- what is kept beside the classes
+pub record IsAsideOf (state : State) (aside : Aside) : Type 0 where
+  pub forest : IsForestOfFirst state aside.forest
+  pub spare : MayBeSpareOf state aside.spare
+
+-- what is kept beside the classes, if anything is
+abbrev pub MayBeAsideOf : State → Option Aside → Type 0
+MayBeAsideOf state None = Unit {0}
+MayBeAsideOf state (Some aside) = IsAsideOf state aside
 
 -- classes of these terms under these literals, to which nothing was given that the literals do not entail
 pub record IsUnderWay (d : Declarations) (terms : Terms) (literals : List Lit) (state : State) : Type 0 where

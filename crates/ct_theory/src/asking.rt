@@ -1,19 +1,20 @@
 //! Asking the theory whether literals may hold together.
-ghost use Rattle.std.specs.Prelude.{◌≡◌, Contains, IfOk, IfSome, OnOk};
+ghost use Rattle.std.specs.Prelude.{◌≡◌, [], Contains, IfOk, IfSome, OnOk};
 ghost use Rattle.ct_terms.specs.declared.ids.Lit.{Lit};
 ghost use Rattle.ct_terms.specs.Literal.{IsStripped};
 ghost use Rattle.ct_terms.specs.Terms.{AreSorted};
 ghost use Rattle.ct_card.specs.Sizes.{AreSizes};
 ghost use Rattle.ct_theory.specs.Entailment.{IsConflictOf};
-ghost use Rattle.ct_theory.specs.Consulting.{IsReady, IsConsulted};
+ghost use Rattle.ct_theory.specs.Consulting.{IsReady, IsConsulted, HaveInCommon, IsAsideOf};
 
 use crate::answer::{answer, keep};
+use crate::aside::{Aside, taken};
 use crate::conflict::Conflict;
 use crate::error::TheoryError;
 use crate::refuting::refute;
 use crate::shorter::shorter;
 use crate::telling::turn_to;
-use crate::watched::watched_sorts;
+use crate::watched::{Watch, watch_of};
 use ct_acyclic::Order;
 use ct_card::Sizes;
 use ct_congr::Classes;
@@ -41,8 +42,10 @@ pub struct Theory {
     classes: Box<Classes>,
     // How many literals the classes had been told at each of their marks.
     told: Vec<usize>,
-    // For each sort whether equations between its terms call for a look at cycles and bisimilar classes.
-    watched: Vec<bool>,
+    // A forest of their first merges, and classes for second answers.
+    aside: Option<Aside>,
+    // When to look for cycles and bisimilar classes.
+    watch: Watch,
 }
 
 impl Model for Theory {
@@ -50,7 +53,11 @@ impl Model for Theory {
 
     ghost Value = { State };
 
+    ghost use Rattle.ct_theory.specs.Consulting.{MayBeAsideOf};
+
     ghost view = { λ theory. theory.classes.value };
+
+    ghost invariant = { λ theory. MayBeAsideOf theory.classes.value theory.aside };
 }
 
 impl Theory {
@@ -66,6 +73,7 @@ impl Theory {
         requires sorted { AreSorted sig.now table.now }
         ensures declarations { IfOk result (λ theory. theory.declarations ≡ sig.now) }
         ensures terms { IfOk result (λ theory. theory.terms ≡ table.now) }
+        ensures hypotheses { IfOk result (λ theory. theory.hypotheses ≡ []) }
         ensures ready { IfOk result IsReady }
     {
         let classes = Classes::new(alloc, sig, sizes, table, &[])?;
@@ -73,44 +81,74 @@ impl Theory {
             alloc,
             classes: Box::new(alloc, classes)?,
             told: Vec::new(alloc),
-            watched: watched_sorts(alloc, sig, table)?,
+            aside: None,
+            watch: watch_of(alloc, sig, table)?,
         };
-        let _bottom = theory.consult(&[])?;
+        let _bottom = theory.consult(&[], 0)?;
         Ok(theory)
     }
 
     /// Whether the literals may hold together, by the rules of the theory: the classes of terms are closed under the rules, and
     /// while bisimilar classes are left two of them are made one. Each literal is over a Boolean term of the table that is no
-    /// negation. The only error is out of memory; after it the theory is to be dropped.
-    pub fn consult(&mut self, literals: &[Lit]) -> Result<Consulted, TheoryError>
+    /// negation. So many first literals are those of the last question; of fewer the answer is as good, but may cost more. The
+    /// only error is out of memory; after it the theory is to be dropped.
+    pub fn consult(&mut self, literals: &[Lit], shared: usize) -> Result<Consulted, TheoryError>
         requires ready { IsReady self.old }
+        requires shared { HaveInCommon shared self.old.hypotheses literals.now }
         requires stripped { (l : Lit) → Contains literals.now l → IsStripped self.old.terms l.term }
         ensures declarations { OnOk result (self.new.declarations ≡ self.old.declarations) }
         ensures terms { OnOk result (self.new.terms ≡ self.old.terms) }
+        ensures told { OnOk result (self.new.hypotheses ≡ literals.now) }
         ensures ready { OnOk result (IsReady self.new) }
         ensures consulted { IfOk result (IsConsulted self.new.declarations self.new.terms literals.now self.new) }
     {
-        ask(self.alloc, &mut self.classes, &mut self.told, literals)
+        let kept = taken(self.alloc, &self.classes, &mut self.aside);
+        self.aside = None;
+        let mut aside = kept?;
+        let answer = ask(
+            self.alloc,
+            &mut self.classes,
+            &mut self.told,
+            &mut aside,
+            literals,
+            shared,
+        )?;
+        self.aside = Some(aside);
+        Ok(answer)
     }
 
     /// A contradiction among the literals, if a quick look finds one: it applies the rules, and looks for cycles and for
     /// bisimilar classes where terms that can form these have become equal. None says nothing. Each literal is over a Boolean
-    /// term of the table that is no negation. The only error is out of memory; after it the theory is to be dropped.
-    pub fn refute(&mut self, literals: &[Lit]) -> Result<Option<Conflict>, TheoryError>
+    /// term of the table that is no negation. So many first literals are those of the last question. The only error is out of
+    /// memory; after it the theory is to be dropped.
+    pub fn refute(
+        &mut self,
+        literals: &[Lit],
+        shared: usize,
+    ) -> Result<Option<Conflict>, TheoryError>
         requires ready { IsReady self.old }
+        requires shared { HaveInCommon shared self.old.hypotheses literals.now }
         requires stripped { (l : Lit) → Contains literals.now l → IsStripped self.old.terms l.term }
         ensures declarations { OnOk result (self.new.declarations ≡ self.old.declarations) }
         ensures terms { OnOk result (self.new.terms ≡ self.old.terms) }
+        ensures told { OnOk result (self.new.hypotheses ≡ literals.now) }
         ensures ready { OnOk result (IsReady self.new) }
         ensures conflict { IfOk result (λ found. IfSome found (λ c. IsConflictOf self.new.declarations self.new.terms literals.now c.clause c.steps c.close)) }
     {
-        refute(
+        let kept = taken(self.alloc, &self.classes, &mut self.aside);
+        self.aside = None;
+        let mut aside = kept?;
+        let found = refute(
             self.alloc,
             &mut self.classes,
             &mut self.told,
-            self.watched.as_slice(),
+            &mut self.watch,
+            &mut aside,
             literals,
-        )
+            shared,
+        )?;
+        self.aside = Some(aside);
+        Ok(found)
     }
 
     /// The classes under the literals that were asked about last.
@@ -133,19 +171,25 @@ fn ask(
     alloc: Global,
     classes: &mut Classes,
     told: &mut Vec<usize>,
+    aside: &mut Aside,
     literals: &[Lit],
+    shared: usize,
 ) -> Result<Consulted, TheoryError>
     requires ready { IsReady classes.old }
+    requires aside { IsAsideOf classes.old aside.old }
+    requires shared { HaveInCommon shared classes.old.hypotheses literals.now }
     requires stripped { (l : Lit) → Contains literals.now l → IsStripped classes.old.terms l.term }
     ensures declarations { OnOk result (classes.new.declarations ≡ classes.old.declarations) }
     ensures terms { OnOk result (classes.new.terms ≡ classes.old.terms) }
+    ensures aside { OnOk result (IsAsideOf classes.new aside.new) }
+    ensures told { OnOk result (classes.new.hypotheses ≡ literals.now) }
     ensures ready { OnOk result (IsReady classes.new) }
     ensures consulted { IfOk result (IsConsulted classes.new.declarations classes.new.terms literals.now classes.new) }
 {
-    turn_to(alloc, classes, told, literals)?;
-    match answer(alloc, classes)? {
+    turn_to(alloc, classes, told, &mut aside.forest, literals, shared)?;
+    match answer(alloc, classes, &mut aside.forest)? {
         Consulted::Conflict(conflict) => {
-            let short = shorter(alloc, &*classes, literals, conflict)?;
+            let short = shorter(alloc, &*classes, &mut aside.spare, literals, conflict)?;
             Ok(Consulted::Conflict(short))
         }
         Consulted::Saturated(order) => {

@@ -1,9 +1,10 @@
 //! Conflicts: what contradicts itself in closed classes, as a line of the theory.
-ghost use Rattle.std.specs.Prelude.{◌<◌, [], length, Contains, IfOk};
+ghost use Rattle.std.specs.Prelude.{◌<◌, [], length, Contains, IfOk, OnOk};
 ghost use Rattle.ct_terms.specs.declared.ids.Lit.{Lit};
 ghost use Rattle.ct_terms.specs.Literal.{IsStripped};
 ghost use Rattle.ct_log.specs.Closing.{Closes};
 ghost use Rattle.ct_congr.specs.State.{IsClash};
+ghost use Rattle.ct_explain.specs.Trees.{IsForestOfFirst};
 ghost use Rattle.ct_theory.specs.Entailment.{IsConflictOf};
 ghost use Rattle.ct_theory.specs.Steps.{Adds};
 
@@ -27,18 +28,21 @@ pub struct Conflict {
     pub close: Close,
 }
 
-/// The conflict of two terms of one class with different constructors.
+/// The conflict of two terms of one class with different constructors. The forest grows to the merges of the classes.
 pub(crate) fn clash(
     alloc: Global,
     classes: &Classes,
+    forest: &mut Forest,
     a: TermId,
     b: TermId,
 ) -> Result<Conflict, TheoryError>
     requires clash { IsClash classes.now a b }
+    requires forest { IsForestOfFirst classes.now forest.old }
     requires stripped { (l : Lit) → Contains classes.now.hypotheses l → IsStripped classes.now.terms l.term }
     ensures conflict { IfOk result (λ c. IsConflictOf classes.now.declarations classes.now.terms classes.now.hypotheses c.clause c.steps c.close) }
+    ensures forest { OnOk result (IsForestOfFirst classes.now forest.new) }
 {
-    let forest = Forest::new(alloc, classes)?;
+    forest.grow(classes)?;
     let mut proof = EqProof {
         steps: Vec::new(alloc),
     };

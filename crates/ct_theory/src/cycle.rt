@@ -1,5 +1,5 @@
 //! The conflict of a cycle through constructor terms of datatypes: each hop of it is explained.
-ghost use Rattle.std.specs.Prelude.{◌≡◌, ◌<◌, List, [], length, Contains, IfOk, Some, slice_get};
+ghost use Rattle.std.specs.Prelude.{◌≡◌, ◌<◌, List, [], length, Contains, IfOk, OnOk, Some, slice_get};
 ghost use Rattle.ct_sorts.specs.declared.ids.CtorId.{CtorId};
 ghost use Rattle.ct_terms.specs.declared.ids.TermId.{TermId};
 ghost use Rattle.ct_terms.specs.declared.ids.Lit.{Lit};
@@ -10,7 +10,7 @@ ghost use Rattle.ct_rules.specs.Cycle.{LeadsTo, IsCycle};
 ghost use Rattle.ct_log.specs.Closing.{IsCycleBy};
 ghost use Rattle.ct_log.specs.Equations.{Gave};
 ghost use Rattle.ct_congr.specs.State.{AreEqual};
-ghost use Rattle.ct_explain.specs.Trees.{IsForestOfClasses};
+ghost use Rattle.ct_explain.specs.Trees.{IsForestOfFirst, IsForestOfClasses};
 ghost use Rattle.ct_theory.specs.Entailment.{IsConflictOf};
 ghost use Rattle.ct_theory.specs.Steps.{Adds, start_term};
 
@@ -23,20 +23,24 @@ use ct_sorts::Items;
 use ct_terms::{Core, TermId};
 use std::alloc::Global;
 
-/// The conflict of a cycle.
+/// The conflict of a cycle. The forest grows to the merges of the classes.
 pub(crate) fn cycle(
     alloc: Global,
     classes: &Classes,
+    forest: &mut Forest,
     hops: &[(TermId, u32)],
 ) -> Result<Conflict, TheoryError>
     requires cycle { IsCycle classes.now.declarations classes.now.terms (AreEqual classes.now) hops.now }
+    requires forest { IsForestOfFirst classes.now forest.old }
     requires stripped { (l : Lit) → Contains classes.now.hypotheses l → IsStripped classes.now.terms l.term }
     ensures conflict { IfOk result (λ c. IsConflictOf classes.now.declarations classes.now.terms classes.now.hypotheses c.clause c.steps c.close) }
+    ensures forest { OnOk result (IsForestOfFirst classes.now forest.new) }
 {
+    forest.grow(classes)?;
     let mut proof = EqProof {
         steps: Vec::new(alloc),
     };
-    let explained = explain_hops(alloc, classes, hops, &mut proof)?;
+    let explained = explain_hops(alloc, classes, &*forest, hops, &mut proof)?;
     conflict_of(alloc, classes, proof, Close::Cycle(Items::new(explained)))
 }
 
@@ -44,20 +48,21 @@ pub(crate) fn cycle(
 fn explain_hops(
     alloc: Global,
     classes: &Classes,
+    forest: &Forest,
     hops: &[(TermId, u32)],
     proof: &mut EqProof,
 ) -> Result<Vec<Hop>, TheoryError>
     requires cycle { IsCycle classes.now.declarations classes.now.terms (AreEqual classes.now) hops.now }
+    requires forest { IsForestOfClasses classes.now forest.now }
     requires empty { proof.old.steps.items ≡ [] }
     ensures explained { IfOk result (λ explained. Adds classes.now [] proof.new.steps.items (λ given. IsCycleBy classes.now.declarations classes.now.terms given explained.items)) }
 {
-    let forest = Forest::new(alloc, classes)?;
     let first = start_of(hops, TermId(0));
     let mut explained = Vec::new(alloc);
     let mut rest = hops;
     while let [hop, others @ ..] = rest {
         let next = start_of(others, first);
-        explained.push(explain_hop(classes, &forest, hop.0, hop.1, next, proof)?)?;
+        explained.push(explain_hop(classes, forest, hop.0, hop.1, next, proof)?)?;
         rest = others;
     }
     Ok(explained)

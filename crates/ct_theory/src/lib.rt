@@ -2,6 +2,7 @@
 #![tactic(auto)]
 
 mod answer;
+mod aside;
 mod asking;
 mod clause;
 mod conflict;
@@ -12,6 +13,7 @@ mod refuting;
 mod shorter;
 mod telling;
 mod turn;
+mod walk;
 mod watched;
 
 pub use asking::{Consulted, Theory};

@@ -1,81 +1,94 @@
 //! Bringing classes from the literals that they were told to others: going back, and telling the rest.
-ghost use Rattle.std.specs.Prelude.{◌≡◌, ◌≤◌, ◌++◌, [], ℕ, length, take, slice_get, Contains, IfOk, IfSome, OnOk};
-ghost use Rattle.std.specs.Bool.{OnTrue};
+ghost use Rattle.std.specs.Prelude.{◌≡◌, ◌≤◌, ◌++◌, ◌∷◌, [], ℕ, length, slice_get, Contains, IfOk, IfSome, OnOk};
 ghost use Rattle.ct_sorts.specs.Grown.{Begins};
 ghost use Rattle.ct_terms.specs.declared.ids.TermId.{TermId};
 ghost use Rattle.ct_terms.specs.declared.ids.Lit.{Lit};
 ghost use Rattle.ct_terms.specs.Literal.{IsStripped};
 ghost use Rattle.ct_rules.specs.Rules.{truth_term};
 ghost use Rattle.ct_congr.specs.State.{Marked, IsFirstMark};
-ghost use Rattle.ct_theory.specs.Consulting.{IsReady};
+ghost use Rattle.ct_explain.specs.Trees.{IsForestOfFirst};
+ghost use Rattle.ct_theory.specs.Consulting.{KeepsForests, IsReady, HaveInCommon};
 
+use crate::aside::kept_forests;
 use crate::error::TheoryError;
 use ct_card::Sizes;
 use ct_congr::{ClassMark, Classes, Reason};
+use ct_explain::Forest;
 use ct_terms::{Lit, TermId};
 use std::alloc::Global;
 
-/// Takes back what the classes were told beyond what they share with these literals, and tells them the rest. They were told
-/// so many literals at each of their marks; where none of these will do, they begin anew.
+/// Takes back what the classes were told beyond so many literals, which are the first ones of these, and tells them the rest.
+/// They were told so many literals at each of their marks; where none of these will do, they begin anew. The forest goes back with them.
 pub(crate) fn turn_to(
     alloc: Global,
     classes: &mut Classes,
     told: &mut Vec<usize>,
+    forest: &mut Forest,
     literals: &[Lit],
+    shared: usize,
 ) -> Result<(), TheoryError>
     requires ready { IsReady classes.old }
+    requires forest { IsForestOfFirst classes.old forest.old }
+    requires shared { HaveInCommon shared classes.old.hypotheses literals.now }
     requires stripped { (l : Lit) → Contains literals.now l → IsStripped classes.old.terms l.term }
     ensures ready { OnOk result (IsReady classes.new) }
+    ensures forest { OnOk result (IsForestOfFirst classes.new forest.new) }
     ensures declarations { OnOk result (classes.new.declarations ≡ classes.old.declarations) }
     ensures terms { OnOk result (classes.new.terms ≡ classes.old.terms) }
     ensures hypotheses { OnOk result (classes.new.hypotheses ≡ literals.now) }
 {
-    go_back(classes, told, literals);
-    renew(alloc, classes, literals)?;
+    keep_shared(alloc, classes, told, forest, literals, shared)?;
     let stand = classes.hypotheses().len();
     tell(classes, &literals[stand..])?;
     Ok(())
 }
 
-// Goes back to the last mark at which the classes had been told no more than what they share with these literals.
-fn go_back(classes: &mut Classes, told: &mut Vec<usize>, literals: &[Lit])
+// Takes back what the classes were told beyond so many literals, which are the first ones of these.
+fn keep_shared(
+    alloc: Global,
+    classes: &mut Classes,
+    told: &mut Vec<usize>,
+    forest: &mut Forest,
+    literals: &[Lit],
+    shared: usize,
+) -> Result<(), TheoryError>
     requires ready { IsReady classes.old }
+    requires forest { IsForestOfFirst classes.old forest.old }
+    requires shared { HaveInCommon shared classes.old.hypotheses literals.now }
+    ensures ready { OnOk result (IsReady classes.new) }
+    ensures forest { OnOk result (IsForestOfFirst classes.new forest.new) }
+    ensures declarations { OnOk result (classes.new.declarations ≡ classes.old.declarations) }
+    ensures terms { OnOk result (classes.new.terms ≡ classes.old.terms) }
+    ensures begins { OnOk result (Begins classes.new.hypotheses literals.now) }
+{
+    prove!(shared <= literals.len());
+    go_back(classes, told, forest, shared);
+    renew(alloc, classes, forest, shared)?;
+    Ok(())
+}
+
+// Goes back to the last mark at which the classes had been told no more than so many literals.
+fn go_back(classes: &mut Classes, told: &mut Vec<usize>, forest: &mut Forest, most: usize)
+    requires forest { IsForestOfFirst classes.old forest.old }
+    requires ready { IsReady classes.old }
+    ensures forest { IsForestOfFirst classes.new forest.new }
     ensures ready { IsReady classes.new }
     ensures declarations { classes.new.declarations ≡ classes.old.declarations }
     ensures terms { classes.new.terms ≡ classes.old.terms }
+    ensures begins { Begins classes.new.hypotheses classes.old.hypotheses }
 {
-    let shared = shared(classes.hypotheses(), literals);
-    if shared == classes.hypotheses().len() {
+    kept_forests();
+    if classes.hypotheses().len() <= most {
         return;
     }
-    forget(told, shared);
+    forget(told, most);
     match mark_before(classes, told.len()) {
         None => {}
-        Some(mark) => classes.back_to(&mark),
-    }
-}
-
-// How many literals the two have in common, from the front.
-fn shared(xs: &[Lit], ys: &[Lit]) -> usize
-    ensures left { result ≤ length xs.now }
-    ensures right { result ≤ length ys.now }
-    ensures same { take result xs.now ≡ take result ys.now }
-{
-    let mut count = 0;
-    while count < xs.len() && count < ys.len() {
-        if !are_same(xs[count], ys[count]) {
-            return count;
+        Some(mark) => {
+            classes.back_to(&mark);
+            forest.back_to(mark.merges);
         }
-        count += 1;
     }
-    count
-}
-
-// Whether the two are one literal.
-fn are_same(a: Lit, b: Lit) -> bool
-    ensures same { OnTrue result (a ≡ b) }
-{
-    a == b
 }
 
 // Drops the numbers at the end that are greater than this one.
@@ -105,19 +118,60 @@ fn mark_at(marks: &[ClassMark], index: usize) -> Option<ClassMark>
     marks.get(index).copied()
 }
 
-// Begins anew where the classes were told a literal that is not one of these, from the front.
-fn renew(alloc: Global, classes: &mut Classes, literals: &[Lit]) -> Result<(), TheoryError>
+// Begins anew where the classes were told more than so many literals.
+fn renew(
+    alloc: Global,
+    classes: &mut Classes,
+    forest: &mut Forest,
+    most: usize,
+) -> Result<(), TheoryError>
+    requires forest { IsForestOfFirst classes.old forest.old }
     requires ready { IsReady classes.old }
+    ensures forest { OnOk result (IsForestOfFirst classes.new forest.new) }
     ensures ready { OnOk result (IsReady classes.new) }
     ensures declarations { OnOk result (classes.new.declarations ≡ classes.old.declarations) }
     ensures terms { OnOk result (classes.new.terms ≡ classes.old.terms) }
-    ensures begins { OnOk result (Begins classes.new.hypotheses literals.now) }
+    ensures begins { OnOk result (Begins classes.new.hypotheses classes.old.hypotheses) }
+    ensures few { OnOk result (length classes.new.hypotheses ≤ most) }
 {
-    if shared(classes.hypotheses(), literals) < classes.hypotheses().len() {
-        let fresh = fresh_of(alloc, classes, &[])?;
-        *classes = fresh;
+    if classes.hypotheses().len() > most {
+        begin_anew(alloc, classes, forest)?;
     }
     Ok(())
+}
+
+// Puts new classes that were told nothing in the place of these.
+fn begin_anew(alloc: Global, classes: &mut Classes, forest: &mut Forest) -> Result<(), TheoryError>
+    ensures forest { OnOk result (IsForestOfFirst classes.new forest.new) }
+    ensures ready { OnOk result (IsReady classes.new) }
+    ensures declarations { OnOk result (classes.new.declarations ≡ classes.old.declarations) }
+    ensures terms { OnOk result (classes.new.terms ≡ classes.old.terms) }
+    ensures hypotheses { OnOk result (classes.new.hypotheses ≡ []) }
+{
+    put_anew(alloc, classes)?;
+    *forest = planted_of(alloc, &*classes)?;
+    Ok(())
+}
+
+// The same without the forest.
+fn put_anew(alloc: Global, classes: &mut Classes) -> Result<(), TheoryError>
+    ensures ready { OnOk result (IsReady classes.new) }
+    ensures declarations { OnOk result (classes.new.declarations ≡ classes.old.declarations) }
+    ensures terms { OnOk result (classes.new.terms ≡ classes.old.terms) }
+    ensures hypotheses { OnOk result (classes.new.hypotheses ≡ []) }
+{
+    let fresh = fresh_of(alloc, classes, &[])?;
+    *classes = fresh;
+    Ok(())
+}
+
+/// A forest of the merges of the classes.
+pub(crate) fn planted_of(alloc: Global, classes: &Classes) -> Result<Forest, TheoryError>
+    ensures forest { IfOk result (IsForestOfFirst classes.now) }
+{
+    kept_forests();
+    let forest = Forest::new(alloc, classes)?;
+    Ok(forest)
 }
 
 /// New classes of the same terms under these literals.
@@ -149,14 +203,30 @@ pub(crate) fn fresh_of(
 fn tell(classes: &mut Classes, literals: &[Lit]) -> Result<(), TheoryError>
     requires ready { IsReady classes.old }
     requires stripped { (l : Lit) → Contains literals.now l → IsStripped classes.old.terms l.term }
+    ensures forests { OnOk result (KeepsForests classes.old classes.new) }
     ensures ready { OnOk result (IsReady classes.new) }
     ensures declarations { OnOk result (classes.new.declarations ≡ classes.old.declarations) }
     ensures terms { OnOk result (classes.new.terms ≡ classes.old.terms) }
     ensures hypotheses { OnOk result (classes.new.hypotheses ≡ classes.old.hypotheses ++ literals.now) }
 {
     for literal in literals {
-        classes.merge(literal.term, truth(literal.positive), Reason::Hyp(*literal))?;
+        tell_one(classes, *literal)?;
     }
+    Ok(())
+}
+
+// Tells the classes the literal.
+fn tell_one(classes: &mut Classes, literal: Lit) -> Result<(), TheoryError>
+    requires ready { IsReady classes.old }
+    requires stripped { IsStripped classes.old.terms literal.term }
+    ensures forests { OnOk result (KeepsForests classes.old classes.new) }
+    ensures ready { OnOk result (IsReady classes.new) }
+    ensures declarations { OnOk result (classes.new.declarations ≡ classes.old.declarations) }
+    ensures terms { OnOk result (classes.new.terms ≡ classes.old.terms) }
+    ensures hypotheses { OnOk result (classes.new.hypotheses ≡ classes.old.hypotheses ++ literal ∷ []) }
+{
+    kept_forests();
+    classes.merge(literal.term, truth(literal.positive), Reason::Hyp(literal))?;
     Ok(())
 }
 

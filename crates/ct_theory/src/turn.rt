@@ -8,14 +8,17 @@ ghost use Rattle.ct_terms.specs.Terms.{Terms};
 ghost use Rattle.ct_rules.specs.Cycle.{IsCycle};
 ghost use Rattle.ct_congr.specs.State.{AreEqual, IsQuiet};
 ghost use Rattle.ct_acyclic.specs.Order.{IsClassOrder};
-ghost use Rattle.ct_theory.specs.Consulting.{IsUnderWay, IsTurn};
+ghost use Rattle.ct_explain.specs.Trees.{IsForestOfFirst};
+ghost use Rattle.ct_theory.specs.Consulting.{KeepsForests, IsUnderWay, IsTurn};
 
+use crate::aside::kept_forests;
 use crate::conflict::{Conflict, clash};
 use crate::cycle::cycle;
 use crate::error::TheoryError;
 use crate::finite::{are_finite, finite_classes};
 use ct_acyclic::{Order, OrderError, order};
 use ct_congr::{Classes, Closed, Reason, classes_of_merges};
+use ct_explain::Forest;
 use ct_unique::{coarsest, pairs};
 use std::alloc::Global;
 
@@ -31,8 +34,14 @@ pub(crate) enum Turn {
 }
 
 /// Closes the classes, unless two constructors meet, and looks what they come to. After an error the classes are to be dropped.
-pub(crate) fn take_turn(alloc: Global, classes: &mut Classes) -> Result<Turn, TheoryError>
+pub(crate) fn take_turn(
+    alloc: Global,
+    classes: &mut Classes,
+    forest: &mut Forest,
+) -> Result<Turn, TheoryError>
+    requires forest { IsForestOfFirst classes.old forest.old }
     requires stripped { (l : Lit) → Contains classes.old.hypotheses l → IsStripped classes.old.terms l.term }
+    ensures forest { OnOk result (IsForestOfFirst classes.new forest.new) }
     ensures marks { OnOk result (classes.new.marks ≡ classes.old.marks) }
     ensures under_way { OnOk result ((d : Declarations) (terms : Terms) (literals : List Lit)
         → IsUnderWay d terms literals classes.old
@@ -41,20 +50,27 @@ pub(crate) fn take_turn(alloc: Global, classes: &mut Classes) -> Result<Turn, Th
         → IsUnderWay d terms literals classes.old
         → IsTurn d terms literals classes.old classes.new turn) }
 {
+    kept_forests();
     classes_of_merges();
     prove!(classes.merges().len() >= 0);
     let closed = classes.close_or_clash()?;
     prove!(classes.merges().len() >= 0);
     match closed {
-        Closed::Clash(a, b) => Ok(Turn::Conflict(clash(alloc, &*classes, a, b)?)),
-        Closed::Quiet => turn_of_quiet(alloc, classes),
+        Closed::Clash(a, b) => Ok(Turn::Conflict(clash(alloc, &*classes, forest, a, b)?)),
+        Closed::Quiet => turn_of_quiet(alloc, classes, forest),
     }
 }
 
 // The same for closed classes without a clash.
-fn turn_of_quiet(alloc: Global, classes: &mut Classes) -> Result<Turn, TheoryError>
+fn turn_of_quiet(
+    alloc: Global,
+    classes: &mut Classes,
+    forest: &mut Forest,
+) -> Result<Turn, TheoryError>
     requires quiet { IsQuiet classes.old }
+    requires forest { IsForestOfFirst classes.old forest.old }
     requires stripped { (l : Lit) → Contains classes.old.hypotheses l → IsStripped classes.old.terms l.term }
+    ensures forest { OnOk result (IsForestOfFirst classes.new forest.new) }
     ensures marks { OnOk result (classes.new.marks ≡ classes.old.marks) }
     ensures under_way { OnOk result ((d : Declarations) (terms : Terms) (literals : List Lit)
         → IsUnderWay d terms literals classes.old
@@ -65,7 +81,7 @@ fn turn_of_quiet(alloc: Global, classes: &mut Classes) -> Result<Turn, TheoryErr
 {
     match order(alloc, &*classes) {
         Ok(found) => unify(alloc, classes, found),
-        Err(OrderError::Cycle(hops)) => Ok(Turn::Conflict(cycle(alloc, &*classes, &hops)?)),
+        Err(OrderError::Cycle(hops)) => Ok(Turn::Conflict(cycle(alloc, &*classes, forest, &hops)?)),
         Err(OrderError::NoMemory) => Err(TheoryError),
     }
 }
@@ -75,6 +91,7 @@ fn unify(alloc: Global, classes: &mut Classes, found: Order) -> Result<Turn, The
     requires quiet { IsQuiet classes.old }
     requires ordered { IsClassOrder classes.old found.reps.items }
     requires acyclic { (hops : List (TermId × ℕ)) → IsCycle classes.old.declarations classes.old.terms (AreEqual classes.old) hops → ⊥ }
+    ensures forests { OnOk result (KeepsForests classes.old classes.new) }
     ensures marks { OnOk result (classes.new.marks ≡ classes.old.marks) }
     ensures under_way { OnOk result ((d : Declarations) (terms : Terms) (literals : List Lit)
         → IsUnderWay d terms literals classes.old
@@ -83,6 +100,7 @@ fn unify(alloc: Global, classes: &mut Classes, found: Order) -> Result<Turn, The
         → IsUnderWay d terms literals classes.old
         → IsTurn d terms literals classes.old classes.new turn) }
 {
+    kept_forests();
     classes_of_merges();
     prove!(classes.merges().len() >= 0);
     if are_finite(classes.signature(), classes.table()) {

@@ -29,7 +29,7 @@ pub fn show_consulted(
     let Ok(mut theory) = Theory::new(alloc, sig, &prepared.sizes, &prepared.table) else {
         return Err(CaseError::NoMemory);
     };
-    match theory.consult(&prepared.hyps) {
+    match theory.consult(&prepared.hyps, 0) {
         Ok(Consulted::Conflict(conflict)) => show_line(alloc, sig, prepared, conflict, out),
         Ok(Consulted::Saturated(_)) => {
             out.push_str("saturated")?;

@@ -1,6 +1,6 @@
 //! Derivations: `(derive (TERM ..) (NUMBER ..) (LINE ..))` makes one of the lines up to the first
 //! that is not accepted after those before it, and answers how many it has.
-ghost use Rattle.std.specs.Prelude.{◌≡◌, IfOk, IsTrue};
+ghost use Rattle.std.specs.Prelude.{◌≡◌, IfOk, OnOk, IsTrue};
 ghost use Rattle.ct_log.specs.Acceptance.{IsAccepted, clauses_of};
 ghost use Rattle.ct_log.specs.Recorded.{AreJudges};
 
@@ -16,7 +16,7 @@ use ct_terms::{TermId, TermTable};
 use std::alloc::Global;
 
 /// Makes the derivation, and shows how many lines it has.
-pub fn derive(
+pub fn show_derived(
     alloc: Global,
     sig: &Signature,
     terms: &Sexpr,
@@ -24,14 +24,28 @@ pub fn derive(
     lines: &Sexpr,
     out: &mut String,
 ) -> Result<(), CaseError> {
+    let derivation = derive(alloc, sig, terms, asserts, lines)?;
+    let count = derivation.rec().lines().len();
+    Ok(out.push_str(format!(in alloc; "{count}")?.as_str())?)
+}
+
+/// The derivation of the lines up to the first that is not accepted.
+pub fn derive(
+    alloc: Global,
+    sig: &Signature,
+    terms: &Sexpr,
+    asserts: &Sexpr,
+    lines: &Sexpr,
+) -> Result<Box<Derivation>, CaseError>
+    ensures declarations { IfOk result (λ derivation. derivation.value.declarations ≡ sig.now) }
+{
     let lines = lines_of(alloc, items_of(lines)?)?;
     let table = table_of(alloc, sig, items_of(terms)?)?;
     let asserts = asserts_of(alloc, &table, items_of(asserts)?)?;
     let sizes = sizes_of(alloc, sig)?;
     let mut derivation = derivation_of(alloc, sig, &sizes, table, asserts)?;
     push_all(alloc, sig, &sizes, &mut derivation, lines)?;
-    let count = derivation.rec().lines().len();
-    Ok(out.push_str(format!(in alloc; "{count}")?.as_str())?)
+    Ok(derivation)
 }
 
 /// The derivation without lines.
@@ -62,6 +76,7 @@ fn push_all(
 ) -> Result<(), CaseError>
     requires declarations { derivation.old.declarations ≡ sig.now }
     requires sizes { derivation.old.sizes ≡ sizes.now }
+    ensures declarations { OnOk result (derivation.new.declarations ≡ sig.now) }
 {
     for line in lines {
         if !push(alloc, sig, sizes, derivation, line)? {

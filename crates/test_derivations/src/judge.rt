@@ -8,10 +8,11 @@ ghost use Rattle.ct_terms.specs.Terms.{AreSorted};
 ghost use Rattle.ct_log.specs.Recorded.{AreJudges};
 ghost use Rattle.ct_log.specs.Rooms.{IsRoomOf};
 
-use crate::derive::derive;
+use crate::derive::show_derived;
 use crate::lines::lines_of;
 use crate::table::{asserts_of, table_of};
 use crate::text::{audit, show_read, show_written};
+use crate::trim::show_trimmed;
 use ct_card::{CardError, Sizes};
 use ct_cases::{CaseError, items_of};
 use ct_checker::{Checker, Reject};
@@ -33,7 +34,10 @@ pub fn answer(
         ("check", [terms, asserts, lines]) => check(alloc, sig, terms, asserts, lines, out),
         ("accepted", [terms, asserts, lines]) => accept(alloc, sig, terms, asserts, lines, out),
         ("each", [terms, asserts, lines]) => each(alloc, sig, terms, asserts, lines, out),
-        ("derive", [terms, asserts, lines]) => derive(alloc, sig, terms, asserts, lines, out),
+        ("derive", [terms, asserts, lines]) => show_derived(alloc, sig, terms, asserts, lines, out),
+        ("trim", [kept, terms, asserts, lines]) => {
+            show_trimmed(alloc, sig, kept, terms, asserts, lines, out)
+        }
         ("read", [expr]) => show_read(alloc, sig, expr, out),
         ("audit", [asserts, expr]) => audit(alloc, sig, asserts, expr, out),
         ("write", [expr]) => show_written(alloc, sig, expr, out),

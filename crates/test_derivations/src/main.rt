@@ -12,6 +12,7 @@ mod lines;
 mod numbers;
 mod table;
 mod text;
+mod trim;
 
 use ct_cases::{CaseError, declare_all, items_of, read_case, split_named};
 use ct_sorts::{SigError, Signature};

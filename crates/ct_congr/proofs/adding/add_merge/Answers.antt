@@ -22,10 +22,10 @@ keyed : (c : In_ok-united) → AreKeys c.args.table.now c.join.new.store.parts.n
 keyed c = AreKeys-larger c.args.table.now c.args.progress.now.store.parts.now.reps c.join.new.store.parts.now.reps c.args.progress.now.keys (joined c).keeps c.requires.keys
 
 pub join-requires-clause-left : goal.join-requires-clause-left
-join-requires-clause-left c = omega (arith, c.requires.left, c.requires.groupings.0.long)
+join-requires-clause-left c = omega (arith, c.requires.left, c.requires.groupings.now.long)
 
 pub join-requires-clause-right : goal.join-requires-clause-right
-join-requires-clause-right c = omega (arith, c.requires.right, c.requires.groupings.0.long)
+join-requires-clause-right c = omega (arith, c.requires.right, c.requires.groupings.now.long)
 
 pub follow-requires-clause-groupings : goal.follow-requires-clause-groupings
 follow-requires-clause-groupings c = of (goal.at.follow-requires-clause-groupings c).In_ok-united

@@ -12,7 +12,7 @@ pub run-requires-clause-groupings : goal.run-requires-clause-groupings
 run-requires-clause-groupings c = c.requires.kept.groupings
 
 pub run-requires-clause-long : goal.run-requires-clause-long
-run-requires-clause-long c = c.requires.kept.groupings.0.long
+run-requires-clause-long c = c.requires.kept.groupings.now.long
 
 pub run-requires-clause-keys : goal.run-requires-clause-keys
 run-requires-clause-keys c = c.requires.kept.keyed

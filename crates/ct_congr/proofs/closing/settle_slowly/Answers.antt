@@ -6,7 +6,7 @@ use Rattle.ct_congr.proofs.KeptLemmas.{IsKept-slow, IsFurther-slow}
 use Rattle.ct_congr.proofs.closing.settle_slowly.Goals as goal
 
 pub saturate-requires-clause-cons_long : goal.saturate-requires-clause-cons_long
-saturate-requires-clause-cons_long c = c.unions.ensures.whole.0.cons_long ∙ c.requires.kept.groupings.0.long
+saturate-requires-clause-cons_long c = c.unions.ensures.whole.0.cons_long ∙ c.requires.kept.groupings.now.long
 
 pub returns-in_err-saturate-clause-kept : goal.returns-in_err-saturate-clause-kept
 returns-in_err-saturate-clause-kept c =

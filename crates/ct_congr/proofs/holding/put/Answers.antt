@@ -33,10 +33,10 @@ grouped : (c : In_ok-united) → IsGrouped c.args.table.now c.args.progress.now.
 grouped c = IsGrouped-now c.args.table.now c.args.progress.now.store.parts c.unions.ensures.whole c.requires.kept.groupings
 
 pub join-requires-clause-left : goal.join-requires-clause-left
-join-requires-clause-left c = omega (arith, c.requires.left, c.requires.kept.groupings.0.long)
+join-requires-clause-left c = omega (arith, c.requires.left, c.requires.kept.groupings.now.long)
 
 pub join-requires-clause-right : goal.join-requires-clause-right
-join-requires-clause-right c = omega (arith, c.requires.right, c.requires.kept.groupings.0.long)
+join-requires-clause-right c = omega (arith, c.requires.right, c.requires.kept.groupings.now.long)
 
 pub pursue-progress-requires-clause-groupings : goal.pursue-progress-requires-clause-groupings
 pursue-progress-requires-clause-groupings c = of (goal.at.pursue-progress-requires-clause-groupings c).In_ok-united

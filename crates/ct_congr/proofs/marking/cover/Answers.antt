@@ -30,3 +30,6 @@ returns-clause-kept c = λ d quiet kept.
     (λ t core has. subst (λ (q : List TermId). IsMet terms q keys (AreJoined q after) t core) same (c.in_ok-meet_all.ensures.met t core has)) in
     IsKept-fast d terms parts keys left true c.requires.groupings (subst (λ (q : List TermId). AreKeys terms q keys) same c.in_ok-meet_all.ensures.keys)
     (λ is. no_waiting d terms reps left none) (λ is. rw none covered)
+
+pub meet_all-requires-clause-lone : goal.meet_all-requires-clause-lone
+meet_all-requires-clause-lone c = rw c.lone-lone.ensures.value c.requires.groupings.lone

@@ -51,10 +51,10 @@ pub add_merge-requires-clause-groupings : goal.add_merge-requires-clause-groupin
 add_merge-requires-clause-groupings c = c.loop-merge.invariant.further.groupings
 
 pub add_merge-requires-clause-left : goal.add_merge-requires-clause-left
-add_merge-requires-clause-left c = omega (arith, (taken (goal.at.add_merge-requires-clause-left c).In-Some).left, c.loop-merge.invariant.further.groupings.0.long)
+add_merge-requires-clause-left c = omega (arith, (taken (goal.at.add_merge-requires-clause-left c).In-Some).left, c.loop-merge.invariant.further.groupings.now.long)
 
 pub add_merge-requires-clause-right : goal.add_merge-requires-clause-right
-add_merge-requires-clause-right c = omega (arith, (taken (goal.at.add_merge-requires-clause-right c).In-Some).right, c.loop-merge.invariant.further.groupings.0.long)
+add_merge-requires-clause-right c = omega (arith, (taken (goal.at.add_merge-requires-clause-right c).In-Some).right, c.loop-merge.invariant.further.groupings.now.long)
 
 pub add_merge-requires-clause-keys : goal.add_merge-requires-clause-keys
 add_merge-requires-clause-keys c = c.loop-merge.invariant.further.keyed

@@ -23,14 +23,14 @@ pub at_terms-requires-clause-inside : goal.at_terms-requires-clause-inside
 at_terms-requires-clause-inside c = λ t has.
     let terms = c.args.table.now in
     let now = c.args.parts.now.now in
-    above_inside terms now.reps c.args.winner t ((c.uses-uses.ensures.uses terms c.args.winner c.requires.groupings.0 c.requires.own).only t has)
+    above_inside terms now.reps c.args.winner t ((c.uses-uses.ensures.uses terms c.args.winner c.requires.groupings.now c.requires.own).only t has)
 
 pub at_truths-requires-clause-grouped : goal.at_truths-requires-clause-grouped
 at_truths-requires-clause-grouped c = rw (c.reps-reps.ensures.value, c.cons-cons.ensures.value) (IsGrouped-now c.args.table.now c.args.parts.now c.reps-reps.ensures.whole c.requires.groupings)
 
 pub at_truths-requires-clause-inside : goal.at_truths-requires-clause-inside
 at_truths-requires-clause-inside c = λ t has.
-    member_inside c.args.table.now c.args.parts.now.now.reps c.args.winner t c.class-class.result.now c.requires.groupings.0.long (c.class-class.ensures.members c.args.winner c.requires.own) has
+    member_inside c.args.table.now c.args.parts.now.now.reps c.args.winner t c.class-class.result.now c.requires.groupings.now.long (c.class-class.ensures.members c.args.winner c.requires.own) has
 
 pub returns-clause-waits : goal.returns-clause-waits
 returns-clause-waits c =
@@ -46,7 +46,7 @@ returns-clause-uses c = λ p u core stands above at.
     let now = c.args.parts.now.now in
     let first = c.at_terms.new.waiting.items in
     let second = c.at_truths.new.waiting.items in
-    let done = uses_done d terms now now [] c.reps-reps.result.now c.cons-cons.result.now c.reps-reps.ensures.value c.cons-cons.ensures.value first c.uses-uses.result.now c.in_ok-at_terms.ensures.covered c.args.winner (c.uses-uses.ensures.uses terms c.args.winner c.requires.groupings.0 c.requires.own) p u core stands above at in
+    let done = uses_done d terms now now [] c.reps-reps.result.now c.cons-cons.result.now c.reps-reps.ensures.value c.cons-cons.ensures.value first c.uses-uses.result.now c.in_ok-at_terms.ensures.covered c.args.winner (c.uses-uses.ensures.uses terms c.args.winner c.requires.groupings.now c.requires.own) p u core stands above at in
     IsCoveredAt-wider d terms (InOneClass now.reps) (HasCon now.reps now.cons) (AreJoined now.reps first) (AreJoined now.reps second) (AreJoined-more now.reps first second c.in_ok-at_truths.ensures.waits.still) p done
 
 pub returns-clause-truths : goal.returns-clause-truths

@@ -6,7 +6,7 @@ use Rattle.ct_congr.proofs.SpreadLemmas.{class_done, first_of, member_inside}
 use Rattle.ct_congr.proofs.spreading.at_taken.Goals as goal
 
 pub taken_class-class-requires : goal.taken_class-class-requires
-taken_class-class-requires c = record { inside = omega (arith, c.requires.inside, c.requires.groupings.0.long) }
+taken_class-class-requires c = record { inside = omega (arith, c.requires.inside, c.requires.groupings.now.long) }
 
 pub at_truths-requires-clause-grouped : goal.at_truths-requires-clause-grouped
 at_truths-requires-clause-grouped c = rw (c.reps-reps.ensures.value, c.cons-cons.ensures.value) (IsGrouped-now c.args.table.now c.args.parts.now c.reps-reps.ensures.whole c.requires.groupings)

@@ -10,25 +10,25 @@ pub con_of-requires : goal.con_of-requires
 con_of-requires c =
     let parts = c.args.parts.now in
     let b = first_of parts.past c.requires.past in
-    record { inside = omega (arith, winner_inside c.args.table.now b.0 parts.now c.args.union.winner c.args.union.loser (c.requires.join b.0 b.1 b.2) c.requires.groupings.0.long, c.requires.groupings.0.long) }
+    record { inside = omega (arith, winner_inside c.args.table.now b.0 parts.now c.args.union.winner c.args.union.loser (c.requires.join b.0 b.1 b.2) c.requires.groupings.now.long, c.requires.groupings.now.long) }
 
 pub taken_con-requires : goal.taken_con-requires
 taken_con-requires c =
     let parts = c.args.parts.now in
     let b = first_of parts.past c.requires.past in
-    record { inside = omega (arith, loser_inside c.args.table.now b.0 parts.now c.args.union.winner c.args.union.loser (c.requires.join b.0 b.1 b.2) c.requires.groupings.0.long, c.requires.groupings.0.long) }
+    record { inside = omega (arith, loser_inside c.args.table.now b.0 parts.now c.args.union.winner c.args.union.loser (c.requires.join b.0 b.1 b.2) c.requires.groupings.now.long, c.requires.groupings.now.long) }
 
 pub at_class-requires-clause-own : goal.at_class-requires-clause-own
 at_class-requires-clause-own c =
     let parts = c.args.parts.now in
     let b = first_of parts.past c.requires.past in
-    winner_own c.args.table.now b.0 parts.now c.args.union.winner c.args.union.loser (c.requires.join b.0 b.1 b.2) c.requires.groupings.0.long
+    winner_own c.args.table.now b.0 parts.now c.args.union.winner c.args.union.loser (c.requires.join b.0 b.1 b.2) c.requires.groupings.now.long
 
 pub meet_taken-requires-clause-con : goal.meet_taken-requires-clause-con
 meet_taken-requires-clause-con c =
     let parts = c.args.parts.now in
     let b = first_of parts.past c.requires.past in
-    let own = winner_own c.args.table.now b.0 parts.now c.args.union.winner c.args.union.loser (c.requires.join b.0 b.1 b.2) c.requires.groupings.0.long in
+    let own = winner_own c.args.table.now b.0 parts.now c.args.union.winner c.args.union.loser (c.requires.join b.0 b.1 b.2) c.requires.groupings.now.long in
     c.con_of.ensures.value c.args.union.winner own ∙ ap Some c.in-Some.is
 
 pub meet_taken-requires-clause-other : goal.meet_taken-requires-clause-other
@@ -43,7 +43,7 @@ returns-in_default-clause-met c = λ was earlier keys is done.
     let winner = c.args.union.winner in
     let loser = c.args.union.loser in
     let put = c.requires.join was earlier is in
-    let own = winner_own terms was parts.now winner loser put c.requires.groupings.0.long in
+    let own = winner_own terms was parts.now winner loser put c.requires.groupings.now.long in
     let none : slice_get parts.now.cons winner.0 ≡ Some None = c.con_of.ensures.value winner own ∙ ap Some c.in_default.is in
     let grouped = IsGrouped-past terms parts was earlier is c.unions.ensures.whole c.requires.groupings in
     IsSpread-none c.args.sig.now terms was parts.now winner loser put grouped keys (AreJoined parts.now.reps c.args.waiting.now.items) none done
@@ -56,7 +56,7 @@ returns-then-is_same-clause-met c = λ was earlier keys is done.
     let winner = c.args.union.winner in
     let loser = c.args.union.loser in
     let put = c.requires.join was earlier is in
-    let own = winner_own terms was parts.now winner loser put c.requires.groupings.0.long in
+    let own = winner_own terms was parts.now winner loser put c.requires.groupings.now.long in
     let at : slice_get parts.now.cons winner.0 ≡ Some (Some c.in-Some.con) = c.con_of.ensures.value winner own ∙ ap Some c.in-Some.is in
     let same = rw c.if-is_same.true at c.is_same.ensures.value in
     let taken : slice_get was.cons loser.0 ≡ Some (Some c.in-Some.con) = c.taken_con.ensures.con was earlier is (IsTaken-join was parts.now winner loser put) ∙ ap Some same in

@@ -20,13 +20,13 @@ pub at_taken-requires-clause-inside : goal.at_taken-requires-clause-inside
 at_taken-requires-clause-inside c =
     let parts = c.args.parts.now in
     let b = first_of parts.past c.requires.past in
-    loser_inside c.args.table.now b.0 parts.now c.args.union.winner c.args.union.loser (c.requires.join b.0 b.1 b.2) c.requires.groupings.0.long
+    loser_inside c.args.table.now b.0 parts.now c.args.union.winner c.args.union.loser (c.requires.join b.0 b.1 b.2) c.requires.groupings.now.long
 
 pub taken_con-requires : goal.taken_con-requires
 taken_con-requires c =
     let parts = c.args.parts.now in
     let b = first_of parts.past c.requires.past in
-    record { inside = omega (arith, loser_inside c.args.table.now b.0 parts.now c.args.union.winner c.args.union.loser (c.requires.join b.0 b.1 b.2) c.requires.groupings.0.long, c.requires.groupings.0.long) }
+    record { inside = omega (arith, loser_inside c.args.table.now b.0 parts.now c.args.union.winner c.args.union.loser (c.requires.join b.0 b.1 b.2) c.requires.groupings.now.long, c.requires.groupings.now.long) }
 
 pub returns-in_default-clause-met : goal.returns-in_default-clause-met
 returns-in_default-clause-met c = λ was earlier keys is done.
@@ -44,15 +44,15 @@ returns-in_default-clause-met c = λ was earlier keys is done.
     IsSpread-kept d terms was parts.now winner loser put grouped keys (AreJoined parts.now.reps after) c.args.con None c.requires.con had (λ e. none-some c.args.con e) wide (λ con t at. c.in_ok-at_taken.ensures.truths con was earlier is t at) (λ u e. absurd (none-some u e))
 
 pub pair-requires-clause-long : goal.pair-requires-clause-long
-pair-requires-clause-long c = rw c.reps.ensures.value c.requires.groupings.0.long
+pair-requires-clause-long c = rw c.reps.ensures.value c.requires.groupings.now.long
 
 pub pair-requires-clause-left : goal.pair-requires-clause-left
 pair-requires-clause-left c =
     let terms = c.args.table.now in
     let parts = c.args.parts.now in
     let b = first_of parts.past c.requires.past in
-    let own = winner_own terms b.0 parts.now c.args.union.winner c.args.union.loser (c.requires.join b.0 b.1 b.2) c.requires.groupings.0.long in
-    let built = (c.requires.groupings.0.cons c.args.union.winner (Some c.args.con) own c.requires.con).1 in
+    let own = winner_own terms b.0 parts.now c.args.union.winner c.args.union.loser (c.requires.join b.0 b.1 b.2) c.requires.groupings.now.long in
+    let built = (c.requires.groupings.now.cons c.args.union.winner (Some c.args.con) own c.requires.con).1 in
     Has-inside terms (Con built.0 built.1) c.args.con.0 built.2
 
 pub pair-requires-clause-right : goal.pair-requires-clause-right

@@ -7,7 +7,7 @@ use Rattle.ct_congr.proofs.SpreadLemmas.{IsMovedDone-from, first_of, above_insid
 use Rattle.ct_congr.proofs.spreading.move_uses.Goals as goal
 
 pub taken_uses-uses-requires : goal.taken_uses-uses-requires
-taken_uses-uses-requires c = record { inside = omega (arith, c.requires.inside, c.requires.groupings.0.long) }
+taken_uses-uses-requires c = record { inside = omega (arith, c.requires.inside, c.requires.groupings.now.long) }
 
 pub move_terms-requires-clause-grouped : goal.move_terms-requires-clause-grouped
 move_terms-requires-clause-grouped c = rw (c.reps-reps.ensures.value, c.cons-cons.ensures.value) (IsGrouped-now c.args.table.now c.args.parts.now c.reps-reps.ensures.whole c.requires.groupings)
@@ -39,3 +39,6 @@ returns-clause-done c = λ was earlier is.
     let of = IsGroupingOf-past terms parts was earlier is c.requires.groupings in
     let uses = c.taken_uses-uses.ensures.uses was earlier terms is (c.requires.taken was earlier is) of in
     IsMovedDone-from c.args.sig.now terms was parts.now c.move_terms.new.keys c.reps-reps.result.now c.cons-cons.result.now c.reps-reps.ensures.value c.cons-cons.ensures.value c.move_terms.new.waiting.items c.taken_uses-uses.result.now c.in_ok-move_terms.ensures.covered c.args.loser uses c.in_ok-move_terms.ensures.met
+
+pub move_terms-requires-clause-lone : goal.move_terms-requires-clause-lone
+move_terms-requires-clause-lone c = rw c.lone-lone.ensures.value c.requires.groupings.lone

@@ -9,7 +9,7 @@ move_uses-requires-clause-taken c = λ was earlier is. IsTaken-join was c.args.p
 pub move_uses-requires-clause-inside : goal.move_uses-requires-clause-inside
 move_uses-requires-clause-inside c =
     let b = first_of c.args.parts.now.past c.requires.past in
-    loser_inside c.args.table.now b.0 c.args.parts.now.now c.args.union.winner c.args.union.loser (c.requires.join b.0 b.1 b.2) c.requires.groupings.0.long
+    loser_inside c.args.table.now b.0 c.args.parts.now.now c.args.union.winner c.args.union.loser (c.requires.join b.0 b.1 b.2) c.requires.groupings.now.long
 
 pub returns-clause-waits : goal.returns-clause-waits
 returns-clause-waits c = WaitsOn-trans c.args.sig.now c.args.table.now c.args.parts.now.now.reps c.args.waiting.now.items c.move_uses.new.waiting.items c.meet_cons.new.waiting.items c.in_ok-move_uses.ensures.waits c.in_ok-answer.ensures.waits

@@ -21,7 +21,7 @@ begin_terms-requires-clause-keys c = λ key t has.
     absurd (omega (arith, (subst (λ (list : Keys). Contains list (key, t)) c.new-keys.ensures.empty has).1))
 
 pub begin_singles-requires : goal.begin_singles-requires
-begin_singles-requires c = record { long = rw c.reps-2.ensures.value c.in_ok-parts.ensures.of.0.long }
+begin_singles-requires c = record { long = rw c.reps-2.ensures.value c.in_ok-parts.ensures.of.now.long }
 
 pub returns : goal.returns
 returns c =
@@ -54,3 +54,6 @@ returns c =
           (λ t core has. subst (λ (q : List TermId). IsMet terms q keys (AreJoined q second) t core) c.reps.ensures.value (IsMet-wider terms read keys (AreJoined read first) (AreJoined read second) more t core (c.in_ok-begin_terms.ensures.met t core has)))
           (subst (λ (q : List TermId). IsSingular d terms (AreJoined q second)) c.reps-2.ensures.value (c.in_ok-begin_singles.ensures.joined d c.requires.single));
     }
+
+pub begin_terms-requires-clause-lone : goal.begin_terms-requires-clause-lone
+begin_terms-requires-clause-lone c = rw c.lone.ensures.value c.in_ok-parts.ensures.of.lone

@@ -28,8 +28,8 @@ saturated-requires-clause-saturation c =
 pub returns-clause-candidate : goal.returns-clause-candidate
 returns-clause-candidate c =
     let course = c.args.course.value in
-    λ d table asserts budget task.
-    candidate_from d table asserts budget course (record {
+    λ d table asserts task.
+    candidate_from d table asserts course (record {
       table = c.in_ok-table.table;
       literals = c.in_ok-literals.literals;
       classes = c.args.classes;

@@ -3,8 +3,8 @@ use Rattle.ct_congr.specs.State.{State}
 use Rattle.ct_theory.specs.Entailment.{IsSaturation}
 use Rattle.ct_engine.proofs.answer.conclude.Goals as goal
 
-pub refutation_of-requires-clause-ends : goal.refutation_of-requires-clause-ends
-refutation_of-requires-clause-ends c = rw c.in-Refuted.is at c.requires.ended
+pub refutation_of-whole-requires-clause-ends : goal.refutation_of-whole-requires-clause-ends
+refutation_of-whole-requires-clause-ends c = rw c.in-Refuted.is at c.requires.ended
 
 pub spending_of-requires-clause-under_way : goal.spending_of-requires-clause-under_way
 spending_of-requires-clause-under_way c = let h = rw c.in-Spent.is at c.requires.ended in h.0
@@ -17,6 +17,9 @@ spending_of-requires-clause-lacking c = let h = rw c.in-Spent.is at c.requires.e
 
 pub spending_of-requires-clause-spent : goal.spending_of-requires-clause-spent
 spending_of-requires-clause-spent c = let h = rw c.in-Spent.is at c.requires.ended in h.3
+
+pub spending_of-requires-clause-on_record : goal.spending_of-requires-clause-on_record
+spending_of-requires-clause-on_record c = c.requires.spent c.in-Spent.is
 
 pub candidate_of-requires-clause-under_way : goal.candidate_of-requires-clause-under_way
 candidate_of-requires-clause-under_way c = let h = rw c.in-Saturated.is at c.requires.ended in h.0
@@ -39,4 +42,4 @@ returns-in-Spent-clause-outcome c =
 
 pub returns-in_ok-candidate-in-Saturated-clause-outcome : goal.returns-in_ok-candidate-in-Saturated-clause-outcome
 returns-in_ok-candidate-in-Saturated-clause-outcome c =
-    c.in_ok-candidate-in-Saturated.ensures.candidate c.args.sig.now c.args.table.now c.args.asserts.now c.args.budget c.requires.task
+    c.in_ok-candidate-in-Saturated.ensures.candidate c.args.sig.now c.args.table.now c.args.asserts.now c.requires.task

@@ -7,7 +7,7 @@ use Rattle.ct_engine.proofs.answer.refutation_of.Goals as goal
 
 pub refuted-requires-clause-task : goal.refuted-requires-clause-task
 refuted-requires-clause-task c =
-    subst (λ (x : Course). IsTaskOf c.args.sig.now c.args.table.now c.args.asserts.now c.args.budget x) (sym c.deref.ensures) c.requires.task
+    subst (λ (x : Course). IsTaskOf c.args.sig.now c.args.table.now c.args.asserts.now x) (sym c.deref.ensures) c.requires.task
 
 pub refuted-requires-clause-ends : goal.refuted-requires-clause-ends
 refuted-requires-clause-ends c = subst (λ (x : Course). EndsEmpty x.derivation.rec.lines) (sym c.deref.ensures) c.requires.ends

@@ -1,6 +1,7 @@
-use Rattle.std.proofs.Common.{◌≡◌, ℕ, ◌≤◌, ap, subst, ◌∙◌}
+use Rattle.std.proofs.Common.{◌≡◌, ℕ, Bool, ◌≤◌, ap, subst, ◌∙◌}
 use Rattle.ct_terms.specs.Terms.{IsTermTable, most_terms}
 use Rattle.ct_log.specs.Recorded.{Recorded}
+use Rattle.ct_engine.specs.Progress.{IsAccounted}
 use Rattle.ct_engine.proofs.AnswerLemmas.{IsSpentRecord-from}
 use Rattle.ct_engine.proofs.answer.spent.Goals as goal
 
@@ -16,4 +17,4 @@ returns c =
       single = len.single;
       negates = len.negates;
     }) in
-    record { recorded = IsSpentRecord-from c.units.ensures.units course.search course.derivation course.moves.items is_table c.rec.ensures.derivation c.requires.quiet c.requires.lacking c.requires.budget c.requires.under_way }
+    record { recorded = IsSpentRecord-from c.units.ensures.units course.search course.derivation course.initial course.moves.items is_table c.rec.ensures.derivation c.requires.quiet c.requires.lacking c.requires.budget (subst (λ (b : Bool). IsAccounted b course.search course.derivation course.initial course.moves.items) c.requires.recorded c.requires.under_way) }

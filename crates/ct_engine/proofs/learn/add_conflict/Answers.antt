@@ -27,8 +27,8 @@ pub returns-clause-under_way : goal.returns-clause-under_way
 returns-clause-under_way c =
     let course = c.args.course.now in
     let line : Line = record { clause = c.args.conflict.clause; step = step.Theory c.args.conflict.steps c.args.conflict.close } in
-    rw (c.in_ok-add_clause.ensures.added, c.as_slice.ensures.value, c.in_ok-push.ensures.ok, c.in_ok-push-2.ensures.items)
-    (IsAccounted-added c.units.ensures.units course.search course.derivation course.moves.items c.next_number-number.result line c.trail-trail.ensures.sound c.next_number-number.ensures.number tt c.requires.conflict.false c.requires.under_way)
+    rw (c.in_ok-add_clause.ensures.added, c.as_slice.ensures.value, c.in_ok-push.ensures.ok)
+    (IsAccounted-added c.units.ensures.units course.recorded course.search course.derivation course.initial course.moves.items c.next_number-number.result line c.trail-trail.ensures.sound c.next_number-number.ensures.number tt c.requires.conflict.false c.requires.under_way c.note.new.moves.items c.in_ok-note.ensures.noted)
 
 pub returns-clause-same : goal.returns-clause-same
 returns-clause-same c = record {
@@ -38,6 +38,7 @@ returns-clause-same c = record {
   over = ap (λ (s : SearchState). s.variables) c.in_ok-add_clause.ensures.added;
   budget = ap (λ (s : SearchState). s.budget) c.in_ok-add_clause.ensures.added;
   variables = refl;
+  recorded = refl;
 }
 
 pub returns-clause-conflict : goal.returns-clause-conflict
@@ -51,3 +52,6 @@ returns-clause-counted c = ap (λ (s : SearchState). s.count) c.in_ok-add_clause
 
 pub returns-clause-decided : goal.returns-clause-decided
 returns-clause-decided c = ap (λ (s : SearchState). s.decided) c.in_ok-add_clause.ensures.added
+
+pub returns-clause-trail : goal.returns-clause-trail
+returns-clause-trail c = ap (λ (s : SearchState). s.trail) c.in_ok-add_clause.ensures.added

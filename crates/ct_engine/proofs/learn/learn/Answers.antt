@@ -1,13 +1,14 @@
 use Rattle.std.proofs.Common.{◌≡◌, [], refl, sym, ap, subst, ◌∙◌}
+use Rattle.ct_sorts.specs.Grown.{Begins}
 use Rattle.ct_log.specs.declared.line.Line.{Line}
 use Rattle.ct_log.specs.declared.line.Step.TheVariants as step
 use Rattle.ct_log.specs.Recorded.{Derived}
 use Rattle.ct_sat.specs.State.{SearchState}
-use Rattle.ct_engine.specs.declared.course.Course.{Course}
 use Rattle.ct_engine.specs.Progress.{TakesBack}
 use Rattle.ct_engine.proofs.MoveLemmas.{fresh_line}
 use Rattle.ct_engine.proofs.LineLemmas.{accepted_empty}
-use Rattle.ct_engine.proofs.LearnLemmas.{takes_back, learned_task}
+use Rattle.ct_engine.proofs.LearnLemmas.{takes_back, cuts_trail}
+use Rattle.ct_engine.proofs.TurnLemmas.{begins_itself}
 use Rattle.ct_engine.proofs.learn.learn.Goals as goal
 
 pub learn-requires-clause-fresh : goal.learn-requires-clause-fresh
@@ -26,14 +27,21 @@ push-requires c =
     let course = c.args.course.now in
     let learned = rw c.in-Empty.is at c.in_ok-lits.ensures.learned in
     let empty : c.new-clause.result ≡ [] = cc in
-    record { accepted = rw empty (accepted_empty c.learned_clauses_follow.ensures.listed course.search course.derivation course.moves.items c.in-Empty.hints c.requires.under_way learned.follows) }
+    record { accepted = rw empty (accepted_empty c.learned_clauses_follow.ensures.listed course.recorded course.search course.derivation course.initial course.moves.items c.in-Empty.hints c.requires.under_way learned.follows) }
 
 pub returns-in_ok-record_learned-in-Clause-clause-same : goal.returns-in_ok-record_learned-in-Clause-clause-same
 returns-in_ok-record_learned-in-Clause-clause-same c =
-    let course = c.args.course.now in
     let learned = rw c.in-Clause.is at c.in_ok-lits.ensures.learned in
-    let second : Course = record course { search = c.learn.new.self } in
-    learned_task course second c.record_learned.new.course c.next_number-number.result c.in-Clause.lits c.in-Clause.hints c.in-Clause.keep learned refl refl c.in_ok-record_learned-in-Clause.ensures.same
+    let same = c.in_ok-record_learned-in-Clause.ensures.same in
+    record {
+      declarations = same.declarations;
+      terms = same.terms;
+      asserts = same.asserts;
+      over = same.over ∙ ap (λ (s : SearchState). s.variables) learned.after;
+      budget = same.budget ∙ ap (λ (s : SearchState). s.budget) learned.after;
+      variables = same.variables;
+      recorded = same.recorded;
+    }
 
 pub returns-in_ok-record_learned-in-Clause-clause-learned : goal.returns-in_ok-record_learned-in-Clause-clause-learned
 returns-in_ok-record_learned-in-Clause-clause-learned c =
@@ -55,6 +63,7 @@ returns-in_ok-push-in-Empty-clause-same c =
       over = ap (λ (s : SearchState). s.variables) learned.after;
       budget = ap (λ (s : SearchState). s.budget) learned.after;
       variables = refl;
+      recorded = refl;
     }
 
 pub returns-in_ok-push-in-Empty-clause-learned : goal.returns-in_ok-push-in-Empty-clause-learned
@@ -63,3 +72,16 @@ returns-in_ok-push-in-Empty-clause-learned c =
     let line : Line = record { clause = c.new-clause.result; step = step.Learn c.in-Empty.hints } in
     let empty : c.new-clause.result ≡ [] = cc in
     λ theory. (course.derivation.rec.lines, line, ap (λ (x : Derived). x.rec.lines) c.in_ok-push-in-Empty.ensures.ok, empty)
+
+pub returns-in_ok-record_learned-in-Clause-clause-trail : goal.returns-in_ok-record_learned-in-Clause-clause-trail
+returns-in_ok-record_learned-in-Clause-clause-trail c =
+    let course = c.args.course.now in
+    let learned = rw c.in-Clause.is at c.in_ok-lits.ensures.learned in
+    let cut = cuts_trail course.search c.learn.new.self c.next_number-number.result c.in-Clause.lits c.in-Clause.hints c.in-Clause.keep learned in
+    subst (λ (s : SearchState). Begins s.trail course.search.trail) (sym c.in_ok-record_learned-in-Clause.ensures.search) cut
+
+pub returns-in_ok-push-in-Empty-clause-trail : goal.returns-in_ok-push-in-Empty-clause-trail
+returns-in_ok-push-in-Empty-clause-trail c =
+    let course = c.args.course.now in
+    let learned = rw c.in-Empty.is at c.in_ok-lits.ensures.learned in
+    subst (λ (s : SearchState). Begins s.trail course.search.trail) (sym learned.after) (begins_itself course.search.trail)

@@ -8,14 +8,14 @@ pub push-requires : goal.push-requires
 push-requires c =
     let course = c.args.course.now in
     let given = c.requires.learned in
-    record { accepted = accepted_learned c.learned_clauses_follow.ensures.listed given.0 course.derivation course.moves.items c.args.lits c.args.hints given.1 given.5.follows given.5.over }
+    record { accepted = accepted_learned c.learned_clauses_follow.ensures.listed course.recorded given.0 course.derivation course.initial course.moves.items c.args.lits c.args.hints given.1 given.5.follows given.5.over }
 
 pub returns-clause-under_way : goal.returns-clause-under_way
 returns-clause-under_way c =
     let course = c.args.course.now in
     let given = c.requires.learned in
-    rw (c.in_ok-push.ensures.ok, c.in_ok-push-2.ensures.items)
-    (IsAccounted-learned c.units.ensures.units given.0 course.search course.derivation course.moves.items c.args.number c.args.keep given.3 c.args.lits c.args.hints given.2 given.4 c.requires.number given.5 given.1)
+    rw c.in_ok-push.ensures.ok
+    (IsAccounted-learned c.units.ensures.units course.recorded given.0 course.search course.derivation course.initial course.moves.items c.args.number c.args.keep given.3 c.args.lits c.args.hints given.2 given.4 c.requires.number given.5 given.1 c.note.new.moves.items c.in_ok-note.ensures.noted)
 
 pub returns-clause-same : goal.returns-clause-same
 returns-clause-same c = record {
@@ -25,6 +25,7 @@ returns-clause-same c = record {
   over = refl;
   budget = refl;
   variables = refl;
+  recorded = refl;
 }
 
 pub returns-clause-search : goal.returns-clause-search

@@ -4,7 +4,7 @@ use Rattle.ct_engine.proofs.TurnLemmas.{IsCounted-since}
 use Rattle.ct_engine.proofs.settle.advance.Goals as goal
 
 pub conflicts-init : goal.conflicts-init
-conflicts-init c = record { under_way = c.requires.under_way; same = IsOfOneTask-itself c.args.course.now; counted = refl; theory = c.requires.theory }
+conflicts-init c = record { under_way = c.requires.under_way; same = IsOfOneTask-itself c.args.course.now; counted = refl; theory = c.requires.theory; asked = c.requires.asked }
 
 pub returns-in-Ended-clause-same : goal.returns-in-Ended-clause-same
 returns-in-Ended-clause-same c = IsOfOneTask-then c.args.course.now c.conflicts.course c.take_turn.new.course c.conflicts.invariant.same c.in_ok-ending.ensures.same
@@ -31,6 +31,7 @@ conflicts-preserved c =
     record {
       under_way = went.0;
       theory = c.in_ok-ending.ensures.theory;
+      asked = c.in_ok-ending.ensures.asked;
       same = IsOfOneTask-then c.args.course.now c.conflicts.course c.take_turn.new.course c.conflicts.invariant.same c.in_ok-ending.ensures.same;
       counted = went.1.counted ∙ c.conflicts.invariant.counted;
     }

@@ -6,7 +6,7 @@ use Rattle.ct_engine.proofs.settle.propagate.Goals as goal
 pub returns-clause-under_way : goal.returns-clause-under_way
 returns-clause-under_way c =
     let course = c.args.course.now in
-    IsAccounted-propagated course.search c.propagate.new.self course.derivation course.moves.items c.trail-trail.ensures.sound c.propagate.ensures.appends c.requires.under_way
+    IsAccounted-propagated course.recorded course.search c.propagate.new.self course.derivation course.initial course.moves.items c.trail-trail.ensures.sound c.propagate.ensures.appends c.requires.under_way
 
 pub returns-clause-same : goal.returns-clause-same
 returns-clause-same c =
@@ -18,6 +18,7 @@ returns-clause-same c =
       over = ap (λ (s : SearchState). s.variables) is;
       budget = ap (λ (s : SearchState). s.budget) is;
       variables = refl;
+      recorded = refl;
     }
 
 pub returns-clause-counted : goal.returns-clause-counted
@@ -25,3 +26,6 @@ returns-clause-counted c = ap (λ (s : SearchState). s.count) c.propagate.ensure
 
 pub returns-clause-decided : goal.returns-clause-decided
 returns-clause-decided c = ap (λ (s : SearchState). s.decided) c.propagate.ensures.appends.1
+
+pub returns-clause-trail : goal.returns-clause-trail
+returns-clause-trail c = (c.propagate.ensures.appends.0, ap (λ (s : SearchState). s.trail) c.propagate.ensures.appends.1)

@@ -1,9 +1,15 @@
 use Rattle.std.proofs.Common.{◌≡◌, ◌+◌, ◌≤◌, ◌∙◌, arith}
 use Rattle.ct_engine.proofs.TaskLemmas.{IsOfOneTask-itself, IsOfOneTask-then}
+use Rattle.ct_engine.proofs.TurnLemmas.{HaveInCommon-none}
 use Rattle.ct_engine.proofs.settle.run.Goals as goal
 
 pub decisions-init : goal.decisions-init
-decisions-init c = record { under_way = c.requires.under_way; same = IsOfOneTask-itself c.args.course.now; theory = c.requires.theory }
+decisions-init c = record {
+  under_way = c.requires.under_way;
+  same = IsOfOneTask-itself c.args.course.now;
+  theory = c.requires.theory;
+  asked = HaveInCommon-none c.in_ok-asked.asked.shared c.args.theory.now.hypotheses c.args.course.now.search.trail c.in_ok-asked.ensures.shared;
+}
 
 pub returns-in-Some-clause-same : goal.returns-in-Some-clause-same
 returns-in-Some-clause-same c = IsOfOneTask-then c.args.course.now c.decisions.course c.advance.new.course c.decisions.invariant.same c.in_ok-ending.ensures.same
@@ -25,5 +31,6 @@ decisions-preserved c =
     record {
       under_way = went.0;
       theory = c.in_ok-ending.ensures.theory;
+      asked = c.in_ok-ending.ensures.asked;
       same = IsOfOneTask-then c.args.course.now c.decisions.course c.advance.new.course c.decisions.invariant.same c.in_ok-ending.ensures.same;
     }

@@ -1,5 +1,4 @@
 use Rattle.ct_engine.specs.declared.verdict.Verdict.TheVariants.{Unknown}
-use Rattle.ct_engine.proofs.OutcomeLemmas.{spending_below}
 use Rattle.ct_engine.proofs.solving.solve.Goals as goal
 
 pub find-requires-clause-sizes : goal.find-requires-clause-sizes
@@ -10,11 +9,6 @@ returns-in-Unsat-clause-verdict c = rw c.in-Unsat.is at c.in_ok-outcome.ensures.
 
 pub returns-in-Unknown-clause-verdict : goal.returns-in-Unknown-clause-verdict
 returns-in-Unknown-clause-verdict c = rw c.in-Unknown.is at c.in_ok-outcome.ensures.outcome
-
-pub returns-in-Unknown-clause-bound : goal.returns-in-Unknown-clause-bound
-returns-in-Unknown-clause-bound c =
-    let h = rw c.in-Unknown.is at c.in_ok-outcome.ensures.outcome in
-    spending_below c.spent_searches.ensures.bound c.args.sig.now c.args.table.now c.args.asserts.now c.args.budget c.in-Unknown.spent h
 
 pub returns-in-Unknown-clause-decides : goal.returns-in-Unknown-clause-decides
 returns-in-Unknown-clause-decides c =

@@ -4,7 +4,7 @@ use Rattle.ct_input.proofs.SlotLemmas.{fed_nothing, too_long_some, head_taken}
 use Rattle.ct_input.proofs.slot.feed_slot.Goals as goal
 
 pub loop-count-init : goal.loop-count-init
-loop-count-init g c = record { so_far = fed_nothing _ _ c.requires.new; names = λ n. refl; same = refl }
+loop-count-init g c = record { so_far = fed_nothing _ _ c.requires.new; other = λ s different. refl; names = λ n. refl; same = refl }
 
 pub returns-in-Beyond-clause-fed : goal.returns-in-Beyond-clause-fed
 returns-in-Beyond-clause-fed g c =

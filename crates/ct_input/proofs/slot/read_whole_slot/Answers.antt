@@ -15,3 +15,9 @@ returns-in_err-whole-clause-cause g c =
 
 pub returns-clause-held : goal.returns-clause-held
 returns-clause-held g c = λ bytes held. c.reader_where.ensures.read bytes (c.in_ok-whole.ensures.left bytes (c.in_ok-open_slot.ensures.opened ∙ held))
+
+pub returns-in_err-whole-clause-other : goal.returns-in_err-whole-clause-other
+returns-in_err-whole-clause-other g c = λ s different. c.in_err-whole.ensures.other s different ∙ c.in_ok-open_slot.ensures.other s different
+
+pub returns-clause-other : goal.returns-clause-other
+returns-clause-other g c = λ s different. c.in_ok-whole.ensures.other s different ∙ c.in_ok-open_slot.ensures.other s different

@@ -1,7 +1,8 @@
-use Rattle.std.proofs.Common.{rules, arith, ◌≡◌, Some, Option, subst}
+use Rattle.std.proofs.Common.{rules, arith, ◌≡◌, None, Some, Option, subst}
 use Rattle.std.proofs.lemmas.Grind.{common_steps}
 use Rattle.ct_sexpr.specs.Unread.{Unread}
 use Rattle.ct_run.specs.AuditRun.{AreFiles}
+use Rattle.ct_run.proofs.RunLemmas.{judged_read}
 use Rattle.ct_run.proofs.audit.audit_files.Goals as goal
 
 pub returns-in-Ok-Some-clause-audited : goal.returns-in-Ok-Some-clause-audited
@@ -18,3 +19,13 @@ returns-in-Ok-Some-clause-some_files g c =
       fed.1,
       c.judge.ensures.audited fed.0 fed.1 (subst (λ (files : Option (Unread × Unread)). AreFiles fed.0 fed.1 files) both fed.2),
     )
+
+pub returns-in-Ok-Some-clause-read : goal.returns-in-Ok-Some-clause-read
+returns-in-Ok-Some-clause-read g c =
+    let both : c.in-Ok-Some.field-0 ≡ Some (c.in-Ok-Some.proof, c.in-Ok-Some.script) = first_of (search rules, grind (arith, common_steps)) in
+    judged_read c.judge.result.status _ _ _ _ (rw both at c.in-Ok-Some.ensures.read)
+
+pub returns-in-Ok-None-clause-read : goal.returns-in-Ok-None-clause-read
+returns-in-Ok-None-clause-read g c =
+    let none : c.in-Ok-None.field-0 ≡ None = first_of (search rules, grind (arith, common_steps)) in
+    rw c.unanswered.ensures.status (rw none at c.in-Ok-None.ensures.read)

@@ -1,7 +1,7 @@
 use Rattle.std.proofs.Common.{refl, ◌∙◌, subst}
 use Rattle.ct_io.specs.declared.desk.Slot.TheVariants as slot
 use Rattle.ct_arguments.specs.Arguments.{Asked, solves, audits, generates, helps, faulty, task_of}
-use Rattle.ct_run.specs.Tasks.{Does, DoesOfSome}
+use Rattle.ct_run.specs.Tasks.{Does, DoesOfSome, ReadsFiles}
 use Rattle.ct_run.proofs.RunLemmas.{comes, does_nothing, does_nothing_of_some}
 use Rattle.ct_run.proofs.top.run.Goals as goal
 
@@ -10,6 +10,9 @@ returns-in-Ok-clause-solved g c = λ name bytes asked held. (subst (λ (a : Aske
 
 pub returns-in-Ok-clause-audited : goal.returns-in-Ok-clause-audited
 returns-in-Ok-clause-audited g c = λ proof script proof_bytes script_bytes asked first second. (subst (λ (a : Asked). Does (g.D.Desk.held c.args.desk.now) a (g.D.Desk.left c.args.desk.now slot.Script) (g.D.Desk.left c.perform.new.desk slot.Script) c.perform.result.status c.perform.result.verdicts.items c.perform.result.errors.items (g.K.Sink.written c.args.out.now) (g.K.Sink.written c.perform.new.out)) (c.in-Ok.ensures.task ∙ asked) c.perform.ensures.does) proof_bytes script_bytes first second
+
+pub returns-in-Ok-clause-read : goal.returns-in-Ok-clause-read
+returns-in-Ok-clause-read g c = λ proof script asked. (subst (λ (a : Asked). ReadsFiles (g.D.Desk.held c.args.desk.now) a c.perform.result.status (g.D.Desk.left c.perform.new.desk slot.Proof) (g.D.Desk.left c.perform.new.desk slot.Script)) (c.in-Ok.ensures.task ∙ asked) c.perform.ensures.read)
 
 pub returns-in-Ok-clause-generated : goal.returns-in-Ok-clause-generated
 returns-in-Ok-clause-generated g c = λ count asked. (subst (λ (a : Asked). Does (g.D.Desk.held c.args.desk.now) a (g.D.Desk.left c.args.desk.now slot.Script) (g.D.Desk.left c.perform.new.desk slot.Script) c.perform.result.status c.perform.result.verdicts.items c.perform.result.errors.items (g.K.Sink.written c.args.out.now) (g.K.Sink.written c.perform.new.out)) (c.in-Ok.ensures.task ∙ asked) c.perform.ensures.does)
@@ -46,6 +49,9 @@ returns-in-Err-clause-solved g c = λ name bytes asked held. rw c.unanswered.ens
 
 pub returns-in-Err-clause-audited : goal.returns-in-Err-clause-audited
 returns-in-Err-clause-audited g c = λ proof script proof_bytes script_bytes asked first second. rw c.unanswered.ensures.status (does_nothing (g.D.Desk.held c.args.desk.now) (audits proof script) (g.D.Desk.left c.args.desk.now slot.Script) (g.D.Desk.left c.args.desk.now slot.Script) c.unanswered.result.verdicts.items c.unanswered.result.errors.items (g.K.Sink.written c.args.out.now) (g.K.Sink.written c.args.out.now) (c.unanswered.ensures.verdicts, c.unanswered.ensures.errors, refl) proof_bytes script_bytes first second)
+
+pub returns-in-Err-clause-read : goal.returns-in-Err-clause-read
+returns-in-Err-clause-read g c = λ proof script asked. rw c.unanswered.ensures.status tt
 
 pub returns-in-Err-clause-generated : goal.returns-in-Err-clause-generated
 returns-in-Err-clause-generated g c = λ count asked. rw c.unanswered.ensures.status (does_nothing (g.D.Desk.held c.args.desk.now) (generates count) (g.D.Desk.left c.args.desk.now slot.Script) (g.D.Desk.left c.args.desk.now slot.Script) c.unanswered.result.verdicts.items c.unanswered.result.errors.items (g.K.Sink.written c.args.out.now) (g.K.Sink.written c.args.out.now) (c.unanswered.ensures.verdicts, c.unanswered.ensures.errors, refl))

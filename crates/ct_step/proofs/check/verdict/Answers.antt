@@ -4,7 +4,7 @@ use Rattle.ct_stack.specs.Stack.{Context}
 use Rattle.ct_step.specs.Numbers.{closure_too_large}
 use Rattle.ct_step.specs.Refusal.{IsCheckRefusal}
 use Rattle.ct_step.proofs.CauseLemmas.{at_code}
-use Rattle.ct_step.proofs.CheckLemmas.{sorted, exact, check_fits, check_too_large, check_right}
+use Rattle.ct_step.proofs.CheckLemmas.{sorted, exact, check_fits, check_too_large, check_comes_to}
 use Rattle.ct_step.proofs.check.verdict.Goals as goal
 
 pub solve-requires : goal.solve-requires
@@ -17,10 +17,10 @@ solve-requires c =
       exact = exact c.args.stack.now c.scope.result.now.sig c.core_terms.result.0.now c.core_terms.result.1.now is held;
     }
 
-pub returns-in-Ok-clause-right : goal.returns-in-Ok-clause-right
-returns-in-Ok-clause-right c =
+pub returns-in-Ok-clause-verdict : goal.returns-in-Ok-clause-verdict
+returns-in-Ok-clause-verdict c =
     let is = ap (λ (x : Context). x.declarations) c.scope.ensures.value in
-    check_right c.args.stack.now c.scope.result.now.sig c.core_terms.result.0.now c.core_terms.result.1.now is c.core_terms.ensures.held c.meanings.ensures.assertions c.sorts.ensures.consistent c.args.budget c.in-Ok.verdict c.in-Ok.ensures.verdict
+    check_comes_to c.args.stack.now c.scope.result.now.sig c.core_terms.result.0.now c.core_terms.result.1.now is c.core_terms.ensures.held c.meanings.ensures.assertions c.sorts.ensures.consistent c.args.budget c.in-Ok.verdict c.in-Ok.ensures.verdict c.in-Ok.ensures.decides
 
 pub returns-in-Ok-clause-accepted : goal.returns-in-Ok-clause-accepted
 returns-in-Ok-clause-accepted c =

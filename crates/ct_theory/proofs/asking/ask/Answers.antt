@@ -6,6 +6,7 @@ use Rattle.ct_terms.specs.Terms.{Terms}
 use Rattle.ct_theory.specs.declared.asking.Consulted.{Consulted}
 use Rattle.ct_theory.specs.Entailment.{IsSaturation}
 use Rattle.ct_theory.specs.Consulting.{IsConsulted}
+use Rattle.ct_theory.proofs.ForestLemmas.{spare_same}
 use Rattle.ct_theory.proofs.asking.ask.Goals as goal
 
 pub answer-requires-clause-stripped : goal.answer-requires-clause-stripped
@@ -28,3 +29,22 @@ returns-in_ok-keep-in-Saturated-clause-consulted c =
 pub shorter-requires-clause-stripped : goal.shorter-requires-clause-stripped
 shorter-requires-clause-stripped c =
     λ l has. subst (λ (t : Terms). IsStripped t l.term) (sym (c.in_ok-conflict.ensures.terms ∙ c.in_ok-turn_to.ensures.terms)) (c.requires.stripped l has)
+
+pub shorter-requires-clause-spare : goal.shorter-requires-clause-spare
+shorter-requires-clause-spare c =
+    let told = c.in_ok-turn_to.ensures in
+    let answered = c.in_ok-conflict.ensures in
+    spare_same c.args.classes.now c.answer.new.classes c.args.aside.now.spare (answered.declarations ∙ told.declarations) (answered.terms ∙ told.terms) c.requires.aside.spare
+
+pub returns-in_ok-short-in-Conflict-clause-aside : goal.returns-in_ok-short-in-Conflict-clause-aside
+returns-in_ok-short-in-Conflict-clause-aside c = record { forest = c.in_ok-conflict.ensures.forest; spare = c.in_ok-short-in-Conflict.ensures.spare }
+
+pub returns-in_ok-keep-in-Saturated-clause-aside : goal.returns-in_ok-keep-in-Saturated-clause-aside
+returns-in_ok-keep-in-Saturated-clause-aside c =
+    let told = c.in_ok-turn_to.ensures in
+    let answered = c.in_ok-conflict.ensures in
+    let kept = c.in_ok-keep-in-Saturated.ensures in
+    record {
+      forest = kept.forests c.answer.new.forest answered.forest;
+      spare = spare_same c.args.classes.now c.keep.new.classes c.args.aside.now.spare (kept.declarations ∙ answered.declarations ∙ told.declarations) (kept.terms ∙ answered.terms ∙ told.terms) c.requires.aside.spare;
+    }

@@ -13,5 +13,5 @@ conflict_of-requires-clause-adds c =
     let b = c.args.b in
     let n = c.in_ok-step.step in
     let steps = c.explain.new.into.steps.items in
-    let explained : IsExplained state [] steps n a b = subst (λ (old : List EqStep). IsExplained state old steps n a b) c.new-2.ensures.items c.in_ok-step.ensures.explained in
+    let explained : IsExplained state [] steps n a b = subst (λ (old : List EqStep). IsExplained state old steps n a b) c.new.ensures.items c.in_ok-step.ensures.explained in
     Adds-via state [] steps (λ given. Gave given n a b) (λ given. IsClash state.terms given n) (λ given gave. Closes-clash state n a b c.requires.clash given gave) (Adds-explained state [] steps n a b explained)

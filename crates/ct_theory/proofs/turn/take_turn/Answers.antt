@@ -40,3 +40,13 @@ returns-in-Quiet-clause-turn c =
     (λ (t : Turn). (d : Declarations) (terms : Terms) (literals : List Lit) → IsUnderWay d terms literals old → IsTurn d terms literals old new t)
     (λ t turned d terms literals under. IsTurn-since d terms literals old mid new t falls (turned d terms literals (IsUnderWay-continues d terms literals old under mid later c.in_ok-closed.ensures.given)))
     c.turn_of_quiet.ensures.turn
+
+pub clash-requires-clause-forest : goal.clash-requires-clause-forest
+clash-requires-clause-forest c =
+    let later = c.in_ok-closed.ensures.continues in
+    c.kept_forests.ensures.more c.args.classes.now c.close_or_clash.new.self later.more later.terms later.merges c.args.forest.now c.requires.forest
+
+pub turn_of_quiet-requires-clause-forest : goal.turn_of_quiet-requires-clause-forest
+turn_of_quiet-requires-clause-forest c =
+    let later = c.in_ok-closed.ensures.continues in
+    c.kept_forests.ensures.more c.args.classes.now c.close_or_clash.new.self later.more later.terms later.merges c.args.forest.now c.requires.forest

@@ -1,4 +1,4 @@
-use Rattle.std.proofs.Common.{refl, sym, subst}
+use Rattle.std.proofs.Common.{[], ◌∷◌, refl, sym, subst}
 use Rattle.ct_sorts.specs.Declarations.{Declarations}
 use Rattle.ct_terms.specs.Terms.{Terms}
 use Rattle.ct_congr.specs.declared.merge.Merge.{Merge}
@@ -21,6 +21,7 @@ returns-then-are_finite-clause-turn c =
 
 pub returns-in-None : goal.returns-in-None
 returns-in-None c = record {
+  forests = λ planted is. is;
   marks = refl;
   under_way = λ d terms literals under. under;
   turn = λ d terms literals under.
@@ -43,8 +44,12 @@ returns-in_ok-merge-in-Some c =
     let found = c.in-Some.ensures.found in
     let apart : IsApart old c.in_ok-partition.partition a b = rw (c.in-Some.a-is, c.in-Some.b-is) found in
     record {
+      forests = c.kept_forests.ensures.more old new (merge ∷ []) ensures.terms ensures.merges;
       marks = ensures.marks;
       under_way = λ d terms literals under.
           IsUnderWay-merged d terms literals old under c.requires.quiet before.long before.states new pairs a b ensures.declarations ensures.terms ensures.hypotheses ensures.given apart.left apart.right listed.asked listed.matched;
       turn = λ d terms literals under. unequal-merged old new c.in_ok-partition.partition merge connect before after apart ensures.terms ensures.merges;
     }
+
+pub returns-then-are_finite-clause-forests : goal.returns-then-are_finite-clause-forests
+returns-then-are_finite-clause-forests c = λ planted is. is

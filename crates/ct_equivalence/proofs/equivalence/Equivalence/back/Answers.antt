@@ -1,4 +1,4 @@
-use Rattle.std.proofs.Common.{◌≡◌, ◌∷◌, [], ◌++◌, List, Option, reverse, length, ap, sym, ◌∙◌, subst, arith}
+use Rattle.std.proofs.Common.{◌≡◌, ◌∷◌, [], ◌++◌, List, Option, reverse, length, refl, ap, sym, ◌∙◌, subst, arith}
 use Rattle.std.proofs.lemmas.List.{length-reverse}
 use Rattle.ct_equivalence.specs.declared.step.Step.{Step}
 use Rattle.ct_equivalence.specs.Grouping.{Grouping, Groupings}
@@ -24,6 +24,6 @@ returns c =
     let now = c.take_back.new.self in
     let rest = c.pop.new.self.items in
     let past = befores-pop e.grouped now e.log.items rest c.in-Some.last c.in-Some.ensures.items c.take_back.ensures.before in
-    let old : Groupings = record { now = e.grouped; past = befores e.grouped (reverse e.log.items) } in
-    let new : Groupings = record { now = now; past = befores now (reverse rest) } in
-    rw (← c.self.view_is) (record { before = past; of = λ terms all. AreGroupingsOf-pop terms old new past all })
+    let old : Groupings = record { now = e.grouped; past = befores e.grouped (reverse e.log.items); lone = e.lone.items } in
+    let new : Groupings = record { now = now; past = befores now (reverse rest); lone = e.lone.items } in
+    rw (← c.self.view_is) (record { before = past; of = λ terms all. AreGroupingsOf-pop terms old new past refl all })

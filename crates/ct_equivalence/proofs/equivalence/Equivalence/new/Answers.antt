@@ -5,4 +5,4 @@ pub invariant_of-result : goal.invariant_of-result
 invariant_of-result c = rw c.new-log.ensures.items c.in_ok-grouped.ensures.whole
 
 pub returns : goal.returns
-returns c = rw c.new-log.ensures.items (record { of = (c.in_ok-grouped.ensures.of, tt); alone = c.in_ok-grouped.ensures.alone; past = refl })
+returns c = rw c.new-log.ensures.items (record { of = record { now = c.in_ok-grouped.ensures.of; past = tt; lone = c.requires.lone }; alone = c.in_ok-grouped.ensures.alone; past = refl })

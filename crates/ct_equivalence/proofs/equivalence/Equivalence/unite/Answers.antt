@@ -66,11 +66,11 @@ pub returns-in_err-reserve : goal.returns-in_err-reserve
 returns-in_err-reserve c =
     let g = c.self.inside.grouped in
     let r = c.from_residual.result in
-    let view : List (Option Step) → Groupings = λ log. record { now = g; past = befores g (reverse log) } in
+    let view : List (Option Step) → Groupings = λ log. record { now = g; past = befores g (reverse log); lone = c.self.inside.lone.items } in
     record {
       united = IfOk-from_err r (IsUnited c.args.self.now.now g c.args.left c.args.right) c.from_residual.ensures.0;
       past = IfOk-from_err r (λ _. befores g (reverse c.reserve.new.self.items) ≡ c.args.self.now.now ∷ c.args.self.now.past) c.from_residual.ensures.0;
-      of = IfOk-from_err r (λ _. (terms : Terms) → AreGroupingsOf terms c.args.self.now → AreGroupingsOf terms (record { now = g; past = befores g (reverse c.reserve.new.self.items) })) c.from_residual.ensures.0;
+      of = IfOk-from_err r (λ _. (terms : Terms) → AreGroupingsOf terms c.args.self.now → AreGroupingsOf terms (record { now = g; past = befores g (reverse c.reserve.new.self.items); lone = c.self.inside.lone.items })) c.from_residual.ensures.0;
       unchanged = on_err r (ap view c.reserve.ensures.items ∙ c.self.view_is);
     }
 
@@ -80,14 +80,14 @@ returns-then-eq c =
     let log = c.self.inside.log.items in
     let past : befores g (reverse c.push.new.self.items) ≡ g ∷ befores g (reverse log) =
     ap (λ (notes : List (Option Step)). befores g (reverse notes)) (noted_same c) ∙ befores-push g g log None refl in
-    let old : Groupings = record { now = g; past = befores g (reverse log) } in
-    let new : Groupings = record { now = g; past = befores g (reverse c.push.new.self.items) } in
+    let old : Groupings = record { now = g; past = befores g (reverse log); lone = c.self.inside.lone.items } in
+    let new : Groupings = record { now = g; past = befores g (reverse c.push.new.self.items); lone = c.self.inside.lone.items } in
     let one = same_term c.rep-first.result c.rep-second.result (sym c.eq.ensures ∙ c.if-eq.true) in
     rw (← c.self.view_is)
     (record {
       united = (refl, (c.rep-first.result, c.rep-first.ensures.value, c.rep-second.ensures.value ∙ ap Some (sym one)));
       past = past;
-      of = λ terms all. AreGroupingsOf-push terms old new past all.0 all;
+      of = λ terms all. AreGroupingsOf-push terms old new past refl all.now all;
       unchanged = tt;
     })
 
@@ -98,11 +98,11 @@ returns-in_err-step c =
     let notes = c.reserve.new.self.items in
     let r = c.from_residual-in_err-step.result in
     let is_error = c.from_residual-in_err-step.ensures.0 in
-    let view : Grouping → List (Option Step) → Groupings = λ h log. record { now = h; past = befores h (reverse log) } in
+    let view : Grouping → List (Option Step) → Groupings = λ h log. record { now = h; past = befores h (reverse log); lone = c.self.inside.lone.items } in
     record {
       united = IfOk-from_err r (IsUnited c.args.self.now.now now c.args.left c.args.right) is_error;
       past = IfOk-from_err r (λ _. befores now (reverse notes) ≡ c.args.self.now.now ∷ c.args.self.now.past) is_error;
-      of = IfOk-from_err r (λ _. (terms : Terms) → AreGroupingsOf terms c.args.self.now → AreGroupingsOf terms (record { now = now; past = befores now (reverse notes) })) is_error;
+      of = IfOk-from_err r (λ _. (terms : Terms) → AreGroupingsOf terms c.args.self.now → AreGroupingsOf terms (record { now = now; past = befores now (reverse notes); lone = c.self.inside.lone.items })) is_error;
       unchanged = on_err r (ap₂ view c.in_err-step.ensures.unchanged c.reserve.ensures.items ∙ c.self.view_is);
     }
 
@@ -116,8 +116,8 @@ returns c =
     let whole = IsGrouping-noted g (reverse log) c.self.invariant in
     let past : befores now (reverse c.push-2.new.self.items) ≡ g ∷ befores g (reverse log) =
     ap (λ (notes : List (Option Step)). befores now (reverse notes)) (noted_join c) ∙ befores-push g now log (Some step) c.in_ok-step.ensures.undone in
-    let old : Groupings = record { now = g; past = befores g (reverse log) } in
-    let new : Groupings = record { now = now; past = befores now (reverse c.push-2.new.self.items) } in
+    let old : Groupings = record { now = g; past = befores g (reverse log); lone = c.self.inside.lone.items } in
+    let new : Groupings = record { now = now; past = befores now (reverse c.push-2.new.self.items); lone = c.self.inside.lone.items } in
     rw (← c.self.view_is)
     (record {
       united = record {
@@ -129,6 +129,6 @@ returns c =
         join = join;
       };
       past = past;
-      of = λ terms all. AreGroupingsOf-push terms old new past (IsGroupingOf-joined g now c.by_weight.result.0 c.by_weight.result.1 join terms whole all.0) all;
+      of = λ terms all. AreGroupingsOf-push terms old new past refl (IsGroupingOf-joined g now c.by_weight.result.0 c.by_weight.result.1 join terms whole all.now) all;
       unchanged = tt;
     })

@@ -48,7 +48,7 @@ invariant_of-self c =
     let low = rw c.as_slice.ensures.value at c.in-Some.ensures.lowest in
     let within = c.self.invariant.0.within in
     rw (c.decide.ensures.after, c.push_reserved.ensures.items, c.push_reserved.ensures.capacity) (
-      IsSearch-decided c.self.inside.variables.items c.self.inside.clauses.items c.self.inside.trail c.self.inside.count c.self.inside.budget c.in-Some.term c.self.invariant.0 low.variable (omega arith),
+      IsSearch-decided c.self.inside.variables.items c.self.inside.clauses.items c.self.inside.trail c.self.inside.count c.self.inside.budget (negative_of c.in-Some.term) c.self.invariant.0 low.variable (omega arith),
       watching-decided c.self.inside.clauses.items c.self.inside.trail c.self.inside.watches.of_clauses.items c.self.inside.watches.lists.items c.self.inside.short.items c.self.inside.saved.items c.self.inside.progress _ (negative_of c.in-Some.term) c.self.invariant.1,
       c.self.invariant.2,
       λ e. absurd (true≢false (sym e)),

@@ -1,0 +1,4 @@
+pub mod SweepLemmas
+pub mod NameLemmas
+pub mod RenumberLemmas
+pub mod CopyLemmas

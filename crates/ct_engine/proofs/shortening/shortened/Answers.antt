@@ -1,0 +1,9 @@
+use Rattle.std.proofs.Common.{◌∙◌, sym, subst}
+use Rattle.ct_engine.specs.Verdict.{IsRefutation}
+use Rattle.ct_engine.proofs.shortening.shortened.Goals as goal
+
+pub returns-clause-refutation : goal.returns-clause-refutation
+returns-clause-refutation c =
+    let refutes = IsRefutation c.args.sig.now c.args.table.now c.args.asserts.now in
+    subst refutes (sym c.into_inner.ensures)
+    (c.in_ok-shorten.ensures.refutation c.args.sig.now c.args.table.now c.args.asserts.now (subst refutes (sym (c.deref_mut.ensures.value ∙ c.in_ok-new.ensures.ok)) c.requires.refutation))

@@ -1,0 +1,13 @@
+use Rattle.std.proofs.Common.{◌∙◌}
+use Rattle.ct_engine.proofs.TaskLemmas.{IsOfOneClosure-task, IsOfOneClosure-then}
+use Rattle.ct_engine.proofs.solving.explore.Goals as goal
+
+pub search-requires-clause-recorded : goal.search-requires-clause-recorded
+search-requires-clause-recorded c = c.in_ok-open_search.ensures.same.recorded ∙ c.requires.recorded
+
+pub search-requires-clause-under_way : goal.search-requires-clause-under_way
+search-requires-clause-under_way c = c.in_ok-open_search.ensures.before.under_way
+
+pub returns-clause-same : goal.returns-clause-same
+returns-clause-same c =
+    IsOfOneClosure-then c.args.course.now c.open_search.new.course c.search.new.course (IsOfOneClosure-task c.args.course.now c.open_search.new.course c.in_ok-open_search.ensures.same) c.in_ok-ending.ensures.same
