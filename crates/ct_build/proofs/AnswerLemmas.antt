@@ -1,13 +1,13 @@
 -- What tests of the builder say of open classes and of other classes.
-use Rattle.std.proofs.Common.{◌≡◌, ℕ, ◌<◌, ◌≤◌, Bool, true, false, not, nat_eq, List, [], ◌∷◌, ◌++◌, length, slice_get, Some, None, Option, option_map, unwrap_or, is_some, MatchBool, IfSome, IfNone, refl, sym, ◌∙◌, ap, subst, arith, true≢false}
+use Rattle.std.proofs.Common.{◌≡◌, ℕ, Bool, true, false, not, nat_eq, List, [], ◌∷◌, ◌++◌, length, slice_get, Some, None, Option, option_map, unwrap_or, is_some, MatchBool, IfSome, IfNone, refl, sym, ◌∙◌, ap, subst, true≢false}
 use Rattle.std.proofs.lemmas.Bool.Decides.{Decides-eqb}
-use Rattle.std.proofs.lemmas.Option.{none-some, same_Some, slice_get_within}
-use Rattle.ct_lemmas.proofs.Lists.{slice_get-last, slice_get-there}
+use Rattle.std.proofs.lemmas.Option.{none-some, same_Some}
+use Rattle.ct_lemmas.proofs.Lists.{slice_get-last}
 use Rattle.ct_sorts.specs.declared.ids.CtorId.{CtorId}
 use Rattle.ct_sorts.specs.declared.ids.SortId.{SortId}
 use Rattle.ct_sorts.specs.declared.ids.Kind.{Kind}
 use Rattle.ct_sorts.specs.declared.ids.Kind.TheVariants.{Free, Data}
-use Rattle.ct_sorts.specs.Declarations.{Declarations, Sort, IsSort}
+use Rattle.ct_sorts.specs.Declarations.{Declarations, Sort}
 use Rattle.ct_sorts.specs.Grown.{Begins}
 use Rattle.ct_card.specs.declared.size.Size.{Size}
 use Rattle.ct_card.specs.declared.size.Size.TheVariants.{Infinite}
@@ -15,7 +15,6 @@ use Rattle.ct_card.specs.Cardinality.{HasSize}
 use Rattle.ct_card.specs.Defaults.{is_free, is_free_sort}
 use Rattle.ct_values.specs.declared.node.NodeId.{NodeId}
 use Rattle.ct_values.specs.declared.node.Node.{Node}
-use Rattle.ct_values.specs.declared.node.Node.TheVariants.{Elem}
 use Rattle.ct_values.specs.Graph.{Nodes, node_head}
 use Rattle.ct_values.specs.Agreement.{node_point, head}
 use Rattle.ct_terms.specs.declared.ids.TermId.{TermId}
@@ -23,10 +22,9 @@ use Rattle.ct_terms.specs.declared.term.Core.TheVariants.{Con}
 use Rattle.ct_terms.specs.Terms.{Has, IsOfSort}
 use Rattle.ct_congr.specs.State.{State, AreEqual, IsConstructorTerm, IsQuiet}
 use Rattle.ct_build.specs.declared.open_classes.OpenClass.{OpenClass}
-use Rattle.ct_build.specs.ClassValues.{IsUnbuilt, IsBuiltBy}
+use Rattle.ct_build.specs.ClassValues.{IsBuiltBy}
 use Rattle.ct_build.specs.OpenClasses.{IsOpenClass}
 use Rattle.ct_build.specs.Nodes.{IsOtherClass}
-use Rattle.ct_build.specs.Chosen.{IsGivenAt}
 use Rattle.ct_build.proofs.TermLemmas.{one_term_sort}
 
 -- two numbers of terms that the test tells apart, or not

@@ -21,3 +21,4 @@ pub mod BuildLemmas
 pub mod AnswerLemmas
 pub mod ClassGraphLemmas
 pub mod ChosenLemmas
+pub mod SpreadLemmas

@@ -1,8 +1,14 @@
 -- Lists of classes, one class more, and what stands in them.
-use Rattle.std.proofs.Common.{◌≡◌, ℕ, ◌+◌, ◌<◌, ◌⊎◌, List, [], ◌∷◌, ◌++◌, length, slice_get, Some, append_assoc, append-nil, refl, sym, ◌∙◌, ap, subst, inl, inr, arith}
+use Rattle.std.proofs.Common.{◌≡◌, ℕ, ◌+◌, ◌<◌, ◌≤◌, ◌⊎◌, Bool, true, false, cond, eqb, List, [], ◌∷◌, ◌++◌, length, set, take, replicate, slice_get, Some, append_assoc, append-nil, refl, sym, ◌∙◌, ap, subst, inl, inr, arith}
 use Rattle.std.proofs.lemmas.Bool.{cases_eq, cases_order}
+use Rattle.std.proofs.lemmas.Bool.Decides.{Decides-eqb}
+use Rattle.std.proofs.lemmas.List.{take-append-le}
+use Rattle.std.proofs.lemmas.List.Sums.{sum_by-append, count_by-le-length}
+use Rattle.std.proofs.Math.Nat.{add-zero}
+use lib.Seq.{take-append_seam}
 use Rattle.std.proofs.lemmas.Option.{none-some, same_Some, slice_get_within}
-use Rattle.ct_lemmas.proofs.Lists.{slice_get-append_left, slice_get-last}
+use Rattle.ct_lemmas.proofs.Booleans.{not_true}
+use Rattle.ct_lemmas.proofs.Lists.{slice_get-append_left, slice_get-last, slice_get-replicate}
 use Rattle.ct_sorts.specs.declared.ids.SortId.{SortId}
 use Rattle.ct_card.specs.declared.size.Size.TheVariants.{Infinite}
 use Rattle.ct_card.specs.Cardinality.{HasSize}
@@ -14,9 +20,9 @@ use Rattle.ct_terms.specs.Terms.{IsOfSort}
 use Rattle.ct_congr.specs.State.{State}
 use Rattle.ct_acyclic.specs.Order.{IsClassOrder}
 use Rattle.ct_build.specs.declared.open_classes.OpenClass.{OpenClass}
-use Rattle.ct_build.specs.OpenClasses.{IsOpenClass, AreOpenClasses, AreFirstOpen, HaveOwnRepresentatives}
+use Rattle.ct_build.specs.OpenClasses.{has_sort, count_of, IsOpenClass, AreOpenClasses, AreFirstOpen, AreCounts, HaveOwnRepresentatives}
 use Rattle.ct_build.specs.Nodes.{IsOtherClass, IsClassList, IsClassListBelow, IsOfTerm, IsCopied}
-use Rattle.ct_build.proofs.ListLemmas.{pushed_at}
+use Rattle.ct_build.proofs.ListLemmas.{pushed_at, set_at}
 use Rattle.ct_build.proofs.TermLemmas.{one_term_sort}
 use Rattle.ct_build.proofs.ClassLemmas.{list_own}
 
@@ -75,6 +81,19 @@ module _ (state : State) where
     | inr apart ↦ before t r (less_or t.0 count less apart) at
   ]
 
+  -- at the start there is none
+  pub first_open_none : (list : List OpenClass) → list ≡ [] → AreFirstOpen state 0 list
+  first_open_none list none = record {
+    only = λ i class at. absurd (none_at i class at);
+    each = λ class is less. absurd (omega (arith, less));
+    once = λ i j first second at_i at_j e. absurd (none_at i first at_i);
+    ranked = λ i class s at has. absurd (none_at i class at);
+    own = λ t r less at. absurd (omega (arith, less));
+  }
+    where
+      none_at : (i : ℕ) (class : OpenClass) → slice_get list i ≡ Some class → ⊥
+      none_at i class at = none-some class (ap (λ (l : List OpenClass). slice_get l i) (sym none) ∙ at)
+
   pub first_open_skip : (list : List OpenClass) (rep : TermId) → ((class : OpenClass) → class.rep ≡ rep → IsOpenClass state class → ⊥) → ((r : TermId) → slice_get state.reps rep.0 ≡ Some r → slice_get state.reps r.0 ≡ Some r) → AreFirstOpen state rep.0 list → AreFirstOpen state (rep.0 + 1) list
   first_open_skip list rep is_not own old = record {
     only = λ i class at. ((old.only i class at).0, below_more class.rep.0 rep.0 (old.only i class at).1);
@@ -83,11 +102,12 @@ module _ (state : State) where
       | inr apart ↦ old.each class is (less_or class.rep.0 rep.0 less apart)
     ];
     once = old.once;
+    ranked = old.ranked;
     own = own_more rep.0 old.own rep refl own;
   }
 
-  pub first_open_more : (list : List OpenClass) (new : OpenClass) → IsOpenClass state new → ((r : TermId) → slice_get state.reps new.rep.0 ≡ Some r → slice_get state.reps r.0 ≡ Some r) → AreFirstOpen state new.rep.0 list → AreFirstOpen state (new.rep.0 + 1) (list ++ new ∷ [])
-  first_open_more list new is own old = record {
+  pub first_open_more : (list : List OpenClass) (new : OpenClass) → IsOpenClass state new → ((s : SortId) → IsOfSort state.terms new.rep s → new.rank ≡ count_of state.terms s list) → ((r : TermId) → slice_get state.reps new.rep.0 ≡ Some r → slice_get state.reps r.0 ≡ Some r) → AreFirstOpen state new.rep.0 list → AreFirstOpen state (new.rep.0 + 1) (list ++ new ∷ [])
+  first_open_more list new is rank own old = record {
     only = λ i class at. elim (pushed_at list new class i at) [
       | inl h ↦ ((old.only i class h).0, below_more class.rep.0 new.rep.0 (old.only i class h).1)
       | inr (e, same) ↦
@@ -110,6 +130,14 @@ module _ (state : State) where
         | inr (end_too, same_too) ↦ end ∙ sym end_too
       ]
     ];
+    ranked = λ i class s at has. elim (pushed_at list new class i at) [
+      | inl h ↦
+          let less = slice_get_within list i class h in
+          old.ranked i class s h has ∙ ap (count_of state.terms s) (sym (take-append-le i list (new ∷ []) (omega (arith, less))))
+      | inr (e, same) ↦
+          ap (λ (c : OpenClass). c.rank) same ∙ rank s (subst (λ (c : OpenClass). IsOfSort state.terms c.rep s) same has)
+          ∙ ap (count_of state.terms s) (sym (ap (λ (k : ℕ). take k (list ++ new ∷ [])) e ∙ take-append_seam list (new ∷ [])))
+    ];
     own = own_more new.rep.0 old.own new.rep refl own;
   }
     where
@@ -119,12 +147,37 @@ module _ (state : State) where
           let number : first.rep.0 ≡ new.rep.0 = ap (λ (t : TermId). t.0) (e ∙ ap (λ (c : OpenClass). c.rep) same) in
           omega (arith, less, number)
 
+  count_push : (s : SortId) (list : List OpenClass) (new : OpenClass) → count_of state.terms s (list ++ new ∷ []) ≡ count_of state.terms s list + (0 + cond (has_sort s (slice_get state.terms new.rep.0)) 1 0)
+  count_push s list new = sum_by-append (λ (c : OpenClass). cond (has_sort s (slice_get state.terms c.rep.0)) 1 0) list (new ∷ [])
+
+  -- one more class is counted for its sort
+  pub counts_more : (list : List OpenClass) (new : OpenClass) (s : SortId) (counts after : List ℕ) → IsOfSort state.terms new.rep s → new.rank ≡ count_of state.terms s list → after ≡ set counts s.0 (new.rank + 1) → AreCounts state list counts → AreCounts state (list ++ new ∷ []) after
+  counts_more list new s counts after has rank is old q count at =
+      elim (set_at counts s.0 q.0 (new.rank + 1) count (ap (λ (l : List ℕ). slice_get l q.0) (sym is) ∙ at)) [
+        | inl (e, same) ↦
+            let one : s ≡ q = λ i. record { 0 = sym e i } in
+            let here : has_sort q (slice_get state.terms new.rep.0) ≡ true = ap (has_sort q) has.1 ∙ (Decides-eqb s.0 q.0).1 (sym e) in
+            sym same ∙ ap (λ (k : ℕ). k + 1) (rank ∙ ap (λ (x : SortId). count_of state.terms x list) one) ∙ sym (count_push q list new ∙ ap (λ (b : Bool). count_of state.terms q list + (0 + cond b 1 0)) here)
+        | inr (apart, had) ↦
+            let other : has_sort q (slice_get state.terms new.rep.0) ≡ false = ap (has_sort q) has.1 ∙ not_true (eqb s.0 q.0) (λ yes_is. apart (sym ((Decides-eqb s.0 q.0).0 yes_is))) in
+            old q count had ∙ sym (count_push q list new ∙ ap (λ (b : Bool). count_of state.terms q list + (0 + cond b 1 0)) other ∙ add-zero (count_of state.terms q list))
+      ]
+
+  -- at the start no class is counted
+  pub counts_none : (list : List OpenClass) (counts : List ℕ) (many : ℕ) → list ≡ [] → counts ≡ replicate many 0 → AreCounts state list counts
+  counts_none list counts many none is s count at = slice_get-replicate many s.0 0 count (ap (λ (l : List ℕ). slice_get l s.0) (sym is) ∙ at) ∙ ap (count_of state.terms s) (sym none)
+
+  -- a rank is below the number of classes
+  pub count_few : (s : SortId) (list : List OpenClass) → count_of state.terms s list ≤ length list
+  count_few s list = count_by-le-length (λ (c : OpenClass). has_sort s (slice_get state.terms c.rep.0)) list
+
   -- those of all terms
   pub all_open : (count : ℕ) (list : List OpenClass) → count ≡ length state.reps → AreFirstOpen state count list → AreOpenClasses state list
   all_open count list e first = record {
     only = λ i class at. (first.only i class at).0;
     each = λ class is. first.each class is (subst (λ (n : ℕ). class.rep.0 < n) (sym e) (slice_get_within state.reps class.rep.0 class.rep is.own));
     once = first.once;
+    ranked = first.ranked;
   }
 
   pub all_own : (count : ℕ) (list : List OpenClass) → count ≡ length state.reps → AreFirstOpen state count list → HaveOwnRepresentatives state

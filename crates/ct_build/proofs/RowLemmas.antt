@@ -18,7 +18,7 @@ use Rattle.ct_build.specs.ClassValues.{IsBuiltBy}
 use Rattle.ct_eval.specs.declared.interp.Row.{Row}
 use Rattle.ct_eval.specs.declared.interp.Table.{Table}
 use Rattle.ct_eval.specs.EvaluationStep.{node_under}
-use Rattle.ct_build.specs.Tables.{with_row, AddsFirst, HasRowFor, AreFunctionRows, IsWronglyApplied, AreSelectorRows}
+use Rattle.ct_build.specs.Tables.{with_row, AddsFirst, HasRowFor, HaveOneRowEach, AreFunctionRows, IsWronglyApplied, AreSelectorRows}
 use Rattle.ct_build.proofs.ListLemmas.{pushed_at, set_at}
 
 less_or : (m n : ℕ) → m < n + 1 → (m ≡ n → ⊥) → m < n
@@ -41,8 +41,8 @@ row_pushed old new number table row at is = record {
 -- rows stay
 pub row_stays : (old new : List Table) (number : ℕ) (row : Row) → AddsFirst old new number row → (k : ℕ) (args : List NodeId) → HasRowFor old k args → HasRowFor new k args
 row_stays old new number row adds k args has = elim adds [
-  | inl e ↦ subst (λ (l : List Table). HasRowFor l k args) (sym e) has
-  | inr (table, at, is) ↦ elim (cases_eq k number) [
+  | inl (had, e) ↦ subst (λ (l : List Table). HasRowFor l k args) (sym e) has
+  | inr (none, (table, at, is)) ↦ elim (cases_eq k number) [
     | inl e ↦
         let same : table ≡ has.table = same_Some table has.table (sym at ∙ ap (slice_get old) (sym e) ∙ has.at) in
         record {
@@ -68,8 +68,8 @@ row_stays old new number row adds k args has = elim adds [
 pub row_source : (old new : List Table) (number : ℕ) (row : Row) → AddsFirst old new number row → (k index : ℕ) (table : Table) (other : Row) → slice_get new k ≡ Some table → slice_get table.rows index ≡ Some other
     → ((before : Table) × (slice_get old k ≡ Some before) × (slice_get before.rows index ≡ Some other)) ⊎ ((k ≡ number) × (other ≡ row))
 row_source old new number row adds k index table other at listed = elim adds [
-  | inl e ↦ inl (table, ap (λ (l : List Table). slice_get l k) (sym e) ∙ at, listed)
-  | inr (before, at_before, is) ↦ elim (set_at old number k (with_row before row) table (ap (λ (l : List Table). slice_get l k) (sym is) ∙ at)) [
+  | inl (had, e) ↦ inl (table, ap (λ (l : List Table). slice_get l k) (sym e) ∙ at, listed)
+  | inr (none, (before, at_before, is)) ↦ elim (set_at old number k (with_row before row) table (ap (λ (l : List Table). slice_get l k) (sym is) ∙ at)) [
     | inr (apart, had) ↦ inl (table, had, listed)
     | inl (e, same) ↦ elim (pushed_at before.rows row other index (ap (λ (t : Table). slice_get t.rows index) same ∙ listed)) [
       | inl h ↦ inl (before, ap (slice_get old) e ∙ at_before, h)
@@ -77,6 +77,40 @@ row_source old new number row adds k index table other at listed = elim adds [
     ]
   ]
 ]
+
+-- there is a row for the arguments then
+pub row_there : (old new : List Table) (number : ℕ) (row : Row) → AddsFirst old new number row → HasRowFor new number row.args
+row_there old new number row adds = elim adds [
+  | inl (had, e) ↦ subst (λ (l : List Table). HasRowFor l number row.args) (sym e) had
+  | inr (none, (table, at, is)) ↦ row_pushed old new number table row at is
+]
+
+-- a table that has one row each still has
+pub one_row_each : (old new : List Table) (number : ℕ) (row : Row) → AddsFirst old new number row → HaveOneRowEach old → HaveOneRowEach new
+one_row_each old new number row adds once k i j table first second at at_i at_j same_args = elim adds [
+  | inl (had, e) ↦ once k i j table first second (ap (λ (l : List Table). slice_get l k) (sym e) ∙ at) at_i at_j same_args
+  | inr (none, (before, at_before, is)) ↦ elim (set_at old number k (with_row before row) table (ap (λ (l : List Table). slice_get l k) (sym is) ∙ at)) [
+    | inr (apart, had) ↦ once k i j table first second had at_i at_j same_args
+    | inl (e, same) ↦ elim (pushed_at before.rows row first i (ap (λ (t : Table). slice_get t.rows i) same ∙ at_i)) [
+      | inl h ↦ elim (pushed_at before.rows row second j (ap (λ (t : Table). slice_get t.rows j) same ∙ at_j)) [
+        | inl g ↦ once number i j before first second at_before h g same_args
+        | inr (end, is_new) ↦ absurd (none (stood before i first at_before h (same_args ∙ ap (λ (r : Row). r.args) is_new)))
+      ]
+      | inr (end, is_new) ↦ elim (pushed_at before.rows row second j (ap (λ (t : Table). slice_get t.rows j) same ∙ at_j)) [
+        | inl g ↦ absurd (none (stood before j second at_before g (sym same_args ∙ ap (λ (r : Row). r.args) is_new)))
+        | inr (end_too, is_too) ↦ end ∙ sym end_too
+      ]
+    ]
+  ]
+]
+  where
+    stood : (before : Table) (index : ℕ) (other : Row) → slice_get old number ≡ Some before → slice_get before.rows index ≡ Some other → other.args ≡ row.args → HasRowFor old number row.args
+    stood before index other at_before listed args_are = record { table = before; index = index; row = other; at = at_before; listed = listed; args_are = args_are }
+
+-- tables without rows have one row each
+one_row_none : (tables : List Table) → ((k : ℕ) (table : Table) → slice_get tables k ≡ Some table → table.rows ≡ []) → HaveOneRowEach tables
+one_row_none tables empty k i j table first second at at_i at_j same_args =
+    absurd (none-some first (ap (λ (l : List Row). slice_get l i) (sym (empty k table at)) ∙ at_i))
 
 -- tables without rows, one more
 pub empty_more : (tables : List Table) (new : Table) → new.rows ≡ [] → ((k : ℕ) (table : Table) → slice_get tables k ≡ Some table → table.rows ≡ []) → (k : ℕ) (table : Table) → slice_get (tables ++ new ∷ []) k ≡ Some table → table.rows ≡ []
@@ -94,6 +128,7 @@ module _ (terms : Terms) (nodes : List NodeId) where
   function_rows_none tables empty = record {
     only = λ f index table row at listed. absurd (none-some row (ap (λ (l : List Row). slice_get l index) (sym (empty f table at)) ∙ listed));
     each = λ t f args less stands. absurd (omega (arith, less));
+    once = one_row_none tables empty;
   }
 
   -- a term that is no application
@@ -104,11 +139,12 @@ module _ (terms : Terms) (nodes : List NodeId) where
       | inl e ↦ absurd (is_not f args (one_core terms core (Apply f args) t.0 stands (has.0, ap (slice_get terms) (sym e) ∙ has.1)))
       | inr apart ↦ old.each u f args (less_or u.0 t.0 less apart) has
     ];
+    once = old.once;
   }
 
   -- one that is
-  pub function_rows_more : (t : TermId) (f : FunId) (args : List TermId) (row : Row) (old new : List Table) → Has terms (Apply f args) t.0 → row.args ≡ map (node_under nodes) args → row.result ≡ node_under nodes t → AddsFirst old new f.0 row → HasRowFor new f.0 row.args → AreFunctionRows terms nodes t.0 old → AreFunctionRows terms nodes (t.0 + 1) new
-  function_rows_more t f args row old new stands args_are result_is adds there_is before = record {
+  pub function_rows_more : (t : TermId) (f : FunId) (args : List TermId) (row : Row) (old new : List Table) → Has terms (Apply f args) t.0 → row.args ≡ map (node_under nodes) args → row.result ≡ node_under nodes t → AddsFirst old new f.0 row → AreFunctionRows terms nodes t.0 old → AreFunctionRows terms nodes (t.0 + 1) new
+  function_rows_more t f args row old new stands args_are result_is adds before = record {
     only = λ g index table other at listed. elim (row_source old new f.0 row adds g index table other at listed) [
       | inl (table_before, at_before, h) ↦ before.only g index table_before other at_before h
       | inr (e, same) ↦ record {
@@ -125,9 +161,10 @@ module _ (terms : Terms) (nodes : List NodeId) where
           let one : f ≡ g = cc in
           let lists : args ≡ xs = cc in
           subst (λ (n : FunId). HasRowFor new n.0 (map (node_under nodes) xs)) one
-          (subst (λ (ns : List NodeId). HasRowFor new f.0 ns) (args_are ∙ ap (map (node_under nodes)) lists) there_is)
+          (subst (λ (ns : List NodeId). HasRowFor new f.0 ns) (args_are ∙ ap (map (node_under nodes)) lists) (row_there old new f.0 row adds))
       | inr apart ↦ row_stays old new f.0 row adds g.0 (map (node_under nodes) xs) (before.each u g xs (less_or u.0 t.0 less apart) has)
     ];
+    once = one_row_each old new f.0 row adds before.once;
   }
 
 -- ---- wrong applications
@@ -136,6 +173,7 @@ module _ (state : State) (nodes : List NodeId) where
   selector_rows_none tables empty = record {
     only = λ s index table row at listed. absurd (none-some row (ap (λ (l : List Row). slice_get l index) (sym (empty s table at)) ∙ listed));
     each = λ t s of selector less stands declared wrong. absurd (omega (arith, less));
+    once = one_row_none tables empty;
   }
 
   -- a term that is no wrong application
@@ -146,11 +184,12 @@ module _ (state : State) (nodes : List NodeId) where
       | inl e ↦ absurd (is_not s of selector (one_core state.terms core (Sel s of) t.0 stands (has.0, ap (slice_get state.terms) (sym e) ∙ has.1)) declared wrong)
       | inr apart ↦ old.each u s of selector (less_or u.0 t.0 less apart) has declared wrong
     ];
+    once = old.once;
   }
 
   -- one that is
-  pub selector_rows_more : (t : TermId) (s : SelId) (of : TermId) (selector : Selector) (row : Row) (old new : List Table) → Has state.terms (Sel s of) t.0 → slice_get state.declarations.sels s.0 ≡ Some selector → IsWronglyApplied state selector of → row.args ≡ node_under nodes of ∷ [] → row.result ≡ node_under nodes t → AddsFirst old new s.0 row → HasRowFor new s.0 row.args → AreSelectorRows state nodes t.0 old → AreSelectorRows state nodes (t.0 + 1) new
-  selector_rows_more t s of selector row old new stands declared wrong args_are result_is adds there_is before = record {
+  pub selector_rows_more : (t : TermId) (s : SelId) (of : TermId) (selector : Selector) (row : Row) (old new : List Table) → Has state.terms (Sel s of) t.0 → slice_get state.declarations.sels s.0 ≡ Some selector → IsWronglyApplied state selector of → row.args ≡ node_under nodes of ∷ [] → row.result ≡ node_under nodes t → AddsFirst old new s.0 row → AreSelectorRows state nodes t.0 old → AreSelectorRows state nodes (t.0 + 1) new
+  selector_rows_more t s of selector row old new stands declared wrong args_are result_is adds before = record {
     only = λ q index table other at listed. elim (row_source old new s.0 row adds q index table other at listed) [
       | inl (table_before, at_before, h) ↦ before.only q index table_before other at_before h
       | inr (e, same) ↦ record {
@@ -170,9 +209,10 @@ module _ (state : State) (nodes : List NodeId) where
           let one : s ≡ q = cc in
           let args : of ≡ x = cc in
           subst (λ (n : SelId). HasRowFor new n.0 (node_under nodes x ∷ [])) one
-          (subst (λ (ns : List NodeId). HasRowFor new s.0 ns) (args_are ∙ ap (λ (y : TermId). node_under nodes y ∷ []) args) there_is)
+          (subst (λ (ns : List NodeId). HasRowFor new s.0 ns) (args_are ∙ ap (λ (y : TermId). node_under nodes y ∷ []) args) (row_there old new s.0 row adds))
       | inr apart ↦ row_stays old new s.0 row adds q.0 (node_under nodes x ∷ []) (before.each u q x other (less_or u.0 t.0 less apart) has declared_too wrong_too)
     ];
+    once = one_row_each old new s.0 row adds before.once;
   }
 
 -- a selection of the selector's own constructor is no wrong application

@@ -24,10 +24,6 @@ pub at_ok : {T E : Type 0} {P Q : Type 0} (r : Result T E) → OnOk r P → (P �
 at_ok (Ok x) p f = f p
 at_ok (Err e) p f = tt
 
-pub at_ok_both : {T E : Type 0} {P Q R : Type 0} (r : Result T E) → OnOk r P → OnOk r Q → (P → Q → R) → OnOk r R
-at_ok_both (Ok x) p q f = f p q
-at_ok_both (Err e) p q f = tt
-
 -- a selection is by a declared selector, and from a term of the table
 pub selection_inside : (d : Declarations) (terms : Terms) → AreSorted d terms → (t of : TermId) (s : SelId) → Has terms (Sel s of) t.0 → s.0 < length d.sels
 selection_inside d terms sorted t of s (r, stands) =
@@ -57,16 +53,16 @@ module _ (d : Declarations) (g : Nodes) where
   -- tables are as many as they were
   pub adds_length : (old new : List Table) (number : ℕ) (row : Row) → AddsFirst old new number row → length new ≡ length old
   adds_length old new number row adds = elim adds [
-    | inl e ↦ ap length e
-    | inr h ↦ ap length h.2 ∙ set_length old number (with_row h.0 row)
+    | inl had ↦ ap length had.1
+    | inr put ↦ ap length put.1.2 ∙ set_length old number (with_row put.1.0 row)
   ]
 
   pub functions_more : (old new : List Table) (f : ℕ) (row : Row) → HasFunctions d g old → AddsFirst old new f row → ((function : Function) → slice_get d.functions f ≡ Some function → FitsRow d g function.args function.result row) → HasFunctions d g new
   functions_more old new f row has adds fit = record {
     one_each = adds_length old new f row adds ∙ has.one_each;
     fit = λ h function table declared at. elim adds [
-      | inl e ↦ has.fit h function table declared (ap (λ (l : List Table). slice_get l h) (sym e) ∙ at)
-      | inr added ↦ elim (set_at old f h (with_row added.0 row) table (ap (λ (l : List Table). slice_get l h) (sym added.2) ∙ at)) [
+      | inl had ↦ has.fit h function table declared (ap (λ (l : List Table). slice_get l h) (sym had.1) ∙ at)
+      | inr put ↦ let added = put.1 in elim (set_at old f h (with_row added.0 row) table (ap (λ (l : List Table). slice_get l h) (sym added.2) ∙ at)) [
         | inl (e, same) ↦
             let here : slice_get d.functions f ≡ Some function = ap (slice_get d.functions) (sym e) ∙ declared in
             subst (λ (x : Table). FitsTable d g function.args function.result x) same
@@ -80,8 +76,8 @@ module _ (d : Declarations) (g : Nodes) where
   selectors_more old new s row has adds fit = record {
     one_each = adds_length old new s row adds ∙ has.one_each;
     fit = λ h selector ctor table declared built at. elim adds [
-      | inl e ↦ has.fit h selector ctor table declared built (ap (λ (l : List Table). slice_get l h) (sym e) ∙ at)
-      | inr added ↦ elim (set_at old s h (with_row added.0 row) table (ap (λ (l : List Table). slice_get l h) (sym added.2) ∙ at)) [
+      | inl had ↦ has.fit h selector ctor table declared built (ap (λ (l : List Table). slice_get l h) (sym had.1) ∙ at)
+      | inr put ↦ let added = put.1 in elim (set_at old s h (with_row added.0 row) table (ap (λ (l : List Table). slice_get l h) (sym added.2) ∙ at)) [
         | inl (e, same) ↦
             let here : slice_get d.sels s ≡ Some selector = ap (slice_get d.sels) (sym e) ∙ declared in
             subst (λ (x : Table). FitsTable d g (ctor.sort ∷ []) selector.sort x) same

@@ -1,7 +1,7 @@
 -- Nodes of terms: those of their sorts and of open classes, and those that are reserved for classes.
-use Rattle.std.proofs.Common.{◌≡◌, ℕ, ◌+◌, ◌<◌, List, [], ◌∷◌, ◌++◌, length, set, slice_get, Some, refl, sym, ◌∙◌, ap, subst, inl, inr, arith}
+use Rattle.std.proofs.Common.{◌≡◌, ℕ, ◌+◌, ◌<◌, List, [], ◌∷◌, ◌++◌, length, set, slice_get, Some, sym, ◌∙◌, ap, subst, inl, inr, arith}
 use Rattle.std.proofs.lemmas.Bool.{cases_eq, cases_order}
-use Rattle.std.proofs.lemmas.Option.{none-some, same_Some, slice_get_within}
+use Rattle.std.proofs.lemmas.Option.{same_Some, slice_get_within}
 use Rattle.ct_lemmas.proofs.Lists.{slice_get-append_left, slice_get-last, slice_get-set_other, slice_get-set_same, slice_get-there}
 use Rattle.ct_sorts.specs.declared.ids.SortId.{SortId}
 use Rattle.ct_sorts.specs.Grown.{Begins}
@@ -15,7 +15,7 @@ use Rattle.ct_build.specs.declared.open_classes.OpenClass.{OpenClass}
 use Rattle.ct_build.specs.OpenClasses.{AreOpenClasses, AreOfAllSorts}
 use Rattle.ct_build.specs.Nodes.{HaveSortedNodes, AreNumbered, IsReserved}
 use Rattle.ct_build.specs.Chosen.{AreChosen, AreDefaults, IsGivenAt, AreGivenBelow, AreGiven}
-use Rattle.ct_build.proofs.ListLemmas.{pushed_at, length-push, set_at, set_length}
+use Rattle.ct_build.proofs.ListLemmas.{length-push, set_at, set_length}
 use Rattle.ct_build.proofs.TermLemmas.{one_term_sort}
 
 -- less than one more is less, or the same

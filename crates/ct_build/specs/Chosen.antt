@@ -1,5 +1,5 @@
 -- Values that were chosen for open classes, a node each, and the nodes of terms that have no value of their class yet.
-use Rattle.std.specs.Prelude.{◌≡◌, ℕ, ◌<◌, ◌≤◌, ◌⊎◌, List, [], ◌∷◌, ◌++◌, length, Some, slice_get}
+use Rattle.std.specs.Prelude.{◌≡◌, ℕ, ◌+◌, ◌*◌, ◌/◌, ◌^◌, ◌<◌, ◌≤◌, ◌⊎◌, List, [], ◌∷◌, ◌++◌, length, Some, slice_get}
 use Rattle.ct_sorts.specs.declared.ids.SortId.{SortId}
 use Rattle.ct_sorts.specs.Grown.{Begins}
 use Rattle.ct_values.specs.declared.node.NodeId.{NodeId}
@@ -27,6 +27,12 @@ pub record IsPushed (state : State) (IsNumbered : SortId → ℕ → Point → T
   pub grown : Begins old new
   pub nodes_are : after ≡ before ++ node ∷ []
   pub numbered : (class : OpenClass) (s : SortId) → slice_get unbuilt (length before) ≡ Some class → IsOfSort state.terms class.rep s → IsNumbered s number (node_point new node)
+
+-- the open classes from this index on have the values whose numbers are their ranks times the gap, and half of the gap
+abbrev pub AreSpread : State → (SortId → ℕ → Point → Type 0) → ℕ → List OpenClass → ℕ → Nodes → List NodeId → Type 0
+AreSpread state IsNumbered gap unbuilt from g chosen = (i : ℕ) (class : OpenClass) (n : NodeId) (s : SortId) → from ≤ i
+    → slice_get unbuilt i ≡ Some class → slice_get chosen i ≡ Some n → IsOfSort state.terms class.rep s
+    → class.rank * gap + gap / 2 < 2 ^ 64 → IsNumbered s (class.rank * gap + gap / 2) (node_point g n)
 
 -- the node for the open class at this index: the chosen one, or its mark where none is chosen yet
 pub record IsGivenAt (state : State) (g : Nodes) (unbuilt : List OpenClass) (chosen : List NodeId) (i : ℕ) (n : NodeId) : Type 0 where

@@ -12,7 +12,7 @@ ghost use Rattle.ct_card.specs.Nth.{IsNth};
 ghost use Rattle.ct_acyclic.specs.Order.{IsClassOrder};
 ghost use Rattle.ct_build.specs.ClassValues.{AreApartWith};
 ghost use Rattle.ct_build.specs.OpenClasses.{AreOpenClasses};
-ghost use Rattle.ct_build.specs.Chosen.{AreChosen};
+ghost use Rattle.ct_build.specs.Chosen.{AreChosen, AreSpread};
 ghost use Rattle.ct_build.specs.Buildable.{AreBuildable};
 ghost use Rattle.ct_build.specs.Trials.{AreAllChosen, IsNext, IsRefusedNext};
 
@@ -125,7 +125,7 @@ fn is_all_at_once(
     }
 }
 
-// Chooses these values for all open classes that have none.
+// Chooses these values for all open classes that have none: with its rank times the gap, and half of the gap, as the number of each.
 fn push_all(
     sizes: &Sizes,
     classes: &Classes,
@@ -141,7 +141,10 @@ fn push_all(
     ensures prepared { OnOk result (IsPrepared classes.now.declarations sizes.now chosen.new.graph chosen.new.prepared) }
     ensures chosen { OnOk result (AreChosen classes.now chosen.new.graph defaults.now unbuilt.now chosen.new.nodes.items) }
     ensures all { OnOk result (length chosen.new.nodes.items ≡ length unbuilt.now) }
+    ensures spread { OnOk result (AreSpread classes.now (λ s n p. IsNth classes.now.declarations sizes.now s.0 n p) gap unbuilt.now (length chosen.old.nodes.items) chosen.new.graph chosen.new.nodes.items) }
 {
+    known(classes);
+    different_values();
     while chosen.nodes.len() < unbuilt.len() {
         let rank = unbuilt[chosen.nodes.len()].rank;
         let number = rank.saturating_mul(gap).saturating_add(gap / 2);

@@ -81,14 +81,14 @@ fn add_application(
     requires sorted { AreSorted sig.now table.now }
     requires long { length nodes.now ≡ length table.now }
     requires one_each { length tables.old.items ≡ length sig.now.functions }
+    requires seen { AreSeen seen.old tables.old.items }
     ensures one_each { OnOk result (length tables.new.items ≡ length sig.now.functions) }
     ensures functions { OnOk result ((g : Nodes)
         → HaveSortedNodes sig.now table.now g nodes.now
         → HasFunctions sig.now g tables.old.items
         → HasFunctions sig.now g tables.new.items) }
-    ensures rows { OnOk result (AreSeen seen.old tables.old.items
-        → AreFunctionRows table.now nodes.now t.0 tables.old.items
-        → AreSeen seen.new tables.new.items × AreFunctionRows table.now nodes.now (t.0 + 1) tables.new.items) }
+    ensures seen { OnOk result (AreSeen seen.new tables.new.items) }
+    ensures rows { OnOk result (AreFunctionRows table.now nodes.now t.0 tables.old.items → AreFunctionRows table.now nodes.now (t.0 + 1) tables.new.items) }
 {
     match table.core(t) {
         Core::Apply(f, args) => {

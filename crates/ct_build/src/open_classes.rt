@@ -5,7 +5,7 @@ ghost use Rattle.ct_card.specs.Sizes.{AreSizes};
 ghost use Rattle.ct_terms.specs.Terms.{IsOfSort};
 ghost use Rattle.ct_terms.specs.declared.ids.TermId.{TermId};
 ghost use Rattle.ct_build.specs.declared.open_classes.OpenClass.{OpenClass};
-ghost use Rattle.ct_build.specs.OpenClasses.{IsOpenClass, AreOpenClasses, AreFirstOpen, HaveOwnRepresentatives};
+ghost use Rattle.ct_build.specs.OpenClasses.{IsOpenClass, AreOpenClasses, AreFirstOpen, AreCounts, HaveOwnRepresentatives};
 
 use crate::error::BuildError;
 use crate::facts::facts;
@@ -24,7 +24,7 @@ pub(crate) struct OpenClass {
     pub(crate) rank: u64,
 }
 
-/// All open classes, each once, in the order of their representatives.
+/// All open classes, each once and with its rank, in the order of their representatives.
 pub(crate) fn open_classes(
     alloc: Global,
     sizes: &Sizes,
@@ -54,8 +54,10 @@ fn add_if_open(
     requires sizes { AreSizes classes.now.declarations sizes.now }
     requires inside { rep.0 < length classes.now.terms }
     requires long { length counts.old.items ≡ length classes.now.declarations.sorts }
+    requires counts { AreCounts classes.now list.old.items counts.old.items }
     requires first { AreFirstOpen classes.now rep.0 list.old.items }
     ensures long { OnOk result (length counts.new.items ≡ length classes.now.declarations.sorts) }
+    ensures counts { OnOk result (AreCounts classes.now list.new.items counts.new.items) }
     ensures first { OnOk result (AreFirstOpen classes.now (rep.0 + 1) list.new.items) }
 {
     if !is_open(sizes, classes, rep) {

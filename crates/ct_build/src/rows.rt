@@ -1,7 +1,6 @@
 //! Tables, row by row.
-ghost use Rattle.std.specs.Prelude.{◌≡◌, ◌<◌, length, Some, slice_get, slice_set, OnOk};
-ghost use Rattle.ct_eval.specs.declared.interp.Table.{Table};
-ghost use Rattle.ct_build.specs.Tables.{with_row, AddsFirst, HasRowFor};
+ghost use Rattle.std.specs.Prelude.{◌<◌, length, OnOk};
+ghost use Rattle.ct_build.specs.Tables.{AddsRow, AddsFirst};
 ghost use Rattle.ct_build.specs.Seen.{AreSeen};
 
 use crate::error::BuildError;
@@ -27,9 +26,9 @@ pub(crate) fn add_first(
     row: Row,
 ) -> Result<(), BuildError>
     requires within { number < length tables.old.items }
+    requires seen { AreSeen seen.old tables.old.items }
+    ensures seen { OnOk result (AreSeen seen.new tables.new.items) }
     ensures added { OnOk result (AddsFirst tables.old.items tables.new.items number row) }
-    ensures seen { OnOk result (AreSeen seen.old tables.old.items
-        → AreSeen seen.new tables.new.items × HasRowFor tables.new.items number row.args) }
 {
     let args = NodeIds::from_slice(alloc, row.args.as_slice())?;
     let (_, new) = seen.insert_full(RowKey {
@@ -45,7 +44,7 @@ pub(crate) fn add_first(
 // Puts the row at the end of the table with this number.
 fn add_row(alloc: Global, tables: &mut Vec<Table>, number: u32, row: Row) -> Result<(), BuildError>
     requires within { number < length tables.old.items }
-    ensures added { OnOk result ((table : Table) × (slice_get tables.old.items number ≡ Some table) × (tables.new.items ≡ slice_set tables.old.items number (with_row table row))) }
+    ensures added { OnOk result (AddsRow tables.old.items tables.new.items number row) }
 {
     let empty = Table {
         rows: Rows::new(Vec::new(alloc)),

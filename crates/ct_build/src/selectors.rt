@@ -84,14 +84,14 @@ fn add_selection(
     requires inside { t.0 < length classes.now.terms }
     requires long { length nodes.now ≡ length classes.now.terms }
     requires one_each { length tables.old.items ≡ length classes.now.declarations.sels }
+    requires seen { AreSeen seen.old tables.old.items }
     ensures one_each { OnOk result (length tables.new.items ≡ length classes.now.declarations.sels) }
     ensures selectors { OnOk result ((g : Nodes)
         → HaveSortedNodes classes.now.declarations classes.now.terms g nodes.now
         → HasSelectors classes.now.declarations g tables.old.items
         → HasSelectors classes.now.declarations g tables.new.items) }
-    ensures rows { OnOk result (AreSeen seen.old tables.old.items
-        → AreSelectorRows classes.now nodes.now t.0 tables.old.items
-        → AreSeen seen.new tables.new.items × AreSelectorRows classes.now nodes.now (t.0 + 1) tables.new.items) }
+    ensures seen { OnOk result (AreSeen seen.new tables.new.items) }
+    ensures rows { OnOk result (AreSelectorRows classes.now nodes.now t.0 tables.old.items → AreSelectorRows classes.now nodes.now (t.0 + 1) tables.new.items) }
 {
     match classes.table().core(t) {
         Core::Sel(s, of) => {

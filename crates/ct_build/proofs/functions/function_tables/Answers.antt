@@ -8,18 +8,17 @@ pub loop-t-init : goal.loop-t-init
 loop-t-init c = record {
   many = c.in_ok-tables.ensures.long;
   functions = λ g all have. c.in_ok-tables.ensures.functions g all;
-  seen = seen_none c.new-seen.result c.in_ok-tables.tables.items c.new-seen.ensures.empty;
+  seen = seen_none c.new-seen.result c.in_ok-tables.tables.items c.new-seen.ensures.empty c.in_ok-tables.ensures.empty;
   rows = function_rows_none c.args.table.now c.args.nodes.now c.in_ok-tables.tables.items c.in_ok-tables.ensures.empty;
 }
 
 pub loop-t-preserved : goal.loop-t-preserved
 loop-t-preserved c =
-    let step = c.in_ok-add_application.ensures.rows c.loop-t.invariant.seen c.loop-t.invariant.rows in
     record {
       many = c.in_ok-add_application.ensures.one_each;
       functions = λ g all have. c.in_ok-add_application.ensures.functions g have (c.loop-t.invariant.functions g all have);
-      seen = step.0;
-      rows = step.1;
+      seen = c.in_ok-add_application.ensures.seen;
+      rows = c.in_ok-add_application.ensures.rows c.loop-t.invariant.rows;
     }
 
 pub returns-clause-rows : goal.returns-clause-rows

@@ -1,6 +1,17 @@
-use Rattle.std.proofs.Common.{◌≡◌, length, ap, arith}
-use Rattle.ct_build.proofs.ListedLemmas.{all_open, all_own}
+use Rattle.std.proofs.Common.{rules, ◌≡◌, length, replicate, ◌∙◌, ap, arith}
+use Rattle.std.proofs.lemmas.List.{length-replicate}
+use Rattle.ct_sorts.specs.Declarations.{Declarations}
+use Rattle.ct_build.proofs.ListedLemmas.{counts_none, first_open_none, all_open, all_own}
 use Rattle.ct_build.proofs.open_classes.open_classes.Goals as goal
+
+pub loop-t-init : goal.loop-t-init
+loop-t-init c =
+    let none : c.in_ok-counts.counts.items ≡ replicate c.sorts.result 0 = c.in_ok-counts.ensures.items_if_clones_equal (search rules) in
+    record {
+      many = ap length none ∙ length-replicate c.sorts.result 0 ∙ c.sorts.ensures.count ∙ ap (λ (d : Declarations). length d.sorts) c.signature.ensures.value;
+      counts = counts_none c.args.classes.now _ _ c.sorts.result c.new-list.ensures.items none;
+      first = first_open_none c.args.classes.now _ c.new-list.ensures.items;
+    }
 
 pub returns : goal.returns
 returns c =

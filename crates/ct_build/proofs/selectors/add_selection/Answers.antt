@@ -10,7 +10,7 @@ use Rattle.ct_eval.specs.Interpretation.{FitsRow}
 use Rattle.ct_build.specs.ClassValues.{IsBuiltBy}
 use Rattle.ct_build.specs.Tables.{IsWronglyApplied}
 use Rattle.ct_build.proofs.RowLemmas.{selector_rows_skip, selector_rows_more, right_selection}
-use Rattle.ct_build.proofs.TableLemmas.{at_ok, at_ok_both, selectors_more, selection_fits, selection_inside, selection_within}
+use Rattle.ct_build.proofs.TableLemmas.{at_ok, selectors_more, selection_fits, selection_inside, selection_within}
 use Rattle.ct_build.proofs.selectors.add_selection.Goals as goal
 
 pub sel_ctor-requires : goal.sel_ctor-requires
@@ -23,7 +23,7 @@ pub add_first-requires : goal.add_first-requires
 add_first-requires c =
     let state = c.args.classes.now in
     let stands : Has state.terms (Sel c.in-Sel.s c.in-Sel.of) c.args.t.0 = rw (← c.in-Sel.is, ← c.table.ensures.value) c.core.ensures.value in
-    record { within = omega (arith, c.requires.one_each, selection_inside state.declarations state.terms c.table.ensures.sorted c.args.t c.in-Sel.of c.in-Sel.s stands) }
+    record { within = omega (arith, c.requires.one_each, selection_inside state.declarations state.terms c.table.ensures.sorted c.args.t c.in-Sel.of c.in-Sel.s stands); seen = c.requires.seen }
 
 pub returns-in_ok-push-in-Sel-clause-selectors : goal.returns-in_ok-push-in-Sel-clause-selectors
 returns-in_ok-push-in-Sel-clause-selectors c =
@@ -58,23 +58,19 @@ returns-in_ok-push-in-Sel-clause-rows c =
     let none = rw c.if-is_of.false at c.is_of.ensures.value in
     let wrong : IsWronglyApplied state selects.selector of = λ args built. none args (subst (λ (k : CtorId). IsBuiltBy state of k args) (sym same) built) in
     let is : c.new.result ≡ node_under nodes of ∷ [] = c.new.ensures.value ∙ c.in_ok-push-in-Sel.ensures.items ∙ ap (λ (l : List NodeId). l ++ node_under nodes of ∷ []) c.new-args.ensures.items in
-    at_ok_both c.add_first.result c.add_first.ensures.added c.add_first.ensures.seen (λ adds seen are before.
-    let step = seen are in
-    (step.0, selector_rows_more state nodes c.args.t s of selects.selector (record { args = c.new.result; result = m }) c.args.tables.now.items c.add_first.new.tables.items stands selects.declared wrong is refl adds step.1 before))
+    at_ok c.add_first.result c.add_first.ensures.added (λ adds before. selector_rows_more state nodes c.args.t s of selects.selector (record { args = c.new.result; result = m }) c.args.tables.now.items c.add_first.new.tables.items stands selects.declared wrong is refl adds before)
 
 pub returns-then-is_of-clause-rows : goal.returns-then-is_of-clause-rows
-returns-then-is_of-clause-rows c = λ seen before.
+returns-then-is_of-clause-rows c = λ before.
     let state = c.args.classes.now in
     let s = c.in-Sel.s in
     let of = c.in-Sel.of in
     let stands : Has state.terms (Sel s of) c.args.t.0 = rw (← c.in-Sel.is, ← c.table.ensures.value) c.core.ensures.value in
     let ctor : option_map (λ (x : Selector). x.ctor) (slice_get state.declarations.sels s.0) ≡ Some c.sel_ctor.result =
     subst (λ (d : Declarations). option_map (λ (x : Selector). x.ctor) (slice_get d.sels s.0) ≡ Some c.sel_ctor.result) c.signature.ensures.value c.sel_ctor.ensures.value in
-    let found = rw c.if-is_of.true at c.is_of.ensures.value in (
-      seen,
-      selector_rows_skip state c.args.nodes.now c.args.t (Sel s of) c.args.tables.now.items stands (λ q other selector same declared wrong.
-          right_selection state s q of other c.sel_ctor.result found.0 selector found.1 ctor same declared wrong) before,
-    )
+    let found = rw c.if-is_of.true at c.is_of.ensures.value in
+    selector_rows_skip state c.args.nodes.now c.args.t (Sel s of) c.args.tables.now.items stands (λ q other selector same declared wrong.
+    right_selection state s q of other c.sel_ctor.result found.0 selector found.1 ctor same declared wrong) before
 
 pub returns-in_default : goal.returns-in_default
 returns-in_default c =
@@ -83,5 +79,6 @@ returns-in_default c =
     record {
       one_each = c.requires.one_each;
       selectors = λ g have old. old;
-      rows = λ seen before. (seen, selector_rows_skip state c.args.nodes.now c.args.t c.core.result.now c.args.tables.now.items stands (λ s of selector same declared wrong. c.in_default.not-Sel s of same) before);
+      seen = c.requires.seen;
+      rows = λ before. selector_rows_skip state c.args.nodes.now c.args.t c.core.result.now c.args.tables.now.items stands (λ s of selector same declared wrong. c.in_default.not-Sel s of same) before;
     }

@@ -14,18 +14,17 @@ loop-t-init c =
     record {
       many = subst (λ (d : Declarations). length tables ≡ length d.sels) e c.in_ok-tables.ensures.long;
       selectors = λ g all have. subst (λ (d : Declarations). HasSelectors d g tables) e (c.in_ok-tables.ensures.selectors g (subst (λ (d : Declarations). AreOfAllSorts d g c.args.defaults.now) (sym e) all));
-      seen = seen_none c.new-seen.result tables c.new-seen.ensures.empty;
+      seen = seen_none c.new-seen.result tables c.new-seen.ensures.empty c.in_ok-tables.ensures.empty;
       rows = selector_rows_none c.args.classes.now c.args.nodes.now tables c.in_ok-tables.ensures.empty;
     }
 
 pub loop-t-preserved : goal.loop-t-preserved
 loop-t-preserved c =
-    let step = c.in_ok-add_selection.ensures.rows c.loop-t.invariant.seen c.loop-t.invariant.rows in
     record {
       many = c.in_ok-add_selection.ensures.one_each;
       selectors = λ g all have. c.in_ok-add_selection.ensures.selectors g have (c.loop-t.invariant.selectors g all have);
-      seen = step.0;
-      rows = step.1;
+      seen = c.in_ok-add_selection.ensures.seen;
+      rows = c.in_ok-add_selection.ensures.rows c.loop-t.invariant.rows;
     }
 
 pub returns-clause-rows : goal.returns-clause-rows
