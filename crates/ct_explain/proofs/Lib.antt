@@ -7,6 +7,7 @@ mod ExplainedLemmas
 mod TreeLemmas
 mod HangLemmas
 mod WayLemmas
+mod TopLemmas
 mod RestLemmas
 mod PlantLemmas
 mod CutLemmas

@@ -1,6 +1,6 @@
 //! Steps of the rule of uniqueness: pairs of constructor terms that cannot be told apart (Reynolds and
 //! Blanchette 2015, section 4).
-ghost use Rattle.std.specs.Prelude.{◌≡◌, ◌<◌, ℕ, List, length, take, IfOk, OnOk, IfSome, IfNone, Some, slice_get, Contains};
+ghost use Rattle.std.specs.Prelude.{◌≡◌, ◌<◌, ◌⊎◌, ℕ, List, length, take, IfOk, OnOk, IfSome, IfNone, Some, slice_get, Contains};
 ghost use Rattle.std.specs.Bool.{OnTrue, OnFalse};
 ghost use Rattle.ct_terms.specs.declared.ids.TermId.{TermId};
 ghost use Rattle.ct_rules.specs.declared.equation.Equation.{Equation};
@@ -9,13 +9,13 @@ ghost use Rattle.ct_congr.specs.declared.merge.Merge.{Merge};
 ghost use Rattle.ct_congr.specs.declared.merge.Reason.TheVariants as reason;
 ghost use Rattle.ct_congr.specs.Merges.{AreConnected};
 ghost use Rattle.ct_congr.specs.Reasons.{IsReason};
-ghost use Rattle.ct_explain.specs.Trees.{IsForestOf, IsForestOver};
+ghost use Rattle.ct_explain.specs.Trees.{IsForestOver, IsTop, IsApart};
 ghost use Rattle.ct_explain.specs.Resting.{AreArgumentsPaved, AreEntries, AreEntriesPaved, IsEntry, IsEntryPaved, IsDetour, IsMatching, HasNumber};
 ghost use Rattle.ct_explain.specs.Writing.{Told, HasWrittenMore, AreDone};
 ghost use Rattle.ct_explain.specs.Pairs.{ToldEntry, ToldEntries, IsPairTold, ArePairsTold};
 
 use crate::error::ExplainError;
-use crate::forest::{Forest, is_way};
+use crate::forest::{Forest, Link, top};
 use crate::merges::write_premise;
 use crate::premises::children;
 use crate::writer::Writer;
@@ -178,7 +178,7 @@ fn write_entry(
     ensures grown { OnOk result (HasWrittenMore classes.now writer.old writer.new) }
     ensures entry { IfOk result (λ entry. ToldEntry writer.new equations.now entry x y) }
 {
-    match detour(forest, bound, equations, x, y)? {
+    match detour(forest, bound, equations, x, y) {
         Some((place, e)) => {
             let i = write_premise(classes, forest, done, bound, x, e.left, writer)?;
             let j = write_premise(classes, forest, done, bound, e.right, y, writer)?;
@@ -199,49 +199,37 @@ pub(crate) fn detour(
     equations: &[Equation],
     x: TermId,
     y: TermId,
-) -> Result<Option<(u64, Equation)>, ExplainError>
-    ensures answer { IfOk result (λ answer. (merges : List Merge)
+) -> Option<(u64, Equation)>
+    ensures answer { (merges : List Merge)
         → IsMatching merges forest.now.links bound equations.now x y
-        → IsDetour (AreConnected (take bound merges)) equations.now x y answer) }
+        → IsDetour (AreConnected (take bound merges)) equations.now x y result }
 {
-    let equal = is_way(forest, x, y, bound)?;
-    if equal {
-        return Ok(None);
+    let links = forest.links();
+    let from = top(links, x, bound);
+    let to = top(links, y, bound);
+    if from == to {
+        return None;
     }
     for k in 0..equations.len() {
         let e = equations[k];
-        let joined = joins(forest, bound, e, x, y)?;
-        if joined {
-            return Ok(Some((k as u64, e)));
+        if joins(links, bound, e, from, to) {
+            return Some((k as u64, e));
         }
     }
-    Ok(None)
+    None
 }
 
-// Whether the terms equal the sides of the equation.
-fn joins(
-    forest: &Forest,
-    bound: usize,
-    e: Equation,
-    x: TermId,
-    y: TermId,
-) -> Result<bool, ExplainError>
-    ensures yes { IfOk result (λ answer. OnTrue answer ((merges : List Merge)
-        → IsForestOf merges forest.now.links
-        → x.0 < length forest.now.links → e.left.0 < length forest.now.links
-        → e.right.0 < length forest.now.links → y.0 < length forest.now.links
-        → AreConnected (take bound merges) x e.left × AreConnected (take bound merges) e.right y)) }
-    ensures no { IfOk result (λ answer. OnFalse answer ((merges : List Merge)
-        → IsForestOf merges forest.now.links
-        → x.0 < length forest.now.links → e.right.0 < length forest.now.links
-        → AreConnected (take bound merges) x e.left
-        → AreConnected (take bound merges) e.right y
-        → ⊥)) }
+// Whether merges below the bound lead from the sides of the equation to these two ends.
+fn joins(links: &[Option<Link>], bound: usize, e: Equation, from: TermId, to: TermId) -> bool
+    ensures left { OnTrue result (IsTop links.now bound e.left from) }
+    ensures right { OnTrue result (IsTop links.now bound e.right to) }
+    ensures apart { OnFalse result (IsApart links.now bound e.left from ⊎ IsApart links.now bound e.right to) }
 {
-    let first = is_way(forest, x, e.left, bound)?;
-    if !first {
-        return Ok(false);
+    if top(links, e.left, bound) != from {
+        return false;
     }
-    let joins = is_way(forest, e.right, y, bound)?;
-    Ok(joins)
+    if top(links, e.right, bound) != to {
+        return false;
+    }
+    true
 }

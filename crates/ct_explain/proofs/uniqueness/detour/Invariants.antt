@@ -7,4 +7,4 @@ use Rattle.ct_explain.proofs.uniqueness.detour.Given as goal
 
 abbrev pub invariant-loop-k : goal.invariant-loop-k
 invariant-loop-k l = (i : ℕ) (f : Equation) → i < l.k → slice_get l.equations i ≡ Some f → (merges : List Merge) → IsForestOf merges l.forest.links
-    → l.x.0 < length l.forest.links → f.right.0 < length l.forest.links → AreConnected (take l.bound merges) l.x f.left → AreConnected (take l.bound merges) f.right l.y → ⊥
+    → l.fn.x.0 < length l.forest.links → f.right.0 < length l.forest.links → AreConnected (take l.bound merges) l.fn.x f.left → AreConnected (take l.bound merges) f.right l.fn.y → ⊥
