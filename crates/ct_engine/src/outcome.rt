@@ -21,7 +21,7 @@ pub(crate) enum Ending {
 /// What a turn of a search came to.
 #[derive(Drop)]
 pub(crate) enum Turn {
-    /// A clause was learned from a conflict, and decisions were taken back.
+    /// Decisions were taken back: a clause was learned from a conflict, or a guided search begins anew.
     Learned,
     /// A variable was decided.
     Decided,

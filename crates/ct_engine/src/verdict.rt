@@ -10,7 +10,7 @@ use ct_terms::TermId;
 pub enum Move {
     /// The variable is made false.
     Decide(TermId),
-    /// The clause of the line with this number, from 1, is added: the theory gave it.
+    /// The clause of the line with this number, from 1, is added: the theory gave it, or an earlier search of the check learned it.
     Add(u64),
     /// The clause of the line with this number, from 1, is learned from a conflict, and so many decisions are kept.
     Learn(u64, u32),

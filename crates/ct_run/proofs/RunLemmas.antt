@@ -51,21 +51,19 @@ does_nothing_of_some helps vs es old new nothing = tt
 does_nothing_of_some faulty vs es old new nothing = tt
 
 -- of a derivation that was judged both files were read whole, whatever the status
-pub judged_read : (s : Status) (held_proof left_proof held_script left_script : Option (List ℕ)) → AreRead true held_proof left_proof held_script left_script → Reads s held_proof left_proof held_script left_script
-judged_read status.Done held_proof left_proof held_script left_script read = read
-judged_read status.Refused held_proof left_proof held_script left_script read = read
-judged_read status.Usage held_proof left_proof held_script left_script read = read
-judged_read status.InputFault held_proof left_proof held_script left_script read = tt
-judged_read status.OutputFault held_proof left_proof held_script left_script read = read
-judged_read status.NoMemory held_proof left_proof held_script left_script read = tt
-judged_read status.Rejected held_proof left_proof held_script left_script read = read
-judged_read status.TooLong held_proof left_proof held_script left_script read = (true, true, read)
+pub judged_read : (s : Status) (held_proof left_proof held_script left_script : Option (List ℕ)) → s ≢ status.TooLong → AreRead true held_proof left_proof held_script left_script → Reads s held_proof left_proof held_script left_script
+judged_read status.Done held_proof left_proof held_script left_script other read = read
+judged_read status.Refused held_proof left_proof held_script left_script other read = read
+judged_read status.Usage held_proof left_proof held_script left_script other read = read
+judged_read status.InputFault held_proof left_proof held_script left_script other read = tt
+judged_read status.OutputFault held_proof left_proof held_script left_script other read = read
+judged_read status.NoMemory held_proof left_proof held_script left_script other read = tt
+judged_read status.Rejected held_proof left_proof held_script left_script other read = read
+judged_read status.TooLong held_proof left_proof held_script left_script other read = absurd (other cc)
 
 -- both readers are there where both files were read whole
 pub both_read : (first second both : Bool) (held_proof left_proof held_script left_script : Option (List ℕ)) → both ≡ (first && second) → IsTaken held_proof first left_proof → IsTaken held_script second left_script → AreRead both held_proof left_proof held_script left_script
-both_read true true both held_proof left_proof held_script left_script is proof script = rw is (record { proof = proof; script = script })
-both_read true false both held_proof left_proof held_script left_script is proof script = rw is (true, false, record { proof = proof; script = script })
-both_read false second both held_proof left_proof held_script left_script is proof script = rw is (false, second, record { proof = proof; script = script })
+both_read first second both held_proof left_proof held_script left_script is proof script = (first, second, sym is, record { proof = proof; script = script })
 
 -- when each status comes
 pub record Comes (asked : Asked) (s : Status) (es : List (ℕ × ℕ)) : Type 0 where

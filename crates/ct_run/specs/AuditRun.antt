@@ -1,5 +1,5 @@
 -- What an audit of a stored derivation does, by the status with which it ends.
-use Rattle.std.specs.Prelude.{◌≡◌, ◌≢◌, ℕ, ◌≤◌, ◌<◌, ◌⊎◌, Bool, true, false, List, [], length, Option, None, Some, option_to_list}
+use Rattle.std.specs.Prelude.{◌≡◌, ◌≢◌, ℕ, ◌≤◌, ◌<◌, ◌&&◌, ◌⊎◌, Bool, true, false, List, [], length, Option, None, Some, option_to_list}
 use Rattle.ct_io.specs.declared.sink.SinkError.TheVariants as sink
 use Rattle.ct_io.specs.declared.status.Status.{Status}
 use Rattle.ct_io.specs.declared.status.Status.TheVariants.{Done, Refused, Usage, InputFault, OutputFault, NoMemory, Rejected, TooLong}
@@ -89,11 +89,10 @@ pub record WereRead (whole_proof whole_script : Bool) (held_proof left_proof hel
   pub proof : IsTaken held_proof whole_proof left_proof
   pub script : IsTaken held_script whole_script left_script
 
--- both files were opened and read, and whole or not
+-- both files were opened and read, and whether both were read whole
 abbrev pub AreRead : Bool → Option (List ℕ) → Option (List ℕ) → Option (List ℕ) → Option (List ℕ) → Type 0
-AreRead true held_proof left_proof held_script left_script = WereRead true true held_proof left_proof held_script left_script
-AreRead false held_proof left_proof held_script left_script =
-    (whole_proof : Bool) × (whole_script : Bool) × WereRead whole_proof whole_script held_proof left_proof held_script left_script
+AreRead whole held_proof left_proof held_script left_script =
+    (whole_proof : Bool) × (whole_script : Bool) × ((whole_proof && whole_script) ≡ whole) × WereRead whole_proof whole_script held_proof left_proof held_script left_script
 
 -- what an audit opened and read, by the status with which it ends: both files whole, where the derivation was judged; both, where one of them is
 -- too long. After a fault of the desk, and where memory ran out, nothing is said

@@ -80,6 +80,7 @@ fn judge<K: Sink>(alloc: Global, proof: &mut Reader, script: &mut Reader, out: &
     ensures audited { (proof_bytes script_bytes : List ℕ) → AreFiles proof_bytes script_bytes (Some (proof.old, script.old))
         → ReportsAudit proof_bytes script_bytes result.status result.verdicts.items result.errors.items (K.written out.old) (K.written out.new) }
     ensures input { result.status ≢ status.InputFault }
+    ensures whole { result.status ≢ status.TooLong }
     ensures output { result.status ≡ status.OutputFault → Rose (K.faults out.old) (K.faults out.new) }
     ensures count { K.faults out.old ≤ K.faults out.new }
     ensures uncounted { result.status ≢ status.OutputFault → K.faults out.new ≡ K.faults out.old }
@@ -94,6 +95,7 @@ fn judge<K: Sink>(alloc: Global, proof: &mut Reader, script: &mut Reader, out: &
 fn report_answer<K: Sink>(alloc: Global, answer: AuditAnswer, out: &mut K) -> Report
     ensures reported { Reports answer result.status result.verdicts.items result.errors.items (K.written out.old) (K.written out.new) }
     ensures input { result.status ≢ status.InputFault }
+    ensures whole { result.status ≢ status.TooLong }
     ensures output { result.status ≡ status.OutputFault → Rose (K.faults out.old) (K.faults out.new) }
     ensures count { K.faults out.old ≤ K.faults out.new }
     ensures uncounted { result.status ≢ status.OutputFault → K.faults out.new ≡ K.faults out.old }

@@ -23,7 +23,7 @@ returns-in-Ok-Some-clause-some_files g c =
 pub returns-in-Ok-Some-clause-read : goal.returns-in-Ok-Some-clause-read
 returns-in-Ok-Some-clause-read g c =
     let both : c.in-Ok-Some.field-0 ≡ Some (c.in-Ok-Some.proof, c.in-Ok-Some.script) = first_of (search rules, grind (arith, common_steps)) in
-    judged_read c.judge.result.status _ _ _ _ (rw both at c.in-Ok-Some.ensures.read)
+    judged_read c.judge.result.status _ _ _ _ c.judge.ensures.whole (rw both at c.in-Ok-Some.ensures.read)
 
 pub returns-in-Ok-None-clause-read : goal.returns-in-Ok-None-clause-read
 returns-in-Ok-None-clause-read g c =
