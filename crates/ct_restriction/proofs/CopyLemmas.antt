@@ -40,6 +40,17 @@ truth_stays table begins ordered t within =
     let split : table ≡ truth_terms ++ drop 2 table = sym (take-append-drop 2 table) ∙ ap (λ (ts : Terms). ts ++ drop 2 table) begins in
     ap (λ (ts : Terms). term_at ts t) split ∙ term_at-longer truth_terms (drop 2 table) t (subst AreOrdered split ordered) within
 
+-- so those of one table stand for those of another
+pub truths_stand : (from to : Terms) → BeginsWithTruths from → AreOrdered from → BeginsWithTruths to → AreOrdered to → (k : ℕ) → k < 2 → StandsFor from to (id k) (id k)
+truths_stand from to begins_from ordered_from begins ordered k low =
+    let split : (table : Terms) → BeginsWithTruths table → table ≡ truth_terms ++ drop 2 table = λ table begin. sym (take-append-drop 2 table) ∙ ap (λ (ts : Terms). ts ++ drop 2 table) begin in
+    let at : (table : Terms) → BeginsWithTruths table → slice_get table k ≡ slice_get truth_terms k = λ table begin. ap (λ (ts : Terms). slice_get ts k) (split table begin) ∙ slice_get-prefix truth_terms (drop 2 table) k low in
+    record {
+      within = omega (arith, low, ap length begins, length-take 2 to);
+      tree = truth_stays to begins ordered (id k) low ∙ sym (truth_stays from begins_from ordered_from (id k) low);
+      sort = λ s h. (h.0, at to begins ∙ sym (at from begins_from) ∙ h.1);
+    }
+
 -- a number that is its own index
 own_number : (t u : TermId) → slice_get (id 0 ∷ id 1 ∷ []) t.0 ≡ Some u → (t ≡ u) × (t.0 < 2)
 own_number t u at = by t.0 at

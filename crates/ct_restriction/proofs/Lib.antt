@@ -1,3 +1,5 @@
 mod RenamedLemmas
 mod MarkLemmas
 mod CopyLemmas
+mod FoundLemmas
+mod MadeLemmas

@@ -1,5 +1,5 @@
 -- A term over other numbers: it has the tree and the sort that it had, where the terms right under it have theirs.
-use Rattle.std.proofs.Common.{◌≡◌, List, [], ◌∷◌, map, refl, ap, ◌∙◌, arith}
+use Rattle.std.proofs.Common.{◌≡◌, ℕ, ◌<◌, List, [], ◌∷◌, map, refl, ap, ◌∙◌, arith}
 use Rattle.std.specs.List.{AllZip, AllByRecursion}
 use Rattle.std.proofs.lemmas.List.{length-map}
 use Rattle.std.proofs.lemmas.List.Elements.{All-from_recursion, All-map}
@@ -9,7 +9,7 @@ use Rattle.ct_sorts.specs.Declarations.{Declarations, bool_sort}
 use Rattle.ct_terms.specs.declared.ids.TermId.{TermId}
 use Rattle.ct_terms.specs.declared.term.Core.{Core}
 use Rattle.ct_terms.specs.declared.term.Core.TheVariants.{Con, Sel, Test, Apply, Eq, Not, And, Or, Iff, Ite}
-use Rattle.ct_terms.specs.Children.{core_children}
+use Rattle.ct_terms.specs.Children.{core_children, HasArgumentsBelow}
 use Rattle.ct_terms.specs.Terms.{Terms, IsOfSort, IsBoolean, IsOfField, Joins, HasSort}
 use Rattle.ct_terms.specs.CoreTree.{CoreTree, con, sel, test, apply, equation, negation, conjunction, disjunction, equivalence, choice, trees_of, tree_layer}
 use Rattle.ct_restriction.specs.Renamed.{renamed}
@@ -33,6 +33,26 @@ module _ (P : TermId → Type 0) (f : TermId → TermId) where
     layer_renamed (Iff a b) all = ap (λ (u : CoreTree). equivalence u (g (f b))) (same a all.0) ∙ ap (equivalence (h a)) (same b all.1.0)
     layer_renamed (Ite c a b) all =
         ap (λ (u : CoreTree). choice u (g (f a)) (g (f b))) (same c all.0) ∙ ap (λ (u : CoreTree). choice (h c) u (g (f b))) (same a all.1.0) ∙ ap (choice (h c) (h a)) (same b all.1.1.0)
+
+  -- the terms right under it have their new numbers
+  pub renamed_below : (bound : ℕ) → ((t : TermId) → P t → (f t).0 < bound) → (core : Core) → AllByRecursion P (core_children core) → HasArgumentsBelow bound (renamed f core)
+  renamed_below bound low = by_kind
+    where
+      args_below : (args : List TermId) → AllByRecursion P args → AllByRecursion (λ t. t.0 < bound) (map f args)
+      args_below [] all = tt
+      args_below (t ∷ args) all = (low t all.0, args_below args all.1)
+
+      by_kind : (core : Core) → AllByRecursion P (core_children core) → HasArgumentsBelow bound (renamed f core)
+      by_kind (Con c args) all = args_below args all
+      by_kind (Sel s t) all = (low t all.0, tt)
+      by_kind (Test c t) all = (low t all.0, tt)
+      by_kind (Apply k args) all = args_below args all
+      by_kind (Eq a b) all = (low a all.0, (low b all.1.0, tt))
+      by_kind (Not t) all = (low t all.0, tt)
+      by_kind (And args) all = args_below args all
+      by_kind (Or args) all = args_below args all
+      by_kind (Iff a b) all = (low a all.0, (low b all.1.0, tt))
+      by_kind (Ite c a b) all = (low c all.0, (low a all.1.0, (low b all.1.1.0, tt)))
 
   -- terms that go with something go with it at their new numbers, where each of them does
   AllZip-renamed : {X : Type 0} (R S : TermId → X → Type 0) → ((t : TermId) (x : X) → P t → R t x → S (f t) x) → (ts : List TermId) (xs : List X) → AllByRecursion P ts → AllZip R ts xs → AllZip S (map f ts) xs

@@ -3,6 +3,8 @@
 
 mod marking;
 mod renaming;
+mod renumbering;
 mod restriction;
 
+pub use renumbering::Renumbering;
 pub use restriction::restrict;

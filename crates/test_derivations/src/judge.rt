@@ -9,6 +9,7 @@ ghost use Rattle.ct_log.specs.Recorded.{AreJudges};
 ghost use Rattle.ct_log.specs.Rooms.{IsRoomOf};
 
 use crate::derive::show_derived;
+use crate::keep::show_kept;
 use crate::lines::lines_of;
 use crate::table::{asserts_of, table_of};
 use crate::text::{audit, show_read, show_written};
@@ -37,6 +38,9 @@ pub fn answer(
         ("derive", [terms, asserts, lines]) => show_derived(alloc, sig, terms, asserts, lines, out),
         ("trim", [kept, terms, asserts, lines]) => {
             show_trimmed(alloc, sig, kept, terms, asserts, lines, out)
+        }
+        ("keep", [terms, asserts, lines, others]) => {
+            show_kept(alloc, sig, terms, asserts, lines, others, out)
         }
         ("read", [expr]) => show_read(alloc, sig, expr, out),
         ("audit", [asserts, expr]) => audit(alloc, sig, asserts, expr, out),

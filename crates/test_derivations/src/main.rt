@@ -8,6 +8,7 @@ mod cores;
 mod derive;
 mod equality;
 mod judge;
+mod keep;
 mod lines;
 mod numbers;
 mod table;

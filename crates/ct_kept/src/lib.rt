@@ -1,0 +1,18 @@
+//! The clauses that the theory gave in earlier checks, kept for later ones.
+#![tactic(auto)]
+
+mod error;
+mod kept;
+mod lemma;
+mod lines;
+mod moving;
+mod naming;
+mod renaming;
+mod taking;
+mod terms;
+mod within;
+
+pub use error::KeptError;
+pub use kept::Kept;
+pub use lemma::Lemma;
+pub use lines::moved_lines;
