@@ -3,6 +3,7 @@
 Where the answer is known for every size, it stands beside the family. `bench/search` runs them.
 """
 
+import os
 import random
 
 E = "(declare-datatype E ((a) (b)))"
@@ -211,6 +212,53 @@ def quasigroup(n):
     return parts
 
 
+def colouring(n, seed=1):
+    """A random graph of n points whose lines, 2.3 for each point, are between points of different colours, of three."""
+    chance = random.Random(seed * 1000 + n)
+    x = named("x", n)
+    parts = ["(declare-datatype C ((red) (green) (blue)))"] + constants(x, "C")
+    lines = {tuple(sorted(chance.sample(range(n), 2))) for _ in range(round(2.3 * n))}
+    return parts + [f"(assert (not (= x{i} x{j})))" for i, j in sorted(lines)]
+
+
+def sudoku(n, seed=1):
+    """A square of n to the fourth cells, in which each row, column and block has all numbers; two fifths of the cells are given."""
+    chance = random.Random(seed * 1000 + n)
+    width = n * n
+    numbers = named("v", width)
+    parts = [f"(declare-datatype V ({' '.join(f'({v})' for v in numbers)}))"]
+    cells = [[f"x{r}_{c}" for c in range(width)] for r in range(width)]
+    parts += constants([cell for row in cells for cell in row], "V")
+    blocks = [[cells[n * i + r][n * j + c] for r in range(n) for c in range(n)] for i in range(n) for j in range(n)]
+    parts += [f"(assert (distinct {' '.join(group)}))" for group in [*cells, *zip(*cells), *blocks]]
+    chance.shuffle(numbers)
+    given = [(r, c) for r in range(width) for c in range(width) if chance.random() < 0.4]
+    return parts + [f"(assert (= {cells[r][c]} {numbers[(n * r + r // n + c) % width]}))" for r, c in given]
+
+
+def execution(n):
+    """A path of n steps of a program over a state of a register and a stack: it pushes where its input says so, every fourth time,
+    and else where its register is not zero; it pops otherwise, and halts where nothing is left. It has not halted, with an empty stack."""
+    parts = ["(declare-datatypes ((Val 0) (Stack 0) (State 0)) (((zero) (succ (pred Val))) ((empty) (onto (top Val) (rest Stack))) ((run (acc Val) (stack Stack)) (halt (result Val)))))"]
+    parts += ["(define-fun pushed ((s State)) State (run (succ (acc s)) (onto (acc s) (stack s))))"]
+    parts += ["(define-fun popped ((s State)) State (match (stack s) ((empty (halt (acc s))) ((onto v r) (run v r)))))"]
+    parts += ["(define-fun step ((s State) (c Bool)) State (match s (((halt v) s) ((run v r) (ite c (pushed s) (popped s))))))"]
+    parts += constants(named("s", n + 1), "State") + constants(named("i", n), "Bool") + ["(assert (= s0 (run zero empty)))"]
+    for k in range(n):
+        test = f"i{k}" if k % 4 == 0 else f"(and i{k} ((_ is succ) (acc s{k})))"
+        parts.append(f"(assert (= s{k + 1} (step s{k} {test})))")
+    return parts + [f"(assert ((_ is run) s{n}))", f"(assert (= (stack s{n}) empty))", f"(assert (= (acc s{n}) zero))"]
+
+
+def any_order(n, seed=1):
+    """The state machine whose assertions stand in any order."""
+    chance = random.Random(seed * 1000 + n)
+    parts = machine(n)
+    asserts = [part for part in parts if part.startswith("(assert")]
+    chance.shuffle(asserts)
+    return [part for part in parts if not part.startswith("(assert")] + asserts
+
+
 def interpreter(n):
     """An expression of unknown shape and its negation, evaluated to depth n, give one value."""
     parts = ["(declare-datatype B ((tt) (ff)))", "(declare-datatype X ((lit (val B)) (neg (arg X)) (conj (left X) (right X))))"]
@@ -221,6 +269,14 @@ def interpreter(n):
         parts.append(f"(define-fun eval{i} ((x X)) B (match x (((lit v) v) ((neg y) (not_ (eval{i - 1} y))) ((conj y z) (and_ (eval{i - 1} y) (eval{i - 1} z))))))")
     parts += constants(["e"], "X")
     return parts + [f"(assert (= (eval{n} e) tt))", f"(assert (= (eval{n} (neg e)) tt))"]
+
+
+def written(folder, make, size, *more):
+    """The path of a new script of this size, which checks and then has these commands too."""
+    path = os.path.join(folder, "s.smt2")
+    with open(path, "w", encoding="ascii") as file:
+        file.write("\n".join(["(set-logic ALL)", *make(size), "(check-sat)", *more]) + "\n")
+    return path
 
 
 # The family, its first size, its verdict where each size has the same one, and whether its search makes no conflict.
@@ -240,10 +296,14 @@ FAMILIES = [
     ("processes", processes, 10, "unsat", True),
     ("diamonds", diamonds, 5, "unsat", False),
     ("pigeons", pigeons, 3, "unsat", False),
-    ("state machine", machine, 5, None, False),
+    ("state machine", machine, 25, None, False),
+    ("assertions in any order", any_order, 25, None, False),
+    ("paths of execution", execution, 5, None, False),
     ("constructor problems", constructor_problem, 5, None, False),
     ("3-SAT", three_sat, 25, None, False),
     ("zebra", zebra, 3, None, False),
     ("quasigroup", quasigroup, 2, None, False),
+    ("sudoku", sudoku, 2, "sat", False),
+    ("graph colouring", colouring, 10, None, False),
     ("interpreter", interpreter, 1, None, False),
 ]

@@ -11,6 +11,7 @@ mod model;
 mod show;
 mod solve;
 mod table;
+mod tally;
 mod text;
 
 use crate::define::{declare, new_scope};
@@ -81,6 +82,9 @@ fn answer_kind(
         }
         ("show", [budget, exprs @ ..]) => {
             solve::show_contents(alloc, scope, number_of(budget)?, exprs, out)
+        }
+        ("count", [budget, exprs @ ..]) => {
+            solve::show_counts(alloc, scope, number_of(budget)?, exprs, out)
         }
         _ => Err(CaseError::Bad),
     }

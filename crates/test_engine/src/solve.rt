@@ -1,7 +1,7 @@
 //! Verdicts. `(solve BUDGET EXPRESSION ..)` asserts formulas, and shows the verdict on them in at most so many decisions: `sat
 //! verified`, once the interpretation is seen to be proper and to make all of them true; `unsat verified`, once the checker has
 //! passed the derivation; or `unknown` with the number of variables and the moves. `(show BUDGET EXPRESSION ..)` shows
-//! derivations as a whole.
+//! derivations as a whole, and `(count BUDGET EXPRESSION ..)` how many moves of each kind there are.
 ghost use Rattle.std.specs.Prelude.{◌≡◌, IfOk, IfSome};
 ghost use Rattle.test_engine.specs.Asserted.{IsAsserted};
 ghost use Rattle.test_engine.specs.Verdicts.{IsOver};
@@ -10,6 +10,7 @@ ghost use Rattle.test_engine.specs.Scopes.{IsSound};
 use crate::model::show_model;
 use crate::show::{show_moves, show_passed};
 use crate::table::{Assertions, assert_formulas};
+use crate::tally::show_tally;
 use crate::text::show_record;
 use ct_cases::CaseError;
 use ct_compile::Scope;
@@ -53,6 +54,36 @@ pub fn show_contents(
             show_derivation(alloc, scope, &verdict, out)
         }
         None => Ok(out.push_str(" too-large")?),
+    }
+}
+
+/// Shows the word of the verdict on formulas, and counts of the moves where there are any.
+pub fn show_counts(
+    alloc: Global,
+    scope: &Scope,
+    budget: u64,
+    exprs: &[Sexpr],
+    out: &mut String,
+) -> Result<(), CaseError>
+    requires sound { IsSound scope.now }
+{
+    let formulas = assert_formulas(alloc, scope, exprs)?;
+    match verdict_on(alloc, scope, budget, &formulas)? {
+        Some(verdict) => show_word(alloc, &verdict, out),
+        None => Ok(out.push_str(" too-large")?),
+    }
+}
+
+/// Shows the word of a verdict, and counts of its moves.
+fn show_word(alloc: Global, verdict: &Verdict, out: &mut String) -> Result<(), CaseError> {
+    match verdict {
+        Verdict::Sat(_) => Ok(out.push_str(" sat")?),
+        Verdict::Unsat(_) => Ok(out.push_str(" unsat")?),
+        Verdict::Unknown(spent) => {
+            let text = format!(in alloc; " unknown {}", spent.variables)?;
+            out.push_str(text.as_str())?;
+            show_tally(alloc, spent, out)
+        }
     }
 }
 
