@@ -105,7 +105,7 @@ fn begin(
     ensures err { IsErrOf result SolveError.TooLarge → ⊥ }
 {
     let asserts = Vec::from_slice(alloc, asserts)?;
-    let mut derivation = Derivation::new(alloc, sig, sizes, table, asserts)?;
+    let mut derivation = Derivation::new(alloc, sig, sizes, table, asserts);
     clauses(alloc, sig, closure, &mut derivation)?;
     Ok(derivation)
 }
