@@ -1,6 +1,6 @@
 use Rattle.std.proofs.Common.{◌∙◌}
-use Rattle.ct_eval.proofs.ValuationLemmas.{functions-within, selectors-within, IsValuation-from}
-use Rattle.ct_eval.proofs.valuation.evaluate.Goals as goal
+use Rattle.ct_eval.proofs.ValuationLemmas.{functions-within, selectors-within}
+use Rattle.ct_eval.proofs.valuation.Evaluator.new.Goals as goal
 
 pub indexed-requires : goal.indexed-requires
 indexed-requires c = record {
@@ -17,8 +17,4 @@ indexed-requires-2 c = record {
 }
 
 pub returns : goal.returns
-returns c = record {
-  valuation =
-      IsValuation-from c.args.sig.now c.args.interp.now c.args.table.now c.all_nodes.new.shared c.into_graph-graph.result c.in_ok-nodes.nodes.items c.new-nodes.result
-      c.into_graph-graph.ensures.value c.new-nodes.ensures.value c.in_ok-nodes.ensures.nodes c.in_ok-nodes.ensures.all;
-}
+returns c = ?
