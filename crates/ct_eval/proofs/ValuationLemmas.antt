@@ -1,5 +1,5 @@
 -- Terms with a node for each: one term more, and all of them.
-use Rattle.std.proofs.Common.{◌≡◌, ℕ, suc, ◌<◌, ◌≤◌, inl, inr, List, [], ◌∷◌, ◌++◌, length, All, Contains, Result, Ok, Err, IfOk, Some, slice_get, get_or, sym, ap, subst, ◌∙◌, arith}
+use Rattle.std.proofs.Common.{◌≡◌, ℕ, suc, ◌<◌, ◌≤◌, inl, inr, List, [], ◌∷◌, ◌++◌, length, All, Contains, Result, Ok, Err, IfOk, OnOk, Some, slice_get, get_or, refl, sym, ap, subst, ◌∙◌, arith}
 use Rattle.std.proofs.lemmas.List.{append-nil, length-append, length_push}
 use Rattle.std.proofs.lemmas.List.Elements.{Contains-append_left, Contains-push}
 use Rattle.std.proofs.lemmas.Option.{none-some, same_Some, slice_get_within, slice_get-get_or}
@@ -183,6 +183,11 @@ module _ (d : Declarations) where
               let stood = slice_get-there terms t.0 (subst (λ k. t.0 < k) all (slice_get_within nodes t.0 n at)) in
               (have.valued t stood.0.1 n (stood.0.0, stood.1) at).first;
         }
+
+    -- the same of what may fail
+    pub valuation_on_ok : {T E : Type 0} (r : Result T E) (g : Nodes) (nodes : List NodeId) → OnOk r (HaveNodes d i terms g nodes) → OnOk r (length nodes ≡ length terms) → OnOk r (IsValuation d i terms (record { graph = g; nodes = nodes }))
+    valuation_on_ok (Ok x) g nodes have all = IsValuation-from g g nodes nodes refl refl have all
+    valuation_on_ok (Err e) g nodes have all = tt
 
     -- each node of a valuation is one of its graph
     pub IsValuation-nodes : (v : Valuation) → IsValuation d i terms v → All (λ n. n.0 < length v.graph) v.nodes

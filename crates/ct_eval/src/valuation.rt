@@ -147,7 +147,8 @@ fn add_nodes(
     ensures nodes { OnOk result (HaveNodes sig.now interp.now table.now shared.new nodes.new.items) }
     ensures all { OnOk result (length nodes.new.items ≡ length table.now) }
 {
-    for t in nodes.len() as u32..table.len() {
+    let count = table.len();
+    for t in nodes.len() as u32..count {
         let node = next_node(
             alloc,
             sig,
