@@ -5,3 +5,4 @@ mod CheckLemmas
 mod DoneLemmas
 pub mod SoundLemmas
 mod AskLemmas
+pub mod KnownLemmas

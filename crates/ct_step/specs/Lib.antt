@@ -6,3 +6,4 @@ pub mod Refusal
 pub mod Verdict
 pub mod Step
 pub mod Done
+pub mod Known
