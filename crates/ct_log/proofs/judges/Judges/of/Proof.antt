@@ -15,7 +15,7 @@ use types.Part.{agg}
 use types.Run.{enter, returns, no_more}
 use types.ByLocal.{alloc_all, pass_all, free_all, look_at, sets}
 use denote.Exit.{yes}
-use denote.RattleType.{owns}
+use denote.RattleType.{RattleType, owns}
 use denote.Builtin.{RefOf}
 use denote.Shadow.{pure_i}
 use denote.Signature.{plain, types_at}
