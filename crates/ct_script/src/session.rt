@@ -1,5 +1,5 @@
 //! The session: commands in order, with the verdicts and the errors that they gave.
-ghost use Rattle.std.specs.Prelude.{◌≡◌, [], map, None, Ok, IfOk, OnErr, if◌then◌else◌};
+ghost use Rattle.std.specs.Prelude.{◌≡◌, [], map, Ok, IfOk, OnErr};
 ghost use Rattle.ct_sexpr.specs.View.{expression_of};
 ghost use Rattle.ct_formulas.specs.TreeFormula.{formula_of};
 ghost use Rattle.ct_command.specs.Reading.{command};
@@ -10,7 +10,6 @@ ghost use Rattle.ct_step.specs.State.{first_state, context_of};
 ghost use Rattle.ct_script.specs.Replay.{Replays, is_check};
 ghost use Rattle.ct_step.specs.Done.{IsAnswer};
 ghost use Rattle.ct_script.specs.Session.{after, reached};
-ghost use Rattle.ct_step.specs.Known.{only_asks};
 ghost use Rattle.ct_step.specs.Step.{CommandEffect, Step, Steps, counted_with, one_more};
 
 use crate::error::SessionError;
@@ -20,7 +19,7 @@ use ct_command::{Command, CommandError, command_of};
 use ct_engine::Verdict;
 use ct_formulas::Tree;
 use ct_sexpr::Sexpr;
-use ct_stack::{AssertionStack, ModelValues};
+use ct_stack::AssertionStack;
 use ct_step::{Answer, Options, SessionState, perform, refused};
 use std::alloc::Global;
 use std::marker::Model;
@@ -33,8 +32,6 @@ pub type ScriptError = (u64, u16);
 pub struct Session {
     alloc: Global,
     state: SessionState,
-    // What is known of values in the model that stands.
-    known: Option<ModelValues>,
     errors: Vec<ScriptError>,
     // How many checks there were.
     number: u64,
@@ -42,7 +39,6 @@ pub struct Session {
 
 impl Model for Session {
     ghost use Rattle.ct_step.specs.Done.{state_of, IsSound};
-    ghost use Rattle.ct_step.specs.Known.{AreKnown};
     ghost use Rattle.ct_script.specs.Session.{Course};
 
     ghost Value = { Course };
@@ -54,7 +50,7 @@ impl Model for Session {
 
     ghost view = { λ s. record { state = state_of s.state; number = s.number; verdicts = s.state.verdicts.items; errors = s.errors.items } };
 
-    ghost invariant = { λ s. IsSound (state_of s.state) × AreKnown (state_of s.state) s.known };
+    ghost invariant = { λ s. IsSound (state_of s.state) };
 }
 
 impl Session {
@@ -71,7 +67,6 @@ impl Session {
                 verdicts: Vec::new(alloc),
                 kept: None,
             },
-            known: None,
             errors: Vec::new(alloc),
             number: 0,
         })
@@ -151,7 +146,6 @@ impl Session {
     {
         let state = self.state;
         drop(state.stack);
-        drop(self.known);
         (state.verdicts, self.errors)
     }
 
@@ -182,16 +176,7 @@ impl Session {
         ensures unchanged { OnErr result (self.new ≡ self.old) }
     {
         let number = counted(self.number, &command);
-        let asks = only_asks(&command);
-        let done = perform(
-            self.alloc,
-            &mut self.state,
-            &mut self.known,
-            number,
-            command,
-        );
-        keep_if(&mut self.known, asks);
-        match done {
+        match perform(self.alloc, &mut self.state, number, command) {
             Ok(answer) => {
                 self.number = number;
                 Ok(answer)
@@ -214,30 +199,6 @@ fn counted(number: u64, command: &Command<'_>) -> u64
         return next(number);
     }
     number
-}
-
-// Whether the command asks, and changes nothing.
-fn only_asks(command: &Command<'_>) -> bool
-    ensures value { result ≡ only_asks (command_seen command.now) }
-{
-    matches!(
-        command,
-        Command::GetOption(_)
-            | Command::GetInfo(_)
-            | Command::GetModel
-            | Command::GetValue(_)
-            | Command::GetProof
-            | Command::Echo(_)
-    )
-}
-
-// Keeps what is known of values, or forgets it.
-fn keep_if(known: &mut Option<ModelValues>, keeps: bool)
-    ensures value { known.new ≡ (if keeps then known.old else None) }
-{
-    if !keeps {
-        *known = None;
-    }
 }
 
 // Whether the command is a check.

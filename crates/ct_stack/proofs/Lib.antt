@@ -13,4 +13,3 @@ pub mod StackLemmas
 pub mod DefineLemmas
 pub mod AssertionLemmas
 pub mod AssertLemmas
-pub mod ModelLemmas

@@ -8,6 +8,5 @@ pub mod Outcomes
 pub mod Elaborations
 pub mod Refusal
 pub mod Values
-pub mod ModelValues
 pub mod Theorems
 pub mod Sorts

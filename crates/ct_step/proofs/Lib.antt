@@ -5,4 +5,3 @@ mod CheckLemmas
 mod DoneLemmas
 pub mod SoundLemmas
 mod AskLemmas
-pub mod KnownLemmas

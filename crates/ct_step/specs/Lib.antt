@@ -6,4 +6,3 @@ pub mod Refusal
 pub mod Verdict
 pub mod Step
 pub mod Done
-pub mod Known

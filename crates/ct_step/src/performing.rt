@@ -1,7 +1,6 @@
 //! Commands that are done: what each changes, and what it answers.
 ghost use Rattle.ct_command.specs.Seen.{command_seen};
 ghost use Rattle.ct_step.specs.Done.{IsDone, IsSound, state_of};
-ghost use Rattle.ct_step.specs.Known.{AreKnown};
 
 use crate::answer::Answer;
 use crate::ask::{model, proof, values};
@@ -13,25 +12,20 @@ use crate::settings::{
 };
 use crate::state::SessionState;
 use ct_command::{Command, CommandError};
-use ct_stack::ModelValues;
 use std::alloc::Global;
 
 /// Does a command, which is the check of this number if it is a check, and answers it.
 ///
 /// It is refused with the first error that applies to it (SMT-LIB 2.7, section 4.2, and the errors of `ct_words`). Then,
-/// and where memory runs out, nothing has changed. What is known of the values of terms in the model that stood before the command
-/// grows by what `get-value` finds.
+/// and where memory runs out, nothing has changed.
 pub fn perform(
     alloc: Global,
     state: &mut SessionState,
-    known: &mut Option<ModelValues>,
     number: u64,
     command: Command<'_>,
 ) -> Result<Answer, CommandError>
     requires sound { IsSound (state_of state.old) }
-    requires known { AreKnown (state_of state.old) known.old }
     ensures done { IsDone state.old number (command_seen command.entry) state.new result }
-    ensures known { AreKnown (state_of state.old) known.new }
 {
     match command {
         Command::SetLogic(name) => set_logic(alloc, state, name),
@@ -54,7 +48,7 @@ pub fn perform(
         Command::ResetAssertions => reset_assertions(alloc, state),
         Command::Reset => reset(alloc, state),
         Command::GetModel => model(alloc, state),
-        Command::GetValue(terms) => values(alloc, state, known, terms),
+        Command::GetValue(terms) => values(alloc, state, terms),
         Command::GetProof => proof(alloc, state),
         Command::Echo(expr) => echo(alloc, expr),
         Command::Exit => exit(alloc, state),
