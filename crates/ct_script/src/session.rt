@@ -16,7 +16,7 @@ use crate::error::SessionError;
 use crate::replay::Replayed;
 use ct_check::Scope;
 use ct_command::{Command, CommandError, command_of};
-use ct_engine::Verdict;
+use ct_engine::{Kept, Verdict};
 use ct_formulas::Tree;
 use ct_sexpr::Sexpr;
 use ct_stack::AssertionStack;
@@ -59,6 +59,7 @@ impl Session {
         ensures empty { IfOk result (λ s. s ≡ record { state = first_state; number = 0; verdicts = []; errors = [] }) }
     {
         let stack = AssertionStack::new(alloc)?;
+        let store = new_store(alloc)?;
         Ok(Session {
             alloc,
             state: SessionState {
@@ -66,6 +67,7 @@ impl Session {
                 options: Options::new(),
                 verdicts: Vec::new(alloc),
                 kept: None,
+                store,
             },
             errors: Vec::new(alloc),
             number: 0,
@@ -132,6 +134,12 @@ impl Session {
         self.state.stack.assertions()
     }
 
+    /// The clauses that the theory gave in the checks so far, as far as they can still be named.
+    pub fn kept(&self) -> &Kept
+    {
+        &self.state.store
+    }
+
     /// The verdicts so far.
     pub fn verdicts(&self) -> &[Verdict]
         ensures value { result.now ≡ self.now.verdicts }
@@ -146,6 +154,7 @@ impl Session {
     {
         let state = self.state;
         drop(state.stack);
+        drop(state.store);
         (state.verdicts, self.errors)
     }
 
@@ -216,4 +225,13 @@ fn next(number: u64) -> u64
         return number + 1;
     }
     number
+}
+
+// A store without clauses.
+fn new_store(alloc: Global) -> Result<Kept, SessionError>
+{
+    match Kept::new(alloc) {
+        Ok(store) => Ok(store),
+        Err(_) => Err(SessionError),
+    }
 }

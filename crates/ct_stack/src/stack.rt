@@ -316,6 +316,22 @@ impl AssertionStack {
         self.levels.len()
     }
 
+    /// How much is declared once `pop` has taken so many levels, where that takes declarations.
+    pub fn mark_below(&self, global: bool, n: u128) -> Option<Mark>
+    {
+        let levels = self.levels.len();
+        if global || n == 0 || (levels as u128) < n {
+            return None;
+        }
+        Some(self.levels[levels - n as usize].declared)
+    }
+
+    /// How much is declared at the start.
+    pub fn first_mark(&self) -> Mark
+    {
+        self.first
+    }
+
     /// Whether all is as at the start.
     pub fn is_first(&self) -> bool
         ensures first { IsTrue result ↔ (self.now ≡ first_stack) }

@@ -9,7 +9,7 @@ ghost use Rattle.ct_step.specs.Verdict.{ComesTo};
 use crate::answer::{Answer, said, word_of};
 use crate::state::SessionState;
 use ct_command::CommandError;
-use ct_engine::{SolveError, Verdict, solve};
+use ct_engine::{Kept, SolveError, Verdict, solve_kept};
 use ct_meaning::meanings;
 use ct_stack::AssertionStack;
 use std::alloc::Global;
@@ -26,7 +26,7 @@ pub(crate) fn check(
     ensures done { IsDone state.old number check_sat state.new result }
 {
     state.verdicts.reserve(1)?;
-    let verdict = verdict(alloc, &state.stack, state.options.budget())?;
+    let verdict = verdict(alloc, &state.stack, state.options.budget(), &mut state.store)?;
     match Vec::from_slice(alloc, word_of(&verdict)) {
         Ok(text) => {
             state.verdicts.push(verdict).unwrap();
@@ -41,7 +41,12 @@ pub(crate) fn check(
 }
 
 // A verdict on the assertions in force, in at most so many decisions.
-fn verdict(alloc: Global, stack: &AssertionStack, budget: u64) -> Result<Verdict, CommandError>
+fn verdict(
+    alloc: Global,
+    stack: &AssertionStack,
+    budget: u64,
+    store: &mut Kept,
+) -> Result<Verdict, CommandError>
     ensures verdict { IfOk result (ComesTo stack.now.top.context (in_force stack.now) budget) }
     ensures accepted { OnOk result ((n : ℕ) → IsCheckRefusal stack.now n → ⊥) }
     ensures refused { (n : ℕ) → IsErrOf result (CommandError.Refused n) → IsCheckRefusal stack.now n }
@@ -50,7 +55,7 @@ fn verdict(alloc: Global, stack: &AssertionStack, budget: u64) -> Result<Verdict
     let sig = &stack.scope().sig;
     sig.sorts();
     let (table, numbers) = stack.core_terms();
-    match solve(alloc, sig, table, numbers, budget) {
+    match solve_kept(alloc, sig, table, numbers, budget, store) {
         Ok(verdict) => Ok(verdict),
         Err(SolveError::TooLarge) => Err(CommandError::Refused(CLOSURE_TOO_LARGE)),
         Err(SolveError::NoMemory) => Err(CommandError::NoMemory),

@@ -7,6 +7,8 @@ use crate::answer::{Answer, quiet};
 use crate::options::Options;
 use crate::state::SessionState;
 use ct_command::CommandError;
+use ct_engine::Kept;
+use ct_sorts::Mark;
 use std::alloc::Global;
 
 /// Adds levels.
@@ -32,7 +34,11 @@ pub(crate) fn pop(
     ensures done { (number : ℕ) → IsDone state.old number (pop count) state.new result }
 {
     let answer = quiet(alloc, state.options)?;
-    state.stack.pop(state.options.global_declarations, count)?;
+    let global = state.options.global_declarations;
+    let mark = state.stack.mark_below(global, count);
+    let store = store_within(alloc, state, mark)?;
+    state.stack.pop(global, count)?;
+    replace(state, store);
     state.kept = None;
     Ok(answer)
 }
@@ -45,7 +51,15 @@ pub(crate) fn reset_assertions(
     ensures done { (number : ℕ) → IsDone state.old number reset_assertions state.new result }
 {
     let answer = quiet(alloc, state.options)?;
-    state.stack.empty(state.options.global_declarations);
+    let global = state.options.global_declarations;
+    let mark = if global {
+        None
+    } else {
+        Some(state.stack.first_mark())
+    };
+    let store = store_within(alloc, state, mark)?;
+    state.stack.empty(global);
+    replace(state, store);
     state.kept = None;
     Ok(answer)
 }
@@ -56,8 +70,36 @@ pub(crate) fn reset(alloc: Global, state: &mut SessionState) -> Result<Answer, C
 {
     let options = Options::new();
     let answer = quiet(alloc, options)?;
+    let mark = state.stack.first_mark();
+    let store = store_within(alloc, state, Some(mark))?;
     state.stack.reset();
+    replace(state, store);
     state.options = options;
     state.kept = None;
     Ok(answer)
+}
+
+// The part of the store that names only what is below the mark, where there is one.
+fn store_within(
+    alloc: Global,
+    state: &SessionState,
+    mark: Option<Mark>,
+) -> Result<Option<Kept>, CommandError>
+{
+    match mark {
+        None => Ok(None),
+        Some(mark) => match state.store.within(alloc, &state.stack.scope().sig, &mark) {
+            Ok(store) => Ok(Some(store)),
+            Err(_) => Err(CommandError::NoMemory),
+        },
+    }
+}
+
+// Puts the store in place of the old one, where there is one.
+fn replace(state: &mut SessionState, store: Option<Kept>)
+{
+    match store {
+        None => {}
+        Some(store) => state.store = store,
+    }
 }
