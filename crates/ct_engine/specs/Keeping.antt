@@ -1,7 +1,10 @@
 -- What a check takes from a store of clauses that the theory gave, and what it leaves there.
-use Rattle.std.specs.Prelude.{◌≡◌, ℕ, zero, suc, ◌+◌, ◌≤◌, true, List, [], ◌∷◌, ◌++◌, length}
+use Rattle.std.specs.Prelude.{◌≡◌, ◌↔◌, ℕ, zero, suc, ◌+◌, ◌≤◌, List, [], ◌∷◌, ◌++◌, length}
 use Rattle.ct_sorts.specs.Declarations.{Declarations}
 use Rattle.ct_sorts.specs.Grown.{Begins}
+use Rattle.ct_terms.specs.CoreTree.{CoreTree}
+use Rattle.ct_closure.specs.Closed.{InClosure}
+use Rattle.ct_closure.specs.ClosedTable.{HasTree, terms_at}
 use Rattle.ct_log.specs.declared.line.Line.{Line}
 use Rattle.ct_log.specs.Recorded.{Derived}
 use Rattle.ct_clauses.specs.Initial.{AreInitialLines}
@@ -15,12 +18,13 @@ use Rattle.ct_engine.specs.declared.course.Course.{Course}
 use Rattle.ct_engine.specs.declared.outcome.Outcome.{Outcome}
 use Rattle.ct_engine.specs.declared.outcome.Outcome.TheVariants as outcome
 
--- the lines are the initial lines, then one for each clause of the store that is moved into the closure and accepted there, in
--- order, and then the others
+-- the terms are exactly the closure of the assertions, and the lines are the initial lines, then one for each clause of the store
+-- that is moved into the closure and accepted there, in order, and then the others
 pub record IsBegunWith (d : Declarations) (store : Stored) (derived : Derived) : Type 0 where
   pub initial : List Line
   pub moved : List Line
   pub others : List Line
+  pub closure : (t : CoreTree) → HasTree derived.rec.terms t ↔ InClosure d (terms_at derived.rec.terms derived.asserts) t
   pub are_initial : AreInitialLines d derived.rec.terms derived.asserts initial
   pub are_moved : AreMovedLines d store derived.rec.terms moved
   pub lines : derived.rec.lines ≡ initial ++ (moved ++ others)

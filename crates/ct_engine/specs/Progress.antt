@@ -180,12 +180,13 @@ pub record IsSearchOver (derived : Derived) (budget : ℕ) (search : SearchState
 abbrev pub beginning_of : Derived → ℕ → Derived
 beginning_of derived count = record derived { rec = record derived.rec { lines = take count derived.rec.lines } }
 
--- nothing was decided and no move was made, the lines are the initial lines, and no clause of a store is among them
+-- nothing was decided and no move was made, the terms are exactly the closure of the assertions, and the lines are the initial lines
 pub record IsAtStart (d : Declarations) (course : Course) : Type 0 where
   pub decided : course.search.decided ≡ []
   pub moves : course.moves.items ≡ []
   pub initial : course.initial ≡ length course.derivation.rec.lines
   pub kept : course.kept ≡ 0
+  pub closure : (t : CoreTree) → HasTree course.derivation.rec.terms t ↔ InClosure d (terms_at course.derivation.rec.terms course.derivation.asserts) t
   pub lines : AreInitialLines d course.derivation.rec.terms course.derivation.asserts course.derivation.rec.lines
 
 -- the table holds exactly the closure of the assertions of the old one, the literals decide it, and the classes are exactly
