@@ -7,9 +7,10 @@ ghost use Rattle.ct_command.specs.Seen.{command_seen};
 ghost use Rattle.ct_stack.specs.Stack.{in_force};
 ghost use Rattle.ct_stack.specs.Held.{context_in, as_one, IsSoundLevel};
 ghost use Rattle.ct_step.specs.State.{first_state, context_of};
+ghost use Rattle.ct_step.specs.Store.{first_store, IsStoreOf, StoresBy};
 ghost use Rattle.ct_script.specs.Replay.{Replays, is_check};
 ghost use Rattle.ct_step.specs.Done.{IsAnswer};
-ghost use Rattle.ct_script.specs.Session.{after, reached};
+ghost use Rattle.ct_script.specs.Session.{after, first_course, reached};
 ghost use Rattle.ct_step.specs.Step.{CommandEffect, Step, Steps, counted_with, one_more};
 
 use crate::error::SessionError;
@@ -32,13 +33,16 @@ pub type ScriptError = (u64, u16);
 pub struct Session {
     alloc: Global,
     state: SessionState,
+    // The clauses that the theory gave in earlier checks.
+    store: Kept,
     errors: Vec<ScriptError>,
     // How many checks there were.
     number: u64,
 }
 
 impl Model for Session {
-    ghost use Rattle.ct_step.specs.Done.{state_of, IsSound};
+    ghost use Rattle.ct_step.specs.Done.{state_of};
+    ghost use Rattle.ct_step.specs.Store.{IsSoundWith};
     ghost use Rattle.ct_script.specs.Session.{Course};
 
     ghost Value = { Course };
@@ -48,15 +52,15 @@ impl Model for Session {
 
     ghost coded = { Prim.hlevel (codes, coded_formula) };
 
-    ghost view = { λ s. record { state = state_of s.state; number = s.number; verdicts = s.state.verdicts.items; errors = s.errors.items } };
+    ghost view = { λ s. record { state = state_of s.state; number = s.number; verdicts = s.state.verdicts.items; errors = s.errors.items; store = s.store } };
 
-    ghost invariant = { λ s. IsSound (state_of s.state) };
+    ghost invariant = { λ s. IsSoundWith (state_of s.state) s.store };
 }
 
 impl Session {
     /// A session in which nothing is declared and nothing is asserted.
     pub fn new(alloc: Global) -> Result<Session, SessionError>
-        ensures empty { IfOk result (λ s. s ≡ record { state = first_state; number = 0; verdicts = []; errors = [] }) }
+        ensures empty { IfOk result (λ s. s ≡ first_course) }
     {
         let stack = AssertionStack::new(alloc)?;
         let store = new_store(alloc)?;
@@ -67,8 +71,8 @@ impl Session {
                 options: Options::new(),
                 verdicts: Vec::new(alloc),
                 kept: None,
-                store,
             },
+            store,
             errors: Vec::new(alloc),
             number: 0,
         })
@@ -76,9 +80,13 @@ impl Session {
 
     /// Answers a command that begins on this line. A refused command changes nothing but the list of errors; and a check, also
     /// one that is refused, is counted. Where memory runs out nothing has changed.
+    ///
+    /// A check begins with the clauses that the theory gave in earlier checks and keeps those that it gave in this one; a
+    /// command that takes declarations back takes the clauses that name them.
     pub fn command(&mut self, line: u64, expr: &Sexpr) -> Result<Answer, SessionError>
         ensures stepped { IfOk result (λ a. (e : CommandEffect) × Step self.old.state self.old.number line (expression_of expr.now) e
-            × (self.new ≡ after self.old line (expression_of expr.now) e) × IsAnswer e a) }
+            × (self.new ≡ after self.old line (expression_of expr.now) e self.new.store) × IsAnswer e a) }
+        ensures stored { IfOk result (λ a. StoresBy self.old.state (command (expression_of expr.now)) a.error self.new.verdicts self.old.store self.new.store) }
         ensures unchanged { OnErr result (self.new ≡ self.old) }
     {
         match command_of(self.alloc, expr) {
@@ -134,10 +142,12 @@ impl Session {
         self.state.stack.assertions()
     }
 
-    /// The clauses that the theory gave in the checks so far, as far as they can still be named.
+    /// The clauses that the theory gave in the checks so far and that can still be named, at most 4,096.
     pub fn kept(&self) -> &Kept
+        ensures value { result.now ≡ self.now.store }
+        ensures sorted { IsStoreOf self.now.state self.now.store }
     {
-        &self.state.store
+        &self.store
     }
 
     /// The verdicts so far.
@@ -154,7 +164,7 @@ impl Session {
     {
         let state = self.state;
         drop(state.stack);
-        drop(state.store);
+        drop(self.store);
         (state.verdicts, self.errors)
     }
 
@@ -181,11 +191,18 @@ impl Session {
     // Does a command, or answers why it is refused.
     fn perform(&mut self, line: u64, command: Command<'_>) -> Result<Answer, SessionError>
         ensures stepped { IfOk result (λ a. (e : CommandEffect) × Steps self.old.state (counted_with self.old.number (command_seen command.entry)) line (Ok (command_seen command.entry)) e
-            × (self.new ≡ reached self.old line (counted_with self.old.number (command_seen command.entry)) e) × IsAnswer e a) }
+            × (self.new ≡ reached self.old line (counted_with self.old.number (command_seen command.entry)) e self.new.store) × IsAnswer e a) }
+        ensures stored { IfOk result (λ a. StoresBy self.old.state (Ok (command_seen command.entry)) a.error self.new.verdicts self.old.store self.new.store) }
         ensures unchanged { OnErr result (self.new ≡ self.old) }
     {
         let number = counted(self.number, &command);
-        match perform(self.alloc, &mut self.state, number, command) {
+        match perform(
+            self.alloc,
+            &mut self.state,
+            &mut self.store,
+            number,
+            command,
+        ) {
             Ok(answer) => {
                 self.number = number;
                 Ok(answer)
@@ -229,6 +246,8 @@ fn next(number: u64) -> u64
 
 // A store without clauses.
 fn new_store(alloc: Global) -> Result<Kept, SessionError>
+    ensures empty { IfOk result (λ store. store ≡ first_store) }
+    ensures sorted { IfOk result (IsStoreOf first_state) }
 {
     match Kept::new(alloc) {
         Ok(store) => Ok(store),

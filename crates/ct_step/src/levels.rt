@@ -1,7 +1,10 @@
 //! The commands that add and remove levels of the assertion stack (SMT-LIB 2.7, sections 4.2.1 and 4.2.2).
-ghost use Rattle.std.specs.Prelude.{ℕ};
+ghost use Rattle.std.specs.Prelude.{◌≡◌, ℕ, IfSome, OnOk, OnErr};
+ghost use Rattle.ct_sorts.specs.Marks.{CanCut, cut};
+ghost use Rattle.ct_terms.specs.Terms.{AreSorted};
 ghost use Rattle.ct_command.specs.Command.{push, pop, reset_assertions, reset};
-ghost use Rattle.ct_step.specs.Done.{IsDone};
+ghost use Rattle.ct_step.specs.Done.{IsDone, state_of};
+ghost use Rattle.ct_step.specs.Store.{IsStoreOf, IsCut, IsStored};
 
 use crate::answer::{Answer, quiet};
 use crate::options::Options;
@@ -9,7 +12,8 @@ use crate::state::SessionState;
 use ct_command::CommandError;
 use ct_engine::Kept;
 use ct_sorts::Mark;
-use std::alloc::Global;
+use ct_stack::AssertionStack;
+use std::alloc::{AllocError, Global};
 
 /// Adds levels.
 pub(crate) fn push(
@@ -29,16 +33,19 @@ pub(crate) fn push(
 pub(crate) fn pop(
     alloc: Global,
     state: &mut SessionState,
+    store: &mut Kept,
     count: u128,
 ) -> Result<Answer, CommandError>
+    requires sorted { IsStoreOf (state_of state.old) store.old }
     ensures done { (number : ℕ) → IsDone state.old number (pop count) state.new result }
+    ensures stored { IsStored state.old (pop count) state.new result store.old store.new }
+    ensures sorted { IsStoreOf (state_of state.new) store.new }
 {
     let answer = quiet(alloc, state.options)?;
     let global = state.options.global_declarations;
     let mark = state.stack.mark_below(global, count);
-    let store = store_within(alloc, state, mark)?;
+    cut_store(alloc, &state.stack, mark, store)?;
     state.stack.pop(global, count)?;
-    replace(state, store);
     state.kept = None;
     Ok(answer)
 }
@@ -47,59 +54,64 @@ pub(crate) fn pop(
 pub(crate) fn reset_assertions(
     alloc: Global,
     state: &mut SessionState,
+    store: &mut Kept,
 ) -> Result<Answer, CommandError>
+    requires sorted { IsStoreOf (state_of state.old) store.old }
     ensures done { (number : ℕ) → IsDone state.old number reset_assertions state.new result }
+    ensures stored { IsStored state.old reset_assertions state.new result store.old store.new }
+    ensures sorted { IsStoreOf (state_of state.new) store.new }
 {
     let answer = quiet(alloc, state.options)?;
     let global = state.options.global_declarations;
-    let mark = if global {
-        None
-    } else {
-        Some(state.stack.first_mark())
-    };
-    let store = store_within(alloc, state, mark)?;
+    let mark = state.stack.first_mark(global);
+    cut_store(alloc, &state.stack, mark, store)?;
     state.stack.empty(global);
-    replace(state, store);
     state.kept = None;
     Ok(answer)
 }
 
 /// Makes the state what it was at the start.
-pub(crate) fn reset(alloc: Global, state: &mut SessionState) -> Result<Answer, CommandError>
+pub(crate) fn reset(
+    alloc: Global,
+    state: &mut SessionState,
+    store: &mut Kept,
+) -> Result<Answer, CommandError>
+    requires sorted { IsStoreOf (state_of state.old) store.old }
     ensures done { (number : ℕ) → IsDone state.old number reset state.new result }
+    ensures stored { IsStored state.old reset state.new result store.old store.new }
+    ensures sorted { IsStoreOf (state_of state.new) store.new }
 {
     let options = Options::new();
     let answer = quiet(alloc, options)?;
-    let mark = state.stack.first_mark();
-    let store = store_within(alloc, state, Some(mark))?;
+    let mark = state.stack.first_mark(false);
+    cut_store(alloc, &state.stack, mark, store)?;
     state.stack.reset();
-    replace(state, store);
     state.options = options;
     state.kept = None;
     Ok(answer)
 }
 
-// The part of the store that names only what is below the mark, where there is one.
-fn store_within(
+// Leaves in the store what names only what is below the mark, where there is one.
+fn cut_store(
     alloc: Global,
-    state: &SessionState,
+    stack: &AssertionStack,
     mark: Option<Mark>,
-) -> Result<Option<Kept>, CommandError>
+    store: &mut Kept,
+) -> Result<(), AllocError>
+    requires sorted { AreSorted stack.now.top.context.declarations store.old.table }
+    requires can_cut { IfSome mark (λ m. CanCut stack.now.top.context.declarations m) }
+    ensures cut { OnOk result (IsCut mark store.old store.new) }
+    ensures sorted { OnOk result (IfSome mark (λ m. AreSorted (cut stack.now.top.context.declarations m) store.new.table)) }
+    ensures same { OnErr result (store.new ≡ store.old) }
 {
-    match mark {
-        None => Ok(None),
-        Some(mark) => match state.store.within(alloc, &state.stack.scope().sig, &mark) {
-            Ok(store) => Ok(Some(store)),
-            Err(_) => Err(CommandError::NoMemory),
-        },
-    }
-}
-
-// Puts the store in place of the old one, where there is one.
-fn replace(state: &mut SessionState, store: Option<Kept>)
-{
-    match store {
-        None => {}
-        Some(store) => state.store = store,
+    let Some(mark) = mark else {
+        return Ok(());
+    };
+    match store.within(alloc, &stack.scope().sig, &mark) {
+        Ok(left) => {
+            *store = left;
+            Ok(())
+        }
+        Err(_) => Err(AllocError),
     }
 }

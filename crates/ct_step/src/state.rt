@@ -4,7 +4,7 @@ ghost use Rattle.ct_step.specs.State.{model_kept, derivation_kept, undecided_kep
 ghost use Rattle.ct_step.specs.Done.{kept_of, interp_seen, derivation_seen};
 
 use crate::options::Options;
-use ct_engine::{Kept, Verdict};
+use ct_engine::Verdict;
 use ct_eval::Interp;
 use ct_log::Derivation;
 use ct_stack::AssertionStack;
@@ -20,8 +20,6 @@ pub struct SessionState {
     pub verdicts: Vec<Verdict>,
     /// The number of the check that gave the last verdict, as long as that verdict stands.
     pub kept: Option<u64>,
-    /// The clauses that the theory gave in earlier checks.
-    pub store: Kept,
 }
 
 /// The model of the last verdict, where that stands and has one.
