@@ -20,6 +20,7 @@ use ct_command::{Command, CommandError, command_of};
 use ct_engine::{Kept, Verdict};
 use ct_formulas::Tree;
 use ct_sexpr::Sexpr;
+use ct_sorts::growth;
 use ct_stack::AssertionStack;
 use ct_step::{Answer, Options, SessionState, perform, refused};
 use std::alloc::Global;
@@ -62,8 +63,8 @@ impl Session {
     pub fn new(alloc: Global) -> Result<Session, SessionError>
         ensures empty { IfOk result (λ s. s ≡ first_course) }
     {
-        let stack = AssertionStack::new(alloc)?;
         let store = new_store(alloc)?;
+        let stack = AssertionStack::new(alloc)?;
         Ok(Session {
             alloc,
             state: SessionState {
@@ -249,6 +250,7 @@ fn new_store(alloc: Global) -> Result<Kept, SessionError>
     ensures empty { IfOk result (λ store. store ≡ first_store) }
     ensures sorted { IfOk result (IsStoreOf first_state) }
 {
+    growth();
     match Kept::new(alloc) {
         Ok(store) => Ok(store),
         Err(_) => Err(SessionError),

@@ -16,7 +16,7 @@ pub returns-in_err-pop : goal.returns-in_err-pop
 returns-in_err-pop c =
     let p = err_from_is_err_and c.from_residual-in_err-pop.result c.from_residual-in_err-pop.ensures.1 in
     let s = c.args.state.now.stack in
-    let same = refused_same s c.args.count c.mark_below-mark.result c.args.store.now c.cut_store.new.store p.0 c.in_err-pop.ensures.refused c.in_err-pop.ensures.no_memory c.mark_below-mark.ensures.above c.in_ok-cut_store.ensures.cut in
+    let same = refused_same s c.args.count c.mark_below-mark.result c.args.store.now c.cut_store.new.store _ c.in_err-pop.ensures.refused c.in_err-pop.ensures.no_memory c.mark_below-mark.ensures.above c.in_ok-cut_store.ensures.cut in
     rw (p.1, p.2)
     (record {
       done = λ number. not_done c.args.state.now _ number (pop c.args.count) _ c.in_err-pop.ensures.refused (same_stack c.args.state.now c.pop.new.self c.in_err-pop.ensures.unchanged);
