@@ -122,9 +122,9 @@ module _ (old new : SessionState) (number : ℕ) where
         done = own_done;
         stored = stored_same (command_seen c) r store own;
         sound = record {
-            sound = sound_still old new number (command_seen c) r own_done sound.sound;
-            sorted = sorted_still g (command_seen c) r store own own_done sound.sorted;
-          };
+          sound = sound_still old new number (command_seen c) r own_done sound.sound;
+          sorted = sorted_still g (command_seen c) r store own own_done sound.sorted;
+        };
       }
 
   -- by another one
