@@ -1,3 +1,4 @@
+pub mod KeepingLemmas
 pub mod ShorteningLemmas
 pub mod ListLemmas
 pub mod ValuedLemmas

@@ -22,6 +22,8 @@ pub(crate) struct Course {
     pub(crate) guide: Box<Guide>,
     /// How many lines of the derivation are initial ones.
     pub(crate) initial: usize,
+    /// How many lines after these are those of clauses of a store.
+    pub(crate) kept: usize,
     /// How many propositional variables the closure has.
     pub(crate) variables: u64,
 }

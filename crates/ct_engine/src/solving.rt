@@ -1,16 +1,18 @@
 //! The check of assertions.
-ghost use Rattle.std.specs.Prelude.{◌≡◌, [], true, ℕ, suc, ◌≤◌, ◌^◌, All, IfOk, OnOk, IsErrOf};
+ghost use Rattle.std.specs.Prelude.{◌≡◌, [], true, ℕ, suc, ◌≤◌, ◌^◌, All, IfOk, OnOk, OnErr, IsErrOf};
 ghost use Rattle.ct_card.specs.Sizes.{AreSizes};
 ghost use Rattle.ct_terms.specs.Terms.{AreSorted, IsBoolean};
 ghost use Rattle.ct_closure.specs.Closed.{HasMoreThan, HasVariables, most_closure_terms};
 ghost use Rattle.ct_closure.specs.ClosedTable.{AreSubtermsOf, terms_at};
 ghost use Rattle.ct_engine.specs.Verdict.{IsVerdict, IsDecisive};
 ghost use Rattle.ct_engine.specs.Opening.{IsBeforeDecisions};
-ghost use Rattle.ct_engine.specs.Progress.{IsUnderWay, IsTaskOf, IsTheoryOf, IsEnded, IsOnRecord, IsOfOneClosure, IsOutcome};
+ghost use Rattle.ct_engine.specs.Progress.{IsUnderWay, IsTaskOf, IsTheoryOf, IsEnded, IsOnRecord, IsOfOneClosure, IsOutcome, IsAtStart};
+ghost use Rattle.ct_engine.specs.Keeping.{HasKept, IsOutcomeWith, AddsFirst, HasFirst};
 
 use crate::answer::conclude;
 use crate::course::Course;
 use crate::error::SolveError;
+use crate::keeping::{add_kept, keep};
 use crate::model::model;
 use crate::opening::open_search;
 use crate::outcome::{Ending, Outcome};
@@ -19,6 +21,7 @@ use crate::stages::{first_budget, search};
 use crate::theorems::spent_searches;
 use crate::verdict::Verdict;
 use ct_card::Sizes;
+use ct_kept::Kept;
 use ct_sorts::Signature;
 use ct_terms::{TermId, TermTable};
 use ct_theory::Theory;
@@ -52,12 +55,52 @@ pub fn solve(
     ensures too_large { IsErrOf result SolveError.TooLarge → HasMoreThan sig.now (terms_at table.now asserts.now) most_closure_terms }
     ensures fits { OnOk result (HasMoreThan sig.now (terms_at table.now asserts.now) most_closure_terms → ⊥) }
 {
+    let mut kept = Box::new(alloc, Kept::new(alloc)?)?;
+    sig.sorts();
+    let verdict = solve_kept(alloc, sig, table, asserts, budget, &mut kept)?;
+    drop(kept);
+    Ok(verdict)
+}
+
+/// As `solve`, with clauses that the theory gave in earlier checks: those of the store that are moved into the closure and
+/// accepted there stand behind the initial lines of the derivation, and the search has them from its start. The terms of the
+/// store are well sorted over the signature, and stay so.
+///
+/// After `Unsat` and `Unknown` the store has taken the further clauses of the theory in the derivation, in order, up to the first
+/// for which it holds 4,096 or its table is full. After `Sat`, and where there is no verdict, it is as it was.
+pub fn solve_kept(
+    alloc: Global,
+    sig: &Signature,
+    table: &TermTable,
+    asserts: &[TermId],
+    budget: u64,
+    kept: &mut Kept,
+) -> Result<Verdict, SolveError>
+    requires sorted { AreSorted sig.now table.now }
+    requires asserts { All (IsBoolean table.now) asserts.now }
+    requires exact { AreSubtermsOf table.now asserts.now }
+    requires kept { AreSorted sig.now kept.old.table }
+    ensures verdict { IfOk result (IsVerdict sig.now table.now asserts.now budget) }
+    ensures decides { IfOk result (λ verdict. (variables : ℕ) → HasVariables sig.now (terms_at table.now asserts.now) variables
+        → 2 ^ variables ≤ suc budget → IsDecisive verdict) }
+    ensures too_large { IsErrOf result SolveError.TooLarge → HasMoreThan sig.now (terms_at table.now asserts.now) most_closure_terms }
+    ensures fits { OnOk result (HasMoreThan sig.now (terms_at table.now asserts.now) most_closure_terms → ⊥) }
+    ensures kept { IfOk result (HasKept sig.now kept.old kept.new) }
+    ensures sorted { AreSorted sig.now kept.new.table }
+    ensures refused { OnErr result (kept.new ≡ kept.old) }
+{
     spent_searches();
     let sizes = sizes_of(alloc, sig)?;
-    let outcome = find(alloc, sig, &sizes, table, asserts, budget)?;
+    let (outcome, first) = find(alloc, sig, &sizes, table, asserts, budget, &*kept)?;
     match outcome {
-        Outcome::Unsat(derivation) => Ok(Verdict::Unsat(derivation)),
-        Outcome::Unknown(spent) => Ok(Verdict::Unknown(spent)),
+        Outcome::Unsat(derivation) => {
+            keep(alloc, sig, &derivation, first, kept)?;
+            Ok(Verdict::Unsat(derivation))
+        }
+        Outcome::Unknown(spent) => {
+            keep(alloc, sig, &spent.derivation, first, kept)?;
+            Ok(Verdict::Unknown(spent))
+        }
         Outcome::Candidate(candidate) => {
             let interp = model(alloc, sig, &sizes, &candidate)?;
             drop(candidate);
@@ -66,7 +109,7 @@ pub fn solve(
     }
 }
 
-// What a search over the clauses of the assertions finds.
+// What a search over the clauses of the assertions and those of the store finds, and how many lines these have.
 fn find(
     alloc: Global,
     sig: &Signature,
@@ -74,20 +117,24 @@ fn find(
     table: &TermTable,
     asserts: &[TermId],
     budget: u64,
-) -> Result<Outcome, SolveError>
+    kept: &Kept,
+) -> Result<(Outcome, usize), SolveError>
     requires sizes { AreSizes sig.now sizes.now }
     requires sorted { AreSorted sig.now table.now }
     requires asserts { All (IsBoolean table.now) asserts.now }
     requires exact { AreSubtermsOf table.now asserts.now }
-    ensures outcome { IfOk result (IsOutcome sig.now table.now asserts.now budget) }
+    ensures outcome { IfOk result (λ found. IsOutcome sig.now table.now asserts.now budget found.0) }
+    ensures begun { IfOk result (λ found. IsOutcomeWith sig.now kept.now found.1 found.0) }
     ensures too_large { IsErrOf result SolveError.TooLarge → HasMoreThan sig.now (terms_at table.now asserts.now) most_closure_terms }
     ensures fits { OnOk result (HasMoreThan sig.now (terms_at table.now asserts.now) most_closure_terms → ⊥) }
 {
     let mut course = begun(alloc, sig, sizes, table, asserts, first_budget(budget))?;
+    add_kept(alloc, sig, sizes, &mut course, kept)?;
+    let first = course.initial + course.kept;
     let mut theory = theory_of(alloc, sig, sizes, &course)?;
     let ending = explore(alloc, sig, sizes, budget, &mut course, &mut theory)?;
     let outcome = conclude(alloc, sig, table, asserts, budget, course, theory, ending)?;
-    Ok(outcome)
+    Ok((outcome, first))
 }
 
 // Adds what can be said before the first decision, and searches.
@@ -102,9 +149,11 @@ fn explore(
     requires before { IsBeforeDecisions sig.now sizes.now course.old }
     requires recorded { course.old.recorded ≡ true }
     requires theory { IsTheoryOf course.old theory.old }
+    requires stand { HasFirst course.old }
     ensures same { OnOk result (IsOfOneClosure course.old course.new) }
     ensures ended { IfOk result (IsEnded course.new theory.new) }
     ensures spent { IfOk result (λ r. r ≡ Ending.Spent → IsOnRecord budget course.new) }
+    ensures adds { AddsFirst course.old → IfOk result (λ r. r ≡ Ending.Spent → AddsFirst course.new) }
     ensures err { IsErrOf result SolveError.TooLarge → ⊥ }
 {
     open_search(alloc, sig, sizes, course, theory)?;
@@ -146,7 +195,7 @@ fn begun(
     ensures recorded { IfOk result (λ course. course.value.recorded ≡ true) }
     ensures task { IfOk result (λ course. IsTaskOf sig.now table.now asserts.now course.value) }
     ensures under_way { IfOk result (λ course. IsUnderWay course.value) }
-    ensures start { IfOk result (λ course. course.value.search.decided ≡ []) }
+    ensures start { IfOk result (λ course. IsAtStart sig.now course.value) }
     ensures too_large { IsErrOf result SolveError.TooLarge → HasMoreThan sig.now (terms_at table.now asserts.now) most_closure_terms }
     ensures fits { OnOk result (HasMoreThan sig.now (terms_at table.now asserts.now) most_closure_terms → ⊥) }
 {
