@@ -1,10 +1,11 @@
 //! Clauses of the theory that are kept across checks: what a search begins with, and what it leaves.
-ghost use Rattle.std.specs.Prelude.{◌≡◌, ◌≤◌, ◌+◌, ◌++◌, true, [], List, All, length, drop, IfOk, OnOk, OnErr, IsErrOf};
+ghost use Rattle.std.specs.Prelude.{◌≡◌, ◌≤◌, ◌++◌, true, [], List, All, length, drop, OnOk, OnErr, IsErrOf};
 ghost use Rattle.ct_card.specs.Sizes.{AreSizes};
 ghost use Rattle.ct_terms.specs.Clause.{Clause};
-ghost use Rattle.ct_terms.specs.Terms.{AreSorted};
+ghost use Rattle.ct_terms.specs.declared.ids.TermId.{TermId};
+ghost use Rattle.ct_terms.specs.Terms.{Terms, AreSorted};
 ghost use Rattle.ct_log.specs.Acceptance.{IsAccepted};
-ghost use Rattle.ct_kept.specs.Kept.{AreMovedLines, Takes};
+ghost use Rattle.ct_kept.specs.Kept.{Takes};
 ghost use Rattle.ct_kept.specs.Lemmas.{theory_lemmas};
 ghost use Rattle.ct_engine.specs.Moves.{IsTaught};
 ghost use Rattle.ct_engine.specs.Opening.{IsBeforeDecisions};
@@ -35,8 +36,7 @@ pub(crate) fn add_kept(
     requires start { IsAtStart sig.now course.old }
     ensures before { OnOk result (IsBeforeDecisions sig.now sizes.now course.new) }
     ensures recorded { OnOk result (course.new.recorded ≡ true) }
-    ensures derivation { OnOk result (course.new.derivation ≡ record course.old.derivation { rec = record course.old.derivation.rec { lines = course.new.derivation.rec.lines } }) }
-    ensures variables { OnOk result (course.new.variables ≡ course.old.variables) }
+    ensures task { (table : Terms) (asserts : List TermId) → IsTaskOf sig.now table asserts course.old → OnOk result (IsTaskOf sig.now table asserts course.new) }
     ensures begun { OnOk result (IsCourseWith sig.now kept.now course.new) }
     ensures adds { OnOk result (AddsFirst course.new) }
     ensures stand { OnOk result (HasFirst course.new) }

@@ -7,10 +7,10 @@ ghost use Rattle.ct_closure.specs.ClosedTable.{AreSubtermsOf, terms_at};
 ghost use Rattle.ct_engine.specs.Verdict.{IsVerdict, IsDecisive};
 ghost use Rattle.ct_engine.specs.Opening.{IsBeforeDecisions};
 ghost use Rattle.ct_engine.specs.Progress.{IsUnderWay, IsTaskOf, IsTheoryOf, IsEnded, IsOnRecord, IsOfOneClosure, IsOutcome, IsAtStart};
-ghost use Rattle.ct_engine.specs.Keeping.{HasKept, IsOutcomeWith, AddsFirst, HasFirst};
+ghost use Rattle.ct_engine.specs.Keeping.{HasKept, IsCourseWith, IsOutcomeWith, AddsFirst, HasFirst};
 
 use crate::answer::conclude;
-use crate::course::Course;
+use crate::course::{Course, first_count};
 use crate::error::SolveError;
 use crate::keeping::{add_kept, keep};
 use crate::model::model;
@@ -22,7 +22,7 @@ use crate::theorems::spent_searches;
 use crate::verdict::Verdict;
 use ct_card::Sizes;
 use ct_kept::Kept;
-use ct_sorts::Signature;
+use ct_sorts::{Signature, growth};
 use ct_terms::{TermId, TermTable};
 use ct_theory::Theory;
 use std::alloc::Global;
@@ -55,8 +55,9 @@ pub fn solve(
     ensures too_large { IsErrOf result SolveError.TooLarge → HasMoreThan sig.now (terms_at table.now asserts.now) most_closure_terms }
     ensures fits { OnOk result (HasMoreThan sig.now (terms_at table.now asserts.now) most_closure_terms → ⊥) }
 {
+    growth();
+    let _sorts = sig.sorts();
     let mut kept = Box::new(alloc, Kept::new(alloc)?)?;
-    sig.sorts();
     let verdict = solve_kept(alloc, sig, table, asserts, budget, &mut kept)?;
     drop(kept);
     Ok(verdict)
@@ -128,9 +129,8 @@ fn find(
     ensures too_large { IsErrOf result SolveError.TooLarge → HasMoreThan sig.now (terms_at table.now asserts.now) most_closure_terms }
     ensures fits { OnOk result (HasMoreThan sig.now (terms_at table.now asserts.now) most_closure_terms → ⊥) }
 {
-    let mut course = begun(alloc, sig, sizes, table, asserts, first_budget(budget))?;
-    add_kept(alloc, sig, sizes, &mut course, kept)?;
-    let first = course.initial + course.kept;
+    let mut course = begun_with(alloc, sig, sizes, table, asserts, first_budget(budget), kept)?;
+    let first = first_count(&course);
     let mut theory = theory_of(alloc, sig, sizes, &course)?;
     let ending = explore(alloc, sig, sizes, budget, &mut course, &mut theory)?;
     let outcome = conclude(alloc, sig, table, asserts, budget, course, theory, ending)?;
@@ -176,6 +176,34 @@ fn theory_of(
 {
     let theory = Theory::new(alloc, sig, sizes, course.derivation.rec().table())?;
     Ok(theory)
+}
+
+// A search over the closure of the assertions that has made no move but to add the clauses of the store.
+fn begun_with(
+    alloc: Global,
+    sig: &Signature,
+    sizes: &Sizes,
+    table: &TermTable,
+    asserts: &[TermId],
+    budget: u64,
+    kept: &Kept,
+) -> Result<Box<Course>, SolveError>
+    requires sizes { AreSizes sig.now sizes.now }
+    requires sorted { AreSorted sig.now table.now }
+    requires asserts { All (IsBoolean table.now) asserts.now }
+    requires exact { AreSubtermsOf table.now asserts.now }
+    ensures before { IfOk result (λ course. IsBeforeDecisions sig.now sizes.now course.value) }
+    ensures recorded { IfOk result (λ course. course.value.recorded ≡ true) }
+    ensures task { IfOk result (λ course. IsTaskOf sig.now table.now asserts.now course.value) }
+    ensures begun { IfOk result (λ course. IsCourseWith sig.now kept.now course.value) }
+    ensures adds { IfOk result (λ course. AddsFirst course.value) }
+    ensures stand { IfOk result (λ course. HasFirst course.value) }
+    ensures too_large { IsErrOf result SolveError.TooLarge → HasMoreThan sig.now (terms_at table.now asserts.now) most_closure_terms }
+    ensures fits { OnOk result (HasMoreThan sig.now (terms_at table.now asserts.now) most_closure_terms → ⊥) }
+{
+    let mut course = begun(alloc, sig, sizes, table, asserts, budget)?;
+    add_kept(alloc, sig, sizes, &mut course, kept)?;
+    Ok(course)
 }
 
 // A search over the closure of the assertions that has made no move.
