@@ -29,12 +29,13 @@ use Rattle.ct_engine.specs.Keeping.{IsBegunWith, IsBegunAt, IsCourseWith, AddsFi
 use Rattle.ct_engine.proofs.ListLemmas.{Begins-then}
 
 -- what began with a store began so over the same assertions and terms, with more lines
-pub begun_with_more : (d : Declarations) (store : Stored) (old new : Derived) → new.rec.terms ≡ old.rec.terms → new.asserts ≡ old.asserts
+pub begun_with_more : (d : Declarations) (store : Stored) (old new : Derived) → new.declarations ≡ old.declarations → new.rec.terms ≡ old.rec.terms → new.asserts ≡ old.asserts
     → (begun : IsBegunWith d store old) → (rest : List Line) → new.rec.lines ≡ begun.initial ++ (begun.moved ++ rest) → IsBegunWith d store new
-begun_with_more d store old new same_terms same_asserts begun rest lines = record {
+begun_with_more d store old new same_declarations same_terms same_asserts begun rest lines = record {
   initial = begun.initial;
   moved = begun.moved;
   others = rest;
+  declarations = same_declarations ∙ begun.declarations;
   closure = λ t.
       subst (λ (ids : List TermId). HasTree new.rec.terms t ↔ InClosure d (terms_at new.rec.terms ids) t) (sym same_asserts)
       (subst (λ (ts : Terms). HasTree ts t ↔ InClosure d (terms_at ts old.asserts) t) (sym same_terms) (begun.closure t));
@@ -55,20 +56,21 @@ course_goes_on d store old new same with_kept =
     ∙ (ap (λ (ls : List Line). ls ++ more) begun.lines
     ∙ (append_assoc begun.initial (begun.moved ++ begun.others) more ∙ ap (λ (ls : List Line). begun.initial ++ ls) (append_assoc begun.moved begun.others more))) in
     record {
-      begun = begun_with_more d store old.derivation new.derivation same.terms same.asserts begun (begun.others ++ more) lines;
+      begun = begun_with_more d store old.derivation new.derivation same.declarations same.terms same.asserts begun (begun.others ++ more) lines;
       initial = with_kept.initial ∙ sym same.initial;
       kept = with_kept.kept ∙ sym same.kept;
     }
 
 -- a search to which the lines of the store were added, at its start
 pub course_begun : (d : Declarations) (store : Stored) (old new : Course) (moved : List Line) → IsAtStart d old → AreMovedLines d store old.derivation.rec.terms moved
-    → new.derivation.rec.terms ≡ old.derivation.rec.terms → new.derivation.asserts ≡ old.derivation.asserts → new.derivation.rec.lines ≡ old.derivation.rec.lines ++ moved
+    → new.derivation.declarations ≡ d → new.derivation.rec.terms ≡ old.derivation.rec.terms → new.derivation.asserts ≡ old.derivation.asserts → new.derivation.rec.lines ≡ old.derivation.rec.lines ++ moved
     → new.initial ≡ old.initial → new.kept ≡ length moved → IsCourseWith d store new
-course_begun d store old new moved start are_moved same_terms same_asserts lines initial kept = record {
+course_begun d store old new moved start are_moved declarations same_terms same_asserts lines initial kept = record {
   begun = record {
     initial = old.derivation.rec.lines;
     moved = moved;
     others = [];
+    declarations = declarations;
     closure = λ t.
         subst (λ (ids : List TermId). HasTree new.derivation.rec.terms t ↔ InClosure d (terms_at new.derivation.rec.terms ids) t) (sym same_asserts)
         (subst (λ (ts : Terms). HasTree ts t ↔ InClosure d (terms_at ts old.derivation.asserts) t) (sym same_terms) (start.closure t));
@@ -103,10 +105,18 @@ AddsFirst-then old new same recorded adds =
     (Begins-then (adds_after old.initial old.kept) old.moves.items new.moves.items adds (same.moves recorded)))
 
 -- the additions of one line more
+adds_next_line : (before count : ℕ) → adds_after before (suc count) ≡ adds_after before count ++ move.Add (before + count + 1) ∷ []
+adds_next_line before zero =
+    let same : before + 1 ≡ before + 0 + 1 = omega arith in
+    ap (λ (n : ℕ). move.Add n ∷ []) same
+adds_next_line before (suc count) =
+    let same : before + 1 + count + 1 ≡ before + suc count + 1 = omega arith in
+    ap (λ (ms : List Move). move.Add (before + 1) ∷ ms) (adds_next_line (before + 1) count ∙ ap (λ (n : ℕ). adds_after (before + 1) count ++ move.Add n ∷ []) same)
+
 pub adds_more : (before count : ℕ) → adds_after before (count + 1) ≡ adds_after before count ++ move.Add (before + count + 1) ∷ []
-adds_more before zero = ap (λ (n : ℕ). move.Add n ∷ []) (omega arith)
-adds_more before (suc count) =
-    ap (λ (ms : List Move). move.Add (before + 1) ∷ ms) (adds_more (before + 1) count ∙ ap (λ (n : ℕ). adds_after (before + 1) count ++ move.Add n ∷ []) (omega arith))
+adds_more before count =
+    let next : suc count ≡ count + 1 = omega arith in
+    subst (λ (n : ℕ). adds_after before n ≡ adds_after before count ++ move.Add (before + count + 1) ∷ []) next (adds_next_line before count)
 
 -- the additions are the moves, where there are so many
 pub adds_whole : (course : Course) (before count : ℕ) → before ≡ course.initial → count ≡ course.kept → course.moves.items ≡ adds_after before count → AddsFirst course
@@ -191,12 +201,12 @@ spent_with d store course derived moves same same_moves with_store adds =
     )
 
 -- what is left after the first part of a list
+drop_length : {X : Type 0} (xs ys : List X) → drop (length xs) (xs ++ ys) ≡ ys
+drop_length [] ys = refl
+drop_length (x ∷ xs) ys = drop_length xs ys
+
 drop_first : {X : Type 0} (xs ys : List X) (n : ℕ) → length xs ≡ n → drop n (xs ++ ys) ≡ ys
-drop_first xs ys n is = subst (λ (i : ℕ). drop i (xs ++ ys) ≡ ys) is (after xs)
-  where
-    after : {X : Type 0} (zs : List X) → drop (length zs) (zs ++ ys) ≡ ys
-    after [] = refl
-    after (z ∷ zs) = after zs
+drop_first xs ys n is = subst (λ (i : ℕ). drop i (xs ++ ys) ≡ ys) is (drop_length xs ys)
 
 -- the lines after those of the store, and that there are these
 pub others_after : (d : Declarations) (store : Stored) (derived : Derived) (n : ℕ) → (at : IsBegunAt d store derived n) → drop n derived.rec.lines ≡ at.0.others

@@ -132,6 +132,6 @@ begun_shortened d store first old new others trimmed begun_at =
     (let inside : j < length front = slice_get_within front j line at in omega (arith, inside, count))
     (subst (λ (ls : List Line). slice_get ls j ≡ Some line) (sym whole) (slice_get-append_left front begun.others j line at))
     (All-at Stays front j line stay at)) in (
-      begun_with_more d store old new (ap (λ (x : Derived). x.rec.terms) others) (ap (λ (x : Derived). x.asserts) others) begun rest.0 (rest.1 ∙ append_assoc begun.initial begun.moved rest.0),
+      begun_with_more d store old new (ap (λ (x : Derived). x.declarations) others) (ap (λ (x : Derived). x.rec.terms) others) (ap (λ (x : Derived). x.asserts) others) begun rest.0 (rest.1 ∙ append_assoc begun.initial begun.moved rest.0),
       begun_at.1,
     )

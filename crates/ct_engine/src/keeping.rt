@@ -10,11 +10,12 @@ ghost use Rattle.ct_kept.specs.Lemmas.{theory_lemmas};
 ghost use Rattle.ct_engine.specs.Moves.{IsTaught};
 ghost use Rattle.ct_engine.specs.Opening.{IsBeforeDecisions};
 ghost use Rattle.ct_engine.specs.Progress.{IsUnderWay, IsOfOneTask, IsTaskOf, IsAtStart};
-ghost use Rattle.ct_engine.specs.Keeping.{IsCourseWith, AddsFirst, HasFirst, adds_after};
+ghost use Rattle.ct_engine.specs.Keeping.{HasKept, IsCourseWith, IsVerdictWith, AddsFirst, HasFirst, adds_after};
 
 use crate::course::{Course, line_count};
 use crate::error::SolveError;
 use crate::taught::add_taught;
+use crate::verdict::Verdict;
 use ct_card::Sizes;
 use ct_kept::{Kept, moved_lines};
 use ct_log::{Derivation, Line};
@@ -70,8 +71,31 @@ fn add_lines(course: &mut Course, lines: Vec<Line>) -> Result<(), SolveError>
     Ok(())
 }
 
-/// Leaves the clauses that the theory gave after so many first lines in the store. Where memory runs out it is as it was.
-pub(crate) fn keep(
+/// Leaves the clauses that the theory gave after the first lines, so many, of a verdict's derivation in the store. Where memory
+/// runs out it is as it was.
+pub(crate) fn keep_lines(
+    alloc: Global,
+    sig: &Signature,
+    verdict: &Verdict,
+    first: usize,
+    kept: &mut Kept,
+) -> Result<(), SolveError>
+    requires begun { IsVerdictWith sig.now kept.old first verdict.now }
+    requires sorted { AreSorted sig.now kept.old.table }
+    ensures kept { OnOk result (HasKept sig.now kept.old kept.new verdict.now) }
+    ensures sorted { AreSorted sig.now kept.new.table }
+    ensures refused { OnErr result (kept.new ≡ kept.old) }
+    ensures err { IsErrOf result SolveError.TooLarge → ⊥ }
+{
+    match verdict {
+        Verdict::Sat(_) => Ok(()),
+        Verdict::Unsat(derivation) => keep(alloc, sig, derivation, first, kept),
+        Verdict::Unknown(spent) => keep(alloc, sig, &spent.derivation, first, kept),
+    }
+}
+
+// Leaves the clauses that the theory gave after the first lines in the store.
+fn keep(
     alloc: Global,
     sig: &Signature,
     derivation: &Derivation,

@@ -7,12 +7,12 @@ ghost use Rattle.ct_closure.specs.ClosedTable.{AreSubtermsOf, terms_at};
 ghost use Rattle.ct_engine.specs.Verdict.{IsVerdict, IsDecisive};
 ghost use Rattle.ct_engine.specs.Opening.{IsBeforeDecisions};
 ghost use Rattle.ct_engine.specs.Progress.{IsUnderWay, IsTaskOf, IsTheoryOf, IsEnded, IsOnRecord, IsOfOneClosure, IsOutcome, IsAtStart};
-ghost use Rattle.ct_engine.specs.Keeping.{HasKept, IsCourseWith, IsOutcomeWith, AddsFirst, HasFirst};
+ghost use Rattle.ct_engine.specs.Keeping.{HasKept, IsCourseWith, IsOutcomeWith, IsVerdictWith, AddsFirst, HasFirst};
 
 use crate::answer::conclude;
 use crate::course::{Course, first_count};
 use crate::error::SolveError;
-use crate::keeping::{add_kept, keep};
+use crate::keeping::{add_kept, keep_lines};
 use crate::model::model;
 use crate::opening::open_search;
 use crate::outcome::{Ending, Outcome};
@@ -90,22 +90,42 @@ pub fn solve_kept(
     ensures sorted { AreSorted sig.now kept.new.table }
     ensures refused { OnErr result (kept.new ≡ kept.old) }
 {
+    let (found, first) = verdict_on(alloc, sig, table, asserts, budget, &*kept)?;
+    let verdict = Box::new(alloc, found)?;
+    keep_lines(alloc, sig, &verdict, first, kept)?;
+    Ok(Box::into_inner(verdict))
+}
+
+// The verdict of a search that begins with the clauses of the store, and how many lines of its derivation are initial ones or
+// those of the store.
+fn verdict_on(
+    alloc: Global,
+    sig: &Signature,
+    table: &TermTable,
+    asserts: &[TermId],
+    budget: u64,
+    kept: &Kept,
+) -> Result<(Verdict, usize), SolveError>
+    requires sorted { AreSorted sig.now table.now }
+    requires asserts { All (IsBoolean table.now) asserts.now }
+    requires exact { AreSubtermsOf table.now asserts.now }
+    ensures verdict { IfOk result (λ found. IsVerdict sig.now table.now asserts.now budget found.0) }
+    ensures decides { IfOk result (λ found. (variables : ℕ) → HasVariables sig.now (terms_at table.now asserts.now) variables
+        → 2 ^ variables ≤ suc budget → IsDecisive found.0) }
+    ensures begun { IfOk result (λ found. IsVerdictWith sig.now kept.now found.1 found.0) }
+    ensures too_large { IsErrOf result SolveError.TooLarge → HasMoreThan sig.now (terms_at table.now asserts.now) most_closure_terms }
+    ensures fits { OnOk result (HasMoreThan sig.now (terms_at table.now asserts.now) most_closure_terms → ⊥) }
+{
     spent_searches();
     let sizes = sizes_of(alloc, sig)?;
-    let (outcome, first) = find(alloc, sig, &sizes, table, asserts, budget, &*kept)?;
+    let (outcome, first) = find(alloc, sig, &sizes, table, asserts, budget, kept)?;
     match outcome {
-        Outcome::Unsat(derivation) => {
-            keep(alloc, sig, &derivation, first, kept)?;
-            Ok(Verdict::Unsat(derivation))
-        }
-        Outcome::Unknown(spent) => {
-            keep(alloc, sig, &spent.derivation, first, kept)?;
-            Ok(Verdict::Unknown(spent))
-        }
+        Outcome::Unsat(derivation) => Ok((Verdict::Unsat(derivation), first)),
+        Outcome::Unknown(spent) => Ok((Verdict::Unknown(spent), first)),
         Outcome::Candidate(candidate) => {
             let interp = model(alloc, sig, &sizes, &candidate)?;
             drop(candidate);
-            Ok(Verdict::Sat(interp))
+            Ok((Verdict::Sat(interp), first))
         }
     }
 }

@@ -34,3 +34,9 @@ lines-preserved c =
           added.added (at.invariant.same.recorded ∙ c.requires.recorded)
           ∙ (ap (λ (ms : List Move). ms ++ move.Add (old.initial + at.index + 1) ∷ []) at.invariant.moves ∙ sym (adds_more old.initial at.index));
     }
+
+pub add_line-requires-clause-before : goal.add_line-requires-clause-before
+add_line-requires-clause-before c =
+    let last = c.args.course.now.initial + c.lines.index in
+    let below : last < last + 1 = omega arith in
+    (last, below, c.lines.invariant.up_to)

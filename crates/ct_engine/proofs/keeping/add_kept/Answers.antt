@@ -66,7 +66,7 @@ returns-clause-begun c =
     let table_is : c.table-terms.result.now ≡ course.derivation.rec.terms = c.table-terms.ensures.value ∙ ap (λ (r : Recorded). r.terms) c.rec.ensures.value in
     let moved : AreMovedLines c.args.sig.now c.args.kept.now course.derivation.rec.terms lines =
     subst (λ (ts : Terms). AreMovedLines c.args.sig.now c.args.kept.now ts lines) table_is c.in_ok-lines.ensures.moved in
-    course_begun c.args.sig.now c.args.kept.now course _ lines c.requires.start moved same.terms same.asserts c.in_ok-add_lines.ensures.lines same.initial ?
+    course_begun c.args.sig.now c.args.kept.now course _ lines c.requires.start moved (same.declarations ∙ c.requires.declarations) same.terms same.asserts c.in_ok-add_lines.ensures.lines same.initial ?
 
 pub returns-clause-adds : goal.returns-clause-adds
 returns-clause-adds c = ?
