@@ -18,12 +18,13 @@ use Rattle.ct_engine.specs.declared.course.Course.{Course}
 use Rattle.ct_engine.specs.declared.outcome.Outcome.{Outcome}
 use Rattle.ct_engine.specs.declared.outcome.Outcome.TheVariants as outcome
 
--- the terms are exactly the closure of the assertions, and the lines are the initial lines, then one for each clause of the store
--- that is moved into the closure and accepted there, in order, and then the others
+-- the derivation is over these declarations, its terms are exactly the closure of the assertions, and its lines are the initial
+-- lines, then one for each clause of the store that is moved into the closure and accepted there, in order, and then the others
 pub record IsBegunWith (d : Declarations) (store : Stored) (derived : Derived) : Type 0 where
   pub initial : List Line
   pub moved : List Line
   pub others : List Line
+  pub declarations : derived.declarations ≡ d
   pub closure : (t : CoreTree) → HasTree derived.rec.terms t ↔ InClosure d (terms_at derived.rec.terms derived.asserts) t
   pub are_initial : AreInitialLines d derived.rec.terms derived.asserts initial
   pub are_moved : AreMovedLines d store derived.rec.terms moved
@@ -73,3 +74,10 @@ IsOutcomeWith d store count (outcome.Unsat derived) = IsBegunAt d store derived 
 IsOutcomeWith d store count (outcome.Unknown spent) =
     (begun : IsBegunWith d store spent.derivation) × (length begun.initial + length begun.moved ≡ count) × AddsKept d store spent.derivation begun spent.moves
 IsOutcomeWith d store count (outcome.Candidate candidate) = Unit {0}
+
+-- what a verdict says of the store that its search began with, so many lines of which stand before the others with the initial ones
+abbrev pub IsVerdictWith : Declarations → Stored → ℕ → Verdict → Type 0
+IsVerdictWith d store count (Sat i) = Unit {0}
+IsVerdictWith d store count (Unsat derived) = IsBegunAt d store derived count
+IsVerdictWith d store count (Unknown spent) =
+    (begun : IsBegunWith d store spent.derivation) × (length begun.initial + length begun.moved ≡ count) × AddsKept d store spent.derivation begun spent.moves

@@ -3,7 +3,7 @@ ghost use Rattle.std.specs.Prelude.{◌≡◌, ℕ, ◌+◌, ◌<◌, ◌≤◌,
 ghost use Rattle.ct_engine.specs.Progress.{IsUnderWay, IsOfOneTask, IsOfOneClosure, IsSearchOver, AreUpTo, beginning_of};
 ghost use Rattle.ct_engine.specs.Keeping.{AddsFirst, HasFirst};
 
-use crate::course::{Course, note};
+use crate::course::{Course, line_count, note};
 use crate::error::SolveError;
 use crate::initial::add_lines;
 use crate::verdict::Move;
@@ -81,6 +81,7 @@ pub(crate) fn add_first(course: &mut Course) -> Result<(), SolveError>
     ensures err { IsErrOf result SolveError.TooLarge → ⊥ }
 {
     let before = course.initial as u64;
+    let _lines = line_count(&course.derivation);
     'lines: for index in 0..course.kept as u64 {
         add_line(course, before + index + 1)?;
     }

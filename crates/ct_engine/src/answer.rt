@@ -11,9 +11,9 @@ ghost use Rattle.ct_engine.specs.Saturated.{AreDecided};
 ghost use Rattle.ct_engine.specs.Verdict.{IsRefutation, IsSpending};
 ghost use Rattle.ct_engine.specs.Progress.{IsUnderWay, IsTaskOf, IsEnded, IsOnRecord, IsCandidate, IsOutcome};
 ghost use Rattle.ct_kept.specs.Kept.{Stored};
-ghost use Rattle.ct_engine.specs.Keeping.{IsCourseWith, IsOutcomeWith, AddsFirst};
+ghost use Rattle.ct_engine.specs.Keeping.{IsCourseWith, IsOutcomeWith, AddsFirst, HasFirst};
 
-use crate::course::Course;
+use crate::course::{Course, first_count};
 use crate::error::SolveError;
 use crate::facts;
 use crate::outcome::{Candidate, Ending, Outcome};
@@ -44,6 +44,7 @@ pub(crate) fn conclude(
     requires task { IsTaskOf sig.now table.now asserts.now course.value }
     requires ended { IsEnded course.value theory ending }
     requires spent { ending ≡ Ending.Spent → IsOnRecord budget course.value }
+    requires stand { HasFirst course.value }
     ensures outcome { IfOk result (IsOutcome sig.now table.now asserts.now budget) }
 
     // It begins with the clauses of a store where the search did.
@@ -53,7 +54,7 @@ pub(crate) fn conclude(
 {
     match ending {
         Ending::Refuted => {
-            let first = course.initial + course.kept;
+            let first = first_count(&course);
             let whole = refutation_of(sig, table, asserts, course);
             let derivation = shortened(alloc, sig, table, asserts, whole, first)?;
             Ok(Outcome::Unsat(derivation))

@@ -1,19 +1,21 @@
 //! Clauses of the theory that are kept across checks: what a search begins with, and what it leaves.
-ghost use Rattle.std.specs.Prelude.{◌≡◌, ◌≤◌, ◌+◌, ◌++◌, true, [], List, All, length, drop, IfOk, OnOk, OnErr, IsErrOf};
+ghost use Rattle.std.specs.Prelude.{◌≡◌, ◌≤◌, ◌++◌, true, [], List, All, length, drop, OnOk, OnErr, IsErrOf};
 ghost use Rattle.ct_card.specs.Sizes.{AreSizes};
 ghost use Rattle.ct_terms.specs.Clause.{Clause};
-ghost use Rattle.ct_terms.specs.Terms.{AreSorted};
+ghost use Rattle.ct_terms.specs.declared.ids.TermId.{TermId};
+ghost use Rattle.ct_terms.specs.Terms.{Terms, AreSorted};
 ghost use Rattle.ct_log.specs.Acceptance.{IsAccepted};
-ghost use Rattle.ct_kept.specs.Kept.{AreMovedLines, Takes};
+ghost use Rattle.ct_kept.specs.Kept.{Takes};
 ghost use Rattle.ct_kept.specs.Lemmas.{theory_lemmas};
 ghost use Rattle.ct_engine.specs.Moves.{IsTaught};
 ghost use Rattle.ct_engine.specs.Opening.{IsBeforeDecisions};
 ghost use Rattle.ct_engine.specs.Progress.{IsUnderWay, IsOfOneTask, IsTaskOf, IsAtStart};
-ghost use Rattle.ct_engine.specs.Keeping.{IsCourseWith, AddsFirst, HasFirst, adds_after};
+ghost use Rattle.ct_engine.specs.Keeping.{HasKept, IsCourseWith, IsVerdictWith, AddsFirst, HasFirst, adds_after};
 
 use crate::course::{Course, line_count};
 use crate::error::SolveError;
 use crate::taught::add_taught;
+use crate::verdict::Verdict;
 use ct_card::Sizes;
 use ct_kept::{Kept, moved_lines};
 use ct_log::{Derivation, Line};
@@ -35,8 +37,7 @@ pub(crate) fn add_kept(
     requires start { IsAtStart sig.now course.old }
     ensures before { OnOk result (IsBeforeDecisions sig.now sizes.now course.new) }
     ensures recorded { OnOk result (course.new.recorded ≡ true) }
-    ensures derivation { OnOk result (course.new.derivation ≡ record course.old.derivation { rec = record course.old.derivation.rec { lines = course.new.derivation.rec.lines } }) }
-    ensures variables { OnOk result (course.new.variables ≡ course.old.variables) }
+    ensures task { (table : Terms) (asserts : List TermId) → IsTaskOf sig.now table asserts course.old → OnOk result (IsTaskOf sig.now table asserts course.new) }
     ensures begun { OnOk result (IsCourseWith sig.now kept.now course.new) }
     ensures adds { OnOk result (AddsFirst course.new) }
     ensures stand { OnOk result (HasFirst course.new) }
@@ -70,8 +71,31 @@ fn add_lines(course: &mut Course, lines: Vec<Line>) -> Result<(), SolveError>
     Ok(())
 }
 
-/// Leaves the clauses that the theory gave after so many first lines in the store. Where memory runs out it is as it was.
-pub(crate) fn keep(
+/// Leaves the clauses that the theory gave after the first lines, so many, of a verdict's derivation in the store. Where memory
+/// runs out it is as it was.
+pub(crate) fn keep_lines(
+    alloc: Global,
+    sig: &Signature,
+    verdict: &Verdict,
+    first: usize,
+    kept: &mut Kept,
+) -> Result<(), SolveError>
+    requires begun { IsVerdictWith sig.now kept.old first verdict.now }
+    requires sorted { AreSorted sig.now kept.old.table }
+    ensures kept { OnOk result (HasKept sig.now kept.old kept.new verdict.now) }
+    ensures sorted { AreSorted sig.now kept.new.table }
+    ensures refused { OnErr result (kept.new ≡ kept.old) }
+    ensures err { IsErrOf result SolveError.TooLarge → ⊥ }
+{
+    match verdict {
+        Verdict::Sat(_) => Ok(()),
+        Verdict::Unsat(derivation) => keep(alloc, sig, derivation, first, kept),
+        Verdict::Unknown(spent) => keep(alloc, sig, &spent.derivation, first, kept),
+    }
+}
+
+// Leaves the clauses that the theory gave after the first lines in the store.
+fn keep(
     alloc: Global,
     sig: &Signature,
     derivation: &Derivation,

@@ -7,12 +7,12 @@ ghost use Rattle.ct_closure.specs.ClosedTable.{AreSubtermsOf, terms_at};
 ghost use Rattle.ct_engine.specs.Verdict.{IsVerdict, IsDecisive};
 ghost use Rattle.ct_engine.specs.Opening.{IsBeforeDecisions};
 ghost use Rattle.ct_engine.specs.Progress.{IsUnderWay, IsTaskOf, IsTheoryOf, IsEnded, IsOnRecord, IsOfOneClosure, IsOutcome, IsAtStart};
-ghost use Rattle.ct_engine.specs.Keeping.{HasKept, IsOutcomeWith, AddsFirst, HasFirst};
+ghost use Rattle.ct_engine.specs.Keeping.{HasKept, IsCourseWith, IsOutcomeWith, IsVerdictWith, AddsFirst, HasFirst};
 
 use crate::answer::conclude;
-use crate::course::Course;
+use crate::course::{Course, first_count};
 use crate::error::SolveError;
-use crate::keeping::{add_kept, keep};
+use crate::keeping::{add_kept, keep_lines};
 use crate::model::model;
 use crate::opening::open_search;
 use crate::outcome::{Ending, Outcome};
@@ -22,7 +22,7 @@ use crate::theorems::spent_searches;
 use crate::verdict::Verdict;
 use ct_card::Sizes;
 use ct_kept::Kept;
-use ct_sorts::Signature;
+use ct_sorts::{Signature, growth};
 use ct_terms::{TermId, TermTable};
 use ct_theory::Theory;
 use std::alloc::Global;
@@ -55,8 +55,9 @@ pub fn solve(
     ensures too_large { IsErrOf result SolveError.TooLarge → HasMoreThan sig.now (terms_at table.now asserts.now) most_closure_terms }
     ensures fits { OnOk result (HasMoreThan sig.now (terms_at table.now asserts.now) most_closure_terms → ⊥) }
 {
+    growth();
+    let _sorts = sig.sorts();
     let mut kept = Box::new(alloc, Kept::new(alloc)?)?;
-    sig.sorts();
     let verdict = solve_kept(alloc, sig, table, asserts, budget, &mut kept)?;
     drop(kept);
     Ok(verdict)
@@ -89,22 +90,42 @@ pub fn solve_kept(
     ensures sorted { AreSorted sig.now kept.new.table }
     ensures refused { OnErr result (kept.new ≡ kept.old) }
 {
+    let (found, first) = verdict_on(alloc, sig, table, asserts, budget, &*kept)?;
+    let verdict = Box::new(alloc, found)?;
+    keep_lines(alloc, sig, &verdict, first, kept)?;
+    Ok(Box::into_inner(verdict))
+}
+
+// The verdict of a search that begins with the clauses of the store, and how many lines of its derivation are initial ones or
+// those of the store.
+fn verdict_on(
+    alloc: Global,
+    sig: &Signature,
+    table: &TermTable,
+    asserts: &[TermId],
+    budget: u64,
+    kept: &Kept,
+) -> Result<(Verdict, usize), SolveError>
+    requires sorted { AreSorted sig.now table.now }
+    requires asserts { All (IsBoolean table.now) asserts.now }
+    requires exact { AreSubtermsOf table.now asserts.now }
+    ensures verdict { IfOk result (λ found. IsVerdict sig.now table.now asserts.now budget found.0) }
+    ensures decides { IfOk result (λ found. (variables : ℕ) → HasVariables sig.now (terms_at table.now asserts.now) variables
+        → 2 ^ variables ≤ suc budget → IsDecisive found.0) }
+    ensures begun { IfOk result (λ found. IsVerdictWith sig.now kept.now found.1 found.0) }
+    ensures too_large { IsErrOf result SolveError.TooLarge → HasMoreThan sig.now (terms_at table.now asserts.now) most_closure_terms }
+    ensures fits { OnOk result (HasMoreThan sig.now (terms_at table.now asserts.now) most_closure_terms → ⊥) }
+{
     spent_searches();
     let sizes = sizes_of(alloc, sig)?;
-    let (outcome, first) = find(alloc, sig, &sizes, table, asserts, budget, &*kept)?;
+    let (outcome, first) = find(alloc, sig, &sizes, table, asserts, budget, kept)?;
     match outcome {
-        Outcome::Unsat(derivation) => {
-            keep(alloc, sig, &derivation, first, kept)?;
-            Ok(Verdict::Unsat(derivation))
-        }
-        Outcome::Unknown(spent) => {
-            keep(alloc, sig, &spent.derivation, first, kept)?;
-            Ok(Verdict::Unknown(spent))
-        }
+        Outcome::Unsat(derivation) => Ok((Verdict::Unsat(derivation), first)),
+        Outcome::Unknown(spent) => Ok((Verdict::Unknown(spent), first)),
         Outcome::Candidate(candidate) => {
             let interp = model(alloc, sig, &sizes, &candidate)?;
             drop(candidate);
-            Ok(Verdict::Sat(interp))
+            Ok((Verdict::Sat(interp), first))
         }
     }
 }
@@ -128,9 +149,8 @@ fn find(
     ensures too_large { IsErrOf result SolveError.TooLarge → HasMoreThan sig.now (terms_at table.now asserts.now) most_closure_terms }
     ensures fits { OnOk result (HasMoreThan sig.now (terms_at table.now asserts.now) most_closure_terms → ⊥) }
 {
-    let mut course = begun(alloc, sig, sizes, table, asserts, first_budget(budget))?;
-    add_kept(alloc, sig, sizes, &mut course, kept)?;
-    let first = course.initial + course.kept;
+    let mut course = begun_with(alloc, sig, sizes, table, asserts, first_budget(budget), kept)?;
+    let first = first_count(&course);
     let mut theory = theory_of(alloc, sig, sizes, &course)?;
     let ending = explore(alloc, sig, sizes, budget, &mut course, &mut theory)?;
     let outcome = conclude(alloc, sig, table, asserts, budget, course, theory, ending)?;
@@ -176,6 +196,34 @@ fn theory_of(
 {
     let theory = Theory::new(alloc, sig, sizes, course.derivation.rec().table())?;
     Ok(theory)
+}
+
+// A search over the closure of the assertions that has made no move but to add the clauses of the store.
+fn begun_with(
+    alloc: Global,
+    sig: &Signature,
+    sizes: &Sizes,
+    table: &TermTable,
+    asserts: &[TermId],
+    budget: u64,
+    kept: &Kept,
+) -> Result<Box<Course>, SolveError>
+    requires sizes { AreSizes sig.now sizes.now }
+    requires sorted { AreSorted sig.now table.now }
+    requires asserts { All (IsBoolean table.now) asserts.now }
+    requires exact { AreSubtermsOf table.now asserts.now }
+    ensures before { IfOk result (λ course. IsBeforeDecisions sig.now sizes.now course.value) }
+    ensures recorded { IfOk result (λ course. course.value.recorded ≡ true) }
+    ensures task { IfOk result (λ course. IsTaskOf sig.now table.now asserts.now course.value) }
+    ensures begun { IfOk result (λ course. IsCourseWith sig.now kept.now course.value) }
+    ensures adds { IfOk result (λ course. AddsFirst course.value) }
+    ensures stand { IfOk result (λ course. HasFirst course.value) }
+    ensures too_large { IsErrOf result SolveError.TooLarge → HasMoreThan sig.now (terms_at table.now asserts.now) most_closure_terms }
+    ensures fits { OnOk result (HasMoreThan sig.now (terms_at table.now asserts.now) most_closure_terms → ⊥) }
+{
+    let mut course = begun(alloc, sig, sizes, table, asserts, budget)?;
+    add_kept(alloc, sig, sizes, &mut course, kept)?;
+    Ok(course)
 }
 
 // A search over the closure of the assertions that has made no move.

@@ -7,7 +7,7 @@ ghost use Rattle.ct_engine.specs.Progress.{IsUnderWay, IsTheoryOf, IsEnded, IsOn
 ghost use Rattle.ct_engine.specs.Keeping.{AddsFirst, HasFirst};
 
 use crate::again::{add_again, add_first, begin_again, short_lines};
-use crate::course::Course;
+use crate::course::{Course, first_count};
 use crate::error::SolveError;
 use crate::guide::Guide;
 use crate::outcome::Ending;
@@ -167,7 +167,8 @@ fn begin_round(alloc: Global, left: u64, course: &mut Course) -> Result<(), Solv
     let length = course.guide.round(left);
     let numbers = course.guide.keep_lines(alloc)?;
     begin_again(alloc, course, length, false)?;
-    add_again(course, course.initial, numbers.as_slice())?;
+    let initial = course.initial;
+    add_again(course, initial, numbers.as_slice())?;
     drop(numbers);
     Ok(())
 }
@@ -192,7 +193,8 @@ fn record_anew(
     let numbers = short_lines(alloc, course)?;
     begin_again(alloc, course, budget, true)?;
     add_first(course)?;
-    add_again(course, course.initial + course.kept, numbers.as_slice())?;
+    let first = first_count(&*course);
+    add_again(course, first, numbers.as_slice())?;
     drop(numbers);
     let ending = run(alloc, course, theory)?;
     Ok(ending)
