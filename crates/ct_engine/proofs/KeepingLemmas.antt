@@ -48,6 +48,7 @@ begun_with_more d store old new same_declarations same_terms same_asserts begun 
 
 -- a search goes on from where it began
 pub course_goes_on : (d : Declarations) (store : Stored) (old new : Course) → IsOfOneClosure old new → IsCourseWith d store old → IsCourseWith d store new
+unfolding begun_with_more
 course_goes_on d store old new same with_kept =
     let begun = with_kept.begun in
     let more = same.lines.0 in

@@ -118,6 +118,7 @@ moved_stay d from to (lemma ∷ lemmas) lines chosen = elim chosen [
 pub begun_shortened : (d : Declarations) (store : Stored) (first : ℕ) (old new : Derived)
     → new ≡ record { declarations = old.declarations; sizes = old.sizes; rec = record { terms = old.rec.terms; lines = new.rec.lines }; asserts = old.asserts }
     → IsTrimmed first old.rec.lines new.rec.lines → IsBegunAt d store old first → IsBegunAt d store new first
+unfolding begun_with_more
 begun_shortened d store first old new others trimmed begun_at =
     let begun = begun_at.0 in
     let front = begun.initial ++ begun.moved in

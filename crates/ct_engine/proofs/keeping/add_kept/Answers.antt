@@ -1,4 +1,5 @@
-use Rattle.std.proofs.Common.{◌≡◌, ℕ, true, ◌+◌, ◌-◌, ◌≤◌, List, [], ◌++◌, length, All, sym, ap, subst, ◌∙◌, arith, length-append}
+use Rattle.std.proofs.Common.{◌≡◌, ℕ, true, ◌+◌, ◌-◌, ◌≤◌, List, [], ◌++◌, length, All, refl, sym, ap, subst, ◌∙◌, arith, length-append}
+use Rattle.std.proofs.lemmas.List.{append-nil}
 use Rattle.ct_sorts.specs.Declarations.{Declarations}
 use Rattle.ct_terms.specs.Terms.{Terms}
 use Rattle.ct_terms.specs.Clause.{Clause}
@@ -14,11 +15,14 @@ use Rattle.ct_engine.proofs.TaskLemmas.{IsOfOneClosure-task}
 use Rattle.ct_engine.proofs.KeepingLemmas.{course_begun, adds_whole, moved_taught, moved_accepted}
 use Rattle.ct_engine.proofs.keeping.add_kept.Goals as goal
 
-pub moved_lines-requires-clause-judges : goal.moved_lines-requires-clause-judges
-moved_lines-requires-clause-judges c =
+pub moved_lines-requires : goal.moved_lines-requires
+moved_lines-requires c =
     let course = c.args.course.now in
-    rw (c.table-terms.ensures.value, c.rec.ensures.value, c.asserts-asserts.ensures.value)
-    (judges_of c.args.sig.now c.args.sizes.now course.derivation c.requires.declarations c.requires.sizes c.rec.ensures.derivation)
+    record {
+      judges =
+          rw (c.table-terms.ensures.value, c.rec.ensures.value, c.asserts-asserts.ensures.value)
+          (judges_of c.args.sig.now c.args.sizes.now course.derivation c.requires.declarations c.requires.sizes c.rec.ensures.derivation);
+    }
 
 pub add_lines-requires-clause-taught : goal.add_lines-requires-clause-taught
 add_lines-requires-clause-taught c =
@@ -66,10 +70,37 @@ returns-clause-begun c =
     let table_is : c.table-terms.result.now ≡ course.derivation.rec.terms = c.table-terms.ensures.value ∙ ap (λ (r : Recorded). r.terms) c.rec.ensures.value in
     let moved : AreMovedLines c.args.sig.now c.args.kept.now course.derivation.rec.terms lines =
     subst (λ (ts : Terms). AreMovedLines c.args.sig.now c.args.kept.now ts lines) table_is c.in_ok-lines.ensures.moved in
-    course_begun c.args.sig.now c.args.kept.now course _ lines c.requires.start moved (same.declarations ∙ c.requires.declarations) same.terms same.asserts c.in_ok-add_lines.ensures.lines same.initial ?
+    course_begun c.args.sig.now c.args.kept.now course _ lines c.requires.start moved (same.declarations ∙ c.requires.declarations) same.terms same.asserts c.in_ok-add_lines.ensures.lines same.initial
+    (kept_is c.add_lines.new.course.derivation.rec.lines course.derivation.rec.lines lines c.add_lines.new.course.initial c.line_count.result (c.line_count.result - c.add_lines.new.course.initial) c.in_ok-add_lines.ensures.lines
+    (same.initial ∙ c.requires.start.initial) c.line_count.ensures.value refl)
 
 pub returns-clause-adds : goal.returns-clause-adds
-returns-clause-adds c = ?
+returns-clause-adds c =
+    let course = c.args.course.now in
+    let new = c.add_lines.new.course in
+    let lines = c.in_ok-lines.lines.items in
+    let count = c.line_count.result - new.initial in
+    let first : new.initial ≡ length course.derivation.rec.lines = c.in_ok-add_lines.ensures.same.initial ∙ c.requires.start.initial in
+    let kept : count ≡ length lines =
+    kept_is new.derivation.rec.lines course.derivation.rec.lines lines new.initial c.line_count.result count c.in_ok-add_lines.ensures.lines first c.line_count.ensures.value refl in
+    let moves : new.moves.items ≡ adds_after (length course.derivation.rec.lines) (length lines) =
+    c.in_ok-add_lines.ensures.moves ∙ ap (λ (ms : List Move). ms ++ adds_after (length course.derivation.rec.lines) (length lines)) c.requires.start.moves in (
+      [],
+      moves
+      ∙ (ap (λ (n : ℕ). adds_after n (length lines)) (sym first)
+      ∙ (ap (λ (n : ℕ). adds_after new.initial n) (sym kept) ∙ sym (append-nil (adds_after new.initial count)))),
+    )
 
 pub returns-clause-stand : goal.returns-clause-stand
-returns-clause-stand c = ?
+returns-clause-stand c =
+    let course = c.args.course.now in
+    let new = c.add_lines.new.course in
+    let lines = c.in_ok-lines.lines.items in
+    let count = c.line_count.result - new.initial in
+    let first : new.initial ≡ length course.derivation.rec.lines = c.in_ok-add_lines.ensures.same.initial ∙ c.requires.start.initial in
+    let kept : count ≡ length lines =
+    kept_is new.derivation.rec.lines course.derivation.rec.lines lines new.initial c.line_count.result count c.in_ok-add_lines.ensures.lines first c.line_count.ensures.value refl in
+    let long : length new.derivation.rec.lines ≡ length course.derivation.rec.lines + length lines =
+    ap (λ (ls : List Line). length ls) c.in_ok-add_lines.ensures.lines ∙ length-append course.derivation.rec.lines lines in
+    let stand : new.initial + count ≤ length new.derivation.rec.lines = omega (arith, first, kept, long) in
+    stand
