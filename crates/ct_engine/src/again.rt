@@ -90,7 +90,11 @@ pub(crate) fn add_first(course: &mut Course) -> Result<(), SolveError>
 
 /// Adds to a search without decisions the clauses of the taught lines with these numbers, as far as they rise and come after the
 /// first lines, so many.
-pub(crate) fn add_again(course: &mut Course, first: usize, numbers: &[u64]) -> Result<(), SolveError>
+pub(crate) fn add_again(
+    course: &mut Course,
+    first: usize,
+    numbers: &[u64],
+) -> Result<(), SolveError>
     requires under_way { IsUnderWay course.old }
     requires start { course.old.search.decided ≡ [] }
     requires past { course.old.initial ≤ first }

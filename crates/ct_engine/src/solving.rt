@@ -149,7 +149,15 @@ fn find(
     ensures too_large { IsErrOf result SolveError.TooLarge → HasMoreThan sig.now (terms_at table.now asserts.now) most_closure_terms }
     ensures fits { OnOk result (HasMoreThan sig.now (terms_at table.now asserts.now) most_closure_terms → ⊥) }
 {
-    let mut course = begun_with(alloc, sig, sizes, table, asserts, first_budget(budget), kept)?;
+    let mut course = begun_with(
+        alloc,
+        sig,
+        sizes,
+        table,
+        asserts,
+        first_budget(budget),
+        kept,
+    )?;
     let first = first_count(&course);
     let mut theory = theory_of(alloc, sig, sizes, &course)?;
     let ending = explore(alloc, sig, sizes, budget, &mut course, &mut theory)?;

@@ -87,8 +87,8 @@ returns-clause-adds c =
     c.in_ok-add_lines.ensures.moves ∙ ap (λ (ms : List Move). ms ++ adds_after (length course.derivation.rec.lines) (length lines)) c.requires.start.moves in (
       [],
       moves
-      ∙ (ap (λ (n : ℕ). adds_after n (length lines)) (sym first)
-      ∙ (ap (λ (n : ℕ). adds_after new.initial n) (sym kept) ∙ sym (append-nil (adds_after new.initial count)))),
+          ∙ (ap (λ (n : ℕ). adds_after n (length lines)) (sym first)
+          ∙ (ap (λ (n : ℕ). adds_after new.initial n) (sym kept) ∙ sym (append-nil (adds_after new.initial count)))),
     )
 
 pub returns-clause-stand : goal.returns-clause-stand
