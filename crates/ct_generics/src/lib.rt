@@ -1,0 +1,57 @@
+//! Sorts with arguments: sort expressions, what generics and synonyms declare, and which blocks of them are refused.
+#![tactic(auto)]
+
+mod block;
+mod decl;
+mod declare;
+mod error;
+mod expr;
+mod fields;
+mod findings;
+mod free;
+mod generics;
+mod graph;
+mod heads;
+mod ids;
+mod items;
+mod kind;
+mod name;
+mod names;
+mod nodes;
+mod own;
+mod place;
+mod reach;
+mod refusal;
+mod resolution;
+mod search;
+mod shape;
+mod spine;
+mod substitution;
+mod synonym;
+mod text;
+mod theorems;
+mod uniform;
+mod vertices;
+
+pub use decl::{CtorDecl, Field, SortDecl};
+pub use declare::{add_block, add_named};
+pub use error::GenericError;
+pub use expr::SortExpr;
+pub use free::are_free;
+pub use generics::Generics;
+pub use graph::{Vertex, founded};
+pub use heads::{StoredHead, StoredSynonym};
+pub use ids::ExprIds;
+pub use items::Items;
+pub use kind::Kind;
+pub use name::Name;
+pub use names::Names;
+pub use nodes::{ExprId, Expressions, HeadId, Node};
+pub use reach::{Reached, reached_graph};
+pub use resolution::resolve;
+pub use search::{is_mixed, reached};
+pub use spine::{Spine, head_and_args};
+pub use substitution::substitute;
+pub use synonym::add_synonym;
+pub use text::text_lengths;
+pub use theorems::graphs;
