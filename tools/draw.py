@@ -10,7 +10,8 @@ Of values and models each constructor is a row of boxes, its name and its fields
 Values that are equal are one row, so an infinite value is a cycle. A function is a table.
 
 Of a derivation the lines are drawn that the empty clause rests on, from the assertions down: each with its number and its
-clause, a line of the theory with the equality steps that its closing rule rests on. docs/DERIVATIONS.md says what they are.
+clause, a line of the theory with the equality steps that its closing rule rests on; steps that only turn an equation round are
+left out. docs/DERIVATIONS.md says what the steps are.
 
 The status is 1 where there is nothing to draw, or more than --most rows or lines.
 """
@@ -516,7 +517,7 @@ def drawing(text, options):
             lines = drawn_model(expr, options.most)
         else:
             lines = drawn_pairs(expr if what == "values" else [("value", expr)], options.most)
-    except (IndexError, KeyError, ValueError, TypeError) as error:
+    except (IndexError, KeyError, ValueError, TypeError, RecursionError) as error:
         raise Unfit(f"this {what} departs from its form") from error
     style = ['graph [fontname="Helvetica"]', 'node [fontname="Helvetica", fontsize=11]', 'edge [color="#555555"]']
     return "\n".join([f"digraph {what} {{", *(f"  {line}" for line in style + lines), "}"]) + "\n"
