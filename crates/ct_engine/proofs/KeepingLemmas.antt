@@ -46,6 +46,13 @@ begun_with_more d store old new same_declarations same_terms same_asserts begun 
   lines = lines;
 }
 
+-- so many lines stand before the others
+pub begun_at_with_more : (d : Declarations) (store : Stored) (old new : Derived) (n : ℕ) → new.declarations ≡ old.declarations → new.rec.terms ≡ old.rec.terms → new.asserts ≡ old.asserts
+    → (at : IsBegunAt d store old n) → (rest : List Line) → new.rec.lines ≡ at.0.initial ++ (at.0.moved ++ rest) → IsBegunAt d store new n
+unfolding begun_with_more
+begun_at_with_more d store old new n same_declarations same_terms same_asserts at rest lines =
+    (begun_with_more d store old new same_declarations same_terms same_asserts at.0 rest lines, at.1)
+
 -- a search goes on from where it began
 pub course_goes_on : (d : Declarations) (store : Stored) (old new : Course) → IsOfOneClosure old new → IsCourseWith d store old → IsCourseWith d store new
 unfolding begun_with_more

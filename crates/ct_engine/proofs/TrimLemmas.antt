@@ -20,7 +20,7 @@ use Rattle.ct_kept.specs.declared.lemma.Lemma.{Lemma}
 use Rattle.ct_kept.specs.Kept.{Stored, AreChosen, IsLineOf, IsUsable}
 use Rattle.ct_engine.specs.Moves.{IsLearning}
 use Rattle.ct_engine.specs.Keeping.{IsBegunWith, IsBegunAt}
-use Rattle.ct_engine.proofs.KeepingLemmas.{begun_with_more}
+use Rattle.ct_engine.proofs.KeepingLemmas.{begun_at_with_more}
 
 -- the first lines, so many, have the same places where a derivation is cut down to what is cited
 module _ (first : ℕ) (old new : List Line) (trimmed : IsTrimmed first old new) (within : first ≤ length old) where
@@ -118,7 +118,6 @@ moved_stay d from to (lemma ∷ lemmas) lines chosen = elim chosen [
 pub begun_shortened : (d : Declarations) (store : Stored) (first : ℕ) (old new : Derived)
     → new ≡ record { declarations = old.declarations; sizes = old.sizes; rec = record { terms = old.rec.terms; lines = new.rec.lines }; asserts = old.asserts }
     → IsTrimmed first old.rec.lines new.rec.lines → IsBegunAt d store old first → IsBegunAt d store new first
-unfolding begun_with_more
 begun_shortened d store first old new others trimmed begun_at =
     let begun = begun_at.0 in
     let front = begun.initial ++ begun.moved in
@@ -132,7 +131,6 @@ begun_shortened d store first old new others trimmed begun_at =
     first_stay first old.rec.lines new.rec.lines trimmed (omega (arith, count, long)) j line
     (let inside : j < length front = slice_get_within front j line at in omega (arith, inside, count))
     (subst (λ (ls : List Line). slice_get ls j ≡ Some line) (sym whole) (slice_get-append_left front begun.others j line at))
-    (All-at Stays front j line stay at)) in (
-      begun_with_more d store old new (ap (λ (x : Derived). x.declarations) others) (ap (λ (x : Derived). x.rec.terms) others) (ap (λ (x : Derived). x.asserts) others) begun rest.0 (rest.1 ∙ append_assoc begun.initial begun.moved rest.0),
-      begun_at.1,
-    )
+    (All-at Stays front j line stay at)) in
+    begun_at_with_more d store old new first (ap (λ (x : Derived). x.declarations) others) (ap (λ (x : Derived). x.rec.terms) others) (ap (λ (x : Derived). x.asserts) others) begun_at rest.0
+    (rest.1 ∙ append_assoc begun.initial begun.moved rest.0)
