@@ -304,11 +304,7 @@ fn ctor_decl(alloc: Global, params: &[Sexpr], part: &Sexpr) -> Result<CtorDecl, 
 }
 
 /// The fields of a constructor.
-fn fields_of(
-    alloc: Global,
-    params: &[Sexpr],
-    parts: &[Sexpr],
-) -> Result<Vec<Field>, CaseError> {
+fn fields_of(alloc: Global, params: &[Sexpr], parts: &[Sexpr]) -> Result<Vec<Field>, CaseError> {
     let mut fields = Vec::new(alloc);
     for part in parts {
         fields.push(field_of(alloc, params, part)?)?;
