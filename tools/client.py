@@ -1,14 +1,16 @@
 #!/usr/bin/env python3
 """Talks to cosmt over a pipe: one command, its answer, the next command.
 
-usage: tools/client.py PROGRAM [FILE]
+usage: tools/client.py PROGRAM [FILE [FOLDER]]
 
 As a module: `Solver(program)` starts the program, and `Solver.command(text)` sends one command and gives its answer, read as an
 S-expression: an atom is a `str`, a list is a `list`. The option `:print-success` is set at the start, so that every command has
 one answer, which ends where its S-expression ends. An answer `(error "..")` is raised as `SolverError`; the session goes on after it.
 
 Called with PROGRAM alone, it holds a dialogue with the program and looks at each answer: the status is 0 where all are as they
-must be, else 1. Called with a FILE, it sends the commands of this script one by one and writes each with its answer.
+must be, else 1. Called with a FILE, it sends the commands of this script one by one and writes each with its answer. With a FOLDER
+it stores there the model of each check that is `sat` and the derivation of each that is `unsat`, and writes a line for each check:
+its number, its verdict or `refused`, and the file. `tools/prove.sh` does this and audits the derivations.
 """
 
 import os
@@ -276,10 +278,41 @@ def replay(program, path):
                 print(f"-> {answer}", flush=True)
 
 
+ASKED = {"sat": ("model", "(get-model)"), "unsat": ("derivation", "(get-proof)")}
+
+
+def check_of(answers):
+    """What came of a check-sat, by its answer; None where the command was another."""
+    if answers and answers[0] in ("sat", "unsat", "unknown"):
+        return answers[0]
+    return "refused" if answers and "[E30]" in answers[0] else None
+
+
+def stored(program, path, folder):
+    """Sends a script command by command, and stores the model or the derivation of each check."""
+    os.makedirs(folder, exist_ok=True)
+    count = 0
+    with Solver(program) as solver:
+        for text in commands_of(path):
+            verdict = check_of(solver.answers(text))
+            if verdict is None:
+                continue
+            count += 1
+            file = ""
+            if verdict in ASKED:
+                kind, question = ASKED[verdict]
+                file = os.path.join(folder, f"check-{count}.{kind}")
+                with open(file, "w", encoding="utf-8") as output:
+                    output.write(solver.text_of(question) + "\n")
+            print(count, verdict, file, flush=True)
+
+
 def main():
     """The call as the head of this file says."""
     if len(sys.argv) == 3:
         replay(*sys.argv[1:])
+    elif len(sys.argv) == 4:
+        stored(*sys.argv[1:])
     elif len(sys.argv) == 2 and sys.argv[1] not in ("-h", "--help"):
         program = sys.argv[1]
         for part in (dialogue, in_pieces, reader_that_stops, command_that_never_ends):
