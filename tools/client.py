@@ -10,7 +10,10 @@ one answer, which ends where its S-expression ends. An answer `(error "..")` is 
 Called with PROGRAM alone, it holds a dialogue with the program and looks at each answer: the status is 0 where all are as they
 must be, else 1. Called with a FILE, it sends the commands of this script one by one and writes each with its answer. With a FOLDER
 it stores there the model of each check that is `sat` and the derivation of each that is `unsat`, and writes a line for each check:
-its number, its verdict or `refused`, and the file. `tools/prove.sh` does this and audits the derivations.
+its number, its verdict or `refused`, and the file; and a line for each command that is refused or unsupported, which begins with
+`-`. `tools/prove.sh` does this and audits the derivations.
+
+The line that an error names is counted in the dialogue, with what this tool sends beside the script: it is not the line of the FILE.
 """
 
 import os
@@ -119,6 +122,7 @@ class Solver:
     def __init__(self, program):
         self.process = subprocess.Popen([program], stdin=subprocess.PIPE, stdout=subprocess.PIPE, bufsize=0)
         self.scanner = Scanner()
+        self.ended = False
         self.command("(set-option :print-success true)")
 
     def __enter__(self):
@@ -155,14 +159,14 @@ class Solver:
 
     def answers(self, text):
         """Sends one command and an `echo` after it, and gives the texts of the answers before that of the `echo`: none or one.
-        This holds whatever `:print-success` is, and `(reset)` sets it back."""
+        This holds whatever `:print-success` is, and `(reset)` sets it back. Where the program ends, `ended` is true after it."""
         texts = []
         try:
             self.send(f"{text}\n(echo {END})\n")
             while (answer := self.answer()) != END:
                 texts.append(answer)
         except (EOFError, BrokenPipeError):
-            pass
+            self.ended = True
         return texts
 
     def close(self):
@@ -261,18 +265,23 @@ def command_that_never_ends(program):
 
 
 def commands_of(path):
-    """The texts of the commands of a script."""
+    """The texts of the commands of a script, and at the end None where it ends inside one."""
     scanner = Scanner()
     with open(path, "rb") as file:
         scanner.feed(file.read() + b"\n")
     while (text := scanner.next()) is not None:
         yield text.decode()
+    if scanner.start is not None:
+        yield None
 
 
 def replay(program, path):
     """Sends a script command by command, and writes each with its answer."""
     with Solver(program) as solver:
         for text in commands_of(path):
+            if text is None:
+                print("client: the script ends inside a command, which is not sent", file=sys.stderr)
+                continue
             print(text)
             for answer in solver.answers(text):
                 print(f"-> {answer}", flush=True)
@@ -288,13 +297,34 @@ def check_of(answers):
     return "refused" if answers and "[E30]" in answers[0] else None
 
 
+def failure_of(text, answers):
+    """What is said of a command that is refused or unsupported: which of these, its error, and the command; else None."""
+    short = " ".join(text.split())
+    short = short if len(short) <= 60 else short[:57] + ".."
+    for answer in answers:
+        if answer == "unsupported":
+            return f"- unsupported {short}"
+        if answer.startswith("(error "):
+            return f"- refused {answer[answer.find('[') : -2]}: {short}"
+    return None
+
+
 def stored(program, path, folder):
     """Sends a script command by command, and stores the model or the derivation of each check."""
     os.makedirs(folder, exist_ok=True)
     count = 0
     with Solver(program) as solver:
         for text in commands_of(path):
-            verdict = check_of(solver.answers(text))
+            if solver.ended:
+                break
+            if text is None:
+                print("- refused [E3] input ends inside an expression")
+                break
+            answers = solver.answers(text)
+            failure = failure_of(text, answers)
+            if failure:
+                print(failure, flush=True)
+            verdict = check_of(answers)
             if verdict is None:
                 continue
             count += 1
@@ -305,6 +335,7 @@ def stored(program, path, folder):
                 with open(file, "w", encoding="utf-8") as output:
                     output.write(solver.text_of(question) + "\n")
             print(count, verdict, file, flush=True)
+        expect("status of the solver", True, solver.close() in (0, 1))
 
 
 def main():

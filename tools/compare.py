@@ -6,12 +6,13 @@
 Each file .smt2 of the folder, and of the folders in it, is given to cosmt and to whatever of cvc5, cvc4 and z3 is installed. All
 get the same commands: those that ask for models, values, proofs and infos, and infos themselves, are left out, so that times are
 of verdicts alone. A row of the table is a script: of each solver its verdicts, one for each check-sat, its time of the processor in seconds and its memory
-in MiB. 'late' is said where --seconds were over, 'error' after an error or where the solver ended without a verdict: what it answers after
-an error does not count. The last column names who differs: from the script's `(set-info :status ..)`, which says what the next check
-is, or where there is none from another solver.
+in MiB. 'late' is said where --seconds were over, 'no answer' where a solver gave fewer verdicts than the script asks for: after an error,
+since what it answers then does not count, where it ended early, or where it does not support a check. The last column names who differs: from
+the script's `(set-info :status ..)`, which says what the next check is, or where there is none from another solver; and who gave no answer,
+so that the row could not be compared whole. The last row counts both.
 
 The table is Markdown. What is under way is told on the error output, where all takes more than two seconds. The status is 0, or 1
-where verdicts differ, or 2 where there is no script or no solver.
+where verdicts differ, or 2 where there is no script or no solver. A row that could not be compared leaves it 0.
 """
 
 import argparse
@@ -35,8 +36,10 @@ MARK = re.compile(r';[^\n\r]*|"[^"]*"|\|[^|]*\||[()]')
 WORD = re.compile(r"\(\s*([^\s()]*)")
 STATUS = re.compile(r"\(\s*set-info\s+:status\s+(\w+)\s*\)")
 
-Script = collections.namedtuple("Script", "name text checks levels wanted")
-Run = collections.namedtuple("Run", "verdicts note seconds mib")
+Script = collections.namedtuple("Script", "name text checks levels assuming wanted")
+Run = collections.namedtuple("Run", "verdicts note ordered seconds mib")
+CHECKS = ("check-sat", "check-sat-assuming")
+NONE = "no answer"
 
 
 def commands_of(text):
@@ -64,13 +67,16 @@ def script_of(path, name):
         word = match[1] if match else ""
         if STATUS.match(command):
             status = STATUS.match(command)[1]
-        if word == "check-sat":
+        if word in CHECKS:
             wanted.append(status if status in DEFINITE else None)
             status = None
         if not word.startswith("get-") and word not in ("echo", "set-info"):
             commands.append((word, command))
+        if word == "exit":
+            break
     levels = any(word in ("push", "pop", "reset-assertions", "reset") for word, _ in commands)
-    return Script(name, "\n".join(command for _, command in commands) + "\n", len(wanted), levels, wanted)
+    assuming = any(word == "check-sat-assuming" for word, _ in commands)
+    return Script(name, "\n".join(command for _, command in commands) + "\n", len(wanted), levels, assuming, wanted)
 
 
 def scripts_in(folder):
@@ -113,12 +119,15 @@ def run_of(name, command, script, path, options):
         process.returncode = os.waitstatus_to_exitcode(ended)
         output.seek(0)
         text = output.read().decode("utf-8", "replace")
-    verdicts = [line for line in text.split("(error", 1)[0].splitlines() if line in VERDICTS]
+    lines = text.split("(error", 1)[0].splitlines()
+    verdicts = [line for line in lines if line in VERDICTS]
     took = used.ru_utime + used.ru_stime
     note = ""
     if len(verdicts) < script.checks:
-        note = "late" if process.returncode < 0 and (took >= options.seconds or not timer.is_alive() and process.returncode == -9) else "error"
-    return Run(verdicts, note, took, used.ru_maxrss // 1024)
+        note = "late" if process.returncode < 0 and (took >= options.seconds or not timer.is_alive() and process.returncode == -9) else NONE
+    # Where a check among others was not supported, it is not known to which checks the verdicts belong.
+    ordered = not (note and script.assuming and "unsupported" in lines)
+    return Run(verdicts, note, ordered, took, used.ru_maxrss // 1024)
 
 
 class Progress:
@@ -147,6 +156,7 @@ class Progress:
 
 def remarks(script, runs):
     """The names of solvers with a verdict that is not the right one, or 'differ' where that is not known and two differ."""
+    runs = {name: run for name, run in runs.items() if run.ordered}
     wrong, differ = [], False
     for check, wanted in enumerate(script.wanted):
         given = {name: run.verdicts[check] for name, run in runs.items() if check < len(run.verdicts)}
@@ -155,6 +165,12 @@ def remarks(script, runs):
             wrong += [name for name, verdict in given.items() if verdict != wanted and name not in wrong]
         differ = differ or not wanted and len(set(given.values())) > 1
     return [f"{name} wrong" for name in wrong] + (["differ"] if differ else [])
+
+
+def silent(runs):
+    """The names of solvers that gave too few verdicts, as they stand in the last column."""
+    names = [name for name, run in runs.items() if run.note == NONE]
+    return [f"not compared: {', '.join(names)}"] if names else []
 
 
 def counted(verdicts):
@@ -175,7 +191,7 @@ def all_runs(name, table, least):
     runs = [runs[name] for _, runs in table]
     verdicts = [verdict for run in runs for verdict in run.verdicts]
     counts = [f"{verdicts.count(verdict)} {verdict}" for verdict in VERDICTS if verdict in verdicts]
-    counts += [f"{sum(run.note == note for run in runs)} {note}" for note in ("late", "error") if any(run.note == note for run in runs)]
+    counts += [f"{sum(run.note == note for run in runs)} {note}" for note in ("late", NONE) if any(run.note == note for run in runs)]
     memory = max(run.mib for run in runs)
     return [", ".join(counts), f"{sum(run.seconds for run in runs):.2f}", f"{memory}" if memory > least else f"≤{least}"]
 
@@ -232,9 +248,10 @@ def main():
     rows = [["script", *(cell for name, _ in solvers for cell in (name, "s", "MiB")), "differs"]]
     notes = [remarks(script, runs) for script, runs in table]
     for (script, runs), note in zip(table, notes):
-        rows.append([script.name, *(cell for name, _ in solvers for cell in cells(runs[name], least)), ", ".join(note)])
-    differing = sum(map(bool, notes))
-    rows.append([f"all {len(table)}", *(cell for name, _ in solvers for cell in all_runs(name, table, least)), f"{differing} of {len(table)}"])
+        rows.append([script.name, *(cell for name, _ in solvers for cell in cells(runs[name], least)), "; ".join(note + silent(runs))])
+    differing, open_rows = sum(map(bool, notes)), sum(bool(silent(runs)) for _, runs in table)
+    summary = f"{differing} of {len(table)}" + (f"; not compared: {open_rows}" if open_rows else "")
+    rows.append([f"all {len(table)}", *(cell for name, _ in solvers for cell in all_runs(name, table, least)), summary])
     print(written(rows, {column for column in range(1, 3 * len(solvers) + 1) if column % 3 != 1}))
     return 1 if differing else 0
 

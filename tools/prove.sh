@@ -5,10 +5,11 @@
 #
 # Of each check-sat of the SCRIPT that is unsat the derivation is stored in the FOLDER, and `cosmt --audit` checks it against the
 # script by a process of its own; so does tools/check_derivation.py, where it is there. Of each that is sat the model is stored.
-# The FOLDER is NAME.answers for the script NAME.smt2, where none is given. A line says what came of each check, and the last one of all.
+# The FOLDER is NAME.answers for the script NAME.smt2, where none is given. A line says what came of each check, one names each command
+# that was refused or is unsupported, and the last one counts all. A script that ends inside a command has that command refused.
 #
-# The program is crates/cosmt/out/cosmt, or what the variable COSMT names. The status is 0 where every derivation was verified, 1
-# where one was not, and 2 where the script or the program is not there.
+# The program is crates/cosmt/out/cosmt, or what the variable COSMT names. The status is 0 where every derivation was verified and
+# no command was refused or unsupported, 1 where that is not so, and 2 where the script or the program is not there.
 here=$(cd "$(dirname "$0")" && pwd) || exit 2
 solver=${COSMT:-$here/../crates/cosmt/out/cosmt}
 second=$here/check_derivation.py
@@ -36,8 +37,16 @@ audited() {
     return "$status"
 }
 
-checks=0 derivations=0 models=0 verified=0
+checks=0 derivations=0 models=0 verified=0 refused=0 unsupported=0
 while read -r number verdict file; do
+    if [ "$number" = "-" ]; then
+        case $verdict in
+        refused) refused=$((refused + 1)) ;;
+        unsupported) unsupported=$((unsupported + 1)) ;;
+        esac
+        printf '%s: %s\n' "$verdict" "$file"
+        continue
+    fi
     checks=$((checks + 1))
     printf 'check %s: %s' "$number" "$verdict"
     case $verdict in
@@ -56,5 +65,5 @@ while read -r number verdict file; do
 done < <("$here/client.py" "$solver" "$script" "$folder")
 wait $! || { echo "prove: the dialogue with $solver did not end as it must" >&2; exit 1; }
 
-echo "checks: $checks; derivations verified: $verified of $derivations; models stored, not audited: $models"
-[ "$verified" = "$derivations" ]
+echo "checks: $checks; derivations verified: $verified of $derivations; models stored, not audited: $models; commands refused: $refused, unsupported: $unsupported"
+[ "$verified" = "$derivations" ] && [ "$refused" = 0 ] && [ "$unsupported" = 0 ]
