@@ -335,7 +335,8 @@ def stored(program, path, folder):
                 with open(file, "w", encoding="utf-8") as output:
                     output.write(solver.text_of(question) + "\n")
             print(count, verdict, file, flush=True)
-        expect("status of the solver", True, solver.close() in (0, 1))
+        status = solver.close()
+        expect("status of the solver", status if status in (0, 1) else "0 or 1", status)
 
 
 def main():
