@@ -9,7 +9,9 @@ use Rattle.ct_card.specs.declared.departure.Departure.{Departure}
 use Rattle.ct_card.specs.declared.departure.Layer.{Layer}
 use Rattle.ct_card.specs.Ranked.{AreSeveral}
 use Rattle.ct_card.specs.Rules.{IsOrder}
-use Rattle.ct_card.specs.Defaults.{IsPlan}
+use Rattle.ct_values.specs.declared.node.NodeId.{NodeId}
+use Rattle.ct_values.specs.Graph.{Nodes}
+use Rattle.ct_card.specs.Defaults.{node_of_sort, HasDefaults, IsPlan}
 use Rattle.ct_card.specs.Departures.{AreSeconds, AreLayers}
 
 -- for each sort: its size, its rank among the sorts of several values (0 for a single one), its rank among the sorts as they
@@ -43,3 +45,9 @@ size_by several small = if several == 0 then One else (if small == 0 then Infini
 pub record AreSizesBy (several small : List ℕ) (sizes : List Size) : Type 0 where
   pub long : length sizes ≡ length several
   pub each : (s : ℕ) (size : Size) → slice_get sizes s ≡ Some size → size ≡ size_by (get_or several s 0) (get_or small s 0)
+
+-- the node is that of the sort's default value, and those of all sorts stand in the graph
+pub record IsDefaultValue (d : Declarations) (table : Table) (g : Nodes) (s : ℕ) (n : NodeId) : Type 0 where
+  pub base : ℕ
+  pub stand : HasDefaults d table.ranks table.ctors g base
+  pub node : n ≡ node_of_sort base table.ranks s

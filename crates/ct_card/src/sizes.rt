@@ -9,7 +9,7 @@ ghost use Rattle.ct_values.specs.Agreement.{node_point, AgreeAlways};
 ghost use Rattle.ct_card.specs.Cardinality.{HasSize, IsSingle};
 ghost use Rattle.ct_card.specs.Made.{IsPrepared};
 ghost use Rattle.ct_card.specs.Nth.{IsNth};
-ghost use Rattle.ct_card.specs.Sizes.{AreSizes, AreSizesBy, size_by};
+ghost use Rattle.ct_card.specs.Sizes.{AreSizes, AreSizesBy, IsDefaultValue, size_by};
 
 use crate::built::second_node;
 use crate::choice::choices;
@@ -122,6 +122,7 @@ impl Sizes {
         ensures grown { Begins g.old g.new }
         ensures well_formed { IsWellFormedGraph sig.now g.old → IsWellFormedGraph sig.now g.new }
         ensures sorted { IfOk result (λ n. HasNodeSort sig.now g.new n s) }
+        ensures default { IfOk result (IsDefaultValue sig.now self.now g.new s.0) }
     {
         let ranks = self.ranks.as_slice();
         let base = append_defaults(self.alloc, sig, ranks, &self.order, &self.ctors, g)?;
