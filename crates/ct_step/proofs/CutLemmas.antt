@@ -4,7 +4,8 @@ use Rattle.std.proofs.Math.Nat.{lt_of_not-le}
 use Rattle.std.proofs.lemmas.Option.{none-some}
 use Rattle.ct_sorts.specs.Declarations.{Declarations}
 use Rattle.ct_sorts.specs.Lengths.{Lengths}
-use Rattle.ct_sorts.specs.Marks.{CanCut, cut}
+use Rattle.ct_sorts.specs.Marks.{CanCut, cut, lengths}
+use Rattle.ct_sorts.specs.Grown.{Extends}
 use Rattle.ct_terms.specs.Terms.{AreSorted}
 use Rattle.ct_kept.specs.Kept.{Stored}
 use Rattle.ct_command.specs.declared.error.CommandError.{CommandError}
@@ -46,20 +47,24 @@ can_cut d left None h = tt
 can_cut d left (Some m) h = h.can_cut
 
 -- the terms of what is left are well sorted over what is left
-pub sorted_left : (d left : Declarations) (mark : Option Lengths) (before after : Stored) → (mark ≡ None → left ≡ d) → IfSome mark (λ m. IsCutTo d m left) → IsCut mark before after → IfSome mark (λ m. AreSorted (cut d m) after.table) → AreSorted d before.table → AreSorted left after.table
+pub sorted_left : (d left : Declarations) (mark : Option Lengths) (before after : Stored) → (mark ≡ None → left ≡ d) → IfSome mark (λ m. IsCutTo d m left) → IsCut d mark before after → IfSome mark (λ m. AreSorted (cut d m) after.table) → AreSorted d before.table → AreSorted left after.table
 sorted_left d left None before after same to is sorted fits =
     subst (λ (x : Declarations). AreSorted x after.table) (sym (same refl)) (subst (λ (k : Stored). AreSorted d k.table) (sym is) fits)
 sorted_left d left (Some m) before after same to is sorted fits = subst (λ (x : Declarations). AreSorted x after.table) to.cut_is sorted
 
 -- a pop that is refused leaves the store
-pub refused_same : (s : Stack) (n : ℕ) (mark : Option Lengths) (before after : Stored) (e : CommandError) → ((k : ℕ) → IsErrOf {T = Unit {0}} {E = CommandError} (Err e) (Refused k) → IsPopRefusal s n k) → (IsErrOf {T = Unit {0}} {E = CommandError} (Err e) NoMemory → ⊥) → (length s.below < n → mark ≡ None) → IsCut mark before after → after ≡ before
-refused_same s n mark before after NoMemory why never above is = absurd (never refl)
-refused_same s n mark before after (Refused k) why never above is = by_cause (why k refl)
+pub refused_same : (d : Declarations) (s : Stack) (n : ℕ) (mark : Option Lengths) (before after : Stored) (e : CommandError) → ((k : ℕ) → IsErrOf {T = Unit {0}} {E = CommandError} (Err e) (Refused k) → IsPopRefusal s n k) → (IsErrOf {T = Unit {0}} {E = CommandError} (Err e) NoMemory → ⊥) → (length s.below < n → mark ≡ None) → IsCut d mark before after → after ≡ before
+refused_same d s n mark before after NoMemory why never above is = absurd (never refl)
+refused_same d s n mark before after (Refused k) why never above is = by_cause (why k refl)
   where
     by_cause : IsPopRefusal s n k → after ≡ before
-    by_cause (inl h) = subst (λ (m : Option Lengths). IsCut m before after) (above h.1) is
+    by_cause (inl h) = subst (λ (m : Option Lengths). IsCut d m before after) (above h.1) is
     by_cause (inr h) = absurd h.1
 
 -- the stack of levels that are left
 pub sorted_as : (stack new : Stack) (store : Stored) → new ≡ stack → AreSorted stack.top.context.declarations store.table → AreSorted new.top.context.declarations store.table
 sorted_as stack new store is sorted = subst (λ (s : Stack). AreSorted s.top.context.declarations store.table) (sym is) sorted
+
+-- where the mark is that of all that is declared
+pub all_left : (d : Declarations) (m : Lengths) (store : Stored) → ((later earlier : Declarations) → Extends later earlier → cut later (lengths earlier) ≡ earlier) → ((e : Declarations) → Extends e e) → m ≡ lengths d → AreSorted d store.table → AreSorted (cut d m) store.table
+all_left d m store cut_back itself is sorted = subst (λ (x : Declarations). AreSorted x store.table) (sym (ap (cut d) is ∙ cut_back d d (itself d))) sorted
