@@ -30,14 +30,6 @@ compiled_values-text-requires-clause-one_each c =
     let terms = c.in_ok-terms.terms in
     rw c.as_slice.ensures.value (terms-long c.args.scope.now.sig c.args.exprs.now terms.0.items terms.1.items c.in_ok-terms.ensures.value c.in_ok-terms.ensures.sorted)
 
-pub cut_to-requires-clause-truths : goal.cut_to-requires-clause-truths
-cut_to-requires-clause-truths c = omega (arith, two_at_least c.args.table.now c.len-before.ensures.begins, c.len-before.ensures.count)
-
-pub cut_to-requires-clause-within : goal.cut_to-requires-clause-within
-cut_to-requires-clause-within c =
-    let grown = c.compiled_values-text.ensures.grown in
-    omega (arith, c.len-before.ensures.count, ap (λ (ts : Terms). length ts) grown.1, length-append c.args.table.now grown.0)
-
 pub returns-clause-values : goal.returns-clause-values
 returns-clause-values c =
     let terms = c.in_ok-terms.terms in
