@@ -1,5 +1,5 @@
 -- The values in a model of terms that were asked for: more terms beside those that have their values.
-use Rattle.std.proofs.Common.{◌≡◌, List, [], ◌++◌, Contains}
+use Rattle.std.proofs.Common.{◌≡◌, List, [], ◌++◌, Contains, Result, Ok, Err, OnOk}
 use Rattle.std.proofs.lemmas.List.Elements.{Contains-append_right}
 use Rattle.ct_sorts.specs.Declarations.{Declarations}
 use Rattle.ct_terms.specs.Terms.{Terms, AreSorted}
@@ -19,3 +19,8 @@ with_more d i v table values grown sorted =
 -- beside other roots there are no fewer terms
 pub many_beside : (roots trees : List CoreTree) → HasManyTerms trees → HasManyTerms (roots ++ trees)
 many_beside roots trees = many_more trees (roots ++ trees) (λ t h. Contains-append_right roots trees t h)
+
+-- what holds in any case holds where there is no error
+pub in_any_case : {T E : Type 0} (r : Result T E) (P : Type 0) → P → OnOk r P
+in_any_case (Ok x) P p = p
+in_any_case (Err e) P p = tt

@@ -83,10 +83,8 @@ fn has_room(
     let before = table.len();
     let numbers = core_numbers(alloc, scope, table, trees);
     table.cut_to(before);
-    match numbers {
-        Ok(_) => Ok(()),
-        Err(error) => Err(error),
-    }
+    numbers?;
+    Ok(())
 }
 
 // The trees of terms with their sorts, in order, up to the first error.

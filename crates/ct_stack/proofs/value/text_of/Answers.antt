@@ -31,11 +31,11 @@ pairs_text-requires-clause-within c =
     let meanings : Meanings = record { tree = c.meanings.ensures.tree; compiled = c.meanings.ensures.compiled; chained = c.agreement.ensures.chained } in
     let v : Valuation = valuation_of c.extend.new.self in
     let at = rw c.nodes.ensures.value at c.in_ok-nodes.ensures.nodes in
-    rw (c.as_slice.ensures.value, c.graph.ensures.value)
+    rw (c.as_slice.ensures.value, c.graph-graph.ensures.value)
     (all_within meanings (context_in c.args.scope.now) c.args.interp.now c.args.model.now.table v c.sorts.ensures.consistent c.requires.proper c.requires.sound c.in-Ok.ensures.valuation c.args.numbers.now c.in_ok-nodes.nodes.items at)
 
 pub pairs_text-requires-clause-fits : goal.pairs_text-requires-clause-fits
-pairs_text-requires-clause-fits c = rw c.graph.ensures.value c.in-Ok.ensures.valuation.fits
+pairs_text-requires-clause-fits c = rw c.graph-graph.ensures.value c.in-Ok.ensures.valuation.fits
 
 pub returns-clause-values : goal.returns-clause-values
 returns-clause-values c =
@@ -43,7 +43,7 @@ returns-clause-values c =
     let v : Valuation = valuation_of c.extend.new.self in
     let context = context_in c.args.scope.now in
     let at = rw c.nodes.ensures.value at c.in_ok-nodes.ensures.nodes in
-    let text = rw (c.as_slice.ensures.value, c.graph.ensures.value) at c.in_ok-text.ensures.text in
+    let text = rw (c.as_slice.ensures.value, c.graph-graph.ensures.value) at c.in_ok-text.ensures.text in
     let numbers = c.args.numbers.now in
     let nodes = c.in_ok-nodes.nodes.items in
     let long = nodes_long meanings context c.args.interp.now c.args.model.now.table v c.sorts.ensures.consistent c.requires.proper c.requires.sound c.in-Ok.ensures.valuation c.args.exprs.now c.args.trees.now numbers nodes c.requires.one_each c.requires.numbers at in
