@@ -4,8 +4,7 @@ use Rattle.std.proofs.Math.Nat.{lt_of_not-le}
 use Rattle.std.proofs.lemmas.Option.{none-some}
 use Rattle.ct_sorts.specs.Declarations.{Declarations}
 use Rattle.ct_sorts.specs.Lengths.{Lengths}
-use Rattle.ct_sorts.specs.Marks.{CanCut, cut, lengths}
-use Rattle.ct_sorts.specs.Grown.{Extends}
+use Rattle.ct_sorts.specs.Marks.{CanCut, cut}
 use Rattle.ct_terms.specs.Terms.{AreSorted}
 use Rattle.ct_kept.specs.Kept.{Stored}
 use Rattle.ct_command.specs.declared.error.CommandError.{CommandError}
@@ -64,7 +63,3 @@ refused_same d s n mark before after (Refused k) why never above is = by_cause (
 -- the stack of levels that are left
 pub sorted_as : (stack new : Stack) (store : Stored) → new ≡ stack → AreSorted stack.top.context.declarations store.table → AreSorted new.top.context.declarations store.table
 sorted_as stack new store is sorted = subst (λ (s : Stack). AreSorted s.top.context.declarations store.table) (sym is) sorted
-
--- where the mark is that of all that is declared
-pub all_left : (d : Declarations) (m : Lengths) (store : Stored) → ((later earlier : Declarations) → Extends later earlier → cut later (lengths earlier) ≡ earlier) → ((e : Declarations) → Extends e e) → m ≡ lengths d → AreSorted d store.table → AreSorted (cut d m) store.table
-all_left d m store cut_back itself is sorted = subst (λ (x : Declarations). AreSorted x store.table) (sym (ap (cut d) is ∙ cut_back d d (itself d))) sorted

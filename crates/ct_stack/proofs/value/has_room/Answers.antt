@@ -20,4 +20,4 @@ cut_to-requires-clause-within c =
 pub returns-clause-accepted : goal.returns-clause-accepted
 returns-clause-accepted c =
     λ roots of.
-    few_terms c.args.scope.now.sig (roots ++ cores (context_in c.args.scope.now) (map formula_of c.args.trees.now)) c.core_numbers-numbers.new.table (c.in_ok.ensures.made roots of) c.in_ok.ensures.few
+    few_terms c.args.scope.now.sig (roots ++ cores (context_in c.args.scope.now) (map formula_of c.args.trees.now)) c.core_numbers-numbers.new.table (c.in_ok-numbers.ensures.made roots of) c.in_ok-numbers.ensures.few
