@@ -1,5 +1,5 @@
 -- The values in a model of terms that were asked for: more terms beside those that have their values.
-use Rattle.std.proofs.Common.{◌≡◌, List, [], ◌++◌, Contains, Result, Ok, Err, OnOk}
+use Rattle.std.proofs.Common.{List, ◌++◌, Result, Ok, Err, OnOk}
 use Rattle.std.proofs.lemmas.List.Elements.{Contains-append_right}
 use Rattle.ct_sorts.specs.Declarations.{Declarations}
 use Rattle.ct_terms.specs.Terms.{Terms, AreSorted}

@@ -1,12 +1,11 @@
-use Rattle.std.proofs.Common.{◌∙◌, ℕ, ◌++◌, map, take, length, ap, arith}
+use Rattle.std.proofs.Common.{◌++◌, map, length, ap, arith}
 use Rattle.std.proofs.lemmas.List.{length-append}
 use Rattle.ct_terms.specs.Terms.{Terms}
 use Rattle.ct_formulas.specs.TreeFormula.{formula_of}
 use Rattle.ct_stack.specs.Stack.{cores}
 use Rattle.ct_stack.specs.Held.{context_in}
 use Rattle.ct_stack.proofs.TableLemmas.{few_terms}
-use Rattle.ct_stack.proofs.ErrorLemmas.{same_refusal}
-use Rattle.ct_stack.proofs.ValueLemmas.{cut_back, two_at_least}
+use Rattle.ct_stack.proofs.ValueLemmas.{two_at_least}
 use Rattle.ct_stack.proofs.value.has_room.Goals as goal
 
 pub cut_to-requires-clause-truths : goal.cut_to-requires-clause-truths
