@@ -1,5 +1,5 @@
 -- What a session that is seen as a course comes to.
-use Rattle.std.proofs.Common.{◌≡◌, ◌∙◌, ℕ, List, [], ◌∷◌, ◌++◌, Option, None, Some, Result, Ok, Err, IfOk, refl, sym, ap, subst}
+use Rattle.std.proofs.Common.{◌≡◌, ◌∙◌, ℕ, List, [], ◌∷◌, ◌++◌, Option, Some, Result, Ok, Err, IfOk, refl, sym, ap, subst}
 use Rattle.ct_sexpr.specs.Expression.{Expression}
 use Rattle.ct_kept.specs.Kept.{Stored}
 use Rattle.ct_command.specs.Command.{Command}

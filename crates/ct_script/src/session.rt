@@ -21,7 +21,7 @@ use ct_engine::{Kept, Verdict};
 use ct_formulas::Tree;
 use ct_sexpr::Sexpr;
 use ct_sorts::growth;
-use ct_stack::AssertionStack;
+use ct_stack::{AssertionStack, ModelValues};
 use ct_step::{Answer, Options, SessionState, perform, refused};
 use std::alloc::Global;
 use std::marker::Model;
@@ -36,6 +36,8 @@ pub struct Session {
     state: SessionState,
     // The clauses that the theory gave in earlier checks.
     store: Kept,
+    // What is known of values in the model that stands.
+    known: Option<ModelValues>,
     errors: Vec<ScriptError>,
     // How many checks there were.
     number: u64,
@@ -44,6 +46,7 @@ pub struct Session {
 impl Model for Session {
     ghost use Rattle.ct_step.specs.Done.{state_of};
     ghost use Rattle.ct_step.specs.Store.{IsSoundWith};
+    ghost use Rattle.ct_step.specs.Known.{AreKnown};
     ghost use Rattle.ct_script.specs.Session.{Course};
 
     ghost Value = { Course };
@@ -55,7 +58,7 @@ impl Model for Session {
 
     ghost view = { λ s. record { state = state_of s.state; number = s.number; verdicts = s.state.verdicts.items; errors = s.errors.items; store = s.store } };
 
-    ghost invariant = { λ s. IsSoundWith (state_of s.state) s.store };
+    ghost invariant = { λ s. IsSoundWith (state_of s.state) s.store × AreKnown (state_of s.state) s.known };
 }
 
 impl Session {
@@ -74,6 +77,7 @@ impl Session {
                 kept: None,
             },
             store,
+            known: None,
             errors: Vec::new(alloc),
             number: 0,
         })
@@ -166,6 +170,7 @@ impl Session {
         let state = self.state;
         drop(state.stack);
         drop(self.store);
+        drop(self.known);
         (state.verdicts, self.errors)
     }
 
@@ -201,6 +206,7 @@ impl Session {
             self.alloc,
             &mut self.state,
             &mut self.store,
+            &mut self.known,
             number,
             command,
         ) {

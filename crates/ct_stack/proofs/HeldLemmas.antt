@@ -129,24 +129,15 @@ module _ (theorems : Theorems) where
             | inr none ↦ absurd (Contains-none s none)
           ]
 
-  -- nothing is asserted
-  pub nothing_held : (d : Declarations) (bodies : List Formula) (table : Terms) → AreSound d bodies → table ≡ truth_terms → AreOrdered table → AreSorted d table → IsHeld (record { context = record { declarations = d; bodies = bodies }; assertions = [] }) table []
-  nothing_held d bodies table sound e ordered sorted =
+  -- nothing but the truth values is made
+  pub nothing_made : (d : Declarations) (table : Terms) → table ≡ truth_terms → AreOrdered table → AreSorted d table → IsTableOf d [] table
+  nothing_made d table e ordered sorted =
       record {
-        sound = record { bodies = sound; asserts = All-nil (λ t. IsSorted d [] t bool_sort) };
-        in_table =
-            record {
-              exact =
-                  record {
-                    sorted = sorted;
-                    covered = λ t within.
-                        let truth = truth_at table e ordered t.0 (omega (arith, within, ap (λ (ts : Terms). length ts) e)) in
-                        (term_at table t, Contains-append_left truth_trees [] (term_at table t) truth, itself (term_at table t));
-                    complete = λ root s h sub. truth_stands table e ordered s (truth_alone root s (first h) sub);
-                  };
-              stand = refl;
-              booleans = All-nil (IsBoolean table);
-            };
+        sorted = sorted;
+        covered = λ t within.
+            let truth = truth_at table e ordered t.0 (omega (arith, within, ap (λ (ts : Terms). length ts) e)) in
+            (term_at table t, Contains-append_left truth_trees [] (term_at table t) truth, itself (term_at table t));
+        complete = λ root s h sub. truth_stands table e ordered s (truth_alone root s (first h) sub);
       }
     where
       itself : (t : CoreTree) → Contains (subtrees t) t
@@ -154,6 +145,14 @@ module _ (theorems : Theorems) where
 
       first : {root : CoreTree} → Contains (truth_trees ++ []) root → Contains truth_trees root
       first {root} h = elim (Contains-append_cases truth_trees [] root h) [ inl truth ↦ truth | inr none ↦ absurd (Contains-none root none) ]
+
+  -- nothing is asserted
+  pub nothing_held : (d : Declarations) (bodies : List Formula) (table : Terms) → AreSound d bodies → table ≡ truth_terms → AreOrdered table → AreSorted d table → IsHeld (record { context = record { declarations = d; bodies = bodies }; assertions = [] }) table []
+  nothing_held d bodies table sound e ordered sorted =
+      record {
+        sound = record { bodies = sound; asserts = All-nil (λ t. IsSorted d [] t bool_sort) };
+        in_table = record { exact = nothing_made d table e ordered sorted; stand = refl; booleans = All-nil (IsBoolean table) };
+      }
 
   -- at the start nothing is declared either
   pub first_held : (d : Declarations) (bodies : List Formula) (table : Terms) → d ≡ start → bodies ≡ [] → table ≡ truth_terms → AreOrdered table → AreSorted d table → IsHeld (record { context = record { declarations = d; bodies = bodies }; assertions = [] }) table []

@@ -14,3 +14,4 @@ pub mod StackLemmas
 pub mod DefineLemmas
 pub mod AssertionLemmas
 pub mod AssertLemmas
+pub mod ModelLemmas

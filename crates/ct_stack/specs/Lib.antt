@@ -8,5 +8,6 @@ pub mod Outcomes
 pub mod Elaborations
 pub mod Refusal
 pub mod Values
+pub mod ModelValues
 pub mod Theorems
 pub mod Sorts

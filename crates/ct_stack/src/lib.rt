@@ -5,10 +5,12 @@ mod block;
 mod define;
 mod function;
 mod levels;
+mod model_values;
 mod sorts;
 mod stack;
 mod terms;
 mod theorems;
 mod value;
 
+pub use model_values::ModelValues;
 pub use stack::AssertionStack;

@@ -14,11 +14,13 @@ ghost use Rattle.ct_stack.specs.Elaborations.{kind_of, block_of, declared_functi
 ghost use Rattle.ct_stack.specs.Refusal.{IsSortRefusal, IsTypesRefusal, IsFunctionRefusal, IsDefinitionRefusal, IsAssertionRefusal, IsTermsRefusal, IsPushRefusal, IsPopRefusal};
 ghost use Rattle.ct_stack.specs.Held.{context_in, as_one, IsSoundLevel, IsHeld};
 ghost use Rattle.ct_stack.specs.Values.{AreValues};
+ghost use Rattle.ct_stack.specs.ModelValues.{AreModelValues};
 
 use crate::block::{declare_block, declare_sort};
 use crate::define::define_function;
 use crate::function::declare_function;
 use crate::levels::{LevelMark, cut_scope, has_room, is_start, mark_before, put_marks};
+use crate::model_values::ModelValues;
 use crate::terms::{add_assertion, asserted_formula};
 use crate::theorems::stack_theorems;
 use crate::value::values_text;
@@ -228,21 +230,25 @@ impl AssertionStack {
         )
     }
 
-    /// Each term beside its value in the interpretation.
+    /// Each term beside its value in the interpretation, with what is known of the values of other terms in it, which grows by
+    /// these.
     pub fn values(
         &mut self,
         alloc: Global,
         interp: &Interp,
+        values: &mut Option<ModelValues>,
         exprs: &[Sexpr],
     ) -> Result<Vec<u8>, CommandError>
         requires proper { IsProper self.old.top.context.declarations interp.now }
+        requires valued { IfSome values.old (AreModelValues self.old.top.context.declarations interp.now) }
         ensures values { IfOk result (λ text. AreValues self.old.top.context interp.now (all_seen exprs.now) text.items) }
         ensures accepted { OnOk result ((n : ℕ) → IsTermsRefusal self.old.top.context (cores self.old.top.context (in_force self.old)) (all_seen exprs.now) n → ⊥) }
         ensures refused { (n : ℕ) → IsErrOf result (CommandError.Refused n)
             → IsTermsRefusal self.old.top.context (cores self.old.top.context (in_force self.old)) (all_seen exprs.now) n }
+        ensures valued { IfSome values.new (AreModelValues self.old.top.context.declarations interp.now) }
         ensures unchanged { self.new ≡ self.old }
     {
-        values_text(alloc, &self.scope, &mut self.table, interp, exprs)
+        values_text(alloc, &self.scope, &mut self.table, interp, values, exprs)
     }
 
     /// So many levels more, at which nothing is asserted yet; at most 10,000 stand.

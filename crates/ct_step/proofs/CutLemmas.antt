@@ -46,18 +46,18 @@ can_cut d left None h = tt
 can_cut d left (Some m) h = h.can_cut
 
 -- the terms of what is left are well sorted over what is left
-pub sorted_left : (d left : Declarations) (mark : Option Lengths) (before after : Stored) → (mark ≡ None → left ≡ d) → IfSome mark (λ m. IsCutTo d m left) → IsCut mark before after → IfSome mark (λ m. AreSorted (cut d m) after.table) → AreSorted d before.table → AreSorted left after.table
+pub sorted_left : (d left : Declarations) (mark : Option Lengths) (before after : Stored) → (mark ≡ None → left ≡ d) → IfSome mark (λ m. IsCutTo d m left) → IsCut d mark before after → IfSome mark (λ m. AreSorted (cut d m) after.table) → AreSorted d before.table → AreSorted left after.table
 sorted_left d left None before after same to is sorted fits =
     subst (λ (x : Declarations). AreSorted x after.table) (sym (same refl)) (subst (λ (k : Stored). AreSorted d k.table) (sym is) fits)
 sorted_left d left (Some m) before after same to is sorted fits = subst (λ (x : Declarations). AreSorted x after.table) to.cut_is sorted
 
 -- a pop that is refused leaves the store
-pub refused_same : (s : Stack) (n : ℕ) (mark : Option Lengths) (before after : Stored) (e : CommandError) → ((k : ℕ) → IsErrOf {T = Unit {0}} {E = CommandError} (Err e) (Refused k) → IsPopRefusal s n k) → (IsErrOf {T = Unit {0}} {E = CommandError} (Err e) NoMemory → ⊥) → (length s.below < n → mark ≡ None) → IsCut mark before after → after ≡ before
-refused_same s n mark before after NoMemory why never above is = absurd (never refl)
-refused_same s n mark before after (Refused k) why never above is = by_cause (why k refl)
+pub refused_same : (d : Declarations) (s : Stack) (n : ℕ) (mark : Option Lengths) (before after : Stored) (e : CommandError) → ((k : ℕ) → IsErrOf {T = Unit {0}} {E = CommandError} (Err e) (Refused k) → IsPopRefusal s n k) → (IsErrOf {T = Unit {0}} {E = CommandError} (Err e) NoMemory → ⊥) → (length s.below < n → mark ≡ None) → IsCut d mark before after → after ≡ before
+refused_same d s n mark before after NoMemory why never above is = absurd (never refl)
+refused_same d s n mark before after (Refused k) why never above is = by_cause (why k refl)
   where
     by_cause : IsPopRefusal s n k → after ≡ before
-    by_cause (inl h) = subst (λ (m : Option Lengths). IsCut m before after) (above h.1) is
+    by_cause (inl h) = subst (λ (m : Option Lengths). IsCut d m before after) (above h.1) is
     by_cause (inr h) = absurd h.1
 
 -- the stack of levels that are left

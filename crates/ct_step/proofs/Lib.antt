@@ -7,3 +7,4 @@ pub mod SoundLemmas
 mod CutLemmas
 mod StoreLemmas
 mod AskLemmas
+pub mod KnownLemmas

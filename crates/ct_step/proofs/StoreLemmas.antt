@@ -1,14 +1,10 @@
 -- What becomes of the store by a command that leaves it alone, by one that takes declarations back, and by a check.
-use Rattle.std.proofs.Common.{◌≡◌, ◌∙◌, ℕ, zero, suc, ◌≤◌, Bool, true, false, true≢false, List, [], ◌∷◌, ◌++◌, Option, None, Some, Result, Ok, Err, IfSome, refl, sym, ap, subst, inl, inr}
+use Rattle.std.proofs.Common.{◌≡◌, ◌∙◌, ℕ, zero, suc, Bool, true, false, true≢false, List, Result, Ok, Err, refl, sym, ap, subst}
 use Rattle.ct_sorts.specs.Declarations.{Declarations, with_function}
-use Rattle.ct_sorts.specs.Lengths.{Lengths}
-use Rattle.ct_sorts.specs.Marks.{cut}
 use Rattle.ct_sorts.specs.Grown.{Extends}
-use Rattle.ct_terms.specs.Terms.{AreSorted}
 use Rattle.ct_kept.specs.Kept.{Stored}
 use Rattle.ct_model.specs.ModelText.{IsModelText}
 use Rattle.ct_log_text.specs.Written.{expression_of_record, text_of}
-use Rattle.ct_formulas.specs.Formula.{Formula}
 use Rattle.ct_command.specs.declared.error.CommandError.{CommandError}
 use Rattle.ct_command.specs.declared.error.CommandError.TheVariants.{Refused, NoMemory}
 use Rattle.ct_command.specs.declared.command.Command.{Command as ReadCommand}

@@ -8,3 +8,4 @@ pub mod Step
 pub mod Done
 pub mod Store
 pub mod Growing
+pub mod Known

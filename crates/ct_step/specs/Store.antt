@@ -1,7 +1,9 @@
 -- What becomes of the store of clauses that the theory gave in earlier checks: a check uses it and adds to it, and where declarations
 -- go, so does what names them.
-use Rattle.std.specs.Prelude.{◌≡◌, ℕ, ◌<◌, false, List, [], length, Option, None, Some, Result, Ok, Err}
+use Rattle.std.specs.Prelude.{◌≡◌, ◌≢◌, ◌⊎◌, ℕ, ◌<◌, false, List, [], length, Option, None, Some, Result, Ok, Err}
+use Rattle.ct_sorts.specs.Declarations.{Declarations}
 use Rattle.ct_sorts.specs.Lengths.{Lengths}
+use Rattle.ct_sorts.specs.Marks.{lengths}
 use Rattle.ct_terms.specs.declared.ids.TermId.{TermId}
 use Rattle.ct_terms.specs.Terms.{AreSorted, truth_terms}
 use Rattle.ct_terms.specs.CoreTree.{term_at}
@@ -44,16 +46,17 @@ pub record IsWithin (m : Lengths) (old new : Stored) : Type 0 where
   pub named : AreNamed m old new
   pub only : (t : TermId) → t.0 < length new.table → NamesBelow m (term_at new.table t)
 
--- where nothing is cut, it is the old one
-abbrev pub IsCut : Option Lengths → Stored → Stored → Type 0
-IsCut None old new = new ≡ old
-IsCut (Some m) old new = IsWithin m old new
+-- what is left of the store where these declarations are cut to the mark, if there is one: where nothing declared goes it is the
+-- old one
+abbrev pub IsCut : Declarations → Option Lengths → Stored → Stored → Type 0
+IsCut d None old new = new ≡ old
+IsCut d (Some m) old new = ((m ≡ lengths d) × (new ≡ old)) ⊎ ((m ≢ lengths d) × IsWithin m old new)
 
 -- what an accepted command makes of the store, after which these are all verdicts: a check takes from it, and leaves there, what the
 -- last of them says
 abbrev pub Stores : State → Command → List Verdict → Stored → Stored → Type 0
 Stores s check_sat verdicts old new = OfKept (last_of verdicts) (HasKept (declared s) old new)
-Stores s c verdicts old new = IsCut (mark_after s c) old new
+Stores s c verdicts old new = IsCut (declared s) (mark_after s c) old new
 
 -- what becomes of the store by what was read, which is answered so: by a command that is refused, and by what is no command, nothing
 abbrev pub StoresBy : State → Read → Option ℕ → List Verdict → Stored → Stored → Type 0

@@ -4,6 +4,7 @@ ghost use Rattle.std.specs.Prelude.{ℕ};
 ghost use Rattle.ct_command.specs.Command.{get_model, get_value, get_proof};
 ghost use Rattle.ct_command.specs.Seen.{all_seen};
 ghost use Rattle.ct_step.specs.Done.{IsDone, IsSound, state_of};
+ghost use Rattle.ct_step.specs.Known.{AreKnown};
 
 use crate::answer::{Answer, said};
 use crate::state::{SessionState, kept_derivation, kept_model};
@@ -11,6 +12,7 @@ use ct_command::CommandError;
 use ct_log_text::derivation_text;
 use ct_model::model_text;
 use ct_sexpr::Sexpr;
+use ct_stack::ModelValues;
 use std::alloc::Global;
 
 /// The number of the error of a question about a model where there is none.
@@ -33,19 +35,22 @@ pub(crate) fn model(alloc: Global, state: &SessionState) -> Result<Answer, Comma
     }
 }
 
-/// The values of terms in the model.
+/// The values of terms in the model, with what is known of the values of other terms in it, which grows by these.
 pub(crate) fn values(
     alloc: Global,
     state: &mut SessionState,
+    known: &mut Option<ModelValues>,
     terms: &[Sexpr],
 ) -> Result<Answer, CommandError>
     requires sound { IsSound (state_of state.old) }
+    requires known { AreKnown (state_of state.old) known.old }
     ensures done { (number : ℕ) → IsDone state.old number (get_value (all_seen terms.now)) state.new result }
+    ensures known { AreKnown (state_of state.old) known.new }
 {
     let Some(interp) = kept_model(state.verdicts.as_slice(), state.kept) else {
         return Err(CommandError::Refused(NO_MODEL));
     };
-    let text = state.stack.values(alloc, interp, terms)?;
+    let text = state.stack.values(alloc, interp, known, terms)?;
     Ok(said(text))
 }
 

@@ -1,6 +1,6 @@
 //! The commands that add and remove levels of the assertion stack (SMT-LIB 2.7, sections 4.2.1 and 4.2.2).
-ghost use Rattle.std.specs.Prelude.{◌≡◌, ℕ, IfSome, OnOk, OnErr};
-ghost use Rattle.ct_sorts.specs.Marks.{CanCut, cut};
+ghost use Rattle.std.specs.Prelude.{◌≡◌, ◌↔◌, ℕ, IfSome, IsTrue, OnOk, OnErr};
+ghost use Rattle.ct_sorts.specs.Marks.{CanCut, cut, lengths};
 ghost use Rattle.ct_terms.specs.Terms.{AreSorted};
 ghost use Rattle.ct_command.specs.Command.{push, pop, reset_assertions, reset};
 ghost use Rattle.ct_step.specs.Done.{IsDone, state_of};
@@ -11,7 +11,7 @@ use crate::options::Options;
 use crate::state::SessionState;
 use ct_command::CommandError;
 use ct_engine::Kept;
-use ct_sorts::Mark;
+use ct_sorts::{Mark, Signature, growth};
 use ct_stack::AssertionStack;
 use std::alloc::{AllocError, Global};
 
@@ -91,7 +91,7 @@ pub(crate) fn reset(
     Ok(answer)
 }
 
-// Leaves in the store what names only what is below the mark, where there is one.
+// Leaves in the store what names only what is below the mark, where there is one and something goes with it.
 fn cut_store(
     alloc: Global,
     stack: &AssertionStack,
@@ -100,18 +100,35 @@ fn cut_store(
 ) -> Result<(), AllocError>
     requires sorted { AreSorted stack.now.top.context.declarations store.old.table }
     requires can_cut { IfSome mark (λ m. CanCut stack.now.top.context.declarations m) }
-    ensures cut { OnOk result (IsCut mark store.old store.new) }
+    ensures cut { OnOk result (IsCut stack.now.top.context.declarations mark store.old store.new) }
     ensures sorted { OnOk result (IfSome mark (λ m. AreSorted (cut stack.now.top.context.declarations m) store.new.table)) }
     ensures same { OnErr result (store.new ≡ store.old) }
 {
+    growth();
     let Some(mark) = mark else {
         return Ok(());
     };
-    match store.within(alloc, &stack.scope().sig, &mark) {
+    let sig = &stack.scope().sig;
+    if is_all(sig, &mark) {
+        return Ok(());
+    }
+    match store.within(alloc, sig, &mark) {
         Ok(left) => {
             *store = left;
             Ok(())
         }
         Err(_) => Err(AllocError),
     }
+}
+
+// Whether the mark is that of all that is declared.
+fn is_all(sig: &Signature, mark: &Mark) -> bool
+    ensures all { IsTrue result ↔ (mark.now ≡ lengths sig.now) }
+{
+    let all = sig.mark();
+    mark.sorts() == all.sorts()
+        && mark.ctors() == all.ctors()
+        && mark.sels() == all.sels()
+        && mark.funs() == all.funs()
+        && mark.defs() == all.defs()
 }

@@ -14,7 +14,7 @@ returns c =
     let s = c.args.state.now.stack in
     record {
       done = λ number. resets c.args.state.now number c.reset.new.self c.new-options.result c.in_ok-answer.answer c.reset.ensures.reset c.new-options.ensures.value c.in_ok-answer.ensures.answer;
-      stored = subst (λ (m : Option Lengths). IsCut m c.args.store.now c.cut_store.new.store) c.first_mark-mark.ensures.mark c.in_ok-cut_store.ensures.cut;
+      stored = subst (λ (m : Option Lengths). IsCut c.args.state.now.stack.top.context.declarations m c.args.store.now c.cut_store.new.store) c.first_mark-mark.ensures.mark c.in_ok-cut_store.ensures.cut;
       sorted =
           sorted_as (emptied false s) c.reset.new.self c.cut_store.new.store c.reset.ensures.reset
           (sorted_left s.top.context.declarations _ c.first_mark-mark.result c.args.store.now c.cut_store.new.store (λ none. emptied_same false s (sym c.first_mark-mark.ensures.mark ∙ none)) c.first_mark-mark.ensures.cut c.in_ok-cut_store.ensures.cut c.in_ok-cut_store.ensures.sorted c.requires.sorted);

@@ -17,7 +17,7 @@ returns c =
     let global = c.args.state.now.options.global_declarations in
     record {
       done = λ number. changes c.args.state.now number reset_assertions never c.in_ok-answer.answer c.empty.new.self (quietly (state_of c.args.state.now) c.empty.new.self _ c.empty.ensures.emptied) c.in_ok-answer.ensures.answer;
-      stored = subst (λ (m : Option Lengths). IsCut m c.args.store.now c.cut_store.new.store) c.first_mark-mark.ensures.mark c.in_ok-cut_store.ensures.cut;
+      stored = subst (λ (m : Option Lengths). IsCut c.args.state.now.stack.top.context.declarations m c.args.store.now c.cut_store.new.store) c.first_mark-mark.ensures.mark c.in_ok-cut_store.ensures.cut;
       sorted =
           sorted_as (emptied global s) c.empty.new.self c.cut_store.new.store c.empty.ensures.emptied
           (sorted_left s.top.context.declarations _ c.first_mark-mark.result c.args.store.now c.cut_store.new.store (λ none. emptied_same global s (sym c.first_mark-mark.ensures.mark ∙ none)) c.first_mark-mark.ensures.cut c.in_ok-cut_store.ensures.cut c.in_ok-cut_store.ensures.sorted c.requires.sorted);

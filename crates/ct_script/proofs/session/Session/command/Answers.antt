@@ -1,4 +1,4 @@
-use Rattle.std.proofs.Common.{Ok, Err}
+use Rattle.std.proofs.Common.{Ok}
 use Rattle.ct_sexpr.specs.View.{expression_of}
 use Rattle.ct_command.specs.Seen.{command_seen}
 use Rattle.ct_command.specs.Reading.{command}

@@ -4,4 +4,4 @@ use Rattle.ct_script.specs.Session.{Course}
 use Rattle.ct_script.proofs.session.Session.kept.Goals as goal
 
 pub returns-clause-sorted : goal.returns-clause-sorted
-returns-clause-sorted c = subst (λ (t : Course). IsStoreOf t.state t.store) c.self.view_is c.self.invariant.sorted
+returns-clause-sorted c = subst (λ (t : Course). IsStoreOf t.state t.store) c.self.view_is c.self.invariant.0.sorted

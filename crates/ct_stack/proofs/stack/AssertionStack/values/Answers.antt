@@ -1,4 +1,4 @@
-use Rattle.std.proofs.Common.{ℕ, map, reverse, OnOk, IfOk, subst, sym}
+use Rattle.std.proofs.Common.{ℕ, map, reverse, OnOk, IfOk, IfSome, subst, sym}
 use Rattle.ct_lemmas.proofs.Options.{OnOk-map}
 use Rattle.ct_terms.specs.Terms.{Terms}
 use Rattle.ct_formulas.specs.TreeFormula.{formula_of}
@@ -9,6 +9,7 @@ use Rattle.ct_stack.specs.Refusal.{IsTermsRefusal}
 use Rattle.ct_stack.specs.Held.{level_in, context_in}
 use Rattle.ct_stack.specs.Whole.{whole_in, AreHeld}
 use Rattle.ct_stack.specs.Values.{AreValues}
+use Rattle.ct_stack.specs.ModelValues.{AreModelValues}
 use Rattle.ct_stack.proofs.LevelLemmas.{held_now}
 use Rattle.ct_stack.proofs.StackLemmas.{one_level}
 use Rattle.ct_stack.proofs.stack.AssertionStack.values.Goals as goal
@@ -27,6 +28,11 @@ pub values_text-requires-clause-proper : goal.values_text-requires-clause-proper
 values_text-requires-clause-proper c =
     let s = c.self.inside in
     subst (λ (l : Level). IsProper l.context.declarations c.args.interp.now) (one_level (level_in s.scope s.asserts.items) (reverse s.levels.items) c.args.self.now c.self.view_is) c.requires.proper
+
+pub values_text-requires-clause-valued : goal.values_text-requires-clause-valued
+values_text-requires-clause-valued c =
+    let s = c.self.inside in
+    subst (λ (l : Level). IfSome c.args.values.now (AreModelValues l.context.declarations c.args.interp.now)) (one_level (level_in s.scope s.asserts.items) (reverse s.levels.items) c.args.self.now c.self.view_is) c.requires.valued
 
 pub invariant_of-self : goal.invariant_of-self
 invariant_of-self c =
@@ -57,3 +63,8 @@ returns-clause-refused c =
     λ n e.
     subst (λ (l : Level). IsTermsRefusal l.context (cores l.context l.assertions) (all_seen c.args.exprs.now) n) (sym (one_level (level_in s.scope s.asserts.items) (reverse s.levels.items) c.args.self.now c.self.view_is))
     (c.values_text.ensures.refused n e (cores (context_in s.scope) (map formula_of s.asserts.items)) held.in_table.exact)
+
+pub returns-clause-valued : goal.returns-clause-valued
+returns-clause-valued c =
+    let s = c.self.inside in
+    subst (λ (l : Level). IfSome c.values_text.new.values (AreModelValues l.context.declarations c.args.interp.now)) (sym (one_level (level_in s.scope s.asserts.items) (reverse s.levels.items) c.args.self.now c.self.view_is)) c.values_text.ensures.valued
