@@ -1,5 +1,5 @@
-//! Tests of the crates that read: desks and sinks, tables of words, expressions, and
-//! declarations. Each line of standard input is a case `(NAME KIND PART ..)`, and its answer is
+//! Tests of the crates that read: desks and sinks, tables of words, expressions, declarations, and
+//! sorts with arguments. Each line of standard input is a case `(NAME KIND PART ..)`, and its answer is
 //! one line. A line that is no case is answered `BAD`.
 #![tactic(auto)]
 
@@ -9,6 +9,7 @@ mod desks;
 mod dump;
 mod expressions;
 mod files;
+mod generics;
 mod sinks;
 mod steps;
 mod words;
@@ -74,6 +75,7 @@ fn answer_declarations(
 ) -> Result<(), CaseError> {
     match parts {
         steps if kind == "declarations" => declarations::answer(rt.alloc(), steps, out),
+        steps if kind == "generics" => generics::answer(rt.alloc(), steps, out),
         [steps, more] if kind == "copied" => {
             declarations::answer_copied(rt.alloc(), items_of(steps)?, items_of(more)?, out)
         }

@@ -1,0 +1,107 @@
+//! What is declared: sorts and generics, and synonyms.
+ghost use Rattle.std.specs.Prelude.{◌≡◌, ◌↔◌, ◌<◌, [], length, Some, slice_get, IsTrue};
+ghost use Rattle.ct_generics.specs.Declarations.{Declared, Head};
+ghost use Rattle.ct_generics.specs.Names.{IsListed};
+ghost use Rattle.ct_generics.specs.Synonyms.{first_of};
+ghost use Rattle.ct_generics.specs.Stored.{AreDeclared};
+
+use crate::free::is_listed;
+use crate::heads::{StoredHead, StoredSynonym};
+use crate::items::Items;
+use crate::kind::Kind;
+use crate::name::Name;
+use crate::names::Names;
+use crate::nodes::HeadId;
+use crate::vertices::stored_head;
+use std::alloc::Global;
+
+/// The sorts and generics that are declared, each at the index that is its number, and the synonyms.
+#[derive(Drop)]
+pub struct Generics {
+    /// The sorts and generics.
+    pub(crate) heads: Items<StoredHead>,
+    /// Their names.
+    pub(crate) head_names: Names,
+    /// The synonyms.
+    pub(crate) synonyms: Items<StoredSynonym>,
+    /// Their names.
+    pub(crate) synonym_names: Names,
+}
+
+impl Generics {
+    /// Nothing.
+    pub fn new(alloc: Global) -> Generics
+        ensures nothing { AreDeclared result (record { heads = []; synonyms = [] }) }
+    {
+        Generics {
+            heads: Items::new(Vec::new(alloc)),
+            head_names: Names::new(alloc),
+            synonyms: Items::new(Vec::new(alloc)),
+            synonym_names: Names::new(alloc),
+        }
+    }
+
+    /// How many sorts and generics there are.
+    pub fn head_count(&self) -> usize
+        ensures count { (d : Declared) → AreDeclared self.now d → result ≡ length d.heads }
+    {
+        self.heads.len()
+    }
+
+    /// How many synonyms there are.
+    pub fn synonym_count(&self) -> usize
+        ensures count { (d : Declared) → AreDeclared self.now d → result ≡ length d.synonyms }
+    {
+        self.synonyms.len()
+    }
+
+    /// The name of a sort or generic.
+    pub fn head_name(&self, h: HeadId) -> &[u8]
+        requires within { (d : Declared) × AreDeclared self.now d × (h.0 < length d.heads) }
+        ensures name { (d : Declared) → AreDeclared self.now d → (head : Head) × (slice_get d.heads h.0 ≡ Some head) × (result.now ≡ head.name) }
+    {
+        stored_head(self.heads.as_slice(), h.0 as usize)
+            .name
+            .as_slice()
+    }
+
+    /// The kind of a sort or generic.
+    pub fn head_kind(&self, h: HeadId) -> Kind
+        requires within { (d : Declared) × AreDeclared self.now d × (h.0 < length d.heads) }
+        ensures kind { (d : Declared) → AreDeclared self.now d → (head : Head) × (slice_get d.heads h.0 ≡ Some head) × (result ≡ head.kind) }
+    {
+        stored_head(self.heads.as_slice(), h.0 as usize).kind
+    }
+
+    /// How many parameters a sort or generic has.
+    pub fn head_params(&self, h: HeadId) -> u64
+        requires within { (d : Declared) × AreDeclared self.now d × (h.0 < length d.heads) }
+        ensures params { (d : Declared) → AreDeclared self.now d → (head : Head) × (slice_get d.heads h.0 ≡ Some head) × (result ≡ head.params) }
+    {
+        stored_head(self.heads.as_slice(), h.0 as usize).params
+    }
+
+    /// Whether a sort or generic has this name.
+    pub fn has_head(&self, name: &Name) -> bool
+        ensures listed { IsTrue result ↔ IsListed self.now.head_names name.now }
+    {
+        is_listed(&self.head_names, name)
+    }
+
+    /// Whether a synonym has this name.
+    pub fn has_synonym(&self, name: &Name) -> bool
+        ensures listed { IsTrue result ↔ IsListed self.now.synonym_names name.now }
+    {
+        is_listed(&self.synonym_names, name)
+    }
+
+    /// Takes back all but the first sorts and generics and the first synonyms.
+    pub fn cut_to(&mut self, heads: usize, synonyms: usize)
+        ensures first { (d : Declared) → AreDeclared self.old d → AreDeclared self.new (first_of heads synonyms d) }
+    {
+        self.heads.truncate(heads);
+        self.head_names.truncate(heads);
+        self.synonyms.truncate(synonyms);
+        self.synonym_names.truncate(synonyms);
+    }
+}
