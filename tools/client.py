@@ -1,14 +1,19 @@
 #!/usr/bin/env python3
 """Talks to cosmt over a pipe: one command, its answer, the next command.
 
-usage: tools/client.py PROGRAM [FILE]
+usage: tools/client.py PROGRAM [FILE [FOLDER]]
 
 As a module: `Solver(program)` starts the program, and `Solver.command(text)` sends one command and gives its answer, read as an
 S-expression: an atom is a `str`, a list is a `list`. The option `:print-success` is set at the start, so that every command has
 one answer, which ends where its S-expression ends. An answer `(error "..")` is raised as `SolverError`; the session goes on after it.
 
 Called with PROGRAM alone, it holds a dialogue with the program and looks at each answer: the status is 0 where all are as they
-must be, else 1. Called with a FILE, it sends the commands of this script one by one and writes each with its answer.
+must be, else 1. Called with a FILE, it sends the commands of this script one by one and writes each with its answer. With a FOLDER
+it stores there the model of each check that is `sat` and the derivation of each that is `unsat`, and writes a line for each check:
+its number, its verdict or `refused`, and the file; and a line for each command that is refused or unsupported, which begins with
+`-`. `tools/prove.sh` does this and audits the derivations.
+
+The line that an error names is counted in the dialogue, with what this tool sends beside the script: it is not the line of the FILE.
 """
 
 import os
@@ -117,6 +122,7 @@ class Solver:
     def __init__(self, program):
         self.process = subprocess.Popen([program], stdin=subprocess.PIPE, stdout=subprocess.PIPE, bufsize=0)
         self.scanner = Scanner()
+        self.ended = False
         self.command("(set-option :print-success true)")
 
     def __enter__(self):
@@ -153,14 +159,14 @@ class Solver:
 
     def answers(self, text):
         """Sends one command and an `echo` after it, and gives the texts of the answers before that of the `echo`: none or one.
-        This holds whatever `:print-success` is, and `(reset)` sets it back."""
+        This holds whatever `:print-success` is, and `(reset)` sets it back. Where the program ends, `ended` is true after it."""
         texts = []
         try:
             self.send(f"{text}\n(echo {END})\n")
             while (answer := self.answer()) != END:
                 texts.append(answer)
         except (EOFError, BrokenPipeError):
-            pass
+            self.ended = True
         return texts
 
     def close(self):
@@ -259,27 +265,86 @@ def command_that_never_ends(program):
 
 
 def commands_of(path):
-    """The texts of the commands of a script."""
+    """The texts of the commands of a script, and at the end None where it ends inside one."""
     scanner = Scanner()
     with open(path, "rb") as file:
         scanner.feed(file.read() + b"\n")
     while (text := scanner.next()) is not None:
         yield text.decode()
+    if scanner.start is not None:
+        yield None
 
 
 def replay(program, path):
     """Sends a script command by command, and writes each with its answer."""
     with Solver(program) as solver:
         for text in commands_of(path):
+            if text is None:
+                print("client: the script ends inside a command, which is not sent", file=sys.stderr)
+                continue
             print(text)
             for answer in solver.answers(text):
                 print(f"-> {answer}", flush=True)
+
+
+ASKED = {"sat": ("model", "(get-model)"), "unsat": ("derivation", "(get-proof)")}
+
+
+def check_of(answers):
+    """What came of a check-sat, by its answer; None where the command was another."""
+    if answers and answers[0] in ("sat", "unsat", "unknown"):
+        return answers[0]
+    return "refused" if answers and "[E30]" in answers[0] else None
+
+
+def failure_of(text, answers):
+    """What is said of a command that is refused or unsupported: which of these, its error, and the command; else None."""
+    short = " ".join(text.split())
+    short = short if len(short) <= 60 else short[:57] + ".."
+    for answer in answers:
+        if answer == "unsupported":
+            return f"- unsupported {short}"
+        if answer.startswith("(error "):
+            return f"- refused {answer[answer.find('[') : -2]}: {short}"
+    return None
+
+
+def stored(program, path, folder):
+    """Sends a script command by command, and stores the model or the derivation of each check."""
+    os.makedirs(folder, exist_ok=True)
+    count = 0
+    with Solver(program) as solver:
+        for text in commands_of(path):
+            if solver.ended:
+                break
+            if text is None:
+                print("- refused [E3] input ends inside an expression")
+                break
+            answers = solver.answers(text)
+            failure = failure_of(text, answers)
+            if failure:
+                print(failure, flush=True)
+            verdict = check_of(answers)
+            if verdict is None:
+                continue
+            count += 1
+            file = ""
+            if verdict in ASKED:
+                kind, question = ASKED[verdict]
+                file = os.path.join(folder, f"check-{count}.{kind}")
+                with open(file, "w", encoding="utf-8") as output:
+                    output.write(solver.text_of(question) + "\n")
+            print(count, verdict, file, flush=True)
+        status = solver.close()
+        expect("status of the solver", status if status in (0, 1) else "0 or 1", status)
 
 
 def main():
     """The call as the head of this file says."""
     if len(sys.argv) == 3:
         replay(*sys.argv[1:])
+    elif len(sys.argv) == 4:
+        stored(*sys.argv[1:])
     elif len(sys.argv) == 2 and sys.argv[1] not in ("-h", "--help"):
         program = sys.argv[1]
         for part in (dialogue, in_pieces, reader_that_stops, command_that_never_ends):

@@ -13,11 +13,11 @@ use Rattle.ct_log_text.specs.Reading.{departs, number_of, Reads as ReadsRecord}
 use Rattle.ct_stack.specs.Stack.{Context}
 use Rattle.ct_stack.specs.Held.{IsSoundLevel}
 use Rattle.ct_step.specs.State.{State}
-use Rattle.ct_script.specs.Session.{Course}
+use Rattle.ct_script.specs.Session.{Course, first_course}
 use Rattle.ct_audit.specs.declared.answer.AuditAnswer.{AuditAnswer}
 use Rattle.ct_audit.specs.declared.answer.AuditAnswer.TheVariants.{Wrong}
 use Rattle.ct_audit.specs.declared.error.AuditError.{AuditError}
-use Rattle.ct_audit.specs.Found.{first_course, Finds, state_where}
+use Rattle.ct_audit.specs.Found.{Finds, state_where}
 use Rattle.ct_audit.specs.Judged.{Judges, JudgesRead}
 use Rattle.ct_audit.specs.Audit.{Audits, JudgesScript, JudgesNumbered, JudgesAt, no_check, one_expression}
 use Rattle.ct_audit.proofs.ReplayLemmas.{SomeText, first_read}

@@ -11,9 +11,9 @@ use Rattle.ct_script.specs.declared.replay.Replayed.{Replayed}
 use Rattle.ct_step.specs.State.{State, first_state}
 use Rattle.ct_step.specs.Step.{counted}
 use Rattle.ct_script.specs.Answers.{Answers, Leads}
-use Rattle.ct_script.specs.Session.{Course}
+use Rattle.ct_script.specs.Session.{Course, first_course}
 use Rattle.ct_script.specs.Replay.{is_check, IsCounted, IsStepped, Replays, GoesThrough, HaveOneStack, AnswersThrough}
-use Rattle.ct_audit.specs.Found.{Finds, is_wanted, first_course}
+use Rattle.ct_audit.specs.Found.{Finds, is_wanted}
 use Rattle.ct_audit.specs.AtCheck.{IsAtCheck}
 
 -- the theorems on scripts that are replayed

@@ -7,7 +7,8 @@ use Rattle.ct_stack.specs.Stack.{in_force}
 use Rattle.ct_step.specs.State.{State, context_of}
 use Rattle.ct_audit.specs.declared.answer.AuditAnswer.{AuditAnswer}
 use Rattle.ct_audit.specs.declared.answer.AuditAnswer.TheVariants.{Wrong}
-use Rattle.ct_audit.specs.Found.{first_course, Finds}
+use Rattle.ct_audit.specs.Found.{Finds}
+use Rattle.ct_script.specs.Session.{first_course}
 use Rattle.ct_audit.specs.Judged.{Judges}
 
 -- the number of the error of a derivation whose check the script does not have

@@ -4,13 +4,9 @@ use Rattle.std.specs.Bool.{MatchBool}
 use Rattle.ct_sexpr.specs.Text.{Located}
 use Rattle.ct_command.specs.Reading.{command}
 use Rattle.ct_script.specs.declared.replay.Replayed.{Replayed}
-use Rattle.ct_step.specs.State.{State, first_state}
+use Rattle.ct_step.specs.State.{State}
 use Rattle.ct_script.specs.Replay.{Replays}
 use Rattle.ct_script.specs.Session.{Course}
-
--- the course of a script that begins
-abbrev pub first_course : Course
-first_course = record { state = first_state; number = 0; verdicts = []; errors = [] }
 
 -- the command is the check with this number
 abbrev pub is_wanted : Replayed → ℕ → ℕ → Bool

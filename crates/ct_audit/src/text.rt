@@ -3,7 +3,7 @@ ghost use Rattle.std.specs.Prelude.{◌≡◌, true, List, Some, IfOk};
 ghost use Rattle.ct_sexpr.specs.Text.{Located, Ending, Reads};
 ghost use Rattle.ct_sexpr.specs.View.{expression_of};
 ghost use Rattle.ct_log_text.specs.Reading.{departs};
-ghost use Rattle.ct_audit.specs.Found.{first_course};
+ghost use Rattle.ct_script.specs.Session.{first_course};
 ghost use Rattle.ct_audit.specs.Audit.{Audits, JudgesScript, JudgesNumbered, JudgesAt};
 
 use crate::answer::AuditAnswer;

@@ -65,7 +65,7 @@ pub(crate) fn select(
     Ok(())
 }
 
-// The argument at the index.
+/// The argument at the index.
 pub(crate) fn argument_at(args: &[TermId], place: usize) -> Option<TermId>
     ensures value { result ≡ slice_get args.now place }
 {
@@ -174,7 +174,7 @@ pub(crate) fn expand(
     }
 }
 
-// The constructor over its selectors of the term, where the table has it.
+/// The constructor over its selectors of the term, where the table has it.
 pub(crate) fn expansion(
     alloc: Global,
     sig: &Signature,

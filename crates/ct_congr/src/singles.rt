@@ -41,7 +41,7 @@ pub(crate) fn singles(
     Ok(())
 }
 
-// The first term of the sort, if the sort has one value; else the term itself.
+/// The first term of the sort, if the sort has one value; else the term itself.
 pub(crate) fn first_of_sort(
     single: &[bool],
     firsts: &mut Vec<Option<TermId>>,

@@ -1,3 +1,5 @@
+pub mod KeepingLemmas
+pub mod TrimLemmas
 pub mod ShorteningLemmas
 pub mod ListLemmas
 pub mod ValuedLemmas

@@ -22,7 +22,8 @@ use Rattle.ct_sat.specs.State.{AreVariables, AreOver}
 use Rattle.ct_log.specs.Recorded.{Derived}
 use Rattle.ct_sat.specs.State.{SearchState, begun, clauses_of as clauses_in}
 use Rattle.ct_engine.specs.declared.course.Course.{Course}
-use Rattle.ct_engine.specs.Progress.{IsClosureOf, IsBegunOver, IsSearchOver, IsTaskOf}
+use Rattle.ct_clauses.specs.Initial.{AreInitialLines}
+use Rattle.ct_engine.specs.Progress.{IsClosureOf, IsBegunOver, IsSearchOver, IsTaskOf, IsAtStart}
 use Rattle.ct_engine.proofs.CountLemmas.{few_trees}
 
 -- a term keeps its sort in a longer table
@@ -75,6 +76,24 @@ IsTaskOf-begun d table closed asserts budget closure course same closed_is begun
   sorted = subst (AreSorted d) (sym begun_is.terms_are) closed_is.sorted;
   is_closed = subst (IsClosedTable d) (sym begun_is.terms_are) closed_is.is_closed;
 }
+
+-- and it is at its start
+pub IsAtStart-begun : (d : Declarations) (table closed : Terms) (asserts : List TermId) (budget : ℕ) (closure : ClosureValue) (course : Course) → terms_at closed asserts ≡ terms_at table asserts → IsClosureOf d table asserts closed closure → IsBegunOver d closed asserts course.derivation → IsSearchOver course.derivation budget course.search → course.moves.items ≡ [] → course.initial ≡ length course.derivation.rec.lines → course.kept ≡ 0 → IsAtStart d course
+IsAtStart-begun d table closed asserts budget closure course same closed_is begun_is over moves initial kept =
+    let derived = course.derivation in
+    record {
+      decided = ap (λ (s : SearchState). s.decided) over.only_begun;
+      moves = moves;
+      initial = initial;
+      kept = kept;
+      closure = λ t.
+          subst (λ (ids : List TermId). HasTree derived.rec.terms t ↔ InClosure d (terms_at derived.rec.terms ids) t) (sym begun_is.asserts_are)
+          (subst (λ (ts : Terms). HasTree ts t ↔ InClosure d (terms_at ts asserts) t) (sym begun_is.terms_are)
+          (subst (λ (roots : List CoreTree). HasTree closed t ↔ InClosure d roots t) (sym same) (closed_is.exact t)));
+      lines =
+          subst (λ (ids : List TermId). AreInitialLines d derived.rec.terms ids derived.rec.lines) (sym begun_is.asserts_are)
+          (subst (λ (ts : Terms). AreInitialLines d ts asserts derived.rec.lines) (sym begun_is.terms_are) begun_is.lines);
+    }
 
 -- it begins over its own declarations, terms and assertions
 pub IsBegunOver-itself : (d : Declarations) (terms : Terms) (asserts : List TermId) (derived : Derived) → IsBegunOver d terms asserts derived → IsBegunOver derived.declarations derived.rec.terms derived.asserts derived

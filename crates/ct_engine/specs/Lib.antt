@@ -4,3 +4,4 @@ pub mod Verdict
 pub mod Progress
 pub mod Theorems
 pub mod Opening
+pub mod Keeping

@@ -1,5 +1,5 @@
 -- A search under way: how its clauses, its derivation and the record of its moves belong together, and how it ends.
-use Rattle.std.specs.Prelude.{◌≡◌, ◌↔◌, ℕ, ◌+◌, ◌<◌, ◌≤◌, Bool, true, List, ◌++◌, length, take, All, Contains, Some, slice_get, count_by}
+use Rattle.std.specs.Prelude.{◌≡◌, ◌↔◌, ℕ, ◌+◌, ◌<◌, ◌≤◌, Bool, true, List, [], ◌++◌, length, take, All, Contains, Some, slice_get, count_by}
 use Rattle.ct_sorts.specs.Declarations.{Declarations}
 use Rattle.ct_sorts.specs.Grown.{Begins}
 use Rattle.ct_terms.specs.declared.ids.TermId.{TermId}
@@ -68,7 +68,8 @@ pub record IsAccounted (recorded : Bool) (search : SearchState) (derived : Deriv
 abbrev pub IsUnderWay : Course → Type 0
 IsUnderWay course = IsAccounted course.recorded course.search course.derivation course.initial course.moves.items
 
--- both are of the same declarations, terms, assertions, variables and budget, and both are recorded or neither is
+-- both are of the same declarations, terms, assertions, variables and budget, both are recorded or neither is, and the lines of the
+-- first, and its moves where they are recorded, stand in front of those of the second
 pub record IsOfOneTask (old new : Course) : Type 0 where
   pub declarations : new.derivation.declarations ≡ old.derivation.declarations
   pub terms : new.derivation.rec.terms ≡ old.derivation.rec.terms
@@ -77,13 +78,21 @@ pub record IsOfOneTask (old new : Course) : Type 0 where
   pub budget : new.search.budget ≡ old.search.budget
   pub variables : new.variables ≡ old.variables
   pub recorded : new.recorded ≡ old.recorded
+  pub initial : new.initial ≡ old.initial
+  pub kept : new.kept ≡ old.kept
+  pub lines : Begins old.derivation.rec.lines new.derivation.rec.lines
+  pub moves : old.recorded ≡ true → Begins old.moves.items new.moves.items
 
--- both are of the same declarations, terms, assertions and number of variables: searches of one check
+-- both are of the same declarations, terms, assertions and number of variables, and the lines of the first stand in front of those of
+-- the second: searches of one check
 pub record IsOfOneClosure (old new : Course) : Type 0 where
   pub declarations : new.derivation.declarations ≡ old.derivation.declarations
   pub terms : new.derivation.rec.terms ≡ old.derivation.rec.terms
   pub asserts : new.derivation.asserts ≡ old.derivation.asserts
   pub variables : new.variables ≡ old.variables
+  pub initial : new.initial ≡ old.initial
+  pub kept : new.kept ≡ old.kept
+  pub lines : Begins old.derivation.rec.lines new.derivation.rec.lines
 
 -- the search is recorded and may make so many decisions
 abbrev pub IsOnRecord : ℕ → Course → Type 0
@@ -170,6 +179,15 @@ pub record IsSearchOver (derived : Derived) (budget : ℕ) (search : SearchState
 -- the derivation with so many of its lines, the first ones
 abbrev pub beginning_of : Derived → ℕ → Derived
 beginning_of derived count = record derived { rec = record derived.rec { lines = take count derived.rec.lines } }
+
+-- nothing was decided and no move was made, the terms are exactly the closure of the assertions, and the lines are the initial lines
+pub record IsAtStart (d : Declarations) (course : Course) : Type 0 where
+  pub decided : course.search.decided ≡ []
+  pub moves : course.moves.items ≡ []
+  pub initial : course.initial ≡ length course.derivation.rec.lines
+  pub kept : course.kept ≡ 0
+  pub closure : (t : CoreTree) → HasTree course.derivation.rec.terms t ↔ InClosure d (terms_at course.derivation.rec.terms course.derivation.asserts) t
+  pub lines : AreInitialLines d course.derivation.rec.terms course.derivation.asserts course.derivation.rec.lines
 
 -- the table holds exactly the closure of the assertions of the old one, the literals decide it, and the classes are exactly
 -- what they entail

@@ -1,8 +1,9 @@
 //! A search that begins anew over the lines of the derivation that there is.
-ghost use Rattle.std.specs.Prelude.{◌≡◌, ℕ, ◌<◌, ◌≤◌, [], length, take, IfOk, OnOk, IsErrOf};
+ghost use Rattle.std.specs.Prelude.{◌≡◌, ℕ, ◌+◌, ◌<◌, ◌≤◌, true, [], ◌∷◌, ◌++◌, length, take, IfOk, OnOk, IsErrOf};
 ghost use Rattle.ct_engine.specs.Progress.{IsUnderWay, IsOfOneTask, IsOfOneClosure, IsSearchOver, AreUpTo, beginning_of};
+ghost use Rattle.ct_engine.specs.Keeping.{AddsFirst, HasFirst};
 
-use crate::course::{Course, note};
+use crate::course::{Course, line_count, note};
 use crate::error::SolveError;
 use crate::initial::add_lines;
 use crate::verdict::Move;
@@ -26,6 +27,8 @@ pub(crate) fn begin_again(
     ensures recorded { OnOk result (course.new.recorded ≡ recorded) }
     ensures budget { OnOk result (course.new.search.budget ≡ budget) }
     ensures start { OnOk result (course.new.search.decided ≡ []) }
+    ensures moves { OnOk result (course.new.moves.items ≡ []) }
+    ensures derivation { OnOk result (course.new.derivation ≡ course.old.derivation) }
     ensures up_to { OnOk result (AreUpTo course.new.search.clauses course.new.initial) }
     ensures err { IsErrOf result SolveError.TooLarge → ⊥ }
 {
@@ -62,16 +65,45 @@ fn first_lines(lines: &[Line], count: usize) -> &[Line]
     &lines[..count]
 }
 
-/// Adds to such a search the clauses of the taught lines with these numbers, as far as they rise.
-pub(crate) fn add_again(course: &mut Course, numbers: &[u64]) -> Result<(), SolveError>
+/// Adds to such a search, where its moves are recorded, the clauses of the store's lines.
+pub(crate) fn add_first(course: &mut Course) -> Result<(), SolveError>
     requires under_way { IsUnderWay course.old }
     requires start { course.old.search.decided ≡ [] }
+    requires recorded { course.old.recorded ≡ true }
+    requires moves { course.old.moves.items ≡ [] }
+    requires stand { HasFirst course.old }
     requires up_to { AreUpTo course.old.search.clauses course.old.initial }
+    ensures under_way { OnOk result (IsUnderWay course.new) }
+    ensures same { OnOk result (IsOfOneTask course.old course.new) }
+    ensures start { OnOk result (course.new.search.decided ≡ []) }
+    ensures adds { OnOk result (AddsFirst course.new) }
+    ensures up_to { OnOk result (AreUpTo course.new.search.clauses (course.new.initial + course.new.kept)) }
+    ensures err { IsErrOf result SolveError.TooLarge → ⊥ }
+{
+    let before = course.initial as u64;
+    let _lines = line_count(&course.derivation);
+    'lines: for index in 0..course.kept as u64 {
+        add_line(course, before + index + 1)?;
+    }
+    Ok(())
+}
+
+/// Adds to a search without decisions the clauses of the taught lines with these numbers, as far as they rise and come after the
+/// first lines, so many.
+pub(crate) fn add_again(
+    course: &mut Course,
+    first: usize,
+    numbers: &[u64],
+) -> Result<(), SolveError>
+    requires under_way { IsUnderWay course.old }
+    requires start { course.old.search.decided ≡ [] }
+    requires past { course.old.initial ≤ first }
+    requires up_to { AreUpTo course.old.search.clauses first }
     ensures under_way { OnOk result (IsUnderWay course.new) }
     ensures same { OnOk result (IsOfOneTask course.old course.new) }
     ensures err { IsErrOf result SolveError.TooLarge → ⊥ }
 {
-    let mut last = course.initial as u64;
+    let mut last = first as u64;
     'numbers: for number in numbers {
         last = add_later(course, last, *number)?;
     }
@@ -112,6 +144,7 @@ fn add_line(course: &mut Course, number: u64) -> Result<(), SolveError>
     ensures under_way { OnOk result (IsUnderWay course.new) }
     ensures same { OnOk result (IsOfOneTask course.old course.new) }
     ensures start { OnOk result (course.new.search.decided ≡ []) }
+    ensures added { OnOk result (course.old.recorded ≡ true → course.new.moves.items ≡ course.old.moves.items ++ Move.Add number ∷ []) }
     ensures initial { OnOk result (course.new.initial ≡ course.old.initial) }
     ensures derivation { OnOk result (course.new.derivation ≡ course.old.derivation) }
     ensures up_to { OnOk result (AreUpTo course.new.search.clauses number) }

@@ -1,5 +1,5 @@
 //! What a search that has ended found.
-ghost use Rattle.std.specs.Prelude.{◌≡◌, true, List, All, IfOk, IsErrOf};
+ghost use Rattle.std.specs.Prelude.{◌≡◌, ◌+◌, true, List, All, IfOk, IsErrOf};
 ghost use Rattle.ct_sorts.specs.Declarations.{Declarations};
 ghost use Rattle.ct_terms.specs.declared.ids.TermId.{TermId};
 ghost use Rattle.ct_terms.specs.Terms.{Terms, AreSorted, IsBoolean};
@@ -10,8 +10,10 @@ ghost use Rattle.ct_engine.specs.Moves.{IsSpentRecord};
 ghost use Rattle.ct_engine.specs.Saturated.{AreDecided};
 ghost use Rattle.ct_engine.specs.Verdict.{IsRefutation, IsSpending};
 ghost use Rattle.ct_engine.specs.Progress.{IsUnderWay, IsTaskOf, IsEnded, IsOnRecord, IsCandidate, IsOutcome};
+ghost use Rattle.ct_kept.specs.Kept.{Stored};
+ghost use Rattle.ct_engine.specs.Keeping.{IsCourseWith, IsOutcomeWith, AddsFirst, HasFirst};
 
-use crate::course::Course;
+use crate::course::{Course, first_count};
 use crate::error::SolveError;
 use crate::facts;
 use crate::outcome::{Candidate, Ending, Outcome};
@@ -42,13 +44,19 @@ pub(crate) fn conclude(
     requires task { IsTaskOf sig.now table.now asserts.now course.value }
     requires ended { IsEnded course.value theory ending }
     requires spent { ending ≡ Ending.Spent → IsOnRecord budget course.value }
+    requires stand { HasFirst course.value }
     ensures outcome { IfOk result (IsOutcome sig.now table.now asserts.now budget) }
+
+    // It begins with the clauses of a store where the search did.
+    ensures begun { (d : Declarations) (store : Stored) → IsCourseWith d store course.value → (ending ≡ Ending.Spent → AddsFirst course.value)
+        → IfOk result (IsOutcomeWith d store (course.value.initial + course.value.kept)) }
     ensures err { IsErrOf result SolveError.TooLarge → ⊥ }
 {
     match ending {
         Ending::Refuted => {
+            let first = first_count(&course);
             let whole = refutation_of(sig, table, asserts, course);
-            let derivation = shortened(alloc, sig, table, asserts, whole)?;
+            let derivation = shortened(alloc, sig, table, asserts, whole, first)?;
             Ok(Outcome::Unsat(derivation))
         }
         Ending::Spent => Ok(Outcome::Unknown(spending_of(course, budget))),
@@ -71,6 +79,7 @@ fn refutation_of(
     requires task { IsTaskOf sig.now table.now asserts.now course.value }
     requires ends { EndsEmpty course.value.derivation.rec.lines }
     ensures refutation { IsRefutation sig.now table.now asserts.now result }
+    ensures same { result ≡ course.value.derivation }
 {
     refuted(sig, table, asserts, &course);
     let Course {
@@ -80,6 +89,7 @@ fn refutation_of(
         moves,
         guide,
         initial: _,
+        kept: _,
         variables: _,
     } = Box::into_inner(course);
     drop(search);
@@ -96,6 +106,8 @@ fn spending_of(course: Box<Course>, budget: u64) -> Spent
     requires spent { course.value.search.count ≡ course.value.search.budget }
     requires on_record { IsOnRecord budget course.value }
     ensures spending { (d : Declarations) (table : Terms) (asserts : List TermId) → IsTaskOf d table asserts course.value → IsSpending d table asserts budget result }
+    ensures derivation { result.derivation ≡ course.value.derivation }
+    ensures moves { result.moves ≡ course.value.moves.items }
 {
     spent(&course);
     spent_searches();
@@ -106,6 +118,7 @@ fn spending_of(course: Box<Course>, budget: u64) -> Spent
         moves,
         guide,
         initial: _,
+        kept: _,
         variables,
     } = Box::into_inner(course);
     drop(search);

@@ -1,5 +1,6 @@
 //! A search under way, with the derivation that accounts for its clauses and, where it is recorded, its moves.
 ghost use Rattle.std.specs.Prelude.{◌≡◌, ◌+◌, true, [], ◌∷◌, ◌++◌, length, OnOk, IsErrOf};
+ghost use Rattle.ct_engine.specs.Keeping.{HasFirst};
 
 use crate::error::SolveError;
 use crate::guide::Guide;
@@ -22,6 +23,8 @@ pub(crate) struct Course {
     pub(crate) guide: Box<Guide>,
     /// How many lines of the derivation are initial ones.
     pub(crate) initial: usize,
+    /// How many lines after these are those of clauses of a store.
+    pub(crate) kept: usize,
     /// How many propositional variables the closure has.
     pub(crate) variables: u64,
 }
@@ -42,6 +45,15 @@ pub(crate) fn line_count(derivation: &Derivation) -> usize
     ensures value { result ≡ length derivation.now.rec.lines }
 {
     derivation.rec().lines().len()
+}
+
+/// How many lines stand before those of the search: the initial ones and those of the store.
+pub(crate) fn first_count(course: &Course) -> usize
+    requires stand { HasFirst course.now }
+    ensures value { result ≡ course.now.initial + course.now.kept }
+{
+    let _lines = line_count(&course.derivation);
+    course.initial + course.kept
 }
 
 /// The number that the next line of the derivation will have.

@@ -6,6 +6,7 @@ use ct_build::BuildError;
 use ct_card::CardError;
 use ct_eval::EvalError;
 use ct_explain::ExplainError;
+use ct_kept::KeptError;
 use ct_log::LogError;
 use ct_sat::SatError;
 use ct_terms::TermError;
@@ -65,6 +66,14 @@ impl From<ExplainError> for SolveError {
     ghost from_gives = { λ _ e. e ≡ NoMemory };
 
     fn from(_error: ExplainError) -> SolveError {
+        SolveError::NoMemory
+    }
+}
+
+impl From<KeptError> for SolveError {
+    ghost from_gives = { λ _ e. e ≡ NoMemory };
+
+    fn from(_error: KeptError) -> SolveError {
         SolveError::NoMemory
     }
 }

@@ -14,6 +14,7 @@ mod guide;
 mod guided;
 mod implied;
 mod initial;
+mod keeping;
 mod learn;
 mod luby;
 mod model;
@@ -32,7 +33,8 @@ mod testers;
 mod theorems;
 mod verdict;
 
+pub use ct_kept::{Kept, KeptError, Lemma};
 pub use error::SolveError;
-pub use solving::solve;
+pub use solving::{solve, solve_kept};
 pub use theorems::spent_searches;
 pub use verdict::{Move, Spent, Verdict};

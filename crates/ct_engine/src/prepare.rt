@@ -6,7 +6,7 @@ ghost use Rattle.ct_closure.specs.Closed.{HasMoreThan, most_closure_terms};
 ghost use Rattle.ct_closure.specs.ClosedTable.{AreSubtermsOf, IsClosedTable, AreRising, terms_at};
 ghost use Rattle.ct_log.specs.Recorded.{AreJudges};
 ghost use Rattle.ct_clauses.specs.Initial.{AreSplitTerms};
-ghost use Rattle.ct_engine.specs.Progress.{IsUnderWay, IsTaskOf, IsClosureOf, IsBegunOver, IsSearchOver};
+ghost use Rattle.ct_engine.specs.Progress.{IsUnderWay, IsTaskOf, IsClosureOf, IsBegunOver, IsSearchOver, IsAtStart};
 
 use crate::course::{Course, line_count};
 use crate::error::SolveError;
@@ -38,7 +38,7 @@ pub(crate) fn prepare(
     ensures recorded { IfOk result (λ course. course.recorded ≡ true) }
     ensures task { IfOk result (IsTaskOf sig.now table.now asserts.now) }
     ensures under_way { IfOk result IsUnderWay }
-    ensures start { IfOk result (λ course. course.search.decided ≡ []) }
+    ensures start { IfOk result (IsAtStart sig.now) }
     ensures too_large { IsErrOf result SolveError.TooLarge → HasMoreThan sig.now (terms_at table.now asserts.now) most_closure_terms }
     ensures fits { OnOk result (HasMoreThan sig.now (terms_at table.now asserts.now) most_closure_terms → ⊥) }
 {
@@ -61,6 +61,7 @@ pub(crate) fn prepare(
         moves,
         guide,
         initial,
+        kept: 0,
         variables,
     })
 }
@@ -105,7 +106,7 @@ fn begin(
     ensures err { IsErrOf result SolveError.TooLarge → ⊥ }
 {
     let asserts = Vec::from_slice(alloc, asserts)?;
-    let mut derivation = Derivation::new(alloc, sig, sizes, table, asserts)?;
+    let mut derivation = Derivation::new(alloc, sig, sizes, table, asserts);
     clauses(alloc, sig, closure, &mut derivation)?;
     Ok(derivation)
 }

@@ -1,16 +1,18 @@
 //! The check of assertions.
-ghost use Rattle.std.specs.Prelude.{◌≡◌, [], true, ℕ, suc, ◌≤◌, ◌^◌, All, IfOk, OnOk, IsErrOf};
+ghost use Rattle.std.specs.Prelude.{◌≡◌, [], true, ℕ, suc, ◌≤◌, ◌^◌, All, IfOk, OnOk, OnErr, IsErrOf};
 ghost use Rattle.ct_card.specs.Sizes.{AreSizes};
 ghost use Rattle.ct_terms.specs.Terms.{AreSorted, IsBoolean};
 ghost use Rattle.ct_closure.specs.Closed.{HasMoreThan, HasVariables, most_closure_terms};
 ghost use Rattle.ct_closure.specs.ClosedTable.{AreSubtermsOf, terms_at};
 ghost use Rattle.ct_engine.specs.Verdict.{IsVerdict, IsDecisive};
 ghost use Rattle.ct_engine.specs.Opening.{IsBeforeDecisions};
-ghost use Rattle.ct_engine.specs.Progress.{IsUnderWay, IsTaskOf, IsTheoryOf, IsEnded, IsOnRecord, IsOfOneClosure, IsOutcome};
+ghost use Rattle.ct_engine.specs.Progress.{IsUnderWay, IsTaskOf, IsTheoryOf, IsEnded, IsOnRecord, IsOfOneClosure, IsOutcome, IsAtStart};
+ghost use Rattle.ct_engine.specs.Keeping.{HasKept, IsCourseWith, IsOutcomeWith, IsVerdictWith, AddsFirst, HasFirst};
 
 use crate::answer::conclude;
-use crate::course::Course;
+use crate::course::{Course, first_count};
 use crate::error::SolveError;
+use crate::keeping::{add_kept, keep_lines};
 use crate::model::model;
 use crate::opening::open_search;
 use crate::outcome::{Ending, Outcome};
@@ -19,7 +21,8 @@ use crate::stages::{first_budget, search};
 use crate::theorems::spent_searches;
 use crate::verdict::Verdict;
 use ct_card::Sizes;
-use ct_sorts::Signature;
+use ct_kept::Kept;
+use ct_sorts::{Signature, growth};
 use ct_terms::{TermId, TermTable};
 use ct_theory::Theory;
 use std::alloc::Global;
@@ -52,21 +55,82 @@ pub fn solve(
     ensures too_large { IsErrOf result SolveError.TooLarge → HasMoreThan sig.now (terms_at table.now asserts.now) most_closure_terms }
     ensures fits { OnOk result (HasMoreThan sig.now (terms_at table.now asserts.now) most_closure_terms → ⊥) }
 {
+    growth();
+    let _sorts = sig.sorts();
+    let mut kept = Box::new(alloc, Kept::new(alloc)?)?;
+    let verdict = solve_kept(alloc, sig, table, asserts, budget, &mut kept)?;
+    drop(kept);
+    Ok(verdict)
+}
+
+/// As `solve`, with clauses that the theory gave in earlier checks: those of the store that are moved into the closure and
+/// accepted there stand behind the initial lines of the derivation, and the search has them from its start. The terms of the
+/// store are well sorted over the signature, and stay so.
+///
+/// After `Unsat` and `Unknown` the store has taken the further clauses of the theory in the derivation, in order, up to the first
+/// for which it holds 4,096 or its table is full. After `Sat`, and where there is no verdict, it is as it was.
+pub fn solve_kept(
+    alloc: Global,
+    sig: &Signature,
+    table: &TermTable,
+    asserts: &[TermId],
+    budget: u64,
+    kept: &mut Kept,
+) -> Result<Verdict, SolveError>
+    requires sorted { AreSorted sig.now table.now }
+    requires asserts { All (IsBoolean table.now) asserts.now }
+    requires exact { AreSubtermsOf table.now asserts.now }
+    requires kept { AreSorted sig.now kept.old.table }
+    ensures verdict { IfOk result (IsVerdict sig.now table.now asserts.now budget) }
+    ensures decides { IfOk result (λ verdict. (variables : ℕ) → HasVariables sig.now (terms_at table.now asserts.now) variables
+        → 2 ^ variables ≤ suc budget → IsDecisive verdict) }
+    ensures too_large { IsErrOf result SolveError.TooLarge → HasMoreThan sig.now (terms_at table.now asserts.now) most_closure_terms }
+    ensures fits { OnOk result (HasMoreThan sig.now (terms_at table.now asserts.now) most_closure_terms → ⊥) }
+    ensures kept { IfOk result (HasKept sig.now kept.old kept.new) }
+    ensures sorted { AreSorted sig.now kept.new.table }
+    ensures refused { OnErr result (kept.new ≡ kept.old) }
+{
+    let (found, first) = verdict_on(alloc, sig, table, asserts, budget, &*kept)?;
+    let verdict = Box::new(alloc, found)?;
+    keep_lines(alloc, sig, &verdict, first, kept)?;
+    Ok(Box::into_inner(verdict))
+}
+
+// The verdict of a search that begins with the clauses of the store, and how many lines of its derivation are initial ones or
+// those of the store.
+fn verdict_on(
+    alloc: Global,
+    sig: &Signature,
+    table: &TermTable,
+    asserts: &[TermId],
+    budget: u64,
+    kept: &Kept,
+) -> Result<(Verdict, usize), SolveError>
+    requires sorted { AreSorted sig.now table.now }
+    requires asserts { All (IsBoolean table.now) asserts.now }
+    requires exact { AreSubtermsOf table.now asserts.now }
+    ensures verdict { IfOk result (λ found. IsVerdict sig.now table.now asserts.now budget found.0) }
+    ensures decides { IfOk result (λ found. (variables : ℕ) → HasVariables sig.now (terms_at table.now asserts.now) variables
+        → 2 ^ variables ≤ suc budget → IsDecisive found.0) }
+    ensures begun { IfOk result (λ found. IsVerdictWith sig.now kept.now found.1 found.0) }
+    ensures too_large { IsErrOf result SolveError.TooLarge → HasMoreThan sig.now (terms_at table.now asserts.now) most_closure_terms }
+    ensures fits { OnOk result (HasMoreThan sig.now (terms_at table.now asserts.now) most_closure_terms → ⊥) }
+{
     spent_searches();
     let sizes = sizes_of(alloc, sig)?;
-    let outcome = find(alloc, sig, &sizes, table, asserts, budget)?;
+    let (outcome, first) = find(alloc, sig, &sizes, table, asserts, budget, kept)?;
     match outcome {
-        Outcome::Unsat(derivation) => Ok(Verdict::Unsat(derivation)),
-        Outcome::Unknown(spent) => Ok(Verdict::Unknown(spent)),
+        Outcome::Unsat(derivation) => Ok((Verdict::Unsat(derivation), first)),
+        Outcome::Unknown(spent) => Ok((Verdict::Unknown(spent), first)),
         Outcome::Candidate(candidate) => {
             let interp = model(alloc, sig, &sizes, &candidate)?;
             drop(candidate);
-            Ok(Verdict::Sat(interp))
+            Ok((Verdict::Sat(interp), first))
         }
     }
 }
 
-// What a search over the clauses of the assertions finds.
+// What a search over the clauses of the assertions and those of the store finds, and how many lines these have.
 fn find(
     alloc: Global,
     sig: &Signature,
@@ -74,20 +138,31 @@ fn find(
     table: &TermTable,
     asserts: &[TermId],
     budget: u64,
-) -> Result<Outcome, SolveError>
+    kept: &Kept,
+) -> Result<(Outcome, usize), SolveError>
     requires sizes { AreSizes sig.now sizes.now }
     requires sorted { AreSorted sig.now table.now }
     requires asserts { All (IsBoolean table.now) asserts.now }
     requires exact { AreSubtermsOf table.now asserts.now }
-    ensures outcome { IfOk result (IsOutcome sig.now table.now asserts.now budget) }
+    ensures outcome { IfOk result (λ found. IsOutcome sig.now table.now asserts.now budget found.0) }
+    ensures begun { IfOk result (λ found. IsOutcomeWith sig.now kept.now found.1 found.0) }
     ensures too_large { IsErrOf result SolveError.TooLarge → HasMoreThan sig.now (terms_at table.now asserts.now) most_closure_terms }
     ensures fits { OnOk result (HasMoreThan sig.now (terms_at table.now asserts.now) most_closure_terms → ⊥) }
 {
-    let mut course = begun(alloc, sig, sizes, table, asserts, first_budget(budget))?;
+    let mut course = begun_with(
+        alloc,
+        sig,
+        sizes,
+        table,
+        asserts,
+        first_budget(budget),
+        kept,
+    )?;
+    let first = first_count(&course);
     let mut theory = theory_of(alloc, sig, sizes, &course)?;
     let ending = explore(alloc, sig, sizes, budget, &mut course, &mut theory)?;
     let outcome = conclude(alloc, sig, table, asserts, budget, course, theory, ending)?;
-    Ok(outcome)
+    Ok((outcome, first))
 }
 
 // Adds what can be said before the first decision, and searches.
@@ -102,9 +177,11 @@ fn explore(
     requires before { IsBeforeDecisions sig.now sizes.now course.old }
     requires recorded { course.old.recorded ≡ true }
     requires theory { IsTheoryOf course.old theory.old }
+    requires stand { HasFirst course.old }
     ensures same { OnOk result (IsOfOneClosure course.old course.new) }
     ensures ended { IfOk result (IsEnded course.new theory.new) }
     ensures spent { IfOk result (λ r. r ≡ Ending.Spent → IsOnRecord budget course.new) }
+    ensures adds { AddsFirst course.old → IfOk result (λ r. r ≡ Ending.Spent → AddsFirst course.new) }
     ensures err { IsErrOf result SolveError.TooLarge → ⊥ }
 {
     open_search(alloc, sig, sizes, course, theory)?;
@@ -129,6 +206,34 @@ fn theory_of(
     Ok(theory)
 }
 
+// A search over the closure of the assertions that has made no move but to add the clauses of the store.
+fn begun_with(
+    alloc: Global,
+    sig: &Signature,
+    sizes: &Sizes,
+    table: &TermTable,
+    asserts: &[TermId],
+    budget: u64,
+    kept: &Kept,
+) -> Result<Box<Course>, SolveError>
+    requires sizes { AreSizes sig.now sizes.now }
+    requires sorted { AreSorted sig.now table.now }
+    requires asserts { All (IsBoolean table.now) asserts.now }
+    requires exact { AreSubtermsOf table.now asserts.now }
+    ensures before { IfOk result (λ course. IsBeforeDecisions sig.now sizes.now course.value) }
+    ensures recorded { IfOk result (λ course. course.value.recorded ≡ true) }
+    ensures task { IfOk result (λ course. IsTaskOf sig.now table.now asserts.now course.value) }
+    ensures begun { IfOk result (λ course. IsCourseWith sig.now kept.now course.value) }
+    ensures adds { IfOk result (λ course. AddsFirst course.value) }
+    ensures stand { IfOk result (λ course. HasFirst course.value) }
+    ensures too_large { IsErrOf result SolveError.TooLarge → HasMoreThan sig.now (terms_at table.now asserts.now) most_closure_terms }
+    ensures fits { OnOk result (HasMoreThan sig.now (terms_at table.now asserts.now) most_closure_terms → ⊥) }
+{
+    let mut course = begun(alloc, sig, sizes, table, asserts, budget)?;
+    add_kept(alloc, sig, sizes, &mut course, kept)?;
+    Ok(course)
+}
+
 // A search over the closure of the assertions that has made no move.
 fn begun(
     alloc: Global,
@@ -146,7 +251,7 @@ fn begun(
     ensures recorded { IfOk result (λ course. course.value.recorded ≡ true) }
     ensures task { IfOk result (λ course. IsTaskOf sig.now table.now asserts.now course.value) }
     ensures under_way { IfOk result (λ course. IsUnderWay course.value) }
-    ensures start { IfOk result (λ course. course.value.search.decided ≡ []) }
+    ensures start { IfOk result (λ course. IsAtStart sig.now course.value) }
     ensures too_large { IsErrOf result SolveError.TooLarge → HasMoreThan sig.now (terms_at table.now asserts.now) most_closure_terms }
     ensures fits { OnOk result (HasMoreThan sig.now (terms_at table.now asserts.now) most_closure_terms → ⊥) }
 {

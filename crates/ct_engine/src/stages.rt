@@ -4,9 +4,10 @@
 //! decisions is free until a record is owed.
 ghost use Rattle.std.specs.Prelude.{◌≡◌, true, IfOk, OnOk, IsErrOf, MatchOption};
 ghost use Rattle.ct_engine.specs.Progress.{IsUnderWay, IsTheoryOf, IsEnded, IsOnRecord, IsOfOneClosure};
+ghost use Rattle.ct_engine.specs.Keeping.{AddsFirst, HasFirst};
 
-use crate::again::{add_again, begin_again, short_lines};
-use crate::course::Course;
+use crate::again::{add_again, add_first, begin_again, short_lines};
+use crate::course::{Course, first_count};
 use crate::error::SolveError;
 use crate::guide::Guide;
 use crate::outcome::Ending;
@@ -36,9 +37,11 @@ pub(crate) fn search(
     requires under_way { IsUnderWay course.old }
     requires recorded { course.old.recorded ≡ true }
     requires theory { IsTheoryOf course.old theory.old }
+    requires stand { HasFirst course.old }
     ensures same { OnOk result (IsOfOneClosure course.old course.new) }
     ensures ended { IfOk result (IsEnded course.new theory.new) }
     ensures spent { IfOk result (λ r. r ≡ Ending.Spent → IsOnRecord budget course.new) }
+    ensures adds { AddsFirst course.old → IfOk result (λ r. r ≡ Ending.Spent → AddsFirst course.new) }
     ensures err { IsErrOf result SolveError.TooLarge → ⊥ }
 {
     let first = run(alloc, course, theory)?;
@@ -57,9 +60,11 @@ fn go_on(
     requires theory { IsTheoryOf course.old theory.old }
     requires ended { IsEnded course.old theory.old ending }
     requires recorded { course.old.recorded ≡ true }
+    requires stand { HasFirst course.old }
     ensures same { OnOk result (IsOfOneClosure course.old course.new) }
     ensures ended { IfOk result (IsEnded course.new theory.new) }
     ensures spent { IfOk result (λ r. r ≡ Ending.Spent → IsOnRecord budget course.new) }
+    ensures adds { AddsFirst course.old → IfOk result (λ r. r ≡ Ending.Spent → AddsFirst course.new) }
     ensures err { IsErrOf result SolveError.TooLarge → ⊥ }
 {
     match ending {
@@ -162,12 +167,13 @@ fn begin_round(alloc: Global, left: u64, course: &mut Course) -> Result<(), Solv
     let length = course.guide.round(left);
     let numbers = course.guide.keep_lines(alloc)?;
     begin_again(alloc, course, length, false)?;
-    add_again(course, numbers.as_slice())?;
+    let initial = course.initial;
+    add_again(course, initial, numbers.as_slice())?;
     drop(numbers);
     Ok(())
 }
 
-// A recorded search of at most so many decisions, which begins with the short clauses that were taught.
+// A recorded search of at most so many decisions, which begins with the store's clauses and the short ones that were taught.
 fn record_anew(
     alloc: Global,
     budget: u64,
@@ -176,15 +182,19 @@ fn record_anew(
 ) -> Result<Ending, SolveError>
     requires under_way { IsUnderWay course.old }
     requires theory { IsTheoryOf course.old theory.old }
+    requires stand { HasFirst course.old }
     ensures same { OnOk result (IsOfOneClosure course.old course.new) }
     ensures ended { IfOk result (IsEnded course.new theory.new) }
     ensures on_record { OnOk result (IsOnRecord budget course.new) }
+    ensures adds { OnOk result (AddsFirst course.new) }
     ensures err { IsErrOf result SolveError.TooLarge → ⊥ }
 {
     dismiss_guide(alloc, course)?;
     let numbers = short_lines(alloc, course)?;
     begin_again(alloc, course, budget, true)?;
-    add_again(course, numbers.as_slice())?;
+    add_first(course)?;
+    let first = first_count(&*course);
+    add_again(course, first, numbers.as_slice())?;
     drop(numbers);
     let ending = run(alloc, course, theory)?;
     Ok(ending)

@@ -1,13 +1,14 @@
 -- Terms with a node for each: one term more, and all of them.
-use Rattle.std.proofs.Common.{◌≡◌, ℕ, ◌<◌, inl, inr, List, [], ◌∷◌, ◌++◌, length, All, Contains, Result, Ok, Err, IfOk, Some, slice_get, get_or, sym, ap, subst, ◌∙◌, arith}
-use Rattle.std.proofs.lemmas.List.{append-nil, length_push}
+use Rattle.std.proofs.Common.{◌≡◌, ℕ, suc, ◌<◌, ◌≤◌, inl, inr, List, [], ◌∷◌, ◌++◌, length, All, Contains, Result, Ok, Err, IfOk, OnOk, Some, slice_get, get_or, refl, sym, ap, subst, ◌∙◌, arith}
+use Rattle.std.proofs.lemmas.List.{append-nil, length-append, length_push}
 use Rattle.std.proofs.lemmas.List.Elements.{Contains-append_left, Contains-push}
 use Rattle.std.proofs.lemmas.Option.{none-some, same_Some, slice_get_within, slice_get-get_or}
-use Rattle.ct_lemmas.proofs.Lists.{slice_get-append_left, slice_get-push_cases, slice_get-there}
+use Rattle.ct_lemmas.proofs.Lists.{slice_get-append_left, slice_get-prefix, slice_get-push_cases, slice_get-there}
 use Rattle.ct_lemmas.proofs.Numbers.{last_or_before}
 use Rattle.ct_lemmas.proofs.Pairs.{AllZip-left_parts}
 use Rattle.ct_sorts.specs.declared.ids.SortId.{SortId}
 use Rattle.ct_sorts.specs.Declarations.{Declarations}
+use Rattle.ct_sorts.specs.Grown.{Begins}
 use Rattle.ct_sorts.specs.Structure.{AreOfTheirConstructors}
 use Rattle.ct_values.specs.declared.node.NodeId.{NodeId}
 use Rattle.ct_values.specs.declared.node.Node.{Node}
@@ -29,7 +30,7 @@ use Rattle.ct_eval.specs.Evaluation.{core_value, value_of}
 use Rattle.ct_eval.specs.Valued.{IsLonger, AreNewAmong, IsValuation}
 use Rattle.ct_eval.specs.EvaluationStep.{HasValue, AreValued, HaveNodes, IsGrown}
 use Rattle.ct_eval.proofs.StepNodes.{IsLonger-further}
-use Rattle.ct_eval.proofs.EvaluationLemmas.{value_of-unfolds}
+use Rattle.ct_eval.proofs.EvaluationLemmas.{value_of-unfolds, value_below-longer}
 
 -- the theorem on representatives in a graph that grows
 abbrev pub Lasting : Type 0
@@ -145,6 +146,26 @@ module _ (d : Declarations) where
         let given = value terms (value_of d i terms) has.0 before.valued (sorted t.0 core has.0 has.1) in
         HaveNodes-push lasting ordered g longer nodes n core has.0 before (ap (slice_get terms) (sym position) ∙ has.1) grown given.0 given.1
 
+    -- terms after these change nothing for those that have nodes
+    HaveNodes-longer : (more : Terms) → AreOrdered (terms ++ more) → (g : Nodes) (nodes : List NodeId) → length nodes ≤ length terms → HaveNodes d i terms g nodes → HaveNodes d i (terms ++ more) g nodes
+    HaveNodes-longer more ordered g nodes few have = record {
+      longer = have.longer;
+      made = have.made;
+      fits = have.fits;
+      valued = λ t sort n sorted at.
+          let inside = slice_get_within nodes t.0 n at in
+          let within : t.0 < length terms = omega arith in
+          subst (λ (v : Value). HasValue d i g v sort n) (sym (value_below-longer d i terms more ordered (suc t.0) t within))
+          (have.valued t sort n (sorted.0, sym (slice_get-prefix terms more t.0 within) ∙ sorted.1) at);
+    }
+
+    -- so it is in a table that begins with these terms
+    pub HaveNodes-in : (table : Terms) → AreOrdered table → Begins terms table → (g : Nodes) (nodes : List NodeId) → length nodes ≤ length terms → HaveNodes d i terms g nodes → HaveNodes d i table g nodes × (length nodes ≤ length table)
+    HaveNodes-in table ordered begins g nodes few have =
+        let long = length-append terms begins.0 in
+        subst (λ (ts : Terms). HaveNodes d i ts g nodes × (length nodes ≤ length ts)) (sym begins.1)
+        (HaveNodes-longer begins.0 (subst AreOrdered begins.1 ordered) g nodes few have, omega arith)
+
     -- where each term has a node, there is a valuation
     pub IsValuation-from : (g h : Nodes) (nodes list : List NodeId) → h ≡ g → list ≡ nodes → HaveNodes d i terms g nodes → length nodes ≡ length terms → IsValuation d i terms (record { graph = h; nodes = list })
     IsValuation-from g h nodes list at_graph at_nodes have all =
@@ -162,6 +183,11 @@ module _ (d : Declarations) where
               let stood = slice_get-there terms t.0 (subst (λ k. t.0 < k) all (slice_get_within nodes t.0 n at)) in
               (have.valued t stood.0.1 n (stood.0.0, stood.1) at).first;
         }
+
+    -- the same of what may fail
+    pub valuation_on_ok : {T E : Type 0} (r : Result T E) (g : Nodes) (nodes : List NodeId) → OnOk r (HaveNodes d i terms g nodes) → OnOk r (length nodes ≡ length terms) → OnOk r (IsValuation d i terms (record { graph = g; nodes = nodes }))
+    valuation_on_ok (Ok x) g nodes have all = IsValuation-from g g nodes nodes refl refl have all
+    valuation_on_ok (Err e) g nodes have all = tt
 
     -- each node of a valuation is one of its graph
     pub IsValuation-nodes : (v : Valuation) → IsValuation d i terms v → All (λ n. n.0 < length v.graph) v.nodes

@@ -7,4 +7,5 @@ pub mod Truth
 pub mod Valued
 pub mod Index
 pub mod EvaluationStep
+pub mod Evaluator
 pub mod TreeValue

@@ -22,4 +22,4 @@ pub use proper::is_proper;
 pub use theorems::{
     appended_nodes, congruence, constructor_terms, evaluation, truth_values, values_of_trees,
 };
-pub use valuation::evaluate;
+pub use valuation::{Evaluator, evaluate};

@@ -1,9 +1,10 @@
 //! Derivations: records whose lines are all accepted.
-ghost use Rattle.std.specs.Prelude.{◌≡◌, [], ◌∷◌, ◌++◌, OnOk, OnErr, IfOk, IfErr};
+ghost use Rattle.std.specs.Prelude.{◌≡◌, [], ◌∷◌, ◌++◌, OnOk, OnErr, IfErr};
 ghost use Rattle.ct_log.specs.Acceptance.{IsAccepted, clauses_of};
 ghost use Rattle.ct_log.specs.Recorded.{AreJudges, IsDerivation};
 
 use crate::error::LogError;
+use crate::judges::Judges;
 use crate::line::Line;
 use crate::lines::Record;
 use ct_card::Sizes;
@@ -15,8 +16,7 @@ use std::marker::Model;
 /// A record over a signature, its sizes and assertions, every line of which is accepted after those before it.
 #[derive(Drop)]
 pub struct Derivation {
-    sig: Signature,
-    sizes: Sizes,
+    judges: Judges,
     rec: Record,
     asserts: Vec<TermId>,
 }
@@ -26,32 +26,28 @@ impl Model for Derivation {
 
     ghost Value = { Derived };
 
-    ghost view = { λ stored. record { declarations = stored.sig; sizes = stored.sizes; rec = stored.rec; asserts = stored.asserts.items } };
+    ghost view = { λ stored. record { declarations = stored.judges.declarations; sizes = stored.judges.sizes; rec = stored.rec; asserts = stored.asserts.items } };
 
-    ghost invariant = { λ stored. IsDerivation (record { declarations = stored.sig; sizes = stored.sizes; rec = stored.rec; asserts = stored.asserts.items }) };
+    ghost invariant = { λ stored. IsDerivation (record { declarations = stored.judges.declarations; sizes = stored.judges.sizes; rec = stored.rec; asserts = stored.asserts.items }) };
 }
 
 impl Derivation {
-    /// A derivation without lines, over copies of the signature and the sizes. Its only error is out of memory.
+    /// A derivation without lines. It keeps nothing of the signature and the sizes. Takes no memory.
     pub fn new(
         alloc: Global,
         sig: &Signature,
         sizes: &Sizes,
         table: TermTable,
         asserts: Vec<TermId>,
-    ) -> Result<Derivation, LogError>
+    ) -> Derivation
         requires judges { AreJudges sig.now sizes.now table asserts.items }
-        ensures begun { IfOk result (λ derivation. derivation ≡ record { declarations = sig.now; sizes = sizes.now; rec = record { terms = table; lines = [] }; asserts = asserts.items }) }
-        ensures err { IfErr result (λ e. e ≡ LogError.NoMemory) }
+        ensures begun { result ≡ record { declarations = sig.now; sizes = sizes.now; rec = record { terms = table; lines = [] }; asserts = asserts.items } }
     {
-        let sizes = sizes.copy()?;
-        let sig = copy_of(sig)?;
-        Ok(Derivation {
-            sig,
-            sizes,
+        Derivation {
+            judges: Judges::of(sig, sizes),
             rec: Record::new(table, Vec::new(alloc)),
             asserts,
-        })
+        }
     }
 
     /// One more line at the end, which is accepted after the others. Its only error is out of memory, which changes nothing.
@@ -88,16 +84,5 @@ impl Derivation {
         ensures derivation { IsDerivation self.now }
     {
         self.asserts.as_slice()
-    }
-}
-
-// An equal signature.
-fn copy_of(sig: &Signature) -> Result<Signature, LogError>
-    ensures value { IfOk result (λ copy. copy ≡ sig.now) }
-    ensures err { IfErr result (λ e. e ≡ LogError.NoMemory) }
-{
-    match sig.copy() {
-        Ok(copy) => Ok(copy),
-        Err(_) => Err(LogError::NoMemory),
     }
 }

@@ -2,7 +2,6 @@
 ghost use Rattle.std.specs.Prelude.{◌≡◌};
 ghost use Rattle.ct_log.specs.declared.error.LogError.TheVariants.{NoMemory};
 
-use ct_card::CardError;
 use std::alloc::{AllocError, AllocFailed};
 
 /// Why a record was not made.
@@ -26,14 +25,6 @@ impl<T: Drop> From<AllocFailed<T>> for LogError {
     ghost from_gives = { λ _ e. e ≡ NoMemory };
 
     fn from(_error: AllocFailed<T>) -> LogError {
-        LogError::NoMemory
-    }
-}
-
-impl From<CardError> for LogError {
-    ghost from_gives = { λ _ e. e ≡ NoMemory };
-
-    fn from(_error: CardError) -> LogError {
         LogError::NoMemory
     }
 }

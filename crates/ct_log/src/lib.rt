@@ -9,6 +9,7 @@ mod error;
 mod exhaust;
 mod gate;
 mod head;
+mod judges;
 mod line;
 mod lines;
 mod look;

@@ -14,7 +14,7 @@ use Rattle.ct_sexpr.specs.Unread.{Unread}
 use Rattle.ct_engine.specs.declared.verdict.Verdict.{Verdict}
 use Rattle.ct_step.specs.State.{first_state}
 use Rattle.ct_step.specs.Step.{refusal_text}
-use Rattle.ct_script.specs.Session.{Course}
+use Rattle.ct_script.specs.Session.{Course, first_course}
 use Rattle.ct_script.specs.Answers.{Answers, Leads, lines_of, errors_of}
 use Rattle.ct_input.specs.declared.feeding.InputError.{InputError}
 use Rattle.ct_input.specs.declared.feeding.InputError.TheVariants as input
@@ -89,10 +89,6 @@ held_whole bytes u w = record {
   all = sym (append-nil u.bytes ∙ w.all);
   whole = λ e. sym w.all;
 }
-
--- what a session has come to at the start
-abbrev pub first_course : Course
-first_course = record { state = first_state; number = 0; verdicts = []; errors = [] }
 
 -- a run that answered a script to its end, by its errors
 finishes : (bytes : List ℕ) (taken : ℕ) (verdicts : List Verdict) (errors : List (ℕ × ℕ)) (old new : Option (List ℕ)) → Finishes bytes verdicts errors old new → Solves bytes taken (status_of_script errors) verdicts errors old new

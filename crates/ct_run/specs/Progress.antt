@@ -27,7 +27,7 @@ progress course unread written = record { course = course; unread = unread; writ
 -- the session answered an expression on this line with this effect
 pub record AnsweredWith (old new : Course) (line : ℕ) (e : Expression) (effect : CommandEffect) : Type 0 where
   pub step : Step old.state old.number line e effect
-  pub course : new ≡ after old line e effect
+  pub course : new ≡ after old line e effect new.store
 
 -- memory ran out, and so nothing was answered
 pub record IsUnanswered (error : SinkError) (old new : Course) (before now : Option (List ℕ)) : Type 0 where

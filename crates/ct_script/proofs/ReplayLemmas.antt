@@ -3,6 +3,7 @@ use Rattle.std.proofs.Common.{◌≡◌, ◌∙◌, ℕ, Bool, true, false, true
 use Rattle.std.specs.Bool.{MatchBool}
 use Rattle.std.proofs.lemmas.List.{append-nil}
 use Rattle.ct_sorts.specs.Declarations.{with_function}
+use Rattle.ct_kept.specs.Kept.{Stored}
 use Rattle.ct_model.specs.ModelText.{IsModelText}
 use Rattle.ct_log_text.specs.Written.{expression_of_record, text_of}
 use Rattle.ct_command.specs.Command.{Command, set_logic, set_option, get_option, set_info, get_info, declare_sort, declare_block, declare_fun, define_fun, assert, check_sat, push, pop, reset_assertions, reset, get_model, get_value, get_proof, echo, exit, unsupported}
@@ -81,16 +82,16 @@ silent s number line c e other (inl refused) = ap (λ (x : CommandEffect). x.ver
 silent s number line c e other (inr accepted) = no_verdict s number c e other accepted.1
 
 -- what a command that was done says of it as one that is replayed
-pub replays : (old new : Course) (line : ℕ) (c : Command) (a : Answer) (r : Replayed) → is_check (Ok c) ≡ false → (e : CommandEffect) × Steps old.state (counted_with old.number c) line (Ok c) e × (new ≡ reached old line (counted_with old.number c) e) × IsAnswer e a → r.check ≡ false → r.stop ≡ a.stop → Replays old line (Ok c) new r
+pub replays : (old new : Course) (line : ℕ) (c : Command) (a : Answer) (r : Replayed) → is_check (Ok c) ≡ false → (e : CommandEffect) × Steps old.state (counted_with old.number c) line (Ok c) e × (new ≡ reached old line (counted_with old.number c) e new.store) × IsAnswer e a → r.check ≡ false → r.stop ≡ a.stop → Replays old line (Ok c) new r
 replays old new line c a r other (e, steps, is, answer) check stop =
     subst (λ (b : Bool). MatchBool b (IsCounted old new r) (IsStepped old line (Ok c) new r)) (sym other)
-    (e, subst (λ (n : ℕ). Steps old.state n line (Ok c) e) same steps, is ∙ ap (λ (n : ℕ). reached old line n e) same, check, stop ∙ answer.stop)
+    (e, subst (λ (n : ℕ). Steps old.state n line (Ok c) e) same steps, is ∙ ap (λ (n : ℕ). reached old line n e new.store) same, check, stop ∙ answer.stop)
   where
     same : counted_with old.number c ≡ old.number
     same = uncounted old.number c other
 
 -- and of the verdicts
-pub none_given : (old new : Course) (line : ℕ) (c : Command) (a : Answer) → is_check (Ok c) ≡ false → (e : CommandEffect) × Steps old.state (counted_with old.number c) line (Ok c) e × (new ≡ reached old line (counted_with old.number c) e) × IsAnswer e a → old.verdicts ≡ [] → new.verdicts ≡ []
+pub none_given : (old new : Course) (line : ℕ) (c : Command) (a : Answer) → is_check (Ok c) ≡ false → (e : CommandEffect) × Steps old.state (counted_with old.number c) line (Ok c) e × (new ≡ reached old line (counted_with old.number c) e new.store) × IsAnswer e a → old.verdicts ≡ [] → new.verdicts ≡ []
 none_given old new line c a other (e, steps, is, answer) none =
     ap (λ (x : Course). x.verdicts) is
     ∙ ap (λ (vs : List Verdict). old.verdicts ++ vs) (silent old.state (counted_with old.number c) line c e other steps)
@@ -98,19 +99,19 @@ none_given old new line c a other (e, steps, is, answer) none =
     ∙ none
 
 -- a check is counted
-pub counts : (old : SessionState) (number : ℕ) (errors : List (ℕ × ℕ)) (s : Course) → course old number errors ≡ s → (line : ℕ) (c : Command) (count : ℕ) (r : Replayed) → is_check (Ok c) ≡ true → count ≡ one_more number → r.check ≡ true → r.stop ≡ false → Replays s line (Ok c) (course old count errors) r
-counts old number errors s seen line c count r is same check stop =
-    subst (λ (b : Bool). MatchBool b (IsCounted s (course old count errors) r) (IsStepped s line (Ok c) (course old count errors) r)) (sym is)
-    (subst (λ (t : Course). course old count errors ≡ record t { number = one_more t.number }) seen (ap (λ (n : ℕ). course old n errors) same), check, stop)
+pub counts : (old : SessionState) (number : ℕ) (errors : List (ℕ × ℕ)) (store : Stored) (s : Course) → course old number errors store ≡ s → (line : ℕ) (c : Command) (count : ℕ) (r : Replayed) → is_check (Ok c) ≡ true → count ≡ one_more number → r.check ≡ true → r.stop ≡ false → Replays s line (Ok c) (course old count errors store) r
+counts old number errors store s seen line c count r is same check stop =
+    subst (λ (b : Bool). MatchBool b (IsCounted s (course old count errors store) r) (IsStepped s line (Ok c) (course old count errors store) r)) (sym is)
+    (subst (λ (t : Course). course old count errors store ≡ record t { number = one_more t.number }) seen (ap (λ (n : ℕ). course old n errors store) same), check, stop)
 
 -- what is no command is refused
-pub unread : (old : SessionState) (number : ℕ) (errors : List (ℕ × ℕ)) (s : Course) → course old number errors ≡ s → (line : ℕ) (x : Expression) (code : ℕ) (a : Answer) (r : Replayed) (new_errors : List (ℕ × ℕ)) → command x ≡ Err code → new_errors ≡ errors ++ (line, code) ∷ [] → IsAnswer (refused (state_of old) line code) a → r.check ≡ false → r.stop ≡ a.stop → Replays s line (command x) (course old number new_errors) r
-unread old number errors s seen line x code a r new_errors is stored answer check stop =
-    subst (λ (read : Read). Replays s line read (course old number new_errors) r) (sym is)
-    (subst (λ (t : Course). Replays t line (Err code) (course old number new_errors) r) seen replayed)
+pub unread : (old : SessionState) (number : ℕ) (errors : List (ℕ × ℕ)) (store : Stored) (s : Course) → course old number errors store ≡ s → (line : ℕ) (x : Expression) (code : ℕ) (a : Answer) (r : Replayed) (new_errors : List (ℕ × ℕ)) → command x ≡ Err code → new_errors ≡ errors ++ (line, code) ∷ [] → IsAnswer (refused (state_of old) line code) a → r.check ≡ false → r.stop ≡ a.stop → Replays s line (command x) (course old number new_errors store) r
+unread old number errors store s seen line x code a r new_errors is stored answer check stop =
+    subst (λ (read : Read). Replays s line read (course old number new_errors store) r) (sym is)
+    (subst (λ (t : Course). Replays t line (Err code) (course old number new_errors store) r) seen replayed)
   where
-    come : Comes (course old number errors) line (Err code) (course old number new_errors) a
-    come = comes_unread old number errors line code a new_errors stored answer
+    come : Comes (course old number errors store) line (Err code) (course old number new_errors store) a
+    come = comes_unread old number errors store line code a new_errors stored answer
 
-    replayed : Replays (course old number errors) line (Err code) (course old number new_errors) r
+    replayed : Replays (course old number errors store) line (Err code) (course old number new_errors store) r
     replayed = (come.0, come.1, come.2, check, stop ∙ come.3.stop)

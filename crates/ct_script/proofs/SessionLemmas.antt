@@ -5,6 +5,7 @@ use Rattle.ct_sexpr.specs.Expression.{Expression}
 use Rattle.ct_sorts.specs.Declarations.{with_function}
 use Rattle.ct_model.specs.ModelText.{IsModelText}
 use Rattle.ct_log_text.specs.Written.{expression_of_record, text_of}
+use Rattle.ct_kept.specs.Kept.{Stored}
 use Rattle.ct_command.specs.Command.{Command, set_logic, set_option, get_option, set_info, get_info, declare_sort, declare_block, declare_fun, define_fun, assert, check_sat, push, pop, reset_assertions, reset, get_model, get_value, get_proof, echo, exit, unsupported}
 use Rattle.ct_command.specs.Reading.{Read, command}
 use Rattle.ct_engine.specs.declared.verdict.Verdict.{Verdict}
@@ -25,7 +26,7 @@ error_of : (e t : CommandEffect) → t.error ≡ None → e ≡ t → e.error �
 error_of e t none is = ap (λ (x : CommandEffect). x.error) is ∙ none
 
 -- a command that is accepted has no error
-no_error : (s : State) (number : ℕ) (c : Command) (e : CommandEffect) → Does s number c e → e.error ≡ None
+pub no_error : (s : State) (number : ℕ) (c : Command) (e : CommandEffect) → Does s number c e → e.error ≡ None
 no_error s number (set_logic name) e is = error_of e _ refl is
 no_error s number (set_option setting) e is = error_of e _ refl is
 no_error s number (get_option option) e is = error_of e _ refl is
@@ -49,56 +50,56 @@ no_error s number exit e is = error_of e _ refl is
 no_error s number unsupported e is = error_of e _ refl is
 
 -- what a session with these parts is seen as
-abbrev pub course : SessionState → ℕ → List (ℕ × ℕ) → Course
-course s number errors = record { state = state_of s; number = number; verdicts = s.verdicts.items; errors = errors }
+abbrev pub course : SessionState → ℕ → List (ℕ × ℕ) → Stored → Course
+course s number errors store = record { state = state_of s; number = number; verdicts = s.verdicts.items; errors = errors; store = store }
 
 -- the session comes to this course by an effect of what was read on this line
 abbrev pub Comes : Course → ℕ → Read → Course → Answer → Type 0
 Comes old line r new a =
-    (e : CommandEffect) × Steps old.state (counted_by old.number r) line r e × (new ≡ reached old line (counted_by old.number r) e) × IsAnswer e a
+    (e : CommandEffect) × Steps old.state (counted_by old.number r) line r e × (new ≡ reached old line (counted_by old.number r) e new.store) × IsAnswer e a
 
-module _ (old : SessionState) (old_number : ℕ) (errors : List (ℕ × ℕ)) (line : ℕ) where
+module _ (old : SessionState) (old_number : ℕ) (errors : List (ℕ × ℕ)) (store : Stored) (line : ℕ) where
   abbrev before : Course
-  before = course old old_number errors
+  before = course old old_number errors store
 
-  module _ (new : SessionState) (number : ℕ) (c : Command) (count : number ≡ counted_by old_number (Ok c)) where
+  module _ (new : SessionState) (number : ℕ) (left : Stored) (c : Command) (count : number ≡ counted_by old_number (Ok c)) where
     -- by a command that is done
-    pub comes_done : (a : Answer) → Performs old number c new a → Comes before line (Ok c) (course new number errors) a
+    pub comes_done : (a : Answer) → Performs old number c new a → Comes before line (Ok c) (course new number errors left) a
     comes_done a p =
-        subst (λ (n : ℕ). (e : CommandEffect) × Steps before.state n line (Ok c) e × (course new number errors ≡ reached before line n e) × IsAnswer e a) count
+        subst (λ (n : ℕ). (e : CommandEffect) × Steps before.state n line (Ok c) e × (course new number errors left ≡ reached before line n e left) × IsAnswer e a) count
         (p.effect, inr p.accepted, same, p.answer)
       where
         none : errors ++ errors_of line p.effect.error ≡ errors
         none = ap (λ (o : Option ℕ). errors ++ errors_of line o) (no_error (state_of old) number c p.effect p.accepted.1) ∙ append-nil errors
 
-        same : course new number errors ≡ reached before line number p.effect
+        same : course new number errors left ≡ reached before line number p.effect left
         same =
-            ap (λ (s : State). record { state = s; number = number; verdicts = new.verdicts.items; errors = errors }) p.state
-            ∙ ap (λ (vs : List Verdict). record { state = p.effect.state; number = number; verdicts = vs; errors = errors }) p.given
-            ∙ ap (λ (es : List (ℕ × ℕ)). record { state = p.effect.state; number = number; verdicts = old.verdicts.items ++ p.effect.verdicts; errors = es }) (sym none)
+            ap (λ (s : State). record { state = s; number = number; verdicts = new.verdicts.items; errors = errors; store = left }) p.state
+            ∙ ap (λ (vs : List Verdict). record { state = p.effect.state; number = number; verdicts = vs; errors = errors; store = left }) p.given
+            ∙ ap (λ (es : List (ℕ × ℕ)). record { state = p.effect.state; number = number; verdicts = old.verdicts.items ++ p.effect.verdicts; errors = es; store = left }) (sym none)
 
     -- by a command that is refused
-    pub comes_refused : (code : ℕ) (a : Answer) (new_errors : List (ℕ × ℕ)) → IsRefusal (state_of old) c code → IsSame old new → new_errors ≡ errors ++ (line, code) ∷ [] → IsAnswer (refused (state_of old) line code) a → Comes before line (Ok c) (course new number new_errors) a
+    pub comes_refused : (code : ℕ) (a : Answer) (new_errors : List (ℕ × ℕ)) → IsRefusal (state_of old) c code → IsSame old new → new_errors ≡ errors ++ (line, code) ∷ [] → IsAnswer (refused (state_of old) line code) a → Comes before line (Ok c) (course new number new_errors left) a
     comes_refused code a new_errors refusal unchanged stored answer =
-        subst (λ (n : ℕ). (e : CommandEffect) × Steps before.state n line (Ok c) e × (course new number new_errors ≡ reached before line n e) × IsAnswer e a) count
+        subst (λ (n : ℕ). (e : CommandEffect) × Steps before.state n line (Ok c) e × (course new number new_errors left ≡ reached before line n e left) × IsAnswer e a) count
         (refused (state_of old) line code, inl (code, refusal, refl), same, answer)
       where
-        same : course new number new_errors ≡ reached before line number (refused (state_of old) line code)
+        same : course new number new_errors left ≡ reached before line number (refused (state_of old) line code) left
         same =
-            ap (λ (s : State). record { state = s; number = number; verdicts = new.verdicts.items; errors = new_errors }) (same_state old new unchanged)
-            ∙ ap (λ (vs : List Verdict). record { state = state_of old; number = number; verdicts = vs; errors = new_errors }) (unchanged.verdicts ∙ sym (append-nil old.verdicts.items))
-            ∙ ap (λ (es : List (ℕ × ℕ)). record { state = state_of old; number = number; verdicts = old.verdicts.items ++ []; errors = es }) stored
+            ap (λ (s : State). record { state = s; number = number; verdicts = new.verdicts.items; errors = new_errors; store = left }) (same_state old new unchanged)
+            ∙ ap (λ (vs : List Verdict). record { state = state_of old; number = number; verdicts = vs; errors = new_errors; store = left }) (unchanged.verdicts ∙ sym (append-nil old.verdicts.items))
+            ∙ ap (λ (es : List (ℕ × ℕ)). record { state = state_of old; number = number; verdicts = old.verdicts.items ++ []; errors = es; store = left }) stored
 
   -- by an expression that is no command
-  pub comes_unread : (code : ℕ) (a : Answer) (new_errors : List (ℕ × ℕ)) → new_errors ≡ errors ++ (line, code) ∷ [] → IsAnswer (refused (state_of old) line code) a → Comes before line (Err code) (course old old_number new_errors) a
+  pub comes_unread : (code : ℕ) (a : Answer) (new_errors : List (ℕ × ℕ)) → new_errors ≡ errors ++ (line, code) ∷ [] → IsAnswer (refused (state_of old) line code) a → Comes before line (Err code) (course old old_number new_errors store) a
   comes_unread code a new_errors stored answer =
       (refused (state_of old) line code, refl, same, answer)
     where
-      same : course old old_number new_errors ≡ reached before line old_number (refused (state_of old) line code)
+      same : course old old_number new_errors store ≡ reached before line old_number (refused (state_of old) line code) store
       same =
-          ap (λ (es : List (ℕ × ℕ)). course old old_number es) stored
-          ∙ ap (λ (vs : List Verdict). record { state = state_of old; number = old_number; verdicts = vs; errors = errors ++ (line, code) ∷ [] }) (sym (append-nil old.verdicts.items))
+          ap (λ (es : List (ℕ × ℕ)). course old old_number es store) stored
+          ∙ ap (λ (vs : List Verdict). record { state = state_of old; number = old_number; verdicts = vs; errors = errors ++ (line, code) ∷ []; store = store }) (sym (append-nil old.verdicts.items))
 
 -- what comes of what was read comes of the expression that was read so
-pub comes_of : (old : Course) (line : ℕ) (x : Expression) (r : Read) (new : Course) (a : Answer) → command x ≡ r → Comes old line r new a → (e : CommandEffect) × Step old.state old.number line x e × (new ≡ after old line x e) × IsAnswer e a
+pub comes_of : (old : Course) (line : ℕ) (x : Expression) (r : Read) (new : Course) (a : Answer) → command x ≡ r → Comes old line r new a → (e : CommandEffect) × Step old.state old.number line x e × (new ≡ after old line x e new.store) × IsAnswer e a
 comes_of old line x r new a is h = subst (λ (r : Read). Comes old line r new a) (sym is) h

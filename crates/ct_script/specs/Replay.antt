@@ -22,7 +22,7 @@ IsCounted old new r = (new ≡ record old { number = one_more old.number }) × (
 
 -- everything else does its step
 abbrev pub IsStepped : Course → ℕ → Read → Course → Replayed → Type 0
-IsStepped old line read new r = (e : CommandEffect) × Steps old.state old.number line read e × (new ≡ reached old line old.number e) × (r.check ≡ false) × (r.stop ≡ e.stop)
+IsStepped old line read new r = (e : CommandEffect) × Steps old.state old.number line read e × (new ≡ reached old line old.number e new.store) × (r.check ≡ false) × (r.stop ≡ e.stop)
 
 -- what was read on this line is replayed so
 abbrev pub Replays : Course → ℕ → Read → Course → Replayed → Type 0

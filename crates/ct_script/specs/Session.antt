@@ -1,28 +1,37 @@
 -- What a session comes to, command by command.
-use Rattle.std.specs.Prelude.{ℕ, List, ◌++◌}
+use Rattle.std.specs.Prelude.{ℕ, List, [], ◌++◌}
 use Rattle.ct_sexpr.specs.Expression.{Expression}
+use Rattle.ct_kept.specs.Kept.{Stored}
 use Rattle.ct_engine.specs.declared.verdict.Verdict.{Verdict}
-use Rattle.ct_step.specs.State.{State}
+use Rattle.ct_step.specs.State.{State, first_state}
 use Rattle.ct_step.specs.Step.{CommandEffect, counted}
+use Rattle.ct_step.specs.Store.{first_store}
 use Rattle.ct_script.specs.Answers.{errors_of}
 
--- what a session has come to: its state, how many checks it was given, all verdicts, and all errors with their lines
+-- what a session has come to: its state, how many checks it was given, all verdicts, all errors with their lines, and the store of
+-- clauses that the theory gave
 pub record Course : Type 0 where
   pub state : State
   pub number : ℕ
   pub verdicts : List Verdict
   pub errors : List (ℕ × ℕ)
+  pub store : Stored
 
--- what it comes to by a command on this line with this effect, after so many checks
-abbrev pub reached : Course → ℕ → ℕ → CommandEffect → Course
-reached c line number effect =
+-- at the start
+abbrev pub first_course : Course
+first_course = record { state = first_state; number = 0; verdicts = []; errors = []; store = first_store }
+
+-- what it comes to by a command on this line with this effect, after so many checks, which leaves this store
+abbrev pub reached : Course → ℕ → ℕ → CommandEffect → Stored → Course
+reached c line number effect store =
     record {
       state = effect.state;
       number = number;
       verdicts = c.verdicts ++ effect.verdicts;
       errors = c.errors ++ errors_of line effect.error;
+      store = store;
     }
 
 -- what it comes to by an expression with this effect
-abbrev pub after : Course → ℕ → Expression → CommandEffect → Course
-after c line e effect = reached c line (counted c.number e) effect
+abbrev pub after : Course → ℕ → Expression → CommandEffect → Stored → Course
+after c line e effect store = reached c line (counted c.number e) effect store

@@ -7,18 +7,20 @@ ghost use Rattle.ct_command.specs.Seen.{command_seen};
 ghost use Rattle.ct_stack.specs.Stack.{in_force};
 ghost use Rattle.ct_stack.specs.Held.{context_in, as_one, IsSoundLevel};
 ghost use Rattle.ct_step.specs.State.{first_state, context_of};
+ghost use Rattle.ct_step.specs.Store.{first_store, IsStoreOf, StoresBy};
 ghost use Rattle.ct_script.specs.Replay.{Replays, is_check};
 ghost use Rattle.ct_step.specs.Done.{IsAnswer};
-ghost use Rattle.ct_script.specs.Session.{after, reached};
+ghost use Rattle.ct_script.specs.Session.{after, first_course, reached};
 ghost use Rattle.ct_step.specs.Step.{CommandEffect, Step, Steps, counted_with, one_more};
 
 use crate::error::SessionError;
 use crate::replay::Replayed;
 use ct_check::Scope;
 use ct_command::{Command, CommandError, command_of};
-use ct_engine::Verdict;
+use ct_engine::{Kept, Verdict};
 use ct_formulas::Tree;
 use ct_sexpr::Sexpr;
+use ct_sorts::growth;
 use ct_stack::AssertionStack;
 use ct_step::{Answer, Options, SessionState, perform, refused};
 use std::alloc::Global;
@@ -32,13 +34,16 @@ pub type ScriptError = (u64, u16);
 pub struct Session {
     alloc: Global,
     state: SessionState,
+    // The clauses that the theory gave in earlier checks.
+    store: Kept,
     errors: Vec<ScriptError>,
     // How many checks there were.
     number: u64,
 }
 
 impl Model for Session {
-    ghost use Rattle.ct_step.specs.Done.{state_of, IsSound};
+    ghost use Rattle.ct_step.specs.Done.{state_of};
+    ghost use Rattle.ct_step.specs.Store.{IsSoundWith};
     ghost use Rattle.ct_script.specs.Session.{Course};
 
     ghost Value = { Course };
@@ -48,16 +53,17 @@ impl Model for Session {
 
     ghost coded = { Prim.hlevel (codes, coded_formula) };
 
-    ghost view = { λ s. record { state = state_of s.state; number = s.number; verdicts = s.state.verdicts.items; errors = s.errors.items } };
+    ghost view = { λ s. record { state = state_of s.state; number = s.number; verdicts = s.state.verdicts.items; errors = s.errors.items; store = s.store } };
 
-    ghost invariant = { λ s. IsSound (state_of s.state) };
+    ghost invariant = { λ s. IsSoundWith (state_of s.state) s.store };
 }
 
 impl Session {
     /// A session in which nothing is declared and nothing is asserted.
     pub fn new(alloc: Global) -> Result<Session, SessionError>
-        ensures empty { IfOk result (λ s. s ≡ record { state = first_state; number = 0; verdicts = []; errors = [] }) }
+        ensures empty { IfOk result (λ s. s ≡ first_course) }
     {
+        let store = new_store(alloc)?;
         let stack = AssertionStack::new(alloc)?;
         Ok(Session {
             alloc,
@@ -67,6 +73,7 @@ impl Session {
                 verdicts: Vec::new(alloc),
                 kept: None,
             },
+            store,
             errors: Vec::new(alloc),
             number: 0,
         })
@@ -74,9 +81,13 @@ impl Session {
 
     /// Answers a command that begins on this line. A refused command changes nothing but the list of errors; and a check, also
     /// one that is refused, is counted. Where memory runs out nothing has changed.
+    ///
+    /// A check begins with the clauses that the theory gave in earlier checks and keeps those that it gave in this one; a
+    /// command that takes declarations back takes the clauses that name them.
     pub fn command(&mut self, line: u64, expr: &Sexpr) -> Result<Answer, SessionError>
         ensures stepped { IfOk result (λ a. (e : CommandEffect) × Step self.old.state self.old.number line (expression_of expr.now) e
-            × (self.new ≡ after self.old line (expression_of expr.now) e) × IsAnswer e a) }
+            × (self.new ≡ after self.old line (expression_of expr.now) e self.new.store) × IsAnswer e a) }
+        ensures stored { IfOk result (λ a. StoresBy self.old.state (command (expression_of expr.now)) a.error self.new.verdicts self.old.store self.new.store) }
         ensures unchanged { OnErr result (self.new ≡ self.old) }
     {
         match command_of(self.alloc, expr) {
@@ -132,6 +143,14 @@ impl Session {
         self.state.stack.assertions()
     }
 
+    /// The clauses that the theory gave in the checks so far and that can still be named, at most 4,096.
+    pub fn kept(&self) -> &Kept
+        ensures value { result.now ≡ self.now.store }
+        ensures sorted { IsStoreOf self.now.state self.now.store }
+    {
+        &self.store
+    }
+
     /// The verdicts so far.
     pub fn verdicts(&self) -> &[Verdict]
         ensures value { result.now ≡ self.now.verdicts }
@@ -146,6 +165,7 @@ impl Session {
     {
         let state = self.state;
         drop(state.stack);
+        drop(self.store);
         (state.verdicts, self.errors)
     }
 
@@ -172,11 +192,18 @@ impl Session {
     // Does a command, or answers why it is refused.
     fn perform(&mut self, line: u64, command: Command<'_>) -> Result<Answer, SessionError>
         ensures stepped { IfOk result (λ a. (e : CommandEffect) × Steps self.old.state (counted_with self.old.number (command_seen command.entry)) line (Ok (command_seen command.entry)) e
-            × (self.new ≡ reached self.old line (counted_with self.old.number (command_seen command.entry)) e) × IsAnswer e a) }
+            × (self.new ≡ reached self.old line (counted_with self.old.number (command_seen command.entry)) e self.new.store) × IsAnswer e a) }
+        ensures stored { IfOk result (λ a. StoresBy self.old.state (Ok (command_seen command.entry)) a.error self.new.verdicts self.old.store self.new.store) }
         ensures unchanged { OnErr result (self.new ≡ self.old) }
     {
         let number = counted(self.number, &command);
-        match perform(self.alloc, &mut self.state, number, command) {
+        match perform(
+            self.alloc,
+            &mut self.state,
+            &mut self.store,
+            number,
+            command,
+        ) {
             Ok(answer) => {
                 self.number = number;
                 Ok(answer)
@@ -216,4 +243,16 @@ fn next(number: u64) -> u64
         return number + 1;
     }
     number
+}
+
+// A store without clauses.
+fn new_store(alloc: Global) -> Result<Kept, SessionError>
+    ensures empty { IfOk result (λ store. store ≡ first_store) }
+    ensures sorted { IfOk result (IsStoreOf first_state) }
+{
+    growth();
+    match Kept::new(alloc) {
+        Ok(store) => Ok(store),
+        Err(_) => Err(SessionError),
+    }
 }

@@ -2,6 +2,7 @@ pub mod ListLemmas
 pub mod TableLemmas
 pub mod HeldLemmas
 pub mod LevelLemmas
+pub mod LeftLemmas
 pub mod MarkLemmas
 pub mod OutcomeLemmas
 pub mod ValueLemmas

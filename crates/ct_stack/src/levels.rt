@@ -1,5 +1,5 @@
 //! Where the levels of the assertion stack began, and what goes with a level.
-ghost use Rattle.std.specs.Prelude.{◌≡◌, ◌↔◌, ◌+◌, ◌<◌, ◌≤◌, vec_len, vec_capacity, [], ◌++◌, take, reverse, replicate, IsTrue};
+ghost use Rattle.std.specs.Prelude.{◌≡◌, ◌↔◌, ◌+◌, ◌-◌, ◌<◌, ◌≤◌, vec_len, vec_capacity, [], ◌++◌, length, slice_get, take, reverse, replicate, Some, IsTrue};
 ghost use Rattle.ct_sorts.specs.Marks.{CanCut, cut};
 ghost use Rattle.ct_stack.specs.Numbers.{most_levels};
 ghost use Rattle.ct_stack.specs.Whole.{mark_of};
@@ -49,6 +49,15 @@ pub(crate) fn put_marks(
         };
         levels.push(mark).unwrap();
     }
+}
+
+/// How much was declared where the last of so many levels began, counted from the end.
+pub(crate) fn mark_before(levels: &[LevelMark], n: usize) -> Mark
+    requires some { 1 ≤ n }
+    requires within { n ≤ length levels.now }
+    ensures mark { (m : LevelMark) × (slice_get levels.now (length levels.now - n) ≡ Some m) × (result ≡ m.declared) }
+{
+    levels[levels.len() - n].declared
 }
 
 /// Takes back what was declared and defined after the mark. Takes no memory.

@@ -1,5 +1,5 @@
 //! The assertion stack (SMT-LIB 2.7, section 4.1.4): what is declared, defined and asserted.
-ghost use Rattle.std.specs.Prelude.{◌≡◌, ◌↔◌, ℕ, length, IsTrue, [], map, IfOk, OnOk, OnErr, IsErrOf};
+ghost use Rattle.std.specs.Prelude.{◌≡◌, ◌↔◌, ◌<◌, ◌≤◌, ℕ, length, IsTrue, [], map, None, IfSome, IfOk, OnOk, OnErr, IsErrOf};
 ghost use Rattle.ct_sexpr.specs.View.{expression_of};
 ghost use Rattle.ct_sorts.specs.declared.ids.Kind.TheVariants.{Free};
 ghost use Rattle.ct_sorts.specs.Block.{with_block};
@@ -7,7 +7,7 @@ ghost use Rattle.ct_sorts.specs.Declarations.{with_sort, with_function};
 ghost use Rattle.ct_formulas.specs.TreeFormula.{formula_of};
 ghost use Rattle.ct_eval.specs.Interpretation.{IsProper};
 ghost use Rattle.ct_command.specs.Seen.{all_seen, named_seen, head_seen, body_seen};
-ghost use Rattle.ct_stack.specs.Levels.{pushed_by, popped, popped_by, emptied};
+ghost use Rattle.ct_stack.specs.Levels.{pushed_by, popped, popped_by, emptied, left_by, left_emptied, IsCutTo};
 ghost use Rattle.ct_stack.specs.Stack.{first_stack, in_force, cores, declaring, in_context, asserting, defined_in};
 ghost use Rattle.ct_stack.specs.Outcomes.{Gives};
 ghost use Rattle.ct_stack.specs.Elaborations.{kind_of, block_of, declared_function, defined_function, asserted_formula};
@@ -18,7 +18,7 @@ ghost use Rattle.ct_stack.specs.Values.{AreValues};
 use crate::block::{declare_block, declare_sort};
 use crate::define::define_function;
 use crate::function::declare_function;
-use crate::levels::{LevelMark, cut_scope, has_room, is_start, put_marks};
+use crate::levels::{LevelMark, cut_scope, has_room, is_start, mark_before, put_marks};
 use crate::terms::{add_assertion, asserted_formula};
 use crate::theorems::stack_theorems;
 use crate::value::values_text;
@@ -314,6 +314,37 @@ impl AssertionStack {
         ensures count { result ≡ length self.now.below }
     {
         self.levels.len()
+    }
+
+    /// How much is declared once `pop` has taken so many levels, where it takes declarations; nothing where fewer levels stand.
+    pub fn mark_below(&self, global: bool, n: u128) -> Option<Mark>
+        ensures mark { n ≤ length self.now.below → result ≡ left_by global n self.now }
+        ensures above { length self.now.below < n → result ≡ None }
+        ensures cut { IfSome result (λ m. IsCutTo self.now.top.context.declarations m (popped_by global n self.now).top.context.declarations) }
+    {
+        stack_theorems();
+        self.scope.sig.sorts();
+        if global || n == 0 {
+            return None;
+        }
+        let levels = self.levels.as_slice();
+        if (levels.len() as u128) < n {
+            return None;
+        }
+        Some(mark_before(levels, n as usize))
+    }
+
+    /// How much is declared once `empty` has taken everything, where it takes declarations.
+    pub fn first_mark(&self, global: bool) -> Option<Mark>
+        ensures mark { result ≡ left_emptied global }
+        ensures cut { IfSome result (λ m. IsCutTo self.now.top.context.declarations m (emptied global self.now).top.context.declarations) }
+    {
+        stack_theorems();
+        self.scope.sig.sorts();
+        if global {
+            return None;
+        }
+        Some(self.first)
     }
 
     /// Whether all is as at the start.

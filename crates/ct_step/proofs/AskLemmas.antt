@@ -24,15 +24,15 @@ use Rattle.ct_step.specs.Done.{IsAnswer, Performs, IsSame, state_of, kept_of, la
 use Rattle.ct_step.specs.Verdict.{ComesTo}
 use Rattle.ct_step.proofs.SoundLemmas.{same_state}
 
--- the last verdict is kept
-kept_last : (verdicts : List Verdict) (v : Verdict) (number : ℕ) → kept_of (verdicts ++ v ∷ []) (Some number) ≡ Some (record { verdict = v; number = number })
-kept_last verdicts v number = ap (option_map (λ (w : Verdict). record { verdict = w; number = number })) last
-  where
-    long : length (verdicts ++ v ∷ []) - 1 ≡ length verdicts
-    long = omega (arith, length-append verdicts (v ∷ []))
+-- the last verdict
+pub last_given : (verdicts : List Verdict) (v : Verdict) → last_of (verdicts ++ v ∷ []) ≡ Some v
+last_given verdicts v =
+    let long : length (verdicts ++ v ∷ []) - 1 ≡ length verdicts = omega (arith, length-append verdicts (v ∷ [])) in
+    ap (slice_get (verdicts ++ v ∷ [])) long ∙ slice_get-last verdicts v
 
-    last : last_of (verdicts ++ v ∷ []) ≡ Some v
-    last = ap (slice_get (verdicts ++ v ∷ [])) long ∙ slice_get-last verdicts v
+-- it is kept
+kept_last : (verdicts : List Verdict) (v : Verdict) (number : ℕ) → kept_of (verdicts ++ v ∷ []) (Some number) ≡ Some (record { verdict = v; number = number })
+kept_last verdicts v number = ap (option_map (λ (w : Verdict). record { verdict = w; number = number })) (last_given verdicts v)
 
 -- a check of the assertions in force
 pub checked : (old new : SessionState) (number : ℕ) (v : Verdict) (a : Answer) → ComesTo old.stack.top.context (in_force old.stack) (budget old.options) v → ((n : ℕ) → IsCheckRefusal old.stack n → ⊥) → new.stack ≡ old.stack → new.options ≡ old.options → new.verdicts.items ≡ old.verdicts.items ++ v ∷ [] → new.kept ≡ Some number → ((s : State) → IsAnswer (said s (word_of v)) a) → Performs old number check_sat new a

@@ -4,4 +4,6 @@ mod VerdictLemmas
 mod CheckLemmas
 mod DoneLemmas
 pub mod SoundLemmas
+mod CutLemmas
+mod StoreLemmas
 mod AskLemmas

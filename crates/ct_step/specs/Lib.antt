@@ -6,3 +6,5 @@ pub mod Refusal
 pub mod Verdict
 pub mod Step
 pub mod Done
+pub mod Store
+pub mod Growing

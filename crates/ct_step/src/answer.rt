@@ -1,5 +1,5 @@
 //! Answers of commands, and their texts.
-ghost use Rattle.std.specs.Prelude.{◌≡◌, string_bytes, codes, ◌∷◌, [], ◌++◌, IfOk, OnErr};
+ghost use Rattle.std.specs.Prelude.{◌≡◌, ◌≤◌, length, string_bytes, codes, ◌∷◌, [], ◌++◌, IfOk, OnErr};
 ghost use Rattle.std.specs.Fmt.{decimal};
 ghost use Rattle.ct_step.specs.State.{State};
 ghost use Rattle.ct_step.specs.Done.{IsAnswer};
@@ -41,9 +41,13 @@ fn refusal_head(alloc: Global, line: u64, code: u16) -> Result<String, AllocErro
     format!(in alloc; "(error \"line {line}: [E{code}] ")
 }
 
+/// The bytes of the longest word of a verdict.
+pub(crate) const LONGEST_WORD: usize = 7;
+
 /// The word of a verdict.
 pub(crate) fn word_of(verdict: &Verdict) -> &'static [u8]
     ensures value { result.now ≡ word_of verdict.now }
+    ensures short { length result.now ≤ LONGEST_WORD }
 {
     match verdict {
         Verdict::Sat(_) => b"sat",

@@ -1,13 +1,19 @@
 //! The commands that add and remove levels of the assertion stack (SMT-LIB 2.7, sections 4.2.1 and 4.2.2).
-ghost use Rattle.std.specs.Prelude.{ℕ};
+ghost use Rattle.std.specs.Prelude.{◌≡◌, ℕ, IfSome, OnOk, OnErr};
+ghost use Rattle.ct_sorts.specs.Marks.{CanCut, cut};
+ghost use Rattle.ct_terms.specs.Terms.{AreSorted};
 ghost use Rattle.ct_command.specs.Command.{push, pop, reset_assertions, reset};
-ghost use Rattle.ct_step.specs.Done.{IsDone};
+ghost use Rattle.ct_step.specs.Done.{IsDone, state_of};
+ghost use Rattle.ct_step.specs.Store.{IsStoreOf, IsCut, IsStored};
 
 use crate::answer::{Answer, quiet};
 use crate::options::Options;
 use crate::state::SessionState;
 use ct_command::CommandError;
-use std::alloc::Global;
+use ct_engine::Kept;
+use ct_sorts::Mark;
+use ct_stack::AssertionStack;
+use std::alloc::{AllocError, Global};
 
 /// Adds levels.
 pub(crate) fn push(
@@ -27,12 +33,19 @@ pub(crate) fn push(
 pub(crate) fn pop(
     alloc: Global,
     state: &mut SessionState,
+    store: &mut Kept,
     count: u128,
 ) -> Result<Answer, CommandError>
+    requires sorted { IsStoreOf (state_of state.old) store.old }
     ensures done { (number : ℕ) → IsDone state.old number (pop count) state.new result }
+    ensures stored { IsStored state.old (pop count) state.new result store.old store.new }
+    ensures sorted { IsStoreOf (state_of state.new) store.new }
 {
     let answer = quiet(alloc, state.options)?;
-    state.stack.pop(state.options.global_declarations, count)?;
+    let global = state.options.global_declarations;
+    let mark = state.stack.mark_below(global, count);
+    cut_store(alloc, &state.stack, mark, store)?;
+    state.stack.pop(global, count)?;
     state.kept = None;
     Ok(answer)
 }
@@ -41,23 +54,64 @@ pub(crate) fn pop(
 pub(crate) fn reset_assertions(
     alloc: Global,
     state: &mut SessionState,
+    store: &mut Kept,
 ) -> Result<Answer, CommandError>
+    requires sorted { IsStoreOf (state_of state.old) store.old }
     ensures done { (number : ℕ) → IsDone state.old number reset_assertions state.new result }
+    ensures stored { IsStored state.old reset_assertions state.new result store.old store.new }
+    ensures sorted { IsStoreOf (state_of state.new) store.new }
 {
     let answer = quiet(alloc, state.options)?;
-    state.stack.empty(state.options.global_declarations);
+    let global = state.options.global_declarations;
+    let mark = state.stack.first_mark(global);
+    cut_store(alloc, &state.stack, mark, store)?;
+    state.stack.empty(global);
     state.kept = None;
     Ok(answer)
 }
 
 /// Makes the state what it was at the start.
-pub(crate) fn reset(alloc: Global, state: &mut SessionState) -> Result<Answer, CommandError>
+pub(crate) fn reset(
+    alloc: Global,
+    state: &mut SessionState,
+    store: &mut Kept,
+) -> Result<Answer, CommandError>
+    requires sorted { IsStoreOf (state_of state.old) store.old }
     ensures done { (number : ℕ) → IsDone state.old number reset state.new result }
+    ensures stored { IsStored state.old reset state.new result store.old store.new }
+    ensures sorted { IsStoreOf (state_of state.new) store.new }
 {
     let options = Options::new();
     let answer = quiet(alloc, options)?;
+    let mark = state.stack.first_mark(false);
+    cut_store(alloc, &state.stack, mark, store)?;
     state.stack.reset();
     state.options = options;
     state.kept = None;
     Ok(answer)
+}
+
+// Leaves in the store what names only what is below the mark, where there is one.
+fn cut_store(
+    alloc: Global,
+    stack: &AssertionStack,
+    mark: Option<Mark>,
+    store: &mut Kept,
+) -> Result<(), AllocError>
+    requires sorted { AreSorted stack.now.top.context.declarations store.old.table }
+    requires can_cut { IfSome mark (λ m. CanCut stack.now.top.context.declarations m) }
+    ensures cut { OnOk result (IsCut mark store.old store.new) }
+    ensures sorted { OnOk result (IfSome mark (λ m. AreSorted (cut stack.now.top.context.declarations m) store.new.table)) }
+    ensures same { OnErr result (store.new ≡ store.old) }
+{
+    let Some(mark) = mark else {
+        return Ok(());
+    };
+    match store.within(alloc, &stack.scope().sig, &mark) {
+        Ok(left) => {
+            *store = left;
+            Ok(())
+        }
+        Err(_) => Err(AllocError),
+    }
 }

@@ -3,9 +3,13 @@ ghost use Rattle.std.specs.Prelude.{◌≡◌, ◌⊎◌, ℕ, suc, ◌≤◌, �
 ghost use Rattle.ct_closure.specs.Closed.{HasMoreThan, HasVariables, most_closure_terms};
 ghost use Rattle.ct_command.specs.Command.{check_sat};
 ghost use Rattle.ct_stack.specs.Stack.{in_force, cores};
+ghost use Rattle.ct_step.specs.Growing.{Growing};
 ghost use Rattle.ct_step.specs.Options.{budget};
 ghost use Rattle.ct_step.specs.State.{State, context_of, declared};
 ghost use Rattle.ct_step.specs.Step.{CommandEffect, Steps};
+
+use ct_sorts::growth;
+use ct_terms::one_lasting_sort;
 
 /// The theorem on checks that are decided, for whoever relies on it. The function does nothing.
 pub fn decided_checks()
@@ -18,3 +22,11 @@ pub fn decided_checks()
         → 2 ^ variables ≤ suc (budget s.options)
         → (e.text ≡ codes "sat") ⊎ (e.text ≡ codes "unsat") }
 {}
+
+/// The theorems on declarations that grow, as one. The function does nothing.
+pub(crate) fn growing()
+    ensures hold { Growing }
+{
+    growth();
+    one_lasting_sort();
+}

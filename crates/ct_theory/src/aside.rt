@@ -6,19 +6,22 @@ ghost use Rattle.ct_explain.specs.Trees.{Planted, IsForestOfFirst, IsForestOfCla
 ghost use Rattle.ct_theory.specs.Consulting.{KeepsForests, IsAsideOf, MayBeAsideOf};
 
 use crate::error::TheoryError;
+use crate::pace::{Pace, first_pace};
 use crate::shorter::Spare;
 use crate::telling::planted_of;
 use ct_congr::Classes;
 use ct_explain::{Forest, forests};
 use std::alloc::Global;
 
-/// A forest of the first merges of the classes, and classes for a second answer, where there was one.
+/// A forest of the first merges of the classes, classes for a second answer, where there was one, and when the next is due.
 #[derive(Drop)]
 pub(crate) struct Aside {
     /// The forest.
     pub(crate) forest: Forest,
     /// Classes for a second answer.
     pub(crate) spare: Option<Spare>,
+    /// When a second answer is due.
+    pub(crate) pace: Pace,
 }
 
 /// What was kept; a forest alone where nothing was.
@@ -44,6 +47,7 @@ fn beginning(alloc: Global, classes: &Classes) -> Result<Aside, TheoryError>
     Ok(Aside {
         forest,
         spare: None,
+        pace: first_pace(),
     })
 }
 

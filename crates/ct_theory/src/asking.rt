@@ -189,7 +189,14 @@ fn ask(
     turn_to(alloc, classes, told, &mut aside.forest, literals, shared)?;
     match answer(alloc, classes, &mut aside.forest)? {
         Consulted::Conflict(conflict) => {
-            let short = shorter(alloc, &*classes, &mut aside.spare, literals, conflict)?;
+            let short = shorter(
+                alloc,
+                &*classes,
+                &mut aside.pace,
+                &mut aside.spare,
+                literals,
+                conflict,
+            )?;
             Ok(Consulted::Conflict(short))
         }
         Consulted::Saturated(order) => {

@@ -9,6 +9,7 @@ mod conflict;
 mod cycle;
 mod error;
 mod finite;
+mod pace;
 mod refuting;
 mod shorter;
 mod telling;

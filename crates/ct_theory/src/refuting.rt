@@ -45,7 +45,14 @@ pub(crate) fn refute(
     turn_to(alloc, classes, told, &mut aside.forest, literals, shared)?;
     match look(alloc, classes, watch, &mut aside.forest)? {
         Some(conflict) => {
-            let short = shorter(alloc, &*classes, &mut aside.spare, literals, conflict)?;
+            let short = shorter(
+                alloc,
+                &*classes,
+                &mut aside.pace,
+                &mut aside.spare,
+                literals,
+                conflict,
+            )?;
             Ok(Some(short))
         }
         None => {

@@ -11,6 +11,7 @@ use crate::answer::{answer, keep};
 use crate::asking::Consulted;
 use crate::conflict::Conflict;
 use crate::error::TheoryError;
+use crate::pace::Pace;
 use crate::telling::{fresh_of, planted_of, turn_to};
 use ct_congr::{Classes, Closed};
 use ct_explain::Forest;
@@ -31,10 +32,12 @@ pub(crate) struct Spare {
     pub(crate) forest: Forest,
 }
 
-/// The shorter one of a conflict of the literals and of a second one. The spare classes are made where there are none.
+/// The shorter one of a conflict of the literals and of a second one, where the pace says that this is due. The spare classes are
+/// made where there are none.
 pub(crate) fn shorter(
     alloc: Global,
     classes: &Classes,
+    pace: &mut Pace,
     spare: &mut Option<Spare>,
     literals: &[Lit],
     first: Conflict,
@@ -48,16 +51,21 @@ pub(crate) fn shorter(
     if first.clause.len() <= SHORT {
         return Ok(first);
     }
+    if !pace.is_due() {
+        return Ok(first);
+    }
     let mut other = taken(alloc, classes, spare)?;
     let second = anew(alloc, &mut other, literals)?;
     *spare = Some(other);
     match second {
         Consulted::Saturated(_) => Ok(first),
         Consulted::Conflict(second) => {
-            if first.clause.len() <= second.clause.len() {
-                return Ok(first);
+            let gained = second.clause.len() < first.clause.len();
+            pace.note(gained);
+            if gained {
+                return Ok(second);
             }
-            Ok(second)
+            Ok(first)
         }
     }
 }

@@ -73,10 +73,8 @@ fn derivation_of(
     ensures terms { IfOk result (λ derivation. derivation.value.rec.terms ≡ table.value) }
     ensures lines { IfOk result (λ derivation. derivation.value.rec.lines ≡ []) }
 {
-    match Derivation::new(alloc, &scope.sig, sizes, Box::into_inner(table), asserts) {
-        Ok(derivation) => Ok(Box::new(alloc, derivation)?),
-        Err(_) => Err(CaseError::NoMemory),
-    }
+    let derivation = Derivation::new(alloc, &scope.sig, sizes, Box::into_inner(table), asserts);
+    Ok(Box::new(alloc, derivation)?)
 }
 
 /// Makes the initial lines of the derivation, and shows its text.

@@ -60,10 +60,8 @@ fn derivation_of(
     ensures declarations { IfOk result (λ derivation. derivation.value.declarations ≡ sig.now) }
     ensures sizes { IfOk result (λ derivation. derivation.value.sizes ≡ sizes.now) }
 {
-    match Derivation::new(alloc, sig, sizes, Box::into_inner(table), asserts) {
-        Ok(derivation) => Ok(Box::new(alloc, derivation)?),
-        Err(_) => Err(CaseError::NoMemory),
-    }
+    let derivation = Derivation::new(alloc, sig, sizes, Box::into_inner(table), asserts);
+    Ok(Box::new(alloc, derivation)?)
 }
 
 /// Pushes the lines up to the first that is not accepted.

@@ -7,6 +7,7 @@ ghost use Rattle.test_engine.specs.Scopes.{IsSound};
 
 mod define;
 mod elaborate;
+mod keep;
 mod model;
 mod show;
 mod solve;
@@ -85,6 +86,9 @@ fn answer_kind(
         }
         ("count", [budget, exprs @ ..]) => {
             solve::show_counts(alloc, scope, number_of(budget)?, exprs, out)
+        }
+        ("keep", [budget, lists @ ..]) => {
+            keep::show_checks(alloc, scope, number_of(budget)?, lists, out)
         }
         _ => Err(CaseError::Bad),
     }

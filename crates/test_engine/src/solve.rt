@@ -112,7 +112,7 @@ fn verdict_on(
 }
 
 /// Shows a verdict.
-fn show(
+pub fn show(
     alloc: Global,
     scope: &Scope,
     formulas: &Assertions,

@@ -6,6 +6,7 @@ use Rattle.ct_log.specs.Recorded.{Recorded}
 use Rattle.ct_sat.specs.State.{SearchState, AreOver}
 use Rattle.ct_engine.proofs.PrepareLemmas.{lines_over}
 use Rattle.ct_engine.proofs.AgainLemmas.{IsAccounted-added_again, fresh_past, up_to_added}
+use Rattle.ct_engine.proofs.ListLemmas.{Begins-itself}
 use Rattle.ct_engine.proofs.again.add_line.Goals as goal
 
 pub add_clause-requires-clause-over : goal.add_clause-requires-clause-over
@@ -47,6 +48,10 @@ returns-clause-same c = record {
   budget = ap (λ (s : SearchState). s.budget) c.in_ok-add_clause.ensures.added;
   variables = refl;
   recorded = refl;
+  initial = refl;
+  kept = refl;
+  lines = Begins-itself c.args.course.now.derivation.rec.lines;
+  moves = λ e. (_, c.in_ok-note.ensures.noted e);
 }
 
 pub returns-clause-start : goal.returns-clause-start

@@ -1,6 +1,7 @@
 use Rattle.std.proofs.Common.{refl, ap}
 use Rattle.ct_sat.specs.State.{SearchState}
 use Rattle.ct_engine.proofs.AgainLemmas.{begun_within, IsAccounted-again, again_up_to}
+use Rattle.ct_engine.proofs.ListLemmas.{Begins-itself}
 use Rattle.ct_engine.proofs.again.begin_again.Goals as goal
 
 pub search_over_first-requires : goal.search_over_first-requires
@@ -14,7 +15,15 @@ returns-clause-under_way c =
     rw c.new-moves.ensures.items (IsAccounted-again course.recorded c.args.recorded course.search c.in_ok-search.search course.derivation course.initial course.moves.items c.args.budget c.requires.under_way c.in_ok-search.ensures.search)
 
 pub returns-clause-same : goal.returns-clause-same
-returns-clause-same c = record { declarations = refl; terms = refl; asserts = refl; variables = refl }
+returns-clause-same c = record {
+  declarations = refl;
+  terms = refl;
+  asserts = refl;
+  variables = refl;
+  initial = refl;
+  kept = refl;
+  lines = Begins-itself c.args.course.now.derivation.rec.lines;
+}
 
 pub returns-clause-budget : goal.returns-clause-budget
 returns-clause-budget c = ap (λ (s : SearchState). s.budget) c.in_ok-search.ensures.search.only_begun

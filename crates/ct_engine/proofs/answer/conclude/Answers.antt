@@ -1,6 +1,9 @@
-use Rattle.std.proofs.Common.{sym, subst}
+use Rattle.std.proofs.Common.{◌≡◌, ◌+◌, sym, ap, subst, ◌∙◌}
 use Rattle.ct_congr.specs.State.{State}
 use Rattle.ct_theory.specs.Entailment.{IsSaturation}
+use Rattle.ct_engine.specs.declared.course.Course.{Course}
+use Rattle.ct_engine.specs.Keeping.{IsBegunAt, HasFirst}
+use Rattle.ct_engine.proofs.KeepingLemmas.{begun_at, spent_with}
 use Rattle.ct_engine.proofs.answer.conclude.Goals as goal
 
 pub refutation_of-whole-requires-clause-ends : goal.refutation_of-whole-requires-clause-ends
@@ -43,3 +46,18 @@ returns-in-Spent-clause-outcome c =
 pub returns-in_ok-candidate-in-Saturated-clause-outcome : goal.returns-in_ok-candidate-in-Saturated-clause-outcome
 returns-in_ok-candidate-in-Saturated-clause-outcome c =
     c.in_ok-candidate-in-Saturated.ensures.candidate c.args.sig.now c.args.table.now c.args.asserts.now c.requires.task
+
+pub first_count-first-requires : goal.first_count-first-requires
+first_count-first-requires c = record { stand = subst (λ (x : Course). HasFirst x) (sym c.deref.ensures) c.requires.stand }
+
+pub returns-in_ok-derivation-in-Refuted-clause-begun : goal.returns-in_ok-derivation-in-Refuted-clause-begun
+returns-in_ok-derivation-in-Refuted-clause-begun c = λ d store with_store adds.
+    let course = c.args.course.value in
+    let first : c.first_count-first.result ≡ course.initial + course.kept = c.first_count-first.ensures.value ∙ ap (λ (x : Course). x.initial + x.kept) c.deref.ensures in
+    subst (IsBegunAt d store c.in_ok-derivation-in-Refuted.derivation) first
+    (c.in_ok-derivation-in-Refuted.ensures.begun d store (begun_at d store course c.refutation_of-whole.result c.first_count-first.result c.refutation_of-whole.ensures.same first with_store))
+
+pub returns-in-Spent-clause-begun : goal.returns-in-Spent-clause-begun
+returns-in-Spent-clause-begun c = λ d store with_store adds.
+    let course = c.args.course.value in
+    spent_with d store course c.spending_of.result.derivation c.spending_of.result.moves c.spending_of.ensures.derivation c.spending_of.ensures.moves with_store (adds c.in-Spent.is)

@@ -1,4 +1,4 @@
-use Rattle.std.proofs.Common.{sym, subst, ◌∙◌}
+use Rattle.std.proofs.Common.{sym, ap, subst, ◌∙◌}
 use Rattle.ct_checker.specs.Rejection.{EndsEmpty}
 use Rattle.ct_engine.specs.declared.course.Course.{Course}
 use Rattle.ct_engine.specs.Verdict.{IsRefutation}
@@ -17,4 +17,5 @@ returns c = record {
   refutation =
       subst (λ (x : Course). IsRefutation c.args.sig.now c.args.table.now c.args.asserts.now x.derivation)
       (c.deref.ensures ∙ sym c.into_inner-search.ensures) c.refuted.ensures.refutation;
+  same = ap (λ (x : Course). x.derivation) c.into_inner-search.ensures;
 }

@@ -1,4 +1,4 @@
-use Rattle.std.proofs.Common.{◌≡◌, true, sym, subst, ◌∙◌}
+use Rattle.std.proofs.Common.{◌≡◌, true, sym, ap, subst, ◌∙◌}
 use Rattle.ct_sat.specs.State.{IsQuiet, LacksValue}
 use Rattle.ct_engine.specs.declared.course.Course.{Course}
 use Rattle.ct_engine.specs.Moves.{IsSpentRecord}
@@ -31,4 +31,6 @@ returns c =
           (subst (λ (x : Course). x.search.budget ≡ c.args.budget) (sym c.into_inner-search.ensures) c.requires.on_record.1)
           (subst (λ (x : Course). IsSpentRecord x.derivation.declarations x.derivation.rec.terms x.derivation.asserts x.derivation.rec.lines x.moves.items x.search.budget)
           (c.deref.ensures ∙ sym c.into_inner-search.ensures) c.spent.ensures.recorded);
+      derivation = ap (λ (x : Course). x.derivation) c.into_inner-search.ensures;
+      moves = c.new.ensures.value ∙ ap (λ (x : Course). x.moves.items) c.into_inner-search.ensures;
     }

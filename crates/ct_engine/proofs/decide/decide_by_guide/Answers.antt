@@ -2,6 +2,7 @@ use Rattle.std.proofs.Common.{◌≡◌, ◌+◌, ◌<◌, ◌∷◌, [], refl, 
 use Rattle.ct_sat.specs.State.{SearchState}
 use Rattle.ct_engine.proofs.AccountLemmas.{IsAccounted-unrecorded}
 use Rattle.ct_lemmas.proofs.Options.{OnOk-map}
+use Rattle.ct_engine.proofs.ListLemmas.{Begins-itself}
 use Rattle.ct_engine.proofs.decide.decide_by_guide.Goals as goal
 
 pub returns-in-Some-clause-same : goal.returns-in-Some-clause-same
@@ -13,6 +14,10 @@ returns-in-Some-clause-same c = record {
   budget = ap (λ (s : SearchState). s.budget) c.decide_on.ensures.decided;
   variables = refl;
   recorded = refl;
+  initial = refl;
+  kept = refl;
+  lines = Begins-itself c.args.course.now.derivation.rec.lines;
+  moves = λ e. Begins-itself c.args.course.now.moves.items;
 }
 
 pub returns-in-Some-clause-decided : goal.returns-in-Some-clause-decided
@@ -40,6 +45,10 @@ returns-in-None-clause-same c =
       budget = h.budget;
       variables = h.variables;
       recorded = h.recorded;
+      initial = h.initial;
+      kept = h.kept;
+      lines = h.lines;
+      moves = h.moves;
     }) c.decide_lowest-in-None.ensures.same
 
 pub returns-then-is_spent-clause-same : goal.returns-then-is_spent-clause-same
@@ -52,4 +61,8 @@ returns-then-is_spent-clause-same c =
       budget = h.budget;
       variables = h.variables;
       recorded = h.recorded;
+      initial = h.initial;
+      kept = h.kept;
+      lines = h.lines;
+      moves = h.moves;
     }) c.decide_lowest.ensures.same

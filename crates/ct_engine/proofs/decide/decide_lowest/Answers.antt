@@ -3,6 +3,7 @@ use Rattle.ct_sorts.specs.Grown.{Begins}
 use Rattle.ct_sat.specs.State.{SearchState}
 use Rattle.ct_engine.proofs.AccountLemmas.{IsAccounted-decided}
 use Rattle.ct_engine.proofs.TurnLemmas.{begins_itself}
+use Rattle.ct_engine.proofs.ListLemmas.{Begins-itself}
 use Rattle.ct_engine.proofs.decide.decide_lowest.Goals as goal
 
 pub returns-in-All-clause-same : goal.returns-in-All-clause-same
@@ -16,6 +17,10 @@ returns-in-All-clause-same c =
       budget = ap (λ (s : SearchState). s.budget) same;
       variables = refl;
       recorded = refl;
+      initial = refl;
+      kept = refl;
+      lines = Begins-itself c.args.course.now.derivation.rec.lines;
+      moves = λ e. Begins-itself c.args.course.now.moves.items;
     }
 
 pub returns-in-All-clause-decided : goal.returns-in-All-clause-decided
@@ -34,6 +39,10 @@ returns-in-Spent-clause-same c =
       budget = ap (λ (s : SearchState). s.budget) same;
       variables = refl;
       recorded = refl;
+      initial = refl;
+      kept = refl;
+      lines = Begins-itself c.args.course.now.derivation.rec.lines;
+      moves = λ e. Begins-itself c.args.course.now.moves.items;
     }
 
 pub returns-in-Spent-clause-decided : goal.returns-in-Spent-clause-decided
@@ -53,6 +62,10 @@ returns-in_ok-push-in-Took-clause-same c =
       budget = ap (λ (s : SearchState). s.budget) takes.step;
       variables = refl;
       recorded = refl;
+      initial = refl;
+      kept = refl;
+      lines = Begins-itself c.args.course.now.derivation.rec.lines;
+      moves = λ e. (_, c.in_ok-push-in-Took.ensures.items);
     }
 
 pub returns-in_ok-push-in-Took-clause-decided : goal.returns-in_ok-push-in-Took-clause-decided

@@ -8,6 +8,7 @@ use Rattle.ct_engine.specs.declared.course.Course.{Course}
 use Rattle.ct_engine.proofs.AgainLemmas.{took_back, taken_trail}
 use Rattle.ct_engine.proofs.AccountLemmas.{IsAccounted-unrecorded}
 use Rattle.ct_engine.proofs.TurnLemmas.{begins_itself}
+use Rattle.ct_engine.proofs.ListLemmas.{Begins-itself}
 use Rattle.ct_engine.proofs.guided.take_back.Goals as goal
 
 pub returns-then-restart-clause-same : goal.returns-then-restart-clause-same
@@ -21,6 +22,10 @@ returns-then-restart-clause-same c =
       budget = ap (λ (s : SearchState). s.budget) went.after;
       variables = refl;
       recorded = refl;
+      initial = refl;
+      kept = refl;
+      lines = Begins-itself c.args.course.now.derivation.rec.lines;
+      moves = λ e. Begins-itself c.args.course.now.moves.items;
     }
 
 pub returns-then-restart-clause-trail : goal.returns-then-restart-clause-trail

@@ -39,6 +39,10 @@ returns-clause-same c = record {
   budget = ap (λ (s : SearchState). s.budget) c.in_ok-add_clause.ensures.added;
   variables = refl;
   recorded = refl;
+  initial = refl;
+  kept = refl;
+  lines = (_, ap (λ (x : Derived). x.rec.lines) c.in_ok-push.ensures.ok);
+  moves = λ e. (_, c.in_ok-note.ensures.noted e);
 }
 
 pub returns-clause-conflict : goal.returns-clause-conflict

@@ -9,6 +9,7 @@ use Rattle.ct_engine.proofs.MoveLemmas.{fresh_line}
 use Rattle.ct_engine.proofs.LineLemmas.{accepted_empty}
 use Rattle.ct_engine.proofs.LearnLemmas.{takes_back, cuts_trail}
 use Rattle.ct_engine.proofs.TurnLemmas.{begins_itself}
+use Rattle.ct_engine.proofs.ListLemmas.{Begins-itself}
 use Rattle.ct_engine.proofs.learn.learn.Goals as goal
 
 pub learn-requires-clause-fresh : goal.learn-requires-clause-fresh
@@ -41,6 +42,10 @@ returns-in_ok-record_learned-in-Clause-clause-same c =
       budget = same.budget ∙ ap (λ (s : SearchState). s.budget) learned.after;
       variables = same.variables;
       recorded = same.recorded;
+      initial = same.initial;
+      kept = same.kept;
+      lines = same.lines;
+      moves = same.moves;
     }
 
 pub returns-in_ok-record_learned-in-Clause-clause-learned : goal.returns-in_ok-record_learned-in-Clause-clause-learned
@@ -64,6 +69,10 @@ returns-in_ok-push-in-Empty-clause-same c =
       budget = ap (λ (s : SearchState). s.budget) learned.after;
       variables = refl;
       recorded = refl;
+      initial = refl;
+      kept = refl;
+      lines = (_, ap (λ (x : Derived). x.rec.lines) c.in_ok-push-in-Empty.ensures.ok);
+      moves = λ e. Begins-itself c.args.course.now.moves.items;
     }
 
 pub returns-in_ok-push-in-Empty-clause-learned : goal.returns-in_ok-push-in-Empty-clause-learned

@@ -26,6 +26,10 @@ returns-clause-same c = record {
   budget = refl;
   variables = refl;
   recorded = refl;
+  initial = refl;
+  kept = refl;
+  lines = (_, ap (λ (x : Derived). x.rec.lines) c.in_ok-push.ensures.ok);
+  moves = λ e. (_, c.in_ok-note.ensures.noted e);
 }
 
 pub returns-clause-search : goal.returns-clause-search

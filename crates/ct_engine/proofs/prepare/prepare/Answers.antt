@@ -1,11 +1,10 @@
-use Rattle.std.proofs.Common.{◌≡◌, All, length, sym, ap, subst, ◌∙◌}
+use Rattle.std.proofs.Common.{◌≡◌, All, length, refl, sym, ap, subst, ◌∙◌}
 use Rattle.ct_terms.specs.Terms.{Terms, AreSorted, IsBoolean}
 use Rattle.ct_closure.specs.ClosedTable.{AreSubtermsOf, terms_at}
 use Rattle.ct_closure.specs.Closed.{HasMoreThan, most_closure_terms}
 use Rattle.ct_log.specs.Recorded.{Derived}
-use Rattle.ct_sat.specs.State.{SearchState}
 use Rattle.ct_engine.specs.Progress.{IsBegunOver, IsSearchOver}
-use Rattle.ct_engine.proofs.PrepareLemmas.{booleans_longer, trees_longer, IsTaskOf-begun, IsBegunOver-itself}
+use Rattle.ct_engine.proofs.PrepareLemmas.{booleans_longer, trees_longer, IsTaskOf-begun, IsAtStart-begun, IsBegunOver-itself}
 use Rattle.ct_engine.proofs.AccountLemmas.{IsAccounted-first}
 use Rattle.ct_engine.proofs.prepare.prepare.Goals as goal
 
@@ -60,7 +59,17 @@ returns-clause-under_way c =
     (IsBegunOver-itself c.args.sig.now c.closure_of.new.table c.args.asserts.now c.into_inner.result begun))
 
 pub returns-clause-start : goal.returns-clause-start
-returns-clause-start c = ap (λ (s : SearchState). s.decided) c.in_ok-search.ensures.search.only_begun
+returns-clause-start c =
+    let same = c.in_ok-closed.ensures.ok in
+    let closure = rw same at c.in_ok-closure.ensures.closure in
+    let trees = trees_longer c.core_trees.ensures.longer c.args.table.now c.closure_of.new.table c.args.asserts.now closure.grown c.len-terms.ensures.ordered c.requires.asserts in
+    let begun : IsBegunOver c.args.sig.now c.closure_of.new.table c.args.asserts.now c.into_inner.result =
+    subst (λ (x : Derived). IsBegunOver c.args.sig.now c.closure_of.new.table c.args.asserts.now x) (sym (c.into_inner.ensures ∙ c.in_ok-derivation.ensures.ok)) c.in_ok-begun.ensures.begun in
+    let over : IsSearchOver c.into_inner.result c.args.budget c.in_ok-search.search =
+    subst (λ (x : Derived). IsSearchOver x c.args.budget c.in_ok-search.search) (c.deref.ensures ∙ sym c.into_inner.ensures) c.in_ok-search.ensures.search in
+    let count : c.line_count-initial.result ≡ length c.into_inner.result.rec.lines =
+    c.line_count-initial.ensures.value ∙ ap (λ (x : Derived). length x.rec.lines) (sym (c.into_inner.ensures ∙ c.in_ok-derivation.ensures.ok)) in
+    IsAtStart-begun c.args.sig.now c.args.table.now c.closure_of.new.table c.args.asserts.now c.args.budget c.in_ok-closure.closure _ trees closure begun over c.new-moves.ensures.items count refl
 
 pub returns-clause-fits : goal.returns-clause-fits
 returns-clause-fits c =

@@ -1,6 +1,7 @@
 use Rattle.std.proofs.Common.{refl, ap}
 use Rattle.ct_sat.specs.State.{SearchState}
 use Rattle.ct_engine.proofs.AccountLemmas.{IsAccounted-propagated}
+use Rattle.ct_engine.proofs.ListLemmas.{Begins-itself}
 use Rattle.ct_engine.proofs.settle.propagate.Goals as goal
 
 pub returns-clause-under_way : goal.returns-clause-under_way
@@ -19,6 +20,10 @@ returns-clause-same c =
       budget = ap (λ (s : SearchState). s.budget) is;
       variables = refl;
       recorded = refl;
+      initial = refl;
+      kept = refl;
+      lines = Begins-itself c.args.course.now.derivation.rec.lines;
+      moves = λ e. Begins-itself c.args.course.now.moves.items;
     }
 
 pub returns-clause-counted : goal.returns-clause-counted

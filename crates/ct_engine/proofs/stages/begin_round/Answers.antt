@@ -1,4 +1,5 @@
 use Rattle.std.proofs.Common.{◌∙◌}
+use Rattle.ct_engine.proofs.ListLemmas.{Begins-then}
 use Rattle.ct_engine.proofs.stages.begin_round.Goals as goal
 
 pub returns-clause-same : goal.returns-clause-same
@@ -10,4 +11,7 @@ returns-clause-same c =
       terms = added.terms ∙ begun.terms;
       asserts = added.asserts ∙ begun.asserts;
       variables = added.variables ∙ begun.variables;
+      initial = added.initial ∙ begun.initial;
+      kept = added.kept ∙ begun.kept;
+      lines = Begins-then c.args.course.now.derivation.rec.lines c.begin_again.new.course.derivation.rec.lines c.add_again.new.course.derivation.rec.lines begun.lines added.lines;
     }

@@ -1,6 +1,7 @@
 use Rattle.std.proofs.Common.{refl, subst, sym}
 use Rattle.ct_engine.proofs.TaskLemmas.{IsOfOneClosure-then}
 use Rattle.ct_engine.proofs.TurnLemmas.{IsTheoryOf-then}
+use Rattle.ct_engine.proofs.ListLemmas.{Begins-itself}
 use Rattle.ct_engine.proofs.stages.pursue.Goals as goal
 
 pub rounds-init : goal.rounds-init
@@ -9,7 +10,15 @@ rounds-init c =
     rw c.in_ok-guide_course.ensures.only_guide (record {
       under_way = c.requires.under_way;
       theory = record { declarations = theory.declarations; terms = theory.terms; ready = theory.ready };
-      same = record { declarations = refl; terms = refl; asserts = refl; variables = refl };
+      same = record {
+        declarations = refl;
+        terms = refl;
+        asserts = refl;
+        variables = refl;
+        initial = refl;
+        kept = refl;
+        lines = Begins-itself c.args.course.now.derivation.rec.lines;
+      };
     })
 
 pub returns-in-Some-clause-same : goal.returns-in-Some-clause-same

@@ -1,19 +1,41 @@
+use Rattle.std.proofs.Common.{◌∙◌, Option, sym, ap, subst}
 use Rattle.std.proofs.lemmas.Result.{err_from_is_err_and}
+use Rattle.ct_sorts.specs.Lengths.{Lengths}
 use Rattle.ct_command.specs.Command.{pop}
+use Rattle.ct_stack.specs.Levels.{popped_by}
 use Rattle.ct_step.specs.Done.{state_of}
+use Rattle.ct_step.specs.Store.{IsCut}
+use Rattle.ct_step.proofs.CutLemmas.{levels_stand, can_cut, popped_same, sorted_left, refused_same, sorted_as}
 use Rattle.ct_step.proofs.DoneLemmas.{not_done, changes, quietly, same_stack}
 use Rattle.ct_step.proofs.levels.pop.Goals as goal
+
+pub cut_store-requires : goal.cut_store-requires
+cut_store-requires c = record { sorted = c.requires.sorted; can_cut = can_cut _ _ _ c.mark_below-mark.ensures.cut }
 
 pub returns-in_err-pop : goal.returns-in_err-pop
 returns-in_err-pop c =
     let p = err_from_is_err_and c.from_residual-in_err-pop.result c.from_residual-in_err-pop.ensures.1 in
-    rw (p.1, p.2) (record { done = λ number. not_done c.args.state.now _ number (pop c.args.count) _ c.in_err-pop.ensures.refused (same_stack c.args.state.now c.pop.new.self c.in_err-pop.ensures.unchanged) })
+    let s = c.args.state.now.stack in
+    let same = refused_same s c.args.count c.mark_below-mark.result c.args.store.now c.cut_store.new.store _ c.in_err-pop.ensures.refused c.in_err-pop.ensures.no_memory c.mark_below-mark.ensures.above c.in_ok-cut_store.ensures.cut in
+    rw (p.1, p.2)
+    (record {
+      done = λ number. not_done c.args.state.now _ number (pop c.args.count) _ c.in_err-pop.ensures.refused (same_stack c.args.state.now c.pop.new.self c.in_err-pop.ensures.unchanged);
+      stored = same;
+      sorted = rw same (sorted_as s c.pop.new.self c.args.store.now c.in_err-pop.ensures.unchanged c.requires.sorted);
+    })
 
 pub returns : goal.returns
 returns c =
+    let s = c.args.state.now.stack in
+    let global = c.args.state.now.options.global_declarations in
+    let is = c.mark_below-mark.ensures.mark (levels_stand s c.args.count c.in_ok-pop.ensures.accepted) in
     record {
       done = λ number.
           changes c.args.state.now number (pop c.args.count) c.in_ok-pop.ensures.accepted c.in_ok-answer.answer c.pop.new.self
           (quietly (state_of c.args.state.now) c.pop.new.self _ c.in_ok-pop.ensures.ok)
           c.in_ok-answer.ensures.answer;
+      stored = subst (λ (m : Option Lengths). IsCut m c.args.store.now c.cut_store.new.store) is c.in_ok-cut_store.ensures.cut;
+      sorted =
+          sorted_as (popped_by global c.args.count s) c.pop.new.self c.cut_store.new.store c.in_ok-pop.ensures.ok
+          (sorted_left s.top.context.declarations _ c.mark_below-mark.result c.args.store.now c.cut_store.new.store (λ none. popped_same global c.args.count s (sym is ∙ none)) c.mark_below-mark.ensures.cut c.in_ok-cut_store.ensures.cut c.in_ok-cut_store.ensures.sorted c.requires.sorted);
     }

@@ -1,6 +1,6 @@
 use Rattle.std.proofs.Common.{◌≡◌, length}
 use Rattle.ct_eval.specs.EvaluationStep.{HaveNodes}
-use Rattle.ct_eval.proofs.valuation.all_nodes.Given as goal
+use Rattle.ct_eval.proofs.valuation.add_nodes.Given as goal
 
 -- so many terms have nodes
 abbrev pub invariant-loop-t : goal.invariant-loop-t

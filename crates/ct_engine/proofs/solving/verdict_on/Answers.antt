@@ -1,5 +1,5 @@
 use Rattle.ct_engine.specs.declared.verdict.Verdict.TheVariants.{Unknown}
-use Rattle.ct_engine.proofs.solving.solve.Goals as goal
+use Rattle.ct_engine.proofs.solving.verdict_on.Goals as goal
 
 pub find-requires-clause-sizes : goal.find-requires-clause-sizes
 find-requires-clause-sizes c = rw c.deref.ensures c.in_ok-sizes.ensures.sizes
@@ -23,3 +23,9 @@ model-requires-clause-candidate c = (c.args.table.now, c.args.asserts.now, rw c.
 
 pub returns-clause-verdict : goal.returns-clause-verdict
 returns-clause-verdict c = c.in_ok-interp-in-Candidate.ensures.model c.args.table.now c.args.asserts.now (rw c.in-Candidate.is at c.in_ok-outcome.ensures.outcome)
+
+pub returns-in-Unsat-clause-begun : goal.returns-in-Unsat-clause-begun
+returns-in-Unsat-clause-begun c = rw c.in-Unsat.is at c.in_ok-outcome.ensures.begun
+
+pub returns-in-Unknown-clause-begun : goal.returns-in-Unknown-clause-begun
+returns-in-Unknown-clause-begun c = rw c.in-Unknown.is at c.in_ok-outcome.ensures.begun

@@ -1,0 +1,20 @@
+; The same trees, told by what is on the left and on the right of each, without any equation of a constructor.
+; unsat: a tree that is a node is built of its two sides, and none of these trees ever comes to a leaf.
+; cvc5 1.0.3 and CVC4 1.8 answer sat; the model of cvc5 gives the two one value.
+(set-logic ALL)
+(set-info :status unsat)
+(declare-codatatype Tree ((node (left Tree) (right Tree)) (leaf)))
+(declare-const x Tree)
+(declare-const y Tree)
+(declare-const z Tree)
+(assert ((_ is node) x))
+(assert ((_ is node) y))
+(assert ((_ is node) z))
+(assert (= (left x) y))
+(assert (= (right x) z))
+(assert (= (left y) y))
+(assert (= (right y) x))
+(assert (= (left z) z))
+(assert (= (right z) y))
+(assert (not (= x y)))
+(check-sat)

@@ -1,0 +1,138 @@
+-- What becomes of the store by a command that leaves it alone, by one that takes declarations back, and by a check.
+use Rattle.std.proofs.Common.{◌≡◌, ◌∙◌, ℕ, zero, suc, ◌≤◌, Bool, true, false, true≢false, List, [], ◌∷◌, ◌++◌, Option, None, Some, Result, Ok, Err, IfSome, refl, sym, ap, subst, inl, inr}
+use Rattle.ct_sorts.specs.Declarations.{Declarations, with_function}
+use Rattle.ct_sorts.specs.Lengths.{Lengths}
+use Rattle.ct_sorts.specs.Marks.{cut}
+use Rattle.ct_sorts.specs.Grown.{Extends}
+use Rattle.ct_terms.specs.Terms.{AreSorted}
+use Rattle.ct_kept.specs.Kept.{Stored}
+use Rattle.ct_model.specs.ModelText.{IsModelText}
+use Rattle.ct_log_text.specs.Written.{expression_of_record, text_of}
+use Rattle.ct_formulas.specs.Formula.{Formula}
+use Rattle.ct_command.specs.declared.error.CommandError.{CommandError}
+use Rattle.ct_command.specs.declared.error.CommandError.TheVariants.{Refused, NoMemory}
+use Rattle.ct_command.specs.declared.command.Command.{Command as ReadCommand}
+use Rattle.ct_command.specs.Seen.{command_seen}
+use Rattle.ct_command.specs.Command.{Command, set_logic, set_option, get_option, set_info, get_info, declare_sort, declare_block, declare_fun, define_fun, assert, check_sat, push, pop, reset_assertions, reset, get_model, get_value, get_proof, echo, exit, unsupported}
+use Rattle.ct_engine.specs.declared.verdict.Verdict.{Verdict}
+use Rattle.ct_stack.specs.Stack.{Stack, Context, declaring, in_context, asserting, defined_in}
+use Rattle.ct_stack.specs.Levels.{pushed, pushed_by}
+use Rattle.ct_stack.specs.Elaborations.{declared_function, defined_function, asserted_formula}
+use Rattle.ct_stack.specs.Values.{AreValues}
+use Rattle.ct_step.specs.declared.answer.Answer.{Answer}
+use Rattle.ct_step.specs.declared.state.SessionState.{SessionState}
+use Rattle.ct_step.specs.State.{State, context_of, declared, changed, model_kept, derivation_kept}
+use Rattle.ct_step.specs.Step.{CommandEffect, Does, quiet, said}
+use Rattle.ct_step.specs.Done.{IsDone, state_of}
+use Rattle.ct_step.specs.Growing.{Growing}
+use Rattle.ct_step.specs.Store.{IsStoreOf, IsSoundWith, Stores, IsStored}
+use Rattle.ct_step.proofs.SoundLemmas.{only, only_of, same_state, sound_still}
+use Rattle.ct_step.proofs.DoneLemmas.{seen_as}
+
+-- the command leaves the store alone
+abbrev pub rests : Command → Bool
+rests check_sat = false
+rests (pop n) = false
+rests reset_assertions = false
+rests reset = false
+rests c = true
+
+-- so it does, whatever the verdicts are
+stores_same : (s : State) (c : Command) (verdicts : List Verdict) (store : Stored) → rests c ≡ true → Stores s c verdicts store store
+stores_same s check_sat verdicts store rest = absurd (true≢false (sym rest))
+stores_same s (pop n) verdicts store rest = absurd (true≢false (sym rest))
+stores_same s reset_assertions verdicts store rest = absurd (true≢false (sym rest))
+stores_same s reset verdicts store rest = absurd (true≢false (sym rest))
+stores_same s c verdicts store rest = refl
+
+-- levels that are added change nothing that is declared
+pushed_context : (n : ℕ) (s : Stack) → (pushed_by n s).top.context ≡ s.top.context
+pushed_context zero s = refl
+pushed_context (suc n) s = pushed_context n (pushed s)
+
+module _ (g : Growing) (s : State) (e : CommandEffect) where
+  -- what the effect leaves declared is this
+  leaves : (t : CommandEffect) → e ≡ t → Extends (declared t.state) (declared s) → Extends (declared e.state) (declared s)
+  leaves t is grown = subst (λ (x : CommandEffect). Extends (declared x.state) (declared s)) (sym is) grown
+
+  stays : (t : CommandEffect) → e ≡ t → declared t.state ≡ declared s → Extends (declared e.state) (declared s)
+  stays t is same = leaves t is (subst (λ (d : Declarations). Extends d (declared s)) (sym same) (g.itself (declared s)))
+
+  -- a command that leaves the store alone only adds to what is declared
+  grown_after : (number : ℕ) (c : Command) → rests c ≡ true → Does s number c e → Extends (declared e.state) (declared s)
+  grown_after number (set_logic name) rest is = stays _ is refl
+  grown_after number (set_option setting) rest is = stays _ is refl
+  grown_after number (get_option option) rest is = stays _ is refl
+  grown_after number set_info rest is = stays _ is refl
+  grown_after number (get_info info) rest is = stays _ is refl
+  grown_after number (declare_sort head) rest is = leaves _ is (g.sort (declared s) _)
+  grown_after number (declare_block family heads bodies) rest is = leaves _ is (g.block (declared s) _ _)
+  grown_after number (declare_fun name args sort) rest is =
+      only (declared_function (declared s) name args sort) (λ f. e ≡ quiet (changed s (declaring s.stack (with_function (declared s) f)))) (Extends (declared e.state) (declared s))
+      (λ f h. leaves (quiet (changed s (declaring s.stack (with_function (declared s) f)))) h (g.function (declared s) f)) is
+  grown_after number (define_fun name params sort t) rest is =
+      only (defined_function (declared s) name params sort t) (λ f. e ≡ quiet (changed s (in_context s.stack (defined_in (context_of s) f)))) (Extends (declared e.state) (declared s))
+      (λ f h. leaves (quiet (changed s (in_context s.stack (defined_in (context_of s) f)))) h (g.definition (declared s) f.0)) is
+  grown_after number (assert t) rest is =
+      only (asserted_formula (declared s) t) (λ formula. e ≡ quiet (changed s (asserting s.stack formula))) (Extends (declared e.state) (declared s))
+      (λ formula h. stays (quiet (changed s (asserting s.stack formula))) h refl) is
+  grown_after number check_sat rest is = absurd (true≢false (sym rest))
+  grown_after number (push n) rest is = stays _ is (ap (λ (c : Context). c.declarations) (pushed_context n s.stack))
+  grown_after number (pop n) rest is = absurd (true≢false (sym rest))
+  grown_after number reset_assertions rest is = absurd (true≢false (sym rest))
+  grown_after number reset rest is = absurd (true≢false (sym rest))
+  grown_after number get_model rest is =
+      only_of (model_kept s.kept) (λ i. (text : List ℕ) × IsModelText (declared s) i text × (e ≡ said s text)) (Extends (declared e.state) (declared s)) (λ i h. stays (said s h.0) h.2 refl) is
+  grown_after number (get_value ts) rest is =
+      only_of (model_kept s.kept) (λ i. (text : List ℕ) × AreValues (context_of s) i ts text × (e ≡ said s text)) (Extends (declared e.state) (declared s)) (λ i h. stays (said s h.0) h.2 refl) is
+  grown_after number get_proof rest is =
+      only_of (derivation_kept s.kept) (λ p. e ≡ said s (text_of (expression_of_record (declared s) p.0 p.1.rec))) (Extends (declared e.state) (declared s)) (λ p h. stays (said s (text_of (expression_of_record (declared s) p.0 p.1.rec))) h refl) is
+  grown_after number (echo x) rest is = stays _ is refl
+  grown_after number exit rest is = stays _ is refl
+  grown_after number unsupported rest is = stays _ is refl
+
+-- what becomes of the state and the store by a command
+pub record Outcome (old new : SessionState) (number : ℕ) (c : Command) (r : Result Answer CommandError) (before after : Stored) : Type 0 where
+  pub done : IsDone old number c new r
+  pub stored : IsStored old c new r before after
+  pub sound : IsSoundWith (state_of new) after
+
+module _ (old new : SessionState) (number : ℕ) where
+  -- where nothing has changed
+  unchanged : (store : Stored) → state_of new ≡ state_of old → IsStoreOf (state_of old) store → IsStoreOf (state_of new) store
+  unchanged store same sorted = subst (λ (s : State). IsStoreOf s store) (sym same) sorted
+
+  -- by one that leaves the store alone
+  stored_same : (c : Command) (r : Result Answer CommandError) (store : Stored) → rests c ≡ true → IsStored old c new r store store
+  stored_same c (Ok a) store rest = stores_same (state_of old) c new.verdicts.items store rest
+  stored_same c (Err e) store rest = refl
+
+  sorted_still : Growing → (c : Command) (r : Result Answer CommandError) (store : Stored) → rests c ≡ true → IsDone old number c new r → IsStoreOf (state_of old) store → IsStoreOf (state_of new) store
+  sorted_still g c (Ok a) store rest done sorted =
+      subst (λ (s : State). IsStoreOf s store) (sym done.state)
+      (g.table (declared done.effect.state) (declared (state_of old)) store.table (grown_after g (state_of old) done.effect number c rest done.accepted.1) sorted)
+  sorted_still g c (Err (Refused n)) store rest done sorted = unchanged store (same_state old new done.1) sorted
+  sorted_still g c (Err NoMemory) store rest done sorted = unchanged store (same_state old new done) sorted
+
+  pub apart : Growing → (r : Result Answer CommandError) (c d : ReadCommand) (store : Stored) → IsSoundWith (state_of old) store → c ≡ d → rests (command_seen d) ≡ true → IsDone old number (command_seen d) new r → Outcome old new number (command_seen c) r store store
+  apart g r c d store sound is rest done =
+      let own : rests (command_seen c) ≡ true = ap (λ (x : ReadCommand). rests (command_seen x)) is ∙ rest in
+      let own_done : IsDone old number (command_seen c) new r = seen_as old new number r c d is done in
+      record {
+        done = own_done;
+        stored = stored_same (command_seen c) r store own;
+        sound = record {
+          sound = sound_still old new number (command_seen c) r own_done sound.sound;
+          sorted = sorted_still g (command_seen c) r store own own_done sound.sorted;
+        };
+      }
+
+  -- by another one
+  pub along : (r : Result Answer CommandError) (c d : ReadCommand) (before after : Stored) → IsSoundWith (state_of old) before → c ≡ d → IsDone old number (command_seen d) new r → IsStored old (command_seen d) new r before after → IsStoreOf (state_of new) after → Outcome old new number (command_seen c) r before after
+  along r c d before after sound is done stored sorted =
+      let own_done : IsDone old number (command_seen c) new r = seen_as old new number r c d is done in
+      record {
+        done = own_done;
+        stored = subst (λ (x : ReadCommand). IsStored old (command_seen x) new r before after) (sym is) stored;
+        sound = record { sound = sound_still old new number (command_seen c) r own_done sound.sound; sorted = sorted };
+      }

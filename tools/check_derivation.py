@@ -1,0 +1,1394 @@
+#!/usr/bin/env python3
+"""Checks a derivation of `unsat` against the script that it is of, apart from the solver.
+
+usage: tools/check_derivation.py PROOF SCRIPT
+
+PROOF holds the text that `get-proof` wrote (docs/DERIVATIONS.md), SCRIPT the script (docs/LANGUAGE.md). One line is written, and the
+status is that of `cosmt --audit PROOF SCRIPT` (LANGUAGE, Audits):
+
+    verified                         0  no interpretation makes the assertions of that check all true
+    rejected N                       6  line N of the derivation is the first that is not accepted
+    (error "item N: [Ek] text")      6  item N of its text is the first that cannot be read
+
+2: not two arguments. 3: a file cannot be read. 4: the line cannot be written. 5: memory ran out. 7: a file has more than 67,108,864
+bytes.
+
+What it is for: whoever does not want to believe the solver, nor its proofs and the tools that checked them, believes these pages
+of Python. They were written from the two pages alone, share nothing with the solver, and use the standard library alone.
+
+What is trusted: this file, Python and the machine; that the rules of DERIVATIONS are sound; and that the script says what is
+meant by it. The file has four parts: the texts, the script up to the check with the terms of its assertions, the reading of a
+derivation, and its rules, one function each. Nothing recurses over the depth of a text or of a term.
+"""
+
+import gc
+import re
+import sys
+from collections import Counter, defaultdict
+from itertools import combinations, islice
+from operator import itemgetter
+
+MOST_BYTES = 67108864
+MOST_DEPTH = 1000
+MOST_TERMS = 400000
+MOST_LEVELS = 10000
+MOST_SORTS = 4096
+MOST_CONSTRUCTORS = 16384
+MOST_SELECTORS = 65536
+MOST_FUNCTIONS = 65536
+MOST_DEFINITIONS = 65536
+WORD_BOUND = 2**64
+NUMERAL_BOUND = 2**128
+
+
+# ---------------------------------------------------------------------------------------------------------------------
+# Texts. An expression is a list of expressions, or an atom: an int for a numeral, else the bytes as they stand, of which the first
+# tells the kind.
+
+class TextError(Exception):
+    """The text ends here: an error E1 to E6."""
+
+
+WORD_BYTE = rb"[A-Za-z0-9~!@$%^&*_\-+=<>.?/]"
+SYMBOL = rb"[A-Za-z~!@$%^&*_\-+=<>.?/]" + WORD_BYTE + rb"*"
+TOKEN = re.compile(
+    WORD_BYTE + rb"+|[()]|[:#]" + WORD_BYTE + rb'+|\|[^|\\]*\||"[^"]*(?:""[^"]*)*"|;[^\n\r]*|[^ \t\n\r]')
+ATOM = re.compile(
+    rb":?" + SYMBOL + rb'|\|.*\||".*"|#b[01]+|#x[0-9A-Fa-f]+|[0-9]+(?:\.[0-9]+)?', re.DOTALL)
+
+
+def atom_of(token):
+    """The atom that a token is."""
+    if not ATOM.fullmatch(token):
+        raise TextError
+    if not token.isdigit():
+        return token
+    digits = token.lstrip(b"0") or b"0"
+    if len(digits) > 39 or int(digits) >= NUMERAL_BOUND:
+        raise TextError
+    return int(digits)
+
+
+def expressions(text):
+    """The lists of a text, one by one. What is no list, and what no list begins or ends with, is an error."""
+    atoms = {}
+    opened = []
+    inner = None
+    for token in map(itemgetter(0), TOKEN.finditer(text)):
+        atom = atoms.get(token)
+        if atom is None:
+            if token == b"(":
+                if len(opened) == MOST_DEPTH:
+                    raise TextError
+                opened.append(inner)
+                inner = []
+                continue
+            if token == b")":
+                if not opened:
+                    raise TextError
+                ended, inner = inner, opened.pop()
+                if opened:
+                    inner.append(ended)
+                else:
+                    yield ended
+                continue
+            if token[0] == ord(";"):
+                continue
+            atom = atoms[token] = atom_of(token)
+        if inner is None:
+            raise TextError
+        inner.append(atom)
+    if opened:
+        raise TextError
+
+
+RESERVED = frozenset(
+    b"! _ as BINARY DECIMAL exists forall HEXADECIMAL lambda let match NUMERAL par STRING".split())
+NO_SYMBOL = frozenset(b':"#0123456789')
+
+
+def name_of(atom):
+    """The name that an expression is as a symbol, simple or quoted, or None. A reserved word is none."""
+    if type(atom) is not bytes or atom in RESERVED or atom[0] in NO_SYMBOL:
+        return None
+    return atom[1:-1] if atom[0] == ord("|") else atom
+
+
+def is_keyword(atom):
+    return type(atom) is bytes and atom[0] == ord(":")
+
+
+# ---------------------------------------------------------------------------------------------------------------------
+# What a script declares. A constructor, selector, tester and function is itself the head of its terms.
+
+class Sort:
+    def __init__(self, name, kind):
+        self.name = name
+        self.kind = kind  # "Bool", "uninterpreted", "datatype" or "codatatype"
+        self.constructors = []
+
+
+class Constructor:
+    def __init__(self, name, result):
+        self.name = name
+        self.result = result
+        self.selectors = []
+        self.arguments = []
+        self.tester = Tester(self)
+
+
+class Selector:
+    def __init__(self, name, constructor, place, result):
+        self.name = name
+        self.constructor = constructor
+        self.place = place
+        self.arguments = [constructor.result]
+        self.result = result
+
+
+class Tester:
+    def __init__(self, constructor):
+        self.constructor = constructor
+
+
+class Function:
+    def __init__(self, name, arguments, result):
+        self.name = name
+        self.arguments = arguments
+        self.result = result
+
+
+class Definition:
+    """A definition with the code of its body over those of its parameters that occur in the body's term."""
+
+    def __init__(self, name, arguments, result, used, code):
+        self.name = name
+        self.arguments = arguments
+        self.result = result
+        self.used = used
+        self.code = code
+
+
+class Refused(Exception):
+    """A command has an error, and changes nothing."""
+
+
+def require(condition):
+    if not condition:
+        raise Refused
+
+
+OPERATORS = frozenset(b"not and or xor => = distinct ite".split())
+NOT, AND, OR, IFF, EQUAL, ITE = "not", "and", "or", "iff", "=", "ite"
+PARAMETER, DISTINCT, DISTINCT_BOOL = "parameter", "distinct", "distinct Bool"
+
+
+# ---------------------------------------------------------------------------------------------------------------------
+# Expressions
+
+def without_recursion(routine):
+    """Runs a generator that yields the generators it waits for, and gives what it returns."""
+    waiting = [routine]
+    value = None
+    while waiting:
+        try:
+            called = waiting[-1].send(value)
+        except StopIteration as ended:
+            waiting.pop()
+            value = ended.value
+        else:
+            waiting.append(called)
+            value = None
+    return value
+
+
+class Elaboration:
+    """One expression, read over what is declared. Its nodes are numbered: each is a head with the numbers of the nodes under it, which
+    are smaller. Nothing is left of variables, `let` and `match`; calls of definitions and `distinct` stand as they are."""
+
+    def __init__(self, script):
+        self.script = script
+        self.heads = []
+        self.under = []
+        self.sorts = []
+        self.variables = {}
+
+    def node(self, head, under, sort):
+        self.heads.append(head)
+        self.under.append(under)
+        self.sorts.append(sort)
+        return len(self.heads) - 1
+
+    def boolean(self, head, *under):
+        return self.node(head, under, self.script.bool)
+
+    def root(self, text):
+        """The node of an expression."""
+        return without_recursion(self.lists([text]))[0]
+
+    def lists(self, texts):
+        """The nodes of some expressions."""
+        nodes = []
+        for text in texts:
+            nodes.append((yield self.application(text)) if type(text) is list else self.alone(text))
+        return nodes
+
+    def alone(self, atom):
+        """A symbol alone."""
+        name = name_of(atom)
+        require(name is not None)
+        if name in self.variables:
+            return self.variables[name]
+        return self.applied(self.script.symbols.get(name), ())
+
+    def applied(self, symbol, nodes):
+        """A constructor, selector, function or definition over its arguments."""
+        require(symbol is not None and len(nodes) == len(symbol.arguments))
+        for node, sort in zip(nodes, symbol.arguments):
+            require(self.sorts[node] is sort)
+        return self.node(symbol, nodes, symbol.result)
+
+    def application(self, text):
+        """A list."""
+        require(text)
+        head = text[0]
+        if type(head) is list:
+            return (yield self.with_listed_head(head, text))
+        if head in KEYWORDS:
+            return (yield KEYWORDS[head](self, text))
+        name = name_of(head)
+        require(name is not None and len(text) > 1 and name not in self.variables)
+        if name in OPERATORS:
+            nodes = yield self.lists(text[1:])
+            return self.operator(name, nodes)
+        symbol = self.script.symbols.get(name)
+        require(symbol is not None and len(symbol.arguments) == len(text) - 1)
+        return self.applied(symbol, (yield self.lists(text[1:])))
+
+    def with_listed_head(self, head, text):
+        """`((_ is C) t)` and `((as f S) t ..)`."""
+        require(len(head) == 3 and len(text) > 1)
+        if head[0] == b"as":
+            symbol = self.ascribed(head)
+            require(len(symbol.arguments) == len(text) - 1)
+            return self.applied(symbol, (yield self.lists(text[1:])))
+        require(head[0] == b"_" and name_of(head[1]) == b"is" and len(text) == 2)
+        constructor = self.script.symbols.get(name_of(head[2]))
+        require(type(constructor) is Constructor and constructor.result is not self.script.bool)
+        nodes = yield self.lists(text[1:])
+        require(self.sorts[nodes[0]] is constructor.result)
+        return self.boolean(constructor.tester, *nodes)
+
+    def ascribed(self, text):
+        """The symbol of `(as f S)`."""
+        require(len(text) == 3)
+        name = name_of(text[1])
+        require(name not in self.variables)
+        symbol = self.script.symbols.get(name)
+        require(type(symbol) in (Constructor, Function, Definition))
+        require(symbol.result is self.script.sort(text[2]))
+        return symbol
+
+    def ascription(self, text):
+        return self.applied(self.ascribed(text), ())
+        yield
+
+    def attributed(self, text):
+        """`(! t :k v ..)`."""
+        require(len(text) > 2 and is_keyword(text[2]))
+        for i, part in enumerate(text[2:], 2):
+            require(is_keyword(part) or is_keyword(text[i - 1]))
+            require(part != b":named")
+        return (yield self.lists(text[1:2]))[0]
+
+    def operator(self, name, nodes):
+        """An operator over its arguments."""
+        sorts = [self.sorts[node] for node in nodes]
+        if name == b"ite":
+            require(len(nodes) == 3 and sorts[0] is self.script.bool and sorts[1] is sorts[2])
+            return self.node(ITE, nodes, sorts[1])
+        if name in (b"=", b"distinct"):
+            require(len(nodes) > 1 and all(sort is sorts[0] for sort in sorts))
+            return self.equation(nodes) if name == b"=" else self.distinction(nodes)
+        require(all(sort is self.script.bool for sort in sorts))
+        if name == b"not":
+            require(len(nodes) == 1)
+            return self.boolean(NOT, *nodes)
+        if name in (b"and", b"or"):
+            return nodes[0] if len(nodes) == 1 else self.boolean(AND if name == b"and" else OR, *nodes)
+        require(len(nodes) > 1)
+        if name == b"xor":
+            last = nodes[0]
+            for node in nodes[1:]:
+                last = self.boolean(NOT, self.boolean(IFF, last, node))
+            return last
+        last = nodes[-1]
+        for node in nodes[-2::-1]:
+            last = self.boolean(OR, self.boolean(NOT, node), last)
+        return last
+
+    def equation(self, nodes):
+        head = IFF if self.sorts[nodes[0]] is self.script.bool else EQUAL
+        equations = [self.boolean(head, left, right) for left, right in zip(nodes, nodes[1:])]
+        return equations[0] if len(equations) == 1 else self.boolean(AND, *equations)
+
+    def distinction(self, nodes):
+        return self.boolean(DISTINCT_BOOL if self.sorts[nodes[0]] is self.script.bool else DISTINCT, *nodes)
+
+    def bind(self, bindings):
+        """Binds variables, and gives what `unbind` wants."""
+        before = {name: self.variables.get(name) for name in bindings}
+        self.variables.update(bindings)
+        return before
+
+    def unbind(self, before):
+        for name, node in before.items():
+            if node is None:
+                del self.variables[name]
+            else:
+                self.variables[name] = node
+
+    def let(self, text):
+        """`(let ((x t) ..) u)`."""
+        require(len(text) == 3 and type(text[1]) is list and text[1])
+        for binding in text[1]:
+            require(type(binding) is list and len(binding) == 2)
+        names = [name_of(binding[0]) for binding in text[1]]
+        require(None not in names and len(set(names)) == len(names))
+        nodes = yield self.lists([binding[1] for binding in text[1]])
+        before = self.bind(dict(zip(names, nodes)))
+        body = (yield self.lists(text[2:]))[0]
+        self.unbind(before)
+        return body
+
+    def match(self, text):
+        """`(match t ((p u) ..))`."""
+        require(len(text) == 3 and type(text[2]) is list)
+        for case in text[2]:
+            require(type(case) is list and len(case) == 2)
+        subject = (yield self.lists(text[1:2]))[0]
+        sort = self.sorts[subject]
+        require(sort.kind in ("datatype", "codatatype"))
+        cases = []
+        seen = set()
+        complete = False
+        for pattern, body in text[2]:
+            constructor, bindings = self.pattern(pattern, subject)
+            before = self.bind(bindings)
+            node = (yield self.lists([body]))[0]
+            self.unbind(before)
+            require(not cases or self.sorts[node] is self.sorts[cases[0][1]])
+            if not complete:
+                cases.append((constructor, node))
+                seen.add(constructor)
+                complete = constructor is None or len(seen) == len(sort.constructors)
+        require(complete)
+        return self.choice(subject, cases)
+
+    def choice(self, subject, cases):
+        """The first case that fits; the last one surely does."""
+        last = cases[-1][1]
+        for constructor, node in cases[-2::-1]:
+            test = self.boolean(constructor.tester, subject)
+            last = self.node(ITE, (test, node, last), self.sorts[node])
+        return last
+
+    def pattern(self, pattern, subject):
+        """The constructor of a pattern, or None for one that fits everything, and what its variables stand for."""
+        symbols = self.script.symbols
+        if type(pattern) is not list:
+            if pattern == b"_":
+                return None, {}
+            name = name_of(pattern)
+            require(name is not None)
+            constructor = symbols.get(name)
+            if type(constructor) is not Constructor:
+                return None, {name: subject}
+            names = []
+        else:
+            require(len(pattern) > 1)
+            constructor = symbols.get(name_of(pattern[0]))
+            require(type(constructor) is Constructor)
+            names = [None if x == b"_" else name_of(x) for x in pattern[1:]]
+            require(all(name is not None or x == b"_" for name, x in zip(names, pattern[1:])))
+        require(constructor.result is self.sorts[subject] and len(names) == len(constructor.selectors))
+        bindings = {}
+        for name, selector in zip(names, constructor.selectors):
+            if name is not None:
+                require(name not in bindings)
+                bindings[name] = self.node(selector, (subject,), selector.result)
+        return constructor, bindings
+
+    def code(self, root, parameters):
+        """The places of the parameters that occur in the term of a node, and the heads and places of the nodes that do, in order: the
+        places of used parameters come first. The root is the last one."""
+        wanted = bytearray(root + 1)
+        wanted[root] = 1
+        for node in range(root, -1, -1):
+            if wanted[node]:
+                self.under[node] = self.needed(node)
+                for below in self.under[node]:
+                    wanted[below] = 1
+        used = tuple(node for node in range(min(parameters, root + 1)) if wanted[node])
+        places = {node: place for place, node in enumerate(used)}
+        code = []
+        for node in range(parameters, root + 1):
+            if wanted[node]:
+                places[node] = len(places)
+                code.append((self.heads[node], tuple([places[below] for below in self.under[node]])))
+        return used, code
+
+    def needed(self, node):
+        """The nodes right under a node that occur in its term."""
+        head = self.heads[node]
+        return [self.under[node][i] for i in head.used] if type(head) is Definition else self.under[node]
+
+
+def no_form(elaboration, text):
+    """A reserved word that begins no expression."""
+    raise Refused
+    yield
+
+
+KEYWORDS = {word: no_form for word in RESERVED}
+KEYWORDS.update({b"let": Elaboration.let, b"match": Elaboration.match, b"as": Elaboration.ascription,
+                 b"!": Elaboration.attributed})
+
+
+# ---------------------------------------------------------------------------------------------------------------------
+# The terms of the assertions
+
+class Terms:
+    """Terms by numbers: each is a head with the numbers right under it, which are smaller. None stands twice."""
+
+    def __init__(self, heads):
+        self.numbers = {}
+        self.calls = {}
+        for head in heads:
+            self.term(head, ())
+
+    def term(self, head, under):
+        """The number of a term, which is refused where there are too many."""
+        key = (head, *under)
+        number = self.numbers.get(key)
+        if number is None:
+            number = len(self.numbers)
+            require(number < MOST_TERMS)
+            self.numbers[key] = number
+        return number
+
+    def mark(self):
+        return len(self.numbers), len(self.calls)
+
+    def back_to(self, mark):
+        for entries, length in zip((self.numbers, self.calls), mark):
+            while len(entries) > length:
+                entries.popitem()
+
+    def of_code(self, code):
+        """The term of the code of an assertion. Calls that are not known wait for each other in a list."""
+        waiting = [(None, 0, code, [])]
+        while True:
+            call, parameters, code, values = waiting[-1]
+            called = self.go_on(code, values, len(values) - parameters)
+            if called is not None:
+                definition, *arguments = called
+                waiting.append((called, len(arguments), definition.code, arguments))
+                continue
+            waiting.pop()
+            if not waiting:
+                return values[-1]
+            self.calls[call] = values[-1]
+
+    def go_on(self, code, values, start):
+        """Adds the values of code from a place on, up to a call that is not known, which is given."""
+        for head, places in islice(code, start, None):
+            under = [values[place] for place in places]
+            if type(head) is Definition:
+                call = (head, *under)
+                if call not in self.calls:
+                    return call
+                values.append(self.calls[call])
+            elif head is DISTINCT or head is DISTINCT_BOOL:
+                values.append(self.distinct(EQUAL if head is DISTINCT else IFF, under))
+            else:
+                values.append(self.term(head, under))
+        return None
+
+    def distinct(self, head, under):
+        """No two are equal."""
+        pairs = [self.term(NOT, (self.term(head, pair),)) for pair in combinations(under, 2)]
+        return pairs[0] if len(pairs) == 1 else self.term(AND, pairs)
+
+
+# ---------------------------------------------------------------------------------------------------------------------
+# Commands
+
+class Script:
+    """What is declared, defined and asserted, at one moment of a script."""
+
+    def __init__(self):
+        self.bool = Sort(b"Bool", "Bool")
+        self.checks = 0
+        self.start()
+
+    def start(self):
+        """All as at the start, but for the number of checks."""
+        self.globally = False
+        self.outset()
+
+    def outset(self):
+        """Nothing is declared and asserted."""
+        self.sorts = {b"Bool": self.bool}
+        self.symbols = {}
+        self.bool.constructors = [Constructor(name, self.bool) for name in (b"true", b"false")]
+        for constructor in self.bool.constructors:
+            self.symbols[constructor.name] = constructor
+        self.counts = Counter({Constructor: 2})
+        self.terms = Terms(self.bool.constructors)
+        self.assertions = []
+        self.levels = []
+
+    def answer(self, command, wanted):
+        """Does a command, and says whether nothing after it is looked at: it is `exit`, or the check of the number that is wanted."""
+        word = command[0] if command else None
+        if word == b"exit" and len(command) == 1:
+            return True
+        if word == b"check-sat" and len(command) == 1:
+            self.checks += 1
+            return self.checks == wanted
+        if type(word) is bytes and word in COMMANDS:
+            try:
+                COMMANDS[word](self, *command[1:])
+            except Refused:
+                pass
+        return False
+
+    def sort(self, text):
+        name = name_of(text)
+        require(name in self.sorts)
+        return self.sorts[name]
+
+    def new(self, names, taken):
+        """Refuses names of which one cannot be declared."""
+        require(len(set(names)) == len(names))
+        for name in names:
+            require(name is not None and name not in taken and name[:1] not in (b"@", b"."))
+            require(taken is self.sorts or name not in OPERATORS)
+
+    # Each command takes the expressions after its word.
+
+    def set_option(self, *rest):
+        require(len(rest) == 2 and rest[0] == b":global-declarations")
+        value = name_of(rest[1])
+        require(value in (b"true", b"false"))
+        require(not (self.levels or self.assertions or len(self.sorts) > 1 or len(self.symbols) > 2))
+        self.globally = value == b"true"
+
+    def declare_sort(self, *rest):
+        require(len(rest) == 2 and rest[1] == 0)
+        name = name_of(rest[0])
+        self.new([name], self.sorts)
+        require(len(self.sorts) < MOST_SORTS)
+        self.sorts[name] = Sort(name, "uninterpreted")
+
+    def declare_datatype(self, *rest):
+        require(len(rest) == 2)
+        self.block([rest[0]], [rest[1]], "datatype")
+
+    def declare_codatatype(self, *rest):
+        require(len(rest) == 2)
+        self.block([rest[0]], [rest[1]], "codatatype")
+
+    def declare_datatypes(self, *rest):
+        self.blocks(rest, "datatype")
+
+    def declare_codatatypes(self, *rest):
+        self.blocks(rest, "codatatype")
+
+    def blocks(self, rest, kind):
+        require(len(rest) == 2 and type(rest[0]) is list and type(rest[1]) is list)
+        require(rest[0] and len(rest[0]) == len(rest[1]))
+        for named in rest[0]:
+            require(type(named) is list and len(named) == 2 and named[1] == 0)
+        self.block([named[0] for named in rest[0]], rest[1], kind)
+
+    def block(self, names, bodies, kind):
+        """Declares datatypes or codatatypes that may name one another."""
+        names = [name_of(name) for name in names]
+        self.new(names, self.sorts)
+        fresh = {name: Sort(name, kind) for name in names}
+        symbols = []
+        for sort, body in zip(fresh.values(), bodies):
+            require(type(body) is list and body)
+            for text in body:
+                require(type(text) is list and text)
+                constructor = Constructor(name_of(text[0]), sort)
+                sort.constructors.append(constructor)
+                symbols.append(constructor)
+                for place, field in enumerate(text[1:]):
+                    require(type(field) is list and len(field) == 2)
+                    result = fresh.get(name_of(field[1])) or self.sort(field[1])
+                    selector = Selector(name_of(field[0]), constructor, place, result)
+                    constructor.selectors.append(selector)
+                    constructor.arguments.append(result)
+                    symbols.append(selector)
+        self.new([symbol.name for symbol in symbols], self.symbols)
+        require(kind == "codatatype" or well_founded(fresh.values()))
+        more = Counter(type(symbol) for symbol in symbols)
+        require(len(self.sorts) + len(fresh) <= MOST_SORTS)
+        require(self.counts[Constructor] + more[Constructor] <= MOST_CONSTRUCTORS)
+        require(self.counts[Selector] + more[Selector] <= MOST_SELECTORS)
+        self.sorts.update(fresh)
+        self.counts.update(more)
+        for symbol in symbols:
+            self.symbols[symbol.name] = symbol
+
+    def declare_const(self, *rest):
+        require(len(rest) == 2)
+        self.function(rest[0], [], rest[1])
+
+    def declare_fun(self, *rest):
+        require(len(rest) == 3 and type(rest[1]) is list)
+        self.function(*rest)
+
+    def function(self, name, arguments, result):
+        name = name_of(name)
+        self.new([name], self.symbols)
+        arguments = [self.sort(argument) for argument in arguments]
+        result = self.sort(result)
+        require(self.counts[Function] < MOST_FUNCTIONS)
+        self.counts[Function] += 1
+        self.symbols[name] = Function(name, arguments, result)
+
+    def define_const(self, *rest):
+        require(len(rest) == 3)
+        self.define_fun(rest[0], [], *rest[1:])
+
+    def define_fun(self, *rest):
+        require(len(rest) == 4 and type(rest[1]) is list)
+        name, parameters, result, body = rest
+        name = name_of(name)
+        self.new([name], self.symbols)
+        for parameter in parameters:
+            require(type(parameter) is list and len(parameter) == 2)
+        names = [name_of(parameter[0]) for parameter in parameters]
+        require(None not in names and len(set(names)) == len(names))
+        arguments = [self.sort(parameter[1]) for parameter in parameters]
+        result = self.sort(result)
+        elaboration = Elaboration(self)
+        for parameter, sort in zip(names, arguments):
+            elaboration.variables[parameter] = elaboration.node(PARAMETER, (), sort)
+        root = elaboration.root(body)
+        require(elaboration.sorts[root] is result)
+        require(self.counts[Definition] < MOST_DEFINITIONS)
+        self.counts[Definition] += 1
+        self.symbols[name] = Definition(name, arguments, result, *elaboration.code(root, len(names)))
+
+    def assert_(self, *rest):
+        require(len(rest) == 1)
+        elaboration = Elaboration(self)
+        root = elaboration.root(rest[0])
+        require(elaboration.sorts[root] is self.bool)
+        mark = self.terms.mark()
+        try:
+            self.assertions.append(self.terms.of_code(elaboration.code(root, 0)[1]))
+        except Refused:
+            self.terms.back_to(mark)
+            raise
+
+    def push(self, *rest):
+        levels = self.levels_of(rest)
+        require(len(self.levels) + levels <= MOST_LEVELS)
+        here = (len(self.sorts), len(self.symbols), Counter(self.counts), len(self.assertions), self.terms.mark())
+        self.levels.extend([here] * levels)
+
+    def pop(self, *rest):
+        levels = self.levels_of(rest)
+        require(levels <= len(self.levels))
+        if levels:
+            mark = self.levels[-levels]
+            del self.levels[-levels:]
+            self.back_to(*mark)
+
+    def levels_of(self, rest):
+        if not rest:
+            return 1
+        require(len(rest) == 1 and type(rest[0]) is int)
+        return rest[0]
+
+    def back_to(self, sorts, symbols, counts, assertions, terms):
+        del self.assertions[assertions:]
+        self.terms.back_to(terms)
+        if not self.globally:
+            for entries, length in ((self.sorts, sorts), (self.symbols, symbols)):
+                while len(entries) > length:
+                    entries.popitem()
+            self.counts = Counter(counts)
+
+    def reset_assertions(self, *rest):
+        require(not rest)
+        if self.globally:
+            self.levels = []
+            self.assertions = []
+            self.terms = Terms(self.bool.constructors)
+        else:
+            self.outset()
+
+    def reset(self, *rest):
+        require(not rest)
+        self.start()
+
+
+COMMANDS = {
+    b"set-option": Script.set_option, b"declare-sort": Script.declare_sort,
+    b"declare-datatype": Script.declare_datatype, b"declare-codatatype": Script.declare_codatatype,
+    b"declare-datatypes": Script.declare_datatypes, b"declare-codatatypes": Script.declare_codatatypes,
+    b"declare-const": Script.declare_const, b"declare-fun": Script.declare_fun,
+    b"define-const": Script.define_const, b"define-fun": Script.define_fun,
+    b"assert": Script.assert_, b"push": Script.push, b"pop": Script.pop,
+    b"reset-assertions": Script.reset_assertions, b"reset": Script.reset,
+}
+
+
+def well_founded(sorts):
+    """Whether each of these datatypes has a finite value, where every other sort has one."""
+    missing = {}
+    waiting = defaultdict(list)
+    ready = []
+    for sort in sorts:
+        for constructor in sort.constructors:
+            fields = [field for field in constructor.arguments if field in sorts]
+            missing[constructor] = len(fields)
+            for field in fields:
+                waiting[field].append(constructor)
+            if not fields:
+                ready.append(constructor)
+    founded = set()
+    while ready:
+        sort = ready.pop().result
+        if sort not in founded:
+            founded.add(sort)
+            for constructor in waiting[sort]:
+                missing[constructor] -= 1
+                if not missing[constructor]:
+                    ready.append(constructor)
+    return len(founded) == len(sorts)
+
+
+def sorts_with_one_value(sorts):
+    """The greatest set of datatypes and codatatypes with one constructor each, whose fields all have sorts of the set."""
+    single = {sort for sort in sorts if sort.kind in ("datatype", "codatatype") and len(sort.constructors) == 1}
+    over = defaultdict(list)
+    for sort in single:
+        for field in sort.constructors[0].arguments:
+            over[field].append(sort)
+    removed = [field for field in over if field not in single]
+    while removed:
+        for sort in over[removed.pop()]:
+            if sort in single:
+                single.remove(sort)
+                removed.append(sort)
+    return single
+
+
+def script_at(text, check):
+    """What is declared and asserted at the check of this number, or None where there is none."""
+    script = Script()
+    try:
+        for command in expressions(text):
+            if script.answer(command, check):
+                break
+    except TextError:
+        pass
+    return script if script.checks == check else None
+
+
+# ---------------------------------------------------------------------------------------------------------------------
+# The text of a derivation. The literal of the term n is 2 n, the opposite one 2 n + 1.
+
+ERRORS = {41: "derivation form", 42: "number not yet defined", 43: "term line does not fit the script",
+          44: "no such check-sat"}
+NO_FAULT = 100
+
+
+class ItemError(Exception):
+    """An item that cannot be read, with the number of its error."""
+
+    def __init__(self, item, error):
+        super().__init__(item, error)
+        self.line = '(error "item %d: [E%d] %s")' % (item, error, ERRORS[error])
+
+
+class WrongItem(Exception):
+    """The item that is read is wrong, with the number of its error."""
+
+    def __init__(self, error):
+        super().__init__(error)
+        self.error = error
+
+
+def form(condition):
+    """An item that departs from its form is refused at once; other errors wait until it is read whole."""
+    if not condition:
+        raise WrongItem(41)
+
+
+def number(text):
+    form(type(text) is int and text < WORD_BOUND)
+    return text
+
+
+def numbers(texts):
+    return [number(text) for text in texts]
+
+
+def opposite(literal):
+    return literal ^ 1
+
+
+def positive(term):
+    return 2 * term
+
+
+class Derivation:
+    """The terms, the lines and the assertions of a derivation, over what a script declares at its check."""
+
+    def __init__(self, script):
+        self.script = script
+        self.heads = []
+        self.under = []
+        self.sorts = []
+        self.literals = []
+        self.numbers = {}
+        self.lines = []
+        self.assertions = set()
+        self.one_value = None
+
+    # Reading. `fault` has the least error of the numbers and names of the item that is read.
+
+    def read(self, items):
+        place = 1
+        try:
+            while place < 3 or starts_with(items, place, b"t"):
+                form(place < len(items))
+                self.item(self.term_line, items[place])
+                place += 1
+            self.count = len(self.heads)
+            while starts_with(items, place, b"s"):
+                self.item(self.line, items[place])
+                place += 1
+            form(place < len(items) and items[place] == [b"end", len(self.lines)])
+            place += 1
+            form(place == len(items))
+        except WrongItem as wrong:
+            raise ItemError(place, wrong.error) from None
+        self.add_assertions()
+
+    def item(self, read, text):
+        self.fault = NO_FAULT
+        read(text)
+        if self.fault != NO_FAULT:
+            raise WrongItem(self.fault)
+
+    def term_line(self, text):
+        """`(t N TERM)`"""
+        here = len(self.heads)
+        form(type(text) is list and len(text) > 2 and text[0] == b"t" and text[1] == here and here < MOST_TERMS)
+        kind = text[2]
+        form(type(kind) is bytes)
+        if kind in (b"con", b"app", b"sel", b"is"):
+            form(len(text) > 3)
+            name = name_of(text[3])
+            form(name is not None)
+            under = numbers(text[4:])
+            form(len(under) == 1 or kind in (b"con", b"app"))
+            form(here > 1 or (kind == b"con" and name == (b"true", b"false")[here] and not under))
+            symbol = self.script.symbols.get(name)
+        else:
+            form(kind in PLAIN_KINDS and here > 1)
+            under = numbers(text[3:])
+            form(PLAIN_KINDS[kind] is None or PLAIN_KINDS[kind] == len(under))
+            symbol = None
+        if any(term >= here for term in under):
+            self.fault = 42
+            return
+        head, result = self.well_sorted(kind, symbol, under)
+        if head is None:
+            self.fault = 43
+            return
+        key = (head, *under)
+        form(key not in self.numbers)
+        self.numbers[key] = here
+        self.heads.append(head)
+        self.under.append(under)
+        self.sorts.append(result)
+        self.literals.append(self.literal_of(here, head, under, result))
+
+    def well_sorted(self, kind, symbol, under):
+        """The head and the sort of a term, or None where it is none."""
+        sorts = [self.sorts[term] for term in under]
+        boolean = self.script.bool
+        if kind in SYMBOL_KINDS:
+            if type(symbol) is not SYMBOL_KINDS[kind]:
+                return None, None
+            if kind == b"is":
+                return (symbol.tester, boolean) if sorts == [symbol.result] else (None, None)
+            return (symbol, symbol.result) if sorts == symbol.arguments else (None, None)
+        if kind == b"=":
+            fits = sorts[0] is sorts[1] and sorts[0] is not boolean
+            return (EQUAL, boolean) if fits else (None, None)
+        if kind == b"ite":
+            fits = sorts[0] is boolean and sorts[1] is sorts[2]
+            return (ITE, sorts[1]) if fits else (None, None)
+        fits = sorts and all(sort is boolean for sort in sorts)
+        return (PLAIN_HEADS[kind], boolean) if fits else (None, None)
+
+    def literal_of(self, term, head, under, sort):
+        """The literal of a Boolean term."""
+        if sort is not self.script.bool:
+            return None
+        return opposite(self.literals[under[0]]) if head is NOT else positive(term)
+
+    def term(self, text):
+        """The number of a term."""
+        if number(text) >= self.count:
+            self.fault = min(self.fault, 42)
+        return text
+
+    def literal(self, text):
+        """`n` or `(not n)`"""
+        negative = type(text) is list
+        if negative:
+            form(len(text) == 2 and text[0] == b"not")
+            text = text[1]
+        if self.term(text) < self.count and self.literals[text] != positive(text):
+            self.fault = min(self.fault, 43)
+        return opposite(positive(text)) if negative else positive(text)
+
+    def line(self, text):
+        """`(s N (LITERAL ..) STEP)`"""
+        form(len(text) > 3 and text[1] == len(self.lines) + 1 and type(text[2]) is list)
+        clause = [self.literal(literal) for literal in text[2]]
+        step = text[3]
+        form(type(step) is bytes and step in STEPS)
+        self.lines.append((clause, *STEPS[step](self, *text[4:])))
+
+    def parts(self, texts, parts):
+        """The parts of a step by letters: T a term, N a number, L a literal."""
+        form(len(texts) == len(parts))
+        return [self.literal(text) if part == "L" else self.term(text) if part == "T" else number(text)
+                for text, part in zip(texts, parts)]
+
+    def input_step(self, *texts):
+        return by_input, self.parts(texts, "T")
+
+    def exhaust_step(self, *texts):
+        return by_exhaust, self.parts(texts, "T")
+
+    def learn_step(self, *texts):
+        return by_learn, numbers(texts)
+
+    def gate_step(self, *texts):
+        form(texts and type(texts[0]) is bytes and texts[0] in GATES)
+        parts, rule = GATES[texts[0]]
+        return rule, self.parts(texts[1:], parts)
+
+    def theory_step(self, *texts):
+        form(len(texts) == 2 and type(texts[0]) is list and type(texts[1]) is list)
+        steps = [self.equality(text) for text in texts[0]]
+        return by_theory, (steps, *self.closing(texts[1]))
+
+    def equality(self, text):
+        form(type(text) is list and text and type(text[0]) is bytes)
+        word, *texts = text
+        if word == b"unique":
+            return unique, self.unique_step(texts)
+        form(word in EQUALITIES)
+        parts, rule = EQUALITIES[word]
+        if word == b"cong":
+            return rule, self.parts(texts[:2], parts) + numbers(texts[2:])
+        return rule, self.parts(texts, parts)
+
+    def unique_step(self, texts):
+        form(texts)
+        pairs = []
+        for text in texts[1:]:
+            form(type(text) is list and len(text) > 1)
+            entries = []
+            for entry in text[2:]:
+                if type(entry) is list:
+                    form(len(entry) == 4 and entry[0] == b"pair")
+                    entries.append(numbers(entry[1:]))
+                else:
+                    entries.append(number(entry))
+            pairs.append((self.term(text[0]), self.term(text[1]), entries))
+        return number(texts[0]), pairs
+
+    def closing(self, text):
+        form(text and text[0] in (b"clash", b"cycle"))
+        if text[0] == b"clash":
+            return clash, self.parts(text[1:], "N")
+        for entry in text[1:]:
+            form(type(entry) is list)
+        return cycle, [self.parts(entry, "TNN") for entry in text[1:]]
+
+    def add_assertions(self):
+        """Finds the numbers of the assertions, where their terms stand after those of the derivation."""
+        moved = []
+        for head, *under in self.script.terms.numbers:
+            key = (head, *[moved[term] for term in under])
+            moved.append(self.numbers.setdefault(key, len(self.numbers)))
+        if len(self.numbers) > MOST_TERMS:
+            raise ItemError(0, 41)
+        self.assertions = {moved[term] for term in self.script.assertions}
+
+    # Checking
+
+    def verdict(self):
+        """The number of the first line that is not accepted, or None where the derivation passes."""
+        for place, (clause, rule, parts) in enumerate(self.lines):
+            if not rule(self, place, clause, *parts):
+                return place + 1
+        passes = self.lines and not self.lines[-1][0]
+        return None if passes else len(self.lines) + 1
+
+    def has_one_value(self, sort):
+        if self.one_value is None:
+            self.one_value = sorts_with_one_value(self.script.sorts.values())
+        return sort in self.one_value
+
+    def is_constructor(self, term):
+        return type(self.heads[term]) is Constructor
+
+
+def starts_with(items, place, word):
+    return place < len(items) and type(items[place]) is list and items[place][:1] == [word]
+
+
+SYMBOL_KINDS = {b"con": Constructor, b"app": Function, b"sel": Selector, b"is": Constructor}
+PLAIN_KINDS = {b"=": 2, b"not": 1, b"iff": 2, b"and": None, b"or": None, b"ite": 3}
+PLAIN_HEADS = {b"=": EQUAL, b"not": NOT, b"iff": IFF, b"and": AND, b"or": OR, b"ite": ITE}
+
+
+# ---------------------------------------------------------------------------------------------------------------------
+# The steps of lines. Each function says whether the step gives the clause. `d` is the derivation, `place` how many lines are before.
+
+def by_input(d, place, clause, t):
+    return t in d.assertions and clause == [d.literals[t]]
+
+
+def gate_true(d, place, clause):
+    return clause == [positive(0)]
+
+
+def gate_false(d, place, clause):
+    return clause == [opposite(positive(1))]
+
+
+def gate_and_pos(d, place, clause, t, k):
+    return (d.heads[t] is AND and k < len(d.under[t])
+            and clause == [opposite(positive(t)), d.literals[d.under[t][k]]])
+
+
+def gate_and_neg(d, place, clause, t):
+    return (d.heads[t] is AND and len(clause) == len(d.under[t]) + 1
+            and clause == [positive(t)] + [opposite(d.literals[a]) for a in d.under[t]])
+
+
+def gate_or_pos(d, place, clause, t):
+    return (d.heads[t] is OR and len(clause) == len(d.under[t]) + 1
+            and clause == [opposite(positive(t))] + [d.literals[a] for a in d.under[t]])
+
+
+def gate_or_neg(d, place, clause, t, k):
+    return (d.heads[t] is OR and k < len(d.under[t])
+            and clause == [positive(t), opposite(d.literals[d.under[t][k]])])
+
+
+def gate_iff(t_sign, a_sign, b_sign):
+    """The rule of one clause of an equivalence; a sign is 1 for an opposite literal."""
+    def rule(d, place, clause, t):
+        if d.heads[t] is not IFF:
+            return False
+        a, b = d.under[t]
+        return clause == [positive(t) ^ t_sign, d.literals[a] ^ a_sign, d.literals[b] ^ b_sign]
+    return rule
+
+
+def gate_ite(t_sign, c_sign, branch, branch_sign):
+    """The rule of one clause of a Boolean choice; the branch is 1 or 2."""
+    def rule(d, place, clause, t):
+        if d.heads[t] is not ITE or d.literals[t] is None:
+            return False
+        c, e = d.under[t][0], d.under[t][branch]
+        return clause == [positive(t) ^ t_sign, d.literals[c] ^ c_sign, d.literals[e] ^ branch_sign]
+    return rule
+
+
+def gate_branch(c_sign, branch):
+    """The rule of one branch of a choice that is not Boolean."""
+    def rule(d, place, clause, t):
+        if d.heads[t] is not ITE or d.literals[t] is not None or len(clause) != 2:
+            return False
+        e = d.numbers.get((EQUAL, t, d.under[t][branch]))
+        return e is not None and clause == [d.literals[d.under[t][0]] ^ c_sign, positive(e)]
+    return rule
+
+
+GATES = {
+    b"true": ("", gate_true), b"false": ("", gate_false),
+    b"and-pos": ("TN", gate_and_pos), b"and-neg": ("T", gate_and_neg),
+    b"or-pos": ("T", gate_or_pos), b"or-neg": ("TN", gate_or_neg),
+    b"iff-1": ("T", gate_iff(1, 1, 0)), b"iff-2": ("T", gate_iff(1, 0, 1)),
+    b"iff-3": ("T", gate_iff(0, 0, 0)), b"iff-4": ("T", gate_iff(0, 1, 1)),
+    b"ite-1": ("T", gate_ite(1, 1, 1, 0)), b"ite-2": ("T", gate_ite(1, 0, 2, 0)),
+    b"ite-3": ("T", gate_ite(0, 1, 1, 1)), b"ite-4": ("T", gate_ite(0, 0, 2, 1)),
+    b"then": ("T", gate_branch(1, 1)), b"else": ("T", gate_branch(0, 2)),
+}
+
+
+def by_exhaust(d, place, clause, t):
+    sort = d.sorts[t]
+    if sort.kind not in ("datatype", "codatatype") or len(clause) != len(sort.constructors):
+        return False
+    tests = [d.numbers.get((constructor.tester, t)) for constructor in sort.constructors]
+    return None not in tests and clause == [positive(test) for test in tests]
+
+
+def by_learn(d, place, clause, *hints):
+    if not hints:
+        return False
+    false = set(clause)
+    for hint in hints[:-1]:
+        if not 0 < hint <= place:
+            return False
+        left = set(d.lines[hint - 1][0]) - false
+        if len(left) != 1:
+            return False
+        false.add(opposite(left.pop()))
+    return 0 < hints[-1] <= place and false.issuperset(d.lines[hints[-1] - 1][0])
+
+
+def by_theory(d, place, clause, steps, close, entries):
+    theory = Theory(set(clause))
+    for rule, parts in steps:
+        equation = rule(d, theory, *parts)
+        if equation is None:
+            return False
+        theory.given.append(equation)
+    return close(d, theory, *entries)
+
+
+STEPS = {b"input": Derivation.input_step, b"gate": Derivation.gate_step, b"exhaust": Derivation.exhaust_step,
+         b"learn": Derivation.learn_step, b"theory": Derivation.theory_step}
+
+
+# ---------------------------------------------------------------------------------------------------------------------
+# The equality steps of a theory line. Each function gives the equation of its step as a pair, or None where it lacks its condition.
+
+TRUE, FALSE = 0, 1
+NO_EQUATION = (None, None)
+
+
+class Theory:
+    """The clause of a theory line, and the equations of its steps so far."""
+
+    def __init__(self, clause):
+        self.clause = clause
+        self.given = []
+
+    def equation(self, i):
+        """What an earlier step gives; a pair of no terms where there is none."""
+        return self.given[i] if i < len(self.given) else NO_EQUATION
+
+
+def hyp(d, theory, literal):
+    if opposite(literal) not in theory.clause:
+        return None
+    return literal >> 1, FALSE if literal & 1 else TRUE
+
+
+def refl(d, theory, t):
+    return t, t
+
+
+def sym(d, theory, i):
+    x, y = theory.equation(i)
+    return None if x is None else (y, x)
+
+
+def trans(d, theory, i, j):
+    x, y = theory.equation(i)
+    middle, z = theory.equation(j)
+    return (x, z) if x is not None and y == middle else None
+
+
+def cong(d, theory, t, u, *steps):
+    if d.heads[t] is not d.heads[u] or not len(d.under[t]) == len(d.under[u]) == len(steps):
+        return None
+    for i, equation in zip(steps, zip(d.under[t], d.under[u])):
+        if theory.equation(i) != equation:
+            return None
+    return t, u
+
+
+def inject(d, theory, i, k):
+    x, y = theory.equation(i)
+    if x is None or not d.is_constructor(x) or d.heads[x] is not d.heads[y] or k >= len(d.under[x]):
+        return None
+    return d.under[x][k], d.under[y][k]
+
+
+def select(d, theory, t, i):
+    u, x = theory.equation(i)
+    selector = d.heads[t]
+    if u is None or type(selector) is not Selector or d.under[t] != [u] or d.heads[x] is not selector.constructor:
+        return None
+    return t, d.under[x][selector.place]
+
+
+def test(d, theory, t, i):
+    u, x = theory.equation(i)
+    if u is None or type(d.heads[t]) is not Tester or d.under[t] != [u] or not d.is_constructor(x):
+        return None
+    return t, TRUE if d.heads[x] is d.heads[t].constructor else FALSE
+
+
+def expand(d, theory, i, c):
+    t, truth = theory.equation(i)
+    if t is None or truth != TRUE or type(d.heads[t]) is not Tester:
+        return None
+    u = d.under[t][0]
+    constructor = d.heads[t].constructor
+    if d.heads[c] is not constructor:
+        return None
+    for selector, x in zip(constructor.selectors, d.under[c]):
+        if d.heads[x] is not selector or d.under[x] != [u]:
+            return None
+    return u, c
+
+
+def equal_in(d, theory, t, i):
+    x, y = theory.equation(i)
+    return (t, TRUE) if x is not None and d.heads[t] is EQUAL and d.under[t] == [x, y] else None
+
+
+def equal_out(d, theory, i):
+    t, truth = theory.equation(i)
+    return tuple(d.under[t]) if t is not None and truth == TRUE and d.heads[t] is EQUAL else None
+
+
+def negate(d, theory, t, i):
+    a, truth = theory.equation(i)
+    if a is None or d.heads[t] is not NOT or d.under[t] != [a] or truth not in (TRUE, FALSE):
+        return None
+    return t, FALSE if truth == TRUE else TRUE
+
+
+def single(d, theory, x, y):
+    return (x, y) if d.sorts[x] is d.sorts[y] and d.has_one_value(d.sorts[x]) else None
+
+
+def unique(d, theory, p, pairs):
+    for l, r, entries in pairs:
+        if not d.is_constructor(l) or d.heads[l] is not d.heads[r] or len(entries) != len(d.under[l]):
+            return None
+        for x, y, entry in zip(d.under[l], d.under[r], entries):
+            if type(entry) is int:
+                if theory.equation(entry) != (x, y):
+                    return None
+                continue
+            k, i, j = entry
+            if k >= len(pairs) or theory.equation(i) != (x, pairs[k][0]) or theory.equation(j) != (pairs[k][1], y):
+                return None
+    return pairs[p][:2] if p < len(pairs) else None
+
+
+EQUALITIES = {
+    b"hyp": ("L", hyp), b"refl": ("T", refl), b"sym": ("N", sym), b"trans": ("NN", trans), b"cong": ("TT", cong),
+    b"inject": ("NN", inject), b"sel": ("TN", select), b"test": ("TN", test), b"expand": ("NT", expand),
+    b"equal-in": ("TN", equal_in), b"equal-out": ("N", equal_out), b"neg": ("TN", negate), b"single": ("TT", single),
+}
+
+
+# How a theory line ends: whether the closing rule has its condition.
+
+def clash(d, theory, i):
+    x, y = theory.equation(i)
+    return x is not None and d.is_constructor(x) and d.is_constructor(y) and d.heads[x] is not d.heads[y]
+
+
+def cycle(d, theory, *entries):
+    for place, (c, k, i) in enumerate(entries):
+        following = entries[(place + 1) % len(entries)][0]
+        if not d.is_constructor(c) or d.sorts[c].kind != "datatype" or k >= len(d.under[c]):
+            return False
+        if theory.equation(i) != (d.under[c][k], following):
+            return False
+    return bool(entries)
+
+
+# ---------------------------------------------------------------------------------------------------------------------
+
+def audit(proof, script):
+    """The line and the status for the bytes of a derivation and of a script."""
+    try:
+        derivation = read_derivation(proof, script)
+    except ItemError as error:
+        return error.line, 6
+    rejected = derivation.verdict()
+    return ("verified", 0) if rejected is None else ("rejected %d" % rejected, 6)
+
+
+def read_derivation(proof, script):
+    try:
+        texts = list(expressions(proof))
+    except TextError:
+        raise ItemError(0, 41) from None
+    if len(texts) != 1 or not texts[0]:
+        raise ItemError(0, 41)
+    items = texts[0]
+    if not starts_with(items, 0, b"cosmt-derivation") or len(items[0]) != 2:
+        raise ItemError(0, 41)
+    check = items[0][1]
+    if type(check) is not int or not 0 < check < WORD_BOUND:
+        raise ItemError(0, 41)
+    at_check = script_at(script, check)
+    if at_check is None:
+        raise ItemError(0, 44)
+    derivation = Derivation(at_check)
+    derivation.read(items)
+    return derivation
+
+
+def main(arguments):
+    if "-h" in arguments or "--help" in arguments:
+        line, status = __doc__.rstrip(), 0
+    elif len(arguments) != 2:
+        line, status = __doc__.split("\n\n")[1], 2
+    else:
+        try:
+            files = []
+            for name in arguments:
+                with open(name, "rb") as file:
+                    files.append(file.read(MOST_BYTES + 1))
+        except (OSError, ValueError):
+            return 3
+        if any(len(text) > MOST_BYTES for text in files):
+            return 7
+        gc.disable()  # hardly anything goes round, and millions of lists are looked through in vain
+        try:
+            line, status = audit(*files)
+        except MemoryError:
+            return 5
+    try:
+        sys.stdout.write(line + "\n")
+        sys.stdout.flush()
+    except OSError:
+        return 4
+    return status
+
+
+if __name__ == "__main__":
+    sys.exit(main(sys.argv[1:]))
