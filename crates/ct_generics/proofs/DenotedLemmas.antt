@@ -28,31 +28,19 @@ size (named h) = 1
 size (applied e a) = size e + size a
 
 size-some : (e : Expression) → 0 < size e
-size-some (parameter i) = one_some
-  where
-    one_some : 0 < 1
-    one_some = omega arith
-size-some (named h) = one_some
-  where
-    one_some : 0 < 1
-    one_some = omega arith
-size-some (applied e a) = sum_some (size e) (size a) (size-some e)
-  where
-    sum_some : (m n : ℕ) → 0 < m → 0 < m + n
-    sum_some m n some = omega (arith, some)
+unfolding size
+size-some (parameter i) = omega arith
+size-some (named h) = omega arith
+size-some (applied e a) = omega (arith, size-some e)
 
 -- its parts have fewer
 function_smaller : (e a : Expression) → size e < size (applied e a)
-function_smaller e a = by (size e) (size a) (size-some a)
-  where
-    by : (m n : ℕ) → 0 < n → m < m + n
-    by m n some = omega (arith, some)
+unfolding size
+function_smaller e a = omega (arith, size-some a)
 
 argument_smaller : (e a : Expression) → size a < size (applied e a)
-argument_smaller e a = by (size e) (size a) (size-some e)
-  where
-    by : (m n : ℕ) → 0 < m → n < m + n
-    by m n some = omega (arith, some)
+unfolding size
+argument_smaller e a = omega (arith, size-some e)
 
 -- a list that does not have a number has only others
 apart : (u : ℕ) (met : List ℕ) → list_any (nat_eq u) met ≡ false → AllByRecursion (λ y. nat_eq u y ≡ false) met
