@@ -1,10 +1,12 @@
 //! What the graph of expressions tells of them, what adding sorts keeps, and which expressions are over their parameters:
 //! theorems for crates above.
-ghost use Rattle.std.specs.Prelude.{◌≡◌, ℕ, List, length, ◌++◌, Ok, Some, slice_get};
+ghost use Rattle.std.specs.Prelude.{◌≡◌, ℕ, List, length, ◌++◌, Ok, Some, option_map, slice_get};
+ghost use Rattle.std.specs.List.{AllZip};
 ghost use Rattle.ct_generics.specs.declared.decl.SortDecl.{SortDecl};
 ghost use Rattle.ct_generics.specs.declared.expr.SortExpr.{SortExpr};
 ghost use Rattle.ct_generics.specs.declared.generics.Generics.{Generics};
 ghost use Rattle.ct_generics.specs.declared.graph.Vertex.{Vertex};
+ghost use Rattle.ct_generics.specs.declared.heads.StoredHead.{StoredHead};
 ghost use Rattle.ct_generics.specs.declared.kind.Kind.{Kind};
 ghost use Rattle.ct_generics.specs.declared.nodes.ExprId.{ExprId};
 ghost use Rattle.ct_generics.specs.declared.nodes.Node.{Node};
@@ -16,7 +18,7 @@ ghost use Rattle.ct_generics.specs.Declarations.{Declared, Head, Synonym, IsExpr
 ghost use Rattle.ct_generics.specs.Denoted.{declared_of, expression_at, sorts_of};
 ghost use Rattle.ct_generics.specs.Expression.{Expression, at_own_parameters};
 ghost use Rattle.ct_generics.specs.Founded.{IsFounded};
-ghost use Rattle.ct_generics.specs.Nodes.{AreSingle, AreUnlike, Stands, Stay};
+ghost use Rattle.ct_generics.specs.Nodes.{AreSingle, AreUnlike, StandFor, Stands, Stay};
 ghost use Rattle.ct_generics.specs.Reach.{fields_of};
 ghost use Rattle.ct_generics.specs.Reached.{IsReached, TellsOf};
 ghost use Rattle.ct_generics.specs.Resolved.{resolved};
@@ -72,5 +74,9 @@ pub fn denotations()
     ensures expression { (nodes : List Node) (id : ExprId) (e : Expression) → Stands nodes id.0 e → expression_at nodes id ≡ e }
     ensures declared { (g : Generics) (d : Declared) → AreDeclared g d → declared_of g ≡ d }
     ensures sorts { (table : SortTable) (sorts : List Expression) → AreSorts table sorts → sorts_of table ≡ sorts }
+    ensures rows { (g : Generics) (d : Declared) (h : ℕ) (head : Head) (template : List Node) (rows : List (List ExprId)) → AreDeclared g d → slice_get d.heads h ≡ Some head
+        → option_map (λ (stored : StoredHead). stored.template) (slice_get g.heads h) ≡ Some template
+        → option_map (λ (stored : StoredHead). stored.ctors) (slice_get g.heads h) ≡ Some rows
+        → AllZip (StandFor template) rows head.ctors }
     ensures stay { (old new : SortTable) (sorts : List Expression) → AreSorts old sorts → new.sorts ≡ old.sorts → Stay old.expressions new.expressions → AreSorts new sorts }
 {}
