@@ -1,13 +1,11 @@
 -- What stored values stand for, as functions of these, is what they stand for.
-use Rattle.std.proofs.Common.{◌≡◌, ℕ, zero, suc, ◌<◌, ◌≤◌, ◌+◌, Bool, true, false, ◌||◌, List, [], ◌∷◌, length, map, nat_eq, Some, slice_get, refl, sym, ap, ap₂, subst, ◌∙◌, arith}
+use Rattle.std.proofs.Common.{◌≡◌, ℕ, zero, suc, ◌<◌, ◌≤◌, ◌+◌, Bool, true, false, ◌||◌, List, [], ◌∷◌, length, map, nat_eq, refl, sym, ap, ap₂, subst, ◌∙◌, arith}
 use Rattle.std.specs.List.{IsDistinct, AllByRecursion, AllZip, list_any}
 use Rattle.std.proofs.lemmas.Bool.{true≢false, false≢true}
 use Rattle.std.proofs.lemmas.Bool.Decides.{Decides-eqb}
-use Rattle.std.proofs.lemmas.Option.{same_Some}
 use Rattle.std.proofs.lemmas.Map.Steps.{length-le_from_distinct_below}
 use Rattle.ct_generics.specs.declared.nodes.ExprId.{ExprId}
 use Rattle.ct_generics.specs.declared.nodes.Node.{Node}
-use Rattle.ct_generics.specs.declared.nodes.Node.TheVariants.{Param, Head as HeadNode, Apply}
 use Rattle.ct_generics.specs.declared.heads.StoredHead.{StoredHead}
 use Rattle.ct_generics.specs.declared.heads.StoredSynonym.{StoredSynonym}
 use Rattle.ct_generics.specs.declared.generics.Generics.{Generics}

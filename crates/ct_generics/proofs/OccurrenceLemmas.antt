@@ -1,5 +1,5 @@
 -- Which parameters occur in the expressions of marked nodes.
-use Rattle.std.proofs.Common.{◌≡◌, ◌↔◌, ℕ, zero, suc, ◌+◌, ◌<◌, ◌⊎◌, Bool, true, false, List, [], ◌∷◌, length, set, slice_get, Some, option_map, refl, sym, ◌∙◌, ap, subst, inl, inr, ⊎_elim, arith}
+use Rattle.std.proofs.Common.{◌≡◌, ◌↔◌, ℕ, zero, suc, ◌+◌, ◌<◌, Bool, true, false, List, [], ◌∷◌, length, set, slice_get, Some, option_map, refl, sym, ◌∙◌, ap, subst, inl, inr, ⊎_elim, arith}
 use Rattle.std.proofs.lemmas.Bool.{true≢false}
 use Rattle.std.proofs.lemmas.Option.{same_Some, slice_get_within}
 use Rattle.std.specs.List.{AllZip}
@@ -17,7 +17,7 @@ use Rattle.ct_generics.specs.declared.heads.StoredHead.{StoredHead}
 use Rattle.ct_generics.specs.Declarations.{Declared, Head as DeclaredHead}
 use Rattle.ct_generics.specs.Stored.{AreDeclared, IsStored}
 use Rattle.ct_generics.specs.Nodes.{Stands, StandFor, AreOrdered, AreSingle, AreWithin}
-use Rattle.ct_generics.specs.Occurrence.{Occurs, OccursIn, OccursBelow, IsParamMarked, ArePartMarks}
+use Rattle.ct_generics.specs.Occurrence.{Occurs, OccursIn, ArePartMarks}
 use Rattle.ct_generics.proofs.MarkLemmas.{marked-set}
 use Rattle.ct_generics.proofs.NodeLemmas.{Stands-apply, Stands-head, Stands-one, Stands-param, Stands-some, Stands-within}
 
@@ -170,11 +170,10 @@ rows_stand g d h head template rows are at template_is rows_are =
 
 -- where all is marked, exactly the marked parameters occur
 pub param_marked : (nodes : List Node) (row : List Expression) (marks : List Bool) (n i : ℕ) → AreSingle nodes → slice_get nodes n ≡ Some (Param i) → ArePartMarks nodes row 0 marks → (marked marks n ≡ true) ↔ OccursIn row i
-param_marked nodes row marks n i single at are =
-    (
-      λ h. are.only n i (parameter i) h at refl,
-      λ occurs. ⊎_elim (λ found. absurd (omega (arith, found.2))) (λ node. subst (λ k. marked marks k ≡ true) (single node.0 n (Param i) node.1 at) node.2) (are.all i occurs),
-    )
+param_marked nodes row marks n i single at are = (
+  λ h. are.only n i (parameter i) h at refl,
+  λ occurs. ⊎_elim (λ found. absurd (omega (arith, found.2))) (λ node. subst (λ k. marked marks k ≡ true) (single node.0 n (Param i) node.1 at) node.2) (are.all i occurs),
+)
 
 pub no_param : (nodes : List Node) (row : List Expression) (marks : List Bool) (i : ℕ) → ((n : ℕ) → slice_get nodes n ≡ Some (Param i) → ⊥) → ArePartMarks nodes row 0 marks → OccursIn row i → ⊥
 no_param nodes row marks i absent are occurs = ⊎_elim (λ found. omega (arith, found.2)) (λ node. absent node.0 node.1) (are.all i occurs)

@@ -1,4 +1,4 @@
-use Rattle.std.proofs.Common.{◌≡◌, ◌↔◌, List, take, Some, slice_get, IsTrue}
+use Rattle.std.proofs.Common.{◌≡◌, ◌↔◌, take, Some, slice_get, IsTrue}
 use Rattle.std.specs.List.{AllZip}
 use Rattle.ct_generics.specs.Declarations.{Declared, Head}
 use Rattle.ct_generics.specs.Occurrence.{OccurAll}

@@ -1,4 +1,4 @@
-use Rattle.std.proofs.Common.{ap, option_map, Some, sym, ◌∙◌, arith}
+use Rattle.std.proofs.Common.{ap, option_map, arith}
 use Rattle.ct_lemmas.proofs.Pairs.{AllZip-one_length}
 use Rattle.ct_generics.specs.declared.heads.StoredHead.{StoredHead}
 use Rattle.ct_generics.specs.Stored.{IsStored}

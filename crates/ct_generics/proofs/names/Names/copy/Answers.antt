@@ -1,4 +1,4 @@
-use Rattle.std.proofs.Common.{◌≡◌, ℕ, List, [], ◌∷◌, ◌++◌, length, take, Some, slice_get, sym, ap, subst, ◌∙◌, arith}
+use Rattle.std.proofs.Common.{◌≡◌, ℕ, List, [], ◌∷◌, ◌++◌, Some, slice_get, sym, ap, subst, ◌∙◌, arith}
 use Rattle.ct_lemmas.proofs.Prefixes.{take-slice_get_next, take-past}
 use Rattle.ct_generics.specs.Names.{IsListed}
 use Rattle.ct_generics.proofs.CopyLemmas.{new_after}

@@ -1,4 +1,4 @@
-use Rattle.std.proofs.Common.{sym, subst}
+use Rattle.std.proofs.Common.{subst}
 use Rattle.ct_generics.specs.Names.{AreDistinct}
 use Rattle.ct_generics.proofs.names.Names.len.Goals as goal
 

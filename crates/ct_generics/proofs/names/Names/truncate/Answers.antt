@@ -1,4 +1,4 @@
-use Rattle.std.proofs.Common.{◌≡◌, take, sym, ap, subst, ◌∙◌}
+use Rattle.std.proofs.Common.{take, sym, ap, subst, ◌∙◌}
 use Rattle.std.proofs.lemmas.List.{take-map}
 use Rattle.ct_generics.specs.Names.{AreDistinct}
 use Rattle.ct_generics.proofs.NameTableLemmas.{names_in, AreDistinct-take}

@@ -1,4 +1,4 @@
-use Rattle.std.proofs.Common.{IfSome, IfNone, ℕ, ◌≡◌, slice_get, Some, subst, None}
+use Rattle.std.proofs.Common.{Some, None}
 use Rattle.ct_generics.proofs.FoundLemmas.{node_found, node_missing}
 use Rattle.ct_generics.proofs.nodes.Expressions.find.Goals as goal
 
