@@ -6,6 +6,10 @@ use Rattle.ct_generics.specs.declared.nodes.ExprId.{ExprId}
 abbrev pub AreBelow : ℕ → List ExprId → Type 0
 AreBelow bound = All (λ id. id.0 < bound)
 
+-- the number is the image of the field
+abbrev pub IsImage : List ExprId → ExprId → ExprId → Type 0
+IsImage images id field = slice_get images field.0 ≡ Some id
+
 -- the image of the field stands at this index
 abbrev pub IsImageAt : List ExprId → List ExprId → ℕ → ExprId → Type 0
 IsImageAt images ids i field = (id : ExprId) × (slice_get images field.0 ≡ Some id) × (slice_get ids i ≡ Some id)

@@ -21,3 +21,11 @@ pub mod Shapes
 pub mod Names
 pub mod Findings
 pub mod Synonyms
+pub mod Add
+pub mod Tasks
+pub mod Additions
+pub mod SortTable
+pub mod WellFormed
+pub mod Denoted
+pub mod Occurrence
+pub mod Found

@@ -1,5 +1,5 @@
 //! Different numbers of expressions, in the order in which they came.
-ghost use Rattle.std.specs.Prelude.{◌≡◌, ◌⊎◌, ◌<◌, ◌^◌, ℕ, length, Some, slice_get, IfOk, IfErr};
+ghost use Rattle.std.specs.Prelude.{◌≡◌, ◌↔◌, ◌⊎◌, ◌<◌, ◌^◌, ℕ, [], ◌∷◌, ◌++◌, length, take, Some, slice_get, IfOk, IfErr, IfSome, IfNone, IsTrue, OnOk, OnErr};
 ghost use Rattle.ct_generics.specs.declared.nodes.ExprId.{ExprId};
 ghost use Rattle.ct_generics.specs.Nodes.{Stay, AreUnlike};
 
@@ -52,6 +52,39 @@ impl ExprIds {
         ensures value { slice_get self.now i ≡ Some result }
     {
         *self.ids.get_index(i).unwrap()
+    }
+
+    /// The index of a number, if it is among them.
+    pub fn index_of(&self, id: ExprId) -> Option<usize>
+        ensures found { IfSome result (λ i. slice_get self.now i ≡ Some id) }
+        ensures none { IfNone result ((i : ℕ) → slice_get self.now i ≡ Some id → ⊥) }
+    {
+        self.ids.get_index_of(&id)
+    }
+
+    /// Whether a number is among them.
+    pub fn contains(&self, id: ExprId) -> bool
+        ensures among { IsTrue result ↔ ((i : ℕ) × (slice_get self.now i ≡ Some id)) }
+    {
+        self.index_of(id).is_some()
+    }
+
+    /// One more number at the end, which is not there yet. The only error is `NoMemory`.
+    pub fn push(&mut self, id: ExprId) -> Result<(), GenericError>
+        requires fresh { (i : ℕ) → slice_get self.old i ≡ Some id → ⊥ }
+        ensures ok { OnOk result (self.new ≡ self.old ++ id ∷ []) }
+        ensures unchanged { OnErr result (self.new ≡ self.old) }
+        ensures err { IfErr result (λ e. e ≡ GenericError.NoMemory) }
+    {
+        self.ids.insert(id)?;
+        Ok(())
+    }
+
+    /// Keeps the first numbers.
+    pub fn truncate(&mut self, len: usize)
+        ensures first { self.new ≡ take len self.old }
+    {
+        self.ids.truncate(len);
     }
 
     /// The index of a number, which it gets here where it has none yet. The only error is `NoMemory`.

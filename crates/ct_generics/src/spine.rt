@@ -40,15 +40,17 @@ pub fn head_and_args(alloc: Global, table: &Expressions, id: ExprId) -> Result<S
     })
 }
 
-// An expression without its last argument, and this argument.
+/// An expression without its last argument, and this argument.
 #[derive(Clone, Copy, Debug)]
-struct Parts {
-    function: ExprId,
-    argument: ExprId,
+pub(crate) struct Parts {
+    /// The expression without it.
+    pub(crate) function: ExprId,
+    /// The last argument.
+    pub(crate) argument: ExprId,
 }
 
-// What an expression with arguments is made of.
-fn split(table: &Expressions, id: ExprId) -> Option<Parts>
+/// What an expression with arguments is made of.
+pub(crate) fn split(table: &Expressions, id: ExprId) -> Option<Parts>
     requires within { id.0 < length table.now }
     ensures parts { IfSome result (λ p. slice_get table.now id.0 ≡ Some (Apply p.function p.argument)) }
     ensures below { IfSome result (λ p. (p.function.0 < id.0) × (p.argument.0 < id.0)) }

@@ -1,5 +1,5 @@
 //! How long the texts of expressions are: one count for each shared expression.
-ghost use Rattle.std.specs.Prelude.{◌≡◌, ◌↔◌, IsTrue, ◌+◌, ◌<◌, ◌≤◌, ℕ, List, length, Some, slice_get, IfOk, IfErr};
+ghost use Rattle.std.specs.Prelude.{◌≡◌, ◌↔◌, IsTrue, ◌+◌, ◌<◌, ◌≤◌, ℕ, List, length, Some, slice_get, IfOk, IfErr, OnOk};
 ghost use Rattle.ct_generics.specs.declared.nodes.Node.{Node};
 ghost use Rattle.ct_sexpr.specs.Written.{written_name};
 ghost use Rattle.ct_generics.specs.declared.nodes.Node.TheVariants.{Apply};
@@ -9,9 +9,11 @@ ghost use Rattle.ct_generics.specs.Nodes.{Stands, HasPartsBelow};
 ghost use Rattle.ct_generics.specs.Stored.{AreStored};
 ghost use Rattle.ct_generics.specs.Text.{text_length, parentheses};
 ghost use Rattle.ct_generics.specs.Lengths.{IsCount, AreCounts, IsLongAt};
+ghost use Rattle.ct_generics.specs.SortTable.{IsCounted};
 
 use crate::error::GenericError;
 use crate::heads::StoredHead;
+use crate::items::Items;
 use crate::nodes::{ExprId, Expressions, HeadId, Node};
 use crate::vertices::stored_at;
 use ct_sexpr::is_simple;
@@ -40,6 +42,26 @@ pub fn text_lengths(
         counts.push(count)?;
     }
     Ok(counts)
+}
+
+/// Counts the lengths of the texts of the expressions that come after those that were counted. The only error is
+/// `NoMemory`.
+pub(crate) fn count_more(
+    heads: &[StoredHead],
+    table: &Expressions,
+    counts: &mut Items<u64>,
+) -> Result<(), GenericError>
+    requires counted { IsCounted heads.now table.now counts.old }
+    ensures counted { IsCounted heads.now table.now counts.new }
+    ensures long { OnOk result (length counts.new ≡ length table.now) }
+    ensures err { IfErr result (λ e. e ≡ GenericError.NoMemory) }
+{
+    for k in counts.len()..table.len() {
+        let node = table.node(ExprId(k as u64));
+        let count = node_length(heads, table, counts.as_slice(), node);
+        counts.push(count)?;
+    }
+    Ok(())
 }
 
 // The length of the text of the node after these.

@@ -116,8 +116,8 @@ fn field_vertices(
     Ok(Items::new(Vec::new(alloc)))
 }
 
-// Whether sorts of this kind have fields.
-fn has_fields(kind: Kind) -> bool
+/// Whether sorts of this kind have fields.
+pub(crate) fn has_fields(kind: Kind) -> bool
     ensures fields { (ctors : List (List Expression)) → fields_by_kind kind ctors ≡ (if result then ctors else []) }
 {
     match kind {
