@@ -60,7 +60,14 @@ pub fn show_sorts(
 {
     for i in 0..table.sorts.len() {
         out.push(' ')?;
-        show_sort(alloc, g, &table.expressions, table.sorts.get(i), MOST_NESTED, out)?;
+        show_sort(
+            alloc,
+            g,
+            &table.expressions,
+            table.sorts.get(i),
+            MOST_NESTED,
+            out,
+        )?;
     }
     Ok(())
 }
@@ -116,12 +123,7 @@ fn show_applied(
 }
 
 /// Shows the name of a sort or generic.
-fn show_name(
-    alloc: Global,
-    g: &Generics,
-    head: HeadId,
-    out: &mut String,
-) -> Result<(), CaseError>
+fn show_name(alloc: Global, g: &Generics, head: HeadId, out: &mut String) -> Result<(), CaseError>
     requires declared { (d : Declared) × AreDeclared g.now d }
 {
     if head.0 >= g.head_count() as u64 {
