@@ -1,5 +1,5 @@
 -- How sorts are added: what was added so far, and what the tasks will add.
-use Rattle.std.proofs.Common.{◌≡◌, ◌↔◌, ◌⊎◌, ℕ, List, [], ◌∷◌, ◌++◌, map, reverse, Some, None, refl, sym, ap, subst, ◌∙◌}
+use Rattle.std.proofs.Common.{◌≡◌, ◌↔◌, List, [], ◌∷◌, ◌++◌, map, reverse, Some, None, refl, sym, ap, subst, ◌∙◌}
 use Rattle.std.proofs.lemmas.List.{append_assoc, append-nil, append_cancel_left}
 use Rattle.ct_generics.specs.declared.room.Room.{Room}
 use Rattle.ct_generics.specs.declared.nodes.ExprId.{ExprId}
@@ -10,7 +10,7 @@ use Rattle.ct_generics.specs.Expression.{Expression}
 use Rattle.ct_generics.specs.Declarations.{Head}
 use Rattle.ct_generics.specs.Nodes.{Stands, StandFor}
 use Rattle.ct_generics.specs.Add.{Adds, Fits, IsAdded, Leaves, field_sorts}
-use Rattle.ct_generics.specs.Tasks.{Task, add, make, AreTasks, Completes, IsMadeNext, IsNext}
+use Rattle.ct_generics.specs.Tasks.{Task, add, AreTasks, Completes, IsMadeNext, IsNext}
 use Rattle.ct_generics.proofs.AddLemmas.{Completes-begins, step-made, tasks-begin}
 use Rattle.ct_generics.proofs.TaskLemmas.{AreTasks-sorts}
 use Rattle.ct_generics.proofs.RoomLemmas.{Leaves-none, Leaves-more, Leaves-fits, Fits-next}

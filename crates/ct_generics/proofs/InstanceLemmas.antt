@@ -14,7 +14,7 @@ use Rattle.ct_generics.specs.Founded.{IsFounded, other, built}
 use Rattle.ct_generics.specs.WellFormed.{AreExpressions, HaveExpressions}
 use Rattle.ct_generics.proofs.ResolveLemmas.{with_args-push}
 use Rattle.ct_generics.proofs.ShapeLemmas.{parameters-suc, length-parameters}
-use Rattle.ct_generics.proofs.WellFormedLemmas.{params-there, args-takes, with_args-takes, head-takes, fields-over}
+use Rattle.ct_generics.proofs.WellFormedLemmas.{params-there, args-takes, with_args-takes, head-takes, head_at-more, fields-over, fields_of-more}
 
 -- ---- heads and arguments
 
@@ -131,6 +131,17 @@ module _ (heads : List Head) where
             subst (IsFounded heads) field.2 (founded-substitute have args founded field.0 (over j field.0 field.1) (each j field.0 field.1)))
       ]
 
+  -- what is well founded is so where more is declared
+  pub founded-more : HaveExpressions heads → (more : List Head) (params : ℕ) (e : Expression) → IsExpression heads params e → IsFounded heads e → IsFounded (heads ++ more) e
+  founded-more have more params _ takes (other e not_data) = other e (λ kind. not_data (kind.0, sym (head_at-more heads more params 0 e takes) ∙ kind.1, kind.2))
+  founded-more have more params _ takes (built e i ctor at each) =
+      elim (head-over params 0 e takes) [
+        | inl is ↦ absurd (none-some ctor (subst (λ (x : Expression). slice_get (fields_of heads x) i ≡ Some ctor) is.1 at))
+        | inr found ↦
+            let over = fields-over heads params found.0 found.1 e have (args-takes heads params 0 e takes) found.2 found.3 found.4 i ctor at in
+            built e i ctor (ap (λ (rows : List (List Expression)). slice_get rows i) (fields_of-more heads more params e takes) ∙ at) (λ j f at_f. founded-more have more params f (over j f at_f) (each j f at_f))
+      ]
+
   own-parameters : (bound n : ℕ) → n ≤ bound → AreExpressions heads bound (parameters n)
   own-parameters bound zero few k e at = absurd (none-some e at)
   own-parameters bound (suc n) few k e at =
@@ -140,7 +151,7 @@ module _ (heads : List Head) where
         | inr last ↦ subst (IsExpression heads bound) last.1 (refl, omega (arith, few))
       ]
 
-  own-takes : (bound h : ℕ) (head : Head) → slice_get heads h ≡ Some head → head.params ≤ bound → IsExpression heads bound (at_own_parameters h head.params)
+  pub own-takes : (bound h : ℕ) (head : Head) → slice_get heads h ≡ Some head → head.params ≤ bound → IsExpression heads bound (at_own_parameters h head.params)
   own-takes bound h head at few =
       with_args-takes heads bound (named h) (parameters head.params) (ap (option_map (λ (x : Head). x.params)) at ∙ ap Some (sym (length-parameters head.params))) (own-parameters bound head.params few)
 

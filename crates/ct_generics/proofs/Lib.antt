@@ -30,3 +30,7 @@ mod WellFormedLemmas
 mod MeaningLemmas
 mod FormedLemmas
 mod InstanceLemmas
+mod DenotedLemmas
+mod CopyLemmas
+mod OccurrenceLemmas
+mod FoundLemmas

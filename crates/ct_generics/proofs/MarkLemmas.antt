@@ -76,7 +76,7 @@ marked-set (m ∷ marks) (suc i) zero h = inr h
 marked-set (m ∷ marks) (suc i) (suc j) h = ⊎_elim (λ e. inl (ap suc e)) (λ e. inr e) (marked-set marks i j h)
 
 -- a vertex that is built from marked ones may be marked
-AreMarksSound-set : (g : List Vertex) (marks : List Bool) (i : ℕ) (v : Vertex) → slice_get g i ≡ Some v → is_built (marked marks) v ≡ true → AreMarksSound g marks → AreMarksSound g (set marks i true)
+pub AreMarksSound-set : (g : List Vertex) (marks : List Bool) (i : ℕ) (v : Vertex) → slice_get g i ≡ Some v → is_built (marked marks) v ≡ true → AreMarksSound g marks → AreMarksSound g (set marks i true)
 AreMarksSound-set g marks i v at holds sound j h =
     ⊎_elim (λ e. subst (IsFoundedAt g) (sym e) (founded-built g marks i v sound at v.kind refl holds)) (λ m. sound j m) (marked-set marks i j h)
 

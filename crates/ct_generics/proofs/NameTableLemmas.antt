@@ -1,5 +1,5 @@
 -- Look-ups by name, and a new name at the end.
-use Rattle.std.proofs.Common.{◌≡◌, ℕ, suc, Bool, true, false, List, [], ◌∷◌, ◌++◌, map, slice_get, position, Some, Option, option_map, Decides, refl, sym, ◌∙◌, ap}
+use Rattle.std.proofs.Common.{◌≡◌, ℕ, suc, Bool, true, false, List, [], ◌∷◌, ◌++◌, map, take, slice_get, position, Some, ⊎_elim, Option, option_map, Decides, refl, sym, ◌∙◌, ap}
 use Rattle.std.proofs.lemmas.List.{length-map, map-append}
 use Rattle.std.proofs.lemmas.Simd.{map-map}
 use Rattle.std.proofs.lemmas.Slice.Eq.{bytes_eq-Decides}
@@ -9,7 +9,9 @@ use Rattle.std.specs.List.{position_or_len}
 use Rattle.std.specs.Option.{option_and_then}
 use Rattle.std.specs.Str.{bytes_eq}
 use Rattle.indexmap.specs.IndexMap.{insert_entry}
-use Rattle.ct_generics.specs.Names.{IsListed}
+use Rattle.ct_lemmas.proofs.Lists.{slice_get-push_cases}
+use Rattle.ct_lemmas.proofs.Prefixes.{slice_get-take}
+use Rattle.ct_generics.specs.Names.{AreDistinct, IsListed}
 use Rattle.ct_generics.specs.Declarations.{Head, Synonym}
 use Rattle.ct_generics.specs.Resolved.{a_head, a_synonym, head_number, named_head, named_synonym}
 
@@ -60,3 +62,16 @@ named_head-is heads name o is = ap (option_and_then (λ h. option_map (λ (head 
 pub named_synonym-is : (synonyms : List Synonym) (names : List (List ℕ)) (name : List ℕ) (o : Option ℕ) → names ≡ map (λ (s : Synonym). s.name) synonyms → position (bytes_eq name) names ≡ o → named_synonym synonyms name ≡ option_map a_synonym (option_and_then (slice_get synonyms) o)
 named_synonym-is synonyms names name o names_are is =
     ap (λ (p : Option ℕ). option_map a_synonym (option_and_then (slice_get synonyms) p)) (position-map (λ (s : Synonym). s.name) (bytes_eq name) synonyms ∙ ap (position (bytes_eq name)) (sym names_are) ∙ is)
+
+-- ---- different names
+
+pub AreDistinct-take : (names : List (List ℕ)) (n : ℕ) → AreDistinct names → AreDistinct (take n names)
+AreDistinct-take names n distinct i j name at_i at_j = distinct i j name (slice_get-take n names i name at_i) (slice_get-take n names j name at_j)
+
+-- a new name at the end leaves all of them different
+pub AreDistinct-push : (names : List (List ℕ)) (name : List ℕ) → AreDistinct names → (IsListed names name → ⊥) → AreDistinct (names ++ name ∷ [])
+AreDistinct-push names name distinct fresh i j text at_i at_j =
+    ⊎_elim
+    (λ here_i. ⊎_elim (λ here_j. distinct i j text here_i here_j) (λ last_j. absurd (fresh (i, here_i ∙ ap Some (sym last_j.1)))) (slice_get-push_cases names name text j at_j))
+    (λ last_i. ⊎_elim (λ here_j. absurd (fresh (j, here_j ∙ ap Some (sym last_i.1)))) (λ last_j. last_i.0 ∙ sym last_j.0) (slice_get-push_cases names name text j at_j))
+    (slice_get-push_cases names name text i at_i)

@@ -18,7 +18,7 @@ use Rattle.ct_generics.specs.Nodes.{Stands, HasPartsBelow, AreOrdered, AreSingle
 -- ---- one more node
 
 -- the derived test holds of each node and itself
-own_node : (node : Node) → derived.eq-value.it node node ≡ true
+pub own_node : (node : Node) → derived.eq-value.it node node ≡ true
 own_node (Param i) = (Decides-eqb i i).1 refl
 own_node (Head h) = (Decides-eqb h.0 h.0).1 refl
 own_node (Apply m k) = (Decides-and (nat_eq m.0 m.0) (nat_eq k.0 k.0) (Decides-eqb m.0 m.0) (Decides-eqb k.0 k.0)).1 (refl, refl)

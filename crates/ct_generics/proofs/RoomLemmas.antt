@@ -1,20 +1,18 @@
 -- What is left of the room while sorts are added, and the lengths of their texts.
-use Rattle.std.proofs.Common.{◌≡◌, ℕ, zero, suc, ◌+◌, ◌<◌, ◌≤◌, ◌⊎◌, List, [], ◌∷◌, ◌++◌, length, length-append, map, sum, Some, slice_get, refl, sym, ap, ap₂, subst, ◌∙◌, inl, inr, ⊎_elim, arith}
+use Rattle.std.proofs.Common.{◌≡◌, ℕ, zero, suc, ◌+◌, ◌<◌, ◌≤◌, List, [], ◌∷◌, ◌++◌, length, length-append, map, sum, Some, slice_get, refl, sym, ap, ap₂, subst, ◌∙◌, inl, inr, ⊎_elim, arith}
 use Rattle.std.proofs.lemmas.List.Sums.{sum-map, sum_by-append}
 use Rattle.std.proofs.lemmas.Option.{none-some, same_Some, slice_get_within}
 use Rattle.ct_lemmas.proofs.Lists.{slice_get-push_cases, slice_get-append_right}
 use Rattle.ct_lemmas.proofs.Numbers.{below_or_not}
 use Rattle.ct_generics.specs.declared.room.Room.{Room}
-use Rattle.ct_generics.specs.declared.nodes.ExprId.{ExprId}
 use Rattle.ct_generics.specs.declared.nodes.Node.{Node}
 use Rattle.ct_generics.specs.declared.heads.StoredHead.{StoredHead}
 use Rattle.ct_generics.specs.Expression.{Expression}
 use Rattle.ct_generics.specs.Declarations.{Head}
 use Rattle.ct_generics.specs.Nodes.{Stands, Stay, AreOrdered}
-use Rattle.ct_generics.specs.Stored.{AreStored}
 use Rattle.ct_generics.specs.Reach.{fields_of}
 use Rattle.ct_generics.specs.Text.{text_length, most_text}
-use Rattle.ct_generics.specs.Add.{Fits, Leaves, ctor_count, sel_count, field_sorts}
+use Rattle.ct_generics.specs.Add.{Fits, Leaves, field_sorts}
 use Rattle.ct_generics.specs.SortTable.{IsCounted}
 use Rattle.ct_generics.proofs.NodeLemmas.{Stands-stay, Stands-one, Stands-some, Stay-within}
 

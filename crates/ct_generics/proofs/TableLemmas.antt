@@ -1,9 +1,7 @@
 -- The first expressions and the first sorts of a table.
-use Rattle.std.proofs.Common.{◌≡◌, ℕ, zero, suc, ◌<◌, List, [], ◌∷◌, length, take, Some, slice_get, refl, arith}
-use Rattle.std.specs.List.{AllZip}
+use Rattle.std.proofs.Common.{◌≡◌, ℕ, zero, suc, ◌<◌, List, [], ◌∷◌, take, Some, slice_get, refl, arith}
 use Rattle.ct_lemmas.proofs.Prefixes.{take-slice_get}
 use Rattle.ct_generics.specs.declared.nodes.ExprId.{ExprId}
-use Rattle.ct_generics.specs.declared.nodes.HeadId.{HeadId}
 use Rattle.ct_generics.specs.declared.nodes.Node.{Node}
 use Rattle.ct_generics.specs.declared.nodes.Node.TheVariants.{Param, Head, Apply}
 use Rattle.ct_generics.specs.Expression.{Expression, parameter, named, applied}

@@ -1,5 +1,5 @@
 -- Counts of the lengths of texts.
-use Rattle.std.proofs.Common.{◌≡◌, ℕ, ◌+◌, ◌⊎◌, List, [], ◌∷◌, ◌++◌, length, Some, slice_get, refl, sym, subst, ◌∙◌, inl, inr, ⊎_elim, arith}
+use Rattle.std.proofs.Common.{◌≡◌, ℕ, ◌+◌, List, [], ◌∷◌, ◌++◌, length, Some, slice_get, refl, sym, subst, ◌∙◌, inl, inr, ⊎_elim, arith}
 use Rattle.ct_lemmas.proofs.Lists.{slice_get-push_cases}
 use Rattle.ct_lemmas.proofs.Numbers.{below_or_not}
 use Rattle.ct_generics.specs.declared.nodes.ExprId.{ExprId}

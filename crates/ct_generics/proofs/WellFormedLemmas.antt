@@ -138,13 +138,13 @@ Adds-takes heads have _ _ _ (made e rest s m n t fresh args absent fields later)
 
 -- ---- over more declarations all is as it was
 
-pub head_at-more : (heads more : List Head) (e : Expression) → IsExpression heads 0 e → head_at (heads ++ more) e ≡ head_at heads e
-head_at-more heads more e takes =
-    let top = head-takes heads 0 e takes in
-    ap (option_and_then (slice_get (heads ++ more))) top.2 ∙ slice_get-append_left heads more top.0 top.1 top.3 ∙ sym top.3 ∙ sym (ap (option_and_then (slice_get heads)) top.2)
+pub head_at-more : (heads more : List Head) (params count : ℕ) (e : Expression) → Takes heads params count e → head_at (heads ++ more) e ≡ head_at heads e
+head_at-more heads more params count (parameter i) takes = refl
+head_at-more heads more params count (named h) takes = let found = params-there heads h count takes in slice_get-append_left heads more h found.0 found.1 ∙ sym found.1
+head_at-more heads more params count (applied e a) takes = head_at-more heads more params (suc count) e takes.0
 
-pub fields_of-more : (heads more : List Head) (e : Expression) → IsExpression heads 0 e → fields_of (heads ++ more) e ≡ fields_of heads e
-fields_of-more heads more e takes = ap (λ (o : Option Head). fields_with o (args_of e)) (head_at-more heads more e takes)
+pub fields_of-more : (heads more : List Head) (params : ℕ) (e : Expression) → IsExpression heads params e → fields_of (heads ++ more) e ≡ fields_of heads e
+fields_of-more heads more params e takes = ap (λ (o : Option Head). fields_with o (args_of e)) (head_at-more heads more params 0 e takes)
 
 pub text_length-more : (heads more : List Head) (params count : ℕ) (e : Expression) → Takes heads params count e → text_length (heads ++ more) e ≡ text_length heads e
 text_length-more heads more params count (parameter i) takes = refl

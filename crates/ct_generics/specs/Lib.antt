@@ -26,3 +26,6 @@ pub mod Tasks
 pub mod Additions
 pub mod SortTable
 pub mod WellFormed
+pub mod Denoted
+pub mod Occurrence
+pub mod Found

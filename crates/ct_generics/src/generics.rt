@@ -1,5 +1,6 @@
 //! What is declared: sorts and generics, and synonyms.
-ghost use Rattle.std.specs.Prelude.{◌≡◌, ◌↔◌, ◌<◌, [], length, Some, slice_get, IsTrue};
+ghost use Rattle.std.specs.Prelude.{◌≡◌, ◌↔◌, ◌<◌, ℕ, [], length, Some, option_map, slice_get, IfSome, IfNone, IsTrue};
+ghost use Rattle.ct_generics.specs.declared.heads.StoredHead.{StoredHead};
 ghost use Rattle.ct_generics.specs.Declarations.{Declared, Head};
 ghost use Rattle.ct_generics.specs.Names.{IsListed};
 ghost use Rattle.ct_generics.specs.Synonyms.{first_of};
@@ -11,7 +12,7 @@ use crate::items::Items;
 use crate::kind::Kind;
 use crate::name::Name;
 use crate::names::Names;
-use crate::nodes::HeadId;
+use crate::nodes::{ExprId, Expressions, HeadId};
 use crate::vertices::stored_head;
 use std::alloc::Global;
 
@@ -79,6 +80,45 @@ impl Generics {
         ensures params { (d : Declared) → AreDeclared self.now d → (head : Head) × (slice_get d.heads h.0 ≡ Some head) × (result ≡ head.params) }
     {
         stored_head(self.heads.as_slice(), h.0 as usize).params
+    }
+
+    /// The sorts of the fields of each constructor of a sort or generic, among the expressions of its template.
+    pub fn rows(&self, h: HeadId) -> &[Items<ExprId>]
+        requires within { (d : Declared) × AreDeclared self.now d × (h.0 < length d.heads) }
+        ensures value { option_map (λ (stored : StoredHead). stored.ctors) (slice_get self.now.heads h.0) ≡ Some result.now }
+    {
+        stored_head(self.heads.as_slice(), h.0 as usize)
+            .ctors
+            .as_slice()
+    }
+
+    /// The expressions in which these stand.
+    pub fn template(&self, h: HeadId) -> &Expressions
+        requires within { (d : Declared) × AreDeclared self.now d × (h.0 < length d.heads) }
+        ensures value { option_map (λ (stored : StoredHead). stored.template) (slice_get self.now.heads h.0) ≡ Some result.now }
+    {
+        &stored_head(self.heads.as_slice(), h.0 as usize).template
+    }
+
+    /// Whether there is a synonym of this name.
+    pub fn synonym_named(&self, name: &[u8]) -> bool
+        ensures listed { IsTrue result ↔ IsListed self.now.synonym_names name.now }
+    {
+        match self.synonym_names.find(name) {
+            Some(_) => true,
+            None => false,
+        }
+    }
+
+    /// The number of the sort or generic of this name, if there is one.
+    pub fn head_named(&self, name: &[u8]) -> Option<HeadId>
+        ensures some { IfSome result (λ h. (d : Declared) → AreDeclared self.now d → (head : Head) × (slice_get d.heads h.0 ≡ Some head) × (head.name ≡ name.now)) }
+        ensures none { IfNone result ((d : Declared) → AreDeclared self.now d → (h : ℕ) (head : Head) → slice_get d.heads h ≡ Some head → head.name ≡ name.now → ⊥) }
+    {
+        match self.head_names.find(name) {
+            Some(h) => Some(HeadId(h as u64)),
+            None => None,
+        }
     }
 
     /// Whether a sort or generic has this name.

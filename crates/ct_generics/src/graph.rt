@@ -9,6 +9,7 @@ ghost use Rattle.ct_generics.specs.Marks.{AreMarksSound, IsClosedSet, is_built, 
 use crate::error::GenericError;
 use crate::items::Items;
 use crate::kind::Kind;
+use crate::order::order_of;
 use std::alloc::Global;
 
 /// A vertex: the kind of its expression, none for a parameter, and for each constructor the vertices of its fields.
@@ -27,9 +28,35 @@ pub fn founded(alloc: Global, graph: &[Vertex]) -> Result<Vec<bool>, GenericErro
     ensures err { IfErr result (λ e. e ≡ GenericError.NoMemory) }
 {
     let mut marks = vec![in alloc; false; graph.len()]?;
+    let order = order_of(alloc, graph)?;
     let slots = marks.as_mut_slice();
+    mark_in_order(graph, order.as_slice(), slots);
     while mark_round(graph, slots) {}
     Ok(marks)
+}
+
+// Marks the vertices in this order, each where it is built from marked ones.
+fn mark_in_order(graph: &[Vertex], order: &[usize], marks: &mut [bool])
+    requires len { length marks.old ≡ length graph.now }
+    ensures sound { AreMarksSound graph.now marks.old → AreMarksSound graph.now marks.new }
+{
+    for i in order {
+        mark_one(graph, *i, marks);
+    }
+}
+
+// Marks a vertex where it is built from marked ones.
+fn mark_one(graph: &[Vertex], i: usize, marks: &mut [bool])
+    requires len { length marks.old ≡ length graph.now }
+    ensures sound { AreMarksSound graph.now marks.old → AreMarksSound graph.now marks.new }
+{
+    if i >= graph.len() {
+        return;
+    }
+    if !is_built(&graph[i], marks) {
+        return;
+    }
+    marks[i] = true;
 }
 
 // One round over all vertices. Whether one was marked.

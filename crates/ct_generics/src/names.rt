@@ -1,7 +1,7 @@
 //! Names, each with the number of its place among them.
-ghost use Rattle.std.specs.Prelude.{◌≡◌, ◌<◌, ◌^◌, [], ◌∷◌, ◌++◌, length, take, position, IfSome, IfErr, OnOk, OnErr, MatchOption};
+ghost use Rattle.std.specs.Prelude.{◌≡◌, ◌<◌, ◌^◌, [], ◌∷◌, ◌++◌, length, take, position, Some, slice_get, IfSome, IfErr, OnOk, OnErr, MatchOption};
 ghost use Rattle.std.specs.Str.{bytes_eq};
-ghost use Rattle.ct_generics.specs.Names.{IsListed};
+ghost use Rattle.ct_generics.specs.Names.{AreDistinct, IsListed};
 
 use crate::error::GenericError;
 use crate::name::Name;
@@ -17,10 +17,13 @@ pub struct Names {
 
 impl Model for Names {
     ghost use Rattle.std.specs.Prelude.{List, ℕ, map};
+    ghost use Rattle.ct_generics.specs.Names.{AreDistinct};
 
     ghost Value = { List (List ℕ) };
 
     ghost view = { λ stored. map (λ e. e.0.items) stored.entries.entries };
+
+    ghost invariant = { λ stored. AreDistinct (map (λ e. e.0.items) stored.entries.entries) };
 }
 
 impl Names {
@@ -37,6 +40,7 @@ impl Names {
     pub fn len(&self) -> usize
         ensures len { result ≡ length self.now }
         ensures small { result < 2 ^ 63 }
+        ensures distinct { AreDistinct self.now }
     {
         self.entries.len()
     }
@@ -46,6 +50,15 @@ impl Names {
         ensures place { result ≡ position (bytes_eq name.now) self.now }
     {
         self.entries.get_index_of(name)
+    }
+
+    /// The name at a place.
+    pub fn name(&self, i: usize) -> &[u8]
+        requires within { i < length self.now }
+        ensures value { slice_get self.now i ≡ Some result.now }
+    {
+        let (name, _) = self.entries.get_index(i).unwrap();
+        name.as_slice()
     }
 
     /// One more name, which is not there yet. The only error is `NoMemory`.

@@ -1,6 +1,6 @@
 //! Shared expressions: equal expressions have one number, so that an expression is no larger than what was written to
 //! make it (hash-consing; Filliâtre and Conchon 2006).
-ghost use Rattle.std.specs.Prelude.{◌≡◌, ◌<◌, ◌^◌, ℕ, length, take, Some, slice_get, IfOk, IfErr, OnOk, OnErr};
+ghost use Rattle.std.specs.Prelude.{◌≡◌, ◌<◌, ◌^◌, ℕ, [], ◌∷◌, ◌++◌, length, take, Some, slice_get, IfOk, IfErr, OnOk, OnErr, IfSome, IfNone};
 ghost use Rattle.ct_generics.specs.Expression.{Expression, parameter, named, applied};
 ghost use Rattle.ct_generics.specs.Nodes.{Stands, HasPartsBelow, AreOrdered, AreSingle, Stay};
 
@@ -112,6 +112,29 @@ impl Expressions {
         ensures err { IfErr result (λ e. e ≡ GenericError.NoMemory) }
     {
         self.add(Node::Apply(m, k))
+    }
+
+    /// The number of a node, if it is one of these.
+    pub fn find(&self, node: Node) -> Option<ExprId>
+        ensures some { IfSome result (λ n. slice_get self.now n.0 ≡ Some node) }
+        ensures none { IfNone result ((n : ℕ) → slice_get self.now n ≡ Some node → ⊥) }
+        ensures single { AreSingle self.now }
+    {
+        match self.nodes.get_index_of(&node) {
+            Some(index) => Some(ExprId(index as u64)),
+            None => None,
+        }
+    }
+
+    /// One more node, which is not there yet. The only error is `NoMemory`.
+    pub(crate) fn push(&mut self, node: Node) -> Result<(), GenericError>
+        requires below { HasPartsBelow (length self.old) node }
+        requires fresh { (n : ℕ) → slice_get self.old n ≡ Some node → ⊥ }
+        ensures ok { OnOk result (self.new ≡ self.old ++ node ∷ []) }
+        ensures err { IfErr result (λ e. e ≡ GenericError.NoMemory) }
+    {
+        self.nodes.insert(node)?;
+        Ok(())
     }
 
     // The number of the node, which it gets here where it has none yet.

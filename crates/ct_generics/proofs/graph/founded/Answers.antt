@@ -6,11 +6,20 @@ use Rattle.ct_generics.specs.Graph.{IsFoundedAt}
 use Rattle.ct_generics.proofs.MarkLemmas.{AreMarksSound-none, founded_exactly}
 use Rattle.ct_generics.proofs.graph.founded.Goals as goal
 
+pub mark_in_order-requires : goal.mark_in_order-requires
+mark_in_order-requires c =
+    let unset : c.as_mut_slice-slots.result.now ≡ replicate (length c.args.graph.now) false = c.as_mut_slice-slots.ensures.value ∙ c.in_ok-marks.ensures.items_if_clones_equal (λ y e. e) in
+    record { len = ap length unset ∙ length-replicate (length c.args.graph.now) false }
+
 pub loop-slots-init : goal.loop-slots-init
 loop-slots-init c =
     let g = c.args.graph.now in
     let unset : c.as_mut_slice-slots.result.now ≡ replicate (length g) false = c.as_mut_slice-slots.ensures.value ∙ c.in_ok-marks.ensures.items_if_clones_equal (λ y e. e) in
-    record { whole = ap length unset ∙ length-replicate (length g) false; sound = subst (λ (ms : List Bool). AreMarksSound g ms) (sym unset) (AreMarksSound-none g (length g)) }
+    let long : length c.as_mut_slice-slots.result.now ≡ length g = ap length unset ∙ length-replicate (length g) false in
+    record {
+      whole = omega (arith, c.mark_in_order.auto.marks, long);
+      sound = c.mark_in_order.ensures.sound (subst (λ (ms : List Bool). AreMarksSound g ms) (sym unset) (AreMarksSound-none g (length g)));
+    }
 
 pub loop-slots-preserved : goal.loop-slots-preserved
 loop-slots-preserved c = record { whole = omega (arith, c.mark_round.auto.marks, c.loop-slots.invariant.whole); sound = c.mark_round.ensures.sound c.loop-slots.invariant.sound }

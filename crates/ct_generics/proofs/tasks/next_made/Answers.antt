@@ -1,4 +1,4 @@
-use Rattle.std.proofs.Common.{[], Option, Some, None, subst, MatchOption, sym, ◌≡◌}
+use Rattle.std.proofs.Common.{[], Option, subst}
 use Rattle.ct_generics.specs.declared.nodes.ExprId.{ExprId}
 use Rattle.ct_generics.specs.Tasks.{IsBegun}
 use Rattle.ct_generics.proofs.TaskLemmas.{AreTasks-pop, went-on, went-on-made, went-on-nothing}

@@ -1,4 +1,4 @@
-use Rattle.std.proofs.Common.{◌≡◌, length, arith}
+use Rattle.std.proofs.Common.{arith}
 use Rattle.ct_generics.proofs.SubstitutionLemmas.{length-push}
 use Rattle.ct_generics.proofs.TextLemmas.{AreCounts-push}
 use Rattle.ct_generics.proofs.text.count_more.Goals as goal

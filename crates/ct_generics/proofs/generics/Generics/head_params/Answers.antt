@@ -1,4 +1,4 @@
-use Rattle.std.proofs.Common.{sym, ◌∙◌, arith}
+use Rattle.std.proofs.Common.{sym, arith}
 use Rattle.ct_lemmas.proofs.Pairs.{AllZip-at_left, AllZip-one_length}
 use Rattle.ct_generics.specs.Stored.{IsStored}
 use Rattle.ct_generics.proofs.generics.Generics.head_params.Goals as goal

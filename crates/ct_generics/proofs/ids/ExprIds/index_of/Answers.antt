@@ -1,5 +1,3 @@
-use Rattle.std.proofs.Common.{List, ◌≡◌, sym, subst, IfSome, IfNone, ℕ, slice_get, Some}
-use Rattle.ct_generics.specs.declared.nodes.ExprId.{ExprId}
 use Rattle.ct_generics.proofs.IdLemmas.{found-is, none-found}
 use Rattle.ct_generics.proofs.ids.ExprIds.index_of.Goals as goal
 
