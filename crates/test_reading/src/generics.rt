@@ -3,16 +3,19 @@
 //! `(NAME FIELD ..)`, a field `(NAME SORT)` and a sort a name or `(NAME SORT ..)`, and `(synonym NAME (PARAMETER ..) SORT)`:
 //! each is answered with `ok`, with `taken` where a name is not new, or with the number of its refusal as `E18`. `count`
 //! shows how many sorts and generics there are, and how many synonyms, and `(cut 2 0)` takes back all but so many.
-//! `(same SORT SORT)` shows whether two sorts are one.
+//! `(same SORT SORT)` shows whether two sorts are one. `(add (SORTS CONSTRUCTORS SELECTORS) SORT ..)` adds sorts to none, one
+//! after the other, each where there is room for so many, and shows all that are sorts then, in order; `(fit ..)` shows
+//! `ok` in place of these.
 ghost use Rattle.std.specs.Prelude.{◌≡◌, map};
 ghost use Rattle.ct_generics.specs.Declarations.{Declared};
 ghost use Rattle.ct_generics.specs.Stored.{AreDeclared, AreFree};
 
+use crate::adding::{add_all, show_sorts};
 use crate::steps::{show_bool, show_count};
 use ct_cases::{CaseError, bytes_of, is_word, items_of, number_of, size_of, split_word};
 use ct_generics::{
-    CtorDecl, Expressions, Field, GenericError, Generics, Items, Kind, Name, SortDecl, SortExpr,
-    add_block, add_named, add_synonym, are_free, resolve,
+    CtorDecl, Expressions, Field, GenericError, Generics, Items, Kind, Name, Room, SortDecl,
+    SortExpr, add_block, add_named, add_synonym, are_free, resolve,
 };
 use ct_sexpr::Sexpr;
 use std::alloc::Global;
@@ -61,6 +64,8 @@ fn answer_step(
         "codata" => answer_block(alloc, g, Kind::Codata, parts, out),
         "synonym" => answer_synonym(alloc, g, parts, out),
         "same" => answer_same(alloc, g, parts, out),
+        "add" => answer_add(alloc, g, parts, true, out),
+        "fit" => answer_add(alloc, g, parts, false, out),
         "cut" => answer_cut(g, parts),
         _ => Err(CaseError::Bad),
     }
@@ -250,6 +255,56 @@ fn are_same(
     let left = resolve(alloc, g, &mut table, left)?;
     let right = resolve(alloc, g, &mut table, right)?;
     Ok(left == right)
+}
+
+/// Adds sorts to none, and shows which are sorts then, or that they fit.
+fn answer_add(
+    alloc: Global,
+    g: &Generics,
+    parts: &[Sexpr],
+    shown: bool,
+    out: &mut String,
+) -> Result<(), CaseError>
+    requires declared { (d : Declared) × AreDeclared g.now d }
+{
+    match parts {
+        [room, sorts @ ..] => {
+            let room = room_of(room)?;
+            let sorts = sort_exprs(alloc, sorts)?;
+            match add_all(alloc, g, room, sorts.as_slice()) {
+                Ok(table) => {
+                    if shown {
+                        return show_sorts(alloc, g, &table, out);
+                    }
+                    show_ok(out)
+                }
+                Err(error) => show_error(alloc, error, out),
+            }
+        }
+        _ => Err(CaseError::Bad),
+    }
+}
+
+/// Room for so many sorts, constructors and selectors.
+fn room_of(part: &Sexpr) -> Result<Room, CaseError> {
+    match items_of(part)? {
+        [sorts, ctors, sels] => {
+            let sorts = number_of(sorts)?;
+            let ctors = number_of(ctors)?;
+            let sels = number_of(sels)?;
+            Ok(Room { sorts, ctors, sels })
+        }
+        _ => Err(CaseError::Bad),
+    }
+}
+
+/// Sorts without parameters.
+fn sort_exprs(alloc: Global, parts: &[Sexpr]) -> Result<Vec<SortExpr>, CaseError> {
+    let mut sorts = Vec::new(alloc);
+    for part in parts {
+        sorts.push(sort_expr(alloc, &[], part, MOST_NESTED)?)?;
+    }
+    Ok(sorts)
 }
 
 /// The declarations of a block.

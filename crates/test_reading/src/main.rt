@@ -3,6 +3,7 @@
 //! one line. A line that is no case is answered `BAD`.
 #![tactic(auto)]
 
+mod adding;
 mod bytes;
 mod declarations;
 mod desks;
