@@ -1,0 +1,9 @@
+mod CapLemmas
+mod CountLemmas
+mod RoundLemmas
+mod StepLemmas
+mod EntryLemmas
+mod FewLemmas
+mod PartLemmas
+mod TreeLemmas
+mod ValueLemmas

@@ -1,0 +1,4 @@
+pub mod ClosedFormula
+pub mod Counts
+pub mod Counting
+pub mod Entries

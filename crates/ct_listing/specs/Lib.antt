@@ -1,0 +1,3 @@
+pub mod Closed
+pub mod Listable
+pub mod Listing
