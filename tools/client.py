@@ -13,6 +13,8 @@ it stores there the model of each check that is `sat` and the derivation of each
 its number, its verdict or `refused`, and the file; and a line for each command that is refused or unsupported, which begins with
 `-`. `tools/prove.sh` does this and audits the derivations.
 
+Bytes that are no UTF-8 pass as they are (`surrogateescape`). It needs Python 3.8.
+
 The line that an error names is counted in the dialogue, with what this tool sends beside the script: it is not the line of the FILE.
 """
 
@@ -133,7 +135,7 @@ class Solver:
 
     def send(self, text):
         """Sends bytes of a command; the answer comes once its closing parenthesis is sent."""
-        self.process.stdin.write(text.encode())
+        self.process.stdin.write(text.encode(errors="surrogateescape"))
 
     def answer(self):
         """The text of the next answer. EOFError where the program ended before."""
@@ -142,7 +144,7 @@ class Solver:
             if not piece:
                 raise EOFError("the solver ended without an answer")
             self.scanner.feed(piece)
-        return text.decode()
+        return text.decode(errors="surrogateescape")
 
     def command(self, text):
         """Sends one command and gives its answer. SolverError where it is an error."""
@@ -270,7 +272,7 @@ def commands_of(path):
     with open(path, "rb") as file:
         scanner.feed(file.read() + b"\n")
     while (text := scanner.next()) is not None:
-        yield text.decode()
+        yield text.decode(errors="surrogateescape")
     if scanner.start is not None:
         yield None
 
@@ -332,7 +334,7 @@ def stored(program, path, folder):
             if verdict in ASKED:
                 kind, question = ASKED[verdict]
                 file = os.path.join(folder, f"check-{count}.{kind}")
-                with open(file, "w", encoding="utf-8") as output:
+                with open(file, "w", encoding="utf-8", errors="surrogateescape") as output:
                     output.write(solver.text_of(question) + "\n")
             print(count, verdict, file, flush=True)
         status = solver.close()
@@ -341,6 +343,7 @@ def stored(program, path, folder):
 
 def main():
     """The call as the head of this file says."""
+    sys.stdout.reconfigure(encoding="utf-8", errors="surrogateescape")
     if len(sys.argv) == 3:
         replay(*sys.argv[1:])
     elif len(sys.argv) == 4:

@@ -5,7 +5,7 @@
 #
 # Of each check-sat of the SCRIPT that is unsat the derivation is stored in the FOLDER, and `cosmt --audit` checks it against the
 # script by a process of its own; so does tools/check_derivation.py, where it is there. Of each that is sat the model is stored.
-# The FOLDER is NAME.answers for the script NAME.smt2, where none is given. A line says what came of each check, one names each command
+# The FOLDER is NAME.answers, in the folder in which this is called, for the script NAME.smt2, where none is given. A line says what came of each check, one names each command
 # that was refused or is unsupported, and the last one counts all. A script that ends inside a command has that command refused.
 #
 # The program is crates/cosmt/out/cosmt, or what the variable COSMT names. The status is 0 where every derivation was verified and
@@ -18,7 +18,7 @@ if [ "$1" = "--help" ] || [ "$1" = "-h" ]; then
     sed -n '2,/^[^#]/s/^#\( \|$\)//p' "$0"
     exit 0
 fi
-if [ $# -lt 1 ] || [ $# -gt 2 ] || [ ! -r "$1" ] || [ ! -x "$solver" ]; then
+if [ $# -lt 1 ] || [ $# -gt 2 ] || [ ! -r "$1" ] || [ -d "$1" ] || [ ! -x "$solver" ]; then
     echo "prove: there is no script '$1', or no program $solver; --help says more" >&2
     exit 2
 fi
