@@ -11,7 +11,8 @@ since what it answers then does not count, where it ended early, or where it doe
 the script's `(set-info :status ..)`, which says what the next check is, or where there is none from another solver; and who gave no answer,
 so that the row could not be compared whole. The last row counts both.
 
-The table is Markdown. What is under way is told on the error output, where all takes more than two seconds. The status is 0, or 1
+The table is Markdown. What is under way is told on the error output, where all takes more than two seconds, and which solvers are not there. It needs
+Python 3.9. The status is 0, or 1
 where verdicts differ, or 2 where there is no script or no solver. A row that could not be compared leaves it 0.
 """
 
@@ -94,6 +95,9 @@ def solvers_of(options):
     peers = [name for name in options.peers.split(",") if name]
     commands = [("cosmt", [cosmt])] + [(name, [name, *FLAGS.get(name, [])]) for name in peers]
     commands += [(os.path.basename(words.split()[0]), words.split()) for words in options.solver]
+    for name, command in commands:
+        if not shutil.which(command[0]):
+            print(f"compare: {name} is not there: no program {command[0]}", file=sys.stderr)
     return [(name, command) for name, command in commands if shutil.which(command[0])]
 
 
