@@ -1,10 +1,11 @@
-//! Tests of values: equality, minimal graphs, shared graphs, which graphs fit declarations, and
-//! texts. Each line of standard input is a case `(NAME KIND PART ..)`, and its answer is one
+//! Tests of values: equality, minimal graphs, shared graphs, which graphs fit declarations, texts,
+//! and the values of listable sorts. Each line of standard input is a case `(NAME KIND PART ..)`, and its answer is one
 //! line. A line that is no case is answered `BAD`. A case `(NAME declare STEP ..)` declares for
 //! the lines after it.
 #![tactic(auto)]
 
 mod equal;
+mod finite;
 mod fit;
 mod grow;
 mod nodes;
@@ -100,5 +101,8 @@ fn answer_values(
     if grow::answer(alloc, sig, kind, parts, out)? {
         return Ok(true);
     }
-    fit::answer(alloc, sig, kind, parts, out)
+    if fit::answer(alloc, sig, kind, parts, out)? {
+        return Ok(true);
+    }
+    finite::answer(alloc, sig, kind, parts, out)
 }

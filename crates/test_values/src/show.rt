@@ -56,7 +56,12 @@ fn show_head(
 }
 
 /// Shows a constructor by its name.
-fn show_ctor(alloc: Global, sig: &Signature, c: CtorId, out: &mut String) -> Result<(), CaseError> {
+pub fn show_ctor(
+    alloc: Global,
+    sig: &Signature,
+    c: CtorId,
+    out: &mut String,
+) -> Result<(), CaseError> {
     if c.0 >= sig.mark().ctors() {
         return Err(CaseError::Bad);
     }
