@@ -1,15 +1,18 @@
 -- What a store takes: the lemmas of the first lines, as many as are taken.
-use Rattle.std.proofs.Common.{◌≡◌, ℕ, ◌+◌, ◌≤◌, ◌<◌, ◌⊎◌, List, [], ◌∷◌, ◌++◌, length, map, take, drop, get_or, All, refl, sym, ap, subst, ◌∙◌, inl, inr, arith, length-append}
+use Rattle.std.proofs.Common.{◌≡◌, ℕ, zero, suc, ◌+◌, ◌≤◌, ◌<◌, ◌⊎◌, List, [], ◌∷◌, ◌++◌, length, map, take, drop, get_or, Some, slice_get, Contains, All, refl, sym, ap, subst, ◌∙◌, inl, inr, arith, length-append}
 use Rattle.std.specs.List.{AllZip, AllByRecursion, flat_map}
 use Rattle.std.proofs.lemmas.List.{take-append-drop, length-map, take_all, take_more, append-nil, append_assoc, map-append}
 use Rattle.std.proofs.lemmas.Grind.{flat_map-append}
-use Rattle.std.proofs.lemmas.List.Elements.{All-from_recursion, recursion_from_All, All-append}
+use Rattle.std.proofs.lemmas.List.Elements.{All-from_recursion, recursion_from_All, All-append, Contains-append_left, Contains-append_right}
 use Rattle.ct_sorts.specs.Declarations.{Declarations}
 use Rattle.ct_sorts.specs.Grown.{Begins}
 use Rattle.ct_terms.specs.declared.ids.TermId.{TermId}
-use Rattle.ct_terms.specs.Terms.{Terms, most_terms}
+use Rattle.ct_terms.specs.Terms.{Terms, AreOrdered}
+use Rattle.ct_terms.specs.CoreTree.{CoreTree, term_at}
+use Rattle.ct_closure.specs.ClosedTable.{terms_at}
+use Rattle.ct_restriction.specs.Restricted.{IsSubtermOfOne}
 use Rattle.ct_restriction.specs.Renamed.{number_in}
-use Rattle.ct_restriction.specs.Renumbered.{IsEqualTerm, Numbers, IsNumber, IsKnown}
+use Rattle.ct_restriction.specs.Renumbered.{IsEqualTerm, HasNoRoom, Numbers, IsNumber, IsKnown}
 use Rattle.ct_terms.specs.declared.ids.Lit.{Lit}
 use Rattle.ct_log.specs.declared.rules.EqStep.{EqStep}
 use Rattle.ct_log.specs.declared.rules.Close.{Close}
@@ -18,8 +21,11 @@ use Rattle.ct_log.specs.declared.line.Step.{Step}
 use Rattle.ct_log.specs.declared.line.Step.TheVariants as step
 use Rattle.ct_kept.specs.declared.lemma.Lemma.{Lemma}
 use Rattle.ct_kept.specs.Lemmas.{renamed_lemma, lemma_terms, IsMoved, IsAcceptedLemma, lemmas_of_step, theory_lemmas}
-use Rattle.ct_kept.specs.Kept.{Stored, IsOver, Takes, most_lemmas}
-use Rattle.ct_kept.specs.Taken.{AreKnownLemmas, PushesLemmas}
+use Rattle.ct_kept.specs.Kept.{Stored, IsOver, TakesAll, IsNextWithoutRoom, Takes, most_lemmas}
+use Rattle.ct_kept.specs.Taken.{AreKnownLemmas, PushesLemmas, IsWithoutRoom, TakesFirst}
+use Rattle.ct_lemmas.proofs.Lists.{slice_get-append_left}
+use Rattle.ct_lemmas.proofs.Pairs.{AllZip-one_length, AllZip-weaker}
+use Rattle.ct_terms.proofs.CoreTreeLemmas.{term_at-longer}
 use Rattle.ct_kept.proofs.TermLemmas.{each_left, each_right, each_both, lemma_has}
 use Rattle.ct_kept.proofs.AcceptedLemmas.{accepted_over}
 use Rattle.ct_kept.proofs.MovedLemmas.{moved_by, number_is}
@@ -153,25 +159,28 @@ roots_over d terms (lemma ∷ lemmas) all =
     each_both (λ t. t.0 < length terms) (lemma_terms lemma) (flat_map lemma_terms lemmas)
     (recursion_from_All (λ t. t.0 < length terms) (lemma_terms lemma) (accepted_over d terms lemma all.0)) (roots_over d terms lemmas all.1)
 
--- where all roots are known all lemmas are, or else the same holds
-pub known_by_roots : (n : Numbers) (lemmas : List Lemma) (roots : List TermId) (F : Type 0) → roots ≡ flat_map lemma_terms lemmas → All (IsKnown n) roots ⊎ F → AreKnownLemmas n lemmas ⊎ F
-known_by_roots n lemmas roots F are (inl known) =
-    inl (All-from_recursion (λ lemma. All (IsKnown n) (lemma_terms lemma)) lemmas
-    (roots_known n lemmas (recursion_from_All (IsKnown n) (flat_map lemma_terms lemmas) (subst (All (IsKnown n)) are known))))
-known_by_roots n lemmas roots F are (inr other) = inr other
-
 -- the lemmas of fewer lines are accepted too
 pub accepted_first : (d : Declarations) (terms : Terms) (k : ℕ) (lines : List Line) → All (IsAcceptedLemma d terms) (theory_lemmas lines) → AllByRecursion (IsAcceptedLemma d terms) (theory_lemmas (take k lines))
 accepted_first d terms k lines all =
     each_left (IsAcceptedLemma d terms) (theory_lemmas (take k lines)) (theory_lemmas (drop k lines))
     (subst (AllByRecursion (IsAcceptedLemma d terms)) (lemmas_split k lines) (recursion_from_All (IsAcceptedLemma d terms) (theory_lemmas lines) all))
 
--- the roots stand in the table of the lines
-pub roots_within : (d : Declarations) (terms : Terms) (k : ℕ) (lines : List Line) (roots : List TermId) → All (IsAcceptedLemma d terms) (theory_lemmas lines) → roots ≡ flat_map lemma_terms (theory_lemmas (take k lines)) → All (λ t. t.0 < length terms) roots
-roots_within d terms k lines roots accepted are =
+-- the roots of accepted lemmas stand in the table of the lines
+pub roots_within : (d : Declarations) (terms : Terms) (lines : List Line) (roots : List TermId) → All (IsAcceptedLemma d terms) (theory_lemmas lines) → roots ≡ flat_map lemma_terms (theory_lemmas lines) → All (λ t. t.0 < length terms) roots
+roots_within d terms lines roots accepted are =
     subst (All (λ t. t.0 < length terms)) (sym are)
-    (All-from_recursion (λ t. t.0 < length terms) (flat_map lemma_terms (theory_lemmas (take k lines)))
-    (roots_over d terms (theory_lemmas (take k lines)) (accepted_first d terms k lines accepted)))
+    (All-from_recursion (λ t. t.0 < length terms) (flat_map lemma_terms (theory_lemmas lines))
+    (roots_over d terms (theory_lemmas lines) (recursion_from_All (IsAcceptedLemma d terms) (theory_lemmas lines) accepted)))
+
+-- the lemmas of the first lines, and of those after them, are accepted too
+pub first_accepted : (d : Declarations) (terms : Terms) (k : ℕ) (lines : List Line) → All (IsAcceptedLemma d terms) (theory_lemmas lines) → All (IsAcceptedLemma d terms) (theory_lemmas (take k lines))
+first_accepted d terms k lines all = All-from_recursion (IsAcceptedLemma d terms) (theory_lemmas (take k lines)) (accepted_first d terms k lines all)
+
+pub later_accepted : (d : Declarations) (terms : Terms) (k : ℕ) (lines : List Line) → All (IsAcceptedLemma d terms) (theory_lemmas lines) → All (IsAcceptedLemma d terms) (theory_lemmas (drop k lines))
+later_accepted d terms k lines all =
+    All-from_recursion (IsAcceptedLemma d terms) (theory_lemmas (drop k lines))
+    (each_right (IsAcceptedLemma d terms) (theory_lemmas (take k lines)) (theory_lemmas (drop k lines))
+    (subst (AllByRecursion (IsAcceptedLemma d terms)) (lemmas_split k lines) (recursion_from_All (IsAcceptedLemma d terms) (theory_lemmas lines) all)))
 
 -- lemmas over numbers of equal terms
 module _ (from to : Terms) (n : Numbers) (equal : (t u : TermId) → IsNumber n t u → IsEqualTerm from to t u) where
@@ -200,67 +209,217 @@ over_longer table longer long (lemma ∷ lemmas) all =
     further [] low = tt
     further (t ∷ ts) low = (omega (arith, low.0, long), further ts low.1)
 
--- all together
-module _ (terms : Terms) (lines : List Line) (count : ℕ) (old new : Terms) (before after : List Lemma) (n : Numbers) (room : ℕ)
-    (most : room + length before ≡ most_lemmas) (within : count ≤ length lines)
+-- what stands after others
+slice_get-after : {X : Type 0} (xs : List X) (y : X) (ys : List X) → slice_get (xs ++ y ∷ ys) (length xs) ≡ Some y
+slice_get-after [] y ys = refl
+slice_get-after (x ∷ xs) y ys = slice_get-after xs y ys
+
+-- so many items and so many more
+take-plus : {X : Type 0} (n m : ℕ) (xs : List X) → take (n + m) xs ≡ take n xs ++ take m (drop n xs)
+take-plus zero m xs = let same : zero + m ≡ m = omega arith in ap (λ (k : ℕ). take k xs) same
+take-plus (suc n) m [] = take_all (suc n + m) [] (omega arith) ∙ sym (take_all m [] (omega arith))
+take-plus {X} (suc n) m (x ∷ xs) = let same : suc n + m ≡ suc (n + m) = omega arith in ap (λ (k : ℕ). take k (x ∷ xs)) same ∙ ap (λ (ys : List X). x ∷ ys) (take-plus n m xs)
+
+-- a line has at most one lemma
+one_at_most : (clause : List Lit) (s : Step) (m : Lemma) (ms : List Lemma) → lemmas_of_step clause s ≡ m ∷ ms → ms ≡ []
+one_at_most clause (step.Theory steps close) m ms has = sym (ap (drop 1) has)
+one_at_most clause (step.Input i) m ms has = absurd (omega (arith, ap length has))
+one_at_most clause (step.Gate a b c) m ms has = absurd (omega (arith, ap length has))
+one_at_most clause (step.Exhaust a) m ms has = absurd (omega (arith, ap length has))
+one_at_most clause (step.Learn a) m ms has = absurd (omega (arith, ap length has))
+
+-- the lemmas of all lines, with their terms alone
+module _ (terms : Terms) (lines : List Line) (old new : Terms) (before after : List Lemma) (n : Numbers) (roots : List TermId) (are : roots ≡ flat_map lemma_terms (theory_lemmas lines))
+    (grown : Begins old new) (equal : (t u : TermId) → IsNumber n t u → IsEqualTerm terms new t u)
+    (only : (u : TermId) → u.0 < length new → (u.0 < length old) ⊎ IsSubtermOfOne (terms_at terms roots) (term_at new u))
+    (knows : AllByRecursion (IsKnown n) roots) (pushes : PushesLemmas n lines before after) where
+  abbrev moved_lemmas : List Lemma
+  moved_lemmas = map (renamed_lemma (number_in n.numbers)) (theory_lemmas lines)
+
+  known : AllByRecursion (λ lemma. All (IsKnown n) (lemma_terms lemma)) (theory_lemmas lines)
+  known = roots_known n (theory_lemmas lines) (subst (AllByRecursion (IsKnown n)) are knows)
+
+  all_lines : take pushes.done lines ≡ lines
+  all_lines = elim pushes.stops [
+    | inl whole ↦ take_all pushes.done lines (omega (arith, whole))
+    | inr unknown ↦ absurd (unknown (All-from_recursion (λ lemma. All (IsKnown n) (lemma_terms lemma)) (theory_lemmas lines) known))
+  ]
+
+  pushed : after ≡ before ++ moved_lemmas
+  pushed = pushes.pushed ∙ ap (λ (ls : List Line). before ++ map (renamed_lemma (number_in n.numbers)) (theory_lemmas ls)) all_lines
+
+  pub taken_all : TakesAll (record { table = old; lemmas = before }) terms (theory_lemmas lines) (record { table = new; lemmas = after })
+  taken_all = record {
+    taken = moved_lemmas;
+    grown = grown;
+    only = λ u within. subst (λ (ts : List TermId). (u.0 < length old) ⊎ IsSubtermOfOne (terms_at terms ts) (term_at new u)) are (only u within);
+    after = pushed;
+    moved = all_moved terms new n equal (theory_lemmas lines) known;
+  }
+
+  pub taken_over : length old ≤ length new → All (IsOver old) before → All (IsOver new) after
+  taken_over longer over =
+      subst (All (IsOver new)) (sym pushed)
+      (All-append (IsOver new) before moved_lemmas
+      (All-from_recursion (IsOver new) before (over_longer old new longer before (recursion_from_All (IsOver old) before over)))
+      (All-from_recursion (IsOver new) moved_lemmas (all_over terms new n equal (theory_lemmas lines) known)))
+
+-- no room: nothing has changed
+pub without_room : (terms : Terms) (lines : List Line) (old full : Terms) (lemmas : List Lemma) (n : Numbers) (roots : List TermId) (before : ℕ) (new : Terms) → roots ≡ flat_map lemma_terms (theory_lemmas lines) →
+    Begins old full → before ≡ length old → new ≡ take before full → All (IsKnown n) roots ⊎ HasNoRoom old terms roots → (AllByRecursion (IsKnown n) roots → ⊥) →
+    IsWithoutRoom (record { table = old; lemmas = lemmas }) terms (theory_lemmas lines) (record { table = new; lemmas = lemmas })
+without_room terms lines old full lemmas n roots before new are grown long cut all unknown = record {
+  some = λ none. unknown (subst (AllByRecursion (IsKnown n)) (sym (are ∙ ap (flat_map lemma_terms) none)) tt);
+  no_room = elim all [
+    | inl known ↦ absurd (unknown (recursion_from_All (IsKnown n) roots known))
+    | inr no_room ↦ subst (HasNoRoom old terms) are no_room
+  ];
+  same = ap (λ (ts : Terms). record { table = ts; lemmas = lemmas }) (cut ∙ (ap (λ (k : ℕ). take k full) long ∙ (ap (take (length old)) grown.1 ∙ take_first old grown.0)));
+}
+
+-- no lemmas are taken
+pub taken_none : (terms : Terms) (store : Stored) → TakesAll store terms [] store
+taken_none terms store = record {
+  taken = [];
+  grown = ([], sym (append-nil store.table));
+  only = λ u within. inl within;
+  after = sym (append-nil store.lemmas);
+  moved = tt;
+}
+
+-- lemmas after others
+module _ (terms : Terms) (xs ys : List Lemma) (a b c : Stored) (f : TakesAll a terms xs b) (g : TakesAll b terms ys c) (ordered : AreOrdered c.table) where
+  longer : length b.table ≤ length c.table
+  longer = let grown = g.grown in omega (arith, ap length grown.1, length-append b.table grown.0)
+
+  stays : (u : TermId) → u.0 < length b.table → term_at c.table u ≡ term_at b.table u
+  stays u within = let grown = g.grown in ap (λ (ts : Terms). term_at ts u) grown.1 ∙ term_at-longer b.table grown.0 u (subst AreOrdered grown.1 ordered) within
+
+  abbrev roots : List Lemma → List CoreTree
+  roots ls = terms_at terms (flat_map lemma_terms ls)
+
+  both : roots (xs ++ ys) ≡ roots xs ++ roots ys
+  both = ap (map (term_at terms)) (flat_map-append lemma_terms xs ys) ∙ map-append (term_at terms) (flat_map lemma_terms xs) (flat_map lemma_terms ys)
+
+  moved_further : (ls ms : List Lemma) → AllZip (IsMoved terms b.table) ls ms → AllZip (IsMoved terms c.table) ls ms
+  moved_further ls ms all = AllZip-weaker (IsMoved terms b.table) (IsMoved terms c.table) (λ l m h. record {
+    number = h.number;
+    equal = All-from_recursion (λ t. IsEqualTerm terms c.table t (h.number t)) (lemma_terms l)
+        (each h.number (lemma_terms l) (recursion_from_All (λ t. IsEqualTerm terms b.table t (h.number t)) (lemma_terms l) h.equal));
+    exchanged = h.exchanged;
+  }) ls ms all
+    where
+      each : (number : TermId → TermId) (ts : List TermId) → AllByRecursion (λ t. IsEqualTerm terms b.table t (number t)) ts → AllByRecursion (λ t. IsEqualTerm terms c.table t (number t)) ts
+      each number [] equal = tt
+      each number (t ∷ ts) equal = (
+        let e = equal.0 in record { there = e.there; within = let within = e.within in omega (arith, within, longer); tree = stays (number t) e.within ∙ e.tree },
+        each number ts equal.1,
+      )
+
+  zip_append : (P : Lemma → Lemma → Type 0) (ls ms ls' ms' : List Lemma) → AllZip P ls ms → AllZip P ls' ms' → AllZip P (ls ++ ls') (ms ++ ms')
+  zip_append P [] [] ls' ms' first second = second
+  zip_append P [] (m ∷ ms) ls' ms' first second = absurd first
+  zip_append P (l ∷ ls) [] ls' ms' first second = absurd first
+  zip_append P (l ∷ ls) (m ∷ ms) ls' ms' first second = (first.0, zip_append P ls ms ls' ms' first.1 second)
+
+  pub taken_more : TakesAll a terms (xs ++ ys) c
+  taken_more = record {
+    taken = f.taken ++ g.taken;
+    grown = begins_further a.table b.table c.table f.grown g.grown;
+    only = λ u within. elim (g.only u within) [
+      | inr later ↦ inr (subst (λ (ts : List CoreTree). IsSubtermOfOne ts (term_at c.table u)) (sym both) (later.0, Contains-append_right (roots xs) (roots ys) later.0 later.1, later.2))
+      | inl before ↦ elim (f.only u before) [
+        | inl old ↦ inl old
+        | inr first ↦ inr (subst (λ (t : CoreTree). IsSubtermOfOne (roots (xs ++ ys)) t) (sym (stays u before))
+            (subst (λ (ts : List CoreTree). IsSubtermOfOne ts (term_at b.table u)) (sym both) (first.0, Contains-append_left (roots xs) (roots ys) first.0 first.1, first.2)))
+      ]
+    ];
+    after = g.after ∙ (ap (λ (ls : List Lemma). ls ++ g.taken) f.after ∙ append_assoc a.lemmas f.taken g.taken);
+    moved = zip_append (IsMoved terms c.table) xs f.taken ys g.taken (moved_further xs f.taken f.moved) g.moved;
+  }
+    where
+      begins_further : (x y z : Terms) → Begins x y → Begins y z → Begins x z
+      begins_further x y z first second = (first.0 ++ second.0, second.1 ∙ (ap (λ (ts : Terms). ts ++ second.0) first.1 ∙ append_assoc x first.0 second.0))
+
+-- the first lines and those after them
+module _ (lines : List Line) (done count : ℕ) where
+  abbrev rest : List Line
+  rest = drop done lines
+
+  pub lines_more : theory_lemmas (take (done + count) lines) ≡ theory_lemmas (take done lines) ++ theory_lemmas (take count rest)
+  lines_more = ap theory_lemmas (take-plus done count lines) ∙ lemmas_append (take done lines) (take count rest)
+
+  -- the lemma of the next line stands after those of the first ones
+  module _ (terms table : Terms) (some : theory_lemmas (take 1 rest) ≡ [] → ⊥) (no_room : HasNoRoom table terms (flat_map lemma_terms (theory_lemmas (take 1 rest)))) where
+    pub next_without_room : IsNextWithoutRoom table terms (theory_lemmas lines) (length (theory_lemmas (take done lines)))
+    next_without_room = by rest refl
+      where
+        by : (ls : List Line) → rest ≡ ls → IsNextWithoutRoom table terms (theory_lemmas lines) (length (theory_lemmas (take done lines)))
+        by [] is = absurd (some (ap (λ (ls : List Line). theory_lemmas (take 1 ls)) is))
+        by (l ∷ ls) is = step_of (lemmas_of_step l.clause l.step) refl
+          where
+            ones : theory_lemmas (take 1 rest) ≡ lemmas_of_step l.clause l.step
+            ones = ap (λ (ls : List Line). theory_lemmas (take 1 ls)) is ∙ append-nil (lemmas_of_step l.clause l.step)
+
+            step_of : (ms : List Lemma) → lemmas_of_step l.clause l.step ≡ ms → IsNextWithoutRoom table terms (theory_lemmas lines) (length (theory_lemmas (take done lines)))
+            step_of [] none = absurd (some (ones ∙ none))
+            step_of (m ∷ ms) has = (
+              m,
+              ap (λ (ns : List Lemma). slice_get ns (length (theory_lemmas (take done lines)))) whole ∙ slice_get-after (theory_lemmas (take done lines)) m (ms ++ theory_lemmas ls),
+              subst (HasNoRoom table terms) (ap (flat_map lemma_terms) (ones ∙ has ∙ ap (λ (ns : List Lemma). m ∷ ns) alone) ∙ append-nil (lemma_terms m)) no_room,
+            )
+              where
+                alone : ms ≡ []
+                alone = one_at_most l.clause l.step m ms has
+
+                whole : theory_lemmas lines ≡ theory_lemmas (take done lines) ++ m ∷ (ms ++ theory_lemmas ls)
+                whole = lemmas_split done lines ∙ ap (λ (ns : List Lemma). theory_lemmas (take done lines) ++ ns) (ap theory_lemmas is ∙ ap (λ (ns : List Lemma). ns ++ theory_lemmas ls) has)
+
+-- up to 4,096
+module _ (terms : Terms) (lines : List Line) (count : ℕ) (old new : Stored) (room : ℕ)
+    (most : room + length old.lemmas ≡ most_lemmas) (within : count ≤ length lines)
     (few : length (theory_lemmas (take count lines)) ≤ room)
     (end : (count ≡ length lines) ⊎ (length (theory_lemmas (take count lines)) ≡ room))
-    (grown : Begins old new) (equal : (t u : TermId) → IsNumber n t u → IsEqualTerm terms new t u)
-    (all : AreKnownLemmas n (theory_lemmas (take count lines)) ⊎ (most_terms ≤ length new))
-    (pushes : PushesLemmas n (take count lines) before after) where
+    (first : TakesFirst old terms (take count lines) new) where
   abbrev taken : List Lemma
-  taken = theory_lemmas (take pushes.done (take count lines))
+  taken = theory_lemmas (take first.done (take count lines))
 
-  known : AllByRecursion (λ lemma. All (IsKnown n) (lemma_terms lemma)) taken
-  known = recursion_from_All (λ lemma. All (IsKnown n) (lemma_terms lemma)) taken pushes.known
-
-  first : theory_lemmas lines ≡ taken ++ (theory_lemmas (drop pushes.done (take count lines)) ++ theory_lemmas (drop count lines))
-  first =
+  split : theory_lemmas lines ≡ taken ++ (theory_lemmas (drop first.done (take count lines)) ++ theory_lemmas (drop count lines))
+  split =
       lemmas_split count lines
-      ∙ (ap (λ (ls : List Lemma). ls ++ theory_lemmas (drop count lines)) (lemmas_split pushes.done (take count lines))
-      ∙ append_assoc taken (theory_lemmas (drop pushes.done (take count lines))) (theory_lemmas (drop count lines)))
+      ∙ (ap (λ (ls : List Lemma). ls ++ theory_lemmas (drop count lines)) (lemmas_split first.done (take count lines))
+      ∙ append_assoc taken (theory_lemmas (drop first.done (take count lines))) (theory_lemmas (drop count lines)))
 
-  long : length (map (renamed_lemma (number_in n.numbers)) taken) ≡ length taken
-  long = length-map taken (renamed_lemma (number_in n.numbers))
+  long : length new.lemmas ≡ length old.lemmas + length taken
+  long = let all = first.takes in ap length all.after ∙ (length-append old.lemmas all.taken ∙ ap (λ (k : ℕ). length old.lemmas + k) (sym (AllZip-one_length (IsMoved terms new.table) taken all.taken all.moved)))
 
-  pub takes : Takes (record { table = old; lemmas = before }) terms (theory_lemmas lines) (record { table = new; lemmas = after })
+  pub takes : Takes old terms (theory_lemmas lines) new
   takes = record {
     count = length taken;
-    taken = map (renamed_lemma (number_in n.numbers)) taken;
-    grown = grown;
-    after = pushes.pushed;
-    moved =
-        subst (λ (ls : List Lemma). AllZip (IsMoved terms new) ls (map (renamed_lemma (number_in n.numbers)) taken))
-        (sym (ap (take (length taken)) first ∙ take_first taken (theory_lemmas (drop pushes.done (take count lines)) ++ theory_lemmas (drop count lines))))
-        (all_moved terms new n equal taken known);
-    stops = elim pushes.stops [
+    takes = subst (λ (ls : List Lemma). TakesAll old terms ls new)
+        (sym (ap (take (length taken)) split ∙ take_first taken (theory_lemmas (drop first.done (take count lines)) ++ theory_lemmas (drop count lines)))) first.takes;
+    stops = elim first.stops [
       | inl whole ↦
-          let same : take pushes.done (take count lines) ≡ take count lines = take_all pushes.done (take count lines) (omega (arith, whole)) in
+          let same : take first.done (take count lines) ≡ take count lines = take_all first.done (take count lines) whole in
           elim end [
             | inl last ↦
                 let lines_same : take count lines ≡ lines = take_all count lines (omega (arith, last)) in
                 inl (omega (arith, ap (λ (ls : List Line). length (theory_lemmas ls)) (same ∙ lines_same)))
-            | inr full ↦
-                inr (inl (omega (arith, most, full, ap (λ (ls : List Line). length (theory_lemmas ls)) same, ap length pushes.pushed, length-append before (map (renamed_lemma (number_in n.numbers)) taken), long)))
+            | inr full ↦ inr (inl (omega (arith, most, full, ap (λ (ls : List Line). length (theory_lemmas ls)) same, long)))
           ]
-      | inr unknown ↦ elim all [
-        | inl known_all ↦ absurd (unknown known_all)
-        | inr full ↦ inr (inr full)
-      ]
+      | inr next ↦ inr (inr (
+        next.0,
+        ap (λ (ls : List Lemma). slice_get ls (length taken)) (lemmas_split count lines)
+            ∙ slice_get-append_left (theory_lemmas (take count lines)) (theory_lemmas (drop count lines)) (length taken) next.0 next.1,
+        next.2,
+      ))
     ];
   }
 
-  pub taken_few : length after ≤ most_lemmas
+  pub taken_few : length new.lemmas ≤ most_lemmas
   taken_few =
-      let part = ap length (lemmas_split pushes.done (take count lines)) in
-      omega (arith, most, few, part, length-append taken (theory_lemmas (drop pushes.done (take count lines))), ap length pushes.pushed, length-append before (map (renamed_lemma (number_in n.numbers)) taken), long)
-
-  pub taken_over : length old ≤ length new → All (IsOver old) before → All (IsOver new) after
-  taken_over longer over =
-      subst (All (IsOver new)) (sym pushes.pushed)
-      (All-append (IsOver new) before (map (renamed_lemma (number_in n.numbers)) taken)
-      (All-from_recursion (IsOver new) before (over_longer old new longer before (recursion_from_All (IsOver old) before over)))
-      (All-from_recursion (IsOver new) (map (renamed_lemma (number_in n.numbers)) taken) (all_over terms new n equal taken known)))
+      let part = ap length (lemmas_split first.done (take count lines)) in
+      omega (arith, most, few, part, length-append taken (theory_lemmas (drop first.done (take count lines))), long)
 
 -- what was cut back is as it was
 pub cut_back : (old : Stored) (table : Terms) (lemmas : List Lemma) (m n : ℕ) → Begins old.table table → Begins old.lemmas lemmas → m ≡ length old.table → n ≡ length old.lemmas →

@@ -1,9 +1,14 @@
 -- The store of clauses that the theory gave: what is used of it in a check, and what a check leaves there.
-use Rattle.std.specs.Prelude.{◌≡◌, ℕ, ◌<◌, ◌≤◌, ◌⊎◌, List, [], ◌∷◌, ◌++◌, length, take, All}
-use Rattle.std.specs.List.{AllZip}
+use Rattle.std.specs.Prelude.{◌≡◌, ℕ, ◌<◌, ◌≤◌, ◌⊎◌, List, [], ◌∷◌, ◌++◌, length, take, All, Some, slice_get}
+use Rattle.std.specs.List.{AllZip, flat_map}
 use Rattle.ct_sorts.specs.Declarations.{Declarations}
 use Rattle.ct_sorts.specs.Grown.{Begins}
-use Rattle.ct_terms.specs.Terms.{Terms, most_terms}
+use Rattle.ct_terms.specs.declared.ids.TermId.{TermId}
+use Rattle.ct_terms.specs.Terms.{Terms}
+use Rattle.ct_terms.specs.CoreTree.{term_at}
+use Rattle.ct_closure.specs.ClosedTable.{terms_at}
+use Rattle.ct_restriction.specs.Restricted.{IsSubtermOfOne}
+use Rattle.ct_restriction.specs.Renumbered.{HasNoRoom}
 use Rattle.ct_log.specs.declared.line.Line.{Line}
 use Rattle.ct_kept.specs.declared.lemma.Lemma.{Lemma}
 use Rattle.ct_kept.specs.Lemmas.{lemma_terms, IsMoved, theory_line, IsAcceptedLemma}
@@ -43,11 +48,20 @@ IsUsable d from to lemma = (line : Line) × IsLineOf d from to lemma line
 abbrev pub AreMovedLines : Declarations → Stored → Terms → List Line → Type 0
 AreMovedLines d store terms lines = AreChosen (IsUsable d store.table terms) (IsLineOf d store.table terms) store.lemmas lines
 
--- the store has taken these lemmas over the terms, in order, up to the first for which it holds 4,096 lemmas or its table is full
-pub record Takes (old : Stored) (terms : Terms) (lemmas : List Lemma) (new : Stored) : Type 0 where
-  pub count : ℕ
+-- the store has taken all these lemmas over the terms, in order, and of the terms only the subterms of theirs
+pub record TakesAll (old : Stored) (terms : Terms) (lemmas : List Lemma) (new : Stored) : Type 0 where
   pub taken : List Lemma
   pub grown : Begins old.table new.table
+  pub only : (u : TermId) → u.0 < length new.table → (u.0 < length old.table) ⊎ IsSubtermOfOne (terms_at terms (flat_map lemma_terms lemmas)) (term_at new.table u)
   pub after : new.lemmas ≡ old.lemmas ++ taken
-  pub moved : AllZip (IsMoved terms new.table) (take count lemmas) taken
-  pub stops : (length lemmas ≤ count) ⊎ ((most_lemmas ≤ length new.lemmas) ⊎ (most_terms ≤ length new.table))
+  pub moved : AllZip (IsMoved terms new.table) lemmas taken
+
+-- after so many of the lemmas there comes one for whose terms the table has no room
+abbrev pub IsNextWithoutRoom : Terms → Terms → List Lemma → ℕ → Type 0
+IsNextWithoutRoom table terms lemmas count = (next : Lemma) × (slice_get lemmas count ≡ Some next) × HasNoRoom table terms (lemma_terms next)
+
+-- the store has taken these lemmas over the terms, in order, up to the first for which it holds 4,096 or its table has no room
+pub record Takes (old : Stored) (terms : Terms) (lemmas : List Lemma) (new : Stored) : Type 0 where
+  pub count : ℕ
+  pub takes : TakesAll old terms (take count lemmas) new
+  pub stops : (length lemmas ≤ count) ⊎ ((most_lemmas ≤ length new.lemmas) ⊎ IsNextWithoutRoom new.table terms lemmas count)

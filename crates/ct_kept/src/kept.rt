@@ -80,7 +80,7 @@ impl Kept {
     }
 
     /// Takes the clauses that the theory gave after so many first lines of the derivation, in order, up to the first for which it
-    /// holds 4,096 or its table is full. Where memory runs out nothing has changed.
+    /// holds 4,096 or for whose terms its table has no room; nothing of that one stays. Where memory runs out nothing has changed.
     pub fn take(
         &mut self,
         alloc: Global,

@@ -1,13 +1,13 @@
 //! What a check leaves in a store.
-ghost use Rattle.std.specs.Prelude.{◌≡◌, ◌≤◌, ◌⊎◌, ◌++◌, All, length, map, take, drop, Contains, OnOk, IfOk, IsTrue, MatchBool};
+ghost use Rattle.std.specs.Prelude.{◌≡◌, ◌<◌, ◌≤◌, ◌⊎◌, ◌++◌, All, length, map, take, drop, Contains, OnOk, IfOk, IsTrue, MatchBool};
 ghost use Rattle.std.specs.List.{flat_map};
 ghost use Rattle.ct_sorts.specs.Grown.{Begins};
 ghost use Rattle.ct_terms.specs.Terms.{AreSorted};
 ghost use Rattle.ct_restriction.specs.Renamed.{number_in};
 ghost use Rattle.ct_restriction.specs.Renumbered.{IsKnown};
 ghost use Rattle.ct_kept.specs.Lemmas.{lemma_terms, renamed_lemma, IsAcceptedLemma, lemmas_of_step, theory_lemmas};
-ghost use Rattle.ct_kept.specs.Kept.{IsOver, Takes, most_lemmas};
-ghost use Rattle.ct_kept.specs.Taken.{AreKnownLemmas, PushesLemmas};
+ghost use Rattle.ct_kept.specs.Kept.{IsOver, Takes, TakesAll, most_lemmas};
+ghost use Rattle.ct_kept.specs.Taken.{AreKnownLemmas, PushesLemmas, IsWithoutRoom, TakesFirst};
 
 use crate::error::KeptError;
 use crate::lemma::Lemma;
@@ -23,7 +23,7 @@ use std::alloc::{AllocError, Global};
 const MOST_LEMMAS: usize = 4_096;
 
 /// Takes the clauses that the theory gave after so many first lines of the derivation, in order, up to the first for which there
-/// are 4,096 or the table is full. Also where memory runs out, what was there stays in front.
+/// are 4,096 or the table has no room. Also where memory runs out, what was there stays in front.
 pub(crate) fn take_after(
     alloc: Global,
     sig: &Signature,
@@ -86,10 +86,81 @@ fn take_lines(
 {
     let count = fitting(lines, MOST_LEMMAS - lemmas.len());
     let lines = beginning(lines, count);
+    take_first(alloc, sig, terms, lines, table, lemmas)
+}
+
+// Takes the clauses of those of the lines that the theory gave, up to the first for which the table has no room. All lines are
+// tried at once; after each try half as many, so the copies are few.
+fn take_first(
+    alloc: Global,
+    sig: &Signature,
+    terms: &TermTable,
+    lines: &[Line],
+    table: &mut TermTable,
+    lemmas: &mut Vec<Lemma>,
+) -> Result<(), KeptError>
+    requires sorted { AreSorted sig.now table.old }
+    requires terms { AreSorted sig.now terms.now }
+    requires accepted { All (IsAcceptedLemma sig.now terms.now) (theory_lemmas lines.now) }
+    ensures grown { Begins table.old table.new }
+    ensures begins { Begins lemmas.old.items lemmas.new.items }
+    ensures sorted { AreSorted sig.now table.new }
+    ensures taken { OnOk result (TakesFirst (record { table = table.old; lemmas = lemmas.old.items }) terms.now lines.now (record { table = table.new; lemmas = lemmas.new.items })) }
+    ensures over { All (IsOver table.old) lemmas.old.items → OnOk result (All (IsOver table.new) lemmas.new.items) }
+{
+    let mut rest = lines;
+    let mut size = lines.len();
+    while !rest.is_empty() {
+        let count = size.min(rest.len());
+        if take_all(alloc, sig, terms, beginning(rest, count), table, lemmas)? {
+            rest = after(rest, count);
+        } else if count == 1 {
+            return Ok(());
+        }
+        size = half(size);
+    }
+    Ok(())
+}
+
+// Half of the number, rounded up.
+fn half(size: usize) -> usize
+    ensures less { 2 ≤ size → result < size }
+    ensures most { result ≤ size }
+    ensures some { 1 ≤ size → 1 ≤ result }
+{
+    size - size / 2
+}
+
+// Takes the clauses of all those of the lines that the theory gave, where the table has room for their terms; else nothing has
+// changed. Answers whether.
+fn take_all(
+    alloc: Global,
+    sig: &Signature,
+    terms: &TermTable,
+    lines: &[Line],
+    table: &mut TermTable,
+    lemmas: &mut Vec<Lemma>,
+) -> Result<bool, KeptError>
+    requires sorted { AreSorted sig.now table.old }
+    requires terms { AreSorted sig.now terms.now }
+    requires accepted { All (IsAcceptedLemma sig.now terms.now) (theory_lemmas lines.now) }
+    ensures grown { Begins table.old table.new }
+    ensures begins { Begins lemmas.old.items lemmas.new.items }
+    ensures sorted { AreSorted sig.now table.new }
+    ensures taken { IfOk result (λ all. MatchBool all
+        (TakesAll (record { table = table.old; lemmas = lemmas.old.items }) terms.now (theory_lemmas lines.now) (record { table = table.new; lemmas = lemmas.new.items }))
+        (IsWithoutRoom (record { table = table.old; lemmas = lemmas.old.items }) terms.now (theory_lemmas lines.now) (record { table = table.new; lemmas = lemmas.new.items }))) }
+    ensures over { All (IsOver table.old) lemmas.old.items → OnOk result (All (IsOver table.new) lemmas.new.items) }
+{
+    let before = table.len();
     let roots = roots_of(alloc, lines)?;
     let numbers = Renumbering::copying(alloc, sig, terms, &roots, table)?;
+    if !numbers.knows(&roots) {
+        table.cut_to(before);
+        return Ok(false);
+    }
     push_lemmas(alloc, lines, &numbers, lemmas)?;
-    Ok(())
+    Ok(true)
 }
 
 // How many of the lines have at most so many clauses of the theory among them.

@@ -1,21 +1,18 @@
 -- Terms that another table has: what a number more says, and that a term is there exactly where it stands over the numbers of the
 -- terms right under it.
-use Rattle.std.proofs.Common.{◌≡◌, ◌↔◌, ℕ, ◌+◌, ◌<◌, ◌⊎◌, Bool, true, false, List, [], ◌∷◌, ◌++◌, length, map, drop, Option, None, Some, slice_get, IfSome, IfNone, true≢false, refl, sym, ap, subst, ◌∙◌, inl, inr, arith, length-append}
+use Rattle.std.proofs.Common.{◌≡◌, ◌↔◌, ℕ, ◌+◌, ◌<◌, ◌⊎◌, true, false, List, [], ◌∷◌, ◌++◌, length, map, drop, Option, None, Some, slice_get, IfSome, IfNone, true≢false, refl, sym, ap, subst, ◌∙◌, inl, inr, arith, length-append}
 use Rattle.std.specs.List.{AllByRecursion}
 use Rattle.std.proofs.lemmas.Option.{none-some, same_Some, slice_get_within, get_or_from_slice_get}
-use Rattle.ct_sorts.specs.declared.ids.SortId.{SortId}
 use Rattle.ct_terms.specs.declared.ids.TermId.{TermId}
 use Rattle.ct_terms.specs.declared.term.Core.{Core}
 use Rattle.ct_terms.specs.Children.{core_children, HasArgumentsBelow}
 use Rattle.ct_terms.specs.Terms.{Terms, Has, AreOrdered, AreSingle, IsAbsent}
 use Rattle.ct_terms.specs.CoreTree.{CoreTree, tree_children, tree_layer, term_at}
-use Rattle.ct_terms.proofs.CoreTreeLemmas.{term_at-unfolds, term_at-one, term_at-stands, children_of_layer, entry_at}
+use Rattle.ct_terms.proofs.CoreTreeLemmas.{term_at-unfolds, term_at-stands, children_of_layer, entry_at}
 use Rattle.ct_terms.proofs.SortLemmas.{HasArgumentsBelow-more}
 use Rattle.ct_lemmas.proofs.Lists.{slice_get-append_left, slice_get-push_cases, slice_get-last}
 use Rattle.ct_lemmas.proofs.Numbers.{last_or_before}
-use Rattle.ct_lemmas.proofs.Each.{AllByRecursion-weaker}
 use Rattle.ct_restriction.specs.Renamed.{renamed, number_in}
-use Rattle.ct_restriction.specs.Restricted.{IsMarked}
 use Rattle.ct_restriction.specs.Renumbered.{IsEqualTerm, Numbers, IsNumber, IsKnown, no_numbers, with_number, AreFound}
 use Rattle.ct_restriction.proofs.RenamedLemmas.{layer_renamed, renamed_below}
 
@@ -83,6 +80,29 @@ each_there from to (e ∷ es) (c ∷ cs) same within there = (
     rest_of : (x y : CoreTree) (xs ys : List CoreTree) → (x ∷ xs) ≡ (y ∷ ys) → xs ≡ ys
     rest_of x y xs ys e = ap (λ (l : List CoreTree). drop 1 l) e
 
+-- a term and an equal one
+module _ (from to : Terms) (ordered_from : AreOrdered from) (ordered : AreOrdered to) (t : TermId) (core : Core) (has : Has from core t.0) where
+  -- what is right under the one has an equal term right under the other
+  pub children_equal : (u : TermId) → IsEqualTerm from to t u → AllByRecursion (λ c. (e : TermId) × IsEqualTerm from to c e) (core_children core)
+  children_equal u equal =
+      let entry = entry_at to u equal.within in
+      let e : Core = entry.0.0 in
+      let unfolded : term_at from t ≡ tree_layer (term_at from) core = term_at-unfolds from t core has.0 ordered_from has.1 in
+      let layers : tree_layer (term_at to) e ≡ tree_layer (term_at from) core = sym (term_at-unfolds to u e entry.0.1 ordered entry.1) ∙ equal.tree ∙ unfolded in
+      let trees : map (term_at to) (core_children e) ≡ map (term_at from) (core_children core) = sym (children_of_layer (term_at to) e) ∙ ap tree_children layers ∙ children_of_layer (term_at from) core in
+      let within = HasArgumentsBelow-more u.0 (length to) e (let w = equal.within in omega (arith, w)) (ordered u.0 e (entry.0.1, entry.1)) in
+      let there : t.0 < length from = slice_get_within from t.0 (core, has.0) has.1 in
+      let all_there = HasArgumentsBelow-more t.0 (length from) core (omega (arith, there)) (ordered_from t.0 core has) in
+      each_there from to (core_children e) (core_children core) trees within all_there
+
+  -- over the numbers of equal terms the one stands where the other does
+  pub equal_has : AreSingle to → (f : TermId → TermId) → AllByRecursion (λ c. IsEqualTerm from to c (f c)) (core_children core) → (u : TermId) → IsEqualTerm from to t u → Has to (renamed f core) u.0
+  equal_has single f lows u equal =
+      term_at-stands to u (renamed f core) ordered single equal.within
+      (renamed_below (λ c. IsEqualTerm from to c (f c)) f (length to) (λ c h. h.within) core lows)
+      (equal.tree
+      ∙ sym (layer_renamed (λ c. IsEqualTerm from to c (f c)) f (term_at to) (term_at from) (λ c h. h.tree) core lows ∙ sym (term_at-unfolds from t core has.0 ordered_from has.1)))
+
 module _ (from to : Terms) (ordered_from : AreOrdered from) (ordered : AreOrdered to) (single : AreSingle to) (t : TermId) (core : Core) (has : Has from core t.0) (n : Numbers) (found : AreFound from to n) (next : length n.numbers ≡ t.0) where
   below : HasArgumentsBelow t.0 core
   below = ordered_from t.0 core has
@@ -96,13 +116,7 @@ module _ (from to : Terms) (ordered_from : AreOrdered from) (ordered : AreOrdere
   -- where the term is there, the terms right under it are known
   pub under_known : (u : TermId) → IsEqualTerm from to t u → AllByRecursion (IsKnown n) (core_children core)
   under_known u equal =
-      let entry = entry_at to u equal.within in
-      let e : Core = entry.0.0 in
-      let layers : tree_layer (term_at to) e ≡ tree_layer (term_at from) core = sym (term_at-unfolds to u e entry.0.1 ordered entry.1) ∙ equal.tree ∙ unfolded in
-      let trees : map (term_at to) (core_children e) ≡ map (term_at from) (core_children core) = sym (children_of_layer (term_at to) e) ∙ ap tree_children layers ∙ children_of_layer (term_at from) core in
-      let within = HasArgumentsBelow-more u.0 (length to) e (let w = equal.within in omega (arith, w)) (ordered u.0 e (entry.0.1, entry.1)) in
-      let all_there = HasArgumentsBelow-more t.0 (length from) core (omega (arith, there)) below in
-      known_each (core_children core) (each_there from to (core_children e) (core_children core) trees within all_there) below
+      known_each (core_children core) (children_equal from to ordered_from ordered t core has u equal) below
     where
       known_each : (cs : List TermId) → AllByRecursion (λ c. (e : TermId) × IsEqualTerm from to c e) cs → AllByRecursion (λ c. c.0 < t.0) cs → AllByRecursion (IsKnown n) cs
       known_each [] all low = tt
@@ -125,12 +139,9 @@ module _ (from to : Terms) (ordered_from : AreOrdered from) (ordered : AreOrdere
     layer : tree_layer (term_at to) (renamed (number_in n.numbers) core) ≡ term_at from t
     layer = layer_renamed IsLow (number_in n.numbers) (term_at to) (term_at from) (λ c h. h.tree) core equal_all ∙ sym unfolded
 
-    inside : HasArgumentsBelow (length to) (renamed (number_in n.numbers) core)
-    inside = renamed_below IsLow (number_in n.numbers) (length to) (λ c h. h.within) core equal_all
-
     -- over their numbers it stands there, where an equal term is there
     pub equal_stands : (u : TermId) → IsEqualTerm from to t u → Has to (renamed (number_in n.numbers) core) u.0
-    equal_stands u equal = term_at-stands to u (renamed (number_in n.numbers) core) ordered single equal.within inside (equal.tree ∙ sym layer)
+    equal_stands u equal = equal_has from to ordered_from ordered t core has single (number_in n.numbers) equal_all u equal
 
     -- and where it stands there, it is equal
     pub stands_equal : (u : TermId) → Has to (renamed (number_in n.numbers) core) u.0 → IsEqualTerm from to t u

@@ -1,16 +1,24 @@
 -- Numbers in one table of the terms of another: which terms are equal, and what is known of them.
-use Rattle.std.specs.Prelude.{◌≡◌, ℕ, ◌+◌, ◌<◌, ◌≤◌, ◌↔◌, ◌⊎◌, Bool, true, false, List, [], ◌∷◌, ◌++◌, length, Option, None, Some, slice_get}
-use Rattle.ct_sorts.specs.Grown.{Begins}
+use Rattle.std.specs.Prelude.{◌≡◌, ◌+◌, ◌<◌, ◌≤◌, ◌↔◌, ◌⊎◌, Bool, true, false, List, [], ◌∷◌, ◌++◌, length, Option, None, Some, slice_get, Contains}
 use Rattle.ct_terms.specs.declared.ids.TermId.{TermId}
 use Rattle.ct_terms.specs.Terms.{Terms, most_terms}
-use Rattle.ct_terms.specs.CoreTree.{term_at}
-use Rattle.ct_restriction.specs.Restricted.{IsMarked, StandsFor}
+use Rattle.ct_terms.specs.CoreTree.{CoreTree, term_at}
+use Rattle.ct_closure.specs.Closed.{AreDifferent}
+use Rattle.ct_closure.specs.ClosedTable.{HasTree, terms_at}
+use Rattle.ct_restriction.specs.Restricted.{IsMarked, IsSubtermOfOne, StandsFor}
 
 -- the term of the second table is equal to that of the first: they have one tree
 pub record IsEqualTerm (from to : Terms) (t u : TermId) : Type 0 where
   pub there : t.0 < length from
   pub within : u.0 < length to
   pub tree : term_at to u ≡ term_at from t
+
+-- The table has no room for these terms of another: more than 400,000 different terms stand in it or are subterms of these.
+pub record HasNoRoom (table from : Terms) (roots : List TermId) : Type 0 where
+  pub trees : List CoreTree
+  pub different : AreDifferent trees
+  pub each : (t : CoreTree) → Contains trees t → HasTree table t ⊎ IsSubtermOfOne (terms_at from roots) t
+  pub more : most_terms < length trees
 
 -- which terms have a number that is known, and the number beside each
 pub record Numbers : Type 0 where
@@ -47,14 +55,16 @@ IsOldOrCopy base from marks to u = (u.0 < length base) ⊎ ((s : TermId) × IsMa
 abbrev pub AreMarkedKnown : List Bool → Numbers → Type 0
 AreMarkedKnown marks n = (t : TermId) → IsMarked marks t → t.0 < length n.numbers → IsKnown n t
 
--- the table is full, with so many terms before and so many looked at
-abbrev pub IsFilled : Terms → Terms → Numbers → Type 0
-IsFilled base to n = (most_terms ≤ length to) × (most_terms + 2 < length base + length n.numbers)
+-- the table is full, with so many terms before and so many looked at, and of the marked ones among these it has those that are known
+pub record IsFilled (base from : Terms) (marks : List Bool) (to : Terms) (n : Numbers) : Type 0 where
+  pub full : most_terms ≤ length to
+  pub many : most_terms + 2 < length base + length n.numbers
+  pub known : (t u : TermId) → IsMarked marks t → t.0 < length n.numbers → IsEqualTerm from to t u → IsKnown n t
 
 -- the marked ones of the first terms stand in the table, at the numbers that are known, until it is full
 pub record AreMade (base from : Terms) (marks : List Bool) (to : Terms) (n : Numbers) : Type 0 where
   pub long : length n.known ≡ length n.numbers
   pub each : (t u : TermId) → IsNumber n t u → StandsFor from to t u
-  pub all : AreMarkedKnown marks n ⊎ IsFilled base to n
+  pub all : AreMarkedKnown marks n ⊎ IsFilled base from marks to n
   pub only : (u : TermId) → u.0 < length to → IsOldOrCopy base from marks to u
   pub few : length to + 2 ≤ length base + length n.numbers

@@ -11,7 +11,7 @@ ghost use Rattle.ct_terms.specs.CoreTree.{term_at};
 ghost use Rattle.ct_closure.specs.ClosedTable.{terms_at};
 ghost use Rattle.ct_restriction.specs.Renamed.{number_in};
 ghost use Rattle.ct_restriction.specs.Restricted.{IsSubtermOfOne, MarksUnder};
-ghost use Rattle.ct_restriction.specs.Renumbered.{IsEqualTerm, IsNumber, IsKnown, AreFound, AreMade, no_numbers, with_number};
+ghost use Rattle.ct_restriction.specs.Renumbered.{IsEqualTerm, IsNumber, IsKnown, HasNoRoom, AreFound, AreMade, no_numbers, with_number};
 
 use crate::marking::marked;
 use crate::renaming::renamed;
@@ -71,8 +71,8 @@ impl Renumbering {
         ensures sorted { AreSorted sig.now to.new }
         ensures equal { IfOk result (λ n. (t u : TermId) → IsNumber n t u → IsEqualTerm from.now to.new t u) }
 
-        // All roots are known, or the table is full; it is not where there is room for both tables.
-        ensures all { IfOk result (λ n. All (IsKnown n) roots.now ⊎ (most_terms ≤ length to.new)) }
+        // All roots are known, or the table had no room for them; it had where there is room for both tables.
+        ensures all { IfOk result (λ n. All (IsKnown n) roots.now ⊎ HasNoRoom to.old from.now roots.now) }
         ensures room { length to.old + length from.now ≤ most_terms + 2 → IfOk result (λ n. All (IsKnown n) roots.now) }
 
         // Nothing else is put there.
@@ -88,6 +88,7 @@ impl Renumbering {
             let number = made_next(alloc, sig, from, TermId(t), &marks, &made, to)?;
             made.push(number)?;
         }
+        let _copied = to.len();
         Ok(made)
     }
 

@@ -1,41 +1,29 @@
-use Rattle.std.proofs.Common.{◌∙◌, ◌-◌, ◌<◌, ◌≤◌, List, length, take, All, sym, ap, subst, arith, length-append}
-use Rattle.std.specs.List.{flat_map}
-use Rattle.ct_terms.specs.declared.ids.TermId.{TermId}
-use Rattle.ct_terms.specs.Terms.{most_terms}
+use Rattle.std.proofs.Common.{◌-◌, List, All, Result, Ok, Err, OnOk, subst, sym, arith, ap}
 use Rattle.ct_log.specs.declared.line.Line.{Line}
-use Rattle.ct_kept.specs.Lemmas.{lemma_terms, theory_lemmas}
+use Rattle.ct_kept.specs.Lemmas.{IsAcceptedLemma, theory_lemmas}
+use Rattle.ct_kept.specs.declared.error.KeptError.{KeptError}
 use Rattle.ct_kept.specs.Kept.{most_lemmas}
-use Rattle.ct_kept.specs.Taken.{PushesLemmas}
-use Rattle.ct_kept.proofs.TakenLemmas.{roots_within, known_by_roots, takes, taken_few, taken_over}
+use Rattle.ct_kept.specs.Taken.{TakesFirst}
+use Rattle.ct_kept.proofs.TakenLemmas.{first_accepted, takes, taken_few}
 use Rattle.ct_kept.proofs.taking.take_lines.Goals as goal
 
-pub copying-requires-clause-within : goal.copying-requires-clause-within
-copying-requires-clause-within c =
-    subst (All (λ (t : TermId). t.0 < length c.args.terms.now)) (sym c.deref.ensures.value)
-    (roots_within c.args.sig.now c.args.terms.now c.fitting-count.result c.args.lines.now c.in_ok-roots.roots.items c.requires.accepted
-    (c.in_ok-roots.ensures.roots ∙ ap (λ (ls : List Line). flat_map lemma_terms (theory_lemmas ls)) c.beginning-lines.ensures.value))
+-- what follows from what holds on success
+on_ok : {P Q : Type 0} (r : Result Unit KeptError) → (P → Q) → OnOk r P → OnOk r Q
+on_ok (Ok u) f h = f h
+on_ok (Err e) f h = h
 
+pub take_first-requires-clause-accepted : goal.take_first-requires-clause-accepted
+take_first-requires-clause-accepted c =
+    subst (λ (ls : List Line). All (IsAcceptedLemma c.args.sig.now c.args.terms.now) (theory_lemmas ls)) (sym c.beginning-lines.ensures.value)
+    (first_accepted c.args.sig.now c.args.terms.now c.fitting-count.result c.args.lines.now c.requires.accepted)
+
+-- what was taken, where it was
 pub returns-clause-taken : goal.returns-clause-taken
-returns-clause-taken c =
-    takes c.args.terms.now c.args.lines.now c.fitting-count.result c.args.table.now c.copying.new.to c.args.lemmas.now.items c.push_lemmas.new.lemmas.items c.in_ok-numbers.numbers (most_lemmas - c.len.result)
-    (omega (arith, c.len.ensures, c.requires.few)) c.fitting-count.ensures.within c.fitting-count.ensures.few c.fitting-count.ensures.all c.in_ok-numbers.ensures.grown c.in_ok-numbers.ensures.equal
-    (known_by_roots c.in_ok-numbers.numbers (theory_lemmas (take c.fitting-count.result c.args.lines.now)) c.deref.result.now (most_terms ≤ length c.copying.new.to)
-    (c.deref.ensures.value ∙ (c.in_ok-roots.ensures.roots ∙ ap (λ (ls : List Line). flat_map lemma_terms (theory_lemmas ls)) c.beginning-lines.ensures.value)) c.in_ok-numbers.ensures.all)
-    (subst (λ (ls : List Line). PushesLemmas c.in_ok-numbers.numbers ls c.args.lemmas.now.items c.push_lemmas.new.lemmas.items) c.beginning-lines.ensures.value c.in_ok-push_lemmas.ensures.pushes)
+returns-clause-taken c = on_ok c.take_first.result (λ first. takes c.args.terms.now c.args.lines.now c.fitting-count.result (record { table = c.args.table.now; lemmas = c.args.lemmas.now.items }) (record { table = c.take_first.new.table; lemmas = c.take_first.new.lemmas.items }) (most_lemmas - c.len.result)
+    (omega (arith, c.len.ensures, c.requires.few)) c.fitting-count.ensures.within c.fitting-count.ensures.few c.fitting-count.ensures.all
+    (subst (λ (ls : List Line). TakesFirst (record { table = c.args.table.now; lemmas = c.args.lemmas.now.items }) c.args.terms.now ls (record { table = c.take_first.new.table; lemmas = c.take_first.new.lemmas.items })) c.beginning-lines.ensures.value first)) c.take_first.ensures.taken
 
 pub returns-clause-few : goal.returns-clause-few
-returns-clause-few c =
-    taken_few c.args.terms.now c.args.lines.now c.fitting-count.result c.args.table.now c.copying.new.to c.args.lemmas.now.items c.push_lemmas.new.lemmas.items c.in_ok-numbers.numbers (most_lemmas - c.len.result)
-    (omega (arith, c.len.ensures, c.requires.few)) c.fitting-count.ensures.within c.fitting-count.ensures.few c.fitting-count.ensures.all c.in_ok-numbers.ensures.grown c.in_ok-numbers.ensures.equal
-    (known_by_roots c.in_ok-numbers.numbers (theory_lemmas (take c.fitting-count.result c.args.lines.now)) c.deref.result.now (most_terms ≤ length c.copying.new.to)
-    (c.deref.ensures.value ∙ (c.in_ok-roots.ensures.roots ∙ ap (λ (ls : List Line). flat_map lemma_terms (theory_lemmas ls)) c.beginning-lines.ensures.value)) c.in_ok-numbers.ensures.all)
-    (subst (λ (ls : List Line). PushesLemmas c.in_ok-numbers.numbers ls c.args.lemmas.now.items c.push_lemmas.new.lemmas.items) c.beginning-lines.ensures.value c.in_ok-push_lemmas.ensures.pushes)
-
-pub returns-clause-over : goal.returns-clause-over
-returns-clause-over c = λ over.
-    taken_over c.args.terms.now c.args.lines.now c.fitting-count.result c.args.table.now c.copying.new.to c.args.lemmas.now.items c.push_lemmas.new.lemmas.items c.in_ok-numbers.numbers (most_lemmas - c.len.result)
-    (omega (arith, c.len.ensures, c.requires.few)) c.fitting-count.ensures.within c.fitting-count.ensures.few c.fitting-count.ensures.all c.in_ok-numbers.ensures.grown c.in_ok-numbers.ensures.equal
-    (known_by_roots c.in_ok-numbers.numbers (theory_lemmas (take c.fitting-count.result c.args.lines.now)) c.deref.result.now (most_terms ≤ length c.copying.new.to)
-    (c.deref.ensures.value ∙ (c.in_ok-roots.ensures.roots ∙ ap (λ (ls : List Line). flat_map lemma_terms (theory_lemmas ls)) c.beginning-lines.ensures.value)) c.in_ok-numbers.ensures.all)
-    (subst (λ (ls : List Line). PushesLemmas c.in_ok-numbers.numbers ls c.args.lemmas.now.items c.push_lemmas.new.lemmas.items) c.beginning-lines.ensures.value c.in_ok-push_lemmas.ensures.pushes)
-    (let grown = c.in_ok-numbers.ensures.grown in omega (arith, ap length grown.1, length-append c.args.table.now grown.0)) over
+returns-clause-few c = on_ok c.take_first.result (λ first. taken_few c.args.terms.now c.args.lines.now c.fitting-count.result (record { table = c.args.table.now; lemmas = c.args.lemmas.now.items }) (record { table = c.take_first.new.table; lemmas = c.take_first.new.lemmas.items }) (most_lemmas - c.len.result)
+    (omega (arith, c.len.ensures, c.requires.few)) c.fitting-count.ensures.within c.fitting-count.ensures.few c.fitting-count.ensures.all
+    (subst (λ (ls : List Line). TakesFirst (record { table = c.args.table.now; lemmas = c.args.lemmas.now.items }) c.args.terms.now ls (record { table = c.take_first.new.table; lemmas = c.take_first.new.lemmas.items })) c.beginning-lines.ensures.value first)) c.take_first.ensures.taken

@@ -1,7 +1,6 @@
-use Rattle.std.proofs.Common.{◌≡◌, ◌+◌, ◌∙◌, length, sym, ap, subst, arith}
+use Rattle.std.proofs.Common.{◌+◌, ◌∙◌, length, sym, ap, subst, arith}
 use Rattle.std.proofs.lemmas.Option.{slice_get_within}
-use Rattle.ct_terms.specs.declared.ids.TermId.{TermId}
-use Rattle.ct_restriction.specs.Renumbered.{Numbers, AreFound, with_number}
+use Rattle.ct_restriction.specs.Renumbered.{Numbers, AreFound}
 use Rattle.ct_restriction.proofs.FoundLemmas.{found_more, with_number_length}
 use Rattle.ct_restriction.proofs.renumbering.Renumbering.between.Goals as goal
 

@@ -1,4 +1,4 @@
-use Rattle.std.proofs.Common.{◌≡◌, ◌<◌, ◌≤◌, ◌∙◌, [], length, sym, ap, subst, arith, length-take}
+use Rattle.std.proofs.Common.{◌≡◌, ◌<◌, ◌≤◌, [], length, sym, ap, subst, arith, length-take}
 use Rattle.std.specs.List.{AllByRecursion}
 use Rattle.std.proofs.lemmas.List.{append-nil}
 use Rattle.std.proofs.lemmas.List.Elements.{recursion_from_All}
@@ -35,7 +35,7 @@ returns-clause-equal c =
 pub returns-clause-all : goal.returns-clause-all
 returns-clause-all c =
     made_all c.args.to.now c.args.from.now c.in_ok-marks.marks.items c.args.roots.now c.loop-t.to c.loop-t.made c.loop-t.invariant.made c.in_ok-marks.ensures.marked (long_is (goal.at.returns-clause-all c).After-loop-t)
-    (within (goal.at.returns-clause-all c).After-loop-t)
+    (within (goal.at.returns-clause-all c).After-loop-t) c.loop-t.invariant.grown c.len-copied.ensures.ordered c.len-copied.ensures.single
 
 pub returns-clause-room : goal.returns-clause-room
 returns-clause-room c = λ room.

@@ -1,4 +1,4 @@
-use Rattle.std.proofs.Common.{◌∙◌, take, All, refl, subst, sym, true≢false}
+use Rattle.std.proofs.Common.{◌∙◌, All, refl, subst, sym, true≢false}
 use Rattle.std.proofs.lemmas.List.{take_all}
 use Rattle.std.proofs.lemmas.List.Elements.{All-more, All-from_recursion, recursion_from_All}
 use Rattle.ct_restriction.specs.Renumbered.{IsKnown}

@@ -1,4 +1,4 @@
-use Rattle.std.proofs.Common.{◌≡◌, ◌∙◌, ◌<◌, true, Some, length, IsTrue, get_or, ap, sym, subst, arith}
+use Rattle.std.proofs.Common.{◌∙◌, ◌<◌, true, Some, length, IsTrue, get_or, ap, sym, subst, arith}
 use Rattle.std.proofs.lemmas.Option.{slice_get-get_or, get_or_from_slice_get}
 use Rattle.ct_restriction.specs.Renumbered.{Numbers, IsKnown}
 use Rattle.ct_restriction.proofs.renumbering.Renumbering.knows_one.Goals as goal
