@@ -1,6 +1,7 @@
 //! The error of cutting a derivation down.
 
 use ct_log::LogError;
+use ct_terms::TermError;
 use std::alloc::{AllocError, AllocFailed};
 
 /// Memory ran out.
@@ -21,6 +22,12 @@ impl<T: Drop> From<AllocFailed<T>> for CoreError {
 
 impl From<LogError> for CoreError {
     fn from(_error: LogError) -> CoreError {
+        CoreError
+    }
+}
+
+impl From<TermError> for CoreError {
+    fn from(_error: TermError) -> CoreError {
         CoreError
     }
 }

@@ -86,8 +86,8 @@ fn mark(marks: &mut Vec<bool>, numbers: &[u64])
     }
 }
 
-// Marks this number.
-fn mark_one(marks: &mut Vec<bool>, number: u64)
+/// Marks this number.
+pub(crate) fn mark_one(marks: &mut Vec<bool>, number: u64)
     requires within { number < length marks.old.items }
     ensures long { length marks.new.items ≡ length marks.old.items }
     ensures stays { (n : ℕ) → IsMarked marks.old.items n → IsMarked marks.new.items n }

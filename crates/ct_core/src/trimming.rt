@@ -61,8 +61,8 @@ fn put_back(
     Ok(())
 }
 
-// Adds the line with this number, where it is marked.
-fn put_next(
+/// Adds the line with this number, where it is marked.
+pub(crate) fn put_next(
     alloc: Global,
     line: Line,
     number: usize,

@@ -14,6 +14,7 @@ use crate::lines::lines_of;
 use crate::table::{asserts_of, table_of};
 use crate::text::{audit, show_read, show_written};
 use crate::trim::show_trimmed;
+use crate::unsat::show_core;
 use ct_card::{CardError, Sizes};
 use ct_cases::{CaseError, items_of};
 use ct_checker::{Checker, Reject};
@@ -39,6 +40,7 @@ pub fn answer(
         ("trim", [kept, terms, asserts, lines]) => {
             show_trimmed(alloc, sig, kept, terms, asserts, lines, out)
         }
+        ("core", [terms, asserts, lines]) => show_core(alloc, sig, terms, asserts, lines, out),
         ("keep", [terms, asserts, lines, others]) => {
             show_kept(alloc, sig, terms, asserts, lines, others, out)
         }

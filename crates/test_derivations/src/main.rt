@@ -14,6 +14,7 @@ mod numbers;
 mod table;
 mod text;
 mod trim;
+mod unsat;
 
 use ct_cases::{CaseError, declare_all, items_of, read_case, split_named};
 use ct_sorts::{SigError, Signature};

@@ -41,7 +41,7 @@ fn cut(alloc: Global, derivation: &mut Derivation, kept: u64) -> Result<(), Case
 }
 
 /// The text of the derivation.
-fn text_of(alloc: Global, sig: &Signature, derivation: &Derivation) -> Result<Vec<u8>, LogError>
+pub fn text_of(alloc: Global, sig: &Signature, derivation: &Derivation) -> Result<Vec<u8>, LogError>
     requires declarations { derivation.now.declarations ≡ sig.now }
 {
     derivation_text(alloc, sig, 1, derivation.rec())

@@ -1,3 +1,4 @@
 pub mod AssertedLemmas
 pub mod ScopeLemmas
 pub mod VerdictLemmas
+pub mod ShrinkLemmas

@@ -10,6 +10,7 @@ mod elaborate;
 mod keep;
 mod model;
 mod show;
+mod shrink;
 mod solve;
 mod table;
 mod tally;
@@ -89,6 +90,12 @@ fn answer_kind(
         }
         ("keep", [budget, lists @ ..]) => {
             keep::show_checks(alloc, scope, number_of(budget)?, lists, out)
+        }
+        ("shrink", [limit, exprs @ ..]) => {
+            shrink::show_shrunk(alloc, scope, number_of(limit)?, exprs, out)
+        }
+        ("shrink-all", [limit, exprs @ ..]) => {
+            shrink::show_all_shrunk(alloc, scope, number_of(limit)?, exprs, out)
         }
         _ => Err(CaseError::Bad),
     }

@@ -28,7 +28,7 @@ pub fn show_passed(
 }
 
 /// The sizes of all sorts.
-fn sizes_of(alloc: Global, sig: &Signature) -> Result<Box<Sizes>, CaseError>
+pub fn sizes_of(alloc: Global, sig: &Signature) -> Result<Box<Sizes>, CaseError>
     ensures sizes { IfOk result (λ sizes. AreSizes sig.now sizes.value) }
 {
     match Sizes::new(alloc, sig) {

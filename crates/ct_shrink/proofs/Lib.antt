@@ -1,0 +1,3 @@
+pub mod PlaceLemmas
+pub mod VerdictLemmas
+pub mod DraftLemmas

@@ -1,0 +1,13 @@
+//! The theorems of lower crates that the contracts of this one rest on.
+ghost use Rattle.ct_engine.specs.Theorems.{ModelTheorems};
+
+use ct_checker::accepted_lines;
+use ct_eval::values_of_trees;
+
+/// The theorems on derivations of the empty clause, and on values of terms as trees.
+pub(crate) fn models()
+    ensures models { ModelTheorems }
+{
+    accepted_lines();
+    values_of_trees();
+}
