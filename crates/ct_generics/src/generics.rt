@@ -2,6 +2,7 @@
 ghost use Rattle.std.specs.Prelude.{◌≡◌, ◌↔◌, ◌<◌, ℕ, [], length, Some, option_map, slice_get, IfSome, IfNone, IsTrue};
 ghost use Rattle.ct_generics.specs.declared.heads.StoredHead.{StoredHead};
 ghost use Rattle.ct_generics.specs.Declarations.{Declared, Head};
+ghost use Rattle.ct_generics.specs.Resolved.{meaning, params_of};
 ghost use Rattle.ct_generics.specs.Names.{IsListed};
 ghost use Rattle.ct_generics.specs.Synonyms.{first_of};
 ghost use Rattle.ct_generics.specs.Stored.{AreDeclared};
@@ -13,6 +14,7 @@ use crate::kind::Kind;
 use crate::name::Name;
 use crate::names::Names;
 use crate::nodes::{ExprId, Expressions, HeadId};
+use crate::place::find;
 use crate::vertices::stored_head;
 use std::alloc::Global;
 
@@ -117,6 +119,16 @@ impl Generics {
     {
         match self.head_names.find(name) {
             Some(h) => Some(HeadId(h as u64)),
+            None => None,
+        }
+    }
+
+    /// How many parameters the sort, generic or synonym of this name has, if there is one.
+    pub fn params_named(&self, name: &[u8]) -> Option<u64>
+        ensures value { (d : Declared) → AreDeclared self.now d → result ≡ option_map params_of (meaning d name.now) }
+    {
+        match find(self, name) {
+            Some(place) => Some(place.params()),
             None => None,
         }
     }

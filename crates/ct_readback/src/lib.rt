@@ -1,0 +1,20 @@
+//! Models read back: the interpretation that the answer of `get-model` writes, as an expression, or its first error.
+#![tactic(auto)]
+
+mod defaults;
+mod error;
+mod graph_text;
+mod heads;
+mod item;
+mod item_text;
+mod model;
+mod parts;
+mod placing;
+mod rows;
+mod sort_text;
+mod trees;
+mod value;
+mod words;
+
+pub use error::BackError;
+pub use model::read_model;
