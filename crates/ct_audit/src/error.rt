@@ -3,6 +3,8 @@ ghost use Rattle.std.specs.Prelude.{⊤};
 
 use ct_card::CardError;
 use ct_checker::CheckerError;
+use ct_eval::EvalError;
+use ct_replay::ReplayError;
 use ct_script::SessionError;
 use std::alloc::{AllocError, AllocFailed};
 
@@ -46,6 +48,22 @@ impl From<CardError> for AuditError {
     ghost from_gives = { λ _ e. ⊤ };
 
     fn from(_error: CardError) -> AuditError {
+        AuditError
+    }
+}
+
+impl From<ReplayError> for AuditError {
+    ghost from_gives = { λ _ e. ⊤ };
+
+    fn from(_error: ReplayError) -> AuditError {
+        AuditError
+    }
+}
+
+impl From<EvalError> for AuditError {
+    ghost from_gives = { λ _ e. ⊤ };
+
+    fn from(_error: EvalError) -> AuditError {
         AuditError
     }
 }
