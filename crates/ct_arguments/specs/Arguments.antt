@@ -10,7 +10,8 @@ use Rattle.clap.specs.declared.error.kind.ErrorKind.TheVariants.{DisplayHelp}
 use Rattle.ct_arguments.specs.Command.{cosmt}
 
 -- a task: to answer the script of this name, to check the derivation of the first name against the script of the second, to
--- evaluate the model of the first name at the check with this number of the script of the second, to answer the generated script of so many blocks, to tell how the program is called; or the arguments have none of the forms
+-- evaluate the model of the first name at the check with this number of the script of the second, to answer the generated script of
+-- so many blocks, to tell how the program is called; or the arguments have none of the forms
 pub data Asked : Type 0 where
   solves : List ℕ → Asked
   audits : List ℕ → List ℕ → Asked

@@ -1,4 +1,4 @@
 mod GrowLemmas
-mod JudgeLemmas
+pub mod JudgeLemmas
 mod TextLemmas
 mod TheoremLemmas

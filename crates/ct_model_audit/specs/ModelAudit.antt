@@ -54,9 +54,12 @@ abbrev pub JudgesText : Option Expression → ℕ → List Located → AuditAnsw
 JudgesText None number script answer = answer ≡ Wrong 0 departs
 JudgesText (Some e) number script answer = (found : Option State) × Finds first_course script number found × JudgesAt e found answer
 
+-- the same over the bytes of a script
+abbrev pub JudgesScript : Option Expression → ℕ → List ℕ → AuditAnswer → Type 0
+JudgesScript expr number script answer = (commands : List Located) × (ending : Ending) × Reads 1 script commands ending × JudgesText expr number commands answer
+
 -- The bytes of a model are judged by those of a script, at its check with this number. Of what is wrong the first counts: the model is no
 -- expression; the script does not have that check; an item of the model is wrong; an assertion is not true.
 abbrev pub AuditsModel : ℕ → List ℕ → List ℕ → AuditAnswer → Type 0
 AuditsModel number model script answer =
-    (commands : List Located) × (ending : Ending) × Reads 1 model commands ending
-    × (others : List Located) × (end : Ending) × Reads 1 script others end × JudgesText (one_expression commands ending) number others answer
+    (commands : List Located) × (ending : Ending) × Reads 1 model commands ending × JudgesScript (one_expression commands ending) number script answer

@@ -1,18 +1,21 @@
 //! The audit of a text with a model by a text with a script.
-ghost use Rattle.std.specs.Prelude.{◌≡◌, true, List, Some, IfOk};
+ghost use Rattle.std.specs.Prelude.{◌≡◌, true, List, Some, IfOk, MatchOption};
 ghost use Rattle.ct_sexpr.specs.Text.{Located, Ending, Reads};
 ghost use Rattle.ct_sexpr.specs.View.{expression_of};
 ghost use Rattle.ct_card.specs.Sizes.{AreSizes};
 ghost use Rattle.ct_eval.specs.Interpretation.{IsProper};
 ghost use Rattle.ct_script.specs.Session.{first_course};
-ghost use Rattle.ct_step.specs.State.{context_of};
+ghost use Rattle.ct_step.specs.State.{context_of, declared};
+ghost use Rattle.ct_step.specs.Verdict.{Satisfies};
 ghost use Rattle.ct_stack.specs.Stack.{in_force};
 ghost use Rattle.ct_audit.specs.declared.answer.AuditAnswer.TheVariants as said;
-ghost use Rattle.ct_model_audit.specs.ModelAudit.{AuditsModel, JudgesText, JudgesAt, JudgesModel, JudgesInterp};
+ghost use Rattle.ct_readback.specs.ModelReads.{departs};
+ghost use Rattle.ct_model_audit.specs.ModelAudit.{AuditsModel, JudgesScript, JudgesText, JudgesModel, JudgesInterp, IsFirstUntrue};
 
 use ct_audit::{AuditAnswer, AuditError};
 use ct_card::Sizes;
 use ct_eval::{Interp, holds};
+use ct_meaning::meanings;
 use ct_readback::{BackError, read_model};
 use ct_replay::{find_check, one_expression};
 use ct_script::Session;
@@ -43,11 +46,18 @@ pub fn audit_model(
     one_text();
     let expr = one_expression(model)?;
     match expr {
-        None => Ok(AuditAnswer::Wrong {
-            item: 0,
-            code: DEPARTS,
-        }),
+        None => Ok(departs()),
         Some(expr) => audit_expression(alloc, &expr, number, script),
+    }
+}
+
+// The answer where the model is no expression.
+fn departs() -> AuditAnswer
+    ensures value { result ≡ said.Wrong 0 departs }
+{
+    AuditAnswer::Wrong {
+        item: 0,
+        code: DEPARTS,
     }
 }
 
@@ -60,8 +70,7 @@ fn audit_expression(
 ) -> Result<AuditAnswer, AuditError>
     requires ended { script.old.ended ≡ true }
     requires line { script.old.line ≡ 1 }
-    ensures judged { IfOk result (λ answer. (commands : List Located) × (ending : Ending) × Reads 1 script.old.bytes commands ending
-        × JudgesText (Some (expression_of expr.now)) number commands answer) }
+    ensures judged { IfOk result (JudgesScript (Some (expression_of expr.now)) number script.old.bytes) }
 {
     let mut session = Session::new(alloc)?;
     let answer = judge_in(alloc, &mut session, expr, number, script);
@@ -96,13 +105,20 @@ fn judge_in(
 fn judge(alloc: Global, session: &Session, expr: &Sexpr) -> Result<AuditAnswer, AuditError>
     ensures judged { IfOk result (JudgesModel (context_of session.now.state) (in_force session.now.state.stack) (expression_of expr.now)) }
 {
-    let sig = &session.scope().sig;
+    let sig = declared(session);
     let sizes = sizes_of(alloc, sig)?;
     match read_model(alloc, sig, &sizes, expr) {
         Ok(interp) => judge_interp(alloc, session, interp),
         Err(BackError::Form { item, code }) => Ok(AuditAnswer::Wrong { item, code }),
         Err(BackError::NoMemory) => Err(AuditError),
     }
+}
+
+// What is declared.
+fn declared(session: &Session) -> &Signature
+    ensures value { result.now ≡ declared session.now.state }
+{
+    &session.scope().sig
 }
 
 // The sizes of all sorts.
@@ -115,26 +131,43 @@ fn sizes_of(alloc: Global, sig: &Signature) -> Result<Box<Sizes>, AuditError>
 
 // Judges an interpretation by the assertions in force.
 fn judge_interp(alloc: Global, session: &Session, interp: Interp) -> Result<AuditAnswer, AuditError>
-    requires proper { IsProper (context_of session.now.state).declarations interp }
+    requires proper { IsProper (declared session.now.state) interp }
     ensures judged { IfOk result (JudgesInterp (context_of session.now.state) (in_force session.now.state.stack) interp) }
 {
-    let answer = first_untrue(alloc, session, &interp);
+    let answer = judge_assertions(alloc, session, &interp);
     drop(interp);
     answer
 }
 
 // The answer by the first assertion that is not true.
-fn first_untrue(
+fn judge_assertions(
     alloc: Global,
     session: &Session,
     interp: &Interp,
 ) -> Result<AuditAnswer, AuditError>
-    requires proper { IsProper (context_of session.now.state).declarations interp.now }
+    requires proper { IsProper (declared session.now.state) interp.now }
     ensures judged { IfOk result (JudgesInterp (context_of session.now.state) (in_force session.now.state.stack) interp.now) }
 {
-    let (table, asserts) = session.core_terms();
-    match holds(alloc, &session.scope().sig, interp, table, asserts)? {
+    let untrue = first_untrue(alloc, session, interp)?;
+    match untrue {
         None => Ok(AuditAnswer::Verified),
         Some(place) => Ok(AuditAnswer::Rejected(place as u64 + 1)),
     }
+}
+
+// The place of the first assertion that is not true, by the core terms of the assertions.
+fn first_untrue(
+    alloc: Global,
+    session: &Session,
+    interp: &Interp,
+) -> Result<Option<usize>, AuditError>
+    requires proper { IsProper (declared session.now.state) interp.now }
+    ensures place { IfOk result (λ untrue. MatchOption untrue (Satisfies (context_of session.now.state) (in_force session.now.state.stack) interp.now)
+        (IsFirstUntrue (context_of session.now.state) (in_force session.now.state.stack) interp.now)) }
+{
+    meanings();
+    let sig = declared(session);
+    prove!(sig.sorts() > 0);
+    let (table, asserts) = session.core_terms();
+    Ok(holds(alloc, sig, interp, table, asserts)?)
 }
