@@ -8,7 +8,7 @@ use ct_replay::ReplayError;
 use ct_script::SessionError;
 use std::alloc::{AllocError, AllocFailed};
 
-/// Memory ran out. Nothing else goes wrong in an audit: a derivation that is wrong is answered.
+/// Memory ran out. Nothing else goes wrong in an audit: a derivation or a model that is wrong is answered.
 #[derive(Clone, Copy, Debug, PartialEq, Eq)]
 pub struct AuditError;
 

@@ -169,7 +169,7 @@ fn report_answer<K: Sink>(alloc: Global, answer: AuditAnswer, out: &mut K) -> Re
     }
 }
 
-/// The errors of an answer: one, or none where the derivation is verified.
+/// The errors of an answer: one, or none where it is `verified`.
 fn errors_of(alloc: Global, answer: AuditAnswer) -> Result<Vec<ScriptError>, AllocError>
     ensures errors { IfOk result (λ errors. errors.items ≡ option_to_list (audit_error answer)) }
 {
