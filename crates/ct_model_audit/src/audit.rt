@@ -1,16 +1,15 @@
 //! The audit of a text with a model by a text with a script.
-ghost use Rattle.std.specs.Prelude.{◌≡◌, true, List, Some, IfOk, MatchOption};
+ghost use Rattle.std.specs.Prelude.{◌≡◌, ◌<◌, suc, true, List, Some, IfOk};
 ghost use Rattle.ct_sexpr.specs.Text.{Located, Ending, Reads};
 ghost use Rattle.ct_sexpr.specs.View.{expression_of};
 ghost use Rattle.ct_card.specs.Sizes.{AreSizes};
 ghost use Rattle.ct_eval.specs.Interpretation.{IsProper};
 ghost use Rattle.ct_script.specs.Session.{first_course};
 ghost use Rattle.ct_step.specs.State.{context_of, declared};
-ghost use Rattle.ct_step.specs.Verdict.{Satisfies};
 ghost use Rattle.ct_stack.specs.Stack.{in_force};
 ghost use Rattle.ct_audit.specs.declared.answer.AuditAnswer.TheVariants as said;
 ghost use Rattle.ct_readback.specs.ModelReads.{departs};
-ghost use Rattle.ct_model_audit.specs.ModelAudit.{AuditsModel, JudgesScript, JudgesText, JudgesModel, JudgesInterp, IsFirstUntrue};
+ghost use Rattle.ct_model_audit.specs.ModelAudit.{AuditsModel, JudgesScript, JudgesText, JudgesModel, JudgesInterp};
 
 use ct_audit::{AuditAnswer, AuditError};
 use ct_card::Sizes;
@@ -105,9 +104,21 @@ fn judge_in(
 fn judge(alloc: Global, session: &Session, expr: &Sexpr) -> Result<AuditAnswer, AuditError>
     ensures judged { IfOk result (JudgesModel (context_of session.now.state) (in_force session.now.state.stack) (expression_of expr.now)) }
 {
-    let sig = declared(session);
-    let sizes = sizes_of(alloc, sig)?;
-    match read_model(alloc, sig, &sizes, expr) {
+    let sizes = sizes_of(alloc, declared(session))?;
+    judge_sized(alloc, session, &sizes, expr)
+}
+
+// The same over the sizes of what is declared.
+fn judge_sized(
+    alloc: Global,
+    session: &Session,
+    sizes: &Sizes,
+    expr: &Sexpr,
+) -> Result<AuditAnswer, AuditError>
+    requires sizes { AreSizes (declared session.now.state) sizes.now }
+    ensures judged { IfOk result (JudgesModel (context_of session.now.state) (in_force session.now.state.stack) (expression_of expr.now)) }
+{
+    match read_model(alloc, declared(session), sizes, expr) {
         Ok(interp) => judge_interp(alloc, session, interp),
         Err(BackError::Form { item, code }) => Ok(AuditAnswer::Wrong { item, code }),
         Err(BackError::NoMemory) => Err(AuditError),
@@ -139,7 +150,7 @@ fn judge_interp(alloc: Global, session: &Session, interp: Interp) -> Result<Audi
     answer
 }
 
-// The answer by the first assertion that is not true.
+// The answer by the first assertion that is not true, of which the core terms tell.
 fn judge_assertions(
     alloc: Global,
     session: &Session,
@@ -148,26 +159,22 @@ fn judge_assertions(
     requires proper { IsProper (declared session.now.state) interp.now }
     ensures judged { IfOk result (JudgesInterp (context_of session.now.state) (in_force session.now.state.stack) interp.now) }
 {
-    let untrue = first_untrue(alloc, session, interp)?;
-    match untrue {
-        None => Ok(AuditAnswer::Verified),
-        Some(place) => Ok(AuditAnswer::Rejected(place as u64 + 1)),
-    }
-}
-
-// The place of the first assertion that is not true, by the core terms of the assertions.
-fn first_untrue(
-    alloc: Global,
-    session: &Session,
-    interp: &Interp,
-) -> Result<Option<usize>, AuditError>
-    requires proper { IsProper (declared session.now.state) interp.now }
-    ensures place { IfOk result (λ untrue. MatchOption untrue (Satisfies (context_of session.now.state) (in_force session.now.state.stack) interp.now)
-        (IsFirstUntrue (context_of session.now.state) (in_force session.now.state.stack) interp.now)) }
-{
     meanings();
     let sig = declared(session);
     sig.sorts();
     let (table, asserts) = session.core_terms();
-    Ok(holds(alloc, sig, interp, table, asserts)?)
+    let count = asserts.len();
+    let untrue = holds(alloc, sig, interp, table, asserts)?;
+    match untrue {
+        None => Ok(AuditAnswer::Verified),
+        Some(place) => Ok(AuditAnswer::Rejected(number_of(place, count))),
+    }
+}
+
+// The number, counted from 1, of what stands at a place of so many.
+fn number_of(place: usize, count: usize) -> u64
+    requires inside { place < count }
+    ensures number { result ≡ suc place }
+{
+    place as u64 + 1
 }
