@@ -113,6 +113,7 @@ fn take_first(
     while !rest.is_empty() {
         let count = size.min(rest.len());
         if take_all(alloc, sig, terms, beginning(rest, count), table, lemmas)? {
+            let _terms = table.len();
             rest = after(rest, count);
         } else if count == 1 {
             return Ok(());
