@@ -1,15 +1,14 @@
 -- Constructor terms, part by part.
-use Rattle.std.proofs.Common.{◌≡◌, ℕ, Bool, true, false, ◌&&◌, List, [], ◌∷◌, ◌++◌, length, map, All, Option, None, Some, option_map, option_and_then, unwrap_or, nat_eq, slice_get, refl, sym, ap, subst, ◌∙◌, codes, true≢false}
+use Rattle.std.proofs.Common.{◌≡◌, ℕ, Bool, true, false, List, [], ◌∷◌, map, Option, None, Some, option_map, option_and_then, unwrap_or, nat_eq, slice_get, refl, sym, ap, subst, ◌∙◌, codes, true≢false}
 use Rattle.std.proofs.lemmas.Option.{none-some, same_Some}
 use Rattle.std.proofs.lemmas.Bool.Decides.{Decides-eqb}
 use Rattle.ct_lemmas.proofs.Booleans.{both_parts}
-use Rattle.ct_lemmas.proofs.Lists.{slice_get-there}
 use Rattle.ct_sorts.specs.declared.ids.CtorId.{CtorId}
 use Rattle.ct_sorts.specs.declared.ids.SelId.{SelId}
 use Rattle.ct_sorts.specs.declared.ids.SortId.{SortId}
 use Rattle.ct_sorts.specs.declared.ids.Kind.{Kind}
 use Rattle.ct_sorts.specs.declared.ids.Kind.TheVariants.{Bool as BoolKind, Free, Data, Codata}
-use Rattle.ct_sorts.specs.Declarations.{Declarations, Constructor, Sort}
+use Rattle.ct_sorts.specs.Declarations.{Declarations, Sort}
 use Rattle.ct_sexpr.specs.Expression.{Expression, leaf, list, Expressions, none, more}
 use Rattle.ct_values.specs.declared.node.NodeId.{NodeId}
 use Rattle.ct_values.specs.Graph.{Nodes}
@@ -22,8 +21,8 @@ use Rattle.ct_readback.specs.Words.{name_in}
 use Rattle.ct_readback.specs.Parts.{only_if, two_of, or_other, parts_after}
 use Rattle.ct_readback.specs.SortText.{says_sort}
 use Rattle.ct_readback.specs.Heads.{constructor_in, constructor_at, of_sort, is_sort_of_elements, element_named, element_of, element_at}
-use Rattle.ct_readback.specs.Trees.{lone, lone_at, element_value, tree_at, application_at, trees_at}
-use Rattle.ct_readback.specs.TreeNode.{HasTree, HaveTrees, IsNodeOf, AreNodesOf, AreFound, AreFieldsOf}
+use Rattle.ct_readback.specs.Trees.{lone, lone_at, tree_at, application_at, trees_at}
+use Rattle.ct_readback.specs.TreeNode.{HaveTrees, IsNodeOf, AreNodesOf, AreFound, AreFieldsOf}
 
 -- a constructor at a sort is of that sort
 of_sort_by : (b : Bool) (c found : CtorId) → only_if b c ≡ Some found → (found ≡ c) × (b ≡ true)

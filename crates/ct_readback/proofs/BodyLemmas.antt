@@ -1,5 +1,5 @@
 -- Bodies: a row and the rest, or a default.
-use Rattle.std.proofs.Common.{◌≡◌, ℕ, ◌+◌, ◌<◌, ◌≤◌, max, Bool, true, false, not, ◌==◌, ◌&&◌, List, [], ◌∷◌, Option, None, Some, option_and_then, refl, sym, ap, ◌∙◌, true≢false, if◌then◌else◌, codes, arith}
+use Rattle.std.proofs.Common.{◌≡◌, ℕ, ◌<◌, ◌≤◌, Bool, true, false, not, ◌==◌, ◌&&◌, Option, None, Some, option_and_then, refl, ap, ◌∙◌, if◌then◌else◌, codes, arith}
 use Rattle.std.proofs.lemmas.Option.{none-some, same_Some}
 use Rattle.ct_sexpr.specs.Expression.{Expression, leaf, list, Expressions, none, more, nesting, nesting_of_each}
 use Rattle.ct_readback.specs.Words.{is_word}

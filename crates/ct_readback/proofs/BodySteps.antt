@@ -1,5 +1,5 @@
 -- The rows of a body, one after the other, and its default.
-use Rattle.std.proofs.Common.{◌≡◌, ℕ, Bool, true, false, List, [], ◌∷◌, ◌++◌, length, Contains, Option, None, Some, slice_get, refl, sym, ap, subst, ◌∙◌, append_assoc, append-nil, true≢false}
+use Rattle.std.proofs.Common.{◌≡◌, Bool, true, false, List, [], ◌∷◌, ◌++◌, length, None, Some, refl, sym, ap, subst, ◌∙◌, append_assoc, append-nil, true≢false}
 use Rattle.std.specs.List.{AllZip, flat_map}
 use Rattle.std.proofs.lemmas.Option.{none-some, same_Some}
 use Rattle.ct_lemmas.proofs.Pairs.{AllZip-push, AllZip-at_right}
@@ -17,8 +17,8 @@ use Rattle.ct_readback.specs.declared.value.Said.TheVariants as said
 use Rattle.ct_readback.specs.declared.item.Part.TheVariants as parts
 use Rattle.ct_readback.specs.Rows.{body_row}
 use Rattle.ct_readback.specs.ValueAt.{IsValueAt}
-use Rattle.ct_readback.specs.ItemAt.{RowValues, TableValues, values_in_row, values_in, HasCycle, HasValue, HasRow, IsRowAt, IsBodyAt, SaysTable, IsRowFor}
-use Rattle.ct_readback.specs.Said.{IsSaid, IsPart, AreNodesFor, IsRowOf, IsTableOf}
+use Rattle.ct_readback.specs.ItemAt.{RowValues, values_in_row, values_in, HasCycle, HasValue, IsRowAt, IsBodyAt, SaysTable, IsRowFor}
+use Rattle.ct_readback.specs.Said.{IsSaid, IsPart, IsRowOf, IsTableOf}
 use Rattle.ct_readback.proofs.PartLemmas.{cycle_left, cycle_right, cycle_one, acyclic_both, acyclic_one, rows_longer}
 
 -- the values of one more row

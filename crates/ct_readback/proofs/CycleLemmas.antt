@@ -1,13 +1,13 @@
 -- Cycles of nodes of datatypes, and orders of them.
-use Rattle.std.proofs.Common.{◌≡◌, ℕ, zero, suc, ◌+◌, ◌-◌, ◌<◌, List, [], ◌∷◌, length, map, All, Some, slice_get, ap, subst, ◌∙◌, sym, refl, arith}
+use Rattle.std.proofs.Common.{◌≡◌, ℕ, suc, ◌+◌, ◌-◌, ◌<◌, List, [], ◌∷◌, length, map, All, Some, slice_get, ap, ◌∙◌, refl, arith}
 use Rattle.std.proofs.lemmas.List.Elements.{All-head, All-tail}
-use Rattle.std.proofs.lemmas.Option.{none-some, same_Some, slice_get_within}
+use Rattle.std.proofs.lemmas.Option.{slice_get_within}
 use Rattle.ct_sorts.specs.Declarations.{Declarations}
 use Rattle.ct_values.specs.declared.node.NodeId.{NodeId}
 use Rattle.ct_values.specs.Graph.{Nodes}
 use Rattle.ct_values.specs.WellFormed.{IsData}
 use Rattle.ct_ordering.specs.declared.hop.Hop.{Hop}
-use Rattle.ct_ordering.specs.Graph.{Graph, HasKid}
+use Rattle.ct_ordering.specs.Graph.{Graph}
 use Rattle.ct_ordering.specs.Order.{StandsAt, IsOrder, GoesTo, IsPath, IsCycle}
 use Rattle.ct_readback.specs.Cycles.{IsDataStep, IsDataWay, HasDataCycle}
 use Rattle.ct_readback.specs.Placed.{numbered_node, AreDataEdges}

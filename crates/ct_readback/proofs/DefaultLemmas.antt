@@ -1,6 +1,6 @@
 -- Default values, which stay where a graph grows.
-use Rattle.std.proofs.Common.{◌≡◌, ℕ, zero, suc, List, [], ◌∷◌, ◌++◌, length, Option, None, Some, slice_get, set, length-set, refl, sym, ap, subst, ◌∙◌, inl, inr}
-use Rattle.std.proofs.lemmas.Option.{none-some, same_Some}
+use Rattle.std.proofs.Common.{◌≡◌, ℕ, List, ◌++◌, Option, Some, set, length-set, sym, ap, subst, ◌∙◌, inl, inr}
+use Rattle.std.proofs.lemmas.Option.{same_Some}
 use Rattle.ct_lemmas.proofs.Lists.{slice_get-append_left}
 use Rattle.ct_ordering.proofs.ListLemmas.{slice_set-cases}
 use Rattle.ct_sorts.specs.Grown.{Begins}

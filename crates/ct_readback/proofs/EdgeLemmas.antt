@@ -1,5 +1,5 @@
 -- The graph of steps between nodes of datatypes, by its lists.
-use Rattle.std.proofs.Common.{◌≡◌, ℕ, ◌+◌, ◌-◌, ◌<◌, List, [], length, Contains, Option, None, Some, option_map, slice_get, slice_index, refl, sym, ap, subst, ◌∙◌, arith}
+use Rattle.std.proofs.Common.{◌≡◌, ℕ, ◌<◌, List, [], length, Contains, Option, None, Some, option_map, slice_get, refl, sym, subst, ◌∙◌, arith}
 use Rattle.std.proofs.lemmas.Option.{none-some, same_Some, slice_get_within}
 use Rattle.ct_sorts.specs.Declarations.{Declarations}
 use Rattle.ct_values.specs.declared.node.NodeId.{NodeId}
@@ -7,7 +7,6 @@ use Rattle.ct_values.specs.declared.node.Node.{Node}
 use Rattle.ct_values.specs.Graph.{Nodes, node_children}
 use Rattle.ct_values.specs.WellFormed.{IsData}
 use Rattle.ct_ordering.specs.Graph.{graph}
-use Rattle.ct_readback.specs.Cycles.{IsDataStep}
 use Rattle.ct_readback.specs.EdgeRows.{AreRows}
 use Rattle.ct_readback.specs.Placed.{numbered_node, AreDataEdges, AreDataChildren, IsDataRow}
 use Rattle.ct_readback.proofs.CycleLemmas.{data_within}

@@ -1,23 +1,22 @@
 -- Graphs that are written: elements, nodes, and whether the whole is one.
-use Rattle.std.proofs.Common.{◌≡◌, ℕ, ◌<◌, IsTrue, Bool, true, false, List, [], ◌∷◌, length, All, Option, None, Some, option_map, option_and_then, unwrap_or, slice_get, bytes_eq, MatchOption, refl, sym, ap, subst, ◌∙◌, codes, true≢false}
-use Rattle.std.proofs.lemmas.Option.{none-some, same_Some, slice_get_within}
+use Rattle.std.proofs.Common.{◌≡◌, ℕ, true, false, List, [], Option, None, Some, option_map, option_and_then, unwrap_or, slice_get, bytes_eq, MatchOption, refl, sym, ap, subst, ◌∙◌, codes, true≢false}
+use Rattle.std.proofs.lemmas.Option.{none-some, same_Some}
 use Rattle.std.proofs.lemmas.Slice.Eq.{bytes_eq-Decides}
 use Rattle.ct_lemmas.proofs.Booleans.{both_parts}
-use Rattle.ct_lemmas.proofs.Lists.{slice_get-there, slice_get-map_at}
+use Rattle.ct_lemmas.proofs.Lists.{slice_get-map_at}
 use Rattle.ct_sorts.specs.declared.ids.CtorId.{CtorId}
 use Rattle.ct_sorts.specs.declared.ids.SortId.{SortId}
 use Rattle.ct_sorts.specs.Declarations.{Declarations, Sort, sort_names}
 use Rattle.ct_sorts.specs.Availability.{IsListed}
-use Rattle.ct_sexpr.specs.Expression.{Expression, leaf, list, Expressions, none, more}
+use Rattle.ct_sexpr.specs.Expression.{Expression, Expressions}
 use Rattle.ct_values.specs.declared.node.NodeId.{NodeId}
 use Rattle.ct_values.specs.declared.node.Node.{Node}
 use Rattle.ct_values.specs.declared.node.Node.TheVariants.{Con, Elem}
 use Rattle.ct_values.specs.Graph.{Nodes, IsClosed}
-use Rattle.ct_values.specs.Fitting.{IsElement, HasNodeSort, FitsGraph}
 use Rattle.ct_values.proofs.LastingLemmas.{fits_closed}
 use Rattle.ct_card.specs.Defaults.{is_free_sort}
 use Rattle.ct_value_text.specs.ValueText.{sort_name}
-use Rattle.ct_readback.specs.Words.{name_in, is_named}
+use Rattle.ct_readback.specs.Words.{name_in}
 use Rattle.ct_readback.specs.Parts.{only_if, option_both, two_of, parts_after, first_of, list_items}
 use Rattle.ct_readback.specs.SortText.{says_sort}
 use Rattle.ct_readback.specs.Heads.{constructor_in, is_sort_of_elements, element_named, element_of, element_at}

@@ -1,11 +1,11 @@
 -- What was said of the items before an index, and of one item more.
-use Rattle.std.proofs.Common.{◌≡◌, ℕ, suc, ◌+◌, ◌<◌, ◌≤◌, Bool, true, false, List, [], ◌∷◌, ◌++◌, length, get_or, drop, Option, None, Some, option_map, unwrap_or, slice_get, refl, sym, ap, subst, ◌∙◌, arith}
+use Rattle.std.proofs.Common.{◌≡◌, ℕ, suc, ◌+◌, ◌<◌, ◌≤◌, Bool, true, false, List, [], ◌∷◌, ◌++◌, length, get_or, drop, Option, None, Some, option_map, unwrap_or, slice_get, sym, ap, subst, arith}
 use Rattle.ct_sorts.specs.declared.ids.SelId.{SelId}
 use Rattle.ct_sorts.specs.declared.ids.SortId.{SortId}
 use Rattle.ct_sorts.specs.Declarations.{Declarations, Selector}
 use Rattle.ct_sorts.specs.Grown.{Begins}
 use Rattle.ct_sexpr.specs.declared.sexpr.Sexpr.{Sexpr}
-use Rattle.ct_sexpr.specs.Expression.{Expression, Expressions, none, more}
+use Rattle.ct_sexpr.specs.Expression.{Expressions, none, more}
 use Rattle.ct_sexpr.specs.View.{expression_of, expressions_of}
 use Rattle.ct_values.specs.declared.node.NodeId.{NodeId}
 use Rattle.ct_values.specs.declared.node.Node.{Node}
@@ -13,7 +13,6 @@ use Rattle.ct_values.specs.Graph.{Nodes}
 use Rattle.ct_values.specs.WellFormed.{IsWellFormedGraph}
 use Rattle.ct_names.specs.Symbols.{field_sort_id}
 use Rattle.ct_readback.specs.declared.value.Said.TheVariants as said
-use Rattle.ct_readback.specs.declared.item.Part.{Part}
 use Rattle.ct_readback.specs.declared.item.Part.TheVariants as parts
 use Rattle.ct_readback.specs.Trees.{tree_at}
 use Rattle.ct_readback.specs.TreeNode.{IsNodeOf, AreNodesOf}

@@ -14,13 +14,12 @@ use Rattle.ct_values.specs.Fitting.{HasNodeSort}
 use Rattle.ct_card.proofs.WellFormedLemmas.{longer_sort}
 use Rattle.ct_eval.specs.declared.interp.Row.{Row}
 use Rattle.ct_eval.specs.declared.interp.Table.{Table}
-use Rattle.ct_eval.specs.Interpretation.{FitsRow, FitsTable}
+use Rattle.ct_eval.specs.Interpretation.{FitsRow}
 use Rattle.ct_model.specs.ModelText.{off_numbers}
 use Rattle.ct_readback.specs.ItemText.{Due, due_function, due_off, all_due}
 use Rattle.ct_readback.specs.ItemAt.{RowValues, TableValues, IsRowFor}
 use Rattle.ct_readback.specs.ModelReads.{IsRightAt, IsRefusedAt, IsFirstRefused}
-use Rattle.ct_readback.specs.Said.{IsTableOf, IsRowOf}
-use Rattle.ct_readback.specs.ItemRead.{IsItemRead}
+use Rattle.ct_readback.specs.Said.{IsTableOf}
 use Rattle.ct_readback.specs.Progress.{IsReadAt, AreFunctions}
 use Rattle.ct_readback.proofs.PartLemmas.{row_longer, value_longer}
 

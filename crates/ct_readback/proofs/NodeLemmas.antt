@@ -5,14 +5,14 @@ use Rattle.std.proofs.lemmas.Option.{none-some, same_Some}
 use Rattle.ct_sorts.specs.declared.ids.CtorId.{CtorId}
 use Rattle.ct_sorts.specs.declared.ids.SortId.{SortId}
 use Rattle.ct_sorts.specs.Declarations.{Declarations}
-use Rattle.ct_sexpr.specs.Expression.{Expression, leaf, list, Expressions, none, more}
+use Rattle.ct_sexpr.specs.Expression.{Expression, Expressions, none, more}
 use Rattle.ct_values.specs.declared.node.NodeId.{NodeId}
 use Rattle.ct_values.specs.declared.node.Node.{Node}
-use Rattle.ct_values.specs.declared.node.Node.TheVariants.{Con, Elem}
+use Rattle.ct_values.specs.declared.node.Node.TheVariants.{Con}
 use Rattle.ct_names.specs.Symbols.{ctor_sort}
-use Rattle.ct_readback.specs.Parts.{only_if, option_both, or_other, first_of, list_items}
+use Rattle.ct_readback.specs.Parts.{only_if, option_both}
 use Rattle.ct_readback.specs.Heads.{constructor_in, constructor_at, of_sort}
-use Rattle.ct_readback.specs.GraphText.{SaysNode, SayNodes, node_text, node_at, lone_node, applied_node, element_node, references_in}
+use Rattle.ct_readback.specs.GraphText.{SayNodes, node_text, node_at, lone_node, applied_node, references_in}
 use Rattle.ct_readback.specs.Nodes.{IsOnly, IsOnlyNode, AreOnlyNodes}
 
 -- what stands there for each sort may be said otherwise

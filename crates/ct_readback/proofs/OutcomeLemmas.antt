@@ -1,14 +1,13 @@
 -- The items of an expression, and what the whole reads as.
-use Rattle.std.proofs.Common.{◌≡◌, ℕ, zero, suc, ◌+◌, ◌<◌, ◌≤◌, List, [], ◌∷◌, length, get_or, Option, None, Some, slice_get, Result, Ok, Err, refl, sym, ap, subst, ◌∙◌, arith}
+use Rattle.std.proofs.Common.{◌≡◌, ℕ, zero, suc, ◌<◌, ◌≤◌, List, [], ◌∷◌, length, get_or, Option, None, Some, slice_get, Result, Ok, Err, refl, sym, ap, subst, ◌∙◌, arith}
 use Rattle.std.proofs.lemmas.Option.{none-some, same_Some, slice_get_past}
 use Rattle.ct_sorts.specs.Declarations.{Declarations}
 use Rattle.ct_sexpr.specs.declared.sexpr.Sexpr.{Sexpr}
-use Rattle.ct_sexpr.specs.Expression.{Expression, leaf, list, Expressions, none, more}
+use Rattle.ct_sexpr.specs.Expression.{Expression, leaf, list, Expressions}
 use Rattle.ct_sexpr.specs.View.{expression_of, expressions_of}
 use Rattle.ct_card.specs.Sizes.{Table as Sizes}
 use Rattle.ct_eval.specs.declared.interp.Interp.{Interp}
 use Rattle.ct_values.specs.Graph.{Nodes}
-use Rattle.ct_eval.specs.declared.interp.Table.{Table}
 use Rattle.ct_readback.specs.declared.error.BackError.{BackError}
 use Rattle.ct_readback.specs.declared.error.BackError.TheVariants.{Form}
 use Rattle.ct_readback.specs.Parts.{list_items}

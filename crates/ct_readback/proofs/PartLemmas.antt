@@ -1,6 +1,6 @@
 -- What the parts of an item say, put together: values, rows and bodies.
-use Rattle.std.proofs.Common.{◌≡◌, ℕ, suc, Bool, true, false, List, [], ◌∷◌, ◌++◌, length, map, Contains, Option, None, Some, slice_get, refl, sym, ap, subst, ◌∙◌, append_assoc, append-nil, inl, inr, true≢false}
-use Rattle.std.specs.List.{AllZip, flat_map}
+use Rattle.std.proofs.Common.{◌≡◌, ℕ, suc, Bool, true, false, List, [], ◌∷◌, ◌++◌, None, Some, refl, sym, subst, ◌∙◌, append_assoc, append-nil, inl, inr, true≢false}
+use Rattle.std.specs.List.{AllZip}
 use Rattle.std.proofs.lemmas.Option.{none-some, same_Some, slice_get_within}
 use Rattle.std.proofs.lemmas.List.Elements.{Contains-append_left, Contains-append_right, Contains-append_cases}
 use Rattle.ct_lemmas.proofs.Pairs.{AllZip-push, AllZip-weaker}
@@ -17,7 +17,6 @@ use Rattle.ct_values.proofs.AgreeLemmas.{AgreeAlways-trans}
 use Rattle.ct_values.proofs.RepresentativeLemmas.{AgreeAlways-grown}
 use Rattle.ct_card.proofs.WellFormedLemmas.{longer_sort}
 use Rattle.ct_eval.specs.declared.interp.Row.{Row}
-use Rattle.ct_eval.specs.Interpretation.{FitsRow}
 use Rattle.ct_readback.specs.declared.value.Said.{Said}
 use Rattle.ct_readback.specs.declared.value.Said.TheVariants as said
 use Rattle.ct_readback.specs.declared.item.Part.{Part}
@@ -26,8 +25,8 @@ use Rattle.ct_readback.specs.Cycles.{HasDataCycle}
 use Rattle.ct_readback.specs.ValueAt.{IsValueAt}
 use Rattle.ct_readback.specs.Rows.{equation_value}
 use Rattle.ct_readback.proofs.SaidLemmas.{IsSaid-map}
-use Rattle.ct_readback.specs.ItemAt.{RowValues, values_in_row, HasCycle, HasValue, IsTestAt, IsRowAt, IsRowFor, IsEquationAt, AreEquationsAt}
-use Rattle.ct_readback.specs.Said.{IsSaid, IsNodeFor, AreNodesFor, IsPart, IsRowOf, all_points}
+use Rattle.ct_readback.specs.ItemAt.{RowValues, values_in_row, HasCycle, HasValue, IsTestAt, IsRowAt, IsEquationAt, AreEquationsAt}
+use Rattle.ct_readback.specs.Said.{IsSaid, AreNodesFor, IsPart, IsRowOf, all_points}
 
 -- a node of a closed graph that has a value has it in a longer graph
 pub value_longer : (d : Declarations) (g added : Nodes) (s : SortId) (p : Point) (n : NodeId) → IsClosed g → HasNodeSort d g n s → HasValue g p n → HasValue (g ++ added) p n

@@ -1,10 +1,10 @@
 -- A graph put after another one in an order: its nodes there have the values and the sorts that they had, and datatypes stay finite.
-use Rattle.std.proofs.Common.{◌≡◌, ℕ, zero, suc, ◌+◌, ◌<◌, IsTrue, List, [], ◌∷◌, ◌++◌, length, length-append, map, All, Contains, Option, Some, option_map, slice_get, get_or, refl, sym, ap, subst, ◌∙◌, inl, inr, arith}
+use Rattle.std.proofs.Common.{◌≡◌, ℕ, zero, suc, ◌+◌, ◌<◌, IsTrue, List, [], ◌∷◌, ◌++◌, length, length-append, All, Contains, Some, slice_get, get_or, refl, sym, ap, subst, ◌∙◌, inl, inr, arith}
 use Rattle.std.specs.List.{AllZip}
 use Rattle.std.proofs.lemmas.Option.{same_Some, slice_get_within, slice_get-get_or}
 use Rattle.ct_lemmas.proofs.Lists.{slice_get-append_right, slice_get-append_cases}
 use Rattle.ct_lemmas.proofs.Contained.{Contains-from_slice_get}
-use Rattle.ct_lemmas.proofs.Pairs.{AllZip-at_left, AllZip-at_right, AllZip-one_length}
+use Rattle.ct_lemmas.proofs.Pairs.{AllZip-at_left, AllZip-at_right}
 use Rattle.ct_sorts.specs.declared.ids.SelId.{SelId}
 use Rattle.ct_sorts.specs.declared.ids.SortId.{SortId}
 use Rattle.ct_sorts.specs.declared.ids.CtorId.{CtorId}
@@ -13,13 +13,13 @@ use Rattle.ct_values.specs.declared.node.NodeId.{NodeId}
 use Rattle.ct_values.specs.declared.node.Node.{Node}
 use Rattle.ct_values.specs.declared.node.Node.TheVariants.{Con, Elem}
 use Rattle.ct_values.specs.Graph.{Nodes, HasChildrenBelow, node_head, node_children}
-use Rattle.ct_values.specs.Agreement.{node_point, agree, AgreeAlways}
+use Rattle.ct_values.specs.Agreement.{node_point, agree}
 use Rattle.ct_values.specs.Fitting.{node_sort, HasNodeSort, IsNodeOfField, FitsNode, FitsGraph}
 use Rattle.ct_values.specs.WellFormed.{IsData, IsWellFormedGraph}
 use Rattle.ct_values.proofs.AgreeLemmas.{agree-zero}
 use Rattle.ct_values.proofs.NodeLemmas.{node_points, agree-nodes}
 use Rattle.ct_card.proofs.WellFormedLemmas.{fits_within, longer_fits, listed_child}
-use Rattle.ct_ordering.specs.Graph.{Graph, HasKid}
+use Rattle.ct_ordering.specs.Graph.{Graph}
 use Rattle.ct_ordering.specs.Order.{IsOrder, StandsAt as StandsIn}
 use Rattle.ct_readback.specs.Cycles.{IsDataStep}
 use Rattle.ct_readback.specs.Placed.{numbered_node, AreDataEdges, ArePlaces, StandsAt, IsMoved, IsPlacedRoot}

@@ -1,17 +1,15 @@
 -- An item that is read or refused.
-use Rattle.std.proofs.Common.{◌≡◌, ℕ, ◌⊎◌, Bool, true, false, List, Option, None, Some, Result, Ok, Err, refl, sym, ap, subst, ◌∙◌, inl, inr, true≢false}
-use Rattle.std.proofs.lemmas.Option.{none-some, same_Some}
-use Rattle.ct_sorts.specs.declared.ids.SortId.{SortId}
+use Rattle.std.proofs.Common.{◌≡◌, true, false, None, Some, Ok, Err, refl, sym, ap, subst, ◌∙◌, inl, inr, true≢false}
+use Rattle.std.proofs.lemmas.Option.{same_Some}
 use Rattle.ct_sorts.specs.Declarations.{Declarations}
 use Rattle.ct_sexpr.specs.Expression.{Expression, Expressions}
 use Rattle.ct_values.specs.Graph.{Nodes}
 use Rattle.ct_eval.specs.declared.interp.Table.{Table}
-use Rattle.ct_readback.specs.declared.item.Part.{Part}
 use Rattle.ct_readback.specs.declared.item.Part.TheVariants as parts
 use Rattle.ct_readback.specs.Parts.{holds}
 use Rattle.ct_readback.specs.ItemText.{Due, ItemText, item_in, has_parts, has_form, is_heading}
 use Rattle.ct_readback.specs.ItemAt.{TableValues, values_in, SaysTable, IsItemAt}
-use Rattle.ct_readback.specs.ModelReads.{departs, misfits, cyclic, IsRefused}
+use Rattle.ct_readback.specs.ModelReads.{departs, misfits, cyclic}
 use Rattle.ct_readback.specs.Said.{IsPart, IsTableOf}
 use Rattle.ct_readback.specs.ItemRead.{IsItemRead}
 

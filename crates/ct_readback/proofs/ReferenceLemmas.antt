@@ -4,7 +4,7 @@ use Rattle.ct_sexpr.specs.Expression.{Expression, Expressions, none, more}
 use Rattle.ct_values.specs.declared.node.NodeId.{NodeId}
 use Rattle.ct_readback.specs.Words.{numbered}
 use Rattle.ct_readback.specs.Parts.{option_both}
-use Rattle.ct_readback.specs.GraphText.{reference_in, references_in}
+use Rattle.ct_readback.specs.GraphText.{references_in}
 
 -- what is read where these were read before
 abbrev pub references_from : List NodeId → Expressions → Option (List NodeId)

@@ -1,10 +1,10 @@
 -- The first item that is refused among those of selectors, or beyond the last one that is due.
-use Rattle.std.proofs.Common.{◌≡◌, ℕ, zero, suc, ◌+◌, ◌-◌, ◌<◌, ◌≤◌, List, [], ◌∷◌, ◌++◌, length, length-append, map, Option, None, Some, option_map, slice_get, refl, sym, ap, subst, ◌∙◌, arith, inl, inr, true}
+use Rattle.std.proofs.Common.{◌≡◌, ℕ, zero, suc, ◌+◌, ◌-◌, ◌<◌, ◌≤◌, List, length, length-append, map, Option, None, Some, slice_get, refl, sym, ap, subst, ◌∙◌, arith, inl, inr, true}
 use Rattle.std.proofs.lemmas.Bool.{cases_lt}
-use Rattle.std.proofs.lemmas.Option.{none-some, slice_get_within, slice_get_past}
+use Rattle.std.proofs.lemmas.Option.{slice_get_within, slice_get_past}
 use Rattle.std.proofs.lemmas.List.{length-map}
 use Rattle.ct_lemmas.proofs.Lists.{slice_get-there, slice_get-last}
-use Rattle.ct_sorts.specs.Declarations.{Declarations, Function, Selector}
+use Rattle.ct_sorts.specs.Declarations.{Declarations, Function}
 use Rattle.ct_sexpr.specs.Expression.{Expression}
 use Rattle.ct_values.specs.Graph.{Nodes}
 use Rattle.ct_eval.specs.declared.interp.Table.{Table}

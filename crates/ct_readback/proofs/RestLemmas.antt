@@ -3,7 +3,7 @@ use Rattle.std.proofs.Common.{◌≡◌, ℕ, zero, suc, ◌+◌, ◌-◌, ◌<�
 use Rattle.std.proofs.lemmas.List.{take_more}
 use Rattle.std.proofs.lemmas.Option.{same_Some, slice_get_within, slice_get-get_or}
 use Rattle.ct_sexpr.specs.declared.sexpr.Sexpr.{Sexpr}
-use Rattle.ct_sexpr.specs.Expression.{Expressions, none, more}
+use Rattle.ct_sexpr.specs.Expression.{none, more}
 use Rattle.ct_sexpr.specs.View.{expression_of, expressions_of}
 use Rattle.ct_readback.specs.Parts.{count}
 

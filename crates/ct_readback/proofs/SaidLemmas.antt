@@ -1,6 +1,6 @@
 -- What a value text says, found as a node, a cycle or nothing.
-use Rattle.std.proofs.Common.{◌≡◌, ℕ, ◌<◌, Bool, true, false, List, [], ◌∷◌, length, Option, None, Some, MatchBool, MatchOption, refl, sym, ◌∙◌, subst, ap}
-use Rattle.std.proofs.lemmas.Option.{none-some, same_Some, slice_get_within}
+use Rattle.std.proofs.Common.{◌≡◌, ◌<◌, Bool, true, false, [], ◌∷◌, length, Option, None, Some, MatchBool, MatchOption, refl, sym, ◌∙◌, subst}
+use Rattle.std.proofs.lemmas.Option.{none-some, slice_get_within}
 use Rattle.ct_sorts.specs.declared.ids.SortId.{SortId}
 use Rattle.ct_sorts.specs.Declarations.{Declarations}
 use Rattle.ct_sexpr.specs.Expression.{Expression}

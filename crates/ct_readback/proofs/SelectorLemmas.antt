@@ -1,22 +1,20 @@
 -- The tables of selectors, one after the other, and the whole model.
-use Rattle.std.proofs.Common.{◌≡◌, ℕ, zero, suc, ◌+◌, ◌<◌, ◌≤◌, ◌⊎◌, Bool, true, false, List, [], ◌∷◌, ◌++◌, length, length-append, cond, Option, None, Some, option_map, option_and_then, unwrap_or, slice_get, refl, sym, ap, subst, ◌∙◌, arith, inl, inr, true≢false, append-nil}
+use Rattle.std.proofs.Common.{◌≡◌, ℕ, zero, suc, ◌+◌, ◌<◌, ◌≤◌, ◌⊎◌, Bool, true, false, List, [], ◌∷◌, ◌++◌, length, length-append, cond, Some, slice_get, refl, sym, ap, subst, ◌∙◌, arith, inl, inr, true≢false, append-nil}
 use Rattle.std.specs.List.{filter, range_with_len}
-use Rattle.std.proofs.lemmas.Option.{none-some, same_Some, slice_get_within}
+use Rattle.std.proofs.lemmas.Option.{none-some, slice_get_within}
 use Rattle.std.proofs.lemmas.List.Elements.{filter-append}
-use Rattle.ct_lemmas.proofs.Lists.{slice_get-there, slice_get-append_left, slice_get-append_cases, slice_get-push_cases, slice_get-last}
-use Rattle.ct_sorts.specs.declared.ids.SortId.{SortId}
+use Rattle.ct_lemmas.proofs.Lists.{slice_get-push_cases}
 use Rattle.ct_sorts.specs.Declarations.{Declarations, Selector}
 use Rattle.ct_sexpr.specs.Expression.{Expression}
 use Rattle.ct_values.specs.Graph.{Nodes, IsClosed}
 use Rattle.ct_card.specs.Sizes.{Table as Sizes}
 use Rattle.ct_eval.specs.declared.interp.Table.{Table}
-use Rattle.ct_model.specs.ModelText.{can_miss, off_numbers, argument_sort}
+use Rattle.ct_model.specs.ModelText.{can_miss}
 use Rattle.ct_model.proofs.ListLemmas.{range-more}
-use Rattle.ct_readback.specs.ItemText.{Due, due_off, all_due}
-use Rattle.ct_readback.specs.ModelReads.{IsRightAt, IsRefusedAt, IsFirstRefused}
-use Rattle.ct_readback.specs.Progress.{IsReadAt, IsOtherTable, AreFunctions, AreSelectors, first_offs}
+use Rattle.ct_readback.specs.ItemText.{Due, due_off}
+use Rattle.ct_readback.specs.Progress.{IsReadAt, IsOtherTable, AreSelectors, first_offs}
 use Rattle.ct_readback.proofs.DefaultLemmas.{other_longer}
-use Rattle.ct_readback.proofs.ModelLemmas.{read_longer, due_off_at, functions_right}
+use Rattle.ct_readback.proofs.ModelLemmas.{read_longer}
 
 -- one number more, which passes the test or does not
 offs_step : (d : Declarations) (count : ℕ) → first_offs d (count + 1) ≡ first_offs d count ++ cond (can_miss d count) (count ∷ []) []

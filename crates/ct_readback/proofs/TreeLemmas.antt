@@ -11,9 +11,9 @@ use Rattle.ct_sorts.specs.Declarations.{Declarations, Constructor, Selector, IsS
 use Rattle.ct_values.specs.declared.node.NodeId.{NodeId}
 use Rattle.ct_values.specs.declared.node.Node.{Node}
 use Rattle.ct_values.specs.declared.node.Node.TheVariants.{Con, Elem}
-use Rattle.ct_values.specs.Graph.{Nodes, IsClosed, HasChildrenBelow, node_head, node_children}
+use Rattle.ct_values.specs.Graph.{Nodes, IsClosed, HasChildrenBelow, node_children}
 use Rattle.ct_values.specs.Value.{Value, Values, reference, element, construct, no_values, with_value, list_of}
-use Rattle.ct_values.specs.Agreement.{Point, point, node_point, head, children, AgreeAlways}
+use Rattle.ct_values.specs.Agreement.{Point, point, node_point, children, AgreeAlways}
 use Rattle.ct_values.specs.Fitting.{HasNodeSort, IsNodeOfField, FitsNode}
 use Rattle.ct_values.proofs.AgreeLemmas.{AgreeAlways-trans, AgreeAlways-parts}
 use Rattle.ct_values.proofs.NodeLemmas.{node_points, head_at, children_at}

@@ -1,16 +1,15 @@
 -- A whole model from the tables of all its items.
-use Rattle.std.proofs.Common.{◌≡◌, ℕ, zero, suc, ◌+◌, ◌<◌, Bool, true, false, List, [], ◌∷◌, ◌++◌, length, Option, Some, option_map, option_and_then, unwrap_or, slice_get, refl, sym, ap, subst, ◌∙◌, arith, inl, inr, true≢false}
+use Rattle.std.proofs.Common.{◌≡◌, ℕ, zero, suc, ◌+◌, ◌<◌, Bool, true, false, List, [], ◌∷◌, length, Option, Some, option_map, option_and_then, unwrap_or, slice_get, refl, sym, ap, subst, ◌∙◌, arith, inl, inr}
 use Rattle.std.proofs.lemmas.Bool.{cases_order}
 use Rattle.std.proofs.lemmas.Option.{none-some, same_Some, slice_get_within}
-use Rattle.ct_lemmas.proofs.Lists.{slice_get-there, slice_get-append_left, slice_get-last}
+use Rattle.ct_lemmas.proofs.Lists.{slice_get-append_left, slice_get-last}
 use Rattle.ct_sorts.specs.declared.ids.SortId.{SortId}
 use Rattle.ct_sorts.specs.Declarations.{Declarations, Selector, Constructor, bool_sort}
 use Rattle.ct_sexpr.specs.Expression.{Expression}
 use Rattle.ct_values.specs.Graph.{Nodes}
 use Rattle.ct_values.specs.WellFormed.{IsWellFormedGraph}
 use Rattle.ct_eval.specs.declared.interp.Table.{Table}
-use Rattle.ct_eval.specs.declared.interp.Interp.{Interp}
-use Rattle.ct_eval.specs.Interpretation.{FitsTable, HasFunctions, HasSelectors, IsProper}
+use Rattle.ct_eval.specs.Interpretation.{FitsTable, IsProper}
 use Rattle.ct_card.specs.Sizes.{Table as Sizes}
 use Rattle.ct_model.specs.ModelText.{can_miss, off_numbers, argument_sort}
 use Rattle.ct_readback.specs.ItemText.{Due, due_function, due_off}

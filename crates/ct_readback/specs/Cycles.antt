@@ -1,5 +1,5 @@
 -- Cycles through nodes of datatypes, whose values are finite.
-use Rattle.std.specs.Prelude.{◌≡◌, ℕ, List, [], ◌∷◌, ◌++◌, Contains, Some, slice_get}
+use Rattle.std.specs.Prelude.{◌≡◌, List, [], ◌∷◌, Contains, Some, slice_get}
 use Rattle.ct_sorts.specs.Declarations.{Declarations}
 use Rattle.ct_values.specs.declared.node.NodeId.{NodeId}
 use Rattle.ct_values.specs.declared.node.Node.{Node}

@@ -1,6 +1,6 @@
 -- Values that are written as graphs, `(@graph ((@0 node) (@1 node) ..) @0)`. A node is a constructor or an element, or a constructor before
 -- numbers of nodes. The root is node 0, and there may be nodes that it does not reach.
-use Rattle.std.specs.Prelude.{◌≡◌, ℕ, suc, Bool, true, false, ◌&&◌, ◌||◌, nat_lt, List, [], ◌∷◌, Option, Some, None, option_map, option_and_then, codes}
+use Rattle.std.specs.Prelude.{◌≡◌, ℕ, suc, Bool, true, ◌&&◌, ◌||◌, nat_lt, List, [], ◌∷◌, Option, Some, option_map, option_and_then, codes}
 use Rattle.ct_sorts.specs.declared.ids.SortId.{SortId}
 use Rattle.ct_sorts.specs.Declarations.{Declarations}
 use Rattle.ct_sexpr.specs.Expression.{Expression, Expressions, none, more}

@@ -1,6 +1,6 @@
 -- What stands at the top of a value in a model: a constructor, alone, before its arguments or qualified as `(as C S)`, or an element
 -- `(as @U_3 U)` of an uninterpreted sort (SMT-LIB 2.7, section 3.6; the symbols of elements are this project's choice).
-use Rattle.std.specs.Prelude.{ℕ, Bool, false, not, ◌&&◌, ◌||◌, ◌==◌, nat_eq, List, [], ◌∷◌, ◌++◌, Option, Some, None, is_some, option_and_then, codes}
+use Rattle.std.specs.Prelude.{ℕ, Bool, false, not, ◌&&◌, ◌||◌, ◌==◌, nat_eq, List, [], ◌∷◌, ◌++◌, Option, is_some, option_and_then, codes}
 use Rattle.ct_sorts.specs.declared.ids.SortId.{SortId}
 use Rattle.ct_sorts.specs.declared.ids.CtorId.{CtorId}
 use Rattle.ct_sorts.specs.Declarations.{Declarations}

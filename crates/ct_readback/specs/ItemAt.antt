@@ -1,5 +1,5 @@
 -- What an item of a model says over declarations: a table of values. In an interpretation it is a table of nodes that have these values.
-use Rattle.std.specs.Prelude.{◌≡◌, ℕ, suc, true, ◌==◌, List, [], ◌∷◌, ◌++◌, length, Contains, Option, Some, None, MatchBool}
+use Rattle.std.specs.Prelude.{◌≡◌, ℕ, suc, true, ◌==◌, List, [], ◌∷◌, ◌++◌, length, Contains, Some, None, MatchBool}
 use Rattle.std.specs.List.{AllZip, flat_map}
 use Rattle.ct_sorts.specs.declared.ids.SortId.{SortId}
 use Rattle.ct_sorts.specs.Declarations.{Declarations}

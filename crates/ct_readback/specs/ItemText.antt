@@ -1,6 +1,6 @@
 -- The items of a model: `(define-fun f ((@x0 S) ..) T body)` for each function, and `(@off s ((@x0 S)) T body)` for what a selector gives
 -- where it is wrongly applied.
-use Rattle.std.specs.Prelude.{◌≡◌, ℕ, suc, Bool, true, false, not, ◌&&◌, ◌||◌, ◌==◌, List, [], ◌∷◌, ◌++◌, map, Option, Some, option_map, option_and_then, unwrap_or, slice_get, if◌then◌else◌, codes}
+use Rattle.std.specs.Prelude.{ℕ, suc, Bool, true, false, not, ◌&&◌, ◌||◌, ◌==◌, List, [], ◌∷◌, ◌++◌, map, Option, Some, option_map, option_and_then, unwrap_or, slice_get, if◌then◌else◌, codes}
 use Rattle.ct_sorts.specs.declared.ids.SortId.{SortId}
 use Rattle.ct_sorts.specs.Declarations.{Declarations, Function, Selector, bool_sort}
 use Rattle.ct_sexpr.specs.Expression.{Expression, Expressions, none, more}

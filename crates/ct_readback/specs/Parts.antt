@@ -1,5 +1,5 @@
 -- The parts of lists.
-use Rattle.std.specs.Prelude.{ℕ, zero, suc, Bool, true, false, List, [], ◌∷◌, Option, Some, None, option_map, option_and_then, if◌then◌else◌}
+use Rattle.std.specs.Prelude.{ℕ, zero, suc, Bool, true, false, List, Option, Some, None, option_map, option_and_then, if◌then◌else◌}
 use Rattle.ct_sexpr.specs.Expression.{Expression, leaf, list, Expressions, none, more}
 use Rattle.ct_readback.specs.Words.{is_word}
 

@@ -1,8 +1,8 @@
 -- The body of an item of a model: `(ite test result rest)` for each row, and a value as the default. Without parameters it is a value.
-use Rattle.std.specs.Prelude.{◌≡◌, ℕ, suc, Bool, true, not, ◌&&◌, ◌==◌, Option, option_and_then, if◌then◌else◌, codes}
-use Rattle.ct_sexpr.specs.Expression.{Expression, leaf, list, Expressions, none, more}
+use Rattle.std.specs.Prelude.{ℕ, suc, Bool, true, not, ◌&&◌, ◌==◌, Option, option_and_then, if◌then◌else◌, codes}
+use Rattle.ct_sexpr.specs.Expression.{Expression, list, Expressions, none, more}
 use Rattle.ct_readback.specs.Words.{is_word, is_numbered}
-use Rattle.ct_readback.specs.Parts.{holds, only_if, list_items, first_of, three_of, three_in, four_of, parts_after, count}
+use Rattle.ct_readback.specs.Parts.{holds, only_if, three_of, three_in, parts_after, count}
 use Rattle.ct_readback.specs.ValueAt.{is_value}
 
 -- the test and the result of a row, and what stands where its test fails

@@ -1,9 +1,8 @@
 -- What was found for the values of an item: nodes, a cycle, or that something does not fit.
-use Rattle.std.specs.Prelude.{◌≡◌, ℕ, List, [], length, Option, Some, None, Contains}
+use Rattle.std.specs.Prelude.{List}
 use Rattle.std.specs.List.{AllZip}
 use Rattle.ct_sorts.specs.declared.ids.SortId.{SortId}
 use Rattle.ct_sorts.specs.Declarations.{Declarations}
-use Rattle.ct_sexpr.specs.Expression.{Expression, Expressions}
 use Rattle.ct_values.specs.declared.node.NodeId.{NodeId}
 use Rattle.ct_values.specs.Graph.{Nodes}
 use Rattle.ct_values.specs.Agreement.{Point}
@@ -16,7 +15,6 @@ use Rattle.ct_readback.specs.declared.value.Said.TheVariants.{Nothing, Cycle, Va
 use Rattle.ct_readback.specs.declared.item.Part.{Part}
 use Rattle.ct_readback.specs.declared.item.Part.TheVariants as parts
 use Rattle.ct_readback.specs.Cycles.{HasDataCycle}
-use Rattle.ct_readback.specs.ValueAt.{IsValueAt}
 use Rattle.ct_readback.specs.ItemAt.{RowValues, TableValues, HasCycle, HasValue, IsRowFor, IsTableFor}
 
 -- the node has the sort and the value

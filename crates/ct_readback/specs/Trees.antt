@@ -1,5 +1,5 @@
 -- Values that are written as constructor terms.
-use Rattle.std.specs.Prelude.{◌≡◌, Bool, true, false, ◌&&◌, ◌||◌, List, [], ◌∷◌, Option, Some, None, option_map, option_and_then, codes}
+use Rattle.std.specs.Prelude.{Bool, true, false, ◌&&◌, ◌||◌, List, [], ◌∷◌, Option, Some, None, option_map, option_and_then, codes}
 use Rattle.ct_sorts.specs.declared.ids.SortId.{SortId}
 use Rattle.ct_sorts.specs.declared.ids.CtorId.{CtorId}
 use Rattle.ct_sorts.specs.Declarations.{Declarations}

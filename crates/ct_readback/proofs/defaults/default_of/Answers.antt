@@ -1,4 +1,4 @@
-use Rattle.std.proofs.Common.{length, Some, sym, ap, ◌∙◌, arith}
+use Rattle.std.proofs.Common.{Some, sym, ap, ◌∙◌, arith}
 use Rattle.std.proofs.lemmas.Option.{slice_get-get_or}
 use Rattle.ct_readback.proofs.DefaultLemmas.{defaults_more}
 use Rattle.ct_readback.proofs.defaults.default_of.Goals as goal

@@ -1,11 +1,9 @@
-use Rattle.std.proofs.Common.{◌≡◌, ◌++◌, ◌∷◌, [], Bool, true, false, List, length, refl, sym, subst, ◌∙◌}
+use Rattle.std.proofs.Common.{Bool, false, List, length, refl, sym, subst}
 use Rattle.ct_sorts.proofs.PieceLemmas.{Begins-self, Begins-trans}
 use Rattle.ct_sexpr.specs.View.{expression_of}
 use Rattle.ct_eval.specs.declared.interp.Row.{Row}
-use Rattle.ct_eval.specs.declared.interp.Table.{Table}
 use Rattle.ct_readback.specs.declared.value.Said.{Said}
 use Rattle.ct_readback.specs.declared.item.Part.{Part}
-use Rattle.ct_readback.specs.declared.item.Part.TheVariants as parts
 use Rattle.ct_readback.specs.ValueAt.{IsValueAt}
 use Rattle.ct_readback.specs.ItemAt.{values_in_row, IsRowAt}
 use Rattle.ct_readback.specs.Said.{IsSaid, IsPart, IsRowOf}

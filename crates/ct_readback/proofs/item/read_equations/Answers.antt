@@ -1,4 +1,4 @@
-use Rattle.std.proofs.Common.{◌≡◌, ◌+◌, List, drop, get_or, true, false, sym, subst, ◌∙◌, arith}
+use Rattle.std.proofs.Common.{◌+◌, List, drop, get_or, false, sym, subst, arith}
 use Rattle.std.proofs.lemmas.Option.{slice_get-get_or}
 use Rattle.ct_sorts.specs.declared.ids.SortId.{SortId}
 use Rattle.ct_sorts.proofs.PieceLemmas.{Begins-self, Begins-trans}

@@ -1,4 +1,4 @@
-use Rattle.std.proofs.Common.{◌≡◌, drop}
+use Rattle.std.proofs.Common.{drop}
 use Rattle.ct_sexpr.specs.View.{expressions_of}
 use Rattle.ct_sorts.specs.Grown.{Begins}
 use Rattle.ct_values.specs.WellFormed.{IsWellFormedGraph}

@@ -5,7 +5,6 @@ use Rattle.ct_values.specs.declared.node.NodeId.{NodeId}
 use Rattle.ct_readback.specs.declared.value.Said.{Said}
 use Rattle.ct_readback.specs.declared.value.Said.TheVariants as said
 use Rattle.ct_readback.specs.declared.item.Part.{Part}
-use Rattle.ct_readback.specs.declared.item.Part.TheVariants as parts
 use Rattle.ct_readback.specs.ValueAt.{IsValueAt}
 use Rattle.ct_readback.specs.Said.{IsSaid}
 use Rattle.ct_readback.proofs.PartLemmas.{Args, row_no_args, row_no_value, row_cyclic_args, row_cyclic_value, row_fine}

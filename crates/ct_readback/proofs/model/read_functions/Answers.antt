@@ -1,4 +1,4 @@
-use Rattle.std.proofs.Common.{◌≡◌, ◌+◌, ℕ, List, length, sym, ap, subst, ◌∙◌, Err, arith}
+use Rattle.std.proofs.Common.{◌≡◌, ◌+◌, List, length, sym, ap, subst, ◌∙◌, Err, arith}
 use Rattle.std.proofs.lemmas.Result.{err_from_is_err_and}
 use Rattle.ct_sorts.proofs.PieceLemmas.{Begins-self, Begins-trans}
 use Rattle.ct_sexpr.specs.View.{expressions_of}
@@ -6,7 +6,7 @@ use Rattle.ct_eval.specs.declared.interp.Table.{Table}
 use Rattle.ct_readback.specs.declared.error.BackError.{BackError}
 use Rattle.ct_readback.specs.declared.error.BackError.TheVariants.{Form}
 use Rattle.ct_readback.proofs.OutcomeLemmas.{one_error}
-use Rattle.ct_readback.specs.ModelReads.{items_of, IsFirstRefused, IsRefusedAt}
+use Rattle.ct_readback.specs.ModelReads.{items_of, IsFirstRefused}
 use Rattle.ct_readback.specs.Progress.{AreFunctions}
 use Rattle.ct_readback.proofs.GrowthLemmas.{functions_step}
 use Rattle.ct_readback.proofs.ModelLemmas.{functions_start, functions_refused}

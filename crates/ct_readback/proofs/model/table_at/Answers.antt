@@ -2,7 +2,7 @@ use Rattle.std.proofs.Common.{Some, Ok, Err, slice_get, sym, subst, arith}
 use Rattle.ct_sexpr.specs.View.{expression_of, expressions_of}
 use Rattle.ct_readback.specs.ItemRead.{IsItemRead}
 use Rattle.ct_readback.specs.ModelReads.{items_of, departs, IsRefusedAt}
-use Rattle.ct_readback.proofs.DueLemmas.{due_by, IsTableAt}
+use Rattle.ct_readback.proofs.DueLemmas.{due_by}
 use Rattle.ct_readback.proofs.OutcomeLemmas.{form_parts, item_at, missing_refused, item_refused}
 use Rattle.ct_readback.proofs.model.table_at.Goals as goal
 
