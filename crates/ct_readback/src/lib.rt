@@ -10,6 +10,7 @@ mod item_text;
 mod model;
 mod parts;
 mod placing;
+mod printed;
 mod rows;
 mod sort_text;
 mod trees;
@@ -18,3 +19,4 @@ mod words;
 
 pub use error::BackError;
 pub use model::read_model;
+pub use printed::printed_models;
