@@ -1,14 +1,13 @@
 -- What bodies of tables read back as where they were printed.
-use Rattle.std.proofs.Common.{◌≡◌, ℕ, zero, suc, ◌+◌, ◌<◌, ◌≤◌, Bool, true, false, not, ◌&&◌, ◌==◌, List, [], ◌∷◌, ◌++◌, length, Contains, flat_map, Option, None, Some, option_and_then, slice_get, refl, sym, ap, ap₂, subst, ◌∙◌, arith, codes, inl, inr, true≢false, if◌then◌else◌}
+use Rattle.std.proofs.Common.{◌≡◌, ℕ, suc, ◌≤◌, Bool, true, false, not, ◌&&◌, ◌==◌, List, [], ◌∷◌, ◌++◌, length, flat_map, None, Some, option_and_then, slice_get, refl, sym, ap, ap₂, subst, ◌∙◌, arith, codes, inl, inr, if◌then◌else◌}
 use Rattle.std.specs.List.{AllZip}
 use Rattle.std.proofs.lemmas.Option.{none-some, same_Some}
 use Rattle.std.proofs.lemmas.Bool.Decides.{nat_tests}
 use Rattle.std.proofs.lemmas.List.Elements.{Contains-append_cases}
 use Rattle.ct_lemmas.proofs.Booleans.{both_true}
-use Rattle.ct_lemmas.proofs.Contained.{Contains-none}
 use Rattle.ct_sorts.specs.declared.ids.SortId.{SortId}
 use Rattle.ct_sorts.specs.Declarations.{Declarations}
-use Rattle.ct_sexpr.specs.Expression.{Expression, leaf, list, Expressions, none, more, word}
+use Rattle.ct_sexpr.specs.Expression.{Expression, leaf, list, none, more, word}
 use Rattle.ct_sexpr.specs.Written.{canonical}
 use Rattle.ct_values.specs.declared.node.NodeId.{NodeId}
 use Rattle.ct_values.specs.Graph.{Nodes}
@@ -24,8 +23,8 @@ use Rattle.ct_readback.specs.Words.{is_word, number_bound}
 use Rattle.ct_readback.specs.Parts.{only_if, three_of, parts_after}
 use Rattle.ct_readback.specs.Cycles.{HasDataCycle}
 use Rattle.ct_readback.specs.ValueAt.{is_value, IsValueAt}
-use Rattle.ct_readback.specs.Rows.{row_in, is_test, is_choice, is_body, body_row}
-use Rattle.ct_readback.specs.ItemAt.{RowValues, TableValues, IsTestAt, HasRow, IsBodyAt, SaysTable, values_in_row, values_in, HasCycle, HasValue, IsRowFor, IsTableFor}
+use Rattle.ct_readback.specs.Rows.{is_test, is_choice, is_body, body_row}
+use Rattle.ct_readback.specs.ItemAt.{RowValues, TableValues, IsTestAt, IsBodyAt, SaysTable, values_in_row, values_in, HasCycle, HasValue, IsRowFor, IsTableFor}
 use Rattle.ct_readback.proofs.PrintedValues.{IsPrintable, ValueReads, IsPrinted, value_printed}
 use Rattle.ct_readback.proofs.PrintedRows.{acyclic_more, acyclic_none, listed_written, TestReads, test_printed}
 

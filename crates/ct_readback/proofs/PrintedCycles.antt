@@ -1,7 +1,6 @@
 -- The minimal graph of a value of a well-formed graph fits, and has no cycle of nodes of datatypes.
-use Rattle.std.proofs.Common.{◌≡◌, ℕ, zero, suc, ◌+◌, ◌<◌, ◌≤◌, List, [], ◌∷◌, length, map, Contains, Some, option_map, slice_get, refl, sym, ap, subst, ◌∙◌, arith}
-use Rattle.std.specs.List.{AllZip}
-use Rattle.std.proofs.lemmas.Option.{none-some, same_Some, slice_get_within}
+use Rattle.std.proofs.Common.{◌≡◌, ℕ, zero, suc, ◌<◌, ◌≤◌, List, [], ◌∷◌, length, map, Some, option_map, slice_get, sym, ap, subst, ◌∙◌, arith}
+use Rattle.std.proofs.lemmas.Option.{slice_get_within}
 use Rattle.ct_lemmas.proofs.Contained.{Contains-from_slice_get, slice_get-from_Contains}
 use Rattle.ct_lemmas.proofs.Pairs.{AllZip-at_left}
 use Rattle.ct_lemmas.proofs.Lists.{slice_get-map_at, slice_get-map_source}
@@ -15,13 +14,12 @@ use Rattle.ct_values.specs.declared.node.Head.TheVariants as heads
 use Rattle.ct_values.specs.Graph.{Nodes, node_head, node_children}
 use Rattle.ct_values.specs.Agreement.{Point, point, node_point, AgreeAlways}
 use Rattle.ct_values.specs.Value.{Value, reference}
-use Rattle.ct_values.specs.Fitting.{HasNodeSort, FitsGraph, node_sort}
-use Rattle.ct_values.specs.WellFormed.{IsData, AreFinite, IsWellFormedGraph}
+use Rattle.ct_values.specs.Fitting.{HasNodeSort, node_sort}
+use Rattle.ct_values.specs.WellFormed.{IsData, AreFinite}
 use Rattle.ct_values.specs.Minimal.{IsMinimal}
-use Rattle.ct_values.proofs.AgreeLemmas.{AgreeAlways-refl, AgreeAlways-sym}
+use Rattle.ct_values.proofs.AgreeLemmas.{AgreeAlways-refl}
 use Rattle.ct_values.proofs.NodeLemmas.{node_points}
 use Rattle.ct_values.proofs.MinimalLemmas.{agreeing_node, like, fewest_nodes}
-use Rattle.ct_readback.specs.Words.{number_bound}
 use Rattle.ct_readback.specs.Cycles.{IsDataStep, IsDataWay, HasDataCycle}
 use Rattle.ct_readback.proofs.PrintedGraphs.{HasSmallElements}
 

@@ -1,5 +1,5 @@
 -- Interpretations with the same tables evaluate terms to the same.
-use Rattle.std.proofs.Common.{◌≡◌, ◌↔◌, ℕ, zero, suc, ◌+◌, ◌<◌, ◌≤◌, Bool, true, false, not, ◌&&◌, ◌||◌, nat_lt, List, [], ◌∷◌, length, map, All, Option, None, Some, option_map, option_and_then, unwrap_or, slice_get, refl, sym, ap, ap₂, subst, ◌∙◌, arith, true≢false, if◌then◌else◌}
+use Rattle.std.proofs.Common.{◌≡◌, ℕ, zero, suc, ◌<◌, ◌≤◌, Bool, true, false, not, ◌&&◌, ◌||◌, nat_lt, List, [], ◌∷◌, length, map, Option, None, Some, option_map, option_and_then, unwrap_or, slice_get, refl, sym, ap, ap₂, subst, ◌∙◌, arith, true≢false, if◌then◌else◌}
 use Rattle.std.specs.List.{AllZip, AllByRecursion, list_all, list_any}
 use Rattle.std.proofs.lemmas.Option.{none-some, same_Some, slice_get_within}
 use Rattle.std.proofs.lemmas.Bool.Decides.{nat_tests}
@@ -16,11 +16,10 @@ use Rattle.ct_sorts.specs.Consistent.{IsConsistent, FitsKind}
 use Rattle.ct_sorts.proofs.StructureLemmas.{of_their_sorts, of_their_constructors}
 use Rattle.ct_values.specs.declared.node.Head.TheVariants as heads
 use Rattle.ct_values.specs.Graph.{Nodes, IsClosed}
-use Rattle.ct_values.specs.Value.{Value, reference, list_of, values_of}
+use Rattle.ct_values.specs.Value.{Value, list_of, values_of}
 use Rattle.ct_values.specs.ValueSort.{HasValueSort}
 use Rattle.ct_values.specs.Fitting.{FitsGraph}
-use Rattle.ct_values.specs.Inversion.{IsConstructed}
-use Rattle.ct_values.specs.Agreement.{Point, point, node_point, head, children_of, AgreeAlways}
+use Rattle.ct_values.specs.Agreement.{point, children_of, AgreeAlways}
 use Rattle.ct_values.specs.TruthValue.{truth, is_built, is_true}
 use Rattle.ct_values.proofs.AgreeLemmas.{AgreeAlways-parts}
 use Rattle.ct_values.proofs.SortedLemmas.{HasValueSort-over, not_element, field_there}
@@ -34,7 +33,7 @@ use Rattle.ct_terms.specs.Children.{core_children}
 use Rattle.ct_eval.specs.declared.interp.Table.{Table}
 use Rattle.ct_eval.specs.declared.interp.Interp.{Interp}
 use Rattle.ct_eval.specs.Interpretation.{IsProper}
-use Rattle.ct_eval.specs.Evaluation.{is_same, table_value, select, core_value, layer, value_below, value_of}
+use Rattle.ct_eval.specs.Evaluation.{table_value, select, core_value, layer, value_below, value_of}
 use Rattle.ct_eval.specs.Truth.{truth_value, Holds}
 use Rattle.ct_eval.proofs.CongruenceLemmas.{built_alike, same_alike}
 use Rattle.ct_eval.proofs.EvaluationLemmas.{value_of-unfolds}

@@ -1,6 +1,5 @@
 -- What graphs read back as where they were printed.
-use Rattle.std.proofs.Common.{◌≡◌, ℕ, zero, suc, ◌+◌, ◌<◌, ◌≤◌, Bool, true, false, ◌&&◌, ◌||◌, nat_lt, List, [], ◌∷◌, ◌++◌, length, map, All, Contains, Option, None, Some, option_map, option_and_then, unwrap_or, slice_get, refl, sym, ap, ap₂, subst, ◌∙◌, codes, arith}
-use Rattle.std.specs.List.{AllZip}
+use Rattle.std.proofs.Common.{◌≡◌, ℕ, zero, suc, ◌+◌, ◌<◌, ◌≤◌, Bool, true, nat_lt, List, [], ◌∷◌, length, map, All, Option, None, Some, option_map, option_and_then, unwrap_or, slice_get, refl, sym, ap, ap₂, subst, ◌∙◌, codes, arith}
 use Rattle.std.proofs.lemmas.Option.{none-some, same_Some, slice_get_within}
 use Rattle.std.proofs.lemmas.Bool.Decides.{nat_tests}
 use Rattle.std.proofs.lemmas.List.Elements.{All-head, All-tail}
@@ -11,21 +10,21 @@ use Rattle.ct_sorts.specs.declared.ids.SortId.{SortId}
 use Rattle.ct_sorts.specs.Declarations.{Declarations, Constructor, Sort, sort_names}
 use Rattle.ct_sorts.proofs.NamingLemmas.{one_sort}
 use Rattle.ct_sorts.specs.Consistent.{IsConsistent}
-use Rattle.ct_sexpr.specs.Expression.{Expression, leaf, list, Expressions, none, more, word}
+use Rattle.ct_sexpr.specs.Expression.{list, Expressions, more, word}
 use Rattle.ct_sexpr.specs.Written.{canonical, canonical_each}
 use Rattle.ct_values.specs.declared.node.NodeId.{NodeId}
 use Rattle.ct_values.specs.declared.node.Node.{Node}
 use Rattle.ct_values.specs.declared.node.Node.TheVariants.{Con, Elem}
-use Rattle.ct_values.specs.Graph.{Nodes, HasChildrenBelow, IsClosed, node_children}
+use Rattle.ct_values.specs.Graph.{Nodes, HasChildrenBelow}
 use Rattle.ct_values.specs.Value.{reference, values_of, node_value}
 use Rattle.ct_values.specs.Fitting.{HasNodeSort, IsElement, FitsNode, FitsGraph}
 use Rattle.ct_values.proofs.LastingLemmas.{fits_closed}
 use Rattle.ct_names.specs.Symbols.{ctor_named}
-use Rattle.ct_value_text.specs.ValueText.{name, node_name, expression, expressions, row, node_texts, graph_text, element_name, sort_name, ctor_name}
-use Rattle.ct_readback.specs.Words.{is_word, number_bound, numbered, is_numbered}
-use Rattle.ct_readback.specs.Parts.{holds, or_other, option_both, only_if, are_some, count, list_items, first_of, two_in, three_in, parts_after}
+use Rattle.ct_value_text.specs.ValueText.{node_name, expression, expressions, row, node_texts, graph_text, element_name, sort_name, ctor_name}
+use Rattle.ct_readback.specs.Words.{number_bound, numbered, is_numbered}
+use Rattle.ct_readback.specs.Parts.{holds, option_both, only_if, count, list_items, first_of}
 use Rattle.ct_readback.specs.Heads.{is_head, is_constructor_head, constructor_in, element_at}
-use Rattle.ct_readback.specs.GraphText.{some_rows, rows_between, graph_rows, node_text, is_reference, are_references, is_applied, is_node_text, are_rows, is_graph, reference_in, references_in, node_at, SaysNode, SayNodes, IsGraphAt}
+use Rattle.ct_readback.specs.GraphText.{some_rows, graph_rows, node_text, is_reference, are_references, is_applied, is_node_text, are_rows, is_graph, reference_in, references_in, node_at, SayNodes, IsGraphAt}
 use Rattle.ct_readback.specs.Nodes.{IsOnly}
 use Rattle.ct_readback.proofs.NodeLemmas.{only_lone, row_said}
 use Rattle.ct_readback.proofs.GraphLemmas.{sort_found, element_only, applied_only}

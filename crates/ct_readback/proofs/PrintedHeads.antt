@@ -1,29 +1,27 @@
 -- What constructors and elements read back as where they were printed.
-use Rattle.std.proofs.Common.{◌≡◌, ℕ, zero, suc, ◌+◌, ◌<◌, Bool, true, false, not, ◌&&◌, ◌||◌, ◌==◌, nat_eq, List, [], ◌∷◌, ◌++◌, map, take, drop, length, Option, None, Some, option_map, option_and_then, unwrap_or, is_some, slice_get, refl, sym, ap, subst, ◌∙◌, arith, codes, true≢false, inl, inr, append_assoc}
+use Rattle.std.proofs.Common.{◌≡◌, ℕ, zero, suc, ◌<◌, Bool, true, false, ◌&&◌, ◌==◌, nat_eq, List, [], ◌∷◌, ◌++◌, map, take, drop, length, Option, None, Some, option_map, option_and_then, unwrap_or, is_some, slice_get, refl, sym, ap, ◌∙◌, arith, codes, inl, inr, append_assoc}
 use Rattle.std.proofs.lemmas.Option.{none-some, same_Some}
 use Rattle.std.proofs.lemmas.Cmp.{nat_eq_equiv}
 use Rattle.ct_lemmas.proofs.Booleans.{both_true, or_left, or_right}
-use Rattle.ct_lemmas.proofs.Lists.{slice_get-there, slice_get-map_at}
+use Rattle.ct_lemmas.proofs.Lists.{slice_get-map_at}
 use Rattle.ct_sorts.specs.declared.ids.CtorId.{CtorId}
 use Rattle.ct_sorts.specs.declared.ids.SortId.{SortId}
-use Rattle.ct_sorts.specs.declared.ids.Symbol.{Symbol}
 use Rattle.ct_sorts.specs.declared.ids.Symbol.TheVariants.{Ctor}
-use Rattle.ct_sorts.specs.Declarations.{Declarations, Constructor, Sort, IsConstructor, ctor_names, start}
+use Rattle.ct_sorts.specs.Declarations.{Declarations, Constructor, Sort, ctor_names, start}
 use Rattle.ct_sorts.specs.Consistent.{IsConsistent}
 use Rattle.ct_sorts.proofs.NamingLemmas.{one_symbol}
-use Rattle.ct_sexpr.specs.Expression.{Expression, leaf, list, Expressions, none, more, word}
-use Rattle.ct_sexpr.specs.Written.{canonical, canonical_each}
+use Rattle.ct_sexpr.specs.Expression.{list, Expressions, none, more, word}
 use Rattle.ct_values.specs.Fitting.{IsElement}
 use Rattle.ct_card.specs.Defaults.{is_free, is_free_sort}
 use Rattle.ct_names.specs.Symbols.{ctor_named, ctor_sort, symbol_of, as_ctor}
 use Rattle.ct_names.proofs.SymbolLemmas.{resolves}
 use Rattle.ct_value_text.specs.Numeral.{numeral}
-use Rattle.ct_value_text.specs.ValueText.{name, element_name, element_text, sort_name, ctor_name}
+use Rattle.ct_value_text.specs.ValueText.{element_name, sort_name, ctor_name}
 use Rattle.ct_value_text.proofs.FitNameLemmas.{ctor_fits}
-use Rattle.ct_readback.specs.Words.{is_word, name_in, is_name, is_named, number_bound, number_in, after}
-use Rattle.ct_readback.specs.Parts.{holds, only_if, two_of, parts_after}
+use Rattle.ct_readback.specs.Words.{is_word, name_in, is_name, number_bound, number_in, after}
+use Rattle.ct_readback.specs.Parts.{holds, only_if, parts_after}
 use Rattle.ct_readback.specs.SortText.{is_sort_text, says_sort}
-use Rattle.ct_readback.specs.Heads.{ends_numbered, may_be_qualified, names_element, is_foreign, is_qualified, is_qualified_constructor, is_head, is_constructor_head, constructor_in, of_sort, constructor_at, element_named, is_sort_of_elements, element_of, element_at}
+use Rattle.ct_readback.specs.Heads.{ends_numbered, may_be_qualified, is_qualified, is_qualified_constructor, is_head, is_constructor_head, of_sort, constructor_at, element_named, is_sort_of_elements, element_at}
 use Rattle.ct_readback.proofs.PrintedWords.{read_name, named, name_is, named_own, name_no_word, after_own, numeral_reads}
 
 -- ---- constructors

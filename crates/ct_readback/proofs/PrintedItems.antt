@@ -1,7 +1,7 @@
 -- What items of models read back as where they were printed.
-use Rattle.std.proofs.Common.{◌≡◌, ℕ, zero, suc, ◌+◌, ◌<◌, ◌≤◌, Bool, true, false, not, ◌&&◌, ◌||◌, ◌==◌, List, [], ◌∷◌, length, Option, None, Some, option_map, option_and_then, unwrap_or, slice_get, refl, sym, ap, ap₂, subst, ◌∙◌, arith, codes, inl, inr}
+use Rattle.std.proofs.Common.{◌≡◌, ℕ, suc, ◌+◌, ◌<◌, ◌≤◌, Bool, true, false, not, ◌&&◌, ◌||◌, ◌==◌, List, [], ◌∷◌, length, Option, None, Some, option_and_then, unwrap_or, slice_get, refl, sym, ap, subst, ◌∙◌, arith, inr}
 use Rattle.std.specs.List.{list_all}
-use Rattle.std.proofs.lemmas.Option.{none-some, same_Some}
+use Rattle.std.proofs.lemmas.Option.{same_Some}
 use Rattle.std.proofs.lemmas.Slice.Eq.{bytes_eq-Decides}
 use Rattle.ct_lemmas.proofs.Booleans.{both_true}
 use Rattle.ct_sorts.specs.declared.ids.SortId.{SortId}
@@ -9,9 +9,9 @@ use Rattle.ct_sorts.specs.Declarations.{Declarations, sort_names}
 use Rattle.ct_sorts.specs.Availability.{IsUnavailable}
 use Rattle.ct_sorts.specs.Consistent.{IsConsistent}
 use Rattle.ct_sexpr.specs.Token.{is_in_quoted_symbol}
-use Rattle.ct_sexpr.specs.Expression.{Expression, leaf, list, Expressions, none, more, word}
-use Rattle.ct_sexpr.specs.Written.{written, written_name, canonical, canonical_each, forms_symbol}
-use Rattle.ct_sexpr.specs.Readable.{IsReadable, AreReadable}
+use Rattle.ct_sexpr.specs.Expression.{Expression, list, Expressions, none, more, word}
+use Rattle.ct_sexpr.specs.Written.{written_name, canonical, canonical_each, forms_symbol}
+use Rattle.ct_sexpr.specs.Readable.{AreReadable}
 use Rattle.ct_values.specs.Graph.{Nodes}
 use Rattle.ct_value_text.specs.ValueText.{name, sort_name}
 use Rattle.ct_value_text.proofs.FitNameLemmas.{fit_between}
@@ -19,17 +19,17 @@ use Rattle.ct_value_text.proofs.PlainLemmas.{TextTheorems}
 use Rattle.ct_eval.specs.declared.interp.Table.{Table}
 use Rattle.ct_eval.specs.Interpretation.{FitsTable}
 use Rattle.ct_model.specs.Listed.{listed}
-use Rattle.ct_model.specs.TableText.{parameter, sorted_parameter, parameters, definition, IsBodyText}
-use Rattle.ct_readback.specs.Words.{is_word, is_name, is_named, number_bound, is_numbered}
-use Rattle.ct_readback.specs.Parts.{holds, only_if, count, list_items, four_of, two_in, parts_after}
+use Rattle.ct_model.specs.TableText.{parameter, parameters, definition, IsBodyText}
+use Rattle.ct_readback.specs.Words.{is_word, is_name, is_named, number_bound}
+use Rattle.ct_readback.specs.Parts.{holds, only_if, count, four_of}
 use Rattle.ct_readback.specs.SortText.{is_sort_text, says_sort}
 use Rattle.ct_readback.specs.Rows.{is_body}
-use Rattle.ct_readback.specs.ItemText.{Due, ItemText, item_word, item_of, item_in, parameter_sort, are_parameters, has_parts, has_form, say_parameters, is_heading}
-use Rattle.ct_readback.specs.ItemAt.{TableValues, SaysTable, IsItemAt, IsTableFor, IsRight, values_in, HasCycle}
+use Rattle.ct_readback.specs.ItemText.{Due, ItemText, item_word, item_of, item_in, parameter_sort, are_parameters, has_parts, say_parameters, is_heading}
+use Rattle.ct_readback.specs.ItemAt.{TableValues, SaysTable, IsItemAt, IsTableFor, IsRight}
 use Rattle.ct_readback.proofs.PrintedWords.{read_name, name_is, named_own}
 use Rattle.ct_readback.proofs.PrintedHeads.{sort_reads, sort_form}
 use Rattle.ct_readback.proofs.PrintedValues.{IsPrintable, IsPrinted}
-use Rattle.ct_readback.proofs.PrintedRows.{AreWritten, listed_written, parameter_word, parameter_is, parameter_readable, ArePrinted}
+use Rattle.ct_readback.proofs.PrintedRows.{AreWritten, listed_written, parameter_word, parameter_is, parameter_readable}
 use Rattle.ct_readback.proofs.PrintedBodies.{BodyReads, printed_table, body_printed}
 
 -- ---- names that can be written

@@ -1,12 +1,12 @@
 -- Tables of two graphs that have the same values give the same for the same arguments.
-use Rattle.std.proofs.Common.{◌≡◌, ℕ, zero, suc, Bool, true, false, ◌&&◌, List, [], ◌∷◌, length, map, Option, None, Some, unwrap_or, slice_get, refl, sym, ap, ap₂, subst, ◌∙◌, arith, true≢false, if◌then◌else◌}
+use Rattle.std.proofs.Common.{◌≡◌, ℕ, Bool, true, false, ◌&&◌, List, [], ◌∷◌, length, map, Option, Some, unwrap_or, slice_get, refl, sym, ap, ap₂, subst, ◌∙◌, arith, true≢false, if◌then◌else◌}
 use Rattle.std.specs.List.{AllZip}
 use Rattle.ct_sorts.specs.declared.ids.SortId.{SortId}
 use Rattle.ct_sorts.specs.Declarations.{Declarations}
 use Rattle.ct_values.specs.declared.node.NodeId.{NodeId}
 use Rattle.ct_values.specs.Graph.{Nodes, IsClosed}
 use Rattle.ct_values.specs.Value.{Value}
-use Rattle.ct_values.specs.Agreement.{Point, point, node_point, same, AgreeAlways}
+use Rattle.ct_values.specs.Agreement.{Point, point, node_point, AgreeAlways}
 use Rattle.ct_values.specs.Fitting.{HasNodeSort}
 use Rattle.ct_values.proofs.AgreeLemmas.{AgreeAlways-parts, AgreeAlways-refl, AgreeAlways-sym, AgreeAlways-trans}
 use Rattle.ct_values.proofs.DepthLemmas.{every_depth}

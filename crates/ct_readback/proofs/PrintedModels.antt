@@ -1,20 +1,20 @@
 -- What a whole model reads back as where it was printed.
-use Rattle.std.proofs.Common.{◌≡◌, ℕ, zero, suc, ◌+◌, ◌-◌, ◌<◌, ◌≤◌, ◌⊎◌, Bool, true, false, List, [], ◌∷◌, ◌++◌, length, length-append, map, Option, None, Some, Ok, Err, option_map, option_and_then, unwrap_or, slice_get, refl, sym, ap, ap₂, subst, ◌∙◌, arith, codes, inl, inr, append_assoc, true≢false}
-use Rattle.std.specs.List.{AllZip, range_with_len}
-use Rattle.std.proofs.lemmas.Option.{none-some, same_Some, slice_get_within, slice_get_past}
+use Rattle.std.proofs.Common.{◌≡◌, ℕ, ◌+◌, ◌-◌, ◌<◌, ◌≤◌, ◌⊎◌, true, List, [], ◌∷◌, ◌++◌, length, length-append, map, Option, None, Some, option_map, option_and_then, unwrap_or, slice_get, refl, sym, ap, subst, ◌∙◌, arith, inl, inr, append_assoc, true≢false}
+use Rattle.std.specs.List.{AllZip}
+use Rattle.std.proofs.lemmas.Option.{same_Some, slice_get_within, slice_get_past}
 use Rattle.std.proofs.lemmas.Bool.{cases_lt}
 use Rattle.std.proofs.lemmas.List.{length-map}
 use Rattle.std.proofs.lemmas.List.FromFn.{length-range_with_len}
 use Rattle.ct_lemmas.proofs.Lists.{slice_get-there, slice_get-map_at, slice_get-append_left, slice_get-append_right}
-use Rattle.ct_lemmas.proofs.Pairs.{AllZip-one_length, AllZip-at_left, AllZip-at}
+use Rattle.ct_lemmas.proofs.Pairs.{AllZip-one_length, AllZip-at_left}
 use Rattle.ct_sorts.specs.declared.ids.SortId.{SortId}
 use Rattle.ct_sorts.specs.Declarations.{Declarations, Function, Selector, Constructor, bool_sort}
 use Rattle.ct_sorts.specs.Consistent.{IsConsistent}
 use Rattle.ct_sorts.proofs.Lists.{slice_get-numbers}
 use Rattle.ct_sexpr.specs.Expression.{Expression, list, Expressions, none, more, nesting}
-use Rattle.ct_sexpr.specs.Written.{written, canonical, canonical_each}
-use Rattle.ct_sexpr.specs.Readable.{IsReadable, AreReadable}
-use Rattle.ct_sexpr.specs.Spaced.{is_spacing, IsSpaced, AreSpaced, AreSpacedAfter}
+use Rattle.ct_sexpr.specs.Written.{canonical, canonical_each}
+use Rattle.ct_sexpr.specs.Readable.{IsReadable}
+use Rattle.ct_sexpr.specs.Spaced.{IsSpaced, AreSpaced, AreSpacedAfter}
 use Rattle.ct_sexpr.specs.Reading.{BeginsCommand, nesting_limit}
 use Rattle.ct_sexpr.proofs.SpacedTexts.{spaced_is_read, written_is_spaced}
 use Rattle.ct_values.specs.Graph.{Nodes}
@@ -27,10 +27,9 @@ use Rattle.ct_card.specs.Sizes.{Table as Sizes}
 use Rattle.ct_model.specs.Listed.{lines}
 use Rattle.ct_model.specs.TableText.{IsTableText, IsOffText}
 use Rattle.ct_model.specs.ModelText.{argument_sort, can_miss, function_numbers, off_numbers, IsModelText}
-use Rattle.ct_readback.specs.Words.{number_bound}
-use Rattle.ct_readback.specs.ItemText.{Due, due_function, due_off, all_due, has_form}
-use Rattle.ct_readback.specs.ItemAt.{TableValues, values_in, IsItemAt, HasCycle, IsTableFor, IsRight, IsRead}
-use Rattle.ct_readback.specs.ModelReads.{items_of, IsModel, IsRefused, IsRefusedAt, IsFirstRefused, ModelReads}
+use Rattle.ct_readback.specs.ItemText.{Due, due_function, due_off, all_due}
+use Rattle.ct_readback.specs.ItemAt.{TableValues, values_in, HasCycle, IsTableFor, IsRead}
+use Rattle.ct_readback.specs.ModelReads.{items_of, IsModel, IsRefused, IsRefusedAt, IsFirstRefused}
 use Rattle.ct_readback.specs.Printed.{IsInRange, GiveSame, HaveSameTables, ReadsBack}
 use Rattle.ct_readback.proofs.ModelLemmas.{due_at, due_off_at}
 use Rattle.ct_readback.proofs.WholeLemmas.{off_listed}
@@ -289,6 +288,7 @@ model_reads_back theorems d sizes i text consistent proper range is =
       spaced,
       record {
         accepted = λ place code refused. accepted d sizes i (items_of (canonical_each all.printed)) all.reads place code refused;
+        proper = λ j model. model.proper;
         tables = λ j model. same_tables d sizes i (items_of (canonical_each all.printed)) all.reads consistent proper j model;
         assertions = λ j terms asserts model ordered sorted held.
             holds_still d i j consistent proper model.proper (same_tables d sizes i (items_of (canonical_each all.printed)) all.reads consistent proper j model) terms ordered sorted asserts held;

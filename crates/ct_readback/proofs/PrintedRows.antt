@@ -1,32 +1,31 @@
 -- What rows of tables read back as where they were printed: equations of parameters and values, tests and results.
-use Rattle.std.proofs.Common.{◌≡◌, ℕ, zero, suc, ◌+◌, ◌<◌, ◌≤◌, Bool, true, false, ◌&&◌, ◌==◌, List, [], ◌∷◌, ◌++◌, length, Contains, MatchBool, Option, None, Some, option_map, option_and_then, slice_get, refl, sym, ap, ap₂, subst, ◌∙◌, arith, codes, inl, inr, if◌then◌else◌}
+use Rattle.std.proofs.Common.{◌≡◌, ℕ, suc, ◌+◌, ◌<◌, ◌≤◌, Bool, true, false, ◌&&◌, ◌==◌, List, [], ◌∷◌, ◌++◌, length, MatchBool, Some, refl, sym, ap, ap₂, subst, ◌∙◌, arith, codes, inl, inr, if◌then◌else◌}
 use Rattle.std.specs.List.{AllZip}
-use Rattle.std.proofs.lemmas.Option.{none-some, same_Some}
+use Rattle.std.proofs.lemmas.Option.{same_Some}
 use Rattle.std.proofs.lemmas.Bool.Decides.{nat_tests}
 use Rattle.std.proofs.lemmas.Cmp.{nat_eq_equiv}
 use Rattle.ct_lemmas.proofs.Booleans.{both_true}
 use Rattle.ct_lemmas.proofs.Contained.{Contains-none, Contains-cons}
 use Rattle.ct_sorts.specs.declared.ids.SortId.{SortId}
 use Rattle.ct_sorts.specs.Declarations.{Declarations}
-use Rattle.ct_sexpr.specs.Expression.{Expression, leaf, list, Expressions, none, more, word}
+use Rattle.ct_sexpr.specs.Expression.{Expression, list, Expressions, none, more, word}
 use Rattle.ct_sexpr.specs.Written.{written, written_items, written_after, canonical, canonical_each}
 use Rattle.ct_sexpr.specs.Readable.{IsReadable, AreReadable}
 use Rattle.ct_values.specs.declared.node.NodeId.{NodeId}
 use Rattle.ct_values.specs.Graph.{Nodes}
-use Rattle.ct_values.specs.Agreement.{Point, node_point, AgreeAlways}
+use Rattle.ct_values.specs.Agreement.{Point}
 use Rattle.ct_values.specs.Fitting.{HasNodeSort}
-use Rattle.ct_value_text.specs.Numeral.{numeral}
 use Rattle.ct_value_text.specs.ValueText.{IsValueText}
 use Rattle.ct_value_text.proofs.FitNameLemmas.{digits_word}
 use Rattle.ct_value_text.proofs.PlainLemmas.{TextTheorems}
 use Rattle.ct_model.specs.Listed.{spaced, joined, listed}
 use Rattle.ct_model.specs.TableText.{parameter, equation, equations, conjunction}
 use Rattle.ct_readback.specs.Words.{number_bound, numbered, is_numbered}
-use Rattle.ct_readback.specs.Parts.{holds, only_if, count, three_in, parts_after}
+use Rattle.ct_readback.specs.Parts.{holds, only_if, count}
 use Rattle.ct_readback.specs.Cycles.{HasDataCycle}
 use Rattle.ct_readback.specs.ValueAt.{is_value, IsValueAt}
-use Rattle.ct_readback.specs.Rows.{value_between, equation_value, conjuncts, is_equation, are_equations, is_test}
-use Rattle.ct_readback.specs.ItemAt.{HasValue, IsEquationAt, AreEquationsAt, AreConjunctsAt, IsTestAt, HasCycle}
+use Rattle.ct_readback.specs.Rows.{equation_value, conjuncts, is_equation, are_equations, is_test}
+use Rattle.ct_readback.specs.ItemAt.{HasValue, AreEquationsAt, AreConjunctsAt, IsTestAt, HasCycle}
 use Rattle.ct_readback.proofs.PrintedWords.{number_after_own, is_own}
 use Rattle.ct_readback.proofs.PrintedValues.{IsPrintable, ValueReads, IsPrinted, value_printed}
 

@@ -1,24 +1,23 @@
 -- What constructor terms read back as where they were printed.
-use Rattle.std.proofs.Common.{◌≡◌, ℕ, ◌<◌, Bool, true, false, ◌&&◌, ◌||◌, List, [], ◌∷◌, map, Option, None, Some, option_map, option_and_then, unwrap_or, slice_get, is_some, refl, sym, ap, ap₂, subst, ◌∙◌, codes, arith}
-use Rattle.std.specs.List.{AllZip}
-use Rattle.std.proofs.lemmas.Option.{none-some, same_Some}
+use Rattle.std.proofs.Common.{◌≡◌, ℕ, ◌<◌, Bool, true, ◌||◌, List, [], ◌∷◌, map, Option, None, Some, option_map, option_and_then, unwrap_or, slice_get, refl, ap, ap₂, subst, ◌∙◌, codes}
+use Rattle.std.proofs.lemmas.Option.{none-some}
 use Rattle.ct_lemmas.proofs.Booleans.{both_true, or_right}
 use Rattle.ct_sorts.specs.declared.ids.CtorId.{CtorId}
 use Rattle.ct_sorts.specs.declared.ids.SelId.{SelId}
 use Rattle.ct_sorts.specs.declared.ids.SortId.{SortId}
 use Rattle.ct_sorts.specs.Declarations.{Declarations, Constructor, Selector}
 use Rattle.ct_sorts.specs.Consistent.{IsConsistent}
-use Rattle.ct_sexpr.specs.Expression.{Expression, leaf, list, Expressions, none, more, word}
+use Rattle.ct_sexpr.specs.Expression.{list, more, word}
 use Rattle.ct_sexpr.specs.Written.{canonical, canonical_each}
 use Rattle.ct_values.specs.Value.{Value, Values, reference, element, construct, no_values, with_value}
 use Rattle.ct_values.specs.ValueSort.{HasValueSort, AreOfFields}
 use Rattle.ct_values.specs.Fitting.{IsElement}
-use Rattle.ct_names.specs.Symbols.{field_sort_id, ctor_field_sorts}
-use Rattle.ct_value_text.specs.ValueText.{name, expression, expressions, sort_name, ctor_name}
-use Rattle.ct_readback.specs.Words.{is_word, number_bound}
-use Rattle.ct_readback.specs.Parts.{or_other, option_both, only_if, are_some, parts_after}
-use Rattle.ct_readback.specs.Heads.{is_head, is_constructor_head, constructor_at, element_at}
-use Rattle.ct_readback.specs.Trees.{is_tree, is_application, are_trees, tree_at, application_at, trees_at, element_value, lone, lone_at}
+use Rattle.ct_names.specs.Symbols.{field_sort_id}
+use Rattle.ct_value_text.specs.ValueText.{expression, expressions, sort_name, ctor_name}
+use Rattle.ct_readback.specs.Words.{number_bound}
+use Rattle.ct_readback.specs.Parts.{option_both, only_if, parts_after}
+use Rattle.ct_readback.specs.Heads.{is_head, is_constructor_head, element_at}
+use Rattle.ct_readback.specs.Trees.{is_tree, is_application, are_trees, tree_at, trees_at}
 use Rattle.ct_readback.proofs.ApplicationLemmas.{element_tree, application_tree, application_is, lone_is}
 use Rattle.ct_readback.proofs.PrintedWords.{read_name}
 use Rattle.ct_readback.proofs.PrintedHeads.{ctor_reads, name_head, name_constructor_head, no_as, no_graph, no_ite, element_parts, element_reads, element_head}

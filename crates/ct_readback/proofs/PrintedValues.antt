@@ -1,13 +1,13 @@
 -- What values read back as where they were printed.
-use Rattle.std.proofs.Common.{◌≡◌, ℕ, zero, suc, ◌+◌, ◌<◌, ◌≤◌, Bool, true, false, is_some, List, [], ◌∷◌, length, map, MatchBool, Option, None, Some, option_map, unwrap_or, slice_get, refl, sym, ap, subst, ◌∙◌, arith, inl, inr, codes, if◌then◌else◌}
+use Rattle.std.proofs.Common.{◌≡◌, ℕ, suc, ◌≤◌, Bool, true, false, is_some, List, [], ◌∷◌, length, map, MatchBool, None, Some, option_map, unwrap_or, slice_get, refl, sym, ap, subst, ◌∙◌, inl, inr, codes, if◌then◌else◌}
 use Rattle.std.specs.List.{AllZip}
-use Rattle.std.proofs.lemmas.Option.{none-some, same_Some, slice_get_within}
+use Rattle.std.proofs.lemmas.Option.{same_Some, slice_get_within}
 use Rattle.ct_lemmas.proofs.Options.{option_map-source}
 use Rattle.ct_sorts.specs.declared.ids.SortId.{SortId}
 use Rattle.ct_sorts.specs.declared.ids.SelId.{SelId}
 use Rattle.ct_sorts.specs.Declarations.{Declarations}
 use Rattle.ct_sorts.specs.Consistent.{IsConsistent}
-use Rattle.ct_sexpr.specs.Expression.{Expression, Expressions}
+use Rattle.ct_sexpr.specs.Expression.{Expression}
 use Rattle.ct_sexpr.specs.Written.{written, canonical}
 use Rattle.ct_sexpr.specs.Readable.{IsReadable}
 use Rattle.ct_values.specs.declared.node.NodeId.{NodeId}
@@ -15,10 +15,10 @@ use Rattle.ct_values.specs.declared.node.Node.{Node}
 use Rattle.ct_values.specs.declared.node.Node.TheVariants.{Con, Elem}
 use Rattle.ct_values.specs.declared.node.Head.TheVariants as heads
 use Rattle.ct_values.specs.Graph.{Nodes, node_head, node_children}
-use Rattle.ct_values.specs.Value.{Value, Values, reference, element, construct, no_values, with_value, list_of, values_of, node_value, IsOver, AreOver}
+use Rattle.ct_values.specs.Value.{Value, Values, reference, element, construct, no_values, with_value, list_of, values_of, node_value, AreOver}
 use Rattle.ct_values.specs.ValueSort.{HasValueSort, AreOfFields}
 use Rattle.ct_values.specs.Agreement.{Point, point, node_point, AgreeAlways}
-use Rattle.ct_values.specs.Fitting.{HasNodeSort, FitsNode, FitsGraph}
+use Rattle.ct_values.specs.Fitting.{HasNodeSort, FitsNode}
 use Rattle.ct_values.specs.WellFormed.{IsWellFormedGraph}
 use Rattle.ct_values.proofs.AgreeLemmas.{AgreeAlways-parts, AgreeAlways-sym}
 use Rattle.ct_values.proofs.NodeLemmas.{node_points}
@@ -33,8 +33,8 @@ use Rattle.ct_readback.specs.Trees.{is_tree, tree_at}
 use Rattle.ct_readback.specs.GraphText.{is_graph}
 use Rattle.ct_readback.specs.ValueAt.{begins_graph, is_value, IsTreeValue, IsGraphValue, IsValueAt}
 use Rattle.ct_readback.proofs.SaidLemmas.{no_nodes_acyclic}
-use Rattle.ct_readback.proofs.PrintedTrees.{IsSmall, AreSmall, TreeReads, tree_reads}
-use Rattle.ct_readback.proofs.PrintedGraphs.{HasSmallElements, GraphReads, graph_reads}
+use Rattle.ct_readback.proofs.PrintedTrees.{IsSmall, AreSmall, tree_reads}
+use Rattle.ct_readback.proofs.PrintedGraphs.{HasSmallElements, graph_reads}
 use Rattle.ct_readback.proofs.PrintedCycles.{sort_across, minimal_acyclic, minimal_small, minimal_few}
 
 -- a graph whose values can be printed: it is well formed, and its numbers are below the bound

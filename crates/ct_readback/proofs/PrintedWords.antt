@@ -1,24 +1,22 @@
 -- What names and numbers read back as where they were printed.
-use Rattle.std.proofs.Common.{◌≡◌, ℕ, zero, suc, ◌+◌, ◌<◌, ◌^◌, Bool, true, false, not, ◌&&◌, ◌==◌, nat_eq, nat_lt, List, [], ◌∷◌, ◌++◌, length, map, get_or, Option, None, Some, option_map, option_and_then, unwrap_or, slice_get, bytes_eq, refl, sym, ap, subst, ◌∙◌, arith, codes, true≢false, inl, inr, append_assoc, if◌then◌else◌}
+use Rattle.std.proofs.Common.{◌≡◌, ℕ, zero, suc, ◌+◌, ◌<◌, ◌^◌, Bool, true, false, not, ◌&&◌, ◌==◌, nat_lt, List, [], ◌∷◌, ◌++◌, map, get_or, Option, None, Some, option_map, option_and_then, unwrap_or, bytes_eq, refl, sym, ap, ◌∙◌, arith, true≢false, if◌then◌else◌}
 use Rattle.std.specs.List.{list_all}
 use Rattle.std.specs.Char.{is_ascii_digit}
 use Rattle.std.specs.Int.Digits.{digits_of, AllBelowBase}
-use Rattle.std.proofs.lemmas.Option.{none-some, same_Some, slice_get_within}
-use Rattle.std.proofs.lemmas.Bool.Decides.{nat_tests, Decides-eqb}
+use Rattle.std.proofs.lemmas.Bool.Decides.{nat_tests}
 use Rattle.std.proofs.lemmas.Cmp.{nat_eq_equiv}
 use Rattle.std.proofs.lemmas.Slice.Eq.{bytes_eq-Decides}
 use Rattle.std.proofs.lemmas.Int.Digits.{all_below_base_digits_of, first_digits_of}
 use Rattle.ct_lemmas.proofs.Booleans.{both_true, not_true}
-use Rattle.ct_sexpr.specs.Atom.{Atom, symbol, quoted, keyword, text, numeral as numeral_atom, decimal as decimal_atom, binary, hexadecimal, numeral_value}
-use Rattle.ct_sexpr.specs.Expression.{Expression, leaf, list, Expressions, none, more, word}
-use Rattle.ct_sexpr.specs.Written.{canonical_atom, canonical}
-use Rattle.ct_sexpr.specs.Readable.{name_of_atom}
+use Rattle.ct_sexpr.specs.Atom.{symbol, quoted, keyword, text, numeral as numeral_atom, decimal as decimal_atom, binary, hexadecimal, numeral_value}
+use Rattle.ct_sexpr.specs.Expression.{Expression, leaf, list, word}
+use Rattle.ct_sexpr.specs.Written.{canonical}
 use Rattle.ct_sexpr.proofs.Numbers.{decimal-AreDigitsOf}
 use Rattle.ct_sexpr.proofs.Names.{simple_name}
 use Rattle.ct_value_text.specs.Numeral.{numeral}
 use Rattle.ct_value_text.specs.ValueText.{name}
 use Rattle.ct_value_text.proofs.NumeralLemmas.{numeral_is_decimal}
-use Rattle.ct_readback.specs.Words.{is_word, name_in, is_name, is_named, is_numeral, number_bound, number_in, after, number_after, numbered, is_numbered}
+use Rattle.ct_readback.specs.Words.{is_word, name_in, is_name, is_named, is_numeral, number_bound, number_in, after, number_after}
 
 -- ---- numbers
 

@@ -12,6 +12,7 @@ use Rattle.ct_terms.specs.declared.ids.TermId.{TermId}
 use Rattle.ct_terms.specs.Terms.{Terms, AreSorted, AreOrdered}
 use Rattle.ct_eval.specs.declared.interp.Table.{Table}
 use Rattle.ct_eval.specs.declared.interp.Interp.{Interp}
+use Rattle.ct_eval.specs.Interpretation.{IsProper}
 use Rattle.ct_eval.specs.LookUp.{look_up}
 use Rattle.ct_eval.specs.Truth.{Holds}
 use Rattle.ct_card.specs.Sizes.{Table as Sizes}
@@ -38,10 +39,11 @@ pub record HaveSameTables (d : Declarations) (i j : Interp) : Type 0 where
   pub offs : (s : ℕ) (table other : Table) → can_miss d s ≡ true → slice_get i.offs s ≡ Some table → slice_get j.offs s ≡ Some other
       → GiveSame i.graph j.graph 1 table other
 
--- the expression reads back as the interpretation: it is not refused, and what it says has the same printed tables and makes every
--- assertion true that held before
+-- the expression reads back as the interpretation: it is not refused, and what it says is proper, has the same printed tables and makes
+-- every assertion true that held before
 pub record ReadsBack (d : Declarations) (sizes : Sizes) (i : Interp) (e : Expression) : Type 0 where
   pub accepted : (place code : ℕ) → ModelReads d sizes e (Err (place, code)) → ⊥
+  pub proper : (j : Interp) → ModelReads d sizes e (Ok j) → IsProper d j
   pub tables : (j : Interp) → ModelReads d sizes e (Ok j) → HaveSameTables d i j
   pub assertions : (j : Interp) (terms : Terms) (asserts : List TermId) → ModelReads d sizes e (Ok j) → AreOrdered terms → AreSorted d terms
       → Holds d i terms asserts → Holds d j terms asserts

@@ -10,13 +10,13 @@ mod item_text;
 mod model;
 mod parts;
 mod placing;
-mod printed;
 mod rows;
 mod sort_text;
+mod theorems;
 mod trees;
 mod value;
 mod words;
 
 pub use error::BackError;
 pub use model::read_model;
-pub use printed::printed_models;
+pub use theorems::printed_models;

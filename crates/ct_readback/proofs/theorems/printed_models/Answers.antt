@@ -1,6 +1,6 @@
 use Rattle.ct_value_text.proofs.PlainLemmas.{TextTheorems}
 use Rattle.ct_readback.proofs.PrintedModels.{model_reads_back}
-use Rattle.ct_readback.proofs.printed.printed_models.Goals as goal
+use Rattle.ct_readback.proofs.theorems.printed_models.Goals as goal
 
 -- the theorems on texts that the call gives
 texts : goal.After-written_texts → TextTheorems
