@@ -68,7 +68,7 @@ pub fn solve(
 /// store are well sorted over the signature, and stay so.
 ///
 /// After `Unsat` and `Unknown` the store has taken the further clauses of the theory in the derivation, in order, up to the first
-/// for which it holds 4,096 or its table has no room. After `Sat`, and where there is no verdict, it is as it was.
+/// for which it holds 4,096 or for whose terms its table has no room. After `Sat`, and where there is no verdict, it is as it was.
 pub fn solve_kept(
     alloc: Global,
     sig: &Signature,

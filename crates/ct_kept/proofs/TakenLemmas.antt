@@ -1,7 +1,7 @@
 -- What a store takes: the lemmas of the first lines, as many as are taken.
-use Rattle.std.proofs.Common.{◌≡◌, ℕ, zero, suc, ◌+◌, ◌≤◌, ◌<◌, ◌⊎◌, List, [], ◌∷◌, ◌++◌, length, map, take, drop, get_or, Some, slice_get, Contains, All, refl, sym, ap, subst, ◌∙◌, inl, inr, arith, length-append}
+use Rattle.std.proofs.Common.{◌≡◌, ℕ, zero, suc, ◌+◌, ◌≤◌, ◌<◌, ◌⊎◌, List, [], ◌∷◌, ◌++◌, length, map, take, drop, get_or, Some, slice_get, All, refl, sym, ap, subst, ◌∙◌, inl, inr, arith, length-append}
 use Rattle.std.specs.List.{AllZip, AllByRecursion, flat_map}
-use Rattle.std.proofs.lemmas.List.{take-append-drop, length-map, take_all, take_more, append-nil, append_assoc, map-append}
+use Rattle.std.proofs.lemmas.List.{take-append-drop, take_all, take_more, append-nil, append_assoc, map-append}
 use Rattle.std.proofs.lemmas.Grind.{flat_map-append}
 use Rattle.std.proofs.lemmas.List.Elements.{All-from_recursion, recursion_from_All, All-append, Contains-append_left, Contains-append_right}
 use Rattle.ct_sorts.specs.Declarations.{Declarations}

@@ -1,5 +1,5 @@
 -- How a store takes clauses over other numbers of their terms.
-use Rattle.std.specs.Prelude.{◌≡◌, ℕ, ◌≤◌, ◌<◌, ◌⊎◌, List, [], ◌++◌, length, map, take, All}
+use Rattle.std.specs.Prelude.{◌≡◌, ℕ, ◌≤◌, ◌⊎◌, List, [], ◌++◌, length, map, take, All}
 use Rattle.std.specs.List.{flat_map}
 use Rattle.ct_restriction.specs.Renamed.{number_in}
 use Rattle.ct_terms.specs.Terms.{Terms}

@@ -1,10 +1,9 @@
 //! What a check leaves in a store.
-ghost use Rattle.std.specs.Prelude.{◌≡◌, ◌<◌, ◌≤◌, ◌⊎◌, ◌++◌, All, length, map, take, drop, Contains, OnOk, IfOk, IsTrue, MatchBool};
+ghost use Rattle.std.specs.Prelude.{◌≡◌, ◌<◌, ◌≤◌, ◌⊎◌, ◌++◌, All, length, map, take, drop, OnOk, IfOk, MatchBool};
 ghost use Rattle.std.specs.List.{flat_map};
 ghost use Rattle.ct_sorts.specs.Grown.{Begins};
 ghost use Rattle.ct_terms.specs.Terms.{AreSorted};
 ghost use Rattle.ct_restriction.specs.Renamed.{number_in};
-ghost use Rattle.ct_restriction.specs.Renumbered.{IsKnown};
 ghost use Rattle.ct_kept.specs.Lemmas.{lemma_terms, renamed_lemma, IsAcceptedLemma, lemmas_of_step, theory_lemmas};
 ghost use Rattle.ct_kept.specs.Kept.{IsOver, Takes, TakesAll, most_lemmas};
 ghost use Rattle.ct_kept.specs.Taken.{AreKnownLemmas, PushesLemmas, IsWithoutRoom, TakesFirst};
@@ -113,6 +112,7 @@ fn take_first(
     while !rest.is_empty() {
         let count = size.min(rest.len());
         if take_all(alloc, sig, terms, beginning(rest, count), table, lemmas)? {
+            let _terms = table.len();
             rest = after(rest, count);
         } else if count == 1 {
             return Ok(());

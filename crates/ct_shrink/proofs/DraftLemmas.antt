@@ -1,5 +1,5 @@
 -- A core that is being shrunk: nothing is known yet, one place more, and all.
-use Rattle.std.proofs.Common.{◌≡◌, ℕ, suc, ◌+◌, ◌<◌, List, [], ◌∷◌, ◌++◌, length, drop, true, All, Contains, Some, slice_get, refl, sym, ap, subst, ◌∙◌, arith}
+use Rattle.std.proofs.Common.{◌≡◌, ℕ, ◌+◌, List, [], ◌∷◌, ◌++◌, length, drop, true, Contains, sym, ap, subst, ◌∙◌, arith}
 use Rattle.std.specs.List.{AllZip}
 use Rattle.std.proofs.lemmas.List.{append-nil, append_assoc, drop_all}
 use Rattle.std.proofs.lemmas.List.Elements.{All-contains}
@@ -14,7 +14,6 @@ use Rattle.ct_eval.specs.declared.interp.Interp.{Interp}
 use Rattle.ct_eval.specs.Truth.{truth_value}
 use Rattle.ct_log.specs.Acceptance.{Passes}
 use Rattle.ct_log.specs.Recorded.{Derived}
-use Rattle.ct_core.specs.Trimmed.{AreRising}
 use Rattle.ct_core.specs.Core.{AreAt, IsCore}
 use Rattle.ct_engine.specs.Theorems.{ModelTheorems}
 use Rattle.ct_engine.specs.declared.verdict.Spent.{Spent}
@@ -26,7 +25,7 @@ use Rattle.ct_shrink.specs.declared.shrunk.Shrunk.{Shrunk}
 use Rattle.ct_shrink.specs.declared.shrinking.Draft.{Draft}
 use Rattle.ct_shrink.specs.Shrunk.{IsCoreOf, IsRefutedAt, ArePart, IsShown, IsLeftOpen, IsNeed, IsShrunk}
 use Rattle.ct_shrink.specs.Shrinking.{IsDraft}
-use Rattle.ct_shrink.proofs.PlaceLemmas.{at_unique, at_images, at_member, part_without, not_among, have_others, inside_whole}
+use Rattle.ct_shrink.proofs.PlaceLemmas.{at_images, at_member, part_without, not_among, have_others, inside_whole}
 
 module _ (d : Declarations) (table : Terms) (asserts : List TermId) where
   -- the derivation of a core refutes its assertions

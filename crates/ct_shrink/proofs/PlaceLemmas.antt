@@ -1,6 +1,6 @@
 -- Terms at places of a list, and places without one of them.
 use Rattle.std.proofs.Common.{◌≡◌, ℕ, zero, suc, ◌+◌, ◌<◌, ◌≤◌, ◌⊎◌, List, [], ◌∷◌, ◌++◌, length, map, drop, All, Contains, Some, slice_get, refl, sym, ap, subst, ◌∙◌, inl, inr, arith}
-use Rattle.std.proofs.lemmas.Option.{get_or_from_slice_get, none-some, same_Some, slice_get_within}
+use Rattle.std.proofs.lemmas.Option.{get_or_from_slice_get, same_Some, slice_get_within}
 use Rattle.ct_lemmas.proofs.Contained.{Contains-cons, Contains-first, Contains-rest, Contains-from_slice_get, slice_get-from_Contains}
 use Rattle.ct_lemmas.proofs.Each.{All-from_Contains}
 use Rattle.ct_lemmas.proofs.Lists.{slice_get-map_at, slice_get-map_source}

@@ -1,19 +1,19 @@
 -- Verdicts on assertions that are the same terms of another table, and closures of some of the assertions.
-use Rattle.std.proofs.Common.{◌≡◌, ◌↔◌, ℕ, List, ◌++◌, map, All, Contains, sym, ap, subst, ◌∙◌, inl, inr}
+use Rattle.std.proofs.Common.{◌≡◌, ◌↔◌, ℕ, List, All, Contains, sym, subst, ◌∙◌, inl, inr}
 use Rattle.std.proofs.lemmas.List.Elements.{All-contains, Contains-append_left, Contains-append_right, Contains-append_cases}
 use Rattle.ct_lemmas.proofs.Contained.{Contains-map, Contains-map_cases}
 use Rattle.ct_sorts.specs.Declarations.{Declarations}
 use Rattle.ct_terms.specs.declared.ids.TermId.{TermId}
 use Rattle.ct_terms.specs.Terms.{Terms}
 use Rattle.ct_terms.specs.CoreTree.{CoreTree, term_at}
-use Rattle.ct_closure.specs.Closed.{truth_trees, IsClosedOver, InClosure, HasVariables, HasMoreThan}
+use Rattle.ct_closure.specs.Closed.{truth_trees, InClosure, HasVariables, HasMoreThan}
 use Rattle.ct_closure.specs.ClosedTable.{HasTree, terms_at}
 use Rattle.ct_log.specs.Recorded.{Derived}
 use Rattle.ct_engine.specs.Theorems.{ModelTheorems}
 use Rattle.ct_engine.specs.declared.verdict.Spent.{Spent}
 use Rattle.ct_engine.specs.declared.verdict.Verdict.{Verdict}
 use Rattle.ct_engine.specs.declared.verdict.Verdict.TheVariants.{Sat, Unsat, Unknown}
-use Rattle.ct_engine.specs.Verdict.{IsModel, IsRefutation, IsSpending, IsVerdict}
+use Rattle.ct_engine.specs.Verdict.{IsRefutation, IsSpending, IsVerdict}
 use Rattle.ct_engine.proofs.ModelLemmas.{Holds-same}
 
 module _ (theorems : ModelTheorems) (d : Declarations) (table other : Terms) (asserts others : List TermId) (same : terms_at table asserts ≡ terms_at other others) where

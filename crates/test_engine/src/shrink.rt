@@ -2,7 +2,7 @@
 //! derivation, with at most so many decisions a check. It shows the places that are left, with ` shown` or ` open` behind each, and
 //! whether the checker passes the derivation of the core that is left. `(shrink-all LIMIT EXPRESSION ..)` does so with the whole of
 //! the derivation and all places.
-ghost use Rattle.std.specs.Prelude.{◌≡◌, ◌<◌, ◌≤◌, length, IfOk, IfSome};
+ghost use Rattle.std.specs.Prelude.{IfOk, IfSome};
 ghost use Rattle.ct_closure.specs.Closed.{HasMoreThan, most_closure_terms};
 ghost use Rattle.ct_closure.specs.ClosedTable.{terms_at};
 ghost use Rattle.ct_engine.specs.Verdict.{IsRefutation};

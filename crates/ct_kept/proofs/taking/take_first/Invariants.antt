@@ -1,5 +1,4 @@
 use Rattle.std.proofs.Common.{◌≡◌, ℕ, ◌+◌, ◌≤◌, length, take, drop, All}
-use Rattle.ct_sorts.specs.Grown.{Begins}
 use Rattle.ct_terms.specs.Terms.{AreSorted}
 use Rattle.ct_kept.specs.Lemmas.{IsAcceptedLemma, theory_lemmas}
 use Rattle.ct_kept.specs.Kept.{IsOver, TakesAll}

@@ -1,4 +1,4 @@
-use Rattle.std.proofs.Common.{◌-◌, List, All, Result, Ok, Err, OnOk, subst, sym, arith, ap}
+use Rattle.std.proofs.Common.{◌-◌, List, All, Result, Ok, Err, OnOk, subst, sym, arith}
 use Rattle.ct_log.specs.declared.line.Line.{Line}
 use Rattle.ct_kept.specs.Lemmas.{IsAcceptedLemma, theory_lemmas}
 use Rattle.ct_kept.specs.declared.error.KeptError.{KeptError}

@@ -1,4 +1,4 @@
-use Rattle.std.proofs.Common.{◌≡◌, List, All, Contains, sym, subst}
+use Rattle.std.proofs.Common.{List, All, Contains, sym, subst}
 use Rattle.ct_terms.specs.declared.ids.TermId.{TermId}
 use Rattle.ct_engine.specs.Verdict.{IsVerdict}
 use Rattle.ct_shrink.proofs.PlaceLemmas.{at_among, at_unique}

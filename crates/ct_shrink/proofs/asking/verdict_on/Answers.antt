@@ -1,9 +1,9 @@
-use Rattle.std.proofs.Common.{◌≡◌, ◌∙◌, ◌<◌, List, length, All, Contains, ap, sym, subst}
+use Rattle.std.proofs.Common.{◌∙◌, ◌<◌, List, length, All, Contains, ap, sym, subst}
 use Rattle.std.proofs.lemmas.List.Elements.{All-contains, All-weaker}
 use Rattle.std.proofs.lemmas.Option.{slice_get_within}
 use Rattle.ct_sorts.specs.Declarations.{bool_sort}
 use Rattle.ct_terms.specs.declared.ids.TermId.{TermId}
-use Rattle.ct_terms.specs.Terms.{Terms, IsBoolean}
+use Rattle.ct_terms.specs.Terms.{IsBoolean}
 use Rattle.ct_closure.specs.Closed.{HasMoreThan, most_closure_terms}
 use Rattle.ct_closure.specs.ClosedTable.{AreSubtermsOf, terms_at}
 use Rattle.ct_engine.specs.Verdict.{IsVerdict}

@@ -1,8 +1,6 @@
 use Rattle.std.proofs.Common.{◌≡◌, ◌∙◌, ℕ, ◌+◌, ◌<◌, List, ◌∷◌, ◌++◌, length, drop, All, sym, ap, subst}
 use Rattle.ct_terms.specs.declared.ids.TermId.{TermId}
 use Rattle.ct_core.specs.Core.{AreAt}
-use Rattle.ct_engine.specs.declared.verdict.Verdict.{Verdict}
-use Rattle.ct_engine.specs.declared.verdict.Verdict.TheVariants.{Sat, Unsat, Unknown}
 use Rattle.ct_engine.specs.Verdict.{IsVerdict, IsRefutation}
 use Rattle.ct_shrink.specs.declared.shrunk.Need.TheVariants.{Shown, Open}
 use Rattle.ct_shrink.specs.Shrunk.{ArePart}

@@ -1,4 +1,4 @@
-use Rattle.std.proofs.Common.{◌≡◌, ◌∙◌, ℕ, List, length, sym, ap, subst}
+use Rattle.std.proofs.Common.{◌∙◌, ℕ, List, length, sym, subst}
 use Rattle.ct_shrink.specs.Shrinking.{IsDraft}
 use Rattle.ct_shrink.proofs.DraftLemmas.{shrunk_all}
 use Rattle.ct_shrink.proofs.shrinking.shrink.Goals as goal

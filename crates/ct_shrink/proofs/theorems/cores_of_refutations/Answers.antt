@@ -1,4 +1,4 @@
-use Rattle.std.proofs.Common.{◌≡◌, sym, subst}
+use Rattle.std.proofs.Common.{sym, subst}
 use Rattle.ct_terms.specs.Terms.{IsTermTable, AreSorted}
 use Rattle.ct_shrink.proofs.DraftLemmas.{core_found, core_refutes}
 use Rattle.ct_shrink.proofs.theorems.cores_of_refutations.Goals as goal
