@@ -68,6 +68,6 @@ module _ (assertions : Assertions) (c : Context) (formulas : List Formula) (tabl
         stands = at.1;
         untrue = λ is. first.untrue
             (All-at IsTrueTerm (first.assert ∷ []) 0 first.assert
-                (all_hold (first.assert ∷ []) (at.0 ∷ []) (All-one IsClosed at.0 closed) (at.2, tt) (All-one IsTrueFormula at.0 is)) refl);
+            (all_hold (first.assert ∷ []) (at.0 ∷ []) (All-one IsClosed at.0 closed) (at.2, tt) (All-one IsTrueFormula at.0 is)) refl);
         before = all_true (take place numbers) (take place formulas) (All-take IsClosed place formulas held.sound.asserts) (AllZip-take IsCore place numbers formulas side_by_side) first.before;
       }
