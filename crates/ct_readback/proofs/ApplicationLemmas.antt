@@ -88,7 +88,7 @@ application_no_head d s g e es h =
 field_sorts : (d : Declarations) (c : CtorId) (fields : List SelId) → AreFieldsOf d c fields → ctor_field_sorts d c ≡ map (field_sort_id d) fields
 field_sorts d c fields h = ap (λ (o : Option (List SelId)). map (field_sort_id d) (unwrap_or o [])) h
 
-application_is : (d : Declarations) (s : SortId) (e : Expression) (es : Expressions) (c : CtorId) (fields : List SelId) → constructor_at d s e ≡ Some c → AreFieldsOf d c fields
+pub application_is : (d : Declarations) (s : SortId) (e : Expression) (es : Expressions) (c : CtorId) (fields : List SelId) → constructor_at d s e ≡ Some c → AreFieldsOf d c fields
     → application_at d s (more e es) ≡ option_map (construct c) (trees_at d (map (field_sort_id d) fields) es)
 application_is d s e es c fields at are =
     ap (option_and_then (λ (k : CtorId). option_map (construct k) (trees_at d (ctor_field_sorts d k) es))) at
@@ -121,7 +121,7 @@ application_node d s g e es c fields vs found at are values node =
 
 -- ---- a constructor alone
 
-lone_is : (d : Declarations) (s : SortId) (e : Expression) (c : CtorId) (fields : List SelId) → constructor_at d s e ≡ Some c → AreFieldsOf d c fields → lone_at d s e ≡ lone (map (field_sort_id d) fields) c
+pub lone_is : (d : Declarations) (s : SortId) (e : Expression) (c : CtorId) (fields : List SelId) → constructor_at d s e ≡ Some c → AreFieldsOf d c fields → lone_at d s e ≡ lone (map (field_sort_id d) fields) c
 lone_is d s e c fields at are =
     ap (option_and_then (λ (k : CtorId). lone (ctor_field_sorts d k) k)) at ∙ ap (λ (ss : List SortId). lone ss c) (field_sorts d c fields are)
 

@@ -31,3 +31,16 @@ pub mod GrowthLemmas
 pub mod IndexLemmas
 pub mod WholeLemmas
 pub mod RefusedLemmas
+pub mod PrintedWords
+pub mod PrintedHeads
+pub mod PrintedTrees
+pub mod PrintedGraphs
+pub mod PrintedCycles
+pub mod PrintedValues
+pub mod PrintedRows
+pub mod PrintedBodies
+pub mod PrintedItems
+pub mod PrintedLookUps
+pub mod PrintedEvaluation
+pub mod PrintedTexts
+pub mod PrintedModels

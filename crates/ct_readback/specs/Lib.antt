@@ -17,3 +17,4 @@ pub mod Said
 pub mod ItemRead
 pub mod Progress
 pub mod EdgeRows
+pub mod Printed

@@ -12,9 +12,11 @@ mod parts;
 mod placing;
 mod rows;
 mod sort_text;
+mod theorems;
 mod trees;
 mod value;
 mod words;
 
 pub use error::BackError;
 pub use model::read_model;
+pub use theorems::printed_models;
