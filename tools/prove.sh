@@ -4,12 +4,13 @@
 # usage: tools/prove.sh SCRIPT [FOLDER]
 #
 # Of each check-sat of the SCRIPT that is unsat the derivation is stored in the FOLDER, and `cosmt --audit` checks it against the
-# script by a process of its own; so does tools/check_derivation.py, where it is there. Of each that is sat the model is stored.
+# script by a process of its own; so does tools/check_derivation.py, where it is there. Of each that is sat the model is stored, and
+# `cosmt --audit-model` evaluates the assertions in it, by a process of its own too.
 # The FOLDER is NAME.answers, in the folder in which this is called, for the script NAME.smt2, where none is given. A line says what came of each check, one names each command
 # that was refused or is unsupported, and the last one counts all. A script that ends inside a command has that command refused.
 #
-# The program is crates/cosmt/out/cosmt, or what the variable COSMT names. The status is 0 where every derivation was verified and
-# no command was refused or unsupported, 1 where that is not so, and 2 where the script or the program is not there.
+# The program is crates/cosmt/out/cosmt, or what the variable COSMT names. The status is 0 where every derivation and every model
+# was verified and no command was refused or unsupported, 1 where that is not so, and 2 where the script or the program is not there.
 here=$(cd "$(dirname "$0")" && pwd) || exit 2
 solver=${COSMT:-$here/../crates/cosmt/out/cosmt}
 second=$here/check_derivation.py
@@ -37,7 +38,15 @@ audited() {
     return "$status"
 }
 
-checks=0 derivations=0 models=0 verified=0 refused=0 unsupported=0
+# audited_model FILE NUMBER: says whether the model satisfies the assertions at the check with this number.
+audited_model() {
+    local said status=0
+    said=$("$solver" --audit-model "$1" --at "$2" "$script") || status=1
+    printf 'audit: %s' "$said"
+    return "$status"
+}
+
+checks=0 derivations=0 models=0 verified=0 satisfied=0 refused=0 unsupported=0
 while read -r number verdict file; do
     if [ "$number" = "-" ]; then
         case $verdict in
@@ -56,14 +65,14 @@ while read -r number verdict file; do
         audited "$file" && verified=$((verified + 1))
         ;;
     sat)
-        # Here a model is audited, once there is an audit of models.
         models=$((models + 1))
-        printf ', model in %s' "$file"
+        printf ', model in %s, ' "$file"
+        audited_model "$file" "$number" && satisfied=$((satisfied + 1))
         ;;
     esac
     printf '\n'
 done < <("$here/client.py" "$solver" "$script" "$folder")
 wait $! || { echo "prove: the dialogue with $solver did not end as it must" >&2; exit 1; }
 
-echo "checks: $checks; derivations verified: $verified of $derivations; models stored, not audited: $models; commands refused: $refused, unsupported: $unsupported"
-[ "$verified" = "$derivations" ] && [ "$refused" = 0 ] && [ "$unsupported" = 0 ]
+echo "checks: $checks; derivations verified: $verified of $derivations; models verified: $satisfied of $models; commands refused: $refused, unsupported: $unsupported"
+[ "$verified" = "$derivations" ] && [ "$satisfied" = "$models" ] && [ "$refused" = 0 ] && [ "$unsupported" = 0 ]

@@ -7,7 +7,7 @@ ghost use Rattle.ct_io.specs.declared.desk.Slot.TheVariants as slot;
 ghost use Rattle.ct_io.specs.declared.status.Status.TheVariants as status;
 ghost use Rattle.ct_arguments.specs.Arguments as arguments;
 ghost use Rattle.ct_run.specs.Run.{Solves, Took, ReportsUsage, ReportsHelp};
-ghost use Rattle.ct_run.specs.AuditRun.{ReportsAudit, Reads};
+ghost use Rattle.ct_run.specs.AuditRun.{ReportsAudit, ReportsModelAudit, Reads};
 ghost use Rattle.ct_run.specs.Generated.{ReportsCounts};
 ghost use Rattle.ct_run.specs.Tasks.{IsAudit, IsOfScript};
 
@@ -48,9 +48,15 @@ pub fn run<D: Desk, K: Sink>(alloc: Global, words: &[Text], desk: &mut D, out: &
     ensures audited { (proof script proof_bytes script_bytes : List ℕ) → arguments.task_of words.now ≡ arguments.audits proof script
         → D.held desk.old proof ≡ Some proof_bytes → D.held desk.old script ≡ Some script_bytes
         → ReportsAudit proof_bytes script_bytes result.status result.verdicts.items result.errors.items (K.written out.old) (K.written out.new) }
-    // Both were opened and read before it was judged.
+    // And of a model that is judged by a check of a script.
+    ensures model_audited { (model script model_bytes script_bytes : List ℕ) (number : ℕ) → arguments.task_of words.now ≡ arguments.audits_model model number script
+        → D.held desk.old model ≡ Some model_bytes → D.held desk.old script ≡ Some script_bytes
+        → ReportsModelAudit number model_bytes script_bytes result.status result.verdicts.items result.errors.items (K.written out.old) (K.written out.new) }
+    // Both files were opened and read before anything was judged.
     ensures read { (proof script : List ℕ) → arguments.task_of words.now ≡ arguments.audits proof script
         → Reads result.status (D.held desk.old proof) (D.left desk.new slot.Proof) (D.held desk.old script) (D.left desk.new slot.Script) }
+    ensures model_read { (model script : List ℕ) (number : ℕ) → arguments.task_of words.now ≡ arguments.audits_model model number script
+        → Reads result.status (D.held desk.old model) (D.left desk.new slot.Proof) (D.held desk.old script) (D.left desk.new slot.Script) }
     ensures generated { (count : ℕ) → arguments.task_of words.now ≡ arguments.generates count
         → ReportsCounts count result.status result.verdicts.items result.errors.items (K.written out.old) (K.written out.new) }
     ensures helped { arguments.task_of words.now ≡ arguments.helps
@@ -64,6 +70,8 @@ pub fn run<D: Desk, K: Sink>(alloc: Global, words: &[Text], desk: &mut D, out: &
         × Solves bytes taken result.status result.verdicts.items result.errors.items (K.written out.old) (K.written out.new) }
     ensures some_files { (proof script : List ℕ) → arguments.task_of words.now ≡ arguments.audits proof script → (proof_bytes : List ℕ) × (script_bytes : List ℕ)
         × ReportsAudit proof_bytes script_bytes result.status result.verdicts.items result.errors.items (K.written out.old) (K.written out.new) }
+    ensures some_model { (model script : List ℕ) (number : ℕ) → arguments.task_of words.now ≡ arguments.audits_model model number script → (model_bytes : List ℕ) × (script_bytes : List ℕ)
+        × ReportsModelAudit number model_bytes script_bytes result.status result.verdicts.items result.errors.items (K.written out.old) (K.written out.new) }
 
     // When each status comes, whatever the desk and the sink tell.
     ensures usage_only { result.status ≡ status.Usage → arguments.task_of words.now ≡ arguments.faulty }

@@ -10,10 +10,12 @@ use Rattle.clap.specs.declared.error.kind.ErrorKind.TheVariants.{DisplayHelp}
 use Rattle.ct_arguments.specs.Command.{cosmt}
 
 -- a task: to answer the script of this name, to check the derivation of the first name against the script of the second, to
--- answer the generated script of so many blocks, to tell how the program is called; or the arguments have none of the forms
+-- evaluate the model of the first name at the check with this number of the script of the second, to answer the generated script of
+-- so many blocks, to tell how the program is called; or the arguments have none of the forms
 pub data Asked : Type 0 where
   solves : List ℕ → Asked
   audits : List ℕ → List ℕ → Asked
+  audits_model : List ℕ → ℕ → List ℕ → Asked
   generates : ℕ → Asked
   helps : Asked
   faulty : Asked
@@ -27,20 +29,45 @@ block_count text =
 abbrev pub generation : List ℕ → Asked
 generation text = option_map_or generates (block_count text) faulty
 
--- by the values of `--gen`, of `--audit` and of the file: a generated script stands alone, a derivation needs its script, and
--- the empty name stands for a script whose name is left out
-abbrev pub asked_by : Option (List ℕ) → Option (List ℕ) → Option (List ℕ) → Asked
-asked_by (Some count) None None = generation count
-asked_by (Some count) None (Some script) = faulty
-asked_by (Some count) (Some proof) script = faulty
-asked_by None (Some proof) (Some script) = audits proof script
-asked_by None (Some proof) None = faulty
-asked_by None None (Some script) = solves script
-asked_by None None None = solves []
+-- the number of a check that the text writes: decimal digits alone, from 1 to 2^64 - 1; leading zeros are accepted
+abbrev pub check_number : List ℕ → Option ℕ
+check_number text =
+    let n = digits_value 10 text in
+    if all_ascii_digits text && (nat_le 1 n && nat_le n 18446744073709551615) then Some n else None
+
+abbrev pub model_audit : List ℕ → List ℕ → List ℕ → Asked
+model_audit model check script = option_map_or (λ n. audits_model model n script) (check_number check) faulty
+
+-- by the values of `--audit-model`, of `--at` and of the file, where neither a derivation nor a generated script is asked for: a model
+-- needs its check and its script, and the empty name stands for a script whose name is left out
+abbrev pub asked_of_script : Option (List ℕ) → Option (List ℕ) → Option (List ℕ) → Asked
+asked_of_script (Some model) (Some check) (Some script) = model_audit model check script
+asked_of_script (Some model) (Some check) None = faulty
+asked_of_script (Some model) None script = faulty
+asked_of_script None (Some check) script = faulty
+asked_of_script None None (Some script) = solves script
+asked_of_script None None None = solves []
+
+-- a derivation needs its script, and stands beside no model
+abbrev pub asked_of_proof : List ℕ → Option (List ℕ) → Option (List ℕ) → Option (List ℕ) → Asked
+asked_of_proof proof None None (Some script) = audits proof script
+asked_of_proof proof None None None = faulty
+asked_of_proof proof None (Some check) script = faulty
+asked_of_proof proof (Some model) check script = faulty
+
+-- a generated script stands alone
+abbrev pub asked_by : Option (List ℕ) → Option (List ℕ) → Option (List ℕ) → Option (List ℕ) → Option (List ℕ) → Asked
+asked_by (Some count) None None None None = generation count
+asked_by (Some count) None None None (Some script) = faulty
+asked_by (Some count) None None (Some check) script = faulty
+asked_by (Some count) None (Some model) check script = faulty
+asked_by (Some count) (Some proof) model check script = faulty
+asked_by None (Some proof) model check script = asked_of_proof proof model check script
+asked_by None None model check script = asked_of_script model check script
 
 -- what accepted arguments ask for, by their values
 abbrev pub asked_for : List Row → Asked
-asked_for rows = asked_by (first_of (codes "gen") rows) (first_of (codes "audit") rows) (first_of (codes "file") rows)
+asked_for rows = asked_by (first_of (codes "gen") rows) (first_of (codes "audit") rows) (first_of (codes "audit-model") rows) (first_of (codes "at") rows) (first_of (codes "file") rows)
 
 -- `--help` or `-h` was met
 abbrev pub is_help : ErrorKind → Bool
@@ -60,5 +87,6 @@ abbrev pub IsWithin : Asked → Type 0
 IsWithin (generates count) = (1 ≤ count) × (count ≤ 2000)
 IsWithin (solves name) = Unit {0}
 IsWithin (audits proof script) = Unit {0}
+IsWithin (audits_model model number script) = Unit {0}
 IsWithin helps = Unit {0}
 IsWithin faulty = Unit {0}

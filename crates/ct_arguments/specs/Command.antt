@@ -1,4 +1,4 @@
--- The command line as `clap` reads it: two options with one value each, and one positional argument.
+-- The command line as `clap` reads it: four options with one value each, and one positional argument.
 use Rattle.std.specs.Prelude.{Some, true, codes}
 use Rattle.clap.specs.Words.{App, Rule, new_app, new_rule, with_rule}
 use Rattle.clap.specs.Simple.{on_top}
@@ -11,6 +11,14 @@ audit = record (new_rule (codes "audit")) { long = Some (codes "audit") }
 abbrev pub gen : Rule
 gen = record (new_rule (codes "gen")) { long = Some (codes "gen") }
 
+-- `--audit-model MODEL`
+abbrev pub audit_model : Rule
+audit_model = record (new_rule (codes "audit-model")) { long = Some (codes "audit-model") }
+
+-- `--at K`
+abbrev pub at : Rule
+at = record (new_rule (codes "at")) { long = Some (codes "at") }
+
 -- `FILE`, which may be left out
 abbrev pub file : Rule
 file = new_rule (codes "file")
@@ -21,4 +29,4 @@ bare = on_top (λ s. record s { no_binary_name = true }) (new_app (codes "cosmt"
 
 -- the command; no argument has a rule on another
 unfoldable pub cosmt : App
-cosmt = with_rule (with_rule (with_rule bare audit) gen) file
+cosmt = with_rule (with_rule (with_rule (with_rule (with_rule bare audit) gen) audit_model) at) file

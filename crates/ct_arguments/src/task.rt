@@ -1,6 +1,6 @@
 //! The tasks, and which of them the arguments ask for.
 
-ghost use Rattle.std.specs.Prelude.{◌≡◌, ◌≢◌, IfOk, option_map};
+ghost use Rattle.std.specs.Prelude.{◌≡◌, ◌≢◌, IfOk, Some, None, option_map};
 ghost use Rattle.clap.specs.Words.{app_of, found_of, rows_of};
 ghost use Rattle.clap.specs.declared.error.kind.ErrorKind.TheVariants.{OutOfMemory};
 ghost use Rattle.ct_arguments.specs.Arguments as spec;
@@ -8,7 +8,7 @@ ghost use Rattle.ct_arguments.specs.Command.{cosmt};
 ghost use Rattle.ct_arguments.specs.Seen.{task_seen};
 
 use crate::error::ArgumentError;
-use crate::number::block_count;
+use crate::number::{block_count, check_number};
 use clap::error::ErrorKind;
 use clap::{Arg, ArgMatches, Command};
 use ct_io::Text;
@@ -23,6 +23,15 @@ pub enum Task<'a> {
     Audit {
         /// The name of the derivation.
         proof: &'a str,
+        /// The name of the script.
+        script: &'a str,
+    },
+    /// To evaluate the assertions of a check of a script in a model.
+    AuditModel {
+        /// The name of the model.
+        model: &'a str,
+        /// The number of the check, counted from 1.
+        number: u64,
         /// The name of the script.
         script: &'a str,
     },
@@ -53,11 +62,15 @@ fn command<'a>(alloc: Global) -> Result<Command<'a>, AllocError>
 {
     let audit = Arg::new(alloc, "audit").long("audit");
     let count = Arg::new(alloc, "gen").long("gen");
+    let model = Arg::new(alloc, "audit-model").long("audit-model");
+    let check = Arg::new(alloc, "at").long("at");
     let file = Arg::new(alloc, "file");
     Command::new(alloc, "cosmt")
         .no_binary_name(true)
         .arg(audit)?
         .arg(count)?
+        .arg(model)?
+        .arg(check)?
         .arg(file)
 }
 
@@ -68,21 +81,91 @@ fn meaning<'a>(matches: &ArgMatches<'a>) -> Task<'a>
     asked_by(
         matches.get_str("gen"),
         matches.get_str("audit"),
+        matches.get_str("audit-model"),
+        matches.get_str("at"),
         matches.get_str("file"),
     )
 }
 
-/// What the values of `--gen`, of `--audit` and of the file ask for.
-fn asked_by<'a>(count: Option<&'a str>, proof: Option<&'a str>, script: Option<&'a str>) -> Task<'a>
-    ensures task { task_seen result ≡ spec.asked_by (option_map (λ s. s.now) count.entry)
-        (option_map (λ s. s.now) proof.entry) (option_map (λ s. s.now) script.entry) }
+/// What the values of `--gen`, of `--audit`, of `--audit-model`, of `--at` and of the file ask for.
+fn asked_by<'a>(
+    count: Option<&'a str>,
+    proof: Option<&'a str>,
+    model: Option<&'a str>,
+    check: Option<&'a str>,
+    script: Option<&'a str>,
+) -> Task<'a>
+    ensures task { task_seen result ≡ spec.asked_by (option_map (λ s. s.now) count.entry) (option_map (λ s. s.now) proof.entry)
+        (option_map (λ s. s.now) model.entry) (option_map (λ s. s.now) check.entry) (option_map (λ s. s.now) script.entry) }
 {
-    match (count, proof, script) {
-        (Some(count), None, None) => generation(count),
-        (None, Some(proof), Some(script)) => Task::Audit { proof, script },
+    match (count, proof) {
+        (Some(count), None) => asked_of_count(count, model, check, script),
+        (None, Some(proof)) => asked_of_proof(proof, model, check, script),
+        (None, None) => asked_of_script(model, check, script),
+        (Some(_), Some(_)) => Task::Faulty,
+    }
+}
+
+/// The same beside the value of `--gen`.
+fn asked_of_count<'a>(
+    count: &'a str,
+    model: Option<&'a str>,
+    check: Option<&'a str>,
+    script: Option<&'a str>,
+) -> Task<'a>
+    ensures task { task_seen result ≡ spec.asked_by (Some count.entry.now) None
+        (option_map (λ s. s.now) model.entry) (option_map (λ s. s.now) check.entry) (option_map (λ s. s.now) script.entry) }
+{
+    match (model, check, script) {
+        (None, None, None) => generation(count),
+        _ => Task::Faulty,
+    }
+}
+
+/// The same beside the value of `--audit`.
+fn asked_of_proof<'a>(
+    proof: &'a str,
+    model: Option<&'a str>,
+    check: Option<&'a str>,
+    script: Option<&'a str>,
+) -> Task<'a>
+    ensures task { task_seen result ≡ spec.asked_of_proof proof.entry.now
+        (option_map (λ s. s.now) model.entry) (option_map (λ s. s.now) check.entry) (option_map (λ s. s.now) script.entry) }
+{
+    match (model, check, script) {
+        (None, None, Some(script)) => Task::Audit { proof, script },
+        _ => Task::Faulty,
+    }
+}
+
+/// The same beside neither.
+fn asked_of_script<'a>(
+    model: Option<&'a str>,
+    check: Option<&'a str>,
+    script: Option<&'a str>,
+) -> Task<'a>
+    ensures task { task_seen result ≡ spec.asked_of_script
+        (option_map (λ s. s.now) model.entry) (option_map (λ s. s.now) check.entry) (option_map (λ s. s.now) script.entry) }
+{
+    match (model, check, script) {
+        (Some(model), Some(check), Some(script)) => model_audit(model, check, script),
         (None, None, Some(script)) => Task::Solve(script),
         (None, None, None) => Task::Solve(""),
-        (Some(_), None, Some(_)) | (Some(_), Some(_), _) | (None, Some(_), None) => Task::Faulty,
+        (Some(_), None, _) | (Some(_), Some(_), None) | (None, Some(_), _) => Task::Faulty,
+    }
+}
+
+/// What the values of `--audit-model`, of `--at` and of the file ask for.
+fn model_audit<'a>(model: &'a str, check: &str, script: &'a str) -> Task<'a>
+    ensures task { task_seen result ≡ spec.model_audit model.entry.now check.now script.entry.now }
+{
+    match check_number(check) {
+        Some(number) => Task::AuditModel {
+            model,
+            number,
+            script,
+        },
+        None => Task::Faulty,
     }
 }
 

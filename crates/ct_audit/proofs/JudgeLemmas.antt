@@ -24,7 +24,7 @@ abbrev pub Assertions : Type 0
 Assertions = (d : Declarations) (i : Interp) (bodies : List Formula) (terms : Terms) (ids : List TermId) (asserts : List Formula) → IsConsistent d → IsProper d i → AreSound d bodies → All (λ t. IsSorted d [] t bool_sort) asserts → AllZip (λ a t. term_at terms a ≡ core_of d bodies [] t) ids asserts → Holds d i terms ids ↔ AllTrue d i bodies asserts
 
 -- two lists with one image are as long, and stand side by side
-zipped : (c : Context) (table : Terms) (numbers : List TermId) (asserts : List Formula) → terms_at table numbers ≡ cores c asserts → AllZip (λ a t. term_at table a ≡ core_of c.declarations c.bodies [] t) numbers asserts
+pub zipped : (c : Context) (table : Terms) (numbers : List TermId) (asserts : List Formula) → terms_at table numbers ≡ cores c asserts → AllZip (λ a t. term_at table a ≡ core_of c.declarations c.bodies [] t) numbers asserts
 zipped c table [] [] e = tt
 zipped c table [] (t ∷ asserts) e = absurd (none-some (core c t) (ap (λ (ts : List CoreTree). slice_get ts 0) e))
 zipped c table (n ∷ numbers) [] e = absurd (none-some (term_at table n) (sym (ap (λ (ts : List CoreTree). slice_get ts 0) e)))

@@ -1,5 +1,4 @@
 mod GrowLemmas
-mod ReplayLemmas
-mod JudgeLemmas
+pub mod JudgeLemmas
 mod TextLemmas
 mod TheoremLemmas

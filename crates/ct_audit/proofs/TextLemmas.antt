@@ -17,15 +17,11 @@ use Rattle.ct_script.specs.Session.{Course, first_course}
 use Rattle.ct_audit.specs.declared.answer.AuditAnswer.{AuditAnswer}
 use Rattle.ct_audit.specs.declared.answer.AuditAnswer.TheVariants.{Wrong}
 use Rattle.ct_audit.specs.declared.error.AuditError.{AuditError}
-use Rattle.ct_audit.specs.Found.{Finds, state_where}
+use Rattle.ct_replay.specs.Found.{Finds, state_where}
 use Rattle.ct_audit.specs.Judged.{Judges, JudgesRead}
-use Rattle.ct_audit.specs.Audit.{Audits, JudgesScript, JudgesNumbered, JudgesAt, no_check, one_expression}
-use Rattle.ct_audit.proofs.ReplayLemmas.{SomeText, first_read}
-
--- an expression is followed by what is left
-pub with_first : (u v : Unread) (first : Located) → IsFirstCommand u v first → (r : Result (Option Sexpr) AuditError) → IfOk r (λ alone. (f : Located) → f.command ≡ first.command → (cs : List Located) × (x : Ending) × Reads v.line v.bytes cs x × (one_expression (f ∷ cs) x ≡ option_map expression_of alone)) → IfOk r (λ expr. (cs : List Located) × (x : Ending) × Reads u.line u.bytes cs x × (one_expression cs x ≡ option_map expression_of expr))
-with_first u v first is (Ok alone) h = let r = h first refl in (first ∷ r.0, r.1, first_read u v first is r.0 r.1 r.2, r.3)
-with_first u v first is (Err e) h = tt
+use Rattle.ct_audit.specs.Audit.{Audits, JudgesScript, JudgesNumbered, JudgesAt, no_check}
+use Rattle.ct_replay.specs.One.{one_expression}
+use Rattle.ct_replay.proofs.ReplayLemmas.{SomeText, first_read}
 
 -- a text that is no expression
 pub no_expression : (some : SomeText) (u : Unread) (script : List ℕ) (expr : Option Sexpr) (answer : AuditAnswer) → u.line ≡ 1 → expr ≡ None → answer ≡ Wrong 0 departs → ((cs : List Located) × (x : Ending) × Reads u.line u.bytes cs x × (one_expression cs x ≡ option_map expression_of expr)) → Audits u.bytes script answer

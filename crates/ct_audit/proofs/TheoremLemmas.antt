@@ -13,7 +13,7 @@ use Rattle.ct_step.specs.Step.{counted}
 use Rattle.ct_script.specs.Answers.{Answers, Leads}
 use Rattle.ct_script.specs.Session.{Course, first_course}
 use Rattle.ct_script.specs.Replay.{is_check, IsCounted, IsStepped, Replays, GoesThrough, HaveOneStack, AnswersThrough}
-use Rattle.ct_audit.specs.Found.{Finds, is_wanted}
+use Rattle.ct_replay.specs.Found.{Finds, is_wanted}
 use Rattle.ct_audit.specs.AtCheck.{IsAtCheck}
 
 -- the theorems on scripts that are replayed

@@ -14,7 +14,7 @@ audit_text Verified = codes "verified"
 audit_text (Rejected number) = codes "rejected " ++ decimal number
 audit_text (Wrong item code) = wrong_text item code
 
--- the item and the number of its error; or the number of the line that is not accepted, and 0
+-- the item and the number of its error; or the number of the line that is not accepted, or of the assertion that is not true, and 0
 abbrev pub audit_error : AuditAnswer → Option (ℕ × ℕ)
 audit_error Verified = None
 audit_error (Rejected number) = Some (number, 0)

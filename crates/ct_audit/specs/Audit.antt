@@ -1,26 +1,20 @@
 -- What an audit says of a text with a derivation and a text with a script.
-use Rattle.std.specs.Prelude.{◌≡◌, ℕ, List, [], ◌∷◌, Option, None, Some}
+use Rattle.std.specs.Prelude.{◌≡◌, ℕ, List, Option, None, Some}
 use Rattle.ct_sexpr.specs.Expression.{Expression}
-use Rattle.ct_sexpr.specs.Text.{Located, Ending, clean, lexical, Reads}
+use Rattle.ct_sexpr.specs.Text.{Located, Ending, Reads}
 use Rattle.ct_log_text.specs.Reading.{departs, number_of}
 use Rattle.ct_stack.specs.Stack.{in_force}
 use Rattle.ct_step.specs.State.{State, context_of}
 use Rattle.ct_audit.specs.declared.answer.AuditAnswer.{AuditAnswer}
 use Rattle.ct_audit.specs.declared.answer.AuditAnswer.TheVariants.{Wrong}
-use Rattle.ct_audit.specs.Found.{Finds}
+use Rattle.ct_replay.specs.Found.{Finds}
+use Rattle.ct_replay.specs.One.{one_expression}
 use Rattle.ct_script.specs.Session.{first_course}
 use Rattle.ct_audit.specs.Judged.{Judges}
 
 -- the number of the error of a derivation whose check the script does not have
 abbrev pub no_check : ℕ
 no_check = 44
-
--- the expression that a text is, where it is one and nothing else
-abbrev pub one_expression : List Located → Ending → Option Expression
-one_expression [] ending = None
-one_expression (c ∷ []) clean = Some c.command
-one_expression (c ∷ []) (lexical code line) = None
-one_expression (c ∷ (d ∷ cs)) ending = None
 
 -- a derivation is judged by the state of the script at its check
 abbrev pub JudgesAt : Expression → Option State → AuditAnswer → Type 0

@@ -1,7 +1,5 @@
 pub mod Answer
-pub mod Found
 pub mod AtCheck
-pub mod Turn
 pub mod Grown
 pub mod Growing
 pub mod Judged

@@ -7,15 +7,16 @@ use crate::error::AuditError;
 use ct_words::{error_text, error_texts};
 use std::alloc::{AllocError, Global};
 
-/// What an audit says of a derivation.
+/// What an audit says of a derivation, or of a model.
 #[derive(Clone, Copy, Debug, PartialEq, Eq)]
 pub enum AuditAnswer {
-    /// The derivation passes over the assertions that its check had.
+    /// The derivation passes over the assertions that its check had, or all assertions of its check are true in the model.
     Verified,
     /// The line with this number, counted from 1, is not accepted after those before it; with the number after the last line,
-    /// the line with the empty clause is missing.
+    /// the line with the empty clause is missing. Of a model: the assertion with this number, counted from 1, is the first that is
+    /// not true.
     Rejected(u64),
-    /// The derivation is not that of a check of the script, or the item at this index, counted from 0, is wrong.
+    /// The derivation or the model is not that of a check of the script, or the item at this index, counted from 0, is wrong.
     Wrong {
         /// The index of the item; 0, that of the first one, where the whole is wrong.
         item: u64,
@@ -35,8 +36,8 @@ pub fn audit_text(alloc: Global, answer: &AuditAnswer) -> Result<Vec<u8>, AuditE
     }
 }
 
-/// The item and the number of the error of an answer, or the number of the rejected line and 0. `None` where the derivation is
-/// verified.
+/// The item and the number of the error of an answer, or the number of the rejected line or assertion and 0. `None` where the answer
+/// is that the derivation or the model is verified.
 pub fn audit_error(answer: &AuditAnswer) -> Option<(u64, u16)>
     ensures value { result ≡ audit_error answer.now }
 {
@@ -47,7 +48,7 @@ pub fn audit_error(answer: &AuditAnswer) -> Option<(u64, u16)>
     }
 }
 
-// The text of a line that is not accepted.
+// The text of a line that is not accepted, or of an assertion that is not true.
 fn rejected_text(alloc: Global, number: u64) -> Result<Vec<u8>, AuditError>
     ensures text { IfOk result (λ text. text.items ≡ codes "rejected " ++ decimal number) }
 {

@@ -5,8 +5,6 @@ mod answer;
 mod error;
 mod grow;
 mod judge;
-mod proof;
-mod replay;
 mod text;
 mod theorems;
 

@@ -9,9 +9,8 @@ ghost use Rattle.ct_audit.specs.Audit.{Audits, JudgesScript, JudgesNumbered, Jud
 use crate::answer::AuditAnswer;
 use crate::error::AuditError;
 use crate::judge::{DEPARTS, judge};
-use crate::proof::one_expression;
-use crate::replay::find_check;
 use ct_log_text::derivation_number;
+use ct_replay::{find_check, one_expression};
 use ct_script::Session;
 use ct_sexpr::{Reader, Sexpr, one_text};
 use std::alloc::Global;

@@ -5,7 +5,7 @@ ghost use Rattle.ct_engine.specs.declared.verdict.Verdict.{Verdict};
 ghost use Rattle.ct_step.specs.State.{State, first_state};
 ghost use Rattle.ct_script.specs.Answers.{Answers};
 ghost use Rattle.ct_script.specs.Session.{first_course};
-ghost use Rattle.ct_audit.specs.Found.{Finds};
+ghost use Rattle.ct_replay.specs.Found.{Finds};
 ghost use Rattle.ct_audit.specs.AtCheck.{IsAtCheck};
 
 use ct_script::replayed_scripts;

@@ -10,11 +10,13 @@ use Rattle.ct_input.specs.Slot.{IsTaken}
 use Rattle.ct_engine.specs.declared.verdict.Verdict.{Verdict}
 use Rattle.ct_audit.specs.declared.answer.AuditAnswer.{AuditAnswer}
 use Rattle.ct_audit.specs.Answer.{audit_error}
-use Rattle.ct_arguments.specs.Arguments.{Asked, solves, audits, generates, helps, faulty}
+use Rattle.ct_audit.specs.Audit.{Audits}
+use Rattle.ct_model_audit.specs.ModelAudit.{AuditsModel}
+use Rattle.ct_arguments.specs.Arguments.{Asked, solves, audits, audits_model, generates, helps, faulty}
 use Rattle.ct_run.specs.Output.{usage_line}
 use Rattle.ct_run.specs.Refusal.{status_of_error}
 use Rattle.ct_run.specs.Run.{Solves, DoesNothing, ReportsUsage, ReportsHelp}
-use Rattle.ct_run.specs.AuditRun.{ReportsAudit, AreRead, Reads}
+use Rattle.ct_run.specs.AuditRun.{Judgement, ReportsJudged, AreRead, Reads}
 use Rattle.ct_run.specs.Generated.{ReportsCounts}
 use Rattle.ct_run.specs.Tasks.{Does, DoesOfSome, IsAudit, IsOfScript}
 use Rattle.ct_run.proofs.WritingLemmas.{appended-nothing}
@@ -36,6 +38,7 @@ no_part old new same = record { count = 0; short = omega arith; grown = same ∙
 pub does_nothing : (held : List ℕ → Option (List ℕ)) (asked : Asked) (before after : Option (List ℕ)) (vs : List Verdict) (es : List (ℕ × ℕ)) (old new : Option (List ℕ)) → DoesNothing vs es old new → Does held asked before after status.NoMemory vs es old new
 does_nothing held (solves name) before after vs es old new nothing = λ bytes is. (0, tt, inr nothing)
 does_nothing held (audits proof script) before after vs es old new nothing = λ proof_bytes script_bytes first second. inr (tt, nothing)
+does_nothing held (audits_model model number script) before after vs es old new nothing = λ model_bytes script_bytes first second. inr (tt, nothing)
 does_nothing held (generates count) before after vs es old new nothing = (
   nothing.1,
   inr (record { solved = record { errors = []; lines = []; answers = inr nothing.0 }; unwritten = nothing.2 }),
@@ -46,11 +49,12 @@ does_nothing held faulty before after vs es old new nothing = (nothing.0, nothin
 pub does_nothing_of_some : (asked : Asked) (vs : List Verdict) (es : List (ℕ × ℕ)) (old new : Option (List ℕ)) → DoesNothing vs es old new → DoesOfSome asked status.NoMemory vs es old new
 does_nothing_of_some (solves name) vs es old new nothing = ([], 0, inr nothing)
 does_nothing_of_some (audits proof script) vs es old new nothing = ([], [], inr (tt, nothing))
+does_nothing_of_some (audits_model model number script) vs es old new nothing = ([], [], inr (tt, nothing))
 does_nothing_of_some (generates count) vs es old new nothing = tt
 does_nothing_of_some helps vs es old new nothing = tt
 does_nothing_of_some faulty vs es old new nothing = tt
 
--- of a derivation that was judged both files were read whole, whatever the status
+-- where something was judged both files were read whole, whatever the status
 pub judged_read : (s : Status) (held_proof left_proof held_script left_script : Option (List ℕ)) → s ≢ status.TooLong → AreRead true held_proof left_proof held_script left_script → Reads s held_proof left_proof held_script left_script
 judged_read status.Done held_proof left_proof held_script left_script other read = read
 judged_read status.Refused held_proof left_proof held_script left_script other read = read
@@ -84,30 +88,31 @@ solve_comes name bytes taken s vs es old new d =
       refused_only = λ is. (name, refl);
     }
 
--- a derivation that is verified leaves no error
-no_error : (proof script : List ℕ) (vs : List Verdict) (es : List (ℕ × ℕ)) (old new : Option (List ℕ)) → ReportsAudit proof script status.Done vs es old new → es ≡ []
-no_error proof script vs es old new (inl judged) =
-    judged.reported.1.errors_are ∙ ap (λ (a : AuditAnswer). option_to_list (audit_error a)) judged.reported.0
-no_error proof script vs es old new (inr prevented) = absurd prevented.0
+module _ (R : Judgement) (proof script : List ℕ) (vs : List Verdict) (es : List (ℕ × ℕ)) (old new : Option (List ℕ)) where
+  -- what is verified leaves no error
+  no_error : ReportsJudged R proof script status.Done vs es old new → es ≡ []
+  no_error (inl judged) =
+      judged.reported.1.errors_are ∙ ap (λ (a : AuditAnswer). option_to_list (audit_error a)) judged.reported.0
+  no_error (inr prevented) = absurd prevented.0
 
-not_refused : (proof script : List ℕ) (vs : List Verdict) (es : List (ℕ × ℕ)) (old new : Option (List ℕ)) → ReportsAudit proof script status.Refused vs es old new → ⊥
-not_refused proof script vs es old new (inl judged) = judged.reported
-not_refused proof script vs es old new (inr prevented) = prevented.0
+  not_refused : ReportsJudged R proof script status.Refused vs es old new → ⊥
+  not_refused (inl judged) = judged.reported
+  not_refused (inr prevented) = prevented.0
 
-not_usage : (proof script : List ℕ) (vs : List Verdict) (es : List (ℕ × ℕ)) (old new : Option (List ℕ)) → ReportsAudit proof script status.Usage vs es old new → ⊥
-not_usage proof script vs es old new (inl judged) = judged.reported
-not_usage proof script vs es old new (inr prevented) = prevented.0
+  not_usage : ReportsJudged R proof script status.Usage vs es old new → ⊥
+  not_usage (inl judged) = judged.reported
+  not_usage (inr prevented) = prevented.0
 
-audit_comes : (proof script proof_bytes script_bytes : List ℕ) (s : Status) (vs : List Verdict) (es : List (ℕ × ℕ)) (old new : Option (List ℕ)) → ReportsAudit proof_bytes script_bytes s vs es old new → Comes (audits proof script) s es
-audit_comes proof script proof_bytes script_bytes s vs es old new d =
-    let at : (t : Status) → s ≡ t → ReportsAudit proof_bytes script_bytes t vs es old new = λ t is. subst (λ (x : Status). ReportsAudit proof_bytes script_bytes x vs es old new) is d in
-    record {
-      usage_only = λ is. absurd (not_usage proof_bytes script_bytes vs es old new (at status.Usage is));
-      rejected = λ is. (proof, script, refl);
-      done = λ is. no_error proof_bytes script_bytes vs es old new (at status.Done is);
-      refused = λ is. absurd (not_refused proof_bytes script_bytes vs es old new (at status.Refused is));
-      refused_only = λ is. absurd (not_refused proof_bytes script_bytes vs es old new (at status.Refused is));
-    }
+  audit_comes : (asked : Asked) → IsAudit asked → (s : Status) → ReportsJudged R proof script s vs es old new → Comes asked s es
+  audit_comes asked is_audit s d =
+      let at : (t : Status) → s ≡ t → ReportsJudged R proof script t vs es old new = λ t is. subst (λ (x : Status). ReportsJudged R proof script x vs es old new) is d in
+      record {
+        usage_only = λ is. absurd (not_usage (at status.Usage is));
+        rejected = λ is. is_audit;
+        done = λ is. no_error (at status.Done is);
+        refused = λ is. absurd (not_refused (at status.Refused is));
+        refused_only = λ is. absurd (not_refused (at status.Refused is));
+      }
 
 counts_come : (count : ℕ) (s : Status) (vs : List Verdict) (es : List (ℕ × ℕ)) (old new : Option (List ℕ)) → ReportsCounts count s vs es old new → Comes (generates count) s es
 counts_come count s vs es old new d =
@@ -144,7 +149,10 @@ usage_comes s vs es old new d =
 
 pub comes : (held : List ℕ → Option (List ℕ)) (asked : Asked) (before after : Option (List ℕ)) (s : Status) (vs : List Verdict) (es : List (ℕ × ℕ)) (old new : Option (List ℕ)) → Does held asked before after s vs es old new → DoesOfSome asked s vs es old new → Comes asked s es
 comes held (solves name) before after s vs es old new does of_some = solve_comes name of_some.0 of_some.1 s vs es old new of_some.2
-comes held (audits proof script) before after s vs es old new does of_some = audit_comes proof script of_some.0 of_some.1 s vs es old new of_some.2
+comes held (audits proof script) before after s vs es old new does of_some =
+    audit_comes Audits of_some.0 of_some.1 vs es old new (audits proof script) (inl (proof, script, refl)) s of_some.2
+comes held (audits_model model number script) before after s vs es old new does of_some =
+    audit_comes (AuditsModel number) of_some.0 of_some.1 vs es old new (audits_model model number script) (inr (model, number, script, refl)) s of_some.2
 comes held (generates count) before after s vs es old new does of_some = counts_come count s vs es old new does
 comes held helps before after s vs es old new does of_some = help_comes s vs es old new does
 comes held faulty before after s vs es old new does of_some = usage_comes s vs es old new does

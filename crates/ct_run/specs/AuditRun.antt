@@ -1,4 +1,4 @@
--- What an audit of a stored derivation does, by the status with which it ends.
+-- What an audit of a stored derivation, or of a stored model, does, by the status with which it ends.
 use Rattle.std.specs.Prelude.{◌≡◌, ◌≢◌, ℕ, ◌≤◌, ◌<◌, ◌&&◌, ◌⊎◌, Bool, true, false, List, [], length, Option, None, Some, option_to_list}
 use Rattle.ct_io.specs.declared.sink.SinkError.TheVariants as sink
 use Rattle.ct_io.specs.declared.status.Status.{Status}
@@ -12,6 +12,7 @@ use Rattle.ct_audit.specs.declared.answer.AuditAnswer.TheVariants.{Verified}
 use Rattle.ct_audit.specs.declared.answer.AuditAnswer.TheVariants as said
 use Rattle.ct_audit.specs.Answer.{audit_text, audit_error}
 use Rattle.ct_audit.specs.Audit.{Audits}
+use Rattle.ct_model_audit.specs.ModelAudit.{AuditsModel}
 use Rattle.ct_run.specs.Output.{wrote, IsLeft}
 use Rattle.ct_run.specs.Run.{DoesNothing}
 
@@ -24,11 +25,15 @@ abbrev pub AreFiles : List ℕ → List ℕ → Option (Unread × Unread) → Ty
 AreFiles proof script None = AreTooLong proof script
 AreFiles proof script (Some readers) = IsWholeOf proof (Some readers.0) × IsWholeOf script (Some readers.1)
 
+-- what is judged of the bytes of two files: a derivation or a model, and its script
+abbrev pub Judgement : Type 1
+Judgement = List ℕ → List ℕ → AuditAnswer → Type 0
+
 -- the two files are read whole, and this is the answer
-pub record IsJudged (proof script : List ℕ) (answer : AuditAnswer) : Type 0 where
+pub record IsJudged (R : Judgement) (proof script : List ℕ) (answer : AuditAnswer) : Type 0 where
   pub short_proof : length proof ≤ most_bytes
   pub short_script : length script ≤ most_bytes
-  pub audited : Audits proof script answer
+  pub audited : R proof script answer
 
 -- there is no verdict, and the answer's error is the only one
 pub record Tells (answer : AuditAnswer) (verdicts : List Verdict) (errors : List (ℕ × ℕ)) : Type 0 where
@@ -72,16 +77,23 @@ Prevents proof script Usage = ⊥
 Prevents proof script OutputFault = ⊥
 Prevents proof script Rejected = ⊥
 
--- the derivation was judged and the answer reported
-pub record Judges (proof script : List ℕ) (status : Status) (verdicts : List Verdict) (errors : List (ℕ × ℕ)) (old new : Option (List ℕ)) : Type 0 where
+-- the file was judged and the answer reported
+pub record Judges (R : Judgement) (proof script : List ℕ) (status : Status) (verdicts : List Verdict) (errors : List (ℕ × ℕ)) (old new : Option (List ℕ)) : Type 0 where
   pub answer : AuditAnswer
-  pub judged : IsJudged proof script answer
+  pub judged : IsJudged R proof script answer
   pub reported : ReportsAnswer answer status verdicts errors old new
 
--- an audit of a derivation and a script of these bytes: the answer is reported, or nothing was judged
+-- an audit of two files of these bytes: the answer is reported, or nothing was judged
+abbrev pub ReportsJudged : Judgement → List ℕ → List ℕ → Status → List Verdict → List (ℕ × ℕ) → Option (List ℕ) → Option (List ℕ) → Type 0
+ReportsJudged R proof script status verdicts errors old new =
+    Judges R proof script status verdicts errors old new ⊎ (Prevents proof script status × DoesNothing verdicts errors old new)
+
+-- of a derivation and its script, and of a model at the check of a script with this number
 abbrev pub ReportsAudit : List ℕ → List ℕ → Status → List Verdict → List (ℕ × ℕ) → Option (List ℕ) → Option (List ℕ) → Type 0
-ReportsAudit proof script status verdicts errors old new =
-    Judges proof script status verdicts errors old new ⊎ (Prevents proof script status × DoesNothing verdicts errors old new)
+ReportsAudit = ReportsJudged Audits
+
+abbrev pub ReportsModelAudit : ℕ → List ℕ → List ℕ → Status → List Verdict → List (ℕ × ℕ) → Option (List ℕ) → Option (List ℕ) → Type 0
+ReportsModelAudit number = ReportsJudged (AuditsModel number)
 
 -- of each of the two slots, which was opened under its name, the bytes were taken that are read of it: all, or of one that is too long as
 -- many as are read and one more

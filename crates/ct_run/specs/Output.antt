@@ -23,4 +23,4 @@ IsLeft NoMemory lines old new = GrewByPrefix (concat lines) old new
 
 -- the one line that tells how the program is called
 abbrev pub usage_line : List ℕ
-usage_line = codes "usage: cosmt [FILE | --audit PROOF FILE | --gen N]\n"
+usage_line = codes "usage: cosmt [FILE | --audit PROOF FILE | --audit-model MODEL --at K FILE | --gen N]\n"

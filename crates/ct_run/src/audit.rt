@@ -1,4 +1,4 @@
-//! A stored derivation is judged by its script.
+//! A stored derivation, or a stored model, is judged by its script.
 
 ghost use Rattle.std.specs.Prelude.{◌≡◌, ◌≢◌, ◌≤◌, ◌&&◌, ℕ, List, Some, is_some, IfOk, IfErr, OnOk, option_to_list};
 ghost use Rattle.ct_io.specs.Fault.{HasCause, Rose};
@@ -7,13 +7,14 @@ ghost use Rattle.ct_io.specs.declared.status.Status.TheVariants as status;
 ghost use Rattle.ct_input.specs.Slot.{IsWholeOf};
 ghost use Rattle.ct_audit.specs.Answer.{audit_error};
 ghost use Rattle.ct_run.specs.Output.{wrote, IsLeft};
-ghost use Rattle.ct_run.specs.AuditRun.{AreFiles, AreRead, Reads, Reports, ReportsAudit, answer_line, status_of_answer};
+ghost use Rattle.ct_run.specs.AuditRun.{AreFiles, AreRead, Reads, Reports, ReportsAudit, ReportsModelAudit, answer_line, status_of_answer};
 
 use crate::answer::write_line;
 use crate::report::{Report, ScriptError, status_of, unanswered};
 use ct_audit::{AuditAnswer, audit, audit_error, audit_text};
 use ct_input::{InputError, read_whole_slot};
 use ct_io::{Desk, Sink, SinkError, Slot, Status};
+use ct_model_audit::audit_model;
 use ct_sexpr::Reader;
 use std::alloc::{AllocError, Global};
 
@@ -45,7 +46,38 @@ pub fn audit_files<D: Desk, K: Sink>(
     }
 }
 
-/// Readers of the derivation and of the script. `None` where one of them is too long.
+/// Reads the model and the script under their names, and writes what is judged of the first by the
+/// check of the second with this number. Both are opened and read before anything is judged.
+pub fn audit_model_files<D: Desk, K: Sink>(
+    alloc: Global,
+    model: &str,
+    number: u64,
+    script: &str,
+    desk: &mut D,
+    out: &mut K,
+) -> Report
+    ensures audited { (model_bytes script_bytes : List ℕ) → D.held desk.old model.now ≡ Some model_bytes → D.held desk.old script.now ≡ Some script_bytes
+        → ReportsModelAudit number model_bytes script_bytes result.status result.verdicts.items result.errors.items (K.written out.old) (K.written out.new) }
+    ensures some_files { (model_bytes : List ℕ) × (script_bytes : List ℕ)
+        × ReportsModelAudit number model_bytes script_bytes result.status result.verdicts.items result.errors.items (K.written out.old) (K.written out.new) }
+    ensures read { Reads result.status (D.held desk.old model.now) (D.left desk.new slot.Proof) (D.held desk.old script.now) (D.left desk.new slot.Script) }
+    ensures input { result.status ≡ status.InputFault → Rose (D.faults desk.old) (D.faults desk.new) }
+    ensures output { result.status ≡ status.OutputFault → Rose (K.faults out.old) (K.faults out.new) }
+    ensures counts { (D.faults desk.old ≤ D.faults desk.new) × (K.faults out.old ≤ K.faults out.new) }
+    ensures desk_uncounted { result.status ≢ status.InputFault → D.faults desk.new ≡ D.faults desk.old }
+    ensures sink_uncounted { result.status ≢ status.OutputFault → K.faults out.new ≡ K.faults out.old }
+{
+    match read_files(alloc, model, script, desk) {
+        Ok(Some((mut model, mut script))) => {
+            judge_model(alloc, number, &mut model, &mut script, out)
+        }
+        Ok(None) => unanswered(alloc, Status::TooLong),
+        Err(InputError::Fault) => unanswered(alloc, Status::InputFault),
+        Err(InputError::NoMemory) => unanswered(alloc, Status::NoMemory),
+    }
+}
+
+/// Readers of the derivation or the model, and of the script. `None` where one of them is too long.
 fn read_files<D: Desk>(
     alloc: Global,
     proof: &str,
@@ -91,6 +123,29 @@ fn judge<K: Sink>(alloc: Global, proof: &mut Reader, script: &mut Reader, out: &
     }
 }
 
+/// Judges the model by the check of the script with this number, and reports the answer.
+fn judge_model<K: Sink>(
+    alloc: Global,
+    number: u64,
+    model: &mut Reader,
+    script: &mut Reader,
+    out: &mut K,
+) -> Report
+    requires files { (model_bytes : List ℕ) × (script_bytes : List ℕ) × AreFiles model_bytes script_bytes (Some (model.old, script.old)) }
+    ensures audited { (model_bytes script_bytes : List ℕ) → AreFiles model_bytes script_bytes (Some (model.old, script.old))
+        → ReportsModelAudit number model_bytes script_bytes result.status result.verdicts.items result.errors.items (K.written out.old) (K.written out.new) }
+    ensures input { result.status ≢ status.InputFault }
+    ensures whole { result.status ≢ status.TooLong }
+    ensures output { result.status ≡ status.OutputFault → Rose (K.faults out.old) (K.faults out.new) }
+    ensures count { K.faults out.old ≤ K.faults out.new }
+    ensures uncounted { result.status ≢ status.OutputFault → K.faults out.new ≡ K.faults out.old }
+{
+    match audit_model(alloc, number, model, script) {
+        Ok(answer) => report_answer(alloc, answer, out),
+        Err(_) => unanswered(alloc, Status::NoMemory),
+    }
+}
+
 /// Reports an answer, and writes its line. Where memory runs out before that, nothing is reported.
 fn report_answer<K: Sink>(alloc: Global, answer: AuditAnswer, out: &mut K) -> Report
     ensures reported { Reports answer result.status result.verdicts.items result.errors.items (K.written out.old) (K.written out.new) }
@@ -114,7 +169,7 @@ fn report_answer<K: Sink>(alloc: Global, answer: AuditAnswer, out: &mut K) -> Re
     }
 }
 
-/// The errors of an answer: one, or none where the derivation is verified.
+/// The errors of an answer: one, or none where it is `verified`.
 fn errors_of(alloc: Global, answer: AuditAnswer) -> Result<Vec<ScriptError>, AllocError>
     ensures errors { IfOk result (λ errors. errors.items ≡ option_to_list (audit_error answer)) }
 {

@@ -7,11 +7,11 @@ ghost use Rattle.ct_io.specs.declared.status.Status.TheVariants as status;
 ghost use Rattle.ct_arguments.specs.Arguments as arguments;
 ghost use Rattle.ct_arguments.specs.Seen.{task_seen};
 ghost use Rattle.ct_run.specs.Run.{Solves, Took, ReportsUsage, ReportsHelp};
-ghost use Rattle.ct_run.specs.AuditRun.{ReportsAudit, Reads};
+ghost use Rattle.ct_run.specs.AuditRun.{ReportsAudit, ReportsModelAudit, Reads};
 ghost use Rattle.ct_run.specs.Generated.{ReportsCounts};
 ghost use Rattle.ct_run.specs.Tasks.{Does, DoesOfSome, ReadsFiles, IsAudit, IsOfScript};
 
-use crate::audit::audit_files;
+use crate::audit::{audit_files, audit_model_files};
 use crate::generated::generate;
 use crate::report::{Report, status_of, unanswered};
 use crate::solve::solve;
@@ -20,13 +20,15 @@ use ct_io::{Desk, Sink, Status, Text, write_all};
 use std::alloc::Global;
 
 /// How the program is called.
-const USAGE: &str = "usage: cosmt [FILE | --audit PROOF FILE | --gen N]\n";
+const USAGE: &str =
+    "usage: cosmt [FILE | --audit PROOF FILE | --audit-model MODEL --at K FILE | --gen N]\n";
 
 /// Runs the program on the arguments of its command line, without its own name.
 ///
 /// One argument that is no option names a script, and no argument, or an empty one, standard input. The
 /// script is answered command by command, up to its end, to `exit` or to an error of its text. `--audit`
-/// with a derivation and a script judges the one by the other, `--gen` with a number answers a script
+/// with a derivation and a script judges the one by the other, `--audit-model` with a model, a script and
+/// `--at` with the number of a check evaluates the assertions in force there, `--gen` with a number answers a script
 /// that is generated and counts its answers, and `--help` is answered with the line of usage. So are all
 /// other arguments, with the status of usage.
 pub fn run<D: Desk, K: Sink>(alloc: Global, words: &[Text], desk: &mut D, out: &mut K) -> Report
@@ -39,9 +41,15 @@ pub fn run<D: Desk, K: Sink>(alloc: Global, words: &[Text], desk: &mut D, out: &
     ensures audited { (proof script proof_bytes script_bytes : List ℕ) → arguments.task_of words.now ≡ arguments.audits proof script
         → D.held desk.old proof ≡ Some proof_bytes → D.held desk.old script ≡ Some script_bytes
         → ReportsAudit proof_bytes script_bytes result.status result.verdicts.items result.errors.items (K.written out.old) (K.written out.new) }
-    // Both were opened and read before it was judged.
+    // And of a model that is judged by a check of a script.
+    ensures model_audited { (model script model_bytes script_bytes : List ℕ) (number : ℕ) → arguments.task_of words.now ≡ arguments.audits_model model number script
+        → D.held desk.old model ≡ Some model_bytes → D.held desk.old script ≡ Some script_bytes
+        → ReportsModelAudit number model_bytes script_bytes result.status result.verdicts.items result.errors.items (K.written out.old) (K.written out.new) }
+    // Both files were opened and read before anything was judged.
     ensures read { (proof script : List ℕ) → arguments.task_of words.now ≡ arguments.audits proof script
         → Reads result.status (D.held desk.old proof) (D.left desk.new slot.Proof) (D.held desk.old script) (D.left desk.new slot.Script) }
+    ensures model_read { (model script : List ℕ) (number : ℕ) → arguments.task_of words.now ≡ arguments.audits_model model number script
+        → Reads result.status (D.held desk.old model) (D.left desk.new slot.Proof) (D.held desk.old script) (D.left desk.new slot.Script) }
     ensures generated { (count : ℕ) → arguments.task_of words.now ≡ arguments.generates count
         → ReportsCounts count result.status result.verdicts.items result.errors.items (K.written out.old) (K.written out.new) }
     ensures helped { arguments.task_of words.now ≡ arguments.helps
@@ -55,6 +63,8 @@ pub fn run<D: Desk, K: Sink>(alloc: Global, words: &[Text], desk: &mut D, out: &
         × Solves bytes taken result.status result.verdicts.items result.errors.items (K.written out.old) (K.written out.new) }
     ensures some_files { (proof script : List ℕ) → arguments.task_of words.now ≡ arguments.audits proof script → (proof_bytes : List ℕ) × (script_bytes : List ℕ)
         × ReportsAudit proof_bytes script_bytes result.status result.verdicts.items result.errors.items (K.written out.old) (K.written out.new) }
+    ensures some_model { (model script : List ℕ) (number : ℕ) → arguments.task_of words.now ≡ arguments.audits_model model number script → (model_bytes : List ℕ) × (script_bytes : List ℕ)
+        × ReportsModelAudit number model_bytes script_bytes result.status result.verdicts.items result.errors.items (K.written out.old) (K.written out.new) }
 
     // When each status comes, whatever the desk and the sink tell.
     ensures usage_only { result.status ≡ status.Usage → arguments.task_of words.now ≡ arguments.faulty }
@@ -93,6 +103,11 @@ fn perform<D: Desk, K: Sink>(alloc: Global, task: Task<'_>, desk: &mut D, out: &
     match task {
         Task::Solve(name) => solve(alloc, name, desk, out),
         Task::Audit { proof, script } => audit_files(alloc, proof, script, desk, out),
+        Task::AuditModel {
+            model,
+            number,
+            script,
+        } => audit_model_files(alloc, model, number, script, desk, out),
         Task::Generate(count) => generate(alloc, count, out),
         Task::Help => report_help(alloc, out),
         Task::Faulty => report_usage(alloc, out),

@@ -5,7 +5,7 @@ ghost use Rattle.ct_formulas.specs.TreeFormula.{formula_of};
 ghost use Rattle.ct_command.specs.Reading.{command};
 ghost use Rattle.ct_command.specs.Seen.{command_seen};
 ghost use Rattle.ct_stack.specs.Stack.{in_force};
-ghost use Rattle.ct_stack.specs.Held.{context_in, as_one, IsSoundLevel};
+ghost use Rattle.ct_stack.specs.Held.{context_in, as_one, IsSoundLevel, IsHeld};
 ghost use Rattle.ct_step.specs.State.{first_state, context_of};
 ghost use Rattle.ct_step.specs.Store.{first_store, IsStoreOf, StoresBy};
 ghost use Rattle.ct_script.specs.Replay.{Replays, is_check};
@@ -23,6 +23,7 @@ use ct_sexpr::Sexpr;
 use ct_sorts::growth;
 use ct_stack::{AssertionStack, ModelValues};
 use ct_step::{Answer, Options, SessionState, perform, refused};
+use ct_terms::{TermId, TermTable};
 use std::alloc::Global;
 use std::marker::Model;
 
@@ -145,6 +146,14 @@ impl Session {
         ensures value { map formula_of result.now ≡ in_force self.now.state.stack }
     {
         self.state.stack.assertions()
+    }
+
+    /// The table of the core terms of the assertions in force, with their subterms and no others, and the numbers of these core
+    /// terms, in order.
+    pub fn core_terms(&self) -> (&TermTable, &[TermId])
+        ensures held { IsHeld (as_one self.now.state.stack) result.0.now result.1.now }
+    {
+        self.state.stack.core_terms()
     }
 
     /// The clauses that the theory gave in the checks so far and that can still be named, at most 4,096.

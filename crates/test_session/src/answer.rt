@@ -44,7 +44,7 @@ pub fn answer(
     }
 }
 
-/// Answers a case of a run that is cut short at every place: of an audit where the setting has a derivation.
+/// Answers a case of a run that is cut short at every place: of an audit where the setting has a derivation or a model.
 fn answer_every(
     alloc: Global,
     cut: Cut,
@@ -60,14 +60,23 @@ fn answer_every(
 
 /// The arguments for a run of the setting.
 fn words_of(alloc: Global, setting: Setting<'_>) -> Result<Vec<Text>, CaseError> {
-    if !setting.has_proof() {
-        return file_alone(alloc);
-    }
     let mut words = Vec::new(alloc);
-    for word in ["--audit", "p", "s"] {
-        words.push(Text::new(String::from_str(alloc, word)?))?;
+    if let Some(check) = setting.check() {
+        add_words(alloc, &["--audit-model", "p", "--at"], &mut words)?;
+        words.push(Text::new(string_of(alloc, check)?))?;
+    } else if setting.has_proof() {
+        add_words(alloc, &["--audit", "p"], &mut words)?;
     }
+    add_words(alloc, &["s"], &mut words)?;
     Ok(words)
+}
+
+/// Adds these arguments.
+fn add_words(alloc: Global, words: &[&str], out: &mut Vec<Text>) -> Result<(), CaseError> {
+    for word in words {
+        out.push(Text::new(String::from_str(alloc, *word)?))?;
+    }
+    Ok(())
 }
 
 /// The name of the script as the only argument.

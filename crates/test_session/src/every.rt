@@ -1,5 +1,5 @@
 //! Runs that are cut short at every place where they can be: at each call of the desk, at each write of the sink, after each byte
-//! of the script or of the derivation. What comes of them is shown once for each stretch of places with one outcome.
+//! of the script, of the derivation or of the model. What comes of them is shown once for each stretch of places with one outcome.
 use crate::outcome::show_outcome;
 use crate::setting::{Setting, proof_of};
 use ct_cases::CaseError;
@@ -18,7 +18,7 @@ pub enum Cut {
     Write,
     /// The script ends.
     Script,
-    /// The derivation ends.
+    /// The derivation or the model ends.
     Proof,
 }
 

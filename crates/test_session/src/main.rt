@@ -4,10 +4,10 @@
 //! shows on one line the status, the verdicts, the errors, and what was written; where a call of the desk
 //! fails, or `(counts-calls)` asks for it, also how often it was called. `every-call`, `every-write`,
 //! `every-prefix` and `every-prefix-of-the-proof` in place of `run` run the script, or the audit where there
-//! is a derivation, cut short at every such place, with a line for each stretch of places with one outcome.
+//! is a derivation or a model, cut short at every such place, with a line for each stretch of places with one outcome.
 //! A setting is `(desk-fails CALL)`, `(sink-fails CALL)`, `(piece COUNT)`, for the most bytes that a call
-//! takes, `(counts-calls)`, or `(proof SCRIPT)`, for a derivation under the name `p`. A line that
-//! is no case is answered `BAD`.
+//! takes, `(counts-calls)`, `(proof SCRIPT)`, for a derivation or a model under the name `p`, or, where such a run is cut short,
+//! `(check NUMBER)`, for a model at the check with this number. A line that is no case is answered `BAD`.
 #![tactic(auto)]
 
 mod answer;

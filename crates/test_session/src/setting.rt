@@ -1,4 +1,4 @@
-//! Which calls fail in a run, how many bytes a call takes at most, and the derivation that is audited, with where it ends.
+//! Which calls fail in a run, how many bytes a call takes at most, and the derivation or the model that is audited, with where it ends.
 use crate::script::script_of;
 use ct_cases::{CaseError, number_of, split_word};
 use ct_io::{DeskInMemory, SinkInMemory, Text};
@@ -6,7 +6,7 @@ use ct_sexpr::Sexpr;
 use std::alloc::Global;
 
 /// The numbers of the calls that fail, if any, the most bytes that a call takes, whether the calls of the desk are counted although
-/// none of them fails, and the derivation, if there is one.
+/// none of them fails, the derivation or the model, if there is one, and the number of the check of a model.
 #[derive(Clone, Copy)]
 pub struct Setting<'a> {
     desk_fails: Option<u64>,
@@ -15,6 +15,7 @@ pub struct Setting<'a> {
     counts: bool,
     proof: Option<&'a Sexpr>,
     proof_ends: usize,
+    check: Option<&'a Sexpr>,
 }
 
 impl Setting<'_> {
@@ -23,13 +24,18 @@ impl Setting<'_> {
         self.counts
     }
 
-    /// Whether there is a derivation.
+    /// Whether there is a derivation or a model.
     pub fn has_proof(self) -> bool {
         self.proof.is_some()
     }
 }
 
 impl<'a> Setting<'a> {
+    /// The number of the check of the model, where one is to be audited.
+    pub fn check(self) -> Option<&'a Sexpr> {
+        self.check
+    }
+
     /// The same, but this call of the desk fails.
     pub fn with_desk_failing(self, call: u64) -> Setting<'a> {
         Setting {
@@ -46,7 +52,7 @@ impl<'a> Setting<'a> {
         }
     }
 
-    /// The same, but the derivation ends after so many bytes.
+    /// The same, but the derivation or the model ends after so many bytes.
     pub fn with_proof_ending(self, bytes: usize) -> Setting<'a> {
         Setting {
             proof_ends: bytes,
@@ -64,6 +70,7 @@ pub fn setting_of(parts: &[Sexpr]) -> Result<Setting<'_>, CaseError> {
         counts: false,
         proof: None,
         proof_ends: usize::MAX,
+        check: None,
     };
     for part in parts {
         setting = with_part(setting, part)?;
@@ -95,11 +102,15 @@ fn with_part<'a>(setting: Setting<'a>, part: &'a Sexpr) -> Result<Setting<'a>, C
             proof: Some(proof),
             ..setting
         }),
+        ("check", [number]) => Ok(Setting {
+            check: Some(number),
+            ..setting
+        }),
         _ => Err(CaseError::Bad),
     }
 }
 
-/// A desk with the script under the name `s`, and the derivation under the name `p`.
+/// A desk with the script under the name `s`, and the derivation or the model under the name `p`.
 pub fn desk_of(
     alloc: Global,
     script: Vec<u8>,
@@ -116,7 +127,7 @@ pub fn desk_of(
     Ok(DeskInMemory::new(files, fails, setting.piece.max(1)))
 }
 
-/// The derivation; nothing where there is none.
+/// The derivation or the model; nothing where there is none.
 pub fn proof_of(alloc: Global, setting: Setting<'_>) -> Result<Vec<u8>, CaseError> {
     match setting.proof {
         Some(proof) => script_of(alloc, proof),

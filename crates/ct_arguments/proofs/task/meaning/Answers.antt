@@ -10,5 +10,8 @@ returns c =
     let gen_is : option_map (λ s. s.now) c.get_str.result ≡ first_of (codes "gen") (rows_of found) = c.get_str.ensures ∙ first_value-rows found (codes "gen") in
     let audit_is : option_map (λ s. s.now) c.get_str-2.result ≡ first_of (codes "audit") (rows_of found) =
     c.get_str-2.ensures ∙ first_value-rows found (codes "audit") in
-    let file_is : option_map (λ s. s.now) c.get_str-3.result ≡ first_of (codes "file") (rows_of found) = c.get_str-3.ensures ∙ first_value-rows found (codes "file") in
-    record { task = c.asked_by.ensures.task ∙ (λ i. asked_by (gen_is i) (audit_is i) (file_is i)) }
+    let model_is : option_map (λ s. s.now) c.get_str-3.result ≡ first_of (codes "audit-model") (rows_of found) =
+    c.get_str-3.ensures ∙ first_value-rows found (codes "audit-model") in
+    let at_is : option_map (λ s. s.now) c.get_str-4.result ≡ first_of (codes "at") (rows_of found) = c.get_str-4.ensures ∙ first_value-rows found (codes "at") in
+    let file_is : option_map (λ s. s.now) c.get_str-5.result ≡ first_of (codes "file") (rows_of found) = c.get_str-5.ensures ∙ first_value-rows found (codes "file") in
+    record { task = c.asked_by.ensures.task ∙ (λ i. asked_by (gen_is i) (audit_is i) (model_is i) (at_is i) (file_is i)) }

@@ -3,9 +3,9 @@ use Rattle.std.specs.Prelude.{◌≡◌, ℕ, List, Option, None, Some}
 use Rattle.ct_sexpr.specs.Text.{Located}
 use Rattle.ct_step.specs.State.{State}
 use Rattle.ct_script.specs.Session.{Course}
-use Rattle.ct_audit.specs.declared.replay.Turn.{Turn}
-use Rattle.ct_audit.specs.declared.replay.Turn.TheVariants as turn
-use Rattle.ct_audit.specs.Found.{Finds}
+use Rattle.ct_replay.specs.declared.replay.Turn.{Turn}
+use Rattle.ct_replay.specs.declared.replay.Turn.TheVariants as turn
+use Rattle.ct_replay.specs.Found.{Finds}
 
 -- what is found where the search stands so, and these commands are left
 abbrev pub FindsAfter : Turn → Course → List Located → ℕ → Option State → Type 0

@@ -3,10 +3,10 @@ ghost use Rattle.std.specs.Prelude.{◌≡◌, ◌==◌, ◌&&◌, ◌∷◌, []
 ghost use Rattle.ct_sexpr.specs.Text.{Located, Ending, Reads};
 ghost use Rattle.ct_sexpr.specs.View.{expression_of};
 ghost use Rattle.ct_step.specs.State.{State};
-ghost use Rattle.ct_audit.specs.Found.{Finds, is_wanted, state_where};
-ghost use Rattle.ct_audit.specs.Turn.{FindsAfter};
+ghost use Rattle.ct_replay.specs.Found.{Finds, is_wanted, state_where};
+ghost use Rattle.ct_replay.specs.Turn.{FindsAfter};
 
-use crate::error::AuditError;
+use crate::error::ReplayError;
 use ct_script::{Replayed, Session};
 use ct_sexpr::{Next, ReadError, Reader, Sexpr, one_text};
 
@@ -21,11 +21,11 @@ pub(crate) enum Turn {
 }
 
 /// Replays a script up to its check with this number. Whether there is one.
-pub(crate) fn find_check(
+pub fn find_check(
     reader: &mut Reader,
     session: &mut Session,
     wanted: u64,
-) -> Result<bool, AuditError>
+) -> Result<bool, ReplayError>
     requires ended { reader.old.ended ≡ true }
     requires unanswered { session.old.verdicts ≡ [] }
     ensures found { IfOk result (λ found. (commands : List Located) × (ending : Ending) × Reads reader.old.line reader.old.bytes commands ending
@@ -45,13 +45,13 @@ pub(crate) fn find_check(
             Ok(Next::Need) => unreachable!(),
             Ok(Next::End) => return Ok(false),
             Err(ReadError::Lexical { .. }) => return Ok(false),
-            Err(ReadError::NoMemory) => return Err(AuditError),
+            Err(ReadError::NoMemory) => return Err(ReplayError),
         }
     }
 }
 
 // Replays a command that begins on this line.
-fn replay(session: &mut Session, line: u64, expr: &Sexpr, wanted: u64) -> Result<Turn, AuditError>
+fn replay(session: &mut Session, line: u64, expr: &Sexpr, wanted: u64) -> Result<Turn, ReplayError>
     requires unanswered { session.old.verdicts ≡ [] }
     ensures unanswered { session.new.verdicts ≡ [] }
     ensures turned { IfOk result (λ turn. (commands : List Located) (found : Option State) → FindsAfter turn session.new commands wanted found

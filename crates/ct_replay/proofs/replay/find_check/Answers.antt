@@ -2,8 +2,8 @@ use Rattle.std.proofs.Common.{◌∙◌, [], None, Some, refl}
 use Rattle.ct_sexpr.specs.Text.{Located, clean, lexical, Reads}
 use Rattle.ct_sexpr.specs.View.{expression_of}
 use Rattle.ct_sexpr.specs.Answer.{GivesCommand, IsFirstCommand, IsLast}
-use Rattle.ct_audit.proofs.ReplayLemmas.{goes_on, ends_with}
-use Rattle.ct_audit.proofs.replay.find_check.Goals as goal
+use Rattle.ct_replay.proofs.ReplayLemmas.{goes_on, ends_with}
+use Rattle.ct_replay.proofs.replay.find_check.Goals as goal
 
 pub returns-in-Found : goal.returns-in-Found
 returns-in-Found c =

@@ -2,8 +2,8 @@ use Rattle.std.proofs.Common.{[], refl}
 use Rattle.ct_sexpr.specs.Text.{Located, clean, lexical, Reads}
 use Rattle.ct_sexpr.specs.View.{expression_of}
 use Rattle.ct_sexpr.specs.Answer.{IsFirstCommand, IsLast}
-use Rattle.ct_audit.proofs.TextLemmas.{with_first}
-use Rattle.ct_audit.proofs.proof.one_expression.Goals as goal
+use Rattle.ct_replay.proofs.FirstLemmas.{with_first}
+use Rattle.ct_replay.proofs.expression.one_expression.Goals as goal
 
 pub returns-in-Ok-Command : goal.returns-in-Ok-Command
 returns-in-Ok-Command c =

@@ -3,8 +3,8 @@ use Rattle.ct_sexpr.specs.Expression.{Expression}
 use Rattle.ct_sexpr.specs.Text.{Located, clean, lexical, Reads}
 use Rattle.ct_sexpr.specs.View.{expression_of}
 use Rattle.ct_sexpr.specs.Answer.{IsFirstCommand, IsLast}
-use Rattle.ct_audit.proofs.ReplayLemmas.{first_read}
-use Rattle.ct_audit.proofs.proof.alone.Goals as goal
+use Rattle.ct_replay.proofs.ReplayLemmas.{first_read}
+use Rattle.ct_replay.proofs.expression.alone.Goals as goal
 
 pub returns-in-Ok-Command : goal.returns-in-Ok-Command
 returns-in-Ok-Command c = record {

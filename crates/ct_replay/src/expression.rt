@@ -1,14 +1,14 @@
-//! A derivation is one expression and nothing else.
+//! A derivation, and a model, is one expression and nothing else.
 ghost use Rattle.std.specs.Prelude.{◌≡◌, ◌∷◌, true, List, option_map, IfOk};
 ghost use Rattle.ct_sexpr.specs.Text.{Located, Ending, Reads};
 ghost use Rattle.ct_sexpr.specs.View.{expression_of};
-ghost use Rattle.ct_audit.specs.Audit.{one_expression};
+ghost use Rattle.ct_replay.specs.One.{one_expression};
 
-use crate::error::AuditError;
+use crate::error::ReplayError;
 use ct_sexpr::{Next, ReadError, Reader, Sexpr, one_text};
 
 /// The expression that the text is, where it is one and nothing else.
-pub(crate) fn one_expression(reader: &mut Reader) -> Result<Option<Sexpr>, AuditError>
+pub fn one_expression(reader: &mut Reader) -> Result<Option<Sexpr>, ReplayError>
     requires ended { reader.old.ended ≡ true }
     ensures read { IfOk result (λ expr. (commands : List Located) × (ending : Ending) × Reads reader.old.line reader.old.bytes commands ending
         × (one_expression commands ending ≡ option_map expression_of expr)) }
@@ -19,12 +19,12 @@ pub(crate) fn one_expression(reader: &mut Reader) -> Result<Option<Sexpr>, Audit
         Ok(Next::Need) => unreachable!(),
         Ok(Next::End) => Ok(None),
         Err(ReadError::Lexical { .. }) => Ok(None),
-        Err(ReadError::NoMemory) => Err(AuditError),
+        Err(ReadError::NoMemory) => Err(ReplayError),
     }
 }
 
 // The expression, where nothing comes after it.
-fn alone(reader: &mut Reader, expr: Sexpr) -> Result<Option<Sexpr>, AuditError>
+fn alone(reader: &mut Reader, expr: Sexpr) -> Result<Option<Sexpr>, ReplayError>
     requires ended { reader.old.ended ≡ true }
     ensures read { IfOk result (λ alone. (first : Located) → first.command ≡ expression_of expr
         → (commands : List Located) × (ending : Ending) × Reads reader.old.line reader.old.bytes commands ending
@@ -36,6 +36,6 @@ fn alone(reader: &mut Reader, expr: Sexpr) -> Result<Option<Sexpr>, AuditError>
         Ok(Next::Need) => unreachable!(),
         Ok(Next::End) => Ok(Some(expr)),
         Err(ReadError::Lexical { .. }) => Ok(None),
-        Err(ReadError::NoMemory) => Err(AuditError),
+        Err(ReadError::NoMemory) => Err(ReplayError),
     }
 }

@@ -10,7 +10,7 @@ use Rattle.ct_script.specs.declared.replay.Replayed.{Replayed}
 use Rattle.ct_step.specs.State.{State}
 use Rattle.ct_script.specs.Replay.{Replays}
 use Rattle.ct_script.specs.Session.{Course}
-use Rattle.ct_audit.specs.Found.{Finds, is_wanted}
+use Rattle.ct_replay.specs.Found.{Finds, is_wanted}
 
 -- each text has a reading
 abbrev pub SomeText : Type 0

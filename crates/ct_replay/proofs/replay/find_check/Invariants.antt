@@ -1,6 +1,6 @@
 use Rattle.std.proofs.Common.{◌≡◌, length, true, []}
-use Rattle.ct_audit.proofs.ReplayLemmas.{Completes}
-use Rattle.ct_audit.proofs.replay.find_check.Given as goal
+use Rattle.ct_replay.proofs.ReplayLemmas.{Completes}
+use Rattle.ct_replay.proofs.replay.find_check.Given as goal
 
 abbrev pub invariant-loop-expr : goal.invariant-loop-expr
 invariant-loop-expr l = record {

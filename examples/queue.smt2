@@ -1,0 +1,11 @@
+; A queue ends, and a run of days does not: the model shows both. LANGUAGE, Models audited, says how it is stored and audited.
+(declare-datatypes ((Job 0) (Queue 0)) (((print) (scan)) ((empty) (job (first Job) (rest Queue)))))
+(declare-codatatype Day ((day (work Queue) (next Day))))
+(declare-const q Queue)
+(declare-const d Day)
+(assert (distinct q empty))
+(assert (= (first q) scan))
+(assert (= (rest q) empty))
+(assert (= d (day q d)))
+(check-sat)
+(get-model)
