@@ -46,12 +46,7 @@ module _ (u : Unread) (start : Course) (first : start ≡ first_course) (e : Exp
   was_found is (Ok answer) judged = (finds.0, finds.1, finds.2, (Some state, from_first (Some state) (ap (λ (b : Bool). state_where b state) is), judged))
   was_found is (Err error) judged = tt
 
-module _ (c : Context) (formulas : List Formula) (e : Expression) (sizes : Sizes) (are : AreSizes c.declarations sizes) where
-  -- the model is read, and its interpretation judged
-  pub was_read : (i : Interp) → ModelReads c.declarations sizes e (Ok i) → (r : Result AuditAnswer AuditError) → IfOk r (JudgesInterp c formulas i) → IfOk r (JudgesModel c formulas e)
-  was_read i read (Ok answer) judged = record { sizes = sizes; sizes_are = are; outcome = Ok i; read = read; judged = judged }
-  was_read i read (Err error) judged = tt
-
-  -- an item of the model is refused
-  pub was_refused : (item code : ℕ) → ModelReads c.declarations sizes e (Err (item, code)) → JudgesModel c formulas e (Wrong item code)
-  was_refused item code read = record { sizes = sizes; sizes_are = are; outcome = Err (item, code); read = read; judged = refl }
+-- the model is read, and its interpretation judged
+pub was_read : (c : Context) (formulas : List Formula) (e : Expression) (sizes : Sizes) → AreSizes c.declarations sizes → (i : Interp) → ModelReads c.declarations sizes e (Ok i) → (r : Result AuditAnswer AuditError) → IfOk r (JudgesInterp c formulas i) → IfOk r (JudgesModel c formulas e)
+was_read c formulas e sizes are i read (Ok answer) judged = record { sizes = sizes; sizes_are = are; outcome = Ok i; read = read; judged = judged }
+was_read c formulas e sizes are i read (Err error) judged = tt

@@ -59,8 +59,8 @@ module _ (assertions : Assertions) (c : Context) (formulas : List Formula) (tabl
   satisfied holds = record { proper = proper; holds = all_true numbers formulas held.sound.asserts side_by_side holds }
 
   -- the first core term that is not true is that of the first assertion that is not
-  pub first_of : (place : ℕ) → IsFirstUntrueTerm c.declarations i table numbers place → IsFirstUntrue c formulas i place
-  first_of place first =
+  pub first_untrue : (place : ℕ) → IsFirstUntrueTerm c.declarations i table numbers place → IsFirstUntrue c formulas i place
+  first_untrue place first =
       let at = AllZip-at_left IsCore numbers formulas place first.assert side_by_side first.stands in
       let closed = All-at IsClosed formulas place at.0 held.sound.asserts at.1 in
       record {
