@@ -42,4 +42,5 @@ pub mod PrintedBodies
 pub mod PrintedItems
 pub mod PrintedLookUps
 pub mod PrintedEvaluation
+pub mod PrintedTexts
 pub mod PrintedModels

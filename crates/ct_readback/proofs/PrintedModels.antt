@@ -37,6 +37,7 @@ use Rattle.ct_readback.proofs.PrintedValues.{IsPrintable, IsPrinted}
 use Rattle.ct_readback.proofs.PrintedRows.{AreWritten, ArePrinted}
 use Rattle.ct_readback.proofs.PrintedBodies.{printed_table}
 use Rattle.ct_readback.proofs.PrintedItems.{IsClean, available_clean, ItemReads, item_printed}
+use Rattle.ct_readback.proofs.PrintedTexts.{printed_command}
 use Rattle.ct_readback.proofs.PrintedLookUps.{given_same}
 use Rattle.ct_readback.proofs.PrintedEvaluation.{holds_still}
 
@@ -275,23 +276,31 @@ items_spaced (t ∷ ts) (more e es) are =
     (10 ∷ [], t, 10 ∷ (lines ts ++ 41 ∷ []), refl, subst (IsSpaced e) (sym are.0) (written_is_spaced e), lines_spaced ts es are.1, ap (λ (bs : List ℕ). 10 ∷ bs) (append_assoc t (10 ∷ lines ts) (41 ∷ [])))
 
 -- a printed model reads back
-pub model_reads_back : TextTheorems → (d : Declarations) (sizes : Sizes) (i : Interp) (text : List ℕ) → IsConsistent d → IsProper d i → IsInRange d i → IsModelText d i text
-    → (es : Expressions) × IsReadable (list es) × IsSpaced (list es) text × ReadsBack d sizes i (canonical (list es)) × (nesting (list es) ≤ nesting_limit → BeginsCommand text (canonical (list es)) [])
-model_reads_back theorems d sizes i text consistent proper range is =
-    let all = all_printed theorems d i consistent proper range (item_numbers d) (is.tables ++ is.offs)
-    (together (ItemText d i) (function_items d) (off_items d) is.tables is.offs
-    (mapped inl (ItemText d i) (function_numbers d) is.tables is.tables_are)
-    (mapped inr (ItemText d i) (off_numbers d) is.offs is.offs_are)) in
-    let spaced : IsSpaced (list all.printed) text = (10 ∷ (lines (is.tables ++ is.offs) ++ 41 ∷ []), items_spaced (is.tables ++ is.offs) all.printed all.text_is, is.text_is) in (
-      all.printed,
-      all.readable,
-      spaced,
-      record {
-        accepted = λ place code refused. accepted d sizes i (items_of (canonical_each all.printed)) all.reads place code refused;
-        proper = λ j model. model.proper;
-        tables = λ j model. same_tables d sizes i (items_of (canonical_each all.printed)) all.reads consistent proper j model;
-        assertions = λ j terms asserts model ordered sorted held.
-            holds_still d i j consistent proper model.proper (same_tables d sizes i (items_of (canonical_each all.printed)) all.reads consistent proper j model) terms ordered sorted asserts held;
-      },
-      λ few. spaced_is_read all.printed text all.readable few spaced,
-    )
+module _ (theorems : TextTheorems) (d : Declarations) (sizes : Sizes) (i : Interp) (text : List ℕ) (consistent : IsConsistent d) (proper : IsProper d i) (range : IsInRange d i) (is : IsModelText d i text) where
+  all_items : ArePrinted (is.tables ++ is.offs) (λ es. AllZip (ItemIs d i) (item_numbers d) (items_of es))
+  all_items =
+      all_printed theorems d i consistent proper range (item_numbers d) (is.tables ++ is.offs)
+      (together (ItemText d i) (function_items d) (off_items d) is.tables is.offs
+      (mapped inl (ItemText d i) (function_numbers d) is.tables is.tables_are)
+      (mapped inr (ItemText d i) (off_numbers d) is.offs is.offs_are))
+
+  all_back : (es : Expressions) → AllZip (ItemIs d i) (item_numbers d) (items_of es) → ReadsBack d sizes i (list es)
+  all_back es all = record {
+    accepted = λ place code refused. accepted d sizes i (items_of es) all place code refused;
+    proper = λ j model. model.proper;
+    tables = λ j model. same_tables d sizes i (items_of es) all consistent proper j model;
+    assertions = λ j terms asserts model ordered sorted held.
+        holds_still d i j consistent proper model.proper (same_tables d sizes i (items_of es) all consistent proper j model) terms ordered sorted asserts held;
+  }
+
+  pub model_reads_back : (es : Expressions) × IsReadable (list es) × IsSpaced (list es) text × ReadsBack d sizes i (canonical (list es)) × (nesting (list es) ≤ nesting_limit → BeginsCommand text (canonical (list es)) [])
+  model_reads_back =
+      let all = all_items in
+      let spaced : IsSpaced (list all.printed) text = (10 ∷ (lines (is.tables ++ is.offs) ++ 41 ∷ []), items_spaced (is.tables ++ is.offs) all.printed all.text_is, is.text_is) in
+      (all.printed, all.readable, spaced, all_back (canonical_each all.printed) all.reads, λ few. spaced_is_read all.printed text all.readable few spaced)
+
+  -- whatever is read of the text reads back
+  pub command_reads_back : (e : Expression) → BeginsCommand text e [] → ReadsBack d sizes i e
+  command_reads_back e command =
+      let all = all_items in
+      subst (ReadsBack d sizes i) (sym (printed_command (is.tables ++ is.offs) all.printed text e all.readable all.text_is is.text_is command)) (all_back (canonical_each all.printed) all.reads)

@@ -9,7 +9,7 @@ returns-in-Ok c =
     let most = bounded c.args.text.now c.in-Ok.number c.parse.result c.parse.ensures.value.0 c.in-Ok.is none in
     record { number = numbered 18446744073709551615 c.args.text.now c.in-Ok.number c.parse.result c.parse.ensures.value.0 c.in-Ok.is none (search rules) most }
 
-pub returns-in_default-3 : goal.returns-in_default-3
-returns-in_default-3 c =
+pub returns-in_default-2 : goal.returns-in_default-2
+returns-in_default-2 c =
     let none : slice_get c.args.text.now 0 ≢ Some 43 = search rules in
     record { number = unnumbered 18446744073709551615 c.args.text.now c.in_default.field-0 c.parse.result c.parse.ensures.value.0 c.in_default.is none (omega arith) }
