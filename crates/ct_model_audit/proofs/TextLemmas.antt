@@ -6,7 +6,6 @@ use Rattle.ct_sexpr.specs.Text.{Located, Ending, Reads}
 use Rattle.ct_sexpr.specs.Unread.{Unread}
 use Rattle.ct_sexpr.specs.View.{expression_of}
 use Rattle.ct_sexpr.specs.declared.sexpr.Sexpr.{Sexpr}
-use Rattle.ct_sorts.specs.Declarations.{Declarations}
 use Rattle.ct_card.specs.Sizes.{AreSizes, Table as Sizes}
 use Rattle.ct_formulas.specs.Formula.{Formula}
 use Rattle.ct_eval.specs.declared.interp.Interp.{Interp}
@@ -16,7 +15,7 @@ use Rattle.ct_script.specs.Session.{Course, first_course}
 use Rattle.ct_replay.specs.Found.{Finds, state_where}
 use Rattle.ct_replay.specs.One.{one_expression}
 use Rattle.ct_replay.proofs.ReplayLemmas.{SomeText}
-use Rattle.ct_readback.specs.ModelReads.{ModelOutcome, ModelReads, departs}
+use Rattle.ct_readback.specs.ModelReads.{ModelReads, departs}
 use Rattle.ct_audit.specs.declared.answer.AuditAnswer.{AuditAnswer}
 use Rattle.ct_audit.specs.declared.answer.AuditAnswer.TheVariants.{Wrong}
 use Rattle.ct_audit.specs.declared.error.AuditError.{AuditError}

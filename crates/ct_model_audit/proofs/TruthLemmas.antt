@@ -1,5 +1,5 @@
 -- What core terms say in an interpretation of the assertions whose core terms they are.
-use Rattle.std.proofs.Common.{◌≡◌, ℕ, zero, suc, List, [], ◌∷◌, take, All, Some, slice_get, true, refl}
+use Rattle.std.proofs.Common.{◌≡◌, ℕ, zero, suc, List, [], ◌∷◌, take, All, true, refl}
 use Rattle.std.specs.List.{AllZip}
 use Rattle.std.proofs.lemmas.List.Elements.{All-take}
 use Rattle.ct_lemmas.proofs.Each.{All-at, All-one}

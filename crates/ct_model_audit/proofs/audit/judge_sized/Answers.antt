@@ -1,4 +1,4 @@
-use Rattle.std.proofs.Common.{◌≡◌, ap, subst, Result, Ok, Err}
+use Rattle.std.proofs.Common.{◌≡◌, ap, subst, Ok, Err}
 use Rattle.ct_sexpr.specs.View.{expression_of}
 use Rattle.ct_sorts.specs.Declarations.{Declarations}
 use Rattle.ct_stack.specs.Stack.{in_force}
