@@ -37,6 +37,11 @@ pub record AreChosen (d : Declarations) (ranks : List ℕ) (ctors : List CtorId)
 abbrev pub node_of_sort : ℕ → List ℕ → ℕ → NodeId
 node_of_sort base ranks s = record { 0 = base + (get_or ranks s 0 - 1) }
 
+-- the nodes of all sorts, in their order
+pub record AreNodesOfSorts (base : ℕ) (ranks : List ℕ) (nodes : List NodeId) : Type 0 where
+  pub long : length nodes ≡ length ranks
+  pub each : (s : ℕ) (n : NodeId) → slice_get nodes s ≡ Some n → n ≡ node_of_sort base ranks s
+
 -- the node of the default value of a sort: its chosen constructor over the nodes of its fields' sorts, or the element 0
 abbrev pub default_node : Declarations → List ℕ → ℕ → ℕ → CtorId → Node
 default_node d ranks base s c =

@@ -1,6 +1,7 @@
 -- The sizes of all sorts of declarations, and how their default values are built.
 use Rattle.std.specs.Prelude.{◌≡◌, ℕ, List, length, Some, slice_get, get_or, if◌then◌else◌, ◌==◌}
 use Rattle.ct_sorts.specs.declared.ids.CtorId.{CtorId}
+use Rattle.ct_sorts.specs.declared.ids.SortId.{SortId}
 use Rattle.ct_sorts.specs.Declarations.{Declarations}
 use Rattle.ct_card.specs.declared.size.Size.{Size}
 use Rattle.ct_card.specs.declared.size.Size.TheVariants.{One, Finite, Infinite}
@@ -11,6 +12,7 @@ use Rattle.ct_card.specs.Ranked.{AreSeveral}
 use Rattle.ct_card.specs.Rules.{IsOrder}
 use Rattle.ct_values.specs.declared.node.NodeId.{NodeId}
 use Rattle.ct_values.specs.Graph.{Nodes}
+use Rattle.ct_values.specs.Fitting.{HasNodeSort}
 use Rattle.ct_card.specs.Defaults.{node_of_sort, HasDefaults, IsPlan}
 use Rattle.ct_card.specs.Departures.{AreSeconds, AreLayers}
 
@@ -51,3 +53,9 @@ pub record IsDefaultValue (d : Declarations) (table : Table) (g : Nodes) (s : �
   pub base : ℕ
   pub stand : HasDefaults d table.ranks table.ctors g base
   pub node : n ≡ node_of_sort base table.ranks s
+
+-- for each sort, in order, a node of the sort with its default value
+pub record AreDefaultValues (d : Declarations) (table : Table) (g : Nodes) (nodes : List NodeId) : Type 0 where
+  pub long : length nodes ≡ length d.sorts
+  pub sorted : (s : SortId) (n : NodeId) → slice_get nodes s.0 ≡ Some n → HasNodeSort d g n s
+  pub value : (s : ℕ) (n : NodeId) → slice_get nodes s ≡ Some n → IsDefaultValue d table g s n

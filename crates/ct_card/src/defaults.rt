@@ -8,7 +8,7 @@ ghost use Rattle.ct_sorts.specs.Grown.{Begins};
 ghost use Rattle.ct_values.specs.WellFormed.{IsWellFormedGraph};
 ghost use Rattle.ct_values.specs.Fitting.{HasNodeSort};
 ghost use Rattle.ct_card.specs.Fields.{ctor_fields};
-ghost use Rattle.ct_card.specs.Defaults.{default_node, node_of_sort, is_free, AreChosen, AreDefaultNodes, AreRanked, HasDefaults, IsPlan};
+ghost use Rattle.ct_card.specs.Defaults.{default_node, node_of_sort, is_free, AreChosen, AreDefaultNodes, AreNodesOfSorts, AreRanked, HasDefaults, IsPlan};
 
 use crate::error::CardError;
 use ct_sorts::{CtorId, Kind, Signature, SortId, structure};
@@ -116,6 +116,22 @@ pub(crate) fn node_of_sort(ranks: &[usize], base: u64, s: usize) -> NodeId
     ensures value { result ≡ node_of_sort base ranks.now s }
 {
     NodeId(base + (ranks[s] as u64 - 1))
+}
+
+/// The nodes of the default values of all sorts, in their order.
+pub(crate) fn nodes_of_sorts(
+    alloc: Global,
+    ranks: &[usize],
+    base: u64,
+) -> Result<Vec<NodeId>, CardError>
+    requires ranked { AreRanked ranks.now base }
+    ensures nodes { IfOk result (λ nodes. AreNodesOfSorts base ranks.now nodes.items) }
+{
+    let mut nodes = Vec::with_capacity(alloc, ranks.len())?;
+    for s in 0..ranks.len() {
+        nodes.push(node_of_sort(ranks, base, s))?;
+    }
+    Ok(nodes)
 }
 
 /// Whether it is the kind of uninterpreted sorts.

@@ -9,11 +9,11 @@ ghost use Rattle.ct_values.specs.Agreement.{node_point, AgreeAlways};
 ghost use Rattle.ct_card.specs.Cardinality.{HasSize, IsSingle};
 ghost use Rattle.ct_card.specs.Made.{IsPrepared};
 ghost use Rattle.ct_card.specs.Nth.{IsNth};
-ghost use Rattle.ct_card.specs.Sizes.{AreSizes, AreSizesBy, IsDefaultValue, size_by};
+ghost use Rattle.ct_card.specs.Sizes.{AreDefaultValues, AreSizes, AreSizesBy, IsDefaultValue, size_by};
 
 use crate::built::second_node;
 use crate::choice::choices;
-use crate::defaults::{append_defaults, node_of_sort};
+use crate::defaults::{append_defaults, node_of_sort, nodes_of_sorts};
 use crate::departure::{Departure, Layer};
 use crate::error::CardError;
 use crate::founded::founding;
@@ -127,6 +127,21 @@ impl Sizes {
         let ranks = self.ranks.as_slice();
         let base = append_defaults(self.alloc, sig, ranks, &self.order, &self.ctors, g)?;
         Ok(node_of_sort(ranks, base, s.0 as usize))
+    }
+
+    /// A value of each sort, in the order of sorts: the numbers of their nodes, of which one for each sort is put after the
+    /// graph. The sizes are those of the signature. Where the answer is an error, the graph may have grown. The time is linear
+    /// in the sorts and in the fields of their default values.
+    pub fn default_values(&self, sig: &Signature, g: &mut Graph) -> Result<Vec<NodeId>, CardError>
+        requires sizes { AreSizes sig.now self.now }
+        ensures grown { Begins g.old g.new }
+        ensures well_formed { IsWellFormedGraph sig.now g.old → IsWellFormedGraph sig.now g.new }
+        ensures values { IfOk result (λ nodes. AreDefaultValues sig.now self.now g.new nodes.items) }
+    {
+        let ranks = self.ranks.as_slice();
+        let base = append_defaults(self.alloc, sig, ranks, &self.order, &self.ctors, g)?;
+        let nodes = nodes_of_sorts(self.alloc, ranks, base)?;
+        Ok(nodes)
     }
 
     /// Two values of the sort that are not the same, or `None` exactly where the sort has one value: the numbers of their
