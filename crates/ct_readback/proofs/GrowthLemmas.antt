@@ -51,7 +51,7 @@ module _ (d : Declarations) (g new : Nodes) (formed : IsWellFormedGraph d g) (gr
   args_begins sorts test nodes (ps, says, never, have) =
       (ps, says, never, subst (λ (k : Nodes). AreNodesFor d k sorts ps nodes) (sym grown.1) (nodes_longer d g grown.0 sorts ps nodes (formed_closed d g formed) have))
 
-  pub defaults_begins : (sizes : Sizes) (nodes : List (Option NodeId)) → AreDefaults d sizes g nodes → AreDefaults d sizes new nodes
+  pub defaults_begins : (sizes : Sizes) (nodes : List NodeId) → AreDefaults d sizes g nodes → AreDefaults d sizes new nodes
   defaults_begins sizes nodes h = subst (λ (k : Nodes). AreDefaults d sizes k nodes) (sym grown.1) (defaults_longer d sizes g grown.0 nodes h)
 
   pub functions_begins : (items : List Expression) (count : ℕ) (tables : List Table) → AreFunctions d g items count tables → AreFunctions d new items count tables
@@ -87,15 +87,15 @@ empty_formed d g nothing =
 -- ---- selectors, one after the other
 
 -- what is known of the first of them
-abbrev pub AreSelectorsSoFar : Declarations → Sizes → List Expression → ℕ → Nodes → Nodes → ℕ → ℕ → List (Option NodeId) → List Table → Type 0
+abbrev pub AreSelectorsSoFar : Declarations → Sizes → List Expression → ℕ → Nodes → Nodes → ℕ → ℕ → List NodeId → List Table → Type 0
 AreSelectorsSoFar d sizes items first start g count place defaults tables =
     Begins start g × IsWellFormedGraph d g × (place ≡ first + length (first_offs d count)) × AreDefaults d sizes g defaults × AreSelectors d sizes g items first count tables
 
-module _ (d : Declarations) (sizes : Sizes) (items : List Expression) (first : ℕ) (start g : Nodes) (count place : ℕ) (defaults : List (Option NodeId)) (tables : List Table)
+module _ (d : Declarations) (sizes : Sizes) (items : List Expression) (first : ℕ) (start g : Nodes) (count place : ℕ) (defaults : List NodeId) (tables : List Table)
     (so_far : AreSelectorsSoFar d sizes items first start g count place defaults tables)
   where
     -- a table of default values more
-    pub other_more : (new : Nodes) (later : List (Option NodeId)) (table : Table) (sort : SortId) → Begins g new → IsWellFormedGraph d new → can_miss d count ≡ false → AreDefaults d sizes new later
+    pub other_more : (new : Nodes) (later : List NodeId) (table : Table) (sort : SortId) → Begins g new → IsWellFormedGraph d new → can_miss d count ≡ false → AreDefaults d sizes new later
         → option_map (λ (x : Selector). x.sort) (slice_get d.sels count) ≡ Some sort → IsOtherTable d sizes new sort table → AreSelectorsSoFar d sizes items first start new (count + 1) place later (tables ++ table ∷ [])
     other_more new later table sort grown formed no_miss held at other = (
       Begins-trans start g new so_far.0 grown,

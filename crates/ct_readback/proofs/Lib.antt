@@ -5,6 +5,7 @@ pub mod HeadLemmas
 pub mod FormLemmas
 pub mod RestLemmas
 pub mod BodyLemmas
+pub mod PoolLemmas
 pub mod TreeLemmas
 pub mod TreeSteps
 pub mod ApplicationLemmas

@@ -1,9 +1,11 @@
 -- Nodes with the values of constructor terms.
-use Rattle.std.proofs.Common.{◌≡◌, ℕ, ◌<◌, List, [], ◌∷◌, ◌++◌, length, map, All, Option, Some, option_map, unwrap_or, slice_get, get_or, refl, sym, ap, subst, ◌∙◌}
+use Rattle.std.proofs.Common.{◌≡◌, ℕ, ◌<◌, List, [], ◌∷◌, ◌++◌, length, map, All, Option, Some, option_map, unwrap_or, slice_get, get_or, refl, sym, ap, subst, ◌∙◌, inl, inr}
 use Rattle.std.specs.List.{AllZip}
 use Rattle.std.proofs.lemmas.Option.{same_Some, slice_get_within, slice_get-get_or}
 use Rattle.std.proofs.lemmas.List.Elements.{All-head, All-tail}
-use Rattle.ct_lemmas.proofs.Lists.{slice_get-there, slice_get-last}
+use Rattle.ct_lemmas.proofs.Lists.{slice_get-there}
+use Rattle.ct_sorts.specs.Grown.{Begins}
+use Rattle.ct_sorts.proofs.PieceLemmas.{Begins-self}
 use Rattle.ct_sorts.specs.declared.ids.CtorId.{CtorId}
 use Rattle.ct_sorts.specs.declared.ids.SelId.{SelId}
 use Rattle.ct_sorts.specs.declared.ids.SortId.{SortId}
@@ -18,9 +20,10 @@ use Rattle.ct_values.specs.Fitting.{HasNodeSort, IsNodeOfField, FitsNode}
 use Rattle.ct_values.proofs.AgreeLemmas.{AgreeAlways-trans, AgreeAlways-parts}
 use Rattle.ct_values.proofs.NodeLemmas.{node_points, head_at, children_at}
 use Rattle.ct_values.proofs.RepresentativeLemmas.{AgreeAlways-grown}
-use Rattle.ct_card.proofs.WellFormedLemmas.{longer_sort, fits_within}
+use Rattle.ct_values.specs.WellFormed.{IsWellFormedGraph}
+use Rattle.ct_card.proofs.WellFormedLemmas.{longer_sort, fits_within, well_formed_pushed}
 use Rattle.ct_names.specs.Symbols.{field_sort_id, ctor_sort}
-use Rattle.ct_readback.specs.TreeNode.{HasTree, HaveTrees, AreFieldsOf}
+use Rattle.ct_readback.specs.TreeNode.{HasTree, HaveTrees, AreFieldsOf, IsAdded}
 
 -- a node of a closed graph keeps its value where the graph grows
 pub tree_longer : (d : Declarations) (g more : Nodes) (s : SortId) (v : Value) (n : NodeId) → IsClosed g → HasTree d g s v n → HasTree d (g ++ more) s v n
@@ -73,33 +76,38 @@ trees_fit d g (s ∷ ss) (with_value v vs) (n ∷ ns) inside h =
     (field_of d g s v n (All-head (IsSelector d) s ss inside) h.0, trees_fit d g ss vs ns (All-tail (IsSelector d) s ss inside) h.1)
 
 -- a constructor over nodes with values has the value of the constructor over these
-pub tree_constructed : (d : Declarations) (g : Nodes) (c : CtorId) (ctor : Constructor) (ss : List SelId) (vs : Values) (ns : List NodeId) (n : NodeId)
-    → slice_get d.ctors c.0 ≡ Some ctor → HaveTrees d (g ++ Con c ns ∷ []) ss vs ns → n.0 ≡ length g → HasTree d (g ++ Con c ns ∷ []) (ctor_sort d c) (construct c vs) n
-tree_constructed d g c ctor ss vs ns n declared have e =
-    let longer = g ++ Con c ns ∷ [] in
-    let stands : slice_get longer n.0 ≡ Some (Con c ns) = ap (slice_get longer) e ∙ slice_get-last g (Con c ns) in
+tree_constructed : (d : Declarations) (g : Nodes) (c : CtorId) (ctor : Constructor) (ss : List SelId) (vs : Values) (ns : List NodeId) (n : NodeId)
+    → slice_get d.ctors c.0 ≡ Some ctor → HaveTrees d g ss vs ns → slice_get g n.0 ≡ Some (Con c ns) → HasTree d g (ctor_sort d c) (construct c vs) n
+tree_constructed d g c ctor ss vs ns n declared have stands =
     let sort : option_map (λ (k : Constructor). k.sort) (slice_get d.ctors c.0) ≡ Some ctor.sort = ap (option_map (λ (k : Constructor). k.sort)) declared in
     let own : ctor_sort d c ≡ ctor.sort = ap (λ (o : Option SortId). unwrap_or o (record { 0 = 0 })) sort in
-    let pairs : AllZip AgreeAlways (children (node_point longer n)) (map (point []) (list_of vs)) =
-    subst (λ (ps : List Point). AllZip AgreeAlways ps (map (point []) (list_of vs))) (sym (children_at longer n (Con c ns) stands)) (trees_agree d longer ss vs ns have) in
+    let pairs : AllZip AgreeAlways (children (node_point g n)) (map (point []) (list_of vs)) =
+    subst (λ (ps : List Point). AllZip AgreeAlways ps (map (point []) (list_of vs))) (sym (children_at g n (Con c ns) stands)) (trees_agree d g ss vs ns have) in
     record {
       sorted = (Con c ns, stands, sort ∙ ap Some (sym own));
-      agrees = (AgreeAlways-parts (node_point longer n) (point [] (construct c vs))).1 (head_at longer n (Con c ns) stands, pairs);
+      agrees = (AgreeAlways-parts (node_point g n) (point [] (construct c vs))).1 (head_at g n (Con c ns) stands, pairs);
     }
 
 -- an element has the value of the element
-pub tree_element : (d : Declarations) (g : Nodes) (s : SortId) (number : ℕ) (n : NodeId) → n.0 ≡ length g → HasTree d (g ++ Elem s number ∷ []) s (element s number) n
-tree_element d g s number n e =
-    let longer = g ++ Elem s number ∷ [] in
-    let stands : slice_get longer n.0 ≡ Some (Elem s number) = ap (slice_get longer) e ∙ slice_get-last g (Elem s number) in
-    let none_left : AllZip AgreeAlways (children (node_point longer n)) [] =
-    subst (λ (ps : List Point). AllZip AgreeAlways ps []) (sym (children_at longer n (Elem s number) stands)) tt in
+pub tree_element : (d : Declarations) (g : Nodes) (s : SortId) (number : ℕ) (n : NodeId) → slice_get g n.0 ≡ Some (Elem s number) → HasTree d g s (element s number) n
+tree_element d g s number n stands =
+    let none_left : AllZip AgreeAlways (children (node_point g n)) [] =
+    subst (λ (ps : List Point). AllZip AgreeAlways ps []) (sym (children_at g n (Elem s number) stands)) tt in
     record {
       sorted = (Elem s number, stands, refl);
-      agrees = (AgreeAlways-parts (node_point longer n) (point [] (element s number))).1 (head_at longer n (Elem s number) stands, none_left);
+      agrees = (AgreeAlways-parts (node_point g n) (point [] (element s number))).1 (head_at g n (Elem s number) stands, none_left);
     }
 
--- ---- pushed nodes
+-- ---- added nodes
+
+-- where a node is added, the graph begins as it was, and stays well formed where the node fits
+pub added_begins : (g : Nodes) (node : Node) (new : Nodes) → IsAdded g node new → Begins g new
+added_begins g node new (inl same) = subst (λ (k : Nodes). Begins g k) (sym same) (Begins-self g)
+added_begins g node new (inr more) = (node ∷ [], more)
+
+pub added_formed : (d : Declarations) (g : Nodes) (node : Node) (new : Nodes) → IsAdded g node new → IsWellFormedGraph d g → FitsNode d g node → IsWellFormedGraph d new
+added_formed d g node new (inl same) formed fits = subst (λ (k : Nodes). IsWellFormedGraph d k) (sym same) formed
+added_formed d g node new (inr more) formed fits = subst (λ (k : Nodes). IsWellFormedGraph d k) (sym more) (well_formed_pushed d g node formed fits)
 
 -- the children of a node that fits are nodes
 pub fits_below : (d : Declarations) (g : Nodes) (node : Node) → FitsNode d g node → HasChildrenBelow (length g) node
@@ -119,8 +127,9 @@ built d g c fields vs ns declared are inside have =
       fields = subst (λ (ss : List SelId). AllZip (IsNodeOfField d g) ns ss) (sym (own_fields d c ctor.0 fields ctor.1 are)) (trees_fit d g fields vs ns inside have);
     }
 
-pub constructed : (d : Declarations) (g : Nodes) (c : CtorId) (fields : List SelId) (vs : Values) (ns : List NodeId) (n : NodeId) → IsConstructor d c → IsClosed g → HaveTrees d g fields vs ns → n.0 ≡ length g
-    → HasTree d (g ++ Con c ns ∷ []) (ctor_sort d c) (construct c vs) n
-constructed d g c fields vs ns n declared closed have e =
+pub constructed : (d : Declarations) (g new : Nodes) (c : CtorId) (fields : List SelId) (vs : Values) (ns : List NodeId) (n : NodeId) → IsConstructor d c → IsClosed g → HaveTrees d g fields vs ns → Begins g new
+    → slice_get new n.0 ≡ Some (Con c ns) → HasTree d new (ctor_sort d c) (construct c vs) n
+constructed d g new c fields vs ns n declared closed have grown stands =
     let ctor = slice_get-there d.ctors c.0 declared in
-    tree_constructed d g c ctor.0 fields vs ns n ctor.1 (trees_longer d g (Con c ns ∷ []) fields vs ns closed have) e
+    let later : HaveTrees d new fields vs ns = subst (λ (k : Nodes). HaveTrees d k fields vs ns) (sym grown.1) (trees_longer d g grown.0 fields vs ns closed have) in
+    tree_constructed d new c ctor.0 fields vs ns n ctor.1 later stands

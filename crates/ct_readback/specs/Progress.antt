@@ -45,6 +45,5 @@ pub record AreSelectors (d : Declarations) (sizes : Sizes) (g : Nodes) (items : 
   pub others : (s : ℕ) (selector : Selector) (table : Table) → can_miss d s ≡ false → slice_get d.sels s ≡ Some selector → slice_get tables s ≡ Some table → IsOtherTable d sizes g selector.sort table
 
 -- the node that is kept for a sort, if there is one, has its default value
-pub record AreDefaults (d : Declarations) (sizes : Sizes) (g : Nodes) (nodes : List (Option NodeId)) : Type 0 where
-  pub long : length nodes ≡ length d.sorts
-  pub each : (s : SortId) (n : NodeId) → slice_get nodes s.0 ≡ Some (Some n) → IsDefaultNode d sizes g s n
+pub record AreDefaults (d : Declarations) (sizes : Sizes) (g : Nodes) (nodes : List NodeId) : Type 0 where
+  pub each : (s : SortId) (n : NodeId) → slice_get nodes s.0 ≡ Some n → IsDefaultNode d sizes g s n

@@ -1,9 +1,10 @@
 -- A node with the value that a constructor term says.
-use Rattle.std.specs.Prelude.{◌≡◌, List, [], ◌∷◌, map, Option, Some, None, option_map, slice_get}
+use Rattle.std.specs.Prelude.{◌≡◌, ◌⊎◌, List, [], ◌∷◌, ◌++◌, map, Option, Some, None, option_map, slice_get}
 use Rattle.ct_sorts.specs.declared.ids.SortId.{SortId}
 use Rattle.ct_sorts.specs.declared.ids.CtorId.{CtorId}
 use Rattle.ct_sorts.specs.Declarations.{Declarations, Constructor}
 use Rattle.ct_values.specs.declared.node.NodeId.{NodeId}
+use Rattle.ct_values.specs.declared.node.Node.{Node}
 use Rattle.ct_values.specs.Graph.{Nodes}
 use Rattle.ct_values.specs.Value.{Value, Values, no_values, with_value}
 use Rattle.ct_sorts.specs.declared.ids.SelId.{SelId}
@@ -17,6 +18,10 @@ use Rattle.ct_values.specs.Fitting.{HasNodeSort}
 pub record HasTree (d : Declarations) (g : Nodes) (s : SortId) (v : Value) (n : NodeId) : Type 0 where
   pub sorted : HasNodeSort d g n s
   pub agrees : AgreeAlways (node_point g n) (point [] v)
+
+-- such a node was there, or it was put at the end
+abbrev pub IsAdded : Nodes → Node → Nodes → Type 0
+IsAdded g node new = (new ≡ g) ⊎ (new ≡ g ++ node ∷ [])
 
 -- a node was found for the value, or there is no value
 abbrev pub IsNodeOf : Declarations → SortId → Option Value → Nodes → Option NodeId → Type 0

@@ -1,38 +1,47 @@
 //! Default values of sorts, which selectors that are never wrongly applied have as tables.
-ghost use Rattle.std.specs.Prelude.{IfOk, OnOk};
-ghost use Rattle.ct_sorts.specs.Declarations.{IsSort};
+ghost use Rattle.std.specs.Prelude.{◌≡◌, slice_get, IfOk, OnOk};
+ghost use Rattle.ct_sorts.specs.Declarations.{Declarations, IsSort};
 ghost use Rattle.ct_sorts.specs.Grown.{Begins};
 ghost use Rattle.ct_values.specs.Graph.{Nodes};
 ghost use Rattle.ct_values.specs.WellFormed.{IsWellFormedGraph};
 ghost use Rattle.ct_card.specs.Sizes.{AreSizes, Table as SizesTable};
 ghost use Rattle.ct_readback.specs.Progress.{AreDefaults, IsDefaultNode, IsOtherTable};
 
+use crate::pool::Pool;
 use ct_card::{CardError, Sizes};
 use ct_eval::{Rows, Table};
 use ct_sorts::{Signature, SortId};
-use ct_values::{Graph, NodeId};
+use ct_values::NodeId;
 use std::alloc::Global;
 
-/// For each sort a node with its default value, where one was made.
+/// For each sort the node with its default value, once one was asked for.
 #[derive(Debug, Drop)]
 pub(crate) struct Defaults {
-    nodes: Vec<Option<NodeId>>,
+    nodes: Vec<NodeId>,
 }
 
-/// None yet, for each sort of the signature.
-pub(crate) fn no_defaults(alloc: Global, sig: &Signature) -> Result<Defaults, CardError>
-    ensures defaults { (sizes : SizesTable) (g : Nodes) → IfOk result (λ defaults. AreDefaults sig.now sizes g defaults.nodes.items) }
+/// None yet. Takes no memory.
+pub(crate) fn no_defaults(alloc: Global) -> Defaults
+    ensures defaults { (d : Declarations) (sizes : SizesTable) (g : Nodes) → AreDefaults d sizes g result.nodes.items }
 {
-    let nodes = vec![in alloc; None; sig.sorts() as usize]?;
-    Ok(Defaults { nodes })
+    Defaults {
+        nodes: Vec::new(alloc),
+    }
 }
 
-// The node with the default value of the sort, which is made where there is none.
+// The node of the sort, where they were made.
+fn made(defaults: &Defaults, s: SortId) -> Option<NodeId>
+    ensures value { result ≡ slice_get defaults.now.nodes.items s.0 }
+{
+    defaults.nodes.get(s.0 as usize).copied()
+}
+
+// The node with the default value of the sort. Those of all sorts are made the first time.
 fn default_of(
     sig: &Signature,
     sizes: &Sizes,
     s: SortId,
-    graph: &mut Graph,
+    graph: &mut Pool,
     defaults: &mut Defaults,
 ) -> Result<NodeId, CardError>
     requires sizes { AreSizes sig.now sizes.now }
@@ -44,12 +53,11 @@ fn default_of(
     ensures defaults { OnOk result (AreDefaults sig.now sizes.now graph.new defaults.new.nodes.items) }
     ensures default { IfOk result (IsDefaultNode sig.now sizes.now graph.new s) }
 {
-    if let Some(n) = defaults.nodes[s.0 as usize] {
+    if let Some(n) = made(defaults, s) {
         return Ok(n);
     }
-    let n = sizes.default_value(sig, graph, s)?;
-    defaults.nodes[s.0 as usize] = Some(n);
-    Ok(n)
+    defaults.nodes = graph.append_defaults(sig, sizes)?;
+    Ok(defaults.nodes[s.0 as usize])
 }
 
 /// The table without rows whose default is that of the sort.
@@ -58,7 +66,7 @@ pub(crate) fn default_table(
     sig: &Signature,
     sizes: &Sizes,
     s: SortId,
-    graph: &mut Graph,
+    graph: &mut Pool,
     defaults: &mut Defaults,
 ) -> Result<Table, CardError>
     requires sizes { AreSizes sig.now sizes.now }

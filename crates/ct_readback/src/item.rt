@@ -11,12 +11,13 @@ ghost use Rattle.ct_readback.specs.Said.{IsSaid, IsPart, AreNodesFor, IsRowOf, I
 
 use crate::error::BackError;
 use crate::item_text::{has_parts, is_heading, item_in};
+use crate::pool::Pool;
 use crate::rows::{body_row, conjuncts, equation_value};
 use crate::value::{Said, push_value};
 use ct_eval::{Row, Rows, Table};
 use ct_sexpr::Sexpr;
 use ct_sorts::{Signature, SortId};
-use ct_values::{Graph, NodeId, NodeIds};
+use ct_values::{NodeId, NodeIds};
 use std::alloc::Global;
 
 /// An item departs from its form.
@@ -49,7 +50,7 @@ pub(crate) fn read_item(
     args: &[SortId],
     s: SortId,
     item: &Sexpr,
-    graph: &mut Graph,
+    graph: &mut Pool,
 ) -> Result<Result<Table, u16>, BackError>
     requires args { All (IsSort sig.now) args.now }
     requires inside { IsSort sig.now s }
@@ -81,7 +82,7 @@ fn read_body(
     args: &[SortId],
     s: SortId,
     body: &Sexpr,
-    graph: &mut Graph,
+    graph: &mut Pool,
 ) -> Result<Part<Table>, BackError>
     requires args { All (IsSort sig.now) args.now }
     requires inside { IsSort sig.now s }
@@ -128,7 +129,7 @@ fn read_row(
     s: SortId,
     test: &Sexpr,
     value: &Sexpr,
-    graph: &mut Graph,
+    graph: &mut Pool,
 ) -> Result<Part<Row>, BackError>
     requires args { All (IsSort sig.now) sorts.now }
     requires inside { IsSort sig.now s }
@@ -159,7 +160,7 @@ fn read_test(
     sig: &Signature,
     sorts: &[SortId],
     test: &Sexpr,
-    graph: &mut Graph,
+    graph: &mut Pool,
 ) -> Result<Part<NodeIds>, BackError>
     requires args { All (IsSort sig.now) sorts.now }
     requires well_formed { IsWellFormedGraph sig.now graph.old }
@@ -182,7 +183,7 @@ fn read_single(
     sig: &Signature,
     s: SortId,
     equation: &Sexpr,
-    graph: &mut Graph,
+    graph: &mut Pool,
 ) -> Result<Part<NodeIds>, BackError>
     requires inside { IsSort sig.now s }
     requires well_formed { IsWellFormedGraph sig.now graph.old }
@@ -208,7 +209,7 @@ fn read_equation(
     s: SortId,
     i: u64,
     equation: &Sexpr,
-    graph: &mut Graph,
+    graph: &mut Pool,
 ) -> Result<Said, BackError>
     requires inside { IsSort sig.now s }
     requires well_formed { IsWellFormedGraph sig.now graph.old }
@@ -228,7 +229,7 @@ fn read_equations(
     sig: &Signature,
     sorts: &[SortId],
     equations: &[Sexpr],
-    graph: &mut Graph,
+    graph: &mut Pool,
 ) -> Result<Part<NodeIds>, BackError>
     requires args { All (IsSort sig.now) sorts.now }
     requires well_formed { IsWellFormedGraph sig.now graph.old }

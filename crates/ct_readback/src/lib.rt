@@ -10,6 +10,7 @@ mod item_text;
 mod model;
 mod parts;
 mod placing;
+mod pool;
 mod rows;
 mod sort_text;
 mod theorems;

@@ -21,11 +21,11 @@ use crate::defaults::{default_table, no_defaults};
 use crate::error::BackError;
 use crate::item::{DEPARTS, read_item};
 use crate::parts::items_in;
+use crate::pool::Pool;
 use ct_card::Sizes;
 use ct_eval::{Interp, Table, Tables};
 use ct_sexpr::Sexpr;
 use ct_sorts::{FunId, SelId, Signature, SortId};
-use ct_values::Graph;
 use std::alloc::Global;
 
 /// The interpretation that a model says over a signature: what `get-model` prints (SMT-LIB 2.7, section 4.2.6), or what was written
@@ -62,7 +62,7 @@ pub fn read_model(
             code: DEPARTS,
         });
     };
-    let mut graph = Graph::from_nodes(Vec::new(alloc));
+    let mut graph = Pool::new(alloc);
     let funs = read_functions(alloc, sig, items, &mut graph)?;
     let (offs, count) = read_selectors(alloc, sig, sizes, items, &mut graph)?;
     if count < items.len() {
@@ -72,7 +72,7 @@ pub fn read_model(
         });
     }
     Ok(Interp {
-        graph,
+        graph: graph.into_graph(),
         funs: Tables::new(funs),
         offs: Tables::new(offs),
     })
@@ -88,7 +88,7 @@ fn table_at(
     s: SortId,
     items: &[Sexpr],
     place: usize,
-    graph: &mut Graph,
+    graph: &mut Pool,
 ) -> Result<Table, BackError>
     requires args { All (IsSort sig.now) args.now }
     requires inside { IsSort sig.now s }
@@ -120,7 +120,7 @@ fn read_functions(
     alloc: Global,
     sig: &Signature,
     items: &[Sexpr],
-    graph: &mut Graph,
+    graph: &mut Pool,
 ) -> Result<Vec<Table>, BackError>
     requires well_formed { IsWellFormedGraph sig.now graph.old }
     ensures grown { Begins graph.old graph.new }
@@ -141,7 +141,7 @@ fn read_function(
     sig: &Signature,
     f: FunId,
     items: &[Sexpr],
-    graph: &mut Graph,
+    graph: &mut Pool,
 ) -> Result<Table, BackError>
     requires declared { IsFunction sig.now f }
     requires well_formed { IsWellFormedGraph sig.now graph.old }
@@ -171,7 +171,7 @@ fn read_selectors(
     sig: &Signature,
     sizes: &Sizes,
     items: &[Sexpr],
-    graph: &mut Graph,
+    graph: &mut Pool,
 ) -> Result<(Vec<Table>, usize), BackError>
     requires sizes { AreSizes sig.now sizes.now }
     requires functions { (tables : List Table) × AreFunctions sig.now graph.old (items_of (expressions_of items.now)) (length sig.now.functions) tables }
@@ -183,7 +183,7 @@ fn read_selectors(
     ensures refused { (item code : ℕ) → IsErrOf result (Form item code) → IsFirstRefused sig.now (items_of (expressions_of items.now)) item code }
 {
     let mut tables = Vec::new(alloc);
-    let mut defaults = no_defaults(alloc, sig)?;
+    let mut defaults = no_defaults(alloc);
     let mut place = sig.funs() as usize;
     for s in 0..sig.mark().sels() {
         if !can_miss(sig, SelId(s)) {
@@ -204,7 +204,7 @@ fn read_selector(
     s: SelId,
     items: &[Sexpr],
     place: usize,
-    graph: &mut Graph,
+    graph: &mut Pool,
 ) -> Result<Table, BackError>
     requires declared { IsSelector sig.now s }
     requires well_formed { IsWellFormedGraph sig.now graph.old }

@@ -12,6 +12,7 @@ ghost use Rattle.ct_readback.specs.Cycles.{HasDataCycle};
 ghost use Rattle.ct_readback.specs.Placed.{AreDataEdges, AreDataChildren, IsDataRow, ArePlaces, StandsAt, IsMoved, IsPlacedRoot};
 
 use crate::error::BackError;
+use crate::pool::Pool;
 use ct_ordering::{Ordered, order};
 use ct_sorts::{Kind, Signature, SortId};
 use ct_values::{Graph, Head, Node, NodeId, NodeIds, sort_of};
@@ -176,7 +177,7 @@ pub(crate) fn place(
     alloc: Global,
     sig: &Signature,
     h: &Graph,
-    graph: &mut Graph,
+    graph: &mut Pool,
 ) -> Result<Option<NodeId>, BackError>
     requires fits { FitsGraph sig.now h.now }
     requires some { 0 < length h.now }
@@ -202,7 +203,7 @@ fn append_in_order(
     sig: &Signature,
     h: &Graph,
     points: &[usize],
-    graph: &mut Graph,
+    graph: &mut Pool,
 ) -> Result<NodeId, BackError>
     requires fits { FitsGraph sig.now h.now }
     requires some { 0 < length h.now }

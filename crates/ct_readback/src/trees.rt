@@ -13,9 +13,10 @@ ghost use Rattle.ct_readback.specs.TreeNode.{IsNodeOf, AreNodesOf, AreFieldsOf, 
 
 use crate::error::BackError;
 use crate::heads::{constructor_at, element_in, is_constructor_head, is_head};
+use crate::pool::Pool;
 use ct_sexpr::Sexpr;
 use ct_sorts::{CtorId, SelId, Signature, SortId};
-use ct_values::{Graph, Node, NodeId, NodeIds};
+use ct_values::{Node, NodeId, NodeIds};
 use std::alloc::Global;
 
 /// Whether the expression has the form of a constructor term.
@@ -73,7 +74,7 @@ pub(crate) fn push_tree(
     sig: &Signature,
     s: SortId,
     expr: &Sexpr,
-    graph: &mut Graph,
+    graph: &mut Pool,
 ) -> Result<Option<NodeId>, BackError>
     requires inside { IsSort sig.now s }
     requires well_formed { IsWellFormedGraph sig.now graph.old }
@@ -104,7 +105,7 @@ fn push_application(
     sig: &Signature,
     s: SortId,
     items: &[Sexpr],
-    graph: &mut Graph,
+    graph: &mut Pool,
 ) -> Result<Option<NodeId>, BackError>
     requires inside { IsSort sig.now s }
     requires well_formed { IsWellFormedGraph sig.now graph.old }
@@ -132,7 +133,7 @@ fn push_trees(
     sig: &Signature,
     fields: &[SelId],
     exprs: &[Sexpr],
-    graph: &mut Graph,
+    graph: &mut Pool,
 ) -> Result<Option<NodeIds>, BackError>
     requires inside { All (IsSelector sig.now) fields.now }
     requires well_formed { IsWellFormedGraph sig.now graph.old }
@@ -156,12 +157,12 @@ fn push_trees(
     Ok(Some(NodeIds::new(nodes)))
 }
 
-// One more node: the constructor over these nodes, which are of its fields' sorts.
+// The node of the constructor over these nodes, which are of its fields' sorts.
 fn push_constructor(
     sig: &Signature,
     c: CtorId,
     children: NodeIds,
-    graph: &mut Graph,
+    graph: &mut Pool,
 ) -> Result<Option<NodeId>, BackError>
     requires inside { IsConstructor sig.now c }
     requires well_formed { IsWellFormedGraph sig.now graph.old }
@@ -171,17 +172,17 @@ fn push_constructor(
     ensures node { IfOk result (λ found. (fields : List SelId) (vs : Values) → AreFieldsOf sig.now c fields → HaveTrees sig.now graph.old fields vs children
         → IsNodeOf sig.now (ctor_sort sig.now c) (Some (construct c vs)) graph.new found) }
 {
-    let n = graph.push(Node::Con(c, children))?;
+    let n = graph.add(Node::Con(c, children))?;
     Ok(Some(n))
 }
 
-// One more node: the constructor that the expression names alone, where it is of this sort and has no fields.
+// The node of the constructor that the expression names alone, where it is of this sort and has no fields.
 fn push_lone(
     alloc: Global,
     sig: &Signature,
     s: SortId,
     expr: &Sexpr,
-    graph: &mut Graph,
+    graph: &mut Pool,
 ) -> Result<Option<NodeId>, BackError>
     requires inside { IsSort sig.now s }
     requires well_formed { IsWellFormedGraph sig.now graph.old }
@@ -198,12 +199,12 @@ fn push_lone(
     push_constructor(sig, c, NodeIds::new(Vec::new(alloc)), graph)
 }
 
-// One more node: this element.
+// The node of this element.
 fn push_element(
     sig: &Signature,
     s: SortId,
     number: u64,
-    graph: &mut Graph,
+    graph: &mut Pool,
 ) -> Result<Option<NodeId>, BackError>
     requires free { IsElement sig.now s.0 }
     requires well_formed { IsWellFormedGraph sig.now graph.old }
@@ -211,6 +212,6 @@ fn push_element(
     ensures well_formed { IsWellFormedGraph sig.now graph.new }
     ensures node { IfOk result (IsNodeOf sig.now s (Some (element s number)) graph.new) }
 {
-    let n = graph.push(Node::Elem(s, number))?;
+    let n = graph.add(Node::Elem(s, number))?;
     Ok(Some(n))
 }

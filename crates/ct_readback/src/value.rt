@@ -12,10 +12,11 @@ use crate::error::BackError;
 use crate::graph_text::{graph_at, is_graph};
 use crate::parts::parts_after;
 use crate::placing::place;
+use crate::pool::Pool;
 use crate::trees::{is_tree, push_tree};
 use ct_sexpr::Sexpr;
 use ct_sorts::{Signature, SortId};
-use ct_values::{Graph, NodeId};
+use ct_values::NodeId;
 use std::alloc::Global;
 
 /// What a value text says.
@@ -52,7 +53,7 @@ pub(crate) fn push_value(
     sig: &Signature,
     s: SortId,
     expr: &Sexpr,
-    graph: &mut Graph,
+    graph: &mut Pool,
 ) -> Result<Said, BackError>
     requires inside { IsSort sig.now s }
     requires well_formed { IsWellFormedGraph sig.now graph.old }
@@ -75,7 +76,7 @@ fn push_graph(
     sig: &Signature,
     s: SortId,
     expr: &Sexpr,
-    graph: &mut Graph,
+    graph: &mut Pool,
 ) -> Result<Said, BackError>
     requires inside { IsSort sig.now s }
     requires well_formed { IsWellFormedGraph sig.now graph.old }

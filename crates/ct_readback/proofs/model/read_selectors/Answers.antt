@@ -22,7 +22,7 @@ loop-s-init c =
       Begins-self g,
       c.requires.well_formed,
       let all = offs_few d 0 in omega (arith, all, c.funs-place.ensures.count),
-      c.in_ok-defaults.ensures.defaults sizes g,
+      c.no_defaults-defaults.ensures.defaults d sizes g,
       subst (λ (tables : List Table). AreSelectors d sizes g items (length d.functions) 0 tables) (sym c.new-tables.ensures.items) (selectors_start d sizes items (length d.functions) g),
     )
 

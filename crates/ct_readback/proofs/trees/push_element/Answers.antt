@@ -1,19 +1,12 @@
-use Rattle.std.proofs.Common.{sym, subst}
 use Rattle.ct_values.specs.declared.node.Node.TheVariants.{Elem}
-use Rattle.ct_values.specs.Graph.{Nodes}
-use Rattle.ct_values.specs.Value.{element}
-use Rattle.ct_values.specs.WellFormed.{IsWellFormedGraph}
-use Rattle.ct_card.proofs.WellFormedLemmas.{well_formed_pushed}
-use Rattle.ct_readback.specs.TreeNode.{HasTree}
-use Rattle.ct_readback.proofs.TreeLemmas.{tree_element}
+use Rattle.ct_readback.proofs.TreeLemmas.{added_begins, added_formed, tree_element}
 use Rattle.ct_readback.proofs.trees.push_element.Goals as goal
 
+pub returns-clause-grown : goal.returns-clause-grown
+returns-clause-grown c = added_begins c.args.graph.now (Elem c.args.s c.args.number) c.add.new.self c.in_ok-n.ensures.grown
+
 pub returns-clause-well_formed : goal.returns-clause-well_formed
-returns-clause-well_formed c =
-    subst (λ (k : Nodes). IsWellFormedGraph c.args.sig.now k) (sym c.in_ok-n.ensures.ok.1)
-    (well_formed_pushed c.args.sig.now c.args.graph.now (Elem c.args.s c.args.number) c.requires.well_formed c.requires.free)
+returns-clause-well_formed c = added_formed c.args.sig.now c.args.graph.now (Elem c.args.s c.args.number) c.add.new.self c.in_ok-n.ensures.grown c.requires.well_formed c.requires.free
 
 pub returns-clause-node : goal.returns-clause-node
-returns-clause-node c =
-    subst (λ (k : Nodes). HasTree c.args.sig.now k c.args.s (element c.args.s c.args.number) c.in_ok-n.n) (sym c.in_ok-n.ensures.ok.1)
-    (tree_element c.args.sig.now c.args.graph.now c.args.s c.args.number c.in_ok-n.n c.in_ok-n.ensures.ok.0)
+returns-clause-node c = tree_element c.args.sig.now c.add.new.self c.args.s c.args.number c.in_ok-n.n c.in_ok-n.ensures.stands
