@@ -42,8 +42,8 @@ use std::alloc::Global;
 ///   arguments is wrong;
 /// - 47 where a graph has a cycle of nodes of datatypes, whether the root reaches it or not.
 ///
-/// Where one item has several of these, the least number counts. The time is linear in the size of the expression, the declarations and
-/// the answer.
+/// Where one item has several of these, the least number counts. What is written several times as a constructor term is mostly one node.
+/// The time is linear in the size of the expression and of the declarations.
 pub fn read_model(
     alloc: Global,
     sig: &Signature,
