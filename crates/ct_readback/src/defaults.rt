@@ -56,8 +56,10 @@ fn default_of(
     if let Some(n) = made(defaults, s) {
         return Ok(n);
     }
-    defaults.nodes = graph.append_defaults(sig, sizes)?;
-    Ok(defaults.nodes[s.0 as usize])
+    let nodes = graph.append_defaults(sig, sizes)?;
+    let n = nodes[s.0 as usize];
+    defaults.nodes = nodes;
+    Ok(n)
 }
 
 /// The table without rows whose default is that of the sort.

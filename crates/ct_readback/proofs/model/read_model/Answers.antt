@@ -1,6 +1,7 @@
 use Rattle.std.proofs.Common.{◌≡◌, ◌+◌, List, length, Ok, Err, sym, ap, subst, ◌∙◌, arith}
 use Rattle.std.proofs.lemmas.Result.{err_from_is_err_and}
 use Rattle.ct_sexpr.specs.View.{expression_of, expressions_of}
+use Rattle.ct_values.specs.Graph.{Nodes}
 use Rattle.ct_eval.specs.declared.interp.Table.{Table}
 use Rattle.ct_eval.specs.Interpretation.{IsProper}
 use Rattle.ct_model.specs.ModelText.{off_numbers}
@@ -22,7 +23,7 @@ returns-in_default-clause-refused c = λ at code is.
     subst (λ k. ModelReads d sizes e (Err (k, code))) (sym parts.0) (subst (λ k. ModelReads d sizes e (Err (0, k))) (sym parts.1) (no_list d sizes e c.in_default.ensures.value))
 
 pub read_functions-requires : goal.read_functions-requires
-read_functions-requires c = record { well_formed = empty_formed c.args.sig.now c.from_nodes-graph.result (c.from_nodes-graph.ensures.value ∙ c.new.ensures.items) }
+read_functions-requires c = record { well_formed = empty_formed c.args.sig.now c.new-graph.result c.new-graph.ensures.empty }
 
 pub returns-in_err-funs-clause-refused : goal.returns-in_err-funs-clause-refused
 returns-in_err-funs-clause-refused c = λ at code is.
@@ -66,10 +67,11 @@ returns-clause-read c =
     let functions = functions_begins d c.read_functions.new.graph g c.in_ok-funs.ensures.well_formed c.in_ok-offs.ensures.grown items (length d.functions) funs c.in_ok-funs.ensures.read in
     let count : length items ≡ length d.functions + length (off_numbers d) =
     omega (arith, place, c.if-count-items.false, items_length c.in-Some.items.now, enough d sizes g items funs offs functions c.in_ok-offs.ensures.read) in
-    subst (λ (xs : List Table). ModelReads d sizes e (Ok (record { graph = g; funs = xs; offs = c.new-3.result }))) (sym c.new-2.ensures.value)
-    (subst (λ (xs : List Table). ModelReads d sizes e (Ok (record { graph = g; funs = funs; offs = xs }))) (sym c.new-3.ensures.value)
+    subst (λ (k : Nodes). ModelReads d sizes e (Ok (record { graph = k; funs = c.new.result; offs = c.new-2.result }))) (sym c.into_graph.ensures.value)
+    (subst (λ (xs : List Table). ModelReads d sizes e (Ok (record { graph = g; funs = xs; offs = c.new-2.result }))) (sym c.new.ensures.value)
+    (subst (λ (xs : List Table). ModelReads d sizes e (Ok (record { graph = g; funs = funs; offs = xs }))) (sym c.new-2.ensures.value)
     (list_read d sizes e es (record { graph = g; funs = funs; offs = offs }) c.in-Some.ensures.value
-    (whole_model d sizes g items funs offs c.in_ok-offs.ensures.well_formed functions c.in_ok-offs.ensures.read count)))
+    (whole_model d sizes g items funs offs c.in_ok-offs.ensures.well_formed functions c.in_ok-offs.ensures.read count))))
 
 pub returns-clause-proper : goal.returns-clause-proper
 returns-clause-proper c =
@@ -80,6 +82,7 @@ returns-clause-proper c =
     let funs = c.in_ok-funs.funs.items in
     let offs = c.in_ok-offs.offs.items in
     let functions = functions_begins d c.read_functions.new.graph g c.in_ok-funs.ensures.well_formed c.in_ok-offs.ensures.grown items (length d.functions) funs c.in_ok-funs.ensures.read in
-    subst (λ (xs : List Table). IsProper d (record { graph = g; funs = xs; offs = c.new-3.result })) (sym c.new-2.ensures.value)
-    (subst (λ (xs : List Table). IsProper d (record { graph = g; funs = funs; offs = xs })) (sym c.new-3.ensures.value)
-    (whole_proper d sizes g items funs offs c.in_ok-offs.ensures.well_formed functions c.in_ok-offs.ensures.read))
+    subst (λ (k : Nodes). IsProper d (record { graph = k; funs = c.new.result; offs = c.new-2.result })) (sym c.into_graph.ensures.value)
+    (subst (λ (xs : List Table). IsProper d (record { graph = g; funs = xs; offs = c.new-2.result })) (sym c.new.ensures.value)
+    (subst (λ (xs : List Table). IsProper d (record { graph = g; funs = funs; offs = xs })) (sym c.new-2.ensures.value)
+    (whole_proper d sizes g items funs offs c.in_ok-offs.ensures.well_formed functions c.in_ok-offs.ensures.read)))
