@@ -1,5 +1,5 @@
 -- How far a model was read: the tables of its first items.
-use Rattle.std.specs.Prelude.{◌≡◌, ℕ, ◌+◌, false, List, [], length, Option, Some, slice_get, Ok}
+use Rattle.std.specs.Prelude.{◌≡◌, ℕ, ◌+◌, false, List, [], length, Some, slice_get, Ok}
 use Rattle.std.specs.List.{filter, range_with_len}
 use Rattle.ct_sorts.specs.declared.ids.SortId.{SortId}
 use Rattle.ct_sorts.specs.Declarations.{Declarations, Function, Selector}

@@ -1,6 +1,6 @@
 //! A graph that grows node by node, in which a node that is asked for again is found, so that what a model repeats is mostly one node
 //! (hash-consing; Filliâtre and Conchon 2006).
-ghost use Rattle.std.specs.Prelude.{◌≡◌, ◌<◌, ◌+◌, ◌⊎◌, ◌∷◌, [], ◌++◌, Some, All, length, slice_get, IfOk, OnOk, OnErr, IfSome};
+ghost use Rattle.std.specs.Prelude.{◌≡◌, ◌<◌, ◌+◌, [], ◌++◌, Some, All, length, slice_get, IfOk, OnOk, OnErr, IfSome};
 ghost use Rattle.std.specs.Bool.{OnTrue};
 ghost use Rattle.ct_values.specs.declared.node.Node.TheVariants.{Con, Elem};
 ghost use Rattle.ct_values.specs.Graph.{IsClosed, HasChildrenBelow};
