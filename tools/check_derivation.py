@@ -37,6 +37,9 @@ MOST_CONSTRUCTORS = 16384
 MOST_SELECTORS = 65536
 MOST_FUNCTIONS = 65536
 MOST_DEFINITIONS = 65536
+MOST_ARGUMENTS = 255
+MOST_REACHED = 4096
+MOST_TEXT = 65536
 WORD_BOUND = 2**64
 NUMERAL_BOUND = 2**128
 
@@ -122,13 +125,148 @@ def is_keyword(atom):
 # What a script declares. A constructor, selector, tester and function is itself the head of its terms.
 
 class Sort:
+    """A sort: one that was declared, or a generic at sorts."""
+
+    generic = None
+
     def __init__(self, name, kind):
         self.name = name
         self.kind = kind  # "Bool", "uninterpreted", "datatype" or "codatatype"
         self.constructors = []
 
 
+class Generic:
+    """A name of sorts with arguments. Its constructors and selectors are those of its sorts, with sort expressions in place of sorts."""
+
+    def __init__(self, name, kind, parameters):
+        self.name = name
+        self.kind = kind
+        self.parameters = parameters
+        self.constructors = []
+
+
+class Synonym:
+    def __init__(self, parameters, body):
+        self.parameters = parameters
+        self.body = body
+
+
+class SortExpression:
+    """A parameter by its number, or a sort or generic with arguments. Each stands once, so two are equal where they are one."""
+
+    def __init__(self, head, arguments):
+        self.head = head
+        self.arguments = arguments
+        if type(head) is int:
+            self.length = 1
+        else:
+            self.length = len(text_of_name(head.name)) + sum(1 + argument.length for argument in arguments)
+            self.length += 2 if arguments else 0
+
+
+class GenericConstructor:
+    def __init__(self, name, generic, place):
+        self.name = name
+        self.generic = generic
+        self.place = place
+        self.selectors = []
+        self.arguments = []  # sort expressions
+
+    def determined(self):
+        """Whether the sorts of the fields determine what all parameters stand for."""
+        found = {expression.head for expression in under(self.arguments) if type(expression.head) is int}
+        return len(found) == self.generic.parameters
+
+
+class GenericSelector:
+    arguments = (None,)
+
+    def __init__(self, name, constructor, place):
+        self.name = name
+        self.constructor = constructor
+        self.place = place
+
+
+def under(expressions):
+    """The sort expressions in some sort expressions, each once."""
+    seen = set(expressions)
+    waiting = list(seen)
+    while waiting:
+        for argument in waiting.pop().arguments:
+            if argument not in seen:
+                seen.add(argument)
+                waiting.append(argument)
+    return seen
+
+
+def matches(field, expression, found):
+    """Whether a field's sort expression is a sort, where parameters stand for what they were found to be first."""
+    pairs = [(field, expression)]
+    while pairs:
+        field, expression = pairs.pop()
+        if type(field.head) is int:
+            if found.setdefault(field.head, expression) is not expression:
+                return False
+        elif field.head is not expression.head:
+            return False
+        else:
+            pairs.extend(zip(field.arguments, expression.arguments))
+    return True
+
+
+def text_of_name(name):
+    return name if re.fullmatch(SYMBOL, name) and name not in RESERVED else b"|" + name + b"|"
+
+
+def text_of_expression(expression):
+    """The text of a sort."""
+    pieces = []
+    waiting = [expression]
+    while waiting:
+        part = waiting.pop()
+        if type(part) is bytes:
+            pieces.append(part)
+            continue
+        name = text_of_name(part.head.name)
+        if not part.arguments:
+            pieces.append(name)
+            continue
+        pieces.append(b"(" + name)
+        waiting.append(b")")
+        for argument in reversed(part.arguments):
+            waiting.append(argument)
+            waiting.append(b" ")
+    return b"".join(pieces)
+
+
+def text_of_sort(text):
+    """The text of a sort that is written, or None where it has the form of none."""
+    pieces = []
+    waiting = [text]
+    while waiting:
+        part = waiting.pop()
+        if type(part) is str:
+            pieces.append(part.encode())
+        elif type(part) is list:
+            if len(part) < 2 or name_of(part[0]) is None:
+                return None
+            pieces.append(b"(")
+            waiting.append(")")
+            for i, inner in reversed(list(enumerate(part))):
+                waiting.append(inner)
+                if i:
+                    waiting.append(" ")
+        else:
+            name = name_of(part)
+            if name is None:
+                return None
+            pieces.append(text_of_name(name))
+    return b"".join(pieces)
+
+
 class Constructor:
+    written = None  # the sort expressions of its fields, where a block declares it
+
     def __init__(self, name, result):
         self.name = name
         self.result = result
@@ -244,6 +382,13 @@ class Elaboration:
     def applied(self, symbol, nodes):
         """A constructor, selector, function or definition over its arguments."""
         require(symbol is not None and len(nodes) == len(symbol.arguments))
+        if type(symbol) is GenericConstructor:
+            require(symbol.determined())
+            symbol = self.script.constructor(symbol, [self.sorts[node] for node in nodes])
+        elif type(symbol) is GenericSelector:
+            constructor = at_sort(symbol.constructor, self.sorts[nodes[0]])
+            require(constructor is not None)
+            symbol = constructor.selectors[symbol.place]
         for node, sort in zip(nodes, symbol.arguments):
             require(self.sorts[node] is sort)
         return self.node(symbol, nodes, symbol.result)
@@ -273,10 +418,11 @@ class Elaboration:
             require(len(symbol.arguments) == len(text) - 1)
             return self.applied(symbol, (yield self.lists(text[1:])))
         require(head[0] == b"_" and name_of(head[1]) == b"is" and len(text) == 2)
-        constructor = self.script.symbols.get(name_of(head[2]))
-        require(type(constructor) is Constructor and constructor.result is not self.script.bool)
+        symbol = self.script.symbols.get(name_of(head[2]))
+        require(type(symbol) in (Constructor, GenericConstructor) and symbol not in self.script.bool.constructors)
         nodes = yield self.lists(text[1:])
-        require(self.sorts[nodes[0]] is constructor.result)
+        constructor = at_sort(symbol, self.sorts[nodes[0]])
+        require(constructor is not None)
         return self.boolean(constructor.tester, *nodes)
 
     def ascribed(self, text):
@@ -285,8 +431,11 @@ class Elaboration:
         name = name_of(text[1])
         require(name not in self.variables)
         symbol = self.script.symbols.get(name)
-        require(type(symbol) in (Constructor, Function, Definition))
-        require(symbol.result is self.script.sort(text[2]))
+        require(type(symbol) in (Constructor, GenericConstructor, Function, Definition))
+        sort = self.script.sort(text[2])
+        if type(symbol) is GenericConstructor:
+            symbol = at_sort(symbol, sort)
+        require(symbol is not None and symbol.result is sort)
         return symbol
 
     def ascription(self, text):
@@ -401,17 +550,18 @@ class Elaboration:
                 return None, {}
             name = name_of(pattern)
             require(name is not None)
-            constructor = symbols.get(name)
-            if type(constructor) is not Constructor:
+            symbol = symbols.get(name)
+            if type(symbol) not in (Constructor, GenericConstructor):
                 return None, {name: subject}
             names = []
         else:
             require(len(pattern) > 1)
-            constructor = symbols.get(name_of(pattern[0]))
-            require(type(constructor) is Constructor)
+            symbol = symbols.get(name_of(pattern[0]))
+            require(type(symbol) in (Constructor, GenericConstructor))
             names = [None if x == b"_" else name_of(x) for x in pattern[1:]]
             require(all(name is not None or x == b"_" for name, x in zip(names, pattern[1:])))
-        require(constructor.result is self.sorts[subject] and len(names) == len(constructor.selectors))
+        constructor = at_sort(symbol, self.sorts[subject])
+        require(constructor is not None and len(names) == len(constructor.selectors))
         bindings = {}
         for name, selector in zip(names, constructor.selectors):
             if name is not None:
@@ -442,6 +592,13 @@ class Elaboration:
         """The nodes right under a node that occur in its term."""
         head = self.heads[node]
         return [self.under[node][i] for i in head.used] if type(head) is Definition else self.under[node]
+
+
+def at_sort(symbol, sort):
+    """The constructor that a name is at this sort, or None where it is of another one."""
+    if type(symbol) is GenericConstructor:
+        return sort.constructors[symbol.place] if sort.generic is symbol.generic else None
+    return symbol if symbol.result is sort else None
 
 
 def no_form(elaboration, text):
@@ -539,7 +696,9 @@ class Script:
 
     def outset(self):
         """Nothing is declared and asserted."""
-        self.sorts = {b"Bool": self.bool}
+        self.sorts = {b"Bool": self.bool}  # sorts, generics and synonyms by their names
+        self.instances = {}  # sorts with arguments by what they are
+        self.shared = {}
         self.symbols = {}
         self.bool.constructors = [Constructor(name, self.bool) for name in (b"true", b"false")]
         for constructor in self.bool.constructors:
@@ -558,16 +717,144 @@ class Script:
             self.checks += 1
             return self.checks == wanted
         if type(word) is bytes and word in COMMANDS:
+            before = self.declared()
             try:
                 COMMANDS[word](self, *command[1:])
             except Refused:
-                pass
+                self.take_back(*before)
         return False
 
+    def declared(self):
+        """How much is declared."""
+        return len(self.sorts), len(self.instances), len(self.symbols), Counter(self.counts)
+
+    def take_back(self, sorts, instances, symbols, counts):
+        """Leaves what was declared."""
+        for entries, length in ((self.sorts, sorts), (self.instances, instances), (self.symbols, symbols)):
+            while len(entries) > length:
+                entries.popitem()
+        self.counts = Counter(counts)
+
+    # Sorts
+
+    def expression(self, head, arguments=()):
+        """The sort expression of a parameter, a sort or a generic with arguments."""
+        key = (head, *arguments)
+        if key not in self.shared:
+            self.shared[key] = SortExpression(head, arguments)
+        return self.shared[key]
+
+    def written(self, text, parameters, heads):
+        """The sort expression that a text writes over parameters, where names stand for these sorts, generics and synonyms."""
+        name = name_of(text[0] if type(text) is list and len(text) > 1 else text)
+        require(name is not None)
+        if name in parameters:
+            require(type(text) is not list)
+            return self.expression(parameters[name])
+        require(name in heads)
+        head = heads[name]
+        wanted = 0 if type(head) is Sort else head.parameters
+        require(wanted == (len(text) - 1 if type(text) is list else 0))
+        arguments = []
+        for part in text[1:] if wanted else ():
+            arguments.append((yield self.written(part, parameters, heads)))
+        if type(head) is Synonym:
+            return self.substitute(head.body, arguments)
+        return self.expression(head, tuple(arguments))
+
+    def substitute(self, expression, arguments):
+        """The expression with arguments in place of its parameters."""
+        done = {}
+        waiting = [expression]
+        while waiting:
+            part = waiting[-1]
+            missing = [argument for argument in part.arguments if argument not in done]
+            if missing:
+                waiting.extend(missing)
+                continue
+            waiting.pop()
+            if type(part.head) is int:
+                done[part] = arguments[part.head]
+            else:
+                done[part] = self.expression(part.head, tuple([done[argument] for argument in part.arguments]))
+        return done[expression]
+
+    def fields(self, expression):
+        """The sorts of the fields of each constructor of a sort expression."""
+        head = expression.head
+        if type(head) is int:
+            return []
+        return [[self.substitute(field, expression.arguments) for field in self.field_expressions(constructor)]
+                for constructor in head.constructors]
+
+    def field_expressions(self, constructor):
+        if type(constructor) is Constructor and constructor.written is None:
+            return [self.expression_of(sort) for sort in constructor.arguments]
+        return constructor.arguments if type(constructor) is GenericConstructor else constructor.written
+
+    def expression_of(self, sort):
+        return sort.expression if sort.generic else self.expression(sort)
+
     def sort(self, text):
-        name = name_of(text)
-        require(name in self.sorts)
-        return self.sorts[name]
+        """The sort that a text writes."""
+        return self.instance(without_recursion(self.written(text, {}, self.sorts)))
+
+    def instance(self, expression):
+        """The sort that an expression is, which is added with all that comes with it where it is not there."""
+        fresh = []
+        waiting = [expression]
+        while waiting:
+            part = waiting.pop()
+            if type(part.head) is Sort or part in self.instances:
+                continue
+            require(part.length <= MOST_TEXT)
+            sort = self.instances[part] = Sort(None, part.head.kind)
+            sort.generic = part.head
+            sort.expression = part
+            fresh.append(sort)
+            self.add_constructors(sort)
+            self.within_limits()
+            waiting.extend(part.arguments)
+            for fields in self.fields(part):
+                waiting.extend(fields)
+        for sort in fresh:
+            for constructor, fields in zip(sort.constructors, self.fields(sort.expression)):
+                self.set_fields(constructor, fields)
+        return self.found(expression)
+
+    def found(self, expression):
+        """The sort of an expression, which is there."""
+        return expression.head if type(expression.head) is Sort else self.instances[expression]
+
+    def add_constructors(self, sort):
+        """The constructors of a sort with arguments, for which fields are still to be set."""
+        for generic in sort.generic.constructors:
+            constructor = Constructor(generic.name, sort)
+            constructor.selectors = [Selector(selector.name, constructor, selector.place, None) for selector in generic.selectors]
+            sort.constructors.append(constructor)
+            self.counts[Constructor] += 1
+            self.counts[Selector] += len(constructor.selectors)
+
+    def set_fields(self, constructor, fields):
+        constructor.arguments = [self.found(field) for field in fields]
+        for selector, sort in zip(constructor.selectors, constructor.arguments):
+            selector.result = sort
+
+    def all_sorts(self):
+        return [sort for sort in self.sorts.values() if type(sort) is Sort] + list(self.instances.values())
+
+    def within_limits(self):
+        require(len(self.sorts) + len(self.instances) <= MOST_SORTS)
+        require(self.counts[Constructor] <= MOST_CONSTRUCTORS)
+        require(self.counts[Selector] <= MOST_SELECTORS)
+
+    def constructor(self, symbol, sorts):
+        """The constructor of a generic whose fields have these sorts."""
+        found = {}
+        for field, sort in zip(symbol.arguments, sorts):
+            require(matches(field, self.expression_of(sort), found))
+        arguments = tuple([found[parameter] for parameter in range(symbol.generic.parameters)])
+        return self.instance(self.expression(symbol.generic, arguments)).constructors[symbol.place]
 
     def new(self, names, taken):
         """Refuses names of which one cannot be declared."""
@@ -586,19 +873,35 @@ class Script:
         self.globally = value == b"true"
 
     def declare_sort(self, *rest):
-        require(len(rest) == 2 and rest[1] == 0)
+        require(len(rest) == 2 and type(rest[1]) is int and rest[1] <= MOST_ARGUMENTS)
         name = name_of(rest[0])
         self.new([name], self.sorts)
-        require(len(self.sorts) < MOST_SORTS)
-        self.sorts[name] = Sort(name, "uninterpreted")
+        self.sorts[name] = Generic(name, "uninterpreted", rest[1]) if rest[1] else Sort(name, "uninterpreted")
+        self.within_limits()
+
+    def define_sort(self, *rest):
+        require(len(rest) == 3 and type(rest[1]) is list)
+        name = name_of(rest[0])
+        self.new([name], self.sorts)
+        parameters = self.parameters(rest[1])
+        body = without_recursion(self.written(rest[2], parameters, self.sorts))
+        require(body.length <= MOST_TEXT)
+        self.sorts[name] = Synonym(len(parameters), body)
+        self.within_limits()
+
+    def parameters(self, texts):
+        """The numbers of type parameters by their names."""
+        parameters = {name_of(text): number for number, text in enumerate(texts)}
+        require(None not in parameters and len(parameters) == len(texts))
+        return parameters
 
     def declare_datatype(self, *rest):
         require(len(rest) == 2)
-        self.block([rest[0]], [rest[1]], "datatype")
+        self.block([rest[0]], [None], [rest[1]], "datatype")
 
     def declare_codatatype(self, *rest):
         require(len(rest) == 2)
-        self.block([rest[0]], [rest[1]], "codatatype")
+        self.block([rest[0]], [None], [rest[1]], "codatatype")
 
     def declare_datatypes(self, *rest):
         self.blocks(rest, "datatype")
@@ -610,39 +913,94 @@ class Script:
         require(len(rest) == 2 and type(rest[0]) is list and type(rest[1]) is list)
         require(rest[0] and len(rest[0]) == len(rest[1]))
         for named in rest[0]:
-            require(type(named) is list and len(named) == 2 and named[1] == 0)
-        self.block([named[0] for named in rest[0]], rest[1], kind)
+            require(type(named) is list and len(named) == 2 and type(named[1]) is int)
+        self.block([named[0] for named in rest[0]], [named[1] for named in rest[0]], rest[1], kind)
 
-    def block(self, names, bodies, kind):
+    def block(self, names, arities, bodies, kind):
         """Declares datatypes or codatatypes that may name one another."""
         names = [name_of(name) for name in names]
         self.new(names, self.sorts)
-        fresh = {name: Sort(name, kind) for name in names}
-        symbols = []
-        for sort, body in zip(fresh.values(), bodies):
+        parameters = []
+        for place, (arity, body) in enumerate(zip(arities, bodies)):
             require(type(body) is list and body)
+            own = {}
+            if body[0] == b"par":
+                require(len(body) == 3 and type(body[1]) is list and body[1] and type(body[2]) is list and body[2])
+                own = self.parameters(body[1])
+                bodies[place] = body[2]
+            require(arity is None or arity == len(own))
+            parameters.append(own)
+        fresh = {name: Generic(name, kind, len(own)) if own else Sort(name, kind) for name, own in zip(names, parameters)}
+        heads = {**self.sorts, **fresh}
+        symbols = []
+        for head, own, body in zip(fresh.values(), parameters, bodies):
             for text in body:
-                require(type(text) is list and text)
-                constructor = Constructor(name_of(text[0]), sort)
-                sort.constructors.append(constructor)
-                symbols.append(constructor)
-                for place, field in enumerate(text[1:]):
-                    require(type(field) is list and len(field) == 2)
-                    result = fresh.get(name_of(field[1])) or self.sort(field[1])
-                    selector = Selector(name_of(field[0]), constructor, place, result)
-                    constructor.selectors.append(selector)
-                    constructor.arguments.append(result)
-                    symbols.append(selector)
+                symbols.extend(self.block_constructor(head, own, heads, text))
         self.new([symbol.name for symbol in symbols], self.symbols)
-        require(kind == "codatatype" or well_founded(fresh.values()))
-        more = Counter(type(symbol) for symbol in symbols)
-        require(len(self.sorts) + len(fresh) <= MOST_SORTS)
-        require(self.counts[Constructor] + more[Constructor] <= MOST_CONSTRUCTORS)
-        require(self.counts[Selector] + more[Selector] <= MOST_SELECTORS)
-        self.sorts.update(fresh)
-        self.counts.update(more)
+        self.admit(fresh.values(), kind)
         for symbol in symbols:
             self.symbols[symbol.name] = symbol
+            self.counts[Constructor if type(symbol) in (Constructor, GenericConstructor) else Selector] += 1
+        self.sorts.update(fresh)
+        self.within_limits()
+        for sort in fresh.values():
+            for constructor in sort.constructors if type(sort) is Sort else ():
+                for field in constructor.written:
+                    self.instance(field)
+                self.set_fields(constructor, constructor.written)
+
+    def block_constructor(self, head, parameters, heads, text):
+        """A constructor of a block, and its selectors."""
+        require(type(text) is list and text)
+        fields = text[1:]
+        for field in fields:
+            require(type(field) is list and len(field) == 2)
+        expressions = [without_recursion(self.written(field[1], parameters, heads)) for field in fields]
+        if type(head) is Sort:
+            constructor = Constructor(name_of(text[0]), head)
+            constructor.written = expressions
+            constructor.selectors = [Selector(name_of(field[0]), constructor, place, None) for place, field in enumerate(fields)]
+        else:
+            constructor = GenericConstructor(name_of(text[0]), head, len(head.constructors))
+            constructor.arguments = expressions
+            constructor.selectors = [GenericSelector(name_of(field[0]), constructor, place) for place, field in enumerate(fields)]
+        head.constructors.append(constructor)
+        return [constructor, *constructor.selectors]
+
+    def admit(self, heads, kind):
+        """Refuses a block that holds itself at other arguments, reaches too much, mixes datatypes and codatatypes, or has no value."""
+        own = {head: self.expression(head, tuple([self.expression(i) for i in range(getattr(head, "parameters", 0))])) for head in heads}
+        for head in heads:
+            fields = [field for row in self.fields(own[head]) for field in row]
+            inner = under(fields)
+            require(all(part is own[part.head] and part.arguments == own[head].arguments for part in inner if part.head in own))
+        rows = {own[head]: self.fields(own[head]) for head in heads}
+        fields = set(rows).union(*[row for inner in rows.values() for row in inner])
+        if all(type(field.head) is Sort for field in fields):
+            # Nothing that was there reaches the block, and all that was there has a value.
+            require(all(field.length <= MOST_TEXT for field in fields))
+            require(kind == "codatatype" or founded(rows) >= set(rows))
+            return
+        for head in heads:
+            reached = self.reached(own[head])
+            require(not mixed(reached))
+            require(kind == "codatatype" or own[head] in founded(reached))
+
+    def reached(self, start):
+        """The rows of fields of what a sort expression reaches."""
+        reached = {}
+        waiting = [start]
+        seen = {start}
+        while waiting:
+            expression = waiting.pop()
+            require(expression.length <= MOST_TEXT)
+            reached[expression] = self.fields(expression)
+            for field in set().union(*reached[expression]):
+                if field not in seen:
+                    seen.add(field)
+                    require(len(seen) <= MOST_REACHED)
+                    waiting.append(field)
+        return reached
 
     def declare_const(self, *rest):
         require(len(rest) == 2)
@@ -700,7 +1058,7 @@ class Script:
     def push(self, *rest):
         levels = self.levels_of(rest)
         require(len(self.levels) + levels <= MOST_LEVELS)
-        here = (len(self.sorts), len(self.symbols), Counter(self.counts), len(self.assertions), self.terms.mark())
+        here = (self.declared(), len(self.assertions), self.terms.mark())
         self.levels.extend([here] * levels)
 
     def pop(self, *rest):
@@ -717,14 +1075,11 @@ class Script:
         require(len(rest) == 1 and type(rest[0]) is int)
         return rest[0]
 
-    def back_to(self, sorts, symbols, counts, assertions, terms):
+    def back_to(self, declared, assertions, terms):
         del self.assertions[assertions:]
         self.terms.back_to(terms)
         if not self.globally:
-            for entries, length in ((self.sorts, sorts), (self.symbols, symbols)):
-                while len(entries) > length:
-                    entries.popitem()
-            self.counts = Counter(counts)
+            self.take_back(*declared)
 
     def reset_assertions(self, *rest):
         require(not rest)
@@ -741,7 +1096,7 @@ class Script:
 
 
 COMMANDS = {
-    b"set-option": Script.set_option, b"declare-sort": Script.declare_sort,
+    b"set-option": Script.set_option, b"declare-sort": Script.declare_sort, b"define-sort": Script.define_sort,
     b"declare-datatype": Script.declare_datatype, b"declare-codatatype": Script.declare_codatatype,
     b"declare-datatypes": Script.declare_datatypes, b"declare-codatatypes": Script.declare_codatatypes,
     b"declare-const": Script.declare_const, b"declare-fun": Script.declare_fun,
@@ -751,29 +1106,57 @@ COMMANDS = {
 }
 
 
-def well_founded(sorts):
-    """Whether each of these datatypes has a finite value, where every other sort has one."""
-    missing = {}
+def kind_of(expression):
+    return None if type(expression.head) is int else expression.head.kind
+
+
+def founded(reached):
+    """The sort expressions with a finite value, among these with the rows of their fields; all others have one."""
     waiting = defaultdict(list)
-    ready = []
-    for sort in sorts:
-        for constructor in sort.constructors:
-            fields = [field for field in constructor.arguments if field in sorts]
-            missing[constructor] = len(fields)
+    found = {expression for expression in reached if kind_of(expression) != "datatype"}
+    ready = list(found)
+    for expression, rows in reached.items():
+        for row in rows if expression not in found else ():
+            fields = {field for field in row if field in reached}
+            entry = [len(fields), expression]
             for field in fields:
-                waiting[field].append(constructor)
-            if not fields:
-                ready.append(constructor)
-    founded = set()
+                waiting[field].append(entry)
+            if not fields and expression not in found:
+                found.add(expression)
+                ready.append(expression)
     while ready:
-        sort = ready.pop().result
-        if sort not in founded:
-            founded.add(sort)
-            for constructor in waiting[sort]:
-                missing[constructor] -= 1
-                if not missing[constructor]:
-                    ready.append(constructor)
-    return len(founded) == len(sorts)
+        for entry in waiting[ready.pop()]:
+            entry[0] -= 1
+            if not entry[0] and entry[1] not in found:
+                found.add(entry[1])
+                ready.append(entry[1])
+    return found
+
+
+def mixed(reached):
+    """Whether a datatype and a codatatype of these reach each other."""
+    if len({kind_of(expression) for expression in reached} & {"datatype", "codatatype"}) < 2:
+        return False
+    for start in reached:
+        if kind_of(start) != "codatatype":
+            continue
+        for target in closure(reached, start):
+            if kind_of(target) == "datatype" and start in closure(reached, target):
+                return True
+    return False
+
+
+def closure(reached, start):
+    """What a sort expression reaches."""
+    seen = {start}
+    waiting = [start]
+    while waiting:
+        for row in reached[waiting.pop()]:
+            for field in row:
+                if field not in seen:
+                    seen.add(field)
+                    waiting.append(field)
+    return seen
 
 
 def sorts_with_one_value(sorts):
@@ -864,6 +1247,7 @@ class Derivation:
         self.lines = []
         self.assertions = set()
         self.one_value = None
+        self.texts = None
 
     # Reading. `fault` has the least error of the numbers and names of the item that is read.
 
@@ -899,20 +1283,20 @@ class Derivation:
         form(type(kind) is bytes)
         if kind in (b"con", b"app", b"sel", b"is"):
             form(len(text) > 3)
-            name = name_of(text[3])
-            form(name is not None)
+            name, sort = self.named(kind, text[3])
             under = numbers(text[4:])
             form(len(under) == 1 or kind in (b"con", b"app"))
-            form(here > 1 or (kind == b"con" and name == (b"true", b"false")[here] and not under))
+            form(here > 1 or (kind == b"con" and name == (b"true", b"false")[here] and sort is None and not under))
             symbol = self.script.symbols.get(name)
         else:
             form(kind in PLAIN_KINDS and here > 1)
             under = numbers(text[3:])
             form(PLAIN_KINDS[kind] is None or PLAIN_KINDS[kind] == len(under))
-            symbol = None
+            symbol = sort = None
         if any(term >= here for term in under):
             self.fault = 42
             return
+        symbol = self.at_sorts(kind, symbol, sort, [self.sorts[term] for term in under])
         head, result = self.well_sorted(kind, symbol, under)
         if head is None:
             self.fault = 43
@@ -924,6 +1308,50 @@ class Derivation:
         self.under.append(under)
         self.sorts.append(result)
         self.literals.append(self.literal_of(here, head, under, result))
+
+    def named(self, kind, text):
+        """The name of a term line, and the text of S where it is written `(as C S)`."""
+        name = name_of(text)
+        if name is not None:
+            return name, None
+        form(kind in (b"con", b"is") and type(text) is list and len(text) == 3 and text[0] == b"as")
+        name, sort = name_of(text[1]), text_of_sort(text[2])
+        form(name is not None and sort is not None)
+        return name, sort
+
+    def at_sorts(self, kind, symbol, written, sorts):
+        """What a name is beside the sorts of the terms and the sort that is written, or None."""
+        if type(symbol) is GenericSelector:
+            constructor = at_sort(symbol.constructor, sorts[0]) if sorts else None
+            return constructor and constructor.selectors[symbol.place]
+        if type(symbol) is not GenericConstructor:
+            return symbol if written is None else None
+        if symbol.determined() != (written is None):
+            return None
+        if written is not None:
+            sort = self.sorts_by_text().get(written)
+            return sort and at_sort(symbol, sort)
+        if kind == b"is":
+            return at_sort(symbol, sorts[0])
+        found = {}
+        if len(sorts) != len(symbol.arguments):
+            return None
+        if not all(matches(field, self.script.expression_of(sort), found) for field, sort in zip(symbol.arguments, sorts)):
+            return None
+        arguments = tuple([found[parameter] for parameter in range(symbol.generic.parameters)])
+        sort = self.script.instances.get(self.script.expression(symbol.generic, arguments))
+        return sort and at_sort(symbol, sort)
+
+    def sorts_by_text(self):
+        """The sorts of the script by their texts."""
+        if self.texts is None:
+            self.texts = {}
+            for name, sort in self.script.sorts.items():
+                if type(sort) is Sort:
+                    self.texts[text_of_name(name)] = sort
+            for sort in self.script.instances.values():
+                self.texts[text_of_expression(sort.expression)] = sort
+        return self.texts
 
     def well_sorted(self, kind, symbol, under):
         """The head and the sort of a term, or None where it is none."""
@@ -1055,7 +1483,7 @@ class Derivation:
 
     def has_one_value(self, sort):
         if self.one_value is None:
-            self.one_value = sorts_with_one_value(self.script.sorts.values())
+            self.one_value = sorts_with_one_value(self.script.all_sorts())
         return sort in self.one_value
 
     def is_constructor(self, term):

@@ -5,7 +5,7 @@ ghost use Rattle.ct_card.specs.declared.chain.Rule.{Rule};
 ghost use Rattle.ct_card.specs.Rules.{IsOrder};
 ghost use Rattle.ct_card.specs.Ranked.{AreSeveral};
 ghost use Rattle.ct_card.specs.Ruled.{AreSeveralRules, IsCountRule, IsFieldRule};
-ghost use Rattle.ct_sorts.specs.Declarations.{IsSelector};
+ghost use Rattle.ct_sorts.specs.Declarations.{IsSort, IsSelector};
 ghost use Rattle.ct_card.specs.Derived.{AreHeadsBelow};
 
 use crate::chain::{Derived, Rule, derive};
@@ -44,10 +44,18 @@ fn push_count_rules(alloc: Global, sig: &Signature, rules: &mut Vec<Rule>) -> Re
     ensures each { OnOk result ((k : ℕ) (rule : Rule) → slice_get rules.new.items k ≡ Some rule → IsCountRule sig.now k rule) }
 {
     for s in 0..sig.sorts() {
-        let single = sig.ctors(SortId(s)).len() == 1;
-        rules.push(fact(alloc, s as usize, !single)?)?;
+        rules.push(count_rule(alloc, sig, SortId(s))?)?;
     }
     Ok(())
+}
+
+// The rule for a sort.
+fn count_rule(alloc: Global, sig: &Signature, s: SortId) -> Result<Rule, CardError>
+    requires inside { IsSort sig.now s }
+    ensures rule { IfOk result (IsCountRule sig.now s.0) }
+{
+    let single = sig.ctors(s).len() == 1;
+    fact(alloc, s.0 as usize, !single)
 }
 
 // Puts a rule for each selector after those that are there.

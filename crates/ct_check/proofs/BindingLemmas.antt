@@ -1,27 +1,31 @@
--- The terms of bindings one after the other, and bindings with a body.
-use Rattle.std.proofs.Common.{◌≡◌, ℕ, ◌+◌, ◌<◌, ◌≤◌, List, [], ◌∷◌, ◌++◌, length, get_or, drop, Ok, Err, refl, sym, ◌∙◌, ap, arith}
-use Rattle.std.proofs.lemmas.List.{append_assoc}
-use Rattle.ct_sexpr.specs.declared.sexpr.Sexpr.{Sexpr}
+-- The terms of bindings one after the other: those so far, the next one, and all.
+use Rattle.std.proofs.Common.{◌≡◌, List, [], ◌∷◌, ◌++◌, length, Vec, Global, false, Ok, Err, refl, sym, ◌∙◌, ap, arith}
+use Rattle.ct_sexpr.specs.declared.sexpr.Sexpr.{Sexpr, List as list_in_memory}
+use Rattle.ct_sexpr.specs.Expression.{Expression, Expressions, list, none, more}
 use Rattle.ct_sexpr.specs.View.{expression_of, expressions_of}
 use Rattle.ct_sorts.specs.declared.ids.SortId.{SortId}
+use Rattle.ct_sorts.specs.Consistent.{IsConsistent}
 use Rattle.ct_sorts.specs.Declarations.{Declarations}
 use Rattle.ct_formulas.specs.declared.tree.Tree.{Tree}
 use Rattle.ct_formulas.specs.Formula.{with_formula}
 use Rattle.ct_formulas.specs.TreeFormula.{formula_of, formulas_of_trees}
-use Rattle.ct_names.specs.declared.error.CheckError.{CheckError}
-use Rattle.ct_names.specs.declared.error.CheckError.TheVariants.{Refused, NoMemory}
-use Rattle.ct_names.specs.Outcome.{Outcome, Sorted, and_then}
-use Rattle.ct_names.specs.Answer.{IsAnswerFor}
-use Rattle.ct_names.specs.Variables.{Variable}
-use Rattle.ct_names.specs.Parts.{list_part, with_part}
-use Rattle.ct_names.specs.Elaboration.{part_of, parts_of, meaning_of_part, bound_terms, without_sorts, sorts_of}
-use Rattle.ct_check.specs.Trees.{sorted_of, sorted_trees, sorted_list}
-use Rattle.ct_names.proofs.AnswerLemmas.{and_then-self}
-use Rattle.ct_names.proofs.PartLemmas.{drop_item}
-use Rattle.ct_check.proofs.JoinedFormulas.{drop_past}
+use Rattle.ct_names.specs.Needs.{Reaches}
+use Rattle.ct_names.specs.Outcome.{Elaborated, Halt, Sorted, and_then, refused}
+use Rattle.ct_names.specs.Refusals.{out_of_scope}
+use Rattle.ct_names.specs.Variables.{Variable, ScopeIn}
+use Rattle.ct_names.specs.Parts.{with_part, no_parts}
+use Rattle.ct_names.specs.Elaboration.{elaborated, part_of, parts_of, bound_terms, without_sorts, sorts_of}
+use Rattle.ct_names.proofs.LastingLemmas.{scope_declared}
+use Rattle.ct_names.proofs.NeedLemmas.{reaches_grows, reaches_first, reaches_same}
+use Rattle.ct_names.proofs.Rows.{expression_of_list}
+use Rattle.ct_names.proofs.StayTerms.{bound_terms_stay, all_last}
+use Rattle.ct_check.specs.Trees.{sorted_trees}
+use Rattle.ct_check.proofs.ItemLemmas.{joined, bound_join, and_others}
+use Rattle.ct_check.proofs.OtherForms.{is_pair, binding-other}
+use Rattle.ct_check.proofs.StepLemmas.{Stands, next_is, next_reaches}
 
 -- trees with their sorts, one more of each
-sorted_trees-push : (ts : List Tree) (ss : List SortId) (t : Tree) (s : SortId) → length ts ≡ length ss → sorted_trees (ts ++ t ∷ []) (ss ++ s ∷ []) ≡ sorted_trees ts ss ++ (formula_of t, s) ∷ []
+pub sorted_trees-push : (ts : List Tree) (ss : List SortId) (t : Tree) (s : SortId) → length ts ≡ length ss → sorted_trees (ts ++ t ∷ []) (ss ++ s ∷ []) ≡ sorted_trees ts ss ++ (formula_of t, s) ∷ []
 sorted_trees-push [] [] t s e = refl
 sorted_trees-push [] (r ∷ ss) t s e = absurd (omega (arith, e))
 sorted_trees-push (u ∷ ts) [] t s e = absurd (omega (arith, e))
@@ -39,62 +43,74 @@ sorts_of-sorted [] (s ∷ ss) e = absurd (omega (arith, e))
 sorts_of-sorted (t ∷ ts) [] e = absurd (omega (arith, e))
 sorts_of-sorted (t ∷ ts) (s ∷ ss) e = ap (λ rest. s ∷ rest) (sorts_of-sorted ts ss (omega (arith, e)))
 
--- the whole after these terms
-abbrev pub after : List Tree → List SortId → List Sorted → Outcome (List Sorted)
-after ts ss rest = Ok (sorted_trees ts ss ++ rest)
+-- a list of two in memory
+abbrev pub IsPair : Sexpr → Sexpr → Sexpr → Type 0
+IsPair b x t = expression_of b ≡ list (more (expression_of x) (more (expression_of t) none))
 
-abbrev first : Sorted → List Sorted → Outcome (List Sorted)
-first t ts = Ok (t ∷ ts)
+pub pair_is : (b : Sexpr) (items : Vec Sexpr Global) (slice : List Sexpr) (x t : Sexpr) → b ≡ list_in_memory items → slice ≡ items.items → slice ≡ x ∷ (t ∷ []) → IsPair b x t
+pair_is b items slice x t is same two =
+    ap (λ (e : Sexpr). expression_of e) is ∙ expression_of_list items ∙ ap (λ (xs : List Sexpr). list (expressions_of xs)) (sym same ∙ two)
 
-shifted : (rest : Outcome (List Sorted)) (ts : List Tree) (ss : List SortId) (t : Tree) (s : SortId) → length ts ≡ length ss → and_then (and_then rest (first (formula_of t, s))) (after ts ss) ≡ and_then rest (after (ts ++ t ∷ []) (ss ++ s ∷ []))
-shifted (Ok xs) ts ss t s e = ap (λ ys. Ok ys) (sym (ap (λ zs. zs ++ xs) (sorted_trees-push ts ss t s e) ∙ append_assoc (sorted_trees ts ss) ((formula_of t, s) ∷ []) xs))
-shifted (Err n) ts ss t s e = refl
+-- expressions and others
+pub joined-append : (xs ys : List Sexpr) → expressions_of (xs ++ ys) ≡ joined (expressions_of xs) (expressions_of ys)
+joined-append [] ys = refl
+joined-append (x ∷ xs) ys = ap (λ (es : Expressions). more (expression_of x) es) (joined-append xs ys)
 
--- what is left from an index on
-abbrev pub left_from : Declarations → List Variable → List Sexpr → ℕ → Outcome (List Sorted)
-left_from d scope bindings i = bound_terms d scope (parts_of d (expressions_of (drop i bindings)))
+module _ (scope : List Variable) where
+  -- these bindings
+  abbrev pub so_far : List Sexpr → Declarations → Elaborated (List Sorted)
+  so_far xs n = bound_terms n scope (parts_of n (expressions_of xs))
 
-pub record IsAt (d : Declarations) (scope : List Variable) (bindings : List Sexpr) (i : ℕ) (ts : List Tree) (ss : List SortId) : Type 0 where
-  pub long : length ts ≡ length ss
-  pub whole : bound_terms d scope (parts_of d (expressions_of bindings)) ≡ and_then (left_from d scope bindings i) (after ts ss)
+  -- these and others
+  and_more : (xs ys : List Sexpr) (d : Declarations) → so_far (xs ++ ys) d ≡ and_then (so_far xs d) (λ ts. and_then (so_far ys d) (and_others d scope ts))
+  and_more xs ys d = ap (λ (es : Expressions). bound_terms d scope (parts_of d es)) (joined-append xs ys) ∙ bound_join d scope (expressions_of xs) (expressions_of ys)
 
-pub at_start : (d : Declarations) (scope : List Variable) (bindings : List Sexpr) → IsAt d scope bindings 0 [] []
-at_start d scope bindings = record { long = refl; whole = sym (and_then-self (bound_terms d scope (parts_of d (expressions_of bindings)))) }
+  -- where these stop, so do all
+  pub all_stop : (xs ys all : List Sexpr) → all ≡ xs ++ ys → (d : Declarations) (h : Halt) → so_far xs d ≡ Err h → so_far all d ≡ Err h
+  all_stop xs ys all is d h e = ap (λ zs. so_far zs d) is ∙ and_more xs ys d ∙ ap (λ (o : Elaborated (List Sorted)). and_then o (λ ts. and_then (so_far ys d) (and_others d scope ts))) e
 
--- a binding in memory is `(x t)`
-pub record IsBinding (d : Declarations) (binding : Sexpr) (x t : Sexpr) : Type 0 where
-  pub m : List Variable → Outcome Sorted
-  pub is : part_of d (expression_of binding) ≡ list_part (parts_of d (expressions_of (x ∷ (t ∷ [])))) m
+  -- the next term, after these
+  abbrev pub next_term : Declarations → Sexpr → List Sorted → Elaborated (List Sorted)
+  next_term d t ts = and_then (elaborated d scope (expression_of t)) (λ u. Ok (ts ++ u ∷ []))
 
-left-item : (d : Declarations) (scope : List Variable) (bindings : List Sexpr) (i : ℕ) (b x t : Sexpr) → i < length bindings → b ≡ get_or bindings i b → IsBinding d b x t → left_from d scope bindings i ≡ and_then (meaning_of_part d scope (part_of d (expression_of t))) (λ u. and_then (left_from d scope bindings (i + 1)) (first u))
-left-item d scope bindings i b x t ib eb form =
-    ap (λ xs. bound_terms d scope (parts_of d (expressions_of xs))) (drop_item bindings i b ib eb)
-    ∙ ap (λ p. bound_terms d scope (with_part p (parts_of d (expressions_of (drop (i + 1) bindings))))) form.is
-
-module _ (d : Declarations) (scope : List Variable) (bindings : List Sexpr) (i : ℕ) (ts : List Tree) (ss : List SortId) (at : IsAt d scope bindings i ts ss) where
-  pub at_next : (b x e : Sexpr) (t : Tree) (s : SortId) (long : length (ts ++ t ∷ []) ≡ length (ss ++ s ∷ [])) → i < length bindings → b ≡ get_or bindings i b → IsBinding d b x e → meaning_of_part d scope (part_of d (expression_of e)) ≡ Ok (formula_of t, s) → IsAt d scope bindings (i + 1) (ts ++ t ∷ []) (ss ++ s ∷ [])
-  at_next b x e t s long ib eb form means = record {
-    long = long;
-    whole =
-        at.whole
-        ∙ ap (λ o. and_then o (after ts ss)) (left-item d scope bindings i b x e ib eb form)
-        ∙ ap (λ m. and_then (and_then m (λ u. and_then (left_from d scope bindings (i + 1)) (first u))) (after ts ss)) means
-        ∙ shifted (left_from d scope bindings (i + 1)) ts ss t s at.long;
-  }
-
-  pub at_error : (b x t : Sexpr) (e : CheckError) → i < length bindings → b ≡ get_or bindings i b → IsBinding d b x t → IsAnswerFor sorted_of (meaning_of_part d scope (part_of d (expression_of t))) (Err e) → IsAnswerFor sorted_list (bound_terms d scope (parts_of d (expressions_of bindings))) (Err e)
-  at_error b x t (Refused n) ib eb form h =
-      at.whole
-      ∙ ap (λ o. and_then o (after ts ss)) (left-item d scope bindings i b x t ib eb form)
-      ∙ ap (λ m. and_then (and_then m (λ u. and_then (left_from d scope bindings (i + 1)) (first u))) (after ts ss)) h
-  at_error b x t NoMemory ib eb form h = tt
-
-  pub at_end : length bindings ≤ i → bound_terms d scope (parts_of d (expressions_of bindings)) ≡ Ok (sorted_trees ts ss)
-  at_end past =
-      at.whole
-      ∙ ap (λ xs. and_then (bound_terms d scope (parts_of d (expressions_of xs))) (after ts ss)) (drop_past bindings i past)
-      ∙ ap (λ ys. Ok ys) (append-none (sorted_trees ts ss))
+  push : (xs : List Sexpr) (b x t : Sexpr) → IsPair b x t → (d : Declarations) → so_far (xs ++ b ∷ []) d ≡ and_then (so_far xs d) (next_term d t)
+  push xs b x t pair d = and_more xs (b ∷ []) d ∙ by (so_far xs d)
     where
-      append-none : (xs : List Sorted) → xs ++ [] ≡ xs
-      append-none [] = refl
-      append-none (x ∷ xs) = ap (λ rest. x ∷ rest) (append-none xs)
+      at : (ts : List Sorted) (o : Elaborated Sorted) → and_then (and_then o (λ u. and_then (Ok []) (λ us. Ok (u ∷ us)))) (and_others d scope ts) ≡ and_then o (λ u. Ok (ts ++ u ∷ []))
+      at ts (Ok u) = refl
+      at ts (Err h) = refl
+
+      by : (o : Elaborated (List Sorted)) → and_then o (λ ts. and_then (so_far (b ∷ []) d) (and_others d scope ts)) ≡ and_then o (next_term d t)
+      by (Err h) = refl
+      by (Ok ts) = ap (λ (e : Expression). and_then (bound_terms d scope (with_part (part_of d e) no_parts)) (and_others d scope ts)) pair ∙ at ts (elaborated d scope (expression_of t))
+
+  module _ (first now : Declarations) (c : IsConsistent first) (cn : IsConsistent now) (inside : ScopeIn first scope) (xs : List Sexpr) (ts : List Sorted) (value : so_far xs now ≡ Ok ts) (reaches : Reaches (so_far xs) first now) where
+    pub stands : Stands (so_far xs) first now ts
+    stands =
+        let grown = reaches_grows (so_far xs) first now reaches in
+        record {
+          reaches = reaches;
+          stays = λ n grows. (bound_terms_stay n now grows cn scope (scope_declared now first grown c scope inside) (expressions_of xs) (all_last n now grows cn (expressions_of xs)) ts value).0;
+        }
+
+    -- a binding that is no list of two
+    pub other_stop : (b : Sexpr) → is_pair (part_of now (expression_of b)) ≡ false → so_far (xs ++ b ∷ []) now ≡ Err (refused out_of_scope)
+    other_stop b other =
+        and_more xs (b ∷ []) now
+        ∙ ap (λ (o : Elaborated (List Sorted)). and_then o (λ us. and_then (so_far (b ∷ []) now) (and_others now scope us))) value
+        ∙ ap (λ (o : Elaborated (List Sorted)). and_then o (and_others now scope ts)) (binding-other now scope (part_of now (expression_of b)) no_parts other)
+
+    module _ (b x t : Sexpr) (pair : IsPair b x t) (later : Declarations) (next : Reaches (λ n. elaborated n scope (expression_of t)) now later) where
+      pub more_reached : Reaches (so_far (xs ++ b ∷ [])) first later
+      more_reached =
+          reaches_same (λ n. and_then (so_far xs n) (next_term n t)) (so_far (xs ++ b ∷ [])) first later (λ n _. push xs b x t pair n)
+          (next_reaches (so_far xs) (λ n. next_term n t) first now ts stands later (reaches_first (λ n. elaborated n scope (expression_of t)) (λ n u. Ok (ts ++ u ∷ [])) now later next))
+
+      more_is : so_far (xs ++ b ∷ []) later ≡ next_term later t ts
+      more_is = push xs b x t pair later ∙ next_is (so_far xs) (λ n. next_term n t) first now ts stands later (reaches_grows (λ n. elaborated n scope (expression_of t)) now later next)
+
+      pub more_stop : (h : Halt) → elaborated later scope (expression_of t) ≡ Err h → so_far (xs ++ b ∷ []) later ≡ Err h
+      more_stop h f = more_is ∙ ap (λ (o : Elaborated Sorted). and_then o (λ u. Ok (ts ++ u ∷ []))) f
+
+      pub more_met : (u : Sorted) → elaborated later scope (expression_of t) ≡ Ok u → so_far (xs ++ b ∷ []) later ≡ Ok (ts ++ u ∷ [])
+      more_met u f = more_is ∙ ap (λ (o : Elaborated Sorted). and_then o (λ w. Ok (ts ++ w ∷ []))) f

@@ -1,127 +1,148 @@
--- The cases of a `match` one after the other.
-use Rattle.std.proofs.Common.{◌≡◌, ℕ, ◌+◌, ◌<◌, ◌≤◌, true, false, List, [], ◌∷◌, ◌++◌, length, get_or, drop, Option, Some, None, Ok, Err, refl, sym, ◌∙◌, ap}
+-- The cases of a `match` one after the other: those so far, the next one, and all.
+use Rattle.std.proofs.Common.{◌≡◌, Bool, true, false, List, [], ◌∷◌, ◌++◌, Option, Some, None, Ok, Err, refl, sym, ◌∙◌, ap}
 use Rattle.ct_sexpr.specs.declared.sexpr.Sexpr.{Sexpr}
+use Rattle.ct_sexpr.specs.Expression.{Expression, Expressions}
 use Rattle.ct_sexpr.specs.View.{expression_of, expressions_of}
 use Rattle.ct_sorts.specs.declared.ids.SortId.{SortId}
-use Rattle.ct_sorts.specs.Declarations.{Declarations}
+use Rattle.ct_sorts.specs.Consistent.{IsConsistent}
+use Rattle.ct_sorts.specs.Declarations.{Declarations, IsSort}
 use Rattle.ct_formulas.specs.declared.tree.Pattern.{Pattern}
-use Rattle.ct_formulas.specs.Formula.{Formula, Cases, no_cases, with_case, bind}
+use Rattle.ct_formulas.specs.Formula.{Formula, Cases, with_case, bind}
 use Rattle.ct_formulas.specs.TreeFormula.{cases_of}
-use Rattle.ct_names.specs.Outcome.{Outcome, Sorted, and_then, unless_refused}
-use Rattle.ct_names.specs.Refusals.{wrong_sort}
-use Rattle.ct_names.specs.Variables.{Variable}
-use Rattle.ct_names.specs.Parts.{Part, with_part}
+use Rattle.ct_names.specs.Needs.{Grows, Reaches, as_they_are}
+use Rattle.ct_names.specs.Outcome.{Outcome, Elaborated, Halt, Sorted, and_then, unless_halted, step, refused}
+use Rattle.ct_names.specs.Refusals.{wrong_sort, out_of_scope}
 use Rattle.ct_names.specs.Patterns.{Binding, pattern}
-use Rattle.ct_names.specs.Elaboration.{Checked, with_case_before, goes_with, part_of, parts_of, meaning_of_part, checked_cases}
-use Rattle.ct_names.proofs.AnswerLemmas.{and_then-self}
-use Rattle.ct_names.proofs.PartLemmas.{drop_item}
-use Rattle.ct_check.proofs.JoinedFormulas.{drop_past}
-use Rattle.ct_check.proofs.BindingLemmas.{IsBinding}
+use Rattle.ct_names.specs.Variables.{Variable, ScopeIn}
+use Rattle.ct_names.specs.Parts.{with_part, no_parts}
+use Rattle.ct_names.specs.Elaboration.{Checked, elaborated, part_of, parts_of, no_more, goes_with, with_case_before, checked_cases}
+use Rattle.ct_names.proofs.LastingLemmas.{scope_declared, sort_declared}
+use Rattle.ct_names.proofs.NeedLemmas.{reaches_grows, reaches_first, reaches_same}
+use Rattle.ct_names.proofs.StayLemmas.{stays_step}
+use Rattle.ct_names.proofs.StayPatterns.{IsBound, pattern_stays}
+use Rattle.ct_names.proofs.StayTerms.{cases_stay, all_last}
+use Rattle.ct_check.proofs.BindingLemmas.{IsPair, joined-append}
+use Rattle.ct_check.proofs.ItemLemmas.{cases_joined, both, cases_after, cases_join}
+use Rattle.ct_check.proofs.OtherForms.{is_pair, case-other}
+use Rattle.ct_check.proofs.StepLemmas.{Stands, next_is, next_reaches}
 
--- cases before others
-abbrev pub joined : List (Pattern × Formula) → Cases → Cases
-joined [] cases = cases
-joined (c ∷ cs) cases = with_case c.0 c.1 (joined cs cases)
+-- one case more
+abbrev pub with_last : Checked → Pattern → Sorted → Checked
+with_last first p u = both first (with_case_before p u.0 (no_more (Some u.1)))
 
-joined-none : (cs : List (Pattern × Formula)) → joined cs no_cases ≡ cases_of cs
-joined-none [] = refl
-joined-none (c ∷ cs) = ap (λ rest. with_case c.0 c.1 rest) (joined-none cs)
+-- in a list
+cases_push : (cs : List (Pattern × Formula)) (p : Pattern) (t : Formula) → cases_joined (cases_of cs) (cases_of ((p, t) ∷ [])) ≡ cases_of (cs ++ (p, t) ∷ [])
+cases_push [] p t = refl
+cases_push (c ∷ cs) p t = ap (λ (rest : Cases). with_case c.0 c.1 rest) (cases_push cs p t)
 
-joined-push : (cs : List (Pattern × Formula)) (c : Pattern × Formula) (cases : Cases) → joined (cs ++ c ∷ []) cases ≡ joined cs (with_case c.0 c.1 cases)
-joined-push [] c cases = refl
-joined-push (x ∷ cs) c cases = ap (λ rest. with_case x.0 x.1 rest) (joined-push cs c cases)
+checked_push : (cs : List (Pattern × Formula)) (ps : List Pattern) (sort : Option SortId) (p : Pattern) (u : Sorted)
+    → with_last (record { cases = cases_of cs; patterns = ps; sort = sort }) p u ≡ record { cases = cases_of (cs ++ (p, u.0) ∷ []); patterns = ps ++ p ∷ []; sort = Some u.1 }
+checked_push cs ps sort p u = ap (λ (k : Cases). (let x : Checked = record { cases = k; patterns = ps ++ p ∷ []; sort = Some u.1 } in x)) (cases_push cs p u.0)
 
--- what was checked before and what is left
-abbrev pub with_left : List (Pattern × Formula) → List Pattern → Checked → Checked
-with_left cs ps checked = record { cases = joined cs checked.cases; patterns = ps ++ checked.patterns; sort = checked.sort }
+pub checked_after : (cs ds : List (Pattern × Formula)) (ps qs : List Pattern) (sort last : Option SortId) (p : Pattern) (u : Sorted) → ds ≡ cs ++ (p, u.0) ∷ [] → qs ≡ ps ++ p ∷ [] → last ≡ Some u.1
+    → with_last (record { cases = cases_of cs; patterns = ps; sort = sort }) p u ≡ record { cases = cases_of ds; patterns = qs; sort = last }
+checked_after cs ds ps qs sort last p u e f g =
+    checked_push cs ps sort p u
+    ∙ ap (λ (ks : List (Pattern × Formula)). (let x : Checked = record { cases = cases_of ks; patterns = ps ++ p ∷ []; sort = Some u.1 } in x)) (sym e)
+    ∙ ap (λ (rs : List Pattern). (let x : Checked = record { cases = cases_of ds; patterns = rs; sort = Some u.1 } in x)) (sym f)
+    ∙ ap (λ (s : Option SortId). (let x : Checked = record { cases = cases_of ds; patterns = qs; sort = s } in x)) (sym g)
 
-abbrev pub after : List (Pattern × Formula) → List Pattern → Checked → Outcome Checked
-after cs ps checked = Ok (with_left cs ps checked)
+module _ (scope : List Variable) (side : SortId) where
+  -- these cases
+  abbrev pub so_far : List Sexpr → Declarations → Elaborated Checked
+  so_far xs n = checked_cases n scope side None (parts_of n (expressions_of xs))
 
-abbrev first : Pattern → Formula → Checked → Outcome Checked
-first p body checked = Ok (with_case_before p body checked)
+  -- these and others
+  and_more : (xs ys : List Sexpr) (d : Declarations) → so_far (xs ++ ys) d ≡ and_then (so_far xs d) (cases_after d scope side (expressions_of ys))
+  and_more xs ys d = ap (λ (es : Expressions). checked_cases d scope side None (parts_of d es)) (joined-append xs ys) ∙ cases_join d scope side None (expressions_of xs) (expressions_of ys)
 
-append-push : (ps : List Pattern) (p : Pattern) (qs : List Pattern) → (ps ++ p ∷ []) ++ qs ≡ ps ++ p ∷ qs
-append-push [] p qs = refl
-append-push (x ∷ ps) p qs = ap (λ rest. x ∷ rest) (append-push ps p qs)
+  -- where these stop, so do all
+  pub all_stop : (xs ys all : List Sexpr) → all ≡ xs ++ ys → (d : Declarations) (h : Halt) → so_far xs d ≡ Err h → so_far all d ≡ Err h
+  all_stop xs ys all is d h e = ap (λ zs. so_far zs d) is ∙ and_more xs ys d ∙ ap (λ (o : Elaborated Checked). and_then o (cases_after d scope side (expressions_of ys))) e
 
-append-none : (ps : List Pattern) → ps ++ [] ≡ ps
-append-none [] = refl
-append-none (p ∷ ps) = ap (λ rest. p ∷ rest) (append-none ps)
+  -- the term of the next case, after these, where its pattern is known
+  abbrev pub with_body : Checked → Pattern → Sorted → Elaborated Checked
+  with_body first p u = unless_halted (goes_with first.sort u.1) wrong_sort (Ok (with_last first p u))
 
-with_left-push : (cs : List (Pattern × Formula)) (ps : List Pattern) (p : Pattern) (body : Formula) (checked : Checked) → with_left cs ps (with_case_before p body checked) ≡ with_left (cs ++ (p, body) ∷ []) (ps ++ p ∷ []) checked
-with_left-push cs ps p body checked =
-    ap (λ (cases : Cases). record { cases = cases; patterns = ps ++ p ∷ checked.patterns; sort = checked.sort }) (sym (joined-push cs (p, body) checked.cases))
-    ∙ ap (λ (patterns : List Pattern). record { cases = joined (cs ++ (p, body) ∷ []) checked.cases; patterns = patterns; sort = checked.sort }) (sym (append-push ps p checked.patterns))
+  abbrev pub next_body : Declarations → Sexpr → Checked → Binding → Elaborated Checked
+  next_body d t first b = and_then (elaborated d (bind b.1 scope) (expression_of t)) (with_body first b.0)
 
-shifted : (rest : Outcome Checked) (cs : List (Pattern × Formula)) (ps : List Pattern) (p : Pattern) (body : Formula) → and_then (and_then rest (first p body)) (after cs ps) ≡ and_then rest (after (cs ++ (p, body) ∷ []) (ps ++ p ∷ []))
-shifted (Ok checked) cs ps p body = ap (λ c. Ok c) (with_left-push cs ps p body checked)
-shifted (Err e) cs ps p body = refl
+  -- the next case, after these
+  abbrev pub next_case : Declarations → Sexpr → Sexpr → Checked → Elaborated Checked
+  next_case d p t first = and_then (step (pattern d side (part_of d (expression_of p)))) (next_body d t first)
 
--- what is left from an index on, where the cases before have this sort
-abbrev pub left_from : Declarations → List Variable → SortId → Option SortId → List Sexpr → ℕ → Outcome Checked
-left_from d scope side sort cases i = checked_cases d scope side sort (parts_of d (expressions_of (drop i cases)))
+  push : (xs : List Sexpr) (k p t : Sexpr) → IsPair k p t → (d : Declarations) → so_far (xs ++ k ∷ []) d ≡ and_then (so_far xs d) (next_case d p t)
+  push xs k p t pair d = and_more xs (k ∷ []) d ∙ by (so_far xs d)
+    where
+      tested : (first : Checked) (b : Pattern) (u : Sorted) (goes : Bool) → and_then (unless_halted goes wrong_sort (and_then (Ok (no_more (Some u.1))) (λ checked. Ok (with_case_before b u.0 checked)))) (λ second. Ok (both first second)) ≡ unless_halted goes wrong_sort (Ok (with_last first b u))
+      tested first b u true = refl
+      tested first b u false = refl
 
-pub record IsAt (d : Declarations) (scope : List Variable) (side : SortId) (cases : List Sexpr) (i : ℕ) (sort : Option SortId) (cs : List (Pattern × Formula)) (ps : List Pattern) : Type 0 where
-  pub whole : checked_cases d scope side None (parts_of d (expressions_of cases)) ≡ and_then (left_from d scope side sort cases i) (after cs ps)
+      bodies : (first : Checked) (b : Pattern) (o : Elaborated Sorted) → and_then (and_then o (λ u. unless_halted (goes_with first.sort u.1) wrong_sort (and_then (Ok (no_more (Some u.1))) (λ checked. Ok (with_case_before b u.0 checked))))) (λ second. Ok (both first second)) ≡ and_then o (with_body first b)
+      bodies first b (Err h) = refl
+      bodies first b (Ok u) = tested first b u (goes_with first.sort u.1)
 
-pub at_start : (d : Declarations) (scope : List Variable) (side : SortId) (cases : List Sexpr) → IsAt d scope side cases 0 None [] []
-at_start d scope side cases = record { whole = sym (and_then-self (checked_cases d scope side None (parts_of d (expressions_of cases)))) }
+      patterns : (first : Checked) (o : Outcome Binding) → and_then (and_then (step o) (λ b. and_then (elaborated d (bind b.1 scope) (expression_of t)) (λ u. unless_halted (goes_with first.sort u.1) wrong_sort (and_then (Ok (no_more (Some u.1))) (λ checked. Ok (with_case_before b.0 u.0 checked)))))) (λ second. Ok (both first second)) ≡ and_then (step o) (next_body d t first)
+      patterns first (Err n) = refl
+      patterns first (Ok b) = bodies first b.0 (elaborated d (bind b.1 scope) (expression_of t))
 
--- what a case comes to
-abbrev case_outcome : Declarations → List Variable → SortId → Option SortId → List Sexpr → ℕ → Part → Part → Outcome Checked
-case_outcome d scope side sort cases i p body =
-    and_then (pattern d side p) (λ binding.
-    and_then (meaning_of_part d (bind binding.1 scope) body) (λ u.
-    unless_refused (goes_with sort u.1) wrong_sort
-    (and_then (left_from d scope side (Some u.1) cases i) (first binding.0 u.0))))
+      by : (o : Elaborated Checked) → and_then o (cases_after d scope side (expressions_of (k ∷ []))) ≡ and_then o (next_case d p t)
+      by (Err h) = refl
+      by (Ok first) =
+          ap (λ (e : Expression). and_then (checked_cases d scope side first.sort (with_part (part_of d e) no_parts)) (λ second. Ok (both first second))) pair
+          ∙ patterns first (pattern d side (part_of d (expression_of p)))
 
-left-item : (d : Declarations) (scope : List Variable) (side : SortId) (sort : Option SortId) (cases : List Sexpr) (i : ℕ) (c p body : Sexpr) → i < length cases → c ≡ get_or cases i c → IsBinding d c p body → left_from d scope side sort cases i ≡ case_outcome d scope side sort cases (i + 1) (part_of d (expression_of p)) (part_of d (expression_of body))
-left-item d scope side sort cases i c p body ic ec form =
-    ap (λ xs. checked_cases d scope side sort (parts_of d (expressions_of xs))) (drop_item cases i c ic ec)
-    ∙ ap (λ q. checked_cases d scope side sort (with_part q (parts_of d (expressions_of (drop (i + 1) cases))))) form.is
+  module _ (first now : Declarations) (c : IsConsistent first) (cn : IsConsistent now) (inside : ScopeIn first scope) (there : IsSort first side) (xs : List Sexpr) (k : Checked) (value : so_far xs now ≡ Ok k) (reaches : Reaches (so_far xs) first now) where
+    grown : Grows now first
+    grown = reaches_grows (so_far xs) first now reaches
 
-module _ (d : Declarations) (scope : List Variable) (side : SortId) (cases : List Sexpr) (i : ℕ) (sort : Option SortId) (cs : List (Pattern × Formula)) (ps : List Pattern) (at : IsAt d scope side cases i sort cs ps) where
-  -- the whole by the case at the index
-  pub at_case : (c p body : Sexpr) → i < length cases → c ≡ get_or cases i c → IsBinding d c p body → checked_cases d scope side None (parts_of d (expressions_of cases)) ≡ and_then (case_outcome d scope side sort cases (i + 1) (part_of d (expression_of p)) (part_of d (expression_of body))) (after cs ps)
-  at_case c p body ic ec form = at.whole ∙ ap (λ o. and_then o (after cs ps)) (left-item d scope side sort cases i c p body ic ec form)
+    pub stands : Stands (so_far xs) first now k
+    stands = record {
+      reaches = reaches;
+      stays = λ n grows. (cases_stay n now grows cn scope (scope_declared now first grown c scope inside) side (sort_declared now first grown c side there) None tt (expressions_of xs) (all_last n now grows cn (expressions_of xs)) k value).0;
+    }
 
-  -- one case more
-  pub at_next : (c p body : Sexpr) (binding : Binding) (u : Sorted) → i < length cases → c ≡ get_or cases i c → IsBinding d c p body → pattern d side (part_of d (expression_of p)) ≡ Ok binding → meaning_of_part d (bind binding.1 scope) (part_of d (expression_of body)) ≡ Ok u → goes_with sort u.1 ≡ true → IsAt d scope side cases (i + 1) (Some u.1) (cs ++ (binding.0, u.0) ∷ []) (ps ++ binding.0 ∷ [])
-  at_next c p body binding u ic ec form fits means goes = record {
-    whole =
-        at_case c p body ic ec form
-        ∙ ap (λ o. and_then (and_then o (λ b. and_then (meaning_of_part d (bind b.1 scope) (part_of d (expression_of body))) (λ v. unless_refused (goes_with sort v.1) wrong_sort (and_then (left_from d scope side (Some v.1) cases (i + 1)) (first b.0 v.0))))) (after cs ps)) fits
-        ∙ ap (λ o. and_then (and_then o (λ v. unless_refused (goes_with sort v.1) wrong_sort (and_then (left_from d scope side (Some v.1) cases (i + 1)) (first binding.0 v.0)))) (after cs ps)) means
-        ∙ ap (λ b. and_then (unless_refused b wrong_sort (and_then (left_from d scope side (Some u.1) cases (i + 1)) (first binding.0 u.0))) (after cs ps)) goes
-        ∙ shifted (left_from d scope side (Some u.1) cases (i + 1)) cs ps binding.0 u.0;
-  }
+    -- a case that is no list of two
+    pub other_stop : (b : Sexpr) → is_pair (part_of now (expression_of b)) ≡ false → so_far (xs ++ b ∷ []) now ≡ Err (refused out_of_scope)
+    other_stop b other =
+        and_more xs (b ∷ []) now
+        ∙ ap (λ (o : Elaborated Checked). and_then o (cases_after now scope side (expressions_of (b ∷ [])))) value
+        ∙ ap (λ (o : Elaborated Checked). and_then o (λ second. Ok (both k second))) (case-other now scope side k.sort (part_of now (expression_of b)) no_parts other)
 
-  -- a pattern has an error
-  pub at_pattern_error : (c p body : Sexpr) (n : ℕ) → i < length cases → c ≡ get_or cases i c → IsBinding d c p body → pattern d side (part_of d (expression_of p)) ≡ Err n → checked_cases d scope side None (parts_of d (expressions_of cases)) ≡ Err n
-  at_pattern_error c p body n ic ec form fails =
-      at_case c p body ic ec form
-      ∙ ap (λ o. and_then (and_then o (λ b. and_then (meaning_of_part d (bind b.1 scope) (part_of d (expression_of body))) (λ v. unless_refused (goes_with sort v.1) wrong_sort (and_then (left_from d scope side (Some v.1) cases (i + 1)) (first b.0 v.0))))) (after cs ps)) fails
+    module _ (b p t : Sexpr) (pair : IsPair b p t) where
+      next_at : (d : Declarations) → Grows d now → so_far (xs ++ b ∷ []) d ≡ next_case d p t k
+      next_at d grows = push xs b p t pair d ∙ next_is (so_far xs) (λ n. next_case n p t) first now k stands d grows
 
-  -- a term has an error
-  pub at_term_error : (c p body : Sexpr) (binding : Binding) (n : ℕ) → i < length cases → c ≡ get_or cases i c → IsBinding d c p body → pattern d side (part_of d (expression_of p)) ≡ Ok binding → meaning_of_part d (bind binding.1 scope) (part_of d (expression_of body)) ≡ Err n → checked_cases d scope side None (parts_of d (expressions_of cases)) ≡ Err n
-  at_term_error c p body binding n ic ec form fits fails =
-      at_case c p body ic ec form
-      ∙ ap (λ o. and_then (and_then o (λ b. and_then (meaning_of_part d (bind b.1 scope) (part_of d (expression_of body))) (λ v. unless_refused (goes_with sort v.1) wrong_sort (and_then (left_from d scope side (Some v.1) cases (i + 1)) (first b.0 v.0))))) (after cs ps)) fits
-      ∙ ap (λ o. and_then (and_then o (λ v. unless_refused (goes_with sort v.1) wrong_sort (and_then (left_from d scope side (Some v.1) cases (i + 1)) (first binding.0 v.0)))) (after cs ps)) fails
+      -- its pattern is refused
+      pub pattern_stop : (h : Halt) → step (pattern now side (part_of now (expression_of p))) ≡ Err h → so_far (xs ++ b ∷ []) now ≡ Err h
+      pattern_stop h e = next_at now (reaches_grows (so_far xs) now now (as_they_are now)) ∙ ap (λ (o : Elaborated Binding). and_then o (next_body now t k)) e
 
-  -- a term has another sort than the first
-  pub at_wrong : (c p body : Sexpr) (binding : Binding) (u : Sorted) → i < length cases → c ≡ get_or cases i c → IsBinding d c p body → pattern d side (part_of d (expression_of p)) ≡ Ok binding → meaning_of_part d (bind binding.1 scope) (part_of d (expression_of body)) ≡ Ok u → goes_with sort u.1 ≡ false → checked_cases d scope side None (parts_of d (expressions_of cases)) ≡ Err wrong_sort
-  at_wrong c p body binding u ic ec form fits means goes =
-      at_case c p body ic ec form
-      ∙ ap (λ o. and_then (and_then o (λ b. and_then (meaning_of_part d (bind b.1 scope) (part_of d (expression_of body))) (λ v. unless_refused (goes_with sort v.1) wrong_sort (and_then (left_from d scope side (Some v.1) cases (i + 1)) (first b.0 v.0))))) (after cs ps)) fits
-      ∙ ap (λ o. and_then (and_then o (λ v. unless_refused (goes_with sort v.1) wrong_sort (and_then (left_from d scope side (Some v.1) cases (i + 1)) (first binding.0 v.0)))) (after cs ps)) means
-      ∙ ap (λ b. and_then (unless_refused b wrong_sort (and_then (left_from d scope side (Some u.1) cases (i + 1)) (first binding.0 u.0))) (after cs ps)) goes
+      module _ (binding : Binding) (fits : step (pattern now side (part_of now (expression_of p))) ≡ Ok binding) (later : Declarations) (next : Reaches (λ n. elaborated n (bind binding.1 scope) (expression_of t)) now later) where
+        patterns_stand : Stands (λ n. step (pattern n side (part_of n (expression_of p)))) now now binding
+        patterns_stand = record {
+          reaches = as_they_are now;
+          stays = λ n grows. (stays_step (IsBound n now grows cn) (pattern now side (part_of now (expression_of p))) (pattern n side (part_of n (expression_of p))) (pattern_stays n now grows cn side (sort_declared now first grown c side there) (expression_of p)) binding fits).0;
+        }
 
-  -- all cases
-  pub at_end : length cases ≤ i → checked_cases d scope side None (parts_of d (expressions_of cases)) ≡ Ok (record { cases = cases_of cs; patterns = ps; sort = sort })
-  at_end past =
-      at.whole
-      ∙ ap (λ xs. and_then (checked_cases d scope side sort (parts_of d (expressions_of xs))) (after cs ps)) (drop_past cases i past)
-      ∙ ap (λ (k : Cases). Ok (record { cases = k; patterns = ps ++ []; sort = sort })) (joined-none cs)
-      ∙ ap (λ (qs : List Pattern). Ok (record { cases = cases_of cs; patterns = qs; sort = sort })) (append-none ps)
+        pub more_reached : Reaches (so_far (xs ++ b ∷ [])) first later
+        more_reached =
+            reaches_same (λ n. and_then (so_far xs n) (next_case n p t)) (so_far (xs ++ b ∷ [])) first later (λ n _. push xs b p t pair n)
+            (next_reaches (so_far xs) (λ n. next_case n p t) first now k stands later
+            (next_reaches (λ n. step (pattern n side (part_of n (expression_of p)))) (λ n. next_body n t k) now now binding patterns_stand later
+            (reaches_first (λ n. elaborated n (bind binding.1 scope) (expression_of t)) (λ n. with_body k binding.0) now later next)))
+
+        more_is : so_far (xs ++ b ∷ []) later ≡ next_body later t k binding
+        more_is =
+            let grows = reaches_grows (λ n. elaborated n (bind binding.1 scope) (expression_of t)) now later next in
+            next_at later grows ∙ next_is (λ n. step (pattern n side (part_of n (expression_of p)))) (λ n. next_body n t k) now now binding patterns_stand later grows
+
+        -- its term stops
+        pub more_stop : (h : Halt) → elaborated later (bind binding.1 scope) (expression_of t) ≡ Err h → so_far (xs ++ b ∷ []) later ≡ Err h
+        more_stop h f = more_is ∙ ap (λ (o : Elaborated Sorted). and_then o (with_body k binding.0)) f
+
+        -- its term has another sort
+        pub sort_stop : (u : Sorted) → elaborated later (bind binding.1 scope) (expression_of t) ≡ Ok u → goes_with k.sort u.1 ≡ false → so_far (xs ++ b ∷ []) later ≡ Err (refused wrong_sort)
+        sort_stop u f goes = more_is ∙ ap (λ (o : Elaborated Sorted). and_then o (with_body k binding.0)) f ∙ ap (λ (x : Bool). unless_halted x wrong_sort (Ok (with_last k binding.0 u))) goes
+
+        pub more_met : (u : Sorted) → elaborated later (bind binding.1 scope) (expression_of t) ≡ Ok u → goes_with k.sort u.1 ≡ true → so_far (xs ++ b ∷ []) later ≡ Ok (with_last k binding.0 u)
+        more_met u f goes = more_is ∙ ap (λ (o : Elaborated Sorted). and_then o (with_body k binding.0)) f ∙ ap (λ (x : Bool). unless_halted x wrong_sort (Ok (with_last k binding.0 u))) goes

@@ -12,15 +12,17 @@ use Rattle.ct_formulas.specs.FormulaSorts.{IsSorted, AllSorted, AreOfSort, HasFo
 use Rattle.ct_names.specs.declared.operator.CoreOperator.{CoreOperator}
 use Rattle.ct_names.specs.declared.operator.CoreOperator.TheVariants.{Not, And, Or, Xor, Implies, Equal, Distinct, Ite}
 use Rattle.ct_names.specs.Refusals.{wrong_count, repeated_variable, out_of_scope}
-use Rattle.ct_names.specs.Outcome.{Sorted, and_then, unless_refused, of_sort}
+use Rattle.ct_names.specs.Outcome.{Sorted, and_then, unless_halted, of_sort}
 use Rattle.ct_names.specs.Symbols.{argument_sorts, result_sort, symbol_applied}
-use Rattle.ct_names.specs.Variables.{Variable, variables, variable_sorts, has_repeated, present_names}
+use Rattle.ct_names.specs.Variables.{Variable, ScopeIn, variables, variable_sorts, has_repeated, present_names}
 use Rattle.ct_names.specs.Forms.{are_bindings, bound_names}
 use Rattle.ct_names.specs.Parts.{Part, Parts, atom_part, list_part, no_parts, with_part, count}
-use Rattle.ct_names.specs.Elaboration.{meaning_of_part, arguments, all_of_sort, of_one_sort, connective, choice_form, takes, operated, applied_symbol, connected, bound_terms, let_of, without_sorts, sorts_of}
-use Rattle.ct_check.proofs.Inversions.{and_then-inverse, unless-inverse, same_value, of_sort-inverse}
-use Rattle.ct_check.proofs.SymbolSorts.{Theorems, applied_sorted}
-use Rattle.ct_check.proofs.SoundLemmas.{IsSoundPart, AreSoundParts, HasOwnSort, carried, meaning_sound, arguments_sound, all_sound, all_some, all_several}
+use Rattle.ct_names.specs.Elaboration.{meaning_of_part, arguments, all_of_sort, of_one_sort, connective, choice_form, takes, operated, applied_plain, connected, bound_terms, let_of, without_sorts, sorts_of}
+use Rattle.ct_check.proofs.Inversions.{and_then-inverse, halted-inverse, same_value, of_sort-inverse}
+use Rattle.ct_names.proofs.LastingLemmas.{AreSorts}
+use Rattle.ct_names.proofs.StayLemmas.{ScopeIn-bind, ScopeIn-variables}
+use Rattle.ct_check.proofs.SymbolSorts.{Theorems, IsPlain, applied_sorted}
+use Rattle.ct_check.proofs.SoundLemmas.{IsSoundPart, AreSoundParts, HasOwnSort, carried, meaning_sound, meaning_inside, arguments_sound, all_sound, all_some, all_several}
 
 -- an operator of one or more, and of two or more
 abbrev HasEnough : CoreOperator → Formulas → Type 0
@@ -62,7 +64,7 @@ pub bound_sorts : (names : List (Option (List ℕ))) (sorts : List SortId) (scop
 bound_sorts names sorts scope e =
     map-bind (λ (v : Variable). v.sort) (variables names sorts) scope ∙ ap (λ ss. bind ss (variable_sorts scope)) (sorts-variables names sorts e)
 
-module _ (d : Declarations) (theorems : Theorems d) (scope : List Variable) where
+module _ (d : Declarations) (theorems : Theorems d) (scope : List Variable) (inside : ScopeIn d scope) where
   enough : (o : CoreOperator) (ps : Parts) (ts : Formulas) → all_of_sort d scope bool_sort ps ≡ Ok ts → takes o (count ps) ≡ true → HasEnough o ts
   enough Not ps ts e h = all_some d theorems scope bool_sort ps ts e (at_least 1 (count ps) (nat_le (count ps) 1) h)
   enough And ps ts e h = all_some d theorems scope bool_sort ps ts e (at_least 1 (count ps) true h)
@@ -77,7 +79,7 @@ module _ (d : Declarations) (theorems : Theorems d) (scope : List Variable) wher
   connective_sound o ps sound h t e =
       let step = and_then-inverse (all_of_sort d scope bool_sort ps) (λ ts. Ok (connected o ts, bool_sort)) t e in
       carried d (variable_sorts scope) (connected o step.0, bool_sort) t step.2
-      (connected_sorted d (variable_sorts scope) o step.0 (enough o ps step.0 step.1 h) (all_sound d theorems scope bool_sort ps sound step.0 step.1))
+      (connected_sorted d (variable_sorts scope) o step.0 (enough o ps step.0 step.1 h) (all_sound d theorems scope inside bool_sort ps sound step.0 step.1))
 
   -- two or more of one sort
   pub record OfOneSort (ts : Formulas) : Type 0 where
@@ -94,7 +96,7 @@ module _ (d : Declarations) (theorems : Theorems d) (scope : List Variable) wher
       record {
         side = one.0.1;
         several = subst (λ (us : Formulas). AreAtLeastTwo us) same (all_some d theorems scope one.0.1 ps rest.0 rest.1 (omega arith));
-        all = subst (λ (us : Formulas). AreOfSort d (variable_sorts scope) us one.0.1) same (meaning_sound d theorems scope p sound.0 one.0 one.1, all_sound d theorems scope one.0.1 ps sound.1 rest.0 rest.1);
+        all = subst (λ (us : Formulas). AreOfSort d (variable_sorts scope) us one.0.1) same (meaning_sound d theorems scope inside p sound.0 one.0 one.1, all_sound d theorems scope inside one.0.1 ps sound.1 rest.0 rest.1);
       }
 
   choice_sound : (ps : Parts) → AreSoundParts d ps → (t : Sorted) → choice_form d scope ps ≡ Ok t → HasOwnSort d (variable_sorts scope) t
@@ -106,9 +108,9 @@ module _ (d : Declarations) (theorems : Theorems d) (scope : List Variable) wher
       let second = and_then-inverse (meaning_of_part d scope a) (λ x. and_then (of_sort x.1 (meaning_of_part d scope b)) (λ y. Ok (formula.Ite first.0 x.0 y, x.1))) t first.2 in
       let third = and_then-inverse (of_sort second.0.1 (meaning_of_part d scope b)) (λ y. Ok (formula.Ite first.0 second.0.0 y, second.0.1)) t second.2 in
       carried d (variable_sorts scope) (formula.Ite first.0 second.0.0 third.0, second.0.1) t third.2 (
-        meaning_sound d theorems scope c sound.0 (first.0, bool_sort) (of_sort-inverse bool_sort (meaning_of_part d scope c) first.0 first.1),
-        meaning_sound d theorems scope a sound.1.0 second.0 second.1,
-        meaning_sound d theorems scope b sound.1.1.0 (third.0, second.0.1) (of_sort-inverse second.0.1 (meaning_of_part d scope b) third.0 third.1),
+        meaning_sound d theorems scope inside c sound.0 (first.0, bool_sort) (of_sort-inverse bool_sort (meaning_of_part d scope c) first.0 first.1),
+        meaning_sound d theorems scope inside a sound.1.0 second.0 second.1,
+        meaning_sound d theorems scope inside b sound.1.1.0 (third.0, second.0.1) (of_sort-inverse second.0.1 (meaning_of_part d scope b) third.0 third.1),
       )
   choice_sound (with_part c (with_part a (with_part b (with_part x ps)))) sound t e = absurd cc
 
@@ -127,23 +129,32 @@ module _ (d : Declarations) (theorems : Theorems d) (scope : List Variable) wher
   operated_sound Distinct ps sound h t e = equation_sound Distinct (λ ts one. (one.side, one.several, one.all, refl)) ps sound (at_least 2 (count ps) true h) t e
   operated_sound Ite ps sound h t e = choice_sound ps sound t e
 
-  pub applied_sound : (s : Symbol) → IsSymbol d s → (ps : Parts) → AreSoundParts d ps → (t : Sorted) → applied_symbol d scope s ps ≡ Ok t → HasOwnSort d (variable_sorts scope) t
-  applied_sound s inside ps sound t e =
-      let form = unless-inverse (not (length (argument_sorts d s) == 0 && count ps == 0)) out_of_scope (unless_refused (length (argument_sorts d s) == count ps) wrong_count (and_then (arguments d scope (argument_sorts d s) ps) (λ ts. Ok (symbol_applied s ts, result_sort d s)))) t e in
-      let enough = unless-inverse (length (argument_sorts d s) == count ps) wrong_count (and_then (arguments d scope (argument_sorts d s) ps) (λ ts. Ok (symbol_applied s ts, result_sort d s))) t form.1 in
-      let step = and_then-inverse (arguments d scope (argument_sorts d s) ps) (λ ts. Ok (symbol_applied s ts, result_sort d s)) t enough.1 in
+  pub applied_sound : (s : Symbol) → IsPlain s → IsSymbol d s → (ps : Parts) → AreSoundParts d ps → (t : Sorted) → applied_plain d scope s ps ≡ Ok t → HasOwnSort d (variable_sorts scope) t
+  applied_sound s plain is ps sound t e =
+      let form = halted-inverse (not (length (argument_sorts d s) == 0 && count ps == 0)) out_of_scope (unless_halted (length (argument_sorts d s) == count ps) wrong_count (and_then (arguments d scope (argument_sorts d s) ps) (λ ts. Ok (symbol_applied s ts, result_sort d s)))) t e in
+      let enough_are = halted-inverse (length (argument_sorts d s) == count ps) wrong_count (and_then (arguments d scope (argument_sorts d s) ps) (λ ts. Ok (symbol_applied s ts, result_sort d s))) t form.1 in
+      let step = and_then-inverse (arguments d scope (argument_sorts d s) ps) (λ ts. Ok (symbol_applied s ts, result_sort d s)) t enough_are.1 in
       carried d (variable_sorts scope) (symbol_applied s step.0, result_sort d s) t step.2
-      (applied_sorted d theorems (variable_sorts scope) s inside step.0 (arguments_sound d theorems scope (argument_sorts d s) ps sound step.0 step.1))
+      (applied_sorted d theorems (variable_sorts scope) s plain is step.0 (arguments_sound d theorems scope inside (argument_sorts d s) ps sound step.0 step.1))
 
-  -- the terms of bindings are well sorted, as many as there are bindings
-  pub terms_sound : (bs : Parts) → AreSoundParts d bs → (ts : List Sorted) → bound_terms d scope bs ≡ Ok ts → AllSorted d (variable_sorts scope) (without_sorts ts) (sorts_of ts) × (length ts ≡ count bs)
-  terms_sound no_parts sound ts e = subst (λ (us : List Sorted). AllSorted d (variable_sorts scope) (without_sorts us) (sorts_of us) × (length us ≡ 0)) (same_value [] ts e) (tt, refl)
+  -- the terms of bindings are well sorted, as many as there are bindings, and their sorts are there
+  pub record AreTerms (bs : Parts) (ts : List Sorted) : Type 0 where
+    pub sorted : AllSorted d (variable_sorts scope) (without_sorts ts) (sorts_of ts)
+    pub long : length ts ≡ count bs
+    pub there : AreSorts d (sorts_of ts)
+
+  pub terms_sound : (bs : Parts) → AreSoundParts d bs → (ts : List Sorted) → bound_terms d scope bs ≡ Ok ts → AreTerms bs ts
+  terms_sound no_parts sound ts e = subst (λ (us : List Sorted). AreTerms no_parts us) (same_value [] ts e) (record { sorted = tt; long = refl; there = tt })
   terms_sound (with_part (list_part (with_part x (with_part b no_parts)) m) bs) sound ts e =
       let one = and_then-inverse (meaning_of_part d scope b) (λ u. and_then (bound_terms d scope bs) (λ us. Ok (u ∷ us))) ts e in
       let rest = and_then-inverse (bound_terms d scope bs) (λ us. Ok (one.0 ∷ us)) ts one.2 in
       let others = terms_sound bs sound.1 rest.0 rest.1 in
-      subst (λ (us : List Sorted). AllSorted d (variable_sorts scope) (without_sorts us) (sorts_of us) × (length us ≡ suc (count bs))) (same_value (one.0 ∷ rest.0) ts rest.2)
-      ((meaning_sound d theorems scope b sound.0.0.1.0 one.0 one.1, others.0), ap suc others.1)
+      subst (λ (us : List Sorted). AreTerms (with_part (list_part (with_part x (with_part b no_parts)) m) bs) us) (same_value (one.0 ∷ rest.0) ts rest.2)
+      (record {
+        sorted = (meaning_sound d theorems scope inside b sound.0.0.1.0 one.0 one.1, others.sorted);
+        long = ap suc others.long;
+        there = (meaning_inside d theorems scope inside b sound.0.0.1.0 one.0 one.1, others.there);
+      })
   terms_sound (with_part (atom_part a) bs) sound ts e = absurd cc
   terms_sound (with_part (list_part no_parts m) bs) sound ts e = absurd cc
   terms_sound (with_part (list_part (with_part x no_parts) m) bs) sound ts e = absurd cc
@@ -159,16 +170,17 @@ module _ (d : Declarations) (theorems : Theorems d) (scope : List Variable) wher
 
   pub bound_sound : (bs : Parts) (body : Part) → AreSoundParts d bs → IsSoundPart d body → (t : Sorted) → let_of d scope bs body ≡ Ok t → HasOwnSort d (variable_sorts scope) t
   bound_sound bs body sound_bs sound_body t e =
-      let form = unless-inverse (are_bindings bs && not (count bs == 0)) out_of_scope _ t e in
-      let fresh = unless-inverse (not (has_repeated (present_names (bound_names bs)))) repeated_variable _ t form.1 in
+      let form = halted-inverse (are_bindings bs && not (count bs == 0)) out_of_scope _ t e in
+      let fresh = halted-inverse (not (has_repeated (present_names (bound_names bs)))) repeated_variable _ t form.1 in
       let terms = and_then-inverse (bound_terms d scope bs) _ t fresh.1 in
-      let sorted = terms_sound bs sound_bs terms.0 terms.1 in
+      let are = terms_sound bs sound_bs terms.0 terms.1 in
       let inner = bind (variables (bound_names bs) (sorts_of terms.0)) scope in
       let whole = and_then-inverse (meaning_of_part d inner body) (λ u. Ok (formula.Let (without_sorts terms.0) u.0, u.1)) t terms.2 in
-      let long : length (bound_names bs) ≡ length (sorts_of terms.0) = names-count bs ∙ sym sorted.1 ∙ sym (length-map terms.0 (λ (u : Sorted). u.1)) in
+      let long : length (bound_names bs) ≡ length (sorts_of terms.0) = names-count bs ∙ sym are.long ∙ sym (length-map terms.0 (λ (u : Sorted). u.1)) in
+      let inner_inside : ScopeIn d inner = ScopeIn-bind d (variables (bound_names bs) (sorts_of terms.0)) scope (ScopeIn-variables d (bound_names bs) (sorts_of terms.0) are.there) inside in
       carried d (variable_sorts scope) (formula.Let (without_sorts terms.0) whole.0.0, whole.0.1) t whole.2 (
         sorts_of terms.0,
-        some-terms terms.0 bs sorted.1 form.0,
-        sorted.0,
-        subst (λ (env : List SortId). IsSorted d env whole.0.0 whole.0.1) (bound_sorts (bound_names bs) (sorts_of terms.0) scope long) (meaning_sound d theorems inner body sound_body whole.0 whole.1),
+        some-terms terms.0 bs are.long form.0,
+        are.sorted,
+        subst (λ (env : List SortId). IsSorted d env whole.0.0 whole.0.1) (bound_sorts (bound_names bs) (sorts_of terms.0) scope long) (meaning_sound d theorems inner inner_inside body sound_body whole.0 whole.1),
       )

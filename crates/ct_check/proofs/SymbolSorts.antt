@@ -6,10 +6,12 @@ use Rattle.ct_sorts.specs.declared.ids.SortId.{SortId}
 use Rattle.ct_sorts.specs.declared.ids.CtorId.{CtorId}
 use Rattle.ct_sorts.specs.declared.ids.SelId.{SelId}
 use Rattle.ct_sorts.specs.declared.ids.Symbol.{Symbol}
-use Rattle.ct_sorts.specs.declared.ids.Symbol.TheVariants.{Ctor, Sel, Fun, Def}
+use Rattle.ct_sorts.specs.declared.ids.Symbol.TheVariants.{Ctor, Sel, Fun, Def, GenCtor, GenSel}
 use Rattle.ct_sorts.specs.Declarations.{Declarations, Constructor, Selector, Function}
-use Rattle.ct_sorts.specs.Lookup.{ResolvesTo, IsSymbol}
+use Rattle.ct_sorts.specs.Consistent.{IsConsistent}
+use Rattle.ct_sorts.specs.Lookup.{IsSymbol}
 use Rattle.ct_sorts.specs.Structure.{HaveOwnConstructors, AreOfTheirSorts, HaveOwnSelectors, AreOfTheirConstructors}
+use Rattle.ct_instances.proofs.InstanceLemmas.{AreMade}
 use Rattle.ct_terms.specs.CoreSorts.{IsFieldSort, AreFieldSorts}
 use Rattle.ct_formulas.specs.Formula.{Formula, Formulas, no_formulas, with_formula, Sel as SelFormula}
 use Rattle.ct_formulas.specs.FormulaSorts.{IsSorted, AllSorted}
@@ -21,7 +23,17 @@ pub record Theorems (d : Declarations) : Type 0 where
   pub of_their_sorts : AreOfTheirSorts d
   pub own_selectors : HaveOwnSelectors d
   pub of_their_constructors : AreOfTheirConstructors d
-  pub symbol_inside : (name : List ℕ) (symbol : Symbol) → ResolvesTo d name (Some symbol) → IsSymbol d symbol
+  pub consistent : IsConsistent d
+  pub made : AreMade d
+
+-- a symbol of stated sorts
+abbrev pub IsPlain : Symbol → Type 0
+IsPlain (Ctor c) = Unit {0}
+IsPlain (Sel s) = Unit {0}
+IsPlain (Fun f) = Unit {0}
+IsPlain (Def k) = Unit {0}
+IsPlain (GenCtor g i) = ⊥
+IsPlain (GenSel g i k) = ⊥
 
 abbrev sort_at : Option Selector → SortId
 sort_at o = unwrap_or (option_map (λ (sel : Selector). sel.sort) o) (record { 0 = 0 })
@@ -59,16 +71,18 @@ module _ (d : Declarations) (theorems : Theorems d) (env : List SortId) where
       ap (λ (o : Option Selector). unwrap_or (option_map (λ (x : Selector). ctor_sort d x.ctor) o) (record { 0 = 0 })) sel.1 ∙ ap owner_at own.1 in
       (sel.0, own.0, sel.1, own.1, subst (λ (r : SortId). IsSorted d env t r) side sorted, sym (ap sort_at sel.1))
 
-  pub applied_sorted : (s : Symbol) → IsSymbol d s → (ts : Formulas) → AllSorted d env ts (argument_sorts d s) → IsSorted d env (symbol_applied s ts) (result_sort d s)
-  applied_sorted (Ctor c) h ts sorted =
+  pub applied_sorted : (s : Symbol) → IsPlain s → IsSymbol d s → (ts : Formulas) → AllSorted d env ts (argument_sorts d s) → IsSorted d env (symbol_applied s ts) (result_sort d s)
+  applied_sorted (Ctor c) plain h ts sorted =
       let ctor = slice_get-there d.ctors c.0 h in
       (ctor.0, ctor_field_sorts d c, ctor.1, field_sorts d theorems c ctor.0 ctor.1, sorted, sym (ap owner_at ctor.1))
-  applied_sorted (Sel s) h no_formulas sorted = absurd sorted
-  applied_sorted (Sel s) h (with_formula t no_formulas) sorted = selected_sorted s h t sorted.0
-  applied_sorted (Sel s) h (with_formula t (with_formula u ts)) sorted = absurd sorted.1
-  applied_sorted (Fun f) h ts sorted =
+  applied_sorted (Sel s) plain h no_formulas sorted = absurd sorted
+  applied_sorted (Sel s) plain h (with_formula t no_formulas) sorted = selected_sorted s h t sorted.0
+  applied_sorted (Sel s) plain h (with_formula t (with_formula u ts)) sorted = absurd sorted.1
+  applied_sorted (Fun f) plain h ts sorted =
       let function = slice_get-there d.functions f.0 h in
       (function.0, function.1, subst (λ (r : List SortId). AllSorted d env ts r) (ap function_args function.1) sorted, sym (ap function_result function.1))
-  applied_sorted (Def k) h ts sorted =
+  applied_sorted (Def k) plain h ts sorted =
       let definition = slice_get-there d.definitions k.0 h in
       (definition.0, definition.1, subst (λ (r : List SortId). AllSorted d env ts r) (ap function_args definition.1) sorted, sym (ap function_result definition.1))
+  applied_sorted (GenCtor g i) plain h ts sorted = absurd plain
+  applied_sorted (GenSel g i k) plain h ts sorted = absurd plain

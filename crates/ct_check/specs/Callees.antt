@@ -8,7 +8,7 @@ use Rattle.ct_formulas.specs.Formula as formula
 use Rattle.ct_formulas.specs.Formula.{Formula, Formulas, no_formulas, with_formula}
 use Rattle.ct_check.specs.declared.callees.Callee.{Callee}
 use Rattle.ct_check.specs.declared.callees.Callee.TheVariants.{Symbol, Tester, Connective}
-use Rattle.ct_names.specs.Outcome.{Outcome, Sorted, and_then}
+use Rattle.ct_names.specs.Outcome.{Elaborated, Sorted, and_then}
 use Rattle.ct_names.specs.Symbols.{argument_sorts, result_sort, symbol_applied, ctor_sort}
 use Rattle.ct_names.specs.Variables.{Variable}
 use Rattle.ct_names.specs.Parts.{Parts, count}
@@ -38,7 +38,7 @@ callee_formula (Tester c) ts = tester_formula c ts
 callee_formula (Connective o) ts = connected o ts
 
 -- it with these arguments
-abbrev pub called : Declarations → List Variable → Callee → Parts → Outcome Sorted
+abbrev pub called : Declarations → List Variable → Callee → Parts → Elaborated Sorted
 called d scope f ps = and_then (arguments d scope (callee_sorts d f (count ps)) ps) (λ ts. Ok (callee_formula f ts, callee_result d f))
 
 -- it is declared

@@ -1,5 +1,6 @@
 pub mod Callees
+pub mod GenericTerms
 pub mod Heads
 pub mod Trees
-pub mod Arguments
+pub mod Expected
 pub mod Binders

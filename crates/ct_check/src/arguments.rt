@@ -1,194 +1,156 @@
-//! Terms that were elaborated one after the other, as arguments of what stands at the head.
-ghost use Rattle.std.specs.Prelude.{◌≡◌, ◌∷◌, ℕ, List, [], Some, MatchOption, IfOk, IfErr};
+//! What stands at the head with its arguments, whose sorts were expected.
+ghost use Rattle.std.specs.Prelude.{◌≡◌, ◌∷◌, [], MatchOption, Ok, Err, IfOk, IfErr};
 ghost use Rattle.ct_sorts.specs.Declarations.{Declarations};
+ghost use Rattle.ct_sorts.specs.Grown.{Extends};
 ghost use Rattle.ct_formulas.specs.TreeFormula.{formula_of, formulas_of_trees};
-ghost use Rattle.ct_names.specs.Answer.{IsAnswerFor};
-ghost use Rattle.ct_check.specs.Arguments.{met, HoldsMetTerms, misfit, same_sorts, second_sort, choice_sorts, chosen};
-ghost use Rattle.ct_check.specs.Callees.{called, IsCallee};
-ghost use Rattle.ct_names.specs.Elaboration.{choice_form};
-ghost use Rattle.ct_check.specs.Heads.{headed_by};
-ghost use Rattle.ct_names.specs.Parts.{Parts, count};
+ghost use Rattle.ct_names.specs.declared.needs.Needs.{Needs};
+ghost use Rattle.ct_names.specs.declared.needs.Needs.TheVariants.{Find};
+ghost use Rattle.ct_names.specs.Answer.{StopsAt};
+ghost use Rattle.ct_names.specs.Needs.{Reaches};
+ghost use Rattle.ct_names.specs.Outcome.{refused};
+ghost use Rattle.ct_names.specs.Refusals.{wrong_count};
+ghost use Rattle.ct_check.specs.Callees.{IsCallee};
+ghost use Rattle.ct_check.specs.Expected.{expectation_of, arguments_of, expected_by, chosen, IsExpectation};
+ghost use Rattle.ct_check.specs.Heads.{expected_at, common_in, finished, HasPlaces, IsHeadDeclared};
 ghost use Rattle.ct_check.specs.Trees.{sorted_of};
-ghost use Rattle.ct_names.specs.Variables.{Variable};
-ghost use Rattle.ct_check.specs.declared.heads.Head.TheVariants.{Equation};
+ghost use Rattle.ct_check.specs.declared.heads.Head.TheVariants.{Call, Equation, Choice};
 
-use crate::callees::{BOOL, Callee, callee_result, callee_sorts, is_sort, repeated};
+use crate::callees::{BOOL, Callee, callee_result, callee_sorts};
+use crate::expected::Expected;
+use crate::generic_ctors::{expected_fields, generic_ctor};
+use crate::heads::Head;
+use crate::parts::{expected_by, part_of};
 use crate::trees::{callee_tree, operator_tree};
 use ct_formulas::Tree;
-use ct_names::{CheckError, CoreOperator, WRONG_COUNT, WRONG_SORT};
+use ct_names::{CoreOperator, Needs, Stop, WRONG_COUNT};
 use ct_sorts::{Signature, SortId};
 use std::alloc::Global;
 
-/// The terms before the first error, with their sorts, and the number of that error, where there is
-/// one.
+/// The terms of arguments, all of which have the sorts that were expected, and what these say.
 #[derive(Drop)]
-pub(crate) struct Elaborated {
+pub(crate) struct Arguments {
     pub(crate) trees: Vec<Tree>,
-    pub(crate) sorts: Vec<SortId>,
-    pub(crate) error: Option<u16>,
+    pub(crate) met: Expected,
 }
 
-/// The terms before this error; out of memory is no error of an expression.
-pub(crate) fn stopped(
-    trees: Vec<Tree>,
-    sorts: Vec<SortId>,
-    error: CheckError,
-) -> Result<Elaborated, CheckError>
-    ensures ok { IfOk result (λ t. (n : ℕ) × (error ≡ CheckError.Refused n) × (t.trees.items
-        ≡ trees.items) × (t.sorts.items ≡ sorts.items) × (t.error ≡ Some n)) }
-    ensures err { IfErr result (λ e. e ≡ CheckError.NoMemory) }
-{
-    match error {
-        CheckError::Refused(number) => Ok(Elaborated {
-            trees,
-            sorts,
-            error: Some(number),
-        }),
-        CheckError::NoMemory => Err(CheckError::NoMemory),
-    }
-}
-
-// Why terms of these sorts, with this error after them, are no arguments of the wanted sorts.
-fn misfit(sorts: &[SortId], wanted: &[SortId], error: Option<u16>) -> Option<u16>
-    ensures value { result ≡ misfit sorts.now wanted.now error }
-{
-    let mut left = sorts;
-    let mut wanted_left = wanted;
-    while let [sort, more @ ..] = left {
-        let [own, more_wanted @ ..] = wanted_left else {
-            return Some(WRONG_COUNT);
-        };
-        if !is_sort(*sort, *own) {
-            return Some(WRONG_SORT);
-        }
-        left = more;
-        wanted_left = more_wanted;
-    }
-    misfit_after(wanted_left, error)
-}
-
-// The same after all terms.
-fn misfit_after(wanted: &[SortId], error: Option<u16>) -> Option<u16>
-    ensures value { result ≡ misfit [] wanted.now error }
-{
-    match wanted {
-        [] => match error {
-            Some(_) => Some(WRONG_COUNT),
-            None => None,
-        },
-        [_, ..] => match error {
-            Some(number) => Some(number),
-            None => Some(WRONG_COUNT),
-        },
-    }
-}
-
-/// A symbol, a tester or a connective with its arguments, of which there are so many.
-pub(crate) fn called(
+// The sorts that the arguments of a symbol, a tester or a connective are to have, where there are so many.
+fn expected_of(
     alloc: Global,
     sig: &Signature,
     callee: Callee,
-    terms: Elaborated,
     args: usize,
-) -> Result<(Tree, SortId), CheckError>
+) -> Result<Expected, Stop>
     requires inside { IsCallee sig.now callee }
-    ensures value { (scope : List Variable) (ps : Parts) → count ps ≡ args
-        → HoldsMetTerms (met sig.now scope ps) terms.trees.items terms.sorts.items terms.error
-        → IsAnswerFor sorted_of (called sig.now scope callee ps) result }
+    ensures ok { IfOk result (λ e. expectation_of sig.now e ≡ expected_by sig.now callee args) }
+    ensures inside { IfOk result (IsExpectation sig.now) }
+    ensures err { IfErr result (λ e. e ≡ Stop.NoMemory) }
 {
-    let wanted = callee_sorts(alloc, sig, callee, args)?;
-    match misfit(terms.sorts.as_slice(), wanted.as_slice(), terms.error) {
-        Some(number) => Err(CheckError::Refused(number)),
-        None => {
-            let tree = callee_tree(alloc, callee, terms.trees)?;
-            Ok((tree, callee_result(sig, callee)))
-        }
+    match callee {
+        Callee::Symbol(_) => Ok(Expected::These(callee_sorts(alloc, sig, callee, args)?, 0)),
+        Callee::Tester(c) => Ok(Expected::Same(Some(sig.ctor_sort(c)))),
+        Callee::Connective(_) => Ok(Expected::Same(Some(BOOL))),
     }
 }
 
-/// `=` or `distinct` with its arguments, of which there are so many.
-pub(crate) fn equation(
+/// What is expected of the arguments of what stands at the head, where there are so many.
+pub(crate) fn expected_at(
     alloc: Global,
-    operator: CoreOperator,
-    terms: Elaborated,
+    sig: &Signature,
+    head: Head,
     args: usize,
-) -> Result<(Tree, SortId), CheckError>
-    ensures value { (d : Declarations) (scope : List Variable) (ps : Parts) → count ps ≡ args
-        → HoldsMetTerms (met d scope ps) terms.trees.items terms.sorts.items terms.error
-        → IsAnswerFor sorted_of (headed_by d scope (Equation operator) ps) result }
+) -> Result<Expected, Stop>
+    requires declared { IsHeadDeclared sig.now head }
+    ensures ok { IfOk result (λ e. expectation_of sig.now e ≡ expected_at sig.now head args) }
+    ensures inside { IfOk result (IsExpectation sig.now) }
+    ensures err { IfErr result (λ e. e ≡ Stop.NoMemory) }
 {
-    let wanted = same_sorts(alloc, terms.sorts.as_slice(), args)?;
-    match misfit(terms.sorts.as_slice(), wanted.as_slice(), terms.error) {
-        Some(number) => Err(CheckError::Refused(number)),
-        None => {
-            let tree = operator_tree(alloc, operator, terms.trees)?;
-            Ok((tree, BOOL))
+    match head {
+        Head::Call(callee) => expected_of(alloc, sig, callee, args),
+        Head::GenericCtor(g, index) => expected_fields(alloc, sig, g, index),
+        Head::Part(part) => Ok(expected_by(part)),
+        Head::Equation(_) => Ok(Expected::Same(None)),
+        Head::Let | Head::Match | Head::Annotation | Head::Whole(_) | Head::Choice => {
+            Ok(Expected::Choice)
         }
     }
 }
 
-// The sort of the first, so many times; where there is no first, it is wanted.
-fn same_sorts(alloc: Global, sorts: &[SortId], count: usize) -> Result<Vec<SortId>, CheckError>
-    ensures ok { IfOk result (λ wanted. wanted.items ≡ same_sorts sorts.now count) }
-    ensures err { IfErr result (λ e. e ≡ CheckError.NoMemory) }
-{
-    match sorts {
-        [] => repeated(alloc, BOOL, 1),
-        [first, ..] => repeated(alloc, *first, count),
-    }
-}
-
-/// A condition and two of one sort, by the arguments, of which there are so many.
-pub(crate) fn choice(
+/// What stands at the head with its arguments, which met what was expected.
+pub(crate) fn finished(
     alloc: Global,
-    terms: Elaborated,
-    args: usize,
-) -> Result<(Tree, SortId), CheckError>
-    ensures value { (d : Declarations) (scope : List Variable) (ps : Parts) → count ps ≡ args
-        → HoldsMetTerms (met d scope ps) terms.trees.items terms.sorts.items terms.error
-        → IsAnswerFor sorted_of (choice_form d scope ps) result }
+    sig: &mut Signature,
+    needs: Needs,
+    head: Head,
+    terms: Arguments,
+) -> Result<(Tree, SortId), Stop>
+    requires declared { IsHeadDeclared sig.old head }
+    requires met { IsExpectation sig.old terms.met }
+    requires places { HasPlaces sig.old head (expectation_of sig.old terms.met) }
+    ensures value { StopsAt needs sig.new sorted_of (finished sig.new head (arguments_of sig.old terms)) result }
+    ensures reaches { Reaches (λ d. finished d head (arguments_of sig.old terms)) sig.old sig.new }
+    ensures grown { Extends sig.new sig.old }
+    ensures kept { needs ≡ Find → sig.new ≡ sig.old }
 {
-    if args != 3 {
-        return Err(CheckError::Refused(WRONG_COUNT));
-    }
-    let sort = second_sort(terms.sorts.as_slice());
-    let wanted = choice_sorts(alloc, sort)?;
-    match misfit(terms.sorts.as_slice(), wanted.as_slice(), terms.error) {
-        Some(number) => Err(CheckError::Refused(number)),
-        None => {
-            let tree = choice_tree(alloc, terms.trees)?;
-            Ok((tree, sort))
+    match head {
+        Head::Call(callee) => called(alloc, sig, callee, terms),
+        Head::GenericCtor(g, index) => generic_ctor(alloc, sig, needs, g, index, terms),
+        Head::Part(part) => part_of(alloc, sig, part, terms),
+        Head::Equation(operator) => equation(alloc, operator, terms),
+        Head::Choice => choice(alloc, terms),
+        Head::Let | Head::Match | Head::Annotation | Head::Whole(_) => {
+            Err(Stop::Refused(WRONG_COUNT))
         }
     }
 }
 
-// The sort of the second.
-fn second_sort(sorts: &[SortId]) -> SortId
-    ensures value { result ≡ second_sort sorts.now }
+// A symbol, a tester or a connective with its arguments.
+fn called(
+    alloc: Global,
+    sig: &Signature,
+    callee: Callee,
+    terms: Arguments,
+) -> Result<(Tree, SortId), Stop>
+    requires inside { IsCallee sig.now callee }
+    ensures value { (needs : Needs) → StopsAt needs sig.now sorted_of (finished sig.now (Call callee) (arguments_of sig.now terms)) result }
 {
-    match sorts {
-        [] => BOOL,
-        [_] => BOOL,
-        [_, second, ..] => *second,
-    }
+    let tree = callee_tree(alloc, callee, terms.trees)?;
+    Ok((tree, callee_result(sig, callee)))
 }
 
-// The sorts of a condition and of two of this sort.
-fn choice_sorts(alloc: Global, sort: SortId) -> Result<Vec<SortId>, CheckError>
-    ensures ok { IfOk result (λ wanted. wanted.items ≡ choice_sorts sort) }
-    ensures err { IfErr result (λ e. e ≡ CheckError.NoMemory) }
+// `=` or `distinct` with its arguments.
+fn equation(alloc: Global, operator: CoreOperator, terms: Arguments) -> Result<(Tree, SortId), Stop>
+    ensures value { (needs : Needs) (d : Declarations) → StopsAt needs d sorted_of (finished d (Equation operator) (arguments_of d terms)) result }
 {
-    let mut sorts = Vec::new(alloc);
-    sorts.push(BOOL)?;
-    sorts.push(sort)?;
-    sorts.push(sort)?;
-    Ok(sorts)
+    let tree = operator_tree(alloc, operator, terms.trees)?;
+    Ok((tree, BOOL))
+}
+
+// A condition and two of one sort.
+fn choice(alloc: Global, terms: Arguments) -> Result<(Tree, SortId), Stop>
+    ensures value { (needs : Needs) (d : Declarations) → StopsAt needs d sorted_of (finished d Choice (arguments_of d terms)) result }
+{
+    let Some(sort) = common_sort(&terms.met) else {
+        return Err(Stop::Refused(WRONG_COUNT));
+    };
+    let tree = choice_tree(alloc, terms.trees)?;
+    Ok((tree, sort))
+}
+
+// The sort that all arguments have of which one sort was expected.
+fn common_sort(met: &Expected) -> Option<SortId>
+    ensures value { (d : Declarations) → MatchOption result (common_in (expectation_of d met.now) ≡ Err (refused wrong_count)) (λ s. common_in (expectation_of d met.now) ≡ Ok s) }
+{
+    match met {
+        Expected::Same(sort) => *sort,
+        Expected::These(_, _) | Expected::Choice | Expected::Fields(_) | Expected::Owner(_, _) =>
+            None,
+    }
 }
 
 // The choice by the first of the trees, which are three.
-fn choice_tree(alloc: Global, trees: Vec<Tree>) -> Result<Tree, CheckError>
+fn choice_tree(alloc: Global, trees: Vec<Tree>) -> Result<Tree, Stop>
     ensures ok { IfOk result (λ t. formula_of t ≡ chosen (formulas_of_trees trees.items)) }
-    ensures err { IfErr result (λ e. e ≡ CheckError.NoMemory) }
+    ensures err { IfErr result (λ e. e ≡ Stop.NoMemory) }
 {
     let Some((condition, trees)) = split_first(trees) else {
         return Ok(Tree::And(Vec::new(alloc)));

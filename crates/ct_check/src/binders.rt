@@ -4,7 +4,8 @@ ghost use Rattle.ct_sexpr.specs.View.{expressions_of};
 ghost use Rattle.ct_sorts.specs.Declarations.{Declarations};
 ghost use Rattle.ct_formulas.specs.Formula.{Let};
 ghost use Rattle.ct_formulas.specs.TreeFormula.{formula_of, formulas_of_trees};
-ghost use Rattle.ct_names.specs.Answer.{IsAnswerFor, ContinuesWith};
+ghost use Rattle.ct_names.specs.declared.needs.Needs.{Needs};
+ghost use Rattle.ct_names.specs.Answer.{StopsAt, ContinuesTo};
 ghost use Rattle.ct_check.specs.Binders.{let_of_names};
 ghost use Rattle.ct_names.specs.Bounds.{held_name};
 ghost use Rattle.ct_names.specs.Elaboration.{parts_of, let_of, exhausted, goes_with};
@@ -17,8 +18,7 @@ use crate::callees::is_sort;
 use crate::exhaustive::are_exhaustive;
 use ct_formulas::{Case, Pattern, Tree};
 use ct_names::{
-    CheckError, NOT_EXHAUSTIVE, OUT_OF_SCOPE, REPEATED_VARIABLE, are_bindings, bound_names,
-    has_repeated,
+    NOT_EXHAUSTIVE, OUT_OF_SCOPE, REPEATED_VARIABLE, Stop, are_bindings, bound_names, has_repeated,
 };
 use ct_sexpr::Sexpr;
 use ct_sorts::{Signature, SortId};
@@ -36,31 +36,28 @@ pub(crate) struct Checked {
 pub(crate) fn binding_names<'e>(
     alloc: Global,
     bindings: &'e [Sexpr],
-) -> Result<Vec<Option<&'e [u8]>>, CheckError>
-    ensures value { (d : Declarations) (scope : List Variable) (body : Part) → ContinuesWith (let_of d scope
-        (parts_of d (expressions_of bindings.now)) body)
-        (λ names. let_of_names d scope (map held_name names.items) (parts_of d
-        (expressions_of bindings.now)) body) result }
+) -> Result<Vec<Option<&'e [u8]>>, Stop>
+    ensures value { (needs : Needs) (d : Declarations) (scope : List Variable) (body : Part) → ContinuesTo needs d (let_of d scope (parts_of d (expressions_of bindings.now)) body) (λ names. let_of_names d scope (map held_name names.items) (parts_of d (expressions_of bindings.now)) body) result }
 {
     if bindings.is_empty() {
-        return Err(CheckError::Refused(OUT_OF_SCOPE));
+        return Err(Stop::Refused(OUT_OF_SCOPE));
     }
     if !are_bindings(bindings) {
-        return Err(CheckError::Refused(OUT_OF_SCOPE));
+        return Err(Stop::Refused(OUT_OF_SCOPE));
     }
     let names = bound_names(alloc, bindings)?;
     let repeated = has_repeated(alloc, names.as_slice())?;
     if repeated {
-        return Err(CheckError::Refused(REPEATED_VARIABLE));
+        return Err(Stop::Refused(REPEATED_VARIABLE));
     }
     Ok(names)
 }
 
 /// The `let` of these terms with a body.
-pub(crate) fn let_tree(alloc: Global, trees: Vec<Tree>, body: Tree) -> Result<Tree, CheckError>
+pub(crate) fn let_tree(alloc: Global, trees: Vec<Tree>, body: Tree) -> Result<Tree, Stop>
     ensures ok { IfOk result (λ t. formula_of t ≡ Let (formulas_of_trees trees.items)
         (formula_of body)) }
-    ensures err { IfErr result (λ e. e ≡ CheckError.NoMemory) }
+    ensures err { IfErr result (λ e. e ≡ Stop.NoMemory) }
 {
     Ok(Tree::Let(trees, Box::new(alloc, body)?))
 }
@@ -72,20 +69,19 @@ pub(crate) fn match_tree(
     subject: Tree,
     side: SortId,
     checked: Checked,
-) -> Result<(Tree, SortId), CheckError>
-    ensures value { IsAnswerFor sorted_of (exhausted sig.now (formula_of subject, side)
-        (checked_of checked)) result }
+) -> Result<(Tree, SortId), Stop>
+    ensures value { (needs : Needs) → StopsAt needs sig.now sorted_of (exhausted sig.now (formula_of subject, side) (checked_of checked)) result }
 {
     let exhaustive = are_exhaustive(alloc, sig, side, checked.patterns.as_slice())?;
     if !exhaustive {
-        return Err(CheckError::Refused(NOT_EXHAUSTIVE));
+        return Err(Stop::Refused(NOT_EXHAUSTIVE));
     }
     match checked.sort {
         Some(sort) => {
             let subject = Box::new(alloc, subject)?;
             Ok((Tree::Match(subject, checked.cases), sort))
         }
-        None => Err(CheckError::Refused(NOT_EXHAUSTIVE)),
+        None => Err(Stop::Refused(NOT_EXHAUSTIVE)),
     }
 }
 
@@ -106,11 +102,11 @@ pub(crate) fn add_case(
     fitted: Pattern,
     body: Tree,
     sort: SortId,
-) -> Result<(), CheckError>
+) -> Result<(), Stop>
     ensures cases { OnOk result (map case_of checked.new.cases.items ≡ map case_of checked.old.cases.items ++ (fitted, formula_of body) ∷ []) }
     ensures patterns { OnOk result (checked.new.patterns.items ≡ checked.old.patterns.items ++ fitted ∷ []) }
     ensures sort { OnOk result (checked.new.sort ≡ Some sort) }
-    ensures err { IfErr result (λ e. e ≡ CheckError.NoMemory) }
+    ensures err { IfErr result (λ e. e ≡ Stop.NoMemory) }
 {
     checked.cases.push(case(fitted, body))?;
     checked.patterns.push(fitted)?;

@@ -6,7 +6,7 @@ ghost use Rattle.ct_names.specs.Outcome.{is_sort};
 ghost use Rattle.ct_check.specs.Callees.{callee_sorts, callee_result, IsCallee};
 
 use ct_formulas::Tree;
-use ct_names::{CheckError, CoreOperator, argument_sorts, result_sort};
+use ct_names::{CoreOperator, Stop, argument_sorts, result_sort};
 use ct_sorts::{CtorId, Signature, SortId, Symbol};
 use std::alloc::Global;
 
@@ -50,22 +50,22 @@ pub(crate) fn callee_sorts(
     sig: &Signature,
     callee: Callee,
     count: usize,
-) -> Result<Vec<SortId>, CheckError>
+) -> Result<Vec<SortId>, Stop>
     requires inside { IsCallee sig.now callee }
     ensures ok { IfOk result (λ sorts. sorts.items ≡ callee_sorts sig.now callee count) }
-    ensures err { IfErr result (λ e. e ≡ CheckError.NoMemory) }
+    ensures err { IfErr result (λ e. e ≡ Stop.NoMemory) }
 {
     match callee {
-        Callee::Symbol(symbol) => argument_sorts(alloc, sig, symbol),
+        Callee::Symbol(symbol) => Ok(argument_sorts(alloc, sig, symbol)?),
         Callee::Tester(c) => repeated(alloc, sig.ctor_sort(c), 1),
         Callee::Connective(_) => repeated(alloc, BOOL, count),
     }
 }
 
 /// One sort, so many times.
-pub(crate) fn repeated(alloc: Global, sort: SortId, count: usize) -> Result<Vec<SortId>, CheckError>
+pub(crate) fn repeated(alloc: Global, sort: SortId, count: usize) -> Result<Vec<SortId>, Stop>
     ensures ok { IfOk result (λ sorts. sorts.items ≡ replicate count sort) }
-    ensures err { IfErr result (λ e. e ≡ CheckError.NoMemory) }
+    ensures err { IfErr result (λ e. e ≡ Stop.NoMemory) }
 {
     let mut sorts = Vec::with_capacity(alloc, count)?;
     for _ in 0..count {

@@ -6,7 +6,7 @@ ghost use Rattle.ct_formulas.specs.Compiled.{is_among};
 ghost use Rattle.ct_names.specs.Patterns.{are_exhaustive, fits_all, is_of_ctor, sort_ctors};
 
 use ct_formulas::Pattern;
-use ct_names::CheckError;
+use ct_names::Stop;
 use ct_occurrence::Earlier;
 use ct_sorts::{Signature, SortId};
 use std::alloc::Global;
@@ -19,9 +19,9 @@ pub(crate) fn are_exhaustive(
     sig: &Signature,
     side: SortId,
     patterns: &[Pattern],
-) -> Result<bool, CheckError>
+) -> Result<bool, Stop>
     ensures value { IfOk result (λ b. b ≡ are_exhaustive sig.now side patterns.now) }
-    ensures err { IfErr result (λ e. e ≡ CheckError.NoMemory) }
+    ensures err { IfErr result (λ e. e ≡ Stop.NoMemory) }
 {
     if some_fits_all(patterns) {
         return Ok(true);
@@ -48,9 +48,9 @@ fn fits_all(pattern: Pattern) -> bool
 }
 
 // The constructors that have a pattern.
-fn ctors_of(alloc: Global, patterns: &[Pattern]) -> Result<Earlier, CheckError>
+fn ctors_of(alloc: Global, patterns: &[Pattern]) -> Result<Earlier, Stop>
     ensures met { IfOk result (λ met. (c : CtorId) → is_among met c ≡ list_any (is_of_ctor c) patterns.now) }
-    ensures err { IfErr result (λ e. e ≡ CheckError.NoMemory) }
+    ensures err { IfErr result (λ e. e ≡ Stop.NoMemory) }
 {
     let mut met = Earlier::new(alloc);
     let mut left = patterns;
@@ -62,9 +62,9 @@ fn ctors_of(alloc: Global, patterns: &[Pattern]) -> Result<Earlier, CheckError>
 }
 
 // Puts the constructor of the pattern down, where it has one.
-fn put(met: &mut Earlier, pattern: Pattern) -> Result<(), CheckError>
+fn put(met: &mut Earlier, pattern: Pattern) -> Result<(), Stop>
     ensures more { OnOk result ((c : CtorId) → is_among met.new c ≡ (is_among met.old c || is_of_ctor c pattern)) }
-    ensures err { IfErr result (λ e. e ≡ CheckError.NoMemory) }
+    ensures err { IfErr result (λ e. e ≡ Stop.NoMemory) }
 {
     match pattern {
         Pattern::Any => Ok(()),

@@ -6,8 +6,11 @@ mod arguments;
 mod binders;
 mod callees;
 mod exhaustive;
+mod expected;
+mod generic_ctors;
 mod heads;
 mod leaves;
+mod parts;
 mod sorting;
 mod terms;
 mod theorems;
@@ -15,5 +18,5 @@ mod trees;
 
 pub use ct_names::{CheckError, CoreOperator, Param};
 pub use ct_scope::Scope;
-pub use sorting::{elaborate, sort_of};
+pub use sorting::{elaborate, elaborate_there, sort_of};
 pub use theorems::elaboration;

@@ -8,19 +8,15 @@ ghost use Rattle.ct_check.specs.Callees.{callee_formula, tester_formula};
 
 use crate::callees::Callee;
 use ct_formulas::Tree;
-use ct_names::{CheckError, CoreOperator};
+use ct_names::{CoreOperator, Stop};
 use ct_sorts::{CtorId, SelId, Symbol};
 use std::alloc::Global;
 
 /// What takes arguments of stated sorts, with its arguments.
-pub(crate) fn callee_tree(
-    alloc: Global,
-    callee: Callee,
-    args: Vec<Tree>,
-) -> Result<Tree, CheckError>
+pub(crate) fn callee_tree(alloc: Global, callee: Callee, args: Vec<Tree>) -> Result<Tree, Stop>
     ensures ok { IfOk result (λ t. formula_of t ≡ callee_formula callee
         (formulas_of_trees args.items)) }
-    ensures err { IfErr result (λ e. e ≡ CheckError.NoMemory) }
+    ensures err { IfErr result (λ e. e ≡ Stop.NoMemory) }
 {
     match callee {
         Callee::Symbol(symbol) => symbol_tree(alloc, symbol, args),
@@ -30,19 +26,16 @@ pub(crate) fn callee_tree(
 }
 
 /// A symbol with its arguments.
-pub(crate) fn symbol_tree(
-    alloc: Global,
-    symbol: Symbol,
-    args: Vec<Tree>,
-) -> Result<Tree, CheckError>
+pub(crate) fn symbol_tree(alloc: Global, symbol: Symbol, args: Vec<Tree>) -> Result<Tree, Stop>
     ensures ok { IfOk result (λ t. formula_of t ≡ symbol_applied symbol (formulas_of_trees args.items)) }
-    ensures err { IfErr result (λ e. e ≡ CheckError.NoMemory) }
+    ensures err { IfErr result (λ e. e ≡ Stop.NoMemory) }
 {
     match symbol {
         Symbol::Ctor(c) => Ok(Tree::Con(c, args)),
         Symbol::Sel(s) => selection(alloc, s, args),
         Symbol::Fun(f) => Ok(Tree::Apply(f, args)),
         Symbol::Def(k) => Ok(Tree::Def(k, args)),
+        Symbol::GenCtor(_, _) | Symbol::GenSel(_, _, _) => Ok(Tree::And(args)),
     }
 }
 
@@ -51,10 +44,10 @@ pub(crate) fn operator_tree(
     alloc: Global,
     operator: CoreOperator,
     args: Vec<Tree>,
-) -> Result<Tree, CheckError>
+) -> Result<Tree, Stop>
     ensures ok { IfOk result (λ t. formula_of t ≡ connected operator
         (formulas_of_trees args.items)) }
-    ensures err { IfErr result (λ e. e ≡ CheckError.NoMemory) }
+    ensures err { IfErr result (λ e. e ≡ Stop.NoMemory) }
 {
     match operator {
         CoreOperator::Not => negation(alloc, args),
@@ -68,11 +61,11 @@ pub(crate) fn operator_tree(
     }
 }
 
-// A field of the one argument.
-fn selection(alloc: Global, s: SelId, args: Vec<Tree>) -> Result<Tree, CheckError>
+/// A field of the one argument.
+pub(crate) fn selection(alloc: Global, s: SelId, args: Vec<Tree>) -> Result<Tree, Stop>
     ensures ok { IfOk result (λ t. formula_of t ≡ symbol_applied (Symbol.Sel s)
         (formulas_of_trees args.items)) }
-    ensures err { IfErr result (λ e. e ≡ CheckError.NoMemory) }
+    ensures err { IfErr result (λ e. e ≡ Stop.NoMemory) }
 {
     match first_of(args) {
         Some(t) => Ok(Tree::Sel(s, Box::new(alloc, t)?)),
@@ -80,10 +73,10 @@ fn selection(alloc: Global, s: SelId, args: Vec<Tree>) -> Result<Tree, CheckErro
     }
 }
 
-// A test of the one argument.
-fn test(alloc: Global, c: CtorId, args: Vec<Tree>) -> Result<Tree, CheckError>
+/// A test of the one argument.
+pub(crate) fn test(alloc: Global, c: CtorId, args: Vec<Tree>) -> Result<Tree, Stop>
     ensures ok { IfOk result (λ t. formula_of t ≡ tester_formula c (formulas_of_trees args.items)) }
-    ensures err { IfErr result (λ e. e ≡ CheckError.NoMemory) }
+    ensures err { IfErr result (λ e. e ≡ Stop.NoMemory) }
 {
     match first_of(args) {
         Some(t) => Ok(Tree::Test(c, Box::new(alloc, t)?)),
@@ -92,10 +85,10 @@ fn test(alloc: Global, c: CtorId, args: Vec<Tree>) -> Result<Tree, CheckError>
 }
 
 // A negation of the one argument.
-fn negation(alloc: Global, args: Vec<Tree>) -> Result<Tree, CheckError>
+fn negation(alloc: Global, args: Vec<Tree>) -> Result<Tree, Stop>
     ensures ok { IfOk result (λ t. formula_of t ≡ connected CoreOperator.Not
         (formulas_of_trees args.items)) }
-    ensures err { IfErr result (λ e. e ≡ CheckError.NoMemory) }
+    ensures err { IfErr result (λ e. e ≡ Stop.NoMemory) }
 {
     match first_of(args) {
         Some(t) => Ok(Tree::Not(Box::new(alloc, t)?)),

@@ -37,6 +37,11 @@ impl<'a> Model for Checker<'a> {
 
     ghost Value = { Derived };
 
+    ghost use Rattle.std.specs.Coded.{codes};
+    ghost use Rattle.ct_sorts.specs.ExpressionCode.{coded_expression};
+
+    ghost coded = { Prim.hlevel (codes, coded_expression) };
+
     ghost view = { λ stored. record { declarations = stored.sig.now; sizes = stored.sizes.now; rec = stored.rec.now; asserts = stored.asserts.now } };
 
     ghost invariant = { λ stored. AreJudges stored.sig.now stored.sizes.now stored.rec.now.terms stored.asserts.now × IsRoomOf stored.room stored.rec.now.terms stored.rec.now.lines };

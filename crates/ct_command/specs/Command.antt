@@ -21,10 +21,10 @@ pub record Constructor : Type 0 where
   pub name : List ℕ
   pub fields : List Named
 
--- what is declared of one sort of a block: constructors over type parameters, or constructors
-pub data Body : Type 0 where
-  parametric : Body
-  constructors : List Constructor → Body
+-- what is declared of one sort of a block: the type parameters, none where `par` is not written, and the constructors
+pub record Body : Type 0 where
+  pub params : List (List ℕ)
+  pub ctors : List Constructor
 
 pub data Command : Type 0 where
   -- a logic by its name, whether or not there is one of that name
@@ -33,7 +33,10 @@ pub data Command : Type 0 where
   get_option : OptionName → Command
   set_info : Command
   get_info : Info → Command
-  declare_sort : SortHead → Command
+  -- an uninterpreted sort with so many arguments
+  declare_sort : List ℕ → ℕ → Command
+  -- a synonym with its parameters, and the sort for which it stands
+  define_sort : List ℕ → List (List ℕ) → Expression → Command
   declare_block : Family → List SortHead → List Body → Command
   -- a function with the sorts of its arguments and its result; a constant has no arguments
   declare_fun : List ℕ → List Expression → Expression → Command

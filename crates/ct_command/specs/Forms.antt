@@ -1,9 +1,9 @@
 -- The forms of commands (SMT-LIB 2.7, section 3.9; cvc5 for codatatypes): what expressions after the word of a command say.
-use Rattle.std.specs.Prelude.{ℕ, Bool, false, List, [], ◌∷◌, Option, Some, None, option_map, option_and_then, codes, if◌then◌else◌}
+use Rattle.std.specs.Prelude.{ℕ, Bool, false, List, [], ◌∷◌, length, nat_le, Option, Some, None, option_map, option_and_then, codes, if◌then◌else◌}
 use Rattle.std.specs.Str.{bytes_eq}
 use Rattle.ct_sexpr.specs.Expression.{Expression}
 use Rattle.ct_command.specs.declared.command.Family.{Family}
-use Rattle.ct_command.specs.Command.{Named, SortHead, Constructor, Body, parametric, constructors, Command, declare_sort, declare_block, declare_fun, define_fun, assert, get_value, echo}
+use Rattle.ct_command.specs.Command.{Named, SortHead, Constructor, Body, Command, declare_sort, define_sort, declare_block, declare_fun, define_fun, assert, get_value, echo}
 use Rattle.ct_command.specs.Items.{name_of, numeral_of, word_of, is_text, items_of, each}
 
 -- `(x S)`
@@ -44,20 +44,43 @@ abbrev pub begins_par : List Expression → Bool
 begins_par [] = false
 begins_par (e ∷ es) = is_par (word_of e)
 
--- `((C (s S) ..) ..)`, or `(par ..)`
+-- constructors over these type parameters, of which there is one at least
+abbrev pub over : List Expression → List Expression → Option Body
+over [] ctors = None
+over (x ∷ xs) ctors = option_and_then (λ names. option_map (λ cs. record { params = names; ctors = cs }) (each constructor ctors)) (each name_of (x ∷ xs))
+
+-- `par (X ..) dec`
+abbrev pub parametric : List Expression → Option Body
+parametric (word ∷ (params ∷ (ctors ∷ []))) = option_and_then (λ xs. option_and_then (over xs) (items_of ctors)) (items_of params)
+parametric es = None
+
+-- `((C (s S) ..) ..)`, or `(par (X ..) ((C (s S) ..) ..))`
 abbrev pub body_by : List Expression → Option Body
-body_by es = if begins_par es then Some parametric else option_map constructors (each constructor es)
+body_by es = if begins_par es then parametric es else option_map (λ cs. record { params = []; ctors = cs }) (each constructor es)
 
 abbrev pub body : Expression → Option Body
 body e = option_and_then body_by (items_of e)
 
+-- the most arguments of an uninterpreted sort
+abbrev pub most_arguments : ℕ
+most_arguments = 255
+
+-- an uninterpreted sort with few arguments
+abbrev pub free_sort : SortHead → Option Command
+free_sort head = if nat_le head.arity most_arguments then Some (declare_sort head.name head.arity) else None
+
 -- `N n`
 abbrev pub declared_sort : List Expression → Option Command
-declared_sort es = option_map declare_sort (head_by es)
+declared_sort es = option_and_then free_sort (head_by es)
 
--- a block of one sort without arguments
+-- `N (X ..) S`
+abbrev pub defined_sort : List Expression → Option Command
+defined_sort (n ∷ (params ∷ (sort ∷ []))) = option_and_then (λ name. option_and_then (λ xs. option_map (λ names. define_sort name names sort) (each name_of xs)) (items_of params)) (name_of n)
+defined_sort es = None
+
+-- a block of one sort, which has as many arguments as type parameters are written
 abbrev pub block_of_one : Family → List ℕ → Body → Command
-block_of_one family name b = declare_block family (record { name = name; arity = 0 } ∷ []) (b ∷ [])
+block_of_one family name b = declare_block family (record { name = name; arity = length b.params } ∷ []) (b ∷ [])
 
 -- `N dec`
 abbrev pub declared_type : Family → List Expression → Option Command

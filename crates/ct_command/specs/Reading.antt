@@ -10,7 +10,7 @@ use Rattle.ct_command.specs.declared.words.Word.TheVariants as w
 use Rattle.ct_command.specs.Command.{Command, check_sat, push, pop, reset_assertions, reset, get_model, get_proof, exit, unsupported}
 use Rattle.ct_command.specs.Tables.{beside}
 use Rattle.ct_command.specs.Items.{word_of, items_of}
-use Rattle.ct_command.specs.Forms.{declared_sort, declared_type, declared_types, declared_const, declared_fun, defined_fun, defined_const, asserted, level_count, alone, valued, echoed}
+use Rattle.ct_command.specs.Forms.{declared_sort, defined_sort, declared_type, declared_types, declared_const, declared_fun, defined_fun, defined_const, asserted, level_count, alone, valued, echoed}
 use Rattle.ct_command.specs.OptionForms.{logic_set, option_set, option_asked, info_set, info_asked}
 
 -- an expression that is no command of its word
@@ -25,9 +25,9 @@ unknown_command = 56
 abbrev pub setting_words : List (List ℕ × Word)
 setting_words = (codes "set-logic", w.SetLogic) ∷ ((codes "set-option", w.SetOption) ∷ ((codes "get-option", w.GetOption) ∷ ((codes "set-info", w.SetInfo) ∷ ((codes "get-info", w.GetInfo) ∷ []))))
 
--- the words that declare sorts
+-- the words that declare and define sorts
 abbrev pub sort_words : List (List ℕ × Word)
-sort_words = (codes "declare-sort", w.DeclareSort) ∷ ((codes "declare-datatype", w.DeclareDatatype) ∷ ((codes "declare-codatatype", w.DeclareCodatatype) ∷ ((codes "declare-datatypes", w.DeclareDatatypes) ∷ ((codes "declare-codatatypes", w.DeclareCodatatypes) ∷ []))))
+sort_words = (codes "declare-sort", w.DeclareSort) ∷ ((codes "define-sort", w.DefineSort) ∷ ((codes "declare-datatype", w.DeclareDatatype) ∷ ((codes "declare-codatatype", w.DeclareCodatatype) ∷ ((codes "declare-datatypes", w.DeclareDatatypes) ∷ ((codes "declare-codatatypes", w.DeclareCodatatypes) ∷ [])))))
 
 -- the words that declare and define functions
 abbrev pub function_words : List (List ℕ × Word)
@@ -44,7 +44,7 @@ answer_words = (codes "get-model", w.GetModel) ∷ ((codes "get-value", w.GetVal
 -- the words that are answered `unsupported`, whatever follows
 abbrev pub unsupported_words : List (List ℕ × Word)
 unsupported_words =
-    (codes "define-fun-rec", w.Unsupported) ∷ ((codes "define-funs-rec", w.Unsupported) ∷ ((codes "declare-sort-parameter", w.Unsupported) ∷ ((codes "get-assertions", w.Unsupported) ∷ ((codes "get-assignment", w.Unsupported) ∷ ((codes "define-sort", w.Unsupported) ∷ ((codes "check-sat-assuming", w.Unsupported) ∷ ((codes "get-unsat-core", w.Unsupported) ∷ ((codes "get-unsat-assumptions", w.Unsupported) ∷ []))))))))
+    (codes "define-fun-rec", w.Unsupported) ∷ ((codes "define-funs-rec", w.Unsupported) ∷ ((codes "declare-sort-parameter", w.Unsupported) ∷ ((codes "get-assertions", w.Unsupported) ∷ ((codes "get-assignment", w.Unsupported) ∷ ((codes "check-sat-assuming", w.Unsupported) ∷ ((codes "get-unsat-core", w.Unsupported) ∷ ((codes "get-unsat-assumptions", w.Unsupported) ∷ [])))))))
 
 -- the words of all commands
 abbrev pub words : List (List ℕ × Word)
@@ -58,6 +58,7 @@ said w.GetOption es = option_asked es
 said w.SetInfo es = info_set es
 said w.GetInfo es = info_asked es
 said w.DeclareSort es = declared_sort es
+said w.DefineSort es = defined_sort es
 said w.DeclareDatatype es = declared_type Data es
 said w.DeclareCodatatype es = declared_type Codata es
 said w.DeclareDatatypes es = declared_types Data es

@@ -9,10 +9,9 @@ use Rattle.ct_command.specs.declared.command.Named.{Named as ReadNamed}
 use Rattle.ct_command.specs.declared.command.SortHead.{SortHead as ReadHead}
 use Rattle.ct_command.specs.declared.command.Constructor.{Constructor as ReadConstructor}
 use Rattle.ct_command.specs.declared.command.Body.{Body as ReadBody}
-use Rattle.ct_command.specs.declared.command.Body.TheVariants as body
 use Rattle.ct_command.specs.declared.command.Command.{Command as ReadCommand}
 use Rattle.ct_command.specs.declared.command.Command.TheVariants as command
-use Rattle.ct_command.specs.Command.{Named, SortHead, Constructor, Body, parametric, constructors, Command, set_logic, set_option, get_option, set_info, get_info, declare_sort, declare_block, declare_fun, define_fun, assert, check_sat, push, pop, reset_assertions, reset, get_model, get_value, get_proof, echo, exit, unsupported}
+use Rattle.ct_command.specs.Command.{Named, SortHead, Constructor, Body, Command, set_logic, set_option, get_option, set_info, get_info, declare_sort, define_sort, declare_block, declare_fun, define_fun, assert, check_sat, push, pop, reset_assertions, reset, get_model, get_value, get_proof, echo, exit, unsupported}
 
 -- the bytes, where there are any
 abbrev pub bytes_seen : Option (Bor (List ℕ)) → Option (List ℕ)
@@ -35,9 +34,15 @@ head_seen h = record { name = h.name.now; arity = h.arity }
 abbrev pub constructor_seen : ReadConstructor → Constructor
 constructor_seen c = record { name = c.name.now; fields = map named_seen c.fields.items }
 
+-- names in memory
+abbrev pub name_seen : Bor (List ℕ) → List ℕ
+name_seen name = name.now
+
+abbrev pub names_seen : Vec (Bor (List ℕ)) → List (List ℕ)
+names_seen names = map name_seen names.items
+
 abbrev pub body_seen : ReadBody → Body
-body_seen body.Parametric = parametric
-body_seen (body.Constructors cs) = constructors (map constructor_seen cs.items)
+body_seen b = record { params = names_seen b.params; ctors = map constructor_seen b.ctors.items }
 
 -- lists of these
 abbrev pub nameds_seen : Vec ReadNamed → List Named
@@ -58,7 +63,8 @@ command_seen (command.SetOption s) = set_option s
 command_seen (command.GetOption o) = get_option o
 command_seen command.SetInfo = set_info
 command_seen (command.GetInfo i) = get_info i
-command_seen (command.DeclareSort h) = declare_sort (head_seen h)
+command_seen (command.DeclareSort name params) = declare_sort name.now params
+command_seen (command.DefineSort name params sort) = define_sort name.now (names_seen params) (expression_of sort.now)
 command_seen (command.DeclareBlock family hs bs) = declare_block family (heads_seen hs) (bodies_seen bs)
 command_seen (command.DeclareFun name args sort) = declare_fun name.now (all_seen args.now) (expression_of sort.now)
 command_seen (command.DefineFun name params sort t) = define_fun name.now (nameds_seen params) (expression_of sort.now) (expression_of t.now)

@@ -2,13 +2,13 @@
 ghost use Rattle.std.specs.Prelude.{◌≡◌, Some};
 ghost use Rattle.ct_sexpr.specs.View.{expression_of};
 ghost use Rattle.ct_command.specs.Items.{each};
-ghost use Rattle.ct_command.specs.Forms.{sort_head, begins_par, body, body_by, bodies, sort_heads, sort_heads_by, block_of_one, declared_type, declared_types};
+ghost use Rattle.ct_command.specs.Forms.{sort_head, begins_par, body, body_by, bodies, sort_heads, sort_heads_by, block_of_one, declared_type, declared_types, parametric, over};
 ghost use Rattle.ct_command.specs.Reading.{Reads};
 ghost use Rattle.ct_command.specs.Seen.{all_seen, heads_seen, body_seen, bodies_seen, command_seen};
 
 use crate::command::{Body, Command, Family, SortHead};
 use crate::error::{CommandError, WRONG_FORM};
-use crate::forms::{constructors, sort_head};
+use crate::forms::{constructors, names, sort_head};
 use crate::items::{items_of, name_of, word_of};
 use ct_sexpr::Sexpr;
 use std::alloc::Global;
@@ -34,7 +34,7 @@ pub(crate) fn declared_type<'a>(
     }
 }
 
-// A block of one sort without arguments.
+// A block of one sort, which has as many arguments as type parameters are written.
 fn block_of_one<'a>(
     alloc: Global,
     family: Family,
@@ -43,8 +43,9 @@ fn block_of_one<'a>(
 ) -> Result<Command<'a>, CommandError>
     ensures value { Reads command_seen (Some (block_of_one family name.now (body_seen declared.entry))) result }
 {
+    let arity = declared.params.len() as u128;
     let mut heads = Vec::with_capacity(alloc, 1)?;
-    heads.push(SortHead { name, arity: 0 })?;
+    heads.push(SortHead { name, arity })?;
     let mut bodies = Vec::with_capacity(alloc, 1)?;
     bodies.push(declared)?;
     Ok(Command::DeclareBlock(family, heads, bodies))
@@ -144,10 +145,42 @@ fn body_by(alloc: Global, items: &[Sexpr]) -> Result<Body<'_>, CommandError>
     ensures value { Reads body_seen (body_by (all_seen items.now)) result }
 {
     if begins_par(items) {
-        return Ok(Body::Parametric);
+        return parametric(alloc, items);
     }
-    let constructors = constructors(alloc, items)?;
-    Ok(Body::Constructors(constructors))
+    let ctors = constructors(alloc, items)?;
+    Ok(Body {
+        params: Vec::new(alloc),
+        ctors,
+    })
+}
+
+// Constructors over type parameters: `par (X ..) dec`.
+fn parametric(alloc: Global, items: &[Sexpr]) -> Result<Body<'_>, CommandError>
+    ensures value { Reads body_seen (parametric (all_seen items.now)) result }
+{
+    match items {
+        [_, params, declared] => match (items_of(params), items_of(declared)) {
+            (Some(params), Some(declared)) => over(alloc, params, declared),
+            (Some(_), None) | (None, _) => Err(CommandError::Refused(WRONG_FORM)),
+        },
+        [] | [_] | [_, _] | [_, _, _, _, ..] => Err(CommandError::Refused(WRONG_FORM)),
+    }
+}
+
+// The constructors over these type parameters, of which there is one at least.
+fn over<'a>(
+    alloc: Global,
+    params: &'a [Sexpr],
+    declared: &'a [Sexpr],
+) -> Result<Body<'a>, CommandError>
+    ensures value { Reads body_seen (over (all_seen params.now) (all_seen declared.now)) result }
+{
+    if params.is_empty() {
+        return Err(CommandError::Refused(WRONG_FORM));
+    }
+    let params = names(alloc, params)?;
+    let ctors = constructors(alloc, declared)?;
+    Ok(Body { params, ctors })
 }
 
 // Whether the expressions begin with `par`.

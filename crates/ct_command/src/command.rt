@@ -41,11 +41,11 @@ pub struct Constructor<'a> {
 
 /// What is declared of one sort of a block (SMT-LIB 2.7, section 3.9, `datatype_dec`).
 #[derive(Debug, Drop)]
-pub enum Body<'a> {
-    /// Constructors over type parameters, `(par (X ..) ..)`.
-    Parametric,
+pub struct Body<'a> {
+    /// The type parameters, those of `(par (X ..) ..)`; none where this is not written.
+    pub params: Vec<&'a [u8]>,
     /// The constructors, in order.
-    Constructors(Vec<Constructor<'a>>),
+    pub ctors: Vec<Constructor<'a>>,
 }
 
 /// A command (SMT-LIB 2.7, section 3.9; cvc5 for codatatypes).
@@ -61,8 +61,10 @@ pub enum Command<'a> {
     SetInfo,
     /// `get-info`, with a known info.
     GetInfo(Info),
-    /// `declare-sort`: an uninterpreted sort.
-    DeclareSort(SortHead<'a>),
+    /// `declare-sort`: an uninterpreted sort by its name and how many arguments it takes.
+    DeclareSort(&'a [u8], u8),
+    /// `define-sort`: a synonym with its parameters, and the sort for which it stands.
+    DefineSort(&'a [u8], Vec<&'a [u8]>, &'a Sexpr),
     /// `declare-datatypes`, `declare-codatatypes`, and the forms of one sort.
     DeclareBlock(Family, Vec<SortHead<'a>>, Vec<Body<'a>>),
     /// `declare-fun` with the sorts of arguments and result; `declare-const` without arguments.

@@ -1,10 +1,10 @@
 //! Names with sorts, heads of sorts, and constructors.
 ghost use Rattle.std.specs.Prelude.{◌≡◌, option_map};
 ghost use Rattle.ct_sexpr.specs.View.{expression_of};
-ghost use Rattle.ct_command.specs.Items.{each};
+ghost use Rattle.ct_command.specs.Items.{each, name_of};
 ghost use Rattle.ct_command.specs.Forms.{named, sort_head, head_by, constructor, constructor_by, parameters};
 ghost use Rattle.ct_command.specs.Reading.{Reads};
-ghost use Rattle.ct_command.specs.Seen.{all_seen, named_seen, nameds_seen, head_seen, constructor_seen, constructors_seen};
+ghost use Rattle.ct_command.specs.Seen.{all_seen, named_seen, nameds_seen, head_seen, constructor_seen, constructors_seen, names_seen};
 
 use crate::command::{Constructor, Named, SortHead};
 use crate::error::{CommandError, WRONG_FORM};
@@ -112,6 +112,22 @@ pub(crate) fn constructors(
     while let [first, others @ ..] = left {
         let one = constructor(alloc, first)?;
         read.push(one)?;
+        left = others;
+    }
+    Ok(read)
+}
+
+/// Names, one after the other.
+pub(crate) fn names(alloc: Global, exprs: &[Sexpr]) -> Result<Vec<&[u8]>, CommandError>
+    ensures value { Reads names_seen (each name_of (all_seen exprs.now)) result }
+{
+    let mut left = exprs;
+    let mut read = Vec::with_capacity(alloc, exprs.len())?;
+    while let [first, others @ ..] = left {
+        match name_of(first) {
+            Some(name) => read.push(name)?,
+            None => return Err(CommandError::Refused(WRONG_FORM)),
+        }
         left = others;
     }
     Ok(read)

@@ -1,20 +1,23 @@
 //! The command that an expression is.
 ghost use Rattle.std.specs.Prelude.{◌≡◌, [], ◌∷◌, Some, None, option_map};
 ghost use Rattle.ct_sexpr.specs.View.{expression_of};
-ghost use Rattle.ct_command.specs.Forms.{declared_sort, declared_const, declared_fun, defined_fun, defined_const, asserted, level_count, valued, some_terms, alone, echoed};
+ghost use Rattle.ct_command.specs.Forms.{declared_sort, defined_sort, free_sort, declared_const, declared_fun, defined_fun, defined_const, asserted, level_count, valued, some_terms, alone, echoed};
 ghost use Rattle.ct_command.specs.Reading.{Reads, Gives, command, of_items, after_word, said};
 ghost use Rattle.ct_command.specs.Command.{push, pop};
-ghost use Rattle.ct_command.specs.Seen.{all_seen, command_seen};
+ghost use Rattle.ct_command.specs.Seen.{all_seen, head_seen, command_seen};
 
 use crate::block::{declared_type, declared_types};
-use crate::command::{Command, Family};
+use crate::command::{Command, Family, SortHead};
 use crate::error::{CommandError, UNKNOWN_COMMAND, WRONG_FORM};
-use crate::forms::{head_by, parameters};
+use crate::forms::{head_by, names, parameters};
 use crate::items::{is_text, items_of, name_of, numeral_of, word_of};
 use crate::settings::{info_asked, info_set, logic_set, option_asked, option_set};
 use crate::words::{Word, known_word};
 use ct_sexpr::Sexpr;
 use std::alloc::Global;
+
+/// The most arguments of an uninterpreted sort.
+const MOST_ARGUMENTS: u128 = 255;
 
 /// The command that an expression is. It is refused with 57 where the expression is no list that begins with a word, or has
 /// not the form that its word asks for, and with 56 where the word begins no command.
@@ -65,6 +68,7 @@ fn said<'a>(alloc: Global, word: Word, args: &'a [Sexpr]) -> Result<Command<'a>,
         Word::SetInfo => info_set(args),
         Word::GetInfo => info_asked(args),
         Word::DeclareSort => declared_sort(args),
+        Word::DefineSort => defined_sort(alloc, args),
         Word::DeclareDatatype => declared_type(alloc, Family::Data, args),
         Word::DeclareCodatatype => declared_type(alloc, Family::Codata, args),
         Word::DeclareDatatypes => declared_types(alloc, Family::Data, args),
@@ -93,8 +97,35 @@ fn declared_sort(args: &[Sexpr]) -> Result<Command<'_>, CommandError>
     ensures value { Reads command_seen (declared_sort (all_seen args.now)) result }
 {
     match head_by(args) {
-        Some(head) => Ok(Command::DeclareSort(head)),
+        Some(head) => free_sort(head),
         None => Err(CommandError::Refused(WRONG_FORM)),
+    }
+}
+
+// An uninterpreted sort with few arguments.
+fn free_sort(head: SortHead<'_>) -> Result<Command<'_>, CommandError>
+    ensures value { Reads command_seen (free_sort (head_seen head.entry)) result }
+{
+    if head.arity > MOST_ARGUMENTS {
+        return Err(CommandError::Refused(WRONG_FORM));
+    }
+    Ok(Command::DeclareSort(head.name, head.arity as u8))
+}
+
+// `N (X ..) S`.
+fn defined_sort(alloc: Global, args: &[Sexpr]) -> Result<Command<'_>, CommandError>
+    ensures value { Reads command_seen (defined_sort (all_seen args.now)) result }
+{
+    match args {
+        [] | [_] | [_, _] => Err(CommandError::Refused(WRONG_FORM)),
+        [name, params, sort] => match (name_of(name), items_of(params)) {
+            (Some(name), Some(params)) => {
+                let params = names(alloc, params)?;
+                Ok(Command::DefineSort(name, params, sort))
+            }
+            (Some(_), None) | (None, _) => Err(CommandError::Refused(WRONG_FORM)),
+        },
+        [_, _, _, _, ..] => Err(CommandError::Refused(WRONG_FORM)),
     }
 }
 

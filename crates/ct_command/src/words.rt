@@ -18,6 +18,8 @@ pub enum Word {
     GetInfo,
     /// `declare-sort`.
     DeclareSort,
+    /// `define-sort`.
+    DefineSort,
     /// `declare-datatype`.
     DeclareDatatype,
     /// `declare-codatatype`.
@@ -110,6 +112,9 @@ fn sort_word(word: &[u8]) -> Option<Word>
 {
     if b"declare-sort".as_slice() == word {
         return Some(Word::DeclareSort);
+    }
+    if b"define-sort".as_slice() == word {
+        return Some(Word::DefineSort);
     }
     if b"declare-datatype".as_slice() == word {
         return Some(Word::DeclareDatatype);
@@ -209,9 +214,6 @@ fn unsupported_word(word: &[u8]) -> Option<Word>
         return Some(Word::Unsupported);
     }
     if b"get-assignment".as_slice() == word {
-        return Some(Word::Unsupported);
-    }
-    if b"define-sort".as_slice() == word {
         return Some(Word::Unsupported);
     }
     if b"check-sat-assuming".as_slice() == word {

@@ -55,6 +55,11 @@ impl Model for Classes {
 
     ghost Value = { State };
 
+    ghost use Rattle.std.specs.Coded.{codes};
+    ghost use Rattle.ct_sorts.specs.ExpressionCode.{coded_expression};
+
+    ghost coded = { Prim.hlevel (codes, coded_expression) };
+
     ghost view = { λ c. record { declarations = c.sig; terms = c.table; hypotheses = c.hyps.items; given = c.given.items; merges = c.progress.store.merges.items; reps = c.progress.store.parts.now.reps; cons = c.progress.store.parts.now.cons; marks = marks_of c.hyps.items c.given.items c.progress.store.merges.items c.progress.store.parts c.levels } };
 
     ghost invariant = { λ c. AreHeld c.sig c.table c.single.items c.hyps.items c.given.items c.progress.store.parts.now.reps c.progress.store.parts.now.cons c.progress.store.merges.items × IsKept c.sig c.table c.progress.store.parts c.progress.keys c.progress.waiting.items c.progress.covered × AreMarked c.sig c.table c.single.items c.hyps.items c.given.items c.progress.store.merges.items c.progress.keys c.progress.store.parts c.levels };

@@ -107,9 +107,30 @@ fn tell(
     ensures under_way { OnOk result (IsUnderWay sig.now counts.new.items) }
 {
     for s in users {
-        if is_last(left, *s as usize) && *s < sig.sorts() && learn(sig, counts, SortId(*s)) {
-            queue.push(*s)?;
-        }
+        look_at(sig, left, counts, queue, *s)?;
+    }
+    Ok(())
+}
+
+// One field less is left of the sort: where that was the last, its count is noted.
+fn look_at(
+    sig: &Signature,
+    left: &mut Vec<u32>,
+    counts: &mut Vec<u64>,
+    queue: &mut Vec<u32>,
+    s: u32,
+) -> Result<(), FiniteError>
+    requires under_way { IsUnderWay sig.now counts.old.items }
+    ensures under_way { OnOk result (IsUnderWay sig.now counts.new.items) }
+{
+    if s >= sig.sorts() {
+        return Ok(());
+    }
+    if !is_last(left, s as usize) {
+        return Ok(());
+    }
+    if learn(sig, counts, SortId(s)) {
+        queue.push(s)?;
     }
     Ok(())
 }

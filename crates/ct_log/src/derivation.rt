@@ -26,6 +26,11 @@ impl Model for Derivation {
 
     ghost Value = { Derived };
 
+    ghost use Rattle.std.specs.Coded.{codes};
+    ghost use Rattle.ct_sorts.specs.ExpressionCode.{coded_expression};
+
+    ghost coded = { Prim.hlevel (codes, coded_expression) };
+
     ghost view = { λ stored. record { declarations = stored.judges.declarations; sizes = stored.judges.sizes; rec = stored.rec; asserts = stored.asserts.items } };
 
     ghost invariant = { λ stored. IsDerivation (record { declarations = stored.judges.declarations; sizes = stored.judges.sizes; rec = stored.rec; asserts = stored.asserts.items }) };

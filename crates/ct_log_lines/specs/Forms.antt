@@ -1,5 +1,5 @@
 -- What the items of a derivation are made of: words, numbers, names, and things of one form one after another.
-use Rattle.std.specs.Prelude.{ℕ, Bool, false, ◌==◌, min, nat_lt, List, [], ◌∷◌, Option, Some, None, option_map, option_and_then, if◌then◌else◌, bytes_eq}
+use Rattle.std.specs.Prelude.{ℕ, Bool, true, false, ◌&&◌, ◌==◌, min, nat_lt, List, [], ◌∷◌, Option, Some, None, is_some, codes, option_map, option_and_then, if◌then◌else◌, bytes_eq}
 use Rattle.ct_sexpr.specs.Atom.{symbol, numeral}
 use Rattle.ct_sexpr.specs.Expression.{Expression, leaf, list, Expressions, none, more}
 use Rattle.ct_sexpr.specs.Readable.{name_of_atom}
@@ -98,3 +98,37 @@ each read (more e es) = option_both (λ x xs. x ∷ xs) (read e) (each read es)
 -- the numbers that the expressions are
 abbrev pub numbers_in : Expressions → Option (List ℕ)
 numbers_in es = each number_in es
+
+-- the expression is a name
+abbrev pub is_name : Expression → Bool
+is_name e = is_some (name_in e)
+
+-- there is one at least
+abbrev pub are_some : Expressions → Bool
+are_some none = false
+are_some (more e es) = true
+
+-- the expression has the form of a sort: a name, or a name before sorts, one at least
+abbrev mutual
+  pub is_sort_form : Expression → Bool
+  is_sort_form (leaf a) = is_name (leaf a)
+  is_sort_form (list es) = is_sort_list es
+
+  pub is_sort_list : Expressions → Bool
+  is_sort_list none = false
+  is_sort_list (more e es) = is_name e && (are_some es && are_sort_forms es)
+
+  pub are_sort_forms : Expressions → Bool
+  are_sort_forms none = true
+  are_sort_forms (more e es) = is_sort_form e && are_sort_forms es
+
+-- the name, where what stands beside it has the form of a sort
+abbrev pub if_sort : Expression → List ℕ → Option (List ℕ × Expression)
+if_sort sort name = if is_sort_form sort then Some (name, sort) else None
+
+abbrev pub qualified_by : Expression × Expression → Option (List ℕ × Expression)
+qualified_by parts = option_and_then (if_sort parts.1) (name_in parts.0)
+
+-- the name and the sort of `(as C S)`
+abbrev pub qualified_in : Expression → Option (List ℕ × Expression)
+qualified_in e = option_and_then qualified_by (option_and_then two_of (parts_after (codes "as") e))

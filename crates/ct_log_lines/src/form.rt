@@ -2,7 +2,7 @@
 ghost use Rattle.std.specs.Prelude.{◌≡◌, Some, None, IfOk, option_map, if◌then◌else◌};
 ghost use Rattle.ct_sexpr.specs.Written.{is_reserved};
 ghost use Rattle.ct_sexpr.specs.View.{expression_of, expressions_of};
-ghost use Rattle.ct_log_lines.specs.Forms.{is_word, list_items, first_with_rest, one_of, two_of, three_of, after_word, parts_after, parts_numbered, number_in, short_number, numbers_in, term_in, term_numbered, name_in};
+ghost use Rattle.ct_log_lines.specs.Forms.{is_word, list_items, first_with_rest, one_of, two_of, three_of, after_word, parts_after, parts_numbered, number_in, short_number, numbers_in, term_in, term_numbered, name_in, is_name, is_sort_form, is_sort_list, are_sort_forms, qualified_by, qualified_in};
 
 use ct_sexpr::{Sexpr, is_reserved};
 use ct_sorts::Items;
@@ -197,4 +197,74 @@ pub(crate) fn numbers_in(alloc: Global, items: &[Sexpr]) -> Result<Option<Items<
         rest = others;
     }
     Ok(Some(Items::new(numbers)))
+}
+
+/// The name and the sort of `(as C S)`.
+pub(crate) fn qualified_in(expr: &Sexpr) -> Option<(&[u8], &Sexpr)>
+    ensures value { qualified_in (expression_of expr.now) ≡ option_map (λ parts. (parts.0.now, expression_of parts.1.now)) result }
+{
+    let items = parts_after(b"as", expr)?;
+    let (name, sort) = two_of(items)?;
+    qualified_by(name, sort)
+}
+
+/// The name and the sort, where they have the form of these.
+fn qualified_by<'a>(name: &'a Sexpr, sort: &'a Sexpr) -> Option<(&'a [u8], &'a Sexpr)>
+    ensures value { qualified_by (expression_of name.now, expression_of sort.now) ≡ option_map (λ parts. (parts.0.now, expression_of parts.1.now)) result }
+{
+    let name = name_in(name)?;
+    if is_sort_form(sort) {
+        return Some((name, sort));
+    }
+    None
+}
+
+/// Whether the expression is a name.
+fn is_name(expr: &Sexpr) -> bool
+    ensures value { result ≡ is_name (expression_of expr.now) }
+{
+    name_in(expr).is_some()
+}
+
+/// Whether the expression has the form of a sort: a name, or a name before sorts, one at least.
+#[cycle(sort_form)]
+#[tactic(auto, using(crate::proofs::NestingLemmas::expression_of_list))]
+fn is_sort_form(expr: &Sexpr) -> bool
+    ensures value { result ≡ is_sort_form (expression_of expr.now) }
+{
+    match expr {
+        Sexpr::List(items) => is_sort_list(items.as_slice()),
+        Sexpr::Symbol(_)
+        | Sexpr::Quoted(_)
+        | Sexpr::Keyword(_)
+        | Sexpr::Text(_)
+        | Sexpr::Numeral(_)
+        | Sexpr::Decimal(_)
+        | Sexpr::Binary(_)
+        | Sexpr::Hex(_) => is_name(expr),
+    }
+}
+
+/// Whether the items of a list are a name and sorts.
+#[cycle(sort_form)]
+fn is_sort_list(items: &[Sexpr]) -> bool
+    ensures value { result ≡ is_sort_list (expressions_of items.now) }
+{
+    match items {
+        [] | [_] => false,
+        [name, sorts @ ..] => is_name(name) && are_sort_forms(sorts),
+    }
+}
+
+/// Whether each of the expressions has the form of a sort.
+#[cycle(sort_form)]
+fn are_sort_forms(exprs: &[Sexpr]) -> bool
+    ensures value { result ≡ are_sort_forms (expressions_of exprs.now) }
+{
+    for expr in exprs {
+        if !is_sort_form(expr) {
+            return false;
+        }
+    }
+    true
 }

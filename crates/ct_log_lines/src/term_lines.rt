@@ -1,10 +1,11 @@
 //! Term lines as they stand in a text: a kind of term, a name, and the numbers of terms.
 ghost use Rattle.std.specs.Prelude.{◌≡◌, Some, option_map, option_and_then, IfOk};
 ghost use Rattle.ct_sexpr.specs.View.{expression_of, expressions_of};
-ghost use Rattle.ct_log_lines.specs.TermLines.{kind_word, kind_in, has_name, may_have, line_named, line_after_name, line_of_kind, line_after_kind, term_line, is_con, is_alone};
+ghost use Rattle.ct_sexpr.specs.Written.{written};
+ghost use Rattle.ct_log_lines.specs.TermLines.{kind_word, kind_in, has_name, may_have, line_named, line_after_name, line_after_qualified, has_ctor, line_of_kind, line_after_kind, term_line, is_con, is_alone};
 
-use crate::form::{first_of, is_word, name_in, numbers_in, parts_numbered};
-use ct_sexpr::Sexpr;
+use crate::form::{first_of, is_word, name_in, numbers_in, parts_numbered, qualified_in};
+use ct_sexpr::{Bytes, Sexpr, sexpr_text};
 use ct_sorts::{Items, Name};
 use std::alloc::{AllocError, Global};
 
@@ -43,6 +44,8 @@ pub struct TermLine {
     pub kind: TermKind,
     /// The name of a constructor, a function or a selector; empty where the kind has none.
     pub name: Name,
+    /// The text of S, where the constructor C stands as `(as C S)`.
+    pub sort: Option<Bytes>,
     /// The numbers of terms.
     pub numbers: Items<u64>,
 }
@@ -126,9 +129,10 @@ fn line_named(
     alloc: Global,
     kind: TermKind,
     name: &[u8],
+    sort: Option<Bytes>,
     parts: &[Sexpr],
 ) -> Result<Option<TermLine>, AllocError>
-    ensures ok { IfOk result (λ line. line ≡ line_named kind name.now (expressions_of parts.now)) }
+    ensures ok { IfOk result (λ line. line ≡ line_named kind name.now sort (expressions_of parts.now)) }
 {
     let Some(numbers) = numbers_in(alloc, parts)? else {
         return Ok(None);
@@ -140,6 +144,7 @@ fn line_named(
     Ok(Some(TermLine {
         kind,
         name,
+        sort,
         numbers,
     }))
 }
@@ -154,8 +159,56 @@ fn line_after_name(
     ensures ok { IfOk result (λ line. line ≡ line_after_name kind (expression_of name.now, expressions_of parts.now)) }
 {
     match name_in(name) {
+        None => line_after_qualified(alloc, kind, name, parts),
+        Some(bytes) => line_named(alloc, kind, bytes, None, parts),
+    }
+}
+
+/// The line of a kind whose constructor stands first, as `(as C S)`.
+fn line_after_qualified(
+    alloc: Global,
+    kind: TermKind,
+    name: &Sexpr,
+    parts: &[Sexpr],
+) -> Result<Option<TermLine>, AllocError>
+    ensures ok { IfOk result (λ line. line ≡ line_after_qualified kind (expression_of name.now, expressions_of parts.now)) }
+{
+    if !has_ctor(kind) {
+        return Ok(None);
+    }
+    match qualified_in(name) {
         None => Ok(None),
-        Some(bytes) => line_named(alloc, kind, bytes, parts),
+        Some((ctor, sort)) => {
+            let text = sort_text(alloc, sort)?;
+            line_named(alloc, kind, ctor, Some(text), parts)
+        }
+    }
+}
+
+/// The text of a sort.
+fn sort_text(alloc: Global, sort: &Sexpr) -> Result<Bytes, AllocError>
+    ensures ok { IfOk result (λ text. text ≡ written (expression_of sort.now)) }
+{
+    match sexpr_text(alloc, sort) {
+        Ok(text) => Ok(text),
+        Err(_) => Err(AllocError),
+    }
+}
+
+/// Whether a constructor belongs to the kind.
+fn has_ctor(kind: TermKind) -> bool
+    ensures value { result ≡ has_ctor kind }
+{
+    match kind {
+        TermKind::Con | TermKind::Test => true,
+        TermKind::Apply
+        | TermKind::Sel
+        | TermKind::Eq
+        | TermKind::Not
+        | TermKind::And
+        | TermKind::Or
+        | TermKind::Iff
+        | TermKind::Ite => false,
     }
 }
 
@@ -168,7 +221,7 @@ fn line_of_kind(
     ensures ok { IfOk result (λ line. line ≡ line_of_kind kind (expressions_of parts.now)) }
 {
     if !has_name(kind) {
-        return line_named(alloc, kind, b"", parts);
+        return line_named(alloc, kind, b"", None, parts);
     }
     match first_of(parts) {
         None => Ok(None),
@@ -229,7 +282,10 @@ fn is_con(kind: TermKind) -> bool
 fn is_alone(name: &[u8], line: &TermLine) -> bool
     ensures value { result ≡ is_alone name.now (Some line.now) }
 {
-    is_con(line.kind) && line.name.as_slice() == name && line.numbers.len() == 0
+    is_con(line.kind)
+        && line.name.as_slice() == name
+        && line.sort.is_none()
+        && line.numbers.len() == 0
 }
 
 /// Whether the expression is the term line with this number of a constructor with this name alone. Its only error is out of

@@ -3,7 +3,15 @@ pub mod NumbersBack
 pub mod StepsBack
 pub mod LinesBack
 pub mod SortsBack
+pub mod TermSorts
+pub mod MatchBack
+pub mod FieldsBack
+pub mod CtorFields
+pub mod ResolveBack
+pub mod SortFormBack
+pub mod StandsBack
 pub mod TermsBack
+pub mod NamedLemmas
 pub mod WholeBack
 pub mod ReadLemmas
 pub mod ReadFit

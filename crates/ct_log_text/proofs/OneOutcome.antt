@@ -14,7 +14,8 @@ use Rattle.ct_log_lines.specs.Forms.{parts_after}
 use Rattle.ct_log_text.specs.Cores.{core_with}
 use Rattle.ct_log_lines.specs.TermLines.{has_name, term_line}
 use Rattle.ct_log_text.specs.Fitting.{is_term}
-use Rattle.ct_log_text.specs.Reading.{not_yet, ReadOutcome, terms_of, Adds, StandsFor, GivesNamed, GivesLine, GivesTerm, read_lines, ReadsTerms, AfterItem, Reads, items_in, after_constant}
+use Rattle.ct_log_text.specs.Named.{symbol_at}
+use Rattle.ct_log_text.specs.Reading.{not_yet, ReadOutcome, terms_of, sorts_of, Adds, StandsFor, GivesNamed, GivesLine, GivesTerm, read_lines, ReadsTerms, AfterItem, Reads, items_in, after_constant}
 
 both_bool : (test : Bool) (X Y V W Z : Type 0) → MatchBool test X Y → MatchBool test V W → (X → V → Z) → (Y → W → Z) → Z
 both_bool true X Y V W Z h k f g = f h k
@@ -43,6 +44,10 @@ abbrev OneSort : Declarations → Type 0
 OneSort d = (terms : Terms) (core : Core) (r s : SortId) → HasSort d terms core r → HasSort d terms core s → r ≡ s
 
 module _ (d : Declarations) (symbols : OneSymbol d) (sorts : OneSort d) where
+  -- what the name of the line resolves to, and what it stands for
+  abbrev Found : Terms → TermLine → Option Symbol → Type 0
+  Found terms line symbol = (found : Option Symbol) × ResolvesTo d line.name found × (symbol ≡ symbol_at d line (sorts_of terms (terms_of line)) found)
+
   one_added : (terms : Terms) (core : Option Core) (one other : Result Terms ℕ) → Adds d terms core one → Adds d terms core other → one ≡ other
   one_added terms None one other h k = h ∙ sym k
   one_added terms (Some core) (Ok new) (Ok more_terms) h k = ap (λ ts. Ok ts) (h.3 ∙ ap (λ sort. terms ++ (core, sort) ∷ []) (sorts terms core h.0 k.0 h.1 k.1) ∙ sym k.3)
@@ -55,15 +60,15 @@ module _ (d : Declarations) (symbols : OneSymbol d) (sorts : OneSort d) where
   one_added terms (Some core) (Err code) (Err number) (inr h) (inl k) = absurd (k.1 h.1)
   one_added terms (Some core) (Err code) (Err number) (inr h) (inr k) = ap (λ n. Err n) (h.0 ∙ sym k.0)
 
-  one_meaning : (line : TermLine) (one other : Option Symbol) → StandsFor d line one → StandsFor d line other → other ≡ one
-  one_meaning line one other h k =
-      both_bool (has_name line.kind) (ResolvesTo d line.name one) (one ≡ None) (ResolvesTo d line.name other) (other ≡ None) (other ≡ one) h k
-      (symbols line.name one other) (λ p q. q ∙ sym p)
+  one_meaning : (terms : Terms) (line : TermLine) (one other : Option Symbol) → StandsFor d terms line one → StandsFor d terms line other → other ≡ one
+  one_meaning terms line one other h k =
+      both_bool (has_name line.kind) (Found terms line one) (one ≡ None) (Found terms line other) (other ≡ None) (other ≡ one) h k
+      (λ p q. q.2 ∙ ap (symbol_at d line (sorts_of terms (terms_of line))) (symbols line.name p.0 q.0 p.1 q.1) ∙ sym p.2) (λ p q. q ∙ sym p)
 
   one_named : (terms : Terms) (line : TermLine) (one other : Result Terms ℕ) → GivesNamed d terms line one → GivesNamed d terms line other → one ≡ other
   one_named terms line one other h k =
       one_added terms (core_with line.kind h.0 (terms_of line)) one other h.2
-      (subst (λ symbol. Adds d terms (core_with line.kind symbol (terms_of line)) other) (one_meaning line h.0 k.0 h.1 k.1) k.2)
+      (subst (λ symbol. Adds d terms (core_with line.kind symbol (terms_of line)) other) (one_meaning terms line h.0 k.0 h.1 k.1) k.2)
 
   one_line : (terms : Terms) (line : Option TermLine) (one other : Result Terms ℕ) → GivesLine d terms line one → GivesLine d terms line other → one ≡ other
   one_line terms None one other h k = h ∙ sym k

@@ -1,14 +1,17 @@
 -- What is written of whole derivations.
-use Rattle.std.proofs.Common.{◌≡◌, ℕ, ◌+◌, List, [], ◌∷◌, ◌++◌, Some, drop, slice_get, refl, sym, ap, ◌∙◌, append_assoc, add-one, drop-cons}
+use Rattle.std.proofs.Common.{◌≡◌, ℕ, ◌+◌, List, [], ◌∷◌, ◌++◌, Some, drop, slice_get, refl, sym, ap, ◌∙◌, append_assoc, append-nil, add-one, drop-cons}
 use Rattle.std.proofs.lemmas.Option.{get_or_from_slice_get, slice_get_within}
-use Rattle.ct_sexpr.specs.Expression.{Expressions}
-use Rattle.ct_sexpr.specs.Written.{written}
+use Rattle.ct_sexpr.specs.Expression.{Expressions, none, more}
+use Rattle.ct_sexpr.specs.Written.{written, written_after}
 use Rattle.ct_sorts.specs.declared.ids.SortId.{SortId}
 use Rattle.ct_sorts.specs.Declarations.{Declarations}
+use Rattle.ct_sorts.specs.SortText.{as_written, sort_text}
+use Rattle.ct_instances.specs.Among.{origin_of}
 use Rattle.ct_terms.specs.declared.term.Core.{Core}
 use Rattle.ct_terms.specs.declared.term.Core.TheVariants.{Con, Sel, Test, Apply, Eq, Not, And, Or, Iff, Ite}
 use Rattle.ct_terms.specs.Terms.{Terms, HasSort}
-use Rattle.ct_log_text.specs.Written.{term_item, term_items, item_lines, IsNamed}
+use Rattle.ct_log_text.specs.Written.{sort_item, term_item, term_items, item_lines, IsNamed}
+use Rattle.ct_log_text.proofs.ResolveBack.{written_canonical}
 
 -- what a well sorted term names is declared
 pub named : (d : Declarations) (terms : Terms) (core : Core) (sort : SortId) → HasSort d terms core sort → IsNamed d core
@@ -51,3 +54,11 @@ text_whole out o1 o2 o3 o4 o5 o6 header terms lines end p1 p2 p3 p4 p5 p6 =
     ∙ append_assoc (out ++ 40 ∷ (10 ∷ [])) (header ++ 10 ∷ []) (terms ++ close)
     ∙ append_assoc out (40 ∷ (10 ∷ [])) ((header ++ 10 ∷ []) ++ (terms ++ close))
     ∙ ap (λ w. out ++ 40 ∷ (10 ∷ w)) (append_assoc header (10 ∷ []) (terms ++ close) ∙ sym (append_assoc header (10 ∷ terms) close))
+
+-- a space and the text of a sort
+pub sort_put : (d : Declarations) (s : SortId) (old mid new text : List ℕ) → mid ≡ old ++ 32 ∷ [] → new ≡ mid ++ text → text ≡ sort_text d.declared.heads (origin_of d s) → new ≡ old ++ written_after (more (sort_item d s) none)
+sort_put d s old mid new text p q is =
+    q
+    ∙ ap (λ w. w ++ text) p
+    ∙ append_assoc old (32 ∷ []) text
+    ∙ ap (λ w. old ++ 32 ∷ w) (is ∙ sym (written_canonical (as_written d.declared.heads (origin_of d s))) ∙ sym (append-nil (written (sort_item d s))))

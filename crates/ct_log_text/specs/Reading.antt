@@ -1,5 +1,5 @@
 -- Reading a derivation: the record that its items give, or the first item that is refused and the number of its error.
-use Rattle.std.specs.Prelude.{◌≡◌, ℕ, ◌+◌, ◌⊎◌, List, [], ◌∷◌, ◌++◌, map, length, Option, Some, None, is_some, option_map, option_and_then, Result, Ok, Err, MatchResult, MatchBool, if◌then◌else◌, codes}
+use Rattle.std.specs.Prelude.{◌≡◌, ℕ, ◌+◌, ◌⊎◌, List, [], ◌∷◌, ◌++◌, map, length, Option, Some, None, unwrap_or, slice_get, is_some, option_map, option_and_then, Result, Ok, Err, MatchResult, MatchBool, if◌then◌else◌, codes}
 use Rattle.std.specs.List.{list_all}
 use Rattle.ct_sexpr.specs.Expression.{Expression, Expressions, none, more}
 use Rattle.ct_sorts.specs.Declarations.{Declarations}
@@ -14,6 +14,7 @@ use Rattle.ct_log.specs.Recorded.{Recorded}
 use Rattle.ct_log_lines.specs.declared.term_lines.TermLine.{TermLine}
 use Rattle.ct_log_lines.specs.Forms.{list_items, parts_after, first_with_rest, term_numbered}
 use Rattle.ct_log_text.specs.Cores.{core_with}
+use Rattle.ct_log_text.specs.Named.{symbol_at}
 use Rattle.ct_log_lines.specs.TermLines.{has_name, term_line, is_alone}
 use Rattle.ct_log_lines.specs.Lines.{line_in, is_end, header_in}
 use Rattle.ct_log_text.specs.Fitting.{is_term, has_terms, has_stripped}
@@ -39,13 +40,23 @@ Adds d terms (Some core) (Err code) = ((code ≡ misfits) × (IsWellSorted d ter
 abbrev pub terms_of : TermLine → List TermId
 terms_of line = map term_numbered line.numbers
 
--- what the name of a term line stands for; where its kind has no name, nothing
-abbrev pub StandsFor : Declarations → TermLine → Option Symbol → Type 0
-StandsFor d line symbol = MatchBool (has_name line.kind) (ResolvesTo d line.name symbol) (symbol ≡ None)
+-- the sort of a term, and those of several; each is in the table
+abbrev pub sort_of : Terms → TermId → SortId
+sort_of terms t = unwrap_or (option_map (λ (entry : Core × SortId). entry.1) (slice_get terms t.0)) (record { 0 = 0 })
+
+abbrev pub sorts_of : Terms → List TermId → List SortId
+sorts_of terms ts = map (sort_of terms) ts
+
+-- what the name of a term line stands for beside the sorts of its terms; where its kind has no name, nothing
+abbrev pub StandsFor : Declarations → Terms → TermLine → Option Symbol → Type 0
+StandsFor d terms line symbol =
+    MatchBool (has_name line.kind)
+    ((found : Option Symbol) × ResolvesTo d line.name found × (symbol ≡ symbol_at d line (sorts_of terms (terms_of line)) found))
+    (symbol ≡ None)
 
 -- what a term line gives whose numbers are those of terms
 abbrev pub GivesNamed : Declarations → Terms → TermLine → Result Terms ℕ → Type 0
-GivesNamed d terms line outcome = (symbol : Option Symbol) × StandsFor d line symbol × Adds d terms (core_with line.kind symbol (terms_of line)) outcome
+GivesNamed d terms line outcome = (symbol : Option Symbol) × StandsFor d terms line symbol × Adds d terms (core_with line.kind symbol (terms_of line)) outcome
 
 -- what an item gives after these terms, where it is this term line
 abbrev pub GivesLine : Declarations → Terms → Option TermLine → Result Terms ℕ → Type 0

@@ -1,10 +1,11 @@
 -- Which records can be written and read back: numbers of terms are below that of the terms, literals are over Boolean terms
--- that are no negations, a term and a place that are not written are 0, and numbers fit into 64 bits.
+-- that are no negations, a term and a place that are not written are 0, numbers fit into 64 bits, and the text nests no deeper than
+-- what is read.
 use Rattle.std.specs.Prelude.{◌≡◌, ℕ, ◌≤◌, Bool, true, ◌&&◌, ◌||◌, ◌==◌, nat_lt, List, [], length, Some, Ok}
 use Rattle.std.specs.List.{list_all}
 use Rattle.ct_sexpr.specs.Atom.{numeral}
-use Rattle.ct_sexpr.specs.Expression.{Expression, leaf, list, Expressions, none, more}
-use Rattle.ct_sexpr.specs.Reading.{BeginsCommand}
+use Rattle.ct_sexpr.specs.Expression.{Expression, leaf, list, Expressions, none, more, nesting}
+use Rattle.ct_sexpr.specs.Reading.{BeginsCommand, nesting_limit}
 use Rattle.ct_sorts.specs.Declarations.{Declarations}
 use Rattle.ct_terms.specs.Terms.{Terms, IsTermTable, AreSorted}
 use Rattle.ct_log.specs.Recorded.{Recorded}
@@ -44,6 +45,8 @@ pub record CanBeRead (d : Declarations) (k : ℕ) (rec : Recorded) : Type 0 wher
   pub sorted : AreSorted d rec.terms
   pub lines : list_all (is_writable rec.terms) rec.lines ≡ true
   pub short : is_short (expression_of_record d k rec) ≡ true
+  -- a sort may be nested deeper than anything that is read
+  pub nests : nesting (expression_of_record d k rec) ≤ nesting_limit
 
 -- the bytes are the text of one expression, with nothing after it, which is read as this record, with this number of a check
 pub record IsReadBack (d : Declarations) (k : ℕ) (rec : Recorded) (bytes : List ℕ) : Type 0 where

@@ -2,7 +2,12 @@
 use Rattle.std.specs.Prelude.{ℕ, ◌+◌, List, [], ◌∷◌, ◌++◌, unwrap_or, slice_get, length, map, if◌then◌else◌, codes}
 use Rattle.ct_sexpr.specs.Atom.{symbol, quoted, numeral}
 use Rattle.ct_sexpr.specs.Expression.{Expression, leaf, list, Expressions, none, more, word}
-use Rattle.ct_sexpr.specs.Written.{written, is_simple}
+use Rattle.ct_sexpr.specs.Written.{written, is_simple, canonical}
+use Rattle.ct_sorts.specs.declared.ids.CtorId.{CtorId}
+use Rattle.ct_sorts.specs.declared.ids.SortId.{SortId}
+use Rattle.ct_sorts.specs.SortText.{as_written}
+use Rattle.ct_instances.specs.Among.{origin_of}
+use Rattle.ct_instances.specs.Fields.{is_ctor_determined, sort_of_ctor}
 use Rattle.ct_sorts.specs.Declarations.{Declarations, IsConstructor, IsSelector, IsFunction, ctor_names, sel_names, function_names}
 use Rattle.ct_terms.specs.declared.ids.TermId.{TermId}
 use Rattle.ct_terms.specs.declared.ids.Lit.{Lit}
@@ -69,11 +74,23 @@ kind_of_head ite_head = kind.Ite
 abbrev pub kind_of : Core → TermKind
 kind_of core = kind_of_head (core_head core)
 
+-- a sort: its name, or the list of the generic's name and the arguments
+abbrev pub sort_item : Declarations → SortId → Expression
+sort_item d s = canonical (as_written d.declared.heads (origin_of d s))
+
+-- a constructor with its sort, `(as C S)`
+abbrev pub qualified_item : Declarations → CtorId → Expression
+qualified_item d c = row (codes "as") (more (name (unwrap_or (slice_get (ctor_names d) c.0) [])) (more (sort_item d (sort_of_ctor d c)) none))
+
+-- a constructor: its name, or `(as C S)` where the sorts of its fields do not determine its own
+abbrev pub ctor_item : Declarations → CtorId → Expression
+ctor_item d c = if is_ctor_determined d c then name (unwrap_or (slice_get (ctor_names d) c.0) []) else qualified_item d c
+
 -- what stands after the word of a term: the name at its head, where it has one, and the numbers of the terms under it
 abbrev pub with_head_name : Declarations → CoreHead → Expressions → Expressions
-with_head_name d (con_head c) parts = more (name (unwrap_or (slice_get (ctor_names d) c.0) [])) parts
+with_head_name d (con_head c) parts = more (ctor_item d c) parts
 with_head_name d (sel_head s) parts = more (name (unwrap_or (slice_get (sel_names d) s.0) [])) parts
-with_head_name d (test_head c) parts = more (name (unwrap_or (slice_get (ctor_names d) c.0) [])) parts
+with_head_name d (test_head c) parts = more (ctor_item d c) parts
 with_head_name d (apply_head f) parts = more (name (unwrap_or (slice_get (function_names d) f.0) [])) parts
 with_head_name d eq_head parts = parts
 with_head_name d not_head parts = parts

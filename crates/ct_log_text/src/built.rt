@@ -25,7 +25,14 @@ fn con_of(symbol: Option<Symbol>, args: Args) -> Option<Core>
 {
     match symbol {
         Some(Symbol::Ctor(c)) => Some(Core::Con(c, args)),
-        Some(Symbol::Sel(_)) | Some(Symbol::Fun(_)) | Some(Symbol::Def(_)) | None => None,
+        Some(
+            Symbol::Sel(_)
+            | Symbol::Fun(_)
+            | Symbol::Def(_)
+            | Symbol::GenCtor(_, _)
+            | Symbol::GenSel(_, _, _),
+        )
+        | None => None,
     }
 }
 
@@ -35,7 +42,14 @@ fn apply_of(symbol: Option<Symbol>, args: Args) -> Option<Core>
 {
     match symbol {
         Some(Symbol::Fun(f)) => Some(Core::Apply(f, args)),
-        Some(Symbol::Ctor(_)) | Some(Symbol::Sel(_)) | Some(Symbol::Def(_)) | None => None,
+        Some(
+            Symbol::Ctor(_)
+            | Symbol::Sel(_)
+            | Symbol::Def(_)
+            | Symbol::GenCtor(_, _)
+            | Symbol::GenSel(_, _, _),
+        )
+        | None => None,
     }
 }
 
@@ -76,7 +90,14 @@ fn sel_of(symbol: Option<Symbol>, args: &[TermId]) -> Option<Core>
     let t = one_term(args)?;
     match symbol {
         Some(Symbol::Sel(s)) => Some(Core::Sel(s, t)),
-        Some(Symbol::Ctor(_)) | Some(Symbol::Fun(_)) | Some(Symbol::Def(_)) | None => None,
+        Some(
+            Symbol::Ctor(_)
+            | Symbol::Fun(_)
+            | Symbol::Def(_)
+            | Symbol::GenCtor(_, _)
+            | Symbol::GenSel(_, _, _),
+        )
+        | None => None,
     }
 }
 
@@ -87,7 +108,14 @@ fn test_of(symbol: Option<Symbol>, args: &[TermId]) -> Option<Core>
     let t = one_term(args)?;
     match symbol {
         Some(Symbol::Ctor(c)) => Some(Core::Test(c, t)),
-        Some(Symbol::Sel(_)) | Some(Symbol::Fun(_)) | Some(Symbol::Def(_)) | None => None,
+        Some(
+            Symbol::Sel(_)
+            | Symbol::Fun(_)
+            | Symbol::Def(_)
+            | Symbol::GenCtor(_, _)
+            | Symbol::GenSel(_, _, _),
+        )
+        | None => None,
     }
 }
 

@@ -3,6 +3,7 @@
 
 mod built;
 mod fitting;
+mod named;
 mod put;
 mod put_line;
 mod put_term;

@@ -1,13 +1,14 @@
 //! What is written of term lines.
 ghost use Rattle.std.specs.Prelude.{◌≡◌, [], ◌∷◌, ◌++◌, unwrap_or, slice_get, OnOk};
-ghost use Rattle.ct_sexpr.specs.Expression.{more};
+ghost use Rattle.ct_sexpr.specs.Expression.{more, none};
 ghost use Rattle.ct_sexpr.specs.Written.{written, written_after};
-ghost use Rattle.ct_sorts.specs.Declarations.{IsConstructor, IsSelector, IsFunction, ctor_names, sel_names, function_names};
-ghost use Rattle.ct_log_text.specs.Written.{name, numbers, term_numbers, kind_of, core_parts, term_item, IsNamed};
+ghost use Rattle.ct_sorts.specs.Declarations.{IsSort, IsConstructor, IsSelector, IsFunction, sel_names, function_names};
+ghost use Rattle.ct_log_text.specs.Written.{name, sort_item, qualified_item, ctor_item, numbers, term_numbers, kind_of, core_parts, term_item, IsNamed};
 
 use crate::put::{open_row, put_name_after, put_number_after, put_terms, put_word_after};
+use ct_instances::{has_determined_sort, sort_text};
 use ct_log_lines::{TermKind, kind_word};
-use ct_sorts::{CtorId, FunId, SelId, Signature};
+use ct_sorts::{CtorId, FunId, SelId, Signature, SortId};
 use ct_terms::{Core, TermId};
 use std::alloc::{AllocError, Global};
 
@@ -38,10 +39,42 @@ fn put_con(
     out: &mut Vec<u8>,
 ) -> Result<(), AllocError>
     requires declared { IsConstructor sig.now c }
-    ensures ok { OnOk result (out.new.items ≡ out.old.items ++ written_after (more (name (unwrap_or (slice_get (ctor_names sig.now) c.0) [])) (numbers (term_numbers terms.now)))) }
+    ensures ok { OnOk result (out.new.items ≡ out.old.items ++ written_after (more (ctor_item sig.now c) (numbers (term_numbers terms.now)))) }
 {
-    put_name_after(sig.ctor_name(c), out)?;
+    put_ctor_after(sig, c, out)?;
     put_terms(alloc, terms, out)
+}
+
+/// Writes a space and a constructor: its name, or `(as C S)` where the sorts of its fields do not determine its own.
+fn put_ctor_after(sig: &Signature, c: CtorId, out: &mut Vec<u8>) -> Result<(), AllocError>
+    requires declared { IsConstructor sig.now c }
+    ensures ok { OnOk result (out.new.items ≡ out.old.items ++ written_after (more (ctor_item sig.now c) none)) }
+{
+    if has_determined_sort(sig, c) {
+        return put_name_after(sig.ctor_name(c), out);
+    }
+    put_qualified_after(sig, c, out)
+}
+
+/// Writes a space and a constructor with its sort.
+fn put_qualified_after(sig: &Signature, c: CtorId, out: &mut Vec<u8>) -> Result<(), AllocError>
+    requires declared { IsConstructor sig.now c }
+    ensures ok { OnOk result (out.new.items ≡ out.old.items ++ written_after (more (qualified_item sig.now c) none)) }
+{
+    out.push(b' ')?;
+    open_row(b"as", out)?;
+    put_name_after(sig.ctor_name(c), out)?;
+    put_sort_after(sig, sig.ctor_sort(c), out)?;
+    Ok(out.push(b')')?)
+}
+
+/// Writes a space and a sort.
+fn put_sort_after(sig: &Signature, s: SortId, out: &mut Vec<u8>) -> Result<(), AllocError>
+    requires inside { IsSort sig.now s }
+    ensures ok { OnOk result (out.new.items ≡ out.old.items ++ written_after (more (sort_item sig.now s) none)) }
+{
+    out.push(b' ')?;
+    Ok(out.extend_from_slice(sort_text(sig, s))?)
 }
 
 /// Writes a selector and its term, each after a space.

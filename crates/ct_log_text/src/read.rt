@@ -9,13 +9,14 @@ ghost use Rattle.ct_log_text.specs.Reading.{departs, Adds, StandsFor, GivesLine,
 
 use crate::built::{core_of, terms_of};
 use crate::fitting::{are_terms, has_stripped, has_terms};
+use crate::named::symbol_of;
 use ct_log::{Line, LogError, Record};
 use ct_log_lines::{
-    TermLine, first_of, has_name, header_in, is_constant_line, is_end, line_in, parts_after,
-    parts_of, term_line,
+    TermLine, first_of, header_in, is_constant_line, is_end, line_in, parts_after, parts_of,
+    term_line,
 };
 use ct_sexpr::Sexpr;
-use ct_sorts::{Signature, Symbol, growth};
+use ct_sorts::{Signature, growth};
 use ct_terms::{Core, TermTable, is_well_sorted};
 use std::alloc::Global;
 
@@ -163,8 +164,9 @@ fn read_into(
     table: &mut TermTable,
     items: &[Sexpr],
 ) -> Result<Vec<Line>, LogError>
+    requires terms { AreSorted sig.now table.old }
     ensures ok { IfOk result (λ lines. ReadsTerms sig.now 3 table.old (expressions_of items.now) (Ok (record { terms = table.new; lines = lines.items }))) }
-    ensures sorted { AreSorted sig.now table.old → OnOk result (AreSorted sig.now table.new) }
+    ensures sorted { OnOk result (AreSorted sig.now table.new) }
     ensures form { (item code : ℕ) → IsErrOf result (Form item code) → ReadsTerms sig.now 3 table.old (expressions_of items.now) (Err (item, code)) }
 {
     let (place, rest) = add_terms(alloc, sig, table, items)?;
@@ -178,10 +180,11 @@ fn add_terms<'a>(
     table: &mut TermTable,
     items: &'a [Sexpr],
 ) -> Result<(u64, &'a [Sexpr]), LogError>
+    requires terms { AreSorted sig.now table.old }
     ensures ok { IfOk result (λ at. (outcome : ReadOutcome) → outcome ≡ read_lines at.0 table.new [] (expressions_of at.1.now)
         → ReadsTerms sig.now 3 table.old (expressions_of items.now) outcome) }
     ensures place { IfOk result (λ at. at.0 + length at.1.now ≡ 3 + length items.now) }
-    ensures sorted { AreSorted sig.now table.old → OnOk result (AreSorted sig.now table.new) }
+    ensures sorted { OnOk result (AreSorted sig.now table.new) }
     ensures form { (item code : ℕ) → IsErrOf result (Form item code) → ReadsTerms sig.now 3 table.old (expressions_of items.now) (Err (item, code)) }
 {
     let mut place = 3;
@@ -206,10 +209,11 @@ fn add_term(
     table: &mut TermTable,
     item: &Sexpr,
 ) -> Result<Option<u16>, LogError>
+    requires terms { AreSorted sig.now table.old }
     ensures ok { IfOk result (λ refused. MatchOption refused
         (GivesTerm sig.now table.old (expression_of item.now) (Ok table.new))
         (λ code. GivesTerm sig.now table.old (expression_of item.now) (Err code))) }
-    ensures sorted { AreSorted sig.now table.old → OnOk result (AreSorted sig.now table.new) }
+    ensures sorted { OnOk result (AreSorted sig.now table.new) }
     ensures err { IfErr result (λ e. e ≡ NoMemory) }
 {
     match term_line(alloc, table.len() as u64, item)? {
@@ -226,28 +230,19 @@ fn add_line(
     line: &TermLine,
 ) -> Result<Option<u16>, LogError>
     requires room { length table.old < most_terms }
+    requires terms { AreSorted sig.now table.old }
     ensures ok { IfOk result (λ refused. MatchOption refused
         (GivesLine sig.now table.old (Some line.now) (Ok table.new))
         (λ code. GivesLine sig.now table.old (Some line.now) (Err code))) }
-    ensures sorted { AreSorted sig.now table.old → OnOk result (AreSorted sig.now table.new) }
+    ensures sorted { OnOk result (AreSorted sig.now table.new) }
     ensures err { IfErr result (λ e. e ≡ NoMemory) }
 {
     let args = terms_of(alloc, line.numbers.as_slice())?;
     if !are_terms(table.len(), args.as_slice()) {
         return Ok(Some(NOT_YET));
     }
-    let symbol = symbol_of(sig, line);
+    let symbol = symbol_of(alloc, sig, table, line, args.as_slice())?;
     add_core(sig, table, core_of(line.kind, symbol, args))
-}
-
-/// What the name of a term line stands for, where its kind has a name.
-fn symbol_of(sig: &Signature, line: &TermLine) -> Option<Symbol>
-    ensures stands { StandsFor sig.now line.now result }
-{
-    if has_name(line.kind) {
-        return sig.lookup(line.name.as_slice());
-    }
-    None
 }
 
 /// Puts the term into the table, where there is one that is well sorted and new.

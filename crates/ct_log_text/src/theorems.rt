@@ -12,8 +12,8 @@ ghost use Rattle.ct_log_text.specs.Reading.{ReadOutcome, Reads, number_of};
 ghost use Rattle.ct_log_text.specs.Written.{expression_of_record, text_of};
 ghost use Rattle.ct_log_text.specs.Writable.{CanBeRead, is_writable};
 
-use ct_sexpr::spaced_texts;
-use ct_sorts::naming;
+use ct_sexpr::{spaced_texts, written_texts};
+use ct_sorts::{naming, shapes};
 use ct_terms::one_lasting_sort;
 
 /// The theorems on derivations that are written and read back, for whoever proves something about
@@ -22,8 +22,8 @@ use ct_terms::one_lasting_sort;
 /// What is written of a record that fits the declarations, with the number of a check, is read as
 /// that record and that number. The numbers of its terms are those of terms of its table, its
 /// literals are over Boolean terms that are no negations, terms and places that are not written are
-/// 0, and numbers are below 2^64. Of a record that was read all but the last holds: its lines can
-/// be written.
+/// 0, numbers are below 2^64, and it nests within the limit of what is read, which sorts with
+/// arguments may pass. Of a record that was read all but the last two hold: its lines can be written.
 ///
 /// A list has one reading: one record, or one first item that is refused with one number of an error.
 pub fn reads_back()
@@ -37,6 +37,7 @@ pub fn reads_back()
         → Reads d e one → Reads d e other → one ≡ other }
 {
     naming();
+    shapes();
     one_lasting_sort();
 }
 
@@ -53,4 +54,5 @@ pub fn text_is_read()
         → BeginsCommand (text_of (expression_of_record d k rec)) (expression_of_record d k rec) [] }
 {
     spaced_texts();
+    written_texts();
 }

@@ -7,7 +7,7 @@ use Rattle.ct_sorts.specs.declared.ids.SortId.{SortId}
 use Rattle.ct_sorts.specs.declared.ids.CtorId.{CtorId}
 use Rattle.ct_sorts.specs.Declarations.{Declarations, Constructor, Selector, Function, function_names, sel_names}
 use Rattle.ct_sexpr.specs.Written.{written_name}
-use Rattle.ct_value_text.specs.ValueText.{sort_name}
+use Rattle.ct_value_text.specs.ValueText.{sort_text}
 use Rattle.ct_values.specs.Graph.{Nodes}
 use Rattle.ct_values.specs.Fitting.{HasNodeSort}
 use Rattle.ct_eval.specs.declared.interp.Row.{Row}
@@ -54,17 +54,17 @@ definition-parts : (d : Declarations) (word name : List ℕ) (args : List SortId
 definition-parts d word name args sort body old begun headed bodied new p q r s =
     s
     ∙ ap (λ w. w ++ 41 ∷ []) (r ∙ ap (λ w. w ++ body) (q ∙ ap (λ w. w ++ heading d name args sort) p))
-    ∙ regroup-definition old word (written_name name) (listed (parameters d 0 args)) (written_name (sort_name d sort.0)) body
+    ∙ regroup-definition old word (written_name name) (listed (parameters d 0 args)) (sort_text d sort.0) body
 
 -- what stands before a body, from its parts
 pub heading-parts : (d : Declarations) (name : List ℕ) (args : List SortId) (sort : SortId) (old named after listed_args spaced sorted new : List ℕ)
     → named ≡ old ++ written_name name → after ≡ named ++ 32 ∷ [] → listed_args ≡ after ++ listed (parameters d 0 args) → spaced ≡ listed_args ++ 32 ∷ []
-    → sorted ≡ spaced ++ written_name (sort_name d sort.0) → new ≡ sorted ++ 32 ∷ []
+    → sorted ≡ spaced ++ sort_text d sort.0 → new ≡ sorted ++ 32 ∷ []
     → new ≡ old ++ heading d name args sort
 heading-parts d name args sort old named after listed_args spaced sorted new p q r s t u =
     u
-    ∙ ap (λ w. w ++ 32 ∷ []) (t ∙ ap (λ w. w ++ written_name (sort_name d sort.0)) (s ∙ ap (λ w. w ++ 32 ∷ []) (r ∙ ap (λ w. w ++ listed (parameters d 0 args)) (q ∙ ap (λ w. w ++ 32 ∷ []) p))))
-    ∙ regroup old (written_name name) (listed (parameters d 0 args)) (written_name (sort_name d sort.0))
+    ∙ ap (λ w. w ++ 32 ∷ []) (t ∙ ap (λ w. w ++ sort_text d sort.0) (s ∙ ap (λ w. w ++ 32 ∷ []) (r ∙ ap (λ w. w ++ listed (parameters d 0 args)) (q ∙ ap (λ w. w ++ 32 ∷ []) p))))
+    ∙ regroup old (written_name name) (listed (parameters d 0 args)) (sort_text d sort.0)
 
 module _ (d : Declarations) (i : Interp) (proper : IsProper d i) where
   -- the table of a declared function

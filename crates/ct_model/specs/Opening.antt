@@ -4,13 +4,13 @@ use Rattle.std.specs.Prelude.{ℕ, zero, suc, List, [], ◌∷◌, ◌++◌, cod
 use Rattle.ct_sorts.specs.declared.ids.SortId.{SortId}
 use Rattle.ct_sorts.specs.Declarations.{Declarations}
 use Rattle.ct_sexpr.specs.Written.{written_name}
-use Rattle.ct_value_text.specs.ValueText.{sort_name}
+use Rattle.ct_value_text.specs.ValueText.{sort_text}
 use Rattle.ct_model.specs.Listed.{listed}
 use Rattle.ct_model.specs.TableText.{RowTexts, row_test, parameters}
 
 -- what is written before a body, after the first word: `f ((@x0 S0) ..) T ` with the space at the end
 abbrev pub heading : Declarations → List ℕ → List SortId → SortId → List ℕ
-heading d name args result = written_name name ++ 32 ∷ (listed (parameters d 0 args) ++ 32 ∷ (written_name (sort_name d result.0) ++ 32 ∷ []))
+heading d name args result = written_name name ++ 32 ∷ (listed (parameters d 0 args) ++ 32 ∷ (sort_text d result.0 ++ 32 ∷ []))
 
 -- what is written of a row before the rest, `(ite test result ` with the space at the end
 abbrev pub opening : RowTexts → List ℕ

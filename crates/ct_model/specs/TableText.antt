@@ -8,7 +8,7 @@ use Rattle.ct_sexpr.specs.Written.{written_name}
 use Rattle.ct_values.specs.declared.node.NodeId.{NodeId}
 use Rattle.ct_values.specs.Graph.{Nodes}
 use Rattle.ct_value_text.specs.Numeral.{numeral}
-use Rattle.ct_value_text.specs.ValueText.{sort_name, IsValueText}
+use Rattle.ct_value_text.specs.ValueText.{sort_text, IsValueText}
 use Rattle.ct_eval.specs.declared.interp.Row.{Row}
 use Rattle.ct_eval.specs.declared.interp.Table.{Table}
 use Rattle.ct_eval.specs.declared.interp.Interp.{Interp}
@@ -20,7 +20,7 @@ parameter n = 64 ∷ (120 ∷ numeral n)
 
 -- the parameter n and its sort, as `(@x3 S)`
 abbrev pub sorted_parameter : Declarations → ℕ → SortId → List ℕ
-sorted_parameter d n s = listed (parameter n ∷ (written_name (sort_name d s.0) ∷ []))
+sorted_parameter d n s = listed (parameter n ∷ (sort_text d s.0 ∷ []))
 
 -- the parameters from the number n on, of these sorts
 abbrev pub parameters : Declarations → ℕ → List SortId → List (List ℕ)
@@ -82,7 +82,7 @@ IsBodyText d g (s ∷ ss) table text = IsChoiceText d g table text
 -- a table as `(word name ((@x0 S0) ..) T body)`
 abbrev pub definition : Declarations → List ℕ → List ℕ → List SortId → SortId → List ℕ → List ℕ
 definition d word name args result body =
-    listed (word ∷ (written_name name ∷ (listed (parameters d 0 args) ∷ (written_name (sort_name d result.0) ∷ (body ∷ [])))))
+    listed (word ∷ (written_name name ∷ (listed (parameters d 0 args) ∷ (sort_text d result.0 ∷ (body ∷ [])))))
 
 -- the text of the table of the function f: `(define-fun name ((@x0 S0) ..) T body)`
 pub record IsTableText (d : Declarations) (i : Interp) (f : ℕ) (text : List ℕ) : Type 0 where

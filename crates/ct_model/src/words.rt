@@ -5,12 +5,13 @@ ghost use Rattle.ct_sexpr.specs.Written.{written_name};
 ghost use Rattle.ct_values.specs.Fitting.{FitsGraph};
 ghost use Rattle.ct_value_text.specs.Numeral.{numeral};
 ghost use Rattle.ct_value_text.specs.Separation.{gap};
-ghost use Rattle.ct_value_text.specs.ValueText.{sort_name, IsValueText};
+ghost use Rattle.ct_value_text.specs.ValueText.{sort_text as text_of_sort, IsValueText};
 ghost use Rattle.ct_model.specs.Within.{IsNode};
 ghost use Rattle.ct_model.specs.Listed.{listed};
 ghost use Rattle.ct_model.specs.TableText.{parameter, sorted_parameter, parameters};
 
 use crate::error::ModelError;
+use ct_instances::sort_text;
 use ct_sexpr::is_simple;
 use ct_sorts::{Signature, SortId};
 use ct_value_text::value_text;
@@ -29,12 +30,12 @@ pub(crate) fn write_name(name: &[u8], out: &mut Vec<u8>) -> Result<(), ModelErro
     Ok(out.push(b'|')?)
 }
 
-/// Writes the name of a sort.
+/// Writes the text of a sort.
 pub(crate) fn write_sort(sig: &Signature, s: SortId, out: &mut Vec<u8>) -> Result<(), ModelError>
     requires declared { IsSort sig.now s }
-    ensures ok { OnOk result (out.new.items ≡ out.old.items ++ written_name (sort_name sig.now s.0)) }
+    ensures ok { OnOk result (out.new.items ≡ out.old.items ++ text_of_sort sig.now s.0) }
 {
-    write_name(sig.sort_name(s), out)
+    Ok(out.extend_from_slice(sort_text(sig, s))?)
 }
 
 // Writes the number in decimal.

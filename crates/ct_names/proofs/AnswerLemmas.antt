@@ -2,8 +2,13 @@
 use Rattle.std.proofs.Common.{◌≡◌, Result, Ok, Err, refl, ◌∙◌, ap}
 use Rattle.ct_names.specs.declared.error.CheckError.{CheckError}
 use Rattle.ct_names.specs.declared.error.CheckError.TheVariants.{Refused, NoMemory}
-use Rattle.ct_names.specs.Outcome.{Outcome, and_then}
-use Rattle.ct_names.specs.Answer.{IsAnswerFor, ContinuesWith}
+use Rattle.ct_sorts.specs.Declarations.{Declarations}
+use Rattle.ct_names.specs.declared.needs.Needs.{Needs}
+use Rattle.ct_names.specs.declared.stop.Stop.{Stop}
+use Rattle.ct_names.specs.declared.stop.Stop.TheVariants as stop
+use Rattle.ct_names.specs.Outcome.{Outcome, Elaborated, and_then, step}
+use Rattle.ct_names.specs.Answer.{IsAnswerFor, ContinuesWith, StopsAt}
+use Rattle.ct_names.specs.Stopped.{stop_of}
 
 pub answers_along : {X Y : Type 0} (view : X → Y) (whole part : Outcome Y) (r : Result X CheckError) → whole ≡ part → IsAnswerFor view part r → IsAnswerFor view whole r
 answers_along view whole part (Ok x) e h = e ∙ h
@@ -46,3 +51,28 @@ and_then-self (Err e) = refl
 pub leads_memory : {X Y : Type 0} (next : X → Outcome Y) (whole : Outcome Y) (e : CheckError) → e ≡ NoMemory → ContinuesWith whole next (Err e)
 leads_memory next whole (Refused n) is = absurd cc
 leads_memory next whole NoMemory is = tt
+
+-- ---- the same of elaboration
+
+pub stops_along : {X Y : Type 0} (needs : Needs) (d : Declarations) (view : X → Y) (whole part : Elaborated Y) (r : Result X Stop) → whole ≡ part → StopsAt needs d view part r → StopsAt needs d view whole r
+stops_along needs d view whole part (Ok x) e h = e ∙ h
+stops_along needs d view whole part (Err (stop.Refused n)) e h = e ∙ h
+stops_along needs d view whole part (Err stop.Missing) e h = (h.0, h.1, e ∙ h.2)
+stops_along needs d view whole part (Err stop.NoMemory) e h = tt
+
+-- an error of a step is one of the whole
+pub stops_error : {X Y Z W : Type 0} (needs : Needs) (d : Declarations) (view : X → Y) (other : W → Z) (whole : Elaborated Z) (first : Elaborated Y) (next : Y → Elaborated Z) (e : Stop) → whole ≡ and_then first next → StopsAt needs d view first (Err e) → StopsAt needs d other whole (Err e)
+stops_error needs d view other whole first next (stop.Refused n) is h = is ∙ ap (λ o. and_then o next) h
+stops_error needs d view other whole first next stop.Missing is h = (h.0, h.1, is ∙ ap (λ o. and_then o next) h.2)
+stops_error needs d view other whole first next stop.NoMemory is h = tt
+
+-- out of memory says nothing
+pub stops_memory : {X Y : Type 0} (needs : Needs) (d : Declarations) (view : X → Y) (whole : Elaborated Y) (e : Stop) → e ≡ stop.NoMemory → StopsAt needs d view whole (Err e)
+stops_memory needs d view whole (stop.Refused n) is = absurd cc
+stops_memory needs d view whole stop.Missing is = absurd cc
+stops_memory needs d view whole stop.NoMemory is = tt
+
+-- an error of a name or a pattern is one of elaboration
+pub stops_of : {X Y Z W : Type 0} (needs : Needs) (d : Declarations) (view : X → Y) (other : W → Z) (whole : Elaborated Z) (first : Outcome Y) (next : Y → Elaborated Z) (e : CheckError) → whole ≡ and_then (step first) next → IsAnswerFor view first (Err e) → StopsAt needs d other whole (Err (stop_of e))
+stops_of needs d view other whole first next (Refused n) is h = is ∙ ap (λ o. and_then (step o) next) h
+stops_of needs d view other whole first next NoMemory is h = tt

@@ -4,13 +4,13 @@ use Rattle.std.proofs.lemmas.Bool.{true≢false}
 use Rattle.ct_sexpr.specs.declared.sexpr.Sexpr.{Sexpr}
 use Rattle.ct_sexpr.specs.View.{expression_of, expressions_of}
 use Rattle.ct_sorts.specs.Declarations.{Declarations}
-use Rattle.ct_names.specs.Outcome.{Outcome, Sorted}
+use Rattle.ct_names.specs.Outcome.{Elaborated, Sorted}
 use Rattle.ct_names.specs.Variables.{Variable}
 use Rattle.ct_names.specs.Parts.{list_part}
 use Rattle.ct_names.specs.Forms.{is_name, is_pattern, is_binding, is_case, are_attributes, are_attributes_from}
 use Rattle.ct_names.specs.Elaboration.{part_of, parts_of}
 
-module _ (d : Declarations) (m : List Variable → Outcome Sorted) where
+module _ (d : Declarations) (m : List Variable → Elaborated Sorted) where
   pub is_binding-fewer : (items : List Sexpr) → length items < 2 → false ≡ is_binding (list_part (parts_of d (expressions_of items)) m)
   is_binding-fewer [] h = refl
   is_binding-fewer (a ∷ []) h = refl

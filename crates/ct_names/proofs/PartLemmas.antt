@@ -1,7 +1,7 @@
 -- Parts of expressions in memory.
-use Rattle.std.proofs.Common.{◌≡◌, ℕ, zero, suc, ◌+◌, ◌-◌, ◌<◌, ◌≤◌, List, [], ◌∷◌, ◌++◌, length, get_or, take, drop, Vec, Global, refl, sym, ◌∙◌, ap, arith}
+use Rattle.std.proofs.Common.{◌≡◌, ℕ, zero, suc, ◌+◌, ◌<◌, ◌≤◌, List, [], ◌∷◌, ◌++◌, length, get_or, take, drop, Vec, Global, refl, sym, ◌∙◌, ap, arith}
 use Rattle.ct_sexpr.specs.declared.sexpr.Sexpr.{Sexpr, List as list_in_memory}
-use Rattle.ct_sexpr.specs.Expression.{Expression}
+use Rattle.ct_sexpr.specs.Expression.{Expression, list}
 use Rattle.ct_sexpr.specs.View.{expression_of, expressions_of}
 use Rattle.ct_sorts.specs.Declarations.{Declarations}
 use Rattle.ct_names.specs.Parts.{list_part, count, name_of}
@@ -15,6 +15,10 @@ pub part_of_list : (d : Declarations) (expr : Sexpr) (items : Vec Sexpr Global) 
 part_of_list d expr items slice is same =
     ap (λ (e : Sexpr). part_of d (expression_of e)) is ∙ ap (λ (e : Expression). part_of d e) (expression_of_list items)
     ∙ ap (λ (xs : List Sexpr). list_part (parts_of d (expressions_of xs)) (list_meaning d (parts_of d (expressions_of xs)))) (sym same)
+
+-- and a list of its items' expressions
+pub expression_of_items : (expr : Sexpr) (items : Vec Sexpr Global) (slice : List Sexpr) → expr ≡ list_in_memory items → slice ≡ items.items → expression_of expr ≡ list (expressions_of slice)
+expression_of_items expr items slice is same = ap (λ (e : Sexpr). expression_of e) is ∙ expression_of_list items ∙ ap (λ (xs : List Sexpr). list (expressions_of xs)) (sym same)
 
 -- as many parts as items
 pub count-parts : (d : Declarations) (xs : List Sexpr) → count (parts_of d (expressions_of xs)) ≡ length xs

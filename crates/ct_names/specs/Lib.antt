@@ -1,9 +1,12 @@
 pub mod Refusals
 pub mod Outcome
+pub mod Needs
 pub mod Answer
+pub mod Stopped
 pub mod Variables
 pub mod Repeats
 pub mod Parts
+pub mod Sorts
 pub mod Symbols
 pub mod Forms
 pub mod Patterns

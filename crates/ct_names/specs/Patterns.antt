@@ -8,9 +8,11 @@ use Rattle.ct_sorts.specs.declared.ids.Kind.TheVariants.{Bool as BoolKind, Free,
 use Rattle.ct_sorts.specs.Declarations.{Declarations, Sort}
 use Rattle.ct_formulas.specs.declared.tree.Pattern.{Pattern}
 use Rattle.ct_formulas.specs.declared.tree.Pattern.TheVariants.{Ctor, Any}
+use Rattle.ct_instances.specs.declared.among.NamedCtor.{NamedCtor}
+use Rattle.ct_instances.specs.Among.{ctor_among}
 use Rattle.ct_names.specs.Refusals.{unknown_symbol, wrong_count, wrong_sort, foreign_pattern, repeated_variable, out_of_scope}
-use Rattle.ct_names.specs.Outcome.{Outcome, unless_refused, is_sort}
-use Rattle.ct_names.specs.Symbols.{ctor_named, ctor_sort, ctor_field_sorts}
+use Rattle.ct_names.specs.Outcome.{Outcome, and_then, unless_refused}
+use Rattle.ct_names.specs.Symbols.{ctor_named, ctor_field_sorts}
 use Rattle.ct_names.specs.Parts.{Part, Parts, atom_part, list_part, no_parts, with_part, name_of}
 use Rattle.ct_names.specs.Variables.{Variable, variables, present_names, has_repeated}
 
@@ -27,28 +29,33 @@ variable_names (with_part e es) = name_of e ∷ variable_names es
 abbrev pub any_pattern : SortId → Option (List ℕ) → Binding
 any_pattern side name = (Any, record { name = name; sort = side } ∷ [])
 
+-- the constructor, where it is one of the sort
+abbrev pub own_ctor : Option CtorId → Outcome CtorId
+own_ctor None = Err foreign_pattern
+own_ctor (Some c) = Ok c
+
 -- a constructor that stands alone: it is of the sort, and has no fields
-abbrev pub lone_ctor : Declarations → SortId → CtorId → Outcome Binding
-lone_ctor d side c =
-    unless_refused (is_sort (ctor_sort d c) side) foreign_pattern
-    (unless_refused (length (ctor_field_sorts d c) == 0) wrong_count (Ok (Ctor c, [])))
+abbrev pub lone_ctor : Declarations → SortId → NamedCtor → Outcome Binding
+lone_ctor d side ctor =
+    and_then (own_ctor (ctor_among d ctor side)) (λ c.
+    unless_refused (length (ctor_field_sorts d c) == 0) wrong_count (Ok (Ctor c, [])))
 
 -- a name that stands alone: a constructor of this name, and else a variable
-abbrev pub lone_pattern : Declarations → SortId → List ℕ → Option CtorId → Outcome Binding
+abbrev pub lone_pattern : Declarations → SortId → List ℕ → Option NamedCtor → Outcome Binding
 lone_pattern d side name None = Ok (any_pattern side (Some name))
 lone_pattern d side name (Some c) = lone_ctor d side c
 
 -- a constructor with variables: it is of the sort, has as many fields, at least one, and no variable stands twice
-abbrev pub ctor_with : Declarations → SortId → List (Option (List ℕ)) → CtorId → Outcome Binding
-ctor_with d side names c =
-    unless_refused (is_sort (ctor_sort d c) side) foreign_pattern
-    (unless_refused (length names == length (ctor_field_sorts d c)) wrong_count
+abbrev pub ctor_with : Declarations → SortId → List (Option (List ℕ)) → NamedCtor → Outcome Binding
+ctor_with d side names ctor =
+    and_then (own_ctor (ctor_among d ctor side)) (λ c.
+    unless_refused (length names == length (ctor_field_sorts d c)) wrong_count
     (unless_refused (not (length names == 0)) out_of_scope
     (unless_refused (not (has_repeated (present_names names))) repeated_variable
     (Ok (Ctor c, variables names (ctor_field_sorts d c))))))
 
 -- the head of a pattern with variables: a constructor
-abbrev pub headed_pattern : Declarations → SortId → List (Option (List ℕ)) → Option CtorId → Outcome Binding
+abbrev pub headed_pattern : Declarations → SortId → List (Option (List ℕ)) → Option NamedCtor → Outcome Binding
 headed_pattern d side names None = Err unknown_symbol
 headed_pattern d side names (Some c) = ctor_with d side names c
 
@@ -58,7 +65,7 @@ leaf_pattern d side None = Ok (any_pattern side None)
 leaf_pattern d side (Some name) = lone_pattern d side name (ctor_named d name)
 
 -- the constructor that the name is
-abbrev pub ctor_at : Declarations → Option (List ℕ) → Option CtorId
+abbrev pub ctor_at : Declarations → Option (List ℕ) → Option NamedCtor
 ctor_at d None = None
 ctor_at d (Some name) = ctor_named d name
 

@@ -5,6 +5,10 @@ use Rattle.std.specs.Prelude.{ℕ}
 abbrev pub unknown_sort : ℕ
 unknown_sort = 12
 
+-- sort of a constructor that is not determined
+abbrev pub undetermined : ℕ
+undetermined = 19
+
 -- unknown symbol
 abbrev pub unknown_symbol : ℕ
 unknown_symbol = 21

@@ -5,39 +5,45 @@ use Rattle.ct_sorts.specs.declared.ids.SortId.{SortId}
 use Rattle.ct_sorts.specs.declared.ids.CtorId.{CtorId}
 use Rattle.ct_sorts.specs.declared.ids.SelId.{SelId}
 use Rattle.ct_sorts.specs.declared.ids.Symbol.{Symbol}
-use Rattle.ct_sorts.specs.declared.ids.Symbol.TheVariants.{Ctor, Sel, Fun, Def}
-use Rattle.ct_sorts.specs.Declarations.{Declarations, Constructor, Selector, Function, sort_names, ctor_names, sel_names, function_names, definition_names}
-use Rattle.ct_formulas.specs.Formula.{Formula, Formulas, Con, Apply, Def as DefFormula, Sel as SelFormula, no_formulas, with_formula}
+use Rattle.ct_sorts.specs.declared.ids.Symbol.TheVariants.{Ctor, Sel, Fun, Def, GenCtor, GenSel}
+use Rattle.ct_sorts.specs.Declarations.{Declarations, Constructor, Selector, Function, function_names, definition_names}
+use Rattle.ct_sorts.specs.Symbols.{all_symbols}
+use Rattle.ct_instances.specs.declared.among.NamedCtor.{NamedCtor}
+use Rattle.ct_instances.specs.declared.among.NamedCtor.TheVariants.{Plain, Generic}
+use Rattle.ct_formulas.specs.Formula.{Formula, Formulas, Con, Apply, And as AndFormula, Def as DefFormula, Sel as SelFormula, no_formulas, with_formula}
 use Rattle.ct_names.specs.declared.operator.CoreOperator.{CoreOperator}
 use Rattle.ct_names.specs.declared.operator.CoreOperator.TheVariants.{Not, And, Or, Xor, Implies, Equal, Distinct, Ite}
 
--- the sort with this name
-abbrev pub sort_of_name : Declarations → List ℕ → Option SortId
-sort_of_name d name = option_map (λ n. record { 0 = n }) (position (bytes_eq name) (sort_names d))
+-- what stands beside the name
+abbrev pub beside : {X : Type 0} → List (List ℕ × X) → List ℕ → Option X
+beside [] name = None
+beside (entry ∷ entries) name = if bytes_eq name entry.0 then Some entry.1 else beside entries name
 
 -- the first of the two that is there
 abbrev pub or_other : {X : Type 0} → Option X → Option X → Option X
 or_other (Some x) other = Some x
 or_other None other = other
 
--- the constructor, selector, function or definition with this name; no two have one
+-- the constructor, selector, function or definition with this name: constructors and selectors of instances have no names of
+-- their own, and no two of the others have one
 abbrev pub symbol_of : Declarations → List ℕ → Option Symbol
 symbol_of d name =
-    or_other (option_map (λ n. Ctor (record { 0 = n })) (position (bytes_eq name) (ctor_names d)))
-    (or_other (option_map (λ n. Sel (record { 0 = n })) (position (bytes_eq name) (sel_names d)))
+    or_other (beside (all_symbols d) name)
     (or_other (option_map (λ n. Fun (record { 0 = n })) (position (bytes_eq name) (function_names d)))
-    (option_map (λ n. Def (record { 0 = n })) (position (bytes_eq name) (definition_names d)))))
+    (option_map (λ n. Def (record { 0 = n })) (position (bytes_eq name) (definition_names d))))
 
 -- the symbol where it is a constructor
-abbrev pub as_ctor : Option Symbol → Option CtorId
-as_ctor (Some (Ctor c)) = Some c
+abbrev pub as_ctor : Option Symbol → Option NamedCtor
+as_ctor (Some (Ctor c)) = Some (Plain c)
+as_ctor (Some (GenCtor g i)) = Some (Generic g i)
 as_ctor (Some (Sel s)) = None
 as_ctor (Some (Fun f)) = None
 as_ctor (Some (Def k)) = None
+as_ctor (Some (GenSel g i k)) = None
 as_ctor None = None
 
 -- the constructor with this name
-abbrev pub ctor_named : Declarations → List ℕ → Option CtorId
+abbrev pub ctor_named : Declarations → List ℕ → Option NamedCtor
 ctor_named d name = as_ctor (symbol_of d name)
 
 -- the operators by their words
@@ -69,12 +75,14 @@ ctor_sort d c = unwrap_or (option_map (λ (ctor : Constructor). ctor.sort) (slic
 abbrev pub sel_argument : Declarations → SelId → SortId
 sel_argument d s = unwrap_or (option_map (λ (sel : Selector). ctor_sort d sel.ctor) (slice_get d.sels s.0)) (record { 0 = 0 })
 
--- the sorts of the symbol's arguments
+-- the sorts of the symbol's arguments; those of what belongs to a generic are matched instead
 abbrev pub argument_sorts : Declarations → Symbol → List SortId
 argument_sorts d (Ctor c) = ctor_field_sorts d c
 argument_sorts d (Sel s) = sel_argument d s ∷ []
 argument_sorts d (Fun f) = unwrap_or (option_map (λ (function : Function). function.args) (slice_get d.functions f.0)) []
 argument_sorts d (Def k) = unwrap_or (option_map (λ (definition : Function). definition.args) (slice_get d.definitions k.0)) []
+argument_sorts d (GenCtor g i) = []
+argument_sorts d (GenSel g i k) = []
 
 -- the sort of its result
 abbrev pub result_sort : Declarations → Symbol → SortId
@@ -82,6 +90,8 @@ result_sort d (Ctor c) = ctor_sort d c
 result_sort d (Sel s) = field_sort_id d s
 result_sort d (Fun f) = unwrap_or (option_map (λ (function : Function). function.result) (slice_get d.functions f.0)) (record { 0 = 0 })
 result_sort d (Def k) = unwrap_or (option_map (λ (definition : Function). definition.result) (slice_get d.definitions k.0)) (record { 0 = 0 })
+result_sort d (GenCtor g i) = record { 0 = 0 }
+result_sort d (GenSel g i k) = record { 0 = 0 }
 
 -- a selector of the first of the formulas, which is the only one
 abbrev pub selected : SelId → Formulas → Formula
@@ -94,3 +104,5 @@ symbol_applied (Ctor c) ts = Con c ts
 symbol_applied (Sel s) ts = selected s ts
 symbol_applied (Fun f) ts = Apply f ts
 symbol_applied (Def k) ts = DefFormula k ts
+symbol_applied (GenCtor g i) ts = AndFormula ts
+symbol_applied (GenSel g i k) ts = AndFormula ts

@@ -3,6 +3,7 @@ use Rattle.std.specs.Prelude.{ℕ, suc, Bool, false, ◌||◌, List, [], ◌∷�
 use Rattle.std.specs.List.{list_any}
 use Rattle.std.specs.Str.{bytes_eq}
 use Rattle.ct_sorts.specs.declared.ids.SortId.{SortId}
+use Rattle.ct_sorts.specs.Declarations.{Declarations, IsSort}
 
 -- the name of a variable, none where `_` was written, and its sort
 pub record Variable : Type 0 where
@@ -42,3 +43,8 @@ present_names (Some name ∷ names) = name ∷ present_names names
 -- the sorts of variables
 abbrev pub variable_sorts : List Variable → List SortId
 variable_sorts scope = map (λ (v : Variable). v.sort) scope
+
+-- the sorts of these variables are there
+abbrev pub ScopeIn : Declarations → List Variable → Type 0
+ScopeIn d [] = Unit {0}
+ScopeIn d (v ∷ scope) = IsSort d v.sort × ScopeIn d scope

@@ -1,20 +1,15 @@
-//! Names, words and sorts in expressions.
-ghost use Rattle.std.specs.Prelude.{◌≡◌, None, Some, MatchOption, IfErr};
+//! Names and words in expressions.
+ghost use Rattle.std.specs.Prelude.{◌≡◌, None, Some, MatchOption};
 ghost use Rattle.ct_sexpr.specs.Atom.{symbol};
 ghost use Rattle.ct_sexpr.specs.Readable.{name_of_atom};
 ghost use Rattle.ct_sexpr.specs.View.{expression_of};
 ghost use Rattle.ct_sorts.specs.Declarations.{Declarations};
 ghost use Rattle.ct_names.specs.Parts.{name_of};
-ghost use Rattle.ct_names.specs.Elaboration.{part_of, sort_of};
-ghost use Rattle.ct_names.specs.Answer.{IsAnswerFor, as_it_is};
+ghost use Rattle.ct_names.specs.Elaboration.{part_of};
 ghost use Rattle.ct_names.specs.Forms.{is_word};
 ghost use Rattle.ct_names.specs.Bounds.{held_name};
 
-use crate::error::CheckError;
-use crate::refusals::{OUT_OF_SCOPE, UNKNOWN_SORT};
-use crate::symbols::sort_named;
 use ct_sexpr::{Sexpr, is_reserved};
-use ct_sorts::{Signature, SortId};
 
 /// The name that an expression is: a symbol that is no reserved word, and none for every other
 /// expression. It is for names of variables, symbols and sorts alike (SMT-LIB 2.7, section 3.1).
@@ -65,20 +60,5 @@ pub fn is_word(word: &[u8], expr: &Sexpr) -> bool
         | Sexpr::Binary(_)
         | Sexpr::Hex(_)
         | Sexpr::List(_) => false,
-    }
-}
-
-/// The sort that an expression names. It is refused with 28 where the expression is no name, and
-/// with 12 where no sort has the name. It takes no memory.
-pub fn named_sort(sig: &Signature, expr: &Sexpr) -> Result<SortId, CheckError>
-    ensures value { IsAnswerFor as_it_is (sort_of sig.now (expression_of expr.now)) result }
-    ensures memory { IfErr result (λ e. e ≡ CheckError.NoMemory → ⊥) }
-{
-    let Some(name) = name_of(expr) else {
-        return Err(CheckError::Refused(OUT_OF_SCOPE));
-    };
-    match sort_named(sig, name) {
-        Some(sort) => Ok(sort),
-        None => Err(CheckError::Refused(UNKNOWN_SORT)),
     }
 }

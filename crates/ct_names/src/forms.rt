@@ -6,7 +6,7 @@ ghost use Rattle.ct_names.specs.Forms.{is_name, is_binding, are_bindings, is_pat
 ghost use Rattle.ct_names.specs.Elaboration.{part_of, parts_of};
 ghost use Rattle.ct_names.specs.Parts.{list_part};
 ghost use Rattle.ct_names.specs.Variables.{Variable};
-ghost use Rattle.ct_names.specs.Outcome.{Outcome, Sorted};
+ghost use Rattle.ct_names.specs.Outcome.{Elaborated, Sorted};
 
 use crate::atoms::{is_word, name_of};
 use ct_sexpr::Sexpr;
@@ -46,7 +46,7 @@ fn is_binding(expr: &Sexpr) -> bool
 
 // Whether the expressions are a name and another one.
 fn is_name_and_term(items: &[Sexpr]) -> bool
-    ensures value { (d : Declarations) (meaning : List Variable → Outcome Sorted)
+    ensures value { (d : Declarations) (meaning : List Variable → Elaborated Sorted)
         → result ≡ is_binding (list_part (parts_of d (expressions_of items.now)) meaning) }
 {
     match items {
@@ -105,7 +105,7 @@ fn is_pattern(expr: &Sexpr) -> bool
 
 // Whether the expressions are a name and variables.
 fn is_name_with_variables(items: &[Sexpr]) -> bool
-    ensures value { (d : Declarations) (meaning : List Variable → Outcome Sorted)
+    ensures value { (d : Declarations) (meaning : List Variable → Elaborated Sorted)
         → result ≡ is_pattern (list_part (parts_of d (expressions_of items.now)) meaning) }
 {
     match items {
@@ -150,7 +150,7 @@ fn is_case(expr: &Sexpr) -> bool
 
 // Whether the expressions are a pattern and another one.
 fn is_pattern_and_term(items: &[Sexpr]) -> bool
-    ensures value { (d : Declarations) (meaning : List Variable → Outcome Sorted)
+    ensures value { (d : Declarations) (meaning : List Variable → Elaborated Sorted)
         → result ≡ is_case (list_part (parts_of d (expressions_of items.now)) meaning) }
 {
     match items {

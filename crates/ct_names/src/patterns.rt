@@ -1,9 +1,8 @@
 //! Patterns of a `match`: what a pattern fits and binds, or its first error.
 ghost use Rattle.std.specs.Prelude.{◌≡◌, List, map, IfOk, IfErr};
 ghost use Rattle.ct_sexpr.specs.View.{expression_of, expressions_of};
-ghost use Rattle.ct_sorts.specs.Declarations.{Declarations};
-ghost use Rattle.ct_sorts.specs.Lookup.{IsSymbol};
-ghost use Rattle.ct_sorts.specs.declared.ids.Symbol.TheVariants.{Ctor};
+ghost use Rattle.ct_sorts.specs.Declarations.{Declarations, IsSort};
+ghost use Rattle.ct_instances.specs.Among.{IsNamedCtor};
 ghost use Rattle.ct_names.specs.Answer.{IsAnswerFor, as_it_is};
 ghost use Rattle.ct_names.specs.Bounds.{variable_of, held_name, held_binding};
 ghost use Rattle.ct_names.specs.Elaboration.{part_of, parts_of};
@@ -11,7 +10,7 @@ ghost use Rattle.ct_names.specs.Patterns.{variable_names, lone_ctor, leaf_patter
 ghost use Rattle.ct_names.specs.Parts.{list_part, name_of};
 ghost use Rattle.ct_names.specs.Symbols.{ctor_named};
 ghost use Rattle.ct_names.specs.Forms.{bound_name, bound_names};
-ghost use Rattle.ct_names.specs.Outcome.{Outcome, Sorted};
+ghost use Rattle.ct_names.specs.Outcome.{Elaborated, Sorted};
 ghost use Rattle.ct_names.specs.Variables.{Variable, variables};
 
 use crate::atoms::name_of;
@@ -23,8 +22,9 @@ use crate::repeats::has_repeated;
 use crate::symbols::{ctor_fields, ctor_named};
 use crate::variables::BoundVariable;
 use ct_formulas::Pattern;
+use ct_instances::{NamedCtor, ctor_among};
 use ct_sexpr::Sexpr;
-use ct_sorts::{CtorId, Kind, Signature, SortId};
+use ct_sorts::{Kind, Signature, SortId};
 use std::alloc::Global;
 
 /// What the expression, which has the form of a pattern, fits and binds, against values of the
@@ -39,6 +39,7 @@ pub fn pattern<'e>(
     side: SortId,
     expr: &'e Sexpr,
 ) -> Result<(Pattern, Vec<BoundVariable<'e>>), CheckError>
+    requires side { IsSort sig.now side }
     ensures value { IsAnswerFor held_binding (pattern sig.now side (part_of sig.now
         (expression_of expr.now))) result }
 {
@@ -62,6 +63,7 @@ fn leaf_pattern<'e>(
     side: SortId,
     expr: &'e Sexpr,
 ) -> Result<(Pattern, Vec<BoundVariable<'e>>), CheckError>
+    requires side { IsSort sig.now side }
     ensures value { IsAnswerFor held_binding (leaf_pattern sig.now side (name_of (part_of sig.now
         (expression_of expr.now)))) result }
 {
@@ -78,11 +80,12 @@ fn lone_pattern<'e>(
     side: SortId,
     name: &'e [u8],
 ) -> Result<(Pattern, Vec<BoundVariable<'e>>), CheckError>
+    requires side { IsSort sig.now side }
     ensures value { IsAnswerFor held_binding (lone_pattern sig.now side name.now
         (ctor_named sig.now name.now)) result }
 {
     match ctor_named(sig, name) {
-        Some(c) => lone_ctor(alloc, sig, side, c),
+        Some(ctor) => lone_ctor(alloc, sig, side, ctor),
         None => any_pattern(alloc, side, Some(name)),
     }
 }
@@ -106,14 +109,15 @@ fn lone_ctor<'e>(
     alloc: Global,
     sig: &Signature,
     side: SortId,
-    c: CtorId,
+    ctor: NamedCtor,
 ) -> Result<(Pattern, Vec<BoundVariable<'e>>), CheckError>
-    requires inside { IsSymbol sig.now (Ctor c) }
-    ensures value { IsAnswerFor held_binding (lone_ctor sig.now side c) result }
+    requires ctor { IsNamedCtor sig.now ctor }
+    requires side { IsSort sig.now side }
+    ensures value { IsAnswerFor held_binding (lone_ctor sig.now side ctor) result }
 {
-    if sig.ctor_sort(c) != side {
+    let Some(c) = ctor_among(sig, ctor, side) else {
         return Err(CheckError::Refused(FOREIGN_PATTERN));
-    }
+    };
     if !sig.ctor_sels(c).is_empty() {
         return Err(CheckError::Refused(WRONG_COUNT));
     }
@@ -127,7 +131,8 @@ fn list_pattern<'e>(
     side: SortId,
     items: &'e [Sexpr],
 ) -> Result<(Pattern, Vec<BoundVariable<'e>>), CheckError>
-    ensures value { (m : List Variable → Outcome Sorted)
+    requires side { IsSort sig.now side }
+    ensures value { (m : List Variable → Elaborated Sorted)
         → IsAnswerFor held_binding (pattern sig.now side (list_part (parts_of sig.now
         (expressions_of items.now)) m)) result }
 {
@@ -137,11 +142,11 @@ fn list_pattern<'e>(
     let Some(name) = name_of(head) else {
         return Err(CheckError::Refused(UNKNOWN_SYMBOL));
     };
-    let Some(c) = ctor_named(sig, name) else {
+    let Some(ctor) = ctor_named(sig, name) else {
         return Err(CheckError::Refused(UNKNOWN_SYMBOL));
     };
     let names = variable_names(alloc, variables)?;
-    ctor_with(alloc, sig, side, names.as_slice(), c)
+    ctor_with(alloc, sig, side, names.as_slice(), ctor)
 }
 
 // The names of variables, none for `_`.
@@ -166,15 +171,16 @@ fn ctor_with<'e>(
     sig: &Signature,
     side: SortId,
     names: &[Option<&'e [u8]>],
-    c: CtorId,
+    ctor: NamedCtor,
 ) -> Result<(Pattern, Vec<BoundVariable<'e>>), CheckError>
-    requires inside { IsSymbol sig.now (Ctor c) }
-    ensures value { IsAnswerFor held_binding (ctor_with sig.now side (map held_name names.now) c)
+    requires ctor { IsNamedCtor sig.now ctor }
+    requires side { IsSort sig.now side }
+    ensures value { IsAnswerFor held_binding (ctor_with sig.now side (map held_name names.now) ctor)
         result }
 {
-    if sig.ctor_sort(c) != side {
+    let Some(c) = ctor_among(sig, ctor, side) else {
         return Err(CheckError::Refused(FOREIGN_PATTERN));
-    }
+    };
     let fields = ctor_fields(alloc, sig, c)?;
     if names.len() != fields.len() {
         return Err(CheckError::Refused(WRONG_COUNT));
@@ -225,7 +231,7 @@ fn bound_name(expr: &Sexpr) -> Option<&[u8]>
 
 // The name that the first of the expressions is.
 fn first_name(items: &[Sexpr]) -> Option<&[u8]>
-    ensures held { (d : Declarations) (m : List Variable → Outcome Sorted)
+    ensures held { (d : Declarations) (m : List Variable → Elaborated Sorted)
         → held_name result ≡ bound_name (list_part (parts_of d (expressions_of items.now)) m) }
 {
     match items {
@@ -268,6 +274,7 @@ pub fn bounds<'e>(
 /// A number that is no sort's is refused like Bool.
 pub fn matchable(sig: &Signature, side: SortId) -> Result<SortId, CheckError>
     ensures value { IsAnswerFor as_it_is (matchable sig.now side) result }
+    ensures inside { IfOk result (IsSort sig.now) }
 {
     if side.0 >= sig.sorts() {
         return Err(CheckError::Refused(OUT_OF_SCOPE));

@@ -3,6 +3,9 @@
 /// Unknown sort.
 pub const UNKNOWN_SORT: u16 = 12;
 
+/// Sort of a constructor that is not determined.
+pub const UNDETERMINED: u16 = 19;
+
 /// Unknown symbol.
 pub const UNKNOWN_SYMBOL: u16 = 21;
 

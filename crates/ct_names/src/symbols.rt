@@ -2,23 +2,15 @@
 ghost use Rattle.std.specs.Prelude.{◌≡◌, ◌<◌, length, All, IfSome, IfOk, IfErr};
 ghost use Rattle.ct_sorts.specs.Declarations.{IsSort};
 ghost use Rattle.ct_sorts.specs.Lookup.{IsSymbol};
-ghost use Rattle.ct_names.specs.Symbols.{sort_of_name, symbol_of, ctor_named, argument_sorts, result_sort, ctor_field_sorts, operator_of};
+ghost use Rattle.ct_instances.specs.Among.{IsNamedCtor};
+ghost use Rattle.ct_names.specs.Symbols.{symbol_of, ctor_named, argument_sorts, result_sort, ctor_field_sorts, operator_of};
 ghost use Rattle.ct_sorts.specs.declared.ids.Symbol.TheVariants.{Ctor};
 
 use crate::error::CheckError;
 use crate::operator::CoreOperator;
+use ct_instances::NamedCtor;
 use ct_sorts::{CtorId, Signature, SortId, Symbol, naming};
 use std::alloc::Global;
-
-/// The sort with this name.
-pub(crate) fn sort_named(sig: &Signature, name: &[u8]) -> Option<SortId>
-    ensures value { result ≡ sort_of_name sig.now name.now }
-    ensures inside { IfSome result (IsSort sig.now) }
-{
-    naming();
-    prove!(sig.sorts() > 0);
-    sig.sort_named(name)
-}
 
 /// The constructor, selector, function or definition with this name. No two have one.
 pub fn symbol_named(sig: &Signature, name: &[u8]) -> Option<Symbol>
@@ -31,13 +23,15 @@ pub fn symbol_named(sig: &Signature, name: &[u8]) -> Option<Symbol>
 }
 
 /// The constructor with this name, none where it is the name of another symbol, or of none.
-pub fn ctor_named(sig: &Signature, name: &[u8]) -> Option<CtorId>
+pub fn ctor_named(sig: &Signature, name: &[u8]) -> Option<NamedCtor>
     ensures value { result ≡ ctor_named sig.now name.now }
-    ensures inside { IfSome result (λ c. IsSymbol sig.now (Ctor c)) }
+    ensures inside { IfSome result (IsNamedCtor sig.now) }
 {
     match symbol_named(sig, name) {
-        Some(Symbol::Ctor(c)) => Some(c),
-        Some(Symbol::Sel(_) | Symbol::Fun(_) | Symbol::Def(_)) | None => None,
+        Some(Symbol::Ctor(c)) => Some(NamedCtor::Plain(c)),
+        Some(Symbol::GenCtor(g, index)) => Some(NamedCtor::Generic(g, index)),
+        Some(Symbol::Sel(_) | Symbol::Fun(_) | Symbol::Def(_) | Symbol::GenSel(_, _, _)) | None =>
+            None,
     }
 }
 
@@ -97,6 +91,7 @@ pub fn argument_sorts(
         }
         Symbol::Fun(f) => Ok(Vec::from_slice(alloc, sig.fun_args(f))?),
         Symbol::Def(k) => Ok(Vec::from_slice(alloc, sig.def_args(k))?),
+        Symbol::GenCtor(_, _) | Symbol::GenSel(_, _, _) => Ok(Vec::new(alloc)),
     }
 }
 
@@ -110,6 +105,7 @@ pub fn argument_count(sig: &Signature, symbol: Symbol) -> usize
         Symbol::Sel(_) => 1,
         Symbol::Fun(f) => sig.fun_args(f).len(),
         Symbol::Def(k) => sig.def_args(k).len(),
+        Symbol::GenCtor(_, _) | Symbol::GenSel(_, _, _) => 0,
     }
 }
 
@@ -119,10 +115,12 @@ pub fn result_sort(sig: &Signature, symbol: Symbol) -> SortId
     ensures sort { result ≡ result_sort sig.now symbol }
     ensures inside { IsSort sig.now result }
 {
+    prove!(sig.sorts() > 0);
     match symbol {
         Symbol::Ctor(c) => sig.ctor_sort(c),
         Symbol::Sel(s) => sig.sel_sort(s),
         Symbol::Fun(f) => sig.fun_result(f),
         Symbol::Def(k) => sig.def_result(k),
+        Symbol::GenCtor(_, _) | Symbol::GenSel(_, _, _) => SortId(0),
     }
 }

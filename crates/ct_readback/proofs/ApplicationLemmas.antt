@@ -1,7 +1,6 @@
 -- Constructor terms, part by part.
-use Rattle.std.proofs.Common.{◌≡◌, ℕ, Bool, true, false, List, [], ◌∷◌, map, Option, None, Some, option_map, option_and_then, unwrap_or, nat_eq, slice_get, refl, sym, ap, subst, ◌∙◌, codes, true≢false}
+use Rattle.std.proofs.Common.{◌≡◌, ℕ, Bool, true, false, List, [], ◌∷◌, map, Option, None, Some, option_map, option_and_then, unwrap_or, slice_get, refl, sym, ap, subst, ◌∙◌, codes, true≢false}
 use Rattle.std.proofs.lemmas.Option.{none-some, same_Some}
-use Rattle.std.proofs.lemmas.Bool.Decides.{Decides-eqb}
 use Rattle.ct_lemmas.proofs.Booleans.{both_parts}
 use Rattle.ct_sorts.specs.declared.ids.CtorId.{CtorId}
 use Rattle.ct_sorts.specs.declared.ids.SelId.{SelId}
@@ -9,35 +8,22 @@ use Rattle.ct_sorts.specs.declared.ids.SortId.{SortId}
 use Rattle.ct_sorts.specs.declared.ids.Kind.{Kind}
 use Rattle.ct_sorts.specs.declared.ids.Kind.TheVariants.{Bool as BoolKind, Free, Data, Codata}
 use Rattle.ct_sorts.specs.Declarations.{Declarations, Sort}
-use Rattle.ct_sexpr.specs.Expression.{Expression, leaf, list, Expressions, none, more}
+use Rattle.ct_sexpr.specs.Atom.{Atom}
+use Rattle.ct_sexpr.specs.Expression.{Expression, leaf, list, Expressions, none, more, word}
 use Rattle.ct_values.specs.declared.node.NodeId.{NodeId}
 use Rattle.ct_values.specs.Graph.{Nodes}
 use Rattle.ct_values.specs.Value.{Value, Values, element, construct, no_values}
 use Rattle.ct_values.specs.Fitting.{IsElement}
 use Rattle.ct_card.specs.Defaults.{is_free, is_free_sort}
 use Rattle.ct_names.specs.Symbols.{ctor_sort, field_sort_id, ctor_field_sorts}
-use Rattle.ct_value_text.specs.ValueText.{sort_name}
-use Rattle.ct_readback.specs.Words.{name_in}
+use Rattle.ct_value_text.specs.ValueText.{bare_sort}
+use Rattle.ct_readback.specs.Words.{is_word, name_in}
 use Rattle.ct_readback.specs.Parts.{only_if, two_of, or_other, parts_after}
 use Rattle.ct_readback.specs.SortText.{says_sort}
-use Rattle.ct_readback.specs.Heads.{constructor_in, constructor_at, of_sort, is_sort_of_elements, element_named, element_of, element_at}
+use Rattle.ct_readback.specs.Heads.{constructor_at, constructor_with, is_sort_of_elements, element_named, element_of, element_at}
 use Rattle.ct_readback.specs.Trees.{lone, lone_at, tree_at, application_at, trees_at}
+use Rattle.ct_readback.proofs.PrintedWords.{word_is}
 use Rattle.ct_readback.specs.TreeNode.{HaveTrees, IsNodeOf, AreNodesOf, AreFound, AreFieldsOf}
-
--- a constructor at a sort is of that sort
-of_sort_by : (b : Bool) (c found : CtorId) → only_if b c ≡ Some found → (found ≡ c) × (b ≡ true)
-of_sort_by true c found h = (same_Some found c (sym h), refl)
-of_sort_by false c found h = absurd (none-some found h)
-
-at_by : (d : Declarations) (s : SortId) (o : Option CtorId) (c : CtorId) → option_and_then (of_sort d s) o ≡ Some c → ctor_sort d c ≡ s
-at_by d s None c h = absurd (none-some c h)
-at_by d s (Some x) c h =
-    let parts = of_sort_by (nat_eq (ctor_sort d x).0 s.0) x c h in
-    let number : (ctor_sort d x).0 ≡ s.0 = (Decides-eqb (ctor_sort d x).0 s.0).0 parts.1 in
-    ap (ctor_sort d) parts.0 ∙ ap (λ n. record { 0 = n }) number
-
-pub constructor_sort : (d : Declarations) (s : SortId) (e : Expression) (c : CtorId) → constructor_at d s e ≡ Some c → ctor_sort d c ≡ s
-constructor_sort d s e c h = at_by d s (constructor_in d e) c h
 
 -- what is said of an element
 pub then_some : {A B : Type 0} (f : A → Option B) (o : Option A) (b : B) → option_and_then f o ≡ Some b → (a : A) × (o ≡ Some a) × (f a ≡ Some b)
@@ -62,19 +48,53 @@ pub element_free : (d : Declarations) (s : SortId) (e : Expression) (number : �
 element_free d s e number h =
     let items = then_some (element_at d s) (parts_after (codes "as") e) number h in
     let parts = then_some (element_of d s) (two_of items.0) number items.2 in
-    let name = then_some (λ (n : List ℕ). option_and_then (λ (k : ℕ). only_if (is_sort_of_elements d s parts.0.1) k) (element_named (sort_name d s.0) n)) (name_in parts.0.0) number parts.2 in
-    let value = then_some (λ (k : ℕ). only_if (is_sort_of_elements d s parts.0.1) k) (element_named (sort_name d s.0) name.0) number name.2 in
+    let name = then_some (λ (n : List ℕ). option_and_then (λ (k : ℕ). only_if (is_sort_of_elements d s parts.0.1) k) (element_named (bare_sort d s.0) n)) (name_in parts.0.0) number parts.2 in
+    let value = then_some (λ (k : ℕ). only_if (is_sort_of_elements d s parts.0.1) k) (element_named (bare_sort d s.0) name.0) number name.2 in
     let holds = only_true (is_sort_of_elements d s parts.0.1) value.0 number value.2 in
     free_by d s.0 (slice_get d.sorts s.0) refl (both_parts (is_free_sort d s.0) (says_sort d s parts.0.1) holds).0
 
 pub element_tree : (d : Declarations) (s : SortId) (e : Expression) (number : ℕ) → option_and_then (element_at d s) (parts_after (codes "as") e) ≡ Some number → tree_at d s e ≡ Some (element s number)
 element_tree d s (leaf a) number h = absurd (none-some number h)
 element_tree d s (list es) number h =
-    ap (λ (o : Option ℕ). or_other (option_map (element s) o) (application_at d s es)) h
+    ap (λ (o : Option ℕ). or_other (option_map (element s) o) (or_other (lone_at d s (list es)) (application_at d s es))) h
 
--- what is no element is an application, or a constructor alone
-pub application_tree : (d : Declarations) (s : SortId) (es : Expressions) → option_and_then (element_at d s) (parts_after (codes "as") (list es)) ≡ None → tree_at d s (list es) ≡ application_at d s es
-application_tree d s es h = ap (λ (o : Option ℕ). or_other (option_map (element s) o) (application_at d s es)) h
+-- what is neither an element nor a constructor alone is an application
+pub application_tree : (d : Declarations) (s : SortId) (es : Expressions) → option_and_then (element_at d s) (parts_after (codes "as") (list es)) ≡ None → constructor_at d s (list es) ≡ None → tree_at d s (list es) ≡ application_at d s es
+application_tree d s es no_element no_constructor =
+    ap (λ (o : Option ℕ). or_other (option_map (element s) o) (or_other (lone_at d s (list es)) (application_at d s es))) no_element
+    ∙ ap (λ (o : Option CtorId). or_other (option_and_then (λ (k : CtorId). lone (ctor_field_sorts d k) k) o) (application_at d s es)) no_constructor
+
+-- `as` names no constructor
+no_as_head : (d : Declarations) (s : SortId) → constructor_at d s (word (codes "as")) ≡ None
+no_as_head d s = refl
+
+qualified_alone : (d : Declarations) (s : SortId) (e : Expression) (es : Expressions) (c : CtorId) (b : Bool) → is_word (codes "as") e ≡ b → option_and_then (constructor_with d s) (option_and_then two_of (only_if b es)) ≡ Some c → application_at d s (more e es) ≡ None
+qualified_alone d s e es c true is h =
+    ap (λ (head : Expression). option_and_then (λ (k : CtorId). option_map (construct k) (trees_at d (ctor_field_sorts d k) es)) (constructor_at d s head)) (word_is (codes "as") e is)
+    ∙ ap (option_and_then (λ (k : CtorId). option_map (construct k) (trees_at d (ctor_field_sorts d k) es))) (no_as_head d s)
+qualified_alone d s e es c false is h = absurd (none-some c h)
+
+-- a list that is a constructor alone is no application
+alone_no_application : (d : Declarations) (s : SortId) (es : Expressions) (c : CtorId) → constructor_at d s (list es) ≡ Some c → application_at d s es ≡ None
+alone_no_application d s none c h = refl
+alone_no_application d s (more e es) c h = qualified_alone d s e es c (is_word (codes "as") e) refl h
+
+or_none : {X : Type 0} (o : Option X) → or_other o None ≡ o
+or_none None = refl
+or_none (Some x) = refl
+
+-- a constructor alone
+pub lone_tree : (d : Declarations) (s : SortId) (e : Expression) (c : CtorId) → option_and_then (element_at d s) (parts_after (codes "as") e) ≡ None → constructor_at d s e ≡ Some c → tree_at d s e ≡ lone (ctor_field_sorts d c) c
+lone_tree d s (leaf a) c no_element at = ap (option_and_then (λ (k : CtorId). lone (ctor_field_sorts d k) k)) at
+lone_tree d s (list es) c no_element at =
+    ap (λ (o : Option ℕ). or_other (option_map (element s) o) (or_other (lone_at d s (list es)) (application_at d s es))) no_element
+    ∙ ap (or_other (lone_at d s (list es))) (alone_no_application d s es c at)
+    ∙ or_none (lone_at d s (list es))
+    ∙ ap (option_and_then (λ (k : CtorId). lone (ctor_field_sorts d k) k)) at
+
+-- of what is no constructor and no list nothing is said
+pub atom_tree : (d : Declarations) (s : SortId) (a : Atom) → constructor_at d s (leaf a) ≡ None → tree_at d s (leaf a) ≡ None
+atom_tree d s a no_constructor = ap (option_and_then (λ (k : CtorId). lone (ctor_field_sorts d k) k)) no_constructor
 
 -- ---- applications
 
@@ -114,30 +134,26 @@ pub application_args : (d : Declarations) (fields : List SelId) (es : Expression
 application_args d fields es g ns h = args_by d fields g ns (trees_at d (map (field_sort_id d) fields) es) h
 
 pub application_node : (d : Declarations) (s : SortId) (g : Nodes) (e : Expression) (es : Expressions) (c : CtorId) (fields : List SelId) (vs : Values) (found : Option NodeId) → constructor_at d s e ≡ Some c → AreFieldsOf d c fields
-    → trees_at d (map (field_sort_id d) fields) es ≡ Some vs → IsNodeOf d (ctor_sort d c) (Some (construct c vs)) g found → IsNodeOf d s (application_at d s (more e es)) g found
-application_node d s g e es c fields vs found at are values node =
+    → ctor_sort d c ≡ s → trees_at d (map (field_sort_id d) fields) es ≡ Some vs → IsNodeOf d (ctor_sort d c) (Some (construct c vs)) g found → IsNodeOf d s (application_at d s (more e es)) g found
+application_node d s g e es c fields vs found at are sort values node =
     subst (λ (o : Option Value). IsNodeOf d s o g found) (sym (application_is d s e es c fields at are ∙ ap (option_map (construct c)) values))
-    (subst (λ (t : SortId). IsNodeOf d t (Some (construct c vs)) g found) (constructor_sort d s e c at) node)
+    (subst (λ (t : SortId). IsNodeOf d t (Some (construct c vs)) g found) sort node)
 
 -- ---- a constructor alone
 
-pub lone_is : (d : Declarations) (s : SortId) (e : Expression) (c : CtorId) (fields : List SelId) → constructor_at d s e ≡ Some c → AreFieldsOf d c fields → lone_at d s e ≡ lone (map (field_sort_id d) fields) c
-lone_is d s e c fields at are =
-    ap (option_and_then (λ (k : CtorId). lone (ctor_field_sorts d k) k)) at ∙ ap (λ (ss : List SortId). lone ss c) (field_sorts d c fields are)
+pub lone_is : (d : Declarations) (c : CtorId) (fields : List SelId) → AreFieldsOf d c fields → lone (ctor_field_sorts d c) c ≡ lone (map (field_sort_id d) fields) c
+lone_is d c fields are = ap (λ (ss : List SortId). lone ss c) (field_sorts d c fields are)
 
-pub lone_no_head : (d : Declarations) (s : SortId) (g : Nodes) (e : Expression) → constructor_at d s e ≡ None → IsNodeOf d s (lone_at d s e) g None
-lone_no_head d s g e h =
-    subst (λ (o : Option Value). IsNodeOf d s o g None) (sym (ap (option_and_then (λ (k : CtorId). lone (ctor_field_sorts d k) k)) h)) refl
+pub lone_has_fields : (d : Declarations) (s : SortId) (g : Nodes) (c : CtorId) (fields : List SelId) → AreFieldsOf d c fields → (fields ≡ [] → ⊥) → IsNodeOf d s (lone (ctor_field_sorts d c) c) g None
+lone_has_fields d s g c [] are some = absurd (some refl)
+lone_has_fields d s g c (field ∷ fields) are some = subst (λ (o : Option Value). IsNodeOf d s o g None) (sym (lone_is d c (field ∷ fields) are)) refl
 
-pub lone_fields : (d : Declarations) (s : SortId) (g : Nodes) (e : Expression) (c : CtorId) (field : SelId) (fields : List SelId) → constructor_at d s e ≡ Some c → AreFieldsOf d c (field ∷ fields) → IsNodeOf d s (lone_at d s e) g None
-lone_fields d s g e c field fields at are = subst (λ (o : Option Value). IsNodeOf d s o g None) (sym (lone_is d s e c (field ∷ fields) at are)) refl
+pub lone_found : (d : Declarations) (s : SortId) (g : Nodes) (c : CtorId) (found : Option NodeId) → AreFieldsOf d c [] → IsNodeOf d s (Some (construct c no_values)) g found → IsNodeOf d s (lone (ctor_field_sorts d c) c) g found
+lone_found d s g c found are node = subst (λ (o : Option Value). IsNodeOf d s o g found) (sym (lone_is d c [] are)) node
 
-pub lone_has_fields : (d : Declarations) (s : SortId) (g : Nodes) (e : Expression) (c : CtorId) (fields : List SelId) → constructor_at d s e ≡ Some c → AreFieldsOf d c fields → (fields ≡ [] → ⊥) → IsNodeOf d s (lone_at d s e) g None
-lone_has_fields d s g e c [] at are some = absurd (some refl)
-lone_has_fields d s g e c (field ∷ fields) at are some = lone_fields d s g e c field fields at are
-
-pub lone_found : (d : Declarations) (s : SortId) (g : Nodes) (e : Expression) (c : CtorId) (found : Option NodeId) → constructor_at d s e ≡ Some c → AreFieldsOf d c []
-    → IsNodeOf d (ctor_sort d c) (Some (construct c no_values)) g found → IsNodeOf d s (lone_at d s e) g found
-lone_found d s g e c found at are node =
-    subst (λ (o : Option Value). IsNodeOf d s o g found) (sym (lone_is d s e c [] at are))
-    (subst (λ (t : SortId). IsNodeOf d t (Some (construct c no_values)) g found) (constructor_sort d s e c at) node)
+-- the node of a constructor alone, at its sort
+pub lone_node : (d : Declarations) (s : SortId) (g : Nodes) (e : Expression) (c : CtorId) (found : Option NodeId) → option_and_then (element_at d s) (parts_after (codes "as") e) ≡ None → constructor_at d s e ≡ Some c → ctor_sort d c ≡ s
+    → IsNodeOf d (ctor_sort d c) (lone (ctor_field_sorts d c) c) g found → IsNodeOf d s (tree_at d s e) g found
+lone_node d s g e c found no_element at sort node =
+    subst (λ (o : Option Value). IsNodeOf d s o g found) (sym (lone_tree d s e c no_element at))
+    (subst (λ (t : SortId). IsNodeOf d t (lone (ctor_field_sorts d c) c) g found) sort node)

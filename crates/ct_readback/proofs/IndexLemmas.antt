@@ -16,33 +16,12 @@ use Rattle.ct_readback.specs.declared.value.Said.TheVariants as said
 use Rattle.ct_readback.specs.declared.item.Part.TheVariants as parts
 use Rattle.ct_readback.specs.Trees.{tree_at}
 use Rattle.ct_readback.specs.TreeNode.{IsNodeOf, AreNodesOf}
-use Rattle.ct_readback.specs.Nodes.{IsOnlyNode, AreOnlyNodes}
 use Rattle.ct_readback.specs.ItemAt.{IsEquationAt, AreEquationsAt}
 use Rattle.ct_readback.specs.Said.{IsSaid, IsPart, AreNodesFor, all_points}
 use Rattle.ct_readback.proofs.RestLemmas.{rest_at, rest_none, drop_none, drop_at}
-use Rattle.ct_readback.proofs.NodeLemmas.{AreSaidSoFar, said_more, said_stop, said_all}
 use Rattle.ct_readback.proofs.TreeSteps.{AreTreesSoFar, trees_next, trees_stop, trees_all}
 use Rattle.ct_readback.proofs.PartLemmas.{AreEquationsSoFar, equations_stop, equations_cycle, equations_node, equations_all, equations_all_cyclic}
 use Rattle.ct_readback.proofs.GrowthLemmas.{trees_begins, equations_begins}
-
--- ---- rows of a graph
-
-module _ (d : Declarations) (items : List Sexpr) (i : ℕ) (nodes : List Node) (so_far : AreSaidSoFar d (expressions_of items) i (expressions_of (drop i items)) nodes) where
-  row_first : (x : Sexpr) → i < length items → x ≡ get_or items i x → AreSaidSoFar d (expressions_of items) i (more (expression_of x) (expressions_of (drop (suc i) items))) nodes
-  row_first x within is = subst (λ (es : Expressions). AreSaidSoFar d (expressions_of items) i es nodes) (rest_at items i x within is) so_far
-
-  pub row_next : (x : Sexpr) (node : Node) → i < length items → x ≡ get_or items i x → IsOnlyNode d i (expression_of x) (Some node)
-      → AreSaidSoFar d (expressions_of items) (i + 1) (expressions_of (drop (i + 1) items)) (nodes ++ node ∷ [])
-  row_next x node within is only =
-      let one : suc i ≡ i + 1 = omega arith in
-      subst (λ k. AreSaidSoFar d (expressions_of items) k (expressions_of (drop k items)) (nodes ++ node ∷ [])) one
-      (said_more d (expressions_of items) i (expression_of x) (expressions_of (drop (suc i) items)) nodes node (row_first x within is) only)
-
-  pub row_stop : (x : Sexpr) → i < length items → x ≡ get_or items i x → IsOnlyNode d i (expression_of x) None → AreOnlyNodes d 0 (expressions_of items) None
-  row_stop x within is only = said_stop d (expressions_of items) i (expression_of x) (expressions_of (drop (suc i) items)) nodes (row_first x within is) only
-
-  pub row_all : length items ≤ i → AreOnlyNodes d 0 (expressions_of items) (Some nodes)
-  row_all past = said_all d (expressions_of items) i nodes (subst (λ (es : Expressions). AreSaidSoFar d (expressions_of items) i es nodes) (rest_none items i past) so_far)
 
 -- ---- arguments of a constructor
 

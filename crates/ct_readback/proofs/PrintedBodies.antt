@@ -14,7 +14,7 @@ use Rattle.ct_values.specs.Graph.{Nodes}
 use Rattle.ct_values.specs.Agreement.{Point}
 use Rattle.ct_values.specs.Fitting.{HasNodeSort}
 use Rattle.ct_value_text.specs.ValueText.{IsValueText}
-use Rattle.ct_value_text.proofs.PlainLemmas.{TextTheorems}
+use Rattle.ct_value_text.proofs.SortTextLemmas.{TextTheorems}
 use Rattle.ct_eval.specs.declared.interp.Row.{Row}
 use Rattle.ct_eval.specs.declared.interp.Table.{Table}
 use Rattle.ct_eval.specs.Interpretation.{FitsRow, FitsTable}

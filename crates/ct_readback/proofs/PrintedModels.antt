@@ -5,12 +5,14 @@ use Rattle.std.proofs.lemmas.Option.{same_Some, slice_get_within, slice_get_past
 use Rattle.std.proofs.lemmas.Bool.{cases_lt}
 use Rattle.std.proofs.lemmas.List.{length-map}
 use Rattle.std.proofs.lemmas.List.FromFn.{length-range_with_len}
+use Rattle.ct_lemmas.proofs.Each.{All-one}
 use Rattle.ct_lemmas.proofs.Lists.{slice_get-there, slice_get-map_at, slice_get-append_left, slice_get-append_right}
 use Rattle.ct_lemmas.proofs.Pairs.{AllZip-one_length, AllZip-at_left}
 use Rattle.ct_sorts.specs.declared.ids.SortId.{SortId}
-use Rattle.ct_sorts.specs.Declarations.{Declarations, Function, Selector, Constructor, bool_sort}
+use Rattle.ct_sorts.specs.Declarations.{Declarations, Function, Selector, Constructor, IsSort, bool_sort}
 use Rattle.ct_sorts.specs.Consistent.{IsConsistent}
 use Rattle.ct_sorts.proofs.Lists.{slice_get-numbers}
+use Rattle.ct_sorts.proofs.StructureLemmas.{of_their_sorts}
 use Rattle.ct_sexpr.specs.Expression.{Expression, list, Expressions, none, more, nesting}
 use Rattle.ct_sexpr.specs.Written.{canonical, canonical_each}
 use Rattle.ct_sexpr.specs.Readable.{IsReadable}
@@ -19,7 +21,7 @@ use Rattle.ct_sexpr.specs.Reading.{BeginsCommand, nesting_limit}
 use Rattle.ct_sexpr.proofs.SpacedTexts.{spaced_is_read, written_is_spaced}
 use Rattle.ct_values.specs.Graph.{Nodes}
 use Rattle.ct_values.proofs.LastingLemmas.{fits_closed}
-use Rattle.ct_value_text.proofs.PlainLemmas.{TextTheorems}
+use Rattle.ct_value_text.proofs.SortTextLemmas.{TextTheorems}
 use Rattle.ct_eval.specs.declared.interp.Table.{Table}
 use Rattle.ct_eval.specs.declared.interp.Interp.{Interp}
 use Rattle.ct_eval.specs.Interpretation.{FitsTable, IsProper}
@@ -36,7 +38,7 @@ use Rattle.ct_readback.proofs.WholeLemmas.{off_listed}
 use Rattle.ct_readback.proofs.PrintedValues.{IsPrintable, IsPrinted}
 use Rattle.ct_readback.proofs.PrintedRows.{AreWritten, ArePrinted}
 use Rattle.ct_readback.proofs.PrintedBodies.{printed_table}
-use Rattle.ct_readback.proofs.PrintedItems.{IsClean, available_clean, ItemReads, item_printed}
+use Rattle.ct_readback.proofs.PrintedItems.{IsClean, available_clean, AreSortsDue, ItemReads, item_printed}
 use Rattle.ct_readback.proofs.PrintedTexts.{printed_command}
 use Rattle.ct_readback.proofs.PrintedLookUps.{given_same}
 use Rattle.ct_readback.proofs.PrintedEvaluation.{holds_still}
@@ -89,7 +91,7 @@ module _ (theorems : TextTheorems) (d : Declarations) (i : Interp) (consistent :
       let function = is.function in
       let fits = proper.functions.fit f function is.table is.declared is.at_table in
       let clean : IsClean function.name = available_clean function.name (consistent.available f function.name (slice_get-map_at (λ (k : Function). k.name) d.functions f function is.declared)) in
-      let all = item_printed theorems d i.graph (due_function function) is.table is.body printable clean (range.parameters f function is.declared) refl fits is.body_is in
+      let all = item_printed theorems d i.graph (due_function function) is.table is.body printable clean (consistent.over_sorts f function is.declared) (range.parameters f function is.declared) refl fits is.body_is in
       record {
         printed = all.printed;
         readable = all.readable;
@@ -103,7 +105,9 @@ module _ (theorems : TextTheorems) (d : Declarations) (i : Interp) (consistent :
       let due : Due = record { off = true; name = selector.name; args = is.ctor.sort ∷ []; result = selector.sort } in
       let fits = proper.selectors.fit s selector is.ctor is.table is.declared is.constructed is.at_table in
       let clean : IsClean selector.name = available_clean selector.name (consistent.sels_available s selector.name (slice_get-map_at (λ (k : Selector). k.name) d.sels s selector is.declared)) in
-      let all = item_printed theorems d i.graph due is.table is.body printable clean (omega arith) refl fits is.body_is in
+      let own = of_their_sorts d consistent selector.ctor.0 is.ctor is.constructed in
+      let there : AreSortsDue d due = (All-one (IsSort d) is.ctor.sort (slice_get_within d.sorts is.ctor.sort.0 own.0 own.2), consistent.fields s selector is.declared) in
+      let all = item_printed theorems d i.graph due is.table is.body printable clean there (omega arith) refl fits is.body_is in
       let argument : argument_sort d s ≡ Some is.ctor.sort =
       ap (option_and_then (λ (x : Selector). option_map (λ (k : Constructor). k.sort) (slice_get d.ctors x.ctor.0))) is.declared ∙ ap (option_map (λ (k : Constructor). k.sort)) is.constructed in
       let is_due : due_off d s ≡ Some due =

@@ -17,7 +17,7 @@ use Rattle.ct_values.specs.Agreement.{Point}
 use Rattle.ct_values.specs.Fitting.{HasNodeSort}
 use Rattle.ct_value_text.specs.ValueText.{IsValueText}
 use Rattle.ct_value_text.proofs.FitNameLemmas.{digits_word}
-use Rattle.ct_value_text.proofs.PlainLemmas.{TextTheorems}
+use Rattle.ct_value_text.proofs.SortTextLemmas.{TextTheorems}
 use Rattle.ct_model.specs.Listed.{spaced, joined, listed}
 use Rattle.ct_model.specs.TableText.{parameter, equation, equations, conjunction}
 use Rattle.ct_readback.specs.Words.{number_bound, numbered, is_numbered}

@@ -1,7 +1,7 @@
 -- What values read back as where they were printed.
 use Rattle.std.proofs.Common.{◌≡◌, ℕ, suc, ◌≤◌, Bool, true, false, is_some, List, [], ◌∷◌, length, map, MatchBool, None, Some, option_map, unwrap_or, slice_get, refl, sym, ap, subst, ◌∙◌, inl, inr, codes, if◌then◌else◌}
 use Rattle.std.specs.List.{AllZip}
-use Rattle.std.proofs.lemmas.Option.{same_Some, slice_get_within}
+use Rattle.std.proofs.lemmas.Option.{same_Some}
 use Rattle.ct_lemmas.proofs.Options.{option_map-source}
 use Rattle.ct_sorts.specs.declared.ids.SortId.{SortId}
 use Rattle.ct_sorts.specs.declared.ids.SelId.{SelId}
@@ -18,14 +18,15 @@ use Rattle.ct_values.specs.Graph.{Nodes, node_head, node_children}
 use Rattle.ct_values.specs.Value.{Value, Values, reference, element, construct, no_values, with_value, list_of, values_of, node_value, AreOver}
 use Rattle.ct_values.specs.ValueSort.{HasValueSort, AreOfFields}
 use Rattle.ct_values.specs.Agreement.{Point, point, node_point, AgreeAlways}
-use Rattle.ct_values.specs.Fitting.{HasNodeSort, FitsNode}
+use Rattle.ct_values.specs.Fitting.{HasNodeSort, IsNodeOfField, FitsGraph}
 use Rattle.ct_values.specs.WellFormed.{IsWellFormedGraph}
 use Rattle.ct_values.proofs.AgreeLemmas.{AgreeAlways-parts, AgreeAlways-sym}
 use Rattle.ct_values.proofs.NodeLemmas.{node_points}
 use Rattle.ct_values.proofs.FittingLemmas.{minimal_fits}
 use Rattle.ct_values.proofs.SortedLemmas.{agreeing_sorted}
 use Rattle.ct_value_text.specs.ValueText.{StandsFor, expression, graph_text, IsTreeText, IsGraphText, IsValueText}
-use Rattle.ct_value_text.proofs.PlainLemmas.{TextTheorems, IsNamed, AreNamed, AreNodesNamed, readable, graph_readable}
+use Rattle.ct_value_text.proofs.SortTextLemmas.{TextTheorems}
+use Rattle.ct_value_text.proofs.PlainLemmas.{AreNodesSorted, readable, graph_readable}
 use Rattle.ct_readback.specs.Words.{number_bound}
 use Rattle.ct_readback.specs.Parts.{parts_after}
 use Rattle.ct_readback.specs.Cycles.{HasDataCycle}
@@ -61,30 +62,27 @@ pub record IsPrinted (text : List ℕ) (P : Expression → Type 0) : Type 0 wher
   pub text_is : text ≡ written printed
   pub reads : P (canonical printed)
 
--- ---- names are declared
+-- ---- the nodes of a graph that fits have sorts
 
-mutual
-  named_value : (d : Declarations) (v : Value) (s : SortId) → HasValueSort d [] v s → IsNamed d v
-  named_value d (reference n) s sorted = tt
-  named_value d (element t n) s (is, same) = slice_get_within d.sorts t.0 is.sort is.declared
-  named_value d (construct c vs) s (ctor, at, same, fields) = (slice_get_within d.ctors c.0 ctor at, named_values d vs ctor.sels fields)
+module _ (d : Declarations) (g : Nodes) (fits : FitsGraph d g) where
+  references : (ns : List NodeId) (ss : List SelId) → AllZip (IsNodeOfField d g) ns ss → AreOfFields d g (values_of (map reference ns)) ss
+  references [] [] all = tt
+  references [] (s ∷ ss) all = absurd all
+  references (n ∷ ns) [] all = absurd all
+  references (n ∷ ns) (s ∷ ss) all = ((all.0.selector, all.0.declared, all.0.sorted), references ns ss all.1)
 
-  named_values : (d : Declarations) (vs : Values) (fields : List SelId) → AreOfFields d [] vs fields → AreNamed d vs
-  named_values d no_values fields fit = tt
-  named_values d (with_value v vs) [] fit = absurd fit
-  named_values d (with_value v vs) (s ∷ ss) ((selector, at, sorted), rest) = (named_value d v selector.sort sorted, named_values d vs ss rest)
+  sorted_node : (i : ℕ) (x : Node) → slice_get g i ≡ Some x → (s : SortId) × HasValueSort d g (node_value x) s
+  sorted_node i (Con c ns) at =
+      let built = fits i (Con c ns) at in
+      (built.ctor.sort, (built.ctor, built.declared, refl, references ns built.ctor.sels built.fields))
+  sorted_node i (Elem t k) at = (t, (fits i (Elem t k) at, refl))
 
-named_references : (d : Declarations) (ns : List NodeId) → AreNamed d (values_of (map reference ns))
-named_references d [] = tt
-named_references d (n ∷ ns) = (tt, named_references d ns)
+  sorted_from : (xs : List Node) → ((i : ℕ) (x : Node) → slice_get xs i ≡ Some x → (s : SortId) × HasValueSort d g (node_value x) s) → AreNodesSorted d g xs
+  sorted_from [] each = tt
+  sorted_from (x ∷ xs) each = (each 0 x refl, sorted_from xs (λ i y at. each (suc i) y at))
 
-named_node : (d : Declarations) (h : Nodes) (x : Node) → FitsNode d h x → IsNamed d (node_value x)
-named_node d h (Con c ks) fits = (slice_get_within d.ctors c.0 fits.ctor fits.declared, named_references d ks)
-named_node d h (Elem s n) fits = slice_get_within d.sorts s.0 fits.sort fits.declared
-
-named_nodes : (d : Declarations) (h xs : Nodes) → ((k : ℕ) (x : Node) → slice_get xs k ≡ Some x → FitsNode d h x) → AreNodesNamed d xs
-named_nodes d h [] fits = tt
-named_nodes d h (x ∷ xs) fits = (named_node d h x (fits 0 x refl), named_nodes d h xs (λ k y at. fits (suc k) y at))
+  sorted_nodes : AreNodesSorted d g g
+  sorted_nodes = sorted_from g sorted_node
 
 -- ---- trees
 
@@ -113,8 +111,8 @@ module _ (g : Nodes) (small : HasSmallElements g) where
 tree_only : (d : Declarations) (s : SortId) (e : Expression) (v : Value) (p : Point) → tree_at d s e ≡ Some v → IsTreeValue d s e p → p ≡ point [] v
 tree_only d s e v p said (w, at, is) = is ∙ ap (point []) (same_Some w v (sym at ∙ said))
 
-tree_printed : (d : Declarations) (g : Nodes) (s : SortId) (n : NodeId) (text : List ℕ) → IsPrintable d g → HasNodeSort d g n s → IsTreeText d g n text → IsPrinted text (ValueReads d g s n)
-tree_printed d g s n text printable sorted is =
+tree_printed : TextTheorems → (d : Declarations) (g : Nodes) (s : SortId) (n : NodeId) (text : List ℕ) → IsPrintable d g → HasNodeSort d g n s → IsTreeText d g n text → IsPrinted text (ValueReads d g s n)
+tree_printed theorems d g s n text printable sorted is =
     let v = is.tree in
     let value_sorted : HasValueSort d [] v s = agreeing_sorted d g [] printable.formed.fits (reference n) v s sorted is.stands_for.1 in
     let reads = tree_reads d v s printable.consistent value_sorted (small_tree g printable.small v n is.stands_for) in
@@ -122,7 +120,7 @@ tree_printed d g s n text printable sorted is =
     let begins : begins_graph e ≡ false = ap is_some reads.no_graph in
     record {
       printed = expression d v;
-      readable = readable d v printable.consistent (named_value d v s value_sorted);
+      readable = readable theorems d printable.consistent [] v s value_sorted;
       text_is = is.text_is;
       reads = record {
         value = point [] v;
@@ -142,10 +140,10 @@ graph_printed theorems d g s n text printable sorted is =
     let h = is.minimal in
     let fits = minimal_fits d g n h printable.formed.fits is.is_minimal in
     let alike : AgreeAlways (node_point g n) (node_point h (record { 0 = 0 })) = AgreeAlways-sym (node_point h (record { 0 = 0 })) (node_point g n) is.is_minimal.same in
-    let reads = graph_reads d s h printable.consistent fits (minimal_small g h n printable.small is.is_minimal) (minimal_few g h n number_bound printable.few is.is_minimal) (sort_across d g h n (record { 0 = 0 }) s alike sorted) in
+    let reads = graph_reads d s h printable.consistent fits is.is_minimal.breadth_first (minimal_small g h n printable.small is.is_minimal) (minimal_few g h n number_bound printable.few is.is_minimal) (sort_across d g h n (record { 0 = 0 }) s alike sorted) in
     record {
       printed = graph_text d h;
-      readable = graph_readable theorems d printable.consistent h (named_nodes d h h fits);
+      readable = graph_readable theorems d printable.consistent h (sorted_nodes d h fits);
       text_is = is.text_is;
       reads = record {
         value = node_point h (record { 0 = 0 });
@@ -160,5 +158,5 @@ graph_printed theorems d g s n text printable sorted is =
 
 -- what is printed of a node reads as its value
 pub value_printed : TextTheorems → (d : Declarations) (g : Nodes) (s : SortId) (n : NodeId) (text : List ℕ) → IsPrintable d g → HasNodeSort d g n s → IsValueText d g n text → IsPrinted text (ValueReads d g s n)
-value_printed theorems d g s n text printable sorted (inl is) = tree_printed d g s n text printable sorted is
+value_printed theorems d g s n text printable sorted (inl is) = tree_printed theorems d g s n text printable sorted is
 value_printed theorems d g s n text printable sorted (inr is) = graph_printed theorems d g s n text printable sorted is

@@ -13,7 +13,9 @@ use Rattle.ct_readback.specs.declared.value.Said.TheVariants as said
 use Rattle.ct_readback.specs.Cycles.{HasDataCycle}
 use Rattle.ct_readback.specs.Trees.{tree_at}
 use Rattle.ct_readback.specs.TreeNode.{IsNodeOf}
-use Rattle.ct_readback.specs.GraphText.{IsGraphAt}
+use Rattle.ct_readback.specs.declared.graph_text.ReadGraph.{ReadGraph}
+use Rattle.ct_readback.specs.Nodes.{IsGraphAt}
+use Rattle.ct_readback.specs.Descent.{IsUpperPart}
 use Rattle.ct_readback.specs.ValueAt.{begins_graph, IsTreeValue, IsGraphValue, IsValueAt}
 use Rattle.ct_readback.specs.Placed.{numbered_node, IsPlacedRoot}
 use Rattle.ct_readback.specs.Said.{IsSaid}
@@ -52,7 +54,7 @@ graph_cyclic d g s e h is cycle = (node_point h (numbered_node 0), (h, is, refl)
 
 pub graph_said : (d : Declarations) (g : Nodes) (s : SortId) (e : Expression) (h : Nodes) (n : NodeId) → IsGraphAt d s e h → (HasDataCycle d h → ⊥) → IsPlacedRoot d h g n → IsSaid d g (IsGraphValue d s e) s (said.Value n)
 graph_said d g s e h n is acyclic placed =
-    (node_point h (numbered_node 0), (h, is, refl), acyclic, record { sorted = placed.sorted s is.root; value = placed.agrees })
+    (node_point h (numbered_node 0), (h, is, refl), acyclic, record { sorted = placed.sorted s is.2.root; value = placed.agrees })
 
 -- a value in either form
 pub value_of_graph : (d : Declarations) (g : Nodes) (s : SortId) (e : Expression) (found : Said) → begins_graph e ≡ true → IsSaid d g (IsGraphValue d s e) s found → IsSaid d g (IsValueAt d s e) s found
@@ -62,17 +64,14 @@ pub value_of_tree : (d : Declarations) (g : Nodes) (s : SortId) (e : Expression)
 value_of_tree d g s e found is h = subst (λ (b : Bool). IsSaid d g (λ p. MatchBool b (IsGraphValue d s e p) (IsTreeValue d s e p)) s found) (sym is) h
 
 -- a graph that was looked for
-abbrev pub IsFoundGraph : Declarations → SortId → Expression → Option Nodes → Type 0
-IsFoundGraph d s e o = MatchOption o ((h : Nodes) → IsGraphAt d s e h → ⊥) (IsGraphAt d s e)
+abbrev pub IsFoundGraph : Declarations → SortId → Expression → Option ReadGraph → Type 0
+IsFoundGraph d s e o = MatchOption o ((h : Nodes) → IsGraphAt d s e h → ⊥) (λ read. IsGraphAt d s e read.graph × IsUpperPart d read.graph read.reached.items)
 
-pub graph_found : (d : Declarations) (s : SortId) (e : Expression) (o : Option Nodes) (h : Nodes) → o ≡ Some h → IsFoundGraph d s e o → IsGraphAt d s e h
-graph_found d s e o h is found = subst (λ (x : Option Nodes). IsFoundGraph d s e x) is found
+pub graph_found : (d : Declarations) (s : SortId) (e : Expression) (o : Option ReadGraph) (read : ReadGraph) → o ≡ Some read → IsFoundGraph d s e o → IsGraphAt d s e read.graph × IsUpperPart d read.graph read.reached.items
+graph_found d s e o read is found = subst (λ (x : Option ReadGraph). IsFoundGraph d s e x) is found
 
-pub graph_missing : (d : Declarations) (s : SortId) (e : Expression) (o : Option Nodes) → o ≡ None → IsFoundGraph d s e o → (h : Nodes) → IsGraphAt d s e h → ⊥
-graph_missing d s e o is found = subst (λ (x : Option Nodes). IsFoundGraph d s e x) is found
-
-pub graph_some : (d : Declarations) (s : SortId) (e : Expression) (h : Nodes) → IsGraphAt d s e h → 0 < length h
-graph_some d s e h is = slice_get_within h 0 is.root.0 is.root.1
+pub graph_missing : (d : Declarations) (s : SortId) (e : Expression) (o : Option ReadGraph) → o ≡ None → IsFoundGraph d s e o → (h : Nodes) → IsGraphAt d s e h → ⊥
+graph_missing d s e o is found = subst (λ (x : Option ReadGraph). IsFoundGraph d s e x) is found
 
 -- whether it was placed
 abbrev pub IsPlaced : Declarations → Nodes → Nodes → Option NodeId → Type 0

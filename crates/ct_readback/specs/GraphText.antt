@@ -7,8 +7,6 @@ use Rattle.ct_sexpr.specs.Expression.{Expression, Expressions, none, more}
 use Rattle.ct_values.specs.declared.node.NodeId.{NodeId}
 use Rattle.ct_values.specs.declared.node.Node.{Node}
 use Rattle.ct_values.specs.declared.node.Node.TheVariants.{Con, Elem}
-use Rattle.ct_values.specs.Graph.{Nodes}
-use Rattle.ct_values.specs.Fitting.{HasNodeSort, FitsGraph}
 use Rattle.ct_readback.specs.Words.{is_word, numbered, is_numbered}
 use Rattle.ct_readback.specs.Parts.{holds, option_both, or_other, only_if, list_items, count, are_some, first_of, two_in, three_in, parts_after}
 use Rattle.ct_readback.specs.Heads.{is_head, is_constructor_head, constructor_at, element_at}
@@ -74,8 +72,7 @@ applied_node d s parts = option_both Con (constructor_at d s parts.0) (reference
 abbrev pub node_at : Declarations → SortId → Expression → Option Node
 node_at d s e = or_other (lone_node d s e) (or_other (element_node d s e) (option_and_then (applied_node d s) (option_and_then first_of (list_items e))))
 
--- The row number i says this node, of some sort. A name is that of one constructor today, so a node that is not reached has no other
--- sort either.
+-- the row number i says this node, of some sort
 pub record SaysNode (d : Declarations) (i : ℕ) (row : Expression) (node : Node) : Type 0 where
   pub text : Expression
   pub written : node_text i row ≡ Some text
@@ -88,12 +85,3 @@ SayNodes d i none [] = Unit {0}
 SayNodes d i none (node ∷ nodes) = ⊥
 SayNodes d i (more e es) [] = ⊥
 SayNodes d i (more e es) (node ∷ nodes) = SaysNode d i e node × SayNodes d (suc i) es nodes
-
--- The expression says this graph, whose node 0 is of the sort: each node has children of its fields' sorts, also where the root
--- does not reach it. So a node that is reached has the sort of the field that leads to it.
-pub record IsGraphAt (d : Declarations) (s : SortId) (e : Expression) (h : Nodes) : Type 0 where
-  pub rows : Expressions
-  pub written : graph_rows e ≡ Some rows
-  pub nodes : SayNodes d 0 rows h
-  pub fits : FitsGraph d h
-  pub root : HasNodeSort d h (record { 0 = 0 }) s

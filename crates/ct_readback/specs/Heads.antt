@@ -5,11 +5,13 @@ use Rattle.ct_sorts.specs.declared.ids.SortId.{SortId}
 use Rattle.ct_sorts.specs.declared.ids.CtorId.{CtorId}
 use Rattle.ct_sorts.specs.Declarations.{Declarations}
 use Rattle.ct_sexpr.specs.Expression.{Expression, Expressions}
-use Rattle.ct_value_text.specs.ValueText.{sort_name}
+use Rattle.ct_value_text.specs.ValueText.{bare_sort}
+use Rattle.ct_instances.specs.Among.{ctor_among}
+use Rattle.ct_instances.specs.Fields.{is_ctor_determined}
 use Rattle.ct_card.specs.Defaults.{is_free_sort}
-use Rattle.ct_names.specs.Symbols.{ctor_named, ctor_sort}
+use Rattle.ct_names.specs.Symbols.{ctor_named}
 use Rattle.ct_readback.specs.Words.{name_in, is_name, number_in, after}
-use Rattle.ct_readback.specs.Parts.{holds, only_if, two_of, parts_after}
+use Rattle.ct_readback.specs.Parts.{holds, or_other, only_if, two_of, parts_after}
 use Rattle.ct_readback.specs.SortText.{is_sort_text, says_sort}
 
 -- an underscore in the name is followed by a number and nothing else; 95 is `_`
@@ -50,20 +52,24 @@ is_head e = is_name e || holds is_qualified (parts_after (codes "as") e)
 abbrev pub is_constructor_head : Expression → Bool
 is_constructor_head e = is_name e || holds is_qualified_constructor (parts_after (codes "as") e)
 
--- the constructor that the expression names
-abbrev pub constructor_in : Declarations → Expression → Option CtorId
-constructor_in d e = option_and_then (ctor_named d) (name_in e)
+-- the constructor of this sort with this name
+abbrev pub constructor_of : Declarations → SortId → List ℕ → Option CtorId
+constructor_of d s name = option_and_then (λ c. ctor_among d c s) (ctor_named d name)
 
--- the constructor, where it is of this sort
-abbrev pub of_sort : Declarations → SortId → CtorId → Option CtorId
-of_sort d s c = only_if (nat_eq (ctor_sort d c).0 s.0) c
+-- the constructor of this sort that the expression names alone: its fields determine the sort
+abbrev pub constructor_alone : Declarations → SortId → Expression → Option CtorId
+constructor_alone d s e = option_and_then (λ c. only_if (is_ctor_determined d c) c) (option_and_then (constructor_of d s) (name_in e))
 
--- the constructor of this sort that the expression names. The arguments of each constructor determine its sort today, so none is
--- qualified.
+-- the one that a name and a sort say: its fields do not determine the sort
+abbrev pub constructor_with : Declarations → SortId → Expression × Expression → Option CtorId
+constructor_with d s parts =
+    option_and_then (λ c. only_if (not (is_ctor_determined d c) && says_sort d s parts.1) c) (option_and_then (constructor_of d s) (name_in parts.0))
+
+-- the constructor of this sort that the expression says, alone or as `(as C S)`
 abbrev pub constructor_at : Declarations → SortId → Expression → Option CtorId
-constructor_at d s e = option_and_then (of_sort d s) (constructor_in d e)
+constructor_at d s e = or_other (constructor_alone d s e) (option_and_then (constructor_with d s) (option_and_then two_of (parts_after (codes "as") e)))
 
--- the number of the element of the sort U that has this name, `@U_3`
+-- the number of the element of the sort U that has this name, `@U_3`, or of `(Arr E)` in `@(Arr E)_3`: the text of the sort without bars
 abbrev pub element_named : List ℕ → List ℕ → Option ℕ
 element_named sort name = option_and_then number_in (after (64 ∷ (sort ++ 95 ∷ [])) name)
 
@@ -74,7 +80,7 @@ is_sort_of_elements d s e = is_free_sort d s.0 && says_sort d s e
 -- the number of the element of this sort that a name and a sort say
 abbrev pub element_of : Declarations → SortId → Expression × Expression → Option ℕ
 element_of d s parts =
-    option_and_then (λ name. option_and_then (λ number. only_if (is_sort_of_elements d s parts.1) number) (element_named (sort_name d s.0) name)) (name_in parts.0)
+    option_and_then (λ name. option_and_then (λ number. only_if (is_sort_of_elements d s parts.1) number) (element_named (bare_sort d s.0) name)) (name_in parts.0)
 
 -- the same, by what stands after `as`
 abbrev pub element_at : Declarations → SortId → Expressions → Option ℕ

@@ -4,6 +4,7 @@ pub mod SortText
 pub mod Heads
 pub mod Trees
 pub mod GraphText
+pub mod Descent
 pub mod Cycles
 pub mod ValueAt
 pub mod Rows

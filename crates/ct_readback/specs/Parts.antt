@@ -33,6 +33,12 @@ abbrev pub count : Expressions → ℕ
 count none = zero
 count (more e es) = suc (count es)
 
+-- the expression at this place
+abbrev pub nth : Expressions → ℕ → Option Expression
+nth none n = None
+nth (more e es) zero = Some e
+nth (more e es) (suc n) = nth es n
+
 -- there is one at least
 abbrev pub are_some : Expressions → Bool
 are_some none = false

@@ -39,7 +39,7 @@ element_value d s e = option_map (element s) (option_and_then (element_at d s) (
 abbrev mutual
   pub tree_at : Declarations → SortId → Expression → Option Value
   tree_at d s (leaf a) = lone_at d s (leaf a)
-  tree_at d s (list es) = or_other (element_value d s (list es)) (application_at d s es)
+  tree_at d s (list es) = or_other (element_value d s (list es)) (or_other (lone_at d s (list es)) (application_at d s es))
 
   pub application_at : Declarations → SortId → Expressions → Option Value
   application_at d s none = None

@@ -8,7 +8,8 @@ use Rattle.ct_values.specs.Value.{Value}
 use Rattle.ct_values.specs.Agreement.{Point, point, node_point}
 use Rattle.ct_readback.specs.Parts.{parts_after}
 use Rattle.ct_readback.specs.Trees.{is_tree, tree_at}
-use Rattle.ct_readback.specs.GraphText.{is_graph, IsGraphAt}
+use Rattle.ct_readback.specs.GraphText.{is_graph}
+use Rattle.ct_readback.specs.Nodes.{IsGraphAt}
 
 -- the expression is a list that begins with `@graph`
 abbrev pub begins_graph : Expression → Bool

@@ -1,24 +1,25 @@
 //! Values that are written as graphs: their form, and their nodes.
-ghost use Rattle.std.specs.Prelude.{◌≡◌, ◌<◌, ◌^◌, ℕ, List, [], length, Some, codes, option_map, option_and_then, IfOk, IfSome, MatchOption};
+ghost use Rattle.std.specs.Prelude.{◌≡◌, ◌<◌, ◌^◌, ℕ, List, [], Option, length, Some, codes, option_map, option_and_then, IfOk, IfSome, MatchOption};
 ghost use Rattle.ct_sexpr.specs.View.{expression_of, expressions_of};
 ghost use Rattle.ct_sorts.specs.Declarations.{IsSort};
-ghost use Rattle.ct_values.specs.declared.node.Node.{Node};
 ghost use Rattle.ct_values.specs.Graph.{Nodes};
 ghost use Rattle.ct_readback.specs.GraphText as spec;
-ghost use Rattle.ct_readback.specs.GraphText.{IsGraphAt};
 ghost use Rattle.ct_readback.specs.Parts as parts;
-ghost use Rattle.ct_readback.specs.Parts.{holds};
-ghost use Rattle.ct_readback.specs.Nodes.{FitsRoot, IsOnly, IsOnlyNode, AreOnlyNodes};
-ghost use Rattle.ct_readback.specs.Heads as heads;
+ghost use Rattle.ct_readback.specs.Parts.{holds, nth};
+ghost use Rattle.ct_readback.specs.Nodes.{said_at, IsDeclaredNode, IsGraphAt};
+ghost use Rattle.ct_readback.specs.Descent.{AreSorts, AreNodesSaid, IsUpperPart};
 ghost use Rattle.ct_sorts.specs.declared.ids.SortId.{SortId};
 
+use crate::descent::{some_sorts, sorts_below};
 use crate::error::BackError;
-use crate::heads::{constructor_in, element_in, is_constructor_head, is_head};
-use crate::parts::{all_if, first_of, items_in, only_if, parts_after, three_in, two_in, two_of};
+use crate::heads::{constructor_at, element_in, is_constructor_head, is_head};
+use crate::parts::{all_if, first_of, items_in, only_if, three_in, two_in};
 use crate::words::{is_numbered, is_word, name_in, numbered};
+use ct_instances::NamedCtor;
+use ct_names::ctor_named;
 use ct_sexpr::Sexpr;
-use ct_sorts::{Signature, SortId, naming};
-use ct_values::{Graph, Node, NodeId, NodeIds, are_closed, fits, has_sort};
+use ct_sorts::{Signature, SortId};
+use ct_values::{Graph, Node, NodeId, NodeIds};
 use std::alloc::Global;
 
 // The rows of a graph, where there is one at least.
@@ -162,44 +163,41 @@ fn references_in(alloc: Global, exprs: &[Sexpr]) -> Result<Option<NodeIds>, Back
     Ok(Some(NodeIds::new(nodes)))
 }
 
-// The sort that stands after the name of an element.
-fn element_sort(sig: &Signature, expr: &Sexpr) -> Option<SortId>
-    ensures inside { IfSome result (IsSort sig.now) }
-    ensures only { (s : SortId) (n : ℕ) → option_and_then (heads.element_at sig.now s) (parts.parts_after (codes "as") (expression_of expr.now)) ≡ Some n → result ≡ Some s }
+// The node of this sort of a constructor alone.
+fn lone_node(alloc: Global, sig: &Signature, s: SortId, expr: &Sexpr) -> Option<Node>
+    requires inside { IsSort sig.now s }
+    ensures value { result ≡ spec.lone_node sig.now s (expression_of expr.now) }
+    ensures inside { IfSome result (IsDeclaredNode sig.now) }
 {
-    naming();
-    prove!(sig.sorts() > 0);
-    let items = parts_after(b"as", expr)?;
-    let (_, sort) = two_of(items)?;
-    let name = name_in(sort)?;
-    sig.sort_named(name)
-}
-
-// The node of a constructor alone.
-fn lone_node(alloc: Global, sig: &Signature, expr: &Sexpr) -> Option<Node>
-    ensures only { IsOnly (λ s. spec.lone_node sig.now s (expression_of expr.now)) result }
-{
-    let c = constructor_in(sig, expr)?;
+    let c = constructor_at(sig, s, expr)?;
     Some(Node::Con(c, NodeIds::new(Vec::new(alloc))))
 }
 
-// The node of an element.
-fn element_node(sig: &Signature, expr: &Sexpr) -> Option<Node>
-    ensures only { IsOnly (λ s. spec.element_node sig.now s (expression_of expr.now)) result }
+// The node of an element of this sort.
+fn element_node(sig: &Signature, s: SortId, expr: &Sexpr) -> Option<Node>
+    requires inside { IsSort sig.now s }
+    ensures value { result ≡ spec.element_node sig.now s (expression_of expr.now) }
+    ensures inside { IfSome result (IsDeclaredNode sig.now) }
 {
-    let s = element_sort(sig, expr)?;
     let number = element_in(sig, s, expr)?;
     Some(Node::Elem(s, number))
 }
 
-// The node of a constructor before references.
-fn applied_node(alloc: Global, sig: &Signature, expr: &Sexpr) -> Result<Option<Node>, BackError>
-    ensures only { IfOk result (IsOnly (λ s. option_and_then (spec.applied_node sig.now s) (option_and_then parts.first_of (parts.list_items (expression_of expr.now))))) }
+// The node of this sort of a constructor before references.
+fn applied_node(
+    alloc: Global,
+    sig: &Signature,
+    s: SortId,
+    expr: &Sexpr,
+) -> Result<Option<Node>, BackError>
+    requires inside { IsSort sig.now s }
+    ensures value { IfOk result (λ node. node ≡ option_and_then (spec.applied_node sig.now s) (option_and_then parts.first_of (parts.list_items (expression_of expr.now)))) }
+    ensures inside { IfOk result (λ node. IfSome node (IsDeclaredNode sig.now)) }
 {
     let Some((head, args)) = head_in(expr) else {
         return Ok(None);
     };
-    let Some(c) = constructor_in(sig, head) else {
+    let Some(c) = constructor_at(sig, s, head) else {
         return Ok(None);
     };
     match references_in(alloc, args)? {
@@ -208,41 +206,94 @@ fn applied_node(alloc: Global, sig: &Signature, expr: &Sexpr) -> Result<Option<N
     }
 }
 
-// The node that the expression says, of any sort and whatever its children are.
-fn node_in(alloc: Global, sig: &Signature, expr: &Sexpr) -> Result<Option<Node>, BackError>
-    ensures only { IfOk result (IsOnly (λ s. spec.node_at sig.now s (expression_of expr.now))) }
+// The node of this sort that the expression says, whatever its children are.
+fn node_at(
+    alloc: Global,
+    sig: &Signature,
+    s: SortId,
+    expr: &Sexpr,
+) -> Result<Option<Node>, BackError>
+    requires inside { IsSort sig.now s }
+    ensures value { IfOk result (λ node. node ≡ spec.node_at sig.now s (expression_of expr.now)) }
+    ensures inside { IfOk result (λ node. IfSome node (IsDeclaredNode sig.now)) }
 {
-    if let Some(node) = lone_node(alloc, sig, expr) {
+    if let Some(node) = lone_node(alloc, sig, s, expr) {
         return Ok(Some(node));
     }
-    if let Some(node) = element_node(sig, expr) {
+    if let Some(node) = element_node(sig, s, expr) {
         return Ok(Some(node));
     }
-    applied_node(alloc, sig, expr)
+    applied_node(alloc, sig, s, expr)
 }
 
-// The node that the row number i says.
-fn row_node(alloc: Global, sig: &Signature, i: u64, row: &Sexpr) -> Result<Option<Node>, BackError>
-    ensures only { IfOk result (IsOnlyNode sig.now i (expression_of row.now)) }
+// The node of this sort that the row number i says.
+fn row_node(
+    alloc: Global,
+    sig: &Signature,
+    s: SortId,
+    i: u64,
+    row: &Sexpr,
+) -> Result<Option<Node>, BackError>
+    requires inside { IsSort sig.now s }
+    ensures value { IfOk result (λ node. node ≡ option_and_then (spec.node_at sig.now s) (spec.node_text i (expression_of row.now))) }
+    ensures inside { IfOk result (λ node. IfSome node (IsDeclaredNode sig.now)) }
 {
     match node_text(i, row) {
         None => Ok(None),
-        Some(text) => node_in(alloc, sig, text),
+        Some(text) => node_at(alloc, sig, s, text),
     }
 }
 
-// The nodes that the rows say.
-fn nodes_in(alloc: Global, sig: &Signature, rows: &[Sexpr]) -> Result<Option<Vec<Node>>, BackError>
-    ensures only { IfOk result (λ nodes. AreOnlyNodes sig.now 0 (expressions_of rows.now) (option_map (λ list. list.items) nodes)) }
+/// The node of this sort that the row with this number says.
+pub(crate) fn said_at(
+    alloc: Global,
+    sig: &Signature,
+    rows: &[Sexpr],
+    i: usize,
+    s: SortId,
+) -> Result<Option<Node>, BackError>
+    requires inside { IsSort sig.now s }
+    ensures value { IfOk result (λ node. node ≡ said_at sig.now (expressions_of rows.now) i s) }
+    ensures inside { IfOk result (λ node. IfSome node (IsDeclaredNode sig.now)) }
 {
-    let mut nodes = Vec::new(alloc);
-    for index in 0..rows.len() {
-        let Some(node) = row_node(alloc, sig, index as u64, &rows[index])? else {
-            return Ok(None);
-        };
-        nodes.push(node)?;
+    match row_at(rows, i) {
+        None => Ok(None),
+        Some(row) => row_node(alloc, sig, s, i as u64, row),
     }
-    Ok(Some(nodes))
+}
+
+// The row with this number.
+#[tactic(auto, using(crate::proofs::RowAtLemmas::nth_at, crate::proofs::RowAtLemmas::nth_past))]
+fn row_at(rows: &[Sexpr], i: usize) -> Option<&Sexpr>
+    ensures value { nth (expressions_of rows.now) i ≡ option_map (λ e. expression_of e.now) result }
+{
+    if i >= rows.len() {
+        return None;
+    }
+    Some(&rows[i])
+}
+
+/// A sort that the row may have: that of the constructor that it names, where this is of no generic.
+pub(crate) fn likely_sort(sig: &Signature, row: &Sexpr) -> Option<SortId>
+    ensures inside { IfSome result (IsSort sig.now) }
+{
+    let (_, node) = two_in(row)?;
+    let head = match head_in(node) {
+        None => node,
+        Some((head, _)) => head,
+    };
+    let name = name_in(head)?;
+    match ctor_named(sig, name)? {
+        NamedCtor::Plain(c) => Some(sig.ctor_sort(c)),
+        NamedCtor::Generic(_, _) => None,
+    }
+}
+
+/// A graph as it is read, and the sorts of the nodes that the root reaches.
+#[derive(Debug, Drop)]
+pub(crate) struct ReadGraph {
+    pub(crate) graph: Graph,
+    pub(crate) reached: Vec<Option<SortId>>,
 }
 
 /// The graph that the expression says, whose node 0 is of this sort.
@@ -251,32 +302,42 @@ pub(crate) fn graph_at(
     sig: &Signature,
     s: SortId,
     expr: &Sexpr,
-) -> Result<Option<Graph>, BackError>
+) -> Result<Option<ReadGraph>, BackError>
     requires inside { IsSort sig.now s }
     ensures graph { IfOk result (λ found. MatchOption found
         ((h : Nodes) → IsGraphAt sig.now s (expression_of expr.now) h → ⊥)
-        (IsGraphAt sig.now s (expression_of expr.now))) }
+        (λ read. IsGraphAt sig.now s (expression_of expr.now) read.graph × IsUpperPart sig.now read.graph read.reached.items)) }
 {
+    prove!(sig.sorts() > 0);
     let Some(rows) = graph_rows(expr) else {
         return Ok(None);
     };
-    let Some(nodes) = nodes_in(alloc, sig, rows)? else {
+    let Some(reached) = sorts_below(alloc, sig, rows, s)? else {
         return Ok(None);
     };
-    Ok(fitting(sig, s, nodes))
+    let Some(sorts) = some_sorts(alloc, sig, rows, &reached)? else {
+        return Ok(None);
+    };
+    let graph = graph_of(alloc, sig, rows, &sorts)?;
+    Ok(Some(ReadGraph { graph, reached }))
 }
 
-// The graph of these nodes, where it fits the declarations and node 0 is of this sort.
-fn fitting(sig: &Signature, s: SortId, nodes: Vec<Node>) -> Option<Graph>
-    ensures fits { MatchOption result (FitsRoot sig.now s nodes.items → ⊥)
-        (λ graph. (graph ≡ nodes.items) × FitsRoot sig.now s nodes.items) }
+// The graph of the nodes that the rows say with these sorts.
+fn graph_of(
+    alloc: Global,
+    sig: &Signature,
+    rows: &[Sexpr],
+    sorts: &[SortId],
+) -> Result<Graph, BackError>
+    requires sorts { (reached : List (Option SortId)) × AreSorts sig.now (expressions_of rows.now) reached sorts.now }
+    ensures nodes { IfOk result (AreNodesSaid sig.now (expressions_of rows.now) sorts.now) }
 {
-    if !are_closed(nodes.as_slice()) {
-        return None;
+    let mut nodes = Vec::with_capacity(alloc, sorts.len())?;
+    for i in 0..sorts.len() {
+        let Some(node) = said_at(alloc, sig, rows, i, sorts[i])? else {
+            unreachable!();
+        };
+        nodes.push(node)?;
     }
-    let graph = Graph::from_nodes(nodes);
-    if !fits(sig, &graph) || !has_sort(sig, &graph, NodeId(0), s) {
-        return None;
-    }
-    Some(graph)
+    Ok(Graph::from_nodes(nodes))
 }

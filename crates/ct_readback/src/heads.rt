@@ -1,17 +1,19 @@
 //! What stands at the top of a value: a constructor, or an element of an uninterpreted sort.
-ghost use Rattle.std.specs.Prelude.{◌≡◌, option_and_then, codes, IfSome};
+ghost use Rattle.std.specs.Prelude.{◌≡◌, option_and_then, option_map, codes, IfSome};
 ghost use Rattle.ct_sexpr.specs.View.{expression_of, expressions_of};
 ghost use Rattle.ct_sorts.specs.Declarations.{IsSort, IsConstructor};
-ghost use Rattle.ct_sorts.specs.Lookup.{IsSymbol};
-ghost use Rattle.ct_sorts.specs.declared.ids.Symbol.TheVariants.{Ctor};
 ghost use Rattle.ct_card.specs.Defaults.{is_free_sort};
+ghost use Rattle.ct_names.specs.Symbols.{ctor_sort};
 ghost use Rattle.ct_readback.specs.Words as words;
 ghost use Rattle.ct_readback.specs.Parts.{holds, parts_after};
+ghost use Rattle.ct_readback.specs.Parts as parts;
+ghost use Rattle.ct_value_text.specs.ValueText.{without_bars};
 ghost use Rattle.ct_readback.specs.Heads as spec;
 
 use crate::parts::{parts_after, two_of};
 use crate::sort_text::{is_sort_text, says_sort};
 use crate::words::{after, is_name, name_in, number_in};
+use ct_instances::{ctor_among, has_determined_sort, sort_text};
 use ct_names::ctor_named;
 use ct_sexpr::Sexpr;
 use ct_sorts::{CtorId, Kind, Signature, SortId};
@@ -116,49 +118,103 @@ pub(crate) fn is_constructor_head(expr: &Sexpr) -> bool
     }
 }
 
-/// The constructor that the expression names, of any sort.
-pub(crate) fn constructor_in(sig: &Signature, expr: &Sexpr) -> Option<CtorId>
-    ensures value { result ≡ spec.constructor_in sig.now (expression_of expr.now) }
-    ensures inside { IfSome result (IsConstructor sig.now) }
-{
-    match name_in(expr) {
-        None => None,
-        Some(name) => ctor_named(sig, name),
-    }
-}
-
-/// The constructor of this sort that the expression names.
+/// The constructor of this sort that the expression says, alone or as `(as C S)`.
 pub(crate) fn constructor_at(sig: &Signature, s: SortId, expr: &Sexpr) -> Option<CtorId>
+    requires inside { IsSort sig.now s }
     ensures value { result ≡ spec.constructor_at sig.now s (expression_of expr.now) }
     ensures inside { IfSome result (IsConstructor sig.now) }
+    ensures sort { IfSome result (λ c. ctor_sort sig.now c ≡ s) }
 {
-    match constructor_in(sig, expr) {
-        None => None,
-        Some(c) => of_sort(sig, s, c),
+    match constructor_alone(sig, s, expr) {
+        Some(c) => Some(c),
+        None => constructor_with_sort(sig, s, expr),
     }
 }
 
-// The constructor, where it is of this sort.
-fn of_sort(sig: &Signature, s: SortId, c: CtorId) -> Option<CtorId>
-    requires inside { IsConstructor sig.now c }
-    ensures value { result ≡ spec.of_sort sig.now s c }
+// The constructor of this sort with the name that the expression is.
+fn constructor_of(sig: &Signature, s: SortId, expr: &Sexpr) -> Option<CtorId>
+    requires inside { IsSort sig.now s }
+    ensures value { result ≡ option_and_then (spec.constructor_of sig.now s) (words.name_in (expression_of expr.now)) }
     ensures inside { IfSome result (IsConstructor sig.now) }
+    ensures sort { IfSome result (λ c. ctor_sort sig.now c ≡ s) }
 {
-    if sig.ctor_sort(c).0 == s.0 {
+    prove!(sig.sorts() > 0);
+    let name = name_in(expr)?;
+    let c = ctor_named(sig, name)?;
+    ctor_among(sig, c, s)
+}
+
+// The constructor of this sort that the expression names alone.
+fn constructor_alone(sig: &Signature, s: SortId, expr: &Sexpr) -> Option<CtorId>
+    requires inside { IsSort sig.now s }
+    ensures value { result ≡ spec.constructor_alone sig.now s (expression_of expr.now) }
+    ensures inside { IfSome result (IsConstructor sig.now) }
+    ensures sort { IfSome result (λ c. ctor_sort sig.now c ≡ s) }
+{
+    let c = constructor_of(sig, s, expr)?;
+    if has_determined_sort(sig, c) {
         return Some(c);
     }
     None
 }
 
-// The number of the element with this name of the sort with that one.
+// The constructor of this sort that the expression says as `(as C S)`.
+fn constructor_with_sort(sig: &Signature, s: SortId, expr: &Sexpr) -> Option<CtorId>
+    requires inside { IsSort sig.now s }
+    ensures value { result ≡ option_and_then (spec.constructor_with sig.now s) (option_and_then parts.two_of (parts_after (codes "as") (expression_of expr.now))) }
+    ensures inside { IfSome result (IsConstructor sig.now) }
+    ensures sort { IfSome result (λ c. ctor_sort sig.now c ≡ s) }
+{
+    let items = parts_after(b"as", expr)?;
+    let (name, sort) = two_of(items)?;
+    constructor_with(sig, s, name, sort)
+}
+
+// The constructor of this sort that a name and a sort say.
+fn constructor_with(sig: &Signature, s: SortId, name: &Sexpr, sort: &Sexpr) -> Option<CtorId>
+    requires inside { IsSort sig.now s }
+    ensures value { result ≡ spec.constructor_with sig.now s (expression_of name.now, expression_of sort.now) }
+    ensures inside { IfSome result (IsConstructor sig.now) }
+    ensures sort { IfSome result (λ c. ctor_sort sig.now c ≡ s) }
+{
+    let c = constructor_of(sig, s, name)?;
+    if !has_determined_sort(sig, c) && says_sort(sig, s, sort) {
+        return Some(c);
+    }
+    None
+}
+
+// The number of the element with this name of the sort with that text.
 #[tactic(auto, using(crate::proofs::HeadLemmas::element_steps))]
 fn element_named(sort: &[u8], name: &[u8]) -> Option<u64>
-    ensures value { result ≡ spec.element_named sort.now name.now }
+    ensures value { result ≡ spec.element_named (without_bars sort.now) name.now }
 {
     let own = after(b"@", name)?;
-    let rest = after(sort, own)?;
+    let rest = after_bare(sort, own)?;
     let digits = after(b"_", rest)?;
     number_in(digits)
+}
+
+// The bytes after the text without its bars, with which they begin.
+fn after_bare<'a>(text: &[u8], bytes: &'a [u8]) -> Option<&'a [u8]>
+    ensures value { words.after (without_bars text.now) bytes.now ≡ option_map (λ rest. rest.now) result }
+{
+    let mut left = text;
+    let mut rest = bytes;
+    while let [wanted, others @ ..] = left {
+        left = others;
+        if *wanted == b'|' {
+            continue;
+        }
+        let [byte, behind @ ..] = rest else {
+            return None;
+        };
+        if *wanted != *byte {
+            return None;
+        }
+        rest = behind;
+    }
+    Some(rest)
 }
 
 // Whether the sort is uninterpreted.
@@ -186,7 +242,7 @@ fn element_of(sig: &Signature, s: SortId, name: &Sexpr, sort: &Sexpr) -> Option<
     ensures value { result ≡ spec.element_of sig.now s (expression_of name.now, expression_of sort.now) }
 {
     let name = name_in(name)?;
-    let number = element_named(sig.sort_name(s), name)?;
+    let number = element_named(sort_text(sig, s), name)?;
     if is_sort_of_elements(sig, s, sort) {
         return Some(number);
     }

@@ -2,6 +2,7 @@
 #![tactic(auto)]
 
 mod defaults;
+mod descent;
 mod error;
 mod graph_text;
 mod heads;

@@ -1,14 +1,14 @@
 //! Graphs put after another graph: the nodes of datatypes after their children of datatypes, whatever their numbers were.
 ghost use Rattle.std.specs.Prelude.{◌≡◌, ◌↔◌, ◌<◌, ◌+◌, ◌^◌, ◌++◌, ℕ, List, length, All, Some, slice_get, option_map, IsTrue, IfOk, OnOk, MatchOption};
-ghost use Rattle.std.specs.List.{AllZip};
+ghost use Rattle.std.specs.List.{AllZip, filter};
 ghost use Rattle.ct_sorts.specs.Grown.{Begins};
 ghost use Rattle.ct_sorts.specs.Declarations.{Sort};
 ghost use Rattle.ct_sorts.specs.declared.ids.Kind.TheVariants as Kind;
-ghost use Rattle.ct_values.specs.Fitting.{FitsGraph};
 ghost use Rattle.ct_values.specs.WellFormed.{IsData, IsWellFormedGraph};
 ghost use Rattle.ct_ordering.specs.Graph.{graph, ArePoints, Graph as Edges};
 ghost use Rattle.ct_ordering.specs.Order.{IsOrder};
 ghost use Rattle.ct_readback.specs.Cycles.{HasDataCycle};
+ghost use Rattle.ct_readback.specs.Descent.{IsUpperPart, has_some};
 ghost use Rattle.ct_readback.specs.Placed.{AreDataEdges, AreDataChildren, IsDataRow, ArePlaces, StandsAt, IsMoved, IsPlacedRoot};
 
 use crate::error::BackError;
@@ -171,16 +171,16 @@ fn in_order(
     Ok(nodes)
 }
 
-/// Puts the nodes of a graph that fits the declarations after another one, and gives the number of its node 0 there; `None` where it has
-/// a cycle of nodes of datatypes. The time is linear in both lists of its nodes and children.
+/// Puts the nodes of a graph that have sorts after another one, and gives the number of its node 0 there; `None` where the graph has a
+/// cycle of nodes of datatypes, also of such as have no sort. The time is linear in both lists of its nodes and children.
 pub(crate) fn place(
     alloc: Global,
     sig: &Signature,
     h: &Graph,
+    sorts: &[Option<SortId>],
     graph: &mut Pool,
 ) -> Result<Option<NodeId>, BackError>
-    requires fits { FitsGraph sig.now h.now }
-    requires some { 0 < length h.now }
+    requires upper { IsUpperPart sig.now h.now sorts.now }
     requires well_formed { IsWellFormedGraph sig.now graph.old }
     ensures grown { Begins graph.old graph.new }
     ensures well_formed { IsWellFormedGraph sig.now graph.new }
@@ -191,23 +191,51 @@ pub(crate) fn place(
     match order(alloc, &edges.starts, &edges.kids)? {
         Ordered::Cycle(_) => Ok(None),
         Ordered::Order(points) => {
-            let n = append_in_order(alloc, sig, h, &points, graph)?;
+            let points = sorted(alloc, sorts, &points)?;
+            let n = append_in_order(alloc, sig, h, sorts, &points, graph)?;
             Ok(Some(n))
         }
     }
 }
 
-// Puts the nodes after the other graph in this order, and gives the number of node 0.
+// Those of the nodes that have sorts, in the same order.
+fn sorted(
+    alloc: Global,
+    sorts: &[Option<SortId>],
+    points: &[usize],
+) -> Result<Vec<usize>, BackError>
+    requires within { All (λ point. point < length sorts.now) points.now }
+    ensures value { IfOk result (λ list. list.items ≡ filter (has_some sorts.now) points.now) }
+{
+    let mut list = Vec::with_capacity(alloc, points.len())?;
+    for point in points {
+        if !is_sorted(sorts, *point) {
+            continue;
+        }
+        list.push(*point)?;
+    }
+    Ok(list)
+}
+
+// Whether the node has some sort.
+fn is_sorted(sorts: &[Option<SortId>], point: usize) -> bool
+    requires within { point < length sorts.now }
+    ensures value { result ≡ has_some sorts.now point }
+{
+    sorts[point].is_some()
+}
+
+// Puts these nodes after the other graph in this order, and gives the number of node 0.
 fn append_in_order(
     alloc: Global,
     sig: &Signature,
     h: &Graph,
+    sorts: &[Option<SortId>],
     points: &[usize],
     graph: &mut Pool,
 ) -> Result<NodeId, BackError>
-    requires fits { FitsGraph sig.now h.now }
-    requires some { 0 < length h.now }
-    requires order { (g : Edges) × AreDataEdges sig.now h.now g × IsOrder g points.now }
+    requires upper { IsUpperPart sig.now h.now sorts.now }
+    requires order { (g : Edges) × (all : List ℕ) × AreDataEdges sig.now h.now g × IsOrder g all × (points.now ≡ filter (has_some sorts.now) all) }
     requires well_formed { IsWellFormedGraph sig.now graph.old }
     ensures grown { Begins graph.old graph.new }
     ensures well_formed { IsWellFormedGraph sig.now graph.new }

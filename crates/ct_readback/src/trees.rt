@@ -7,7 +7,7 @@ ghost use Rattle.ct_values.specs.WellFormed.{IsWellFormedGraph};
 ghost use Rattle.ct_sorts.specs.declared.ids.SelId.{SelId};
 ghost use Rattle.ct_values.specs.Fitting.{IsElement};
 ghost use Rattle.ct_values.specs.Value.{Values, element, construct};
-ghost use Rattle.ct_names.specs.Symbols.{ctor_sort};
+ghost use Rattle.ct_names.specs.Symbols.{ctor_sort, ctor_field_sorts};
 ghost use Rattle.ct_readback.specs.Trees as spec;
 ghost use Rattle.ct_readback.specs.TreeNode.{IsNodeOf, AreNodesOf, AreFieldsOf, HaveTrees};
 
@@ -85,6 +85,9 @@ pub(crate) fn push_tree(
     if let Some(number) = element_in(sig, s, expr) {
         return push_element(sig, s, number, graph);
     }
+    if let Some(c) = constructor_at(sig, s, expr) {
+        return push_lone(alloc, sig, c, graph);
+    }
     match expr {
         Sexpr::List(items) => push_application(alloc, sig, s, items.as_slice(), graph),
         Sexpr::Symbol(_)
@@ -94,7 +97,7 @@ pub(crate) fn push_tree(
         | Sexpr::Numeral(_)
         | Sexpr::Decimal(_)
         | Sexpr::Binary(_)
-        | Sexpr::Hex(_) => push_lone(alloc, sig, s, expr, graph),
+        | Sexpr::Hex(_) => Ok(None),
     }
 }
 
@@ -176,23 +179,19 @@ fn push_constructor(
     Ok(Some(n))
 }
 
-// The node of the constructor that the expression names alone, where it is of this sort and has no fields.
+// The node of the constructor alone, where it has no fields.
 fn push_lone(
     alloc: Global,
     sig: &Signature,
-    s: SortId,
-    expr: &Sexpr,
+    c: CtorId,
     graph: &mut Pool,
 ) -> Result<Option<NodeId>, BackError>
-    requires inside { IsSort sig.now s }
+    requires inside { IsConstructor sig.now c }
     requires well_formed { IsWellFormedGraph sig.now graph.old }
     ensures grown { Begins graph.old graph.new }
     ensures well_formed { IsWellFormedGraph sig.now graph.new }
-    ensures node { IfOk result (IsNodeOf sig.now s (spec.lone_at sig.now s (expression_of expr.now)) graph.new) }
+    ensures node { IfOk result (IsNodeOf sig.now (ctor_sort sig.now c) (spec.lone (ctor_field_sorts sig.now c) c) graph.new) }
 {
-    let Some(c) = constructor_at(sig, s, expr) else {
-        return Ok(None);
-    };
     if sig.ctor_sels(c).len() > 0 {
         return Ok(None);
     }

@@ -84,11 +84,11 @@ fn push_graph(
     ensures well_formed { IsWellFormedGraph sig.now graph.new }
     ensures said { IfOk result (IsSaid sig.now graph.new (IsGraphValue sig.now s (expression_of expr.now)) s) }
 {
-    let Some(h) = graph_at(alloc, sig, s, expr)? else {
+    let Some(read) = graph_at(alloc, sig, s, expr)? else {
         return Ok(Said::Nothing);
     };
-    let placed = place(alloc, sig, &h, graph)?;
-    drop(h);
+    let placed = place(alloc, sig, &read.graph, &read.reached, graph)?;
+    drop(read);
     match placed {
         None => Ok(Said::Cycle),
         Some(n) => Ok(Said::Value(n)),

@@ -2,17 +2,19 @@
 -- replay changes them as the commands do.
 use Rattle.std.proofs.Common.{◌≡◌, ◌∙◌, ℕ, Bool, true, false, true≢false, List, [], ◌∷◌, ◌++◌, Option, Ok, Err, append_assoc, refl, sym, ap, subst, inl, inr}
 use Rattle.std.specs.Bool.{MatchBool}
-use Rattle.ct_names.specs.Outcome.{Outcome}
-use Rattle.ct_sorts.specs.Declarations.{with_function}
+use Rattle.ct_names.specs.Outcome.{Outcome, Elaborated}
+use Rattle.ct_sorts.specs.Declarations.{Declarations, with_function}
 use Rattle.ct_model.specs.ModelText.{IsModelText}
 use Rattle.ct_log_text.specs.Written.{expression_of_record, text_of}
 use Rattle.ct_sexpr.specs.Text.{Located, Ending}
-use Rattle.ct_command.specs.Command.{Command, declare_fun, define_fun, assert, check_sat, get_model, get_value, get_proof}
+use Rattle.ct_command.specs.Command.{Command, define_sort, declare_block, declare_fun, define_fun, assert, check_sat, get_model, get_value, get_proof}
 use Rattle.ct_command.specs.Reading.{Read, command}
 use Rattle.ct_engine.specs.declared.verdict.Verdict.{Verdict}
 use Rattle.ct_stack.specs.Stack.{Stack, declaring, in_context, asserting, defined_in}
-use Rattle.ct_stack.specs.Outcomes.{Gives}
-use Rattle.ct_stack.specs.Elaborations.{declared_function, defined_function, asserted_formula}
+use Rattle.ct_stack.specs.Outcomes.{Gives, GivesNeeding}
+use Rattle.ct_stack.specs.Elaborations.{synonym_body, with_synonym_of, declared_function, defined_function, asserted_formula}
+use Rattle.ct_stack.specs.Refusal.{over}
+use Rattle.ct_stack.specs.Theorems.{AddSame}
 use Rattle.ct_stack.specs.Values.{AreValues}
 use Rattle.ct_step.specs.declared.options.Options.{Options}
 use Rattle.ct_script.specs.declared.replay.Replayed.{Replayed}
@@ -22,6 +24,8 @@ use Rattle.ct_step.specs.Step.{CommandEffect, Does, Steps, said, quiet, Step, co
 use Rattle.ct_script.specs.Answers.{Answers, Leads, IsSilent, IsFollowed, errors_of, lines_of}
 use Rattle.ct_script.specs.Session.{Course}
 use Rattle.ct_script.specs.Replay.{is_check, IsCounted, IsStepped, Replays, GoesThrough, HaveOneStack, AnswersThrough}
+use Rattle.ct_stack.proofs.BlockLemmas.{one_types}
+use Rattle.ct_stack.proofs.NeededLemmas.{one_value}
 use Rattle.ct_step.proofs.SoundLemmas.{only_of}
 
 -- both effects leave one stack and the same options, and both end the script, or neither
@@ -76,37 +80,45 @@ module _ (s : State) (kept : Option Kept) where
   formed (Ok x) stack e f is same = alike e f is same refl refl refl
   formed (Err n) stack e f is same = absurd is
 
+  -- one that is formed with the sorts that it needs
+  formed_needing : {X : Type 0} → AddSame → (o : Declarations → Elaborated X) (d : Declarations) (stack : Declarations → X → Stack) (e f : CommandEffect) → GivesNeeding o d (λ later x. e ≡ quiet (changed s (stack later x))) → GivesNeeding o d (λ later x. f ≡ quiet (changed (record s { kept = kept }) (stack later x))) → AreAlike e f
+  formed_needing {X} add_same o d stack e f (later, x, comes, is) (last, y, also, same) =
+      let one = one_value add_same o d later last x y comes also in
+      alike e f is same (ap (λ (n : Declarations). stack n y) one.0 ∙ ap (λ (z : X). stack later z) one.1) refl refl
+
   -- and does the same
-  done_alike : (number count : ℕ) (c : Command) (e f : CommandEffect) → asks c ≡ false → Does s number c e → Does (record s { kept = kept }) count c f → AreAlike e f
-  done_alike number count (declare_fun name args sort) e f other is same = formed (declared_function (declared s) name args sort) (λ x. declaring s.stack (with_function (declared s) x)) e f is same
-  done_alike number count (define_fun name params sort t) e f other is same = formed (defined_function (declared s) name params sort t) (λ x. in_context s.stack (defined_in (context_of s) x)) e f is same
-  done_alike number count (assert t) e f other is same = formed (asserted_formula (declared s) t) (asserting s.stack) e f is same
-  done_alike number count check_sat e f other is same = absurd (true≢false other)
-  done_alike number count get_model e f other is same = absurd (true≢false other)
-  done_alike number count (get_value ts) e f other is same = absurd (true≢false other)
-  done_alike number count get_proof e f other is same = absurd (true≢false other)
-  done_alike number count c e f other is same = alike e f is same refl refl refl
+  done_alike : AddSame → (number count : ℕ) (c : Command) (e f : CommandEffect) → asks c ≡ false → Does s number c e → Does (record s { kept = kept }) count c f → AreAlike e f
+  done_alike add_same number count (define_sort name params body) e f other is same = formed (synonym_body (declared s) params body) (λ x. declaring s.stack (with_synonym_of (declared s) name params x)) e f is same
+  done_alike add_same number count (declare_block family heads bodies) e f other is same = alike e f is.2 same.2 (ap (λ (d : Declarations). declaring s.stack d) (one_types add_same (declared s) family heads bodies is.0 same.0 is.1 same.1)) refl refl
+  done_alike add_same number count (declare_fun name args sort) e f other is same = formed_needing add_same (λ d. declared_function d name args sort) (declared s) (λ later x. declaring s.stack (with_function later x)) e f is same
+  done_alike add_same number count (define_fun name params sort t) e f other is same = formed_needing add_same (λ d. defined_function d name params sort t) (declared s) (λ later x. in_context s.stack (defined_in (over (context_of s) later) x)) e f is same
+  done_alike add_same number count (assert t) e f other is same = formed_needing add_same (λ d. asserted_formula d t) (declared s) (λ later x. asserting (declaring s.stack later) x) e f is same
+  done_alike add_same number count check_sat e f other is same = absurd (true≢false other)
+  done_alike add_same number count get_model e f other is same = absurd (true≢false other)
+  done_alike add_same number count (get_value ts) e f other is same = absurd (true≢false other)
+  done_alike add_same number count get_proof e f other is same = absurd (true≢false other)
+  done_alike add_same number count c e f other is same = alike e f is same refl refl refl
 
 -- so it does where it is refused too
-other_alike : (s : State) (kept : Option Kept) (number count line : ℕ) (c : Command) (e f : CommandEffect) → asks c ≡ false → Steps s number line (Ok c) e → Steps (record s { kept = kept }) count line (Ok c) f → AreAlike e f
-other_alike s kept number count line c e f other (inl h) (inl k) = alike e f h.2 k.2 refl refl refl
-other_alike s kept number count line c e f other (inl h) (inr k) = absurd (k.0 h.0 (refused_too s kept c h.0 other h.1))
-other_alike s kept number count line c e f other (inr h) (inl k) = absurd (h.0 k.0 (refused_too (record s { kept = kept }) s.kept c k.0 other k.1))
-other_alike s kept number count line c e f other (inr h) (inr k) = done_alike s kept number count c e f other h.1 k.1
+other_alike : AddSame → (s : State) (kept : Option Kept) (number count line : ℕ) (c : Command) (e f : CommandEffect) → asks c ≡ false → Steps s number line (Ok c) e → Steps (record s { kept = kept }) count line (Ok c) f → AreAlike e f
+other_alike add_same s kept number count line c e f other (inl h) (inl k) = alike e f h.2 k.2 refl refl refl
+other_alike add_same s kept number count line c e f other (inl h) (inr k) = absurd (k.0 h.0 (refused_too s kept c h.0 other h.1))
+other_alike add_same s kept number count line c e f other (inr h) (inl k) = absurd (h.0 k.0 (refused_too (record s { kept = kept }) s.kept c k.0 other k.1))
+other_alike add_same s kept number count line c e f other (inr h) (inr k) = done_alike s kept add_same number count c e f other h.1 k.1
 
 -- effects that rest are alike
 resting : (s : State) (kept : Option Kept) (e f : CommandEffect) → Rests s e → Rests (record s { kept = kept }) f → AreAlike e f
 resting s kept e f h k = (record { stack = k.0.stack ∙ sym h.0.stack; options = k.0.options ∙ sym h.0.options }, k.1 ∙ sym h.1)
 
 -- a command, whether it asks or not
-command_alike : (s : State) (kept : Option Kept) (number count line : ℕ) (c : Command) (e f : CommandEffect) (asking : Bool) → asks c ≡ asking → Steps s number line (Ok c) e → Steps (record s { kept = kept }) count line (Ok c) f → AreAlike e f
-command_alike s kept number count line c e f true is h k = resting s kept e f (asking_rests s number line c e is h) (asking_rests (record s { kept = kept }) count line c f is k)
-command_alike s kept number count line c e f false is h k = other_alike s kept number count line c e f is h k
+command_alike : AddSame → (s : State) (kept : Option Kept) (number count line : ℕ) (c : Command) (e f : CommandEffect) (asking : Bool) → asks c ≡ asking → Steps s number line (Ok c) e → Steps (record s { kept = kept }) count line (Ok c) f → AreAlike e f
+command_alike add_same s kept number count line c e f true is h k = resting s kept e f (asking_rests s number line c e is h) (asking_rests (record s { kept = kept }) count line c f is k)
+command_alike add_same s kept number count line c e f false is h k = other_alike add_same s kept number count line c e f is h k
 
 -- what was read, whether it is a command or not
-read_alike : (s : State) (kept : Option Kept) (number count line : ℕ) (read : Read) (e f : CommandEffect) → Steps s number line read e → Steps (record s { kept = kept }) count line read f → AreAlike e f
-read_alike s kept number count line (Err n) e f h k = alike e f h k refl refl refl
-read_alike s kept number count line (Ok c) e f h k = command_alike s kept number count line c e f (asks c) refl h k
+read_alike : AddSame → (s : State) (kept : Option Kept) (number count line : ℕ) (read : Read) (e f : CommandEffect) → Steps s number line read e → Steps (record s { kept = kept }) count line read f → AreAlike e f
+read_alike add_same s kept number count line (Err n) e f h k = alike e f h k refl refl refl
+read_alike add_same s kept number count line (Ok c) e f h k = command_alike add_same s kept number count line c e f (asks c) refl h k
 
 -- the second state is the first with what it has kept itself
 same_but_kept : (s t : State) → HaveOneStack s t → record s { kept = t.kept } ≡ t
@@ -116,9 +128,9 @@ same_but_kept s t one = sym (
     )
 
 -- one stack and one list of options lead to one stack and one list of options
-pub steps_alike : (s t : State) (number count line : ℕ) (read : Read) (e f : CommandEffect) → HaveOneStack s t → Steps s number line read e → Steps t count line read f → HaveOneStack e.state f.state × (f.stop ≡ e.stop)
-steps_alike s t number count line read e f one h k =
-    read_alike s t.kept number count line read e f h (subst (λ (x : State). Steps x count line read f) (sym (same_but_kept s t one)) k)
+pub steps_alike : AddSame → (s t : State) (number count line : ℕ) (read : Read) (e f : CommandEffect) → HaveOneStack s t → Steps s number line read e → Steps t count line read f → HaveOneStack e.state f.state × (f.stop ≡ e.stop)
+steps_alike add_same s t number count line read e f one h k =
+    read_alike add_same s t.kept number count line read e f h (subst (λ (x : State). Steps x count line read f) (sym (same_but_kept s t one)) k)
 
 -- a check only asks
 check_asks : (c : Command) → is_check (Ok c) ≡ true → asks c ≡ true
@@ -131,7 +143,7 @@ check_rests s number line (Err n) e check h = absurd (true≢false (sym check))
 check_rests s number line (Ok c) e check h = asking_rests s number line c e (check_asks c check) h
 
 -- what is read is replayed beside its step
-module _ (s : State) (number : ℕ) (old new : Course) (line : ℕ) (read : Read) (e : CommandEffect) (r : Replayed) (one : HaveOneStack s old.state) (steps : Steps s number line read e) where
+module _ (add_same : AddSame) (s : State) (number : ℕ) (old new : Course) (line : ℕ) (read : Read) (e : CommandEffect) (r : Replayed) (one : HaveOneStack s old.state) (steps : Steps s number line read e) where
   replayed_by : (check : Bool) → is_check read ≡ check → MatchBool check (IsCounted old new r) (IsStepped old line read new r) → HaveOneStack e.state new.state × (r.stop ≡ e.stop)
   replayed_by true check (is, checked, stop) =
       let rest : Rests s e = check_rests s number line read e check steps in
@@ -143,7 +155,7 @@ module _ (s : State) (number : ℕ) (old new : Course) (line : ℕ) (read : Read
         stop ∙ sym rest.1,
       )
   replayed_by false check (f, stepped, is, checked, stop) =
-      let same : AreAlike e f = steps_alike s old.state number old.number line read e f one steps stepped in (
+      let same : AreAlike e f = steps_alike add_same s old.state number old.number line read e f one steps stepped in (
         subst (λ (x : State). HaveOneStack e.state x) (sym (ap (λ (c : Course). c.state) is)) same.0,
         stop ∙ same.1,
       )
@@ -180,13 +192,13 @@ pub replayed_told : (old new : Course) (line : ℕ) (read : Read) (r : Replayed)
 replayed_told old new line read r h = told_by old new line read r (is_check read) refl h
 
 -- commands that lead to a state
-pub leads_alike : (s last : State) (number count : ℕ) (cs : List Located) (verdicts : List Verdict) (errors : List (ℕ × ℕ)) (lines : List (List ℕ)) (old new : Course) → Leads s number cs last count verdicts errors lines → GoesThrough old cs new → HaveOneStack s old.state → HaveOneStack last new.state
-leads_alike s last number count [] verdicts errors lines old new leads through one =
+pub leads_alike : AddSame → (s last : State) (number count : ℕ) (cs : List Located) (verdicts : List Verdict) (errors : List (ℕ × ℕ)) (lines : List (List ℕ)) (old new : Course) → Leads s number cs last count verdicts errors lines → GoesThrough old cs new → HaveOneStack s old.state → HaveOneStack last new.state
+leads_alike add_same s last number count [] verdicts errors lines old new leads through one =
     subst (λ (x : State). HaveOneStack x new.state) (sym leads.0)
     (subst (λ (c : Course). HaveOneStack s c.state) (sym through) one)
-leads_alike s last number count (c ∷ cs) verdicts errors lines old new (e, vs, es, ls, step, followed, goes_on, leads) (next, r, replays, on, through) one =
-    leads_alike e.state last (counted_by number (command c.command)) count cs vs es ls next new leads through
-    (replayed_alike s (counted_by number (command c.command)) old next c.line (command c.command) e r one step replays).0
+leads_alike add_same s last number count (c ∷ cs) verdicts errors lines old new (e, vs, es, ls, step, followed, goes_on, leads) (next, r, replays, on, through) one =
+    leads_alike add_same e.state last (counted_by number (command c.command)) count cs vs es ls next new leads through
+    (replayed_alike add_same s (counted_by number (command c.command)) old next c.line (command c.command) e r one step replays).0
 
 -- and the number of checks
 pub leads_counted : (s last : State) (number count : ℕ) (cs : List Located) (verdicts : List Verdict) (errors : List (ℕ × ℕ)) (lines : List (List ℕ)) (old new : Course) → Leads s number cs last count verdicts errors lines → GoesThrough old cs new → old.number ≡ number → new.number ≡ count
@@ -212,8 +224,8 @@ through_one s number c first others ending verdicts vs errors es lines ls e last
 }
 
 -- answers begin with those to the commands that a replay goes through
-pub answers_through : (s : State) (number : ℕ) (first others : List Located) (ending : Ending) (verdicts : List Verdict) (errors : List (ℕ × ℕ)) (lines : List (List ℕ)) (old new : Course) → Answers s number (first ++ others) ending verdicts errors lines → GoesThrough old first new → HaveOneStack s old.state → (last : State) × (count : ℕ) × AnswersThrough s number first others ending verdicts errors lines last count
-answers_through s number [] others ending verdicts errors lines old new answers through one = (
+pub answers_through : AddSame → (s : State) (number : ℕ) (first others : List Located) (ending : Ending) (verdicts : List Verdict) (errors : List (ℕ × ℕ)) (lines : List (List ℕ)) (old new : Course) → Answers s number (first ++ others) ending verdicts errors lines → GoesThrough old first new → HaveOneStack s old.state → (last : State) × (count : ℕ) × AnswersThrough s number first others ending verdicts errors lines last count
+answers_through add_same s number [] others ending verdicts errors lines old new answers through one = (
   s,
   number,
   record {
@@ -230,10 +242,10 @@ answers_through s number [] others ending verdicts errors lines old new answers 
     lines_are = refl;
   },
 )
-answers_through s number (c ∷ first) others ending verdicts errors lines old new (e, vs, es, ls, step, followed, rest) (next, r, replays, on, through) one =
+answers_through add_same s number (c ∷ first) others ending verdicts errors lines old new (e, vs, es, ls, step, followed, rest) (next, r, replays, on, through) one =
     let count : ℕ = counted number c.command in
-    let same : HaveOneStack e.state next.state × (r.stop ≡ e.stop) = replayed_alike s count old next c.line (command c.command) e r one step replays in
+    let same : HaveOneStack e.state next.state × (r.stop ≡ e.stop) = replayed_alike add_same s count old next c.line (command c.command) e r one step replays in
     let goes_on : e.stop ≡ false = sym same.1 ∙ on in
     let more : Answers e.state count (first ++ others) ending vs es ls = subst (λ (b : Bool). MatchBool b (IsSilent vs es ls) (Answers e.state count (first ++ others) ending vs es ls)) goes_on rest in
-    let later : (last : State) × (total : ℕ) × AnswersThrough e.state count first others ending vs es ls last total = answers_through e.state count first others ending vs es ls next new more through same.0 in
+    let later : (last : State) × (total : ℕ) × AnswersThrough e.state count first others ending vs es ls last total = answers_through add_same e.state count first others ending vs es ls next new more through same.0 in
     (later.0, later.1, through_one s number c first others ending verdicts vs errors es lines ls e later.0 later.1 step followed goes_on later.2)

@@ -6,12 +6,13 @@ use Rattle.ct_sorts.specs.Declarations.{with_function}
 use Rattle.ct_kept.specs.Kept.{Stored}
 use Rattle.ct_model.specs.ModelText.{IsModelText}
 use Rattle.ct_log_text.specs.Written.{expression_of_record, text_of}
-use Rattle.ct_command.specs.Command.{Command, set_logic, set_option, get_option, set_info, get_info, declare_sort, declare_block, declare_fun, define_fun, assert, check_sat, push, pop, reset_assertions, reset, get_model, get_value, get_proof, echo, exit, unsupported}
+use Rattle.ct_command.specs.Command.{Command, set_logic, set_option, get_option, set_info, get_info, declare_sort, define_sort, declare_block, declare_fun, define_fun, assert, check_sat, push, pop, reset_assertions, reset, get_model, get_value, get_proof, echo, exit, unsupported}
 use Rattle.ct_command.specs.Reading.{Read, command}
 use Rattle.ct_sexpr.specs.Expression.{Expression}
 use Rattle.ct_engine.specs.declared.verdict.Verdict.{Verdict}
 use Rattle.ct_stack.specs.Stack.{declaring, in_context, asserting, defined_in}
-use Rattle.ct_stack.specs.Elaborations.{declared_function, defined_function, asserted_formula}
+use Rattle.ct_stack.specs.Elaborations.{synonym_body, with_synonym_of, declared_function, defined_function, asserted_formula}
+use Rattle.ct_stack.specs.Refusal.{over}
 use Rattle.ct_stack.specs.Values.{AreValues}
 use Rattle.ct_step.specs.declared.answer.Answer.{Answer}
 use Rattle.ct_script.specs.declared.replay.Replayed.{Replayed}
@@ -21,7 +22,7 @@ use Rattle.ct_step.specs.Step.{CommandEffect, Does, Steps, said, quiet, refused,
 use Rattle.ct_step.specs.Done.{IsAnswer, state_of}
 use Rattle.ct_script.specs.Session.{Course, reached}
 use Rattle.ct_script.specs.Replay.{is_check, IsCounted, IsStepped, Replays}
-use Rattle.ct_step.proofs.SoundLemmas.{only, only_of}
+use Rattle.ct_step.proofs.SoundLemmas.{only, only_needing, only_of}
 use Rattle.ct_script.proofs.SessionLemmas.{course, Comes, comes_unread}
 
 -- the verdicts of an effect that gives none
@@ -35,11 +36,12 @@ no_verdict s number (set_option setting) e other is = given_none e _ refl is
 no_verdict s number (get_option option) e other is = given_none e _ refl is
 no_verdict s number set_info e other is = given_none e _ refl is
 no_verdict s number (get_info info) e other is = given_none e _ refl is
-no_verdict s number (declare_sort head) e other is = given_none e _ refl is
-no_verdict s number (declare_block family heads bodies) e other is = given_none e _ refl is
-no_verdict s number (declare_fun name args sort) e other is = only (declared_function (declared s) name args sort) (λ f. e ≡ quiet (changed s (declaring s.stack (with_function (declared s) f)))) (e.verdicts ≡ []) (λ f h. ap (λ (x : CommandEffect). x.verdicts) h) is
-no_verdict s number (define_fun name params sort t) e other is = only (defined_function (declared s) name params sort t) (λ f. e ≡ quiet (changed s (in_context s.stack (defined_in (context_of s) f)))) (e.verdicts ≡ []) (λ f h. ap (λ (x : CommandEffect). x.verdicts) h) is
-no_verdict s number (assert t) e other is = only (asserted_formula (declared s) t) (λ formula. e ≡ quiet (changed s (asserting s.stack formula))) (e.verdicts ≡ []) (λ f h. ap (λ (x : CommandEffect). x.verdicts) h) is
+no_verdict s number (declare_sort name params) e other is = given_none e _ refl is
+no_verdict s number (define_sort name params body) e other is = only (synonym_body (declared s) params body) (λ sort. e ≡ quiet (changed s (declaring s.stack (with_synonym_of (declared s) name params sort)))) (e.verdicts ≡ []) (λ sort h. ap (λ (x : CommandEffect). x.verdicts) h) is
+no_verdict s number (declare_block family heads bodies) e other is = ap (λ (x : CommandEffect). x.verdicts) is.2
+no_verdict s number (declare_fun name args sort) e other is = only_needing (λ d. declared_function d name args sort) (declared s) (λ later f. e ≡ quiet (changed s (declaring s.stack (with_function later f)))) (e.verdicts ≡ []) (λ later f comes h. ap (λ (x : CommandEffect). x.verdicts) h) is
+no_verdict s number (define_fun name params sort t) e other is = only_needing (λ d. defined_function d name params sort t) (declared s) (λ later f. e ≡ quiet (changed s (in_context s.stack (defined_in (over (context_of s) later) f)))) (e.verdicts ≡ []) (λ later f comes h. ap (λ (x : CommandEffect). x.verdicts) h) is
+no_verdict s number (assert t) e other is = only_needing (λ d. asserted_formula d t) (declared s) (λ later formula. e ≡ quiet (changed s (asserting (declaring s.stack later) formula))) (e.verdicts ≡ []) (λ later formula comes h. ap (λ (x : CommandEffect). x.verdicts) h) is
 no_verdict s number check_sat e other is = absurd (true≢false other)
 no_verdict s number (push n) e other is = given_none e _ refl is
 no_verdict s number (pop n) e other is = given_none e _ refl is
@@ -59,7 +61,8 @@ uncounted number (set_option setting) other = refl
 uncounted number (get_option option) other = refl
 uncounted number set_info other = refl
 uncounted number (get_info info) other = refl
-uncounted number (declare_sort head) other = refl
+uncounted number (declare_sort name params) other = refl
+uncounted number (define_sort name params body) other = refl
 uncounted number (declare_block family heads bodies) other = refl
 uncounted number (declare_fun name args sort) other = refl
 uncounted number (define_fun name params sort t) other = refl

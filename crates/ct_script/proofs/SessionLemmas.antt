@@ -6,11 +6,12 @@ use Rattle.ct_sorts.specs.Declarations.{with_function}
 use Rattle.ct_model.specs.ModelText.{IsModelText}
 use Rattle.ct_log_text.specs.Written.{expression_of_record, text_of}
 use Rattle.ct_kept.specs.Kept.{Stored}
-use Rattle.ct_command.specs.Command.{Command, set_logic, set_option, get_option, set_info, get_info, declare_sort, declare_block, declare_fun, define_fun, assert, check_sat, push, pop, reset_assertions, reset, get_model, get_value, get_proof, echo, exit, unsupported}
+use Rattle.ct_command.specs.Command.{Command, set_logic, set_option, get_option, set_info, get_info, declare_sort, define_sort, declare_block, declare_fun, define_fun, assert, check_sat, push, pop, reset_assertions, reset, get_model, get_value, get_proof, echo, exit, unsupported}
 use Rattle.ct_command.specs.Reading.{Read, command}
 use Rattle.ct_engine.specs.declared.verdict.Verdict.{Verdict}
 use Rattle.ct_stack.specs.Stack.{declaring, in_context, asserting, defined_in}
-use Rattle.ct_stack.specs.Elaborations.{declared_function, defined_function, asserted_formula}
+use Rattle.ct_stack.specs.Elaborations.{synonym_body, with_synonym_of, declared_function, defined_function, asserted_formula}
+use Rattle.ct_stack.specs.Refusal.{over}
 use Rattle.ct_stack.specs.Values.{AreValues}
 use Rattle.ct_step.specs.declared.answer.Answer.{Answer}
 use Rattle.ct_step.specs.declared.state.SessionState.{SessionState}
@@ -20,7 +21,7 @@ use Rattle.ct_step.specs.Step.{CommandEffect, Does, Steps, Step, refused, said, 
 use Rattle.ct_script.specs.Answers.{errors_of}
 use Rattle.ct_step.specs.Done.{IsAnswer, Performs, IsSame, state_of}
 use Rattle.ct_script.specs.Session.{Course, reached, after}
-use Rattle.ct_step.proofs.SoundLemmas.{only, only_of, same_state}
+use Rattle.ct_step.proofs.SoundLemmas.{only, only_needing, only_of, same_state}
 
 error_of : (e t : CommandEffect) → t.error ≡ None → e ≡ t → e.error ≡ None
 error_of e t none is = ap (λ (x : CommandEffect). x.error) is ∙ none
@@ -32,11 +33,12 @@ no_error s number (set_option setting) e is = error_of e _ refl is
 no_error s number (get_option option) e is = error_of e _ refl is
 no_error s number set_info e is = error_of e _ refl is
 no_error s number (get_info info) e is = error_of e _ refl is
-no_error s number (declare_sort head) e is = error_of e _ refl is
-no_error s number (declare_block family heads bodies) e is = error_of e _ refl is
-no_error s number (declare_fun name args sort) e is = only (declared_function (declared s) name args sort) (λ f. e ≡ quiet (changed s (declaring s.stack (with_function (declared s) f)))) (e.error ≡ None) (λ f h. ap (λ (x : CommandEffect). x.error) h) is
-no_error s number (define_fun name params sort t) e is = only (defined_function (declared s) name params sort t) (λ f. e ≡ quiet (changed s (in_context s.stack (defined_in (context_of s) f)))) (e.error ≡ None) (λ f h. ap (λ (x : CommandEffect). x.error) h) is
-no_error s number (assert t) e is = only (asserted_formula (declared s) t) (λ formula. e ≡ quiet (changed s (asserting s.stack formula))) (e.error ≡ None) (λ f h. ap (λ (x : CommandEffect). x.error) h) is
+no_error s number (declare_sort name params) e is = error_of e _ refl is
+no_error s number (define_sort name params body) e is = only (synonym_body (declared s) params body) (λ sort. e ≡ quiet (changed s (declaring s.stack (with_synonym_of (declared s) name params sort)))) (e.error ≡ None) (λ sort h. ap (λ (x : CommandEffect). x.error) h) is
+no_error s number (declare_block family heads bodies) e is = ap (λ (x : CommandEffect). x.error) is.2
+no_error s number (declare_fun name args sort) e is = only_needing (λ d. declared_function d name args sort) (declared s) (λ later f. e ≡ quiet (changed s (declaring s.stack (with_function later f)))) (e.error ≡ None) (λ later f comes h. ap (λ (x : CommandEffect). x.error) h) is
+no_error s number (define_fun name params sort t) e is = only_needing (λ d. defined_function d name params sort t) (declared s) (λ later f. e ≡ quiet (changed s (in_context s.stack (defined_in (over (context_of s) later) f)))) (e.error ≡ None) (λ later f comes h. ap (λ (x : CommandEffect). x.error) h) is
+no_error s number (assert t) e is = only_needing (λ d. asserted_formula d t) (declared s) (λ later formula. e ≡ quiet (changed s (asserting (declaring s.stack later) formula))) (e.error ≡ None) (λ later formula comes h. ap (λ (x : CommandEffect). x.error) h) is
 no_error s number check_sat e is = ap (λ (x : CommandEffect). x.error) is.2
 no_error s number (push n) e is = error_of e _ refl is
 no_error s number (pop n) e is = error_of e _ refl is

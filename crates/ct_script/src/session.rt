@@ -53,9 +53,10 @@ impl Model for Session {
     ghost Value = { Course };
 
     ghost use Rattle.std.specs.Coded.{codes};
+    ghost use Rattle.ct_sorts.specs.ExpressionCode.{coded_expression};
     ghost use Rattle.ct_stack.specs.FormulaCode.{coded_formula};
 
-    ghost coded = { Prim.hlevel (codes, coded_formula) };
+    ghost coded = { Prim.hlevel (codes, coded_expression, coded_formula) };
 
     ghost view = { λ s. record { state = state_of s.state; number = s.number; verdicts = s.state.verdicts.items; errors = s.errors.items; store = s.store } };
 

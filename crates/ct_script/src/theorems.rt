@@ -11,6 +11,8 @@ ghost use Rattle.ct_script.specs.Answers.{Answers, Leads};
 ghost use Rattle.ct_script.specs.Session.{Course};
 ghost use Rattle.ct_script.specs.Replay.{is_check, Replays, GoesThrough, HaveOneStack, AnswersThrough};
 
+use ct_generics::additions;
+
 /// A replay changes declarations, assertions, levels and options as the commands do, whatever was
 /// answered. It does nothing: a proof that needs these theorems calls it.
 pub fn replayed_scripts()
@@ -72,4 +74,6 @@ pub fn replayed_scripts()
         → HaveOneStack s old.state
         → (last : State) × (count : ℕ)
         × AnswersThrough s number first others ending verdicts errors lines last count }
-{}
+{
+    additions();
+}

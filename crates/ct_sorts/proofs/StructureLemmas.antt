@@ -36,6 +36,16 @@ module _ (d : Declarations) (c : IsConsistent d) where
   sel_groups : row (map (λ (t : Constructor). t.sels) d.ctors) ≡ map (λ n. record { 0 = n }) (range_with_len 0 (length d.sels))
   sel_groups = flat_map-map _ (λ (t : Constructor). t.sels) d.ctors ∙ c.all_sels
 
+  -- a constructor stands once among those of the sorts
+  pub one_place : (s t i j : ℕ) (sort other : Sort) (k : CtorId) → slice_get d.sorts s ≡ Some sort → slice_get sort.ctors i ≡ Some k → slice_get d.sorts t ≡ Some other → slice_get other.ctors j ≡ Some k → (s ≡ t) × (i ≡ j)
+  one_place s t i j sort other k at listed at_other listed_other =
+      let first = item_number (λ n. record { 0 = n }) (map (λ (x : Sort). x.ctors) d.sorts) (length d.ctors) ctor_groups s i sort.ctors k (slice_get-map_at _ d.sorts s sort at) listed in
+      let second = item_number (λ n. record { 0 = n }) (map (λ (x : Sort). x.ctors) d.sorts) (length d.ctors) ctor_groups t j other.ctors k (slice_get-map_at _ d.sorts t other at_other) listed_other in
+      let same : first.0 ≡ second.0 = ap (λ (x : CtorId). x.0) (sym first.2 ∙ second.2) in (
+        same_Some s t (sym first.3 ∙ ap (slice_get (owners 0 (map (λ (x : Sort). x.ctors) d.sorts))) same ∙ second.3),
+        same_Some i j (sym first.4 ∙ ap (slice_get (indices (map (λ (x : Sort). x.ctors) d.sorts))) same ∙ second.4),
+      )
+
   pub own_constructors : HaveOwnConstructors d
   own_constructors s index sort k at listed =
       let item = item_number (λ n. record { 0 = n }) (map (λ (s : Sort). s.ctors) d.sorts) (length d.ctors) ctor_groups s index sort.ctors k (slice_get-map_at _ d.sorts s sort at) listed in

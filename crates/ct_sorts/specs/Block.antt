@@ -1,109 +1,109 @@
--- What a block of sorts adds to the declarations (SMT-LIB 2.7, section 4.2.3, on declare-datatypes).
-use Rattle.std.specs.Prelude.{◌≡◌, ℕ, ◌+◌, ◌<◌, Bool, true, false, ◌⊎◌, List, [], ◌∷◌, ◌++◌, length, map, Option, option_map, unwrap_or, is_none, ◌==◌}
+-- What a block of sorts and generics adds to the declarations (SMT-LIB 2.7, section 4.2.3, on declare-datatypes).
+use Rattle.std.specs.Prelude.{◌≡◌, ℕ, ◌+◌, Bool, ◌==◌, true, ◌⊎◌, if◌then◌else◌, List, [], ◌∷◌, ◌++◌, length, map, Ok}
 use Rattle.std.specs.List.{flat_map, list_any}
-use Rattle.std.specs.Option.{option_or}
 use Rattle.ct_sorts.specs.declared.ids.SortId.{SortId}
 use Rattle.ct_sorts.specs.declared.ids.Kind.{Kind}
-use Rattle.ct_sorts.specs.declared.ids.Kind.TheVariants.{Data}
-use Rattle.ct_sorts.specs.declared.block.Field.{Field}
-use Rattle.ct_sorts.specs.declared.block.CtorDecl.{CtorDecl}
-use Rattle.ct_sorts.specs.declared.block.SortDecl.{SortDecl}
-use Rattle.ct_sorts.specs.Declarations.{Declarations, Sort, Constructor, Selector, ctor_ids, sel_ids, sort_names, symbol_names, most_sorts, most_ctors, most_sels}
+use Rattle.ct_sorts.specs.declared.ids.Declared.{Declared as Given}
+use Rattle.ct_sorts.specs.declared.ids.Declared.TheVariants.{Sort as GivenSort, Generic as GivenGeneric}
+use Rattle.ct_sorts.specs.declared.spelling.Spelling.{Spelling}
+use Rattle.ct_generics.specs.declared.decl.Field.{Field}
+use Rattle.ct_generics.specs.declared.decl.CtorDecl.{CtorDecl}
+use Rattle.ct_generics.specs.declared.decl.SortDecl.{SortDecl}
+use Rattle.ct_generics.specs.Expression.{Expression, named}
+use Rattle.ct_generics.specs.Declarations.{Head}
+use Rattle.ct_generics.specs.Add.{Adds, field_sorts}
+use Rattle.ct_generics.specs.Block.{heads_in, with_heads, IsBlockRefusal as IsRefusalOfHeads}
 use Rattle.ct_sorts.specs.Availability.{HasUnavailable, HasUnavailableSort}
-use Rattle.ct_sorts.specs.Lookup.{index_of}
-use Rattle.ct_sorts.specs.Founded.{IsFounded}
-use Rattle.ct_sorts.specs.Refusals.{IsFirstCause, IsNone, name_taken, no_constructor, unknown_sort, not_founded, too_many}
+use Rattle.ct_sorts.specs.Declarations.{Declarations, declared_names, symbol_names}
+use Rattle.ct_sorts.specs.Kinds.{head_kind}
+use Rattle.ct_sorts.specs.Limits.{IsOverLimits}
+use Rattle.ct_sorts.specs.Made.{with_sorts}
+use Rattle.ct_sorts.specs.Instances.{HasNoRoom}
+use Rattle.ct_sorts.specs.Refusals.{IsFirstCause, IsNone, name_taken, no_constructor, too_many}
 
--- the constructors that a block declares, one sort after the other
+-- the constructors that a block declares, one sort or generic after the other
 abbrev pub block_ctors : List SortDecl → List CtorDecl
 block_ctors block = flat_map (λ s. s.ctors) block
 
--- the fields that constructors declare, one constructor after the other
-abbrev pub all_fields : List CtorDecl → List Field
-all_fields ctors = flat_map (λ c. c.fields) ctors
-
--- the names of a block's sorts
+-- the names of a block's sorts and generics
 abbrev pub block_names : List SortDecl → List (List ℕ)
-block_names block = map (λ s. s.name) block
+block_names block = map (λ (s : SortDecl). s.name) block
+
+-- the names of a constructor and its fields
+abbrev pub spelling : CtorDecl → Spelling
+spelling ctor = record { name = ctor.name; fields = map (λ (f : Field). f.name) ctor.fields }
 
 -- the names of constructors and their fields, as they stand in the text
 abbrev pub ctor_symbols : List CtorDecl → List (List ℕ)
-ctor_symbols ctors = flat_map (λ c. c.name ∷ map (λ f. f.name) c.fields) ctors
+ctor_symbols ctors = flat_map (λ c. c.name ∷ map (λ (f : Field). f.name) c.fields) ctors
 
--- the sort that a name stands for inside a block: the block's own sorts come first, and then the earlier ones
-abbrev pub sort_number : List (List ℕ) → List (List ℕ) → List ℕ → Option ℕ
-sort_number earlier own name = option_or (option_map (λ index. length earlier + index) (index_of own name)) (index_of earlier name)
+-- the names of the constructors of each sort and generic
+abbrev pub block_spellings : List SortDecl → List (List Spelling)
+block_spellings block = map (λ (s : SortDecl). map spelling s.ctors) block
 
--- the sort of a field of a block in which every field's sort is known
-abbrev pub sort_of_field : List (List ℕ) → List (List ℕ) → List ℕ → SortId
-sort_of_field earlier own name = record { 0 = unwrap_or (sort_number earlier own name) 0 }
+-- how many parameters each sort or generic of a block has
+abbrev pub params_of : List SortDecl → List ℕ
+params_of block = map (λ (s : SortDecl). s.params) block
 
--- the sorts of a block, whose constructors have the numbers from `ctor` on
-abbrev pub new_sorts : Kind → ℕ → List SortDecl → List Sort
-new_sorts kind ctor [] = []
-new_sorts kind ctor (s ∷ rest) = record { name = s.name; kind = kind; ctors = ctor_ids ctor (length s.ctors) } ∷ new_sorts kind (ctor + length s.ctors) rest
+-- those without parameters among sorts and generics with the numbers from `h` on that have so many each
+abbrev pub plain_from : ℕ → List ℕ → List Expression
+plain_from h [] = []
+plain_from h (params ∷ rest) = if params == 0 then named h ∷ plain_from (h + 1) rest else plain_from (h + 1) rest
 
--- the constructors of one sort, whose selectors have the numbers from `sel` on
-abbrev pub ctors_of_sort : ℕ → ℕ → List CtorDecl → List Constructor
-ctors_of_sort sort sel [] = []
-ctors_of_sort sort sel (c ∷ rest) = record { name = c.name; sort = record { 0 = sort }; sels = sel_ids sel (length c.fields) } ∷ ctors_of_sort sort (sel + length c.fields) rest
+-- the numbers that sorts and generics with so many parameters get: sorts those from `s` on, and generics those from `h` on
+abbrev pub given_from : ℕ → ℕ → List ℕ → List Given
+given_from s h [] = []
+given_from s h (params ∷ rest) = if params == 0 then GivenSort (record { 0 = s }) ∷ given_from (s + 1) (h + 1) rest else GivenGeneric (record { 0 = h }) ∷ given_from s (h + 1) rest
 
--- the constructors of a block, whose sorts have the numbers from `sort` on
-abbrev pub new_ctors : ℕ → ℕ → List SortDecl → List Constructor
-new_ctors sort sel [] = []
-new_ctors sort sel (s ∷ rest) = ctors_of_sort sort sel s.ctors ++ new_ctors (sort + 1) (sel + length (all_fields s.ctors)) rest
+-- the declarations with these sorts and generics and the names of their constructors
+abbrev pub with_own : Declarations → List Head → List (List Spelling) → Declarations
+with_own d own spellings = record d { declared = with_heads d.declared own; spellings = d.spellings ++ spellings }
 
--- the selectors of one constructor, from the field at `place` on
-abbrev pub sels_of_ctor : (List ℕ → SortId) → ℕ → ℕ → List Field → List Selector
-sels_of_ctor sort_of_entry ctor index [] = []
-sels_of_ctor sort_of_entry ctor index (f ∷ rest) = record { name = f.name; ctor = record { 0 = ctor }; place = index; sort = sort_of_entry f.sort } ∷ sels_of_ctor sort_of_entry ctor (index + 1) rest
+-- the sorts without parameters of a block
+abbrev pub own_sorts : Declarations → List Head → List Expression
+own_sorts d own = plain_from (length d.declared.heads) (map (λ (h : Head). h.params) own)
 
--- the selectors of constructors, which have the numbers from `ctor` on
-abbrev pub new_sels : (List ℕ → SortId) → ℕ → List CtorDecl → List Selector
-new_sels sort_of_entry ctor [] = []
-new_sels sort_of_entry ctor (c ∷ rest) = sels_of_ctor sort_of_entry ctor 0 c.fields ++ new_sels sort_of_entry (ctor + 1) rest
+-- the declarations with these sorts and generics and those without parameters in the list of sorts, where the sorts of their
+-- fields have not come into the list yet
+abbrev pub with_own_sorts : Declarations → List Head → List (List Spelling) → Declarations
+with_own_sorts d own spellings = with_sorts (with_own d own spellings) (own_sorts d own)
 
--- the declarations with the block: its sorts, constructors and selectors after those that are there
-abbrev pub with_block : Declarations → Kind → List SortDecl → Declarations
-with_block d kind block =
-    record d {
-      sorts = d.sorts ++ new_sorts kind (length d.ctors) block;
-      ctors = d.ctors ++ new_ctors (length d.sorts) (length d.sels) block;
-      sels = d.sels ++ new_sels (sort_of_field (sort_names d) (block_names block)) (length d.ctors) (block_ctors block);
-    }
+-- the sorts of their fields
+abbrev pub own_fields : Declarations → List Head → List Expression
+own_fields d own = flat_map (field_sorts (d.declared.heads ++ own)) (own_sorts d own)
+
+-- The later declarations are the earlier ones with the block: its sorts and generics, and in the list of sorts those without
+-- parameters and then the sorts of their fields with all that come with these.
+abbrev pub IsWithBlock : Declarations → Kind → List SortDecl → List Given → Declarations → Type 0
+IsWithBlock d kind block given later =
+    (own : List Head) × (heads_in d.declared (head_kind kind) block ≡ Ok own)
+    × (added : List Expression) × Adds (d.declared.heads ++ own) (own_fields d own) (d.origins ++ own_sorts d own) ((d.origins ++ own_sorts d own) ++ added)
+    × (later ≡ with_sorts (with_own d own (block_spellings block)) (own_sorts d own ++ added))
+    × (given ≡ given_from (length d.sorts) (length d.declared.heads) (params_of block))
 
 -- a name of the block is taken in its space, repeated in it, or cannot be declared
 abbrev pub HasNameTaken : Declarations → List SortDecl → Type 0
-HasNameTaken d block = HasUnavailableSort (sort_names d) (block_names block) ⊎ HasUnavailable (symbol_names d) (ctor_symbols (block_ctors block))
+HasNameTaken d block = HasUnavailableSort (declared_names d) (block_names block) ⊎ HasUnavailable (symbol_names d) (ctor_symbols (block_ctors block))
 
--- some sort of the block has no constructor
+-- some sort or generic of the block has no constructor
 abbrev pub has_no_constructor : List SortDecl → Bool
-has_no_constructor block = list_any (λ s. length s.ctors == 0) block
+has_no_constructor block = list_any (λ (s : SortDecl). length s.ctors == 0) block
 
--- some field of the block has a sort that is neither of the block nor earlier
-abbrev pub has_unknown_sort : List (List ℕ) → List (List ℕ) → List SortDecl → Bool
-has_unknown_sort earlier own block = list_any (λ s. list_any (λ c. list_any (λ f. is_none (sort_number earlier own f.sort)) c.fields) s.ctors) block
+-- there is no room for the sorts and generics of the block, or for what comes with their fields
+abbrev pub IsBlockTooMany : Declarations → Kind → List SortDecl → Type 0
+IsBlockTooMany d kind block =
+    (own : List Head) → heads_in d.declared (head_kind kind) block ≡ Ok own
+    → IsOverLimits (with_own_sorts d own (block_spellings block)) ⊎ HasNoRoom (with_own_sorts d own (block_spellings block)) (own_fields d own)
 
--- some sort of a block of datatypes is not well founded
-abbrev pub HasUnfounded : Declarations → Kind → List SortDecl → Type 0
-HasUnfounded d kind block = (kind ≡ Data) × ((i : ℕ) × (i < length block) × (IsFounded (with_block d kind block) (length d.sorts + i) → ⊥))
-
--- more sorts, constructors or selectors than there may be
-abbrev pub IsOverLimits : Declarations → Type 0
-IsOverLimits d = (most_sorts < length d.sorts) ⊎ ((most_ctors < length d.ctors) ⊎ (most_sels < length d.sels))
+-- the number with which a block is refused whose names may be declared and whose sorts and generics have constructors
+abbrev pub IsLaterRefusal : Declarations → Kind → List SortDecl → ℕ → Type 0
+IsLaterRefusal d kind block n =
+    IsRefusalOfHeads d.declared (head_kind kind) block n
+    ⊎ (((m : ℕ) → IsRefusalOfHeads d.declared (head_kind kind) block m → ⊥) × IsFirstCause too_many (IsBlockTooMany d kind block) IsNone n)
 
 -- the number with which the block is refused: that of the first cause that applies
 abbrev pub IsBlockRefusal : Declarations → Kind → List SortDecl → ℕ → Type 0
 IsBlockRefusal d kind block =
     IsFirstCause name_taken (HasNameTaken d block)
     (IsFirstCause no_constructor (has_no_constructor block ≡ true)
-    (IsFirstCause unknown_sort (has_unknown_sort (sort_names d) (block_names block) block ≡ true)
-    (IsFirstCause not_founded (HasUnfounded d kind block)
-    (IsFirstCause too_many (IsOverLimits (with_block d kind block)) IsNone))))
-
--- no cause but a taken name is left to refuse the block
-pub record IsAcceptable (d : Declarations) (kind : Kind) (block : List SortDecl) : Type 0 where
-  pub built : has_no_constructor block ≡ false
-  pub known : has_unknown_sort (sort_names d) (block_names block) block ≡ false
-  pub founded : (i : ℕ) → i < length block → IsFounded (with_block d kind block) (length d.sorts + i)
-  pub room : IsOverLimits (with_block d kind block) → ⊥
+    (IsLaterRefusal d kind block))

@@ -4,9 +4,12 @@ use Rattle.std.specs.List.{flat_map, range_with_len}
 use Rattle.ct_sorts.specs.declared.ids.Kind.{Kind}
 use Rattle.ct_sorts.specs.declared.ids.Kind.TheVariants.{Bool as BoolKind, Free, Data, Codata}
 use Rattle.ct_sorts.specs.Availability.{IsUnavailable, IsUnfit}
-use Rattle.ct_sorts.specs.Declarations.{Declarations, Sort, Selector, Function, IsSort, sort_names, symbol_names, ctor_names, sel_names, function_names, definition_names, start, ctor_ids, sel_ids, most_sorts, most_ctors, most_sels, most_functions, most_definitions}
+use Rattle.ct_sorts.specs.Declarations.{Declarations, Sort, Selector, Function, IsSort, declared_names, symbol_names, head_symbols, ctor_names, sel_names, function_names, definition_names, start, ctor_ids, sel_ids, most_sorts, most_ctors, most_sels, most_functions, most_definitions}
 use Rattle.ct_sorts.specs.Lookup.{AreDistinct}
 use Rattle.ct_sorts.specs.Founded.{IsFounded}
+use Rattle.ct_sorts.specs.Heads.{AreHeads}
+use Rattle.ct_sorts.specs.Origins.{AreOrigins, HavePlainSorts}
+use Rattle.ct_sorts.specs.Limits.{IsOverLimits}
 
 -- no limit is passed
 pub record AreFew (d : Declarations) : Type 0 where
@@ -20,7 +23,7 @@ pub record AreFew (d : Declarations) : Type 0 where
 abbrev pub AreAvailable : List (List ℕ) → Type 0
 AreAvailable symbols = (index : ℕ) (name : List ℕ) → slice_get symbols index ≡ Some name → IsUnavailable [] name → ⊥
 
--- each sort has a name that may be declared
+-- each sort, generic and synonym has a name that may be declared
 abbrev pub AreFit : List (List ℕ) → Type 0
 AreFit sorts = (s : ℕ) (name : List ℕ) → slice_get sorts s ≡ Some name → IsUnfit name → ⊥
 
@@ -55,10 +58,12 @@ FitsKind s Codata count = 0 < count
 -- the declarations fit together
 pub record IsConsistent (d : Declarations) : Type 0 where
   pub few : AreFew d
+  pub within : IsOverLimits d → ⊥
   -- names are distinct in their spaces, and all but `true` and `false` may be declared
-  pub sorts_distinct : AreDistinct (sort_names d)
+  pub names_distinct : AreDistinct (declared_names d)
   pub distinct : AreDistinct (symbol_names d)
-  pub fit : AreFit (sort_names d)
+  pub fit : AreFit (declared_names d)
+  pub symbols_available : AreAvailable (drop 2 (head_symbols d.spellings))
   pub ctors_available : AreAvailable (drop 2 (ctor_names d))
   pub sels_available : AreAvailable (sel_names d)
   pub available : AreAvailable (function_names d)
@@ -66,6 +71,9 @@ pub record IsConsistent (d : Declarations) : Type 0 where
   -- Bool, `true` and `false` are there
   pub first_sort : take 1 d.sorts ≡ start.sorts
   pub first_ctors : take 2 d.ctors ≡ start.ctors
+  pub first_head : take 1 d.declared.heads ≡ start.declared.heads
+  pub first_spelling : take 1 d.spellings ≡ start.spellings
+  pub first_origin : take 1 d.origins ≡ start.origins
   -- the constructors of the sorts, one sort after the other, are all constructors in order, and each is of its sort
   pub all_ctors : flat_map (λ s. s.ctors) d.sorts ≡ ctor_ids 0 (length d.ctors)
   pub ctor_sorts : map (λ c. c.sort.0) d.ctors ≡ owners 0 (map (λ s. s.ctors) d.sorts)
@@ -78,5 +86,9 @@ pub record IsConsistent (d : Declarations) : Type 0 where
   pub fields : AreFieldsOverSorts d
   pub over_sorts : AreOverSorts d d.functions
   pub definitions_over_sorts : AreOverSorts d d.definitions
+  -- sorts without parameters and generics are as they may be declared, and the sorts in the list are instances of them
+  pub heads : AreHeads d
+  pub origins : AreOrigins d
+  pub plain : HavePlainSorts d
   -- every sort is well founded
   pub founded : (s : ℕ) → s < length d.sorts → IsFounded d s

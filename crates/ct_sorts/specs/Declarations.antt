@@ -1,6 +1,11 @@
 -- What a signature has declared (SMT-LIB 2.7, sections 3.9 and 4.2.3).
 use Rattle.std.specs.Prelude.{ℕ, ◌<◌, List, [], ◌∷◌, ◌++◌, map, length, codes}
-use Rattle.std.specs.List.{range_with_len}
+use Rattle.std.specs.List.{range_with_len, flat_map}
+use Rattle.ct_generics.specs.declared.kind.Kind.TheVariants.{Bool as OfBool}
+use Rattle.ct_generics.specs.Expression.{Expression, named}
+use Rattle.ct_generics.specs.Declarations.{Declared, Head, Synonym}
+use Rattle.ct_sorts.specs.Kinds.{head_kind}
+use Rattle.ct_sorts.specs.declared.spelling.Spelling.{Spelling}
 use Rattle.ct_sorts.specs.declared.ids.SortId.{SortId}
 use Rattle.ct_sorts.specs.declared.ids.CtorId.{CtorId}
 use Rattle.ct_sorts.specs.declared.ids.SelId.{SelId}
@@ -34,13 +39,20 @@ pub record Function : Type 0 where
   pub args : List SortId
   pub result : SortId
 
--- all declarations, each list in the order of declaration: what has number n stands at index n
+-- All declarations, each list in the order of declaration: what has number n stands at index n. The sorts are Bool, the
+-- declared sorts without parameters, and the instances of generics that are there, with their constructors and selectors.
 pub record Declarations : Type 0 where
   pub sorts : List Sort
   pub ctors : List Constructor
   pub sels : List Selector
   pub functions : List Function
   pub definitions : List Function
+  -- the sorts without parameters and the generics as they were declared, each with a number of its own, and the synonyms
+  pub declared : Declared
+  -- for each of these sorts and generics the names of its constructors and their fields
+  pub spellings : List (List Spelling)
+  -- for each sort in the list what it is: a declared sort without parameters, or a generic with its arguments
+  pub origins : List Expression
 
 -- so many constructors in a row, from the first on
 abbrev pub ctor_ids : ℕ → ℕ → List CtorId
@@ -71,6 +83,9 @@ start =
       sels = [];
       functions = [];
       definitions = [];
+      declared = record { heads = record { name = codes "Bool"; kind = OfBool; params = 0; ctors = [] } ∷ []; synonyms = [] };
+      spellings = (record { name = codes "true"; fields = [] } ∷ (record { name = codes "false"; fields = [] } ∷ [])) ∷ [];
+      origins = named 0 ∷ [];
     }
 
 -- the names of the sorts, the constructors, the selectors, the functions and the definitions, each in order
@@ -89,9 +104,22 @@ function_names d = map (λ f. f.name) d.functions
 abbrev pub definition_names : Declarations → List (List ℕ)
 definition_names d = map (λ f. f.name) d.definitions
 
--- the names that share the second space: constructors, selectors, functions and definitions
+-- the names of constructors and their fields, as they stand in the text
+abbrev pub spelled : List Spelling → List (List ℕ)
+spelled ctors = flat_map (λ c. c.name ∷ c.fields) ctors
+
+-- the names of the constructors and selectors of the sorts without parameters and the generics
+abbrev pub head_symbols : List (List Spelling) → List (List ℕ)
+head_symbols spellings = flat_map spelled spellings
+
+-- the names that share the first space: sorts without parameters, generics and synonyms
+abbrev pub declared_names : Declarations → List (List ℕ)
+declared_names d = map (λ (h : Head). h.name) d.declared.heads ++ map (λ (s : Synonym). s.name) d.declared.synonyms
+
+-- the names that share the second space: constructors and selectors of sorts without parameters and of generics, functions
+-- and definitions
 abbrev pub symbol_names : Declarations → List (List ℕ)
-symbol_names d = ctor_names d ++ (sel_names d ++ (function_names d ++ definition_names d))
+symbol_names d = head_symbols d.spellings ++ (function_names d ++ definition_names d)
 
 -- the number is that of a sort, a constructor, a selector, a function or a definition that is there
 abbrev pub IsSort : Declarations → SortId → Type 0
@@ -125,9 +153,17 @@ most_functions = 65536
 abbrev pub most_definitions : ℕ
 most_definitions = 65536
 
--- one more sort at the end
+-- one more sort or generic, with the names of its constructors and their fields
+abbrev pub with_head : Declarations → Head → List Spelling → Declarations
+with_head d head ctors = record d { declared = record d.declared { heads = d.declared.heads ++ head ∷ [] }; spellings = d.spellings ++ ctors ∷ [] }
+
+-- one more uninterpreted sort at the end
 abbrev pub with_sort : Declarations → Sort → Declarations
-with_sort d s = record d { sorts = d.sorts ++ s ∷ [] }
+with_sort d s =
+    record (with_head d (record { name = s.name; kind = head_kind s.kind; params = 0; ctors = [] }) []) {
+      sorts = d.sorts ++ s ∷ [];
+      origins = d.origins ++ named (length d.declared.heads) ∷ [];
+    }
 
 -- one more function at the end
 abbrev pub with_function : Declarations → Function → Declarations

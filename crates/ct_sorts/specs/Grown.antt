@@ -13,3 +13,7 @@ pub record Extends (later earlier : Declarations) : Type 0 where
   pub sels : Begins earlier.sels later.sels
   pub functions : Begins earlier.functions later.functions
   pub definitions : Begins earlier.definitions later.definitions
+  pub heads : Begins earlier.declared.heads later.declared.heads
+  pub synonyms : Begins earlier.declared.synonyms later.declared.synonyms
+  pub spellings : Begins earlier.spellings later.spellings
+  pub origins : Begins earlier.origins later.origins

@@ -5,17 +5,9 @@ use Rattle.std.specs.Prelude.{◌≡◌, ℕ, ◌⊎◌}
 abbrev pub name_taken : ℕ
 name_taken = 11
 
--- the sort of a field is unknown
-abbrev pub unknown_sort : ℕ
-unknown_sort = 12
-
 -- a sort of a block has no constructor
 abbrev pub no_constructor : ℕ
 no_constructor = 13
-
--- a datatype is not well founded
-abbrev pub not_founded : ℕ
-not_founded = 14
 
 -- one declaration too many
 abbrev pub too_many : ℕ

@@ -1,25 +1,36 @@
 -- What the fields of a signature mean.
-use Rattle.std.specs.Prelude.{ℕ, List, map}
-use Rattle.ct_sorts.specs.Declarations.{Declarations, Sort, Constructor, Selector, Function}
+use Rattle.std.specs.Prelude.{ℕ, List, [], Option, map, unwrap_or, option_map, slice_get}
+use Rattle.std.specs.Option.{option_and_then}
+use Rattle.ct_sorts.specs.Declarations.{Sort, Constructor, Selector, Function}
 use Rattle.ct_sorts.specs.declared.entries.SortEntry.{SortEntry}
 use Rattle.ct_sorts.specs.declared.entries.CtorEntry.{CtorEntry}
 use Rattle.ct_sorts.specs.declared.entries.SelEntry.{SelEntry}
 use Rattle.ct_sorts.specs.declared.entries.FunctionEntry.{FunctionEntry}
+use Rattle.ct_sorts.specs.declared.spelling.Home.{Home}
+use Rattle.ct_sorts.specs.declared.spelling.Spelling.{Spelling}
 
--- what an entry of each map stands for
+-- the names of a constructor and its fields
+abbrev pub spelling_at : List (List Spelling) → Home → Option Spelling
+spelling_at spellings home = option_and_then (λ (ctors : List Spelling). slice_get ctors home.ctor) (slice_get spellings home.head)
+
+-- the name of a constructor, and that of one of its fields
+abbrev pub ctor_name_at : List (List Spelling) → Home → List ℕ
+ctor_name_at spellings home = unwrap_or (option_map (λ (s : Spelling). s.name) (spelling_at spellings home)) []
+
+abbrev pub field_name_at : List (List Spelling) → Home → ℕ → List ℕ
+field_name_at spellings home place = unwrap_or (option_and_then (λ (s : Spelling). slice_get s.fields place) (spelling_at spellings home)) []
+
+-- what a sort's entry stands for, which stands beside its text
 abbrev pub sort_of_entry : List ℕ × SortEntry → Sort
-sort_of_entry e = record { name = e.0; kind = e.1.kind; ctors = e.1.ctors }
+sort_of_entry e = record { name = unwrap_or e.1.name e.0; kind = e.1.kind; ctors = e.1.ctors }
 
-abbrev pub ctor_of : List ℕ × CtorEntry → Constructor
-ctor_of e = record { name = e.0; sort = e.1.sort; sels = e.1.sels }
+-- what the entries of constructors and selectors stand for
+abbrev pub ctor_of : List (List Spelling) → CtorEntry → Constructor
+ctor_of spellings e = record { name = ctor_name_at spellings e.home; sort = e.sort; sels = e.sels }
 
-abbrev pub sel_of : List ℕ × SelEntry → Selector
-sel_of e = record { name = e.0; ctor = e.1.ctor; place = e.1.place; sort = e.1.sort }
+abbrev pub sel_of : List (List Spelling) → SelEntry → Selector
+sel_of spellings e = record { name = field_name_at spellings e.home e.place; ctor = e.ctor; place = e.place; sort = e.sort }
 
+-- what an entry of a function stands for, which stands beside its name
 abbrev pub function_of : List ℕ × FunctionEntry → Function
 function_of e = record { name = e.0; args = e.1.args; result = e.1.result }
-
--- the declarations that the five maps keep: an index in a map is a number
-abbrev pub declared : List (List ℕ × SortEntry) → List (List ℕ × CtorEntry) → List (List ℕ × SelEntry) → List (List ℕ × FunctionEntry) → List (List ℕ × FunctionEntry) → Declarations
-declared sorts ctors sels functions definitions =
-    record { sorts = map sort_of_entry sorts; ctors = map ctor_of ctors; sels = map sel_of sels; functions = map function_of functions; definitions = map function_of definitions }

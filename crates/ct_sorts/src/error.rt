@@ -1,8 +1,10 @@
 //! The error of a declaration: refused for a numbered cause, or out of memory.
 
-ghost use Rattle.std.specs.Prelude.{◌≡◌};
+ghost use Rattle.std.specs.Prelude.{◌≡◌, ℕ, ◌↔◌};
+ghost use Rattle.ct_generics.specs.declared.error.GenericError.{GenericError};
 ghost use Rattle.ct_sorts.specs.declared.error.SigError.TheVariants.{NoMemory};
 
+use ct_generics::GenericError;
 use std::alloc::{AllocError, AllocFailed};
 
 /// Why a declaration was not made.
@@ -27,5 +29,16 @@ impl<T: Drop> From<AllocFailed<T>> for SigError {
 
     fn from(_error: AllocFailed<T>) -> SigError {
         SigError::NoMemory
+    }
+}
+
+/// The error of a declaration that a generic has.
+pub(crate) fn sig_error(error: GenericError) -> SigError
+    ensures refused { (n : ℕ) → (result ≡ SigError.Refused n) ↔ (error ≡ GenericError.Refused n) }
+    ensures memory { (result ≡ SigError.NoMemory) ↔ (error ≡ GenericError.NoMemory) }
+{
+    match error {
+        GenericError::Refused(number) => SigError::Refused(number),
+        GenericError::NoMemory => SigError::NoMemory,
     }
 }

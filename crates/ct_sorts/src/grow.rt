@@ -1,34 +1,42 @@
-//! Puts the sorts, constructors and selectors of a block after those that are there. The names of
-//! the block may all be declared, its fields have known sorts, and no limit is passed.
-ghost use Rattle.std.specs.Prelude.{◌≡◌, ℕ, ◌+◌, ◌<◌, ◌≤◌, List, ◌++◌, length, map, IfOk, IfErr, OnOk, OnErr};
-ghost use Rattle.ct_sorts.specs.Declarations.{ctor_ids, sel_ids, sort_ids, most_sorts, most_ctors, most_sels};
-ghost use Rattle.ct_sorts.specs.Lookup.{AreDistinct, names_of};
+//! Puts sorts, with their constructors and selectors, after those that are there.
+ghost use Rattle.std.specs.Prelude.{◌≡◌, ℕ, ◌+◌, ◌<◌, ◌≤◌, ◌⊎◌, ◌^◌, ◌++◌, List, [], ◌∷◌, length, map, drop, take, sum, All, if◌then◌else◌, ◌==◌, Some, None, slice_get, IfOk, IfErr, OnOk};
+ghost use Rattle.std.specs.List.{AllZip, range_with_len};
+ghost use Rattle.ct_generics.specs.declared.nodes.ExprId.{ExprId};
+ghost use Rattle.ct_generics.specs.declared.nodes.HeadId.{HeadId};
+ghost use Rattle.ct_generics.specs.Expression.{Expression, head_of, args_of};
+ghost use Rattle.ct_generics.specs.Declarations.{Head};
+ghost use Rattle.ct_generics.specs.Denoted.{declared_of, sorts_of};
+ghost use Rattle.ct_generics.specs.Nodes.{StandFor};
+ghost use Rattle.ct_generics.specs.Reach.{AreDifferent};
+ghost use Rattle.ct_generics.specs.SortTable.{AreCounted};
+ghost use Rattle.ct_sorts.specs.Availability.{IsListed};
+ghost use Rattle.ct_sorts.specs.declared.entries.SelEntry.{SelEntry};
+ghost use Rattle.ct_sorts.specs.declared.entries.SortEntry.{SortEntry};
+ghost use Rattle.ct_sorts.specs.declared.spelling.Spelling.{Spelling};
+ghost use Rattle.ct_sorts.specs.Declarations.{ctor_ids, sel_ids, most_ctors, most_sels};
 ghost use Rattle.ct_sorts.specs.Grown.{Begins};
-ghost use Rattle.ct_sorts.specs.Stored.{sort_of_entry, ctor_of, sel_of};
-ghost use Rattle.ct_sorts.specs.Block.{block_ctors, all_fields, new_sorts, new_ctors, new_sels, ctors_of_sort, sels_of_ctor, sort_of_field};
+ghost use Rattle.ct_sorts.specs.Growing.{AreNumbered, IsStanding, IsGrownBy, HaveGrown, AreReady, AreWithin};
+ghost use Rattle.ct_sorts.specs.Heads.{NamesEach};
+ghost use Rattle.ct_sorts.specs.Kinds.{kind_of};
+ghost use Rattle.ct_sorts.specs.Lookup.{names_of};
+ghost use Rattle.ct_sorts.specs.Made.{ctors_of_sort, sels_of_ctor, new_sels};
+ghost use Rattle.ct_sorts.specs.Same.{sort_among};
+ghost use Rattle.ct_sorts.specs.Shapes.{ctor_shapes, field_shapes};
+ghost use Rattle.ct_sorts.specs.SortText.{sort_name, sort_text};
+ghost use Rattle.ct_sorts.specs.Stored.{ctor_of, sel_of, sort_of_entry, spelling_at};
+ghost use Rattle.ct_sorts.specs.Tabled.{AreAtHome, IsEntryOf};
 
-use crate::block::{CtorDecl, Field, SortDecl};
 use crate::entries::{CtorEntry, SelEntry, SortEntry};
-use crate::error::SigError;
-use crate::ids::{CtorId, Kind, SelId, SortId};
-use crate::items::Items;
-use crate::name::Name;
-use crate::numbered::Numbered;
-use crate::unknown::sort_number;
+use crate::error::{SigError, sig_error};
+use crate::facts::facts;
+use crate::ids::{CtorId, SelId, SortId};
+use crate::item::push_item;
+use crate::kinds::kind_of;
+use crate::spelling::Home;
+use crate::tables::Tables;
+use crate::text::sort_text;
+use ct_generics::{ExprId, ExprIds, HeadId, Items, Name, Spine, field_rows, head_and_args};
 use std::alloc::Global;
-
-/// So many sorts in a row.
-pub(crate) fn sort_ids(alloc: Global, first: usize, count: usize) -> Result<Vec<SortId>, SigError>
-    requires few { first + count ≤ most_sorts }
-    ensures ok { IfOk result (λ ids. ids.items ≡ sort_ids first count) }
-    ensures err { IfErr result (λ e. e ≡ SigError.NoMemory) }
-{
-    let mut ids = Vec::new(alloc);
-    for step in 0..count {
-        ids.push(SortId((first + step) as u32))?;
-    }
-    Ok(ids)
-}
 
 // So many constructors in a row.
 fn ctor_ids(alloc: Global, first: usize, count: usize) -> Result<Items<CtorId>, SigError>
@@ -56,210 +64,232 @@ fn sel_ids(alloc: Global, first: usize, count: usize) -> Result<Items<SelId>, Si
     Ok(Items::new(ids))
 }
 
-/// The whole block, or nothing.
-pub(crate) fn grow(
-    alloc: Global,
-    sorts: &mut Numbered<SortEntry>,
-    ctors: &mut Numbered<CtorEntry>,
-    sels: &mut Numbered<SelEntry>,
-    own: &Numbered<()>,
-    kind: Kind,
-    block: &[SortDecl],
-) -> Result<(), SigError>
-    requires sorts_few { length sorts.old + length block.now ≤ most_sorts }
-    requires ctors_few { length ctors.old + length (block_ctors block.now) ≤ most_ctors }
-    requires sels_few { length sels.old + length (all_fields (block_ctors block.now)) ≤ most_sels }
-    requires own { length own.now ≡ length block.now }
-    requires sorts_fresh { AreDistinct (map (λ s. s.name) (map sort_of_entry sorts.old ++ new_sorts kind (length ctors.old) block.now)) }
-    requires ctors_fresh { AreDistinct (map (λ c. c.name) (map ctor_of ctors.old ++ new_ctors (length sorts.old) (length sels.old) block.now)) }
-    requires sels_fresh { AreDistinct (map (λ s. s.name) (map sel_of sels.old ++ new_sels (sort_of_field (names_of sorts.old) (names_of own.now)) (length ctors.old) (block_ctors block.now))) }
-    ensures sorts { OnOk result (map sort_of_entry sorts.new ≡ map sort_of_entry sorts.old ++ new_sorts kind (length ctors.old) block.now) }
-    ensures ctors { OnOk result (map ctor_of ctors.new ≡ map ctor_of ctors.old ++ new_ctors (length sorts.old) (length sels.old) block.now) }
-    ensures sels { OnOk result (map sel_of sels.new ≡ map sel_of sels.old ++ new_sels (sort_of_field (names_of sorts.old) (names_of own.now)) (length ctors.old) (block_ctors block.now)) }
+/// The entries of the sorts from this one on. The only error is `NoMemory`.
+pub(crate) fn push_sorts(alloc: Global, tables: &mut Tables, first: usize) -> Result<(), SigError>
+    requires ready { AreReady tables.old }
+    requires first { first ≡ length tables.old.sorts }
+    requires within { first ≤ length tables.old.table.sorts }
+    requires few { AreWithin tables.old (drop first (sorts_of tables.old.table)) }
+    ensures ok { OnOk result (IsGrownBy tables.old tables.new (drop first (sorts_of tables.old.table))) }
+    ensures grown { HaveGrown tables.old tables.new }
+    ensures standing { IsStanding tables.new }
+    ensures counted { AreCounted tables.old.generics tables.old.table → AreCounted tables.new.generics tables.new.table }
     ensures err { IfErr result (λ e. e ≡ SigError.NoMemory) }
-    ensures unchanged { OnErr result ((sorts.new ≡ sorts.old) × (ctors.new ≡ ctors.old) × (sels.new ≡ sels.old)) }
 {
-    let first_sort = sorts.len();
-    let first_ctor = ctors.len();
-    let first_sel = sels.len();
-    if let Err(error) = push_all_sels(alloc, sels, own, sorts, first_ctor, block) {
-        sels.truncate(first_sel);
-        return Err(error);
-    }
-    if let Err(error) = push_all_ctors(alloc, ctors, first_sort, first_sel, block) {
-        sels.truncate(first_sel);
-        ctors.truncate(first_ctor);
-        return Err(error);
-    }
-    if let Err(error) = push_sorts(alloc, sorts, kind, first_ctor, block) {
-        sels.truncate(first_sel);
-        ctors.truncate(first_ctor);
-        sorts.truncate(first_sort);
-        return Err(error);
+    for i in first..tables.table.sorts.len() {
+        push_sort(alloc, tables, i)?;
     }
     Ok(())
 }
 
-// The sorts, whose constructors have the numbers from `first` on.
-fn push_sorts(
-    alloc: Global,
-    sorts: &mut Numbered<SortEntry>,
-    kind: Kind,
-    first: usize,
-    block: &[SortDecl],
-) -> Result<(), SigError>
-    requires few { first + length (block_ctors block.now) ≤ most_ctors }
-    requires fresh { AreDistinct (map (λ s. s.name) (map sort_of_entry sorts.old ++ new_sorts kind first block.now)) }
-    ensures ok { OnOk result (map sort_of_entry sorts.new ≡ map sort_of_entry sorts.old ++ new_sorts kind first block.now) }
-    ensures stored { Begins sorts.old sorts.new }
+// The entries of a sort.
+fn push_sort(alloc: Global, tables: &mut Tables, i: usize) -> Result<(), SigError>
+    requires ready { AreReady tables.old }
+    requires next { i ≡ length tables.old.sorts }
+    requires within { i < length tables.old.table.sorts }
+    requires few { (e : Expression) → slice_get (sorts_of tables.old.table) i ≡ Some e → AreWithin tables.old (e ∷ []) }
+    ensures ok { OnOk result ((e : Expression) → slice_get (sorts_of tables.old.table) i ≡ Some e → IsGrownBy tables.old tables.new (e ∷ [])) }
+    ensures grown { HaveGrown tables.old tables.new }
+    ensures standing { IsStanding tables.new }
+    ensures counted { AreCounted tables.old.generics tables.old.table → AreCounted tables.new.generics tables.new.table }
     ensures err { IfErr result (λ e. e ≡ SigError.NoMemory) }
 {
-    let mut next = first;
-    for decl in block {
-        let count = decl.ctors.len();
-        let ctors = ctor_ids(alloc, next, count)?;
-        let name = Name::from_slice(alloc, decl.name.as_slice())?;
-        sorts.push(name, SortEntry { kind, ctors })?;
-        next += count;
-    }
-    Ok(())
+    facts();
+    let id = tables.table.sorts.get(i);
+    prove!(tables.table.expressions.len() >= 0);
+    let spine = match head_and_args(alloc, &tables.table.expressions, id) {
+        Ok(spine) => spine,
+        Err(error) => return Err(sig_error(error)),
+    };
+    let rows = match field_rows(alloc, &tables.generics, &mut tables.table.expressions, id) {
+        Ok(rows) => rows,
+        Err(error) => return Err(sig_error(error)),
+    };
+    prove!(tables.table.expressions.len() >= 0);
+    let head = head_of(&spine);
+    let first_ctor = tables.ctors.len();
+    push_ctors(alloc, tables, SortId(i as u32), head, rows.as_slice())?;
+    let ctors = ctor_ids(alloc, first_ctor, rows.len())?;
+    push_entry(alloc, tables, head, &spine, ctors)
 }
 
-// The constructors of all sorts, which have the numbers from `first_sort` on. Their selectors have those from
-// `first_sel` on.
-fn push_all_ctors(
+// The sort or generic of a sort.
+fn head_of(spine: &Spine) -> HeadId
+    ensures head { (h : HeadId) → spine.now.head ≡ Some h → result ≡ h }
+{
+    match spine.head {
+        Some(head) => head,
+        None => HeadId(0),
+    }
+}
+
+// The entry of a sort of this sort or generic, with these arguments and constructors.
+fn push_entry(
     alloc: Global,
-    ctors: &mut Numbered<CtorEntry>,
-    first_sort: usize,
-    first_sel: usize,
-    block: &[SortDecl],
+    tables: &mut Tables,
+    head: HeadId,
+    spine: &Spine,
+    ctors: Items<CtorId>,
 ) -> Result<(), SigError>
-    requires sorts_few { first_sort + length block.now ≤ most_sorts }
-    requires sels_few { first_sel + length (all_fields (block_ctors block.now)) ≤ most_sels }
-    requires fresh { AreDistinct (map (λ c. c.name) (map ctor_of ctors.old ++ new_ctors first_sort first_sel block.now)) }
-    ensures ok { OnOk result (map ctor_of ctors.new ≡ map ctor_of ctors.old ++ new_ctors first_sort first_sel block.now) }
-    ensures stored { Begins ctors.old ctors.new }
+    requires standing { IsStanding tables.old }
+    requires few { length tables.old.table.sorts < 2 ^ 32 }
+    requires head { head.0 < length (declared_of tables.old.generics).heads }
+    requires different { AreDifferent (sorts_of tables.old.table) }
+    requires args { All (λ id. (i : ℕ) × (i < length tables.old.sorts) × (slice_get tables.old.table.sorts i ≡ Some id)) spine.now.args }
+    requires texts { names_of tables.old.sorts ≡ take (length tables.old.sorts) (map (sort_text (declared_of tables.old.generics).heads) (sorts_of tables.old.table)) }
+    requires fresh { (e : Expression) × StandFor tables.old.table.expressions spine.now.args (args_of e) × (head_of e ≡ Some head.0) × (IsListed (names_of tables.old.sorts) (sort_text (declared_of tables.old.generics).heads e) → ⊥) }
+    ensures ok { OnOk result ((e : Expression) (known : Head) → StandFor tables.old.table.expressions spine.now.args (args_of e) → head_of e ≡ Some head.0 → slice_get (declared_of tables.old.generics).heads head.0 ≡ Some known
+        → (entry : SortEntry) × (tables.new.sorts ≡ tables.old.sorts ++ (sort_text (declared_of tables.old.generics).heads e, entry) ∷ [])
+        × (sort_of_entry (sort_text (declared_of tables.old.generics).heads e, entry) ≡ record { name = sort_name (declared_of tables.old.generics).heads e; kind = kind_of known.kind; ctors = ctors })
+        × IsEntryOf (sorts_of tables.old.table) entry e) }
+    ensures others { tables.new ≡ record tables.old { sorts = tables.new.sorts } }
+    ensures grown { Begins tables.old.sorts tables.new.sorts }
     ensures err { IfErr result (λ e. e ≡ SigError.NoMemory) }
 {
-    let mut sort = first_sort;
-    let mut sel = first_sel;
-    for decl in block {
-        sel = push_ctors(alloc, ctors, sort, sel, decl.ctors.as_slice())?;
-        sort += 1;
-    }
-    Ok(())
+    let args = numbers(alloc, &tables.table.sorts, spine.args.as_slice())?;
+    let name = tables.generics.head_name(head);
+    let text = sort_text(alloc, &tables.sorts, name, args.as_slice())?;
+    let plain = plain_name(alloc, name, args.as_slice())?;
+    let entry = SortEntry {
+        name: plain,
+        head: head.0,
+        args,
+        kind: kind_of(tables.generics.head_kind(head)),
+        ctors,
+    };
+    tables.sorts.push(Name::new(text), entry)
 }
 
-// The constructors of one sort. Gives the number of the selector after theirs.
+// The name of a sort without arguments.
+fn plain_name(alloc: Global, name: &[u8], args: &[SortId]) -> Result<Option<Name>, SigError>
+    ensures ok { IfOk result (λ plain. plain ≡ (if length args.now == 0 then Some name.now else None)) }
+    ensures err { IfErr result (λ e. e ≡ SigError.NoMemory) }
+{
+    if args.is_empty() {
+        return Ok(Some(Name::from_slice(alloc, name)?));
+    }
+    Ok(None)
+}
+
+// The numbers of sorts that are there.
+fn numbers(alloc: Global, sorts: &ExprIds, ids: &[ExprId]) -> Result<Items<SortId>, SigError>
+    requires few { length sorts.now < 2 ^ 32 }
+    requires there { All (λ id. (i : ℕ) × (slice_get sorts.now i ≡ Some id)) ids.now }
+    ensures ok { IfOk result (λ numbers. AllZip (λ s id. slice_get sorts.now s.0 ≡ Some id) numbers ids.now) }
+    ensures err { IfErr result (λ e. e ≡ SigError.NoMemory) }
+{
+    let mut numbers = Vec::with_capacity(alloc, ids.len())?;
+    for id in ids {
+        numbers.push(number(sorts, *id))?;
+    }
+    Ok(Items::new(numbers))
+}
+
+// The number of a sort that is there.
+fn number(sorts: &ExprIds, id: ExprId) -> SortId
+    requires few { length sorts.now < 2 ^ 32 }
+    requires there { (i : ℕ) × (slice_get sorts.now i ≡ Some id) }
+    ensures at { slice_get sorts.now result.0 ≡ Some id }
+{
+    match sorts.index_of(id) {
+        Some(index) => SortId(index as u32),
+        None => SortId(0),
+    }
+}
+
+// The constructors of a sort, with these field sorts, and their selectors.
 fn push_ctors(
     alloc: Global,
-    ctors: &mut Numbered<CtorEntry>,
-    sort: usize,
-    first: usize,
-    decls: &[CtorDecl],
-) -> Result<usize, SigError>
-    requires sort_few { sort < most_sorts }
-    requires sels_few { first + length (all_fields decls.now) ≤ most_sels }
-    requires fresh { AreDistinct (map (λ c. c.name) (map ctor_of ctors.old ++ ctors_of_sort sort first decls.now)) }
-    ensures ok { IfOk result (λ next. (next ≡ first + length (all_fields decls.now))
-        × (map ctor_of ctors.new ≡ map ctor_of ctors.old ++ ctors_of_sort sort first decls.now)) }
-    ensures stored { Begins ctors.old ctors.new }
-    ensures err { IfErr result (λ e. e ≡ SigError.NoMemory) }
-{
-    let mut next = first;
-    for decl in decls {
-        let count = decl.fields.len();
-        let sels = sel_ids(alloc, next, count)?;
-        let name = Name::from_slice(alloc, decl.name.as_slice())?;
-        let sort = SortId(sort as u32);
-        ctors.push(name, CtorEntry { sort, sels })?;
-        next += count;
-    }
-    Ok(next)
-}
-
-// The selectors of all sorts' constructors, which have the numbers from `first` on.
-fn push_all_sels(
-    alloc: Global,
-    sels: &mut Numbered<SelEntry>,
-    own: &Numbered<()>,
-    sorts: &Numbered<SortEntry>,
-    first: usize,
-    block: &[SortDecl],
+    tables: &mut Tables,
+    sort: SortId,
+    head: HeadId,
+    rows: &[Items<ExprId>],
 ) -> Result<(), SigError>
-    requires sorts_few { length sorts.now + length own.now ≤ most_sorts }
-    requires ctors_few { first + length (block_ctors block.now) ≤ most_ctors }
-    requires sels_few { length (all_fields (block_ctors block.now)) ≤ most_sels }
-    requires fresh { AreDistinct (map (λ s. s.name) (map sel_of sels.old ++ new_sels (sort_of_field (names_of sorts.now) (names_of own.now)) first (block_ctors block.now))) }
-    ensures ok { OnOk result (map sel_of sels.new ≡ map sel_of sels.old ++ new_sels (sort_of_field (names_of sorts.now) (names_of own.now)) first (block_ctors block.now)) }
-    ensures stored { Begins sels.old sels.new }
+    requires sorts_few { length tables.old.table.sorts < 2 ^ 32 }
+    requires ctors_few { length tables.old.ctors + length rows.now ≤ most_ctors }
+    requires sels_few { length tables.old.sels + sum (map length rows.now) ≤ most_sels }
+    requires there { All (All (λ id. (i : ℕ) × (slice_get tables.old.table.sorts i ≡ Some id))) rows.now }
+    ensures ok { OnOk result ((spellings : List Spelling) (fields : List (List Expression)) → slice_get tables.old.spellings head.0 ≡ Some spellings
+        → AllZip (λ row es. AreNumbered tables.old.table.sorts row (sorts_of tables.old.table) es) rows.now fields → AllZip NamesEach spellings fields
+        → (map (ctor_of tables.old.spellings) tables.new.ctors ≡ map (ctor_of tables.old.spellings) tables.old.ctors ++ ctors_of_sort sort.0 (length tables.old.sels) (ctor_shapes spellings fields))
+        × (map (sel_of tables.old.spellings) tables.new.sels ≡ map (sel_of tables.old.spellings) tables.old.sels ++ new_sels (sort_among (sorts_of tables.old.table)) (length tables.old.ctors) (ctor_shapes spellings fields))) }
+    ensures homes { OnOk result (map (λ e. e.home) tables.new.ctors ≡ map (λ e. e.home) tables.old.ctors ++ map (λ i. record { head = head.0; ctor = i }) (range_with_len 0 (length rows.now))) }
+    ensures sel_homes { OnOk result (AreAtHome tables.old.ctors tables.old.sels → AreAtHome tables.new.ctors tables.new.sels) }
+    ensures others { tables.new ≡ record tables.old { ctors = tables.new.ctors; sels = tables.new.sels } }
+    ensures grown { Begins tables.old.ctors tables.new.ctors × Begins tables.old.sels tables.new.sels }
     ensures err { IfErr result (λ e. e ≡ SigError.NoMemory) }
 {
-    let mut next = first;
-    for decl in block {
-        let ctors = decl.ctors.as_slice();
-        push_sels(alloc, sels, own, sorts, next, ctors)?;
-        next += ctors.len();
+    let mut index = 0u64;
+    for row in rows {
+        let home = Home {
+            head: head.0,
+            ctor: index,
+        };
+        push_ctor(alloc, tables, sort, home, row.as_slice())?;
+        index += 1;
     }
     Ok(())
 }
 
-// The selectors of these constructors.
+// A constructor of a sort, with these field sorts, and its selectors.
+fn push_ctor(
+    alloc: Global,
+    tables: &mut Tables,
+    sort: SortId,
+    home: Home,
+    row: &[ExprId],
+) -> Result<(), SigError>
+    requires sorts_few { length tables.old.table.sorts < 2 ^ 32 }
+    requires ctors_few { length tables.old.ctors < most_ctors }
+    requires sels_few { length tables.old.sels + length row.now ≤ most_sels }
+    requires there { All (λ id. (i : ℕ) × (slice_get tables.old.table.sorts i ≡ Some id)) row.now }
+    ensures ok { OnOk result ((names : Spelling) (es : List Expression) → spelling_at tables.old.spellings home ≡ Some names
+        → AreNumbered tables.old.table.sorts row.now (sorts_of tables.old.table) es → NamesEach names es
+        → (map (ctor_of tables.old.spellings) tables.new.ctors ≡ map (ctor_of tables.old.spellings) tables.old.ctors ++ ctors_of_sort sort.0 (length tables.old.sels) (record { name = names.name; fields = field_shapes names.fields es } ∷ []))
+        × (map (sel_of tables.old.spellings) tables.new.sels ≡ map (sel_of tables.old.spellings) tables.old.sels ++ sels_of_ctor (sort_among (sorts_of tables.old.table)) (length tables.old.ctors) 0 (field_shapes names.fields es))) }
+    ensures homes { OnOk result (map (λ e. e.home) tables.new.ctors ≡ map (λ e. e.home) tables.old.ctors ++ home ∷ []) }
+    ensures long { OnOk result (length tables.new.sels ≡ length tables.old.sels + length row.now) }
+    ensures sel_homes { OnOk result (AreAtHome tables.old.ctors tables.old.sels → AreAtHome tables.new.ctors tables.new.sels) }
+    ensures others { tables.new ≡ record tables.old { ctors = tables.new.ctors; sels = tables.new.sels } }
+    ensures grown { Begins tables.old.ctors tables.new.ctors × Begins tables.old.sels tables.new.sels }
+    ensures err { IfErr result (λ e. e ≡ SigError.NoMemory) }
+{
+    let ctor = CtorId(tables.ctors.len() as u32);
+    let sels = sel_ids(alloc, tables.sels.len(), row.len())?;
+    push_item(&mut tables.ctors, CtorEntry { home, sort, sels })?;
+    push_sels(&tables.table.sorts, &mut tables.sels, home, ctor, row)
+}
+
+// The selectors of a constructor with these field sorts.
 fn push_sels(
-    alloc: Global,
-    sels: &mut Numbered<SelEntry>,
-    own: &Numbered<()>,
-    sorts: &Numbered<SortEntry>,
-    first: usize,
-    decls: &[CtorDecl],
-) -> Result<(), SigError>
-    requires sorts_few { length sorts.now + length own.now ≤ most_sorts }
-    requires ctors_few { first + length decls.now ≤ most_ctors }
-    requires sels_few { length (all_fields decls.now) ≤ most_sels }
-    requires fresh { AreDistinct (map (λ s. s.name) (map sel_of sels.old ++ new_sels (sort_of_field (names_of sorts.now) (names_of own.now)) first decls.now)) }
-    ensures ok { OnOk result (map sel_of sels.new ≡ map sel_of sels.old ++ new_sels (sort_of_field (names_of sorts.now) (names_of own.now)) first decls.now) }
-    ensures stored { Begins sels.old sels.new }
-    ensures err { IfErr result (λ e. e ≡ SigError.NoMemory) }
-{
-    let mut ctor = first;
-    for decl in decls {
-        let id = CtorId(ctor as u32);
-        push_fields(alloc, sels, own, sorts, id, decl.fields.as_slice())?;
-        ctor += 1;
-    }
-    Ok(())
-}
-
-// The selectors of one constructor.
-fn push_fields(
-    alloc: Global,
-    sels: &mut Numbered<SelEntry>,
-    own: &Numbered<()>,
-    sorts: &Numbered<SortEntry>,
+    sorts: &ExprIds,
+    sels: &mut Items<SelEntry>,
+    home: Home,
     ctor: CtorId,
-    fields: &[Field],
+    row: &[ExprId],
 ) -> Result<(), SigError>
-    requires sorts_few { length sorts.now + length own.now ≤ most_sorts }
-    requires few { length fields.now ≤ most_sels }
-    requires fresh { AreDistinct (map (λ s. s.name) (map sel_of sels.old ++ sels_of_ctor (sort_of_field (names_of sorts.now) (names_of own.now)) ctor.0 0 fields.now)) }
-    ensures ok { OnOk result (map sel_of sels.new ≡ map sel_of sels.old ++ sels_of_ctor (sort_of_field (names_of sorts.now) (names_of own.now)) ctor.0 0 fields.now) }
-    ensures stored { Begins sels.old sels.new }
+    requires few { length sorts.now < 2 ^ 32 }
+    requires fields_few { length row.now ≤ most_sels }
+    requires there { All (λ id. (i : ℕ) × (slice_get sorts.now i ≡ Some id)) row.now }
+    ensures ok { OnOk result ((spellings : List (List Spelling)) (origins es : List Expression) (ctors : List Spelling) (names : Spelling)
+        → AreNumbered sorts.now row.now origins es → slice_get spellings home.head ≡ Some ctors → slice_get ctors home.ctor ≡ Some names → NamesEach names es
+        → map (sel_of spellings) sels.new ≡ map (sel_of spellings) sels.old ++ sels_of_ctor (sort_among origins) ctor.0 0 (field_shapes names.fields es)) }
+    ensures long { OnOk result (length sels.new ≡ length sels.old + length row.now) }
+    ensures homes { (s : ℕ) (entry : SelEntry) → slice_get sels.new s ≡ Some entry → (slice_get sels.old s ≡ Some entry) ⊎ ((entry.home ≡ home) × (entry.ctor ≡ ctor)) }
+    ensures grown { Begins sels.old sels.new }
     ensures err { IfErr result (λ e. e ≡ SigError.NoMemory) }
 {
-    let mut place = 0;
-    for field in fields {
-        let sort = field_sort(own, sorts, field);
-        let name = Name::from_slice(alloc, field.name.as_slice())?;
-        sels.push(name, SelEntry { ctor, place, sort })?;
+    let mut place = 0u32;
+    for field in row {
+        let sort = number(sorts, *field);
+        let entry = SelEntry {
+            home,
+            ctor,
+            place,
+            sort,
+        };
+        push_item(sels, entry)?;
         place += 1;
     }
     Ok(())
-}
-
-// The sort of a field whose sort is known.
-fn field_sort(own: &Numbered<()>, sorts: &Numbered<SortEntry>, field: &Field) -> SortId
-    requires sorts_few { length sorts.now + length own.now ≤ most_sorts }
-    ensures sort { result ≡ sort_of_field (names_of sorts.now) (names_of own.now) field.now.sort }
-{
-    SortId(sort_number(own, sorts, &field.sort).unwrap_or(0) as u32)
 }

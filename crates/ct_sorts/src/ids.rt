@@ -1,4 +1,4 @@
-//! Numbers of sorts, constructors, selectors, functions and definitions.
+//! Numbers of sorts, constructors, selectors, functions, definitions and generics.
 
 /// The number of a sort. Bool is 0.
 #[derive(Clone, Copy, Debug, PartialEq, Eq, Hash)]
@@ -20,6 +20,19 @@ pub struct FunId(pub u32);
 #[derive(Clone, Copy, Debug, PartialEq, Eq, Hash)]
 pub struct DefId(pub u32);
 
+/// The number of a generic, among the sorts without parameters and the generics in the order of declarations.
+#[derive(Clone, Copy, Debug, PartialEq, Eq, Hash)]
+pub struct GenId(pub u32);
+
+/// What a block gave a number to.
+#[derive(Clone, Copy, Debug, PartialEq, Eq, Hash)]
+pub enum Declared {
+    /// A sort without parameters.
+    Sort(SortId),
+    /// A generic.
+    Generic(GenId),
+}
+
 /// What a name stands for. Constructors, selectors, functions and definitions share one space of names.
 #[derive(Clone, Copy, Debug, PartialEq, Eq, Hash)]
 pub enum Symbol {
@@ -31,6 +44,10 @@ pub enum Symbol {
     Fun(FunId),
     /// A definition.
     Def(DefId),
+    /// A constructor of a generic, by its index among the constructors.
+    GenCtor(GenId, u32),
+    /// A selector of a generic, by the index of its constructor and the index of its field there.
+    GenSel(GenId, u32, u32),
 }
 
 /// What kind of sort a sort is.

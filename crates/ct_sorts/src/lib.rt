@@ -2,30 +2,39 @@
 #![tactic(auto)]
 
 mod admit;
+mod applied;
 mod block;
 mod duplicate;
 mod entries;
 mod error;
-mod founded;
+mod facts;
+mod free;
+mod getters;
 mod grow;
 mod ids;
-mod items;
+mod indexed;
+mod instances;
+mod item;
+mod kinds;
 mod limits;
 mod mark;
-mod name;
 mod numbered;
+mod parameters;
 mod refusals;
 mod signature;
+mod spelling;
 mod start;
+mod synonyms;
+mod tables;
+mod text;
 mod theorems;
 mod unavailable;
-mod unknown;
 
-pub use block::{CtorDecl, Field, SortDecl};
+pub use ct_generics::{CtorDecl, Field, Items, Name, SortDecl, SortExpr};
 pub use error::SigError;
-pub use ids::{CtorId, DefId, FunId, Kind, SelId, SortId, Symbol};
-pub use items::Items;
+pub use ids::{CtorId, Declared, DefId, FunId, GenId, Kind, SelId, SortId, Symbol};
 pub use mark::Mark;
-pub use name::Name;
+pub use parameters::{are_block_parameters_below, are_parameters_below};
 pub use signature::Signature;
-pub use theorems::{growth, naming, structure};
+pub use spelling::Spelling;
+pub use theorems::{growth, naming, shapes, structure};

@@ -4,7 +4,8 @@ ghost use Rattle.std.specs.Prelude.{◌≡◌, ◌≤◌};
 
 use std::marker::Model;
 
-/// How much a signature had declared: the numbers of sorts, constructors, selectors, functions and definitions.
+/// How much a signature had declared: the numbers of sorts, constructors, selectors, functions and definitions, of sorts
+/// without parameters and generics, of synonyms, and of names of constructors and selectors of these.
 #[derive(Clone, Copy, Debug, PartialEq, Eq)]
 pub struct Mark {
     pub(crate) sorts: u32,
@@ -12,6 +13,9 @@ pub struct Mark {
     pub(crate) sels: u32,
     pub(crate) funs: u32,
     pub(crate) defs: u32,
+    pub(crate) heads: u32,
+    pub(crate) synonyms: u32,
+    pub(crate) symbols: u64,
 }
 
 impl Model for Mark {
@@ -20,11 +24,11 @@ impl Model for Mark {
 
     ghost Value = { Lengths };
 
-    ghost view = { λ m. record { sorts = m.sorts; ctors = m.ctors; sels = m.sels; functions = m.funs; definitions = m.defs } };
+    ghost view = { λ m. record { sorts = m.sorts; ctors = m.ctors; sels = m.sels; functions = m.funs; definitions = m.defs; heads = m.heads; synonyms = m.synonyms; symbols = m.symbols; origins = m.sorts; spellings = m.heads } };
 
     ghost invariant = { λ m. 1 ≤ m.sorts };
 
-    ghost inverse = { λ l. record { sorts = l.sorts; ctors = l.ctors; sels = l.sels; funs = l.functions; defs = l.definitions } };
+    ghost inverse = { λ l. record { sorts = l.sorts; ctors = l.ctors; sels = l.sels; funs = l.functions; defs = l.definitions; heads = l.heads; synonyms = l.synonyms; symbols = l.symbols } };
 }
 
 impl Mark {
@@ -62,5 +66,26 @@ impl Mark {
         ensures value { result ≡ self.now.definitions }
     {
         self.defs
+    }
+
+    /// The number of sorts without parameters and generics.
+    pub fn heads(&self) -> u32
+        ensures value { result ≡ self.now.heads }
+    {
+        self.heads
+    }
+
+    /// The number of synonyms.
+    pub fn synonyms(&self) -> u32
+        ensures value { result ≡ self.now.synonyms }
+    {
+        self.synonyms
+    }
+
+    /// The number of names of constructors and selectors of sorts without parameters and generics.
+    pub fn symbols(&self) -> u64
+        ensures value { result ≡ self.now.symbols }
+    {
+        self.symbols
     }
 }

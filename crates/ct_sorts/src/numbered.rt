@@ -5,7 +5,7 @@ ghost use Rattle.ct_sorts.specs.Lookup.{AreDistinct, names_of, index_of};
 
 use crate::duplicate::Duplicate;
 use crate::error::SigError;
-use crate::name::Name;
+use ct_generics::Name;
 use indexmap::IndexMap;
 use std::alloc::{AllocError, Global};
 use std::marker::Model;

@@ -3,14 +3,8 @@
 /// The name of a sort, a constructor or a selector is taken, or cannot be declared.
 pub(crate) const NAME_TAKEN: u16 = 11;
 
-/// The sort of a field is unknown.
-pub(crate) const UNKNOWN_SORT: u16 = 12;
-
 /// A sort of a block has no constructor.
 pub(crate) const NO_CONSTRUCTOR: u16 = 13;
-
-/// A datatype is not well founded.
-pub(crate) const NOT_FOUNDED: u16 = 14;
 
 /// One declaration too many.
 pub(crate) const TOO_MANY: u16 = 16;

@@ -1,46 +1,41 @@
-//! The signature: all declarations, how they grow, are cut back and looked up.
+//! The signature: all declarations, how they grow and are cut back.
 
-ghost use Rattle.std.specs.Prelude.{◌≡◌, ℕ, ◌+◌, List, ◌<◌, ◌≤◌, ◌⊎◌, ◌↔◌, [], length, Some, None, option_map, slice_get, All, IsTrue, IfSome, MatchOption, OnOk, OnErr, IfOk, IfErr, IsErrOf};
-ghost use Rattle.ct_sorts.specs.Availability.{IsListed, IsUnavailable, IsUnavailableSort, core_words};
-ghost use Rattle.ct_sorts.specs.Declarations.{Declarations, Function, IsSort, IsConstructor, IsSelector, IsFunction, IsDefinition, start, function_names, symbol_names, sort_names, ctor_names, sel_names, most_sorts, most_functions, most_definitions, sort_ids, with_sort, with_function, with_definition};
-ghost use Rattle.ct_sorts.specs.Lookup.{ResolvesTo, IsSymbol, AreDistinct, names_of};
+ghost use Rattle.std.specs.Prelude.{◌≡◌, ◌||◌, ℕ, List, ◌<◌, ◌≤◌, ◌⊎◌, ◌↔◌, [], length, Some, None, slice_get, All, IsTrue, IfSome, MatchOption, OnOk, OnErr, IfOk, IfErr, IfNone, IsErrOf, Ok};
+ghost use Rattle.ct_generics.specs.declared.kind.Kind.TheVariants.{Free as OfFree};
+ghost use Rattle.ct_generics.specs.Expression.{Expression};
+ghost use Rattle.ct_generics.specs.Resolved.{resolved};
+ghost use Rattle.ct_sorts.specs.Availability.{IsListed, IsUnavailable, IsUnavailableSort};
+ghost use Rattle.ct_sorts.specs.Consistent.{IsConsistent};
+ghost use Rattle.ct_sorts.specs.Declarations.{Declarations, Function, IsSort, start, symbol_names, declared_names, most_sorts, most_functions, most_definitions, with_sort, with_head, with_function, with_definition};
+ghost use Rattle.ct_sorts.specs.Limits.{sort_count};
 ghost use Rattle.ct_sorts.specs.Refusals.{name_taken, symbol_taken, too_many};
-ghost use Rattle.ct_sorts.specs.Consistent.{IsConsistent, IsOverSorts};
-ghost use Rattle.ct_sorts.specs.Block.{HasNameTaken, HasUnfounded, IsAcceptable, IsBlockRefusal, IsOverLimits, block_names, with_block};
-ghost use Rattle.ct_sorts.specs.Founded.{IsFounded};
-ghost use Rattle.std.specs.Bool.{MatchBool};
+ghost use Rattle.ct_sorts.specs.Block.{IsBlockRefusal, IsWithBlock};
+ghost use Rattle.ct_sorts.specs.Synonyms.{IsWithSynonym, IsSynonymRefusal};
+ghost use Rattle.ct_sorts.specs.Instances.{IsOrigin, IsWithInstance, IsInstanceRefusal};
 ghost use Rattle.ct_sorts.specs.Grown.{Extends};
+ghost use Rattle.ct_sorts.specs.Growing.{HaveGrown, IsStanding};
 ghost use Rattle.ct_sorts.specs.Marks.{CanCut, cut, lengths};
+ghost use Rattle.ct_sorts.specs.Tabled.{of_tables, IsTabled};
+ghost use Rattle.ct_sorts.specs.Written.{AreParametersBelow, AreBlockParametersBelow};
 
-use crate::admit::admit_block;
-use crate::block::SortDecl;
-use crate::entries::{CtorEntry, FunctionEntry, SelEntry, SortEntry};
+use crate::admit::{admit_block, has_no_constructor};
+use crate::block::declare_block;
+use crate::entries::FunctionEntry;
 use crate::error::SigError;
-use crate::founded::are_founded;
-use crate::grow::{grow, sort_ids};
-use crate::ids::{CtorId, DefId, FunId, Kind, SelId, SortId, Symbol};
-use crate::items::Items;
-use crate::limits::{fits_ctors, fits_sels};
+use crate::free::declare_free;
+use crate::ids::{Declared, DefId, FunId, GenId, Kind, SortId};
+use crate::instances::{add_instance, find_instance};
+use crate::limits::{MOST_SORTS, sort_count};
 use crate::mark::Mark;
-use crate::name::Name;
 use crate::numbered::Numbered;
-use crate::refusals::{
-    NAME_TAKEN, NO_CONSTRUCTOR, NOT_FOUNDED, SYMBOL_TAKEN, TOO_MANY, UNKNOWN_SORT,
-};
-use crate::start::{start_ctors, start_sorts};
+use crate::refusals::{NAME_TAKEN, NO_CONSTRUCTOR, SYMBOL_TAKEN, TOO_MANY};
+use crate::start::start_tables;
+use crate::synonyms::declare_synonym;
+use crate::tables::{Tables, copy_tables, cut_tables};
 use crate::unavailable::{is_core_word, is_unfit};
-use crate::unknown::{has_no_constructor, has_unknown_sort};
+use ct_generics::{Items, Name, SortDecl, SortExpr};
 use std::alloc::Global;
 use std::marker::Model;
-
-/// The most sorts that a signature holds, Bool among them.
-const MOST_SORTS: usize = 4_096;
-
-/// The most constructors that a signature holds, `true` and `false` among them.
-const MOST_CTORS: usize = 16_384;
-
-/// The most selectors that a signature holds.
-const MOST_SELS: usize = 65_536;
 
 /// The most functions that a signature holds.
 const MOST_FUNCTIONS: usize = 65_536;
@@ -51,13 +46,11 @@ const MOST_DEFINITIONS: usize = 65_536;
 /// The sorts and symbols that a script has declared.
 #[derive(Drop)]
 pub struct Signature {
-    alloc: Global,
-    // In each map an index is a number.
-    sorts: Numbered<SortEntry>,
-    ctors: Numbered<CtorEntry>,
-    sels: Numbered<SelEntry>,
-    functions: Numbered<FunctionEntry>,
-    definitions: Numbered<FunctionEntry>,
+    pub(crate) alloc: Global,
+    pub(crate) tables: Tables,
+    // In both maps an index is a number.
+    pub(crate) functions: Numbered<FunctionEntry>,
+    pub(crate) definitions: Numbered<FunctionEntry>,
 }
 
 impl Model for Signature {
@@ -65,12 +58,16 @@ impl Model for Signature {
 
     ghost Value = { Declarations };
 
-    ghost use Rattle.ct_sorts.specs.Consistent.{IsConsistent};
-    ghost use Rattle.ct_sorts.specs.Inside.{declarations};
+    ghost use Rattle.std.specs.Coded.{codes};
+    ghost use Rattle.ct_sorts.specs.ExpressionCode.{coded_expression};
+
+    ghost coded = { Prim.hlevel (codes, coded_expression) };
+
+    ghost use Rattle.ct_sorts.specs.Inside.{declarations, IsKept};
 
     ghost view = { declarations };
 
-    ghost invariant = { λ stored. IsConsistent (declarations stored) };
+    ghost invariant = { IsKept };
 }
 
 impl Signature {
@@ -79,11 +76,10 @@ impl Signature {
         ensures ok { IfOk result (λ s. s ≡ start) }
         ensures err { IfErr result (λ e. e ≡ SigError.NoMemory) }
     {
+        let tables = start_tables(alloc)?;
         Ok(Signature {
             alloc,
-            sorts: start_sorts(alloc)?,
-            ctors: start_ctors(alloc)?,
-            sels: Numbered::new(alloc),
+            tables,
             functions: Numbered::new(alloc),
             definitions: Numbered::new(alloc),
         })
@@ -94,153 +90,154 @@ impl Signature {
         ensures ok { IfOk result (λ s. s ≡ self.now) }
         ensures err { IfErr result (λ e. e ≡ SigError.NoMemory) }
     {
+        let functions = self.functions.copy(self.alloc)?;
+        let definitions = self.definitions.copy(self.alloc)?;
+        let tables = copy_tables(self.alloc, &self.tables)?;
         Ok(Signature {
             alloc: self.alloc,
-            sorts: self.sorts.copy(self.alloc)?,
-            ctors: self.ctors.copy(self.alloc)?,
-            sels: self.sels.copy(self.alloc)?,
-            functions: self.functions.copy(self.alloc)?,
-            definitions: self.definitions.copy(self.alloc)?,
+            tables,
+            functions,
+            definitions,
         })
     }
 
-    /// Declares an uninterpreted sort. It is refused with 11 where the name is taken by a sort or cannot be
-    /// declared, and else with 16 where there are 4,096 sorts. A refusal changes nothing.
+    /// Declares an uninterpreted sort. It is refused with 11 where the name is taken by a sort, a generic or a synonym or
+    /// cannot be declared, and else with 16 where there are 4,096 of these. A refusal changes nothing.
     pub fn add_free(&mut self, name: Name) -> Result<SortId, SigError>
         ensures ok { IfOk result (λ s. (s.0 ≡ length self.old.sorts)
             × (self.new ≡ with_sort self.old (record { name = name; kind = Kind.Free; ctors = [] }))) }
-        ensures taken { IsErrOf result (SigError.Refused name_taken) ↔ IsUnavailableSort (sort_names self.old) name }
+        ensures taken { IsErrOf result (SigError.Refused name_taken) ↔ IsUnavailableSort (declared_names self.old) name }
         ensures full { IsErrOf result (SigError.Refused too_many)
-            ↔ ((IsUnavailableSort (sort_names self.old) name → ⊥) × (most_sorts ≤ length self.old.sorts)) }
+            ↔ ((IsUnavailableSort (declared_names self.old) name → ⊥) × (most_sorts ≤ sort_count self.old)) }
         ensures codes { (n : ℕ) → IsErrOf result (SigError.Refused n) → (n ≡ name_taken) ⊎ (n ≡ too_many) }
         ensures refused { OnErr result (self.new ≡ self.old) }
     {
-        if self.is_unavailable_sort(&name) {
-            return Err(SigError::Refused(NAME_TAKEN));
-        }
-        let count = self.sorts.len();
-        if count >= MOST_SORTS {
-            return Err(SigError::Refused(TOO_MANY));
-        }
-        let ctors = Items::new(Vec::new(self.alloc));
-        let kind = Kind::Free;
-        self.sorts.push(name, SortEntry { kind, ctors })?;
+        self.refuse_name(&name)?;
+        self.refuse_one_more()?;
+        let mark = self.mark();
+        let count = self.tables.sorts.len();
+        declare_free(self.alloc, &mut self.tables, &mark, &name, 0)?;
         Ok(SortId(count as u32))
     }
 
-    /// Declares the sorts of a block, which may name each other, with their constructors and selectors, and
-    /// gives the numbers of the sorts. The kind is `Data` or `Codata`. The block is refused with the first of
-    /// these that applies, and a refusal changes nothing:
+    /// Declares an uninterpreted sort with parameters, 1 to 255 of them (SMT-LIB 2.7, section 4.2.3, `declare-sort`). It is
+    /// refused as `add_free` is. A refusal changes nothing.
+    pub fn add_free_generic(&mut self, name: Name, params: u32) -> Result<GenId, SigError>
+        requires some { 1 ≤ params }
+        requires few { params ≤ 255 }
+        ensures ok { IfOk result (λ g. (g.0 ≡ length self.old.declared.heads)
+            × (self.new ≡ with_head self.old (record { name = name; kind = OfFree; params = params; ctors = [] }) [])) }
+        ensures taken { IsErrOf result (SigError.Refused name_taken) ↔ IsUnavailableSort (declared_names self.old) name }
+        ensures full { IsErrOf result (SigError.Refused too_many)
+            ↔ ((IsUnavailableSort (declared_names self.old) name → ⊥) × (most_sorts ≤ sort_count self.old)) }
+        ensures codes { (n : ℕ) → IsErrOf result (SigError.Refused n) → (n ≡ name_taken) ⊎ (n ≡ too_many) }
+        ensures refused { OnErr result (self.new ≡ self.old) }
+    {
+        self.refuse_name(&name)?;
+        self.refuse_one_more()?;
+        let mark = self.mark();
+        let count = self.tables.generics.head_count();
+        declare_free(self.alloc, &mut self.tables, &mark, &name, params as u64)?;
+        Ok(GenId(count as u32))
+    }
+
+    /// Declares the sorts and generics of a block, which may name each other, with their constructors and selectors, and
+    /// gives their numbers; the sorts of fields come into the list with all that they need. The kind is `Data` or `Codata`.
+    /// The block is refused with the first of these that applies, and a refusal changes nothing:
     ///
     /// 1. 11 where a name is taken in its space, repeated in it, or cannot be declared;
-    /// 2. 13 where a sort has no constructor;
-    /// 3. 12 where the sort of a field is neither of the block nor an earlier one;
-    /// 4. 14 where the kind is `Data` and some sort of the block is not well founded;
-    /// 5. 16 where there would be more than 4,096 sorts, 16,384 constructors or 65,536 selectors.
+    /// 2. 13 where a sort or generic has no constructor;
+    /// 3. 12 at an unknown name and 22 at a wrong number of arguments in the sort of a field, by place;
+    /// 4. 18 where a name of the block stands at other arguments than the parameters of the declaration;
+    /// 5. 16 where one of its sorts or generics, at its own parameters, reaches more than 4,096 sort expressions, or one
+    ///    whose text is longer than 65,536 bytes;
+    /// 6. 17 where a datatype and a codatatype that one of them reaches reach each other;
+    /// 7. 14 where the kind is `Data` and one of them is not well founded;
+    /// 8. 16 where there would be more than 4,096 sorts, generics and synonyms, 16,384 constructors or 65,536 selectors, or
+    ///    where a sort that comes with a field has a text longer than 65,536 bytes.
     ///
     /// An empty block adds nothing.
-    pub fn add_block(&mut self, kind: Kind, decls: Vec<SortDecl>) -> Result<Vec<SortId>, SigError>
+    pub fn add_block(&mut self, kind: Kind, decls: Vec<SortDecl>) -> Result<Vec<Declared>, SigError>
         requires kind { (kind ≡ Kind.Data) ⊎ (kind ≡ Kind.Codata) }
-        ensures ok { IfOk result (λ sorts. (sorts.items ≡ sort_ids (length self.old.sorts) (length decls.items))
-            × (self.new ≡ with_block self.old kind decls.items)) }
+        requires parameters { AreBlockParametersBelow decls.items }
+        ensures ok { IfOk result (λ given. IsWithBlock self.old kind decls.items given.items self.new) }
         ensures accepted { OnOk result ((n : ℕ) → IsBlockRefusal self.old kind decls.items n → ⊥) }
         ensures refused { (n : ℕ) → IsErrOf result (SigError.Refused n) → IsBlockRefusal self.old kind decls.items n }
         ensures unchanged { OnErr result (self.new ≡ self.old) }
     {
         let block = decls.as_slice();
-        let mut own = Numbered::new(self.alloc);
-        admit_block(self.alloc, self, &mut own, block)?;
-        if let Some(number) = self.block_refusal(kind, &own, block)? {
-            return Err(SigError::Refused(number));
-        }
-        self.append_block(kind, &own, block)
-    }
-
-    // The number with which a block whose names may be declared is refused.
-    fn block_refusal(
-        &self,
-        kind: Kind,
-        own: &Numbered<()>,
-        block: &[SortDecl],
-    ) -> Result<Option<u16>, SigError>
-        requires own { names_of own.now ≡ block_names block.now }
-        requires fresh { HasNameTaken self.now block.now → ⊥ }
-        ensures ok { IfOk result (λ refusal. MatchOption refusal (IsAcceptable self.now kind block.now) (IsBlockRefusal self.now kind block.now)) }
-        ensures err { IfErr result (λ e. e ≡ SigError.NoMemory) }
-    {
+        admit_block(self.alloc, self, block)?;
         if has_no_constructor(block) {
-            return Ok(Some(NO_CONSTRUCTOR));
+            return Err(SigError::Refused(NO_CONSTRUCTOR));
         }
-        if has_unknown_sort(own, &self.sorts, block) {
-            return Ok(Some(UNKNOWN_SORT));
-        }
-        if !self.is_founded(kind, own, block)? {
-            return Ok(Some(NOT_FOUNDED));
-        }
-        if !self.has_room(block) {
-            return Ok(Some(TOO_MANY));
-        }
-        Ok(None)
+        let mark = self.mark();
+        declare_block(self.alloc, &mut self.tables, &mark, kind, block)
     }
 
-    // Whether all sorts of the block are well founded.
-    fn is_founded(
-        &self,
-        kind: Kind,
-        own: &Numbered<()>,
-        block: &[SortDecl],
-    ) -> Result<bool, SigError>
-        requires own { names_of own.now ≡ block_names block.now }
-        ensures ok { IfOk result (λ all. MatchBool all ((i : ℕ) → i < length block.now → IsFounded (with_block self.now kind block.now) (length self.now.sorts + i))
-            (HasUnfounded self.now kind block.now)) }
-        ensures err { IfErr result (λ e. e ≡ SigError.NoMemory) }
-    {
-        if let Kind::Data = kind {
-            return are_founded(self.alloc, own, block);
-        }
-        Ok(true)
-    }
-
-    // Whether the block, of either kind, passes no limit.
-    fn has_room(&self, block: &[SortDecl]) -> bool
-        ensures room { (kind : Kind) → MatchBool result (IsOverLimits (with_block self.now kind block.now) → ⊥) (IsOverLimits (with_block self.now kind block.now)) }
-    {
-        if block.len() > MOST_SORTS - self.sorts.len() {
-            return false;
-        }
-        if !fits_ctors(MOST_CTORS - self.ctors.len(), block) {
-            return false;
-        }
-        fits_sels(MOST_SELS - self.sels.len(), block)
-    }
-
-    // Puts the block after the declarations, or leaves them as they were.
-    fn append_block(
-        &mut self,
-        kind: Kind,
-        own: &Numbered<()>,
-        block: &[SortDecl],
-    ) -> Result<Vec<SortId>, SigError>
-        requires kind { (kind ≡ Kind.Data) ⊎ (kind ≡ Kind.Codata) }
-        requires own { names_of own.now ≡ block_names block.now }
-        requires fresh { HasNameTaken self.old block.now → ⊥ }
-        requires acceptable { IsAcceptable self.old kind block.now }
-        ensures ok { IfOk result (λ sorts. (sorts.items ≡ sort_ids (length self.old.sorts) (length block.now))
-            × (self.new ≡ with_block self.old kind block.now)) }
-        ensures err { IfErr result (λ e. e ≡ SigError.NoMemory) }
+    /// Declares a synonym of a sort expression over so many parameters (SMT-LIB 2.7, section 4.2.3, `define-sort`). It is
+    /// refused with 11 where the name is taken or cannot be declared; then with 12 at an unknown name and 22 at a wrong
+    /// number of arguments in the body, by place; and then with 16 where the text of the body is longer than 65,536 bytes or
+    /// where there are 4,096 sorts, generics and synonyms. A refusal changes nothing.
+    pub fn add_synonym(&mut self, name: Name, params: u64, body: SortExpr) -> Result<(), SigError>
+        requires parameters { AreParametersBelow params body }
+        ensures ok { OnOk result (IsWithSynonym self.old name params body self.new) }
+        ensures accepted { OnOk result ((n : ℕ) → IsSynonymRefusal self.old name body n → ⊥) }
+        ensures refused { (n : ℕ) → IsErrOf result (SigError.Refused n) → IsSynonymRefusal self.old name body n }
         ensures unchanged { OnErr result (self.new ≡ self.old) }
     {
-        let ids = sort_ids(self.alloc, self.sorts.len(), block.len())?;
-        grow(
-            self.alloc,
-            &mut self.sorts,
-            &mut self.ctors,
-            &mut self.sels,
-            own,
-            kind,
-            block,
-        )?;
-        Ok(ids)
+        self.refuse_name(&name)?;
+        let mark = self.mark();
+        declare_synonym(self.alloc, &mut self.tables, &mark, &name, params, &body)
+    }
+
+    /// The number of a written sort, which comes into the list with all that it needs where it is not there: its arguments
+    /// before it, and the sorts of its fields after it. It is refused with 12 at an unknown name and 22 at a wrong number of
+    /// arguments, by place, and then with 16 where a sort that would come has a text longer than 65,536 bytes or where there
+    /// would be more sorts, constructors or selectors than there may be. A refusal changes nothing.
+    pub fn instance(&mut self, expr: &SortExpr) -> Result<SortId, SigError>
+        requires closed { AreParametersBelow 0 expr.now }
+        ensures ok { IfOk result (λ s. IsWithInstance self.old expr.now self.new s) }
+        ensures accepted { OnOk result ((n : ℕ) → IsInstanceRefusal self.old expr.now n → ⊥) }
+        ensures refused { (n : ℕ) → IsErrOf result (SigError.Refused n) → IsInstanceRefusal self.old expr.now n }
+        ensures unchanged { OnErr result (self.new ≡ self.old) }
+    {
+        let mark = self.mark();
+        add_instance(self.alloc, &mut self.tables, &mark, expr)
+    }
+
+    /// The number of a written sort that is in the list; none for any other, and where a name in it is unknown or has a wrong
+    /// number of arguments. The only error is `NoMemory`.
+    pub fn find_instance(&self, expr: &SortExpr) -> Result<Option<SortId>, SigError>
+        requires closed { AreParametersBelow 0 expr.now }
+        ensures found { IfOk result (λ found. IfSome found (λ s. (e : Expression) × (resolved self.now.declared expr.now ≡ Ok e) × IsOrigin self.now s e)) }
+        ensures none { IfOk result (λ found. IfNone found ((e : Expression) (s : SortId) → resolved self.now.declared expr.now ≡ Ok e → IsOrigin self.now s e → ⊥)) }
+        ensures err { IfErr result (λ e. e ≡ SigError.NoMemory) }
+    {
+        find_instance(self.alloc, &self.tables, expr)
+    }
+
+    // Refuses a name that cannot be declared as a sort.
+    fn refuse_name(&self, name: &Name) -> Result<(), SigError>
+        ensures ok { OnOk result (IsUnavailableSort (declared_names self.now) name.now → ⊥) }
+        ensures refused { OnErr result (IsUnavailableSort (declared_names self.now) name.now) }
+        ensures code { IfErr result (λ e. e ≡ SigError.Refused name_taken) }
+    {
+        if self.is_unavailable_sort(name) {
+            return Err(SigError::Refused(NAME_TAKEN));
+        }
+        Ok(())
+    }
+
+    // Refuses one sort, generic or synonym more where there are as many as there may be.
+    fn refuse_one_more(&self) -> Result<(), SigError>
+        ensures ok { OnOk result (sort_count self.now < most_sorts) }
+        ensures refused { OnErr result (most_sorts ≤ sort_count self.now) }
+        ensures code { IfErr result (λ e. e ≡ SigError.Refused too_many) }
+    {
+        if sort_count(&self.tables) >= MOST_SORTS {
+            return Err(SigError::Refused(TOO_MANY));
+        }
+        Ok(())
     }
 
     /// Declares a function over sorts of this signature. It is refused with 29 where the name is taken or
@@ -313,236 +310,50 @@ impl Signature {
         ensures lasting { (later : Declarations) → Extends later self.now → CanCut later result }
     {
         Mark {
-            sorts: self.sorts.len() as u32,
-            ctors: self.ctors.len() as u32,
-            sels: self.sels.len() as u32,
+            sorts: self.tables.sorts.len() as u32,
+            ctors: self.tables.ctors.len() as u32,
+            sels: self.tables.sels.len() as u32,
             funs: self.functions.len() as u32,
             defs: self.definitions.len() as u32,
+            heads: self.tables.generics.head_count() as u32,
+            synonyms: self.tables.generics.synonym_count() as u32,
+            symbols: self.tables.symbols.len() as u64,
         }
     }
 
     /// Takes back what was declared after the mark. The mark's lengths are at most the present ones. The
     /// constructors of the sorts that are left are exactly the constructors that are left, and the selectors of
     /// these are exactly the selectors that are left. No field, function or definition that is left has a sort
-    /// that goes. A mark that was made of this signature is such a mark, as long as declarations were only added
-    /// since.
+    /// that goes, and no sort, generic or synonym that is left names one that goes. A mark that was made of this signature is
+    /// such a mark, as long as declarations were only added since.
     pub fn cut_to(&mut self, mark: &Mark)
         requires can_cut { CanCut self.old mark.now }
         ensures cut { self.new ≡ cut self.old mark.now }
     {
-        let sorts = mark.sorts();
-        self.sorts.truncate(sorts as usize);
-        self.ctors.truncate(mark.ctors() as usize);
-        self.sels.truncate(mark.sels() as usize);
+        prove!(mark.sorts() >= 1);
+        cut_tables(&mut self.tables, mark);
         self.functions.truncate(mark.funs() as usize);
         self.definitions.truncate(mark.defs() as usize);
     }
 
-    /// The sort with this name.
-    pub fn sort_named(&self, name: &[u8]) -> Option<SortId>
-        ensures value { MatchOption result (IsListed (sort_names self.now) name.now → ⊥)
-            (λ s. slice_get (sort_names self.now) s.0 ≡ Some name.now) }
-        ensures inside { IfSome result (IsSort self.now) }
-    {
-        if let Some(index) = self.sorts.index_of(name) {
-            return Some(SortId(index as u32));
-        }
-        None
-    }
-
-    /// What the name stands for: `true` and `false` for the constructors 0 and 1, and the other words of the core
-    /// theory for nothing. `None` where the name is not declared.
-    pub fn lookup(&self, name: &[u8]) -> Option<Symbol>
-        ensures value { ResolvesTo self.now name.now result }
-        ensures truths { (n : ℕ) → n < 2 → slice_get core_words n ≡ Some name.now → result ≡ Some (Symbol.Ctor (record { 0 = n })) }
-        ensures words { (n : ℕ) → 2 ≤ n → slice_get core_words n ≡ Some name.now → result ≡ None }
-        ensures inside { IfSome result (IsSymbol self.now) }
-    {
-        prove!(self.sorts() > 0);
-        self.find_symbol(name)
-    }
-
-    // What stands under the name in one of the four maps of symbols.
-    fn find_symbol(&self, name: &[u8]) -> Option<Symbol>
-        ensures value { ResolvesTo self.now name.now result }
-    {
-        if let Some(index) = self.ctors.index_of(name) {
-            return Some(Symbol::Ctor(CtorId(index as u32)));
-        }
-        if let Some(index) = self.sels.index_of(name) {
-            return Some(Symbol::Sel(SelId(index as u32)));
-        }
-        if let Some(index) = self.functions.index_of(name) {
-            return Some(Symbol::Fun(FunId(index as u32)));
-        }
-        if let Some(index) = self.definitions.index_of(name) {
-            return Some(Symbol::Def(DefId(index as u32)));
-        }
-        None
-    }
-
-    /// The number of sorts, at most 4,096.
-    pub fn sorts(&self) -> u32
-        ensures count { result ≡ length self.now.sorts }
-        ensures few { result ≤ most_sorts }
-        ensures has_bool { 1 ≤ result }
-        ensures consistent { IsConsistent self.now }
-    {
-        self.sorts.len() as u32
-    }
-
-    /// The kind of a sort.
-    pub fn kind(&self, s: SortId) -> Kind
-        requires inside { IsSort self.now s }
-        ensures value { option_map (λ s. s.kind) (slice_get self.now.sorts s.0) ≡ Some result }
-    {
-        self.sorts.get(s.0 as usize).kind
-    }
-
-    /// The name of a sort.
-    pub fn sort_name(&self, s: SortId) -> &[u8]
-        requires inside { IsSort self.now s }
-        ensures value { slice_get (sort_names self.now) s.0 ≡ Some result.now }
-    {
-        self.sorts.name(s.0 as usize)
-    }
-
-    /// The constructors of a sort, in order. None for an uninterpreted sort.
-    pub fn ctors(&self, s: SortId) -> &[CtorId]
-        requires inside { IsSort self.now s }
-        ensures value { option_map (λ s. s.ctors) (slice_get self.now.sorts s.0) ≡ Some result.now }
-        ensures ctors { All (IsConstructor self.now) result.now }
-    {
-        self.sorts.get(s.0 as usize).ctors.as_slice()
-    }
-
-    /// The name of a constructor.
-    pub fn ctor_name(&self, c: CtorId) -> &[u8]
-        requires inside { IsConstructor self.now c }
-        ensures value { slice_get (ctor_names self.now) c.0 ≡ Some result.now }
-    {
-        self.ctors.name(c.0 as usize)
-    }
-
-    /// The sort of a constructor.
-    pub fn ctor_sort(&self, c: CtorId) -> SortId
-        requires inside { IsConstructor self.now c }
-        ensures value { option_map (λ c. c.sort) (slice_get self.now.ctors c.0) ≡ Some result }
-        ensures sort { IsSort self.now result }
-    {
-        self.ctors.get(c.0 as usize).sort
-    }
-
-    /// The selectors of a constructor, one a field, in order.
-    pub fn ctor_sels(&self, c: CtorId) -> &[SelId]
-        requires inside { IsConstructor self.now c }
-        ensures value { option_map (λ c. c.sels) (slice_get self.now.ctors c.0) ≡ Some result.now }
-        ensures sels { All (IsSelector self.now) result.now }
-    {
-        self.ctors.get(c.0 as usize).sels.as_slice()
-    }
-
-    /// The name of a selector.
-    pub fn sel_name(&self, s: SelId) -> &[u8]
-        requires inside { IsSelector self.now s }
-        ensures value { slice_get (sel_names self.now) s.0 ≡ Some result.now }
-    {
-        self.sels.name(s.0 as usize)
-    }
-
-    /// The constructor of a selector.
-    pub fn sel_ctor(&self, s: SelId) -> CtorId
-        requires inside { IsSelector self.now s }
-        ensures value { option_map (λ s. s.ctor) (slice_get self.now.sels s.0) ≡ Some result }
-        ensures ctor { IsConstructor self.now result }
-    {
-        self.sels.get(s.0 as usize).ctor
-    }
-
-    /// The place of a selector's field among those of its constructor, from 0 on.
-    pub fn sel_place(&self, s: SelId) -> u32
-        requires inside { IsSelector self.now s }
-        ensures value { option_map (λ s. s.place) (slice_get self.now.sels s.0) ≡ Some result }
-    {
-        self.sels.get(s.0 as usize).place
-    }
-
-    /// The sort of a selector's field.
-    pub fn sel_sort(&self, s: SelId) -> SortId
-        requires inside { IsSelector self.now s }
-        ensures value { option_map (λ s. s.sort) (slice_get self.now.sels s.0) ≡ Some result }
-        ensures sort { IsSort self.now result }
-    {
-        self.sels.get(s.0 as usize).sort
-    }
-
-    /// The number of functions, at most 65,536.
-    pub fn funs(&self) -> u32
-        ensures count { result ≡ length self.now.functions }
-        ensures few { result ≤ most_functions }
-        ensures distinct { AreDistinct (function_names self.now) }
-        ensures available { (f : ℕ) (name : List ℕ) → slice_get (function_names self.now) f ≡ Some name → IsUnavailable [] name → ⊥ }
-        ensures over_sorts { (f : ℕ) (declared : Function) → slice_get self.now.functions f ≡ Some declared → IsOverSorts self.now declared }
-    {
-        self.functions.len() as u32
-    }
-
-    /// The name of a function of this signature.
-    pub fn fun_name(&self, f: FunId) -> &[u8]
-        requires inside { IsFunction self.now f }
-        ensures value { slice_get (function_names self.now) f.0 ≡ Some result.now }
-    {
-        self.functions.name(f.0 as usize)
-    }
-
-    /// The sorts of a function's arguments.
-    pub fn fun_args(&self, f: FunId) -> &[SortId]
-        requires inside { IsFunction self.now f }
-        ensures value { option_map (λ f. f.args) (slice_get self.now.functions f.0) ≡ Some result.now }
-        ensures sorts { All (IsSort self.now) result.now }
-    {
-        self.functions.get(f.0 as usize).args.as_slice()
-    }
-
-    /// The sort of a function's result.
-    pub fn fun_result(&self, f: FunId) -> SortId
-        requires inside { IsFunction self.now f }
-        ensures value { option_map (λ f. f.result) (slice_get self.now.functions f.0) ≡ Some result }
-        ensures sort { IsSort self.now result }
-    {
-        self.functions.get(f.0 as usize).result
-    }
-
-    /// The sorts of a definition's parameters.
-    pub fn def_args(&self, d: DefId) -> &[SortId]
-        requires inside { IsDefinition self.now d }
-        ensures value { option_map (λ d. d.args) (slice_get self.now.definitions d.0) ≡ Some result.now }
-        ensures sorts { All (IsSort self.now) result.now }
-    {
-        self.definitions.get(d.0 as usize).args.as_slice()
-    }
-
-    /// The sort of a definition's body.
-    pub fn def_result(&self, d: DefId) -> SortId
-        requires inside { IsDefinition self.now d }
-        ensures value { option_map (λ d. d.result) (slice_get self.now.definitions d.0) ≡ Some result }
-        ensures sort { IsSort self.now result }
-    {
-        self.definitions.get(d.0 as usize).result
-    }
-
-    // Whether a sort has the name.
+    // Whether a sort, a generic or a synonym has the name.
     fn is_sort(&self, name: &[u8]) -> bool
-        ensures sort { IsTrue result ↔ IsListed (sort_names self.now) name.now }
+        ensures sort { IsTrue result ↔ IsListed (declared_names self.now) name.now }
     {
-        self.sort_named(name).is_some()
+        match self.tables.generics.head_named(name) {
+            Some(_) => true,
+            None => self.tables.generics.synonym_named(name),
+        }
     }
 
     // Whether a symbol has the name.
     fn is_symbol(&self, name: &[u8]) -> bool
         ensures symbol { IsTrue result ↔ IsListed (symbol_names self.now) name.now }
     {
-        self.lookup(name).is_some()
+        let first = self.tables.symbols.has(name);
+        let second = self.functions.has(name);
+        let third = self.definitions.has(name);
+        any_of(first, second, third)
     }
 
     /// Whether the name cannot be declared as a symbol here: a symbol has it, it is a word of the core theory, or it
@@ -561,10 +372,17 @@ impl Signature {
     }
 
     /// Whether the name cannot be declared as a sort here.
-    pub(crate) fn is_unavailable_sort(&self, name: &Name) -> bool
-        ensures unavailable { IsTrue result ↔ IsUnavailableSort (sort_names self.now) name.now }
+    pub fn is_unavailable_sort(&self, name: &Name) -> bool
+        ensures unavailable { IsTrue result ↔ IsUnavailableSort (declared_names self.now) name.now }
     {
         let text = name.as_slice();
         self.is_sort(text) || is_unfit(text)
     }
+}
+
+// Whether one of them holds.
+fn any_of(first: bool, second: bool, third: bool) -> bool
+    ensures value { result ≡ (first || (second || third)) }
+{
+    first || second || third
 }

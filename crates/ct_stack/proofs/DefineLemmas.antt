@@ -1,54 +1,41 @@
 -- What functions and definitions are, step by step, up to the first error.
-use Rattle.std.proofs.Common.{◌≡◌, ◌∙◌, ℕ, Bool, true, false, not, List, [], ◌∷◌, ◌++◌, length, map, Option, Some, Result, Ok, Err, OnOk, refl, sym, ap, subst, inl, inr, arith}
+use Rattle.std.proofs.Common.{◌≡◌, ◌∙◌, ℕ, Bool, true, false, not, List, [], ◌∷◌, ◌++◌, length, map, Option, Some, Result, Ok, Err, OnOk, OnErr, All, refl, sym, ap, subst, inl, inr, arith}
 use Rattle.std.proofs.lemmas.Bool.Decides.{Decides-eqb}
 use Rattle.std.proofs.lemmas.List.{length-map}
+use Rattle.std.proofs.lemmas.List.Elements.{All-nil, All-cons, All-head, All-tail}
 use Rattle.ct_sexpr.specs.Expression.{Expression}
 use Rattle.ct_sorts.specs.declared.ids.SortId.{SortId}
-use Rattle.ct_sorts.specs.Declarations.{Declarations, Function, with_definition}
-use Rattle.ct_sorts.specs.Refusals.{IsFirstCause}
+use Rattle.ct_sorts.specs.Availability.{IsUnavailable}
+use Rattle.ct_sorts.specs.Declarations.{Declarations, Function, IsSort, symbol_names, with_function, with_definition}
+use Rattle.ct_sorts.specs.Grown.{Extends}
+use Rattle.ct_sorts.specs.Refusals.{IsFirstCause, IsNone, symbol_taken, too_many}
 use Rattle.ct_formulas.specs.Formula.{Formula, bind}
 use Rattle.ct_formulas.specs.FormulaSorts.{IsSorted}
-use Rattle.ct_names.specs.Outcome.{Outcome, Sorted, and_then, unless_refused, is_sort}
+use Rattle.ct_names.specs.declared.variables.Param.{Param}
+use Rattle.ct_names.specs.Bounds.{variable_of_param, parameter_variables}
+use Rattle.ct_names.specs.Outcome.{Outcome, Elaborated, Sorted, and_then, unless_halted, is_sort, refused}
+use Rattle.ct_names.specs.Needs.{Grows, ComesTo}
 use Rattle.ct_names.specs.Refusals.{wrong_sort, repeated_variable}
+use Rattle.ct_names.specs.Sorts.{sort_of}
 use Rattle.ct_names.specs.Variables.{Variable, variables, variable_sorts, has_repeated}
-use Rattle.ct_names.specs.Elaboration.{elaborated, sort_of}
+use Rattle.ct_names.specs.Elaboration.{elaborated}
+use Rattle.ct_names.proofs.NeedLemmas.{reaches_grows, grows_further}
 use Rattle.ct_command.specs.Command.{Named}
-use Rattle.ct_command.specs.declared.error.CommandError.{CommandError}
-use Rattle.ct_command.specs.declared.error.CommandError.TheVariants.{Refused, NoMemory}
-use Rattle.ct_stack.specs.Outcomes.{IsErrorOr, Gives, Comes, each_of}
+use Rattle.ct_stack.specs.Outcomes.{GivesNeeding, each_of}
 use Rattle.ct_stack.specs.Elaborations.{declared_function, defined_function, body_of, parameter_names, parameter_sorts}
-use Rattle.ct_names.specs.Answer.{as_it_is}
-use Rattle.ct_check.specs.Trees.{sorted_of}
-use Rattle.ct_stack.specs.Sorts.{sorts_seen, function_seen, definition_seen}
-use Rattle.std.specs.Prelude.{IsErrOf}
-use Rattle.ct_stack.proofs.StepLemmas.{given, refused_step, comes_refused}
-
--- a cause before a step that gives a value
-pub refused_between : {X : Type 0} (o : Outcome X) (x : X) (a : ℕ) (P : Type 0) (later : ℕ → Type 0) → o ≡ Ok x → (n : ℕ) → IsFirstCause a P later n → IsFirstCause a P (IsErrorOr o (λ _. later)) n
-refused_between o x a P later e n (inl h) = inl h
-refused_between {X} o x a P later e n (inr h) = inr (h.0, subst (λ (p : Outcome X). IsErrorOr p (λ _. later) n) (sym e) h.1)
-
-accepted_after : {X : Type 0} (o : Outcome X) (x : X) (a : ℕ) (P : Type 0) (later : ℕ → Type 0) → o ≡ Ok x → ((n : ℕ) → IsFirstCause a P later n → ⊥) → (n : ℕ) → IsFirstCause a P (IsErrorOr o (λ _. later)) n → ⊥
-accepted_after o x a P later e none n (inl h) = none n (inl h)
-accepted_after {X} o x a P later e none n (inr h) = none n (inr (h.0, subst (λ (p : Outcome X). IsErrorOr p (λ _. later) n) e h.1))
-
-pub accepted_between : {X T E : Type 0} (r : Result T E) (o : Outcome X) (x : X) (a : ℕ) (P : Type 0) (later : ℕ → Type 0) → o ≡ Ok x → OnOk r ((n : ℕ) → IsFirstCause a P later n → ⊥) → OnOk r ((n : ℕ) → IsFirstCause a P (IsErrorOr o (λ _. later)) n → ⊥)
-accepted_between (Ok t) o x a P later e none = accepted_after o x a P later e none
-accepted_between (Err f) o x a P later e none = tt
-
--- what holds of the value that a step gives, where a call is accepted
-pub given_ok : {X T E : Type 0} (r : Result T E) (o : Outcome X) (holds : X → Type 0) (x : X) → o ≡ Ok x → OnOk r (holds x) → OnOk r (Gives o holds)
-given_ok (Ok t) o holds x e h = given o holds x e h
-given_ok (Err f) o holds x e h = tt
+use Rattle.ct_stack.specs.Refusal.{IsErrorNeeding}
+use Rattle.ct_stack.specs.Theorems.{AddSame, Theorems}
+use Rattle.ct_stack.proofs.StepLemmas.{later_cause, no_cause}
+use Rattle.ct_stack.proofs.NeededLemmas.{comes_error, comes_same, comes_stop, comes_then, comes_last, comes_no_last, comes_grows, value_there, accepted_needing, value_needing, refused_needing, same_names}
 
 -- as many values as steps
-pub each_long : {X Y : Type 0} (step : X → Outcome Y) (xs : List X) (ys : List Y) → each_of step xs ≡ Ok ys → length ys ≡ length xs
+pub each_long : {X Y E : Type 0} (step : X → Result Y E) (xs : List X) (ys : List Y) → each_of step xs ≡ Ok ys → length ys ≡ length xs
 each_long {X} {Y} step [] ys e =
     let as_it_is : [] ≡ ys = cc in
     sym (ap (λ (zs : List Y). length zs) as_it_is)
-each_long {X} {Y} step (x ∷ xs) ys e = by (step x) (each_of step xs) (each_long step xs) e
+each_long {X} {Y} {E} step (x ∷ xs) ys e = by (step x) (each_of step xs) (each_long step xs) e
   where
-    by : (o : Outcome Y) (p : Outcome (List Y)) → ((zs : List Y) → p ≡ Ok zs → length zs ≡ length xs) → and_then o (λ y. and_then p (λ ys. Ok (y ∷ ys))) ≡ Ok ys → length ys ≡ length (x ∷ xs)
+    by : (o : Result Y E) (p : Result (List Y) E) → ((zs : List Y) → p ≡ Ok zs → length zs ≡ length xs) → and_then o (λ y. and_then p (λ ys. Ok (y ∷ ys))) ≡ Ok ys → length ys ≡ length (x ∷ xs)
     by (Err n) p rest e = absurd cc
     by (Ok y) (Err n) rest e = absurd cc
     by (Ok y) (Ok zs) rest e =
@@ -65,65 +52,50 @@ sorts_of_variables [] (s ∷ sorts) e = absurd (omega arith)
 sorts_of_variables (name ∷ names) [] e = absurd (omega arith)
 sorts_of_variables (name ∷ names) (s ∷ sorts) e = ap (λ (ss : List SortId). s ∷ ss) (sorts_of_variables names sorts (omega arith))
 
-module _ (d : Declarations) (name : List ℕ) where
-  abbrev pub function : List SortId → SortId → Function
-  function args result = record { name = name; args = args; result = result }
+-- the sorts of parameters, as those of the variables that they are
+pub parameter_sorts_are : (params : List Param) → variable_sorts (parameter_variables params) ≡ bind (map (λ (p : Param). p.sort) params) []
+parameter_sorts_are params = map_bind (λ (v : Variable). v.sort) (map variable_of_param params) [] ∙ ap (λ (ss : List SortId). bind ss []) (fused params)
+  where
+    fused : (ps : List Param) → map (λ (v : Variable). v.sort) (map variable_of_param ps) ≡ map (λ (p : Param). p.sort) ps
+    fused [] = refl
+    fused (p ∷ ps) = ap (λ (ss : List SortId). p.sort ∷ ss) (fused ps)
 
-  module _ (ts : List Expression) (sort : Expression) where
-    pub args_error : (n : ℕ) → each_of (sort_of d) ts ≡ Err n → declared_function d name ts sort ≡ Err n
-    args_error n e = ap (λ (o : Outcome (List SortId)). and_then o (λ sorts. and_then (sort_of d sort) (λ result. Ok (function sorts result)))) e
+-- parameters have the sorts that variables of their names have
+pub params_inside : (d : Declarations) (params : List Param) (names : List (Option (List ℕ))) (sorts : List SortId) → map variable_of_param params ≡ variables names sorts → All (IsSort d) sorts → All (λ (p : Param). IsSort d p.sort) params
+params_inside d [] names sorts e all = All-nil (λ (p : Param). IsSort d p.sort)
+params_inside d (p ∷ ps) [] sorts e all = absurd cc
+params_inside d (p ∷ ps) (n ∷ ns) [] e all = absurd cc
+params_inside d (p ∷ ps) (n ∷ ns) (s ∷ ss) e all =
+    let first : variable_of_param p ≡ record { name = n; sort = s } = cc in
+    let rest : map variable_of_param ps ≡ variables ns ss = cc in
+    All-cons (λ (q : Param). IsSort d q.sort) p ps (subst (IsSort d) (sym (ap (λ (v : Variable). v.sort) first)) (All-head (IsSort d) s ss all)) (params_inside d ps ns ss rest (All-tail (IsSort d) s ss all))
 
-    pub sort_error : (args : List SortId) (n : ℕ) → each_of (sort_of d) ts ≡ Ok args → sort_of d sort ≡ Err n → declared_function d name ts sort ≡ Err n
-    sort_error args n e f =
-        ap (λ (o : Outcome (List SortId)). and_then o (λ sorts. and_then (sort_of d sort) (λ result. Ok (function sorts result)))) e
-        ∙ ap (λ (o : Outcome SortId). and_then o (λ result. Ok (function args result))) f
+abbrev pub function : List ℕ → List SortId → SortId → Function
+function name args result = record { name = name; args = args; result = result }
 
-    pub both_sorts : (args : List SortId) (result : SortId) → each_of (sort_of d) ts ≡ Ok args → sort_of d sort ≡ Ok result → declared_function d name ts sort ≡ Ok (function args result)
-    both_sorts args result e f =
-        ap (λ (o : Outcome (List SortId)). and_then o (λ sorts. and_then (sort_of d sort) (λ result. Ok (function sorts result)))) e
-        ∙ ap (λ (o : Outcome SortId). and_then o (λ result. Ok (function args result))) f
+-- the steps of a function
+module _ (name : List ℕ) (ts : List Expression) (sort : Expression) (old : Declarations) where
+  abbrev args_in : Declarations → Elaborated (List SortId)
+  args_in d = each_of (sort_of d) ts
 
-  module _ (params : List Named) (sort t : Expression) where
-    abbrev pub names : List (Option (List ℕ))
-    names = map (λ name. Some name) (parameter_names params)
+  abbrev with_args : Declarations → List SortId → Elaborated Function
+  with_args d sorts = and_then (sort_of d sort) (λ result. Ok (function name sorts result))
 
-    abbrev pub with_body : Function → Outcome (Function × Formula)
-    with_body f = and_then (body_of d (parameter_names params) f t) (λ body. Ok (f, body))
+  pub no_args : (later : Declarations) (n : ℕ) → ComesTo args_in old later (Err n) → ComesTo (λ d. declared_function d name ts sort) old later (Err n)
+  no_args later n h = comes_stop args_in with_args old later n h
 
-    pub repeated : has_repeated (parameter_names params) ≡ true → defined_function d name params sort t ≡ Err repeated_variable
-    repeated e = ap (λ (b : Bool). unless_refused (not b) repeated_variable (and_then (declared_function d name (parameter_sorts params) sort) with_body)) e
+  module _ (middle : Declarations) (args : List SortId) (first : ComesTo args_in old middle (Ok args)) (lasts : (n : Declarations) → Grows n middle → args_in n ≡ Ok args) where
+    pub no_sort : (later : Declarations) (n : ℕ) → ComesTo (λ d. sort_of d sort) middle later (Err n) → ComesTo (λ d. declared_function d name ts sort) old later (Err n)
+    no_sort later n h = comes_then args_in with_args old middle later args (Err n) first lasts (comes_stop (λ d. sort_of d sort) (λ _ result. Ok (function name args result)) middle later n h)
 
-    module _ (unrepeated : has_repeated (parameter_names params) ≡ false) where
-      on : defined_function d name params sort t ≡ and_then (declared_function d name (parameter_sorts params) sort) with_body
-      on = ap (λ (b : Bool). unless_refused (not b) repeated_variable (and_then (declared_function d name (parameter_sorts params) sort) with_body)) unrepeated
+    module _ (later : Declarations) (result : SortId) (second : ComesTo (λ d. sort_of d sort) middle later (Ok result)) where
+      pub both_sorts : ComesTo (λ d. declared_function d name ts sort) old later (Ok (function name args result))
+      both_sorts = comes_then args_in with_args old middle later args (Ok (function name args result)) first lasts (comes_last (λ d. sort_of d sort) (λ _ result. Ok (function name args result)) middle later result second (function name args result) refl)
 
-      pub no_function : (n : ℕ) → declared_function d name (parameter_sorts params) sort ≡ Err n → defined_function d name params sort t ≡ Err n
-      no_function n e = on ∙ ap (λ (o : Outcome Function). and_then o with_body) e
-
-      module _ (args : List SortId) (result : SortId) (sorts : each_of (sort_of d) (parameter_sorts params) ≡ Ok args) (own : sort_of d sort ≡ Ok result) where
-        abbrev pub checked : Outcome Sorted → Outcome (Function × Formula)
-        checked o = and_then (and_then o (λ body. unless_refused (is_sort body.1 result) wrong_sort (Ok body.0))) (λ body. Ok (function args result, body))
-
-        on_body : defined_function d name params sort t ≡ checked (elaborated d (bind (variables names args) []) t)
-        on_body = on ∙ ap (λ (o : Outcome Function). and_then o with_body) (both_sorts (parameter_sorts params) sort args result sorts own)
-
-        pub no_term : (n : ℕ) → elaborated d (bind (variables names args) []) t ≡ Err n → defined_function d name params sort t ≡ Err n
-        no_term n e = on_body ∙ ap checked e
-
-        pub other_sort : (body : Formula) (found : SortId) → elaborated d (bind (variables names args) []) t ≡ Ok (body, found) → is_sort found result ≡ false → defined_function d name params sort t ≡ Err wrong_sort
-        other_sort body found e differs =
-            on_body ∙ ap checked e ∙ ap (λ (b : Bool). and_then (unless_refused b wrong_sort (Ok body)) (λ body. Ok (function args result, body))) differs
-
-        pub defined : (body : Formula) (found : SortId) → elaborated d (bind (variables names args) []) t ≡ Ok (body, found) → is_sort found result ≡ true → defined_function d name params sort t ≡ Ok (function args result, body)
-        defined body found e as_it_is =
-            on_body ∙ ap checked e ∙ ap (λ (b : Bool). and_then (unless_refused b wrong_sort (Ok body)) (λ body. Ok (function args result, body))) as_it_is
-
-        -- the sorts under which the body is elaborated
-        pub body_sorts : variable_sorts (bind (variables names args) []) ≡ bind args []
-        body_sorts =
-            map_bind (λ (v : Variable). v.sort) (variables names args) []
-            ∙ ap (λ (ss : List SortId). bind ss [])
-            (sorts_of_variables names args (each_long (sort_of d) (parameter_sorts params) args sorts ∙ length-map params (λ (p : Named). p.sort) ∙ sym (length-map params (λ (p : Named). p.name)) ∙ sym (length-map (parameter_names params) (λ (name : List ℕ). Some name))))
+      pub both_last : ((n : Declarations) → Grows n later → sort_of n sort ≡ Ok result) → (n : Declarations) → Grows n later → declared_function n name ts sort ≡ Ok (function name args result)
+      both_last also n grows =
+          let further = grows_further n later middle grows (comes_grows (λ d. sort_of d sort) middle later (Ok result) second) in
+          ap (λ o. and_then o (with_args n)) (lasts n further) ∙ ap (λ o. and_then o (λ result. Ok (function name args result))) (also n grows)
 
 abbrev pub id : ℕ → SortId
 id n = record { 0 = n }
@@ -134,51 +106,101 @@ same_sort s t e =
     let as_it_is : s.0 ≡ t.0 = (Decides-eqb s.0 t.0).0 e in
     ap id as_it_is
 
--- what calls say of the steps of a function
-module _ (d : Declarations) (name : List ℕ) (ts : List Expression) (sort : Expression) where
-  pub comes_no_args : (e : CommandError) → Comes sorts_seen (each_of (sort_of d) ts) (Err e) → Comes (function_seen name) (declared_function d name ts sort) (Err e)
-  comes_no_args (Refused n) h = args_error d name ts sort n h
-  comes_no_args NoMemory h = tt
+-- the steps of a definition
+module _ (name : List ℕ) (params : List Named) (sort t : Expression) (old : Declarations) where
+  abbrev names : List (Option (List ℕ))
+  names = map (λ name. Some name) (parameter_names params)
 
-  pub comes_no_sort : (args : List SortId) → each_of (sort_of d) ts ≡ Ok args → (e : CommandError) → Comes (as_it_is {X = SortId}) (sort_of d sort) (Err e) → Comes (function_seen name) (declared_function d name ts sort) (Err e)
-  comes_no_sort args sorts (Refused n) h = sort_error d name ts sort args n sorts h
-  comes_no_sort args sorts NoMemory h = tt
+  abbrev definition_in : Declarations → Elaborated (Function × Formula)
+  definition_in d = defined_function d name params sort t
 
--- and of a definition
-module _ (d : Declarations) (name : List ℕ) (params : List Named) (sort t : Expression) (unrepeated : has_repeated (parameter_names params) ≡ false) where
-  pub definition_no_args : (e : CommandError) → Comes sorts_seen (each_of (sort_of d) (parameter_sorts params)) (Err e) → Comes (definition_seen name) (defined_function d name params sort t) (Err e)
-  definition_no_args (Refused n) h = no_function d name params sort t unrepeated n (args_error d name (parameter_sorts params) sort n h)
-  definition_no_args NoMemory h = tt
+  abbrev function_in : Declarations → Elaborated Function
+  function_in d = declared_function d name (parameter_sorts params) sort
 
-  module _ (args : List SortId) (sorts : each_of (sort_of d) (parameter_sorts params) ≡ Ok args) where
-    pub definition_no_sort : (e : CommandError) → Comes (as_it_is {X = SortId}) (sort_of d sort) (Err e) → Comes (definition_seen name) (defined_function d name params sort t) (Err e)
-    definition_no_sort (Refused n) h = no_function d name params sort t unrepeated n (sort_error d name (parameter_sorts params) sort args n sorts h)
-    definition_no_sort NoMemory h = tt
+  abbrev with_body : Declarations → Function → Elaborated (Function × Formula)
+  with_body d f = and_then (body_of d (parameter_names params) f t) (λ body. Ok (f, body))
 
-    module _ (result : SortId) (own : sort_of d sort ≡ Ok result) (scope : List Variable) (is : scope ≡ bind (variables (map (λ name. Some name) (parameter_names params)) args) []) where
-      pub definition_no_term : (e : CommandError) → Comes sorted_of (elaborated d scope t) (Err e) → Comes (definition_seen name) (defined_function d name params sort t) (Err e)
-      definition_no_term (Refused n) h = no_term d name params sort t unrepeated args result sorts own n (ap (λ (vs : List Variable). elaborated d vs t) (sym is) ∙ h)
-      definition_no_term NoMemory h = tt
+  pub repeated : has_repeated (parameter_names params) ≡ true → ComesTo definition_in old old (Err repeated_variable)
+  repeated e = comes_error definition_in old repeated_variable (ap (λ (b : Bool). unless_halted (not b) repeated_variable (and_then (function_in old) (with_body old))) e)
 
-      pub definition_other_sort : (body : Formula) (found : SortId) → elaborated d scope t ≡ Ok (body, found) → is_sort found result ≡ false → defined_function d name params sort t ≡ Err wrong_sort
-      definition_other_sort body found e = other_sort d name params sort t unrepeated args result sorts own body found (ap (λ (vs : List Variable). elaborated d vs t) (sym is) ∙ e)
+  module _ (unrepeated : has_repeated (parameter_names params) ≡ false) where
+    on : (d : Declarations) → definition_in d ≡ and_then (function_in d) (with_body d)
+    on d = ap (λ (b : Bool). unless_halted (not b) repeated_variable (and_then (function_in d) (with_body d))) unrepeated
 
-      pub definition_of : (body : Formula) (found : SortId) → elaborated d scope t ≡ Ok (body, found) → is_sort found result ≡ true → defined_function d name params sort t ≡ Ok (function d name args result, body)
-      definition_of body found e = defined d name params sort t unrepeated args result sorts own body found (ap (λ (vs : List Variable). elaborated d vs t) (sym is) ∙ e)
+    pub no_function : (later : Declarations) (n : ℕ) → ComesTo function_in old later (Err n) → ComesTo definition_in old later (Err n)
+    no_function later n h = comes_same (λ d. and_then (function_in d) (with_body d)) definition_in old later (Err n) on (comes_stop function_in with_body old later n h)
 
-      pub definition_sorted : (body : Formula) (found : SortId) → IsSorted d (variable_sorts scope) body found → is_sort found result ≡ true → IsSorted d (bind args []) body result
-      definition_sorted body found h e =
-          subst (λ (s : SortId). IsSorted d (bind args []) body s) (same_sort found result e)
-          (subst (λ (ss : List SortId). IsSorted d ss body found) (ap variable_sorts is ∙ body_sorts d name params sort t unrepeated args result sorts own) h)
+    module _ (middle : Declarations) (f : Function) (first : ComesTo function_in old middle (Ok f)) (lasts : (n : Declarations) → Grows n middle → function_in n ≡ Ok f) (scope : List Variable) (is : bind (variables names f.args) [] ≡ scope) where
+      abbrev term_in : Declarations → Elaborated Sorted
+      term_in d = elaborated d scope t
 
--- an error of the step after a first cause that does not apply
-pub refused_by : {X Y T : Type 0} (seen : X → Y) (o : Outcome Y) (later : Y → ℕ → Type 0) (a : ℕ) (P : Type 0) (e : CommandError) → (P → ⊥) → Comes seen o (Err e) → (n : ℕ) → IsErrOf {T = T} {E = CommandError} (Err e) (Refused n) → IsFirstCause a P (IsErrorOr o later) n
-refused_by seen o later a P e none h n is =
-    let as_it_is : e ≡ Refused n = cc in
-    inr (none, refused_step o later n (comes_refused seen o e n h as_it_is))
+      abbrev checked : Declarations → Sorted → Elaborated Formula
+      checked d body = unless_halted (is_sort body.1 f.result) wrong_sort (Ok body.0)
 
--- what a definition that is added gives
-pub defined_ok : {T E : Type 0} (r : Result T E) (o : Outcome (Function × Formula)) (x : Function × Formula) (earlier later : Declarations) (before now : List Formula) → o ≡ Ok x → OnOk r ((later ≡ with_definition earlier x.0) × (now ≡ before ++ x.1 ∷ [])) → IsSorted earlier (bind x.0.args []) x.1 x.0.result → OnOk r (Gives o (λ f. (later ≡ with_definition earlier f.0) × (now ≡ before ++ f.1 ∷ []) × IsSorted earlier (bind f.0.args []) f.1 f.0.result))
-defined_ok (Ok t) o x earlier later before now e h s =
-    given o (λ f. (later ≡ with_definition earlier f.0) × (now ≡ before ++ f.1 ∷ []) × IsSorted earlier (bind f.0.args []) f.1 f.0.result) x e (h.0, h.1, s)
-defined_ok (Err f) o x earlier later before now e h s = tt
+      abbrev body_in : Declarations → Elaborated Formula
+      body_in d = body_of d (parameter_names params) f t
+
+      body_is : (d : Declarations) → body_in d ≡ and_then (term_in d) (checked d)
+      body_is d = ap (λ (vs : List Variable). and_then (elaborated d vs t) (checked d)) is
+
+      with_f : (later : Declarations) (o : Outcome (Function × Formula)) → ComesTo (λ d. with_body d f) middle later o → ComesTo definition_in old later o
+      with_f later o h = comes_same (λ d. and_then (function_in d) (with_body d)) definition_in old later o on (comes_then function_in with_body old middle later f o first lasts h)
+
+      stops : (later : Declarations) (n : ℕ) → ComesTo (λ d. and_then (term_in d) (checked d)) middle later (Err n) → ComesTo definition_in old later (Err n)
+      stops later n h = with_f later (Err n) (comes_stop body_in (λ _ body. Ok (f, body)) middle later n (comes_same (λ d. and_then (term_in d) (checked d)) body_in middle later (Err n) body_is h))
+
+      pub no_term : (later : Declarations) (n : ℕ) → ComesTo term_in middle later (Err n) → ComesTo definition_in old later (Err n)
+      no_term later n h = stops later n (comes_stop term_in checked middle later n h)
+
+      module _ (later : Declarations) (body : Formula) (found : SortId) (second : ComesTo term_in middle later (Ok (body, found))) where
+        pub other_sort : is_sort found f.result ≡ false → ComesTo definition_in old later (Err wrong_sort)
+        other_sort differs = stops later wrong_sort (comes_no_last term_in checked middle later (body, found) second wrong_sort (ap (λ (b : Bool). unless_halted b wrong_sort (Ok body)) differs))
+
+        pub defined : is_sort found f.result ≡ true → ComesTo definition_in old later (Ok (f, body))
+        defined as_it_is =
+            with_f later (Ok (f, body))
+            (comes_last body_in (λ _ body. Ok (f, body)) middle later body
+            (comes_same (λ d. and_then (term_in d) (checked d)) body_in middle later (Ok body) body_is
+            (comes_last term_in checked middle later (body, found) second body (ap (λ (b : Bool). unless_halted b wrong_sort (Ok body)) as_it_is)))
+            (f, body) refl)
+
+        -- the sorts under which the body is elaborated
+        pub body_sorted : each_of (sort_of middle) (parameter_sorts params) ≡ Ok f.args → IsSorted later (variable_sorts scope) body found → is_sort found f.result ≡ true → IsSorted later (bind f.args []) body f.result
+        body_sorted sorts h e =
+            let sorts_are : variable_sorts scope ≡ bind f.args [] =
+            ap variable_sorts (sym is)
+            ∙ map_bind (λ (v : Variable). v.sort) (variables names f.args) []
+            ∙ ap (λ (ss : List SortId). bind ss [])
+            (sorts_of_variables names f.args (each_long (sort_of middle) (parameter_sorts params) f.args sorts ∙ length-map params (λ (p : Named). p.sort) ∙ sym (length-map params (λ (p : Named). p.name)) ∙ sym (length-map (parameter_names params) (λ (name : List ℕ). Some name))))
+            in
+            subst (λ (s : SortId). IsSorted later (bind f.args []) body s) (same_sort found f.result e)
+            (subst (λ (ss : List SortId). IsSorted later ss body found) sorts_are h)
+
+-- what is added after its sorts: a function, or a definition
+module _ {X : Type 0} (add_same : AddSame) (f : Declarations → Elaborated X) (d : Declarations) (name own : List ℕ) (own_is : own ≡ name) (available : IsUnavailable (symbol_names d) name → ⊥) (is_full : Declarations → Type 0) where
+  abbrev Full : Declarations → X → ℕ → Type 0
+  Full later x = IsFirstCause too_many (is_full later) IsNone
+
+  pub step_refused : (later : Declarations) (n : ℕ) → ComesTo f d later (Err n) → IsFirstCause symbol_taken (IsUnavailable (symbol_names d) name) (IsErrorNeeding f d Full) n
+  step_refused later n h = inr (available, refused_needing f d Full later n h)
+
+  module _ (later : Declarations) (x : X) (h : ComesTo f d later (Ok x)) where
+    available_later : IsUnavailable (symbol_names later) own → ⊥
+    available_later taken = available (subst (λ (n : List ℕ). IsUnavailable (symbol_names d) n) own_is (subst (λ (ns : List (List ℕ)). IsUnavailable ns own) (same_names f d later (Ok x) h) taken))
+
+    pub added_refused : (n : ℕ) → IsFirstCause symbol_taken (IsUnavailable (symbol_names later) own) (IsFirstCause too_many (is_full later) IsNone) n → IsFirstCause symbol_taken (IsUnavailable (symbol_names d) name) (IsErrorNeeding f d Full) n
+    added_refused n is = inr (available, value_needing f d Full later x n h (later_cause symbol_taken (IsUnavailable (symbol_names later) own) (IsFirstCause too_many (is_full later) IsNone) n available_later is))
+
+    pub added_accepted : {T E : Type 0} (r : Result T E) → OnOk r ((n : ℕ) → IsFirstCause symbol_taken (IsUnavailable (symbol_names later) own) (IsFirstCause too_many (is_full later) IsNone) n → ⊥) → OnOk r ((n : ℕ) → IsFirstCause symbol_taken (IsUnavailable (symbol_names d) name) (IsErrorNeeding f d Full) n → ⊥)
+    added_accepted (Ok t) none = no_cause symbol_taken (IsUnavailable (symbol_names d) name) (IsErrorNeeding f d Full) available (accepted_needing add_same f d Full later x h (λ n is. none n (inr (available_later, is))))
+    added_accepted (Err e) none = tt
+
+    -- what holds of it
+    pub added_ok : {T E : Type 0} (holds : Declarations → X → Type 0) (r : Result T E) → OnOk r (holds later x) → OnOk r (GivesNeeding f d holds)
+    added_ok holds (Ok t) is = (later, x, h, is)
+    added_ok holds (Err e) is = tt
+
+-- more is declared once it was added, or it was not
+pub grown_after : {T E : Type 0} (r : Result T E) (theorems : Theorems) (new later old grown : Declarations) → OnOk r (new ≡ grown) → OnErr r (new ≡ later) → Extends grown later → Extends later old → Extends new old
+grown_after (Ok x) theorems new later old grown ok err more before = subst (λ (d : Declarations). Extends d old) (sym ok) (theorems.further grown later old more before)
+grown_after (Err e) theorems new later old grown ok err more before = subst (λ (d : Declarations). Extends d old) (sym err) before

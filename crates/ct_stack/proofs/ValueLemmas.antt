@@ -1,5 +1,5 @@
 -- Values of terms: what is asked, the numbers of core terms, and the nodes that stand for values.
-use Rattle.std.proofs.Common.{◌≡◌, ◌∙◌, ℕ, suc, ◌+◌, ◌<◌, ◌≤◌, List, [], ◌∷◌, ◌++◌, length, map, take, All, Contains, Some, slice_get, Ok, Err, refl, sym, ap, subst, inl, inr, arith}
+use Rattle.std.proofs.Common.{◌≡◌, ◌∙◌, ℕ, suc, ◌+◌, ◌<◌, ◌≤◌, List, [], ◌∷◌, ◌++◌, length, map, take, All, Contains, Some, slice_get, Result, Ok, Err, refl, sym, ap, subst, inl, inr, arith}
 use Rattle.std.specs.List.{AllZip, range_with_len}
 use Rattle.std.proofs.lemmas.List.{append_assoc, append-nil, length-append}
 use Rattle.std.proofs.lemmas.List.Elements.{All-head, All-tail, All-nil, All-cons, Contains-append_cases, Contains-append_left, Contains-append_right}
@@ -22,9 +22,11 @@ use Rattle.ct_formulas.specs.TreeFormula.{formula_of}
 use Rattle.ct_formulas.specs.Compiled.{core_of}
 use Rattle.ct_closure.specs.Closed.{truth_trees}
 use Rattle.ct_compile.specs.Effect.{Stands, AllStand, IsPrefix}
-use Rattle.ct_names.specs.Outcome.{Outcome, Sorted, and_then}
+use Rattle.ct_names.specs.Outcome.{Outcome, Elaborated, refused, missing, Sorted, and_then}
 use Rattle.ct_check.specs.Trees.{sorted_trees}
 use Rattle.ct_names.specs.Elaboration.{elaborated}
+use Rattle.ct_names.specs.Needs.{ends_with}
+use Rattle.ct_names.specs.Refusals.{out_of_scope}
 use Rattle.ct_command.specs.Seen.{all_seen}
 use Rattle.ct_values.specs.declared.node.NodeId.{NodeId}
 use Rattle.ct_values.specs.Graph.{Nodes}
@@ -52,18 +54,24 @@ use Rattle.ct_stack.specs.Held.{IsTableOf}
 use Rattle.ct_stack.specs.Sorts.{AreSortedTerms, HasSomeSort}
 use Rattle.ct_stack.specs.Values.{IsValuePair, IsPairOf, ArePairs}
 
+-- what ends with a value is there
+pub there : {X : Type 0} (number : ℕ) (o : Elaborated X) (x : X) → ends_with number o ≡ Ok x → o ≡ Ok x
+there number (Ok y) x e = let same : y ≡ x = cc in ap (λ z. Ok z) same
+there number (Err (refused n)) x e = absurd cc
+there number (Err (missing m)) x e = absurd cc
+
 -- steps that gave a list gave its first element, and the rest
-taken : {Y : Type 0} (first : Outcome Y) (rest : Outcome (List Y)) (z : Y) (zs : List Y) → and_then first (λ y. and_then rest (λ ys. Ok (y ∷ ys))) ≡ Ok (z ∷ zs) → (first ≡ Ok z) × (rest ≡ Ok zs)
+taken : {Y E : Type 0} (first : Result Y E) (rest : Result (List Y) E) (z : Y) (zs : List Y) → and_then first (λ y. and_then rest (λ ys. Ok (y ∷ ys))) ≡ Ok (z ∷ zs) → (first ≡ Ok z) × (rest ≡ Ok zs)
 taken (Ok y) (Ok ys) z zs e = (cc, cc)
 taken (Ok y) (Err n) z zs e = absurd cc
 taken (Err n) rest z zs e = absurd cc
 
-not_none : {Y : Type 0} (first : Outcome Y) (rest : Outcome (List Y)) → and_then first (λ y. and_then rest (λ ys. Ok (y ∷ ys))) ≡ Ok [] → ⊥
+not_none : {Y E : Type 0} (first : Result Y E) (rest : Result (List Y) E) → and_then first (λ y. and_then rest (λ ys. Ok (y ∷ ys))) ≡ Ok [] → ⊥
 not_none (Ok y) (Ok ys) e = cc
 not_none (Ok y) (Err n) e = cc
 not_none (Err n) rest e = cc
 
-module _ {X Y : Type 0} (step : X → Outcome Y) where
+module _ {X Y E : Type 0} (step : X → Result Y E) where
   pub each_of-cons : (x : X) (xs : List X) (z : Y) (zs : List Y) → each_of step (x ∷ xs) ≡ Ok (z ∷ zs) → (step x ≡ Ok z) × (each_of step xs ≡ Ok zs)
   each_of-cons x xs z zs e = taken (step x) (each_of step xs) z zs e
 
@@ -124,7 +132,7 @@ values_of_terms c i (x ∷ exprs) (t ∷ trees) sorts [] e h = absurd h
 values_of_terms c i (x ∷ exprs) (t ∷ trees) [] (p ∷ pairs) e h = absurd (not_none (elaborated c.declarations [] (expression_of x)) (each_of (elaborated c.declarations []) (all_seen exprs)) e)
 values_of_terms c i (x ∷ exprs) (t ∷ trees) (s ∷ sorts) (p ∷ pairs) e h =
     let parts = each_of-cons (elaborated c.declarations []) (expression_of x) (all_seen exprs) (formula_of t, s) (sorted_trees trees sorts) e in
-    (record { term = (formula_of t, s); means = parts.0; value = h.0.value; value_is = h.0.value_is; text_is = h.0.text_is }, values_of_terms c i exprs trees sorts pairs parts.1 h.1)
+    (record { term = (formula_of t, s); means = ap (ends_with out_of_scope) parts.0; value = h.0.value; value_is = h.0.value_is; text_is = h.0.text_is }, values_of_terms c i exprs trees sorts pairs parts.1 h.1)
 
 -- more roots have no fewer terms
 pub many_more : (xs ys : List CoreTree) → ((t : CoreTree) → Contains xs t → Contains ys t) → HasManyTerms xs → HasManyTerms ys
@@ -325,19 +333,19 @@ TooMany c roots terms = IsFirstCause too_many_terms (HasManyTerms (roots ++ core
 
 module _ (c : Context) (roots : List CoreTree) (ts : List Expression) where
   -- a term is refused
-  pub terms_refused : (n : ℕ) → each_of (elaborated c.declarations []) ts ≡ Err n → IsTermsRefusal c roots ts n
+  pub terms_refused : (n : ℕ) → ends_with out_of_scope (each_of (elaborated c.declarations []) ts) ≡ Err n → IsTermsRefusal c roots ts n
   terms_refused n e = subst (λ (o : Outcome (List Sorted)). IsErrorOr o (TooMany c roots) n) (sym e) refl
 
   module _ (trees : List Tree) (sorts : List SortId) (long : length trees ≡ length sorts) (e : each_of (elaborated c.declarations []) ts ≡ Ok (sorted_trees trees sorts)) where
     -- there are too many
     pub terms_too_many : (n : ℕ) → n ≡ too_many_terms → HasManyTerms (roots ++ cores c (map formula_of trees)) → IsTermsRefusal c roots ts n
     terms_too_many n is many =
-        subst (λ (o : Outcome (List Sorted)). IsErrorOr o (TooMany c roots) n) (sym e)
+        subst (λ (o : Outcome (List Sorted)). IsErrorOr o (TooMany c roots) n) (sym (ap (ends_with out_of_scope) e))
         (inl (is, subst (λ (fs : List Formula). HasManyTerms (roots ++ cores c fs)) (sym (formulas-sorted trees sorts long)) many))
 
     -- there are not
     pub terms_accepted : (HasManyTerms (roots ++ cores c (map formula_of trees)) → ⊥) → (n : ℕ) → IsTermsRefusal c roots ts n → ⊥
-    terms_accepted few n refusal = by (subst (λ (o : Outcome (List Sorted)). IsErrorOr o (TooMany c roots) n) e refusal)
+    terms_accepted few n refusal = by (subst (λ (o : Outcome (List Sorted)). IsErrorOr o (TooMany c roots) n) (ap (ends_with out_of_scope) e) refusal)
       where
         by : TooMany c roots (sorted_trees trees sorts) n → ⊥
         by (inl first) = few (subst (λ (fs : List Formula). HasManyTerms (roots ++ cores c fs)) (formulas-sorted trees sorts long) first.1)

@@ -1,9 +1,11 @@
 -- How the assertion stack holds what is declared, defined and asserted.
-use Rattle.std.specs.Prelude.{◌≡◌, ◌<◌, List, [], ◌++◌, map, length, All, Contains}
-use Rattle.ct_sorts.specs.Declarations.{Declarations, bool_sort}
+use Rattle.std.specs.Prelude.{◌≡◌, ◌<◌, List, [], ◌∷◌, ◌++◌, map, length, All, Contains}
+use Rattle.ct_sorts.specs.Consistent.{IsConsistent}
+use Rattle.ct_sorts.specs.Declarations.{Declarations, Function, bool_sort, with_definition}
 use Rattle.ct_terms.specs.declared.ids.TermId.{TermId}
 use Rattle.ct_formulas.specs.declared.tree.Tree.{Tree}
 use Rattle.ct_terms.specs.Terms.{Terms, AreSorted, IsBoolean}
+use Rattle.ct_formulas.specs.Formula.{Formula, bind}
 use Rattle.ct_formulas.specs.FormulaSorts.{IsSorted, AreSound}
 use Rattle.ct_formulas.specs.TreeFormula.{formula_of}
 use Rattle.ct_terms.specs.CoreTree.{CoreTree, subtrees, term_at}
@@ -49,3 +51,16 @@ pub record AreInTable (level : Level) (table : Terms) (numbers : List TermId) : 
 pub record IsHeld (level : Level) (table : Terms) (numbers : List TermId) : Type 0 where
   pub sound : IsSoundLevel level
   pub in_table : AreInTable level table numbers
+
+-- the definition was added with its body, over consistent declarations
+pub record IsDefined (before later : Declarations) (bodies bodies_now : List Formula) (f : Function × Formula) : Type 0 where
+  pub declared : later ≡ with_definition before f.0
+  pub bodies_are : bodies_now ≡ bodies ++ f.1 ∷ []
+  pub sorted : IsSorted before (bind f.0.args []) f.1 f.0.result
+  pub consistent : IsConsistent before
+
+-- the assertion of this formula was added
+pub record IsWithOne (before now : List Tree) (formula : Formula) : Type 0 where
+  pub tree : Tree
+  pub added : now ≡ before ++ tree ∷ []
+  pub formula_is : formula_of tree ≡ formula

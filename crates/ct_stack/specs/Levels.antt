@@ -43,3 +43,7 @@ left_emptied global = if global then None else Some (lengths start)
 pub record IsCutTo (d : Declarations) (m : Lengths) (left : Declarations) : Type 0 where
   pub can_cut : CanCut d m
   pub cut_is : cut d m ≡ left
+
+-- the mark is of as many lists beside sorts and beside sorts without parameters and generics as of these
+abbrev pub IsBeside : Lengths → Type 0
+IsBeside m = (m.origins ≡ m.sorts) × (m.spellings ≡ m.heads)

@@ -1,22 +1,27 @@
 -- When a command is refused, and with which error: of the causes of its line, in their order, the first that applies.
-use Rattle.std.specs.Prelude.{◌≡◌, ◌≢◌, ℕ, ◌+◌, ◌<◌, ◌≤◌, false, List, [], ◌∷◌, ◌++◌, length, map, Contains}
+use Rattle.std.specs.Prelude.{◌≡◌, ◌⊎◌, ℕ, ◌+◌, ◌<◌, ◌≤◌, true, false, List, [], ◌∷◌, ◌++◌, length, map, Contains}
 use Rattle.ct_sexpr.specs.Expression.{Expression}
 use Rattle.ct_sorts.specs.Availability.{IsUnavailable, IsUnavailableSort}
 use Rattle.ct_sorts.specs.Block.{IsBlockRefusal}
-use Rattle.ct_sorts.specs.Declarations.{Declarations, sort_names, symbol_names, most_sorts, most_functions, most_definitions}
+use Rattle.ct_sorts.specs.Declarations.{Declarations, declared_names, symbol_names, most_sorts, most_functions, most_definitions}
+use Rattle.ct_sorts.specs.Limits.{sort_count}
+use Rattle.ct_generics.specs.declared.decl.SortDecl.{SortDecl}
+use Rattle.ct_generics.specs.Text.{text_length, most_text}
 use Rattle.ct_sorts.specs.Refusals.{IsFirstCause, IsNone, name_taken, symbol_taken, too_many}
 use Rattle.ct_terms.specs.Terms.{most_terms}
 use Rattle.ct_terms.specs.CoreTree.{CoreTree, subtrees}
 use Rattle.ct_formulas.specs.Formula.{Formula}
 use Rattle.ct_closure.specs.Closed.{AreDifferent, truth_trees}
-use Rattle.ct_names.specs.Outcome.{Sorted}
-use Rattle.ct_names.specs.Refusals.{out_of_scope}
+use Rattle.ct_names.specs.Outcome.{Outcome, Elaborated, Sorted}
+use Rattle.ct_names.specs.Refusals.{out_of_scope, repeated_variable}
+use Rattle.ct_names.specs.Variables.{has_repeated}
+use Rattle.ct_names.specs.Needs.{ComesTo, ends_with}
 use Rattle.ct_command.specs.declared.command.Family.{Family}
 use Rattle.ct_command.specs.Command.{Named, SortHead, Body}
 use Rattle.ct_stack.specs.Numbers.{counts_differ, too_many_terms, above_levels, too_many_levels, most_levels}
 use Rattle.ct_stack.specs.Stack.{Context, Stack, in_force, core, cores}
 use Rattle.ct_stack.specs.Outcomes.{IsErrorOr}
-use Rattle.ct_stack.specs.Elaborations.{kind_of, is_plain_block, block_of, declared_function, defined_function, asserted_formula, valued_terms}
+use Rattle.ct_stack.specs.Elaborations.{kind_of, are_counted, have_repeated_parameter, AreDecls, synonym_body, declared_function, defined_function, asserted_formula, valued_terms}
 
 -- `true`, `false` and all subterms of these core terms are more different terms than there may be
 pub record HasManyTerms (roots : List CoreTree) : Type 0 where
@@ -25,39 +30,68 @@ pub record HasManyTerms (roots : List CoreTree) : Type 0 where
   pub inside : (t : CoreTree) → Contains terms t → (root : CoreTree) × Contains (truth_trees ++ roots) root × Contains (subtrees root) t
   pub many : most_terms < length terms
 
--- an uninterpreted sort
-abbrev pub IsSortRefusal : Declarations → SortHead → ℕ → Type 0
-IsSortRefusal d head =
-    IsFirstCause out_of_scope (head.arity ≢ 0)
-    (IsFirstCause name_taken (IsUnavailableSort (sort_names d) head.name)
-    (IsFirstCause too_many (most_sorts ≤ length d.sorts) IsNone))
+-- an uninterpreted sort, with arguments or without
+abbrev pub IsSortRefusal : Declarations → List ℕ → ℕ → Type 0
+IsSortRefusal d name =
+    IsFirstCause name_taken (IsUnavailableSort (declared_names d) name)
+    (IsFirstCause too_many (most_sorts ≤ sort_count d) IsNone)
+
+-- a synonym of a sort
+abbrev pub IsSynonymRefusal : Declarations → List ℕ → List (List ℕ) → Expression → ℕ → Type 0
+IsSynonymRefusal d name params body =
+    IsFirstCause name_taken (IsUnavailableSort (declared_names d) name)
+    (IsFirstCause repeated_variable (has_repeated params ≡ true)
+    (IsErrorOr (synonym_body d params body) (λ e.
+    IsFirstCause too_many ((most_text < text_length d.declared.heads e) ⊎ (most_sorts ≤ sort_count d)) IsNone)))
+
+-- some sort of a field has the form of no sort
+abbrev pub HasFormlessField : List SortHead → List Body → Type 0
+HasFormlessField heads bodies = (block : List SortDecl) → AreDecls heads bodies block → ⊥
+
+-- what the block declares is refused with this number
+abbrev pub IsRefusedBlock : Declarations → Family → List SortHead → List Body → ℕ → Type 0
+IsRefusedBlock d family heads bodies n = (block : List SortDecl) × AreDecls heads bodies block × IsBlockRefusal d (kind_of family) block n
 
 -- a block of datatypes or codatatypes
 abbrev pub IsTypesRefusal : Declarations → Family → List SortHead → List Body → ℕ → Type 0
 IsTypesRefusal d family heads bodies =
-    IsFirstCause out_of_scope (is_plain_block heads bodies ≡ false)
-    (IsFirstCause counts_differ (length heads ≢ length bodies)
-    (IsBlockRefusal d (kind_of family) (block_of heads bodies)))
+    IsFirstCause counts_differ (are_counted heads bodies ≡ false)
+    (IsFirstCause repeated_variable (have_repeated_parameter bodies ≡ true)
+    (IsFirstCause out_of_scope (HasFormlessField heads bodies)
+    (IsRefusedBlock d family heads bodies)))
+
+-- The number is that of the error of a step that adds the sorts that it needs, or is what refuses its value over the declarations
+-- with these sorts.
+abbrev pub IsErrorNeeding : {X : Type 0} → (Declarations → Elaborated X) → Declarations → (Declarations → X → ℕ → Type 0) → ℕ → Type 0
+IsErrorNeeding {X} step d later_refusal n = (later : Declarations) × (outcome : Outcome X) × ComesTo step d later outcome × IsErrorOr outcome (later_refusal later) n
 
 -- a function
 abbrev pub IsFunctionRefusal : Declarations → List ℕ → List Expression → Expression → ℕ → Type 0
 IsFunctionRefusal d name args sort =
     IsFirstCause symbol_taken (IsUnavailable (symbol_names d) name)
-    (IsErrorOr (declared_function d name args sort) (λ f.
-    IsFirstCause too_many (most_functions ≤ length d.functions) IsNone))
+    (IsErrorNeeding (λ e. declared_function e name args sort) d (λ later f.
+    IsFirstCause too_many (most_functions ≤ length later.functions) IsNone))
 
 -- a definition
 abbrev pub IsDefinitionRefusal : Declarations → List ℕ → List Named → Expression → Expression → ℕ → Type 0
 IsDefinitionRefusal d name params sort t =
     IsFirstCause symbol_taken (IsUnavailable (symbol_names d) name)
-    (IsErrorOr (defined_function d name params sort t) (λ f.
-    IsFirstCause too_many (most_definitions ≤ length d.definitions) IsNone))
+    (IsErrorNeeding (λ e. defined_function e name params sort t) d (λ later f.
+    IsFirstCause too_many (most_definitions ≤ length later.definitions) IsNone))
+
+-- the context with these declarations
+abbrev pub over : Context → Declarations → Context
+over c d = record c { declarations = d }
+
+-- an assertion, after these
+abbrev pub IsAssertedRefusal : Context → List Formula → Expression → ℕ → Type 0
+IsAssertedRefusal c before t =
+    IsErrorNeeding (λ d. asserted_formula d t) c.declarations (λ later formula.
+    IsFirstCause too_many_terms (HasManyTerms (cores (over c later) before ++ core (over c later) formula ∷ [])) IsNone)
 
 -- an assertion, after those in force
 abbrev pub IsAssertionRefusal : Stack → Expression → ℕ → Type 0
-IsAssertionRefusal stack t =
-    IsErrorOr (asserted_formula stack.top.context.declarations t) (λ formula.
-    IsFirstCause too_many_terms (HasManyTerms (cores stack.top.context (in_force stack) ++ core stack.top.context formula ∷ [])) IsNone)
+IsAssertionRefusal stack = IsAssertedRefusal stack.top.context (in_force stack)
 
 -- the formulas of terms
 abbrev pub formula_list : List Sorted → List Formula
@@ -66,7 +100,7 @@ formula_list terms = map (λ (t : Sorted). t.0) terms
 -- terms whose values are asked, beside these core terms
 abbrev pub IsTermsRefusal : Context → List CoreTree → List Expression → ℕ → Type 0
 IsTermsRefusal c roots ts =
-    IsErrorOr (valued_terms c.declarations ts) (λ terms.
+    IsErrorOr (ends_with out_of_scope (valued_terms c.declarations ts)) (λ terms.
     IsFirstCause too_many_terms (HasManyTerms (roots ++ cores c (formula_list terms))) IsNone)
 
 -- so many levels more

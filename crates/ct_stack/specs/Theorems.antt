@@ -1,8 +1,11 @@
 -- The theorems on terms, formulas and declarations that a session stands on, as one record.
 use Rattle.std.specs.Prelude.{◌≡◌, ◌<◌, ◌≤◌, List, [], ◌∷◌, ◌++◌, length, Contains, Some, slice_get}
 use Rattle.std.specs.List.{AllZip, flat_map}
+use Rattle.ct_generics.specs.Add.{Adds}
+use Rattle.ct_generics.specs.Declarations.{Head}
+use Rattle.ct_generics.specs.Expression.{Expression}
 use Rattle.ct_sorts.specs.declared.ids.SortId.{SortId}
-use Rattle.ct_sorts.specs.Declarations.{Declarations, Function, start, with_definition}
+use Rattle.ct_sorts.specs.Declarations.{Declarations, Function, start, with_function, with_definition}
 use Rattle.ct_sorts.specs.Marks.{CanCut, cut, lengths}
 use Rattle.ct_sorts.specs.Consistent.{IsConsistent}
 use Rattle.ct_sorts.specs.Grown.{Extends}
@@ -15,10 +18,17 @@ use Rattle.ct_formulas.specs.Formula.{Formula, bind}
 use Rattle.ct_formulas.specs.FormulaSorts.{IsSorted, AreSound}
 use Rattle.ct_formulas.specs.Compiled.{core_of}
 
+-- which sorts are added with a sort is determined
+abbrev pub AddSame : Type 0
+AddSame = (heads : List Head) (es before after other : List Expression) → Adds heads es before after → Adds heads es before other → after ≡ other
+
 pub record Theorems : Type 0 where
+  pub add_same : AddSame
   pub itself : (d : Declarations) → Extends d d
   pub further : (last later earlier : Declarations) → Extends last later → Extends later earlier → Extends last earlier
   pub from_start : (d : Declarations) → IsConsistent d → Extends d start
+  pub more_functions : (d : Declarations) (f : Function) → Extends (with_function d f) d
+  pub more_definitions : (d : Declarations) (f : Function) → Extends (with_definition d f) d
   pub can_cut : (later earlier : Declarations) → IsConsistent earlier → Extends later earlier → CanCut later (lengths earlier)
   pub cut_back : (later earlier : Declarations) → Extends later earlier → cut later (lengths earlier) ≡ earlier
   pub unfolds : (table : Terms) (t : TermId) (core : Core) (sort : SortId) → AreOrdered table → slice_get table t.0 ≡ Some (core, sort) → term_at table t ≡ tree_layer (term_at table) core

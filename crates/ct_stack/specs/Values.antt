@@ -15,6 +15,8 @@ use Rattle.ct_eval.specs.declared.interp.Interp.{Interp}
 use Rattle.ct_meaning.specs.Meaning.{eval}
 use Rattle.ct_names.specs.Outcome.{Sorted}
 use Rattle.ct_names.specs.Elaboration.{elaborated}
+use Rattle.ct_names.specs.Needs.{ends_with}
+use Rattle.ct_names.specs.Refusals.{out_of_scope}
 use Rattle.ct_model.specs.Listed.{listed}
 use Rattle.ct_stack.specs.Stack.{Context}
 
@@ -29,7 +31,7 @@ pub record IsMeaningText (c : Context) (i : Interp) (formula : Formula) (text : 
 -- the term beside its value, `(t v)`
 pub record IsValuePair (c : Context) (i : Interp) (t : Expression) (text : List ℕ) : Type 0 where
   pub term : Sorted
-  pub means : elaborated c.declarations [] t ≡ Ok term
+  pub means : ends_with out_of_scope (elaborated c.declarations [] t) ≡ Ok term
   pub value : List ℕ
   pub value_is : IsMeaningText c i term.0 value
   pub text_is : text ≡ listed (written t ∷ (value ∷ []))

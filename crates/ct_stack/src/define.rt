@@ -1,25 +1,29 @@
 //! Definitions.
-ghost use Rattle.std.specs.Prelude.{◌≡◌, ℕ, List, ◌++◌, ◌∷◌, ◌≤◌, [], length, map, Some, All, OnOk, OnErr, IfOk, IsErrOf};
+ghost use Rattle.std.specs.Prelude.{◌≡◌, ℕ, List, ◌++◌, ◌∷◌, ◌≤◌, [], length, map, Some, All, Ok, Err, OnOk, OnErr, IfOk, IsErrOf};
 ghost use Rattle.std.specs.List.{list_any};
 ghost use Rattle.std.specs.Str.{bytes_eq};
 ghost use Rattle.ct_sexpr.specs.View.{expression_of};
 ghost use Rattle.ct_sorts.specs.Availability.{IsUnavailable};
-ghost use Rattle.ct_sorts.specs.Declarations.{IsSort, with_definition, symbol_names, most_definitions};
+ghost use Rattle.ct_sorts.specs.Declarations.{Declarations, IsSort, with_definition, symbol_names, most_definitions};
 ghost use Rattle.ct_sorts.specs.Refusals.{IsFirstCause, IsNone, symbol_taken, too_many};
 ghost use Rattle.ct_formulas.specs.Formula.{bind};
 ghost use Rattle.ct_formulas.specs.FormulaSorts.{IsSorted};
 ghost use Rattle.ct_formulas.specs.TreeFormula.{formula_of};
-ghost use Rattle.ct_names.specs.Bounds.{parameter_variables};
+ghost use Rattle.ct_names.specs.Bounds.{variable_of_param, parameter_variables};
 ghost use Rattle.ct_names.specs.Variables.{variables, has_repeated};
 ghost use Rattle.ct_command.specs.Seen.{named_seen};
 ghost use Rattle.ct_stack.specs.Elaborations.{defined_function, parameter_names, parameter_sorts};
-ghost use Rattle.ct_stack.specs.Outcomes.{Comes, Gives, each_of};
-ghost use Rattle.ct_names.specs.Elaboration.{sort_of};
+ghost use Rattle.ct_stack.specs.Held.{IsDefined};
+ghost use Rattle.ct_stack.specs.Outcomes.{GivesNeeding, each_of};
+ghost use Rattle.ct_sorts.specs.Grown.{Extends};
+ghost use Rattle.ct_names.specs.Sorts.{sort_of};
+ghost use Rattle.ct_names.specs.Needs.{Grows, ComesTo};
 ghost use Rattle.ct_stack.specs.Sorts.{definition_seen, sorts_seen};
 ghost use Rattle.ct_stack.specs.Refusal.{IsDefinitionRefusal};
 
 use crate::function::SYMBOL_TAKEN;
-use crate::sorts::{is_sort, sort_named, term_of};
+use crate::sorts::{is_sort, or_back, sort_named, term_of};
+use crate::theorems::stack_theorems;
 use ct_check::{Param, Scope, elaboration};
 use ct_command::{CommandError, Named};
 use ct_formulas::Tree;
@@ -50,9 +54,8 @@ pub(crate) fn define_function(
     sort: &Sexpr,
     term: &Sexpr,
 ) -> Result<(), CommandError>
-    ensures ok { OnOk result (Gives (defined_function scope.old.sig name.now (map named_seen params.now) (expression_of sort.now) (expression_of term.now))
-        (λ f. (scope.new.sig ≡ with_definition scope.old.sig f.0) × (map formula_of scope.new.bodies ≡ map formula_of scope.old.bodies ++ f.1 ∷ [])
-        × IsSorted scope.old.sig (bind f.0.args []) f.1 f.0.result)) }
+    ensures ok { OnOk result (GivesNeeding (λ d. defined_function d name.now (map named_seen params.now) (expression_of sort.now) (expression_of term.now)) scope.old.sig
+        (λ later f. IsDefined later scope.new.sig (map formula_of scope.old.bodies) (map formula_of scope.new.bodies) f)) }
     ensures accepted { OnOk result ((n : ℕ) → IsDefinitionRefusal scope.old.sig name.now (map named_seen params.now) (expression_of sort.now) (expression_of term.now) n → ⊥) }
     ensures refused { (n : ℕ) → IsErrOf result (CommandError.Refused n)
         → IsDefinitionRefusal scope.old.sig name.now (map named_seen params.now) (expression_of sort.now) (expression_of term.now) n }
@@ -61,7 +64,33 @@ pub(crate) fn define_function(
     if scope.sig.is_unavailable(name) {
         return Err(CommandError::Refused(SYMBOL_TAKEN));
     }
+    stack_theorems();
+    let before = scope.sig.mark();
+    let defined = define_available(alloc, scope, name, params, sort, term);
+    or_back(&mut scope.sig, &before, defined)
+}
+
+// Adds a definition whose name may be declared. After an error sorts may have come into the list.
+fn define_available(
+    alloc: Global,
+    scope: &mut Scope,
+    name: &[u8],
+    params: &[Named<'_>],
+    sort: &Sexpr,
+    term: &Sexpr,
+) -> Result<(), CommandError>
+    requires available { IsUnavailable (symbol_names scope.old.sig) name.now → ⊥ }
+    ensures ok { OnOk result (GivesNeeding (λ d. defined_function d name.now (map named_seen params.now) (expression_of sort.now) (expression_of term.now)) scope.old.sig
+        (λ later f. IsDefined later scope.new.sig (map formula_of scope.old.bodies) (map formula_of scope.new.bodies) f)) }
+    ensures accepted { OnOk result ((n : ℕ) → IsDefinitionRefusal scope.old.sig name.now (map named_seen params.now) (expression_of sort.now) (expression_of term.now) n → ⊥) }
+    ensures refused { (n : ℕ) → IsErrOf result (CommandError.Refused n)
+        → IsDefinitionRefusal scope.old.sig name.now (map named_seen params.now) (expression_of sort.now) (expression_of term.now) n }
+    ensures grown { Extends scope.new.sig scope.old.sig }
+    ensures bodies { OnErr result (scope.new.bodies ≡ scope.old.bodies) }
+{
+    stack_theorems();
     let definition = defined_function(alloc, scope, params, sort, term)?;
+    scope.sig.sorts();
     let name = Name::from_slice(alloc, name)?;
     add_definition(alloc, scope, name, definition)
 }
@@ -69,26 +98,31 @@ pub(crate) fn define_function(
 // What a definition says: no parameter is repeated, the sorts come first, and the body has the sort of the result.
 fn defined_function(
     alloc: Global,
-    scope: &Scope,
+    scope: &mut Scope,
     params: &[Named<'_>],
     sort: &Sexpr,
     term: &Sexpr,
 ) -> Result<Definition, CommandError>
-    ensures value { (name : List ℕ) → Comes (definition_seen name)
-        (defined_function scope.now.sig name (map named_seen params.now) (expression_of sort.now) (expression_of term.now)) result }
-    ensures args { IfOk result (λ r. All (IsSort scope.now.sig) r.args.items) }
-    ensures sort { IfOk result (λ r. IsSort scope.now.sig r.result) }
-    ensures sorted { IfOk result (λ r. IsSorted scope.now.sig (bind r.args.items []) (formula_of r.body) r.result) }
+    ensures ok { (name : List ℕ) → IfOk result (λ r. ComesTo (λ d. defined_function d name (map named_seen params.now) (expression_of sort.now) (expression_of term.now))
+        scope.old.sig scope.new.sig (Ok (definition_seen name r))) }
+    ensures refused { (name : List ℕ) (n : ℕ) → IsErrOf result (CommandError.Refused n)
+        → ComesTo (λ d. defined_function d name (map named_seen params.now) (expression_of sort.now) (expression_of term.now)) scope.old.sig scope.new.sig (Err n) }
+    ensures args { IfOk result (λ r. All (IsSort scope.new.sig) r.args.items) }
+    ensures sort { IfOk result (λ r. IsSort scope.new.sig r.result) }
+    ensures sorted { IfOk result (λ r. IsSorted scope.new.sig (bind r.args.items []) (formula_of r.body) r.result) }
+    ensures grown { Extends scope.new.sig scope.old.sig }
+    ensures bodies { scope.new.bodies ≡ scope.old.bodies }
 {
+    stack_theorems();
     if has_repeated(params) {
         return Err(CommandError::Refused(REPEATED_VARIABLE));
     }
     let args = parameter_sorts(alloc, scope, params)?;
-    let own = sort_named(scope, sort)?;
+    let own = sort_named(alloc, scope, sort)?;
     let bound = parameters_of(alloc, params, args.as_slice())?;
     elaboration();
-    scope.sig.sorts();
     let (body, found) = term_of(alloc, scope, bound.as_slice(), term)?;
+    scope.sig.sorts();
     if !is_sort(found, own) {
         return Err(CommandError::Refused(WRONG_SORT));
     }
@@ -130,16 +164,22 @@ fn is_among(name: &[u8], params: &[Named<'_>]) -> bool
 // The sorts of parameters, in order, up to the first error.
 fn parameter_sorts(
     alloc: Global,
-    scope: &Scope,
+    scope: &mut Scope,
     params: &[Named<'_>],
 ) -> Result<Vec<SortId>, CommandError>
-    ensures value { Comes sorts_seen (each_of (sort_of scope.now.sig) (parameter_sorts (map named_seen params.now))) result }
-    ensures inside { IfOk result (λ sorts. All (IsSort scope.now.sig) sorts.items) }
+    ensures ok { IfOk result (λ sorts. ComesTo (λ d. each_of (sort_of d) (parameter_sorts (map named_seen params.now))) scope.old.sig scope.new.sig (Ok (sorts_seen sorts))) }
+    ensures refused { (n : ℕ) → IsErrOf result (CommandError.Refused n)
+        → ComesTo (λ d. each_of (sort_of d) (parameter_sorts (map named_seen params.now))) scope.old.sig scope.new.sig (Err n) }
+    ensures inside { IfOk result (λ sorts. All (IsSort scope.new.sig) sorts.items) }
+    ensures lasts { IfOk result (λ sorts. (later : Declarations) → Grows later scope.new.sig → each_of (sort_of later) (parameter_sorts (map named_seen params.now)) ≡ Ok (sorts_seen sorts)) }
+    ensures grown { Extends scope.new.sig scope.old.sig }
+    ensures bodies { scope.new.bodies ≡ scope.old.bodies }
 {
+    stack_theorems();
     let mut left = params;
     let mut sorts = Vec::with_capacity(alloc, params.len())?;
     while let [first, others @ ..] = left {
-        let sort = sort_named(scope, first.sort)?;
+        let sort = sort_named(alloc, scope, first.sort)?;
         sorts.push(sort)?;
         left = others;
     }
@@ -154,6 +194,8 @@ fn parameters_of(
 ) -> Result<Vec<Param>, CommandError>
     ensures value { IfOk result (λ bound. parameter_variables bound.items
         ≡ bind (variables (map (λ name. Some name) (parameter_names (map named_seen params.now))) sorts.now) []) }
+    ensures variables { IfOk result (λ bound. map variable_of_param bound.items
+        ≡ variables (map (λ name. Some name) (parameter_names (map named_seen params.now))) sorts.now) }
     ensures err { OnErr result (result ≡ Err CommandError.NoMemory) }
 {
     let mut params_left = params;

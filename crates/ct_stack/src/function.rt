@@ -1,16 +1,19 @@
 //! Functions and constants.
-ghost use Rattle.std.specs.Prelude.{◌≡◌, ℕ, ◌≤◌, List, length, All, OnOk, OnErr, IfOk, IsErrOf};
+ghost use Rattle.std.specs.Prelude.{◌≡◌, ℕ, ◌≤◌, List, length, All, Ok, Err, OnOk, OnErr, IfOk, IsErrOf};
 ghost use Rattle.ct_sexpr.specs.View.{expression_of};
 ghost use Rattle.ct_sorts.specs.Availability.{IsUnavailable};
 ghost use Rattle.ct_sorts.specs.Declarations.{IsSort, with_function, symbol_names, most_functions};
 ghost use Rattle.ct_sorts.specs.Refusals.{IsFirstCause, IsNone, symbol_taken, too_many};
+ghost use Rattle.ct_sorts.specs.Grown.{Extends};
+ghost use Rattle.ct_names.specs.Needs.{ComesTo};
 ghost use Rattle.ct_command.specs.Seen.{all_seen};
 ghost use Rattle.ct_stack.specs.Elaborations.{declared_function};
-ghost use Rattle.ct_stack.specs.Outcomes.{Comes, Gives};
+ghost use Rattle.ct_stack.specs.Outcomes.{GivesNeeding};
 ghost use Rattle.ct_stack.specs.Sorts.{function_seen};
 ghost use Rattle.ct_stack.specs.Refusal.{IsFunctionRefusal};
 
-use crate::sorts::{sort_named, sorts_named};
+use crate::sorts::{or_back, sort_named, sorts_named};
+use crate::theorems::stack_theorems;
 use ct_check::Scope;
 use ct_command::CommandError;
 use ct_sexpr::Sexpr;
@@ -23,17 +26,21 @@ pub(crate) const SYMBOL_TAKEN: u16 = 29;
 /// The sorts of the arguments and of the result of a function.
 pub(crate) fn declared_function(
     alloc: Global,
-    scope: &Scope,
+    scope: &mut Scope,
     args: &[Sexpr],
     sort: &Sexpr,
 ) -> Result<(Vec<SortId>, SortId), CommandError>
-    ensures value { (name : List ℕ) → Comes (function_seen name)
-        (declared_function scope.now.sig name (all_seen args.now) (expression_of sort.now)) result }
-    ensures args { IfOk result (λ r. All (IsSort scope.now.sig) r.0.items) }
-    ensures sort { IfOk result (λ r. IsSort scope.now.sig r.1) }
+    ensures ok { (name : List ℕ) → IfOk result (λ r. ComesTo (λ d. declared_function d name (all_seen args.now) (expression_of sort.now)) scope.old.sig scope.new.sig (Ok (function_seen name r))) }
+    ensures refused { (name : List ℕ) (n : ℕ) → IsErrOf result (CommandError.Refused n)
+        → ComesTo (λ d. declared_function d name (all_seen args.now) (expression_of sort.now)) scope.old.sig scope.new.sig (Err n) }
+    ensures args { IfOk result (λ r. All (IsSort scope.new.sig) r.0.items) }
+    ensures sort { IfOk result (λ r. IsSort scope.new.sig r.1) }
+    ensures grown { Extends scope.new.sig scope.old.sig }
+    ensures bodies { scope.new.bodies ≡ scope.old.bodies }
 {
+    stack_theorems();
     let args = sorts_named(alloc, scope, args)?;
-    let sort = sort_named(scope, sort)?;
+    let sort = sort_named(alloc, scope, sort)?;
     Ok((args, sort))
 }
 
@@ -45,8 +52,8 @@ pub(crate) fn declare_function(
     args: &[Sexpr],
     sort: &Sexpr,
 ) -> Result<(), CommandError>
-    ensures ok { OnOk result (Gives (declared_function scope.old.sig name.now (all_seen args.now) (expression_of sort.now))
-        (λ f. scope.new.sig ≡ with_function scope.old.sig f)) }
+    ensures ok { OnOk result (GivesNeeding (λ d. declared_function d name.now (all_seen args.now) (expression_of sort.now)) scope.old.sig
+        (λ later f. scope.new.sig ≡ with_function later f)) }
     ensures bodies { scope.new.bodies ≡ scope.old.bodies }
     ensures accepted { OnOk result ((n : ℕ) → IsFunctionRefusal scope.old.sig name.now (all_seen args.now) (expression_of sort.now) n → ⊥) }
     ensures refused { (n : ℕ) → IsErrOf result (CommandError.Refused n)
@@ -56,6 +63,30 @@ pub(crate) fn declare_function(
     if scope.sig.is_unavailable(name) {
         return Err(CommandError::Refused(SYMBOL_TAKEN));
     }
+    stack_theorems();
+    let before = scope.sig.mark();
+    let declared = declare_available(alloc, scope, name, args, sort);
+    or_back(&mut scope.sig, &before, declared)
+}
+
+// Declares a function whose name may be declared. After an error sorts may have come into the list.
+fn declare_available(
+    alloc: Global,
+    scope: &mut Scope,
+    name: &[u8],
+    args: &[Sexpr],
+    sort: &Sexpr,
+) -> Result<(), CommandError>
+    requires available { IsUnavailable (symbol_names scope.old.sig) name.now → ⊥ }
+    ensures ok { OnOk result (GivesNeeding (λ d. declared_function d name.now (all_seen args.now) (expression_of sort.now)) scope.old.sig
+        (λ later f. scope.new.sig ≡ with_function later f)) }
+    ensures bodies { scope.new.bodies ≡ scope.old.bodies }
+    ensures accepted { OnOk result ((n : ℕ) → IsFunctionRefusal scope.old.sig name.now (all_seen args.now) (expression_of sort.now) n → ⊥) }
+    ensures refused { (n : ℕ) → IsErrOf result (CommandError.Refused n)
+        → IsFunctionRefusal scope.old.sig name.now (all_seen args.now) (expression_of sort.now) n }
+    ensures grown { Extends scope.new.sig scope.old.sig }
+{
+    stack_theorems();
     let (args, sort) = declared_function(alloc, scope, args, sort)?;
     let name = Name::from_slice(alloc, name)?;
     add_function(&mut scope.sig, name, args, sort)

@@ -1,6 +1,7 @@
 //! Where the levels of the assertion stack began, and what goes with a level.
 ghost use Rattle.std.specs.Prelude.{◌≡◌, ◌↔◌, ◌+◌, ◌-◌, ◌<◌, ◌≤◌, vec_len, vec_capacity, [], ◌++◌, length, slice_get, take, reverse, replicate, Some, IsTrue};
 ghost use Rattle.ct_sorts.specs.Marks.{CanCut, cut};
+ghost use Rattle.ct_stack.specs.Levels.{IsBeside};
 ghost use Rattle.ct_stack.specs.Numbers.{most_levels};
 ghost use Rattle.ct_stack.specs.Whole.{mark_of};
 
@@ -80,6 +81,8 @@ pub(crate) fn is_start(
     declared: &Mark,
     first: &Mark,
 ) -> bool
+    requires declared { IsBeside declared.now }
+    requires first { IsBeside first.now }
     ensures start { IsTrue result ↔ ((levels.now ≡ []) × (asserts.now ≡ []) × (declared.now ≡ first.now)) }
 {
     levels.is_empty() && asserts.is_empty() && is_same(declared, first)
@@ -87,6 +90,8 @@ pub(crate) fn is_start(
 
 // Whether the marks are the same.
 fn is_same(mark: &Mark, other: &Mark) -> bool
+    requires mark { IsBeside mark.now }
+    requires other { IsBeside other.now }
     ensures same { IsTrue result ↔ (mark.now ≡ other.now) }
 {
     mark.sorts() == other.sorts()
@@ -94,4 +99,7 @@ fn is_same(mark: &Mark, other: &Mark) -> bool
         && mark.sels() == other.sels()
         && mark.funs() == other.funs()
         && mark.defs() == other.defs()
+        && mark.heads() == other.heads()
+        && mark.synonyms() == other.synonyms()
+        && mark.symbols() == other.symbols()
 }

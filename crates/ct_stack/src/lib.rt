@@ -8,6 +8,7 @@ mod levels;
 mod model_values;
 mod sorts;
 mod stack;
+mod synonym;
 mod terms;
 mod theorems;
 mod value;

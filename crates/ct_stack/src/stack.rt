@@ -1,17 +1,15 @@
 //! The assertion stack (SMT-LIB 2.7, section 4.1.4): what is declared, defined and asserted.
 ghost use Rattle.std.specs.Prelude.{◌≡◌, ◌↔◌, ◌<◌, ◌≤◌, ℕ, length, IsTrue, [], map, None, IfSome, IfOk, OnOk, OnErr, IsErrOf};
 ghost use Rattle.ct_sexpr.specs.View.{expression_of};
-ghost use Rattle.ct_sorts.specs.declared.ids.Kind.TheVariants.{Free};
-ghost use Rattle.ct_sorts.specs.Block.{with_block};
-ghost use Rattle.ct_sorts.specs.Declarations.{with_sort, with_function};
+ghost use Rattle.ct_sorts.specs.Declarations.{Declarations, with_function};
 ghost use Rattle.ct_formulas.specs.TreeFormula.{formula_of};
 ghost use Rattle.ct_eval.specs.Interpretation.{IsProper};
 ghost use Rattle.ct_command.specs.Seen.{all_seen, named_seen, head_seen, body_seen};
 ghost use Rattle.ct_stack.specs.Levels.{pushed_by, popped, popped_by, emptied, left_by, left_emptied, IsCutTo};
 ghost use Rattle.ct_stack.specs.Stack.{first_stack, in_force, cores, declaring, in_context, asserting, defined_in};
-ghost use Rattle.ct_stack.specs.Outcomes.{Gives};
-ghost use Rattle.ct_stack.specs.Elaborations.{kind_of, block_of, declared_function, defined_function, asserted_formula};
-ghost use Rattle.ct_stack.specs.Refusal.{IsSortRefusal, IsTypesRefusal, IsFunctionRefusal, IsDefinitionRefusal, IsAssertionRefusal, IsTermsRefusal, IsPushRefusal, IsPopRefusal};
+ghost use Rattle.ct_stack.specs.Outcomes.{Gives, GivesNeeding};
+ghost use Rattle.ct_stack.specs.Elaborations.{with_free, IsWithTypes, synonym_body, with_synonym_of, declared_function, defined_function, asserted_formula};
+ghost use Rattle.ct_stack.specs.Refusal.{over, IsSynonymRefusal, IsSortRefusal, IsTypesRefusal, IsFunctionRefusal, IsDefinitionRefusal, IsAssertionRefusal, IsTermsRefusal, IsPushRefusal, IsPopRefusal};
 ghost use Rattle.ct_stack.specs.Held.{context_in, as_one, IsSoundLevel, IsHeld};
 ghost use Rattle.ct_stack.specs.Values.{AreValues};
 ghost use Rattle.ct_stack.specs.ModelValues.{AreModelValues};
@@ -21,7 +19,9 @@ use crate::define::define_function;
 use crate::function::declare_function;
 use crate::levels::{LevelMark, cut_scope, has_room, is_start, mark_before, put_marks};
 use crate::model_values::ModelValues;
-use crate::terms::{add_assertion, asserted_formula};
+use crate::sorts::or_back;
+use crate::synonym::define_sort;
+use crate::terms::assert_needing;
 use crate::theorems::stack_theorems;
 use crate::value::values_text;
 use ct_check::Scope;
@@ -62,9 +62,10 @@ impl Model for AssertionStack {
     ghost Value = { Stack };
 
     ghost use Rattle.std.specs.Coded.{codes};
+    ghost use Rattle.ct_sorts.specs.ExpressionCode.{coded_expression};
     ghost use Rattle.ct_stack.specs.FormulaCode.{coded_formula};
 
-    ghost coded = { Prim.hlevel (codes, coded_formula) };
+    ghost coded = { Prim.hlevel (codes, coded_expression, coded_formula) };
 
     ghost use Rattle.std.specs.Prelude.{reverse};
     ghost use Rattle.ct_stack.specs.Held.{level_in};
@@ -127,19 +128,45 @@ impl AssertionStack {
         (&self.table, self.numbers.as_slice())
     }
 
-    /// Declares an uninterpreted sort.
-    pub fn declare_sort(&mut self, alloc: Global, head: SortHead<'_>) -> Result<(), CommandError>
-        ensures ok { OnOk result (self.new ≡ declaring self.old (with_sort self.old.top.context.declarations (record { name = head.entry.name.now; kind = Free; ctors = [] }))) }
-        ensures accepted { OnOk result ((n : ℕ) → IsSortRefusal self.old.top.context.declarations (head_seen head.entry) n → ⊥) }
-        ensures refused { (n : ℕ) → IsErrOf result (CommandError.Refused n) → IsSortRefusal self.old.top.context.declarations (head_seen head.entry) n }
+    /// Declares an uninterpreted sort with so many arguments.
+    pub fn declare_sort(
+        &mut self,
+        alloc: Global,
+        name: &[u8],
+        params: u8,
+    ) -> Result<(), CommandError>
+        ensures ok { OnOk result (self.new ≡ declaring self.old (with_free self.old.top.context.declarations name.now params)) }
+        ensures accepted { OnOk result ((n : ℕ) → IsSortRefusal self.old.top.context.declarations name.now n → ⊥) }
+        ensures refused { (n : ℕ) → IsErrOf result (CommandError.Refused n) → IsSortRefusal self.old.top.context.declarations name.now n }
         ensures unchanged { OnErr result (self.new ≡ self.old) }
     {
         stack_theorems();
         growth();
         self.scope.sig.sorts();
-        let declared = declare_sort(alloc, &mut self.scope.sig, head);
+        let declared = declare_sort(alloc, &mut self.scope.sig, name, params);
         self.scope.sig.sorts();
         declared
+    }
+
+    /// Adds a synonym of a sort.
+    pub fn define_sort(
+        &mut self,
+        alloc: Global,
+        name: &[u8],
+        params: &[&[u8]],
+        body: &Sexpr,
+    ) -> Result<(), CommandError>
+        ensures ok { OnOk result (Gives (synonym_body self.old.top.context.declarations (map (λ p. p.now) params.now) (expression_of body.now))
+            (λ e. self.new ≡ declaring self.old (with_synonym_of self.old.top.context.declarations name.now (map (λ p. p.now) params.now) e))) }
+        ensures accepted { OnOk result ((n : ℕ) → IsSynonymRefusal self.old.top.context.declarations name.now (map (λ p. p.now) params.now) (expression_of body.now) n → ⊥) }
+        ensures refused { (n : ℕ) → IsErrOf result (CommandError.Refused n) → IsSynonymRefusal self.old.top.context.declarations name.now (map (λ p. p.now) params.now) (expression_of body.now) n }
+        ensures unchanged { OnErr result (self.new ≡ self.old) }
+    {
+        stack_theorems();
+        self.scope.sig.sorts();
+        let defined = define_sort(alloc, &mut self.scope.sig, name, params, body);
+        self.scope.sig.sorts();
+        defined
     }
 
     /// Declares a block of sorts.
@@ -150,7 +177,7 @@ impl AssertionStack {
         heads: &[SortHead<'_>],
         bodies: &[Body<'_>],
     ) -> Result<(), CommandError>
-        ensures ok { OnOk result (self.new ≡ declaring self.old (with_block self.old.top.context.declarations (kind_of family) (block_of (map head_seen heads.now) (map body_seen bodies.now)))) }
+        ensures ok { OnOk result ((later : Declarations) × IsWithTypes self.old.top.context.declarations family (map head_seen heads.now) (map body_seen bodies.now) later × (self.new ≡ declaring self.old later)) }
         ensures accepted { OnOk result ((n : ℕ) → IsTypesRefusal self.old.top.context.declarations family (map head_seen heads.now) (map body_seen bodies.now) n → ⊥) }
         ensures refused { (n : ℕ) → IsErrOf result (CommandError.Refused n)
             → IsTypesRefusal self.old.top.context.declarations family (map head_seen heads.now) (map body_seen bodies.now) n }
@@ -172,8 +199,8 @@ impl AssertionStack {
         args: &[Sexpr],
         sort: &Sexpr,
     ) -> Result<(), CommandError>
-        ensures ok { OnOk result (Gives (declared_function self.old.top.context.declarations name.now (all_seen args.now) (expression_of sort.now))
-            (λ f. self.new ≡ declaring self.old (with_function self.old.top.context.declarations f))) }
+        ensures ok { OnOk result (GivesNeeding (λ d. declared_function d name.now (all_seen args.now) (expression_of sort.now)) self.old.top.context.declarations
+            (λ later f. self.new ≡ declaring self.old (with_function later f))) }
         ensures accepted { OnOk result ((n : ℕ) → IsFunctionRefusal self.old.top.context.declarations name.now (all_seen args.now) (expression_of sort.now) n → ⊥) }
         ensures refused { (n : ℕ) → IsErrOf result (CommandError.Refused n)
             → IsFunctionRefusal self.old.top.context.declarations name.now (all_seen args.now) (expression_of sort.now) n }
@@ -196,8 +223,8 @@ impl AssertionStack {
         sort: &Sexpr,
         term: &Sexpr,
     ) -> Result<(), CommandError>
-        ensures ok { OnOk result (Gives (defined_function self.old.top.context.declarations name.now (map named_seen params.now) (expression_of sort.now) (expression_of term.now))
-            (λ f. self.new ≡ in_context self.old (defined_in self.old.top.context f))) }
+        ensures ok { OnOk result (GivesNeeding (λ d. defined_function d name.now (map named_seen params.now) (expression_of sort.now) (expression_of term.now)) self.old.top.context.declarations
+            (λ later f. self.new ≡ in_context self.old (defined_in (over self.old.top.context later) f))) }
         ensures accepted { OnOk result ((n : ℕ) → IsDefinitionRefusal self.old.top.context.declarations name.now (map named_seen params.now) (expression_of sort.now) (expression_of term.now) n → ⊥) }
         ensures refused { (n : ℕ) → IsErrOf result (CommandError.Refused n)
             → IsDefinitionRefusal self.old.top.context.declarations name.now (map named_seen params.now) (expression_of sort.now) (expression_of term.now) n }
@@ -213,21 +240,25 @@ impl AssertionStack {
 
     /// Adds an assertion.
     pub fn assert(&mut self, alloc: Global, expr: &Sexpr) -> Result<(), CommandError>
-        ensures ok { OnOk result (Gives (asserted_formula self.old.top.context.declarations (expression_of expr.now)) (λ formula. self.new ≡ asserting self.old formula)) }
+        ensures ok { OnOk result (GivesNeeding (λ d. asserted_formula d (expression_of expr.now)) self.old.top.context.declarations (λ later formula. self.new ≡ asserting (declaring self.old later) formula)) }
         ensures accepted { OnOk result ((n : ℕ) → IsAssertionRefusal self.old (expression_of expr.now) n → ⊥) }
         ensures refused { (n : ℕ) → IsErrOf result (CommandError.Refused n) → IsAssertionRefusal self.old (expression_of expr.now) n }
         ensures unchanged { OnErr result (self.new ≡ self.old) }
     {
         stack_theorems();
-        let tree = asserted_formula(alloc, &self.scope, expr)?;
-        add_assertion(
+        self.scope.sig.sorts();
+        let before = self.scope.sig.mark();
+        let asserted = assert_needing(
             alloc,
-            &self.scope,
+            &mut self.scope,
             &mut self.table,
             &mut self.numbers,
             &mut self.asserts,
-            tree,
-        )
+            expr,
+        );
+        let done = or_back(&mut self.scope.sig, &before, asserted);
+        self.scope.sig.sorts();
+        done
     }
 
     /// Each term beside its value in the interpretation, with what is known of the values of other terms in it, which grows by
@@ -248,7 +279,14 @@ impl AssertionStack {
         ensures valued { IfSome values.new (AreModelValues self.old.top.context.declarations interp.now) }
         ensures unchanged { self.new ≡ self.old }
     {
-        values_text(alloc, &self.scope, &mut self.table, interp, values, exprs)
+        values_text(
+            alloc,
+            &mut self.scope,
+            &mut self.table,
+            interp,
+            values,
+            exprs,
+        )
     }
 
     /// So many levels more, at which nothing is asserted yet; at most 10,000 stand.

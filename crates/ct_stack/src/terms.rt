@@ -1,8 +1,8 @@
 //! Assertions and their core terms.
-ghost use Rattle.std.specs.Prelude.{◌≡◌, ℕ, ◌+◌, ◌≤◌, vec_len, vec_capacity, List, ◌++◌, ◌∷◌, [], map, length, OnOk, OnErr, IfOk, IsErrOf};
+ghost use Rattle.std.specs.Prelude.{◌≡◌, ℕ, ◌+◌, ◌≤◌, vec_len, vec_capacity, List, ◌++◌, ◌∷◌, [], map, length, Ok, Err, OnOk, OnErr, IfOk, IsErrOf};
 ghost use Rattle.ct_sexpr.specs.View.{expression_of};
 ghost use Rattle.ct_sorts.specs.Declarations.{bool_sort};
-ghost use Rattle.ct_sorts.specs.Grown.{Begins};
+ghost use Rattle.ct_sorts.specs.Grown.{Begins, Extends};
 ghost use Rattle.ct_sorts.specs.declared.ids.SortId.{SortId};
 ghost use Rattle.ct_terms.specs.CoreTree.{CoreTree};
 ghost use Rattle.ct_formulas.specs.FormulaSorts.{IsSorted, AreSound};
@@ -12,9 +12,10 @@ ghost use Rattle.ct_compile.specs.Effect.{IsPrefix, Stands as Stood};
 ghost use Rattle.ct_stack.specs.Numbers.{too_many_terms};
 ghost use Rattle.ct_stack.specs.Stack.{core, cores};
 ghost use Rattle.ct_stack.specs.Elaborations.{asserted_formula};
-ghost use Rattle.ct_stack.specs.Outcomes.{Comes};
-ghost use Rattle.ct_stack.specs.Refusal.{HasManyTerms};
-ghost use Rattle.ct_stack.specs.Held.{IsHeld, IsTableOf, context_in, level_in};
+ghost use Rattle.ct_names.specs.Needs.{ComesTo};
+ghost use Rattle.ct_stack.specs.Outcomes.{GivesNeeding};
+ghost use Rattle.ct_stack.specs.Refusal.{HasManyTerms, IsAssertedRefusal};
+ghost use Rattle.ct_stack.specs.Held.{IsHeld, IsTableOf, IsWithOne, context_in, level_in};
 
 use crate::sorts::{is_sort, term_of};
 use crate::theorems::stack_theorems;
@@ -39,19 +40,53 @@ const TOO_MANY_TERMS: u16 = 20;
 /// The formula that is asserted, which is Boolean.
 pub(crate) fn asserted_formula(
     alloc: Global,
-    scope: &Scope,
+    scope: &mut Scope,
     expr: &Sexpr,
 ) -> Result<Tree, CommandError>
-    ensures value { Comes formula_of (asserted_formula scope.now.sig (expression_of expr.now)) result }
-    ensures sorted { IfOk result (λ t. IsSorted scope.now.sig [] (formula_of t) bool_sort) }
+    ensures ok { IfOk result (λ t. ComesTo (λ d. asserted_formula d (expression_of expr.now)) scope.old.sig scope.new.sig (Ok (formula_of t))) }
+    ensures refused { (n : ℕ) → IsErrOf result (CommandError.Refused n) → ComesTo (λ d. asserted_formula d (expression_of expr.now)) scope.old.sig scope.new.sig (Err n) }
+    ensures sorted { IfOk result (λ t. IsSorted scope.new.sig [] (formula_of t) bool_sort) }
+    ensures grown { Extends scope.new.sig scope.old.sig }
+    ensures bodies { scope.new.bodies ≡ scope.old.bodies }
 {
     elaboration();
-    scope.sig.sorts();
     let (tree, sort) = term_of(alloc, scope, &[], expr)?;
+    scope.sig.sorts();
     if !is_sort(sort, BOOL) {
         return Err(CommandError::Refused(NOT_BOOLEAN));
     }
     Ok(tree)
+}
+
+/// Adds an assertion. After an error sorts may have come into the list, and else all is as it was.
+pub(crate) fn assert_needing(
+    alloc: Global,
+    scope: &mut Scope,
+    table: &mut TermTable,
+    numbers: &mut Vec<TermId>,
+    asserts: &mut Vec<Tree>,
+    expr: &Sexpr,
+) -> Result<(), CommandError>
+    requires held { IsHeld (level_in scope.old asserts.old.items) table.old numbers.old.items }
+    ensures held { OnOk result (IsHeld (level_in scope.new asserts.new.items) table.new numbers.new.items) }
+    ensures ok { OnOk result (GivesNeeding (λ d. asserted_formula d (expression_of expr.now)) scope.old.sig
+        (λ later formula. (scope.new.sig ≡ later) × IsWithOne asserts.old.items asserts.new.items formula)) }
+    ensures accepted { OnOk result ((n : ℕ) → IsAssertedRefusal (context_in scope.old) (map formula_of asserts.old.items) (expression_of expr.now) n → ⊥) }
+    ensures refused { (n : ℕ) → IsErrOf result (CommandError.Refused n) → IsAssertedRefusal (context_in scope.old) (map formula_of asserts.old.items) (expression_of expr.now) n }
+    ensures grown { Extends scope.new.sig scope.old.sig }
+    ensures same { OnOk result (scope.new.sig.definitions ≡ scope.old.sig.definitions) }
+    ensures bodies { scope.new.bodies ≡ scope.old.bodies }
+    ensures unchanged { OnErr result (asserts.new.items ≡ asserts.old.items) }
+    ensures table { OnErr result (table.new ≡ table.old) }
+    ensures numbers { OnErr result (numbers.new.items ≡ numbers.old.items) }
+    ensures longer_table { IsPrefix table.old table.new }
+    ensures longer { Begins numbers.old.items numbers.new.items }
+{
+    stack_theorems();
+    scope.sig.sorts();
+    let tree = asserted_formula(alloc, scope, expr)?;
+    scope.sig.sorts();
+    add_assertion(alloc, scope, table, numbers, asserts, tree)
 }
 
 /// Asserts a formula, whose core term is made in the table; or leaves all as it was.
@@ -71,6 +106,8 @@ pub(crate) fn add_assertion(
     ensures refused { (n : ℕ) → IsErrOf result (CommandError.Refused n) → (n ≡ too_many_terms)
         × HasManyTerms (cores (context_in scope.now) (map formula_of asserts.old.items) ++ core (context_in scope.now) (formula_of tree) ∷ []) }
     ensures unchanged { OnErr result (asserts.new.items ≡ asserts.old.items) }
+    ensures table { OnErr result (table.new ≡ table.old) }
+    ensures numbers { OnErr result (numbers.new.items ≡ numbers.old.items) }
     ensures grown { IsPrefix table.old table.new }
     ensures longer { Begins numbers.old.items numbers.new.items }
 {

@@ -2,6 +2,7 @@
 ghost use Rattle.ct_stack.specs.Theorems.{Theorems};
 
 use ct_formulas::{formulas, scopes};
+use ct_generics::additions;
 use ct_sorts::growth;
 use ct_terms::{core_trees, one_lasting_sort};
 
@@ -9,6 +10,7 @@ use ct_terms::{core_trees, one_lasting_sort};
 pub(crate) fn stack_theorems()
     ensures hold { Theorems }
 {
+    additions();
     growth();
     core_trees();
     formulas();

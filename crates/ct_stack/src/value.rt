@@ -14,6 +14,8 @@ ghost use Rattle.ct_command.specs.Seen.{all_seen};
 ghost use Rattle.ct_stack.specs.Numbers.{too_many_terms};
 ghost use Rattle.ct_stack.specs.Stack.{cores};
 ghost use Rattle.ct_stack.specs.Elaborations.{valued_terms};
+ghost use Rattle.ct_names.specs.Needs.{ends_with};
+ghost use Rattle.ct_names.specs.Refusals.{out_of_scope};
 ghost use Rattle.ct_stack.specs.Outcomes.{Comes};
 ghost use Rattle.ct_stack.specs.Refusal.{HasManyTerms, IsTermsRefusal};
 ghost use Rattle.ct_stack.specs.Held.{IsTableOf, context_in};
@@ -22,7 +24,7 @@ ghost use Rattle.ct_stack.specs.Values.{AreValues, AreValuesOf};
 ghost use Rattle.ct_stack.specs.ModelValues.{AreModelValues};
 
 use crate::model_values::ModelValues;
-use crate::sorts::term_of;
+use crate::sorts::term_there;
 use crate::terms::core_number;
 use ct_check::{Scope, elaboration};
 use ct_command::CommandError;
@@ -40,23 +42,24 @@ use std::alloc::Global;
 /// was.
 pub(crate) fn values_text(
     alloc: Global,
-    scope: &Scope,
+    scope: &mut Scope,
     table: &mut TermTable,
     interp: &Interp,
     values: &mut Option<ModelValues>,
     exprs: &[Sexpr],
 ) -> Result<Vec<u8>, CommandError>
-    requires sound { AreSound scope.now.sig (map formula_of scope.now.bodies) }
-    requires table { AreSorted scope.now.sig table.old }
-    requires proper { IsProper scope.now.sig interp.now }
-    requires valued { IfSome values.old (AreModelValues scope.now.sig interp.now) }
-    ensures values { IfOk result (λ text. AreValues (context_in scope.now) interp.now (all_seen exprs.now) text.items) }
-    ensures accepted { OnOk result ((roots : List CoreTree) → IsTableOf scope.now.sig roots table.old
-        → (n : ℕ) → IsTermsRefusal (context_in scope.now) roots (all_seen exprs.now) n → ⊥) }
-    ensures refused { (n : ℕ) → IsErrOf result (CommandError.Refused n) → (roots : List CoreTree) → IsTableOf scope.now.sig roots table.old
-        → IsTermsRefusal (context_in scope.now) roots (all_seen exprs.now) n }
-    ensures valued { IfSome values.new (AreModelValues scope.now.sig interp.now) }
+    requires sound { AreSound scope.old.sig (map formula_of scope.old.bodies) }
+    requires table { AreSorted scope.old.sig table.old }
+    requires proper { IsProper scope.old.sig interp.now }
+    requires valued { IfSome values.old (AreModelValues scope.old.sig interp.now) }
+    ensures values { IfOk result (λ text. AreValues (context_in scope.old) interp.now (all_seen exprs.now) text.items) }
+    ensures accepted { OnOk result ((roots : List CoreTree) → IsTableOf scope.old.sig roots table.old
+        → (n : ℕ) → IsTermsRefusal (context_in scope.old) roots (all_seen exprs.now) n → ⊥) }
+    ensures refused { (n : ℕ) → IsErrOf result (CommandError.Refused n) → (roots : List CoreTree) → IsTableOf scope.old.sig roots table.old
+        → IsTermsRefusal (context_in scope.old) roots (all_seen exprs.now) n }
+    ensures valued { IfSome values.new (AreModelValues scope.old.sig interp.now) }
     ensures unchanged { table.new ≡ table.old }
+    ensures kept { scope.new ≡ scope.old }
 {
     let terms = valued_terms(alloc, scope, exprs)?;
     let trees = terms.0.as_slice();
@@ -90,11 +93,12 @@ fn has_room(
 // The trees of terms with their sorts, in order, up to the first error.
 fn valued_terms(
     alloc: Global,
-    scope: &Scope,
+    scope: &mut Scope,
     exprs: &[Sexpr],
 ) -> Result<(Vec<Tree>, Vec<SortId>), CommandError>
-    ensures value { Comes terms_seen (valued_terms scope.now.sig (all_seen exprs.now)) result }
-    ensures sorted { IfOk result (λ r. AreSortedTerms scope.now.sig r.0.items r.1.items) }
+    ensures value { Comes terms_seen (ends_with out_of_scope (valued_terms scope.old.sig (all_seen exprs.now))) result }
+    ensures sorted { IfOk result (λ r. AreSortedTerms scope.old.sig r.0.items r.1.items) }
+    ensures kept { scope.new ≡ scope.old }
 {
     elaboration();
     scope.sig.sorts();
@@ -102,7 +106,7 @@ fn valued_terms(
     let mut trees = Vec::with_capacity(alloc, exprs.len())?;
     let mut sorts = Vec::with_capacity(alloc, exprs.len())?;
     while let [first, others @ ..] = left {
-        let (tree, sort) = term_of(alloc, scope, &[], first)?;
+        let (tree, sort) = term_there(alloc, scope, first)?;
         trees.push(tree)?;
         sorts.push(sort)?;
         left = others;

@@ -1,7 +1,8 @@
 -- What becomes of a command: it is done, or refused, or memory runs out.
 use Rattle.std.proofs.Common.{◌≡◌, ◌∙◌, ℕ, true, List, None, Result, Ok, Err, IsErrOf, refl, sym, ap, subst}
 use Rattle.std.proofs.lemmas.List.{append-nil}
-use Rattle.ct_names.specs.Outcome.{Outcome}
+use Rattle.ct_sorts.specs.Declarations.{Declarations}
+use Rattle.ct_names.specs.Outcome.{Outcome, Elaborated}
 use Rattle.ct_command.specs.declared.error.CommandError.{CommandError}
 use Rattle.ct_command.specs.declared.error.CommandError.TheVariants.{Refused, NoMemory}
 use Rattle.ct_command.specs.declared.command.Command.{Command as ReadCommand}
@@ -9,7 +10,7 @@ use Rattle.ct_command.specs.declared.option.Setting.{Setting}
 use Rattle.ct_command.specs.Seen.{command_seen}
 use Rattle.ct_command.specs.Command.{Command, set_option, reset, exit}
 use Rattle.ct_stack.specs.Stack.{Stack, first_stack}
-use Rattle.ct_stack.specs.Outcomes.{Gives}
+use Rattle.ct_stack.specs.Outcomes.{Gives, GivesNeeding}
 use Rattle.ct_step.specs.declared.answer.Answer.{Answer}
 use Rattle.ct_step.specs.declared.state.SessionState.{SessionState}
 use Rattle.ct_step.specs.declared.options.Options.{Options}
@@ -23,6 +24,9 @@ use Rattle.ct_step.specs.Done.{IsAnswer, Performs, IsSame, IsDone, state_of}
 pub Gives-map : {X : Type 0} (o : Outcome X) (P Q : X → Type 0) → ((x : X) → P x → Q x) → Gives o P → Gives o Q
 Gives-map (Ok x) P Q more h = more x h
 Gives-map (Err n) P Q more h = absurd h
+
+pub needing_map : {X : Type 0} (f : Declarations → Elaborated X) (d : Declarations) (P Q : Declarations → X → Type 0) → ((later : Declarations) (x : X) → P later x → Q later x) → GivesNeeding f d P → GivesNeeding f d Q
+needing_map f d P Q more (later, x, comes, h) = (later, x, comes, more later x h)
 
 module _ (old new : SessionState) (number : ℕ) (c : Command) where
   -- an error that is passed on

@@ -6,7 +6,7 @@ use Rattle.ct_model.specs.ModelText.{IsModelText}
 use Rattle.ct_log_text.specs.Written.{expression_of_record, text_of}
 use Rattle.ct_command.specs.declared.error.CommandError.{CommandError}
 use Rattle.ct_command.specs.declared.error.CommandError.TheVariants.{Refused, NoMemory}
-use Rattle.ct_command.specs.Command.{Command, set_logic, set_option, get_option, set_info, get_info, declare_sort, declare_block, declare_fun, define_fun, assert, check_sat, push, pop, reset_assertions, reset, get_model, get_value, get_proof, echo, exit, unsupported}
+use Rattle.ct_command.specs.Command.{Command, set_logic, set_option, get_option, set_info, get_info, declare_sort, define_sort, declare_block, declare_fun, define_fun, assert, check_sat, push, pop, reset_assertions, reset, get_model, get_value, get_proof, echo, exit, unsupported}
 use Rattle.ct_stack.specs.Values.{AreValues}
 use Rattle.ct_stack.specs.declared.model_values.ModelValues.{ModelValues}
 use Rattle.ct_stack.specs.ModelValues.{AreModelValues}
@@ -44,7 +44,8 @@ module _ (s : State) (known : Option ModelValues) (right : AreKnown s known) (e 
   known_after number (get_option option) is = left _ is
   known_after number set_info is = forgotten e.state
   known_after number (get_info info) is = left _ is
-  known_after number (declare_sort head) is = forgotten e.state
+  known_after number (declare_sort name params) is = forgotten e.state
+  known_after number (define_sort name params body) is = forgotten e.state
   known_after number (declare_block family heads bodies) is = forgotten e.state
   known_after number (declare_fun name args sort) is = forgotten e.state
   known_after number (define_fun name params sort t) is = forgotten e.state

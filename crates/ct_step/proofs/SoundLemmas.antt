@@ -6,15 +6,17 @@ use Rattle.ct_eval.specs.Interpretation.{IsProper}
 use Rattle.ct_log.specs.Recorded.{Derived}
 use Rattle.ct_model.specs.ModelText.{IsModelText}
 use Rattle.ct_log_text.specs.Written.{expression_of_record, text_of}
-use Rattle.ct_names.specs.Outcome.{Outcome}
+use Rattle.ct_names.specs.Needs.{ComesTo as ComesToOutcome}
+use Rattle.ct_names.specs.Outcome.{Outcome, Elaborated}
 use Rattle.ct_command.specs.declared.error.CommandError.{CommandError}
 use Rattle.ct_command.specs.declared.error.CommandError.TheVariants.{Refused, NoMemory}
-use Rattle.ct_command.specs.Command.{Command, set_logic, set_option, get_option, set_info, get_info, declare_sort, declare_block, declare_fun, define_fun, assert, check_sat, push, pop, reset_assertions, reset, get_model, get_value, get_proof, echo, exit, unsupported}
+use Rattle.ct_command.specs.Command.{Command, set_logic, set_option, get_option, set_info, get_info, declare_sort, define_sort, declare_block, declare_fun, define_fun, assert, check_sat, push, pop, reset_assertions, reset, get_model, get_value, get_proof, echo, exit, unsupported}
 use Rattle.ct_engine.specs.declared.verdict.Verdict.{Verdict}
 use Rattle.ct_engine.specs.declared.verdict.Verdict.TheVariants.{Sat, Unsat, Unknown}
 use Rattle.ct_stack.specs.Stack.{Stack, Context, in_force, declaring, in_context, asserting, defined_in}
-use Rattle.ct_stack.specs.Outcomes.{Gives}
-use Rattle.ct_stack.specs.Elaborations.{declared_function, defined_function, asserted_formula}
+use Rattle.ct_stack.specs.Outcomes.{Gives, GivesNeeding}
+use Rattle.ct_stack.specs.Elaborations.{IsWithTypes, synonym_body, with_synonym_of, declared_function, defined_function, asserted_formula}
+use Rattle.ct_stack.specs.Refusal.{over}
 use Rattle.ct_stack.specs.Values.{AreValues}
 use Rattle.ct_formulas.specs.Formula.{Formula}
 use Rattle.ct_step.specs.declared.answer.Answer.{Answer}
@@ -48,6 +50,9 @@ pub only : {X : Type 0} (o : Outcome X) (P : X → Type 0) (Q : Type 0) → ((x 
 only (Ok x) P Q more h = more x h
 only (Err n) P Q more h = absurd h
 
+pub only_needing : {X : Type 0} (f : Declarations → Elaborated X) (d : Declarations) (P : Declarations → X → Type 0) (Q : Type 0) → ((later : Declarations) (x : X) → ComesToOutcome f d later (Ok x) → P later x → Q) → GivesNeeding f d P → Q
+only_needing f d P Q more (later, x, comes, h) = more later x comes h
+
 pub only_of : {X : Type 0} (m : Option X) (P : X → Type 0) (Q : Type 0) → ((x : X) → P x → Q) → OfKept m P → Q
 only_of (Some x) P Q more h = more x h
 only_of None P Q more h = absurd h
@@ -68,11 +73,12 @@ sound_after s number (set_option setting) e sound is = left s e _ is sound
 sound_after s number (get_option option) e sound is = left s e _ is sound
 sound_after s number set_info e sound is = left s e _ is sound
 sound_after s number (get_info info) e sound is = left s e _ is sound
-sound_after s number (declare_sort head) e sound is = change s e _ is
-sound_after s number (declare_block family heads bodies) e sound is = change s e _ is
-sound_after s number (declare_fun name args sort) e sound is = only (declared_function (declared s) name args sort) (λ f. e ≡ quiet (changed s (declaring s.stack (with_function (declared s) f)))) (IsSound e.state) (λ f h. change s e (declaring s.stack (with_function (declared s) f)) h) is
-sound_after s number (define_fun name params sort t) e sound is = only (defined_function (declared s) name params sort t) (λ f. e ≡ quiet (changed s (in_context s.stack (defined_in (context_of s) f)))) (IsSound e.state) (λ f h. change s e (in_context s.stack (defined_in (context_of s) f)) h) is
-sound_after s number (assert t) e sound is = only (asserted_formula (declared s) t) (λ formula. e ≡ quiet (changed s (asserting s.stack formula))) (IsSound e.state) (λ formula h. change s e (asserting s.stack formula) h) is
+sound_after s number (declare_sort name params) e sound is = change s e _ is
+sound_after s number (define_sort name params body) e sound is = only (synonym_body (declared s) params body) (λ sort. e ≡ quiet (changed s (declaring s.stack (with_synonym_of (declared s) name params sort)))) (IsSound e.state) (λ sort h. change s e (declaring s.stack (with_synonym_of (declared s) name params sort)) h) is
+sound_after s number (declare_block family heads bodies) e sound is = change s e (declaring s.stack is.0) is.2
+sound_after s number (declare_fun name args sort) e sound is = only_needing (λ d. declared_function d name args sort) (declared s) (λ later f. e ≡ quiet (changed s (declaring s.stack (with_function later f)))) (IsSound e.state) (λ later f comes h. change s e (declaring s.stack (with_function later f)) h) is
+sound_after s number (define_fun name params sort t) e sound is = only_needing (λ d. defined_function d name params sort t) (declared s) (λ later f. e ≡ quiet (changed s (in_context s.stack (defined_in (over (context_of s) later) f)))) (IsSound e.state) (λ later f comes h. change s e (in_context s.stack (defined_in (over (context_of s) later) f)) h) is
+sound_after s number (assert t) e sound is = only_needing (λ d. asserted_formula d t) (declared s) (λ later formula. e ≡ quiet (changed s (asserting (declaring s.stack later) formula))) (IsSound e.state) (λ later formula comes h. change s e (asserting (declaring s.stack later) formula) h) is
 sound_after s number check_sat e sound is = left s e (decided s number is.0) is.2 (right_kept (context_of s) (in_force s.stack) (budget s.options) number is.0 is.1.right)
 sound_after s number (push n) e sound is = change s e _ is
 sound_after s number (pop n) e sound is = change s e _ is

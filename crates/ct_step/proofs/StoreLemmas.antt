@@ -1,6 +1,6 @@
 -- What becomes of the store by a command that leaves it alone, by one that takes declarations back, and by a check.
 use Rattle.std.proofs.Common.{◌≡◌, ◌∙◌, ℕ, zero, suc, Bool, true, false, true≢false, List, Result, Ok, Err, refl, sym, ap, subst}
-use Rattle.ct_sorts.specs.Declarations.{Declarations, with_function}
+use Rattle.ct_sorts.specs.Declarations.{Declarations, with_function, with_definition}
 use Rattle.ct_sorts.specs.Grown.{Extends}
 use Rattle.ct_kept.specs.Kept.{Stored}
 use Rattle.ct_model.specs.ModelText.{IsModelText}
@@ -9,11 +9,12 @@ use Rattle.ct_command.specs.declared.error.CommandError.{CommandError}
 use Rattle.ct_command.specs.declared.error.CommandError.TheVariants.{Refused, NoMemory}
 use Rattle.ct_command.specs.declared.command.Command.{Command as ReadCommand}
 use Rattle.ct_command.specs.Seen.{command_seen}
-use Rattle.ct_command.specs.Command.{Command, set_logic, set_option, get_option, set_info, get_info, declare_sort, declare_block, declare_fun, define_fun, assert, check_sat, push, pop, reset_assertions, reset, get_model, get_value, get_proof, echo, exit, unsupported}
+use Rattle.ct_command.specs.Command.{Command, set_logic, set_option, get_option, set_info, get_info, declare_sort, define_sort, declare_block, declare_fun, define_fun, assert, check_sat, push, pop, reset_assertions, reset, get_model, get_value, get_proof, echo, exit, unsupported}
 use Rattle.ct_engine.specs.declared.verdict.Verdict.{Verdict}
 use Rattle.ct_stack.specs.Stack.{Stack, Context, declaring, in_context, asserting, defined_in}
 use Rattle.ct_stack.specs.Levels.{pushed, pushed_by}
-use Rattle.ct_stack.specs.Elaborations.{declared_function, defined_function, asserted_formula}
+use Rattle.ct_stack.specs.Elaborations.{synonym_body, with_synonym_of, declared_function, defined_function, asserted_formula}
+use Rattle.ct_stack.specs.Refusal.{over}
 use Rattle.ct_stack.specs.Values.{AreValues}
 use Rattle.ct_step.specs.declared.answer.Answer.{Answer}
 use Rattle.ct_step.specs.declared.state.SessionState.{SessionState}
@@ -22,7 +23,9 @@ use Rattle.ct_step.specs.Step.{CommandEffect, Does, quiet, said}
 use Rattle.ct_step.specs.Done.{IsDone, state_of}
 use Rattle.ct_step.specs.Growing.{Growing}
 use Rattle.ct_step.specs.Store.{IsStoreOf, IsSoundWith, Stores, IsStored}
-use Rattle.ct_step.proofs.SoundLemmas.{only, only_of, same_state, sound_still}
+use Rattle.ct_stack.proofs.NeededLemmas.{comes_grows}
+use Rattle.ct_stack.proofs.SortLemmas.{free_extends, types_extends}
+use Rattle.ct_step.proofs.SoundLemmas.{only, only_needing, only_of, same_state, sound_still}
 use Rattle.ct_step.proofs.DoneLemmas.{seen_as}
 
 -- the command leaves the store alone
@@ -61,17 +64,23 @@ module _ (g : Growing) (s : State) (e : CommandEffect) where
   grown_after number (get_option option) rest is = stays _ is refl
   grown_after number set_info rest is = stays _ is refl
   grown_after number (get_info info) rest is = stays _ is refl
-  grown_after number (declare_sort head) rest is = leaves _ is (g.sort (declared s) _)
-  grown_after number (declare_block family heads bodies) rest is = leaves _ is (g.block (declared s) _ _)
+  grown_after number (declare_sort name params) rest is = leaves _ is (free_extends g.sort g.head (declared s) name params)
+  grown_after number (define_sort name params body) rest is =
+      only (synonym_body (declared s) params body) (λ sort. e ≡ quiet (changed s (declaring s.stack (with_synonym_of (declared s) name params sort)))) (Extends (declared e.state) (declared s))
+      (λ sort h. leaves (quiet (changed s (declaring s.stack (with_synonym_of (declared s) name params sort)))) h (g.synonym (declared s) name params sort)) is
+  grown_after number (declare_block family heads bodies) rest is =
+      leaves (quiet (changed s (declaring s.stack is.0))) is.2 (types_extends g.block (declared s) is.0 family heads bodies is.1)
   grown_after number (declare_fun name args sort) rest is =
-      only (declared_function (declared s) name args sort) (λ f. e ≡ quiet (changed s (declaring s.stack (with_function (declared s) f)))) (Extends (declared e.state) (declared s))
-      (λ f h. leaves (quiet (changed s (declaring s.stack (with_function (declared s) f)))) h (g.function (declared s) f)) is
+      only_needing (λ d. declared_function d name args sort) (declared s) (λ later f. e ≡ quiet (changed s (declaring s.stack (with_function later f)))) (Extends (declared e.state) (declared s))
+      (λ later f comes h. leaves (quiet (changed s (declaring s.stack (with_function later f)))) h
+      (g.further (with_function later f) later (declared s) (g.function later f) (comes_grows (λ d. declared_function d name args sort) (declared s) later (Ok f) comes).extends)) is
   grown_after number (define_fun name params sort t) rest is =
-      only (defined_function (declared s) name params sort t) (λ f. e ≡ quiet (changed s (in_context s.stack (defined_in (context_of s) f)))) (Extends (declared e.state) (declared s))
-      (λ f h. leaves (quiet (changed s (in_context s.stack (defined_in (context_of s) f)))) h (g.definition (declared s) f.0)) is
+      only_needing (λ d. defined_function d name params sort t) (declared s) (λ later f. e ≡ quiet (changed s (in_context s.stack (defined_in (over (context_of s) later) f)))) (Extends (declared e.state) (declared s))
+      (λ later f comes h. leaves (quiet (changed s (in_context s.stack (defined_in (over (context_of s) later) f)))) h
+      (g.further (with_definition later f.0) later (declared s) (g.definition later f.0) (comes_grows (λ d. defined_function d name params sort t) (declared s) later (Ok f) comes).extends)) is
   grown_after number (assert t) rest is =
-      only (asserted_formula (declared s) t) (λ formula. e ≡ quiet (changed s (asserting s.stack formula))) (Extends (declared e.state) (declared s))
-      (λ formula h. stays (quiet (changed s (asserting s.stack formula))) h refl) is
+      only_needing (λ d. asserted_formula d t) (declared s) (λ later formula. e ≡ quiet (changed s (asserting (declaring s.stack later) formula))) (Extends (declared e.state) (declared s))
+      (λ later formula comes h. leaves (quiet (changed s (asserting (declaring s.stack later) formula))) h (comes_grows (λ d. asserted_formula d t) (declared s) later (Ok formula) comes).extends) is
   grown_after number check_sat rest is = absurd (true≢false (sym rest))
   grown_after number (push n) rest is = stays _ is (ap (λ (c : Context). c.declarations) (pushed_context n s.stack))
   grown_after number (pop n) rest is = absurd (true≢false (sym rest))

@@ -6,9 +6,9 @@ use Rattle.ct_sexpr.specs.Expression.{Expression}
 use Rattle.ct_sorts.specs.Refusals.{IsFirstCause, IsNone}
 use Rattle.ct_closure.specs.Closed.{HasMoreThan, most_closure_terms}
 use Rattle.ct_command.specs.declared.option.Setting.{Setting}
-use Rattle.ct_command.specs.Command.{Command, set_logic, set_option, get_option, set_info, get_info, declare_sort, declare_block, declare_fun, define_fun, assert, check_sat, push, pop, reset_assertions, reset, get_model, get_value, get_proof, echo, exit, unsupported}
+use Rattle.ct_command.specs.Command.{Command, set_logic, set_option, get_option, set_info, get_info, declare_sort, define_sort, declare_block, declare_fun, define_fun, assert, check_sat, push, pop, reset_assertions, reset, get_model, get_value, get_proof, echo, exit, unsupported}
 use Rattle.ct_stack.specs.Stack.{Stack, first_stack, in_force, cores}
-use Rattle.ct_stack.specs.Refusal.{IsSortRefusal, IsTypesRefusal, IsFunctionRefusal, IsDefinitionRefusal, IsAssertionRefusal, IsTermsRefusal, IsPushRefusal, IsPopRefusal}
+use Rattle.ct_stack.specs.Refusal.{IsSortRefusal, IsSynonymRefusal, IsTypesRefusal, IsFunctionRefusal, IsDefinitionRefusal, IsAssertionRefusal, IsTermsRefusal, IsPushRefusal, IsPopRefusal}
 use Rattle.ct_step.specs.Numbers.{closure_too_large, no_model, no_derivation, not_now, unknown_logic}
 use Rattle.ct_step.specs.Options.{sets_global}
 use Rattle.ct_step.specs.State.{State, context_of, declared, model_kept, derivation_kept}
@@ -52,7 +52,8 @@ IsRefusal s (set_option setting) = IsOptionRefusal s setting
 IsRefusal s (get_option option) = IsNone
 IsRefusal s set_info = IsNone
 IsRefusal s (get_info info) = IsNone
-IsRefusal s (declare_sort head) = IsSortRefusal (declared s) head
+IsRefusal s (declare_sort name params) = IsSortRefusal (declared s) name
+IsRefusal s (define_sort name params body) = IsSynonymRefusal (declared s) name params body
 IsRefusal s (declare_block family heads bodies) = IsTypesRefusal (declared s) family heads bodies
 IsRefusal s (declare_fun name args sort) = IsFunctionRefusal (declared s) name args sort
 IsRefusal s (define_fun name params sort t) = IsDefinitionRefusal (declared s) name params sort t

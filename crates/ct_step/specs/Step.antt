@@ -4,19 +4,18 @@ use Rattle.std.specs.Fmt.{decimal}
 use Rattle.ct_words.specs.Errors.{error_text}
 use Rattle.ct_sexpr.specs.Expression.{Expression}
 use Rattle.ct_sexpr.specs.Written.{written}
-use Rattle.ct_sorts.specs.declared.ids.Kind.TheVariants.{Free}
-use Rattle.ct_sorts.specs.Declarations.{with_sort, with_function}
-use Rattle.ct_sorts.specs.Block.{with_block}
+use Rattle.ct_sorts.specs.Declarations.{Declarations, with_function}
 use Rattle.ct_model.specs.ModelText.{IsModelText}
 use Rattle.ct_log_text.specs.Written.{expression_of_record, text_of}
 use Rattle.ct_engine.specs.declared.verdict.Verdict.{Verdict}
 use Rattle.ct_engine.specs.declared.verdict.Verdict.TheVariants.{Sat, Unsat, Unknown}
-use Rattle.ct_command.specs.Command.{Command, set_logic, set_option, get_option, set_info, get_info, declare_sort, declare_block, declare_fun, define_fun, assert, check_sat, push, pop, reset_assertions, reset, get_model, get_value, get_proof, echo, exit, unsupported}
+use Rattle.ct_command.specs.Command.{Command, set_logic, set_option, get_option, set_info, get_info, declare_sort, define_sort, declare_block, declare_fun, define_fun, assert, check_sat, push, pop, reset_assertions, reset, get_model, get_value, get_proof, echo, exit, unsupported}
 use Rattle.ct_command.specs.Reading.{Read, command}
 use Rattle.ct_stack.specs.Stack.{in_force, declaring, in_context, asserting, defined_in}
 use Rattle.ct_stack.specs.Levels.{pushed_by, popped_by, emptied}
-use Rattle.ct_stack.specs.Outcomes.{Gives}
-use Rattle.ct_stack.specs.Elaborations.{kind_of, block_of, declared_function, defined_function, asserted_formula}
+use Rattle.ct_stack.specs.Outcomes.{Gives, GivesNeeding}
+use Rattle.ct_stack.specs.Elaborations.{with_free, IsWithTypes, synonym_body, with_synonym_of, declared_function, defined_function, asserted_formula}
+use Rattle.ct_stack.specs.Refusal.{over}
 use Rattle.ct_stack.specs.Values.{AreValues}
 use Rattle.ct_step.specs.declared.options.Options.{Options}
 use Rattle.ct_step.specs.Options.{most_decisions, budget, with_setting, value_text}
@@ -83,13 +82,16 @@ Does s number (set_option setting) e = e ≡ quiet (record s { options = with_se
 Does s number (get_option option) e = e ≡ said s (value_text s.options option)
 Does s number set_info e = e ≡ quiet s
 Does s number (get_info info) e = e ≡ said s (info_text s info)
-Does s number (declare_sort head) e = e ≡ quiet (changed s (declaring s.stack (with_sort (declared s) (record { name = head.name; kind = Free; ctors = [] }))))
-Does s number (declare_block family heads bodies) e = e ≡ quiet (changed s (declaring s.stack (with_block (declared s) (kind_of family) (block_of heads bodies))))
-Does s number (declare_fun name args sort) e = Gives (declared_function (declared s) name args sort) (λ f. e ≡ quiet (changed s (declaring s.stack (with_function (declared s) f))))
+Does s number (declare_sort name params) e = e ≡ quiet (changed s (declaring s.stack (with_free (declared s) name params)))
+Does s number (define_sort name params body) e = Gives (synonym_body (declared s) params body) (λ sort. e ≡ quiet (changed s (declaring s.stack (with_synonym_of (declared s) name params sort))))
+Does s number (declare_block family heads bodies) e = (later : Declarations) × IsWithTypes (declared s) family heads bodies later × (e ≡ quiet (changed s (declaring s.stack later)))
+Does s number (declare_fun name args sort) e =
+    GivesNeeding (λ d. declared_function d name args sort) (declared s) (λ later f. e ≡ quiet (changed s (declaring s.stack (with_function later f))))
 Does s number (define_fun name params sort t) e =
-    Gives (defined_function (declared s) name params sort t) (λ f.
-    e ≡ quiet (changed s (in_context s.stack (defined_in (context_of s) f))))
-Does s number (assert t) e = Gives (asserted_formula (declared s) t) (λ formula. e ≡ quiet (changed s (asserting s.stack formula)))
+    GivesNeeding (λ d. defined_function d name params sort t) (declared s) (λ later f.
+    e ≡ quiet (changed s (in_context s.stack (defined_in (over (context_of s) later) f))))
+Does s number (assert t) e =
+    GivesNeeding (λ d. asserted_formula d t) (declared s) (λ later formula. e ≡ quiet (changed s (asserting (declaring s.stack later) formula)))
 Does s number check_sat e = (v : Verdict) × ComesTo (context_of s) (in_force s.stack) (budget s.options) v × (e ≡ decided s number v)
 Does s number (push n) e = e ≡ quiet (changed s (pushed_by n s.stack))
 Does s number (pop n) e = e ≡ quiet (changed s (popped_by s.options.global_declarations n s.stack))

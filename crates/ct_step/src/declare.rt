@@ -1,8 +1,8 @@
 //! The commands that declare, define and assert (SMT-LIB 2.7, sections 4.2.3 and 4.2.4).
 ghost use Rattle.std.specs.Prelude.{ℕ};
 ghost use Rattle.ct_sexpr.specs.View.{expression_of};
-ghost use Rattle.ct_command.specs.Command.{declare_sort, declare_block, declare_fun, define_fun, assert};
-ghost use Rattle.ct_command.specs.Seen.{all_seen, head_seen, heads_seen, bodies_seen, nameds_seen};
+ghost use Rattle.ct_command.specs.Command.{define_sort, declare_sort, declare_block, declare_fun, define_fun, assert};
+ghost use Rattle.ct_command.specs.Seen.{names_seen, all_seen, heads_seen, bodies_seen, nameds_seen};
 ghost use Rattle.ct_step.specs.Done.{IsDone};
 
 use crate::answer::{Answer, quiet};
@@ -15,12 +15,31 @@ use std::alloc::Global;
 pub(crate) fn declare_sort(
     alloc: Global,
     state: &mut SessionState,
-    head: SortHead<'_>,
+    name: &[u8],
+    params: u8,
 ) -> Result<Answer, CommandError>
-    ensures done { (number : ℕ) → IsDone state.old number (declare_sort (head_seen head.entry)) state.new result }
+    ensures done { (number : ℕ) → IsDone state.old number (declare_sort name.now params) state.new result }
 {
     let answer = quiet(alloc, state.options)?;
-    state.stack.declare_sort(alloc, head)?;
+    state.stack.declare_sort(alloc, name, params)?;
+    state.kept = None;
+    Ok(answer)
+}
+
+/// Adds a synonym of a sort.
+pub(crate) fn define_sort(
+    alloc: Global,
+    state: &mut SessionState,
+    name: &[u8],
+    params: Vec<&[u8]>,
+    body: &Sexpr,
+) -> Result<Answer, CommandError>
+    ensures done { (number : ℕ) → IsDone state.old number (define_sort name.now (names_seen params.entry) (expression_of body.now)) state.new result }
+{
+    let answer = quiet(alloc, state.options)?;
+    state
+        .stack
+        .define_sort(alloc, name, params.as_slice(), body)?;
     state.kept = None;
     Ok(answer)
 }

@@ -3,6 +3,7 @@ ghost use Rattle.std.specs.Prelude.{◌≡◌, ◌↔◌, ℕ, IfSome, IsTrue, O
 ghost use Rattle.ct_sorts.specs.Marks.{CanCut, cut, lengths};
 ghost use Rattle.ct_terms.specs.Terms.{AreSorted};
 ghost use Rattle.ct_command.specs.Command.{push, pop, reset_assertions, reset};
+ghost use Rattle.ct_stack.specs.Levels.{IsBeside};
 ghost use Rattle.ct_step.specs.Done.{IsDone, state_of};
 ghost use Rattle.ct_step.specs.Store.{IsStoreOf, IsCut, IsStored};
 
@@ -123,12 +124,26 @@ fn cut_store(
 
 // Whether the mark is that of all that is declared.
 fn is_all(sig: &Signature, mark: &Mark) -> bool
+    requires can_cut { CanCut sig.now mark.now }
     ensures all { IsTrue result ↔ (mark.now ≡ lengths sig.now) }
 {
+    sig.sorts();
     let all = sig.mark();
-    mark.sorts() == all.sorts()
-        && mark.ctors() == all.ctors()
-        && mark.sels() == all.sels()
-        && mark.funs() == all.funs()
-        && mark.defs() == all.defs()
+    is_same(mark, &all)
+}
+
+// Whether the marks are the same.
+fn is_same(mark: &Mark, other: &Mark) -> bool
+    requires mark { IsBeside mark.now }
+    requires other { IsBeside other.now }
+    ensures same { IsTrue result ↔ (mark.now ≡ other.now) }
+{
+    mark.sorts() == other.sorts()
+        && mark.ctors() == other.ctors()
+        && mark.sels() == other.sels()
+        && mark.funs() == other.funs()
+        && mark.defs() == other.defs()
+        && mark.heads() == other.heads()
+        && mark.synonyms() == other.synonyms()
+        && mark.symbols() == other.symbols()
 }

@@ -8,7 +8,9 @@ ghost use Rattle.ct_step.specs.Known.{AreKnown, only_asks};
 use crate::answer::Answer;
 use crate::ask::{model, proof, values};
 use crate::check::check;
-use crate::declare::{assert, declare_block, declare_function, declare_sort, define_function};
+use crate::declare::{
+    assert, declare_block, declare_function, declare_sort, define_function, define_sort,
+};
 use crate::levels::{pop, push, reset, reset_assertions};
 use crate::settings::{
     echo, exit, get_info, get_option, set_info, set_logic, set_option, unsupported,
@@ -94,7 +96,8 @@ fn pass_on(
         Command::GetOption(name) => get_option(alloc, state, name),
         Command::SetInfo => set_info(alloc, state),
         Command::GetInfo(info) => get_info(alloc, state, info),
-        Command::DeclareSort(head) => declare_sort(alloc, state, head),
+        Command::DeclareSort(name, params) => declare_sort(alloc, state, name, params),
+        Command::DefineSort(name, params, body) => define_sort(alloc, state, name, params, body),
         Command::DeclareBlock(family, heads, bodies) => {
             declare_block(alloc, state, family, heads, bodies)
         }

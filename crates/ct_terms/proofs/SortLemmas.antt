@@ -143,6 +143,10 @@ Extends-same d = record {
   sels = Begins-same d.sels;
   functions = Begins-same d.functions;
   definitions = Begins-same d.definitions;
+  heads = Begins-same d.declared.heads;
+  synonyms = Begins-same d.declared.synonyms;
+  spellings = Begins-same d.spellings;
+  origins = Begins-same d.origins;
 }
 
 -- one function more extends them
@@ -153,6 +157,10 @@ Extends-function d f = record {
   sels = Begins-same d.sels;
   functions = (f ∷ [], refl);
   definitions = Begins-same d.definitions;
+  heads = Begins-same d.declared.heads;
+  synonyms = Begins-same d.declared.synonyms;
+  spellings = Begins-same d.spellings;
+  origins = Begins-same d.origins;
 }
 
 -- with more declarations a term keeps its sort

@@ -53,6 +53,11 @@ impl Model for Theory {
 
     ghost Value = { State };
 
+    ghost use Rattle.std.specs.Coded.{codes};
+    ghost use Rattle.ct_sorts.specs.ExpressionCode.{coded_expression};
+
+    ghost coded = { Prim.hlevel (codes, coded_expression) };
+
     ghost use Rattle.ct_theory.specs.Consulting.{MayBeAsideOf};
 
     ghost view = { λ theory. theory.classes.value };

@@ -1,5 +1,6 @@
 pub mod NumeralLemmas
 pub mod FitNameLemmas
+pub mod SortTextLemmas
 pub mod PlainLemmas
 pub mod StandLemmas
 pub mod TextLemmas

@@ -1,17 +1,20 @@
 -- What is written of a constructor over nodes, and of the nodes of a graph one by one.
-use Rattle.std.proofs.Common.{◌≡◌, ℕ, suc, ◌+◌, ◌<◌, ◌≤◌, List, [], ◌∷◌, ◌++◌, length, map, take, get_or, slice_get, Some, refl, sym, ap, ◌∙◌, arith, append_assoc, codes}
+use Rattle.std.proofs.Common.{◌≡◌, ℕ, suc, ◌+◌, ◌<◌, ◌≤◌, List, [], ◌∷◌, ◌++◌, length, map, take, get_or, slice_get, option_map, Some, refl, sym, ap, ◌∙◌, arith, append_assoc, codes}
 use Rattle.std.proofs.lemmas.List.{append-nil, take_more, length-take, take_all}
-use Rattle.std.proofs.lemmas.Option.{get_or_from_slice_get}
+use Rattle.std.proofs.lemmas.Option.{get_or_from_slice_get, same_Some}
 use Rattle.ct_lemmas.proofs.Lists.{slice_get-there}
+use Rattle.ct_sorts.specs.declared.ids.CtorId.{CtorId}
 use Rattle.ct_sorts.specs.Declarations.{Declarations}
 use Rattle.ct_sexpr.specs.Expression.{Expression}
 use Rattle.ct_sexpr.specs.Written.{written, written_items, written_after}
 use Rattle.ct_values.specs.declared.node.NodeId.{NodeId}
 use Rattle.ct_values.specs.declared.node.Node.{Node}
-use Rattle.ct_values.specs.Value.{reference, values_of}
-use Rattle.ct_value_text.specs.ValueText.{node_name, applied, expressions, row, node_texts, graph_text}
+use Rattle.ct_values.specs.declared.node.Node.TheVariants.{Con, Elem}
+use Rattle.ct_values.specs.declared.node.Head.TheVariants as heads
+use Rattle.ct_values.specs.Value.{reference, values_of, node_value}
+use Rattle.ct_value_text.specs.ValueText.{node_name, applied, ctor_expression, expression, expressions, row, node_texts, graph_text}
 use Rattle.ct_value_text.specs.Separation.{gap}
-use Rattle.ct_values.specs.Graph.{Nodes}
+use Rattle.ct_values.specs.Graph.{Nodes, node_head, node_children}
 use Rattle.ct_value_text.specs.Numeral.{numeral}
 
 -- one more node after those that are written
@@ -48,6 +51,22 @@ written-constructor d head (n ∷ ns) old begun named all new some p q r s =
     ∙ ap (λ w. (w ++ args) ++ 41 ∷ []) (append_assoc old (40 ∷ []) (written head))
     ∙ ap (λ w. w ++ 41 ∷ []) (append_assoc old (40 ∷ written head) args)
     ∙ append_assoc old (40 ∷ (written head ++ args)) (41 ∷ [])
+
+-- what stands at a node with a constructor at its head: the constructor over the children
+constructor-node : (d : Declarations) (node : Node) (c : CtorId) (ns : List NodeId) → node_head node ≡ heads.Con c → node_children node ≡ ns → applied (ctor_expression d c) (expressions d (values_of (map reference ns))) ≡ expression d (node_value node)
+constructor-node d (Con k children) c ns head_is below =
+    let same : c ≡ k = cc in
+    ap (λ (e : CtorId). applied (ctor_expression d e) (expressions d (values_of (map reference ns)))) same
+    ∙ ap (λ (ms : List NodeId). applied (ctor_expression d k) (expressions d (values_of (map reference ms)))) (sym below)
+constructor-node d (Elem s n) c ns head_is below = absurd cc
+
+-- the same, as a program knows it
+pub constructor-at : (d : Declarations) (g : Nodes) (n : ℕ) (c : CtorId) (ns : List NodeId) (node : Node) → option_map node_head (slice_get g n) ≡ Some (heads.Con c) → option_map node_children (slice_get g n) ≡ Some ns → slice_get g n ≡ Some node
+    → applied (ctor_expression d c) (expressions d (values_of (map reference ns))) ≡ expression d (node_value node)
+constructor-at d g n c ns node head_is below at =
+    constructor-node d node c ns
+    (same_Some (node_head node) (heads.Con c) (sym (ap (option_map node_head) at) ∙ head_is))
+    (same_Some (node_children node) ns (sym (ap (option_map node_children) at) ∙ below))
 
 -- one more row after those that are written
 rows_after-push : (d : Declarations) (n : ℕ) (xs : List Node) (x : Node) → written_after (node_texts d n (xs ++ x ∷ [])) ≡ written_after (node_texts d n xs) ++ 32 ∷ written (row d (n + length xs) x)

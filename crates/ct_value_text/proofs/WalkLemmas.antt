@@ -13,7 +13,7 @@ use Rattle.ct_value_text.specs.declared.tree_text.Item.{Item}
 use Rattle.ct_value_text.specs.declared.tree_text.Item.TheVariants.{Node, Close}
 use Rattle.ct_values.specs.Graph.{Nodes, node_head, node_children}
 use Rattle.ct_values.specs.Value.{Value, Values, element, construct, no_values, with_value, subterms, subterms_of_all}
-use Rattle.ct_value_text.specs.ValueText.{IsTreeText, IsTooGreat, most_plain, name, ctor_name, sort_name, applied, element_text, expression, expressions}
+use Rattle.ct_value_text.specs.ValueText.{IsTreeText, IsTooGreat, most_plain, ctor_expression, applied, element_text, expression, expressions}
 use Rattle.ct_value_text.specs.Walk.{StandAs, AreWithin, closes, opening, pending, IsBegun, IsWalked}
 use Rattle.ct_value_text.proofs.StandLemmas.{StandForAll, stands_constructor, constructor_stands, stands_element, element_stands, subterms_positive}
 
@@ -71,9 +71,9 @@ applied_text head first others old text =
     ap (λ w. old ++ 40 ∷ w) (append_assoc (h ++ args) (41 ∷ []) text ∙ append_assoc h args (41 ∷ text))
     ∙ sym (append_assoc old (40 ∷ h) (args ++ 41 ∷ text))
 
-begun_element : (d : Declarations) (g : Nodes) (n : NodeId) (s : SortId) (k : ℕ) (old : List ℕ) (before : List Item) → option_map node_head (slice_get g n.0) ≡ Some (Elem s k) → IsBegun d g n old (old ++ written (element_text (sort_name d s.0) k)) before before
+begun_element : (d : Declarations) (g : Nodes) (n : NodeId) (s : SortId) (k : ℕ) (old : List ℕ) (before : List Item) → option_map node_head (slice_get g n.0) ≡ Some (Elem s k) → IsBegun d g n old (old ++ written (element_text d s.0 k)) before before
 begun_element d g n s k old before head_is =
-    let w = written (element_text (sort_name d s.0) k) in
+    let w = written (element_text d s.0 k) in
     record {
       within = λ h. h;
       few_closes = omega arith;
@@ -84,9 +84,9 @@ begun_element d g n s k old before head_is =
       backward = λ rest others h. (element s k, rest, others, element_stands g n s k head_is, h, sym (append_assoc old w rest), omega arith);
     }
 
-begun_alone : (d : Declarations) (g : Nodes) (n : NodeId) (c : CtorId) (old : List ℕ) (before : List Item) → option_map node_head (slice_get g n.0) ≡ Some (Con c) → option_map node_children (slice_get g n.0) ≡ Some [] → IsBegun d g n old (old ++ written (name (ctor_name d c.0))) before before
+begun_alone : (d : Declarations) (g : Nodes) (n : NodeId) (c : CtorId) (old : List ℕ) (before : List Item) → option_map node_head (slice_get g n.0) ≡ Some (Con c) → option_map node_children (slice_get g n.0) ≡ Some [] → IsBegun d g n old (old ++ written (ctor_expression d c)) before before
 begun_alone d g n c old before head_is below =
-    let w = written (name (ctor_name d c.0)) in
+    let w = written (ctor_expression d c) in
     record {
       within = λ h. h;
       few_closes = omega arith;
@@ -103,9 +103,9 @@ begun_alone d g n c old before head_is below =
     none_for (with_value v vs) all = absurd all
 
 begun_over : (d : Declarations) (g : Nodes) (n : NodeId) (c : CtorId) (m : NodeId) (ms : List NodeId) (old : List ℕ) (before : List Item) → option_map node_head (slice_get g n.0) ≡ Some (Con c) → option_map node_children (slice_get g n.0) ≡ Some (m ∷ ms) → AllByRecursion (λ k. k.0 < length g) (m ∷ ms)
-    → IsBegun d g n old (old ++ 40 ∷ written (name (ctor_name d c.0))) before (map Node (m ∷ ms) ++ Close ∷ before)
+    → IsBegun d g n old (old ++ 40 ∷ written (ctor_expression d c)) before (map Node (m ∷ ms) ++ Close ∷ before)
 begun_over d g n c m ms old before head_is below inside =
-    let w = written (name (ctor_name d c.0)) in
+    let w = written (ctor_expression d c) in
     record {
       within = λ h. within_trees g (m ∷ ms) before inside h;
       few_closes = omega (arith, closes_trees (m ∷ ms) before);
@@ -132,17 +132,17 @@ begun_over d g n c m ms old before head_is below inside =
           );
     }
   where
-    text_of : (vs : Values) (text : List ℕ) → StandForAll g (m ∷ ms) vs → old ++ (written (expression d (construct c vs)) ++ text) ≡ (old ++ 40 ∷ written (name (ctor_name d c.0))) ++ (written_after (expressions d vs) ++ 41 ∷ text)
+    text_of : (vs : Values) (text : List ℕ) → StandForAll g (m ∷ ms) vs → old ++ (written (expression d (construct c vs)) ++ text) ≡ (old ++ 40 ∷ written (ctor_expression d c)) ++ (written_after (expressions d vs) ++ 41 ∷ text)
     text_of no_values text all = absurd all
-    text_of (with_value v vs) text all = applied_text (name (ctor_name d c.0)) (expression d v) (expressions d vs) old text
+    text_of (with_value v vs) text all = applied_text (ctor_expression d c) (expression d v) (expressions d vs) old text
 
 -- the same, as a program knows it
-pub begun-element : (d : Declarations) (g : Nodes) (n : NodeId) (s : SortId) (k : ℕ) (old new : List ℕ) (before after : List Item) → option_map node_head (slice_get g n.0) ≡ Some (Elem s k) → new ≡ old ++ written (element_text (sort_name d s.0) k) → after ≡ before → IsBegun d g n old new before after
+pub begun-element : (d : Declarations) (g : Nodes) (n : NodeId) (s : SortId) (k : ℕ) (old new : List ℕ) (before after : List Item) → option_map node_head (slice_get g n.0) ≡ Some (Elem s k) → new ≡ old ++ written (element_text d s.0 k) → after ≡ before → IsBegun d g n old new before after
 begun-element d g n s k old new before after head_is new_is after_is =
     subst (λ (items : List Item). IsBegun d g n old new before items) (sym after_is) (subst (λ (out : List ℕ). IsBegun d g n old out before before) (sym new_is) (begun_element d g n s k old before head_is))
 
 pub begun-constructor : (d : Declarations) (g : Nodes) (n : NodeId) (c : CtorId) (ns : List NodeId) (old new : List ℕ) (before after : List Item) → option_map node_head (slice_get g n.0) ≡ Some (Con c) → option_map node_children (slice_get g n.0) ≡ Some ns → AllByRecursion (λ k. k.0 < length g) ns
-    → new ≡ old ++ opening (written (name (ctor_name d c.0))) ns → after ≡ pending ns ++ before → IsBegun d g n old new before after
+    → new ≡ old ++ opening (written (ctor_expression d c)) ns → after ≡ pending ns ++ before → IsBegun d g n old new before after
 begun-constructor d g n c [] old new before after head_is below inside new_is after_is =
     subst (λ (items : List Item). IsBegun d g n old new before items) (sym after_is) (subst (λ (out : List ℕ). IsBegun d g n old out before before) (sym new_is) (begun_alone d g n c old before head_is below))
 begun-constructor d g n c (m ∷ ms) old new before after head_is below inside new_is after_is =

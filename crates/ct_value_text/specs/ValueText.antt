@@ -1,7 +1,12 @@
 -- How a value is written: a small finite tree as a constructor term, and else its minimal graph, node by node. That is this
--- project's choice, as are `(as @U_3 U)` for an element and `@3` for a node.
-use Rattle.std.specs.Prelude.{◌≡◌, ℕ, suc, ◌<◌, ◌≤◌, ◌⊎◌, List, [], ◌∷◌, ◌++◌, length, slice_get, unwrap_or, codes}
-use Rattle.ct_sorts.specs.Declarations.{Declarations, ctor_names, sort_names}
+-- project's choice, as are `(as @U_3 U)` for an element and `@3` for a node. A constructor whose sort its fields do not determine is
+-- written `(as C S)`.
+use Rattle.std.specs.Prelude.{◌≡◌, ℕ, suc, ◌<◌, ◌≤◌, ◌⊎◌, List, [], ◌∷◌, ◌++◌, length, slice_get, unwrap_or, codes, ◌==◌, if◌then◌else◌}
+use Rattle.ct_sorts.specs.declared.ids.CtorId.{CtorId}
+use Rattle.ct_sorts.specs.Declarations.{Declarations, ctor_names}
+use Rattle.ct_sorts.specs.SortText.{as_written}
+use Rattle.ct_instances.specs.Among.{origin_of}
+use Rattle.ct_instances.specs.Fields.{is_ctor_determined, sort_of_ctor}
 use Rattle.ct_sexpr.specs.Atom.{quoted}
 use Rattle.ct_sexpr.specs.Expression.{Expression, leaf, list, Expressions, none, more, word}
 use Rattle.ct_sexpr.specs.Written.{written}
@@ -29,21 +34,42 @@ name bytes = leaf (quoted bytes)
 abbrev pub node_name : ℕ → Expression
 node_name n = word (64 ∷ numeral n)
 
--- the name of the element n of the sort U, `@U_n`; 95 is `_`
+-- a sort as an expression of the language: its name, or the list of the generic's name and the arguments
+abbrev pub sort_expression : Declarations → ℕ → Expression
+sort_expression d s = as_written d.declared.heads (origin_of d (record { 0 = s }))
+
+-- the text of a sort
+abbrev pub sort_text : Declarations → ℕ → List ℕ
+sort_text d s = written (sort_expression d s)
+
+-- the text without its bars; 124 is `|`
+abbrev pub without_bars : List ℕ → List ℕ
+without_bars [] = []
+without_bars (byte ∷ bytes) = if byte == 124 then without_bars bytes else byte ∷ without_bars bytes
+
+-- what stands for a sort inside the symbols of its elements: its text without bars
+abbrev pub bare_sort : Declarations → ℕ → List ℕ
+bare_sort d s = without_bars (sort_text d s)
+
+-- the symbol of the element n of the sort U, `@U_n`, and of the sort (Arr E), `@(Arr E)_n`; 95 is `_`
 abbrev pub element_name : List ℕ → ℕ → List ℕ
 element_name sort n = 64 ∷ (sort ++ 95 ∷ numeral n)
 
--- the element n of the sort U as `(as @U_n U)`
-abbrev pub element_text : List ℕ → ℕ → Expression
-element_text sort n = list (more (word (codes "as")) (more (name (element_name sort n)) (more (name sort) none)))
+-- what is qualified by a sort, `(as C S)`
+abbrev pub qualified : List ℕ → Expression → Expression
+qualified symbol sort = list (more (word (codes "as")) (more (name symbol) (more sort none)))
 
--- the name of a sort
-abbrev pub sort_name : Declarations → ℕ → List ℕ
-sort_name d s = unwrap_or (slice_get (sort_names d) s) []
+-- the element n of the sort U as `(as @U_n U)`
+abbrev pub element_text : Declarations → ℕ → ℕ → Expression
+element_text d s n = qualified (element_name (bare_sort d s) n) (sort_expression d s)
 
 -- the name of a constructor
 abbrev pub ctor_name : Declarations → ℕ → List ℕ
 ctor_name d c = unwrap_or (slice_get (ctor_names d) c) []
+
+-- a constructor: its name, or `(as C S)` where the sorts of its fields do not determine its own
+abbrev pub ctor_expression : Declarations → CtorId → Expression
+ctor_expression d c = if is_ctor_determined d c then name (ctor_name d c.0) else qualified (ctor_name d c.0) (sort_expression d (sort_of_ctor d c).0)
 
 -- a head alone, or before its arguments in a list
 abbrev pub applied : Expression → Expressions → Expression
@@ -54,8 +80,8 @@ abbrev mutual
   -- a value as an expression: a constructor before its arguments, and a node of a graph by its number
   pub expression : Declarations → Value → Expression
   expression d (reference n) = node_name n.0
-  expression d (element s n) = element_text (sort_name d s.0) n
-  expression d (construct c vs) = applied (name (ctor_name d c.0)) (expressions d vs)
+  expression d (element s n) = element_text d s.0 n
+  expression d (construct c vs) = applied (ctor_expression d c) (expressions d vs)
 
   pub expressions : Declarations → Values → Expressions
   expressions d no_values = none

@@ -91,7 +91,7 @@ fn write_constructor(
 ) -> Result<(), ValueError>
     requires declared { IsConstructor sig.now c }
     ensures ok { OnOk result (out.new.items
-        ≡ out.old.items ++ written (spec.applied (spec.name (spec.ctor_name sig.now c.0)) (spec.expressions sig.now (values_of (map reference children.now))))) }
+        ≡ out.old.items ++ written (spec.applied (spec.ctor_expression sig.now c) (spec.expressions sig.now (values_of (map reference children.now))))) }
 {
     if children.is_empty() {
         return write_ctor(sig, c, out);

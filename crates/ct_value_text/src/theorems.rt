@@ -1,12 +1,13 @@
 //! What holds of texts of values. A theorem is the contract of a function that does nothing.
 ghost use Rattle.std.specs.Prelude.{◌≡◌, ◌↔◌, ℕ, List};
 ghost use Rattle.ct_sorts.specs.Declarations.{Declarations};
+ghost use Rattle.ct_sorts.specs.declared.ids.SortId.{SortId};
 ghost use Rattle.ct_sorts.specs.Consistent.{IsConsistent};
 ghost use Rattle.ct_values.specs.declared.node.NodeId.{NodeId};
 ghost use Rattle.ct_values.specs.Graph.{Nodes};
 ghost use Rattle.ct_values.specs.Agreement.{node_point, AgreeAlways};
 ghost use Rattle.ct_values.specs.Minimal.{IsMinimal};
-ghost use Rattle.ct_values.specs.Fitting.{FitsGraph};
+ghost use Rattle.ct_values.specs.Fitting.{FitsGraph, HasNodeSort};
 ghost use Rattle.ct_value_text.specs.ValueText.{IsValueText};
 
 use ct_sexpr::written_texts;
@@ -19,11 +20,13 @@ pub fn value_texts()
         → IsMinimal g root h
         → FitsGraph d h }
 
-    // Two nodes, each in its own graph, have one text exactly where they are equal values.
-    ensures one { (d : Declarations) (g h : Nodes) (a b : NodeId) (x y : List ℕ)
+    // Two nodes of one sort, each in its own graph, have one text exactly where they are equal values.
+    ensures one { (d : Declarations) (g h : Nodes) (a b : NodeId) (s : SortId) (x y : List ℕ)
         → IsConsistent d
         → FitsGraph d g
         → FitsGraph d h
+        → HasNodeSort d g a s
+        → HasNodeSort d h b s
         → IsValueText d g a x
         → IsValueText d h b y
         → (x ≡ y) ↔ AgreeAlways (node_point g a) (node_point h b) }

@@ -9,7 +9,7 @@ ghost use Rattle.ct_value_text.specs.declared.tree_text.Item.TheVariants as item
 ghost use Rattle.ct_values.specs.Fitting.{FitsGraph};
 ghost use Rattle.ct_sorts.specs.Declarations.{IsConstructor};
 ghost use Rattle.ct_sexpr.specs.Written.{written};
-ghost use Rattle.ct_value_text.specs.ValueText.{IsTreeText, IsTooGreat, name, ctor_name};
+ghost use Rattle.ct_value_text.specs.ValueText.{IsTreeText, IsTooGreat, ctor_expression};
 ghost use Rattle.ct_value_text.specs.Walk.{IsBegun, opening, pending};
 
 use crate::text::{write_ctor, write_element};
@@ -97,7 +97,7 @@ fn begin_constructor(
     stack: &mut Vec<Item>,
 ) -> Result<(), ValueError>
     requires declared { IsConstructor sig.now c }
-    ensures text { OnOk result (out.new.items ≡ out.old.items ++ opening (written (name (ctor_name sig.now c.0))) children.now) }
+    ensures text { OnOk result (out.new.items ≡ out.old.items ++ opening (written (ctor_expression sig.now c)) children.now) }
     ensures stack { OnOk result (reverse stack.new.items ≡ pending children.now ++ reverse stack.old.items) }
 {
     if children.is_empty() {

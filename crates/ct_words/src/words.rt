@@ -34,6 +34,7 @@ pub fn commands() -> NameTable<COMMANDS>
         "set-info",
         "get-info",
         "declare-sort",
+        "define-sort",
         "declare-datatype",
         "declare-codatatype",
         "declare-datatypes",
@@ -58,7 +59,6 @@ pub fn commands() -> NameTable<COMMANDS>
         "declare-sort-parameter",
         "get-assertions",
         "get-assignment",
-        "define-sort",
         "check-sat-assuming",
         "get-unsat-core",
         "get-unsat-assumptions"

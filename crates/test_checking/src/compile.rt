@@ -6,10 +6,10 @@ ghost use Rattle.ct_formulas.specs.TreeFormula.{formula_of};
 ghost use Rattle.test_checking.specs.Scopes.{IsSound};
 ghost use Rattle.test_checking.specs.Asserted.{IsAsserted};
 
-use crate::elaborate::show_error;
+use crate::elaborate::{own_scope, show_error};
 use crate::show::{show_number, show_sort_name, show_terms};
 use ct_cases::{CaseError, extends_start};
-use ct_check::{elaborate, elaboration};
+use ct_check::{elaborate_there, elaboration};
 use ct_compile::{Scope, compile};
 use ct_formulas::Tree;
 use ct_sexpr::Sexpr;
@@ -28,7 +28,8 @@ pub fn show_compiled(
 {
     elaboration();
     scope.sig.sorts();
-    match elaborate(alloc, scope, &[], expr) {
+    let mut own = own_scope(alloc, scope)?;
+    match elaborate_there(alloc, &mut own, &[], expr) {
         Ok((tree, sort)) => show_core(alloc, scope, &tree, sort, out),
         Err(error) => show_error(alloc, error, out),
     }

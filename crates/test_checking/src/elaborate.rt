@@ -1,7 +1,7 @@
 //! Sort checking: `(elaborate (PARAMETER ..) EXPRESSION)`, where a parameter is `(NAME SORT)`, shows
 //! the expression's sort or its first error, as `E21`; so does `(sort EXPRESSION)` of the sort that
 //! an expression names.
-ghost use Rattle.std.specs.Prelude.{[], All, IfOk, map};
+ghost use Rattle.std.specs.Prelude.{◌≡◌, [], All, IfOk, map};
 ghost use Rattle.ct_sorts.specs.Declarations.{IsSort};
 ghost use Rattle.ct_formulas.specs.Formula.{bind};
 ghost use Rattle.ct_formulas.specs.FormulaSorts.{IsSorted};
@@ -10,11 +10,11 @@ ghost use Rattle.ct_names.specs.declared.variables.Param.{Param};
 
 use crate::show::show_sort_name;
 use ct_cases::{CaseError, bytes_of, items_of, sort_of as declared_sort};
-use ct_check::{CheckError, Param, elaborate, elaboration, sort_of};
+use ct_check::{CheckError, Param, elaborate, elaborate_there, elaboration, sort_of};
 use ct_compile::Scope;
 use ct_formulas::Tree;
 use ct_sexpr::{Bytes, Sexpr};
-use ct_sorts::{Signature, SortId};
+use ct_sorts::{Items, Signature, SortId};
 use std::alloc::Global;
 
 /// Shows the sort of an expression under parameters, or its first error.
@@ -26,10 +26,11 @@ pub fn show_sort(
     out: &mut String,
 ) -> Result<(), CaseError> {
     let params = params_of(alloc, &scope.sig, params)?;
-    match elaborate(alloc, scope, &params, expr) {
+    let mut own = own_scope(alloc, scope)?;
+    match elaborate(alloc, &mut own, &params, expr) {
         Ok((tree, sort)) => {
             drop(tree);
-            show_sort_name(alloc, &scope.sig, sort, out)
+            show_sort_name(alloc, &own.sig, sort, out)
         }
         Err(error) => show_error(alloc, error, out),
     }
@@ -42,8 +43,9 @@ pub fn show_named(
     expr: &Sexpr,
     out: &mut String,
 ) -> Result<(), CaseError> {
-    match sort_of(scope, expr) {
-        Ok(sort) => show_sort_name(alloc, &scope.sig, sort, out),
+    let mut own = own_scope(alloc, scope)?;
+    match sort_of(alloc, &mut own, expr) {
+        Ok(sort) => show_sort_name(alloc, &own.sig, sort, out),
         Err(error) => show_error(alloc, error, out),
     }
 }
@@ -70,11 +72,21 @@ pub fn term_of(
 {
     elaboration();
     scope.sig.sorts();
-    match elaborate(alloc, scope, params, expr) {
+    let mut own = own_scope(alloc, scope)?;
+    match elaborate_there(alloc, &mut own, params, expr) {
         Ok(found) => Ok(found),
         Err(CheckError::Refused(_)) => Err(CaseError::Bad),
         Err(CheckError::NoMemory) => Err(CaseError::NoMemory),
     }
+}
+
+/// The declarations of the scope alone.
+pub fn own_scope(alloc: Global, scope: &Scope) -> Result<Box<Scope>, CaseError>
+    ensures same { IfOk result (λ own. own.value.sig ≡ scope.now.sig) }
+{
+    let sig = scope.sig.copy()?;
+    let bodies = Items::new(Vec::new(alloc));
+    Ok(Box::new(alloc, Scope { sig, bodies })?)
 }
 
 /// The parameters that the parts write.

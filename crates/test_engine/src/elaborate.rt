@@ -1,5 +1,5 @@
 //! Expressions of cases: parameters, and the trees of terms.
-ghost use Rattle.std.specs.Prelude.{[], All, IfOk, map};
+ghost use Rattle.std.specs.Prelude.{◌≡◌, [], All, IfOk, map};
 ghost use Rattle.ct_sorts.specs.Declarations.{IsSort};
 ghost use Rattle.ct_formulas.specs.Formula.{bind};
 ghost use Rattle.ct_formulas.specs.FormulaSorts.{IsSorted};
@@ -7,11 +7,11 @@ ghost use Rattle.ct_formulas.specs.TreeFormula.{formula_of};
 ghost use Rattle.ct_names.specs.declared.variables.Param.{Param};
 
 use ct_cases::{CaseError, bytes_of, items_of, sort_of as declared_sort};
-use ct_check::{CheckError, Param, elaborate, elaboration};
+use ct_check::{CheckError, Param, elaborate_there, elaboration};
 use ct_compile::Scope;
 use ct_formulas::Tree;
 use ct_sexpr::{Bytes, Sexpr};
-use ct_sorts::{Signature, SortId};
+use ct_sorts::{Items, Signature, SortId};
 use std::alloc::Global;
 
 /// The tree of an expression under parameters, and its sort.
@@ -26,11 +26,21 @@ pub fn term_of(
 {
     elaboration();
     scope.sig.sorts();
-    match elaborate(alloc, scope, params, expr) {
+    let mut own = own_scope(alloc, scope)?;
+    match elaborate_there(alloc, &mut own, params, expr) {
         Ok(found) => Ok(found),
         Err(CheckError::Refused(_)) => Err(CaseError::Bad),
         Err(CheckError::NoMemory) => Err(CaseError::NoMemory),
     }
+}
+
+/// The declarations of the scope alone.
+pub fn own_scope(alloc: Global, scope: &Scope) -> Result<Box<Scope>, CaseError>
+    ensures same { IfOk result (λ own. own.value.sig ≡ scope.now.sig) }
+{
+    let sig = scope.sig.copy()?;
+    let bodies = Items::new(Vec::new(alloc));
+    Ok(Box::new(alloc, Scope { sig, bodies })?)
 }
 
 /// The parameters that the parts write.

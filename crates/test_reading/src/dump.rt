@@ -2,8 +2,12 @@
 //! kind and its constructors, a constructor with its name, its sort and its selectors, a selector
 //! with its name, its constructor, its index among the fields and its sort, a function with its
 //! name, its arguments and its result, and a definition with the last two.
+ghost use Rattle.std.specs.Prelude.{◌<◌, length};
+ghost use Rattle.ct_generics.specs.Declarations.{Head};
+ghost use Rattle.ct_sorts.specs.Lookup.{IsGeneric, IsGenericHead};
+
 use ct_cases::{CaseError, show_bytes};
-use ct_sorts::{CtorId, DefId, FunId, SelId, Signature, SortId};
+use ct_sorts::{CtorId, DefId, FunId, GenId, SelId, Signature, SortId};
 use std::alloc::Global;
 
 /// Shows everything.
@@ -46,6 +50,8 @@ pub fn show_one(
         "sel" => show_sel(alloc, sig, number, out)?,
         "function" => show_function(alloc, sig, number, out)?,
         "definition" => show_definition(alloc, sig, number, out)?,
+        "origin" => show_origin(alloc, sig, number, out)?,
+        "determined" => show_determined(alloc, sig, number, out)?,
         _ => return Err(CaseError::Bad),
     }
     out.push(']')?;
@@ -68,6 +74,102 @@ fn show_sort(
         show_number(alloc, c.0, out)?;
     }
     out.push(')')?;
+    Ok(())
+}
+
+/// Shows the generic and the arguments of a sort, and its text.
+fn show_origin(
+    alloc: Global,
+    sig: &Signature,
+    number: u32,
+    out: &mut String,
+) -> Result<(), CaseError> {
+    if number >= sig.sorts() {
+        return Err(CaseError::Bad);
+    }
+    let sort = SortId(number);
+    match sig.sort_gen(sort) {
+        None => out.push('-')?,
+        Some(g) => out.push_str(format!(in alloc; "{}", g.0)?.as_str())?,
+    }
+    out.push_str(" (")?;
+    for arg in sig.sort_args(sort) {
+        show_number(alloc, arg.0, out)?;
+    }
+    out.push_str(") ")?;
+    show_bytes(alloc, sig.sort_text(sort), out)
+}
+
+/// Shows the generic of this name.
+pub fn show_generic(
+    alloc: Global,
+    sig: &Signature,
+    name: &[u8],
+    out: &mut String,
+) -> Result<(), CaseError> {
+    match sig.generic_named(name) {
+        Some(g) => show_generic_at(alloc, sig, g, out),
+        None => Err(CaseError::Bad),
+    }
+}
+
+/// Shows a generic: its number, its name, its kind, the number of its parameters, and for each constructor how many fields
+/// there are and whether they determine the arguments.
+fn show_generic_at(
+    alloc: Global,
+    sig: &Signature,
+    g: GenId,
+    out: &mut String,
+) -> Result<(), CaseError>
+    requires generic { IsGeneric sig.now g }
+{
+    out.push_str(format!(in alloc; " [generic {} ", g.0)?.as_str())?;
+    show_bytes(alloc, sig.gen_name(g), out)?;
+    let (kind, params) = (sig.gen_kind(g), sig.gen_params(g));
+    out.push_str(format!(in alloc; " {kind:?} {params} (")?.as_str())?;
+    for i in 0..sig.gen_ctors(g) {
+        show_generic_ctor(alloc, sig, g, i, out)?;
+    }
+    out.push_str(")]")?;
+    Ok(())
+}
+
+/// Shows how many fields the constructor of a generic has and whether they determine the arguments.
+fn show_generic_ctor(
+    alloc: Global,
+    sig: &Signature,
+    g: GenId,
+    ctor: u32,
+    out: &mut String,
+) -> Result<(), CaseError>
+    requires generic { IsGeneric sig.now g }
+    requires below { (head : Head) → IsGenericHead sig.now g head → ctor < length head.ctors }
+{
+    if ctor > 0 {
+        out.push(' ')?;
+    }
+    let (_, fields) = sig.gen_fields(g, ctor);
+    out.push_str(format!(in alloc; "{}", fields.len())?.as_str())?;
+    out.push(if sig.gen_determined(g, ctor) {
+        '+'
+    } else {
+        '-'
+    })?;
+    Ok(())
+}
+
+/// Shows whether the constructor is determined.
+fn show_determined(
+    alloc: Global,
+    sig: &Signature,
+    number: u32,
+    out: &mut String,
+) -> Result<(), CaseError> {
+    if number >= sig.mark().ctors() {
+        return Err(CaseError::Bad);
+    }
+    let determined = sig.determined(CtorId(number));
+    out.push_str(format!(in alloc; "{determined}")?.as_str())?;
     Ok(())
 }
 

@@ -80,6 +80,13 @@ fn answer_declarations(
         [steps, more] if kind == "copied" => {
             declarations::answer_copied(rt.alloc(), items_of(steps)?, items_of(more)?, out)
         }
+        [steps, level, last] if kind == "level" => declarations::answer_level(
+            rt.alloc(),
+            items_of(steps)?,
+            items_of(level)?,
+            items_of(last)?,
+            out,
+        ),
         [steps, more] if kind == "cut" => {
             declarations::answer_cut(rt.alloc(), items_of(steps)?, items_of(more)?, out)
         }

@@ -1,7 +1,7 @@
 //! Terms of one layer that a case names: `(con CONSTRUCTOR TERM ..)`, `(sel SELECTOR TERM)`,
 //! `(is CONSTRUCTOR TERM)`, `(app FUNCTION TERM ..)`, `(= TERM TERM)`, `(not TERM)`,
 //! `(and TERM ..)`, `(or TERM ..)`, `(iff TERM TERM)` and `(ite TERM TERM TERM)`, each over the
-//! numbers of terms. A symbol that is not declared is named by its number.
+//! numbers of terms. A constructor of an instance is named as `(as NAME SORT)`, and a symbol that is not declared by its number.
 use ct_cases::{CaseError, size_of, split_word, symbol_of};
 use ct_sexpr::Sexpr;
 use ct_sorts::{CtorId, FunId, SelId, Signature, Symbol};
@@ -57,13 +57,12 @@ fn named(alloc: Global, sig: &Signature, part: &Sexpr) -> Result<Option<Symbol>,
     }
 }
 
-/// The constructor of this name or number.
+/// The constructor of this name, also of an instance, or of this number.
 pub fn ctor_of(alloc: Global, sig: &Signature, part: &Sexpr) -> Result<CtorId, CaseError> {
-    match named(alloc, sig, part)? {
-        Some(Symbol::Ctor(c)) => Ok(c),
-        None => Ok(CtorId(size_of(part)?)),
-        _ => Err(CaseError::Bad),
+    if let Sexpr::Numeral(_) = part {
+        return Ok(CtorId(size_of(part)?));
     }
+    ct_cases::ctor_of(alloc, sig, part)
 }
 
 /// The selector of this name or number.

@@ -1,12 +1,12 @@
 //! Nodes that a case names. A graph is a list of nodes, numbered from 0; a node is
-//! `(CONSTRUCTOR CHILD ..)` or `(elem SORT NUMBER)`, a constructor and a sort their names or,
-//! also of those that are not declared, their numbers, and a child the number of a node or `last`
+//! `(CONSTRUCTOR CHILD ..)` or `(elem SORT NUMBER)`, a constructor its name or, of an instance, `(as NAME SORT)`, a sort as a
+//! case writes sorts, or both, also of those that are not declared, their numbers, and a child the number of a node or `last`
 //! for the node before. `(times 3 CONSTRUCTOR CHILD ..)` stands for three such nodes.
 ghost use Rattle.std.specs.Prelude.{◌<◌, length, IfOk};
 
-use ct_cases::{CaseError, is_word, items_of, number_of, size_of, symbol_of};
+use ct_cases::{CaseError, is_word, items_of, number_of, size_of};
 use ct_sexpr::Sexpr;
-use ct_sorts::{CtorId, Signature, SortId, Symbol};
+use ct_sorts::{CtorId, Signature, SortId};
 use ct_values::{Graph, Node, NodeId, NodeIds, are_closed};
 use std::alloc::Global;
 
@@ -98,18 +98,15 @@ fn child_of(part: &Sexpr, len: usize) -> Result<NodeId, CaseError> {
     Ok(NodeId(number_of(part)?))
 }
 
-/// The constructor of this name or number.
+/// The constructor of this name, also of an instance, or of this number.
 pub fn ctor_of(alloc: Global, sig: &Signature, part: &Sexpr) -> Result<CtorId, CaseError> {
     if let Sexpr::Numeral(_) = part {
         return Ok(CtorId(size_of(part)?));
     }
-    match symbol_of(alloc, sig, part)? {
-        Some(Symbol::Ctor(c)) => Ok(c),
-        _ => Err(CaseError::Bad),
-    }
+    ct_cases::ctor_of(alloc, sig, part)
 }
 
-/// The sort of this name or number.
+/// The sort that a case writes so, or of this number.
 pub fn sort_of(alloc: Global, sig: &Signature, part: &Sexpr) -> Result<SortId, CaseError> {
     if let Sexpr::Numeral(_) = part {
         return Ok(SortId(size_of(part)?));

@@ -7,7 +7,7 @@ use Rattle.ct_log_text.proofs.read.add_terms.Given as goal
 abbrev pub invariant-loop-rest : goal.invariant-loop-rest
 invariant-loop-rest l = record {
   reads : (outcome : ReadOutcome) → ReadsTerms l.sig l.place l.table (expressions_of l.rest) outcome → ReadsTerms l.sig 3 l.fn.table (expressions_of l.items) outcome;
-  sorted : AreSorted l.sig l.fn.table → AreSorted l.sig l.table;
+  sorted : AreSorted l.sig l.table;
   place : l.place + length l.rest ≡ 3 + length l.items;
 }
 

@@ -1,9 +1,9 @@
-use Rattle.std.proofs.Common.{[], ◌≤◌, length, subst, arith}
-use Rattle.ct_sexpr.specs.Expression.{nesting, more, none}
+use Rattle.std.proofs.Common.{[], length, subst}
+use Rattle.ct_sexpr.specs.Expression.{more, none}
 use Rattle.ct_sexpr.specs.Reading.{BeginsCommand}
 use Rattle.ct_log_text.specs.Written.{text_of, expression_of_record, header_item, end_item, term_items, line_items}
 use Rattle.ct_log_text.proofs.SpacedText.{text_read}
-use Rattle.ct_log_text.proofs.PlainBack.{plain_record}
+use Rattle.ct_log_text.proofs.PlainBack.{TextTheorems, plain_record}
 use Rattle.ct_log_text.proofs.theorems.text_is_read.Goals as goal
 
 pub returns : goal.returns
@@ -12,8 +12,7 @@ returns c = record {
   derivation_is_read = λ d k rec consistent can.
       let e = expression_of_record d k rec in
       let items = more (header_item k) (term_items d 0 rec.terms (line_items 1 rec.lines (more (end_item (length rec.lines)) none))) in
-      let plain = plain_record d consistent k rec can in
-      let nests = plain.2 in
-      let low : nesting e ≤ 1000 = omega (arith, nests) in
-      subst (λ f. BeginsCommand (text_of e) f []) plain.1 (text_read c.spaced_texts.ensures.written_is_spaced c.spaced_texts.ensures.spaced_is_read items plain.0 low);
+      let theorems : TextTheorems = record { same_text = c.written_texts.ensures.same_text; one_name = c.written_texts.ensures.one_name } in
+      let plain = plain_record theorems d consistent k rec can in
+      subst (λ f. BeginsCommand (text_of e) f []) plain.1 (text_read c.spaced_texts.ensures.written_is_spaced c.spaced_texts.ensures.spaced_is_read items plain.0 can.nests);
 }

@@ -1,4 +1,4 @@
-use Rattle.ct_value_text.proofs.PlainLemmas.{TextTheorems}
+use Rattle.ct_value_text.proofs.SortTextLemmas.{TextTheorems}
 use Rattle.ct_readback.proofs.PrintedModels.{model_reads_back, command_reads_back}
 use Rattle.ct_readback.proofs.theorems.printed_models.Goals as goal
 

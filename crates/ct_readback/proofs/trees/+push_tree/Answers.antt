@@ -30,7 +30,7 @@ push_application-returns-in-Some-pushed-clause-node t c =
     (subst (λ (o : Option (List NodeId)). AreNodesOf d fields es c.push_trees.new.graph o) c.in-Some-pushed.is c.in_ok-pushed.ensures.nodes) in
     subst (λ (all : Expressions). IfOk c.push_constructor.result (IsNodeOf d c.args.s (application_at d c.args.s all) c.push_constructor.new.graph)) (sym split)
     (ok_map _ _ c.push_constructor.result
-    (λ found h. application_node d c.args.s c.push_constructor.new.graph head es c.in-Some.c fields args.0 found (sym c.in-Some.ensures.value) c.ctor_sels.ensures.value args.1 (h fields args.0 c.ctor_sels.ensures.value args.2))
+    (λ found h. application_node d c.args.s c.push_constructor.new.graph head es c.in-Some.c fields args.0 found (sym c.in-Some.ensures.value) c.ctor_sels.ensures.value c.in-Some.ensures.sort args.1 (h fields args.0 c.ctor_sels.ensures.value args.2))
     c.push_constructor.ensures.node)
 
 pub push_tree-push_element-requires-clause-free : goal.push_tree-push_element-requires-clause-free

@@ -4,14 +4,14 @@ use Rattle.ct_script.proofs.OneStackLemmas.{steps_alike, check_rests, replayed_a
 use Rattle.ct_script.proofs.theorems.replayed_scripts.Goals as goal
 
 pub returns-clause-step : goal.returns-clause-step
-returns-clause-step c = steps_alike
+returns-clause-step c = steps_alike c.additions.ensures.same
 
 pub returns-clause-check : goal.returns-clause-check
 returns-clause-check c = check_rests
 
 pub returns-clause-replayed : goal.returns-clause-replayed
 returns-clause-replayed c = λ s number line x e old new r one step replays.
-    replayed_alike s (counted number x) old new line (command x) e r one step replays
+    replayed_alike c.additions.ensures.same s (counted number x) old new line (command x) e r one step replays
 
 pub returns-clause-counted : goal.returns-clause-counted
 returns-clause-counted c = λ line x old new r replays. replayed_counted old new line (command x) r replays
@@ -20,10 +20,10 @@ pub returns-clause-told : goal.returns-clause-told
 returns-clause-told c = λ line x old new r replays. replayed_told old new line (command x) r replays
 
 pub returns-clause-replay : goal.returns-clause-replay
-returns-clause-replay c = leads_alike
+returns-clause-replay c = leads_alike c.additions.ensures.same
 
 pub returns-clause-count : goal.returns-clause-count
 returns-clause-count c = leads_counted
 
 pub returns-clause-through : goal.returns-clause-through
-returns-clause-through c = answers_through
+returns-clause-through c = answers_through c.additions.ensures.same

@@ -2,8 +2,8 @@ use Rattle.std.proofs.Common.{ℕ, List, ◌∷◌, ◌++◌, map, sym, ◌∙�
 use Rattle.std.proofs.lemmas.List.{append-nil}
 use Rattle.std.proofs.lemmas.Result.{err_from_is_err_and}
 use Rattle.std.specs.List.{flat_map}
-use Rattle.ct_sorts.specs.declared.block.CtorDecl.{CtorDecl}
-use Rattle.ct_sorts.specs.declared.block.SortDecl.{SortDecl}
+use Rattle.ct_generics.specs.declared.decl.CtorDecl.{CtorDecl}
+use Rattle.ct_generics.specs.declared.decl.SortDecl.{SortDecl}
 use Rattle.ct_sorts.specs.Availability.{IsUnavailable, HasUnavailable}
 use Rattle.ct_sorts.specs.Declarations.{symbol_names}
 use Rattle.ct_sorts.specs.Lookup.{names_of}

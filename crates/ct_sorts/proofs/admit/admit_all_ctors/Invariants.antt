@@ -2,7 +2,7 @@ use Rattle.ct_sorts.specs.Availability.{IsUnavailable}
 use Rattle.ct_sorts.specs.Declarations.{symbol_names}
 use Rattle.ct_sorts.specs.Lookup.{names_of}
 use Rattle.ct_sorts.specs.Block.{ctor_symbols}
-use Rattle.ct_sorts.specs.declared.block.SortDecl.{SortDecl}
+use Rattle.ct_generics.specs.declared.decl.SortDecl.{SortDecl}
 use Rattle.ct_sorts.proofs.AdmitLemmas.{IsAdmitted}
 use Rattle.ct_sorts.proofs.admit.admit_all_ctors.Given as goal
 

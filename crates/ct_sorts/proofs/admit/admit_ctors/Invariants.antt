@@ -2,7 +2,7 @@ use Rattle.std.proofs.Common.{◌∷◌, map}
 use Rattle.ct_sorts.specs.Availability.{IsUnavailable}
 use Rattle.ct_sorts.specs.Declarations.{symbol_names}
 use Rattle.ct_sorts.specs.Lookup.{names_of}
-use Rattle.ct_sorts.specs.declared.block.CtorDecl.{CtorDecl}
+use Rattle.ct_generics.specs.declared.decl.CtorDecl.{CtorDecl}
 use Rattle.ct_sorts.proofs.AdmitLemmas.{IsAdmitted}
 use Rattle.ct_sorts.proofs.admit.admit_ctors.Given as goal
 

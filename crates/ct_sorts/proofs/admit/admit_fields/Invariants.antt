@@ -2,7 +2,7 @@ use Rattle.std.proofs.Common.{[], ◌∷◌}
 use Rattle.ct_sorts.specs.Availability.{IsUnavailable}
 use Rattle.ct_sorts.specs.Declarations.{symbol_names}
 use Rattle.ct_sorts.specs.Lookup.{names_of}
-use Rattle.ct_sorts.specs.declared.block.Field.{Field}
+use Rattle.ct_generics.specs.declared.decl.Field.{Field}
 use Rattle.ct_sorts.proofs.AdmitLemmas.{IsAdmitted}
 use Rattle.ct_sorts.proofs.admit.admit_fields.Given as goal
 

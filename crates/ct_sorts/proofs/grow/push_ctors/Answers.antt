@@ -1,35 +1,74 @@
-use Rattle.std.proofs.Common.{◌≡◌, ℕ, ◌+◌, List, [], ◌∷◌, ◌++◌, length, map, take, drop, refl, sym, ◌∙◌, ap, subst, arith, length-append}
-use Rattle.std.proofs.lemmas.List.{map-append}
-use Rattle.std.proofs.lemmas.List.Folds.{length-flat_map-take}
-use Rattle.ct_sorts.specs.declared.block.CtorDecl.{CtorDecl}
-use Rattle.ct_sorts.specs.Availability.{IsListed}
-use Rattle.ct_sorts.specs.Declarations.{Constructor, sel_ids}
-use Rattle.ct_sorts.specs.Lookup.{names_of}
-use Rattle.ct_sorts.specs.Stored.{ctor_of}
-use Rattle.ct_sorts.specs.Block.{all_fields, ctors_of_sort}
-use Rattle.ct_sorts.proofs.AdmitLemmas.{flat_map-take_more}
-use Rattle.ct_sorts.proofs.PieceLemmas.{Begins-more, piece_more, piece_distinct, piece_fresh}
+use Rattle.std.proofs.Common.{◌≡◌, ℕ, ◌+◌, ◌<◌, ◌≤◌, ◌++◌, All, List, [], ◌∷◌, length, map, take, get_or, sum, Some, slice_get, refl, sym, ◌∙◌, ap, subst, arith, length-append}
+use Rattle.std.proofs.lemmas.List.{length-map}
+use Rattle.std.proofs.lemmas.Option.{slice_get-get_or}
+use Rattle.ct_generics.specs.declared.nodes.ExprId.{ExprId}
+use Rattle.ct_generics.specs.Denoted.{sorts_of}
+use Rattle.ct_generics.specs.Expression.{Expression}
+use Rattle.ct_sorts.specs.declared.entries.CtorEntry.{CtorEntry}
+use Rattle.ct_sorts.specs.declared.spelling.Home.{Home}
+use Rattle.ct_sorts.specs.declared.spelling.Spelling.{Spelling}
+use Rattle.ct_sorts.specs.declared.tables.Tables.{Tables}
+use Rattle.ct_sorts.specs.Growing.{AreNumbered}
+use Rattle.ct_sorts.specs.Heads.{NamesEach}
+use Rattle.ct_sorts.specs.Made.{ctors_of_sort, sels_of_ctor}
+use Rattle.ct_sorts.specs.Same.{sort_among}
+use Rattle.ct_sorts.specs.Shapes.{field_shapes}
+use Rattle.ct_sorts.specs.Stored.{ctor_of, sel_of, spelling_at}
+use Rattle.ct_sorts.proofs.CtorsLemmas.{ctors_none, ctors_more, ctors_all, sum_so_far}
 use Rattle.ct_sorts.proofs.grow.push_ctors.Goals as goal
 
-pub push-requires : goal.push-requires
-push-requires c =
-    let name : c.in_ok-name.name ≡ c.decl-item.result.name = c.in_ok-name.ensures.ok ∙ c.as_slice.ensures.value in
-    let distinct = piece_distinct (λ (k : ℕ) (ts : List CtorDecl). ctors_of_sort c.args.sort k ts) (λ (k : ℕ) (t : CtorDecl). record { name = t.name; sort = record { 0 = c.args.sort }; sels = sel_ids k (length t.fields) } ∷ []) (λ (k : ℕ) (t : CtorDecl). k + length t.fields) (λ _ _ _. refl) c.args.decls.now c.loop-decl.decl-index c.decl-item.result c.loop-decl-test.true c.decl-item.is c.loop-decl.next (map ctor_of c.loop-decl.ctors) _ c.loop-decl.invariant.all (λ (t : Constructor). t.name) c.requires.fresh in
-    record { fresh = subst (λ text. IsListed (names_of c.loop-decl.ctors) text → ⊥) (sym name) (piece_fresh ctor_of (λ (t : Constructor). t.name) (λ _. refl) c.loop-decl.ctors (record { name = c.decl-item.result.name; sort = record { 0 = c.args.sort }; sels = sel_ids c.loop-decl.next (length c.decl-item.result.fields) }) distinct) }
+pub loop-row-init : goal.loop-row-init
+loop-row-init c = (refl, ctors_none c.args.tables.now c.args.sort c.args.head.0 c.args.rows.now)
 
-pub loop-decl-preserved : goal.loop-decl-preserved
-loop-decl-preserved c =
-    let name : c.in_ok-name.name ≡ c.decl-item.result.name = c.in_ok-name.ensures.ok ∙ c.as_slice.ensures.value in
-    let put : map ctor_of c.push.new.self ≡ map ctor_of c.loop-decl.ctors ++ (record { name = c.decl-item.result.name; sort = record { 0 = c.args.sort }; sels = sel_ids c.loop-decl.next (length c.decl-item.result.fields) }) ∷ [] =
-    ap (map ctor_of) c.in_ok-push.ensures.ok ∙ map-append ctor_of c.loop-decl.ctors _ ∙ (λ j. map ctor_of c.loop-decl.ctors ++ (record { name = name j; sort = record { 0 = c.args.sort }; sels = (c.in_ok-sels.ensures.ok ∙ ap (sel_ids c.loop-decl.next) c.len-count.ensures.len) j }) ∷ []) in
-    record {
-      counted = omega (arith, c.loop-decl.invariant.counted, c.len-count.ensures.len, ap length (flat_map-take_more (λ (t : CtorDecl). t.fields) c.args.decls.now c.loop-decl.decl-index c.decl-item.result c.loop-decl-test.true c.decl-item.is), length-append (all_fields (take c.loop-decl.decl-index c.args.decls.now)) c.decl-item.result.fields);
-      all = subst (λ n. map ctor_of c.push.new.self ++ ctors_of_sort c.args.sort (c.loop-decl.next + n) (drop (c.loop-decl.decl-index + 1) c.args.decls.now) ≡ map ctor_of c.args.ctors.now ++ ctors_of_sort c.args.sort c.args.first c.args.decls.now) (sym c.len-count.ensures.len) (piece_more (λ (k : ℕ) (ts : List CtorDecl). ctors_of_sort c.args.sort k ts) (λ (k : ℕ) (t : CtorDecl). record { name = t.name; sort = record { 0 = c.args.sort }; sels = sel_ids k (length t.fields) } ∷ []) (λ (k : ℕ) (t : CtorDecl). k + length t.fields) (λ _ _ _. refl) c.args.decls.now c.loop-decl.decl-index c.decl-item.result c.loop-decl-test.true c.decl-item.is c.loop-decl.next (map ctor_of c.loop-decl.ctors) _ c.loop-decl.invariant.all (map ctor_of c.push.new.self) put);
-      stored = Begins-more c.args.ctors.now c.loop-decl.ctors c.push.new.self _ c.loop-decl.invariant.stored c.in_ok-push.ensures.ok;
-    }
+pub push_ctor-requires-clause-sorts_few : goal.push_ctor-requires-clause-sorts_few
+push_ctor-requires-clause-sorts_few c = omega (arith, c.requires.sorts_few, ap (λ (t : Tables). length t.table.sorts) c.loop-row.invariant.1.others)
 
-pub sel_ids-requires : goal.sel_ids-requires
-sel_ids-requires c = record { few = omega (arith, c.loop-decl.invariant.counted, c.requires.sels_few, c.len-count.ensures.len, ap (λ (t : CtorDecl). length t.fields) c.decl-item.is, length-flat_map-take (λ (t : CtorDecl). t.fields) c.args.decls.now c.loop-decl.decl-index c.decl-item.result c.loop-decl-test.true) }
+pub push_ctor-requires-clause-ctors_few : goal.push_ctor-requires-clause-ctors_few
+push_ctor-requires-clause-ctors_few c = omega (arith, c.requires.ctors_few, c.loop-row.invariant.1.ctors_long, c.loop-row-test.true)
 
-pub overflow_add-next : goal.overflow_add-next
-overflow_add-next c = omega (arith, c.loop-decl.invariant.counted, c.requires.sels_few, c.len-count.ensures.len, ap (λ (t : CtorDecl). length t.fields) c.decl-item.is, length-flat_map-take (λ (t : CtorDecl). t.fields) c.args.decls.now c.loop-decl.decl-index c.decl-item.result c.loop-decl-test.true)
+pub push_ctor-requires-clause-sels_few : goal.push_ctor-requires-clause-sels_few
+push_ctor-requires-clause-sels_few c =
+    let at : slice_get c.args.rows.now c.loop-row.row-index ≡ Some c.row-item.result = slice_get-get_or c.args.rows.now c.loop-row.row-index c.row-item.result c.loop-row-test.true ∙ ap Some (sym c.row-item.is) in
+    omega (arith, c.requires.sels_few, c.loop-row.invariant.1.sels_long, ap length c.as_slice.ensures.value, sum_so_far c.args.rows.now c.loop-row.row-index c.row-item.result at)
+
+pub push_ctor-requires-clause-there : goal.push_ctor-requires-clause-there
+push_ctor-requires-clause-there c =
+    let there = c.requires.there c.loop-row.row-index c.row-item.result c.loop-row-test.true in
+    let row : get_or c.args.rows.now c.loop-row.row-index c.row-item.result ≡ c.as_slice.result.now = sym c.row-item.is ∙ sym c.as_slice.ensures.value in
+    subst (λ (t : Tables). All (λ (id : ExprId). (i : ℕ) × (slice_get t.table.sorts i ≡ Some id)) c.as_slice.result.now) (sym c.loop-row.invariant.1.others)
+    (subst (All (λ (id : ExprId). (i : ℕ) × (slice_get c.args.tables.now.table.sorts i ≡ Some id))) row there)
+
+pub loop-row-preserved : goal.loop-row-preserved
+loop-row-preserved c =
+    let old = c.args.tables.now in
+    let now = c.loop-row.tables in
+    let new = c.push_ctor.new.tables in
+    let i = c.loop-row.row-index in
+    let row = c.row-item.result in
+    let p = c.loop-row.invariant.1 in
+    let at : slice_get c.args.rows.now i ≡ Some row = slice_get-get_or c.args.rows.now i row c.loop-row-test.true ∙ ap Some (sym c.row-item.is) in
+    let pushed = subst (λ (t : Tables). (names : Spelling) (es : List Expression) → spelling_at t.spellings (record { head = c.args.head.0; ctor = c.loop-row.index }) ≡ Some names → AreNumbered t.table.sorts c.as_slice.result.now (sorts_of t.table) es → NamesEach names es
+    → (map (ctor_of t.spellings) new.ctors ≡ map (ctor_of t.spellings) now.ctors ++ ctors_of_sort c.args.sort.0 (length now.sels) (record { name = names.name; fields = field_shapes names.fields es } ∷ []))
+    × (map (sel_of t.spellings) new.sels ≡ map (sel_of t.spellings) now.sels ++ sels_of_ctor (sort_among (sorts_of t.table)) (length now.ctors) 0 (field_shapes names.fields es))) p.others c.in_ok-push_ctor.ensures.ok in
+    let by_row = subst (λ (r : List ExprId). (names : Spelling) (es : List Expression) → spelling_at old.spellings (record { head = c.args.head.0; ctor = c.loop-row.index }) ≡ Some names → AreNumbered old.table.sorts r (sorts_of old.table) es → NamesEach names es
+    → (map (ctor_of old.spellings) new.ctors ≡ map (ctor_of old.spellings) now.ctors ++ ctors_of_sort c.args.sort.0 (length now.sels) (record { name = names.name; fields = field_shapes names.fields es } ∷ []))
+    × (map (sel_of old.spellings) new.sels ≡ map (sel_of old.spellings) now.sels ++ sels_of_ctor (sort_among (sorts_of old.table)) (length now.ctors) 0 (field_shapes names.fields es))) c.as_slice.ensures.value pushed in
+    let by_index = subst (λ (k : ℕ). (names : Spelling) (es : List Expression) → spelling_at old.spellings (record { head = c.args.head.0; ctor = k }) ≡ Some names → AreNumbered old.table.sorts row (sorts_of old.table) es → NamesEach names es
+    → (map (ctor_of old.spellings) new.ctors ≡ map (ctor_of old.spellings) now.ctors ++ ctors_of_sort c.args.sort.0 (length now.sels) (record { name = names.name; fields = field_shapes names.fields es } ∷ []))
+    × (map (sel_of old.spellings) new.sels ≡ map (sel_of old.spellings) now.sels ++ sels_of_ctor (sort_among (sorts_of old.table)) (length now.ctors) 0 (field_shapes names.fields es))) c.loop-row.invariant.0 by_row in
+    let home = c.in_ok-push_ctor.ensures.homes ∙ ap (λ (k : ℕ). map (λ (e : CtorEntry). e.home) now.ctors ++ record { head = c.args.head.0; ctor = k } ∷ []) c.loop-row.invariant.0 in
+    let ctors_long : length new.ctors ≡ length now.ctors + 1 = omega (
+      arith,
+      ap length home,
+      length-map new.ctors (λ (e : CtorEntry). e.home),
+      length-map now.ctors (λ (e : CtorEntry). e.home),
+      length-append (map (λ (e : CtorEntry). e.home) now.ctors) (record { head = c.args.head.0; ctor = i } ∷ []),
+    ) in
+    let sels_long : length new.sels ≡ length now.sels + length row = omega (arith, c.in_ok-push_ctor.ensures.long, ap length c.as_slice.ensures.value) in (
+      omega (arith, c.loop-row.invariant.0),
+      ctors_more old now new c.args.sort c.args.head.0 c.args.rows.now i row p at c.in_ok-push_ctor.ensures.others c.in_ok-push_ctor.ensures.grown.0 c.in_ok-push_ctor.ensures.grown.1 ctors_long sels_long home c.in_ok-push_ctor.ensures.sel_homes by_index,
+    )
+
+pub returns-clause-ok : goal.returns-clause-ok
+returns-clause-ok c =
+    ctors_all c.args.tables.now c.loop-row.tables c.args.sort c.args.head.0 c.args.rows.now c.loop-row.row-index (omega (arith, c.loop-row-test.false)) c.loop-row.invariant.1

@@ -1,29 +1,28 @@
-use Rattle.std.proofs.Common.{◌≡◌, ℕ, ◌+◌, List, ◌++◌, length, map, refl, sym, ◌∙◌, ap, subst, arith}
-use Rattle.std.proofs.lemmas.List.Folds.{length-flat_map-take}
-use Rattle.ct_sorts.specs.declared.block.Field.{Field}
-use Rattle.ct_sorts.specs.declared.block.CtorDecl.{CtorDecl}
-use Rattle.ct_sorts.specs.Declarations.{Selector}
-use Rattle.ct_sorts.specs.Lookup.{AreDistinct, names_of}
-use Rattle.ct_sorts.specs.Stored.{sel_of}
-use Rattle.ct_sorts.specs.Block.{new_sels, sels_of_ctor, sort_of_field}
-use Rattle.ct_sorts.proofs.PieceLemmas.{Begins-trans, piece_more, piece_distinct}
+use Rattle.std.proofs.Common.{◌≡◌, ℕ, ◌+◌, ◌<◌, ◌++◌, [], ◌∷◌, length, Some, slice_get, refl, sym, ◌∙◌, ap, subst, arith, length-append}
+use Rattle.std.proofs.lemmas.Option.{same_Some, slice_get-get_or}
+use Rattle.ct_sorts.specs.declared.entries.SelEntry.{SelEntry}
+use Rattle.ct_sorts.proofs.SelLemmas.{ArePushed, IsSelEntry, pushed_none, pushed_more, pushed_homes, pushed_stand}
 use Rattle.ct_sorts.proofs.grow.push_sels.Goals as goal
 
-pub push_fields-requires : goal.push_fields-requires
-push_fields-requires c =
-    let fields = c.as_slice.ensures.value in
-    record {
-      sorts_few = c.requires.sorts_few;
-      few = omega (arith, c.requires.sels_few, ap (λ (fs : List Field). length fs) fields, ap (λ (t : CtorDecl). length t.fields) c.decl-item.is, length-flat_map-take (λ (t : CtorDecl). t.fields) c.args.decls.now c.loop-decl.decl-index c.decl-item.result c.loop-decl-test.true);
-      fresh = subst (λ fs. AreDistinct (map (λ (t : Selector). t.name) (map sel_of c.loop-decl.sels ++ sels_of_ctor (sort_of_field (names_of c.args.sorts.now) (names_of c.args.own.now)) c.loop-decl.ctor 0 fs))) (sym fields) (piece_distinct (λ (k : ℕ) (ts : List CtorDecl). new_sels (sort_of_field (names_of c.args.sorts.now) (names_of c.args.own.now)) k ts) (λ (k : ℕ) (t : CtorDecl). sels_of_ctor (sort_of_field (names_of c.args.sorts.now) (names_of c.args.own.now)) k 0 t.fields) (λ (k : ℕ) (t : CtorDecl). k + 1) (λ _ _ _. refl) c.args.decls.now c.loop-decl.decl-index c.decl-item.result c.loop-decl-test.true c.decl-item.is c.loop-decl.ctor (map sel_of c.loop-decl.sels) _ c.loop-decl.invariant.all (λ (t : Selector). t.name) c.requires.fresh);
-    }
+pub loop-field-init : goal.loop-field-init
+loop-field-init c = (refl, pushed_none c.args.sorts.now c.args.row.now c.args.home c.args.ctor c.args.sels.now)
 
-pub loop-decl-preserved : goal.loop-decl-preserved
-loop-decl-preserved c =
-    let put : map sel_of c.push_fields.new.sels ≡ map sel_of c.loop-decl.sels ++ sels_of_ctor (sort_of_field (names_of c.args.sorts.now) (names_of c.args.own.now)) c.loop-decl.ctor 0 c.decl-item.result.fields =
-    c.in_ok-push_fields.ensures.ok ∙ ap (λ fs. map sel_of c.loop-decl.sels ++ sels_of_ctor (sort_of_field (names_of c.args.sorts.now) (names_of c.args.own.now)) c.loop-decl.ctor 0 fs) c.as_slice.ensures.value in
-    record {
-      counted = omega (arith, c.loop-decl.invariant.counted);
-      all = piece_more (λ (k : ℕ) (ts : List CtorDecl). new_sels (sort_of_field (names_of c.args.sorts.now) (names_of c.args.own.now)) k ts) (λ (k : ℕ) (t : CtorDecl). sels_of_ctor (sort_of_field (names_of c.args.sorts.now) (names_of c.args.own.now)) k 0 t.fields) (λ (k : ℕ) (t : CtorDecl). k + 1) (λ _ _ _. refl) c.args.decls.now c.loop-decl.decl-index c.decl-item.result c.loop-decl-test.true c.decl-item.is c.loop-decl.ctor (map sel_of c.loop-decl.sels) _ c.loop-decl.invariant.all (map sel_of c.push_fields.new.sels) put;
-      stored = Begins-trans c.args.sels.now c.loop-decl.sels c.push_fields.new.sels c.loop-decl.invariant.stored c.in_ok-push_fields.ensures.stored;
-    }
+pub loop-field-preserved : goal.loop-field-preserved
+loop-field-preserved c =
+    let one : IsSelEntry c.args.sorts.now c.args.row.now c.args.home c.args.ctor c.loop-field.field-index (record { home = c.args.home; ctor = c.args.ctor; place = c.loop-field.place; sort = c.number-sort.result }) =
+    record { home_is = refl; ctor_is = refl; place_is = c.loop-field.invariant.0; sort_is = λ id at. subst (λ x. slice_get c.args.sorts.now c.number-sort.result.0 ≡ Some x) (same_Some _ _ (sym (slice_get-get_or c.args.row.now c.loop-field.field-index _ c.loop-field-test.true) ∙ at)) c.number-sort.ensures.at } in
+    (omega (arith, c.loop-field.invariant.0), pushed_more c.args.sorts.now c.args.row.now c.args.home c.args.ctor c.args.sels.now c.loop-field.sels c.push_item.new.items c.loop-field.field-index _ c.loop-field.invariant.1 one c.in_ok-push_item.ensures.ok)
+
+pub returns-clause-ok : goal.returns-clause-ok
+returns-clause-ok c = λ spellings origins es ctors names numbered at_head at_ctor named.
+    let all : c.loop-field.field-index ≡ length c.args.row.now = omega (arith, c.loop-field-test.false, c.loop-field.auto.field-index-end) in
+    pushed_stand spellings origins c.args.home c.args.ctor c.args.sorts.now c.args.row.now c.args.sels.now c.loop-field.sels es ctors names
+    (subst (ArePushed c.args.sorts.now c.args.row.now c.args.home c.args.ctor c.args.sels.now c.loop-field.sels) all c.loop-field.invariant.1) numbered at_head at_ctor named
+
+pub returns-clause-homes : goal.returns-clause-homes
+returns-clause-homes c = pushed_homes c.args.sorts.now c.args.row.now c.args.home c.args.ctor c.args.sels.now c.loop-field.sels c.loop-field.field-index c.loop-field.invariant.1
+
+pub returns-clause-long : goal.returns-clause-long
+returns-clause-long c =
+    let p = c.loop-field.invariant.1 in
+    omega (arith, ap length p.now_is, length-append c.args.sels.now p.more, p.long, c.loop-field-test.false, c.loop-field.auto.field-index-end)

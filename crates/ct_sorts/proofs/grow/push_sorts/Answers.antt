@@ -1,35 +1,63 @@
-use Rattle.std.proofs.Common.{◌≡◌, ℕ, ◌+◌, List, [], ◌∷◌, ◌++◌, length, map, take, drop, refl, sym, ◌∙◌, ap, subst, arith, length-append}
-use Rattle.std.proofs.lemmas.List.{map-append}
-use Rattle.std.proofs.lemmas.List.Folds.{length-flat_map-take}
-use Rattle.ct_sorts.specs.declared.block.SortDecl.{SortDecl}
-use Rattle.ct_sorts.specs.Availability.{IsListed}
-use Rattle.ct_sorts.specs.Declarations.{Sort, ctor_ids}
-use Rattle.ct_sorts.specs.Lookup.{names_of}
-use Rattle.ct_sorts.specs.Stored.{sort_of_entry}
-use Rattle.ct_sorts.specs.Block.{block_ctors, new_sorts}
-use Rattle.ct_sorts.proofs.AdmitLemmas.{flat_map-take_more}
-use Rattle.ct_sorts.proofs.PieceLemmas.{Begins-more, piece_more, piece_distinct, piece_fresh}
+use Rattle.std.proofs.Common.{◌≡◌, ℕ, ◌+◌, ◌<◌, ◌≤◌, List, length, map, drop, get_or, Some, slice_get, refl, sym, ◌∙◌, ap, subst, arith}
+use Rattle.std.proofs.lemmas.List.{length-map}
+use Rattle.std.proofs.lemmas.Option.{slice_get-get_or}
+use Rattle.ct_lemmas.proofs.Lists.{slice_get-map_at}
+use Rattle.ct_generics.specs.declared.nodes.ExprId.{ExprId}
+use Rattle.ct_generics.specs.Denoted.{sorts_of, expression_at}
+use Rattle.ct_generics.specs.Expression.{Expression}
+use Rattle.ct_sorts.specs.declared.tables.Tables.{Tables}
+use Rattle.ct_sorts.specs.Growing.{AreWithin, IsGrownBy}
+use Rattle.ct_sorts.proofs.PushSortsLemmas.{ArePushedSorts, sorts_none, sorts_more, sorts_all, sorts_fit}
 use Rattle.ct_sorts.proofs.grow.push_sorts.Goals as goal
 
-pub push-requires : goal.push-requires
-push-requires c =
-    let name : c.in_ok-name.name ≡ c.decl-item.result.name = c.in_ok-name.ensures.ok ∙ c.as_slice.ensures.value in
-    let distinct = piece_distinct (λ (k : ℕ) (ss : List SortDecl). new_sorts c.args.kind k ss) (λ (k : ℕ) (s : SortDecl). record { name = s.name; kind = c.args.kind; ctors = ctor_ids k (length s.ctors) } ∷ []) (λ (k : ℕ) (s : SortDecl). k + length s.ctors) (λ _ _ _. refl) c.args.block.now c.loop-decl.decl-index c.decl-item.result c.loop-decl-test.true c.decl-item.is c.loop-decl.next (map sort_of_entry c.loop-decl.sorts) _ c.loop-decl.invariant.all (λ (t : Sort). t.name) c.requires.fresh in
-    record { fresh = subst (λ text. IsListed (names_of c.loop-decl.sorts) text → ⊥) (sym name) (piece_fresh sort_of_entry (λ (t : Sort). t.name) (λ _. refl) c.loop-decl.sorts (record { name = c.decl-item.result.name; kind = c.args.kind; ctors = ctor_ids c.loop-decl.next (length c.decl-item.result.ctors) }) distinct) }
+none : ExprId
+none = record { 0 = 0 }
 
-pub loop-decl-preserved : goal.loop-decl-preserved
-loop-decl-preserved c =
-    let name : c.in_ok-name.name ≡ c.decl-item.result.name = c.in_ok-name.ensures.ok ∙ c.as_slice.ensures.value in
-    let put : map sort_of_entry c.push.new.self ≡ map sort_of_entry c.loop-decl.sorts ++ (record { name = c.decl-item.result.name; kind = c.args.kind; ctors = ctor_ids c.loop-decl.next (length c.decl-item.result.ctors) }) ∷ [] =
-    ap (map sort_of_entry) c.in_ok-push.ensures.ok ∙ map-append sort_of_entry c.loop-decl.sorts _ ∙ (λ j. map sort_of_entry c.loop-decl.sorts ++ (record { name = name j; kind = c.args.kind; ctors = (c.in_ok-ctors.ensures.ok ∙ ap (ctor_ids c.loop-decl.next) c.len-count.ensures.len) j }) ∷ []) in
-    record {
-      counted = omega (arith, c.loop-decl.invariant.counted, c.len-count.ensures.len, ap length (flat_map-take_more (λ (t : SortDecl). t.ctors) c.args.block.now c.loop-decl.decl-index c.decl-item.result c.loop-decl-test.true c.decl-item.is), length-append (block_ctors (take c.loop-decl.decl-index c.args.block.now)) c.decl-item.result.ctors);
-      all = subst (λ n. map sort_of_entry c.push.new.self ++ new_sorts c.args.kind (c.loop-decl.next + n) (drop (c.loop-decl.decl-index + 1) c.args.block.now) ≡ map sort_of_entry c.args.sorts.now ++ new_sorts c.args.kind c.args.first c.args.block.now) (sym c.len-count.ensures.len) (piece_more (λ (k : ℕ) (ss : List SortDecl). new_sorts c.args.kind k ss) (λ (k : ℕ) (s : SortDecl). record { name = s.name; kind = c.args.kind; ctors = ctor_ids k (length s.ctors) } ∷ []) (λ (k : ℕ) (s : SortDecl). k + length s.ctors) (λ _ _ _. refl) c.args.block.now c.loop-decl.decl-index c.decl-item.result c.loop-decl-test.true c.decl-item.is c.loop-decl.next (map sort_of_entry c.loop-decl.sorts) _ c.loop-decl.invariant.all (map sort_of_entry c.push.new.self) put);
-      stored = Begins-more c.args.sorts.now c.loop-decl.sorts c.push.new.self _ c.loop-decl.invariant.stored c.in_ok-push.ensures.ok;
-    }
+sort_listed : (t : Tables) (i : ℕ) → i < length t.table.sorts → slice_get (sorts_of t.table) i ≡ Some (expression_at t.table.expressions (get_or t.table.sorts i none))
+sort_listed t i within = slice_get-map_at (expression_at t.table.expressions) t.table.sorts i (get_or t.table.sorts i none) (slice_get-get_or t.table.sorts i none within)
 
-pub ctor_ids-requires : goal.ctor_ids-requires
-ctor_ids-requires c = record { few = omega (arith, c.loop-decl.invariant.counted, c.requires.few, c.len-count.ensures.len, ap (λ (t : SortDecl). length t.ctors) c.decl-item.is, length-flat_map-take (λ (t : SortDecl). t.ctors) c.args.block.now c.loop-decl.decl-index c.decl-item.result c.loop-decl-test.true) }
+as_long : (old now : Tables) (i : ℕ) → ArePushedSorts old now i → length now.table.sorts ≡ length old.table.sorts
+as_long old now i p = sym (length-map now.table.sorts (expression_at now.table.expressions)) ∙ ap length p.grown.same.origins_same ∙ length-map old.table.sorts (expression_at old.table.expressions)
 
-pub overflow_add-next : goal.overflow_add-next
-overflow_add-next c = omega (arith, c.loop-decl.invariant.counted, c.requires.few, c.len-count.ensures.len, ap (λ (t : SortDecl). length t.ctors) c.decl-item.is, length-flat_map-take (λ (t : SortDecl). t.ctors) c.args.block.now c.loop-decl.decl-index c.decl-item.result c.loop-decl-test.true)
+pub loop-i-init : goal.loop-i-init
+loop-i-init c = sorts_none c.args.tables.now c.args.first c.requires.first c.requires.ready
+
+pub push_sort-requires-clause-ready : goal.push_sort-requires-clause-ready
+push_sort-requires-clause-ready c = c.loop-i.invariant.ready
+
+pub push_sort-requires-clause-next : goal.push_sort-requires-clause-next
+push_sort-requires-clause-next c = c.loop-i.invariant.index
+
+pub push_sort-requires-clause-within : goal.push_sort-requires-clause-within
+push_sort-requires-clause-within c = omega (arith, c.loop-i-test.true, c.len-i-end.ensures.len, as_long c.args.tables.now c.loop-i.tables c.loop-i.i c.loop-i.invariant)
+
+pub push_sort-requires-clause-few : goal.push_sort-requires-clause-few
+push_sort-requires-clause-few c =
+    let old = c.args.tables.now in
+    λ e at. sorts_fit old c.loop-i.tables c.loop-i.i e c.loop-i.invariant (subst (λ (n : ℕ). AreWithin old (drop n (sorts_of old.table))) c.requires.first c.requires.few) at
+
+pub loop-i-preserved : goal.loop-i-preserved
+loop-i-preserved c =
+    let old = c.args.tables.now in
+    let now = c.loop-i.tables in
+    let i = c.loop-i.i in
+    let p = c.loop-i.invariant in
+    let within : i < length now.table.sorts = omega (arith, c.loop-i-test.true, c.len-i-end.ensures.len, as_long old now i p) in
+    let at = sort_listed now i within in
+    let e = expression_at now.table.expressions (get_or now.table.sorts i none) in
+    sorts_more old now c.push_sort.new.tables i e p at (c.in_ok-push_sort.ensures.ok e at) c.in_ok-push_sort.ensures.grown c.in_ok-push_sort.ensures.standing c.in_ok-push_sort.ensures.counted
+
+pub returns-clause-ok : goal.returns-clause-ok
+returns-clause-ok c =
+    let old = c.args.tables.now in
+    let past : length (sorts_of old.table) ≤ c.loop-i.i = omega (arith, c.loop-i-test.false, c.len-i-end.ensures.len, length-map old.table.sorts (expression_at old.table.expressions)) in
+    subst (λ (n : ℕ). IsGrownBy old c.loop-i.tables (drop n (sorts_of old.table))) (sym c.requires.first) (sorts_all old c.loop-i.tables c.loop-i.i past c.loop-i.invariant)
+
+pub returns-clause-grown : goal.returns-clause-grown
+returns-clause-grown c = c.loop-i.invariant.have
+
+pub returns-clause-standing : goal.returns-clause-standing
+returns-clause-standing c = c.loop-i.invariant.ready.standing
+
+pub returns-clause-counted : goal.returns-clause-counted
+returns-clause-counted c = c.loop-i.invariant.counted

@@ -1,6 +1,7 @@
-use Rattle.std.proofs.Common.{◌≡◌, ◌+◌, length, take}
-use Rattle.ct_sorts.specs.Block.{all_fields}
+use Rattle.std.proofs.Common.{length, take}
+use Rattle.ct_sorts.specs.Block.{block_ctors}
+use Rattle.ct_sorts.specs.Room.{IsLeft, decl_fields}
 use Rattle.ct_sorts.proofs.limits.room_after.Given as goal
 
-abbrev pub invariant-loop-ctor : goal.invariant-loop-ctor
-invariant-loop-ctor l = length (all_fields (take l.ctor-index l.ctors)) + l.left ≡ l.fn.room
+abbrev pub invariant-loop-decl : goal.invariant-loop-decl
+invariant-loop-decl l = IsLeft l.fn.room l.left l.decl-index (length (block_ctors (take l.decl-index l.block))) (length (decl_fields (block_ctors (take l.decl-index l.block))))

@@ -1,34 +1,32 @@
-use Rattle.std.proofs.Common.{◌≡◌, ◌≢◌, ◌≤◌, ℕ, List, [], length, ap, subst, ◌∙◌, inr, arith}
-use Rattle.ct_sorts.specs.declared.ids.Kind.TheVariants.{Free}
-use Rattle.ct_sorts.specs.Availability.{IsUnavailableSort}
-use Rattle.ct_sorts.specs.Declarations.{sort_names, most_sorts, with_sort}
-use Rattle.ct_sorts.specs.Refusals.{IsFirstCause, IsNone, name_taken, too_many}
-use Rattle.ct_names.specs.Refusals.{out_of_scope}
-use Rattle.ct_command.specs.Seen.{head_seen}
+use Rattle.std.proofs.Common.{◌≡◌, ◌∙◌, ℕ, List, OnOk, IsErrOf, sym, ap, subst, arith}
+use Rattle.ct_lemmas.proofs.Options.{OnOk-map}
+use Rattle.ct_command.specs.declared.error.CommandError.TheVariants.{Refused}
+use Rattle.ct_stack.specs.Elaborations.{with_free}
 use Rattle.ct_stack.specs.Refusal.{IsSortRefusal}
-use Rattle.ct_stack.proofs.StepLemmas.{no_cause}
-use Rattle.ct_stack.proofs.CauseLemmas.{two_causes, no_two, at_code}
 use Rattle.ct_stack.proofs.block.declare_sort.Goals as goal
 
-pub returns-in-Ok-clause-ok : goal.returns-in-Ok-clause-ok
-returns-in-Ok-clause-ok c =
-    c.in-Ok.ensures.ok.1 ∙ ap (λ (name : List ℕ). with_sort c.args.sig.now (record { name = name; kind = Free; ctors = [] })) c.in_ok-name.ensures.ok
-
-pub returns-in-Ok-clause-accepted : goal.returns-in-Ok-clause-accepted
-returns-in-Ok-clause-accepted c =
+pub returns-then-params-eq0-clause-ok : goal.returns-then-params-eq0-clause-ok
+returns-then-params-eq0-clause-ok c =
     let d = c.args.sig.now in
-    let zero : c.args.head.arity ≡ 0 = omega arith in
-    no_cause out_of_scope (c.args.head.arity ≢ 0) (IsFirstCause name_taken (IsUnavailableSort (sort_names d) c.args.head.name.now) (IsFirstCause too_many (most_sorts ≤ length d.sorts) IsNone)) (λ h. h zero)
-    (subst (λ (m : List ℕ). (n : ℕ) → IsFirstCause name_taken (IsUnavailableSort (sort_names d) m) (IsFirstCause too_many (most_sorts ≤ length d.sorts) IsNone) n → ⊥) c.in_ok-name.ensures.ok
-    (no_two name_taken too_many (IsUnavailableSort (sort_names d) c.in_ok-name.name) (most_sorts ≤ length d.sorts) _ c.in-Ok.ensures.taken c.in-Ok.ensures.full))
+    let none : c.args.params ≡ 0 = omega (arith, c.if-params-eq0.true) in
+    OnOk-map c.add_plain.result _ _ (λ h. h ∙ ap (λ (m : List ℕ). with_free d m 0) c.in_ok-name.ensures.ok ∙ sym (ap (λ (k : ℕ). with_free d c.args.name.now k) none)) c.add_plain.ensures.ok
 
-pub returns-in-Err-Refused-clause-refused : goal.returns-in-Err-Refused-clause-refused
-returns-in-Err-Refused-clause-refused c =
-    let d = c.args.sig.now in
-    let zero : c.args.head.arity ≡ 0 = omega arith in
-    at_code (IsSortRefusal d (head_seen c.args.head)) c.in-Err-Refused.code
-    (inr (
-      λ h. h zero,
-      subst (λ (m : List ℕ). IsFirstCause name_taken (IsUnavailableSort (sort_names d) m) (IsFirstCause too_many (most_sorts ≤ length d.sorts) IsNone) c.in-Err-Refused.code) c.in_ok-name.ensures.ok
-          (two_causes name_taken too_many (IsUnavailableSort (sort_names d) c.in_ok-name.name) (most_sorts ≤ length d.sorts) c.in-Err-Refused.code c.in-Err-Refused.field-0 c.in-Err-Refused.field-0-is c.in-Err-Refused.ensures.codes c.in-Err-Refused.ensures.taken c.in-Err-Refused.ensures.full),
-    ))
+pub returns-then-params-eq0-clause-accepted : goal.returns-then-params-eq0-clause-accepted
+returns-then-params-eq0-clause-accepted c =
+    subst (λ (m : List ℕ). OnOk c.add_plain.result ((n : ℕ) → IsSortRefusal c.args.sig.now m n → ⊥)) c.in_ok-name.ensures.ok c.add_plain.ensures.accepted
+
+pub returns-then-params-eq0-clause-refused : goal.returns-then-params-eq0-clause-refused
+returns-then-params-eq0-clause-refused c =
+    subst (λ (m : List ℕ). (n : ℕ) → IsErrOf c.add_plain.result (Refused n) → IsSortRefusal c.args.sig.now m n) c.in_ok-name.ensures.ok c.add_plain.ensures.refused
+
+pub returns-clause-ok : goal.returns-clause-ok
+returns-clause-ok c =
+    subst (λ (m : List ℕ). OnOk c.add_applied.result (c.add_applied.new.sig ≡ with_free c.args.sig.now m c.args.params)) c.in_ok-name.ensures.ok c.add_applied.ensures.ok
+
+pub returns-clause-accepted : goal.returns-clause-accepted
+returns-clause-accepted c =
+    subst (λ (m : List ℕ). OnOk c.add_applied.result ((n : ℕ) → IsSortRefusal c.args.sig.now m n → ⊥)) c.in_ok-name.ensures.ok c.add_applied.ensures.accepted
+
+pub returns-clause-refused : goal.returns-clause-refused
+returns-clause-refused c =
+    subst (λ (m : List ℕ). (n : ℕ) → IsErrOf c.add_applied.result (Refused n) → IsSortRefusal c.args.sig.now m n) c.in_ok-name.ensures.ok c.add_applied.ensures.refused

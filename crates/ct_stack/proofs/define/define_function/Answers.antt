@@ -1,17 +1,16 @@
-use Rattle.std.proofs.Common.{◌≡◌, ℕ, ◌≤◌, List, [], ◌∷◌, ◌++◌, length, map, refl, sym, subst, OnOk, inl}
-use Rattle.std.proofs.lemmas.Bool.{true≢false}
-use Rattle.std.proofs.lemmas.Result.{err_from_is_err_and}
+use Rattle.std.proofs.Common.{◌≡◌, ℕ, map, Result, Ok, Err, OnErr, refl, sym, inl}
 use Rattle.ct_sexpr.specs.View.{expression_of}
-use Rattle.ct_sorts.specs.Availability.{IsUnavailable}
-use Rattle.ct_sorts.specs.Declarations.{symbol_names, most_definitions, with_definition}
-use Rattle.ct_sorts.specs.Refusals.{IsFirstCause, IsNone, symbol_taken, too_many}
+use Rattle.std.proofs.lemmas.Bool.{true≢false}
+use Rattle.ct_sorts.specs.Marks.{CanCut}
+use Rattle.ct_sorts.specs.Declarations.{Declarations}
 use Rattle.ct_formulas.specs.TreeFormula.{formula_of}
+use Rattle.ct_stack.specs.Held.{IsDefined}
+use Rattle.ct_sorts.specs.Refusals.{symbol_taken}
 use Rattle.ct_command.specs.Seen.{named_seen}
 use Rattle.ct_stack.specs.Elaborations.{defined_function}
 use Rattle.ct_stack.specs.Refusal.{IsDefinitionRefusal}
-use Rattle.ct_stack.specs.Sorts.{definition_seen}
+use Rattle.ct_stack.proofs.BackLemmas.{in_any_error, back_accepted, back_refused, back_given, back_unchanged, back_error}
 use Rattle.ct_stack.proofs.CauseLemmas.{at_code}
-use Rattle.ct_stack.proofs.DefineLemmas.{accepted_between, refused_between, refused_by, defined_ok}
 use Rattle.ct_stack.proofs.define.define_function.Goals as goal
 
 pub returns-then-is_unavailable-clause-refused : goal.returns-then-is_unavailable-clause-refused
@@ -19,36 +18,34 @@ returns-then-is_unavailable-clause-refused c =
     at_code (IsDefinitionRefusal c.args.scope.now.sig c.args.name.now (map named_seen c.args.params.now) (expression_of c.args.sort.now) (expression_of c.args.term.now)) symbol_taken
     (inl (refl, c.if-is_unavailable.ensures.unavailable.0 refl))
 
-pub returns-in_err-definition-clause-refused : goal.returns-in_err-definition-clause-refused
-returns-in_err-definition-clause-refused c =
-    let d = c.args.scope.now.sig in
-    let name = c.args.name.now in
-    let p = err_from_is_err_and c.from_residual.result c.from_residual.ensures.1 in
-    rw (p.1, p.2)
-    (refused_by (definition_seen name) (defined_function d name (map named_seen c.args.params.now) (expression_of c.args.sort.now) (expression_of c.args.term.now)) (λ f. IsFirstCause too_many (most_definitions ≤ length d.definitions) IsNone) symbol_taken (IsUnavailable (symbol_names d) name) _ (λ h. true≢false (sym (c.if-is_unavailable.ensures.unavailable.1 h))) (c.in_err-definition.ensures.value name))
+pub define_available-defined-requires : goal.define_available-defined-requires
+define_available-defined-requires c = record { available = λ h. true≢false (sym (c.if-is_unavailable.ensures.unavailable.1 h)) }
+
+pub or_back-requires : goal.or_back-requires
+or_back-requires c =
+    let mid = c.define_available-defined.new.scope.sig in
+    record { can_cut = in_any_error c.define_available-defined.result (CanCut mid c.mark-before.result) (c.mark-before.ensures.lasting mid c.define_available-defined.ensures.grown) }
 
 pub returns-clause-ok : goal.returns-clause-ok
 returns-clause-ok c =
-    let d = c.args.scope.now.sig in
-    let name = c.args.name.now in
-    let r = c.add_definition.result in
-    let new = c.add_definition.new.scope in
-    let definition = c.in_ok-definition.definition in
-    defined_ok r (defined_function d name (map named_seen c.args.params.now) (expression_of c.args.sort.now) (expression_of c.args.term.now)) (definition_seen name definition) d new.sig (map formula_of c.args.scope.now.bodies) (map formula_of new.bodies) (c.in_ok-definition.ensures.value name)
-    (subst (λ (m : List ℕ). OnOk r ((new.sig ≡ with_definition d (definition_seen m definition).0) × (map formula_of new.bodies ≡ map formula_of c.args.scope.now.bodies ++ (definition_seen m definition).1 ∷ []))) c.in_ok-name.ensures.ok c.add_definition.ensures.ok)
-    c.in_ok-definition.ensures.sorted
+    back_given c.or_back.result c.define_available-defined.result c.or_back.ensures.same (λ d. defined_function d c.args.name.now (map named_seen c.args.params.now) (expression_of c.args.sort.now) (expression_of c.args.term.now)) c.args.scope.now.sig c.or_back.new.sig c.define_available-defined.new.scope.sig (λ new later f. IsDefined later new (map formula_of c.args.scope.now.bodies) (map formula_of c.define_available-defined.new.scope.bodies) f) c.define_available-defined.ensures.ok c.or_back.ensures.ok
 
 pub returns-clause-accepted : goal.returns-clause-accepted
-returns-clause-accepted c =
-    let d = c.args.scope.now.sig in
-    let name = c.args.name.now in
-    let r = c.add_definition.result in
-    accepted_between r (defined_function d name (map named_seen c.args.params.now) (expression_of c.args.sort.now) (expression_of c.args.term.now)) (definition_seen name c.in_ok-definition.definition) symbol_taken (IsUnavailable (symbol_names d) name) (IsFirstCause too_many (most_definitions ≤ length d.definitions) IsNone) (c.in_ok-definition.ensures.value name)
-    (subst (λ (m : List ℕ). OnOk r ((n : ℕ) → IsFirstCause symbol_taken (IsUnavailable (symbol_names d) m) (IsFirstCause too_many (most_definitions ≤ length d.definitions) IsNone) n → ⊥)) c.in_ok-name.ensures.ok c.add_definition.ensures.accepted)
+returns-clause-accepted c = back_accepted c.or_back.result c.define_available-defined.result c.or_back.ensures.same ((n : ℕ) → IsDefinitionRefusal c.args.scope.now.sig c.args.name.now (map named_seen c.args.params.now) (expression_of c.args.sort.now) (expression_of c.args.term.now) n → ⊥) c.define_available-defined.ensures.accepted
 
 pub returns-clause-refused : goal.returns-clause-refused
-returns-clause-refused c = λ n e.
-    let d = c.args.scope.now.sig in
-    let name = c.args.name.now in
-    refused_between (defined_function d name (map named_seen c.args.params.now) (expression_of c.args.sort.now) (expression_of c.args.term.now)) (definition_seen name c.in_ok-definition.definition) symbol_taken (IsUnavailable (symbol_names d) name) (IsFirstCause too_many (most_definitions ≤ length d.definitions) IsNone) (c.in_ok-definition.ensures.value name) n
-    (subst (λ (m : List ℕ). IsFirstCause symbol_taken (IsUnavailable (symbol_names d) m) (IsFirstCause too_many (most_definitions ≤ length d.definitions) IsNone) n) c.in_ok-name.ensures.ok (c.add_definition.ensures.refused n e))
+returns-clause-refused c = back_refused c.or_back.result c.define_available-defined.result c.or_back.ensures.same (IsDefinitionRefusal c.args.scope.now.sig c.args.name.now (map named_seen c.args.params.now) (expression_of c.args.sort.now) (expression_of c.args.term.now)) c.define_available-defined.ensures.refused
+
+both : {T E : Type 0} (r : Result T E) (P Q : Type 0) → OnErr r P → OnErr r Q → OnErr r (P × Q)
+both (Ok x) P Q p q = tt
+both (Err e) P Q p q = (p, q)
+
+pub returns-clause-unchanged : goal.returns-clause-unchanged
+returns-clause-unchanged c =
+    let old = c.args.scope.now in
+    let mid = c.define_available-defined.new.scope in
+    let q = c.or_back.result in
+    let r = c.define_available-defined.result in
+    both q (c.or_back.new.sig ≡ old.sig) (mid.bodies ≡ old.bodies)
+    (back_unchanged q r c.or_back.ensures.same c.stack_theorems.ensures.hold c.or_back.new.sig mid.sig old.sig c.mark-before.result c.mark-before.ensures.lengths c.define_available-defined.ensures.grown c.or_back.ensures.back)
+    (back_error q r c.or_back.ensures.same (mid.bodies ≡ old.bodies) c.define_available-defined.ensures.bodies)

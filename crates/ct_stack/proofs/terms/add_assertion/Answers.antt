@@ -65,3 +65,9 @@ returns-in-Err-clause-grown c = ([], c.cut_to.ensures.first ∙ cut_back c.args.
 
 pub returns-in-Err-clause-longer : goal.returns-in-Err-clause-longer
 returns-in-Err-clause-longer c = no_longer c.reserve.new.numbers.items c.args.numbers.now.items c.reserve.ensures.numbers
+
+pub returns-in-Err-clause-table : goal.returns-in-Err-clause-table
+returns-in-Err-clause-table c = c.cut_to.ensures.first ∙ cut_back c.args.table.now c.core_number.new.table c.len-before.result c.len-before.ensures.count c.in-Err.ensures.grown
+
+pub returns-in-Err-clause-numbers : goal.returns-in-Err-clause-numbers
+returns-in-Err-clause-numbers c = c.reserve.ensures.numbers

@@ -3,9 +3,12 @@ use Rattle.ct_stack.proofs.theorems.stack_theorems.Goals as goal
 pub returns : goal.returns
 returns c = record {
   hold = record {
+    add_same = c.additions.ensures.same;
     itself = c.growth.ensures.itself;
     further = c.growth.ensures.further;
     from_start = c.growth.ensures.from_start;
+    more_functions = c.growth.ensures.function;
+    more_definitions = c.growth.ensures.definition;
     can_cut = c.growth.ensures.can_cut;
     cut_back = c.growth.ensures.cut;
     unfolds = c.core_trees.ensures.unfolds;

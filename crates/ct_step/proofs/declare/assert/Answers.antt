@@ -1,9 +1,9 @@
 use Rattle.std.proofs.Common.{◌≡◌}
 use Rattle.std.proofs.lemmas.Result.{err_from_is_err_and}
 use Rattle.ct_sexpr.specs.View.{expression_of}
-use Rattle.ct_stack.specs.Stack.{asserting}
+use Rattle.ct_stack.specs.Stack.{asserting, declaring}
 use Rattle.ct_stack.specs.Elaborations.{asserted_formula}
-use Rattle.ct_step.proofs.DoneLemmas.{Gives-map}
+use Rattle.ct_step.proofs.DoneLemmas.{needing_map}
 use Rattle.ct_command.specs.Command.{assert}
 use Rattle.ct_step.specs.Done.{state_of}
 use Rattle.ct_step.proofs.DoneLemmas.{not_done, changes, quietly, same_stack}
@@ -19,6 +19,6 @@ returns c =
     record {
       done = λ number.
           changes c.args.state.now number (assert (expression_of c.args.term.now)) c.in_ok-assert.ensures.accepted c.in_ok-answer.answer c.assert.new.self
-          (Gives-map (asserted_formula c.args.state.now.stack.top.context.declarations (expression_of c.args.term.now)) (λ formula. c.assert.new.self ≡ asserting c.args.state.now.stack formula) _ (λ f e. quietly (state_of c.args.state.now) c.assert.new.self _ e) c.in_ok-assert.ensures.ok)
+          (needing_map (λ d. asserted_formula d (expression_of c.args.term.now)) c.args.state.now.stack.top.context.declarations (λ later formula. c.assert.new.self ≡ asserting (declaring c.args.state.now.stack later) formula) _ (λ later f e. quietly (state_of c.args.state.now) c.assert.new.self _ e) c.in_ok-assert.ensures.ok)
           c.in_ok-answer.ensures.answer;
     }

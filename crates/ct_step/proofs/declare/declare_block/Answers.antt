@@ -21,6 +21,6 @@ returns c =
       done = λ number.
           done_as c.args.state.now _ number c.in_ok-answer.answer (declare_block c.args.family (map head_seen c.as_slice.result.now) (map body_seen c.as_slice-2.result.now)) (declare_block c.args.family (map head_seen c.args.heads.items) (map body_seen c.args.bodies.items)) same
           (changes c.args.state.now number (declare_block c.args.family (map head_seen c.as_slice.result.now) (map body_seen c.as_slice-2.result.now)) c.in_ok-declare_block.ensures.accepted c.in_ok-answer.answer c.declare_block.new.self
-          (quietly (state_of c.args.state.now) c.declare_block.new.self _ c.in_ok-declare_block.ensures.ok)
+          (let h = c.in_ok-declare_block.ensures.ok in (h.0, h.1, quietly (state_of c.args.state.now) c.declare_block.new.self _ h.2))
           c.in_ok-answer.ensures.answer);
     }

@@ -5,7 +5,7 @@ use Rattle.ct_command.specs.Seen.{all_seen}
 use Rattle.ct_sorts.specs.Declarations.{with_function}
 use Rattle.ct_stack.specs.Stack.{declaring}
 use Rattle.ct_stack.specs.Elaborations.{declared_function}
-use Rattle.ct_step.proofs.DoneLemmas.{Gives-map}
+use Rattle.ct_step.proofs.DoneLemmas.{needing_map}
 use Rattle.ct_command.specs.Command.{declare_fun}
 use Rattle.ct_step.specs.Done.{state_of}
 use Rattle.ct_step.proofs.DoneLemmas.{not_done, changes, quietly, same_stack}
@@ -21,6 +21,6 @@ returns c =
     record {
       done = λ number.
           changes c.args.state.now number (declare_fun c.args.name.now (all_seen c.args.args.now) (expression_of c.args.sort.now)) c.in_ok-declare_function.ensures.accepted c.in_ok-answer.answer c.declare_function.new.self
-          (Gives-map (declared_function c.args.state.now.stack.top.context.declarations c.args.name.now (all_seen c.args.args.now) (expression_of c.args.sort.now)) (λ f. c.declare_function.new.self ≡ declaring c.args.state.now.stack (with_function c.args.state.now.stack.top.context.declarations f)) _ (λ f e. quietly (state_of c.args.state.now) c.declare_function.new.self _ e) c.in_ok-declare_function.ensures.ok)
+          (needing_map (λ d. declared_function d c.args.name.now (all_seen c.args.args.now) (expression_of c.args.sort.now)) c.args.state.now.stack.top.context.declarations (λ later f. c.declare_function.new.self ≡ declaring c.args.state.now.stack (with_function later f)) _ (λ later f e. quietly (state_of c.args.state.now) c.declare_function.new.self _ e) c.in_ok-declare_function.ensures.ok)
           c.in_ok-answer.ensures.answer;
     }

@@ -5,7 +5,8 @@ use Rattle.ct_command.specs.declared.command.Named.{Named as ReadNamed}
 use Rattle.ct_command.specs.Seen.{named_seen}
 use Rattle.ct_stack.specs.Stack.{in_context, defined_in}
 use Rattle.ct_stack.specs.Elaborations.{defined_function}
-use Rattle.ct_step.proofs.DoneLemmas.{Gives-map}
+use Rattle.ct_stack.specs.Refusal.{over}
+use Rattle.ct_step.proofs.DoneLemmas.{needing_map}
 use Rattle.ct_command.specs.Command.{define_fun}
 use Rattle.ct_step.specs.Done.{state_of}
 use Rattle.ct_step.proofs.DoneLemmas.{not_done_as, done_as, changes, quietly, same_stack}
@@ -24,6 +25,6 @@ returns c =
       done = λ number.
           done_as c.args.state.now _ number c.in_ok-answer.answer (define_fun c.args.name.now (map named_seen c.as_slice.result.now) (expression_of c.args.sort.now) (expression_of c.args.term.now)) (define_fun c.args.name.now (map named_seen c.args.params.items) (expression_of c.args.sort.now) (expression_of c.args.term.now)) same
           (changes c.args.state.now number (define_fun c.args.name.now (map named_seen c.as_slice.result.now) (expression_of c.args.sort.now) (expression_of c.args.term.now)) c.in_ok-define_function.ensures.accepted c.in_ok-answer.answer c.define_function.new.self
-          (Gives-map (defined_function c.args.state.now.stack.top.context.declarations c.args.name.now (map named_seen c.as_slice.result.now) (expression_of c.args.sort.now) (expression_of c.args.term.now)) (λ f. c.define_function.new.self ≡ in_context c.args.state.now.stack (defined_in c.args.state.now.stack.top.context f)) _ (λ f e. quietly (state_of c.args.state.now) c.define_function.new.self _ e) c.in_ok-define_function.ensures.ok)
+          (needing_map (λ d. defined_function d c.args.name.now (map named_seen c.as_slice.result.now) (expression_of c.args.sort.now) (expression_of c.args.term.now)) c.args.state.now.stack.top.context.declarations (λ later f. c.define_function.new.self ≡ in_context c.args.state.now.stack (defined_in (over c.args.state.now.stack.top.context later) f)) _ (λ later f e. quietly (state_of c.args.state.now) c.define_function.new.self _ e) c.in_ok-define_function.ensures.ok)
           c.in_ok-answer.ensures.answer);
     }

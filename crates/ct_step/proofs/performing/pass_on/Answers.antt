@@ -32,6 +32,11 @@ returns-in-DeclareSort c =
     let o = apart c.args.state.now c.declare_sort.new.state c.args.number c.growing.ensures.hold c.declare_sort.result c.args.command _ c.args.store.now c.requires.sound c.in-DeclareSort.is refl (c.declare_sort.ensures.done c.args.number) in
     record { done = o.done; stored = o.stored; sound = o.sound; known = c.requires.known }
 
+pub returns-in-DefineSort : goal.returns-in-DefineSort
+returns-in-DefineSort c =
+    let o = apart c.args.state.now c.define_sort.new.state c.args.number c.growing.ensures.hold c.define_sort.result c.args.command _ c.args.store.now c.requires.sound c.in-DefineSort.is refl (c.define_sort.ensures.done c.args.number) in
+    record { done = o.done; stored = o.stored; sound = o.sound; known = c.requires.known }
+
 pub returns-in-DeclareBlock : goal.returns-in-DeclareBlock
 returns-in-DeclareBlock c =
     let o = apart c.args.state.now c.declare_block.new.state c.args.number c.growing.ensures.hold c.declare_block.result c.args.command _ c.args.store.now c.requires.sound c.in-DeclareBlock.is refl (c.declare_block.ensures.done c.args.number) in

@@ -4,7 +4,7 @@ use Rattle.std.proofs.lemmas.Bool.Decides.{nat_tests}
 use Rattle.ct_sexpr.specs.Written.{written_after}
 use Rattle.ct_values.specs.declared.node.NodeId.{NodeId}
 use Rattle.ct_values.specs.Value.{reference, values_of}
-use Rattle.ct_value_text.specs.ValueText.{name, ctor_name, expressions}
+use Rattle.ct_value_text.specs.ValueText.{ctor_expression, expressions}
 use Rattle.ct_value_text.proofs.TextLemmas.{names-more, written-constructor}
 use Rattle.ct_value_text.proofs.graph_text.write_constructor.Goals as goal
 
@@ -24,4 +24,4 @@ returns c =
     let all : take c.loop-child.child-index ns ≡ ns = take_all c.loop-child.child-index ns c.loop-child-test.false in
     let args_are : c.loop-child.out.items ≡ named ++ written_after (expressions d (values_of (map reference ns))) =
     c.loop-child.invariant ∙ ap (λ (ms : List NodeId). named ++ written_after (expressions d (values_of (map reference ms)))) all in
-    record { ok = written-constructor d (name (ctor_name d c.args.c.0)) ns c.args.out.now.items c.push.new.self.items named c.loop-child.out.items c.push-2.new.self.items some c.in_ok-push.ensures.items c.in_ok-write_ctor.ensures.ok args_are c.in_ok-push-3.ensures.items }
+    record { ok = written-constructor d (ctor_expression d c.args.c) ns c.args.out.now.items c.push.new.self.items named c.loop-child.out.items c.push-2.new.self.items some c.in_ok-push.ensures.items c.in_ok-write_ctor.ensures.ok args_are c.in_ok-push-3.ensures.items }

@@ -1,5 +1,5 @@
 use Rattle.ct_values.proofs.FittingLemmas.{minimal_fits}
-use Rattle.ct_value_text.proofs.PlainLemmas.{TextTheorems}
+use Rattle.ct_value_text.proofs.SortTextLemmas.{TextTheorems}
 use Rattle.ct_value_text.proofs.ValueTextLemmas.{one_text}
 use Rattle.ct_value_text.proofs.theorems.value_texts.Goals as goal
 

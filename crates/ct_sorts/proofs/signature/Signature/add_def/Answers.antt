@@ -3,9 +3,10 @@ use Rattle.std.proofs.lemmas.Bool.{true≢false}
 use Rattle.std.proofs.lemmas.List.{length-map, map-append}
 use Rattle.ct_sorts.specs.declared.ids.SortId.{SortId}
 use Rattle.ct_sorts.specs.Availability.{IsListed, IsUnavailable}
-use Rattle.ct_sorts.specs.Declarations.{Declarations, Function, ctor_names, sel_names, function_names, definition_names, symbol_names, with_definition}
+use Rattle.ct_sorts.specs.Declarations.{Declarations, Function, head_symbols, function_names, definition_names, symbol_names, with_definition}
 use Rattle.ct_sorts.specs.Consistent.{IsConsistent}
-use Rattle.ct_sorts.specs.Stored.{declared, sort_of_entry, ctor_of, sel_of, function_of}
+use Rattle.ct_sorts.specs.Stored.{function_of}
+use Rattle.ct_sorts.specs.Tabled.{of_tables}
 use Rattle.ct_sorts.proofs.StoredLemmas.{names_at}
 use Rattle.ct_sorts.proofs.LookupLemmas.{IsListed-right}
 use Rattle.ct_sorts.proofs.ConsistentLemmas.{IsConsistent-with_definition}
@@ -13,7 +14,7 @@ use Rattle.ct_sorts.proofs.signature.Signature.add_def.Goals as goal
 
 -- a name among these is a symbol
 symbol : (d : Declarations) (name : List ℕ) → IsListed (definition_names d) name → IsListed (symbol_names d) name
-symbol d name h = IsListed-right (ctor_names d) _ name (IsListed-right (sel_names d) _ name (IsListed-right (function_names d) (definition_names d) name h))
+symbol d name h = IsListed-right (head_symbols d.spellings) _ name (IsListed-right (function_names d) (definition_names d) name h)
 
 pub push-requires : goal.push-requires
 push-requires c =
@@ -33,17 +34,17 @@ counted : (c : goal.In_ok-push) → c.len-count.result ≡ length c.args.self.no
 counted c = c.len-count.ensures.len ∙ sym (length-map c.self.inside.definitions function_of) ∙ ap (λ (d : Declarations). length d.definitions) c.self.view_is
 
 -- the map has one more at its end
-one_more : (c : goal.In_ok-push) → declared c.self.inside.sorts c.self.inside.ctors c.self.inside.sels c.self.inside.functions c.push.new.self ≡ with_definition c.args.self.now (function c)
+one_more : (c : goal.In_ok-push) → of_tables c.self.inside.tables (map function_of c.self.inside.functions) (map function_of c.push.new.self) ≡ with_definition c.args.self.now (function c)
 one_more c =
     let old = c.self.inside in
     let put : map function_of c.push.new.self ≡ map function_of old.definitions ++ function c ∷ [] =
     ap (map function_of) c.in_ok-push.ensures.ok ∙ map-append function_of old.definitions _ ∙ ap (λ (args : List SortId). map function_of old.definitions ++ record { name = c.args.name; args = args; result = c.args.sort } ∷ []) c.new-args.ensures.value in
-    (λ j. record { sorts = map sort_of_entry old.sorts; ctors = map ctor_of old.ctors; sels = map sel_of old.sels; functions = map function_of old.functions; definitions = put j }) ∙ ap (λ d. with_definition d (function c)) c.self.view_is
+    ap (of_tables old.tables (map function_of old.functions)) put ∙ ap (λ d. with_definition d (function c)) c.self.view_is
 
 pub invariant_of-self-2 : goal.invariant_of-self-2
 invariant_of-self-2 c =
-    let consistent : IsConsistent c.args.self.now = subst IsConsistent c.self.view_is c.self.invariant in
-    subst IsConsistent (sym (one_more c)) (IsConsistent-with_definition c.args.self.now (function c) consistent (available c) (omega (arith, counted c)) (c.requires.args, c.requires.sort))
+    let consistent : IsConsistent c.args.self.now = subst IsConsistent c.self.view_is c.self.invariant.consistent in
+    record { consistent = subst IsConsistent (sym (one_more c)) (IsConsistent-with_definition c.args.self.now (function c) consistent (available c) (omega (arith, counted c)) (c.requires.args, c.requires.sort)); tabled = c.self.invariant.tabled }
 
 pub returns-clause-ok : goal.returns-clause-ok
 returns-clause-ok c = (counted c, one_more c)

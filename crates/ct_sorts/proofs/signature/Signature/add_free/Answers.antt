@@ -1,41 +1,46 @@
-use Rattle.std.proofs.Common.{◌≡◌, List, [], ◌∷◌, ◌++◌, length, map, refl, sym, ◌∙◌, ap, subst, inl, arith}
-use Rattle.std.proofs.lemmas.Bool.{true≢false}
-use Rattle.std.proofs.lemmas.List.{length-map, map-append}
-use Rattle.ct_sorts.specs.declared.ids.CtorId.{CtorId}
+use Rattle.std.proofs.Common.{◌≡◌, ◌↔◌, ℕ, ◌<◌, ◌≤◌, List, [], Err, IsErrOf, OnOk, length, map, true, refl, sym, ◌∙◌, ap, subst, inl, inr, arith}
+use Rattle.std.proofs.lemmas.List.{length-map}
+use Rattle.std.proofs.lemmas.Result.{err_from_is_err_and}
+use Rattle.ct_generics.specs.Denoted.{declared_of}
 use Rattle.ct_sorts.specs.declared.ids.Kind.TheVariants.{Free}
-use Rattle.ct_sorts.specs.Availability.{IsListed, IsUnavailableSort}
-use Rattle.ct_sorts.specs.Declarations.{Declarations, Sort, sort_names, with_sort}
+use Rattle.ct_sorts.specs.Availability.{IsUnavailableSort}
 use Rattle.ct_sorts.specs.Consistent.{IsConsistent}
-use Rattle.ct_sorts.specs.Stored.{declared, sort_of_entry, ctor_of, sel_of, function_of}
-use Rattle.ct_sorts.proofs.StoredLemmas.{names_at}
-use Rattle.ct_sorts.proofs.UninterpretedLemmas.{free, IsConsistent-with_uninterpreted}
+use Rattle.ct_sorts.specs.Declarations.{Declarations, Function, declared_names, most_sorts, with_head, with_sort}
+use Rattle.ct_sorts.specs.Limits.{sort_count}
+use Rattle.ct_sorts.specs.Marks.{lengths}
+use Rattle.ct_sorts.specs.Stored.{function_of, sort_of_entry}
+use Rattle.ct_sorts.specs.Tabled.{of_tables}
+use Rattle.ct_sorts.proofs.FreeLemmas.{free_head}
 use Rattle.ct_sorts.proofs.signature.Signature.add_free.Goals as goal
 
-pub push-requires : goal.push-requires
-push-requires c =
-    let fresh : IsListed (sort_names c.args.self.now) c.args.name → ⊥ = λ h. true≢false (sym (c.if-is_unavailable_sort.ensures.unavailable.1 (inl h))) in
-    record { fresh = subst (λ xs. IsListed xs c.args.name → ⊥) (names_at sort_of_entry (λ (s : Sort). s.name) c.self.inside.sorts (λ _. refl)) (subst (λ d. IsListed (sort_names d) c.args.name → ⊥) (sym c.self.view_is) fresh) }
+pub declare_free-requires-clause-tabled : goal.declare_free-requires-clause-tabled
+declare_free-requires-clause-tabled c = c.self.invariant.tabled
 
--- the name may be declared
-available : (c : goal.In_ok-push) → IsUnavailableSort (sort_names c.args.self.now) c.args.name → ⊥
-available c h = true≢false (sym (c.if-is_unavailable_sort.ensures.unavailable.1 h))
+pub declare_free-requires-clause-consistent : goal.declare_free-requires-clause-consistent
+declare_free-requires-clause-consistent c = ((map function_of c.self.inside.functions), (map function_of c.self.inside.definitions), c.self.invariant.consistent)
 
--- the number of sorts is the number of entries
-counted : (c : goal.In_ok-push) → c.len-count.result ≡ length c.args.self.now.sorts
-counted c = c.len-count.ensures.len ∙ sym (length-map c.self.inside.sorts sort_of_entry) ∙ ap (λ (d : Declarations). length d.sorts) c.self.view_is
+pub declare_free-requires-clause-free : goal.declare_free-requires-clause-free
+declare_free-requires-clause-free c = subst (λ (d : Declarations). IsUnavailableSort (declared_names d) c.args.name → ⊥) (sym c.self.view_is) c.in_ok-refuse_name.ensures.ok
 
--- the map has one more sort at its end
-one_more : (c : goal.In_ok-push) → declared c.push.new.self c.self.inside.ctors c.self.inside.sels c.self.inside.functions c.self.inside.definitions ≡ with_sort c.args.self.now (free c.args.name)
-one_more c =
-    let old = c.self.inside in
-    let put : map sort_of_entry c.push.new.self ≡ map sort_of_entry old.sorts ++ free c.args.name ∷ [] =
-    ap (map sort_of_entry) c.in_ok-push.ensures.ok ∙ map-append sort_of_entry old.sorts _ ∙ ap (λ (ctors : List CtorId). map sort_of_entry old.sorts ++ record { name = c.args.name; kind = Free; ctors = ctors } ∷ []) (c.new-ctors.ensures.value ∙ c.new.ensures.items) in
-    (λ j. record { sorts = put j; ctors = map ctor_of old.ctors; sels = map sel_of old.sels; functions = map function_of old.functions; definitions = map function_of old.definitions }) ∙ ap (λ d. with_sort d (free c.args.name)) c.self.view_is
+pub declare_free-requires-clause-mark : goal.declare_free-requires-clause-mark
+declare_free-requires-clause-mark c = ((map function_of c.self.inside.functions), (map function_of c.self.inside.definitions), c.mark-mark.ensures.lengths ∙ ap lengths (sym c.self.view_is))
+
+pub declare_free-requires-clause-few : goal.declare_free-requires-clause-few
+declare_free-requires-clause-few c = subst (λ (d : Declarations). sort_count d < most_sorts) (sym c.self.view_is) c.in_ok-refuse_one_more.ensures.ok
+
+pub invariant_of-self : goal.invariant_of-self
+invariant_of-self c = record { consistent = c.declare_free.ensures.consistent (map function_of c.self.inside.functions) (map function_of c.self.inside.definitions) c.self.invariant.consistent; tabled = c.declare_free.ensures.tabled }
 
 pub invariant_of-self-2 : goal.invariant_of-self-2
-invariant_of-self-2 c =
-    let consistent : IsConsistent c.args.self.now = subst IsConsistent c.self.view_is c.self.invariant in
-    subst IsConsistent (sym (one_more c)) (IsConsistent-with_uninterpreted c.args.self.now c.args.name consistent (available c) (omega (arith, counted c)))
+invariant_of-self-2 c = record { consistent = c.declare_free.ensures.consistent (map function_of c.self.inside.functions) (map function_of c.self.inside.definitions) c.self.invariant.consistent; tabled = c.declare_free.ensures.tabled }
+
+pub returns-in_err-declare_free-clause-refused : goal.returns-in_err-declare_free-clause-refused
+returns-in_err-declare_free-clause-refused c =
+    let p = err_from_is_err_and c.from_residual-in_err-declare_free.result c.from_residual-in_err-declare_free.ensures.1 in
+    rw (p.1) (c.in_err-declare_free.ensures.unchanged (map function_of c.self.inside.functions) (map function_of c.self.inside.definitions) ∙ c.self.view_is)
 
 pub returns-clause-ok : goal.returns-clause-ok
-returns-clause-ok c = (counted c, one_more c)
+returns-clause-ok c = (
+  c.len-count.ensures.len ∙ sym (length-map c.self.inside.tables.sorts sort_of_entry) ∙ ap (λ (d : Declarations). length d.sorts) c.self.view_is,
+  c.in_ok-declare_free.ensures.plain refl (map function_of c.self.inside.functions) (map function_of c.self.inside.definitions) ∙ ap (λ (d : Declarations). with_sort d (record { name = c.args.name; kind = Free; ctors = [] })) c.self.view_is,
+)

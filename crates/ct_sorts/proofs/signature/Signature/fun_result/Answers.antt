@@ -11,6 +11,6 @@ returns-clause-value c = subst (λ d. option_map (λ (t : Function). t.result) (
 
 pub returns-clause-sort : goal.returns-clause-sort
 returns-clause-sort c =
-    let consistent : IsConsistent c.args.self.now = subst IsConsistent c.self.view_is c.self.invariant in
+    let consistent : IsConsistent c.args.self.now = subst IsConsistent c.self.view_is c.self.invariant.consistent in
     IsSort-result c.args.self.now c.args.self.now.functions consistent.over_sorts c.args.f.0 c.get.result.now.result
     (subst (λ d. option_map (λ (t : Function). t.result) (slice_get d.functions c.args.f.0) ≡ Some c.get.result.now.result) c.self.view_is (part_at function_of (λ (t : Function). t.result) (λ e. e.result) c.self.inside.functions c.args.f.0 c.get.result.now (λ _. refl) c.get.ensures.value))

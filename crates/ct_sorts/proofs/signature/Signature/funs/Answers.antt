@@ -5,7 +5,7 @@ use Rattle.ct_sorts.proofs.signature.Signature.funs.Goals as goal
 
 -- what holds of the declarations
 consistent : (c : goal.After-len) → IsConsistent c.args.self.now
-consistent c = subst IsConsistent c.self.view_is c.self.invariant
+consistent c = subst IsConsistent c.self.view_is c.self.invariant.consistent
 
 pub returns-clause-distinct : goal.returns-clause-distinct
 returns-clause-distinct c = AreDistinct-functions c.args.self.now (consistent c)

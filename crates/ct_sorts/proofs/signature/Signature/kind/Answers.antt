@@ -6,4 +6,4 @@ use Rattle.ct_sorts.proofs.signature.Signature.kind.Goals as goal
 
 pub returns : goal.returns
 returns c =
-    record { value = subst (λ d. option_map (λ (t : Sort). t.kind) (slice_get d.sorts c.args.s.0) ≡ Some c.get.result.now.kind) c.self.view_is (part_at sort_of_entry (λ (t : Sort). t.kind) (λ e. e.kind) c.self.inside.sorts c.args.s.0 c.get.result.now (λ _. refl) c.get.ensures.value) }
+    record { value = subst (λ d. option_map (λ (t : Sort). t.kind) (slice_get d.sorts c.args.s.0) ≡ Some c.get.result.now.kind) c.self.view_is (part_at sort_of_entry (λ (t : Sort). t.kind) (λ e. e.kind) c.self.inside.tables.sorts c.args.s.0 c.get.result.now (λ _. refl) c.get.ensures.value) }

@@ -1,13 +1,17 @@
-use Rattle.std.proofs.Common.{map, sym, subst}
+use Rattle.std.proofs.Common.{◌≡◌, List, [], map, sym, ◌∙◌, ap₂, subst}
 use Rattle.ct_sorts.specs.Consistent.{IsConsistent}
-use Rattle.ct_sorts.specs.Stored.{sel_of, function_of}
+use Rattle.ct_sorts.specs.Declarations.{start}
+use Rattle.ct_sorts.specs.Stored.{function_of}
+use Rattle.ct_sorts.specs.Tabled.{of_tables}
 use Rattle.ct_sorts.proofs.StartLemmas.{IsConsistent-start}
 use Rattle.ct_sorts.proofs.signature.Signature.new.Goals as goal
 
 pub invariant_of-result : goal.invariant_of-result
 invariant_of-result c =
-    subst IsConsistent (sym (λ j. record { sorts = c.in_ok-start_sorts.ensures.ok j; ctors = c.in_ok-start_ctors.ensures.ok j; sels = map sel_of (c.new.ensures.empty j); functions = map function_of (c.new-2.ensures.empty j); definitions = map function_of (c.new-3.ensures.empty j) })) IsConsistent-start
+    let is_start : of_tables c.in_ok-tables.tables (map function_of c.new.result) (map function_of c.new-2.result) ≡ start =
+    ap₂ (λ fs ds. of_tables c.in_ok-tables.tables (map function_of fs) (map function_of ds)) c.new.ensures.empty c.new-2.ensures.empty ∙ c.in_ok-tables.ensures.start in
+    record { consistent = subst IsConsistent (sym is_start) IsConsistent-start; tabled = c.in_ok-tables.ensures.tabled }
 
 pub returns-clause-ok : goal.returns-clause-ok
 returns-clause-ok c =
-    λ j. record { sorts = c.in_ok-start_sorts.ensures.ok j; ctors = c.in_ok-start_ctors.ensures.ok j; sels = map sel_of (c.new.ensures.empty j); functions = map function_of (c.new-2.ensures.empty j); definitions = map function_of (c.new-3.ensures.empty j) }
+    ap₂ (λ fs ds. of_tables c.in_ok-tables.tables (map function_of fs) (map function_of ds)) c.new.ensures.empty c.new-2.ensures.empty ∙ c.in_ok-tables.ensures.start

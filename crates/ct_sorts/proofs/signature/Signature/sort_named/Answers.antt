@@ -1,16 +1,42 @@
-use Rattle.std.proofs.Common.{◌≡◌, Some, slice_get, refl, sym, ◌∙◌, ap, subst}
-use Rattle.ct_sorts.specs.Availability.{IsListed}
-use Rattle.ct_sorts.specs.Declarations.{Sort, sort_names}
-use Rattle.ct_sorts.specs.Stored.{sort_of_entry}
-use Rattle.ct_sorts.proofs.StoredLemmas.{names_at}
-use Rattle.ct_sorts.proofs.LookupLemmas.{named_inside}
+use Rattle.std.proofs.Common.{◌≡◌, Option, Some, IfSome, MatchOption, map, length, subst, arith}
+use Rattle.ct_lemmas.proofs.Pairs.{AllZip-one_length}
+use Rattle.ct_generics.specs.declared.nodes.ExprId.{ExprId}
+use Rattle.ct_generics.specs.Denoted.{declared_of, sorts_of}
+use Rattle.ct_generics.specs.Expression.{Expression}
+use Rattle.ct_generics.specs.Nodes.{Stands}
+use Rattle.ct_sorts.specs.declared.ids.SortId.{SortId}
+use Rattle.ct_sorts.specs.Declarations.{Declarations, IsSort}
+use Rattle.ct_sorts.specs.Lookup.{NamesSort}
+use Rattle.ct_sorts.specs.Stored.{function_of}
+use Rattle.ct_sorts.proofs.GetterLemmas.{sort_names, no_sort_named, found_inside}
 use Rattle.ct_sorts.proofs.signature.Signature.sort_named.Goals as goal
+
+pub plain_sort-requires : goal.plain_sort-requires
+plain_sort-requires c =
+    let t = c.self.inside.tables in
+    let long = AllZip-one_length (λ (id : ExprId) (e : Expression). Stands t.table.expressions id.0 e) t.table.sorts (sorts_of t.table) c.self.invariant.tabled.stand in
+    record { stand = c.self.invariant.tabled.stand; few = omega (arith, long, c.self.invariant.consistent.origins.one_each, c.self.invariant.consistent.few.sorts) }
 
 pub returns-in-Some : goal.returns-in-Some
 returns-in-Some c =
-    let at : slice_get (sort_names c.args.self.now) c.in-Some.index ≡ Some c.args.name.now = subst (λ d. slice_get (sort_names d) c.in-Some.index ≡ Some c.args.name.now) c.self.view_is (ap (λ xs. slice_get xs c.in-Some.index) (names_at sort_of_entry (λ (s : Sort). s.name) c.self.inside.sorts (λ _. refl)) ∙ c.in-Some.ensures.listed) in
-    record { value = at; inside = named_inside (λ (s : Sort). s.name) c.args.self.now.sorts c.in-Some.index c.args.name.now at }
+    let t = c.self.inside.tables in
+    let fs = map function_of c.self.inside.functions in
+    let ds = map function_of c.self.inside.definitions in
+    let name = c.args.name.now in
+    let found = c.plain_sort.result in
+    let head = c.in-Some.ensures.some (declared_of t.generics) c.self.invariant.tabled.declared in
+    record {
+      value = subst (λ (d : Declarations). MatchOption found ((s : SortId) → NamesSort d name s → ⊥) (NamesSort d name)) c.self.view_is (sort_names t c.self.invariant.tabled fs ds c.self.invariant.consistent c.in-Some.head.0 head.0 name found head.1 head.2 c.plain_sort.ensures.some c.plain_sort.ensures.none);
+      inside = subst (λ (d : Declarations). IfSome found (IsSort d)) c.self.view_is (found_inside t c.self.invariant.tabled fs ds c.self.invariant.consistent c.in-Some.head.0 found c.plain_sort.ensures.some);
+    }
 
-pub returns : goal.returns
-returns c =
-    record { value = subst (λ d. IsListed (sort_names d) c.args.name.now → ⊥) c.self.view_is (subst (λ xs. IsListed xs c.args.name.now → ⊥) (sym (names_at sort_of_entry (λ (s : Sort). s.name) c.self.inside.sorts (λ _. refl))) c.in_default.ensures.listed); inside = tt }
+pub returns-in-None : goal.returns-in-None
+returns-in-None c =
+    let t = c.self.inside.tables in
+    let fs = map function_of c.self.inside.functions in
+    let ds = map function_of c.self.inside.definitions in
+    let name = c.args.name.now in
+    record {
+      value = subst (λ (d : Declarations). (s : SortId) → NamesSort d name s → ⊥) c.self.view_is (no_sort_named t c.self.invariant.tabled fs ds c.self.invariant.consistent name (c.in-None.ensures.none (declared_of t.generics) c.self.invariant.tabled.declared));
+      inside = tt;
+    }

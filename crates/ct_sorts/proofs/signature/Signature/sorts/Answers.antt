@@ -7,7 +7,7 @@ use Rattle.ct_sorts.specs.Consistent.{IsConsistent}
 use Rattle.ct_sorts.proofs.signature.Signature.sorts.Goals as goal
 
 pub returns-clause-consistent : goal.returns-clause-consistent
-returns-clause-consistent c = subst IsConsistent c.self.view_is c.self.invariant
+returns-clause-consistent c = subst IsConsistent c.self.view_is c.self.invariant.consistent
 
 pub returns-clause-has_bool : goal.returns-clause-has_bool
-returns-clause-has_bool c = omega (arith, begins 1 _ start.sorts c.self.invariant.first_sort refl, length-map c.self.inside.sorts sort_of_entry, c.len.ensures.len)
+returns-clause-has_bool c = omega (arith, begins 1 _ start.sorts c.self.invariant.consistent.first_sort refl, length-map c.self.inside.tables.sorts sort_of_entry, c.len.ensures.len)

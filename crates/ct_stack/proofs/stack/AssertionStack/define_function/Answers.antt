@@ -21,7 +21,7 @@ invariant_of-self c =
     let new = c.define_function-defined.new.scope in
     let r = c.define_function-defined.result in
     record {
-      held = held_after_definition c.stack_theorems.ensures.hold new.sig s.scope.sig (map formula_of s.scope.bodies) (map formula_of s.asserts.items) s.table s.numbers.items (reverse s.levels.items) c.self.invariant.held c.sorts-2.ensures.consistent c.sorts.ensures.consistent r (defined_function s.scope.sig c.args.name.now (map named_seen c.args.params.now) (expression_of c.args.sort.now) (expression_of c.args.term.now)) (map formula_of new.bodies) c.define_function-defined.ensures.ok (formulas_stay r new.sig s.scope.sig new.bodies s.scope.bodies c.define_function-defined.ensures.unchanged) (c.growth.ensures.definition s.scope.sig);
+      held = held_after_definition c.stack_theorems.ensures.hold new.sig s.scope.sig (map formula_of s.scope.bodies) (map formula_of s.asserts.items) s.table s.numbers.items (reverse s.levels.items) c.self.invariant.held c.sorts-2.ensures.consistent c.sorts.ensures.consistent r (λ d. defined_function d c.args.name.now (map named_seen c.args.params.now) (expression_of c.args.sort.now) (expression_of c.args.term.now)) (map formula_of new.bodies) c.define_function-defined.ensures.ok (formulas_stay r new.sig s.scope.sig new.bodies s.scope.bodies c.define_function-defined.ensures.unchanged) c.growth.ensures.definition;
       first_is = c.self.invariant.first_is;
       first_consistent = c.self.invariant.first_consistent;
       first_sorted = c.self.invariant.first_sorted;
@@ -38,7 +38,7 @@ returns c =
     let sort = expression_of c.args.sort.now in
     let term = expression_of c.args.term.now in
     record {
-      ok = definition_ok c.stack_theorems.ensures.hold new.sig s.scope.sig (map formula_of s.scope.bodies) (map formula_of s.asserts.items) s.table s.numbers.items (reverse s.levels.items) c.self.invariant.held c.args.self.now c.self.view_is r (λ d. defined_function d name params sort term) (map formula_of new.bodies) c.define_function-defined.ensures.ok (c.growth.ensures.definition s.scope.sig);
+      ok = definition_ok c.stack_theorems.ensures.hold new.sig s.scope.sig (map formula_of s.scope.bodies) (map formula_of s.asserts.items) s.table s.numbers.items (reverse s.levels.items) c.self.invariant.held c.args.self.now c.self.view_is r (λ d. defined_function d name params sort term) (map formula_of new.bodies) c.define_function-defined.ensures.ok c.growth.ensures.definition;
       accepted = subst (λ (d : Declarations). OnOk r ((n : ℕ) → IsDefinitionRefusal d name params sort term n → ⊥)) is c.define_function-defined.ensures.accepted;
       refused = subst (λ (d : Declarations). (n : ℕ) → IsErrOf r (Refused n) → IsDefinitionRefusal d name params sort term n) is c.define_function-defined.ensures.refused;
       unchanged = definition_err c.stack_theorems.ensures.hold new.sig s.scope.sig (map formula_of s.scope.bodies) (map formula_of s.asserts.items) s.table s.numbers.items (reverse s.levels.items) c.self.invariant.held c.args.self.now c.self.view_is r (map formula_of new.bodies) (formulas_stay r new.sig s.scope.sig new.bodies s.scope.bodies c.define_function-defined.ensures.unchanged);

@@ -1,5 +1,17 @@
+use Rattle.std.proofs.Common.{sym, subst}
+use Rattle.ct_stack.specs.Levels.{IsBeside}
 use Rattle.ct_stack.proofs.MarkLemmas.{first_from, first_to}
 use Rattle.ct_stack.proofs.stack.AssertionStack.is_first.Goals as goal
+
+pub is_start-requires : goal.is_start-requires
+is_start-requires c =
+    let s = c.self.inside in
+    let now = c.sorts.ensures.consistent in
+    let start = c.self.invariant.first_consistent in
+    record {
+      declared = subst IsBeside (sym c.mark-declared.ensures.lengths) (now.origins.one_each, now.heads.one_each);
+      first = subst IsBeside (sym c.self.invariant.first_is) (start.origins.one_each, start.heads.one_each);
+    }
 
 pub returns : goal.returns
 returns c =

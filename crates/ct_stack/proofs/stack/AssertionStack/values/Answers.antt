@@ -4,6 +4,7 @@ use Rattle.ct_terms.specs.Terms.{Terms}
 use Rattle.ct_formulas.specs.TreeFormula.{formula_of}
 use Rattle.ct_eval.specs.Interpretation.{IsProper}
 use Rattle.ct_command.specs.Seen.{all_seen}
+use Rattle.ct_scope.specs.declared.scope.Scope.{Scope}
 use Rattle.ct_stack.specs.Stack.{Level, cores}
 use Rattle.ct_stack.specs.Refusal.{IsTermsRefusal}
 use Rattle.ct_stack.specs.Held.{level_in, context_in}
@@ -38,7 +39,8 @@ pub invariant_of-self : goal.invariant_of-self
 invariant_of-self c =
     let s = c.self.inside in
     record {
-      held = subst (λ (table : Terms). AreHeld (whole_in s.scope s.asserts.items table s.numbers.items) (reverse s.levels.items)) (sym c.values_text.ensures.unchanged) c.self.invariant.held;
+      held = subst (λ (scope : Scope). AreHeld (whole_in scope s.asserts.items c.values_text.new.table s.numbers.items) (reverse s.levels.items)) (sym c.values_text.ensures.kept)
+          (subst (λ (table : Terms). AreHeld (whole_in s.scope s.asserts.items table s.numbers.items) (reverse s.levels.items)) (sym c.values_text.ensures.unchanged) c.self.invariant.held);
       first_is = c.self.invariant.first_is;
       first_consistent = c.self.invariant.first_consistent;
       first_sorted = c.self.invariant.first_sorted;

@@ -1,0 +1,18 @@
+use Rattle.std.proofs.Common.{◌≡◌, ◌∷◌, [], ◌++◌, List, slice_get, sym, ◌∙◌, ap, subst, inl, inr, arith}
+use Rattle.ct_card.specs.declared.chain.Rule.{Rule}
+use Rattle.ct_card.specs.Ruled.{IsCountRule}
+use Rattle.ct_card.proofs.ListLemmas.{pushed_at}
+use Rattle.ct_card.proofs.several.push_count_rules.Goals as goal
+
+pub loop-s-preserved : goal.loop-s-preserved
+loop-s-preserved c =
+    let rules = c.loop-s.rules.items in
+    let new = c.in_ok-count_rule.field-0 in
+    let grown : c.push.new.self.items ≡ rules ++ new ∷ [] = c.in_ok-push.ensures.items in
+    record {
+      long = omega (arith, c.in_ok-push.ensures.len, c.loop-s.invariant.long);
+      each = λ k rule at. elim (pushed_at rules new rule k (ap (λ (l : List Rule). slice_get l k) (sym grown) ∙ at)) [
+        | inl h ↦ c.loop-s.invariant.each k rule h
+        | inr (e, same) ↦ subst (λ n. IsCountRule c.args.sig.now n rule) (sym (e ∙ c.loop-s.invariant.long)) (subst (λ (r : Rule). IsCountRule c.args.sig.now c.loop-s.s r) (sym same) c.in_ok-count_rule.ensures.rule)
+      ];
+    }

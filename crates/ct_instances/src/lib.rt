@@ -1,0 +1,13 @@
+//! What names of generics stand for at the sorts beside them: constructors and fields of instances, and the sorts for which
+//! parameters stand.
+#![tactic(auto)]
+
+mod among;
+mod determined;
+mod matched;
+mod matching;
+
+pub use among::{NamedCtor, ctor_among, field_among};
+pub use determined::{has_determined_sort, sort_text};
+pub use matched::matched_with;
+pub use matching::Matching;

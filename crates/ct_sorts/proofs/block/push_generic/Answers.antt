@@ -1,0 +1,46 @@
+use Rattle.std.proofs.Common.{◌≡◌, ℕ, ◌+◌, ◌<◌, ◌≤◌, ◌++◌, List, [], ◌∷◌, length, map, take, drop, refl, sym, ◌∙◌, ap, ap₂, subst, arith}
+use Rattle.std.proofs.lemmas.List.{append_assoc, length-map}
+use Rattle.ct_generics.specs.declared.decl.CtorDecl.{CtorDecl}
+use Rattle.ct_generics.specs.declared.decl.Field.{Field}
+use Rattle.ct_sorts.specs.declared.ids.Symbol.{Symbol}
+use Rattle.ct_sorts.specs.declared.ids.Symbol.TheVariants.{Ctor, GenCtor}
+use Rattle.ct_sorts.specs.Availability.{IsListed}
+use Rattle.ct_sorts.specs.Block.{ctor_symbols, spelling}
+use Rattle.ct_sorts.specs.Grown.{Begins}
+use Rattle.ct_sorts.specs.Lookup.{AreDistinct, names_of}
+use Rattle.ct_sorts.specs.Room.{decl_fields}
+use Rattle.ct_sorts.specs.Symbols.{generic_sel_symbols, numbered_sels}
+use Rattle.ct_sorts.proofs.BlockSymbolsLemmas.{names-generic, names-numbered, sel_names-generic, sel_names-numbered}
+use Rattle.ct_sorts.proofs.OwnLemmas.{spelled_ctors}
+use Rattle.ct_sorts.proofs.PieceLemmas.{Begins-self, Begins-more, piece_distinct, piece_next, piece_more, pieces_all}
+use Rattle.ct_sorts.proofs.PushLemmas.{after_next, fields_so_far, generic_ctor, generic_ctors, generic_fields, next_fresh, whole_distinct}
+use Rattle.ct_sorts.proofs.block.push_generic.Goals as goal
+
+pub push-requires : goal.push-requires
+push-requires c =
+    let next = piece_next (generic_ctors c.args.g) (generic_ctor c.args.g) (λ k x. k + 1) (λ k x xs. refl) c.args.ctors.now c.loop-ctor.ctor-index c.ctor-item.result c.loop-ctor-test.true c.ctor-item.is c.loop-ctor.index c.loop-ctor.symbols (c.args.symbols.now ++ ((generic_ctors c.args.g)) 0 c.args.ctors.now) c.loop-ctor.invariant.2 in
+    let all = whole_distinct c.args.symbols.now (((generic_ctors c.args.g)) 0 c.args.ctors.now) (ctor_symbols c.args.ctors.now) (names-generic c.args.g 0 (map spelling c.args.ctors.now) ∙ spelled_ctors c.args.ctors.now) c.requires.fresh in
+    record { fresh = subst (λ name. IsListed (names_of c.loop-ctor.symbols) name → ⊥) (sym (c.in_ok-name.ensures.ok ∙ c.as_slice.ensures.value)) (next_fresh c.loop-ctor.symbols c.ctor-item.result.name (GenCtor c.args.g c.loop-ctor.index) _ (subst (λ xs. AreDistinct (names_of xs)) (sym next) all)) }
+
+pub push_generic_fields-requires-clause-few : goal.push_generic_fields-requires-clause-few
+push_generic_fields-requires-clause-few c = omega (arith, c.requires.sels_few, fields_so_far c.args.ctors.now c.loop-ctor.ctor-index c.ctor-item.result c.loop-ctor-test.true c.ctor-item.is, ap length c.as_slice-in-loop-ctor.ensures.value)
+
+pub push_generic_fields-requires-clause-fresh : goal.push_generic_fields-requires-clause-fresh
+push_generic_fields-requires-clause-fresh c =
+    let all = whole_distinct c.args.symbols.now (((generic_ctors c.args.g)) 0 c.args.ctors.now) (ctor_symbols c.args.ctors.now) (names-generic c.args.g 0 (map spelling c.args.ctors.now) ∙ spelled_ctors c.args.ctors.now) c.requires.fresh in
+    let here = piece_distinct (generic_ctors c.args.g) (generic_ctor c.args.g) (λ k x. k + 1) (λ k x xs. refl) c.args.ctors.now c.loop-ctor.ctor-index c.ctor-item.result c.loop-ctor-test.true c.ctor-item.is c.loop-ctor.index c.loop-ctor.symbols (c.args.symbols.now ++ ((generic_ctors c.args.g)) 0 c.args.ctors.now) c.loop-ctor.invariant.2 (λ (e : List ℕ × Symbol). e.0) all in
+    let pushed : c.push.new.self ≡ c.loop-ctor.symbols ++ (c.ctor-item.result.name, (GenCtor c.args.g c.loop-ctor.index)) ∷ [] = c.in_ok-push.ensures.ok ∙ ap (λ name. c.loop-ctor.symbols ++ (name, (GenCtor c.args.g c.loop-ctor.index)) ∷ []) (c.in_ok-name.ensures.ok ∙ c.as_slice.ensures.value) in
+    subst (λ (fs : List Field). AreDistinct (names_of c.push.new.self ++ map (λ (f : Field). f.name) fs)) (sym c.as_slice-in-loop-ctor.ensures.value)
+    (after_next c.loop-ctor.symbols c.ctor-item.result.name (GenCtor c.args.g c.loop-ctor.index) (generic_fields c.args.g c.loop-ctor.index 0 c.ctor-item.result.fields) (map (λ (f : Field). f.name) c.ctor-item.result.fields) (sel_names-generic c.args.g c.loop-ctor.index 0 (map (λ (f : Field). f.name) c.ctor-item.result.fields)) here c.push.new.self pushed)
+
+pub loop-ctor-preserved : goal.loop-ctor-preserved
+loop-ctor-preserved c =
+    let pushed : c.push.new.self ≡ c.loop-ctor.symbols ++ (c.ctor-item.result.name, (GenCtor c.args.g c.loop-ctor.index)) ∷ [] = c.in_ok-push.ensures.ok ∙ ap (λ name. c.loop-ctor.symbols ++ (name, (GenCtor c.args.g c.loop-ctor.index)) ∷ []) (c.in_ok-name.ensures.ok ∙ c.as_slice.ensures.value) in
+    let whole : c.push_generic_fields.new.symbols ≡ c.loop-ctor.symbols ++ ((generic_ctor c.args.g)) c.loop-ctor.index c.ctor-item.result =
+    c.in_ok-push_generic_fields.ensures.ok
+    ∙ ap₂ (λ (xs : List (List ℕ × Symbol)) (fs : List Field). xs ++ generic_fields c.args.g c.loop-ctor.index 0 fs) pushed c.as_slice-in-loop-ctor.ensures.value
+    ∙ append_assoc c.loop-ctor.symbols ((c.ctor-item.result.name, (GenCtor c.args.g c.loop-ctor.index)) ∷ []) (generic_fields c.args.g c.loop-ctor.index 0 c.ctor-item.result.fields) in (
+      omega (arith, c.loop-ctor.invariant.0),
+      Begins-more c.args.symbols.now c.loop-ctor.symbols c.push_generic_fields.new.symbols (((generic_ctor c.args.g)) c.loop-ctor.index c.ctor-item.result) c.loop-ctor.invariant.1 whole,
+      piece_more (generic_ctors c.args.g) (generic_ctor c.args.g) (λ k x. k + 1) (λ k x xs. refl) c.args.ctors.now c.loop-ctor.ctor-index c.ctor-item.result c.loop-ctor-test.true c.ctor-item.is c.loop-ctor.index c.loop-ctor.symbols (c.args.symbols.now ++ ((generic_ctors c.args.g)) 0 c.args.ctors.now) c.loop-ctor.invariant.2 c.push_generic_fields.new.symbols whole,
+    )

@@ -1,9 +1,0 @@
-use Rattle.std.proofs.Common.{ℕ, ◌+◌, List, [], ◌∷◌, ◌++◌, refl, sym, ◌∙◌, ap}
-use Rattle.std.proofs.lemmas.List.FromFn.{map-range_with_len_more}
-use Rattle.ct_sorts.specs.declared.ids.SortId.{SortId}
-use Rattle.ct_sorts.proofs.grow.sort_ids.Goals as goal
-
-pub loop-step-preserved : goal.loop-step-preserved
-loop-step-preserved c =
-    let id : ℕ → SortId = λ n. record { 0 = n } in
-    c.in_ok-push.ensures.items ∙ ap (λ (ids : List SortId). ids ++ id (c.args.first + c.loop-step.step) ∷ []) c.loop-step.invariant ∙ sym (map-range_with_len_more id c.args.first c.loop-step.step (c.args.first + c.loop-step.step) refl)
