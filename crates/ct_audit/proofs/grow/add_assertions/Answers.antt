@@ -14,6 +14,14 @@ use Rattle.ct_audit.specs.Growing.{IsGrowing, AreBoolean}
 use Rattle.ct_audit.proofs.GrowLemmas.{ends, goes_on, too_many, other_err}
 use Rattle.ct_audit.proofs.grow.add_assertions.Goals as goal
 
+pub compile-requires-clause-closed : goal.compile-requires-clause-closed
+compile-requires-clause-closed c =
+    let loop = c.loop-rest in
+    let others : List Tree = take (length loop.rest.now - 1) (drop 1 loop.rest.now) in
+    let is : loop.rest.now ≡ c.tree-item.result ∷ others = rest-item loop.rest.now c.tree-item.result c.in-len1-up.len_at_least c.tree-item.is in
+    let booleans = subst (λ (xs : List Tree). AreBoolean (context_in c.args.scope.now) (map formula_of xs)) is loop.invariant.booleans in
+    (bool_sort, All-head (λ t. IsSorted c.args.scope.now.sig [] t bool_sort) (formula_of c.tree-item.result) (map formula_of others) booleans)
+
 pub returns-in_err-number-clause-full : goal.returns-in_err-number-clause-full
 returns-in_err-number-clause-full c =
     let loop = c.loop-rest in
