@@ -1,5 +1,5 @@
 -- A step that is refused, or for which memory runs out, stops all of them.
-use Rattle.std.proofs.Common.{◌≡◌, ◌↔◌, ℕ, List, ◌∷◌, ◌++◌, Ok, Err, IsErrOf, ap, ◌∙◌}
+use Rattle.std.proofs.Common.{◌≡◌, ◌↔◌, ℕ, List, ◌∷◌, ◌++◌, Ok, Err, IsErrOf, refl, ap, ◌∙◌}
 use Rattle.ct_command.specs.declared.error.CommandError.{CommandError}
 use Rattle.ct_command.specs.declared.error.CommandError.TheVariants.{Refused, NoMemory}
 use Rattle.ct_names.specs.declared.error.CheckError.{CheckError}
@@ -38,3 +38,8 @@ pub of_command : {S T : Type 0} (r : CommandError) (error : CheckError) (n : ℕ
 of_command {S} {T} r error n iff is =
     let same : r ≡ Refused n = cc in
     ap (λ (z : CheckError). Err z) (iff.0 same)
+
+-- and so what is said of the elaboration is said of the command
+pub comes_error_of : {X Y T : Type 0} (seen : X → Y) (outcome : Outcome Y) (r : CommandError) (error : CheckError) → ((n : ℕ) → (r ≡ Refused n) ↔ (error ≡ check.Refused n)) → ((n : ℕ) → IsErrOf {T = T} (Err error) (check.Refused n) → outcome ≡ Err n) → Comes seen outcome (Err r)
+comes_error_of seen outcome (Refused n) error iff said = said n (ap (λ (z : CheckError). Err z) ((iff n).0 refl))
+comes_error_of seen outcome NoMemory error iff said = tt
