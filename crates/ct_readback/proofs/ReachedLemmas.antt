@@ -54,7 +54,7 @@ module _ (d : Declarations) (said_sorts : HaveSaidSorts d) where
   pub said_node : (rows : Expressions) (h : Nodes) (i : ℕ) (t : SortId) → SayNodes d 0 rows h → (has : HasNodeSort d h (numbered i) t) → said_at d rows i t ≡ Some has.0
   said_node rows h i t say (x, at, sorted) =
       let found = say_at d 0 rows h i x say at in
-      let says = found.2 in
+      let says : SaysNode d i found.0 x = subst (λ (n : ℕ). SaysNode d n found.0 x) (omega arith) found.2 in
       let same : says.sort ≡ t = same_Some says.sort t (sym (said_sorts says.sort says.text x says.said) ∙ sorted) in
       ap (λ (o : Option Expression). option_and_then (node_at d t) (option_and_then (node_text i) o)) found.1
       ∙ ap (λ (o : Option Expression). option_and_then (node_at d t) o) says.written
