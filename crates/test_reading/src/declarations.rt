@@ -7,9 +7,7 @@ ghost use Rattle.ct_sorts.specs.Grown.{Extends};
 
 use crate::dump::{show_all, show_generic, show_one};
 use crate::steps::{show_count, show_index};
-use ct_cases::{
-    CaseError, bytes_of, declare, extends_start, is_word, size_of, sort_expr, split_word, word_of,
-};
+use ct_cases::{CaseError, bytes_of, declare, is_word, size_of, sort_expr, split_word, word_of};
 use ct_sexpr::Sexpr;
 use ct_sorts::{Name, SigError, Signature, SortId, Symbol, are_parameters_below, growth};
 use std::alloc::Global;
@@ -48,11 +46,7 @@ pub fn answer_cut(
     out: &mut String,
 ) -> Result<(), CaseError> {
     let mut sig = Box::new(alloc, Signature::new(alloc)?)?;
-    let start = sig.mark();
-    answer_steps(alloc, &mut sig, steps, out)?;
-    extends_start(&sig);
-    sig.cut_to(&start);
-    answer_steps(alloc, &mut sig, more, out)
+    answer_over(alloc, &mut sig, steps, more, out)
 }
 
 /// Answers the steps, takes back what more steps declare, and answers the last steps.
@@ -65,10 +59,21 @@ pub fn answer_level(
 ) -> Result<(), CaseError> {
     let mut sig = Box::new(alloc, Signature::new(alloc)?)?;
     answer_steps(alloc, &mut sig, steps, out)?;
+    answer_over(alloc, &mut sig, level, last, out)
+}
+
+/// Answers the steps, takes back what they declare, and answers the last steps.
+fn answer_over(
+    alloc: Global,
+    sig: &mut Signature,
+    level: &[Sexpr],
+    last: &[Sexpr],
+    out: &mut String,
+) -> Result<(), CaseError> {
     let mark = sig.mark();
-    answer_steps(alloc, &mut sig, level, out)?;
+    answer_steps(alloc, sig, level, out)?;
     sig.cut_to(&mark);
-    answer_steps(alloc, &mut sig, last, out)
+    answer_steps(alloc, sig, last, out)
 }
 
 /// Answers steps.
