@@ -1,3 +1,4 @@
 pub mod HeadLemmas
 pub mod AssertedLemmas
 pub mod ScopeLemmas
+pub mod ThereLemmas

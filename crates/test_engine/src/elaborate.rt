@@ -21,13 +21,28 @@ pub fn term_of(
     params: &[Param],
     expr: &Sexpr,
 ) -> Result<(Tree, SortId), CaseError>
+    requires inside { All (λ (p : Param). IsSort scope.now.sig p.sort) params.now }
     ensures sorted { IfOk result (λ found. IsSorted scope.now.sig
+        (bind (map (λ (p : Param). p.sort) params.now) []) (formula_of found.0) found.1) }
+{
+    let mut own = own_scope(alloc, scope)?;
+    term_there(alloc, &mut own, params, expr)
+}
+
+/// The tree of an expression under parameters, and its sort. No sort is added.
+fn term_there(
+    alloc: Global,
+    scope: &mut Scope,
+    params: &[Param],
+    expr: &Sexpr,
+) -> Result<(Tree, SortId), CaseError>
+    requires inside { All (λ (p : Param). IsSort scope.old.sig p.sort) params.now }
+    ensures sorted { IfOk result (λ found. IsSorted scope.old.sig
         (bind (map (λ (p : Param). p.sort) params.now) []) (formula_of found.0) found.1) }
 {
     elaboration();
     scope.sig.sorts();
-    let mut own = own_scope(alloc, scope)?;
-    match elaborate_there(alloc, &mut own, params, expr) {
+    match elaborate_there(alloc, scope, params, expr) {
         Ok(found) => Ok(found),
         Err(CheckError::Refused(_)) => Err(CaseError::Bad),
         Err(CheckError::NoMemory) => Err(CaseError::NoMemory),
