@@ -16,6 +16,6 @@
 (set-option :print-success false)
 ; What the solver does not have is answered, and changes nothing: the model of the last check stands.
 (set-option :random-seed 42)
-(get-unsat-core)
+(get-assignment)
 (echo "p or q, and r or s:")
 (get-value ((and (or p q) (or r s))))

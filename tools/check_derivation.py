@@ -121,6 +121,19 @@ def is_keyword(atom):
     return type(atom) is bytes and atom[0] == ord(":")
 
 
+def labelled(text):
+    """The term that an assertion says and its label, None where it has none. Where attributes have another form, the whole is left."""
+    if type(text) is not list or len(text) < 3 or text[0] != b"!" or b":named" not in text[2:]:
+        return text, None
+    attributes = text[2:]
+    place = attributes.index(b":named") + 1
+    require(attributes.count(b":named") == 1 and place < len(attributes) and name_of(attributes[place]) is not None)
+    for before, part in zip([text[1], *attributes], attributes):
+        if not is_keyword(part) and (before is text[1] or not is_keyword(before)):
+            return text, None
+    return text[1], name_of(attributes[place])
+
+
 # ---------------------------------------------------------------------------------------------------------------------
 # What a script declares. A constructor, selector, tester and function is itself the head of its terms.
 
@@ -1045,15 +1058,23 @@ class Script:
 
     def assert_(self, *rest):
         require(len(rest) == 1)
+        text, label = labelled(rest[0])
         elaboration = Elaboration(self)
-        root = elaboration.root(rest[0])
+        root = elaboration.root(text)
         require(elaboration.sorts[root] is self.bool)
+        code = elaboration.code(root, 0)
+        if label is not None:
+            self.new([label], self.symbols)
+            require(self.counts[Definition] < MOST_DEFINITIONS)
         mark = self.terms.mark()
         try:
-            self.assertions.append(self.terms.of_code(elaboration.code(root, 0)[1]))
+            self.assertions.append(self.terms.of_code(code[1]))
         except Refused:
             self.terms.back_to(mark)
             raise
+        if label is not None:
+            self.counts[Definition] += 1
+            self.symbols[label] = Definition(label, [], self.bool, *code)
 
     def push(self, *rest):
         levels = self.levels_of(rest)

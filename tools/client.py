@@ -19,6 +19,7 @@ The line that an error names is counted in the dialogue, with what this tool sen
 """
 
 import os
+import re
 import subprocess
 import sys
 import tempfile
@@ -289,11 +290,14 @@ def replay(program, path):
                 print(f"-> {answer}", flush=True)
 
 
+CHECK = re.compile(r"\((\s|;[^\n\r]*[\n\r])*check-sat[\s;)]")
 ASKED = {"sat": ("model", "(get-model)"), "unsat": ("derivation", "(get-proof)")}
 
 
-def check_of(answers):
-    """What came of a check-sat, by its answer; None where the command was another."""
+def check_of(text, answers):
+    """What came of a check-sat, by its answer; None where the command was another, one with assumptions among them."""
+    if not CHECK.match(text):
+        return None
     if answers and answers[0] in ("sat", "unsat", "unknown"):
         return answers[0]
     return "refused" if answers and "[E30]" in answers[0] else None
@@ -326,7 +330,7 @@ def stored(program, path, folder):
             failure = failure_of(text, answers)
             if failure:
                 print(failure, flush=True)
-            verdict = check_of(answers)
+            verdict = check_of(text, answers)
             if verdict is None:
                 continue
             count += 1

@@ -6,13 +6,13 @@ use Rattle.std.proofs.lemmas.Option.{none-some, same_Some}
 use Rattle.ct_sexpr.specs.Text.{Located, Ending}
 use Rattle.ct_sexpr.specs.Expression.{Expression}
 use Rattle.ct_command.specs.Reading.{command}
-use Rattle.ct_engine.specs.declared.verdict.Verdict.{Verdict}
+use Rattle.ct_step.specs.Evidence.{Evidence}
 use Rattle.ct_script.specs.declared.replay.Replayed.{Replayed}
 use Rattle.ct_step.specs.State.{State, first_state}
 use Rattle.ct_step.specs.Step.{counted}
 use Rattle.ct_script.specs.Answers.{Answers, Leads}
 use Rattle.ct_script.specs.Session.{Course, first_course}
-use Rattle.ct_script.specs.Replay.{is_check, IsCounted, IsStepped, Replays, GoesThrough, HaveOneStack, AnswersThrough}
+use Rattle.ct_script.specs.Replay.{is_check, is_assuming, IsCounted, IsPassedOver, IsStepped, Replays, GoesThrough, HaveOneStack, AnswersThrough}
 use Rattle.ct_replay.specs.Found.{Finds, is_wanted}
 use Rattle.ct_audit.specs.AtCheck.{IsAtCheck}
 
@@ -20,9 +20,9 @@ use Rattle.ct_audit.specs.AtCheck.{IsAtCheck}
 pub record ReplayTheorems : Type 0 where
   pub counts : (line : ℕ) (x : Expression) (old new : Course) (r : Replayed) → Replays old line (command x) new r → new.number ≡ counted old.number x
   pub tells : (line : ℕ) (x : Expression) (old new : Course) (r : Replayed) → Replays old line (command x) new r → r.check ≡ is_check (command x)
-  pub leads_alike : (s last : State) (number count : ℕ) (cs : List Located) (verdicts : List Verdict) (errors : List (ℕ × ℕ)) (lines : List (List ℕ)) (old new : Course) → Leads s number cs last count verdicts errors lines → GoesThrough old cs new → HaveOneStack s old.state → HaveOneStack last new.state
-  pub leads_counted : (s last : State) (number count : ℕ) (cs : List Located) (verdicts : List Verdict) (errors : List (ℕ × ℕ)) (lines : List (List ℕ)) (old new : Course) → Leads s number cs last count verdicts errors lines → GoesThrough old cs new → old.number ≡ number → new.number ≡ count
-  pub goes_through : (s : State) (number : ℕ) (first others : List Located) (ending : Ending) (verdicts : List Verdict) (errors : List (ℕ × ℕ)) (lines : List (List ℕ)) (old new : Course) → Answers s number (first ++ others) ending verdicts errors lines → GoesThrough old first new → HaveOneStack s old.state → (last : State) × (count : ℕ) × AnswersThrough s number first others ending verdicts errors lines last count
+  pub leads_alike : (s last : State) (number count : ℕ) (cs : List Located) (kept : Evidence) (errors : List (ℕ × ℕ)) (lines : List (List ℕ)) (old new : Course) → Leads s number cs last count kept errors lines → GoesThrough old cs new → HaveOneStack s old.state → HaveOneStack last new.state
+  pub leads_counted : (s last : State) (number count : ℕ) (cs : List Located) (kept : Evidence) (errors : List (ℕ × ℕ)) (lines : List (List ℕ)) (old new : Course) → Leads s number cs last count kept errors lines → GoesThrough old cs new → old.number ≡ number → new.number ≡ count
+  pub goes_through : (s : State) (number : ℕ) (first others : List Located) (ending : Ending) (kept : Evidence) (errors : List (ℕ × ℕ)) (lines : List (List ℕ)) (old new : Course) → Answers s number (first ++ others) ending kept errors lines → GoesThrough old first new → HaveOneStack s old.state → (last : State) × (count : ℕ) × AnswersThrough s number first others ending kept errors lines last count
 
 -- these commands split at the wanted check: the replay goes through those before it, and then comes to this state
 record IsSplit (old : Course) (cs : List Located) (wanted : ℕ) (found : State) : Type 0 where
@@ -83,18 +83,18 @@ split old (c ∷ cs) wanted found (new, r, replays, turned) =
 -- a check that is replayed changes no state
 check_stays : (old new : Course) (line : ℕ) (x : Expression) (r : Replayed) → is_check (command x) ≡ true → Replays old line (command x) new r → new.state ≡ old.state
 check_stays old new line x r asks replays =
-    let counted : IsCounted old new r = subst (λ (b : Bool). MatchBool b (IsCounted old new r) (IsStepped old line (command x) new r)) asks replays in
+    let counted : IsCounted old new r = subst (λ (b : Bool). MatchBool b (IsCounted old new r) (MatchBool (is_assuming (command x)) (IsPassedOver old new r) (IsStepped old line (command x) new r))) asks replays in
     ap (λ (c : Course). c.state) counted.0
 
 -- where the commands split, the answers come to the check
-at_split : (t : ReplayTheorems) (script : List Located) (wanted : ℕ) (found : State) (ending : Ending) (verdicts : List Verdict) (errors : List (ℕ × ℕ)) (lines : List (List ℕ)) → IsSplit first_course script wanted found → Answers first_state 0 script ending verdicts errors lines → IsAtCheck script wanted found ending verdicts errors lines
-at_split t script wanted found ending verdicts errors lines p answers =
-    let parted : Answers first_state 0 (p.before ++ p.check ∷ p.after) ending verdicts errors lines = subst (λ (cs : List Located). Answers first_state 0 cs ending verdicts errors lines) p.all answers in
+at_split : (t : ReplayTheorems) (script : List Located) (wanted : ℕ) (found : State) (ending : Ending) (kept : Evidence) (errors : List (ℕ × ℕ)) (lines : List (List ℕ)) → IsSplit first_course script wanted found → Answers first_state 0 script ending kept errors lines → IsAtCheck script wanted found ending kept errors lines
+at_split t script wanted found ending kept errors lines p answers =
+    let parted : Answers first_state 0 (p.before ++ p.check ∷ p.after) ending kept errors lines = subst (λ (cs : List Located). Answers first_state 0 cs ending kept errors lines) p.all answers in
     let start : HaveOneStack first_state first_state = record { stack = refl; options = refl } in
-    let gone = t.goes_through first_state 0 p.before (p.check ∷ p.after) ending verdicts errors lines first_course p.mid parted p.through start in
-    let through : AnswersThrough first_state 0 p.before (p.check ∷ p.after) ending verdicts errors lines gone.0 gone.1 = gone.2 in
-    let one : HaveOneStack gone.0 p.mid.state = t.leads_alike first_state gone.0 0 gone.1 p.before through.first_verdicts through.first_errors through.first_lines first_course p.mid through.leads p.through start in
-    let count : p.mid.number ≡ gone.1 = t.leads_counted first_state gone.0 0 gone.1 p.before through.first_verdicts through.first_errors through.first_lines first_course p.mid through.leads p.through refl in
+    let gone = t.goes_through first_state 0 p.before (p.check ∷ p.after) ending kept errors lines first_course p.mid parted p.through start in
+    let through : AnswersThrough first_state 0 p.before (p.check ∷ p.after) ending kept errors lines gone.0 gone.1 = gone.2 in
+    let one : HaveOneStack gone.0 p.mid.state = t.leads_alike first_state gone.0 0 gone.1 p.before through.first_kept through.first_errors through.first_lines first_course p.mid through.leads p.through start in
+    let count : p.mid.number ≡ gone.1 = t.leads_counted first_state gone.0 0 gone.1 p.before through.first_kept through.first_errors through.first_lines first_course p.mid through.leads p.through refl in
     let wants : (p.r.check ≡ true) × ((p.new.number == wanted) ≡ true) = and_parts p.r.check (p.new.number == wanted) p.wants in
     let asks : is_check (command p.check.command) ≡ true = sym (t.tells p.check.line p.check.command p.mid p.new p.r p.replays) ∙ wants.0 in
     record {
@@ -111,5 +111,5 @@ at_split t script wanted found ending verdicts errors lines p answers =
     }
 
 -- what is found at a check has the stack and the options that the answers have there
-pub answers_at : (t : ReplayTheorems) (script : List Located) (wanted : ℕ) (found : State) (ending : Ending) (verdicts : List Verdict) (errors : List (ℕ × ℕ)) (lines : List (List ℕ)) → Finds first_course script wanted (Some found) → Answers first_state 0 script ending verdicts errors lines → IsAtCheck script wanted found ending verdicts errors lines
-answers_at t script wanted found ending verdicts errors lines finds answers = at_split t script wanted found ending verdicts errors lines (split first_course script wanted found finds) answers
+pub answers_at : (t : ReplayTheorems) (script : List Located) (wanted : ℕ) (found : State) (ending : Ending) (kept : Evidence) (errors : List (ℕ × ℕ)) (lines : List (List ℕ)) → Finds first_course script wanted (Some found) → Answers first_state 0 script ending kept errors lines → IsAtCheck script wanted found ending kept errors lines
+answers_at t script wanted found ending kept errors lines finds answers = at_split t script wanted found ending kept errors lines (split first_course script wanted found finds) answers

@@ -1,7 +1,7 @@
 //! What holds of audits. A theorem is the contract of a function that does nothing.
 ghost use Rattle.std.specs.Prelude.{ℕ, List, Some};
 ghost use Rattle.ct_sexpr.specs.Text.{Located, Ending};
-ghost use Rattle.ct_engine.specs.declared.verdict.Verdict.{Verdict};
+ghost use Rattle.ct_step.specs.Evidence.{Evidence};
 ghost use Rattle.ct_step.specs.State.{State, first_state};
 ghost use Rattle.ct_script.specs.Answers.{Answers};
 ghost use Rattle.ct_script.specs.Session.{first_course};
@@ -16,10 +16,10 @@ pub fn found_checks()
     // Whatever answers a script has, the state that is found at a check has the stack and the
     // options of the state in which these answers come to that check.
     ensures found { (script : List Located) (wanted : ℕ) (found : State) (ending : Ending)
-        (verdicts : List Verdict) (errors : List (ℕ × ℕ)) (lines : List (List ℕ))
+        (kept : Evidence) (errors : List (ℕ × ℕ)) (lines : List (List ℕ))
         → Finds first_course script wanted (Some found)
-        → Answers first_state 0 script ending verdicts errors lines
-        → IsAtCheck script wanted found ending verdicts errors lines }
+        → Answers first_state 0 script ending kept errors lines
+        → IsAtCheck script wanted found ending kept errors lines }
 {
     replayed_scripts();
 }

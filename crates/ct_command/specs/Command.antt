@@ -1,10 +1,16 @@
 -- What a command says (SMT-LIB 2.7, section 3.9; cvc5 for codatatypes), before any name in it is looked up.
-use Rattle.std.specs.Prelude.{ℕ, List}
+use Rattle.std.specs.Prelude.{ℕ, Bool, List, Option}
 use Rattle.ct_sexpr.specs.Expression.{Expression}
 use Rattle.ct_command.specs.declared.command.Family.{Family}
 use Rattle.ct_command.specs.declared.option.Setting.{Setting}
 use Rattle.ct_command.specs.declared.option.OptionName.{OptionName}
 use Rattle.ct_command.specs.declared.option.Info.{Info}
+
+-- an assumption: a name or its negation, as it is written
+pub record Literal : Type 0 where
+  pub expr : Expression
+  pub name : List ℕ
+  pub negated : Bool
 
 -- a name and the sort beside it: a field of a constructor, or a parameter of a definition
 pub record Named : Type 0 where
@@ -42,8 +48,10 @@ pub data Command : Type 0 where
   declare_fun : List ℕ → List Expression → Expression → Command
   -- a definition with its parameters, the sort of its result, and its body
   define_fun : List ℕ → List Named → Expression → Expression → Command
-  assert : Expression → Command
+  -- a term, and the name with which it is labelled, where it has one
+  assert : Expression → Option (List ℕ) → Command
   check_sat : Command
+  check_sat_assuming : List Literal → Command
   -- so many levels more, and so many fewer
   push : ℕ → Command
   pop : ℕ → Command
@@ -52,6 +60,8 @@ pub data Command : Type 0 where
   get_model : Command
   get_value : List Expression → Command
   get_proof : Command
+  get_unsat_core : Command
+  get_unsat_assumptions : Command
   -- a string literal
   echo : Expression → Command
   exit : Command

@@ -3,7 +3,7 @@ use Rattle.std.specs.Prelude.{ℕ, Bool, false, List, [], ◌∷◌, length, nat
 use Rattle.std.specs.Str.{bytes_eq}
 use Rattle.ct_sexpr.specs.Expression.{Expression}
 use Rattle.ct_command.specs.declared.command.Family.{Family}
-use Rattle.ct_command.specs.Command.{Named, SortHead, Constructor, Body, Command, declare_sort, define_sort, declare_block, declare_fun, define_fun, assert, get_value, echo}
+use Rattle.ct_command.specs.Command.{Named, SortHead, Constructor, Body, Command, declare_sort, define_sort, declare_block, declare_fun, define_fun, get_value, echo}
 use Rattle.ct_command.specs.Items.{name_of, numeral_of, word_of, is_text, items_of, each}
 
 -- `(x S)`
@@ -127,11 +127,6 @@ defined_fun es = None
 abbrev pub defined_const : List Expression → Option Command
 defined_const (n ∷ (sort ∷ (t ∷ []))) = option_map (λ name. define_fun name [] sort t) (name_of n)
 defined_const es = None
-
--- `t`
-abbrev pub asserted : List Expression → Option Command
-asserted (t ∷ []) = Some (assert t)
-asserted es = None
 
 -- a number of levels, 1 where none is written
 abbrev pub level_count : List Expression → Option ℕ

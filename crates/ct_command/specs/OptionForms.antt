@@ -2,7 +2,7 @@
 -- after the word of a command say.
 use Rattle.std.specs.Prelude.{ℕ, Bool, true, false, List, [], ◌∷◌, Option, Some, None, option_map, option_and_then, codes}
 use Rattle.ct_sexpr.specs.Expression.{Expression}
-use Rattle.ct_command.specs.declared.option.BooleanOption.TheVariants.{PrintSuccess, GlobalDeclarations, ProduceModels, ProduceProofs, ProduceAssertions, ProduceAssignments, ProduceUnsatCores, ProduceUnsatAssumptions}
+use Rattle.ct_command.specs.declared.option.BooleanOption.TheVariants.{PrintSuccess, GlobalDeclarations, ProduceModels, ProduceProofs, ProduceAssertions, ProduceAssignments, ProduceUnsatCores, ProduceUnsatAssumptions, MinimalUnsatCores}
 use Rattle.ct_command.specs.declared.option.NumeralOption.TheVariants.{ResourceLimit, Verbosity}
 use Rattle.ct_command.specs.declared.option.OptionName.{OptionName}
 use Rattle.ct_command.specs.declared.option.OptionName.TheVariants as option
@@ -17,7 +17,7 @@ use Rattle.ct_command.specs.Tables.{beside}
 -- the options by their keywords
 abbrev pub options : List (List ℕ × OptionName)
 options =
-    (codes ":print-success", option.Boolean PrintSuccess) ∷ ((codes ":global-declarations", option.Boolean GlobalDeclarations) ∷ ((codes ":reproducible-resource-limit", option.Numeral ResourceLimit) ∷ ((codes ":produce-models", option.Boolean ProduceModels) ∷ ((codes ":produce-proofs", option.Boolean ProduceProofs) ∷ ((codes ":produce-assertions", option.Boolean ProduceAssertions) ∷ ((codes ":produce-assignments", option.Boolean ProduceAssignments) ∷ ((codes ":produce-unsat-cores", option.Boolean ProduceUnsatCores) ∷ ((codes ":produce-unsat-assumptions", option.Boolean ProduceUnsatAssumptions) ∷ ((codes ":verbosity", option.Numeral Verbosity) ∷ [])))))))))
+    (codes ":print-success", option.Boolean PrintSuccess) ∷ ((codes ":global-declarations", option.Boolean GlobalDeclarations) ∷ ((codes ":reproducible-resource-limit", option.Numeral ResourceLimit) ∷ ((codes ":produce-models", option.Boolean ProduceModels) ∷ ((codes ":produce-proofs", option.Boolean ProduceProofs) ∷ ((codes ":produce-assertions", option.Boolean ProduceAssertions) ∷ ((codes ":produce-assignments", option.Boolean ProduceAssignments) ∷ ((codes ":produce-unsat-cores", option.Boolean ProduceUnsatCores) ∷ ((codes ":produce-unsat-assumptions", option.Boolean ProduceUnsatAssumptions) ∷ ((codes ":verbosity", option.Numeral Verbosity) ∷ ((codes ":minimal-unsat-cores", option.Boolean MinimalUnsatCores) ∷ []))))))))))
 
 -- the infos by their keywords
 abbrev pub infos : List (List ℕ × Info)

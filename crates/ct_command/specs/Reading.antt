@@ -7,10 +7,11 @@ use Rattle.ct_command.specs.declared.error.CommandError.{CommandError}
 use Rattle.ct_command.specs.declared.error.CommandError.TheVariants.{Refused, NoMemory}
 use Rattle.ct_command.specs.declared.words.Word.{Word}
 use Rattle.ct_command.specs.declared.words.Word.TheVariants as w
-use Rattle.ct_command.specs.Command.{Command, check_sat, push, pop, reset_assertions, reset, get_model, get_proof, exit, unsupported}
+use Rattle.ct_command.specs.Command.{Command, check_sat, push, pop, reset_assertions, reset, get_model, get_proof, get_unsat_core, get_unsat_assumptions, exit, unsupported}
 use Rattle.ct_command.specs.Tables.{beside}
 use Rattle.ct_command.specs.Items.{word_of, items_of}
-use Rattle.ct_command.specs.Forms.{declared_sort, defined_sort, declared_type, declared_types, declared_const, declared_fun, defined_fun, defined_const, asserted, level_count, alone, valued, echoed}
+use Rattle.ct_command.specs.Forms.{declared_sort, defined_sort, declared_type, declared_types, declared_const, declared_fun, defined_fun, defined_const, level_count, alone, valued, echoed}
+use Rattle.ct_command.specs.Labels.{asserted, assumed}
 use Rattle.ct_command.specs.OptionForms.{logic_set, option_set, option_asked, info_set, info_asked}
 
 -- an expression that is no command of its word
@@ -44,11 +45,15 @@ answer_words = (codes "get-model", w.GetModel) ∷ ((codes "get-value", w.GetVal
 -- the words that are answered `unsupported`, whatever follows
 abbrev pub unsupported_words : List (List ℕ × Word)
 unsupported_words =
-    (codes "define-fun-rec", w.Unsupported) ∷ ((codes "define-funs-rec", w.Unsupported) ∷ ((codes "declare-sort-parameter", w.Unsupported) ∷ ((codes "get-assertions", w.Unsupported) ∷ ((codes "get-assignment", w.Unsupported) ∷ ((codes "check-sat-assuming", w.Unsupported) ∷ ((codes "get-unsat-core", w.Unsupported) ∷ ((codes "get-unsat-assumptions", w.Unsupported) ∷ [])))))))
+    (codes "define-fun-rec", w.Unsupported) ∷ ((codes "define-funs-rec", w.Unsupported) ∷ ((codes "declare-sort-parameter", w.Unsupported) ∷ ((codes "get-assertions", w.Unsupported) ∷ ((codes "get-assignment", w.Unsupported) ∷ []))))
+
+-- the words that the table of commands has last: those of assumptions and of cores
+abbrev pub last_words : List (List ℕ × Word)
+last_words = (codes "check-sat-assuming", w.CheckSatAssuming) ∷ ((codes "get-unsat-core", w.GetUnsatCore) ∷ ((codes "get-unsat-assumptions", w.GetUnsatAssumptions) ∷ []))
 
 -- the words of all commands
 abbrev pub words : List (List ℕ × Word)
-words = setting_words ++ (sort_words ++ (function_words ++ (session_words ++ (answer_words ++ unsupported_words))))
+words = setting_words ++ (sort_words ++ (function_words ++ (session_words ++ (answer_words ++ (unsupported_words ++ last_words)))))
 
 -- the command that the expressions after the word say
 abbrev pub said : Word → List Expression → Option Command
@@ -69,6 +74,7 @@ said w.DefineFun es = defined_fun es
 said w.DefineConst es = defined_const es
 said w.Assert es = asserted es
 said w.CheckSat es = alone check_sat es
+said w.CheckSatAssuming es = assumed es
 said w.Push es = option_map push (level_count es)
 said w.Pop es = option_map pop (level_count es)
 said w.ResetAssertions es = alone reset_assertions es
@@ -76,6 +82,8 @@ said w.Reset es = alone reset es
 said w.GetModel es = alone get_model es
 said w.GetValue es = valued es
 said w.GetProof es = alone get_proof es
+said w.GetUnsatCore es = alone get_unsat_core es
+said w.GetUnsatAssumptions es = alone get_unsat_assumptions es
 said w.Echo es = echoed es
 said w.Exit es = alone exit es
 said w.Unsupported es = Some unsupported

@@ -12,6 +12,17 @@ pub enum Family {
     Codata,
 }
 
+/// An assumption: a name or its negation (SMT-LIB 2.7, section 3.9, `prop_literal`).
+#[derive(Clone, Copy, Debug)]
+pub struct Literal<'a> {
+    /// The whole expression.
+    pub expr: &'a Sexpr,
+    /// The name.
+    pub name: &'a [u8],
+    /// Whether it is negated.
+    pub negated: bool,
+}
+
 /// A name and the sort beside it: a field of a constructor, or a parameter of a definition.
 #[derive(Clone, Copy, Debug)]
 pub struct Named<'a> {
@@ -71,10 +82,12 @@ pub enum Command<'a> {
     DeclareFun(&'a [u8], &'a [Sexpr], &'a Sexpr),
     /// `define-fun` with parameters, the sort of the result, and the body; `define-const` without parameters.
     DefineFun(&'a [u8], Vec<Named<'a>>, &'a Sexpr, &'a Sexpr),
-    /// `assert`.
-    Assert(&'a Sexpr),
+    /// `assert`, with the name by which the term is labelled, where its outermost form is `(! t .. :named n ..)`.
+    Assert(&'a Sexpr, Option<&'a [u8]>),
     /// `check-sat`.
     CheckSat,
+    /// `check-sat-assuming`, with the assumptions in order.
+    CheckSatAssuming(Vec<Literal<'a>>),
     /// `push`, with how many levels are added; 1 where no number is written.
     Push(u128),
     /// `pop`, with how many levels are removed; 1 where no number is written.
@@ -89,6 +102,10 @@ pub enum Command<'a> {
     GetValue(&'a [Sexpr]),
     /// `get-proof`.
     GetProof,
+    /// `get-unsat-core`.
+    GetUnsatCore,
+    /// `get-unsat-assumptions`.
+    GetUnsatAssumptions,
     /// `echo`, with the string literal as it was read.
     Echo(&'a Sexpr),
     /// `exit`.

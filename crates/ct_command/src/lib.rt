@@ -6,13 +6,14 @@ mod command;
 mod error;
 mod forms;
 mod items;
+mod labels;
 mod option;
 mod read;
 mod settings;
 mod theorems;
 mod words;
 
-pub use command::{Body, Command, Constructor, Family, Named, SortHead};
+pub use command::{Body, Command, Constructor, Family, Literal, Named, SortHead};
 pub use error::CommandError;
 pub use items::name_of;
 pub use option::{BooleanOption, Info, NumeralOption, OptionName, Setting};

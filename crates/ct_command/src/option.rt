@@ -19,6 +19,8 @@ pub enum BooleanOption {
     ProduceUnsatCores,
     /// `:produce-unsat-assumptions`.
     ProduceUnsatAssumptions,
+    /// `:minimal-unsat-cores`: cores are shrunk until each assertion is needed (cvc5).
+    MinimalUnsatCores,
 }
 
 /// An option whose value is a numeral (SMT-LIB 2.7, section 4.1.7).

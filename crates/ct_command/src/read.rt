@@ -1,7 +1,7 @@
 //! The command that an expression is.
 ghost use Rattle.std.specs.Prelude.{◌≡◌, [], ◌∷◌, Some, None, option_map};
 ghost use Rattle.ct_sexpr.specs.View.{expression_of};
-ghost use Rattle.ct_command.specs.Forms.{declared_sort, defined_sort, free_sort, declared_const, declared_fun, defined_fun, defined_const, asserted, level_count, valued, some_terms, alone, echoed};
+ghost use Rattle.ct_command.specs.Forms.{declared_sort, defined_sort, free_sort, declared_const, declared_fun, defined_fun, defined_const, level_count, valued, some_terms, alone, echoed};
 ghost use Rattle.ct_command.specs.Reading.{Reads, Gives, command, of_items, after_word, said};
 ghost use Rattle.ct_command.specs.Command.{push, pop};
 ghost use Rattle.ct_command.specs.Seen.{all_seen, head_seen, command_seen};
@@ -11,6 +11,7 @@ use crate::command::{Command, Family, SortHead};
 use crate::error::{CommandError, UNKNOWN_COMMAND, WRONG_FORM};
 use crate::forms::{head_by, names, parameters};
 use crate::items::{is_text, items_of, name_of, numeral_of, word_of};
+use crate::labels::{asserted, assumed};
 use crate::settings::{info_asked, info_set, logic_set, option_asked, option_set};
 use crate::words::{Word, known_word};
 use ct_sexpr::Sexpr;
@@ -79,6 +80,7 @@ fn said<'a>(alloc: Global, word: Word, args: &'a [Sexpr]) -> Result<Command<'a>,
         Word::DefineConst => defined_const(alloc, args),
         Word::Assert => asserted(args),
         Word::CheckSat => alone(Command::CheckSat, args),
+        Word::CheckSatAssuming => assumed(alloc, args),
         Word::Push => pushed(args),
         Word::Pop => popped(args),
         Word::ResetAssertions => alone(Command::ResetAssertions, args),
@@ -86,6 +88,8 @@ fn said<'a>(alloc: Global, word: Word, args: &'a [Sexpr]) -> Result<Command<'a>,
         Word::GetModel => alone(Command::GetModel, args),
         Word::GetValue => valued(args),
         Word::GetProof => alone(Command::GetProof, args),
+        Word::GetUnsatCore => alone(Command::GetUnsatCore, args),
+        Word::GetUnsatAssumptions => alone(Command::GetUnsatAssumptions, args),
         Word::Echo => echoed(args),
         Word::Exit => alone(Command::Exit, args),
         Word::Unsupported => Ok(Command::Unsupported),
@@ -185,17 +189,6 @@ fn defined_const(alloc: Global, args: &[Sexpr]) -> Result<Command<'_>, CommandEr
             None => Err(CommandError::Refused(WRONG_FORM)),
         },
         [_, _, _, _, ..] => Err(CommandError::Refused(WRONG_FORM)),
-    }
-}
-
-// `t`.
-fn asserted(args: &[Sexpr]) -> Result<Command<'_>, CommandError>
-    ensures value { Reads command_seen (asserted (all_seen args.now)) result }
-{
-    match args {
-        [term] => Ok(Command::Assert(term)),
-        [] => Err(CommandError::Refused(WRONG_FORM)),
-        [_, _, ..] => Err(CommandError::Refused(WRONG_FORM)),
     }
 }
 

@@ -165,6 +165,9 @@ fn option_of(keyword: &[u8]) -> Option<OptionName>
     if b":verbosity".as_slice() == keyword {
         return Some(OptionName::Numeral(NumeralOption::Verbosity));
     }
+    if b":minimal-unsat-cores".as_slice() == keyword {
+        return Some(OptionName::Boolean(BooleanOption::MinimalUnsatCores));
+    }
     None
 }
 

@@ -1,7 +1,7 @@
 //! The words of the commands.
 ghost use Rattle.std.specs.Prelude.{◌≡◌};
 ghost use Rattle.ct_command.specs.Tables.{beside};
-ghost use Rattle.ct_command.specs.Reading.{words, setting_words, sort_words, function_words, session_words, answer_words, unsupported_words};
+ghost use Rattle.ct_command.specs.Reading.{words, setting_words, sort_words, function_words, session_words, answer_words, unsupported_words, last_words};
 
 /// The word of a command.
 #[derive(Clone, Copy, Debug, PartialEq, Eq)]
@@ -40,6 +40,8 @@ pub enum Word {
     Assert,
     /// `check-sat`.
     CheckSat,
+    /// `check-sat-assuming`.
+    CheckSatAssuming,
     /// `push`.
     Push,
     /// `pop`.
@@ -54,6 +56,10 @@ pub enum Word {
     GetValue,
     /// `get-proof`.
     GetProof,
+    /// `get-unsat-core`.
+    GetUnsatCore,
+    /// `get-unsat-assumptions`.
+    GetUnsatAssumptions,
     /// `echo`.
     Echo,
     /// `exit`.
@@ -81,7 +87,10 @@ pub(crate) fn known_word(word: &[u8]) -> Option<Word>
     if let Some(known) = answer_word(word) {
         return Some(known);
     }
-    unsupported_word(word)
+    if let Some(known) = unsupported_word(word) {
+        return Some(known);
+    }
+    last_word(word)
 }
 
 // A word that sets or asks for options and infos.
@@ -216,14 +225,21 @@ fn unsupported_word(word: &[u8]) -> Option<Word>
     if b"get-assignment".as_slice() == word {
         return Some(Word::Unsupported);
     }
+    None
+}
+
+// A word that the table of commands has last.
+fn last_word(word: &[u8]) -> Option<Word>
+    ensures value { result ≡ beside last_words word.now }
+{
     if b"check-sat-assuming".as_slice() == word {
-        return Some(Word::Unsupported);
+        return Some(Word::CheckSatAssuming);
     }
     if b"get-unsat-core".as_slice() == word {
-        return Some(Word::Unsupported);
+        return Some(Word::GetUnsatCore);
     }
     if b"get-unsat-assumptions".as_slice() == word {
-        return Some(Word::Unsupported);
+        return Some(Word::GetUnsatAssumptions);
     }
     None
 }

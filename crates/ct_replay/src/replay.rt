@@ -1,7 +1,8 @@
 //! A script is replayed up to one of its checks.
-ghost use Rattle.std.specs.Prelude.{◌≡◌, ◌==◌, ◌&&◌, ◌∷◌, [], true, List, Option, IfOk};
+ghost use Rattle.std.specs.Prelude.{◌≡◌, ◌==◌, ◌&&◌, ◌∷◌, true, List, Option, IfOk};
 ghost use Rattle.ct_sexpr.specs.Text.{Located, Ending, Reads};
 ghost use Rattle.ct_sexpr.specs.View.{expression_of};
+ghost use Rattle.ct_step.specs.Evidence.{no_evidence};
 ghost use Rattle.ct_step.specs.State.{State};
 ghost use Rattle.ct_replay.specs.Found.{Finds, is_wanted, state_where};
 ghost use Rattle.ct_replay.specs.Turn.{FindsAfter};
@@ -27,7 +28,7 @@ pub fn find_check(
     wanted: u64,
 ) -> Result<bool, ReplayError>
     requires ended { reader.old.ended ≡ true }
-    requires unanswered { session.old.verdicts ≡ [] }
+    requires unanswered { session.old.evidence ≡ no_evidence }
     ensures found { IfOk result (λ found. (commands : List Located) × (ending : Ending) × Reads reader.old.line reader.old.bytes commands ending
         × Finds session.old commands wanted (state_where found session.new.state)) }
 {
@@ -52,8 +53,8 @@ pub fn find_check(
 
 // Replays a command that begins on this line.
 fn replay(session: &mut Session, line: u64, expr: &Sexpr, wanted: u64) -> Result<Turn, ReplayError>
-    requires unanswered { session.old.verdicts ≡ [] }
-    ensures unanswered { session.new.verdicts ≡ [] }
+    requires unanswered { session.old.evidence ≡ no_evidence }
+    ensures unanswered { session.new.evidence ≡ no_evidence }
     ensures turned { IfOk result (λ turn. (commands : List Located) (found : Option State) → FindsAfter turn session.new commands wanted found
         → Finds session.old (record { command = expression_of expr.now; line = line } ∷ commands) wanted found) }
 {

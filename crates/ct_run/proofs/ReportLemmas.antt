@@ -11,8 +11,9 @@ use Rattle.ct_io.specs.declared.sink.SinkError.{SinkError}
 use Rattle.ct_io.specs.declared.sink.SinkError.TheVariants as sink
 use Rattle.ct_sexpr.specs.Text.{Located, Ending, clean, lexical, Reads, EndingSoFar, waiting, refused, ReadsSoFar}
 use Rattle.ct_sexpr.specs.Unread.{Unread}
-use Rattle.ct_engine.specs.declared.verdict.Verdict.{Verdict}
+use Rattle.ct_step.specs.Evidence.{Evidence, no_evidence, followed_by}
 use Rattle.ct_step.specs.State.{first_state}
+use Rattle.ct_step.proofs.EvidenceLemmas.{nothing_later}
 use Rattle.ct_step.specs.Step.{refusal_text}
 use Rattle.ct_script.specs.Session.{Course, first_course}
 use Rattle.ct_script.specs.Answers.{Answers, Leads, lines_of, errors_of}
@@ -91,9 +92,9 @@ held_whole bytes u w = record {
 }
 
 -- a run that answered a script to its end, by its errors
-finishes : (bytes : List ℕ) (taken : ℕ) (verdicts : List Verdict) (errors : List (ℕ × ℕ)) (old new : Option (List ℕ)) → Finishes bytes verdicts errors old new → Solves bytes taken (status_of_script errors) verdicts errors old new
-finishes bytes taken verdicts [] old new f = (f, refl)
-finishes bytes taken verdicts (e ∷ errors) old new f = (f, λ h. cc)
+finishes : (bytes : List ℕ) (taken : ℕ) (kept : Evidence) (errors : List (ℕ × ℕ)) (old new : Option (List ℕ)) → Finishes bytes kept errors old new → Solves bytes taken (status_of_script errors) kept errors old new
+finishes bytes taken kept [] old new f = (f, refl)
+finishes bytes taken kept (e ∷ errors) old new f = (f, λ h. cc)
 
 -- a line that is the last of a text's lines is all of them
 only_line : (text : List ℕ) (before : List (List ℕ)) (last : List ℕ) → lines_of text ≡ before ++ last ∷ [] → (before ≡ []) × (lines_of text ≡ last ∷ [])
@@ -126,9 +127,9 @@ module _ (texts : Texts) (bytes : List ℕ) (u : Unread) (of : IsHeld bytes u) (
       )
 
   -- these are the answers, whatever follows the bytes that were fed
-  record Answerable (verdicts : List Verdict) (errors : List (ℕ × ℕ)) (lines : List (List ℕ)) : Type 0 where
-    by_end : (tail : List ℕ) → (cs : List Located) × (x : Ending) × Reads u.line (u.bytes ++ tail) cs x × Answers first_state 0 cs x verdicts errors lines
-    by_part : (tail : List ℕ) → (cs : List Located) × (x : EndingSoFar) × ReadsSoFar u.line (u.bytes ++ tail) cs x × AnswersSoFar first_state 0 cs x verdicts errors lines
+  record Answerable (kept : Evidence) (errors : List (ℕ × ℕ)) (lines : List (List ℕ)) : Type 0 where
+    by_end : (tail : List ℕ) → (cs : List Located) × (x : Ending) × Reads u.line (u.bytes ++ tail) cs x × Answers first_state 0 cs x kept errors lines
+    by_part : (tail : List ℕ) → (cs : List Located) × (x : EndingSoFar) × ReadsSoFar u.line (u.bytes ++ tail) cs x × AnswersSoFar first_state 0 cs x kept errors lines
 
   whole_reads : (cs : List Located) (x : Ending) → Reads u.line (u.bytes ++ of.rest) cs x → Reads 1 bytes cs x
   whole_reads cs x reads = subst (λ (xs : List ℕ). Reads 1 xs cs x) (sym of.all) (subst (λ (line : ℕ). Reads line (u.bytes ++ of.rest) cs x) of.line reads)
@@ -136,7 +137,7 @@ module _ (texts : Texts) (bytes : List ℕ) (u : Unread) (of : IsHeld bytes u) (
   head_reads : (tail : List ℕ) → head bytes ≡ u.bytes ++ tail → (cs : List Located) (x : EndingSoFar) → ReadsSoFar u.line (u.bytes ++ tail) cs x → ReadsSoFar 1 (head bytes) cs x
   head_reads tail is cs x reads = subst (λ (xs : List ℕ). ReadsSoFar 1 xs cs x) (sym is) (subst (λ (line : ℕ). ReadsSoFar line (u.bytes ++ tail) cs x) of.line reads)
 
-  answered_by : (vs : List Verdict) (es : List (ℕ × ℕ)) (ls : List (List ℕ)) → Answerable vs es ls → IsAnswered bytes vs es ls
+  answered_by : (vs : Evidence) (es : List (ℕ × ℕ)) (ls : List (List ℕ)) → Answerable vs es ls → IsAnswered bytes vs es ls
   answered_by vs es ls a =
       elim (cases_lt most_bytes (length bytes)) [
         | inl long ↦
@@ -149,7 +150,7 @@ module _ (texts : Texts) (bytes : List ℕ) (u : Unread) (of : IsHeld bytes u) (
       ]
 
   -- where the input has ended this is its one reading
-  answered_at_end : u.ended ≡ true → (cs : List Located) (x : Ending) (vs : List Verdict) (es : List (ℕ × ℕ)) (ls : List (List ℕ)) → Reads u.line u.bytes cs x → Answers first_state 0 cs x vs es ls → IsAnswered bytes vs es ls
+  answered_at_end : u.ended ≡ true → (cs : List Located) (x : Ending) (vs : Evidence) (es : List (ℕ × ℕ)) (ls : List (List ℕ)) → Reads u.line u.bytes cs x → Answers first_state 0 cs x vs es ls → IsAnswered bytes vs es ls
   answered_at_end over cs x vs es ls reads answers = inl (record {
     short = omega (arith, of.short, ap (λ (xs : List ℕ). length xs) (of.whole over));
     commands = cs;
@@ -159,7 +160,7 @@ module _ (texts : Texts) (bytes : List ℕ) (u : Unread) (of : IsHeld bytes u) (
   })
 
   -- the first commands are answered
-  begun_by : (v : Unread) (cs : List Located) (vs : List Verdict) (es : List (ℕ × ℕ)) (ls : List (List ℕ)) → IsBehind u v cs → Answers first_state 0 cs clean vs es ls → IsAnsweredSoFar bytes vs es ls
+  begun_by : (v : Unread) (cs : List Located) (vs : Evidence) (es : List (ℕ × ℕ)) (ls : List (List ℕ)) → IsBehind u v cs → Answers first_state 0 cs clean vs es ls → IsAnsweredSoFar bytes vs es ls
   begun_by v cs vs es ls behind answers =
       elim (cases_lt most_bytes (length bytes)) [
         | inl long ↦
@@ -171,20 +172,20 @@ module _ (texts : Texts) (bytes : List ℕ) (u : Unread) (of : IsHeld bytes u) (
             inl (record { short = short; commands = cs; rest = r.0; ending = r.1; read = whole_reads (cs ++ r.0) r.1 (behind.ended of.rest r.0 r.1 r.2); answered = answers })
       ]
 
-  all_answers : (now : Progress) (went : WentOn start now) (x : Ending) (es : List (ℕ × ℕ)) (ls : List (List ℕ)) → Answers now.course.state now.course.number [] x [] es ls → Answers first_state 0 (went.commands ++ []) x (went.verdicts ++ []) (went.errors ++ es) (went.lines ++ ls)
-  all_answers now went x es ls answers = Answers-after first_state now.course.state 0 now.course.number went.commands [] x went.verdicts [] went.errors es went.lines ls went.answered answers
+  all_answers : (now : Progress) (went : WentOn start now) (x : Ending) (es : List (ℕ × ℕ)) (ls : List (List ℕ)) → Answers now.course.state now.course.number [] x no_evidence es ls → Answers first_state 0 (went.commands ++ []) x (followed_by went.kept no_evidence) (went.errors ++ es) (went.lines ++ ls)
+  all_answers now went x es ls answers = Answers-after first_state now.course.state 0 now.course.number went.commands [] x went.kept no_evidence went.errors es went.lines ls went.answered answers
 
-  no_more : (now : Progress) (went : WentOn start now) → Answers first_state 0 went.commands clean went.verdicts went.errors went.lines
+  no_more : (now : Progress) (went : WentOn start now) → Answers first_state 0 went.commands clean went.kept went.errors went.lines
   no_more now went =
-      subst (λ (cs : List Located). Answers first_state 0 cs clean went.verdicts went.errors went.lines) (append-nil went.commands)
-      (subst (λ (vs : List Verdict). Answers first_state 0 (went.commands ++ []) clean vs went.errors went.lines) (append-nil went.verdicts)
-      (subst (λ (es : List (ℕ × ℕ)). Answers first_state 0 (went.commands ++ []) clean (went.verdicts ++ []) es went.lines) (append-nil went.errors)
-      (subst (λ (ls : List (List ℕ)). Answers first_state 0 (went.commands ++ []) clean (went.verdicts ++ []) (went.errors ++ []) ls) (append-nil went.lines)
+      subst (λ (cs : List Located). Answers first_state 0 cs clean went.kept went.errors went.lines) (append-nil went.commands)
+      (subst (λ (vs : Evidence). Answers first_state 0 (went.commands ++ []) clean vs went.errors went.lines) (nothing_later went.kept)
+      (subst (λ (es : List (ℕ × ℕ)). Answers first_state 0 (went.commands ++ []) clean (followed_by went.kept no_evidence) es went.lines) (append-nil went.errors)
+      (subst (λ (ls : List (List ℕ)). Answers first_state 0 (went.commands ++ []) clean (followed_by went.kept no_evidence) (went.errors ++ []) ls) (append-nil went.lines)
       (all_answers now went clean [] [] (Answers-none now.course.state now.course.number)))))
 
   module _ (now : Progress) where
     -- a command ended the script
-    stopped_answers : (stopped : Stopped start now) → Answerable stopped.verdicts stopped.errors stopped.lines
+    stopped_answers : (stopped : Stopped start now) → Answerable stopped.kept stopped.errors stopped.lines
     stopped_answers stopped = record {
       by_end = λ tail.
           let r = texts.some_text now.unread.line (now.unread.bytes ++ tail) in
@@ -203,30 +204,30 @@ module _ (texts : Texts) (bytes : List ℕ) (u : Unread) (of : IsHeld bytes u) (
     )
 
     -- the report's verdicts and errors are those that were added
-    answered_as : (vs : List Verdict) (es : List (ℕ × ℕ)) (ls : List (List ℕ)) → now.course.verdicts ≡ vs → now.course.errors ≡ es → IsAnswered bytes vs es ls → IsAnswered bytes now.course.verdicts now.course.errors ls
-    answered_as vs es ls p q a = subst (λ (x : List Verdict). IsAnswered bytes x now.course.errors ls) (sym p) (subst (λ (x : List (ℕ × ℕ)). IsAnswered bytes vs x ls) (sym q) a)
+    answered_as : (vs : Evidence) (es : List (ℕ × ℕ)) (ls : List (List ℕ)) → now.course.evidence ≡ vs → now.course.errors ≡ es → IsAnswered bytes vs es ls → IsAnswered bytes now.course.evidence now.course.errors ls
+    answered_as vs es ls p q a = subst (λ (x : Evidence). IsAnswered bytes x now.course.errors ls) (sym p) (subst (λ (x : List (ℕ × ℕ)). IsAnswered bytes vs x ls) (sym q) a)
 
-    begun_as : (vs : List Verdict) (es : List (ℕ × ℕ)) (ls : List (List ℕ)) → now.course.verdicts ≡ vs → now.course.errors ≡ es → IsAnsweredSoFar bytes vs es ls → IsAnsweredSoFar bytes now.course.verdicts now.course.errors ls
-    begun_as vs es ls p q a = subst (λ (x : List Verdict). IsAnsweredSoFar bytes x now.course.errors ls) (sym p) (subst (λ (x : List (ℕ × ℕ)). IsAnsweredSoFar bytes vs x ls) (sym q) a)
+    begun_as : (vs : Evidence) (es : List (ℕ × ℕ)) (ls : List (List ℕ)) → now.course.evidence ≡ vs → now.course.errors ≡ es → IsAnsweredSoFar bytes vs es ls → IsAnsweredSoFar bytes now.course.evidence now.course.errors ls
+    begun_as vs es ls p q a = subst (λ (x : Evidence). IsAnsweredSoFar bytes x now.course.errors ls) (sym p) (subst (λ (x : List (ℕ × ℕ)). IsAnsweredSoFar bytes vs x ls) (sym q) a)
 
     -- the script came to its end
-    clean_end : EndsWith start now ended.Clean → Finishes bytes now.course.verdicts now.course.errors old now.written
+    clean_end : EndsWith start now ended.Clean → Finishes bytes now.course.evidence now.course.errors old now.written
     clean_end (inl stopped) = record {
       lines = stopped.lines;
-      answers = answered_as stopped.verdicts stopped.errors stopped.lines stopped.adds.verdicts_are stopped.adds.errors_are (answered_by stopped.verdicts stopped.errors stopped.lines (stopped_answers stopped));
+      answers = answered_as stopped.kept stopped.errors stopped.lines stopped.adds.kept_is stopped.adds.errors_are (answered_by stopped.kept stopped.errors stopped.lines (stopped_answers stopped));
       written = stopped.written;
     }
     clean_end (inr (went, last)) =
         let r = read_at_end went clean last in
         record {
           lines = went.lines;
-          answers = answered_as went.verdicts went.errors went.lines went.adds.verdicts_are went.adds.errors_are
-              (answered_at_end r.0 went.commands clean went.verdicts went.errors went.lines (subst (λ (cs : List Located). Reads u.line u.bytes cs clean) (append-nil went.commands) r.1) (no_more now went));
+          answers = answered_as went.kept went.errors went.lines went.adds.kept_is went.adds.errors_are
+              (answered_at_end r.0 went.commands clean went.kept went.errors went.lines (subst (λ (cs : List Located). Reads u.line u.bytes cs clean) (append-nil went.commands) r.1) (no_more now went));
           written = went.written;
         }
 
     -- the script goes on beyond what was read of it
-    cut_end : IsHeldFull bytes u → EndsWith start now ended.Cut → IsCut bytes now.course.verdicts now.course.errors old now.written
+    cut_end : IsHeldFull bytes u → EndsWith start now ended.Cut → IsCut bytes now.course.evidence now.course.errors old now.written
     cut_end full (went, waits) =
         let reads : ReadsSoFar u.line (u.bytes ++ []) (went.commands ++ []) waiting =
         went.behind.so_far [] [] waiting (subst (λ (xs : List ℕ). ReadsSoFar now.unread.line xs [] waiting) (sym (append-nil now.unread.bytes)) waits.1) in
@@ -238,8 +239,8 @@ module _ (texts : Texts) (bytes : List ℕ) (u : Unread) (of : IsHeld bytes u) (
           lines = went.lines;
           read = subst (λ (cs : List Located). ReadsSoFar 1 (head bytes) cs waiting) (append-nil went.commands) (head_reads [] (sym (append-nil u.bytes ∙ full.first)) (went.commands ++ []) waiting reads);
           answered =
-              subst (λ (vs : List Verdict). Leads first_state 0 went.commands now.course.state now.course.number vs now.course.errors went.lines) (sym went.adds.verdicts_are)
-              (subst (λ (es : List (ℕ × ℕ)). Leads first_state 0 went.commands now.course.state now.course.number went.verdicts es went.lines) (sym went.adds.errors_are) went.answered);
+              subst (λ (vs : Evidence). Leads first_state 0 went.commands now.course.state now.course.number vs now.course.errors went.lines) (sym went.adds.kept_is)
+              (subst (λ (es : List (ℕ × ℕ)). Leads first_state 0 went.commands now.course.state now.course.number went.kept es went.lines) (sym went.adds.errors_are) went.answered);
           written = went.written;
         }
 
@@ -252,34 +253,34 @@ module _ (texts : Texts) (bytes : List ℕ) (u : Unread) (of : IsHeld bytes u) (
       all_lines = went.lines ++ refusal_line error
 
       -- as the text ends, where it has ended, and else whatever follows
-      refused_answers : (b : Bool) → HasReadSoFar now.unread [] (refusal b error) → IsAnswered bytes (went.verdicts ++ []) all_errors all_lines × Reads 1 bytes (went.commands ++ []) (lexical error.1 error.0)
+      refused_answers : (b : Bool) → HasReadSoFar now.unread [] (refusal b error) → IsAnswered bytes (followed_by went.kept no_evidence) all_errors all_lines × Reads 1 bytes (went.commands ++ []) (lexical error.1 error.0)
       refused_answers true last =
           let r = read_at_end went (lexical error.1 error.0) last in (
-            answered_at_end r.0 (went.commands ++ []) (lexical error.1 error.0) (went.verdicts ++ []) all_errors all_lines r.1 (all_answers now went (lexical error.1 error.0) (error ∷ []) (refusal_line error) (refl, refl, refl)),
+            answered_at_end r.0 (went.commands ++ []) (lexical error.1 error.0) (followed_by went.kept no_evidence) all_errors all_lines r.1 (all_answers now went (lexical error.1 error.0) (error ∷ []) (refusal_line error) (refl, refl, refl)),
             subst (λ (xs : List ℕ). Reads 1 xs (went.commands ++ []) (lexical error.1 error.0)) (sym (of.whole r.0)) (subst (λ (line : ℕ). Reads line u.bytes (went.commands ++ []) (lexical error.1 error.0)) of.line r.1),
           )
       refused_answers false last =
           let by_end : (tail : List ℕ) → Reads u.line (u.bytes ++ tail) (went.commands ++ []) (lexical error.1 error.0) = λ tail.
           went.behind.ended tail [] (lexical error.1 error.0) (texts.refused_so_far now.unread.line now.unread.bytes tail [] error.1 error.0 last.1) in (
-            answered_by (went.verdicts ++ []) all_errors all_lines (record {
+            answered_by (followed_by went.kept no_evidence) all_errors all_lines (record {
               by_end = λ tail. (went.commands ++ [], lexical error.1 error.0, by_end tail, all_answers now went (lexical error.1 error.0) (error ∷ []) (refusal_line error) (refl, refl, refl));
               by_part = λ tail. (
                 went.commands ++ [],
                 refused error.1 error.0,
                 went.behind.so_far tail [] (refused error.1 error.0) (texts.refused_goes_on now.unread.line now.unread.bytes tail [] error.1 error.0 last.1),
-                AnswersTo-after first_state now.course.state 0 now.course.number went.commands [] (stands (refused error.1 error.0)) went.verdicts [] went.errors (error ∷ []) went.lines (refusal_line error) went.answered (refl, refl, refl),
+                AnswersTo-after first_state now.course.state 0 now.course.number went.commands [] (stands (refused error.1 error.0)) went.kept no_evidence went.errors (error ∷ []) went.lines (refusal_line error) went.answered (refl, refl, refl),
               );
             }),
             whole_reads (went.commands ++ []) (lexical error.1 error.0) (by_end of.rest),
           )
 
-      reported : (errors : List (ℕ × ℕ)) → errors ≡ now.course.errors ++ error ∷ [] → IsAnswered bytes now.course.verdicts errors all_lines
+      reported : (errors : List (ℕ × ℕ)) → errors ≡ now.course.errors ++ error ∷ [] → IsAnswered bytes now.course.evidence errors all_lines
       reported errors is =
-          subst (λ (es : List (ℕ × ℕ)). IsAnswered bytes now.course.verdicts es all_lines) (ap (λ (es : List (ℕ × ℕ)). es ++ error ∷ []) (sym went.adds.errors_are) ∙ sym is)
-          (subst (λ (vs : List Verdict). IsAnswered bytes vs all_errors all_lines) (append-nil went.verdicts ∙ sym went.adds.verdicts_are) (refused_answers now.unread.ended stopped).0)
+          subst (λ (es : List (ℕ × ℕ)). IsAnswered bytes now.course.evidence es all_lines) (ap (λ (es : List (ℕ × ℕ)). es ++ error ∷ []) (sym went.adds.errors_are) ∙ sym is)
+          (subst (λ (vs : Evidence). IsAnswered bytes vs all_errors all_lines) (nothing_later went.kept ∙ sym went.adds.kept_is) (refused_answers now.unread.ended stopped).0)
 
-      unreported : IsAnsweredSoFar bytes now.course.verdicts now.course.errors went.lines
-      unreported = begun_as went.verdicts went.errors went.lines went.adds.verdicts_are went.adds.errors_are (begun_by now.unread went.commands went.verdicts went.errors went.lines went.behind (no_more now went))
+      unreported : IsAnsweredSoFar bytes now.course.evidence now.course.errors went.lines
+      unreported = begun_as went.kept went.errors went.lines went.adds.kept_is went.adds.errors_are (begun_by now.unread went.commands went.kept went.errors went.lines went.behind (no_more now went))
 
       left_with_it : (e : SinkError) (new : Option (List ℕ)) → IsLeft e (refusal_line error) now.written new → IsLeft e all_lines old new
       left_with_it e new left = IsLeft-later e went.lines (refusal_line error) old now.written new went.written left
@@ -293,7 +294,7 @@ module _ (texts : Texts) (bytes : List ℕ) (u : Unread) (of : IsHeld bytes u) (
             read = subst (λ (cs : List Located). Reads 1 bytes cs (lexical error.1 error.0)) (append-nil went.commands) (refused_answers now.unread.ended stopped).1;
             last = now.course.state;
             count = now.course.number;
-            verdicts = went.verdicts;
+            kept = went.kept;
             errors = went.errors;
             lines = went.lines;
             answered = went.answered;
@@ -302,7 +303,7 @@ module _ (texts : Texts) (bytes : List ℕ) (u : Unread) (of : IsHeld bytes u) (
             part = line.2;
           }
 
-      pub Solves-refused : (s : Status) (errors : List (ℕ × ℕ)) (new : Option (List ℕ)) → IsRefused error s now.course.errors errors now.written new → Solves bytes taken s now.course.verdicts errors old new
+      pub Solves-refused : (s : Status) (errors : List (ℕ × ℕ)) (new : Option (List ℕ)) → IsRefused error s now.course.errors errors now.written new → Solves bytes taken s now.course.evidence errors old new
       Solves-refused status.Refused errors new said = (
         record {
           lines = all_lines;
@@ -317,7 +318,7 @@ module _ (texts : Texts) (bytes : List ℕ) (u : Unread) (of : IsHeld bytes u) (
       )
       Solves-refused status.NoMemory errors new (inl said) = inl (record { lines = all_lines; answers = inl (reported errors said.0); written = left_with_it sink.NoMemory new said.1 })
       Solves-refused status.NoMemory errors new (inr said) =
-          subst (λ (es : List (ℕ × ℕ)). Solves bytes taken status.NoMemory now.course.verdicts es old new) (sym said.0)
+          subst (λ (es : List (ℕ × ℕ)). Solves bytes taken status.NoMemory now.course.evidence es old new) (sym said.0)
           (inl (record { lines = went.lines; answers = inr unreported; written = all_written (concat went.lines) old new (said.1 ∙ went.written) }))
       Solves-refused status.Done errors new said = absurd said
       Solves-refused status.Usage errors new said = absurd said
@@ -327,7 +328,7 @@ module _ (texts : Texts) (bytes : List ℕ) (u : Unread) (of : IsHeld bytes u) (
 
     -- an error of the sink ended the script
     abbrev Broken : SinkError → Type 0
-    Broken e = (lines : List (List ℕ)) × IsAnsweredSoFar bytes now.course.verdicts now.course.errors lines × IsLeft e lines old now.written
+    Broken e = (lines : List (List ℕ)) × IsAnsweredSoFar bytes now.course.evidence now.course.errors lines × IsLeft e lines old now.written
 
     module _ (e : SinkError) (broke : BrokeOff e start now) where
       module _ (cut : CutOff e broke.mid now) where
@@ -346,11 +347,11 @@ module _ (texts : Texts) (bytes : List ℕ) (u : Unread) (of : IsHeld bytes u) (
             let effect = cut.cut.effect in
             let es = errors_of cut.next.line effect.error in
             let lines = broke.went.lines ++ lines_of effect.text in
-            let adds = adds_more first_course broke.mid.course now.course broke.went.verdicts effect.verdicts broke.went.errors es broke.went.adds (adds_effect broke.mid.course now.course cut.next.line cut.next.command effect cut.cut.answered) in (
+            let adds = adds_more first_course broke.mid.course now.course broke.went.kept effect.evidence broke.went.errors es broke.went.adds (adds_effect broke.mid.course now.course cut.next.line cut.next.command effect cut.cut.answered) in (
               lines,
-              begun_as (broke.went.verdicts ++ effect.verdicts) (broke.went.errors ++ es) lines adds.verdicts_are adds.errors_are
-                  (begun_by now.unread (broke.went.commands ++ next) (broke.went.verdicts ++ effect.verdicts) (broke.went.errors ++ es) lines cut_behind
-                  (Answers-after first_state broke.mid.course.state 0 broke.mid.course.number broke.went.commands next clean broke.went.verdicts effect.verdicts broke.went.errors es broke.went.lines (lines_of effect.text) broke.went.answered
+              begun_as (followed_by broke.went.kept effect.evidence) (broke.went.errors ++ es) lines adds.kept_is adds.errors_are
+                  (begun_by now.unread (broke.went.commands ++ next) (followed_by broke.went.kept effect.evidence) (broke.went.errors ++ es) lines cut_behind
+                  (Answers-after first_state broke.mid.course.state 0 broke.mid.course.number broke.went.commands next clean broke.went.kept effect.evidence broke.went.errors es broke.went.lines (lines_of effect.text) broke.went.answered
                   (Answers-one broke.mid.course.state broke.mid.course.number cut.next effect cut.cut.answered.step))),
               IsLeft-later e broke.went.lines (lines_of effect.text) old broke.mid.written now.written broke.went.written cut.cut.left,
             )
@@ -371,7 +372,7 @@ module _ (texts : Texts) (bytes : List ℕ) (u : Unread) (of : IsHeld bytes u) (
               soon = omega (arith, soon, length-append now.unread.bytes of.rest, length-append u.bytes of.rest, ap (λ (xs : List ℕ). length xs) of.all);
               last = broke.mid.course.state;
               count = broke.mid.course.number;
-              verdicts = broke.went.verdicts;
+              kept = broke.went.kept;
               errors = broke.went.errors;
               lines = broke.went.lines;
               answered = broke.went.answered;
@@ -388,9 +389,9 @@ module _ (texts : Texts) (bytes : List ℕ) (u : Unread) (of : IsHeld bytes u) (
           by : IsUnanswered e broke.mid.course now.course broke.mid.written now.written ⊎ CutOff e broke.mid now → Broken e
           by (inl unanswered) = (
             broke.went.lines,
-            begun_as broke.went.verdicts broke.went.errors broke.went.lines
-                (ap (λ (c : Course). c.verdicts) unanswered.same ∙ broke.went.adds.verdicts_are) (ap (λ (c : Course). c.errors) unanswered.same ∙ broke.went.adds.errors_are)
-                (begun_by broke.mid.unread broke.went.commands broke.went.verdicts broke.went.errors broke.went.lines broke.went.behind (no_more broke.mid broke.went)),
+            begun_as broke.went.kept broke.went.errors broke.went.lines
+                (ap (λ (c : Course). c.evidence) unanswered.same ∙ broke.went.adds.kept_is) (ap (λ (c : Course). c.errors) unanswered.same ∙ broke.went.adds.errors_are)
+                (begun_by broke.mid.unread broke.went.commands broke.went.kept broke.went.errors broke.went.lines broke.went.behind (no_more broke.mid broke.went)),
             subst (λ (x : SinkError). IsLeft x broke.went.lines old now.written) (sym unanswered.no_memory) (all_written (concat broke.went.lines) old now.written (unanswered.unwritten ∙ broke.went.written)),
           )
           by (inr cut) = broken_in_it cut
@@ -404,18 +405,18 @@ module _ (texts : Texts) (bytes : List ℕ) (u : Unread) (of : IsHeld bytes u) (
 
     -- ---- reports
 
-    pub report_concluded : (taken : ℕ) (ending : Ended) (s : Status) (vs : List Verdict) (stored es : List (ℕ × ℕ)) (new : Option (List ℕ)) → (ending ≡ ended.Cut → IsHeldFull bytes u) → vs ≡ now.course.verdicts → stored ≡ now.course.errors → IsConcluded ending s stored es now.written new → EndsWith start now ending → Solves bytes taken s vs es old new
+    pub report_concluded : (taken : ℕ) (ending : Ended) (s : Status) (vs : Evidence) (stored es : List (ℕ × ℕ)) (new : Option (List ℕ)) → (ending ≡ ended.Cut → IsHeldFull bytes u) → vs ≡ now.course.evidence → stored ≡ now.course.errors → IsConcluded ending s stored es now.written new → EndsWith start now ending → Solves bytes taken s vs es old new
     report_concluded taken ending s vs stored es new full same_verdicts same_errors concluded e = rw same_verdicts (by ending full (subst (λ (xs : List (ℕ × ℕ)). IsConcluded ending s xs es now.written new) same_errors concluded) e)
       where
-        by : (ending : Ended) → (ending ≡ ended.Cut → IsHeldFull bytes u) → IsConcluded ending s now.course.errors es now.written new → EndsWith start now ending → Solves bytes taken s now.course.verdicts es old new
-        by ended.Clean full c e = rw (c.0, c.1, c.2) (finishes bytes taken now.course.verdicts now.course.errors old now.written (clean_end e))
+        by : (ending : Ended) → (ending ≡ ended.Cut → IsHeldFull bytes u) → IsConcluded ending s now.course.errors es now.written new → EndsWith start now ending → Solves bytes taken s now.course.evidence es old new
+        by ended.Clean full c e = rw (c.0, c.1, c.2) (finishes bytes taken now.course.evidence now.course.errors old now.written (clean_end e))
         by (ended.Lexical error) full c e = Solves-refused taken error e.0 e.1 s es new c
         by ended.Cut full c e = rw (c.0, c.1, c.2) (cut_end (full refl) e)
 
-    pub report_broke : (taken : ℕ) (e : SinkError) (s : Status) (vs : List Verdict) (es : List (ℕ × ℕ)) → (e ≡ sink.Fault → taken + length now.unread.bytes < length u.bytes + piece_bytes) → s ≡ status_of_error e → vs ≡ now.course.verdicts → es ≡ now.course.errors → BrokeOff e start now → Solves bytes taken s vs es old now.written
+    pub report_broke : (taken : ℕ) (e : SinkError) (s : Status) (vs : Evidence) (es : List (ℕ × ℕ)) → (e ≡ sink.Fault → taken + length now.unread.bytes < length u.bytes + piece_bytes) → s ≡ status_of_error e → vs ≡ now.course.evidence → es ≡ now.course.errors → BrokeOff e start now → Solves bytes taken s vs es old now.written
     report_broke taken e s vs es soon is same_verdicts same_errors broke = rw (is, same_verdicts, same_errors) (by e soon broke)
       where
-        by : (e : SinkError) → (e ≡ sink.Fault → taken + length now.unread.bytes < length u.bytes + piece_bytes) → BrokeOff e start now → Solves bytes taken (status_of_error e) now.course.verdicts now.course.errors old now.written
+        by : (e : SinkError) → (e ≡ sink.Fault → taken + length now.unread.bytes < length u.bytes + piece_bytes) → BrokeOff e start now → Solves bytes taken (status_of_error e) now.course.evidence now.course.errors old now.written
         by sink.Fault soon broke =
             let b = broken sink.Fault broke in
             (record { lines = b.0; answers = inr b.1; written = b.2 }, inl (soon_of_fault sink.Fault broke taken refl (soon refl)))
@@ -424,7 +425,7 @@ module _ (texts : Texts) (bytes : List ℕ) (u : Unread) (of : IsHeld bytes u) (
             inl (record { lines = b.0; answers = inr b.1; written = b.2 })
 
     -- the slot failed after bytes that were all fed
-    pub report_unread : (s : Status) (vs : List Verdict) (es : List (ℕ × ℕ)) → s ≡ status.InputFault → vs ≡ now.course.verdicts → es ≡ now.course.errors → WentOn start now → HasReadSoFar now.unread [] (stands waiting) → Solves bytes (length u.bytes) s vs es old now.written
+    pub report_unread : (s : Status) (vs : Evidence) (es : List (ℕ × ℕ)) → s ≡ status.InputFault → vs ≡ now.course.evidence → es ≡ now.course.errors → WentOn start now → HasReadSoFar now.unread [] (stands waiting) → Solves bytes (length u.bytes) s vs es old now.written
     report_unread s vs es is same_verdicts same_errors went waits =
         let reads : ReadsSoFar u.line (u.bytes ++ []) (went.commands ++ []) waiting =
         went.behind.so_far [] [] waiting (subst (λ (xs : List ℕ). ReadsSoFar now.unread.line xs [] waiting) (sym (append-nil now.unread.bytes)) waits.1) in
@@ -439,17 +440,17 @@ module _ (texts : Texts) (bytes : List ℕ) (u : Unread) (of : IsHeld bytes u) (
               (subst (λ (xs : List ℕ). ReadsSoFar 1 xs (went.commands ++ []) waiting) (append-nil u.bytes ∙ sym first)
               (subst (λ (line : ℕ). ReadsSoFar line (u.bytes ++ []) (went.commands ++ []) waiting) of.line reads));
           answered =
-              subst (λ (vs : List Verdict). Leads first_state 0 went.commands now.course.state now.course.number vs now.course.errors went.lines) (sym went.adds.verdicts_are)
-              (subst (λ (es : List (ℕ × ℕ)). Leads first_state 0 went.commands now.course.state now.course.number went.verdicts es went.lines) (sym went.adds.errors_are) went.answered);
+              subst (λ (vs : Evidence). Leads first_state 0 went.commands now.course.state now.course.number vs now.course.errors went.lines) (sym went.adds.kept_is)
+              (subst (λ (es : List (ℕ × ℕ)). Leads first_state 0 went.commands now.course.state now.course.number went.kept es went.lines) (sym went.adds.errors_are) went.answered);
           written = went.written;
         })
 
     -- memory ran out after them
-    pub report_full : (taken : ℕ) (s : Status) (vs : List Verdict) (es : List (ℕ × ℕ)) → s ≡ status.NoMemory → vs ≡ now.course.verdicts → es ≡ now.course.errors → WentOn start now → Solves bytes taken s vs es old now.written
+    pub report_full : (taken : ℕ) (s : Status) (vs : Evidence) (es : List (ℕ × ℕ)) → s ≡ status.NoMemory → vs ≡ now.course.evidence → es ≡ now.course.errors → WentOn start now → Solves bytes taken s vs es old now.written
     report_full taken s vs es is same_verdicts same_errors went =
         rw (is, same_verdicts, same_errors) (inl (record {
           lines = went.lines;
-          answers = inr (begun_as went.verdicts went.errors went.lines went.adds.verdicts_are went.adds.errors_are (begun_by now.unread went.commands went.verdicts went.errors went.lines went.behind (no_more now went)));
+          answers = inr (begun_as went.kept went.errors went.lines went.adds.kept_is went.adds.errors_are (begun_by now.unread went.commands went.kept went.errors went.lines went.behind (no_more now went)));
           written = all_written (concat went.lines) old now.written went.written;
         }))
 
@@ -475,12 +476,12 @@ module _ (texts : Texts) (prefixes : CommandsArePrefixes) (bytes : List ℕ) (u 
             length-append now.unread.bytes [],
           )
 
-  pub script_concluded : (ending : Ended) (s : Status) (vs : List Verdict) (stored es : List (ℕ × ℕ)) (new : Option (List ℕ)) → vs ≡ now.course.verdicts → stored ≡ now.course.errors → IsConcluded ending s stored es now.written new → EndsWith (progress session u old) now ending → Solves bytes 0 s vs es old new
+  pub script_concluded : (ending : Ended) (s : Status) (vs : Evidence) (stored es : List (ℕ × ℕ)) (new : Option (List ℕ)) → vs ≡ now.course.evidence → stored ≡ now.course.errors → IsConcluded ending s stored es now.written new → EndsWith (progress session u old) now ending → Solves bytes 0 s vs es old new
   script_concluded ending s vs stored es new same_verdicts same_errors concluded e =
       report_concluded texts bytes u (held_whole bytes u whole) old now 0 ending s vs stored es new (never_cut ending e) same_verdicts same_errors concluded
       (subst (λ (c : Course). EndsWith (progress c u old) now ending) new_session e)
 
-  pub script_broke : (e : SinkError) (s : Status) (vs : List Verdict) (es : List (ℕ × ℕ)) → s ≡ status_of_error e → vs ≡ now.course.verdicts → es ≡ now.course.errors → BrokeOff e (progress session u old) now → Solves bytes 0 s vs es old now.written
+  pub script_broke : (e : SinkError) (s : Status) (vs : Evidence) (es : List (ℕ × ℕ)) → s ≡ status_of_error e → vs ≡ now.course.evidence → es ≡ now.course.errors → BrokeOff e (progress session u old) now → Solves bytes 0 s vs es old now.written
   script_broke e s vs es is same_verdicts same_errors broke =
       report_broke texts bytes u (held_whole bytes u whole) old now 0 e s vs es (left_is_shorter e broke) is same_verdicts same_errors
       (subst (λ (c : Course). BrokeOff e (progress c u old) now) new_session broke)
@@ -540,13 +541,13 @@ full_of bytes fed extra over spells full = record {
 }
 
 module _ (texts : Texts) (before after : Option (List ℕ)) (session : Course) (new_session : session ≡ first_course) (old : Option (List ℕ)) (now : Progress) where
-  pub stream_concluded : (ending : Ended) (h : HasStreamed before after session old now ending) (bytes : List ℕ) → Spells bytes h.bytes h.extra now.unread.ended → (s : Status) (vs : List Verdict) (stored es : List (ℕ × ℕ)) (new : Option (List ℕ)) → vs ≡ now.course.verdicts → stored ≡ now.course.errors → IsConcluded ending s stored es now.written new → Solves bytes (length (h.bytes ++ h.extra)) s vs es old new
+  pub stream_concluded : (ending : Ended) (h : HasStreamed before after session old now ending) (bytes : List ℕ) → Spells bytes h.bytes h.extra now.unread.ended → (s : Status) (vs : Evidence) (stored es : List (ℕ × ℕ)) (new : Option (List ℕ)) → vs ≡ now.course.evidence → stored ≡ now.course.errors → IsConcluded ending s stored es now.written new → Solves bytes (length (h.bytes ++ h.extra)) s vs es old new
   stream_concluded ending h bytes spells s vs stored es new same_verdicts same_errors concluded =
       report_concluded texts bytes _ (held_of bytes h.bytes h.extra now.unread.ended h.fed.short spells) old now (length (h.bytes ++ h.extra)) ending s vs stored es new
       (λ is. full_of bytes h.bytes h.extra now.unread.ended spells (h.cut is)) same_verdicts same_errors concluded
       (subst (λ (c : Course). EndsWith (beginning c h.bytes now.unread.ended old) now ending) new_session h.ends)
 
-  outside_broke : (e : SinkError) (h : FailsOutside before after session old now e) (bytes : List ℕ) → Spells bytes h.bytes h.extra h.over → (s : Status) (vs : List Verdict) (es : List (ℕ × ℕ)) → s ≡ status_of_error e → vs ≡ now.course.verdicts → es ≡ now.course.errors → Solves bytes (length (h.bytes ++ h.extra)) s vs es old now.written
+  outside_broke : (e : SinkError) (h : FailsOutside before after session old now e) (bytes : List ℕ) → Spells bytes h.bytes h.extra h.over → (s : Status) (vs : Evidence) (es : List (ℕ × ℕ)) → s ≡ status_of_error e → vs ≡ now.course.evidence → es ≡ now.course.errors → Solves bytes (length (h.bytes ++ h.extra)) s vs es old now.written
   outside_broke e h bytes spells s vs es is same_verdicts same_errors =
       report_broke texts bytes _ (held_of bytes h.bytes h.extra h.over h.fed.short spells) old now (length (h.bytes ++ h.extra)) e s vs es
       (λ fault. omega (arith, h.soon fault, length-append h.bytes h.extra)) is same_verdicts same_errors
@@ -564,7 +565,7 @@ module _ (texts : Texts) (before after : Option (List ℕ)) (session : Course) (
   spells_itself : (fed : List ℕ) → Spells fed fed [] false
   spells_itself fed = record { left = []; all = sym (append-nil (fed ++ []) ∙ append-nil fed); whole = λ e. refl }
 
-  module _ (vs : List Verdict) (es : List (ℕ × ℕ)) (same_verdicts : vs ≡ now.course.verdicts) (same_errors : es ≡ now.course.errors) where
+  module _ (vs : Evidence) (es : List (ℕ × ℕ)) (same_verdicts : vs ≡ now.course.evidence) (same_errors : es ≡ now.course.errors) where
     inside_failed : (fed : List ℕ) → WaitsAfter fed session old now → (bytes : List ℕ) → Spells bytes fed [] false → (s : Status) → s ≡ status.InputFault → Solves bytes (length fed) s vs es old now.written
     inside_failed fed w bytes spells s is = report_unread texts bytes _ (held_of bytes fed [] false w.short spells) old now s vs es is same_verdicts same_errors (waits_first fed w) w.waits
 
@@ -599,7 +600,7 @@ module _ (texts : Texts) (before after : Option (List ℕ)) (session : Course) (
     stream_broke_some (Input input.Fault) s is h = (h.0, length h.0, inside_failed h.0 h.2 h.0 (spells_itself h.0) s is)
     stream_broke_some (Input input.NoMemory) s is h = (h.0, length h.0, inside_full h.0 h.3 h.0 (spells_itself h.0) s is)
 
-  module _ (ending : Ended) (h : HasStreamed before after session old now ending) (s : Status) (vs : List Verdict) (stored es : List (ℕ × ℕ)) (new : Option (List ℕ)) (same_verdicts : vs ≡ now.course.verdicts) (same_errors : stored ≡ now.course.errors) (concluded : IsConcluded ending s stored es now.written new) where
+  module _ (ending : Ended) (h : HasStreamed before after session old now ending) (s : Status) (vs : Evidence) (stored es : List (ℕ × ℕ)) (new : Option (List ℕ)) (same_verdicts : vs ≡ now.course.evidence) (same_errors : stored ≡ now.course.errors) (concluded : IsConcluded ending s stored es now.written new) where
     pub stream_ended : (bytes : List ℕ) → before ≡ Some bytes → (slot : Option (List ℕ)) → (taken : ℕ) × Took s bytes taken slot after × Solves bytes taken s vs es old new
     stream_ended bytes held slot = (
       length (h.bytes ++ h.extra),
@@ -616,7 +617,7 @@ module _ (texts : Texts) (before after : Option (List ℕ)) (session : Course) (
 
 -- ---- a slot that was not opened
 
-answered_nothing : (bytes : List ℕ) (old new : Option (List ℕ)) → new ≡ old → IsAnsweredUpTo bytes 0 [] [] old new
+answered_nothing : (bytes : List ℕ) (old new : Option (List ℕ)) → new ≡ old → IsAnsweredUpTo bytes 0 no_evidence [] old new
 answered_nothing bytes old new same = record {
   commands = [];
   last = first_state;
@@ -627,7 +628,7 @@ answered_nothing bytes old new same = record {
   written = same ∙ sym (appended-nothing old);
 }
 
-pub unopened : (error : InputError) (s : Status) (vs : List Verdict) (es : List (ℕ × ℕ)) (bytes : List ℕ) (before after old new : Option (List ℕ)) → s ≡ status_of_input error → vs ≡ [] → es ≡ [] → after ≡ before → new ≡ old → (taken : ℕ) × Took s bytes taken before after × Solves bytes taken s vs es old new
+pub unopened : (error : InputError) (s : Status) (vs : Evidence) (es : List (ℕ × ℕ)) (bytes : List ℕ) (before after old new : Option (List ℕ)) → s ≡ status_of_input error → vs ≡ no_evidence → es ≡ [] → after ≡ before → new ≡ old → (taken : ℕ) × Took s bytes taken before after × Solves bytes taken s vs es old new
 unopened input.Fault s vs es bytes before after old new is no_verdicts no_errors same unwritten = rw (is, no_verdicts, no_errors) (0, inr (refl, same), answered_nothing bytes old new unwritten)
 unopened input.NoMemory s vs es bytes before after old new is no_verdicts no_errors same unwritten = rw (is, no_verdicts, no_errors) (0, tt, inr (refl, refl, unwritten))
 

@@ -7,7 +7,7 @@ use Rattle.ct_io.specs.declared.sink.SinkError.TheVariants as sink
 use Rattle.ct_io.specs.declared.status.Status.{Status}
 use Rattle.ct_io.specs.declared.status.Status.TheVariants as status
 use Rattle.ct_input.specs.Slot.{IsTaken}
-use Rattle.ct_engine.specs.declared.verdict.Verdict.{Verdict}
+use Rattle.ct_step.specs.Evidence.{Evidence, no_evidence}
 use Rattle.ct_audit.specs.declared.answer.AuditAnswer.{AuditAnswer}
 use Rattle.ct_audit.specs.Answer.{audit_error}
 use Rattle.ct_audit.specs.Audit.{Audits}
@@ -22,11 +22,11 @@ use Rattle.ct_run.specs.Tasks.{Does, DoesOfSome, IsAudit, IsOfScript}
 use Rattle.ct_run.proofs.WritingLemmas.{appended-nothing}
 
 -- the sink failed while the line of usage was written
-pub ReportsUsage-broke : (e : SinkError) (vs : List Verdict) (es : List (ℕ × ℕ)) (old new : Option (List ℕ)) → vs ≡ [] → es ≡ [] → GrewByPart usage_line old new → ReportsUsage (status_of_error e) vs es old new
+pub ReportsUsage-broke : (e : SinkError) (vs : Evidence) (es : List (ℕ × ℕ)) (old new : Option (List ℕ)) → vs ≡ no_evidence → es ≡ [] → GrewByPart usage_line old new → ReportsUsage (status_of_error e) vs es old new
 ReportsUsage-broke sink.Fault vs es old new no_verdicts no_errors grew = (no_verdicts, no_errors, grew)
 ReportsUsage-broke sink.NoMemory vs es old new no_verdicts no_errors grew = (no_verdicts, no_errors, grew)
 
-pub ReportsHelp-broke : (e : SinkError) (vs : List Verdict) (es : List (ℕ × ℕ)) (old new : Option (List ℕ)) → vs ≡ [] → es ≡ [] → GrewByPart usage_line old new → ReportsHelp (status_of_error e) vs es old new
+pub ReportsHelp-broke : (e : SinkError) (vs : Evidence) (es : List (ℕ × ℕ)) (old new : Option (List ℕ)) → vs ≡ no_evidence → es ≡ [] → GrewByPart usage_line old new → ReportsHelp (status_of_error e) vs es old new
 ReportsHelp-broke sink.Fault vs es old new no_verdicts no_errors grew = (no_verdicts, no_errors, grew)
 ReportsHelp-broke sink.NoMemory vs es old new no_verdicts no_errors grew = (no_verdicts, no_errors, grew)
 
@@ -35,18 +35,18 @@ no_part : (old new : Option (List ℕ)) → new ≡ old → GrewByPart usage_lin
 no_part old new same = record { count = 0; short = omega arith; grown = same ∙ sym (appended-nothing old) }
 
 -- memory ran out before anything was done
-pub does_nothing : (held : List ℕ → Option (List ℕ)) (asked : Asked) (before after : Option (List ℕ)) (vs : List Verdict) (es : List (ℕ × ℕ)) (old new : Option (List ℕ)) → DoesNothing vs es old new → Does held asked before after status.NoMemory vs es old new
+pub does_nothing : (held : List ℕ → Option (List ℕ)) (asked : Asked) (before after : Option (List ℕ)) (vs : Evidence) (es : List (ℕ × ℕ)) (old new : Option (List ℕ)) → DoesNothing vs es old new → Does held asked before after status.NoMemory vs es old new
 does_nothing held (solves name) before after vs es old new nothing = λ bytes is. (0, tt, inr nothing)
 does_nothing held (audits proof script) before after vs es old new nothing = λ proof_bytes script_bytes first second. inr (tt, nothing)
 does_nothing held (audits_model model number script) before after vs es old new nothing = λ model_bytes script_bytes first second. inr (tt, nothing)
 does_nothing held (generates count) before after vs es old new nothing = (
-  nothing.1,
-  inr (record { solved = record { errors = []; lines = []; answers = inr nothing.0 }; unwritten = nothing.2 }),
+  record { no_core = ap (λ (e : Evidence). e.shrunk) nothing.0; no_error = nothing.1 },
+  inr (record { solved = record { shrunk = []; errors = []; lines = []; answers = inr (ap (λ (e : Evidence). e.verdicts) nothing.0) }; unwritten = nothing.2 }),
 )
 does_nothing held helps before after vs es old new nothing = (nothing.0, nothing.1, no_part old new nothing.2)
 does_nothing held faulty before after vs es old new nothing = (nothing.0, nothing.1, no_part old new nothing.2)
 
-pub does_nothing_of_some : (asked : Asked) (vs : List Verdict) (es : List (ℕ × ℕ)) (old new : Option (List ℕ)) → DoesNothing vs es old new → DoesOfSome asked status.NoMemory vs es old new
+pub does_nothing_of_some : (asked : Asked) (vs : Evidence) (es : List (ℕ × ℕ)) (old new : Option (List ℕ)) → DoesNothing vs es old new → DoesOfSome asked status.NoMemory vs es old new
 does_nothing_of_some (solves name) vs es old new nothing = ([], 0, inr nothing)
 does_nothing_of_some (audits proof script) vs es old new nothing = ([], [], inr (tt, nothing))
 does_nothing_of_some (audits_model model number script) vs es old new nothing = ([], [], inr (tt, nothing))
@@ -77,7 +77,7 @@ pub record Comes (asked : Asked) (s : Status) (es : List (ℕ × ℕ)) : Type 0 
   pub refused : s ≡ status.Refused → es ≢ []
   pub refused_only : s ≡ status.Refused → IsOfScript asked
 
-solve_comes : (name bytes : List ℕ) (taken : ℕ) (s : Status) (vs : List Verdict) (es : List (ℕ × ℕ)) (old new : Option (List ℕ)) → Solves bytes taken s vs es old new → Comes (solves name) s es
+solve_comes : (name bytes : List ℕ) (taken : ℕ) (s : Status) (vs : Evidence) (es : List (ℕ × ℕ)) (old new : Option (List ℕ)) → Solves bytes taken s vs es old new → Comes (solves name) s es
 solve_comes name bytes taken s vs es old new d =
     let at : (t : Status) → s ≡ t → Solves bytes taken t vs es old new = λ t is. subst (λ (x : Status). Solves bytes taken x vs es old new) is d in
     record {
@@ -88,7 +88,7 @@ solve_comes name bytes taken s vs es old new d =
       refused_only = λ is. (name, refl);
     }
 
-module _ (R : Judgement) (proof script : List ℕ) (vs : List Verdict) (es : List (ℕ × ℕ)) (old new : Option (List ℕ)) where
+module _ (R : Judgement) (proof script : List ℕ) (vs : Evidence) (es : List (ℕ × ℕ)) (old new : Option (List ℕ)) where
   -- what is verified leaves no error
   no_error : ReportsJudged R proof script status.Done vs es old new → es ≡ []
   no_error (inl judged) =
@@ -114,18 +114,18 @@ module _ (R : Judgement) (proof script : List ℕ) (vs : List Verdict) (es : Lis
         refused_only = λ is. absurd (not_refused (at status.Refused is));
       }
 
-counts_come : (count : ℕ) (s : Status) (vs : List Verdict) (es : List (ℕ × ℕ)) (old new : Option (List ℕ)) → ReportsCounts count s vs es old new → Comes (generates count) s es
+counts_come : (count : ℕ) (s : Status) (vs : Evidence) (es : List (ℕ × ℕ)) (old new : Option (List ℕ)) → ReportsCounts count s vs es old new → Comes (generates count) s es
 counts_come count s vs es old new d =
     let at : (t : Status) → s ≡ t → ReportsCounts count t vs es old new = λ t is. subst (λ (x : Status). ReportsCounts count x vs es old new) is d in
     record {
       usage_only = λ is. absurd (at status.Usage is);
       rejected = λ is. absurd (at status.Rejected is);
-      done = λ is. (at status.Done is).0;
+      done = λ is. (at status.Done is).0.no_error;
       refused = λ is. absurd (at status.Refused is);
       refused_only = λ is. absurd (at status.Refused is);
     }
 
-help_comes : (s : Status) (vs : List Verdict) (es : List (ℕ × ℕ)) (old new : Option (List ℕ)) → ReportsHelp s vs es old new → Comes helps s es
+help_comes : (s : Status) (vs : Evidence) (es : List (ℕ × ℕ)) (old new : Option (List ℕ)) → ReportsHelp s vs es old new → Comes helps s es
 help_comes s vs es old new d =
     let at : (t : Status) → s ≡ t → ReportsHelp t vs es old new = λ t is. subst (λ (x : Status). ReportsHelp x vs es old new) is d in
     record {
@@ -136,7 +136,7 @@ help_comes s vs es old new d =
       refused_only = λ is. absurd (at status.Refused is);
     }
 
-usage_comes : (s : Status) (vs : List Verdict) (es : List (ℕ × ℕ)) (old new : Option (List ℕ)) → ReportsUsage s vs es old new → Comes faulty s es
+usage_comes : (s : Status) (vs : Evidence) (es : List (ℕ × ℕ)) (old new : Option (List ℕ)) → ReportsUsage s vs es old new → Comes faulty s es
 usage_comes s vs es old new d =
     let at : (t : Status) → s ≡ t → ReportsUsage t vs es old new = λ t is. subst (λ (x : Status). ReportsUsage x vs es old new) is d in
     record {
@@ -147,7 +147,7 @@ usage_comes s vs es old new d =
       refused_only = λ is. absurd (at status.Refused is);
     }
 
-pub comes : (held : List ℕ → Option (List ℕ)) (asked : Asked) (before after : Option (List ℕ)) (s : Status) (vs : List Verdict) (es : List (ℕ × ℕ)) (old new : Option (List ℕ)) → Does held asked before after s vs es old new → DoesOfSome asked s vs es old new → Comes asked s es
+pub comes : (held : List ℕ → Option (List ℕ)) (asked : Asked) (before after : Option (List ℕ)) (s : Status) (vs : Evidence) (es : List (ℕ × ℕ)) (old new : Option (List ℕ)) → Does held asked before after s vs es old new → DoesOfSome asked s vs es old new → Comes asked s es
 comes held (solves name) before after s vs es old new does of_some = solve_comes name of_some.0 of_some.1 s vs es old new of_some.2
 comes held (audits proof script) before after s vs es old new does of_some =
     audit_comes Audits of_some.0 of_some.1 vs es old new (audits proof script) (inl (proof, script, refl)) s of_some.2

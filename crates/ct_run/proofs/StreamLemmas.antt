@@ -89,7 +89,7 @@ module _ (course : Course) (bytes : List ℕ) (written : Option (List ℕ)) (now
       let behind = IsBehind-given (at_start bytes false) now.unread went.commands piece went.behind in
       record {
         commands = went.commands;
-        verdicts = went.verdicts;
+        kept = went.kept;
         errors = went.errors;
         lines = went.lines;
         behind = record { place = behind.place; ended = behind.ended; so_far = behind.so_far };
@@ -104,7 +104,7 @@ module _ (course : Course) (bytes : List ℕ) (written : Option (List ℕ)) (now
   WentOn-over : WentOn (beginning course bytes true written) (record now { unread = record now.unread { ended = true } })
   WentOn-over = record {
     commands = went.commands;
-    verdicts = went.verdicts;
+    kept = went.kept;
     errors = went.errors;
     lines = went.lines;
     behind = record { place = went.behind.place; ended = went.behind.ended; so_far = went.behind.so_far };

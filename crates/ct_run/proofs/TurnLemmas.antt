@@ -8,8 +8,9 @@ use Rattle.ct_sexpr.specs.Reading.{BeginsCommand}
 use Rattle.ct_sexpr.specs.Text.{Located, clean, Reads, waiting, refused, ReadsSoFar}
 use Rattle.ct_sexpr.specs.Unread.{Unread}
 use Rattle.ct_sexpr.specs.Answer.{GivesCommand, Ends, Needs, Refuses, IsFirstCommand, IsLast}
-use Rattle.ct_engine.specs.declared.verdict.Verdict.{Verdict}
+use Rattle.ct_step.specs.Evidence.{Evidence, no_evidence, followed_by}
 use Rattle.ct_step.specs.Step.{CommandEffect}
+use Rattle.ct_step.proofs.EvidenceLemmas.{nothing_later, followed_assoc}
 use Rattle.ct_script.specs.Session.{Course}
 use Rattle.ct_script.specs.Answers.{Leads, lines_of, errors_of}
 use Rattle.ct_run.specs.declared.turn.Ending.{Ending as Ended}
@@ -59,20 +60,20 @@ IsBehind-one stays u v first is gives = record {
 }
 
 -- nothing was added yet
-adds_nothing : (c : Course) → Adds c c [] []
-adds_nothing c = record { verdicts_are = sym (append-nil c.verdicts); errors_are = sym (append-nil c.errors) }
+adds_nothing : (c : Course) → Adds c c no_evidence []
+adds_nothing c = record { kept_is = sym (nothing_later c.evidence); errors_are = sym (append-nil c.errors) }
 
 -- more was added
-pub adds_more : (old mid new : Course) (vs ws : List Verdict) (es fs : List (ℕ × ℕ)) → Adds old mid vs es → Adds mid new ws fs → Adds old new (vs ++ ws) (es ++ fs)
+pub adds_more : (old mid new : Course) (vs ws : Evidence) (es fs : List (ℕ × ℕ)) → Adds old mid vs es → Adds mid new ws fs → Adds old new (followed_by vs ws) (es ++ fs)
 adds_more old mid new vs ws es fs first second = record {
-  verdicts_are = second.verdicts_are ∙ ap (λ (xs : List Verdict). xs ++ ws) first.verdicts_are ∙ append_assoc old.verdicts vs ws;
+  kept_is = second.kept_is ∙ ap (λ (xs : Evidence). followed_by xs ws) first.kept_is ∙ followed_assoc old.evidence vs ws;
   errors_are = second.errors_are ∙ ap (λ (xs : List (ℕ × ℕ)). xs ++ fs) first.errors_are ∙ append_assoc old.errors es fs;
 }
 
 -- what an effect adds
-pub adds_effect : (old new : Course) (line : ℕ) (e : Expression) (effect : CommandEffect) → AnsweredWith old new line e effect → Adds old new effect.verdicts (errors_of line effect.error)
+pub adds_effect : (old new : Course) (line : ℕ) (e : Expression) (effect : CommandEffect) → AnsweredWith old new line e effect → Adds old new effect.evidence (errors_of line effect.error)
 adds_effect old new line e effect answered = record {
-  verdicts_are = ap (λ (c : Course). c.verdicts) answered.course;
+  kept_is = ap (λ (c : Course). c.evidence) answered.course;
   errors_are = ap (λ (c : Course). c.errors) answered.course;
 }
 
@@ -80,7 +81,7 @@ adds_effect old new line e effect answered = record {
 pub WentOn-start : (p : Progress) → WentOn p p
 WentOn-start p = record {
   commands = [];
-  verdicts = [];
+  kept = no_evidence;
   errors = [];
   lines = [];
   behind = IsBehind-none p.unread;
@@ -95,29 +96,29 @@ WentOn-start p = record {
 pub WentOn-after : (a b c : Progress) → WentOn a b → WentOn b c → WentOn a c
 WentOn-after a b c p q = record {
   commands = p.commands ++ q.commands;
-  verdicts = p.verdicts ++ q.verdicts;
+  kept = followed_by p.kept q.kept;
   errors = p.errors ++ q.errors;
   lines = p.lines ++ q.lines;
   behind = IsBehind-more a.unread b.unread c.unread p.commands q.commands p.behind q.behind;
   same_fed = q.same_fed ∙ p.same_fed;
   same_end = q.same_end ∙ p.same_end;
-  answered = Leads-after a.course.state b.course.state c.course.state a.course.number b.course.number c.course.number p.commands q.commands p.verdicts q.verdicts p.errors q.errors p.lines q.lines p.answered q.answered;
-  adds = adds_more a.course b.course c.course p.verdicts q.verdicts p.errors q.errors p.adds q.adds;
+  answered = Leads-after a.course.state b.course.state c.course.state a.course.number b.course.number c.course.number p.commands q.commands p.kept q.kept p.errors q.errors p.lines q.lines p.answered q.answered;
+  adds = adds_more a.course b.course c.course p.kept q.kept p.errors q.errors p.adds q.adds;
   written = wrote-later p.lines q.lines a.written b.written c.written p.written q.written;
 }
 
 Stopped-after : (a b c : Progress) → WentOn a b → Stopped b c → Stopped a c
 Stopped-after a b c p q = record {
   commands = p.commands ++ q.commands;
-  verdicts = p.verdicts ++ q.verdicts;
+  kept = followed_by p.kept q.kept;
   errors = p.errors ++ q.errors;
   lines = p.lines ++ q.lines;
   behind = IsBehind-more a.unread b.unread c.unread p.commands q.commands p.behind q.behind;
   same_end = q.same_end ∙ p.same_end;
   answered = λ cs x.
-      subst (λ (all : List Located). AnswersTo a.course.state a.course.number all x (p.verdicts ++ q.verdicts) (p.errors ++ q.errors) (p.lines ++ q.lines)) (sym (append_assoc p.commands q.commands cs))
-      (AnswersTo-after a.course.state b.course.state a.course.number b.course.number p.commands (q.commands ++ cs) x p.verdicts q.verdicts p.errors q.errors p.lines q.lines p.answered (q.answered cs x));
-  adds = adds_more a.course b.course c.course p.verdicts q.verdicts p.errors q.errors p.adds q.adds;
+      subst (λ (all : List Located). AnswersTo a.course.state a.course.number all x (followed_by p.kept q.kept) (p.errors ++ q.errors) (p.lines ++ q.lines)) (sym (append_assoc p.commands q.commands cs))
+      (AnswersTo-after a.course.state b.course.state a.course.number b.course.number p.commands (q.commands ++ cs) x p.kept q.kept p.errors q.errors p.lines q.lines p.answered (q.answered cs x));
+  adds = adds_more a.course b.course c.course p.kept q.kept p.errors q.errors p.adds q.adds;
   written = wrote-later p.lines q.lines a.written b.written c.written p.written q.written;
 }
 
@@ -161,14 +162,14 @@ module _ (old mid : Progress) (went : WentOn old mid) where
       pub goes_on : effect.stop ≡ false → WentOn old new
       goes_on stop = WentOn-after old mid new went (record {
         commands = first ∷ [];
-        verdicts = effect.verdicts;
+        kept = effect.evidence;
         errors = errors_of first.line effect.error;
         lines = lines_of effect.text;
         behind = IsBehind-one stays mid.unread new.unread first is gives;
         same_fed = gives.fed;
         same_end = gives.ended;
         answered =
-            subst (λ (c : Course). Leads mid.course.state mid.course.number (first ∷ []) c.state c.number effect.verdicts (errors_of first.line effect.error) (lines_of effect.text)) (sym done.course)
+            subst (λ (c : Course). Leads mid.course.state mid.course.number (first ∷ []) c.state c.number effect.evidence (errors_of first.line effect.error) (lines_of effect.text)) (sym done.course)
             (Leads-one mid.course.state mid.course.number first effect done.step stop);
         adds = adds_effect mid.course new.course first.line first.command effect done;
         written = written;
@@ -178,7 +179,7 @@ module _ (old mid : Progress) (went : WentOn old mid) where
       pub ends_with_it : effect.stop ≡ true → EndsWith old new ended.Clean
       ends_with_it stop = inl (Stopped-after old mid new went (record {
         commands = first ∷ [];
-        verdicts = effect.verdicts;
+        kept = effect.evidence;
         errors = errors_of first.line effect.error;
         lines = lines_of effect.text;
         behind = IsBehind-one stays mid.unread new.unread first is gives;

@@ -5,7 +5,7 @@ use Rattle.ct_io.specs.declared.status.Status.{Status}
 use Rattle.ct_io.specs.declared.status.Status.TheVariants.{Done, Refused, Usage, InputFault, OutputFault, NoMemory, Rejected, TooLong}
 use Rattle.ct_sexpr.specs.Unread.{Unread}
 use Rattle.ct_input.specs.Slot.{most_bytes, IsWholeOf, IsTaken}
-use Rattle.ct_engine.specs.declared.verdict.Verdict.{Verdict}
+use Rattle.ct_step.specs.Evidence.{Evidence, no_evidence}
 use Rattle.ct_script.specs.Answers.{lines_of}
 use Rattle.ct_audit.specs.declared.answer.AuditAnswer.{AuditAnswer}
 use Rattle.ct_audit.specs.declared.answer.AuditAnswer.TheVariants.{Verified}
@@ -36,8 +36,8 @@ pub record IsJudged (R : Judgement) (proof script : List ℕ) (answer : AuditAns
   pub audited : R proof script answer
 
 -- there is no verdict, and the answer's error is the only one
-pub record Tells (answer : AuditAnswer) (verdicts : List Verdict) (errors : List (ℕ × ℕ)) : Type 0 where
-  pub no_verdict : verdicts ≡ []
+pub record Tells (answer : AuditAnswer) (kept : Evidence) (errors : List (ℕ × ℕ)) : Type 0 where
+  pub nothing_kept : kept ≡ no_evidence
   pub errors_are : errors ≡ option_to_list (audit_error answer)
 
 -- the answer's line
@@ -45,15 +45,15 @@ abbrev pub answer_line : AuditAnswer → List (List ℕ)
 answer_line answer = lines_of (audit_text answer)
 
 -- how an audit with this answer ends: by its status, the verdicts and errors, and the bytes of the sink before and after it
-abbrev pub ReportsAnswer : AuditAnswer → Status → List Verdict → List (ℕ × ℕ) → Option (List ℕ) → Option (List ℕ) → Type 0
-ReportsAnswer answer Done verdicts errors old new = (answer ≡ Verified) × Tells answer verdicts errors × (new ≡ wrote (answer_line answer) old)
-ReportsAnswer answer Rejected verdicts errors old new = (answer ≢ Verified) × Tells answer verdicts errors × (new ≡ wrote (answer_line answer) old)
-ReportsAnswer answer OutputFault verdicts errors old new = Tells answer verdicts errors × IsLeft sink.Fault (answer_line answer) old new
-ReportsAnswer answer NoMemory verdicts errors old new = Tells answer verdicts errors × IsLeft sink.NoMemory (answer_line answer) old new
-ReportsAnswer answer Refused verdicts errors old new = ⊥
-ReportsAnswer answer Usage verdicts errors old new = ⊥
-ReportsAnswer answer InputFault verdicts errors old new = ⊥
-ReportsAnswer answer TooLong verdicts errors old new = ⊥
+abbrev pub ReportsAnswer : AuditAnswer → Status → Evidence → List (ℕ × ℕ) → Option (List ℕ) → Option (List ℕ) → Type 0
+ReportsAnswer answer Done kept errors old new = (answer ≡ Verified) × Tells answer kept errors × (new ≡ wrote (answer_line answer) old)
+ReportsAnswer answer Rejected kept errors old new = (answer ≢ Verified) × Tells answer kept errors × (new ≡ wrote (answer_line answer) old)
+ReportsAnswer answer OutputFault kept errors old new = Tells answer kept errors × IsLeft sink.Fault (answer_line answer) old new
+ReportsAnswer answer NoMemory kept errors old new = Tells answer kept errors × IsLeft sink.NoMemory (answer_line answer) old new
+ReportsAnswer answer Refused kept errors old new = ⊥
+ReportsAnswer answer Usage kept errors old new = ⊥
+ReportsAnswer answer InputFault kept errors old new = ⊥
+ReportsAnswer answer TooLong kept errors old new = ⊥
 
 -- the status of an answer whose line was written
 abbrev pub status_of_answer : AuditAnswer → Status
@@ -62,9 +62,9 @@ status_of_answer (said.Rejected number) = Rejected
 status_of_answer (said.Wrong item code) = Rejected
 
 -- the answer is reported, or memory ran out before that
-abbrev pub Reports : AuditAnswer → Status → List Verdict → List (ℕ × ℕ) → Option (List ℕ) → Option (List ℕ) → Type 0
-Reports answer status verdicts errors old new =
-    ReportsAnswer answer status verdicts errors old new ⊎ ((status ≡ NoMemory) × DoesNothing verdicts errors old new)
+abbrev pub Reports : AuditAnswer → Status → Evidence → List (ℕ × ℕ) → Option (List ℕ) → Option (List ℕ) → Type 0
+Reports answer status kept errors old new =
+    ReportsAnswer answer status kept errors old new ⊎ ((status ≡ NoMemory) × DoesNothing kept errors old new)
 
 -- why nothing was judged
 abbrev pub Prevents : List ℕ → List ℕ → Status → Type 0
@@ -78,21 +78,21 @@ Prevents proof script OutputFault = ⊥
 Prevents proof script Rejected = ⊥
 
 -- the file was judged and the answer reported
-pub record Judges (R : Judgement) (proof script : List ℕ) (status : Status) (verdicts : List Verdict) (errors : List (ℕ × ℕ)) (old new : Option (List ℕ)) : Type 0 where
+pub record Judges (R : Judgement) (proof script : List ℕ) (status : Status) (kept : Evidence) (errors : List (ℕ × ℕ)) (old new : Option (List ℕ)) : Type 0 where
   pub answer : AuditAnswer
   pub judged : IsJudged R proof script answer
-  pub reported : ReportsAnswer answer status verdicts errors old new
+  pub reported : ReportsAnswer answer status kept errors old new
 
 -- an audit of two files of these bytes: the answer is reported, or nothing was judged
-abbrev pub ReportsJudged : Judgement → List ℕ → List ℕ → Status → List Verdict → List (ℕ × ℕ) → Option (List ℕ) → Option (List ℕ) → Type 0
-ReportsJudged R proof script status verdicts errors old new =
-    Judges R proof script status verdicts errors old new ⊎ (Prevents proof script status × DoesNothing verdicts errors old new)
+abbrev pub ReportsJudged : Judgement → List ℕ → List ℕ → Status → Evidence → List (ℕ × ℕ) → Option (List ℕ) → Option (List ℕ) → Type 0
+ReportsJudged R proof script status kept errors old new =
+    Judges R proof script status kept errors old new ⊎ (Prevents proof script status × DoesNothing kept errors old new)
 
 -- of a derivation and its script, and of a model at the check of a script with this number
-abbrev pub ReportsAudit : List ℕ → List ℕ → Status → List Verdict → List (ℕ × ℕ) → Option (List ℕ) → Option (List ℕ) → Type 0
+abbrev pub ReportsAudit : List ℕ → List ℕ → Status → Evidence → List (ℕ × ℕ) → Option (List ℕ) → Option (List ℕ) → Type 0
 ReportsAudit = ReportsJudged Audits
 
-abbrev pub ReportsModelAudit : ℕ → List ℕ → List ℕ → Status → List Verdict → List (ℕ × ℕ) → Option (List ℕ) → Option (List ℕ) → Type 0
+abbrev pub ReportsModelAudit : ℕ → List ℕ → List ℕ → Status → Evidence → List (ℕ × ℕ) → Option (List ℕ) → Option (List ℕ) → Type 0
 ReportsModelAudit number = ReportsJudged (AuditsModel number)
 
 -- of each of the two slots, which was opened under its name, the bytes were taken that are read of it: all, or of one that is too long as

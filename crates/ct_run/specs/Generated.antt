@@ -7,6 +7,8 @@ use Rattle.ct_io.specs.declared.status.Status.TheVariants.{Done, Refused, Usage,
 use Rattle.ct_gen.specs.Script.{script}
 use Rattle.ct_engine.specs.declared.verdict.Verdict.{Verdict}
 use Rattle.ct_engine.specs.declared.verdict.Verdict.TheVariants as verdict
+use Rattle.ct_shrink.specs.declared.shrunk.Shrunk.{Shrunk}
+use Rattle.ct_step.specs.Evidence.{Evidence, evidence}
 use Rattle.ct_run.specs.Run.{IsAnswered, IsAnsweredSoFar}
 
 abbrev pub is_sat : Verdict → Bool
@@ -35,14 +37,16 @@ is_done _ = false
 
 -- the generated script is answered to its end by these verdicts, each of which is right where it is given, without an error
 pub record IsSolved (n : ℕ) (verdicts : List Verdict) : Type 0 where
+  pub shrunk : List Shrunk
   pub lines : List (List ℕ)
-  pub answers : IsAnswered (script n) verdicts [] lines
+  pub answers : IsAnswered (script n) (evidence verdicts shrunk) [] lines
 
 -- the same of its first commands, if any
 pub record IsSolvedSoFar (n : ℕ) (verdicts : List Verdict) : Type 0 where
+  pub shrunk : List Shrunk
   pub errors : List (ℕ × ℕ)
   pub lines : List (List ℕ)
-  pub answers : (IsAnswered (script n) verdicts errors lines ⊎ IsAnsweredSoFar (script n) verdicts errors lines) ⊎ (verdicts ≡ [])
+  pub answers : (IsAnswered (script n) (evidence verdicts shrunk) errors lines ⊎ IsAnsweredSoFar (script n) (evidence verdicts shrunk) errors lines) ⊎ (verdicts ≡ [])
 
 -- the line of all verdicts was begun
 pub record BreaksInCounts (n : ℕ) (verdicts : List Verdict) (old new : Option (List ℕ)) : Type 0 where
@@ -54,14 +58,19 @@ pub record StopsBefore (n : ℕ) (verdicts : List Verdict) (old new : Option (Li
   pub solved : IsSolvedSoFar n verdicts
   pub unwritten : new ≡ old
 
--- a run that answers the generated script of n blocks, by its status, its verdicts and errors, and the bytes of the sink before
--- and after it
-abbrev pub ReportsCounts : ℕ → Status → List Verdict → List (ℕ × ℕ) → Option (List ℕ) → Option (List ℕ) → Type 0
-ReportsCounts n Done verdicts errors old new = (errors ≡ []) × IsSolved n verdicts × (new ≡ appended (counts_line n verdicts) old)
-ReportsCounts n OutputFault verdicts errors old new = (errors ≡ []) × BreaksInCounts n verdicts old new
-ReportsCounts n NoMemory verdicts errors old new = (errors ≡ []) × (BreaksInCounts n verdicts old new ⊎ StopsBefore n verdicts old new)
-ReportsCounts n Refused verdicts errors old new = ⊥
-ReportsCounts n Usage verdicts errors old new = ⊥
-ReportsCounts n InputFault verdicts errors old new = ⊥
-ReportsCounts n Rejected verdicts errors old new = ⊥
-ReportsCounts n TooLong verdicts errors old new = ⊥
+-- nothing is reported but verdicts
+pub record HasVerdictsAlone (kept : Evidence) (errors : List (ℕ × ℕ)) : Type 0 where
+  pub no_core : kept.shrunk ≡ []
+  pub no_error : errors ≡ []
+
+-- a run that answers the generated script of n blocks, by its status, what is kept, its errors, and the bytes of the sink before and
+-- after it
+abbrev pub ReportsCounts : ℕ → Status → Evidence → List (ℕ × ℕ) → Option (List ℕ) → Option (List ℕ) → Type 0
+ReportsCounts n Done kept errors old new = HasVerdictsAlone kept errors × IsSolved n kept.verdicts × (new ≡ appended (counts_line n kept.verdicts) old)
+ReportsCounts n OutputFault kept errors old new = HasVerdictsAlone kept errors × BreaksInCounts n kept.verdicts old new
+ReportsCounts n NoMemory kept errors old new = HasVerdictsAlone kept errors × (BreaksInCounts n kept.verdicts old new ⊎ StopsBefore n kept.verdicts old new)
+ReportsCounts n Refused kept errors old new = ⊥
+ReportsCounts n Usage kept errors old new = ⊥
+ReportsCounts n InputFault kept errors old new = ⊥
+ReportsCounts n Rejected kept errors old new = ⊥
+ReportsCounts n TooLong kept errors old new = ⊥

@@ -4,6 +4,7 @@ pub mod SoFar
 pub mod Position
 pub mod Progress
 pub mod Streaming
+pub mod Kept
 pub mod Run
 pub mod AuditRun
 pub mod Generated

@@ -5,7 +5,7 @@ use Rattle.ct_io.specs.declared.sink.SinkError.TheVariants as sink
 use Rattle.ct_sexpr.specs.Expression.{Expression}
 use Rattle.ct_sexpr.specs.Text.{Located, Ending, clean, Reads, EndingSoFar, waiting, ReadsSoFar}
 use Rattle.ct_sexpr.specs.Unread.{Unread}
-use Rattle.ct_engine.specs.declared.verdict.Verdict.{Verdict}
+use Rattle.ct_step.specs.Evidence.{Evidence, followed_by}
 use Rattle.ct_step.specs.Step.{CommandEffect, Step}
 use Rattle.ct_script.specs.Session.{Course, after}
 use Rattle.ct_script.specs.Answers.{Leads, lines_of}
@@ -42,8 +42,8 @@ pub record IsCutOff (error : SinkError) (old new : Course) (line : ℕ) (e : Exp
   pub left : IsLeft error (lines_of effect.text) before now
 
 -- what was answered of the one to the other: these verdicts and errors
-pub record Adds (old new : Course) (verdicts : List Verdict) (errors : List (ℕ × ℕ)) : Type 0 where
-  pub verdicts_are : new.verdicts ≡ old.verdicts ++ verdicts
+pub record Adds (old new : Course) (kept : Evidence) (errors : List (ℕ × ℕ)) : Type 0 where
+  pub kept_is : new.evidence ≡ followed_by old.evidence kept
   pub errors_are : new.errors ≡ old.errors ++ errors
 
 -- The old text begins with these commands, and the new one is what stands behind them, whatever may still come after both: what is
@@ -56,26 +56,26 @@ pub record IsBehind (old new : Unread) (commands : List Located) : Type 0 where
 -- these commands were read, answered and written, none of which ends the script
 pub record WentOn (old new : Progress) : Type 0 where
   pub commands : List Located
-  pub verdicts : List Verdict
+  pub kept : Evidence
   pub errors : List (ℕ × ℕ)
   pub lines : List (List ℕ)
   pub behind : IsBehind old.unread new.unread commands
   pub same_fed : new.unread.fed ≡ old.unread.fed
   pub same_end : new.unread.ended ≡ old.unread.ended
-  pub answered : Leads old.course.state old.course.number commands new.course.state new.course.number verdicts errors lines
-  pub adds : Adds old.course new.course verdicts errors
+  pub answered : Leads old.course.state old.course.number commands new.course.state new.course.number kept errors lines
+  pub adds : Adds old.course new.course kept errors
   pub written : new.written ≡ wrote lines old.written
 
 -- these commands were read, answered and written, the last of which ends the script, whatever follows it
 pub record Stopped (old new : Progress) : Type 0 where
   pub commands : List Located
-  pub verdicts : List Verdict
+  pub kept : Evidence
   pub errors : List (ℕ × ℕ)
   pub lines : List (List ℕ)
   pub behind : IsBehind old.unread new.unread commands
   pub same_end : new.unread.ended ≡ old.unread.ended
-  pub answered : (cs : List Located) (x : TextState) → AnswersTo old.course.state old.course.number (commands ++ cs) x verdicts errors lines
-  pub adds : Adds old.course new.course verdicts errors
+  pub answered : (cs : List Located) (x : TextState) → AnswersTo old.course.state old.course.number (commands ++ cs) x kept errors lines
+  pub adds : Adds old.course new.course kept errors
   pub written : new.written ≡ wrote lines old.written
 
 -- a command ended the script, or nothing is left to answer, or an error of the text alone, or the text goes on beyond what is there

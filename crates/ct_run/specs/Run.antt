@@ -6,7 +6,7 @@ use Rattle.ct_io.specs.declared.status.Status.{Status}
 use Rattle.ct_io.specs.declared.status.Status.TheVariants.{Done, Refused, Usage, InputFault, OutputFault, NoMemory, Rejected, TooLong}
 use Rattle.ct_sexpr.specs.Text.{Located, Ending, clean, lexical, Reads, EndingSoFar, waiting, ReadsSoFar}
 use Rattle.ct_input.specs.Slot.{most_bytes, piece_bytes, head}
-use Rattle.ct_engine.specs.declared.verdict.Verdict.{Verdict}
+use Rattle.ct_step.specs.Evidence.{Evidence, no_evidence}
 use Rattle.ct_step.specs.State.{State, first_state}
 use Rattle.ct_step.specs.Step.{CommandEffect, Step}
 use Rattle.ct_script.specs.Answers.{Answers, Leads, lines_of}
@@ -17,86 +17,86 @@ use Rattle.ct_run.specs.SoFar.{AnswersSoFar}
 
 -- a script that is read whole is answered to its end: its commands are answered by these verdicts, each of which is right where
 -- it is given, with these errors, and these lines are written
-pub record IsAnsweredWhole (bytes : List ℕ) (verdicts : List Verdict) (errors : List (ℕ × ℕ)) (lines : List (List ℕ)) : Type 0 where
+pub record IsAnsweredWhole (bytes : List ℕ) (kept : Evidence) (errors : List (ℕ × ℕ)) (lines : List (List ℕ)) : Type 0 where
   pub short : length bytes ≤ most_bytes
   pub commands : List Located
   pub ending : Ending
   pub read : Reads 1 bytes commands ending
-  pub answered : Answers first_state 0 commands ending verdicts errors lines
+  pub answered : Answers first_state 0 commands ending kept errors lines
 
 -- the same of a longer one, which ends in the first bytes, by a command or by an error
-pub record IsAnsweredInHead (bytes : List ℕ) (verdicts : List Verdict) (errors : List (ℕ × ℕ)) (lines : List (List ℕ)) : Type 0 where
+pub record IsAnsweredInHead (bytes : List ℕ) (kept : Evidence) (errors : List (ℕ × ℕ)) (lines : List (List ℕ)) : Type 0 where
   pub long : most_bytes < length bytes
   pub commands : List Located
   pub so_far : EndingSoFar
   pub read : ReadsSoFar 1 (head bytes) commands so_far
-  pub answered : AnswersSoFar first_state 0 commands so_far verdicts errors lines
+  pub answered : AnswersSoFar first_state 0 commands so_far kept errors lines
 
 -- the script is answered to its end
-abbrev pub IsAnswered : List ℕ → List Verdict → List (ℕ × ℕ) → List (List ℕ) → Type 0
-IsAnswered bytes verdicts errors lines = IsAnsweredWhole bytes verdicts errors lines ⊎ IsAnsweredInHead bytes verdicts errors lines
+abbrev pub IsAnswered : List ℕ → Evidence → List (ℕ × ℕ) → List (List ℕ) → Type 0
+IsAnswered bytes kept errors lines = IsAnsweredWhole bytes kept errors lines ⊎ IsAnsweredInHead bytes kept errors lines
 
 -- the first commands of a script that is read whole are answered
-pub record IsBegun (bytes : List ℕ) (verdicts : List Verdict) (errors : List (ℕ × ℕ)) (lines : List (List ℕ)) : Type 0 where
+pub record IsBegun (bytes : List ℕ) (kept : Evidence) (errors : List (ℕ × ℕ)) (lines : List (List ℕ)) : Type 0 where
   pub short : length bytes ≤ most_bytes
   pub commands : List Located
   pub rest : List Located
   pub ending : Ending
   pub read : Reads 1 bytes (commands ++ rest) ending
-  pub answered : Answers first_state 0 commands clean verdicts errors lines
+  pub answered : Answers first_state 0 commands clean kept errors lines
 
 -- the same of a longer one
-pub record IsBegunInHead (bytes : List ℕ) (verdicts : List Verdict) (errors : List (ℕ × ℕ)) (lines : List (List ℕ)) : Type 0 where
+pub record IsBegunInHead (bytes : List ℕ) (kept : Evidence) (errors : List (ℕ × ℕ)) (lines : List (List ℕ)) : Type 0 where
   pub long : most_bytes < length bytes
   pub commands : List Located
   pub rest : List Located
   pub so_far : EndingSoFar
   pub read : ReadsSoFar 1 (head bytes) (commands ++ rest) so_far
-  pub answered : Answers first_state 0 commands clean verdicts errors lines
+  pub answered : Answers first_state 0 commands clean kept errors lines
 
 -- the first commands of the script are answered
-abbrev pub IsAnsweredSoFar : List ℕ → List Verdict → List (ℕ × ℕ) → List (List ℕ) → Type 0
-IsAnsweredSoFar bytes verdicts errors lines = IsBegun bytes verdicts errors lines ⊎ IsBegunInHead bytes verdicts errors lines
+abbrev pub IsAnsweredSoFar : List ℕ → Evidence → List (ℕ × ℕ) → List (List ℕ) → Type 0
+IsAnsweredSoFar bytes kept errors lines = IsBegun bytes kept errors lines ⊎ IsBegunInHead bytes kept errors lines
 
 -- the script was answered to its end, and written
-pub record Finishes (bytes : List ℕ) (verdicts : List Verdict) (errors : List (ℕ × ℕ)) (old new : Option (List ℕ)) : Type 0 where
+pub record Finishes (bytes : List ℕ) (kept : Evidence) (errors : List (ℕ × ℕ)) (old new : Option (List ℕ)) : Type 0 where
   pub lines : List (List ℕ)
-  pub answers : IsAnswered bytes verdicts errors lines
+  pub answers : IsAnswered bytes kept errors lines
   pub written : new ≡ wrote lines old
 
 -- the script is longer than what is read of it: every whole command of the first bytes was answered, none of which ends the
 -- script, and written
-pub record IsCut (bytes : List ℕ) (verdicts : List Verdict) (errors : List (ℕ × ℕ)) (old new : Option (List ℕ)) : Type 0 where
+pub record IsCut (bytes : List ℕ) (kept : Evidence) (errors : List (ℕ × ℕ)) (old new : Option (List ℕ)) : Type 0 where
   pub long : most_bytes < length bytes
   pub commands : List Located
   pub last : State
   pub count : ℕ
   pub lines : List (List ℕ)
   pub read : ReadsSoFar 1 (head bytes) commands waiting
-  pub answered : Leads first_state 0 commands last count verdicts errors lines
+  pub answered : Leads first_state 0 commands last count kept errors lines
   pub written : new ≡ wrote lines old
 
 -- the run stopped early: as far as it came it answered, and a prefix of that was written, up to a part of the last line where the
 -- sink failed
-pub record StopsEarly (bytes : List ℕ) (verdicts : List Verdict) (errors : List (ℕ × ℕ)) (old new : Option (List ℕ)) : Type 0 where
+pub record StopsEarly (bytes : List ℕ) (kept : Evidence) (errors : List (ℕ × ℕ)) (old new : Option (List ℕ)) : Type 0 where
   pub lines : List (List ℕ)
-  pub answers : IsAnswered bytes verdicts errors lines ⊎ IsAnsweredSoFar bytes verdicts errors lines
+  pub answers : IsAnswered bytes kept errors lines ⊎ IsAnsweredSoFar bytes kept errors lines
   pub written : GrewByPrefix (concat lines) old new
 
-pub record StopsInLine (bytes : List ℕ) (verdicts : List Verdict) (errors : List (ℕ × ℕ)) (old new : Option (List ℕ)) : Type 0 where
+pub record StopsInLine (bytes : List ℕ) (kept : Evidence) (errors : List (ℕ × ℕ)) (old new : Option (List ℕ)) : Type 0 where
   pub lines : List (List ℕ)
-  pub answers : IsAnswered bytes verdicts errors lines ⊎ IsAnsweredSoFar bytes verdicts errors lines
+  pub answers : IsAnswered bytes kept errors lines ⊎ IsAnsweredSoFar bytes kept errors lines
   pub written : BreaksInLine lines old new
 
 -- Of a slot so many bytes were taken, and then it failed: every whole command of these bytes was answered, none of which ends the
 -- script, and written. There is no error in them that stands: it would have ended the script.
-pub record IsAnsweredUpTo (bytes : List ℕ) (taken : ℕ) (verdicts : List Verdict) (errors : List (ℕ × ℕ)) (old new : Option (List ℕ)) : Type 0 where
+pub record IsAnsweredUpTo (bytes : List ℕ) (taken : ℕ) (kept : Evidence) (errors : List (ℕ × ℕ)) (old new : Option (List ℕ)) : Type 0 where
   pub commands : List Located
   pub last : State
   pub count : ℕ
   pub lines : List (List ℕ)
   pub read : ReadsSoFar 1 (take taken bytes) commands waiting
-  pub answered : Leads first_state 0 commands last count verdicts errors lines
+  pub answered : Leads first_state 0 commands last count kept errors lines
   pub written : new ≡ wrote lines old
 
 -- The lines of these commands were written whole, and that of the one after them was not, of which there is one. Behind the closing
@@ -112,10 +112,10 @@ pub record IsAnsweredSoon (bytes : List ℕ) (taken : ℕ) (old new : Option (Li
   pub soon : taken + length behind < length bytes + piece_bytes
   pub last : State
   pub count : ℕ
-  pub verdicts : List Verdict
+  pub kept : Evidence
   pub errors : List (ℕ × ℕ)
   pub lines : List (List ℕ)
-  pub answered : Leads first_state 0 commands last count verdicts errors lines
+  pub answered : Leads first_state 0 commands last count kept errors lines
   pub effect : CommandEffect
   pub step : Step last count unwritten.line unwritten.command effect
   pub line : List ℕ
@@ -129,30 +129,30 @@ pub record IsCutInRefusal (bytes : List ℕ) (old new : Option (List ℕ)) : Typ
   pub read : Reads 1 bytes commands (lexical error.1 error.0)
   pub last : State
   pub count : ℕ
-  pub verdicts : List Verdict
+  pub kept : Evidence
   pub errors : List (ℕ × ℕ)
   pub lines : List (List ℕ)
-  pub answered : Leads first_state 0 commands last count verdicts errors lines
+  pub answered : Leads first_state 0 commands last count kept errors lines
   pub line : List ℕ
   pub line_is : refusal_line error ≡ line ∷ []
   pub part : GrewByPart line (wrote lines old) new
 
 -- nothing was answered and nothing was written
-abbrev pub DoesNothing : List Verdict → List (ℕ × ℕ) → Option (List ℕ) → Option (List ℕ) → Type 0
-DoesNothing verdicts errors old new = (verdicts ≡ []) × (errors ≡ []) × (new ≡ old)
+abbrev pub DoesNothing : Evidence → List (ℕ × ℕ) → Option (List ℕ) → Option (List ℕ) → Type 0
+DoesNothing kept errors old new = (kept ≡ no_evidence) × (errors ≡ []) × (new ≡ old)
 
 -- a run over a slot with these bytes, of which so many were taken, by its status, its verdicts and errors, and the bytes of the sink
 -- before and after it; after a fault of the sink it stopped inside the last line of what is reported
-abbrev pub Solves : List ℕ → ℕ → Status → List Verdict → List (ℕ × ℕ) → Option (List ℕ) → Option (List ℕ) → Type 0
-Solves bytes taken Done verdicts errors old new = Finishes bytes verdicts errors old new × (errors ≡ [])
-Solves bytes taken Refused verdicts errors old new = Finishes bytes verdicts errors old new × (errors ≢ [])
-Solves bytes taken TooLong verdicts errors old new = IsCut bytes verdicts errors old new
-Solves bytes taken InputFault verdicts errors old new = IsAnsweredUpTo bytes taken verdicts errors old new
-Solves bytes taken OutputFault verdicts errors old new =
-    StopsInLine bytes verdicts errors old new × (IsAnsweredSoon bytes taken old new ⊎ IsCutInRefusal bytes old new)
-Solves bytes taken NoMemory verdicts errors old new = StopsEarly bytes verdicts errors old new ⊎ DoesNothing verdicts errors old new
-Solves bytes taken Usage verdicts errors old new = ⊥
-Solves bytes taken Rejected verdicts errors old new = ⊥
+abbrev pub Solves : List ℕ → ℕ → Status → Evidence → List (ℕ × ℕ) → Option (List ℕ) → Option (List ℕ) → Type 0
+Solves bytes taken Done kept errors old new = Finishes bytes kept errors old new × (errors ≡ [])
+Solves bytes taken Refused kept errors old new = Finishes bytes kept errors old new × (errors ≢ [])
+Solves bytes taken TooLong kept errors old new = IsCut bytes kept errors old new
+Solves bytes taken InputFault kept errors old new = IsAnsweredUpTo bytes taken kept errors old new
+Solves bytes taken OutputFault kept errors old new =
+    StopsInLine bytes kept errors old new × (IsAnsweredSoon bytes taken old new ⊎ IsCutInRefusal bytes old new)
+Solves bytes taken NoMemory kept errors old new = StopsEarly bytes kept errors old new ⊎ DoesNothing kept errors old new
+Solves bytes taken Usage kept errors old new = ⊥
+Solves bytes taken Rejected kept errors old new = ⊥
 
 -- the first bytes, so many, were taken from a slot with these, one at most beyond those that are read, and the others are left
 pub record WereTaken (bytes : List ℕ) (taken : ℕ) (left : Option (List ℕ)) : Type 0 where
@@ -168,23 +168,23 @@ Took NoMemory bytes taken before after = Unit {0}
 Took status bytes taken before after = WereTaken bytes taken after
 
 -- a run with arguments that have none of the forms: the usage line is written, or a part of it
-abbrev pub ReportsUsage : Status → List Verdict → List (ℕ × ℕ) → Option (List ℕ) → Option (List ℕ) → Type 0
-ReportsUsage Usage verdicts errors old new = (verdicts ≡ []) × (errors ≡ []) × (new ≡ appended usage_line old)
-ReportsUsage OutputFault verdicts errors old new = (verdicts ≡ []) × (errors ≡ []) × GrewByPart usage_line old new
-ReportsUsage NoMemory verdicts errors old new = (verdicts ≡ []) × (errors ≡ []) × GrewByPart usage_line old new
-ReportsUsage Done verdicts errors old new = ⊥
-ReportsUsage Refused verdicts errors old new = ⊥
-ReportsUsage InputFault verdicts errors old new = ⊥
-ReportsUsage Rejected verdicts errors old new = ⊥
-ReportsUsage TooLong verdicts errors old new = ⊥
+abbrev pub ReportsUsage : Status → Evidence → List (ℕ × ℕ) → Option (List ℕ) → Option (List ℕ) → Type 0
+ReportsUsage Usage kept errors old new = (kept ≡ no_evidence) × (errors ≡ []) × (new ≡ appended usage_line old)
+ReportsUsage OutputFault kept errors old new = (kept ≡ no_evidence) × (errors ≡ []) × GrewByPart usage_line old new
+ReportsUsage NoMemory kept errors old new = (kept ≡ no_evidence) × (errors ≡ []) × GrewByPart usage_line old new
+ReportsUsage Done kept errors old new = ⊥
+ReportsUsage Refused kept errors old new = ⊥
+ReportsUsage InputFault kept errors old new = ⊥
+ReportsUsage Rejected kept errors old new = ⊥
+ReportsUsage TooLong kept errors old new = ⊥
 
 -- a run that is asked how the program is called: the same line, as it was asked for
-abbrev pub ReportsHelp : Status → List Verdict → List (ℕ × ℕ) → Option (List ℕ) → Option (List ℕ) → Type 0
-ReportsHelp Done verdicts errors old new = (verdicts ≡ []) × (errors ≡ []) × (new ≡ appended usage_line old)
-ReportsHelp OutputFault verdicts errors old new = (verdicts ≡ []) × (errors ≡ []) × GrewByPart usage_line old new
-ReportsHelp NoMemory verdicts errors old new = (verdicts ≡ []) × (errors ≡ []) × GrewByPart usage_line old new
-ReportsHelp Refused verdicts errors old new = ⊥
-ReportsHelp Usage verdicts errors old new = ⊥
-ReportsHelp InputFault verdicts errors old new = ⊥
-ReportsHelp Rejected verdicts errors old new = ⊥
-ReportsHelp TooLong verdicts errors old new = ⊥
+abbrev pub ReportsHelp : Status → Evidence → List (ℕ × ℕ) → Option (List ℕ) → Option (List ℕ) → Type 0
+ReportsHelp Done kept errors old new = (kept ≡ no_evidence) × (errors ≡ []) × (new ≡ appended usage_line old)
+ReportsHelp OutputFault kept errors old new = (kept ≡ no_evidence) × (errors ≡ []) × GrewByPart usage_line old new
+ReportsHelp NoMemory kept errors old new = (kept ≡ no_evidence) × (errors ≡ []) × GrewByPart usage_line old new
+ReportsHelp Refused kept errors old new = ⊥
+ReportsHelp Usage kept errors old new = ⊥
+ReportsHelp InputFault kept errors old new = ⊥
+ReportsHelp Rejected kept errors old new = ⊥
+ReportsHelp TooLong kept errors old new = ⊥

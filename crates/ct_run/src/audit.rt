@@ -6,6 +6,7 @@ ghost use Rattle.ct_io.specs.declared.desk.Slot.TheVariants as slot;
 ghost use Rattle.ct_io.specs.declared.status.Status.TheVariants as status;
 ghost use Rattle.ct_input.specs.Slot.{IsWholeOf};
 ghost use Rattle.ct_audit.specs.Answer.{audit_error};
+ghost use Rattle.ct_run.specs.Kept.{kept_in};
 ghost use Rattle.ct_run.specs.Output.{wrote, IsLeft};
 ghost use Rattle.ct_run.specs.AuditRun.{AreFiles, AreRead, Reads, Reports, ReportsAudit, ReportsModelAudit, answer_line, status_of_answer};
 
@@ -28,9 +29,9 @@ pub fn audit_files<D: Desk, K: Sink>(
     out: &mut K,
 ) -> Report
     ensures audited { (proof_bytes script_bytes : List ℕ) → D.held desk.old proof.now ≡ Some proof_bytes → D.held desk.old script.now ≡ Some script_bytes
-        → ReportsAudit proof_bytes script_bytes result.status result.verdicts.items result.errors.items (K.written out.old) (K.written out.new) }
+        → ReportsAudit proof_bytes script_bytes result.status (kept_in result) result.errors.items (K.written out.old) (K.written out.new) }
     ensures some_files { (proof_bytes : List ℕ) × (script_bytes : List ℕ)
-        × ReportsAudit proof_bytes script_bytes result.status result.verdicts.items result.errors.items (K.written out.old) (K.written out.new) }
+        × ReportsAudit proof_bytes script_bytes result.status (kept_in result) result.errors.items (K.written out.old) (K.written out.new) }
     ensures read { Reads result.status (D.held desk.old proof.now) (D.left desk.new slot.Proof) (D.held desk.old script.now) (D.left desk.new slot.Script) }
     ensures input { result.status ≡ status.InputFault → Rose (D.faults desk.old) (D.faults desk.new) }
     ensures output { result.status ≡ status.OutputFault → Rose (K.faults out.old) (K.faults out.new) }
@@ -57,9 +58,9 @@ pub fn audit_model_files<D: Desk, K: Sink>(
     out: &mut K,
 ) -> Report
     ensures audited { (model_bytes script_bytes : List ℕ) → D.held desk.old model.now ≡ Some model_bytes → D.held desk.old script.now ≡ Some script_bytes
-        → ReportsModelAudit number model_bytes script_bytes result.status result.verdicts.items result.errors.items (K.written out.old) (K.written out.new) }
+        → ReportsModelAudit number model_bytes script_bytes result.status (kept_in result) result.errors.items (K.written out.old) (K.written out.new) }
     ensures some_files { (model_bytes : List ℕ) × (script_bytes : List ℕ)
-        × ReportsModelAudit number model_bytes script_bytes result.status result.verdicts.items result.errors.items (K.written out.old) (K.written out.new) }
+        × ReportsModelAudit number model_bytes script_bytes result.status (kept_in result) result.errors.items (K.written out.old) (K.written out.new) }
     ensures read { Reads result.status (D.held desk.old model.now) (D.left desk.new slot.Proof) (D.held desk.old script.now) (D.left desk.new slot.Script) }
     ensures input { result.status ≡ status.InputFault → Rose (D.faults desk.old) (D.faults desk.new) }
     ensures output { result.status ≡ status.OutputFault → Rose (K.faults out.old) (K.faults out.new) }
@@ -110,7 +111,7 @@ fn both(proof: Option<Reader>, script: Option<Reader>) -> Option<(Reader, Reader
 fn judge<K: Sink>(alloc: Global, proof: &mut Reader, script: &mut Reader, out: &mut K) -> Report
     requires files { (proof_bytes : List ℕ) × (script_bytes : List ℕ) × AreFiles proof_bytes script_bytes (Some (proof.old, script.old)) }
     ensures audited { (proof_bytes script_bytes : List ℕ) → AreFiles proof_bytes script_bytes (Some (proof.old, script.old))
-        → ReportsAudit proof_bytes script_bytes result.status result.verdicts.items result.errors.items (K.written out.old) (K.written out.new) }
+        → ReportsAudit proof_bytes script_bytes result.status (kept_in result) result.errors.items (K.written out.old) (K.written out.new) }
     ensures input { result.status ≢ status.InputFault }
     ensures whole { result.status ≢ status.TooLong }
     ensures output { result.status ≡ status.OutputFault → Rose (K.faults out.old) (K.faults out.new) }
@@ -133,7 +134,7 @@ fn judge_model<K: Sink>(
 ) -> Report
     requires files { (model_bytes : List ℕ) × (script_bytes : List ℕ) × AreFiles model_bytes script_bytes (Some (model.old, script.old)) }
     ensures audited { (model_bytes script_bytes : List ℕ) → AreFiles model_bytes script_bytes (Some (model.old, script.old))
-        → ReportsModelAudit number model_bytes script_bytes result.status result.verdicts.items result.errors.items (K.written out.old) (K.written out.new) }
+        → ReportsModelAudit number model_bytes script_bytes result.status (kept_in result) result.errors.items (K.written out.old) (K.written out.new) }
     ensures input { result.status ≢ status.InputFault }
     ensures whole { result.status ≢ status.TooLong }
     ensures output { result.status ≡ status.OutputFault → Rose (K.faults out.old) (K.faults out.new) }
@@ -148,7 +149,7 @@ fn judge_model<K: Sink>(
 
 /// Reports an answer, and writes its line. Where memory runs out before that, nothing is reported.
 fn report_answer<K: Sink>(alloc: Global, answer: AuditAnswer, out: &mut K) -> Report
-    ensures reported { Reports answer result.status result.verdicts.items result.errors.items (K.written out.old) (K.written out.new) }
+    ensures reported { Reports answer result.status (kept_in result) result.errors.items (K.written out.old) (K.written out.new) }
     ensures input { result.status ≢ status.InputFault }
     ensures whole { result.status ≢ status.TooLong }
     ensures output { result.status ≡ status.OutputFault → Rose (K.faults out.old) (K.faults out.new) }
@@ -166,6 +167,7 @@ fn report_answer<K: Sink>(alloc: Global, answer: AuditAnswer, out: &mut K) -> Re
         status,
         verdicts: Vec::new(alloc),
         errors,
+        shrunk: Vec::new(alloc),
     }
 }
 

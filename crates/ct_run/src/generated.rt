@@ -6,6 +6,7 @@ ghost use Rattle.ct_io.specs.Fault.{HasCause, Rose};
 ghost use Rattle.ct_io.specs.declared.status.Status.TheVariants as status;
 ghost use Rattle.ct_gen.specs.Script.{script};
 ghost use Rattle.ct_input.specs.Slot.{IsReadWhole};
+ghost use Rattle.ct_run.specs.Kept.{kept_in};
 ghost use Rattle.ct_run.specs.Generated as spec;
 ghost use Rattle.ct_run.specs.Generated.{IsSolved, IsSolvedSoFar, ReportsCounts};
 
@@ -23,7 +24,7 @@ use std::alloc::Global;
 pub fn generate<K: Sink>(alloc: Global, n: u64, out: &mut K) -> Report
     requires some { 1 ≤ n }
     requires few { n ≤ 2000 }
-    ensures counted { ReportsCounts n result.status result.verdicts.items result.errors.items (K.written out.old) (K.written out.new) }
+    ensures counted { ReportsCounts n result.status (kept_in result) result.errors.items (K.written out.old) (K.written out.new) }
     ensures output { result.status ≡ status.OutputFault → Rose (K.faults out.old) (K.faults out.new) }
     ensures count { K.faults out.old ≤ K.faults out.new }
     ensures uncounted { result.status ≢ status.OutputFault → K.faults out.new ≡ K.faults out.old }
@@ -84,7 +85,7 @@ fn read_generated(alloc: Global, n: u64) -> Result<Reader, ReadError>
 #[tactic(auto, using(crate::proofs::GeneratedLemmas::unwritten_report))]
 fn report_counts<K: Sink>(alloc: Global, n: u64, verdicts: Vec<Verdict>, out: &mut K) -> Report
     requires solved { IsSolved n verdicts.items }
-    ensures counted { ReportsCounts n result.status result.verdicts.items result.errors.items (K.written out.old) (K.written out.new) }
+    ensures counted { ReportsCounts n result.status (kept_in result) result.errors.items (K.written out.old) (K.written out.new) }
     ensures output { result.status ≡ status.OutputFault → Rose (K.faults out.old) (K.faults out.new) }
     ensures count { K.faults out.old ≤ K.faults out.new }
     ensures uncounted { result.status ≢ status.OutputFault → K.faults out.new ≡ K.faults out.old }
@@ -98,7 +99,7 @@ fn report_counts<K: Sink>(alloc: Global, n: u64, verdicts: Vec<Verdict>, out: &m
 /// Writes the line with the counts of the verdicts.
 fn write_counts<K: Sink>(alloc: Global, line: &str, verdicts: Vec<Verdict>, out: &mut K) -> Report
     ensures counted { (n : ℕ) → IsSolved n verdicts.items → line.now ≡ spec.counts_line n verdicts.items
-        → ReportsCounts n result.status result.verdicts.items result.errors.items (K.written out.old) (K.written out.new) }
+        → ReportsCounts n result.status (kept_in result) result.errors.items (K.written out.old) (K.written out.new) }
     ensures output { result.status ≡ status.OutputFault → Rose (K.faults out.old) (K.faults out.new) }
     ensures count { K.faults out.old ≤ K.faults out.new }
     ensures uncounted { result.status ≢ status.OutputFault → K.faults out.new ≡ K.faults out.old }
@@ -110,16 +111,18 @@ fn write_counts<K: Sink>(alloc: Global, line: &str, verdicts: Vec<Verdict>, out:
     without_errors(alloc, status, verdicts)
 }
 
-/// The report of these verdicts. Takes no memory.
+/// The report of these verdicts and nothing else. Takes no memory.
 fn without_errors(alloc: Global, status: Status, verdicts: Vec<Verdict>) -> Report
     ensures status { result.status ≡ status }
     ensures verdicts { result.verdicts.items ≡ verdicts.items }
     ensures errors { result.errors.items ≡ [] }
+    ensures shrunk { result.shrunk.items ≡ [] }
 {
     Report {
         status,
         verdicts,
         errors: Vec::new(alloc),
+        shrunk: Vec::new(alloc),
     }
 }
 

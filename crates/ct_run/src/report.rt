@@ -4,12 +4,13 @@ ghost use Rattle.ct_run.specs.Refusal.{status_of_error};
 
 use ct_engine::Verdict;
 use ct_io::{SinkError, Status};
+use ct_shrink::Shrunk;
 use std::alloc::Global;
 
 /// An error in a script, by its line, counted from 1, and its number.
 pub type ScriptError = (u64, u16);
 
-/// How a run ended, with the verdicts and the errors of the commands that were answered.
+/// How a run ended, with the verdicts, the errors and the shrunk cores of the commands that were answered.
 #[derive(Drop)]
 pub struct Report {
     /// How the run ended.
@@ -18,6 +19,8 @@ pub struct Report {
     pub verdicts: Vec<Verdict>,
     /// The errors in order.
     pub errors: Vec<ScriptError>,
+    /// The cores that were shrunk, in order: one for each answer that printed names or assumptions of such a core.
+    pub shrunk: Vec<Shrunk>,
 }
 
 /// The report of a run that answered nothing. Takes no memory.
@@ -25,11 +28,13 @@ pub fn unanswered(alloc: Global, status: Status) -> Report
     ensures status { result.status ≡ status }
     ensures verdicts { result.verdicts.items ≡ [] }
     ensures errors { result.errors.items ≡ [] }
+    ensures shrunk { result.shrunk.items ≡ [] }
 {
     Report {
         status,
         verdicts: Vec::new(alloc),
         errors: Vec::new(alloc),
+        shrunk: Vec::new(alloc),
     }
 }
 

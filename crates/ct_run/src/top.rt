@@ -6,6 +6,7 @@ ghost use Rattle.ct_io.specs.declared.desk.Slot.TheVariants as slot;
 ghost use Rattle.ct_io.specs.declared.status.Status.TheVariants as status;
 ghost use Rattle.ct_arguments.specs.Arguments as arguments;
 ghost use Rattle.ct_arguments.specs.Seen.{task_seen};
+ghost use Rattle.ct_run.specs.Kept.{kept_in};
 ghost use Rattle.ct_run.specs.Run.{Solves, Took, ReportsUsage, ReportsHelp};
 ghost use Rattle.ct_run.specs.AuditRun.{ReportsAudit, ReportsModelAudit, Reads};
 ghost use Rattle.ct_run.specs.Generated.{ReportsCounts};
@@ -36,35 +37,35 @@ pub fn run<D: Desk, K: Sink>(alloc: Global, words: &[Text], desk: &mut D, out: &
     // those to what was taken of the script.
     ensures solved { (name bytes : List ℕ) → arguments.task_of words.now ≡ arguments.solves name → D.held desk.old name ≡ Some bytes
         → (taken : ℕ) × Took result.status bytes taken (D.left desk.old slot.Script) (D.left desk.new slot.Script)
-        × Solves bytes taken result.status result.verdicts.items result.errors.items (K.written out.old) (K.written out.new) }
+        × Solves bytes taken result.status (kept_in result) result.errors.items (K.written out.old) (K.written out.new) }
     // The same of a derivation that is judged by a script.
     ensures audited { (proof script proof_bytes script_bytes : List ℕ) → arguments.task_of words.now ≡ arguments.audits proof script
         → D.held desk.old proof ≡ Some proof_bytes → D.held desk.old script ≡ Some script_bytes
-        → ReportsAudit proof_bytes script_bytes result.status result.verdicts.items result.errors.items (K.written out.old) (K.written out.new) }
+        → ReportsAudit proof_bytes script_bytes result.status (kept_in result) result.errors.items (K.written out.old) (K.written out.new) }
     // And of a model that is judged by a check of a script.
     ensures model_audited { (model script model_bytes script_bytes : List ℕ) (number : ℕ) → arguments.task_of words.now ≡ arguments.audits_model model number script
         → D.held desk.old model ≡ Some model_bytes → D.held desk.old script ≡ Some script_bytes
-        → ReportsModelAudit number model_bytes script_bytes result.status result.verdicts.items result.errors.items (K.written out.old) (K.written out.new) }
+        → ReportsModelAudit number model_bytes script_bytes result.status (kept_in result) result.errors.items (K.written out.old) (K.written out.new) }
     // Both files were opened and read before anything was judged.
     ensures read { (proof script : List ℕ) → arguments.task_of words.now ≡ arguments.audits proof script
         → Reads result.status (D.held desk.old proof) (D.left desk.new slot.Proof) (D.held desk.old script) (D.left desk.new slot.Script) }
     ensures model_read { (model script : List ℕ) (number : ℕ) → arguments.task_of words.now ≡ arguments.audits_model model number script
         → Reads result.status (D.held desk.old model) (D.left desk.new slot.Proof) (D.held desk.old script) (D.left desk.new slot.Script) }
     ensures generated { (count : ℕ) → arguments.task_of words.now ≡ arguments.generates count
-        → ReportsCounts count result.status result.verdicts.items result.errors.items (K.written out.old) (K.written out.new) }
+        → ReportsCounts count result.status (kept_in result) result.errors.items (K.written out.old) (K.written out.new) }
     ensures helped { arguments.task_of words.now ≡ arguments.helps
-        → ReportsHelp result.status result.verdicts.items result.errors.items (K.written out.old) (K.written out.new) }
+        → ReportsHelp result.status (kept_in result) result.errors.items (K.written out.old) (K.written out.new) }
     ensures usage { arguments.task_of words.now ≡ arguments.faulty
-        → ReportsUsage result.status result.verdicts.items result.errors.items (K.written out.old) (K.written out.new) }
+        → ReportsUsage result.status (kept_in result) result.errors.items (K.written out.old) (K.written out.new) }
 
     // Where the desk tells nothing, as that of the host, there are still bytes, whatever the status, of which the
     // report is right, and what was written where the sink tells it.
     ensures some_script { (name : List ℕ) → arguments.task_of words.now ≡ arguments.solves name → (bytes : List ℕ) × (taken : ℕ)
-        × Solves bytes taken result.status result.verdicts.items result.errors.items (K.written out.old) (K.written out.new) }
+        × Solves bytes taken result.status (kept_in result) result.errors.items (K.written out.old) (K.written out.new) }
     ensures some_files { (proof script : List ℕ) → arguments.task_of words.now ≡ arguments.audits proof script → (proof_bytes : List ℕ) × (script_bytes : List ℕ)
-        × ReportsAudit proof_bytes script_bytes result.status result.verdicts.items result.errors.items (K.written out.old) (K.written out.new) }
+        × ReportsAudit proof_bytes script_bytes result.status (kept_in result) result.errors.items (K.written out.old) (K.written out.new) }
     ensures some_model { (model script : List ℕ) (number : ℕ) → arguments.task_of words.now ≡ arguments.audits_model model number script → (model_bytes : List ℕ) × (script_bytes : List ℕ)
-        × ReportsModelAudit number model_bytes script_bytes result.status result.verdicts.items result.errors.items (K.written out.old) (K.written out.new) }
+        × ReportsModelAudit number model_bytes script_bytes result.status (kept_in result) result.errors.items (K.written out.old) (K.written out.new) }
 
     // When each status comes, whatever the desk and the sink tell.
     ensures usage_only { result.status ≡ status.Usage → arguments.task_of words.now ≡ arguments.faulty }
@@ -91,9 +92,9 @@ pub fn run<D: Desk, K: Sink>(alloc: Global, words: &[Text], desk: &mut D, out: &
 /// Does what the arguments ask for.
 fn perform<D: Desk, K: Sink>(alloc: Global, task: Task<'_>, desk: &mut D, out: &mut K) -> Report
     requires within { arguments.IsWithin (task_seen task) }
-    ensures does { Does (D.held desk.old) (task_seen task.entry) (D.left desk.old slot.Script) (D.left desk.new slot.Script) result.status result.verdicts.items result.errors.items (K.written out.old) (K.written out.new) }
+    ensures does { Does (D.held desk.old) (task_seen task.entry) (D.left desk.old slot.Script) (D.left desk.new slot.Script) result.status (kept_in result) result.errors.items (K.written out.old) (K.written out.new) }
     ensures read { ReadsFiles (D.held desk.old) (task_seen task.entry) result.status (D.left desk.new slot.Proof) (D.left desk.new slot.Script) }
-    ensures of_some { DoesOfSome (task_seen task.entry) result.status result.verdicts.items result.errors.items (K.written out.old) (K.written out.new) }
+    ensures of_some { DoesOfSome (task_seen task.entry) result.status (kept_in result) result.errors.items (K.written out.old) (K.written out.new) }
     ensures input { result.status ≡ status.InputFault → Rose (D.faults desk.old) (D.faults desk.new) }
     ensures output { result.status ≡ status.OutputFault → Rose (K.faults out.old) (K.faults out.new) }
     ensures counts { (D.faults desk.old ≤ D.faults desk.new) × (K.faults out.old ≤ K.faults out.new) }
@@ -116,7 +117,7 @@ fn perform<D: Desk, K: Sink>(alloc: Global, task: Task<'_>, desk: &mut D, out: &
 
 /// Writes the line of usage, and nothing else.
 pub fn report_usage<K: Sink>(alloc: Global, out: &mut K) -> Report
-    ensures reported { ReportsUsage result.status result.verdicts.items result.errors.items (K.written out.old) (K.written out.new) }
+    ensures reported { ReportsUsage result.status (kept_in result) result.errors.items (K.written out.old) (K.written out.new) }
     ensures output { result.status ≡ status.OutputFault → Rose (K.faults out.old) (K.faults out.new) }
     ensures count { K.faults out.old ≤ K.faults out.new }
     ensures uncounted { result.status ≢ status.OutputFault → K.faults out.new ≡ K.faults out.old }
@@ -130,7 +131,7 @@ pub fn report_usage<K: Sink>(alloc: Global, out: &mut K) -> Report
 
 /// The same, where it was asked for.
 fn report_help<K: Sink>(alloc: Global, out: &mut K) -> Report
-    ensures reported { ReportsHelp result.status result.verdicts.items result.errors.items (K.written out.old) (K.written out.new) }
+    ensures reported { ReportsHelp result.status (kept_in result) result.errors.items (K.written out.old) (K.written out.new) }
     ensures output { result.status ≡ status.OutputFault → Rose (K.faults out.old) (K.faults out.new) }
     ensures count { K.faults out.old ≤ K.faults out.new }
     ensures uncounted { result.status ≢ status.OutputFault → K.faults out.new ≡ K.faults out.old }

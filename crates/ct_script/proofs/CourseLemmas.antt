@@ -5,12 +5,14 @@ use Rattle.ct_kept.specs.Kept.{Stored}
 use Rattle.ct_command.specs.Command.{Command}
 use Rattle.ct_command.specs.Reading.{Read, command}
 use Rattle.ct_engine.specs.declared.verdict.Verdict.{Verdict}
+use Rattle.ct_step.specs.Evidence.{Evidence}
+use Rattle.ct_step.proofs.EvidenceLemmas.{both_same}
 use Rattle.ct_step.specs.declared.answer.Answer.{Answer}
 use Rattle.ct_step.specs.declared.state.SessionState.{SessionState}
 use Rattle.ct_step.specs.State.{State}
 use Rattle.ct_step.specs.Refusal.{IsRefusal}
 use Rattle.ct_step.specs.Step.{CommandEffect, Steps, Step, refused, counted_with}
-use Rattle.ct_step.specs.Done.{IsAnswer, Performs, IsSame, state_of}
+use Rattle.ct_step.specs.Done.{IsAnswer, Performs, IsSame, state_of, evidence_of}
 use Rattle.ct_step.specs.Store.{Stores, StoresBy}
 use Rattle.ct_script.specs.Session.{Course, reached, after}
 use Rattle.ct_step.proofs.SoundLemmas.{same_state}
@@ -22,8 +24,8 @@ stepped (Ok a) old line x c new is h = comes_of old line x (Ok c) new a is h
 stepped (Err f) old line x c new is h = tt
 
 -- and what becomes of the store by it
-pub stored_as : {E : Type 0} (r : Result Answer E) (old new : Course) (x : Expression) (read : Read) → command x ≡ read → IfOk r (λ a. StoresBy old.state read a.error new.verdicts old.store new.store) → IfOk r (λ a. StoresBy old.state (command x) a.error new.verdicts old.store new.store)
-stored_as r old new x read is h = subst (λ (y : Read). IfOk r (λ (a : Answer). StoresBy old.state y a.error new.verdicts old.store new.store)) (sym is) h
+pub stored_as : {E : Type 0} (r : Result Answer E) (old new : Course) (x : Expression) (read : Read) → command x ≡ read → IfOk r (λ a. StoresBy old.state read a.error new.evidence.verdicts old.store new.store) → IfOk r (λ a. StoresBy old.state (command x) a.error new.evidence.verdicts old.store new.store)
+stored_as r old new x read is h = subst (λ (y : Read). IfOk r (λ (a : Answer). StoresBy old.state y a.error new.evidence.verdicts old.store new.store)) (sym is) h
 
 -- what is refused leaves the store
 stored_refused : (s : State) (read : Read) (n : ℕ) (o : Option ℕ) (verdicts : List Verdict) (store : Stored) → o ≡ Some n → StoresBy s read o verdicts store store
@@ -65,8 +67,8 @@ module _ (old : SessionState) (number : ℕ) (errors : List (ℕ × ℕ)) (store
   -- nothing has changed
   pub unchanged : (new : SessionState) (new_errors : List (ℕ × ℕ)) (left : Stored) → IsSame old new → new_errors ≡ errors → left ≡ store → course new number new_errors left ≡ s
   unchanged new new_errors left same e is =
-      ap (λ (t : State). record { state = t; number = number; verdicts = new.verdicts.items; errors = new_errors; store = left }) (same_state old new same)
-      ∙ ap (λ (vs : List Verdict). record { state = state_of old; number = number; verdicts = vs; errors = new_errors; store = left }) same.verdicts
+      ap (λ (t : State). record { state = t; number = number; evidence = evidence_of new; errors = new_errors; store = left }) (same_state old new same)
+      ∙ ap (λ (kept : Evidence). record { state = state_of old; number = number; evidence = kept; errors = new_errors; store = left }) (both_same _ _ _ _ same.verdicts same.shrunk)
       ∙ ap (λ (es : List (ℕ × ℕ)). course old number es left) e
       ∙ ap (λ (k : Stored). course old number errors k) is
       ∙ seen

@@ -1,16 +1,20 @@
 -- What a command makes of the stack and the options is fixed by the stack and the options alone, and not by what was answered; so a
 -- replay changes them as the commands do.
-use Rattle.std.proofs.Common.{◌≡◌, ◌∙◌, ℕ, Bool, true, false, true≢false, List, [], ◌∷◌, ◌++◌, Option, Ok, Err, append_assoc, refl, sym, ap, subst, inl, inr}
+use Rattle.std.proofs.Common.{◌≡◌, ◌∙◌, ℕ, Bool, true, false, true≢false, List, [], ◌∷◌, ◌++◌, Option, None, Ok, Err, append_assoc, refl, sym, ap, subst, inl, inr}
 use Rattle.std.specs.Bool.{MatchBool}
+use Rattle.ct_formulas.specs.Formula.{Formula}
 use Rattle.ct_names.specs.Outcome.{Outcome, Elaborated}
 use Rattle.ct_sorts.specs.Declarations.{Declarations, with_function}
 use Rattle.ct_model.specs.ModelText.{IsModelText}
 use Rattle.ct_log_text.specs.Written.{expression_of_record, text_of}
 use Rattle.ct_sexpr.specs.Text.{Located, Ending}
-use Rattle.ct_command.specs.Command.{Command, define_sort, declare_block, declare_fun, define_fun, assert, check_sat, get_model, get_value, get_proof}
+use Rattle.ct_command.specs.Command.{Command, define_sort, declare_block, declare_fun, define_fun, assert, check_sat, check_sat_assuming, get_model, get_value, get_proof, get_unsat_core, get_unsat_assumptions}
 use Rattle.ct_command.specs.Reading.{Read, command}
+use Rattle.ct_step.specs.Evidence.{Evidence, no_evidence, followed_by}
+use Rattle.ct_step.proofs.EvidenceLemmas.{followed_assoc}
 use Rattle.ct_engine.specs.declared.verdict.Verdict.{Verdict}
-use Rattle.ct_stack.specs.Stack.{Stack, declaring, in_context, asserting, defined_in}
+use Rattle.ct_stack.specs.Stack.{Stack, declaring, in_context, asserting_as, defined_in}
+use Rattle.ct_stack.specs.Assuming.{assumptions}
 use Rattle.ct_stack.specs.Outcomes.{Gives, GivesNeeding}
 use Rattle.ct_stack.specs.Elaborations.{synonym_body, with_synonym_of, declared_function, defined_function, asserted_formula}
 use Rattle.ct_stack.specs.Refusal.{over}
@@ -18,15 +22,18 @@ use Rattle.ct_stack.specs.Theorems.{AddSame}
 use Rattle.ct_stack.specs.Values.{AreValues}
 use Rattle.ct_step.specs.declared.options.Options.{Options}
 use Rattle.ct_script.specs.declared.replay.Replayed.{Replayed}
-use Rattle.ct_step.specs.State.{State, Kept, declared, context_of, changed, model_kept, derivation_kept}
+use Rattle.ct_step.specs.declared.cores.Members.TheVariants as members
+use Rattle.ct_step.specs.Options.{budget}
+use Rattle.ct_step.specs.Verdict.{ComesTo as ComesToVerdict}
+use Rattle.ct_step.specs.State.{State, Kept, declared, context_of, changed, asserted, model_kept, derivation_kept, refuted_kept, assuming_kept, asked}
 use Rattle.ct_step.specs.Refusal.{IsRefusal}
-use Rattle.ct_step.specs.Step.{CommandEffect, Does, Steps, said, quiet, Step, counted, counted_by, one_more}
+use Rattle.ct_step.specs.Step.{CommandEffect, Does, Steps, PrintsCore, said, quiet, decided, Step, counted, counted_by, one_more}
 use Rattle.ct_script.specs.Answers.{Answers, Leads, IsSilent, IsFollowed, errors_of, lines_of}
 use Rattle.ct_script.specs.Session.{Course}
-use Rattle.ct_script.specs.Replay.{is_check, IsCounted, IsStepped, Replays, GoesThrough, HaveOneStack, AnswersThrough}
+use Rattle.ct_script.specs.Replay.{is_check, is_assuming, IsCounted, IsPassedOver, IsStepped, Replays, GoesThrough, HaveOneStack, AnswersThrough}
 use Rattle.ct_stack.proofs.BlockLemmas.{one_types}
 use Rattle.ct_stack.proofs.NeededLemmas.{one_value}
-use Rattle.ct_step.proofs.SoundLemmas.{only_of}
+use Rattle.ct_step.proofs.SoundLemmas.{only, only_of, prints}
 
 -- both effects leave one stack and the same options, and both end the script, or neither
 abbrev pub AreAlike : CommandEffect → CommandEffect → Type 0
@@ -51,6 +58,9 @@ asks check_sat = true
 asks get_model = true
 asks (get_value ts) = true
 asks get_proof = true
+asks (check_sat_assuming ls) = true
+asks get_unsat_core = true
+asks get_unsat_assumptions = true
 asks c = false
 
 -- then it leaves the stack and the options
@@ -59,6 +69,9 @@ done_rests s number check_sat e asking is = rests s e is.2 refl refl refl
 done_rests s number get_model e asking is = only_of (model_kept s.kept) (λ i. (text : List ℕ) × IsModelText (declared s) i text × (e ≡ said s text)) (Rests s e) (λ i h. rests s e h.2 refl refl refl) is
 done_rests s number (get_value ts) e asking is = only_of (model_kept s.kept) (λ i. (text : List ℕ) × AreValues (context_of s) i ts text × (e ≡ said s text)) (Rests s e) (λ i h. rests s e h.2 refl refl refl) is
 done_rests s number get_proof e asking is = only_of (derivation_kept s.kept) (λ p. e ≡ said s (text_of (expression_of_record (declared s) p.0 p.1.rec))) (Rests s e) (λ p h. rests s e h refl refl refl) is
+done_rests s number (check_sat_assuming ls) e asking is = only (assumptions (declared s) ls) (λ assumed. (v : Verdict) × ComesToVerdict (context_of s) (asked s assumed) (budget s.options) v × (e ≡ decided s None assumed v)) (Rests s e) (λ assumed h. rests s e h.2 refl refl refl) is
+done_rests s number get_unsat_core e asking is = only_of (refuted_kept s.kept) (λ refuted. PrintsCore s members.Names refuted e) (Rests s e) (λ refuted h. prints s members.Names refuted e (Rests s e) (λ text kept printed. rests s e printed refl refl refl) h) is
+done_rests s number get_unsat_assumptions e asking is = only_of (assuming_kept s.kept) (λ refuted. PrintsCore s members.Assumptions refuted e) (Rests s e) (λ refuted h. prints s members.Assumptions refuted e (Rests s e) (λ text kept printed. rests s e printed refl refl refl) h) is
 done_rests s number c e asking is = absurd (true≢false (sym asking))
 
 -- where it is refused too
@@ -66,71 +79,88 @@ asking_rests : (s : State) (number line : ℕ) (c : Command) (e : CommandEffect)
 asking_rests s number line c e asking (inl h) = rests s e h.2 refl refl refl
 asking_rests s number line c e asking (inr h) = done_rests s number c e asking h.1
 
-module _ (s : State) (kept : Option Kept) where
+-- a state with other labels, which keeps something else
+abbrev beside : State → List (Option (List ℕ)) → Option Kept → State
+beside s labels kept = record s { labels = labels; kept = kept }
+
+module _ (s : State) (labels : List (Option (List ℕ))) (kept : Option Kept) where
   -- every other command is refused whatever was kept
-  refused_too : (c : Command) (n : ℕ) → asks c ≡ false → IsRefusal s c n → IsRefusal (record s { kept = kept }) c n
-  refused_too check_sat n other h = h
+  refused_too : (c : Command) (n : ℕ) → asks c ≡ false → IsRefusal s c n → IsRefusal (beside s labels kept) c n
+  refused_too check_sat n other h = absurd (true≢false other)
   refused_too get_model n other h = absurd (true≢false other)
   refused_too (get_value ts) n other h = absurd (true≢false other)
   refused_too get_proof n other h = absurd (true≢false other)
+  refused_too (check_sat_assuming ls) n other h = absurd (true≢false other)
+  refused_too get_unsat_core n other h = absurd (true≢false other)
+  refused_too get_unsat_assumptions n other h = absurd (true≢false other)
   refused_too c n other h = h
 
   -- a stack that is formed
-  formed : {X : Type 0} (o : Outcome X) (stack : X → Stack) (e f : CommandEffect) → Gives o (λ x. e ≡ quiet (changed s (stack x))) → Gives o (λ x. f ≡ quiet (changed s (stack x))) → AreAlike e f
+  formed : {X : Type 0} (o : Outcome X) (stack : X → Stack) (e f : CommandEffect) → Gives o (λ x. e ≡ quiet (changed s (stack x))) → Gives o (λ x. f ≡ quiet (changed (beside s labels kept) (stack x))) → AreAlike e f
   formed (Ok x) stack e f is same = alike e f is same refl refl refl
   formed (Err n) stack e f is same = absurd is
 
   -- one that is formed with the sorts that it needs
-  formed_needing : {X : Type 0} → AddSame → (o : Declarations → Elaborated X) (d : Declarations) (stack : Declarations → X → Stack) (e f : CommandEffect) → GivesNeeding o d (λ later x. e ≡ quiet (changed s (stack later x))) → GivesNeeding o d (λ later x. f ≡ quiet (changed (record s { kept = kept }) (stack later x))) → AreAlike e f
+  formed_needing : {X : Type 0} → AddSame → (o : Declarations → Elaborated X) (d : Declarations) (stack : Declarations → X → Stack) (e f : CommandEffect) → GivesNeeding o d (λ later x. e ≡ quiet (changed s (stack later x))) → GivesNeeding o d (λ later x. f ≡ quiet (changed (beside s labels kept) (stack later x))) → AreAlike e f
   formed_needing {X} add_same o d stack e f (later, x, comes, is) (last, y, also, same) =
       let one = one_value add_same o d later last x y comes also in
       alike e f is same (ap (λ (n : Declarations). stack n y) one.0 ∙ ap (λ (z : X). stack later z) one.1) refl refl
 
+  -- one that is asserted with a label
+  asserted_alike : AddSame → (label : Option (List ℕ)) → (o : Declarations → Elaborated Formula) (d : Declarations) (e f : CommandEffect) → GivesNeeding o d (λ later x. e ≡ quiet (asserted s (declaring s.stack later) label x)) → GivesNeeding o d (λ later x. f ≡ quiet (asserted (beside s labels kept) (declaring s.stack later) label x)) → AreAlike e f
+  asserted_alike add_same label o d e f (later, x, comes, is) (last, y, also, same) =
+      let one = one_value add_same o d later last x y comes also in
+      alike e f is same
+      (ap (λ (n : Declarations). asserting_as (declaring s.stack n) label y) one.0 ∙ ap (λ (z : Formula). asserting_as (declaring s.stack later) label z) one.1) refl refl
+
   -- and does the same
-  done_alike : AddSame → (number count : ℕ) (c : Command) (e f : CommandEffect) → asks c ≡ false → Does s number c e → Does (record s { kept = kept }) count c f → AreAlike e f
+  done_alike : AddSame → (number count : ℕ) (c : Command) (e f : CommandEffect) → asks c ≡ false → Does s number c e → Does (beside s labels kept) count c f → AreAlike e f
   done_alike add_same number count (define_sort name params body) e f other is same = formed (synonym_body (declared s) params body) (λ x. declaring s.stack (with_synonym_of (declared s) name params x)) e f is same
   done_alike add_same number count (declare_block family heads bodies) e f other is same = alike e f is.2 same.2 (ap (λ (d : Declarations). declaring s.stack d) (one_types add_same (declared s) family heads bodies is.0 same.0 is.1 same.1)) refl refl
   done_alike add_same number count (declare_fun name args sort) e f other is same = formed_needing add_same (λ d. declared_function d name args sort) (declared s) (λ later x. declaring s.stack (with_function later x)) e f is same
   done_alike add_same number count (define_fun name params sort t) e f other is same = formed_needing add_same (λ d. defined_function d name params sort t) (declared s) (λ later x. in_context s.stack (defined_in (over (context_of s) later) x)) e f is same
-  done_alike add_same number count (assert t) e f other is same = formed_needing add_same (λ d. asserted_formula d t) (declared s) (λ later x. asserting (declaring s.stack later) x) e f is same
+  done_alike add_same number count (assert t label) e f other is same = asserted_alike add_same label (λ d. asserted_formula d t) (declared s) e f is same
   done_alike add_same number count check_sat e f other is same = absurd (true≢false other)
   done_alike add_same number count get_model e f other is same = absurd (true≢false other)
   done_alike add_same number count (get_value ts) e f other is same = absurd (true≢false other)
   done_alike add_same number count get_proof e f other is same = absurd (true≢false other)
+  done_alike add_same number count (check_sat_assuming ls) e f other is same = absurd (true≢false other)
+  done_alike add_same number count get_unsat_core e f other is same = absurd (true≢false other)
+  done_alike add_same number count get_unsat_assumptions e f other is same = absurd (true≢false other)
   done_alike add_same number count c e f other is same = alike e f is same refl refl refl
 
 -- so it does where it is refused too
-other_alike : AddSame → (s : State) (kept : Option Kept) (number count line : ℕ) (c : Command) (e f : CommandEffect) → asks c ≡ false → Steps s number line (Ok c) e → Steps (record s { kept = kept }) count line (Ok c) f → AreAlike e f
-other_alike add_same s kept number count line c e f other (inl h) (inl k) = alike e f h.2 k.2 refl refl refl
-other_alike add_same s kept number count line c e f other (inl h) (inr k) = absurd (k.0 h.0 (refused_too s kept c h.0 other h.1))
-other_alike add_same s kept number count line c e f other (inr h) (inl k) = absurd (h.0 k.0 (refused_too (record s { kept = kept }) s.kept c k.0 other k.1))
-other_alike add_same s kept number count line c e f other (inr h) (inr k) = done_alike s kept add_same number count c e f other h.1 k.1
+other_alike : AddSame → (s : State) (labels : List (Option (List ℕ))) (kept : Option Kept) (number count line : ℕ) (c : Command) (e f : CommandEffect) → asks c ≡ false → Steps s number line (Ok c) e → Steps (beside s labels kept) count line (Ok c) f → AreAlike e f
+other_alike add_same s labels kept number count line c e f other (inl h) (inl k) = alike e f h.2 k.2 refl refl refl
+other_alike add_same s labels kept number count line c e f other (inl h) (inr k) = absurd (k.0 h.0 (refused_too s labels kept c h.0 other h.1))
+other_alike add_same s labels kept number count line c e f other (inr h) (inl k) = absurd (h.0 k.0 (refused_too (beside s labels kept) s.labels s.kept c k.0 other k.1))
+other_alike add_same s labels kept number count line c e f other (inr h) (inr k) = done_alike s labels kept add_same number count c e f other h.1 k.1
 
 -- effects that rest are alike
-resting : (s : State) (kept : Option Kept) (e f : CommandEffect) → Rests s e → Rests (record s { kept = kept }) f → AreAlike e f
-resting s kept e f h k = (record { stack = k.0.stack ∙ sym h.0.stack; options = k.0.options ∙ sym h.0.options }, k.1 ∙ sym h.1)
+resting : (s : State) (labels : List (Option (List ℕ))) (kept : Option Kept) (e f : CommandEffect) → Rests s e → Rests (beside s labels kept) f → AreAlike e f
+resting s labels kept e f h k = (record { stack = k.0.stack ∙ sym h.0.stack; options = k.0.options ∙ sym h.0.options }, k.1 ∙ sym h.1)
 
 -- a command, whether it asks or not
-command_alike : AddSame → (s : State) (kept : Option Kept) (number count line : ℕ) (c : Command) (e f : CommandEffect) (asking : Bool) → asks c ≡ asking → Steps s number line (Ok c) e → Steps (record s { kept = kept }) count line (Ok c) f → AreAlike e f
-command_alike add_same s kept number count line c e f true is h k = resting s kept e f (asking_rests s number line c e is h) (asking_rests (record s { kept = kept }) count line c f is k)
-command_alike add_same s kept number count line c e f false is h k = other_alike add_same s kept number count line c e f is h k
+command_alike : AddSame → (s : State) (labels : List (Option (List ℕ))) (kept : Option Kept) (number count line : ℕ) (c : Command) (e f : CommandEffect) (asking : Bool) → asks c ≡ asking → Steps s number line (Ok c) e → Steps (beside s labels kept) count line (Ok c) f → AreAlike e f
+command_alike add_same s labels kept number count line c e f true is h k = resting s labels kept e f (asking_rests s number line c e is h) (asking_rests (beside s labels kept) count line c f is k)
+command_alike add_same s labels kept number count line c e f false is h k = other_alike add_same s labels kept number count line c e f is h k
 
 -- what was read, whether it is a command or not
-read_alike : AddSame → (s : State) (kept : Option Kept) (number count line : ℕ) (read : Read) (e f : CommandEffect) → Steps s number line read e → Steps (record s { kept = kept }) count line read f → AreAlike e f
-read_alike add_same s kept number count line (Err n) e f h k = alike e f h k refl refl refl
-read_alike add_same s kept number count line (Ok c) e f h k = command_alike add_same s kept number count line c e f (asks c) refl h k
+read_alike : AddSame → (s : State) (labels : List (Option (List ℕ))) (kept : Option Kept) (number count line : ℕ) (read : Read) (e f : CommandEffect) → Steps s number line read e → Steps (beside s labels kept) count line read f → AreAlike e f
+read_alike add_same s labels kept number count line (Err n) e f h k = alike e f h k refl refl refl
+read_alike add_same s labels kept number count line (Ok c) e f h k = command_alike add_same s labels kept number count line c e f (asks c) refl h k
 
--- the second state is the first with what it has kept itself
-same_but_kept : (s t : State) → HaveOneStack s t → record s { kept = t.kept } ≡ t
-same_but_kept s t one = sym (
-    ap (λ (stack : Stack). record { stack = stack; options = t.options; kept = t.kept }) one.stack
-    ∙ ap (λ (options : Options). record { stack = s.stack; options = options; kept = t.kept }) one.options
+-- the second state is the first with its own labels and what it has kept itself
+same_beside : (s t : State) → HaveOneStack s t → beside s t.labels t.kept ≡ t
+same_beside s t one = sym (
+    ap (λ (stack : Stack). record { stack = stack; labels = t.labels; options = t.options; kept = t.kept }) one.stack
+    ∙ ap (λ (options : Options). record { stack = s.stack; labels = t.labels; options = options; kept = t.kept }) one.options
     )
 
 -- one stack and one list of options lead to one stack and one list of options
 pub steps_alike : AddSame → (s t : State) (number count line : ℕ) (read : Read) (e f : CommandEffect) → HaveOneStack s t → Steps s number line read e → Steps t count line read f → HaveOneStack e.state f.state × (f.stop ≡ e.stop)
 steps_alike add_same s t number count line read e f one h k =
-    read_alike add_same s t.kept number count line read e f h (subst (λ (x : State). Steps x count line read f) (sym (same_but_kept s t one)) k)
+    read_alike add_same s t.labels t.kept number count line read e f h (subst (λ (x : State). Steps x count line read f) (sym (same_beside s t one)) k)
 
 -- a check only asks
 check_asks : (c : Command) → is_check (Ok c) ≡ true → asks c ≡ true
@@ -142,23 +172,38 @@ pub check_rests : (s : State) (number line : ℕ) (read : Read) (e : CommandEffe
 check_rests s number line (Err n) e check h = absurd (true≢false (sym check))
 check_rests s number line (Ok c) e check h = asking_rests s number line c e (check_asks c check) h
 
+-- a check with assumptions only asks too
+assuming_asks : (c : Command) → is_assuming (Ok c) ≡ true → asks c ≡ true
+assuming_asks (check_sat_assuming ls) assuming = refl
+assuming_asks c assuming = absurd (true≢false (sym assuming))
+
+assuming_rests : (s : State) (number line : ℕ) (read : Read) (e : CommandEffect) → is_assuming read ≡ true → Steps s number line read e → HaveOneStack s e.state × (e.stop ≡ false)
+assuming_rests s number line (Err n) e assuming h = absurd (true≢false (sym assuming))
+assuming_rests s number line (Ok c) e assuming h = asking_rests s number line c e (assuming_asks c assuming) h
+
 -- what is read is replayed beside its step
 module _ (add_same : AddSame) (s : State) (number : ℕ) (old new : Course) (line : ℕ) (read : Read) (e : CommandEffect) (r : Replayed) (one : HaveOneStack s old.state) (steps : Steps s number line read e) where
-  replayed_by : (check : Bool) → is_check read ≡ check → MatchBool check (IsCounted old new r) (IsStepped old line read new r) → HaveOneStack e.state new.state × (r.stop ≡ e.stop)
-  replayed_by true check (is, checked, stop) =
-      let rest : Rests s e = check_rests s number line read e check steps in
-      let state : new.state ≡ old.state = ap (λ (c : Course). c.state) is in (
-        record {
-          stack = ap (λ (x : State). x.stack) state ∙ one.stack ∙ sym rest.0.stack;
-          options = ap (λ (x : State). x.options) state ∙ one.options ∙ sym rest.0.options;
-        },
-        stop ∙ sym rest.1,
-      )
-  replayed_by false check (f, stepped, is, checked, stop) =
+  -- where the replay changes nothing, as the step does
+  left_alone : Rests s e → new.state ≡ old.state → r.stop ≡ false → HaveOneStack e.state new.state × (r.stop ≡ e.stop)
+  left_alone rest state stop = (
+    record {
+      stack = ap (λ (x : State). x.stack) state ∙ one.stack ∙ sym rest.0.stack;
+      options = ap (λ (x : State). x.options) state ∙ one.options ∙ sym rest.0.options;
+    },
+    stop ∙ sym rest.1,
+  )
+
+  replayed_otherwise : (assuming : Bool) → is_assuming read ≡ assuming → MatchBool assuming (IsPassedOver old new r) (IsStepped old line read new r) → HaveOneStack e.state new.state × (r.stop ≡ e.stop)
+  replayed_otherwise true assuming (is, checked, stop) = left_alone (assuming_rests s number line read e assuming steps) (ap (λ (c : Course). c.state) is) stop
+  replayed_otherwise false assuming (f, stepped, is, checked, stop) =
       let same : AreAlike e f = steps_alike add_same s old.state number old.number line read e f one steps stepped in (
         subst (λ (x : State). HaveOneStack e.state x) (sym (ap (λ (c : Course). c.state) is)) same.0,
         stop ∙ same.1,
       )
+
+  replayed_by : (check : Bool) → is_check read ≡ check → MatchBool check (IsCounted old new r) (MatchBool (is_assuming read) (IsPassedOver old new r) (IsStepped old line read new r)) → HaveOneStack e.state new.state × (r.stop ≡ e.stop)
+  replayed_by true check (is, checked, stop) = left_alone (check_rests s number line read e check steps) (ap (λ (c : Course). c.state) is) stop
+  replayed_by false check h = replayed_otherwise (is_assuming read) refl h
 
   pub replayed_alike : Replays old line read new r → HaveOneStack e.state new.state × (r.stop ≡ e.stop)
   replayed_alike h = replayed_by (is_check read) refl h
@@ -176,76 +221,84 @@ check_counted number (Ok check_sat) check = refl
 check_counted number (Ok c) check = absurd (true≢false (sym check))
 
 -- so the checks are counted
-counted_with_check : (old new : Course) (line : ℕ) (read : Read) (r : Replayed) (check : Bool) → is_check read ≡ check → MatchBool check (IsCounted old new r) (IsStepped old line read new r) → new.number ≡ counted_by old.number read
+counted_otherwise : (old new : Course) (line : ℕ) (read : Read) (r : Replayed) (assuming : Bool) → is_check read ≡ false → MatchBool assuming (IsPassedOver old new r) (IsStepped old line read new r) → new.number ≡ counted_by old.number read
+counted_otherwise old new line read r true other (is, checked, stop) = ap (λ (c : Course). c.number) is ∙ sym (uncounted old.number read other)
+counted_otherwise old new line read r false other (f, stepped, is, checked, stop) = ap (λ (c : Course). c.number) is ∙ sym (uncounted old.number read other)
+
+counted_with_check : (old new : Course) (line : ℕ) (read : Read) (r : Replayed) (check : Bool) → is_check read ≡ check → MatchBool check (IsCounted old new r) (MatchBool (is_assuming read) (IsPassedOver old new r) (IsStepped old line read new r)) → new.number ≡ counted_by old.number read
 counted_with_check old new line read r true check (is, checked, stop) = ap (λ (c : Course). c.number) is ∙ sym (check_counted old.number read check)
-counted_with_check old new line read r false check (f, stepped, is, checked, stop) = ap (λ (c : Course). c.number) is ∙ sym (uncounted old.number read check)
+counted_with_check old new line read r false check h = counted_otherwise old new line read r (is_assuming read) check h
 
 pub replayed_counted : (old new : Course) (line : ℕ) (read : Read) (r : Replayed) → Replays old line read new r → new.number ≡ counted_by old.number read
 replayed_counted old new line read r h = counted_with_check old new line read r (is_check read) refl h
 
 -- what is told of a check
-told_by : (old new : Course) (line : ℕ) (read : Read) (r : Replayed) (check : Bool) → is_check read ≡ check → MatchBool check (IsCounted old new r) (IsStepped old line read new r) → r.check ≡ is_check read
+told_otherwise : (old new : Course) (line : ℕ) (read : Read) (r : Replayed) (assuming : Bool) → MatchBool assuming (IsPassedOver old new r) (IsStepped old line read new r) → r.check ≡ false
+told_otherwise old new line read r true (is, checked, stop) = checked
+told_otherwise old new line read r false (f, stepped, is, checked, stop) = checked
+
+told_by : (old new : Course) (line : ℕ) (read : Read) (r : Replayed) (check : Bool) → is_check read ≡ check → MatchBool check (IsCounted old new r) (MatchBool (is_assuming read) (IsPassedOver old new r) (IsStepped old line read new r)) → r.check ≡ is_check read
 told_by old new line read r true check (is, checked, stop) = checked ∙ sym check
-told_by old new line read r false check (f, stepped, is, checked, stop) = checked ∙ sym check
+told_by old new line read r false check h = told_otherwise old new line read r (is_assuming read) h ∙ sym check
 
 pub replayed_told : (old new : Course) (line : ℕ) (read : Read) (r : Replayed) → Replays old line read new r → r.check ≡ is_check read
 replayed_told old new line read r h = told_by old new line read r (is_check read) refl h
 
 -- commands that lead to a state
-pub leads_alike : AddSame → (s last : State) (number count : ℕ) (cs : List Located) (verdicts : List Verdict) (errors : List (ℕ × ℕ)) (lines : List (List ℕ)) (old new : Course) → Leads s number cs last count verdicts errors lines → GoesThrough old cs new → HaveOneStack s old.state → HaveOneStack last new.state
-leads_alike add_same s last number count [] verdicts errors lines old new leads through one =
+pub leads_alike : AddSame → (s last : State) (number count : ℕ) (cs : List Located) (kept : Evidence) (errors : List (ℕ × ℕ)) (lines : List (List ℕ)) (old new : Course) → Leads s number cs last count kept errors lines → GoesThrough old cs new → HaveOneStack s old.state → HaveOneStack last new.state
+leads_alike add_same s last number count [] kept errors lines old new leads through one =
     subst (λ (x : State). HaveOneStack x new.state) (sym leads.0)
     (subst (λ (c : Course). HaveOneStack s c.state) (sym through) one)
-leads_alike add_same s last number count (c ∷ cs) verdicts errors lines old new (e, vs, es, ls, step, followed, goes_on, leads) (next, r, replays, on, through) one =
+leads_alike add_same s last number count (c ∷ cs) kept errors lines old new (e, vs, es, ls, step, followed, goes_on, leads) (next, r, replays, on, through) one =
     leads_alike add_same e.state last (counted_by number (command c.command)) count cs vs es ls next new leads through
     (replayed_alike add_same s (counted_by number (command c.command)) old next c.line (command c.command) e r one step replays).0
 
 -- and the number of checks
-pub leads_counted : (s last : State) (number count : ℕ) (cs : List Located) (verdicts : List Verdict) (errors : List (ℕ × ℕ)) (lines : List (List ℕ)) (old new : Course) → Leads s number cs last count verdicts errors lines → GoesThrough old cs new → old.number ≡ number → new.number ≡ count
-leads_counted s last number count [] verdicts errors lines old new leads through same = ap (λ (c : Course). c.number) through ∙ same ∙ sym leads.1
-leads_counted s last number count (c ∷ cs) verdicts errors lines old new (e, vs, es, ls, step, followed, goes_on, leads) (next, r, replays, on, through) same =
+pub leads_counted : (s last : State) (number count : ℕ) (cs : List Located) (kept : Evidence) (errors : List (ℕ × ℕ)) (lines : List (List ℕ)) (old new : Course) → Leads s number cs last count kept errors lines → GoesThrough old cs new → old.number ≡ number → new.number ≡ count
+leads_counted s last number count [] kept errors lines old new leads through same = ap (λ (c : Course). c.number) through ∙ same ∙ sym leads.1
+leads_counted s last number count (c ∷ cs) kept errors lines old new (e, vs, es, ls, step, followed, goes_on, leads) (next, r, replays, on, through) same =
     leads_counted e.state last (counted_by number (command c.command)) count cs vs es ls next new leads through
     (replayed_counted old next c.line (command c.command) r replays ∙ ap (λ (n : ℕ). counted_by n (command c.command)) same)
 
 -- answers through the commands after one that does not end the script
-through_one : (s : State) (number : ℕ) (c : Located) (first others : List Located) (ending : Ending) (verdicts vs : List Verdict) (errors es : List (ℕ × ℕ)) (lines ls : List (List ℕ)) (e : CommandEffect) (last : State) (count : ℕ) → Step s number c.line c.command e → IsFollowed c.line e verdicts vs errors es lines ls → e.stop ≡ false → AnswersThrough e.state (counted number c.command) first others ending vs es ls last count → AnswersThrough s number (c ∷ first) others ending verdicts errors lines last count
-through_one s number c first others ending verdicts vs errors es lines ls e last count step followed goes_on later = record {
-  first_verdicts = e.verdicts ++ later.first_verdicts;
-  later_verdicts = later.later_verdicts;
+through_one : (s : State) (number : ℕ) (c : Located) (first others : List Located) (ending : Ending) (kept vs : Evidence) (errors es : List (ℕ × ℕ)) (lines ls : List (List ℕ)) (e : CommandEffect) (last : State) (count : ℕ) → Step s number c.line c.command e → IsFollowed c.line e kept vs errors es lines ls → e.stop ≡ false → AnswersThrough e.state (counted number c.command) first others ending vs es ls last count → AnswersThrough s number (c ∷ first) others ending kept errors lines last count
+through_one s number c first others ending kept vs errors es lines ls e last count step followed goes_on later = record {
+  first_kept = followed_by e.evidence later.first_kept;
+  later_kept = later.later_kept;
   first_errors = errors_of c.line e.error ++ later.first_errors;
   later_errors = later.later_errors;
   first_lines = lines_of e.text ++ later.first_lines;
   later_lines = later.later_lines;
-  leads = (e, later.first_verdicts, later.first_errors, later.first_lines, step, record { verdicts_are = refl; errors_are = refl; lines_are = refl }, goes_on, later.leads);
+  leads = (e, later.first_kept, later.first_errors, later.first_lines, step, record { kept_is = refl; errors_are = refl; lines_are = refl }, goes_on, later.leads);
   answers = later.answers;
-  verdicts_are = followed.verdicts_are ∙ ap (λ (xs : List Verdict). e.verdicts ++ xs) later.verdicts_are ∙ sym (append_assoc e.verdicts later.first_verdicts later.later_verdicts);
+  kept_is = followed.kept_is ∙ ap (λ (xs : Evidence). followed_by e.evidence xs) later.kept_is ∙ sym (followed_assoc e.evidence later.first_kept later.later_kept);
   errors_are = followed.errors_are ∙ ap (λ (xs : List (ℕ × ℕ)). errors_of c.line e.error ++ xs) later.errors_are ∙ sym (append_assoc (errors_of c.line e.error) later.first_errors later.later_errors);
   lines_are = followed.lines_are ∙ ap (λ (xs : List (List ℕ)). lines_of e.text ++ xs) later.lines_are ∙ sym (append_assoc (lines_of e.text) later.first_lines later.later_lines);
 }
 
 -- answers begin with those to the commands that a replay goes through
-pub answers_through : AddSame → (s : State) (number : ℕ) (first others : List Located) (ending : Ending) (verdicts : List Verdict) (errors : List (ℕ × ℕ)) (lines : List (List ℕ)) (old new : Course) → Answers s number (first ++ others) ending verdicts errors lines → GoesThrough old first new → HaveOneStack s old.state → (last : State) × (count : ℕ) × AnswersThrough s number first others ending verdicts errors lines last count
-answers_through add_same s number [] others ending verdicts errors lines old new answers through one = (
+pub answers_through : AddSame → (s : State) (number : ℕ) (first others : List Located) (ending : Ending) (kept : Evidence) (errors : List (ℕ × ℕ)) (lines : List (List ℕ)) (old new : Course) → Answers s number (first ++ others) ending kept errors lines → GoesThrough old first new → HaveOneStack s old.state → (last : State) × (count : ℕ) × AnswersThrough s number first others ending kept errors lines last count
+answers_through add_same s number [] others ending kept errors lines old new answers through one = (
   s,
   number,
   record {
-    first_verdicts = [];
-    later_verdicts = verdicts;
+    first_kept = no_evidence;
+    later_kept = kept;
     first_errors = [];
     later_errors = errors;
     first_lines = [];
     later_lines = lines;
-    leads = (refl, refl, record { no_verdict = refl; no_error = refl; no_line = refl });
+    leads = (refl, refl, record { nothing_kept = refl; no_error = refl; no_line = refl });
     answers = answers;
-    verdicts_are = refl;
+    kept_is = refl;
     errors_are = refl;
     lines_are = refl;
   },
 )
-answers_through add_same s number (c ∷ first) others ending verdicts errors lines old new (e, vs, es, ls, step, followed, rest) (next, r, replays, on, through) one =
+answers_through add_same s number (c ∷ first) others ending kept errors lines old new (e, vs, es, ls, step, followed, rest) (next, r, replays, on, through) one =
     let count : ℕ = counted number c.command in
     let same : HaveOneStack e.state next.state × (r.stop ≡ e.stop) = replayed_alike add_same s count old next c.line (command c.command) e r one step replays in
     let goes_on : e.stop ≡ false = sym same.1 ∙ on in
     let more : Answers e.state count (first ++ others) ending vs es ls = subst (λ (b : Bool). MatchBool b (IsSilent vs es ls) (Answers e.state count (first ++ others) ending vs es ls)) goes_on rest in
     let later : (last : State) × (total : ℕ) × AnswersThrough e.state count first others ending vs es ls last total = answers_through add_same e.state count first others ending vs es ls next new more through same.0 in
-    (later.0, later.1, through_one s number c first others ending verdicts vs errors es lines ls e later.0 later.1 step followed goes_on later.2)
+    (later.0, later.1, through_one s number c first others ending kept vs errors es lines ls e later.0 later.1 step followed goes_on later.2)

@@ -6,22 +6,28 @@ use Rattle.ct_sorts.specs.Declarations.{with_function}
 use Rattle.ct_model.specs.ModelText.{IsModelText}
 use Rattle.ct_log_text.specs.Written.{expression_of_record, text_of}
 use Rattle.ct_kept.specs.Kept.{Stored}
-use Rattle.ct_command.specs.Command.{Command, set_logic, set_option, get_option, set_info, get_info, declare_sort, define_sort, declare_block, declare_fun, define_fun, assert, check_sat, push, pop, reset_assertions, reset, get_model, get_value, get_proof, echo, exit, unsupported}
+use Rattle.ct_command.specs.Command.{Command, set_logic, set_option, get_option, set_info, get_info, declare_sort, define_sort, declare_block, declare_fun, define_fun, assert, check_sat, check_sat_assuming, push, pop, reset_assertions, reset, get_model, get_value, get_proof, get_unsat_core, get_unsat_assumptions, echo, exit, unsupported}
 use Rattle.ct_command.specs.Reading.{Read, command}
-use Rattle.ct_engine.specs.declared.verdict.Verdict.{Verdict}
-use Rattle.ct_stack.specs.Stack.{declaring, in_context, asserting, defined_in}
+use Rattle.ct_step.specs.Evidence.{Evidence, no_evidence, followed_by}
+use Rattle.ct_step.proofs.EvidenceLemmas.{both_same, nothing_later}
+use Rattle.ct_stack.specs.Stack.{declaring, in_context, defined_in}
+use Rattle.ct_stack.specs.Assuming.{assumptions}
 use Rattle.ct_stack.specs.Elaborations.{synonym_body, with_synonym_of, declared_function, defined_function, asserted_formula}
 use Rattle.ct_stack.specs.Refusal.{over}
 use Rattle.ct_stack.specs.Values.{AreValues}
 use Rattle.ct_step.specs.declared.answer.Answer.{Answer}
 use Rattle.ct_step.specs.declared.state.SessionState.{SessionState}
-use Rattle.ct_step.specs.State.{State, declared, context_of, changed, model_kept, derivation_kept}
+use Rattle.ct_engine.specs.declared.verdict.Verdict.{Verdict}
+use Rattle.ct_step.specs.declared.cores.Members.TheVariants as members
+use Rattle.ct_step.specs.Options.{budget}
+use Rattle.ct_step.specs.Verdict.{ComesTo}
+use Rattle.ct_step.specs.State.{State, declared, context_of, changed, asserted, model_kept, derivation_kept, refuted_kept, assuming_kept, asked}
 use Rattle.ct_step.specs.Refusal.{IsRefusal}
-use Rattle.ct_step.specs.Step.{CommandEffect, Does, Steps, Step, refused, said, quiet, counted_by}
+use Rattle.ct_step.specs.Step.{CommandEffect, Does, Steps, Step, PrintsCore, refused, said, quiet, decided, counted_by}
 use Rattle.ct_script.specs.Answers.{errors_of}
-use Rattle.ct_step.specs.Done.{IsAnswer, Performs, IsSame, state_of}
+use Rattle.ct_step.specs.Done.{IsAnswer, Performs, IsSame, state_of, evidence_of}
 use Rattle.ct_script.specs.Session.{Course, reached, after}
-use Rattle.ct_step.proofs.SoundLemmas.{only, only_needing, only_of, same_state}
+use Rattle.ct_step.proofs.SoundLemmas.{only, only_needing, only_of, prints, same_state}
 
 error_of : (e t : CommandEffect) → t.error ≡ None → e ≡ t → e.error ≡ None
 error_of e t none is = ap (λ (x : CommandEffect). x.error) is ∙ none
@@ -38,8 +44,9 @@ no_error s number (define_sort name params body) e is = only (synonym_body (decl
 no_error s number (declare_block family heads bodies) e is = ap (λ (x : CommandEffect). x.error) is.2
 no_error s number (declare_fun name args sort) e is = only_needing (λ d. declared_function d name args sort) (declared s) (λ later f. e ≡ quiet (changed s (declaring s.stack (with_function later f)))) (e.error ≡ None) (λ later f comes h. ap (λ (x : CommandEffect). x.error) h) is
 no_error s number (define_fun name params sort t) e is = only_needing (λ d. defined_function d name params sort t) (declared s) (λ later f. e ≡ quiet (changed s (in_context s.stack (defined_in (over (context_of s) later) f)))) (e.error ≡ None) (λ later f comes h. ap (λ (x : CommandEffect). x.error) h) is
-no_error s number (assert t) e is = only_needing (λ d. asserted_formula d t) (declared s) (λ later formula. e ≡ quiet (changed s (asserting (declaring s.stack later) formula))) (e.error ≡ None) (λ later formula comes h. ap (λ (x : CommandEffect). x.error) h) is
+no_error s number (assert t label) e is = only_needing (λ d. asserted_formula d t) (declared s) (λ later formula. e ≡ quiet (asserted s (declaring s.stack later) label formula)) (e.error ≡ None) (λ later formula comes h. ap (λ (x : CommandEffect). x.error) h) is
 no_error s number check_sat e is = ap (λ (x : CommandEffect). x.error) is.2
+no_error s number (check_sat_assuming ls) e is = only (assumptions (declared s) ls) (λ assumed. (v : Verdict) × ComesTo (context_of s) (asked s assumed) (budget s.options) v × (e ≡ decided s None assumed v)) (e.error ≡ None) (λ assumed h. ap (λ (x : CommandEffect). x.error) h.2) is
 no_error s number (push n) e is = error_of e _ refl is
 no_error s number (pop n) e is = error_of e _ refl is
 no_error s number reset_assertions e is = error_of e _ refl is
@@ -47,13 +54,15 @@ no_error s number reset e is = error_of e _ refl is
 no_error s number get_model e is = only_of (model_kept s.kept) (λ i. (text : List ℕ) × IsModelText (declared s) i text × (e ≡ said s text)) (e.error ≡ None) (λ i h. ap (λ (x : CommandEffect). x.error) h.2) is
 no_error s number (get_value ts) e is = only_of (model_kept s.kept) (λ i. (text : List ℕ) × AreValues (context_of s) i ts text × (e ≡ said s text)) (e.error ≡ None) (λ i h. ap (λ (x : CommandEffect). x.error) h.2) is
 no_error s number get_proof e is = only_of (derivation_kept s.kept) (λ p. e ≡ said s (text_of (expression_of_record (declared s) p.0 p.1.rec))) (e.error ≡ None) (λ p h. ap (λ (x : CommandEffect). x.error) h) is
+no_error s number get_unsat_core e is = only_of (refuted_kept s.kept) (λ refuted. PrintsCore s members.Names refuted e) (e.error ≡ None) (λ refuted h. prints s members.Names refuted e (e.error ≡ None) (λ text kept printed. ap (λ (x : CommandEffect). x.error) printed) h) is
+no_error s number get_unsat_assumptions e is = only_of (assuming_kept s.kept) (λ refuted. PrintsCore s members.Assumptions refuted e) (e.error ≡ None) (λ refuted h. prints s members.Assumptions refuted e (e.error ≡ None) (λ text kept printed. ap (λ (x : CommandEffect). x.error) printed) h) is
 no_error s number (echo x) e is = error_of e _ refl is
 no_error s number exit e is = error_of e _ refl is
 no_error s number unsupported e is = error_of e _ refl is
 
 -- what a session with these parts is seen as
 abbrev pub course : SessionState → ℕ → List (ℕ × ℕ) → Stored → Course
-course s number errors store = record { state = state_of s; number = number; verdicts = s.verdicts.items; errors = errors; store = store }
+course s number errors store = record { state = state_of s; number = number; evidence = evidence_of s; errors = errors; store = store }
 
 -- the session comes to this course by an effect of what was read on this line
 abbrev pub Comes : Course → ℕ → Read → Course → Answer → Type 0
@@ -76,9 +85,9 @@ module _ (old : SessionState) (old_number : ℕ) (errors : List (ℕ × ℕ)) (s
 
         same : course new number errors left ≡ reached before line number p.effect left
         same =
-            ap (λ (s : State). record { state = s; number = number; verdicts = new.verdicts.items; errors = errors; store = left }) p.state
-            ∙ ap (λ (vs : List Verdict). record { state = p.effect.state; number = number; verdicts = vs; errors = errors; store = left }) p.given
-            ∙ ap (λ (es : List (ℕ × ℕ)). record { state = p.effect.state; number = number; verdicts = old.verdicts.items ++ p.effect.verdicts; errors = es; store = left }) (sym none)
+            ap (λ (s : State). record { state = s; number = number; evidence = evidence_of new; errors = errors; store = left }) p.state
+            ∙ ap (λ (kept : Evidence). record { state = p.effect.state; number = number; evidence = kept; errors = errors; store = left }) p.given
+            ∙ ap (λ (es : List (ℕ × ℕ)). record { state = p.effect.state; number = number; evidence = followed_by (evidence_of old) p.effect.evidence; errors = es; store = left }) (sym none)
 
     -- by a command that is refused
     pub comes_refused : (code : ℕ) (a : Answer) (new_errors : List (ℕ × ℕ)) → IsRefusal (state_of old) c code → IsSame old new → new_errors ≡ errors ++ (line, code) ∷ [] → IsAnswer (refused (state_of old) line code) a → Comes before line (Ok c) (course new number new_errors left) a
@@ -88,9 +97,9 @@ module _ (old : SessionState) (old_number : ℕ) (errors : List (ℕ × ℕ)) (s
       where
         same : course new number new_errors left ≡ reached before line number (refused (state_of old) line code) left
         same =
-            ap (λ (s : State). record { state = s; number = number; verdicts = new.verdicts.items; errors = new_errors; store = left }) (same_state old new unchanged)
-            ∙ ap (λ (vs : List Verdict). record { state = state_of old; number = number; verdicts = vs; errors = new_errors; store = left }) (unchanged.verdicts ∙ sym (append-nil old.verdicts.items))
-            ∙ ap (λ (es : List (ℕ × ℕ)). record { state = state_of old; number = number; verdicts = old.verdicts.items ++ []; errors = es; store = left }) stored
+            ap (λ (s : State). record { state = s; number = number; evidence = evidence_of new; errors = new_errors; store = left }) (same_state old new unchanged)
+            ∙ ap (λ (kept : Evidence). record { state = state_of old; number = number; evidence = kept; errors = new_errors; store = left }) (both_same _ _ _ _ unchanged.verdicts unchanged.shrunk ∙ sym (nothing_later (evidence_of old)))
+            ∙ ap (λ (es : List (ℕ × ℕ)). record { state = state_of old; number = number; evidence = followed_by (evidence_of old) no_evidence; errors = es; store = left }) stored
 
   -- by an expression that is no command
   pub comes_unread : (code : ℕ) (a : Answer) (new_errors : List (ℕ × ℕ)) → new_errors ≡ errors ++ (line, code) ∷ [] → IsAnswer (refused (state_of old) line code) a → Comes before line (Err code) (course old old_number new_errors store) a
@@ -100,7 +109,7 @@ module _ (old : SessionState) (old_number : ℕ) (errors : List (ℕ × ℕ)) (s
       same : course old old_number new_errors store ≡ reached before line old_number (refused (state_of old) line code) store
       same =
           ap (λ (es : List (ℕ × ℕ)). course old old_number es store) stored
-          ∙ ap (λ (vs : List Verdict). record { state = state_of old; number = old_number; verdicts = vs; errors = errors ++ (line, code) ∷ []; store = store }) (sym (append-nil old.verdicts.items))
+          ∙ ap (λ (kept : Evidence). record { state = state_of old; number = old_number; evidence = kept; errors = errors ++ (line, code) ∷ []; store = store }) (sym (nothing_later (evidence_of old)))
 
 -- what comes of what was read comes of the expression that was read so
 pub comes_of : (old : Course) (line : ℕ) (x : Expression) (r : Read) (new : Course) (a : Answer) → command x ≡ r → Comes old line r new a → (e : CommandEffect) × Step old.state old.number line x e × (new ≡ after old line x e new.store) × IsAnswer e a

@@ -2,9 +2,9 @@
 use Rattle.std.specs.Prelude.{◌≡◌, ℕ, Bool, true, false, List, [], ◌∷◌, ◌++◌, Ok}
 use Rattle.std.specs.Bool.{MatchBool}
 use Rattle.ct_sexpr.specs.Text.{Located, Ending}
-use Rattle.ct_command.specs.Command.{check_sat}
+use Rattle.ct_command.specs.Command.{check_sat, check_sat_assuming}
 use Rattle.ct_command.specs.Reading.{Read, command}
-use Rattle.ct_engine.specs.declared.verdict.Verdict.{Verdict}
+use Rattle.ct_step.specs.Evidence.{Evidence, followed_by}
 use Rattle.ct_script.specs.declared.replay.Replayed.{Replayed}
 use Rattle.ct_step.specs.State.{State}
 use Rattle.ct_step.specs.Step.{CommandEffect, Steps, one_more}
@@ -20,13 +20,22 @@ is_check read = false
 abbrev pub IsCounted : Course → Course → Replayed → Type 0
 IsCounted old new r = (new ≡ record old { number = one_more old.number }) × (r.check ≡ true) × (r.stop ≡ false)
 
+-- what was read is a check with assumptions
+abbrev pub is_assuming : Read → Bool
+is_assuming (Ok (check_sat_assuming ls)) = true
+is_assuming read = false
+
+-- a check with assumptions changes nothing
+abbrev pub IsPassedOver : Course → Course → Replayed → Type 0
+IsPassedOver old new r = (new ≡ old) × (r.check ≡ false) × (r.stop ≡ false)
+
 -- everything else does its step
 abbrev pub IsStepped : Course → ℕ → Read → Course → Replayed → Type 0
 IsStepped old line read new r = (e : CommandEffect) × Steps old.state old.number line read e × (new ≡ reached old line old.number e new.store) × (r.check ≡ false) × (r.stop ≡ e.stop)
 
 -- what was read on this line is replayed so
 abbrev pub Replays : Course → ℕ → Read → Course → Replayed → Type 0
-Replays old line read new r = MatchBool (is_check read) (IsCounted old new r) (IsStepped old line read new r)
+Replays old line read new r = MatchBool (is_check read) (IsCounted old new r) (MatchBool (is_assuming read) (IsPassedOver old new r) (IsStepped old line read new r))
 
 -- a replay goes through commands, none of which ends the script
 abbrev pub GoesThrough : Course → List Located → Course → Type 0
@@ -40,15 +49,15 @@ pub record HaveOneStack (s t : State) : Type 0 where
 
 -- answers to some commands and those that follow are answers to the first ones, which lead to a state, and then, in that state, to
 -- the others
-pub record AnswersThrough (s : State) (number : ℕ) (first others : List Located) (ending : Ending) (verdicts : List Verdict) (errors : List (ℕ × ℕ)) (lines : List (List ℕ)) (last : State) (count : ℕ) : Type 0 where
-  pub first_verdicts : List Verdict
-  pub later_verdicts : List Verdict
+pub record AnswersThrough (s : State) (number : ℕ) (first others : List Located) (ending : Ending) (kept : Evidence) (errors : List (ℕ × ℕ)) (lines : List (List ℕ)) (last : State) (count : ℕ) : Type 0 where
+  pub first_kept : Evidence
+  pub later_kept : Evidence
   pub first_errors : List (ℕ × ℕ)
   pub later_errors : List (ℕ × ℕ)
   pub first_lines : List (List ℕ)
   pub later_lines : List (List ℕ)
-  pub leads : Leads s number first last count first_verdicts first_errors first_lines
-  pub answers : Answers last count others ending later_verdicts later_errors later_lines
-  pub verdicts_are : verdicts ≡ first_verdicts ++ later_verdicts
+  pub leads : Leads s number first last count first_kept first_errors first_lines
+  pub answers : Answers last count others ending later_kept later_errors later_lines
+  pub kept_is : kept ≡ followed_by first_kept later_kept
   pub errors_are : errors ≡ first_errors ++ later_errors
   pub lines_are : lines ≡ first_lines ++ later_lines

@@ -2,24 +2,24 @@
 use Rattle.std.specs.Prelude.{ℕ, List, [], ◌++◌}
 use Rattle.ct_sexpr.specs.Expression.{Expression}
 use Rattle.ct_kept.specs.Kept.{Stored}
-use Rattle.ct_engine.specs.declared.verdict.Verdict.{Verdict}
+use Rattle.ct_step.specs.Evidence.{Evidence, no_evidence, followed_by}
 use Rattle.ct_step.specs.State.{State, first_state}
 use Rattle.ct_step.specs.Step.{CommandEffect, counted}
 use Rattle.ct_step.specs.Store.{first_store}
 use Rattle.ct_script.specs.Answers.{errors_of}
 
--- what a session has come to: its state, how many checks it was given, all verdicts, all errors with their lines, and the store of
--- clauses that the theory gave
+-- what a session has come to: its state, how many checks it was given, what is kept of its answers, all errors with their lines, and the
+-- store of clauses that the theory gave
 pub record Course : Type 0 where
   pub state : State
   pub number : ℕ
-  pub verdicts : List Verdict
+  pub evidence : Evidence
   pub errors : List (ℕ × ℕ)
   pub store : Stored
 
 -- at the start
 abbrev pub first_course : Course
-first_course = record { state = first_state; number = 0; verdicts = []; errors = []; store = first_store }
+first_course = record { state = first_state; number = 0; evidence = no_evidence; errors = []; store = first_store }
 
 -- what it comes to by a command on this line with this effect, after so many checks, which leaves this store
 abbrev pub reached : Course → ℕ → ℕ → CommandEffect → Stored → Course
@@ -27,7 +27,7 @@ reached c line number effect store =
     record {
       state = effect.state;
       number = number;
-      verdicts = c.verdicts ++ effect.verdicts;
+      evidence = followed_by c.evidence effect.evidence;
       errors = c.errors ++ errors_of line effect.error;
       store = store;
     }

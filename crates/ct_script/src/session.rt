@@ -1,5 +1,5 @@
 //! The session: commands in order, with the verdicts and the errors that they gave.
-ghost use Rattle.std.specs.Prelude.{◌≡◌, [], map, Ok, IfOk, OnErr};
+ghost use Rattle.std.specs.Prelude.{◌≡◌, map, None, Ok, IfOk, OnErr};
 ghost use Rattle.ct_sexpr.specs.View.{expression_of};
 ghost use Rattle.ct_formulas.specs.TreeFormula.{formula_of};
 ghost use Rattle.ct_command.specs.Reading.{command};
@@ -8,7 +8,8 @@ ghost use Rattle.ct_stack.specs.Stack.{in_force};
 ghost use Rattle.ct_stack.specs.Held.{context_in, as_one, IsSoundLevel, IsHeld};
 ghost use Rattle.ct_step.specs.State.{first_state, context_of};
 ghost use Rattle.ct_step.specs.Store.{first_store, IsStoreOf, StoresBy};
-ghost use Rattle.ct_script.specs.Replay.{Replays, is_check};
+ghost use Rattle.ct_step.specs.Evidence.{no_evidence};
+ghost use Rattle.ct_script.specs.Replay.{Replays, is_check, is_assuming};
 ghost use Rattle.ct_step.specs.Done.{IsAnswer};
 ghost use Rattle.ct_script.specs.Session.{after, first_course, reached};
 ghost use Rattle.ct_step.specs.Step.{CommandEffect, Step, Steps, counted_with, one_more};
@@ -20,6 +21,7 @@ use ct_command::{Command, CommandError, command_of};
 use ct_engine::{Kept, Verdict};
 use ct_formulas::Tree;
 use ct_sexpr::Sexpr;
+use ct_shrink::Shrunk;
 use ct_sorts::growth;
 use ct_stack::{AssertionStack, ModelValues};
 use ct_step::{Answer, Options, SessionState, perform, refused};
@@ -45,7 +47,7 @@ pub struct Session {
 }
 
 impl Model for Session {
-    ghost use Rattle.ct_step.specs.Done.{state_of};
+    ghost use Rattle.ct_step.specs.Done.{state_of, evidence_of};
     ghost use Rattle.ct_step.specs.Store.{IsSoundWith};
     ghost use Rattle.ct_step.specs.Known.{AreKnown};
     ghost use Rattle.ct_script.specs.Session.{Course};
@@ -58,7 +60,7 @@ impl Model for Session {
 
     ghost coded = { Prim.hlevel (codes, coded_expression, coded_formula) };
 
-    ghost view = { λ s. record { state = state_of s.state; number = s.number; verdicts = s.state.verdicts.items; errors = s.errors.items; store = s.store } };
+    ghost view = { λ s. record { state = state_of s.state; number = s.number; evidence = evidence_of s.state; errors = s.errors.items; store = s.store } };
 
     ghost invariant = { λ s. IsSoundWith (state_of s.state) s.store × AreKnown (state_of s.state) s.known };
 }
@@ -74,8 +76,10 @@ impl Session {
             alloc,
             state: SessionState {
                 stack,
+                labels: Vec::new(alloc),
                 options: Options::new(),
                 verdicts: Vec::new(alloc),
+                shrunk: Vec::new(alloc),
                 kept: None,
             },
             store,
@@ -85,15 +89,15 @@ impl Session {
         })
     }
 
-    /// Answers a command that begins on this line. A refused command changes nothing but the list of errors; and a check, also
-    /// one that is refused, is counted. Where memory runs out nothing has changed.
+    /// Answers a command that begins on this line. A refused command changes nothing but the list of errors; and a check without
+    /// assumptions, also one that is refused, is counted. Where memory runs out nothing has changed.
     ///
     /// A check begins with the clauses that the theory gave in earlier checks and keeps those that it gave in this one; a
     /// command that takes declarations back takes the clauses that name them.
     pub fn command(&mut self, line: u64, expr: &Sexpr) -> Result<Answer, SessionError>
         ensures stepped { IfOk result (λ a. (e : CommandEffect) × Step self.old.state self.old.number line (expression_of expr.now) e
             × (self.new ≡ after self.old line (expression_of expr.now) e self.new.store) × IsAnswer e a) }
-        ensures stored { IfOk result (λ a. StoresBy self.old.state (command (expression_of expr.now)) a.error self.new.verdicts self.old.store self.new.store) }
+        ensures stored { IfOk result (λ a. StoresBy self.old.state (command (expression_of expr.now)) a.error self.new.evidence.verdicts self.old.store self.new.store) }
         ensures unchanged { OnErr result (self.new ≡ self.old) }
     {
         match command_of(self.alloc, expr) {
@@ -106,12 +110,12 @@ impl Session {
     }
 
     /// Makes the change of declarations, assertions, levels and options that a command on this line makes, without solving and
-    /// without an answer: a check is only counted. A refused command changes nothing but the list of errors. Where memory runs out
-    /// nothing has changed.
+    /// without an answer: a check is only counted, one with assumptions not even that, and no core is printed. A refused command
+    /// changes nothing but the list of errors. Where memory runs out nothing has changed.
     pub fn replay(&mut self, line: u64, expr: &Sexpr) -> Result<Replayed, SessionError>
-        requires unanswered { self.old.verdicts ≡ [] }
+        requires unanswered { self.old.evidence ≡ no_evidence }
         ensures replayed { IfOk result (Replays self.old line (command (expression_of expr.now)) self.new) }
-        ensures no_verdict { self.new.verdicts ≡ [] }
+        ensures unanswered { self.new.evidence ≡ no_evidence }
         ensures unchanged { OnErr result (self.new ≡ self.old) }
     {
         match command_of(self.alloc, expr) {
@@ -167,27 +171,30 @@ impl Session {
 
     /// The verdicts so far.
     pub fn verdicts(&self) -> &[Verdict]
-        ensures value { result.now ≡ self.now.verdicts }
+        ensures value { result.now ≡ self.now.evidence.verdicts }
     {
         self.state.verdicts.as_slice()
     }
 
-    /// The verdicts and the errors of the session.
-    pub fn finish(self) -> (Vec<Verdict>, Vec<ScriptError>)
-        ensures verdicts { result.0.items ≡ self.verdicts }
+    /// The verdicts and the errors of the session, and the cores that were shrunk.
+    pub fn finish(self) -> (Vec<Verdict>, Vec<ScriptError>, Vec<Shrunk>)
+        ensures verdicts { result.0.items ≡ self.evidence.verdicts }
         ensures errors { result.1.items ≡ self.errors }
+        ensures shrunk { result.2.items ≡ self.evidence.shrunk }
     {
         let state = self.state;
         drop(state.stack);
         drop(self.store);
         drop(self.known);
-        (state.verdicts, self.errors)
+        drop(state.labels);
+        drop(state.kept);
+        (state.verdicts, self.errors, state.shrunk)
     }
 
-    // Counts a check, and does every other command.
+    // Counts a check, passes over one with assumptions, and does every other command.
     fn replay_command(&mut self, line: u64, command: Command<'_>) -> Result<Replayed, SessionError>
         ensures replayed { IfOk result (Replays self.old line (Ok (command_seen command.entry)) self.new) }
-        ensures no_verdict { self.old.verdicts ≡ [] → self.new.verdicts ≡ [] }
+        ensures unanswered { self.old.evidence ≡ no_evidence → self.new.evidence ≡ no_evidence }
         ensures unchanged { OnErr result (self.new ≡ self.old) }
     {
         if is_check(&command) {
@@ -197,6 +204,13 @@ impl Session {
                 stop: false,
             });
         }
+        if is_assuming(&command) {
+            return Ok(Replayed {
+                check: false,
+                stop: false,
+            });
+        }
+        self.stands();
         let answer = self.perform(line, command)?;
         Ok(Replayed {
             check: false,
@@ -204,11 +218,18 @@ impl Session {
         })
     }
 
+    // Where no answer was given, none stands. The function does nothing.
+    fn stands(&self)
+        ensures kept { self.now.evidence ≡ no_evidence → self.now.state.kept ≡ None }
+    {
+        let _state = &self.state;
+    }
+
     // Does a command, or answers why it is refused.
     fn perform(&mut self, line: u64, command: Command<'_>) -> Result<Answer, SessionError>
         ensures stepped { IfOk result (λ a. (e : CommandEffect) × Steps self.old.state (counted_with self.old.number (command_seen command.entry)) line (Ok (command_seen command.entry)) e
             × (self.new ≡ reached self.old line (counted_with self.old.number (command_seen command.entry)) e self.new.store) × IsAnswer e a) }
-        ensures stored { IfOk result (λ a. StoresBy self.old.state (Ok (command_seen command.entry)) a.error self.new.verdicts self.old.store self.new.store) }
+        ensures stored { IfOk result (λ a. StoresBy self.old.state (Ok (command_seen command.entry)) a.error self.new.evidence.verdicts self.old.store self.new.store) }
         ensures unchanged { OnErr result (self.new ≡ self.old) }
     {
         let number = counted(self.number, &command);
@@ -249,6 +270,13 @@ fn is_check(command: &Command<'_>) -> bool
     ensures value { result ≡ is_check (Ok (command_seen command.now)) }
 {
     matches!(command, Command::CheckSat)
+}
+
+// Whether the command is a check with assumptions.
+fn is_assuming(command: &Command<'_>) -> bool
+    ensures value { result ≡ is_assuming (Ok (command_seen command.now)) }
+{
+    matches!(command, Command::CheckSatAssuming(_))
 }
 
 // One more; the last number stays.

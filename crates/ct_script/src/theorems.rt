@@ -3,7 +3,7 @@ ghost use Rattle.std.specs.Prelude.{◌≡◌, ℕ, true, false, List, ◌++◌}
 ghost use Rattle.ct_sexpr.specs.Text.{Located, Ending};
 ghost use Rattle.ct_sexpr.specs.Expression.{Expression};
 ghost use Rattle.ct_command.specs.Reading.{Read, command};
-ghost use Rattle.ct_engine.specs.declared.verdict.Verdict.{Verdict};
+ghost use Rattle.ct_step.specs.Evidence.{Evidence};
 ghost use Rattle.ct_script.specs.declared.replay.Replayed.{Replayed};
 ghost use Rattle.ct_step.specs.State.{State};
 ghost use Rattle.ct_step.specs.Step.{CommandEffect, Steps, Step, counted};
@@ -50,16 +50,16 @@ pub fn replayed_scripts()
     // And a replay of commands comes to the stack, the options and the number of checks to which
     // the commands lead.
     ensures replay { (s last : State) (number count : ℕ) (cs : List Located)
-        (verdicts : List Verdict) (errors : List (ℕ × ℕ)) (lines : List (List ℕ))
+        (kept : Evidence) (errors : List (ℕ × ℕ)) (lines : List (List ℕ))
         (old new : Course)
-        → Leads s number cs last count verdicts errors lines
+        → Leads s number cs last count kept errors lines
         → GoesThrough old cs new
         → HaveOneStack s old.state
         → HaveOneStack last new.state }
     ensures count { (s last : State) (number count : ℕ) (cs : List Located)
-        (verdicts : List Verdict) (errors : List (ℕ × ℕ)) (lines : List (List ℕ))
+        (kept : Evidence) (errors : List (ℕ × ℕ)) (lines : List (List ℕ))
         (old new : Course)
-        → Leads s number cs last count verdicts errors lines
+        → Leads s number cs last count kept errors lines
         → GoesThrough old cs new
         → old.number ≡ number
         → new.number ≡ count }
@@ -67,13 +67,13 @@ pub fn replayed_scripts()
     // Where it goes through the first commands of a script, the answers to the script go through
     // them too: they lead to a state in which the other commands are answered.
     ensures through { (s : State) (number : ℕ) (first others : List Located) (ending : Ending)
-        (verdicts : List Verdict) (errors : List (ℕ × ℕ)) (lines : List (List ℕ))
+        (kept : Evidence) (errors : List (ℕ × ℕ)) (lines : List (List ℕ))
         (old new : Course)
-        → Answers s number (first ++ others) ending verdicts errors lines
+        → Answers s number (first ++ others) ending kept errors lines
         → GoesThrough old first new
         → HaveOneStack s old.state
         → (last : State) × (count : ℕ)
-        × AnswersThrough s number first others ending verdicts errors lines last count }
+        × AnswersThrough s number first others ending kept errors lines last count }
 {
     additions();
 }

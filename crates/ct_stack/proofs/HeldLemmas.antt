@@ -19,7 +19,7 @@ use Rattle.ct_formulas.specs.Formula.{Formula, bind}
 use Rattle.ct_formulas.specs.FormulaSorts.{IsSorted, AreSound}
 use Rattle.ct_closure.specs.Closed.{truth_trees}
 use Rattle.ct_closure.specs.ClosedTable.{HasTree, terms_at}
-use Rattle.ct_compile.specs.Effect.{IsPrefix}
+use Rattle.ct_compile.specs.Effect.{IsPrefix, Stands, AllStand}
 use Rattle.ct_stack.specs.Theorems.{Theorems}
 use Rattle.ct_stack.specs.Stack.{Context, core, cores}
 use Rattle.ct_stack.specs.Held.{IsTableOf, IsHeld}
@@ -166,10 +166,10 @@ module _ (theorems : Theorems) where
       let same : found.0.1 ≡ bool_sort = theorems.one_sort d (term_at table t) found.0.1 bool_sort (theorems.tree_sorted d table t found.0.1 ordered sorted (found.0.0, found.1)) boolean in
       (found.0.0, subst (λ (s : SortId). slice_get table t.0 ≡ Some (found.0.0, s)) same found.1)
 
-  -- with one assertion more
-  module _ (c : Context) (asserts : List Formula) (formula : Formula) (old new : Terms) (numbers : List TermId) (t : TermId) (consistent : IsConsistent c.declarations) (held : IsHeld (record { context = c; assertions = asserts }) old numbers) (sorted : IsSorted c.declarations [] formula bool_sort) (exact : IsTableOf c.declarations (cores c asserts ++ core c formula ∷ []) new) (stands : (t.0 < length new) × (term_at new t ≡ core c formula)) (grown : IsPrefix old new) (ordered : AreOrdered new) where
-    all_cores : cores c (asserts ++ formula ∷ []) ≡ cores c asserts ++ core c formula ∷ []
-    all_cores = map-append (core c) asserts (formula ∷ [])
+  -- with more assertions
+  module _ (c : Context) (asserts more : List Formula) (old new : Terms) (numbers found : List TermId) (consistent : IsConsistent c.declarations) (held : IsHeld (record { context = c; assertions = asserts }) old numbers) (sorted : All (λ t. IsSorted c.declarations [] t bool_sort) more) (exact : IsTableOf c.declarations (cores c asserts ++ cores c more) new) (stand : AllStand new found (cores c more)) (grown : IsPrefix old new) (ordered : AreOrdered new) where
+    all_cores : cores c (asserts ++ more) ≡ cores c asserts ++ cores c more
+    all_cores = map-append (core c) asserts more
 
     stays : (u : TermId) → u.0 < length old → term_at new u ≡ term_at old u
     stays u within = ap (λ (ts : Terms). term_at ts u) grown.1 ∙ theorems.longer old grown.0 u (subst AreOrdered grown.1 ordered) within
@@ -185,27 +185,45 @@ module _ (theorems : Theorems) where
         let here : term_at new n ≡ term_at old n = stays n (slice_get_within old n.0 (first.0, bool_sort) first.1) in
         ap (λ (tree : CoreTree). tree ∷ terms_at new ns) here ∙ ap (λ (trees : List CoreTree). term_at old n ∷ trees) (all_stay ns (All-tail (IsBoolean old) n ns all))
 
-    boolean : IsBoolean new t
-    boolean =
-        boolean_term c.declarations new t ordered exact.sorted stands.0
-        (subst (λ (tree : CoreTree). HasTreeSort c.declarations tree bool_sort) (sym stands.1) (theorems.core_sorted c.declarations c.bodies [] [] formula bool_sort consistent held.sound.bodies tt sorted))
+    boolean : (n : TermId) (t : Formula) → Stands new n (core c t) → IsSorted c.declarations [] t bool_sort → IsBoolean new n
+    boolean n t stands is =
+        boolean_term c.declarations new n ordered exact.sorted stands.0
+        (subst (λ (tree : CoreTree). HasTreeSort c.declarations tree bool_sort) (sym stands.1) (theorems.core_sorted c.declarations c.bodies [] [] t bool_sort consistent held.sound.bodies tt is))
 
-    pub held_asserted : IsHeld (record { context = c; assertions = asserts ++ formula ∷ [] }) new (numbers ++ t ∷ [])
-    held_asserted =
+    all_boolean : (ns : List TermId) (ts : List Formula) → AllStand new ns (cores c ts) → All (λ t. IsSorted c.declarations [] t bool_sort) ts → All (IsBoolean new) ns
+    all_boolean [] ts all are = All-nil (IsBoolean new)
+    all_boolean (n ∷ ns) [] all are = absurd all
+    all_boolean (n ∷ ns) (t ∷ ts) all are =
+        All-cons (IsBoolean new) n ns (boolean n t all.0 (All-head (λ t. IsSorted c.declarations [] t bool_sort) t ts are)) (all_boolean ns ts all.1 (All-tail (λ t. IsSorted c.declarations [] t bool_sort) t ts are))
+
+    all_there : (ns : List TermId) (trees : List CoreTree) → AllStand new ns trees → terms_at new ns ≡ trees
+    all_there [] [] all = refl
+    all_there [] (t ∷ trees) all = absurd all
+    all_there (n ∷ ns) [] all = absurd all
+    all_there (n ∷ ns) (t ∷ trees) all =
+        ap (λ (tree : CoreTree). tree ∷ terms_at new ns) all.0.1 ∙ ap (λ (ts : List CoreTree). t ∷ ts) (all_there ns trees all.1)
+
+    pub held_with : IsHeld (record { context = c; assertions = asserts ++ more }) new (numbers ++ found)
+    held_with =
         record {
           sound =
               record {
                 bodies = held.sound.bodies;
-                asserts = All-append (λ t. IsSorted c.declarations [] t bool_sort) asserts (formula ∷ []) held.sound.asserts (All-cons (λ t. IsSorted c.declarations [] t bool_sort) formula [] sorted (All-nil (λ t. IsSorted c.declarations [] t bool_sort)));
+                asserts = All-append (λ t. IsSorted c.declarations [] t bool_sort) asserts more held.sound.asserts sorted;
               };
           in_table =
               record {
                 exact = subst (λ (roots : List CoreTree). IsTableOf c.declarations roots new) (sym all_cores) exact;
                 stand =
-                    map-append (term_at new) numbers (t ∷ [])
-                    ∙ ap (λ (trees : List CoreTree). trees ++ term_at new t ∷ []) (all_stay numbers held.in_table.booleans ∙ held.in_table.stand)
-                    ∙ ap (λ (tree : CoreTree). cores c asserts ++ tree ∷ []) stands.1
+                    map-append (term_at new) numbers found
+                    ∙ ap (λ (trees : List CoreTree). trees ++ terms_at new found) (all_stay numbers held.in_table.booleans ∙ held.in_table.stand)
+                    ∙ ap (λ (trees : List CoreTree). cores c asserts ++ trees) (all_there found (cores c more) stand)
                     ∙ sym all_cores;
-                booleans = All-append (IsBoolean new) numbers (t ∷ []) (All-weaker (IsBoolean old) (IsBoolean new) boolean_stays numbers held.in_table.booleans) (All-cons (IsBoolean new) t [] boolean (All-nil (IsBoolean new)));
+                booleans = All-append (IsBoolean new) numbers found (All-weaker (IsBoolean old) (IsBoolean new) boolean_stays numbers held.in_table.booleans) (all_boolean found more stand sorted);
               };
         }
+
+  -- with one assertion more
+  pub held_asserted : (c : Context) (asserts : List Formula) (formula : Formula) (old new : Terms) (numbers : List TermId) (t : TermId) → IsConsistent c.declarations → IsHeld (record { context = c; assertions = asserts }) old numbers → IsSorted c.declarations [] formula bool_sort → IsTableOf c.declarations (cores c asserts ++ core c formula ∷ []) new → (t.0 < length new) × (term_at new t ≡ core c formula) → IsPrefix old new → AreOrdered new → IsHeld (record { context = c; assertions = asserts ++ formula ∷ [] }) new (numbers ++ t ∷ [])
+  held_asserted c asserts formula old new numbers t consistent held sorted exact stands grown ordered =
+      held_with c asserts (formula ∷ []) old new numbers (t ∷ []) consistent held (All-cons (λ t. IsSorted c.declarations [] t bool_sort) formula [] sorted (All-nil (λ t. IsSorted c.declarations [] t bool_sort))) exact (stands, tt) grown ordered

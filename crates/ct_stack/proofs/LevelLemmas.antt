@@ -15,7 +15,7 @@ use Rattle.ct_terms.specs.Terms.{Terms}
 use Rattle.ct_formulas.specs.Formula.{Formula}
 use Rattle.ct_formulas.specs.FormulaSorts.{AreSound}
 use Rattle.ct_stack.specs.Theorems.{Theorems}
-use Rattle.ct_stack.specs.Stack.{Context, Level, Stack, in_force, in_context, declaring, asserting}
+use Rattle.ct_stack.specs.Stack.{Context, Level, Stack, in_force, in_context, declaring}
 use Rattle.ct_stack.specs.Levels.{pushed, pushed_by, popped}
 use Rattle.ct_stack.specs.Held.{IsHeld, alone, as_one}
 use Rattle.ct_stack.specs.Whole.{Whole, level_at, whole_at, levels_of, stack_of, IsMarkOf, AreHeld}
@@ -135,12 +135,6 @@ module _ (theorems : Theorems) where
       in_context_now later w marks g (ap (λ (l : Level). l.assertions) e) held
       ∙ ap (λ (l : Level). in_context (stack_of w.level marks) l.context) e
       ∙ ap (λ (c : Context). in_context (stack_of w.level marks) (record c { declarations = d })) (sym (context_now w.level marks))
-
-  -- with one assertion more
-  pub asserting_now : (later w : Whole) (marks : List LevelMark) (formula : Formula) → Grows later w → later.level.context ≡ w.level.context → later.level.assertions ≡ w.level.assertions ++ formula ∷ [] → AreHeld w marks → stack_of later.level marks ≡ asserting (stack_of w.level marks) formula
-  asserting_now later w marks formula g same e held =
-      stack_grown later w marks (formula ∷ []) g e held
-      ∙ ap (λ (c : Context). record { top = record { context = c; assertions = (stack_of w.level marks).top.assertions ++ formula ∷ [] }; below = (stack_of w.level marks).below }) (same ∙ sym (context_now w.level marks))
 
   -- a mark of all that is there
   module _ (w : Whole) (m : LevelMark) (declared : m.declared ≡ lengths w.level.context.declarations) (one_each : length w.level.context.bodies ≡ length w.level.context.declarations.definitions) (asserts : m.asserts ≡ length w.level.assertions) (numbers : length w.numbers ≡ length w.level.assertions) (terms : m.terms ≡ length w.table) (truths : 2 ≤ length w.table) (consistent : IsConsistent w.level.context.declarations) where

@@ -7,6 +7,7 @@ pub mod MarkLemmas
 pub mod OutcomeLemmas
 pub mod NeededLemmas
 pub mod SortLemmas
+pub mod GrowingLemmas
 pub mod ValueLemmas
 pub mod ErrorLemmas
 pub mod ZipLemmas
@@ -17,6 +18,8 @@ pub mod CauseLemmas
 pub mod StackLemmas
 pub mod DefineLemmas
 pub mod BackLemmas
+pub mod LabelLemmas
 pub mod AssertionLemmas
 pub mod AssertLemmas
+pub mod AssumingLemmas
 pub mod ModelLemmas

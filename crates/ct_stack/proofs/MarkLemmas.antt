@@ -21,7 +21,7 @@ use Rattle.ct_stack.specs.Levels.{pushed_by, popped, emptied}
 use Rattle.ct_stack.specs.Held.{IsHeld, alone, context_in, level_in}
 use Rattle.ct_stack.specs.Whole.{Whole, whole_in, level_at, whole_at, stack_of, AreHeld, IsKept}
 use Rattle.ct_stack.specs.declared.levels.LevelMark.{LevelMark}
-use Rattle.ct_stack.proofs.ValueLemmas.{two_at_least}
+use Rattle.ct_stack.proofs.GrowingLemmas.{two_at_least}
 use Rattle.ct_stack.proofs.HeldLemmas.{nothing_held, first_held}
 use Rattle.ct_stack.proofs.LevelLemmas.{held_now, context_now, all_in_force, as_many, held_pushed, stack_pushed, whole_left, held_left, stack_left_global}
 

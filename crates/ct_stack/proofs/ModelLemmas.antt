@@ -9,7 +9,7 @@ use Rattle.ct_eval.specs.declared.interp.Interp.{Interp}
 use Rattle.ct_stack.specs.declared.model_values.ModelValues.{ModelValues}
 use Rattle.ct_stack.specs.ModelValues.{AreModelValues}
 use Rattle.ct_stack.specs.Refusal.{HasManyTerms}
-use Rattle.ct_stack.proofs.ValueLemmas.{many_more, prefix_of_prefix}
+use Rattle.ct_stack.proofs.GrowingLemmas.{many_more, prefix_of_prefix}
 
 -- more terms have no values yet
 pub with_more : (d : Declarations) (i : Interp) (v : ModelValues) (table : Terms) → AreModelValues d i v → IsPrefix v.table table → AreSorted d table → AreModelValues d i (record v { table = table })

@@ -1,6 +1,5 @@
 -- What becomes of the assertion stack where a change of its scope or of its assertions may be refused.
-use Rattle.std.proofs.Common.{◌≡◌, ◌∙◌, ℕ, zero, suc, List, [], ◌∷◌, ◌++◌, length, map, take, Result, Ok, Err, OnOk, OnErr, refl, sym, ap, subst, arith}
-use Rattle.std.proofs.lemmas.List.{append-nil, map-append}
+use Rattle.std.proofs.Common.{◌≡◌, ◌∙◌, ℕ, zero, suc, List, [], ◌∷◌, ◌++◌, length, take, Result, Ok, Err, OnOk, OnErr, refl, sym, ap, subst, arith}
 use Rattle.ct_sorts.specs.Declarations.{Declarations, Function, with_function, with_definition}
 use Rattle.ct_generics.specs.Expression.{Expression}
 use Rattle.ct_sorts.specs.Consistent.{IsConsistent}
@@ -9,13 +8,12 @@ use Rattle.ct_terms.specs.declared.ids.TermId.{TermId}
 use Rattle.ct_formulas.specs.declared.tree.Tree.{Tree}
 use Rattle.ct_terms.specs.Terms.{Terms}
 use Rattle.ct_formulas.specs.Formula.{Formula}
-use Rattle.ct_formulas.specs.TreeFormula.{formula_of}
 use Rattle.ct_names.specs.Outcome.{Elaborated}
 use Rattle.ct_names.specs.Needs.{ComesTo}
 use Rattle.ct_scope.specs.declared.scope.Scope.{Scope}
 use Rattle.ct_compile.specs.Effect.{IsPrefix}
 use Rattle.ct_stack.specs.Theorems.{Theorems}
-use Rattle.ct_stack.specs.Stack.{Context, Level, Stack, declaring, in_context, asserting, defined_in}
+use Rattle.ct_stack.specs.Stack.{Context, Level, Stack, declaring, in_context, defined_in}
 use Rattle.ct_stack.specs.Elaborations.{with_synonym_of}
 use Rattle.ct_stack.specs.Outcomes.{Gives, GivesNeeding}
 use Rattle.ct_stack.specs.Refusal.{over}
@@ -24,7 +22,7 @@ use Rattle.ct_stack.specs.Whole.{Whole, stack_of, AreHeld}
 use Rattle.ct_stack.specs.declared.levels.LevelMark.{LevelMark}
 use Rattle.ct_stack.proofs.NeededLemmas.{comes_grows}
 use Rattle.ct_stack.proofs.HeldLemmas.{held_declared, held_defined}
-use Rattle.ct_stack.proofs.LevelLemmas.{itself, Grows, held_now, context_now, as_one_is, held_grown, in_context_now, declaring_now, asserting_now}
+use Rattle.ct_stack.proofs.LevelLemmas.{itself, Grows, held_now, context_now, as_one_is, held_grown, in_context_now, declaring_now}
 
 -- the level with these declarations, definitions and assertions
 abbrev pub level : Declarations → List Formula → List Formula → Level
@@ -163,26 +161,6 @@ one_level l marks s is = ap as_one (sym is) ∙ as_one_is l marks
 -- what is declared at its innermost level
 pub declared_in : (l : Level) (marks : List LevelMark) (s : Stack) → stack_of l marks ≡ s → l.context.declarations ≡ s.top.context.declarations
 declared_in l marks s is = ap (λ (c : Context). c.declarations) (sym (context_now l marks)) ∙ ap (λ (t : Stack). t.top.context.declarations) is
-
--- with one assertion more, or as before
-module _ (theorems : Theorems) (d : Declarations) (bodies : List Formula) (asserts_now asserts : List Tree) (t : Tree) (table_now table : Terms) (numbers_now numbers : List TermId) (marks : List LevelMark) (held : AreHeld (whole d bodies (map formula_of asserts) table numbers) marks) (grown : IsPrefix table table_now) (longer : Begins numbers numbers_now) where
-  begins : {T E : Type 0} (r : Result T E) → OnOk r (asserts_now ≡ asserts ++ t ∷ []) → OnErr r (asserts_now ≡ asserts) → Begins (map formula_of asserts) (map formula_of asserts_now)
-  begins (Ok x) ok err = (formula_of t ∷ [], ap (map formula_of) ok ∙ map-append formula_of asserts (t ∷ []))
-  begins (Err e) ok err = ([], ap (map formula_of) err ∙ sym (append-nil (map formula_of asserts)))
-
-  grows_asserted : Begins (map formula_of asserts) (map formula_of asserts_now) → Grows (whole d bodies (map formula_of asserts_now) table_now numbers_now) (whole d bodies (map formula_of asserts) table numbers)
-  grows_asserted more =
-      record { declarations = theorems.itself d; bodies = itself bodies; assertions = more; table = grown; numbers = longer }
-
-  pub held_asserted_now : {T E : Type 0} (r : Result T E) → OnOk r (asserts_now ≡ asserts ++ t ∷ []) → OnErr r (asserts_now ≡ asserts) → IsHeld (level d bodies (map formula_of asserts_now)) table_now numbers_now → AreHeld (whole d bodies (map formula_of asserts_now) table_now numbers_now) marks
-  held_asserted_now r ok err now =
-      held_grown theorems (whole d bodies (map formula_of asserts_now) table_now numbers_now) (whole d bodies (map formula_of asserts) table numbers) marks (grows_asserted (begins r ok err)) now held
-
-  pub asserted : (s : Stack) → stack_of (level d bodies (map formula_of asserts)) marks ≡ s → asserts_now ≡ asserts ++ t ∷ [] → stack_of (level d bodies (map formula_of asserts_now)) marks ≡ asserting s (formula_of t)
-  asserted s is e =
-      let more = ap (map formula_of) e ∙ map-append formula_of asserts (t ∷ []) in
-      asserting_now theorems (whole d bodies (map formula_of asserts_now) table_now numbers_now) (whole d bodies (map formula_of asserts) table numbers) marks (formula_of t) (grows_asserted (formula_of t ∷ [], more)) refl more held
-      ∙ ap (λ (u : Stack). asserting u (formula_of t)) is
 
 -- what is held of the same values
 pub held_same : (scope : Scope) (asserts_now asserts : List Tree) (table_now table : Terms) (numbers_now numbers : List TermId) → asserts_now ≡ asserts → table_now ≡ table → numbers_now ≡ numbers → IsHeld (level_in scope asserts) table numbers → IsHeld (level_in scope asserts_now) table_now numbers_now

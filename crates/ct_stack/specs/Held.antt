@@ -1,5 +1,5 @@
 -- How the assertion stack holds what is declared, defined and asserted.
-use Rattle.std.specs.Prelude.{◌≡◌, ◌<◌, List, [], ◌∷◌, ◌++◌, map, length, All, Contains}
+use Rattle.std.specs.Prelude.{◌≡◌, ◌<◌, ℕ, List, [], ◌∷◌, ◌++◌, map, length, All, Contains, Option}
 use Rattle.ct_sorts.specs.Consistent.{IsConsistent}
 use Rattle.ct_sorts.specs.Declarations.{Declarations, Function, bool_sort, with_definition}
 use Rattle.ct_terms.specs.declared.ids.TermId.{TermId}
@@ -12,7 +12,7 @@ use Rattle.ct_terms.specs.CoreTree.{CoreTree, subtrees, term_at}
 use Rattle.ct_closure.specs.Closed.{truth_trees}
 use Rattle.ct_closure.specs.ClosedTable.{HasTree, terms_at}
 use Rattle.ct_scope.specs.declared.scope.Scope.{Scope}
-use Rattle.ct_stack.specs.Stack.{Context, Level, Stack, cores, in_force}
+use Rattle.ct_stack.specs.Stack.{Context, Level, Stack, cores, in_force, context_with, asserted_as}
 
 -- the context that a scope is
 abbrev pub context_in : Scope → Context
@@ -64,3 +64,8 @@ pub record IsWithOne (before now : List Tree) (formula : Formula) : Type 0 where
   pub tree : Tree
   pub added : now ≡ before ++ tree ∷ []
   pub formula_is : formula_of tree ≡ formula
+
+-- the formula was asserted with this label: what can be named has its definition, and what is asserted of it is the last assertion
+pub record IsAsserted (context later : Context) (before now : List Tree) (label : Option (List ℕ)) (formula : Formula) : Type 0 where
+  pub context_is : later ≡ context_with context label formula
+  pub with_one : IsWithOne before now (asserted_as context label formula)

@@ -6,6 +6,7 @@ pub mod Held
 pub mod Whole
 pub mod Outcomes
 pub mod Elaborations
+pub mod Assuming
 pub mod Refusal
 pub mod Values
 pub mod ModelValues

@@ -1,5 +1,5 @@
 -- When a command is refused, and with which error: of the causes of its line, in their order, the first that applies.
-use Rattle.std.specs.Prelude.{◌≡◌, ◌⊎◌, ℕ, ◌+◌, ◌<◌, ◌≤◌, true, false, List, [], ◌∷◌, ◌++◌, length, map, Contains}
+use Rattle.std.specs.Prelude.{◌≡◌, ◌⊎◌, ℕ, ◌+◌, ◌<◌, ◌≤◌, true, false, List, [], ◌∷◌, ◌++◌, length, map, Contains, Option, None, Some}
 use Rattle.ct_sexpr.specs.Expression.{Expression}
 use Rattle.ct_sorts.specs.Availability.{IsUnavailable, IsUnavailableSort}
 use Rattle.ct_sorts.specs.Block.{IsBlockRefusal}
@@ -19,7 +19,7 @@ use Rattle.ct_names.specs.Needs.{ComesTo, ends_with}
 use Rattle.ct_command.specs.declared.command.Family.{Family}
 use Rattle.ct_command.specs.Command.{Named, SortHead, Body}
 use Rattle.ct_stack.specs.Numbers.{counts_differ, too_many_terms, above_levels, too_many_levels, most_levels}
-use Rattle.ct_stack.specs.Stack.{Context, Stack, in_force, core, cores}
+use Rattle.ct_stack.specs.Stack.{Context, Stack, in_force, core, cores, context_with, asserted_as}
 use Rattle.ct_stack.specs.Outcomes.{IsErrorOr}
 use Rattle.ct_stack.specs.Elaborations.{kind_of, are_counted, have_repeated_parameter, AreDecls, synonym_body, declared_function, defined_function, asserted_formula, valued_terms}
 
@@ -83,14 +83,34 @@ IsDefinitionRefusal d name params sort t =
 abbrev pub over : Context → Declarations → Context
 over c d = record c { declarations = d }
 
--- an assertion, after these
-abbrev pub IsAssertedRefusal : Context → List Formula → Expression → ℕ → Type 0
-IsAssertedRefusal c before t =
-    IsErrorNeeding (λ d. asserted_formula d t) c.declarations (λ later formula.
-    IsFirstCause too_many_terms (HasManyTerms (cores (over c later) before ++ core (over c later) formula ∷ [])) IsNone)
+-- the name of the label is taken, or cannot be declared
+abbrev pub IsTakenLabel : Declarations → Option (List ℕ) → Type 0
+IsTakenLabel d None = ⊥
+IsTakenLabel d (Some name) = IsUnavailable (symbol_names d) name
 
--- an assertion, after those in force
-abbrev pub IsAssertionRefusal : Stack → Expression → ℕ → Type 0
+-- there is no room for the definition that the label makes
+abbrev pub HasNoRoomForLabel : Declarations → Option (List ℕ) → Type 0
+HasNoRoomForLabel d None = ⊥
+HasNoRoomForLabel d (Some name) = most_definitions ≤ length d.definitions
+
+-- the core terms of these assertions with those of one more, which has this label, are too many
+abbrev pub HasManyWith : List Formula → Context → Option (List ℕ) → Formula → Type 0
+HasManyWith before c label t = HasManyTerms (cores (context_with c label t) before ++ core (context_with c label t) (asserted_as c label t) ∷ [])
+
+-- the label or its definition is refused, or the core terms with those of the assertion are too many
+abbrev pub IsLabelledRefusal : List Formula → Context → Option (List ℕ) → Formula → ℕ → Type 0
+IsLabelledRefusal before c label t =
+    IsFirstCause symbol_taken (IsTakenLabel c.declarations label)
+    (IsFirstCause too_many (HasNoRoomForLabel c.declarations label)
+    (IsFirstCause too_many_terms (HasManyWith before c label t) IsNone))
+
+-- an assertion with this label, after these
+abbrev pub IsAssertedRefusal : Context → List Formula → Option (List ℕ) → Expression → ℕ → Type 0
+IsAssertedRefusal c before label t =
+    IsErrorNeeding (λ d. asserted_formula d t) c.declarations (λ later formula. IsLabelledRefusal before (over c later) label formula)
+
+-- an assertion with this label, after those in force
+abbrev pub IsAssertionRefusal : Stack → Option (List ℕ) → Expression → ℕ → Type 0
 IsAssertionRefusal stack = IsAssertedRefusal stack.top.context (in_force stack)
 
 -- the formulas of terms

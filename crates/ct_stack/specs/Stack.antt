@@ -1,9 +1,9 @@
 -- The assertion stack: what a script has declared, defined and asserted so far, and at which level (SMT-LIB 2.7, sections 4.1.4
 -- and 4.2).
-use Rattle.std.specs.Prelude.{List, [], ◌∷◌, ◌++◌, map, reverse}
+use Rattle.std.specs.Prelude.{ℕ, List, [], ◌∷◌, ◌++◌, map, length, reverse, Option, None, Some}
 use Rattle.std.specs.List.{flat_map}
-use Rattle.ct_sorts.specs.Declarations.{Declarations, Function, start, with_definition}
-use Rattle.ct_formulas.specs.Formula.{Formula}
+use Rattle.ct_sorts.specs.Declarations.{Declarations, Function, start, bool_sort, with_definition}
+use Rattle.ct_formulas.specs.Formula.{Formula, Def, no_formulas}
 use Rattle.ct_terms.specs.CoreTree.{CoreTree}
 use Rattle.ct_formulas.specs.Compiled.{core_of}
 
@@ -59,3 +59,21 @@ defined_in c f = record { declarations = with_definition c.declarations f.0; bod
 -- with one assertion more at the innermost level
 abbrev pub asserting : Stack → Formula → Stack
 asserting stack formula = record stack { top = record stack.top { assertions = stack.top.assertions ++ formula ∷ [] } }
+
+-- the definition that a label makes, which takes no arguments and is Boolean
+abbrev pub named_truth : List ℕ → Function
+named_truth name = record { name = name; args = []; result = bool_sort }
+
+-- what can be named once a formula is asserted with this label: with a name, the definition of that name, of which it is the body
+abbrev pub context_with : Context → Option (List ℕ) → Formula → Context
+context_with c None t = c
+context_with c (Some name) t = defined_in c (named_truth name, t)
+
+-- what is asserted of the formula: with a name, the definition of that name
+abbrev pub asserted_as : Context → Option (List ℕ) → Formula → Formula
+asserted_as c None t = t
+asserted_as c (Some name) t = Def (record { 0 = length c.declarations.definitions }) no_formulas
+
+-- with one assertion more at the innermost level, which has this label
+abbrev pub asserting_as : Stack → Option (List ℕ) → Formula → Stack
+asserting_as stack label t = asserting (in_context stack (context_with stack.top.context label t)) (asserted_as stack.top.context label t)

@@ -4,31 +4,32 @@ ghost use Rattle.std.specs.List.{list_any};
 ghost use Rattle.std.specs.Str.{bytes_eq};
 ghost use Rattle.ct_sexpr.specs.View.{expression_of};
 ghost use Rattle.ct_sorts.specs.Availability.{IsUnavailable};
-ghost use Rattle.ct_sorts.specs.Declarations.{Declarations, IsSort, with_definition, symbol_names, most_definitions};
+ghost use Rattle.ct_sorts.specs.Declarations.{Declarations, IsSort, bool_sort, with_definition, symbol_names, most_definitions};
 ghost use Rattle.ct_sorts.specs.Refusals.{IsFirstCause, IsNone, symbol_taken, too_many};
 ghost use Rattle.ct_formulas.specs.Formula.{bind};
 ghost use Rattle.ct_formulas.specs.FormulaSorts.{IsSorted};
 ghost use Rattle.ct_formulas.specs.TreeFormula.{formula_of};
 ghost use Rattle.ct_names.specs.Bounds.{variable_of_param, parameter_variables};
 ghost use Rattle.ct_names.specs.Variables.{variables, has_repeated};
-ghost use Rattle.ct_command.specs.Seen.{named_seen};
+ghost use Rattle.ct_command.specs.Seen.{bytes_seen, named_seen};
+ghost use Rattle.ct_stack.specs.Stack.{context_with, asserted_as};
 ghost use Rattle.ct_stack.specs.Elaborations.{defined_function, parameter_names, parameter_sorts};
-ghost use Rattle.ct_stack.specs.Held.{IsDefined};
+ghost use Rattle.ct_stack.specs.Held.{IsDefined, context_in};
 ghost use Rattle.ct_stack.specs.Outcomes.{GivesNeeding, each_of};
 ghost use Rattle.ct_sorts.specs.Grown.{Extends};
 ghost use Rattle.ct_names.specs.Sorts.{sort_of};
 ghost use Rattle.ct_names.specs.Needs.{Grows, ComesTo};
 ghost use Rattle.ct_stack.specs.Sorts.{definition_seen, sorts_seen};
-ghost use Rattle.ct_stack.specs.Refusal.{IsDefinitionRefusal};
+ghost use Rattle.ct_stack.specs.Refusal.{IsTakenLabel, HasNoRoomForLabel, IsDefinitionRefusal};
 
 use crate::function::SYMBOL_TAKEN;
-use crate::sorts::{is_sort, or_back, sort_named, term_of};
+use crate::sorts::{BOOL, is_sort, or_back, sort_named, term_of};
 use crate::theorems::stack_theorems;
 use ct_check::{Param, Scope, elaboration};
 use ct_command::{CommandError, Named};
 use ct_formulas::Tree;
 use ct_sexpr::{Bytes, Sexpr};
-use ct_sorts::{Items, Name, SigError, Signature, SortId, growth};
+use ct_sorts::{DefId, Items, Name, SigError, Signature, SortId, growth};
 use std::alloc::{AllocError, Global};
 
 /// The number of the error of a repeated variable.
@@ -211,6 +212,62 @@ fn parameters_of(
         sorts_left = more_sorts;
     }
     Ok(bound)
+}
+
+/// What is asserted of a Boolean formula with this label: the definition that the label names, of which the formula is the body, or
+/// the formula itself.
+pub(crate) fn define_label(
+    alloc: Global,
+    scope: &mut Scope,
+    label: Option<&[u8]>,
+    formula: Tree,
+) -> Result<Tree, CommandError>
+    requires sorted { IsSorted scope.old.sig [] (formula_of formula) bool_sort }
+    ensures ok { IfOk result (λ t. (context_in scope.new ≡ context_with (context_in scope.old) (bytes_seen label.entry) (formula_of formula))
+        × (formula_of t ≡ asserted_as (context_in scope.old) (bytes_seen label.entry) (formula_of formula))) }
+    ensures sorted { IfOk result (λ t. IsSorted scope.new.sig [] (formula_of t) bool_sort) }
+    ensures accepted { OnOk result ((n : ℕ) → IsFirstCause symbol_taken (IsTakenLabel scope.old.sig (bytes_seen label.entry))
+        (IsFirstCause too_many (HasNoRoomForLabel scope.old.sig (bytes_seen label.entry)) IsNone) n → ⊥) }
+    ensures refused { (n : ℕ) → IsErrOf result (CommandError.Refused n)
+        → IsFirstCause symbol_taken (IsTakenLabel scope.old.sig (bytes_seen label.entry))
+        (IsFirstCause too_many (HasNoRoomForLabel scope.old.sig (bytes_seen label.entry)) IsNone) n }
+    ensures unchanged { OnErr result ((scope.new.sig ≡ scope.old.sig) × (scope.new.bodies ≡ scope.old.bodies)) }
+{
+    match label {
+        Some(name) => define_truth(alloc, scope, name, formula),
+        None => Ok(formula),
+    }
+}
+
+// Adds a Boolean definition without parameters, and gives it as a formula.
+fn define_truth(
+    alloc: Global,
+    scope: &mut Scope,
+    name: &[u8],
+    formula: Tree,
+) -> Result<Tree, CommandError>
+    requires sorted { IsSorted scope.old.sig [] (formula_of formula) bool_sort }
+    ensures ok { IfOk result (λ t. (context_in scope.new ≡ context_with (context_in scope.old) (Some name.now) (formula_of formula))
+        × (formula_of t ≡ asserted_as (context_in scope.old) (Some name.now) (formula_of formula))) }
+    ensures sorted { IfOk result (λ t. IsSorted scope.new.sig [] (formula_of t) bool_sort) }
+    ensures accepted { OnOk result ((n : ℕ) → IsFirstCause symbol_taken (IsUnavailable (symbol_names scope.old.sig) name.now)
+        (IsFirstCause too_many (most_definitions ≤ length scope.old.sig.definitions) IsNone) n → ⊥) }
+    ensures refused { (n : ℕ) → IsErrOf result (CommandError.Refused n)
+        → IsFirstCause symbol_taken (IsUnavailable (symbol_names scope.old.sig) name.now)
+        (IsFirstCause too_many (most_definitions ≤ length scope.old.sig.definitions) IsNone) n }
+    ensures unchanged { OnErr result ((scope.new.sig ≡ scope.old.sig) × (scope.new.bodies ≡ scope.old.bodies)) }
+{
+    stack_theorems();
+    scope.sig.sorts();
+    let number = DefId(scope.sig.mark().defs());
+    let name = Name::from_slice(alloc, name)?;
+    let definition = Definition {
+        args: Vec::new(alloc),
+        result: BOOL,
+        body: formula,
+    };
+    add_definition(alloc, scope, name, definition)?;
+    Ok(Tree::Def(number, Vec::new(alloc)))
 }
 
 // Adds the definition and its body, or leaves all as it was.

@@ -1,11 +1,12 @@
 //! Where the levels of the assertion stack began, and what goes with a level.
-ghost use Rattle.std.specs.Prelude.{◌≡◌, ◌↔◌, ◌+◌, ◌-◌, ◌<◌, ◌≤◌, vec_len, vec_capacity, [], ◌++◌, length, slice_get, take, reverse, replicate, Some, IsTrue};
+ghost use Rattle.std.specs.Prelude.{◌≡◌, ◌↔◌, ◌+◌, ◌-◌, ◌<◌, ◌≤◌, vec_len, vec_capacity, [], ◌++◌, length, slice_get, take, reverse, replicate, Some, IsTrue, OnOk, OnErr};
 ghost use Rattle.ct_sorts.specs.Marks.{CanCut, cut};
 ghost use Rattle.ct_stack.specs.Levels.{IsBeside};
 ghost use Rattle.ct_stack.specs.Numbers.{most_levels};
 ghost use Rattle.ct_stack.specs.Whole.{mark_of};
 
 use ct_check::Scope;
+use ct_command::CommandError;
 use ct_formulas::Tree;
 use ct_sorts::{Items, Mark};
 use std::alloc::Global;
@@ -72,6 +73,24 @@ pub(crate) fn cut_scope(alloc: Global, scope: &mut Scope, mark: &Mark)
     let mut all = std::mem::replace(&mut scope.bodies, Items::new(Vec::new(alloc))).into_vec();
     all.truncate(kept);
     scope.bodies = Items::new(all);
+}
+
+/// Takes back what was declared and defined for a command, where it was refused.
+pub(crate) fn scope_or_back<T>(
+    alloc: Global,
+    scope: &mut Scope,
+    before: &Mark,
+    done: Result<T, CommandError>,
+) -> Result<T, CommandError>
+    requires can_cut { OnErr done (CanCut scope.old.sig before.now) }
+    ensures same { result ≡ done }
+    ensures ok { OnOk done ((scope.new.sig ≡ scope.old.sig) × (scope.new.bodies ≡ scope.old.bodies)) }
+    ensures back { OnErr done ((scope.new.sig ≡ cut scope.old.sig before.now) × (scope.new.bodies ≡ take before.now.definitions scope.old.bodies)) }
+{
+    if done.is_err() {
+        cut_scope(alloc, scope, before);
+    }
+    done
 }
 
 /// Whether there is no level and no assertion, and as much is declared as at the first mark.

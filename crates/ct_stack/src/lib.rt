@@ -1,6 +1,7 @@
 //! The assertion stack: what a script declares, defines and asserts.
 #![tactic(auto)]
 
+mod assuming;
 mod block;
 mod define;
 mod function;
@@ -13,5 +14,6 @@ mod terms;
 mod theorems;
 mod value;
 
+pub use assuming::Assumption;
 pub use model_values::ModelValues;
 pub use stack::AssertionStack;

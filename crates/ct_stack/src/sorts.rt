@@ -24,6 +24,9 @@ use ct_sexpr::Sexpr;
 use ct_sorts::{Mark, Signature, SortId};
 use std::alloc::Global;
 
+/// The sort Bool.
+pub(crate) const BOOL: SortId = SortId(0);
+
 /// Whether the two sorts are one.
 pub(crate) fn is_sort(s: SortId, t: SortId) -> bool
     ensures value { result ≡ is_sort s t }

@@ -1,31 +1,35 @@
 //! The assertion stack (SMT-LIB 2.7, section 4.1.4): what is declared, defined and asserted.
-ghost use Rattle.std.specs.Prelude.{◌≡◌, ◌↔◌, ◌<◌, ◌≤◌, ℕ, length, IsTrue, [], map, None, IfSome, IfOk, OnOk, OnErr, IsErrOf};
+ghost use Rattle.std.specs.Prelude.{◌≡◌, ◌↔◌, ◌<◌, ◌≤◌, ℕ, length, IsTrue, [], map, None, All, IfSome, IfOk, OnOk, OnErr, IsErrOf};
 ghost use Rattle.ct_sexpr.specs.View.{expression_of};
 ghost use Rattle.ct_sorts.specs.Declarations.{Declarations, with_function};
 ghost use Rattle.ct_formulas.specs.TreeFormula.{formula_of};
 ghost use Rattle.ct_eval.specs.Interpretation.{IsProper};
-ghost use Rattle.ct_command.specs.Seen.{all_seen, named_seen, head_seen, body_seen};
+ghost use Rattle.ct_command.specs.Seen.{bytes_seen, all_seen, literal_seen, named_seen, head_seen, body_seen};
 ghost use Rattle.ct_stack.specs.Levels.{pushed_by, popped, popped_by, emptied, left_by, left_emptied, IsCutTo};
-ghost use Rattle.ct_stack.specs.Stack.{first_stack, in_force, cores, declaring, in_context, asserting, defined_in};
-ghost use Rattle.ct_stack.specs.Outcomes.{Gives, GivesNeeding};
+ghost use Rattle.ct_stack.specs.Stack.{first_stack, in_force, cores, declaring, in_context, asserting_as, defined_in};
+ghost use Rattle.ct_stack.specs.Outcomes.{Gives, GivesNeeding, Comes};
 ghost use Rattle.ct_stack.specs.Elaborations.{with_free, IsWithTypes, synonym_body, with_synonym_of, declared_function, defined_function, asserted_formula};
-ghost use Rattle.ct_stack.specs.Refusal.{over, IsSynonymRefusal, IsSortRefusal, IsTypesRefusal, IsFunctionRefusal, IsDefinitionRefusal, IsAssertionRefusal, IsTermsRefusal, IsPushRefusal, IsPopRefusal};
+ghost use Rattle.ct_stack.specs.Assuming.{assumptions, assuming, with_assumed, assumptions_seen, list_seen, IsTruth};
+ghost use Rattle.ct_stack.specs.Numbers.{too_many_terms};
+ghost use Rattle.ct_stack.specs.Refusal.{over, HasManyTerms, IsSynonymRefusal, IsSortRefusal, IsTypesRefusal, IsFunctionRefusal, IsDefinitionRefusal, IsAssertionRefusal, IsTermsRefusal, IsPushRefusal, IsPopRefusal};
 ghost use Rattle.ct_stack.specs.Held.{context_in, as_one, IsSoundLevel, IsHeld};
 ghost use Rattle.ct_stack.specs.Values.{AreValues};
 ghost use Rattle.ct_stack.specs.ModelValues.{AreModelValues};
 
+use crate::assuming::{Assumption, assumed_terms, assumptions};
 use crate::block::{declare_block, declare_sort};
 use crate::define::define_function;
 use crate::function::declare_function;
-use crate::levels::{LevelMark, cut_scope, has_room, is_start, mark_before, put_marks};
+use crate::levels::{
+    LevelMark, cut_scope, has_room, is_start, mark_before, put_marks, scope_or_back,
+};
 use crate::model_values::ModelValues;
-use crate::sorts::or_back;
 use crate::synonym::define_sort;
 use crate::terms::assert_needing;
 use crate::theorems::stack_theorems;
 use crate::value::values_text;
 use ct_check::Scope;
-use ct_command::{Body, CommandError, Family, Named, SortHead};
+use ct_command::{Body, CommandError, Family, Literal, Named, SortHead};
 use ct_eval::Interp;
 use ct_formulas::Tree;
 use ct_sexpr::Sexpr;
@@ -238,11 +242,17 @@ impl AssertionStack {
         defined
     }
 
-    /// Adds an assertion.
-    pub fn assert(&mut self, alloc: Global, expr: &Sexpr) -> Result<(), CommandError>
-        ensures ok { OnOk result (GivesNeeding (λ d. asserted_formula d (expression_of expr.now)) self.old.top.context.declarations (λ later formula. self.new ≡ asserting (declaring self.old later) formula)) }
-        ensures accepted { OnOk result ((n : ℕ) → IsAssertionRefusal self.old (expression_of expr.now) n → ⊥) }
-        ensures refused { (n : ℕ) → IsErrOf result (CommandError.Refused n) → IsAssertionRefusal self.old (expression_of expr.now) n }
+    /// Adds an assertion, with the definition that its label names, where it has one: then it is this definition that is asserted.
+    pub fn assert(
+        &mut self,
+        alloc: Global,
+        expr: &Sexpr,
+        label: Option<&[u8]>,
+    ) -> Result<(), CommandError>
+        ensures ok { OnOk result (GivesNeeding (λ d. asserted_formula d (expression_of expr.now)) self.old.top.context.declarations
+            (λ later formula. self.new ≡ asserting_as (declaring self.old later) (bytes_seen label.entry) formula)) }
+        ensures accepted { OnOk result ((n : ℕ) → IsAssertionRefusal self.old (bytes_seen label.entry) (expression_of expr.now) n → ⊥) }
+        ensures refused { (n : ℕ) → IsErrOf result (CommandError.Refused n) → IsAssertionRefusal self.old (bytes_seen label.entry) (expression_of expr.now) n }
         ensures unchanged { OnErr result (self.new ≡ self.old) }
     {
         stack_theorems();
@@ -255,10 +265,41 @@ impl AssertionStack {
             &mut self.numbers,
             &mut self.asserts,
             expr,
+            label,
         );
-        let done = or_back(&mut self.scope.sig, &before, asserted);
+        let done = scope_or_back(self.alloc, &mut self.scope, &before, asserted);
         self.scope.sig.sorts();
         done
+    }
+
+    /// What these literals assume, in order (SMT-LIB 2.7, section 4.2.5). Each is a constant or a definition that is Boolean and takes
+    /// no arguments, or its negation.
+    pub fn assume(
+        &self,
+        alloc: Global,
+        literals: &[Literal<'_>],
+    ) -> Result<Vec<Assumption>, CommandError>
+        ensures value { Comes list_seen (assumptions self.now.top.context.declarations (map literal_seen literals.now)) result }
+        ensures sorted { IfOk result (λ assumed. All (IsTruth self.now.top.context.declarations) assumed.items) }
+    {
+        assumptions(alloc, &self.scope, literals)
+    }
+
+    /// A table of the core terms of the assertions in force and of these assumptions, with their subterms and no others, and the
+    /// numbers of these core terms, in order: those of the assertions first.
+    pub fn core_terms_with(
+        &self,
+        alloc: Global,
+        assumed: &[Assumption],
+    ) -> Result<(Box<TermTable>, Vec<TermId>), CommandError>
+        requires sorted { All (IsTruth self.now.top.context.declarations) assumed.now }
+        ensures held { IfOk result (λ terms. IsHeld (with_assumed (as_one self.now) (assumptions_seen assumed.now)) terms.0.value terms.1.items) }
+        ensures accepted { OnOk result (HasManyTerms (cores self.now.top.context (assuming self.now (assumptions_seen assumed.now))) → ⊥) }
+        ensures refused { (n : ℕ) → IsErrOf result (CommandError.Refused n) → (n ≡ too_many_terms)
+            × HasManyTerms (cores self.now.top.context (assuming self.now (assumptions_seen assumed.now))) }
+    {
+        let numbers = self.numbers.as_slice();
+        assumed_terms(alloc, &self.scope, &self.table, numbers, assumed)
     }
 
     /// Each term beside its value in the interpretation, with what is known of the values of other terms in it, which grows by

@@ -14,10 +14,12 @@ ghost use Rattle.ct_stack.specs.Stack.{core, cores};
 ghost use Rattle.ct_stack.specs.Elaborations.{asserted_formula};
 ghost use Rattle.ct_names.specs.Needs.{ComesTo};
 ghost use Rattle.ct_stack.specs.Outcomes.{GivesNeeding};
-ghost use Rattle.ct_stack.specs.Refusal.{HasManyTerms, IsAssertedRefusal};
-ghost use Rattle.ct_stack.specs.Held.{IsHeld, IsTableOf, IsWithOne, context_in, level_in};
+ghost use Rattle.ct_command.specs.Seen.{bytes_seen};
+ghost use Rattle.ct_stack.specs.Refusal.{over, HasManyTerms, IsAssertedRefusal};
+ghost use Rattle.ct_stack.specs.Held.{IsHeld, IsTableOf, IsAsserted, context_in, level_in};
 
-use crate::sorts::{is_sort, term_of};
+use crate::define::define_label;
+use crate::sorts::{BOOL, is_sort, term_of};
 use crate::theorems::stack_theorems;
 use ct_check::{Scope, elaboration};
 use ct_command::CommandError;
@@ -27,9 +29,6 @@ use ct_sexpr::Sexpr;
 use ct_sorts::SortId;
 use ct_terms::{TermError, TermId, TermTable};
 use std::alloc::{AllocError, Global};
-
-/// The sort Bool.
-const BOOL: SortId = SortId(0);
 
 /// The number of the error of an assertion that is not Bool.
 const NOT_BOOLEAN: u16 = 24;
@@ -58,7 +57,8 @@ pub(crate) fn asserted_formula(
     Ok(tree)
 }
 
-/// Adds an assertion. After an error sorts may have come into the list, and else all is as it was.
+/// Adds an assertion, with the definition that its label names, where it has one. After an error sorts may have come into the list,
+/// and this definition, and else all is as it was.
 pub(crate) fn assert_needing(
     alloc: Global,
     scope: &mut Scope,
@@ -66,16 +66,17 @@ pub(crate) fn assert_needing(
     numbers: &mut Vec<TermId>,
     asserts: &mut Vec<Tree>,
     expr: &Sexpr,
+    label: Option<&[u8]>,
 ) -> Result<(), CommandError>
     requires held { IsHeld (level_in scope.old asserts.old.items) table.old numbers.old.items }
     ensures held { OnOk result (IsHeld (level_in scope.new asserts.new.items) table.new numbers.new.items) }
     ensures ok { OnOk result (GivesNeeding (λ d. asserted_formula d (expression_of expr.now)) scope.old.sig
-        (λ later formula. (scope.new.sig ≡ later) × IsWithOne asserts.old.items asserts.new.items formula)) }
-    ensures accepted { OnOk result ((n : ℕ) → IsAssertedRefusal (context_in scope.old) (map formula_of asserts.old.items) (expression_of expr.now) n → ⊥) }
-    ensures refused { (n : ℕ) → IsErrOf result (CommandError.Refused n) → IsAssertedRefusal (context_in scope.old) (map formula_of asserts.old.items) (expression_of expr.now) n }
+        (λ later formula. IsAsserted (over (context_in scope.old) later) (context_in scope.new) asserts.old.items asserts.new.items (bytes_seen label.entry) formula)) }
+    ensures accepted { OnOk result ((n : ℕ) → IsAssertedRefusal (context_in scope.old) (map formula_of asserts.old.items) (bytes_seen label.entry) (expression_of expr.now) n → ⊥) }
+    ensures refused { (n : ℕ) → IsErrOf result (CommandError.Refused n)
+        → IsAssertedRefusal (context_in scope.old) (map formula_of asserts.old.items) (bytes_seen label.entry) (expression_of expr.now) n }
     ensures grown { Extends scope.new.sig scope.old.sig }
-    ensures same { OnOk result (scope.new.sig.definitions ≡ scope.old.sig.definitions) }
-    ensures bodies { scope.new.bodies ≡ scope.old.bodies }
+    ensures bodies { Begins (map formula_of scope.old.bodies) (map formula_of scope.new.bodies) }
     ensures unchanged { OnErr result (asserts.new.items ≡ asserts.old.items) }
     ensures table { OnErr result (table.new ≡ table.old) }
     ensures numbers { OnErr result (numbers.new.items ≡ numbers.old.items) }
@@ -84,7 +85,9 @@ pub(crate) fn assert_needing(
 {
     stack_theorems();
     scope.sig.sorts();
-    let tree = asserted_formula(alloc, scope, expr)?;
+    let formula = asserted_formula(alloc, scope, expr)?;
+    scope.sig.sorts();
+    let tree = define_label(alloc, scope, label, formula)?;
     scope.sig.sorts();
     add_assertion(alloc, scope, table, numbers, asserts, tree)
 }

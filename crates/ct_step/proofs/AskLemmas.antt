@@ -1,5 +1,6 @@
 -- Checks, and questions about what the last verdict left.
-use Rattle.std.proofs.Common.{◌≡◌, ◌∙◌, ℕ, ◌-◌, List, [], ◌∷◌, ◌++◌, length, slice_get, Option, None, Some, option_map, refl, sym, ap, subst, inl, inr, arith}
+use Rattle.std.proofs.Common.{◌≡◌, ◌∙◌, ℕ, ◌-◌, List, [], ◌∷◌, ◌++◌, length, slice_get, Option, None, Some, Ok, option_map, refl, sym, ap, subst, inl, inr, arith}
+use Rattle.std.specs.Global.{Vec}
 use Rattle.std.proofs.lemmas.List.{append-nil, length-append}
 use Rattle.std.proofs.lemmas.Option.{none-some}
 use Rattle.ct_lemmas.proofs.Lists.{slice_get-last}
@@ -8,20 +9,27 @@ use Rattle.ct_eval.specs.declared.interp.Interp.{Interp}
 use Rattle.ct_log.specs.Recorded.{Derived}
 use Rattle.ct_model.specs.ModelText.{IsModelText}
 use Rattle.ct_log_text.specs.Written.{expression_of_record, text_of}
-use Rattle.ct_command.specs.Command.{check_sat, get_model, get_value, get_proof}
+use Rattle.ct_names.specs.Outcome.{Outcome}
+use Rattle.ct_command.specs.Command.{Command, Literal, check_sat, check_sat_assuming, get_model, get_value, get_proof}
 use Rattle.ct_engine.specs.declared.verdict.Verdict.{Verdict}
 use Rattle.ct_stack.specs.Stack.{Stack, in_force, cores}
+use Rattle.ct_stack.specs.declared.assuming.Assumption.{Assumption as Assumed}
+use Rattle.ct_stack.specs.Assuming.{Assumption, assumptions, assuming, assumptions_seen}
+use Rattle.ct_stack.proofs.StepLemmas.{accepted_value, given as given_value}
 use Rattle.ct_stack.specs.Refusal.{IsTermsRefusal}
 use Rattle.ct_stack.specs.Values.{AreValues}
 use Rattle.ct_step.specs.declared.answer.Answer.{Answer}
+use Rattle.ct_step.specs.declared.state.Asked.{Asked}
 use Rattle.ct_step.specs.declared.state.SessionState.{SessionState}
 use Rattle.ct_step.specs.declared.options.Options.{Options}
 use Rattle.ct_step.specs.Options.{budget}
 use Rattle.ct_step.specs.State.{State, Kept, model_kept, derivation_kept}
-use Rattle.ct_step.specs.Refusal.{IsCheckRefusal}
-use Rattle.ct_step.specs.Step.{OfKept, said, decided, word_of}
-use Rattle.ct_step.specs.Done.{IsAnswer, Performs, IsSame, state_of, kept_of, last_of}
+use Rattle.ct_step.specs.Evidence.{of_verdict, followed_by}
+use Rattle.ct_step.specs.Refusal.{IsRefusal, IsCheckRefusal, IsTooLarge}
+use Rattle.ct_step.specs.Step.{Does, OfKept, said, decided, word_of}
+use Rattle.ct_step.specs.Done.{IsAnswer, Performs, IsSame, state_of, evidence_of, kept_of, last_of}
 use Rattle.ct_step.specs.Verdict.{ComesTo}
+use Rattle.ct_step.proofs.EvidenceLemmas.{both_same, nothing_later}
 use Rattle.ct_step.proofs.SoundLemmas.{same_state}
 
 -- the last verdict
@@ -30,25 +38,51 @@ last_given verdicts v =
     let long : length (verdicts ++ v ∷ []) - 1 ≡ length verdicts = omega (arith, length-append verdicts (v ∷ [])) in
     ap (slice_get (verdicts ++ v ∷ [])) long ∙ slice_get-last verdicts v
 
--- it is kept
-kept_last : (verdicts : List Verdict) (v : Verdict) (number : ℕ) → kept_of (verdicts ++ v ∷ []) (Some number) ≡ Some (record { verdict = v; number = number })
-kept_last verdicts v number = ap (option_map (λ (w : Verdict). record { verdict = w; number = number })) (last_given verdicts v)
+-- it is kept, with what was asked
+kept_last : (verdicts : List Verdict) (v : Verdict) (assumed : Vec Assumed) (number : Option ℕ) → kept_of (verdicts ++ v ∷ []) (Some (record { assumed = assumed; number = number })) ≡ Some (record { verdict = v; assumed = assumptions_seen assumed.items; number = number })
+kept_last verdicts v assumed number = ap (option_map (λ (w : Verdict). record { verdict = w; assumed = assumptions_seen assumed.items; number = number })) (last_given verdicts v)
 
--- a check of the assertions in force
-pub checked : (old new : SessionState) (number : ℕ) (v : Verdict) (a : Answer) → ComesTo old.stack.top.context (in_force old.stack) (budget old.options) v → ((n : ℕ) → IsCheckRefusal old.stack n → ⊥) → new.stack ≡ old.stack → new.options ≡ old.options → new.verdicts.items ≡ old.verdicts.items ++ v ∷ [] → new.kept ≡ Some number → ((s : State) → IsAnswer (said s (word_of v)) a) → Performs old number check_sat new a
-checked old new number v a right accepted same_stack same_options given kept answer =
-    record {
-      effect = decided (state_of old) number v;
-      accepted = (accepted, (v, right, refl));
-      state =
-          ap (λ (stack : Stack). record { stack = stack; options = new.options; kept = kept_of new.verdicts.items new.kept }) same_stack
-          ∙ ap (λ (options : Options). record { stack = old.stack; options = options; kept = kept_of new.verdicts.items new.kept }) same_options
-          ∙ ap (λ (vs : List Verdict). record { stack = old.stack; options = old.options; kept = kept_of vs new.kept }) given
-          ∙ ap (λ (k : Option ℕ). record { stack = old.stack; options = old.options; kept = kept_of (old.verdicts.items ++ v ∷ []) k }) kept
-          ∙ ap (λ (k : Option Kept). record { stack = old.stack; options = old.options; kept = k }) (kept_last old.verdicts.items v number);
-      given = given;
-      answer = record { text = (answer (state_of old)).text; error = (answer (state_of old)).error; stop = (answer (state_of old)).stop };
-    }
+-- a check has given a verdict
+module _ (old new : SessionState) (number : ℕ) (v : Verdict) (assumed : Vec Assumed) (numbered : Option ℕ) (a : Answer) (same_stack : new.stack ≡ old.stack) (same_labels : new.labels.items ≡ old.labels.items) (same_options : new.options ≡ old.options) (given : new.verdicts.items ≡ old.verdicts.items ++ v ∷ []) (same_shrunk : new.shrunk.items ≡ old.shrunk.items) (kept : new.kept ≡ Some (record { assumed = assumed; number = numbered })) (answer : (s : State) → IsAnswer (said s (word_of v)) a) where
+  given_state : state_of new ≡ (decided (state_of old) numbered (assumptions_seen assumed.items) v).state
+  given_state =
+      ap (λ (stack : Stack). record { stack = stack; labels = new.labels.items; options = new.options; kept = kept_of new.verdicts.items new.kept }) same_stack
+      ∙ ap (λ (labels : List (Option (List ℕ))). record { stack = old.stack; labels = labels; options = new.options; kept = kept_of new.verdicts.items new.kept }) same_labels
+      ∙ ap (λ (options : Options). record { stack = old.stack; labels = old.labels.items; options = options; kept = kept_of new.verdicts.items new.kept }) same_options
+      ∙ ap (λ (vs : List Verdict). record { stack = old.stack; labels = old.labels.items; options = old.options; kept = kept_of vs new.kept }) given
+      ∙ ap (λ (k : Option Asked). record { stack = old.stack; labels = old.labels.items; options = old.options; kept = kept_of (old.verdicts.items ++ v ∷ []) k }) kept
+      ∙ ap (λ (k : Option Kept). record { stack = old.stack; labels = old.labels.items; options = old.options; kept = k }) (kept_last old.verdicts.items v assumed numbered)
+
+  given_evidence : evidence_of new ≡ followed_by (evidence_of old) (of_verdict v)
+  given_evidence = both_same _ _ _ _ given (same_shrunk ∙ sym (append-nil old.shrunk.items))
+
+  given_answer : (s : State) → IsAnswer (decided s numbered (assumptions_seen assumed.items) v) a
+  given_answer s = record { text = (answer s).text; error = (answer s).error; stop = (answer s).stop }
+
+  decides : (c : Command) → ((n : ℕ) → IsRefusal (state_of old) c n → ⊥) → Does (state_of old) number c (decided (state_of old) numbered (assumptions_seen assumed.items) v) → Performs old number c new a
+  decides c accepted does =
+      record {
+        effect = decided (state_of old) numbered (assumptions_seen assumed.items) v;
+        accepted = (accepted, does);
+        state = given_state;
+        given = given_evidence;
+        answer = given_answer (state_of old);
+      }
+
+  -- of the assertions in force
+  pub checked : assumed.items ≡ [] → numbered ≡ Some number → ComesTo old.stack.top.context (in_force old.stack) (budget old.options) v → ((n : ℕ) → IsCheckRefusal old.stack n → ⊥) → Performs old number check_sat new a
+  checked none own right accepted =
+      decides check_sat accepted
+      (v, right, ap (λ (n : Option ℕ). decided (state_of old) n (assumptions_seen assumed.items) v) own ∙ ap (λ (as_held : List Assumed). decided (state_of old) (Some number) (assumptions_seen as_held) v) none)
+
+  -- and with what these literals assume
+  pub checked_assuming : (ls : List Literal) → numbered ≡ None → assumptions old.stack.top.context.declarations ls ≡ Ok (assumptions_seen assumed.items) → ComesTo old.stack.top.context (assuming old.stack (assumptions_seen assumed.items)) (budget old.options) v → ((n : ℕ) → IsTooLarge old.stack (assumptions_seen assumed.items) n → ⊥) → Performs old number (check_sat_assuming ls) new a
+  checked_assuming ls unnumbered read right accepted =
+      let outcome : Outcome (List Assumption) = assumptions old.stack.top.context.declarations ls in
+      let held : List Assumption = assumptions_seen assumed.items in
+      decides (check_sat_assuming ls) (accepted_value outcome (IsTooLarge old.stack) held read accepted)
+      (given_value outcome (λ xs. (w : Verdict) × ComesTo old.stack.top.context (assuming old.stack xs) (budget old.options) w × (decided (state_of old) numbered held v ≡ decided (state_of old) None xs w)) held read
+      (v, right, ap (λ (n : Option ℕ). decided (state_of old) n held v) unnumbered))
 
 module _ (old : SessionState) where
   abbrev kept : Option Kept
@@ -66,7 +100,7 @@ module _ (old : SessionState) where
           effect = said (state_of old) text;
           accepted = (λ n refusal. elim refusal [ inl first ↦ there (model_kept kept) i stands first.1 | inr later ↦ absurd later.1 ], subst (λ (m : Option Interp). OfKept m (λ i. (t : List ℕ) × IsModelText old.stack.top.context.declarations i t × (said (state_of old) text ≡ said (state_of old) t))) (sym stands) (text, is, refl));
           state = refl;
-          given = sym (append-nil old.verdicts.items);
+          given = sym (nothing_later (evidence_of old));
           answer = answer (state_of old);
         }
 
@@ -77,7 +111,7 @@ module _ (old : SessionState) where
           effect = said (state_of old) text;
           accepted = (λ n refusal. elim refusal [ inl first ↦ there (model_kept kept) i stands first.1 | inr later ↦ accepted n later.1 ], subst (λ (m : Option Interp). OfKept m (λ i. (t : List ℕ) × AreValues old.stack.top.context i ts t × (said (state_of old) text ≡ said (state_of old) t))) (sym stands) (text, are, refl));
           state = same_state old new same;
-          given = same.verdicts ∙ sym (append-nil old.verdicts.items);
+          given = both_same _ _ _ _ same.verdicts same.shrunk ∙ sym (nothing_later (evidence_of old));
           answer = answer (state_of old);
         }
 
@@ -88,6 +122,6 @@ module _ (old : SessionState) where
         effect = said (state_of old) (text_of (expression_of_record old.stack.top.context.declarations p.0 p.1.rec));
         accepted = (λ n refusal. elim refusal [ inl first ↦ there (derivation_kept kept) p stands first.1 | inr later ↦ absurd later.1 ], subst (λ (m : Option (ℕ × Derived)). OfKept m (λ q. said (state_of old) (text_of (expression_of_record old.stack.top.context.declarations p.0 p.1.rec)) ≡ said (state_of old) (text_of (expression_of_record old.stack.top.context.declarations q.0 q.1.rec)))) (sym stands) refl);
         state = refl;
-        given = sym (append-nil old.verdicts.items);
+        given = sym (nothing_later (evidence_of old));
         answer = answer (state_of old);
       }

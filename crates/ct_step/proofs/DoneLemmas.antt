@@ -1,24 +1,29 @@
 -- What becomes of a command: it is done, or refused, or memory runs out.
-use Rattle.std.proofs.Common.{◌≡◌, ◌∙◌, ℕ, true, List, None, Result, Ok, Err, IsErrOf, refl, sym, ap, subst}
-use Rattle.std.proofs.lemmas.List.{append-nil}
+use Rattle.std.proofs.Common.{◌≡◌, ◌∙◌, ℕ, true, List, [], ◌∷◌, ◌++◌, length, take, Option, None, Result, Ok, Err, IsErrOf, refl, sym, ap, subst}
+use Rattle.std.specs.Global.{Vec}
 use Rattle.ct_sorts.specs.Declarations.{Declarations}
+use Rattle.ct_formulas.specs.Formula.{Formula}
 use Rattle.ct_names.specs.Outcome.{Outcome, Elaborated}
 use Rattle.ct_command.specs.declared.error.CommandError.{CommandError}
 use Rattle.ct_command.specs.declared.error.CommandError.TheVariants.{Refused, NoMemory}
 use Rattle.ct_command.specs.declared.command.Command.{Command as ReadCommand}
 use Rattle.ct_command.specs.declared.option.Setting.{Setting}
 use Rattle.ct_command.specs.Seen.{command_seen}
-use Rattle.ct_command.specs.Command.{Command, set_option, reset, exit}
-use Rattle.ct_stack.specs.Stack.{Stack, first_stack}
-use Rattle.ct_stack.specs.Outcomes.{Gives, GivesNeeding}
+use Rattle.ct_command.specs.Command.{Command, Literal, check_sat_assuming, set_option, reset, exit}
+use Rattle.ct_engine.specs.declared.verdict.Verdict.{Verdict}
+use Rattle.ct_stack.specs.Stack.{Stack, first_stack, in_force, asserting_as}
+use Rattle.ct_stack.specs.declared.assuming.Assumption.{Assumption as Assumed}
+use Rattle.ct_stack.specs.Assuming.{Assumption, assumptions, assumptions_seen, list_seen}
+use Rattle.ct_stack.specs.Outcomes.{IsErrorOr, Gives, GivesNeeding, Comes}
 use Rattle.ct_step.specs.declared.answer.Answer.{Answer}
 use Rattle.ct_step.specs.declared.state.SessionState.{SessionState}
 use Rattle.ct_step.specs.declared.options.Options.{Options}
 use Rattle.ct_step.specs.Options.{first_options, with_setting}
-use Rattle.ct_step.specs.State.{State, first_state, changed}
-use Rattle.ct_step.specs.Refusal.{IsRefusal}
+use Rattle.ct_step.specs.State.{State, first_state, changed, cut_back, asserted}
+use Rattle.ct_step.specs.Refusal.{IsRefusal, IsTooLarge}
 use Rattle.ct_step.specs.Step.{Does, said, quiet, success}
-use Rattle.ct_step.specs.Done.{IsAnswer, Performs, IsSame, IsDone, state_of}
+use Rattle.ct_step.specs.Done.{IsAnswer, Performs, IsSame, IsDone, state_of, evidence_of}
+use Rattle.ct_step.proofs.EvidenceLemmas.{nothing_later}
 
 -- what holds of a value holds where more follows from it
 pub Gives-map : {X : Type 0} (o : Outcome X) (P Q : X → Type 0) → ((x : X) → P x → Q x) → Gives o P → Gives o Q
@@ -42,8 +47,32 @@ module _ (old : SessionState) (number : ℕ) (c : Command) (accepted : (n : ℕ)
         effect = quiet (changed (state_of old) stack);
         accepted = (accepted, does);
         state = refl;
-        given = sym (append-nil old.verdicts.items);
+        given = sym (nothing_later (evidence_of old));
         answer = answer (changed (state_of old) stack);
+      }
+
+  -- a command that leaves the first assertions, with their labels
+  pub cuts : (stack : Stack) (labels : Vec (Option (List ℕ))) → labels.items ≡ take (length (in_force stack)) old.labels.items → Does (state_of old) number c (quiet (cut_back (state_of old) stack)) → ((s : State) → IsAnswer (said s (success old.options)) a) → Performs old number c (record old { stack = stack; labels = labels; kept = None }) a
+  cuts stack labels are does answer =
+      record {
+        effect = quiet (cut_back (state_of old) stack);
+        accepted = (accepted, does);
+        state = ap (λ (ls : List (Option (List ℕ))). record { stack = stack; labels = ls; options = old.options; kept = None }) are;
+        given = sym (nothing_later (evidence_of old));
+        answer = answer (cut_back (state_of old) stack);
+      }
+
+  -- a command that asserts a formula with this label, over this stack
+  pub asserts : (stack new : Stack) (label : Option (List ℕ)) (t : Formula) (labels : Vec (Option (List ℕ))) → new ≡ asserting_as stack label t → labels.items ≡ old.labels.items ++ label ∷ [] → Does (state_of old) number c (quiet (asserted (state_of old) stack label t)) → ((s : State) → IsAnswer (said s (success old.options)) a) → Performs old number c (record old { stack = new; labels = labels; kept = None }) a
+  asserts stack new label t labels is are does answer =
+      record {
+        effect = quiet (asserted (state_of old) stack label t);
+        accepted = (accepted, does);
+        state =
+            ap (λ (s : Stack). record { stack = s; labels = labels.items; options = old.options; kept = None }) is
+            ∙ ap (λ (ls : List (Option (List ℕ))). record { stack = asserting_as stack label t; labels = ls; options = old.options; kept = None }) are;
+        given = sym (nothing_later (evidence_of old));
+        answer = answer (asserted (state_of old) stack label t);
       }
 
   -- a command that changes nothing
@@ -53,9 +82,25 @@ module _ (old : SessionState) (number : ℕ) (c : Command) (accepted : (n : ℕ)
         effect = said (state_of old) text;
         accepted = (accepted, does);
         state = refl;
-        given = sym (append-nil old.verdicts.items);
+        given = sym (nothing_later (evidence_of old));
         answer = answer (state_of old);
       }
+
+-- what the literals of a check assume is refused, or too large with the assertions
+pub not_assumed : (old new : SessionState) (number : ℕ) (ls : List Literal) (e : CommandError) → Comes list_seen (assumptions old.stack.top.context.declarations ls) (Err e) → IsSame old new → IsDone old number (check_sat_assuming ls) new (Err e)
+not_assumed old new number ls (Refused n) is same = (subst (λ (o : Outcome (List Assumption)). IsErrorOr o (IsTooLarge old.stack) n) (sym is) refl, same)
+not_assumed old new number ls NoMemory is same = same
+
+pub not_checked : {T : Type 0} (old new : SessionState) (number : ℕ) (ls : List Literal) (shown held : List Assumed) (e : CommandError) → shown ≡ held → assumptions old.stack.top.context.declarations ls ≡ Ok (assumptions_seen held) → ((n : ℕ) → IsErrOf {T = T} {E = CommandError} (Err e) (Refused n) → IsTooLarge old.stack (assumptions_seen shown) n) → IsSame old new → IsDone old number (check_sat_assuming ls) new (Err e)
+not_checked {T} old new number ls shown held e are read why same =
+    not_done old new number (check_sat_assuming ls) {T = T} e
+    (λ n is.
+    subst (λ (o : Outcome (List Assumption)). IsErrorOr o (IsTooLarge old.stack) n) (sym read)
+    (subst (λ (xs : List Assumed). IsTooLarge old.stack (assumptions_seen xs) n) are (why n is))) same
+
+-- where room was made alone
+pub same_verdicts : (old : SessionState) (verdicts : Vec Verdict) → verdicts.items ≡ old.verdicts.items → IsSame old (record old { verdicts = verdicts })
+same_verdicts old verdicts is = record { stack = refl; labels = refl; options = refl; verdicts = is; shrunk = refl; kept = refl }
 
 -- nothing refuses the command
 pub never : (n : ℕ) → ⊥ → ⊥
@@ -63,7 +108,11 @@ never n none = none
 
 -- where the stack has not changed
 pub same_stack : (old : SessionState) (stack : Stack) → stack ≡ old.stack → IsSame old (record old { stack = stack })
-same_stack old stack is = record { stack = is; options = refl; verdicts = refl; kept = refl }
+same_stack old stack is = record { stack = is; labels = refl; options = refl; verdicts = refl; shrunk = refl; kept = refl }
+
+-- nor the labels
+pub same_beside : (old : SessionState) (stack : Stack) (labels : Vec (Option (List ℕ))) → stack ≡ old.stack → labels.items ≡ old.labels.items → IsSame old (record old { stack = stack; labels = labels })
+same_beside old stack labels is are = record { stack = is; labels = are; options = refl; verdicts = refl; shrunk = refl; kept = refl }
 
 -- the same change of the stack has the same effect
 pub quietly : (s : State) (new stack : Stack) → new ≡ stack → quiet (changed s new) ≡ quiet (changed s stack)
@@ -77,15 +126,16 @@ pub not_done_as : {T : Type 0} (old new : SessionState) (number : ℕ) (c d : Co
 not_done_as old new number c d e is why unchanged = subst (λ (x : Command). IsDone old number x new (Err e)) is (not_done old new number c e why unchanged)
 
 -- everything is as at the start
-pub resets : (old : SessionState) (number : ℕ) (stack : Stack) (options : Options) (a : Answer) → stack ≡ first_stack → options ≡ first_options → ((s : State) → IsAnswer (said s (success options)) a) → Performs old number reset (record { stack = stack; options = options; verdicts = old.verdicts; kept = None }) a
-resets old number stack options a same_stack same_options answer =
+pub resets : (old : SessionState) (number : ℕ) (stack : Stack) (labels : Vec (Option (List ℕ))) (options : Options) (a : Answer) → stack ≡ first_stack → labels.items ≡ [] → options ≡ first_options → ((s : State) → IsAnswer (said s (success options)) a) → Performs old number reset (record { stack = stack; labels = labels; options = options; verdicts = old.verdicts; shrunk = old.shrunk; kept = None }) a
+resets old number stack labels options a same_stack no_labels same_options answer =
     record {
       effect = quiet first_state;
       accepted = (never, refl);
       state =
-          ap (λ (s : Stack). record { stack = s; options = options; kept = None }) same_stack
-          ∙ ap (λ (o : Options). record { stack = first_stack; options = o; kept = None }) same_options;
-      given = sym (append-nil old.verdicts.items);
+          ap (λ (s : Stack). record { stack = s; labels = labels.items; options = options; kept = None }) same_stack
+          ∙ ap (λ (ls : List (Option (List ℕ))). record { stack = first_stack; labels = ls; options = options; kept = None }) no_labels
+          ∙ ap (λ (o : Options). record { stack = first_stack; labels = []; options = o; kept = None }) same_options;
+      given = sym (nothing_later (evidence_of old));
       answer = subst (λ (o : Options). IsAnswer (said first_state (success o)) a) same_options (answer first_state);
     }
 
@@ -96,7 +146,7 @@ ends old number a answer =
       effect = record (quiet (state_of old)) { stop = true };
       accepted = (never, refl);
       state = refl;
-      given = sym (append-nil old.verdicts.items);
+      given = sym (nothing_later (evidence_of old));
       answer = record { text = (answer (state_of old)).text; error = (answer (state_of old)).error; stop = refl };
     }
 
@@ -107,7 +157,7 @@ sets old number setting options a accepted is answer =
       effect = quiet (record (state_of old) { options = options });
       accepted = (accepted, ap (λ (o : Options). quiet (record (state_of old) { options = o })) is);
       state = refl;
-      given = sym (append-nil old.verdicts.items);
+      given = sym (nothing_later (evidence_of old));
       answer = answer (record (state_of old) { options = options });
     }
 

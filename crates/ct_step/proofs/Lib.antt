@@ -1,10 +1,14 @@
+pub mod EvidenceLemmas
 mod AnswerLemmas
 mod CauseLemmas
 mod VerdictLemmas
 mod CheckLemmas
+mod CoreLemmas
 mod DoneLemmas
 pub mod SoundLemmas
 mod CutLemmas
 mod StoreLemmas
+mod KeptLemmas
 mod AskLemmas
 pub mod KnownLemmas
+mod PrintLemmas

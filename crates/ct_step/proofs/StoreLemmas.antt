@@ -1,36 +1,40 @@
 -- What becomes of the store by a command that leaves it alone, by one that takes declarations back, and by a check.
-use Rattle.std.proofs.Common.{◌≡◌, ◌∙◌, ℕ, zero, suc, Bool, true, false, true≢false, List, Result, Ok, Err, refl, sym, ap, subst}
+use Rattle.std.proofs.Common.{◌≡◌, ◌∙◌, ℕ, zero, suc, Bool, true, false, true≢false, List, Option, None, Some, Result, Ok, Err, refl, sym, ap, subst}
 use Rattle.ct_sorts.specs.Declarations.{Declarations, with_function, with_definition}
 use Rattle.ct_sorts.specs.Grown.{Extends}
 use Rattle.ct_kept.specs.Kept.{Stored}
+use Rattle.ct_formulas.specs.Formula.{Formula}
 use Rattle.ct_model.specs.ModelText.{IsModelText}
 use Rattle.ct_log_text.specs.Written.{expression_of_record, text_of}
 use Rattle.ct_command.specs.declared.error.CommandError.{CommandError}
 use Rattle.ct_command.specs.declared.error.CommandError.TheVariants.{Refused, NoMemory}
 use Rattle.ct_command.specs.declared.command.Command.{Command as ReadCommand}
 use Rattle.ct_command.specs.Seen.{command_seen}
-use Rattle.ct_command.specs.Command.{Command, set_logic, set_option, get_option, set_info, get_info, declare_sort, define_sort, declare_block, declare_fun, define_fun, assert, check_sat, push, pop, reset_assertions, reset, get_model, get_value, get_proof, echo, exit, unsupported}
+use Rattle.ct_command.specs.Command.{Command, set_logic, set_option, get_option, set_info, get_info, declare_sort, define_sort, declare_block, declare_fun, define_fun, assert, check_sat, check_sat_assuming, push, pop, reset_assertions, reset, get_model, get_value, get_proof, get_unsat_core, get_unsat_assumptions, echo, exit, unsupported}
 use Rattle.ct_engine.specs.declared.verdict.Verdict.{Verdict}
-use Rattle.ct_stack.specs.Stack.{Stack, Context, declaring, in_context, asserting, defined_in}
+use Rattle.ct_stack.specs.Stack.{Stack, Context, declaring, in_context, named_truth, context_with, defined_in}
 use Rattle.ct_stack.specs.Levels.{pushed, pushed_by}
 use Rattle.ct_stack.specs.Elaborations.{synonym_body, with_synonym_of, declared_function, defined_function, asserted_formula}
 use Rattle.ct_stack.specs.Refusal.{over}
 use Rattle.ct_stack.specs.Values.{AreValues}
 use Rattle.ct_step.specs.declared.answer.Answer.{Answer}
 use Rattle.ct_step.specs.declared.state.SessionState.{SessionState}
-use Rattle.ct_step.specs.State.{State, context_of, declared, changed, model_kept, derivation_kept}
-use Rattle.ct_step.specs.Step.{CommandEffect, Does, quiet, said}
+use Rattle.ct_step.specs.declared.cores.Members.TheVariants as members
+use Rattle.ct_step.specs.State.{State, context_of, declared, changed, asserted, model_kept, derivation_kept, refuted_kept, assuming_kept}
+use Rattle.ct_step.specs.Step.{CommandEffect, Does, PrintsCore, quiet, said}
 use Rattle.ct_step.specs.Done.{IsDone, state_of}
+use Rattle.ct_step.specs.Evidence.{Evidence}
 use Rattle.ct_step.specs.Growing.{Growing}
 use Rattle.ct_step.specs.Store.{IsStoreOf, IsSoundWith, Stores, IsStored}
 use Rattle.ct_stack.proofs.NeededLemmas.{comes_grows}
 use Rattle.ct_stack.proofs.SortLemmas.{free_extends, types_extends}
-use Rattle.ct_step.proofs.SoundLemmas.{only, only_needing, only_of, same_state, sound_still}
+use Rattle.ct_step.proofs.SoundLemmas.{only, only_needing, only_of, prints, same_state, sound_still}
 use Rattle.ct_step.proofs.DoneLemmas.{seen_as}
 
 -- the command leaves the store alone
 abbrev pub rests : Command → Bool
 rests check_sat = false
+rests (check_sat_assuming ls) = false
 rests (pop n) = false
 rests reset_assertions = false
 rests reset = false
@@ -39,6 +43,7 @@ rests c = true
 -- so it does, whatever the verdicts are
 stores_same : (s : State) (c : Command) (verdicts : List Verdict) (store : Stored) → rests c ≡ true → Stores s c verdicts store store
 stores_same s check_sat verdicts store rest = absurd (true≢false (sym rest))
+stores_same s (check_sat_assuming ls) verdicts store rest = absurd (true≢false (sym rest))
 stores_same s (pop n) verdicts store rest = absurd (true≢false (sym rest))
 stores_same s reset_assertions verdicts store rest = absurd (true≢false (sym rest))
 stores_same s reset verdicts store rest = absurd (true≢false (sym rest))
@@ -56,6 +61,15 @@ module _ (g : Growing) (s : State) (e : CommandEffect) where
 
   stays : (t : CommandEffect) → e ≡ t → declared t.state ≡ declared s → Extends (declared e.state) (declared s)
   stays t is same = leaves t is (subst (λ (d : Declarations). Extends d (declared s)) (sym same) (g.itself (declared s)))
+
+  -- a label adds a definition
+  labelled : (later : Declarations) (label : Option (List ℕ)) (formula : Formula) → Extends (context_with (record (context_of s) { declarations = later }) label formula).declarations later
+  labelled later None formula = g.itself later
+  labelled later (Some name) formula = g.definition later (named_truth name)
+
+  -- a core that is printed changes nothing that is declared
+  printed_grown : (text : List ℕ) (kept : Evidence) → e ≡ record (said s text) { evidence = kept } → Extends (declared e.state) (declared s)
+  printed_grown text kept is = stays (record (said s text) { evidence = kept }) is refl
 
   -- a command that leaves the store alone only adds to what is declared
   grown_after : (number : ℕ) (c : Command) → rests c ≡ true → Does s number c e → Extends (declared e.state) (declared s)
@@ -78,10 +92,12 @@ module _ (g : Growing) (s : State) (e : CommandEffect) where
       only_needing (λ d. defined_function d name params sort t) (declared s) (λ later f. e ≡ quiet (changed s (in_context s.stack (defined_in (over (context_of s) later) f)))) (Extends (declared e.state) (declared s))
       (λ later f comes h. leaves (quiet (changed s (in_context s.stack (defined_in (over (context_of s) later) f)))) h
       (g.further (with_definition later f.0) later (declared s) (g.definition later f.0) (comes_grows (λ d. defined_function d name params sort t) (declared s) later (Ok f) comes).extends)) is
-  grown_after number (assert t) rest is =
-      only_needing (λ d. asserted_formula d t) (declared s) (λ later formula. e ≡ quiet (changed s (asserting (declaring s.stack later) formula))) (Extends (declared e.state) (declared s))
-      (λ later formula comes h. leaves (quiet (changed s (asserting (declaring s.stack later) formula))) h (comes_grows (λ d. asserted_formula d t) (declared s) later (Ok formula) comes).extends) is
+  grown_after number (assert t label) rest is =
+      only_needing (λ d. asserted_formula d t) (declared s) (λ later formula. e ≡ quiet (asserted s (declaring s.stack later) label formula)) (Extends (declared e.state) (declared s))
+      (λ later formula comes h. leaves (quiet (asserted s (declaring s.stack later) label formula)) h
+      (g.further (declared (asserted s (declaring s.stack later) label formula)) later (declared s) (labelled later label formula) (comes_grows (λ d. asserted_formula d t) (declared s) later (Ok formula) comes).extends)) is
   grown_after number check_sat rest is = absurd (true≢false (sym rest))
+  grown_after number (check_sat_assuming ls) rest is = absurd (true≢false (sym rest))
   grown_after number (push n) rest is = stays _ is (ap (λ (c : Context). c.declarations) (pushed_context n s.stack))
   grown_after number (pop n) rest is = absurd (true≢false (sym rest))
   grown_after number reset_assertions rest is = absurd (true≢false (sym rest))
@@ -92,6 +108,10 @@ module _ (g : Growing) (s : State) (e : CommandEffect) where
       only_of (model_kept s.kept) (λ i. (text : List ℕ) × AreValues (context_of s) i ts text × (e ≡ said s text)) (Extends (declared e.state) (declared s)) (λ i h. stays (said s h.0) h.2 refl) is
   grown_after number get_proof rest is =
       only_of (derivation_kept s.kept) (λ p. e ≡ said s (text_of (expression_of_record (declared s) p.0 p.1.rec))) (Extends (declared e.state) (declared s)) (λ p h. stays (said s (text_of (expression_of_record (declared s) p.0 p.1.rec))) h refl) is
+  grown_after number get_unsat_core rest is =
+      only_of (refuted_kept s.kept) (λ refuted. PrintsCore s members.Names refuted e) (Extends (declared e.state) (declared s)) (λ refuted h. prints s members.Names refuted e (Extends (declared e.state) (declared s)) printed_grown h) is
+  grown_after number get_unsat_assumptions rest is =
+      only_of (assuming_kept s.kept) (λ refuted. PrintsCore s members.Assumptions refuted e) (Extends (declared e.state) (declared s)) (λ refuted h. prints s members.Assumptions refuted e (Extends (declared e.state) (declared s)) printed_grown h) is
   grown_after number (echo x) rest is = stays _ is refl
   grown_after number exit rest is = stays _ is refl
   grown_after number unsupported rest is = stays _ is refl

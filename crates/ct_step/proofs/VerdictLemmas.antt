@@ -21,7 +21,6 @@ use Rattle.ct_engine.specs.declared.verdict.Verdict.{Verdict}
 use Rattle.ct_engine.specs.declared.verdict.Verdict.TheVariants.{Sat, Unsat, Unknown}
 use Rattle.ct_engine.specs.Verdict.{IsVerdict, IsDecisive}
 use Rattle.ct_stack.specs.Stack.{Context, core, in_force, cores}
-use Rattle.ct_stack.specs.Held.{IsHeld}
 use Rattle.ct_step.specs.Numbers.{closure_too_large}
 use Rattle.ct_step.specs.Options.{budget}
 use Rattle.ct_step.specs.State.{State, context_of, declared}
@@ -41,15 +40,12 @@ zipped c table (n ∷ numbers) [] e = absurd (none-some (term_at table n) (sym (
 zipped c table (n ∷ numbers) (t ∷ asserts) e =
     (same_Some (term_at table n) (core c t) (ap (λ (ts : List CoreTree). slice_get ts 0) e), zipped c table numbers asserts (ap (λ (ts : List CoreTree). drop 1 ts) e))
 
-module _ (assertions : Assertions) (c : Context) (asserts : List Formula) (table : Terms) (numbers : List TermId) (consistent : IsConsistent c.declarations) (held : IsHeld (record { context = c; assertions = asserts }) table numbers) where
+module _ (assertions : Assertions) (c : Context) (asserts : List Formula) (table : Terms) (numbers : List TermId) (consistent : IsConsistent c.declarations) (sound : AreSound c.declarations c.bodies) (sorted : All (λ t. IsSorted c.declarations [] t bool_sort) asserts) (stand : terms_at table numbers ≡ cores c asserts) where
   side : AllZip (λ a t. term_at table a ≡ core_of c.declarations c.bodies [] t) numbers asserts
-  side = zipped c table numbers asserts held.in_table.stand
+  side = zipped c table numbers asserts stand
 
-  truth : (i : Interp) → IsProper c.declarations i → Holds c.declarations i table numbers ↔ AllTrue c.declarations i c.bodies asserts
-  truth i proper = assertions c.declarations i c.bodies table numbers asserts consistent proper held.sound.bodies held.sound.asserts side
-
-  roots : terms_at table numbers ≡ cores c asserts
-  roots = held.in_table.stand
+  pub truth : (i : Interp) → IsProper c.declarations i → Holds c.declarations i table numbers ↔ AllTrue c.declarations i c.bodies asserts
+  truth i proper = assertions c.declarations i c.bodies table numbers asserts consistent proper sound sorted side
 
   pub right : (budget : ℕ) (v : Verdict) → IsVerdict c.declarations table numbers budget v → IsRight c asserts budget v
   right budget (Sat i) h = record { proper = h.proper; holds = (truth i h.proper).0 h.holds }
@@ -58,16 +54,16 @@ module _ (assertions : Assertions) (c : Context) (asserts : List Formula) (table
         declarations = h.declarations;
         is_table = h.is_table;
         sorted = h.sorted;
-        asserted = h.asserted ∙ roots;
+        asserted = h.asserted ∙ stand;
         passes = h.passes;
         no_model = λ i satisfies. h.no_model i satisfies.proper ((truth i satisfies.proper).1 satisfies.holds);
       }
   right budget (Unknown spent) h =
       record {
         declarations = h.declarations;
-        asserted = h.asserted ∙ roots;
-        closure = subst (λ (rs : List CoreTree). (t : CoreTree) → HasTree spent.derivation.rec.terms t ↔ InClosure c.declarations rs t) roots h.closure;
-        variables = subst (λ (rs : List CoreTree). HasVariables c.declarations rs spent.variables) roots h.variables;
+        asserted = h.asserted ∙ stand;
+        closure = subst (λ (rs : List CoreTree). (t : CoreTree) → HasTree spent.derivation.rec.terms t ↔ InClosure c.declarations rs t) stand h.closure;
+        variables = subst (λ (rs : List CoreTree). HasVariables c.declarations rs spent.variables) stand h.variables;
         allowed = h.allowed;
         below = h.below;
         recorded = h.recorded;

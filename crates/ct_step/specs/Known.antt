@@ -1,7 +1,7 @@
 -- What is known of the values of terms in the model that stands.
 use Rattle.std.specs.Prelude.{◌≡◌, Bool, true, false, Option, Some, IfSome}
 use Rattle.ct_eval.specs.declared.interp.Interp.{Interp}
-use Rattle.ct_command.specs.Command.{Command, get_option, get_info, get_model, get_value, get_proof, echo}
+use Rattle.ct_command.specs.Command.{Command, get_option, get_info, get_model, get_value, get_proof, get_unsat_core, get_unsat_assumptions, echo}
 use Rattle.ct_stack.specs.declared.model_values.ModelValues.{ModelValues}
 use Rattle.ct_stack.specs.ModelValues.{AreModelValues}
 use Rattle.ct_step.specs.State.{State, declared, model_kept}
@@ -17,5 +17,7 @@ only_asks (get_info info) = true
 only_asks get_model = true
 only_asks (get_value ts) = true
 only_asks get_proof = true
+only_asks get_unsat_core = true
+only_asks get_unsat_assumptions = true
 only_asks (echo e) = true
 only_asks command = false

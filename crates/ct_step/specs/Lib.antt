@@ -1,11 +1,14 @@
 pub mod Numbers
 pub mod Options
+pub mod Evidence
 pub mod State
 pub mod Infos
 pub mod Refusal
 pub mod Verdict
+pub mod Cores
 pub mod Step
 pub mod Done
+pub mod Printing
 pub mod Store
 pub mod Growing
 pub mod Known

@@ -2,7 +2,7 @@
 use Rattle.std.specs.Prelude.{ℕ, Bool, true, false, ◌==◌, nat_lt, List, codes, if◌then◌else◌}
 use Rattle.std.specs.Fmt.{decimal}
 use Rattle.ct_command.specs.declared.option.BooleanOption.{BooleanOption}
-use Rattle.ct_command.specs.declared.option.BooleanOption.TheVariants.{PrintSuccess, GlobalDeclarations, ProduceModels, ProduceProofs, ProduceAssertions, ProduceAssignments, ProduceUnsatCores, ProduceUnsatAssumptions}
+use Rattle.ct_command.specs.declared.option.BooleanOption.TheVariants.{PrintSuccess, GlobalDeclarations, ProduceModels, ProduceProofs, ProduceAssertions, ProduceAssignments, ProduceUnsatCores, ProduceUnsatAssumptions, MinimalUnsatCores}
 use Rattle.ct_command.specs.declared.option.NumeralOption.{NumeralOption}
 use Rattle.ct_command.specs.declared.option.NumeralOption.TheVariants.{ResourceLimit, Verbosity}
 use Rattle.ct_command.specs.declared.option.OptionName.{OptionName}
@@ -22,6 +22,7 @@ first_options =
       produce_assignments = true;
       produce_unsat_cores = true;
       produce_unsat_assumptions = true;
+      minimal_unsat_cores = false;
       limit = 100000;
       verbosity = 0;
     }
@@ -36,6 +37,7 @@ with_boolean o ProduceAssertions b = record o { produce_assertions = b }
 with_boolean o ProduceAssignments b = record o { produce_assignments = b }
 with_boolean o ProduceUnsatCores b = record o { produce_unsat_cores = b }
 with_boolean o ProduceUnsatAssumptions b = record o { produce_unsat_assumptions = b }
+with_boolean o MinimalUnsatCores b = record o { minimal_unsat_cores = b }
 
 -- with this value of a numeral option
 abbrev pub with_numeral : Options → NumeralOption → ℕ → Options
@@ -67,6 +69,7 @@ boolean_of o ProduceAssertions = o.produce_assertions
 boolean_of o ProduceAssignments = o.produce_assignments
 boolean_of o ProduceUnsatCores = o.produce_unsat_cores
 boolean_of o ProduceUnsatAssumptions = o.produce_unsat_assumptions
+boolean_of o MinimalUnsatCores = o.minimal_unsat_cores
 
 abbrev pub numeral_of : Options → NumeralOption → ℕ
 numeral_of o ResourceLimit = o.limit

@@ -10,7 +10,7 @@ use Rattle.ct_terms.specs.CoreTree.{term_at}
 use Rattle.ct_kept.specs.Kept.{Stored}
 use Rattle.ct_kept.specs.Names.{NamesBelow, AreNamed}
 use Rattle.ct_command.specs.declared.error.CommandError.{CommandError}
-use Rattle.ct_command.specs.Command.{Command, check_sat, pop, reset_assertions, reset}
+use Rattle.ct_command.specs.Command.{Command, check_sat, check_sat_assuming, pop, reset_assertions, reset}
 use Rattle.ct_command.specs.Reading.{Read}
 use Rattle.ct_engine.specs.declared.verdict.Verdict.{Verdict}
 use Rattle.ct_engine.specs.Keeping.{HasKept}
@@ -56,6 +56,7 @@ IsCut d (Some m) old new = ((m ≡ lengths d) × (new ≡ old)) ⊎ ((m ≢ leng
 -- last of them says
 abbrev pub Stores : State → Command → List Verdict → Stored → Stored → Type 0
 Stores s check_sat verdicts old new = OfKept (last_of verdicts) (HasKept (declared s) old new)
+Stores s (check_sat_assuming ls) verdicts old new = OfKept (last_of verdicts) (HasKept (declared s) old new)
 Stores s c verdicts old new = IsCut (declared s) (mark_after s c) old new
 
 -- what becomes of the store by what was read, which is answered so: by a command that is refused, and by what is no command, nothing

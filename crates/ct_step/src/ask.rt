@@ -19,14 +19,14 @@ use std::alloc::Global;
 const NO_MODEL: u16 = 52;
 
 /// The number of the error of a question about a derivation where there is none.
-const NO_DERIVATION: u16 = 53;
+pub(crate) const NO_DERIVATION: u16 = 53;
 
 /// The text of the model.
 pub(crate) fn model(alloc: Global, state: &SessionState) -> Result<Answer, CommandError>
     requires sound { IsSound (state_of state.now) }
     ensures done { (number : ℕ) → IsDone state.now number get_model state.now result }
 {
-    let Some(interp) = kept_model(state.verdicts.as_slice(), state.kept) else {
+    let Some(interp) = kept_model(state.verdicts.as_slice(), &state.kept) else {
         return Err(CommandError::Refused(NO_MODEL));
     };
     match model_text(alloc, &state.stack.scope().sig, interp) {
@@ -47,7 +47,7 @@ pub(crate) fn values(
     ensures done { (number : ℕ) → IsDone state.old number (get_value (all_seen terms.now)) state.new result }
     ensures known { AreKnown (state_of state.old) known.new }
 {
-    let Some(interp) = kept_model(state.verdicts.as_slice(), state.kept) else {
+    let Some(interp) = kept_model(state.verdicts.as_slice(), &state.kept) else {
         return Err(CommandError::Refused(NO_MODEL));
     };
     let text = state.stack.values(alloc, interp, known, terms)?;
@@ -59,7 +59,7 @@ pub(crate) fn proof(alloc: Global, state: &SessionState) -> Result<Answer, Comma
     requires sound { IsSound (state_of state.now) }
     ensures done { (number : ℕ) → IsDone state.now number get_proof state.now result }
 {
-    let Some((number, derivation)) = kept_derivation(state.verdicts.as_slice(), state.kept) else {
+    let Some((number, derivation)) = kept_derivation(state.verdicts.as_slice(), &state.kept) else {
         return Err(CommandError::Refused(NO_DERIVATION));
     };
     match derivation_text(alloc, &state.stack.scope().sig, number, derivation.rec()) {

@@ -1,15 +1,15 @@
 //! The commands that declare, define and assert (SMT-LIB 2.7, sections 4.2.3 and 4.2.4).
-ghost use Rattle.std.specs.Prelude.{ℕ};
+ghost use Rattle.std.specs.Prelude.{◌≡◌, ℕ, IfOk};
 ghost use Rattle.ct_sexpr.specs.View.{expression_of};
 ghost use Rattle.ct_command.specs.Command.{define_sort, declare_sort, declare_block, declare_fun, define_fun, assert};
-ghost use Rattle.ct_command.specs.Seen.{names_seen, all_seen, heads_seen, bodies_seen, nameds_seen};
+ghost use Rattle.ct_command.specs.Seen.{bytes_seen, names_seen, all_seen, heads_seen, bodies_seen, nameds_seen};
 ghost use Rattle.ct_step.specs.Done.{IsDone};
 
 use crate::answer::{Answer, quiet};
 use crate::state::SessionState;
 use ct_command::{Body, CommandError, Family, Named, SortHead};
-use ct_sexpr::Sexpr;
-use std::alloc::Global;
+use ct_sexpr::{Bytes, Sexpr};
+use std::alloc::{AllocError, Global};
 
 /// Declares an uninterpreted sort.
 pub(crate) fn declare_sort(
@@ -97,16 +97,30 @@ pub(crate) fn define_function(
     Ok(answer)
 }
 
-/// Adds an assertion.
+/// Adds an assertion, with its label where it has one. There is room for the label before anything changes.
 pub(crate) fn assert(
     alloc: Global,
     state: &mut SessionState,
     term: &Sexpr,
+    label: Option<&[u8]>,
 ) -> Result<Answer, CommandError>
-    ensures done { (number : ℕ) → IsDone state.old number (assert (expression_of term.now)) state.new result }
+    ensures done { (number : ℕ) → IsDone state.old number (assert (expression_of term.now) (bytes_seen label.entry)) state.new result }
 {
     let answer = quiet(alloc, state.options)?;
-    state.stack.assert(alloc, term)?;
+    let name = name_of(alloc, label)?;
+    state.labels.reserve(1)?;
+    state.stack.assert(alloc, term, label)?;
+    state.labels.push(name).unwrap();
     state.kept = None;
     Ok(answer)
+}
+
+// The name of a label.
+fn name_of(alloc: Global, label: Option<&[u8]>) -> Result<Option<Bytes>, AllocError>
+    ensures name { IfOk result (λ name. name ≡ bytes_seen label.entry) }
+{
+    match label {
+        Some(name) => Ok(Some(Bytes::new(Vec::from_slice(alloc, name)?))),
+        None => Ok(None),
+    }
 }

@@ -40,7 +40,7 @@ fn levels_text(alloc: Global, levels: usize) -> Result<Vec<u8>, AllocError>
 fn reason_text(alloc: Global, state: &SessionState) -> Result<Vec<u8>, AllocError>
     ensures text { IfOk result (λ text. text.items ≡ info_text (state_of state.now) Info.ReasonUnknown) }
 {
-    if is_undecided(state.verdicts.as_slice(), state.kept) {
+    if is_undecided(state.verdicts.as_slice(), &state.kept) {
         return Vec::from_slice(alloc, b"(:reason-unknown incomplete)");
     }
     Vec::from_slice(alloc, UNSUPPORTED)

@@ -1,9 +1,10 @@
 //! The commands that add and remove levels of the assertion stack (SMT-LIB 2.7, sections 4.2.1 and 4.2.2).
-ghost use Rattle.std.specs.Prelude.{◌≡◌, ◌↔◌, ℕ, IfSome, IsTrue, OnOk, OnErr};
+ghost use Rattle.std.specs.Prelude.{◌≡◌, ◌↔◌, ℕ, length, take, IfSome, IsTrue, OnOk, OnErr};
 ghost use Rattle.ct_sorts.specs.Marks.{CanCut, cut, lengths};
 ghost use Rattle.ct_terms.specs.Terms.{AreSorted};
 ghost use Rattle.ct_command.specs.Command.{push, pop, reset_assertions, reset};
 ghost use Rattle.ct_stack.specs.Levels.{IsBeside};
+ghost use Rattle.ct_stack.specs.Stack.{in_force};
 ghost use Rattle.ct_step.specs.Done.{IsDone, state_of};
 ghost use Rattle.ct_step.specs.Store.{IsStoreOf, IsCut, IsStored};
 
@@ -47,6 +48,7 @@ pub(crate) fn pop(
     let mark = state.stack.mark_below(global, count);
     cut_store(alloc, &state.stack, mark, store)?;
     state.stack.pop(global, count)?;
+    cut_labels(state);
     state.kept = None;
     Ok(answer)
 }
@@ -67,6 +69,7 @@ pub(crate) fn reset_assertions(
     let mark = state.stack.first_mark(global);
     cut_store(alloc, &state.stack, mark, store)?;
     state.stack.empty(global);
+    cut_labels(state);
     state.kept = None;
     Ok(answer)
 }
@@ -87,9 +90,19 @@ pub(crate) fn reset(
     let mark = state.stack.first_mark(false);
     cut_store(alloc, &state.stack, mark, store)?;
     state.stack.reset();
+    state.labels.truncate(0);
     state.options = options;
     state.kept = None;
     Ok(answer)
+}
+
+// Takes the labels of assertions back that are no longer in force.
+fn cut_labels(state: &mut SessionState)
+    ensures cut { state.new ≡ record state.old { labels = state.new.labels } }
+    ensures labels { state.new.labels.items ≡ take (length (in_force state.old.stack)) state.old.labels.items }
+{
+    let left = state.stack.assertions().len();
+    state.labels.truncate(left);
 }
 
 // Leaves in the store what names only what is below the mark, where there is one and something goes with it.

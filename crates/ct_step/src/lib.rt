@@ -4,6 +4,7 @@
 mod answer;
 mod ask;
 mod check;
+mod cores;
 mod declare;
 mod infos;
 mod levels;
@@ -14,7 +15,8 @@ mod state;
 mod theorems;
 
 pub use answer::{Answer, refusal_text, refused};
+pub use cores::Members;
 pub use options::Options;
 pub use performing::perform;
-pub use state::SessionState;
+pub use state::{Asked, SessionState};
 pub use theorems::decided_checks;

@@ -23,8 +23,10 @@ pub struct Options {
     pub produce_assignments: bool,
     /// Without effect.
     pub produce_unsat_cores: bool,
-    /// Without effect.
+    /// Without effect: there are always cores of assumptions after `unsat`.
     pub produce_unsat_assumptions: bool,
+    /// Whether a core is shrunk before it is printed.
+    pub minimal_unsat_cores: bool,
     /// How many decisions a check may take; 0 is no limit.
     pub limit: u128,
     /// Without effect.
@@ -45,6 +47,7 @@ impl Options {
             produce_assignments: true,
             produce_unsat_cores: true,
             produce_unsat_assumptions: true,
+            minimal_unsat_cores: false,
             limit: 100_000,
             verbosity: 0,
         }
@@ -97,6 +100,10 @@ impl Options {
                 produce_unsat_assumptions: value,
                 ..self
             },
+            BooleanOption::MinimalUnsatCores => Options {
+                minimal_unsat_cores: value,
+                ..self
+            },
         }
     }
 
@@ -129,6 +136,7 @@ impl Options {
             BooleanOption::ProduceAssignments => self.produce_assignments,
             BooleanOption::ProduceUnsatCores => self.produce_unsat_cores,
             BooleanOption::ProduceUnsatAssumptions => self.produce_unsat_assumptions,
+            BooleanOption::MinimalUnsatCores => self.minimal_unsat_cores,
         }
     }
 

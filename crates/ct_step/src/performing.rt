@@ -7,7 +7,8 @@ ghost use Rattle.ct_step.specs.Known.{AreKnown, only_asks};
 
 use crate::answer::Answer;
 use crate::ask::{model, proof, values};
-use crate::check::check;
+use crate::check::{check, check_assuming};
+use crate::cores::{unsat_assumptions, unsat_core};
 use crate::declare::{
     assert, declare_block, declare_function, declare_sort, define_function, define_sort,
 };
@@ -60,6 +61,8 @@ fn only_asks(command: &Command<'_>) -> bool
             | Command::GetModel
             | Command::GetValue(_)
             | Command::GetProof
+            | Command::GetUnsatCore
+            | Command::GetUnsatAssumptions
             | Command::Echo(_)
     )
 }
@@ -105,8 +108,11 @@ fn pass_on(
         Command::DefineFun(name, params, sort, term) => {
             define_function(alloc, state, name, params, sort, term)
         }
-        Command::Assert(term) => assert(alloc, state, term),
+        Command::Assert(term, label) => assert(alloc, state, term, label),
         Command::CheckSat => check(alloc, state, store, number),
+        Command::CheckSatAssuming(literals) => {
+            check_assuming(alloc, state, store, literals.as_slice())
+        }
         Command::Push(count) => push(alloc, state, count),
         Command::Pop(count) => pop(alloc, state, store, count),
         Command::ResetAssertions => reset_assertions(alloc, state, store),
@@ -114,6 +120,8 @@ fn pass_on(
         Command::GetModel => model(alloc, state),
         Command::GetValue(terms) => values(alloc, state, known, terms),
         Command::GetProof => proof(alloc, state),
+        Command::GetUnsatCore => unsat_core(alloc, state),
+        Command::GetUnsatAssumptions => unsat_assumptions(alloc, state),
         Command::Echo(expr) => echo(alloc, expr),
         Command::Exit => exit(alloc, state),
         Command::Unsupported => unsupported(alloc),

@@ -4,8 +4,8 @@
 -- items of a derivation. Names that a script chooses, and letters that stand for numbers, terms or a rule, are no words.
 use Rattle.std.specs.Prelude.{ℕ, List, [], ◌∷◌, ◌++◌, codes}
 
--- the names of the commands (SMT-LIB 2.7, section 3.9, and the declarations of codatatypes as cvc5 has them):
--- first those that have an effect or an answer of their own, then those that are answered `unsupported`
+-- the names of the commands (SMT-LIB 2.7, section 3.9, and the declarations of codatatypes as cvc5 has them), with those that are answered
+-- `unsupported`
 abbrev pub command_names : List (List ℕ)
 command_names =
     codes "set-logic" ∷ (codes "set-option" ∷ (codes "get-option" ∷ (codes "set-info" ∷ (codes "get-info" ∷ (codes "declare-sort" ∷ (codes "define-sort" ∷ (codes "declare-datatype" ∷ (codes "declare-codatatype" ∷ (codes "declare-datatypes" ∷ (codes "declare-codatatypes" ∷ (codes "declare-const" ∷ (codes "declare-fun" ∷ (codes "define-fun" ∷ (codes "define-const" ∷ (codes "assert" ∷ (codes "check-sat" ∷ (codes "push" ∷ (codes "pop" ∷ (codes "reset-assertions" ∷ (codes "reset" ∷ (codes "get-model" ∷ (codes "get-value" ∷ (codes "get-proof" ∷ (codes "echo" ∷ (codes "exit" ∷ (codes "define-fun-rec" ∷ (codes "define-funs-rec" ∷ (codes "declare-sort-parameter" ∷ (codes "get-assertions" ∷ (codes "get-assignment" ∷ (codes "check-sat-assuming" ∷ (codes "get-unsat-core" ∷ (codes "get-unsat-assumptions" ∷ [])))))))))))))))))))))))))))))))))

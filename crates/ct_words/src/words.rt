@@ -23,7 +23,7 @@ macro_rules! names {
     };
 }
 
-/// The names of the commands, in the order of the reference of commands; those answered `unsupported` stand last.
+/// The names of the commands, in the order in which the reference of commands first has them.
 pub fn commands() -> NameTable<COMMANDS>
     ensures names { result ≡ command_names }
 {

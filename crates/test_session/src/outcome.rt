@@ -4,10 +4,11 @@ use ct_cases::{CaseError, show_bytes};
 use ct_engine::Verdict;
 use ct_io::{Status, Text};
 use ct_run::{Report, run};
+use ct_shrink::{Need, Shrunk};
 use std::alloc::Global;
 
-/// Runs the script, and shows what comes of it: the status, the verdicts, the errors, what was written, and, where the setting
-/// asks for it, how often the desk was called. Gives the status.
+/// Runs the script, and shows what comes of it: the status, the verdicts, the errors, the cores that were shrunk, what was written,
+/// and, where the setting asks for it, how often the desk was called. Gives the status.
 pub fn show_outcome(
     alloc: Global,
     words: &[Text],
@@ -28,7 +29,7 @@ pub fn show_outcome(
     Ok(report.status)
 }
 
-/// Shows the status, the verdicts, and the errors, each with its line and its number.
+/// Shows the status, the verdicts, the errors, each with its line and its number, and the cores that were shrunk.
 fn show_report(alloc: Global, report: &Report, out: &mut String) -> Result<(), CaseError> {
     out.push_str(format!(in alloc; " {:?}", report.status)?.as_str())?;
     for verdict in &report.verdicts {
@@ -38,7 +39,32 @@ fn show_report(alloc: Global, report: &Report, out: &mut String) -> Result<(), C
     for (line, code) in &report.errors {
         out.push_str(format!(in alloc; " line-{line}-E{code}")?.as_str())?;
     }
+    for core in &report.shrunk {
+        show_core(alloc, core, out)?;
+    }
     Ok(())
+}
+
+/// Shows the places of a core that was shrunk, and for each whether an interpretation shows that it is needed, `!`, or this was
+/// left open, `?`.
+fn show_core(alloc: Global, shrunk: &Shrunk, out: &mut String) -> Result<(), CaseError> {
+    out.push_str(" core")?;
+    for place in &shrunk.core.places {
+        out.push_str(format!(in alloc; "-{place}")?.as_str())?;
+    }
+    out.push(' ')?;
+    for need in &shrunk.needs {
+        out.push(mark_of(need))?;
+    }
+    Ok(())
+}
+
+/// The mark of an assertion that is needed, or may be.
+fn mark_of(need: &Need) -> char {
+    match need {
+        Need::Shown(_) => '!',
+        Need::Open(_) => '?',
+    }
 }
 
 /// The word of a verdict.

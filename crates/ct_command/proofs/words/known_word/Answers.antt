@@ -1,13 +1,16 @@
 use Rattle.std.proofs.Common.{◌≡◌, ◌++◌, ℕ, List, Option, None}
 use Rattle.ct_command.specs.declared.words.Word.{Word}
 use Rattle.ct_command.specs.Tables.{beside}
-use Rattle.ct_command.specs.Reading.{words, setting_words, sort_words, function_words, session_words, answer_words, unsupported_words}
+use Rattle.ct_command.specs.Reading.{words, setting_words, sort_words, function_words, session_words, answer_words, unsupported_words, last_words}
 use Rattle.ct_command.proofs.WordLemmas.{found, skip}
 use Rattle.ct_command.proofs.words.known_word.Goals as goal
 
 -- the tables after each of them
+abbrev after_answer : List (List ℕ × Word)
+after_answer = unsupported_words ++ last_words
+
 abbrev after_session : List (List ℕ × Word)
-after_session = answer_words ++ unsupported_words
+after_session = answer_words ++ after_answer
 
 abbrev after_function : List (List ℕ × Word)
 after_function = session_words ++ after_session
@@ -32,8 +35,11 @@ module _ (word : List ℕ) (answer : Option Word) where
   past_session : None ≡ beside setting_words word → None ≡ beside sort_words word → None ≡ beside function_words word → None ≡ beside session_words word → answer ≡ beside after_session word → answer ≡ beside words word
   past_session no_setting no_sort no_function no_session e = past_function no_setting no_sort no_function (skip after_session word session_words answer no_session e)
 
-  past_answer : None ≡ beside setting_words word → None ≡ beside sort_words word → None ≡ beside function_words word → None ≡ beside session_words word → None ≡ beside answer_words word → answer ≡ beside unsupported_words word → answer ≡ beside words word
-  past_answer no_setting no_sort no_function no_session no_answer e = past_session no_setting no_sort no_function no_session (skip unsupported_words word answer_words answer no_answer e)
+  past_answer : None ≡ beside setting_words word → None ≡ beside sort_words word → None ≡ beside function_words word → None ≡ beside session_words word → None ≡ beside answer_words word → answer ≡ beside after_answer word → answer ≡ beside words word
+  past_answer no_setting no_sort no_function no_session no_answer e = past_session no_setting no_sort no_function no_session (skip after_answer word answer_words answer no_answer e)
+
+  past_unsupported : None ≡ beside setting_words word → None ≡ beside sort_words word → None ≡ beside function_words word → None ≡ beside session_words word → None ≡ beside answer_words word → None ≡ beside unsupported_words word → answer ≡ beside last_words word → answer ≡ beside words word
+  past_unsupported no_setting no_sort no_function no_session no_answer supported e = past_answer no_setting no_sort no_function no_session no_answer (skip last_words word unsupported_words answer supported e)
 
 pub returns-in-Some : goal.returns-in-Some
 returns-in-Some c = record { value = found after_setting c.args.word.now setting_words c.in-Some.known c.in-Some.ensures.value }
@@ -48,7 +54,10 @@ pub returns-in-Some-session_word : goal.returns-in-Some-session_word
 returns-in-Some-session_word c = record { value = past_function c.args.word.now _ c.in_default.ensures.value c.in_default-sort_word.ensures.value c.in_default-function_word.ensures.value (found after_session c.args.word.now session_words c.in-Some-session_word.known c.in-Some-session_word.ensures.value) }
 
 pub returns-in-Some-answer_word : goal.returns-in-Some-answer_word
-returns-in-Some-answer_word c = record { value = past_session c.args.word.now _ c.in_default.ensures.value c.in_default-sort_word.ensures.value c.in_default-function_word.ensures.value c.in_default-session_word.ensures.value (found unsupported_words c.args.word.now answer_words c.in-Some-answer_word.known c.in-Some-answer_word.ensures.value) }
+returns-in-Some-answer_word c = record { value = past_session c.args.word.now _ c.in_default.ensures.value c.in_default-sort_word.ensures.value c.in_default-function_word.ensures.value c.in_default-session_word.ensures.value (found after_answer c.args.word.now answer_words c.in-Some-answer_word.known c.in-Some-answer_word.ensures.value) }
+
+pub returns-in-Some-unsupported_word : goal.returns-in-Some-unsupported_word
+returns-in-Some-unsupported_word c = record { value = past_answer c.args.word.now _ c.in_default.ensures.value c.in_default-sort_word.ensures.value c.in_default-function_word.ensures.value c.in_default-session_word.ensures.value c.in_default-answer_word.ensures.value (found last_words c.args.word.now unsupported_words c.in-Some-unsupported_word.known c.in-Some-unsupported_word.ensures.value) }
 
 pub returns : goal.returns
-returns c = record { value = past_answer c.args.word.now _ c.in_default.ensures.value c.in_default-sort_word.ensures.value c.in_default-function_word.ensures.value c.in_default-session_word.ensures.value c.in_default-answer_word.ensures.value c.unsupported_word.ensures.value }
+returns c = record { value = past_unsupported c.args.word.now _ c.in_default.ensures.value c.in_default-sort_word.ensures.value c.in_default-function_word.ensures.value c.in_default-session_word.ensures.value c.in_default-answer_word.ensures.value c.in_default-unsupported_word.ensures.value c.last_word.ensures.value }

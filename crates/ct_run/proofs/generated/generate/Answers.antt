@@ -1,8 +1,9 @@
+use Rattle.ct_run.specs.Kept.{kept_in}
 use Rattle.ct_run.proofs.GeneratedLemmas.{stopped_report}
 use Rattle.ct_run.proofs.generated.generate.Goals as goal
 
 pub returns-in-Err-clause-counted : goal.returns-in-Err-clause-counted
 returns-in-Err-clause-counted g c =
     let report = c.without_errors.ensures in
-    stopped_report c.args.n c.without_errors.result.status c.without_errors.result.verdicts.items c.in-Err.verdicts.items c.without_errors.result.errors.items _
-    report.status report.verdicts report.errors c.in-Err.ensures.stopped
+    stopped_report c.args.n c.without_errors.result.status (kept_in c.without_errors.result) c.in-Err.verdicts.items c.without_errors.result.errors.items _
+    report.status report.verdicts (record { no_core = report.shrunk; no_error = report.errors }) c.in-Err.ensures.stopped

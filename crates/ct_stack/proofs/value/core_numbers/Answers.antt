@@ -10,7 +10,7 @@ use Rattle.ct_compile.specs.Effect.{AllStand}
 use Rattle.ct_stack.specs.Held.{IsTableOf, context_in}
 use Rattle.ct_stack.specs.Sorts.{HasSomeSort}
 use Rattle.ct_stack.proofs.ErrorLemmas.{same_refusal}
-use Rattle.ct_stack.proofs.ValueLemmas.{IsUnderWay, not_begun, one_number_more, too_many_by_one, all_made, prefix_of_prefix}
+use Rattle.ct_stack.proofs.GrowingLemmas.{IsUnderWay, not_begun, one_number_more, too_many_by_one, all_made, prefix_of_prefix}
 use Rattle.ct_stack.proofs.value.core_numbers.Goals as goal
 
 pub returns-in_err-numbers-clause-grown : goal.returns-in_err-numbers-clause-grown

@@ -2,7 +2,7 @@ use Rattle.std.proofs.Common.{length, map, All}
 use Rattle.ct_formulas.specs.TreeFormula.{formula_of}
 use Rattle.ct_stack.specs.Held.{context_in}
 use Rattle.ct_stack.specs.Sorts.{HasSomeSort}
-use Rattle.ct_stack.proofs.ValueLemmas.{IsUnderWay}
+use Rattle.ct_stack.proofs.GrowingLemmas.{IsUnderWay}
 use Rattle.ct_stack.proofs.value.core_numbers.Given as goal
 
 abbrev pub invariant-loop-left : goal.invariant-loop-left

@@ -5,7 +5,7 @@ use Rattle.ct_formulas.specs.TreeFormula.{formula_of}
 use Rattle.ct_stack.specs.Stack.{cores}
 use Rattle.ct_stack.specs.Held.{context_in}
 use Rattle.ct_stack.proofs.TableLemmas.{few_terms}
-use Rattle.ct_stack.proofs.ValueLemmas.{two_at_least}
+use Rattle.ct_stack.proofs.GrowingLemmas.{two_at_least}
 use Rattle.ct_stack.proofs.value.has_room.Goals as goal
 
 pub cut_to-requires-clause-truths : goal.cut_to-requires-clause-truths

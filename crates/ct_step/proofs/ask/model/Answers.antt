@@ -12,7 +12,7 @@ pub model_text-requires : goal.model_text-requires
 model_text-requires c =
     let i = c.in-Some.interp.now in
     let stands : model_kept (kept_of c.args.state.now.verdicts.items c.args.state.now.kept) ≡ Some i = subst (λ (vs : List Verdict). model_kept (kept_of vs c.args.state.now.kept) ≡ Some i) c.as_slice.ensures.value (sym c.in-Some.ensures.value) in
-    record { proper = subst (λ (x : Context). IsProper x.declarations i) (sym c.scope.ensures.value) (c.requires.sound.proper i stands) }
+    record { proper = subst (λ (x : Context). IsProper x.declarations i) (sym c.scope.ensures.value) (c.requires.sound.own.proper i stands) }
 
 pub returns-in-Ok : goal.returns-in-Ok
 returns-in-Ok c =

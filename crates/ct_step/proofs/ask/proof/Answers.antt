@@ -18,7 +18,7 @@ derivation_text-requires c =
     record {
       fits =
           subst (λ (x : Context). AreSorted x.declarations c.rec.result.now.terms) (sym c.scope.ensures.value)
-          (subst (λ (d : Declarations). AreSorted d c.rec.result.now.terms) (c.requires.sound.derived p stands)
+          (subst (λ (d : Declarations). AreSorted d c.rec.result.now.terms) (c.requires.sound.own.derived p stands)
           (subst (λ (r : Recorded). AreSorted c.in-Some.derivation.now.declarations r.terms) (sym c.rec.ensures.value) c.rec.ensures.derivation.judges.sorted));
     }
 

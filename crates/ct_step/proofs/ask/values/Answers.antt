@@ -12,7 +12,7 @@ pub values-requires : goal.values-requires
 values-requires c =
     let i = c.in-Some.interp.now in
     let stands : model_kept (kept_of c.args.state.now.verdicts.items c.args.state.now.kept) ≡ Some i = subst (λ (vs : List Verdict). model_kept (kept_of vs c.args.state.now.kept) ≡ Some i) c.as_slice.ensures.value (sym c.in-Some.ensures.value) in
-    record { proper = c.requires.sound.proper i stands; valued = c.requires.known i stands }
+    record { proper = c.requires.sound.own.proper i stands; valued = c.requires.known i stands }
 
 pub returns : goal.returns
 returns c =

@@ -16,10 +16,10 @@ returns c =
     let given : c.push.new.self.items ≡ c.args.state.now.verdicts.items ++ v ∷ [] = pushed ∙ ap (λ (vs : List Verdict). vs ++ v ∷ []) c.in_ok-reserve.ensures.items in
     record {
       done =
-          checked c.args.state.now (record c.args.state.now { verdicts = c.push.new.self; kept = Some c.args.number }) c.args.number v c.said.result
+          checked c.args.state.now _ c.args.number v c.new.result (Some c.args.number) c.said.result refl refl refl given refl refl
+          (λ s. same_text s c.said.result _ _ c.put_word.ensures.word (c.said.ensures.answer s)) c.new.ensures.items refl
           (subst (λ (b : ℕ). ComesTo c.args.state.now.stack.top.context (in_force c.args.state.now.stack) b v) c.budget.ensures.value c.in_ok-verdict.ensures.verdict)
-          c.in_ok-verdict.ensures.accepted refl refl given refl
-          (λ s. same_text s c.said.result _ _ c.put_word.ensures.word (c.said.ensures.answer s));
+          c.in_ok-verdict.ensures.accepted;
       stored =
           subst (λ (o : Option Verdict). OfKept o (HasKept c.args.state.now.stack.top.context.declarations c.args.store.now c.verdict.new.store)) (sym (ap last_of given ∙ last_given c.args.state.now.verdicts.items v)) c.in_ok-verdict.ensures.kept;
       sorted = c.verdict.ensures.sorted;

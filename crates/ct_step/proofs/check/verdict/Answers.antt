@@ -1,17 +1,16 @@
-use Rattle.std.proofs.Common.{Err, sym, ap, subst}
+use Rattle.std.proofs.Common.{sym, ap, subst}
+use Rattle.std.proofs.lemmas.Result.{err_from_is_err_and}
 use Rattle.ct_sorts.specs.Declarations.{Declarations}
 use Rattle.ct_terms.specs.Terms.{AreSorted}
 use Rattle.ct_engine.specs.Keeping.{HasKept}
-use Rattle.ct_engine.specs.declared.error.SolveError.{SolveError}
 use Rattle.ct_stack.specs.Stack.{Context}
-use Rattle.ct_step.specs.Numbers.{closure_too_large}
 use Rattle.ct_step.specs.Refusal.{IsCheckRefusal}
-use Rattle.ct_step.proofs.CauseLemmas.{at_code}
+use Rattle.ct_step.proofs.CauseLemmas.{refused_by}
 use Rattle.ct_step.proofs.CheckLemmas.{sorted, exact, check_fits, check_too_large, check_comes_to}
 use Rattle.ct_step.proofs.check.verdict.Goals as goal
 
-pub solve_kept-requires : goal.solve_kept-requires
-solve_kept-requires c =
+pub verdict_over-requires : goal.verdict_over-requires
+verdict_over-requires c =
     let is = ap (λ (x : Context). x.declarations) c.scope.ensures.value in
     let held = c.core_terms.ensures.held in
     record {
@@ -21,31 +20,32 @@ solve_kept-requires c =
       kept = subst (λ (d : Declarations). AreSorted d c.args.store.now.table) (sym is) c.requires.sorted;
     }
 
-pub returns-in-Ok-clause-verdict : goal.returns-in-Ok-clause-verdict
-returns-in-Ok-clause-verdict c =
+pub returns-in_err-verdict-clause-refused : goal.returns-in_err-verdict-clause-refused
+returns-in_err-verdict-clause-refused c =
     let is = ap (λ (x : Context). x.declarations) c.scope.ensures.value in
-    check_comes_to c.args.stack.now c.scope.result.now.sig c.core_terms.result.0.now c.core_terms.result.1.now is c.core_terms.ensures.held c.meanings.ensures.assertions c.sorts.ensures.consistent c.args.budget c.in-Ok.verdict c.in-Ok.ensures.verdict c.in-Ok.ensures.decides
+    let p = err_from_is_err_and c.from_residual.result c.from_residual.ensures.1 in
+    rw (p.1, p.2)
+    (refused_by (IsCheckRefusal c.args.stack.now) _
+    (λ n e.
+    let why = c.in_err-verdict.ensures.refused n e in
+    subst (IsCheckRefusal c.args.stack.now) (sym why.0) (check_too_large c.args.stack.now c.scope.result.now.sig c.core_terms.result.0.now c.core_terms.result.1.now is c.core_terms.ensures.held why.1)))
 
-pub returns-in-Ok-clause-accepted : goal.returns-in-Ok-clause-accepted
-returns-in-Ok-clause-accepted c =
+pub returns-in_err-verdict-clause-sorted : goal.returns-in_err-verdict-clause-sorted
+returns-in_err-verdict-clause-sorted c = subst (λ (d : Declarations). AreSorted d c.verdict_over.new.store.table) (ap (λ (x : Context). x.declarations) c.scope.ensures.value) c.in_err-verdict.ensures.sorted
+
+pub returns-clause-verdict : goal.returns-clause-verdict
+returns-clause-verdict c =
     let is = ap (λ (x : Context). x.declarations) c.scope.ensures.value in
-    check_fits c.args.stack.now c.scope.result.now.sig c.core_terms.result.0.now c.core_terms.result.1.now is c.core_terms.ensures.held c.in-Ok.ensures.fits
+    check_comes_to c.args.stack.now c.scope.result.now.sig c.core_terms.result.0.now c.core_terms.result.1.now is c.core_terms.ensures.held c.meanings.ensures.assertions c.sorts.ensures.consistent c.args.budget c.in_ok-verdict.verdict c.in_ok-verdict.ensures.verdict c.in_ok-verdict.ensures.decides
 
-pub returns-in-Err-TooLarge-clause-refused : goal.returns-in-Err-TooLarge-clause-refused
-returns-in-Err-TooLarge-clause-refused c =
+pub returns-clause-accepted : goal.returns-clause-accepted
+returns-clause-accepted c =
     let is = ap (λ (x : Context). x.declarations) c.scope.ensures.value in
-    at_code (IsCheckRefusal c.args.stack.now) closure_too_large
-    (check_too_large c.args.stack.now c.scope.result.now.sig c.core_terms.result.0.now c.core_terms.result.1.now is c.core_terms.ensures.held (c.in-Err-TooLarge.ensures.too_large (ap (λ (f : SolveError). Err f) c.in-Err-TooLarge.field-0-is)))
+    check_fits c.args.stack.now c.scope.result.now.sig c.core_terms.result.0.now c.core_terms.result.1.now is c.core_terms.ensures.held c.in_ok-verdict.ensures.fits
 
-pub returns-in-Ok-clause-kept : goal.returns-in-Ok-clause-kept
-returns-in-Ok-clause-kept c =
-    subst (λ (d : Declarations). HasKept d c.args.store.now c.solve_kept.new.kept c.in-Ok.verdict) (ap (λ (x : Context). x.declarations) c.scope.ensures.value) c.in-Ok.ensures.kept
+pub returns-clause-kept : goal.returns-clause-kept
+returns-clause-kept c =
+    subst (λ (d : Declarations). HasKept d c.args.store.now c.verdict_over.new.store c.in_ok-verdict.verdict) (ap (λ (x : Context). x.declarations) c.scope.ensures.value) c.in_ok-verdict.ensures.kept
 
-pub returns-in-Ok-clause-sorted : goal.returns-in-Ok-clause-sorted
-returns-in-Ok-clause-sorted c = subst (λ (d : Declarations). AreSorted d c.solve_kept.new.kept.table) (ap (λ (x : Context). x.declarations) c.scope.ensures.value) c.solve_kept.ensures.sorted
-
-pub returns-in-Err-TooLarge-clause-sorted : goal.returns-in-Err-TooLarge-clause-sorted
-returns-in-Err-TooLarge-clause-sorted c = subst (λ (d : Declarations). AreSorted d c.solve_kept.new.kept.table) (ap (λ (x : Context). x.declarations) c.scope.ensures.value) c.solve_kept.ensures.sorted
-
-pub returns-in-Err-NoMemory-clause-sorted : goal.returns-in-Err-NoMemory-clause-sorted
-returns-in-Err-NoMemory-clause-sorted c = subst (λ (d : Declarations). AreSorted d c.solve_kept.new.kept.table) (ap (λ (x : Context). x.declarations) c.scope.ensures.value) c.solve_kept.ensures.sorted
+pub returns-clause-sorted : goal.returns-clause-sorted
+returns-clause-sorted c = subst (λ (d : Declarations). AreSorted d c.verdict_over.new.store.table) (ap (λ (x : Context). x.declarations) c.scope.ensures.value) c.in_ok-verdict.ensures.sorted

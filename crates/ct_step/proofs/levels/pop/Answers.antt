@@ -1,12 +1,16 @@
-use Rattle.std.proofs.Common.{◌∙◌, Option, sym, subst}
+use Rattle.std.proofs.Common.{◌≡◌, ◌∙◌, Option, None, sym, ap, subst}
 use Rattle.std.proofs.lemmas.Result.{err_from_is_err_and}
 use Rattle.ct_sorts.specs.Lengths.{Lengths}
 use Rattle.ct_command.specs.Command.{pop}
 use Rattle.ct_stack.specs.Levels.{popped_by}
-use Rattle.ct_step.specs.Done.{state_of}
-use Rattle.ct_step.specs.Store.{IsCut}
+use Rattle.ct_stack.specs.Stack.{Stack}
+use Rattle.ct_step.specs.declared.state.SessionState.{SessionState}
+use Rattle.ct_step.specs.Done.{Performs, state_of}
+use Rattle.ct_step.specs.State.{cut_back}
+use Rattle.ct_step.specs.Step.{quiet}
+use Rattle.ct_step.specs.Store.{IsStoreOf, IsCut}
 use Rattle.ct_step.proofs.CutLemmas.{levels_stand, can_cut, popped_same, sorted_left, refused_same, sorted_as}
-use Rattle.ct_step.proofs.DoneLemmas.{not_done, changes, quietly, same_stack}
+use Rattle.ct_step.proofs.DoneLemmas.{not_done, cuts, same_stack}
 use Rattle.ct_step.proofs.levels.pop.Goals as goal
 
 pub cut_store-requires : goal.cut_store-requires
@@ -29,13 +33,17 @@ returns c =
     let s = c.args.state.now.stack in
     let global = c.args.state.now.options.global_declarations in
     let is = c.mark_below-mark.ensures.mark (levels_stand s c.args.count c.in_ok-pop.ensures.accepted) in
+    let left = c.cut_labels.new.state in
+    let own : left ≡ record c.args.state.now { stack = c.pop.new.self; labels = left.labels } = c.cut_labels.ensures.cut in
     record {
       done = λ number.
-          changes c.args.state.now number (pop c.args.count) c.in_ok-pop.ensures.accepted c.in_ok-answer.answer c.pop.new.self
-          (quietly (state_of c.args.state.now) c.pop.new.self _ c.in_ok-pop.ensures.ok)
-          c.in_ok-answer.ensures.answer;
+          subst (λ (x : SessionState). Performs c.args.state.now number (pop c.args.count) (record x { kept = None }) c.in_ok-answer.answer) (sym own)
+          (cuts c.args.state.now number (pop c.args.count) c.in_ok-pop.ensures.accepted c.in_ok-answer.answer c.pop.new.self left.labels c.cut_labels.ensures.labels
+          (ap (λ (t : Stack). quiet (cut_back (state_of c.args.state.now) t)) c.in_ok-pop.ensures.ok)
+          c.in_ok-answer.ensures.answer);
       stored = subst (λ (m : Option Lengths). IsCut c.args.state.now.stack.top.context.declarations m c.args.store.now c.cut_store.new.store) is c.in_ok-cut_store.ensures.cut;
       sorted =
-          sorted_as (popped_by global c.args.count s) c.pop.new.self c.cut_store.new.store c.in_ok-pop.ensures.ok
-          (sorted_left s.top.context.declarations _ c.mark_below-mark.result c.args.store.now c.cut_store.new.store (λ none. popped_same global c.args.count s (sym is ∙ none)) c.mark_below-mark.ensures.cut c.in_ok-cut_store.ensures.cut c.in_ok-cut_store.ensures.sorted c.requires.sorted);
+          subst (λ (x : SessionState). IsStoreOf (state_of (record x { kept = None })) c.cut_store.new.store) (sym own)
+          (sorted_as (popped_by global c.args.count s) c.pop.new.self c.cut_store.new.store c.in_ok-pop.ensures.ok
+          (sorted_left s.top.context.declarations _ c.mark_below-mark.result c.args.store.now c.cut_store.new.store (λ none. popped_same global c.args.count s (sym is ∙ none)) c.mark_below-mark.ensures.cut c.in_ok-cut_store.ensures.cut c.in_ok-cut_store.ensures.sorted c.requires.sorted));
     }

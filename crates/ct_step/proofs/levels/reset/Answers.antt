@@ -13,7 +13,7 @@ pub returns : goal.returns
 returns c =
     let s = c.args.state.now.stack in
     record {
-      done = λ number. resets c.args.state.now number c.reset.new.self c.new-options.result c.in_ok-answer.answer c.reset.ensures.reset c.new-options.ensures.value c.in_ok-answer.ensures.answer;
+      done = λ number. resets c.args.state.now number c.reset.new.self c.truncate.new.self c.new-options.result c.in_ok-answer.answer c.reset.ensures.reset c.truncate.ensures.items c.new-options.ensures.value c.in_ok-answer.ensures.answer;
       stored = subst (λ (m : Option Lengths). IsCut c.args.state.now.stack.top.context.declarations m c.args.store.now c.cut_store.new.store) c.first_mark-mark.ensures.mark c.in_ok-cut_store.ensures.cut;
       sorted =
           sorted_as (emptied false s) c.reset.new.self c.cut_store.new.store c.reset.ensures.reset

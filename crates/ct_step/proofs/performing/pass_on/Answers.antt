@@ -1,4 +1,9 @@
-use Rattle.std.proofs.Common.{refl}
+use Rattle.std.proofs.Common.{List, map, refl, subst}
+use Rattle.ct_command.specs.declared.command.Literal.{Literal as ReadLiteral}
+use Rattle.ct_command.specs.Command.{check_sat_assuming}
+use Rattle.ct_command.specs.Seen.{literal_seen}
+use Rattle.ct_step.specs.Done.{IsDone}
+use Rattle.ct_step.specs.Store.{IsStored}
 use Rattle.ct_step.proofs.StoreLemmas.{apart, along}
 use Rattle.ct_step.proofs.performing.pass_on.Goals as goal
 
@@ -110,4 +115,22 @@ returns-in-Unsupported c =
 pub returns-in-CheckSat : goal.returns-in-CheckSat
 returns-in-CheckSat c =
     let o = along c.args.state.now c.check.new.state c.args.number c.check.result c.args.command _ c.args.store.now c.check.new.store c.requires.sound c.in-CheckSat.is c.check.ensures.done c.check.ensures.stored c.check.ensures.sorted in
+    record { done = o.done; stored = o.stored; sound = o.sound; known = c.requires.known }
+
+pub returns-in-CheckSatAssuming : goal.returns-in-CheckSatAssuming
+returns-in-CheckSatAssuming c =
+    let ls = c.as_slice.ensures.value in
+    let done = subst (λ (xs : List ReadLiteral). IsDone c.args.state.now c.args.number (check_sat_assuming (map literal_seen xs)) c.check_assuming.new.state c.check_assuming.result) ls (c.check_assuming.ensures.done c.args.number) in
+    let stored = subst (λ (xs : List ReadLiteral). IsStored c.args.state.now (check_sat_assuming (map literal_seen xs)) c.check_assuming.new.state c.check_assuming.result c.args.store.now c.check_assuming.new.store) ls c.check_assuming.ensures.stored in
+    let o = along c.args.state.now c.check_assuming.new.state c.args.number c.check_assuming.result c.args.command _ c.args.store.now c.check_assuming.new.store c.requires.sound c.in-CheckSatAssuming.is done stored c.check_assuming.ensures.sorted in
+    record { done = o.done; stored = o.stored; sound = o.sound; known = c.requires.known }
+
+pub returns-in-GetUnsatCore : goal.returns-in-GetUnsatCore
+returns-in-GetUnsatCore c =
+    let o = apart c.args.state.now c.unsat_core.new.state c.args.number c.growing.ensures.hold c.unsat_core.result c.args.command _ c.args.store.now c.requires.sound c.in-GetUnsatCore.is refl (c.unsat_core.ensures.done c.args.number) in
+    record { done = o.done; stored = o.stored; sound = o.sound; known = c.requires.known }
+
+pub returns-in-GetUnsatAssumptions : goal.returns-in-GetUnsatAssumptions
+returns-in-GetUnsatAssumptions c =
+    let o = apart c.args.state.now c.unsat_assumptions.new.state c.args.number c.growing.ensures.hold c.unsat_assumptions.result c.args.command _ c.args.store.now c.requires.sound c.in-GetUnsatAssumptions.is refl (c.unsat_assumptions.ensures.done c.args.number) in
     record { done = o.done; stored = o.stored; sound = o.sound; known = c.requires.known }
