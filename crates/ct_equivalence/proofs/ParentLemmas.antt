@@ -12,7 +12,7 @@ use Rattle.ct_terms.specs.declared.term.Core.{Core}
 use Rattle.ct_terms.specs.Children.{core_children}
 use Rattle.ct_terms.specs.Terms.{Terms, Has}
 use Rattle.ct_equivalence.specs.Undoing.{row_of}
-use Rattle.ct_equivalence.specs.Parents.{AreAdded, AreParents}
+use Rattle.ct_equivalence.specs.Parents.{AreAdded, IsOneAdded, AreParents}
 use Rattle.ct_equivalence.proofs.ListLemmas.{term_cases, other_number}
 use Rattle.ct_equivalence.proofs.RowLemmas.{row_of-at}
 
@@ -62,6 +62,28 @@ module _ (old now : List (List TermId)) (done : List TermId) (p t : TermId) (so_
       later : (u q : TermId) (was : List TermId) → Contains was q ⊎ ((q ≡ p) × Contains done u) → Contains was q ⊎ ((q ≡ p) × Contains (done ++ t ∷ []) u)
       later u q was (inl h) = inl h
       later u q was (inr h) = inr (h.0, Contains-append_left done (t ∷ []) u h.1)
+
+  -- the same where the term stands in the row already
+  pub AreAdded-there : Contains (row_of now t) p → AreAdded old now (done ++ t ∷ []) p
+  AreAdded-there stands = record {
+    long = so_far.long;
+    keeps = so_far.keeps;
+    adds = λ u row at has. elim (Contains-push_cases done t u has) [
+      | inl earlier ↦ so_far.adds u row at earlier
+      | inr same ↦
+          let is : row ≡ row_of now t = same_Some row (row_of now t) (sym at ∙ ap (λ (s : TermId). slice_get now s.0) (sym same) ∙ row_of-at now t within) in
+          subst (λ (xs : List TermId). Contains xs p) (sym is) stands
+    ];
+    only = λ u q was row at_old at_new has. elim (so_far.only u q was row at_old at_new has) [
+      | inl h ↦ inl h
+      | inr h ↦ inr (h.0, Contains-append_left done (t ∷ []) u h.1)
+    ];
+  }
+
+  -- the same for one more, in either way
+  pub AreAdded-once : (new : List (List TermId)) → IsOneAdded now new t p → AreAdded old new (done ++ t ∷ []) p
+  AreAdded-once new (inl put) = subst (λ (rows : List (List TermId)). AreAdded old rows (done ++ t ∷ []) p) (sym put) AreAdded-more
+  AreAdded-once new (inr stood) = subst (λ (rows : List (List TermId)). AreAdded old rows (done ++ t ∷ []) p) (sym stood.0) (AreAdded-there stood.1)
 
 -- one number has one term
 Has-same : (terms : Terms) (a b : Core) (t : ℕ) → Has terms a t → Has terms b t → a ≡ b

@@ -1,8 +1,8 @@
 //! The terms right above each term.
-ghost use Rattle.std.specs.Prelude.{◌≡◌, ◌<◌, [], ◌∷◌, length, IfOk, OnOk, Contains, All};
+ghost use Rattle.std.specs.Prelude.{◌≡◌, ◌<◌, [], ◌∷◌, ◌-◌, true, length, IfOk, OnOk, All, Some, slice_get};
 ghost use Rattle.std.specs.List.{AllByRecursion};
 ghost use Rattle.ct_terms.specs.Children.{core_children, HasArgumentsBelow};
-ghost use Rattle.ct_equivalence.specs.Parents.{AreAdded, AreParents};
+ghost use Rattle.ct_equivalence.specs.Parents.{AreAdded, IsOneAdded, AreParents};
 
 use crate::error::EquivalenceError;
 use crate::rows::Rows;
@@ -51,13 +51,35 @@ fn add_parent(rows: &mut Rows, core: &Core, p: TermId) -> Result<(), Equivalence
     }
 }
 
-// Puts the term into the rows of all these.
+// Puts the term into the rows of all these: once into each, also where one of these comes again.
 fn add_to_each(rows: &mut Rows, terms: &[TermId], p: TermId) -> Result<(), EquivalenceError>
     requires inside { AllByRecursion (λ t. t.0 < length rows.old) terms.now }
     ensures added { OnOk result (AreAdded rows.old rows.new terms.now p) }
 {
     for t in terms {
-        rows.push(*t, p)?;
+        add_once(rows, *t, p)?;
     }
     Ok(())
+}
+
+// Puts the term to the end of the row of the other, unless the row ends with it.
+fn add_once(rows: &mut Rows, t: TermId, p: TermId) -> Result<(), EquivalenceError>
+    requires inside { t.0 < length rows.old }
+    ensures added { OnOk result (IsOneAdded rows.old rows.new t p) }
+{
+    if ends_with(rows.row(t), p) {
+        return Ok(());
+    }
+    rows.push(t, p)?;
+    Ok(())
+}
+
+// Whether the term is the last of these.
+fn ends_with(row: &[TermId], p: TermId) -> bool
+    ensures last { result ≡ true → slice_get row.now (length row.now - 1) ≡ Some p }
+{
+    let Some(last) = row.last() else {
+        return false;
+    };
+    last.0 == p.0
 }

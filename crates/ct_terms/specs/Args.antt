@@ -1,9 +1,10 @@
 -- The arguments of a term: when two lists of them are the same, and what is hashed of them.
-use Rattle.std.specs.Prelude.{◌≡◌, Bool, List, nat_eq, IsTrue}
+use Rattle.std.specs.Prelude.{◌≡◌, ℕ, ◌+◌, ◌*◌, ◌%◌, Bool, List, [], ◌∷◌, nat_eq, IsTrue}
+use Rattle.std.proofs.Common.{ap}
 use Rattle.std.specs.Cmp.{IsEquivalence, on_equiv}
-use Rattle.std.specs.Cmp.Lexicographic.{pointwise, lists_equiv}
+use Rattle.std.specs.Cmp.Lexicographic.{pointwise, pointwise_decides, lists_equiv}
 use Rattle.std.specs.Hash as fed
-use Rattle.std.specs.Hash.{HashWrites, same_Alike, on_Alike, items_Alike}
+use Rattle.std.specs.Hash.{HashWrites}
 use Rattle.std.proofs.lemmas.Cmp.{nat_eq_equiv}
 use Rattle.std.proofs.lemmas.Bool.Decides.{Decides-eqb}
 use Rattle.ct_terms.specs.declared.ids.TermId.{TermId}
@@ -20,10 +21,23 @@ same_ids = pointwise same_id
 pub same_ids_equiv : IsEquivalence same_ids
 same_ids_equiv = lists_equiv (on_equiv (λ t. t.0) nat_eq_equiv)
 
--- how many arguments there are, and the number of each
+-- lists that the test holds of are one
+same_ids_decides : (s t : List TermId) → IsTrue (same_ids s t) → s ≡ t
+same_ids_decides s t = (pointwise_decides (λ a b. (λ e i. record { 0 = (Decides-eqb a.0 b.0).0 e i }, λ e. (Decides-eqb a.0 b.0).1 (ap (λ (u : TermId). u.0) e))) s t).0
+
+-- these terms after others with this number, as one number
+abbrev pub digest_from : ℕ → List TermId → ℕ
+digest_from sum [] = sum
+digest_from sum (t ∷ ts) = digest_from (((sum * 11400714819323198485) % 18446744073709551616 + (t.0 + 1)) % 18446744073709551616) ts
+
+-- the arguments as one number
+abbrev pub digest : List TermId → ℕ
+digest ts = digest_from 1 ts
+
+-- what is hashed of arguments
 abbrev pub hashed_ids : List TermId → HashWrites
-hashed_ids = fed.slice (λ t. fed.u32 t.0)
+hashed_ids ts = fed.u64 (digest ts)
 
 -- lists that are the same are hashed alike
 pub hashed_ids_alike : (s t : List TermId) → IsTrue (same_ids s t) → hashed_ids s ≡ hashed_ids t
-hashed_ids_alike = (items_Alike (on_Alike (λ (t : TermId). t.0) (same_Alike fed.u32 Decides-eqb))).fed
+hashed_ids_alike s t same = ap hashed_ids (same_ids_decides s t same)

@@ -2,13 +2,16 @@
 
 ghost use Rattle.std.specs.Prelude.{◌≡◌, [], ◌∷◌, ◌++◌, OnOk, OnErr, IfOk};
 ghost use Rattle.std.specs.Cmp.{partial_equiv_from_equiv};
-ghost use Rattle.ct_terms.specs.Args.{same_ids, same_ids_equiv, hashed_ids, hashed_ids_alike};
+ghost use Rattle.ct_terms.specs.Args.{same_ids, same_ids_equiv, digest, hashed_ids, hashed_ids_alike};
 
 use crate::ids::TermId;
 use smallvec::SmallVec;
 use std::alloc::{AllocError, Global};
 use std::hash::{Hash, Hasher};
 use std::marker::Model;
+
+// An odd number without a pattern: 2 to the power of 64 over the golden ratio.
+const MULTIPLIER: u64 = 0x9e37_79b9_7f4a_7c15;
 
 /// The arguments of a term, in order. Up to two take no memory of their own. Clauses see a list.
 #[derive(Debug, Drop)]
@@ -81,6 +84,19 @@ impl Hash for Args {
     ghost respects_eq = { hashed_ids_alike };
 
     fn hash<H: Hasher>(&self, state: &mut H) {
-        self.as_slice().hash(state);
+        state.write_u64(digest(self.as_slice()));
     }
+}
+
+// The terms as one number, which is the same for equal ones.
+fn digest(terms: &[TermId]) -> u64
+    ensures value { result ≡ digest terms.now }
+{
+    let mut sum: u64 = 1;
+    let mut rest = terms;
+    while let [t, others @ ..] = rest {
+        sum = sum.wrapping_mul(MULTIPLIER).wrapping_add(t.0 as u64 + 1);
+        rest = others;
+    }
+    sum
 }
