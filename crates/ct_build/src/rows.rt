@@ -1,5 +1,5 @@
 //! Tables, row by row.
-ghost use Rattle.std.specs.Prelude.{◌<◌, length, OnOk};
+ghost use Rattle.std.specs.Prelude.{◌≡◌, ◌<◌, length, OnOk};
 ghost use Rattle.ct_build.specs.Tables.{AddsRow, AddsFirst};
 ghost use Rattle.ct_build.specs.Seen.{AreSeen};
 
@@ -52,10 +52,21 @@ fn add_row(alloc: Global, tables: &mut Vec<Table>, number: u32, row: Row) -> Res
     };
     let table = mem::replace(&mut tables[number as usize], empty);
     let mut rows = table.rows.into_vec();
+    make_room(&mut rows)?;
     rows.push(row)?;
     tables[number as usize] = Table {
         rows: Rows::new(rows),
         default: table.default,
     };
+    Ok(())
+}
+
+// Makes room for the first row and no other: most tables are of constants, and an interpretation is kept.
+fn make_room(rows: &mut Vec<Row>) -> Result<(), BuildError>
+    ensures same { rows.new.items ≡ rows.old.items }
+{
+    if rows.is_empty() {
+        rows.reserve_exact(1)?;
+    }
     Ok(())
 }

@@ -43,11 +43,11 @@ IsSpending-from theorem d table asserts budget course moves same task budget_is 
         (subst (λ (b : ℕ). IsSpentRecord course.derivation.declarations course.derivation.rec.terms course.derivation.asserts course.derivation.rec.lines course.moves.items b) budget_is recorded))
 
 -- the literals and classes of a search that is saturated
-pub candidate_from : (d : Declarations) (table : Terms) (asserts : List TermId) (course : Course) (candidate : Candidate) → candidate.table ≡ course.derivation.rec.terms → candidate.literals ≡ course.search.trail → IsTaskOf d table asserts course → AreDecided course.derivation.declarations course.derivation.rec.terms course.derivation.asserts course.search.trail → IsSaturation course.derivation.declarations course.derivation.rec.terms course.search.trail candidate.classes.value candidate.order.reps.items → IsCandidate d table asserts candidate
-candidate_from d table asserts course candidate same_terms same_literals task decided saturation = record {
+pub candidate_from : (d : Declarations) (table : Terms) (asserts : List TermId) (course : Course) (candidate : Candidate) → candidate.literals ≡ course.search.trail → IsTaskOf d table asserts course → AreDecided course.derivation.declarations course.derivation.rec.terms course.derivation.asserts course.search.trail → IsSaturation course.derivation.declarations course.derivation.rec.terms course.search.trail candidate.classes.value candidate.order.reps.items → IsCandidate d table asserts candidate
+candidate_from d table asserts course candidate same_literals task decided saturation = let same_terms = saturation.terms_are in record {
   numbers = course.derivation.asserts;
   saturated =
-      subst (λ (ls : List Lit). IsSaturated d (terms_at table asserts) candidate.table course.derivation.asserts ls) (sym same_literals)
+      subst (λ (ls : List Lit). IsSaturated d (terms_at table asserts) candidate.classes.value.terms course.derivation.asserts ls) (sym same_literals)
       (subst (λ (ts : Terms). IsSaturated d (terms_at table asserts) ts course.derivation.asserts course.search.trail) (sym same_terms) (record {
         closure = task.closure;
         asserted = task.asserted;
@@ -56,7 +56,7 @@ candidate_from d table asserts course candidate same_terms same_literals task de
   sorted = subst (AreSorted d) (sym same_terms) task.sorted;
   is_closed = subst (IsClosedTable d) (sym same_terms) task.is_closed;
   saturation =
-      subst (λ (ls : List Lit). IsSaturation d candidate.table ls candidate.classes.value candidate.order.reps.items) (sym same_literals)
+      subst (λ (ls : List Lit). IsSaturation d candidate.classes.value.terms ls candidate.classes.value candidate.order.reps.items) (sym same_literals)
       (subst (λ (ts : Terms). IsSaturation d ts course.search.trail candidate.classes.value candidate.order.reps.items) (sym same_terms)
       (subst (λ (e : Declarations). IsSaturation e course.derivation.rec.terms course.search.trail candidate.classes.value candidate.order.reps.items) task.declarations saturation));
 }

@@ -1,6 +1,8 @@
 -- Turns of a search after a step that keeps the count and the decisions, and what the trail has in common with the literals that
 -- the theory was told.
-use Rattle.std.proofs.Common.{◌≡◌, ℕ, ◌+◌, ◌<◌, ◌≤◌, ◌++◌, [], length, take, List, refl, sym, ap, subst, ◌∙◌, arith}
+use Rattle.std.proofs.Common.{◌≡◌, ℕ, suc, ◌+◌, ◌<◌, ◌≤◌, ◌++◌, [], ◌∷◌, length, take, get_or, slice_get, Some, List, refl, sym, ap, subst, ◌∙◌, arith}
+use Rattle.std.proofs.Math.Seq.{take-suc}
+use Rattle.std.proofs.lemmas.Option.{slice_get_within, get_or_from_slice_get}
 use Rattle.std.proofs.lemmas.List.{append-nil, length-append, take-append-le, take-take}
 use Rattle.ct_sorts.specs.Grown.{Begins}
 use Rattle.ct_terms.specs.declared.ids.Lit.{Lit}
@@ -61,6 +63,20 @@ common_first n ys zs begins within =
     let is : take n zs ≡ take n ys = ap (λ (ls : List Lit). take n ls) begins.1 ∙ take-append-le n ys begins.0 within in
     let longer : length ys ≤ length zs = rw begins.1 (rw (length-append ys begins.0) (omega arith)) in
     (omega (arith, within, longer), is)
+
+-- with one literal more that stands in both
+pub HaveInCommon-next : (n : ℕ) (xs ys : List Lit) (l : Lit) → slice_get xs n ≡ Some l → slice_get ys n ≡ Some l → HaveInCommon n xs ys → HaveInCommon (n + 1) xs ys
+HaveInCommon-next n xs ys l first second has =
+    let left : n < length xs = slice_get_within xs n l first in
+    let right : n < length ys = slice_get_within ys n l second in
+    let same : get_or xs n l ≡ get_or ys n l = get_or_from_slice_get xs n l l first ∙ sym (get_or_from_slice_get ys n l l second) in
+    let next : suc n ≡ n + 1 = omega arith in
+    record {
+      left = omega (arith, left);
+      right = omega (arith, right);
+      same = subst (λ (m : ℕ). take m xs ≡ take m ys) next
+          (take-suc xs n l left ∙ ap (λ (ls : List Lit). ls ++ get_or xs n l ∷ []) has.same ∙ ap (λ (m : Lit). take n ys ++ m ∷ []) same ∙ sym (take-suc ys n l right));
+    }
 
 -- where the second one grew
 pub HaveInCommon-more : (n : ℕ) (xs ys zs : List Lit) → Begins ys zs → HaveInCommon n xs ys → HaveInCommon n xs zs

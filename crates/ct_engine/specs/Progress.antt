@@ -193,10 +193,10 @@ pub record IsAtStart (d : Declarations) (course : Course) : Type 0 where
 -- what they entail
 pub record IsCandidate (d : Declarations) (table : Terms) (asserts : List TermId) (candidate : Candidate) : Type 0 where
   pub numbers : List TermId
-  pub saturated : IsSaturated d (terms_at table asserts) candidate.table numbers candidate.literals
-  pub sorted : AreSorted d candidate.table
-  pub is_closed : IsClosedTable d candidate.table
-  pub saturation : IsSaturation d candidate.table candidate.literals candidate.classes.value candidate.order.reps.items
+  pub saturated : IsSaturated d (terms_at table asserts) candidate.classes.value.terms numbers candidate.literals
+  pub sorted : AreSorted d candidate.classes.value.terms
+  pub is_closed : IsClosedTable d candidate.classes.value.terms
+  pub saturation : IsSaturation d candidate.classes.value.terms candidate.literals candidate.classes.value candidate.order.reps.items
 
 -- what each outcome says
 abbrev pub IsOutcome : Declarations → Terms → List TermId → ℕ → Outcome → Type 0

@@ -147,9 +147,7 @@ fn candidate_of(
 {
     saturated(&course, &classes, order.reps.as_slice());
     let literals = literals_of(alloc, &course)?;
-    let table = table_of(&course)?;
     Ok(Candidate {
-        table,
         literals,
         classes,
         order,
@@ -201,13 +199,4 @@ fn literals_of(alloc: Global, course: &Course) -> Result<Items<Lit>, SolveError>
     ensures err { IsErrOf result SolveError.TooLarge → ⊥ }
 {
     Ok(Items::new(Vec::from_slice(alloc, course.search.trail())?))
-}
-
-// The closure.
-fn table_of(course: &Course) -> Result<TermTable, SolveError>
-    ensures table { IfOk result (λ table. table ≡ course.now.derivation.rec.terms) }
-    ensures err { IsErrOf result SolveError.TooLarge → ⊥ }
-{
-    let table = course.derivation.rec().table().copy()?;
-    Ok(table)
 }

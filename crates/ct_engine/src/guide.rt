@@ -10,7 +10,8 @@ use std::alloc::{AllocError, Global};
 // Clauses with so few levels are always kept.
 const FEW: u32 = 2;
 
-// How many conflicts a round is to have, by how many each has more than the one before, and how many decisions it has at least and at most.
+// How many conflicts a round is to have, by how many each has more than the one before, how many decisions it has at least, and
+// at most, beside two for each variable.
 const ROUND_CONFLICTS: u64 = 2000;
 
 const MORE_CONFLICTS: u64 = 300;
@@ -108,13 +109,15 @@ impl Guide {
     }
 
     /// How many of so many decisions the next round may make: enough for some thousand conflicts, if they come as often as in
-    /// the last one.
+    /// the last one. It may be as long as to give every variable a value twice over.
     pub(crate) fn round(&mut self, left: u64) -> u64 {
+        let variables = self.phases.len() as u64;
+        let most = MOST.saturating_add(variables.saturating_mul(2));
         let wanted = ROUND_CONFLICTS.saturating_add(self.rounds.saturating_mul(MORE_CONFLICTS));
         let enough = self.length.saturating_mul(wanted) / self.conflicts.saturating_add(1);
         self.conflicts = 0;
         self.rounds = self.rounds.saturating_add(1);
-        let length = enough.max(LEAST).min(MOST).min(left);
+        let length = enough.max(LEAST).min(most).min(left);
         self.length = length;
         length
     }

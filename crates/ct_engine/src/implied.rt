@@ -24,8 +24,11 @@ pub(crate) fn implied_drafts(
 ) -> Result<Vec<EqProof>, SolveError>
     ensures err { IsErrOf result SolveError.TooLarge → ⊥ }
 {
-    let forest = Forest::new(alloc, classes)?;
     let has_value = valued(alloc, course)?;
+    if !is_one_implied(&has_value, classes) {
+        return Ok(Vec::new(alloc));
+    }
+    let forest = Forest::new(alloc, classes)?;
     let most = MOST_MERGES / (classes.merges().len() + 1);
     let mut drafts = Vec::new(alloc);
     for number in 0..classes.table().len() {
@@ -52,6 +55,17 @@ fn valued(alloc: Global, course: &Course) -> Result<Vec<bool>, SolveError>
         }
     }
     Ok(has_value)
+}
+
+// Whether the classes give a value to some variable without one.
+fn is_one_implied(has_value: &[bool], classes: &Classes) -> bool {
+    for number in 0..classes.table().len() {
+        let t = TermId(number);
+        if is_open(has_value, classes.table(), t) && value_of(classes, t).is_some() {
+            return true;
+        }
+    }
+    false
 }
 
 // Whether the term is a variable without a value.

@@ -34,14 +34,9 @@ pub(crate) fn model(
     facts::closures();
     facts::models();
     facts::values();
-    let _terms = candidate.table.len();
-    let interp = build(
-        alloc,
-        sig,
-        sizes,
-        &candidate.table,
-        &candidate.classes,
-        &candidate.order,
-    )?;
+    let classes = &*candidate.classes;
+    let table = classes.table();
+    let _terms = table.len();
+    let interp = build(alloc, sig, sizes, table, classes, &candidate.order)?;
     Ok(interp)
 }

@@ -5,7 +5,7 @@ use ct_acyclic::Order;
 use ct_congr::Classes;
 use ct_log::Derivation;
 use ct_sorts::Items;
-use ct_terms::{Lit, TermTable};
+use ct_terms::Lit;
 
 /// How a search ends.
 #[derive(Drop)]
@@ -32,11 +32,9 @@ pub(crate) enum Turn {
 /// A candidate for a model: literals that nothing contradicts.
 #[derive(Drop)]
 pub(crate) struct Candidate {
-    /// The closure of the assertions.
-    pub(crate) table: TermTable,
-    /// A literal of each of its variables.
+    /// A literal of each variable of the closure of the assertions.
     pub(crate) literals: Items<Lit>,
-    /// The classes under these.
+    /// The classes of the terms of the closure under these.
     pub(crate) classes: Box<Classes>,
     /// The order of those of datatypes.
     pub(crate) order: Order,

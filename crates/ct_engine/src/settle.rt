@@ -1,11 +1,11 @@
 //! The search: propagate, ask the theory, decide (the loop of CDCL(T); Nieuwenhuis, Oliveras and Tinelli 2006). Before a decision
 //! the theory is asked for what it finds quickly, and once every variable has a value for a full answer.
-ghost use Rattle.std.specs.Prelude.{◌≡◌, IfOk, IfSome, OnOk, IsErrOf, MatchOption};
+ghost use Rattle.std.specs.Prelude.{◌≡◌, IfOk, IfSome, OnOk, IsErrOf, IsTrue, MatchOption, Some, slice_get};
 ghost use Rattle.ct_sorts.specs.Grown.{Begins};
 ghost use Rattle.ct_congr.specs.State.{State};
 ghost use Rattle.ct_sat.specs.State.{IsConflict, IsQuiet, HaveValues};
 ghost use Rattle.ct_theory.specs.Entailment.{IsConflictOf};
-ghost use Rattle.ct_theory.specs.Consulting.{IsConsulted};
+ghost use Rattle.ct_theory.specs.Consulting.{IsConsulted, HaveInCommon};
 ghost use Rattle.ct_engine.specs.Progress.{IsUnderWay, IsOfOneTask, IsTheoryOf, IsAsked, IsTurn, IsEnded, IsCounted};
 
 use crate::asked::Asked;
@@ -16,6 +16,7 @@ use crate::guided::begin_anew;
 use crate::learn::{add_conflict, learn};
 use crate::outcome::{Ending, Turn};
 use ct_sat::Decision;
+use ct_terms::Lit;
 use ct_theory::{Conflict, Consulted, Theory};
 use std::alloc::Global;
 
@@ -32,7 +33,7 @@ pub(crate) fn run(
     ensures ended { IfOk result (IsEnded course.new theory.new) }
     ensures err { IsErrOf result SolveError.TooLarge → ⊥ }
 {
-    let mut asked = begun(alloc, course)?;
+    let mut asked = begun(alloc, course, theory)?;
     'decisions: loop {
         match advance(alloc, course, theory, &mut asked)? {
             Some(ending) => return Ok(ending),
@@ -256,11 +257,36 @@ fn consult(course: &Course, theory: &mut Theory, asked: &mut Asked) -> Result<Co
     Ok(answer)
 }
 
-// Nothing was asked yet of the theory of the terms of the derivation.
-fn begun(alloc: Global, course: &Course) -> Result<Asked, SolveError>
-    ensures shared { IfOk result (λ asked. asked.shared ≡ 0) }
+// Of the trail the theory knows so much as it has in common with the literals that the theory was told last.
+fn begun(alloc: Global, course: &Course, theory: &Theory) -> Result<Asked, SolveError>
+    ensures asked { IfOk result (IsAsked course.now theory.now) }
     ensures err { IsErrOf result SolveError.TooLarge → ⊥ }
 {
-    let asked = Asked::new(alloc, course.derivation.rec().table())?;
+    let mut asked = Asked::new(alloc, course.derivation.rec().table())?;
+    asked.shared = common(theory.classes().hypotheses(), course.search.trail());
     Ok(asked)
+}
+
+// How many first literals the two have in common.
+fn common(told: &[Lit], trail: &[Lit]) -> usize
+    ensures common { HaveInCommon result told.now trail.now }
+{
+    let mut count = 0;
+    'literals: while count < told.len() {
+        if !stands_at(trail, count, told[count]) {
+            return count;
+        }
+        count += 1;
+    }
+    count
+}
+
+// Whether the literal stands at this index.
+fn stands_at(trail: &[Lit], index: usize, l: Lit) -> bool
+    ensures value { IsTrue result → slice_get trail.now index ≡ Some l }
+{
+    match trail.get(index) {
+        Some(other) => *other == l,
+        None => false,
+    }
 }

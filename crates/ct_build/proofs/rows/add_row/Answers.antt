@@ -8,7 +8,7 @@ pub returns : goal.returns
 returns c =
     let tables = c.args.tables.now.items in
     let table = c.replace-table.result in
-    let rows : c.new-3.result ≡ table.rows ++ c.args.row ∷ [] = c.new-3.ensures.value ∙ c.in_ok-push.ensures.items ∙ ap (λ (l : List Row). l ++ c.args.row ∷ []) c.into_vec-rows.ensures.value in
+    let rows : c.new-3.result ≡ table.rows ++ c.args.row ∷ [] = c.new-3.ensures.value ∙ c.in_ok-push.ensures.items ∙ ap (λ (l : List Row). l ++ c.args.row ∷ []) (c.make_room.ensures.same ∙ c.into_vec-rows.ensures.value) in
     record {
       added = (
         table,

@@ -30,12 +30,10 @@ returns-clause-candidate c =
     let course = c.args.course.value in
     λ d table asserts task.
     candidate_from d table asserts course (record {
-      table = c.in_ok-table.table;
       literals = c.in_ok-literals.literals;
       classes = c.args.classes;
       order = c.args.order;
     })
-    (c.in_ok-table.ensures.table ∙ ap (λ (x : Course). x.derivation.rec.terms) c.deref-4.ensures)
     (c.in_ok-literals.ensures.literals ∙ ap (λ (x : Course). x.search.trail) c.deref-3.ensures)
     task
     (subst (λ (x : Course). AreDecided x.derivation.declarations x.derivation.rec.terms x.derivation.asserts x.search.trail) c.deref.ensures c.saturated.ensures.decided)

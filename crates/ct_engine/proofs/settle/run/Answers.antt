@@ -1,6 +1,5 @@
 use Rattle.std.proofs.Common.{◌≡◌, ◌+◌, ◌≤◌, ◌∙◌, arith}
 use Rattle.ct_engine.proofs.TaskLemmas.{IsOfOneTask-itself, IsOfOneTask-then}
-use Rattle.ct_engine.proofs.TurnLemmas.{HaveInCommon-none}
 use Rattle.ct_engine.proofs.settle.run.Goals as goal
 
 pub decisions-init : goal.decisions-init
@@ -8,7 +7,7 @@ decisions-init c = record {
   under_way = c.requires.under_way;
   same = IsOfOneTask-itself c.args.course.now;
   theory = c.requires.theory;
-  asked = HaveInCommon-none c.in_ok-asked.asked.shared c.args.theory.now.hypotheses c.args.course.now.search.trail c.in_ok-asked.ensures.shared;
+  asked = c.in_ok-asked.ensures.asked;
 }
 
 pub returns-in-Some-clause-same : goal.returns-in-Some-clause-same
