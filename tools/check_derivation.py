@@ -21,11 +21,12 @@ meant by it. The file has four parts: the texts, the script up to the check with
 derivation, and its rules, one function each. Nothing recurses over the depth of a text or of a term.
 """
 
+import bisect
 import gc
 import re
 import sys
 from collections import Counter, defaultdict
-from itertools import combinations, islice
+from itertools import accumulate, combinations, islice, product
 from operator import itemgetter
 
 MOST_BYTES = 67108864
@@ -40,6 +41,7 @@ MOST_DEFINITIONS = 65536
 MOST_ARGUMENTS = 255
 MOST_REACHED = 4096
 MOST_TEXT = 65536
+MOST_VALUES = 4096
 WORD_BOUND = 2**64
 NUMERAL_BOUND = 2**128
 
@@ -355,10 +357,13 @@ def without_recursion(routine):
 
 class Elaboration:
     """One expression, read over what is declared. Its nodes are numbered: each is a head with the numbers of the nodes under it, which
-    are smaller. Nothing is left of variables, `let` and `match`; calls of definitions and `distinct` stand as they are."""
+    are smaller. Nothing is left of variables, `let` and `match`; calls of definitions and `distinct` stand as they are. The body of a
+    quantifier is a definition over the variables in scope, which is called at each list of values."""
 
     def __init__(self, script):
         self.script = script
+        self.values = {}
+        self.firsts = {}
         self.heads = []
         self.under = []
         self.sorts = []
@@ -523,6 +528,64 @@ class Elaboration:
         self.unbind(before)
         return body
 
+    def quantified(self, text):
+        """`(forall ((x S) ..) t)` and `(exists ((x S) ..) t)`."""
+        require(len(text) == 3 and type(text[1]) is list and text[1])
+        for binding in text[1]:
+            require(type(binding) is list and len(binding) == 2)
+        names = [name_of(binding[0]) for binding in text[1]]
+        require(None not in names and len(set(names)) == len(names))
+        sorts = [self.script.sort(binding[1]) for binding in text[1]]
+        counts = {}
+        lists = 1
+        for sort in sorts:
+            counts.update(count_values(sort))
+            require(sort in counts)
+            lists *= counts[sort]
+        require(lists <= MOST_VALUES)
+        outer = list(self.variables.items())
+        inside = Elaboration(self.script)
+        for name, sort in [(name, self.sorts[node]) for name, node in outer] + list(zip(names, sorts)):
+            inside.variables[name] = inside.node(PARAMETER, (), sort)
+        body = (yield inside.lists(text[2:]))[0]
+        require(inside.sorts[body] is self.script.bool)
+        used, code = inside.code(body, len(outer) + len(names))
+        # The nodes of values that occur, and one place for each value that does not.
+        values = []
+        for place, sort in enumerate(sorts, len(outer)):
+            nodes = []
+            for number in range(counts[sort]):
+                nodes.append((yield self.value(sort, number, counts)) if place in used else None)
+            values.append(nodes)
+        definition = Definition(None, None, self.script.bool, used, code)
+        calls = {}
+        nodes = []
+        for chosen in product(*values):
+            if chosen not in calls:
+                calls[chosen] = self.boolean(definition, *(node for name, node in outer), *chosen)
+            nodes.append(calls[chosen])
+        return self.operator(b"and" if text[0] == b"forall" else b"or", nodes)
+
+    def value(self, sort, number, counts):
+        """The node of the value of a listable sort with this number, from 0 on: constructor by constructor, the first field slowest."""
+        if (sort, number) not in self.values:
+            constructor, rest = self.constructor_of(sort, number, counts)
+            nodes = []
+            for i, field in enumerate(constructor.arguments):
+                after = choices(constructor.arguments[i + 1:], counts)
+                nodes.append((yield self.value(field, rest // after, counts)))
+                rest %= after
+            self.values[sort, number] = self.node(constructor, nodes, sort)
+        return self.values[sort, number]
+
+    def constructor_of(self, sort, number, counts):
+        """The constructor of the value with this number, and the number of the value among those of the constructor."""
+        if sort not in self.firsts:
+            ways = [choices(constructor.arguments, counts) for constructor in sort.constructors]
+            self.firsts[sort] = list(accumulate(ways, initial=0))
+        place = bisect.bisect_right(self.firsts[sort], number) - 1
+        return sort.constructors[place], number - self.firsts[sort][place]
+
     def match(self, text):
         """`(match t ((p u) ..))`."""
         require(len(text) == 3 and type(text[2]) is list)
@@ -614,6 +677,42 @@ def at_sort(symbol, sort):
     return symbol if symbol.result is sort else None
 
 
+def choices(sorts, counts):
+    """How many lists of values of these sorts there are, cut off beyond MOST_VALUES."""
+    lists = 1
+    for sort in sorts:
+        lists = min(lists * counts[sort], MOST_VALUES + 1)
+    return lists
+
+
+def count_values(sort):
+    """The listable sorts among those that a sort reaches, with their numbers of values, cut off beyond MOST_VALUES."""
+    reached = [sort]
+    seen = {sort}
+    missing = {}
+    over = defaultdict(list)
+    ready = []
+    for sort in reached:
+        fields = {field for constructor in sort.constructors for field in constructor.arguments}
+        missing[sort] = len(fields)
+        if not fields and sort.kind != "uninterpreted":
+            ready.append(sort)
+        for field in fields:
+            over[field].append(sort)
+            if field not in seen:
+                seen.add(field)
+                reached.append(field)
+    counts = {}
+    while ready:
+        sort = ready.pop()
+        counts[sort] = min(sum(choices(constructor.arguments, counts) for constructor in sort.constructors), MOST_VALUES + 1)
+        for user in over[sort]:
+            missing[user] -= 1
+            if not missing[user]:
+                ready.append(user)
+    return counts
+
+
 def no_form(elaboration, text):
     """A reserved word that begins no expression."""
     raise Refused
@@ -622,7 +721,7 @@ def no_form(elaboration, text):
 
 KEYWORDS = {word: no_form for word in RESERVED}
 KEYWORDS.update({b"let": Elaboration.let, b"match": Elaboration.match, b"as": Elaboration.ascription,
-                 b"!": Elaboration.attributed})
+                 b"!": Elaboration.attributed, b"forall": Elaboration.quantified, b"exists": Elaboration.quantified})
 
 
 # ---------------------------------------------------------------------------------------------------------------------

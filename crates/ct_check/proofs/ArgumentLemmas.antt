@@ -18,7 +18,7 @@ use Rattle.ct_names.proofs.LastingLemmas.{symbol_declared, generic_fields_same, 
 use Rattle.ct_names.proofs.StayLemmas.{count_same}
 use Rattle.ct_check.specs.declared.callees.Callee.TheVariants.{Symbol, Tester, Connective}
 use Rattle.ct_check.specs.declared.heads.Head.{Head}
-use Rattle.ct_check.specs.declared.heads.Head.TheVariants.{Let, Match, Annotation, Whole, Call, GenericCtor, Part, Equation, Choice}
+use Rattle.ct_check.specs.declared.heads.Head.TheVariants.{Let, Match, Annotation, Quantified, Whole, Call, GenericCtor, Part, Equation, Choice}
 use Rattle.ct_check.specs.declared.parts.Part.TheVariants.{Field, Test}
 use Rattle.ct_check.specs.Expected.{Expectation, these, same, fields, expected_terms}
 use Rattle.ct_check.specs.Heads.{headed_by, HasCount, expected_at, finished, IsHeadDeclared, TakesArguments}
@@ -37,6 +37,7 @@ headed_are d scope Choice ps takes many = choice_is d scope ps many
 headed_are d scope Let ps takes many = absurd takes
 headed_are d scope Match ps takes many = absurd takes
 headed_are d scope Annotation ps takes many = absurd takes
+headed_are d scope (Quantified q) ps takes many = absurd takes
 headed_are d scope (Whole s) ps takes many = absurd takes
 
 -- ---- what stays of a head
@@ -46,6 +47,7 @@ module _ (later d : Declarations) (grows : Grows later d) (c : IsConsistent d) w
   count_stays Let n is many = tt
   count_stays Match n is many = tt
   count_stays Annotation n is many = tt
+  count_stays (Quantified q) n is many = tt
   count_stays (Whole s) n is many = tt
   count_stays (Call (Symbol s)) n is many = ap (λ (sorts : List SortId). length sorts) (arguments_same later d grows c s is) ∙ many
   count_stays (Call (Tester k)) n is many = many
@@ -59,6 +61,7 @@ module _ (later d : Declarations) (grows : Grows later d) (c : IsConsistent d) w
   expected_same Let n is = refl
   expected_same Match n is = refl
   expected_same Annotation n is = refl
+  expected_same (Quantified q) n is = refl
   expected_same (Whole s) n is = refl
   expected_same (Call (Symbol s)) n is = ap these (arguments_same later d grows c s is)
   expected_same (Call (Tester k)) n is = ap (λ (s : SortId). same (Some s)) (ctor_sort_same later d grows c k is)
@@ -73,6 +76,7 @@ module _ (later d : Declarations) (grows : Grows later d) (c : IsConsistent d) w
   head_declared Let is = tt
   head_declared Match is = tt
   head_declared Annotation is = tt
+  head_declared (Quantified q) is = tt
   head_declared (Whole s) is = symbol_declared later d grows c s is
   head_declared (Call (Symbol s)) is = symbol_declared later d grows c s is
   head_declared (Call (Tester k)) is = symbol_declared later d grows c (Ctor k) is
@@ -87,6 +91,7 @@ expected_about : (d : Declarations) (head : Head) (n : ℕ) → IsHeadDeclared d
 expected_about d Let n is = tt
 expected_about d Match n is = tt
 expected_about d Annotation n is = tt
+expected_about d (Quantified q) n is = tt
 expected_about d (Whole s) n is = tt
 expected_about d (Call (Symbol s)) n is = tt
 expected_about d (Call (Tester k)) n is = tt

@@ -1,15 +1,16 @@
--- What `let`, `match` and `!` come to, step by step.
+-- What `let`, `match`, `!` and quantifiers come to, step by step.
 use Rattle.std.proofs.Common.{◌≡◌, true, false, List, [], ◌∷◌, length, get_or, None, Vec, Global, Err, sym, ◌∙◌, ap, arith}
 use Rattle.ct_sexpr.specs.declared.sexpr.Sexpr.{Sexpr, List as list_in_memory}
 use Rattle.ct_sexpr.specs.View.{expression_of, expressions_of}
 use Rattle.ct_sorts.specs.Declarations.{Declarations}
+use Rattle.ct_formulas.specs.declared.tree.Quantifier.{Quantifier}
 use Rattle.ct_names.specs.Outcome.{and_then, unless_halted, step, refused}
 use Rattle.ct_names.specs.Refusals.{out_of_scope}
 use Rattle.ct_names.specs.Variables.{Variable}
 use Rattle.ct_names.specs.Parts.{Part, Parts, with_part, no_parts}
 use Rattle.ct_names.specs.Forms.{are_cases, are_attributes}
 use Rattle.ct_names.specs.Patterns.{matchable}
-use Rattle.ct_names.specs.Elaboration.{part_of, parts_of, meaning_of_part, let_of, let_form, match_form, match_of, checked_cases, exhausted, annotated}
+use Rattle.ct_names.specs.Elaboration.{part_of, parts_of, meaning_of_part, let_of, let_form, quantified_of, quantified_form, match_form, match_of, checked_cases, exhausted, annotated}
 use Rattle.ct_names.proofs.PartLemmas.{part_of_list, two_items}
 
 -- a subject and cases, step by step
@@ -39,6 +40,13 @@ pub match-list : (d : Declarations) (scope : List Variable) (args : List Sexpr) 
 match-list d scope args first second cases slice two is same =
     ap (λ (xs : List Sexpr). match_form d scope (parts_of d (expressions_of xs))) two
     ∙ ap (λ (p : Part). match_form d scope (with_part (part_of d (expression_of first)) (with_part p no_parts))) (part_of_list d second cases slice is same)
+
+-- a quantifier with a list of variables
+pub quantified-items : (d : Declarations) (scope : List Variable) (q : Quantifier) (args : List Sexpr) (first body : Sexpr) → args ≡ first ∷ (body ∷ []) → quantified_form d scope q (parts_of d (expressions_of args)) ≡ quantified_form d scope q (with_part (part_of d (expression_of first)) (with_part (part_of d (expression_of body)) no_parts))
+quantified-items d scope q args first body two = ap (λ (xs : List Sexpr). quantified_form d scope q (parts_of d (expressions_of xs))) two
+
+pub quantified-list : (d : Declarations) (scope : List Variable) (q : Quantifier) (list : Sexpr) (body : Part) (bindings : Vec Sexpr Global) (slice : List Sexpr) → list ≡ list_in_memory bindings → slice ≡ bindings.items → quantified_form d scope q (with_part (part_of d (expression_of list)) (with_part body no_parts)) ≡ quantified_of d scope q (parts_of d (expressions_of slice)) body
+quantified-list d scope q list body bindings slice is same = ap (λ (p : Part). quantified_form d scope q (with_part p (with_part body no_parts))) (part_of_list d list bindings slice is same)
 
 -- two items, of which both are known, or the second
 pub two_of : {X : Type 0} (items : List X) (x y : X) → length items ≡ 2 → x ≡ get_or items 0 x → y ≡ get_or items 1 y → items ≡ x ∷ (y ∷ [])

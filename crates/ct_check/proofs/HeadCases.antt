@@ -19,6 +19,7 @@ use Rattle.ct_instances.specs.declared.among.NamedCtor.{NamedCtor}
 use Rattle.ct_instances.specs.declared.among.NamedCtor.TheVariants.{Plain}
 use Rattle.ct_instances.specs.Among.{IsNamedCtor}
 use Rattle.ct_instances.specs.Fields.{generic_fields, is_determined}
+use Rattle.ct_formulas.specs.declared.tree.Quantifier.TheVariants.{Forall, Exists}
 use Rattle.ct_names.specs.Needs.{Grows, Reaches, as_they_are}
 use Rattle.ct_names.specs.Outcome.{Outcome, Elaborated, Sorted, and_then, unless_halted, step, refused}
 use Rattle.ct_names.specs.Parts.{Part, Parts, with_part, no_parts, count, name_of}
@@ -26,7 +27,7 @@ use Rattle.ct_names.specs.Refusals.{undetermined, unknown_symbol, wrong_count, o
 use Rattle.ct_names.specs.Sorts.{sort_of, sort_of_part}
 use Rattle.ct_names.specs.Symbols.{symbol_of, argument_sorts}
 use Rattle.ct_names.specs.Variables.{Variable, find}
-use Rattle.ct_names.specs.Elaboration.{part_of, parts_of, lone_symbol, let_form, match_form, annotated, reserved, applied_symbol, applied_plain, generic_ctor, tested_term, qualified_name, qualified_symbol, may_qualify, of_result, tester}
+use Rattle.ct_names.specs.Elaboration.{part_of, parts_of, lone_symbol, let_form, match_form, quantified_form, annotated, reserved, applied_symbol, applied_plain, generic_ctor, tested_term, qualified_name, qualified_symbol, may_qualify, of_result, tester}
 use Rattle.ct_names.proofs.LastingLemmas.{arguments_same, generic_fields_same, determined_same}
 use Rattle.ct_names.proofs.NeedLemmas.{begins_within}
 use Rattle.ct_names.proofs.StayLemmas.{stays_step, count_same, expression_same}
@@ -100,15 +101,23 @@ module _ (d : Declarations) (scope : List Variable) (g : GenId) (i : ℕ) (ps : 
 -- ---- forms with reserved words
 
 module _ (d : Declarations) (scope : List Variable) (ps : Parts) where
-  abbrev pub by_word : Bool → Bool → Bool → Bool → Elaborated Sorted
-  by_word a b c e = if a then let_form d scope ps else (if b then match_form d scope ps else (if c then annotated d scope ps else (if e then and_then (qualified_symbol d scope ps) (lone_symbol d) else Err (refused out_of_scope))))
+  abbrev pub by_word : Bool → Bool → Bool → Bool → Bool → Bool → Elaborated Sorted
+  by_word a b c e f g =
+      if a then let_form d scope ps else
+      (if b then match_form d scope ps else
+      (if c then annotated d scope ps else
+      (if e then and_then (qualified_symbol d scope ps) (lone_symbol d) else
+      (if f then quantified_form d scope Forall ps else
+      (if g then quantified_form d scope Exists ps else Err (refused out_of_scope))))))
 
-  pub reserved_is : (w : List ℕ) (a b c e : Bool) → bytes_eq w (codes "let") ≡ a → bytes_eq w (codes "match") ≡ b → bytes_eq w (codes "!") ≡ c → bytes_eq w (codes "as") ≡ e → reserved d scope w ps ≡ by_word a b c e
-  reserved_is w a b c e p q r s =
-      ap (λ (x : Bool). by_word x (bytes_eq w (codes "match")) (bytes_eq w (codes "!")) (bytes_eq w (codes "as"))) p
-      ∙ ap (λ (x : Bool). by_word a x (bytes_eq w (codes "!")) (bytes_eq w (codes "as"))) q
-      ∙ ap (λ (x : Bool). by_word a b x (bytes_eq w (codes "as"))) r
-      ∙ ap (λ (x : Bool). by_word a b c x) s
+  pub reserved_is : (w : List ℕ) (a b c e f g : Bool) → bytes_eq w (codes "let") ≡ a → bytes_eq w (codes "match") ≡ b → bytes_eq w (codes "!") ≡ c → bytes_eq w (codes "as") ≡ e → bytes_eq w (codes "forall") ≡ f → bytes_eq w (codes "exists") ≡ g → reserved d scope w ps ≡ by_word a b c e f g
+  reserved_is w a b c e f g p q r s u v =
+      ap (λ (x : Bool). by_word x (bytes_eq w (codes "match")) (bytes_eq w (codes "!")) (bytes_eq w (codes "as")) (bytes_eq w (codes "forall")) (bytes_eq w (codes "exists"))) p
+      ∙ ap (λ (x : Bool). by_word a x (bytes_eq w (codes "!")) (bytes_eq w (codes "as")) (bytes_eq w (codes "forall")) (bytes_eq w (codes "exists"))) q
+      ∙ ap (λ (x : Bool). by_word a b x (bytes_eq w (codes "as")) (bytes_eq w (codes "forall")) (bytes_eq w (codes "exists"))) r
+      ∙ ap (λ (x : Bool). by_word a b c x (bytes_eq w (codes "forall")) (bytes_eq w (codes "exists"))) s
+      ∙ ap (λ (x : Bool). by_word a b c e x (bytes_eq w (codes "exists"))) u
+      ∙ ap (λ (x : Bool). by_word a b c e f x) v
 
 -- ---- `(as f S)`, by f and S
 

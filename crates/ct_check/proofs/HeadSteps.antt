@@ -22,7 +22,7 @@ use Rattle.ct_names.specs.declared.operator.CoreOperator.{CoreOperator}
 use Rattle.ct_check.specs.declared.callees.Callee.{Callee}
 use Rattle.ct_check.specs.declared.parts.Part.{Part as PartOf}
 use Rattle.ct_check.specs.declared.heads.Head.{Head}
-use Rattle.ct_check.specs.declared.heads.Head.TheVariants.{Let, Match, Annotation, Whole, Call, GenericCtor, Part, Equation, Choice}
+use Rattle.ct_check.specs.declared.heads.Head.TheVariants.{Let, Match, Annotation, Quantified, Whole, Call, GenericCtor, Part, Equation, Choice}
 use Rattle.ct_check.specs.Expected.{Expectation, expectation_of, expected_terms, IsExpectation}
 use Rattle.ct_check.specs.Heads.{headed_by, HasCount, HasPlaces, expected_at, finished, IsHeadDeclared, TakesArguments}
 use Rattle.ct_check.proofs.ArgumentLemmas.{with_args, args_met, args_reach, args_refused, expected_same, head_declared}
@@ -76,6 +76,7 @@ module _ (first : Declarations) (c : IsConsistent first) (scope : List Variable)
         by Let at f = tt
         by Match at f = tt
         by Annotation at f = tt
+        by (Quantified q) at f = tt
         by (Whole s) at f = tt
         by (Call k) at f = tt
         by (GenericCtor g i) at f =

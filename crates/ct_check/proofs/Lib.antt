@@ -25,6 +25,8 @@ pub mod CaseSteps
 pub mod FormSteps
 pub mod BinderSteps
 pub mod LoopSteps
+pub mod KnownLemmas
+pub mod QuantifierLemmas
 pub mod Inversions
 pub mod SymbolSorts
 pub mod SoundLemmas
@@ -32,4 +34,5 @@ pub mod SoundForms
 pub mod SoundPatterns
 pub mod SoundMatch
 pub mod SoundGenerics
+pub mod SoundQuantifiers
 pub mod SoundExpressions

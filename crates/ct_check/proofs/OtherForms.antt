@@ -7,11 +7,12 @@ use Rattle.ct_sexpr.specs.Atom.{Atom, symbol, quoted, keyword, text, numeral, de
 use Rattle.ct_sexpr.specs.View.{expression_of, expressions_of}
 use Rattle.ct_sorts.specs.declared.ids.SortId.{SortId}
 use Rattle.ct_sorts.specs.Declarations.{Declarations}
+use Rattle.ct_formulas.specs.declared.tree.Quantifier.{Quantifier}
 use Rattle.ct_names.specs.Outcome.{Elaborated, Sorted, refused}
 use Rattle.ct_names.specs.Refusals.{out_of_scope}
 use Rattle.ct_names.specs.Variables.{Variable}
 use Rattle.ct_names.specs.Parts.{Part, Parts, atom_part, list_part, no_parts, with_part, name_of}
-use Rattle.ct_names.specs.Elaboration.{elaborated, lone, part_of, parts_of, list_meaning, annotated, let_form, match_form, bound_terms, checked_cases}
+use Rattle.ct_names.specs.Elaboration.{elaborated, lone, part_of, parts_of, list_meaning, annotated, let_form, match_form, bound_terms, listable_sort, quantified_form, checked_cases}
 use Rattle.ct_names.proofs.PartLemmas.{part_of_list}
 
 -- an expression that is no list in memory is a leaf
@@ -92,6 +93,24 @@ match-leaf d scope args first second two other =
     ap (λ (xs : List Sexpr). match_form d scope (parts_of d (expressions_of xs))) two
     ∙ ap (λ (p : Part). match_form d scope (with_part (part_of d (expression_of first)) (with_part p no_parts))) (leaf-part d second other).1
 
+-- so for a quantifier
+quantified-one : (d : Declarations) (scope : List Variable) (q : Quantifier) (p : Part) → quantified_form d scope q (with_part p no_parts) ≡ Err (refused out_of_scope)
+quantified-one d scope q (atom_part a) = refl
+quantified-one d scope q (list_part ps m) = refl
+
+quantified-three : (d : Declarations) (scope : List Variable) (q : Quantifier) (p r s : Part) (ps : Parts) → quantified_form d scope q (with_part p (with_part r (with_part s ps))) ≡ Err (refused out_of_scope)
+quantified-three d scope q (atom_part a) r s ps = refl
+quantified-three d scope q (list_part bs m) r s ps = refl
+
+pub quantified-length : (d : Declarations) (scope : List Variable) (q : Quantifier) (args : List Sexpr) → (length args ≡ 2 → ⊥) → quantified_form d scope q (parts_of d (expressions_of args)) ≡ Err (refused out_of_scope)
+quantified-length d scope q [] h = refl
+quantified-length d scope q (a ∷ []) h = quantified-one d scope q (part_of d (expression_of a))
+quantified-length d scope q (a ∷ (b ∷ [])) h = absurd (h refl)
+quantified-length d scope q (a ∷ (b ∷ (c ∷ args))) h = quantified-three d scope q (part_of d (expression_of a)) (part_of d (expression_of b)) (part_of d (expression_of c)) (parts_of d (expressions_of args))
+
+pub quantified-leaf : (d : Declarations) (scope : List Variable) (q : Quantifier) (list : Sexpr) (body : Part) → ((items : Vec Sexpr Global) → list ≡ list_in_memory items → ⊥) → quantified_form d scope q (with_part (part_of d (expression_of list)) (with_part body no_parts)) ≡ Err (refused out_of_scope)
+quantified-leaf d scope q list body other = ap (λ (p : Part). quantified_form d scope q (with_part p (with_part body no_parts))) (leaf-part d list other).1
+
 -- a list of two parts
 abbrev pub is_pair : Part → Bool
 is_pair (atom_part a) = false
@@ -120,6 +139,13 @@ binding-other d scope (list_part no_parts m) bs e = refl
 binding-other d scope (list_part (with_part x no_parts) m) bs e = refl
 binding-other d scope (list_part (with_part x (with_part t no_parts)) m) bs e = absurd cc
 binding-other d scope (list_part (with_part x (with_part t (with_part u ps))) m) bs e = refl
+
+pub sort-other : (d : Declarations) (b : Part) → is_pair b ≡ false → listable_sort d b ≡ Err (refused out_of_scope)
+sort-other d (atom_part a) e = refl
+sort-other d (list_part no_parts m) e = refl
+sort-other d (list_part (with_part x no_parts) m) e = refl
+sort-other d (list_part (with_part x (with_part t no_parts)) m) e = absurd cc
+sort-other d (list_part (with_part x (with_part t (with_part u ps))) m) e = refl
 
 pub case-other : (d : Declarations) (scope : List Variable) (side : SortId) (sort : Option SortId) (c : Part) (cs : Parts) → is_pair c ≡ false → checked_cases d scope side sort (with_part c cs) ≡ Err (refused out_of_scope)
 case-other d scope side sort (atom_part a) cs e = refl

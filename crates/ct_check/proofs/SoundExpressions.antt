@@ -14,6 +14,8 @@ use Rattle.ct_sorts.specs.Lookup.{IsSymbol}
 use Rattle.ct_instances.specs.declared.among.NamedCtor.{NamedCtor}
 use Rattle.ct_instances.specs.declared.among.NamedCtor.TheVariants.{Generic}
 use Rattle.ct_instances.specs.Among.{ctor_among}
+use Rattle.ct_formulas.specs.declared.tree.Quantifier.{Quantifier}
+use Rattle.ct_formulas.specs.declared.tree.Quantifier.TheVariants.{Forall, Exists}
 use Rattle.ct_names.specs.declared.operator.CoreOperator.{CoreOperator}
 use Rattle.ct_names.specs.Refusals.{unknown_symbol, wrong_count, wrong_sort, out_of_scope}
 use Rattle.ct_names.specs.Outcome.{Sorted, and_then, unless_refused, step, refused, is_sort}
@@ -21,7 +23,7 @@ use Rattle.ct_names.specs.Symbols.{symbol_of, operator_of, result_sort}
 use Rattle.ct_names.specs.Variables.{Variable, ScopeIn, find, variable_sorts}
 use Rattle.ct_names.specs.Forms.{is_word, are_attributes}
 use Rattle.ct_names.specs.Parts.{Part, Parts, atom_part, list_part, no_parts, with_part, count, name_of}
-use Rattle.ct_names.specs.Elaboration.{meaning_of_part, takes, operated, applied_symbol, global, application, let_form, match_form, annotated, lone_symbol, may_qualify, of_instance, of_result, qualified_name, qualified_symbol, tester, tested_term, qualified, reserved, headed, list_meaning, part_of, parts_of, elaborated}
+use Rattle.ct_names.specs.Elaboration.{meaning_of_part, takes, operated, applied_symbol, global, application, let_form, match_form, quantified_form, annotated, lone_symbol, may_qualify, of_instance, of_result, qualified_name, qualified_symbol, tester, tested_term, qualified, reserved, headed, list_meaning, part_of, parts_of, elaborated}
 use Rattle.ct_names.specs.Sorts.{sort_of_part}
 use Rattle.ct_names.proofs.LastingLemmas.{symbol_inside}
 use Rattle.ct_names.proofs.NeedLemmas.{grows_itself}
@@ -30,6 +32,7 @@ use Rattle.ct_check.proofs.Inversions.{and_then-inverse, unless-inverse, halted-
 use Rattle.ct_check.proofs.SymbolSorts.{Theorems}
 use Rattle.ct_check.proofs.SoundLemmas.{IsSoundPart, AreSoundParts, HasOwnSort, meaning_sound, lone_symbol_sound}
 use Rattle.ct_check.proofs.SoundForms.{operated_sound, applied_sound, bound_sound}
+use Rattle.ct_check.proofs.SoundQuantifiers.{quantified_sound}
 use Rattle.ct_check.proofs.SoundGenerics.{generic_ctor_sound, generic_sel_sound, tested_term_sound}
 use Rattle.ct_check.proofs.SoundMatch.{cases_of_sound}
 use Rattle.ct_check.proofs.SoundPatterns.{among_of}
@@ -114,6 +117,13 @@ module _ (d : Declarations) (theorems : Theorems d) where
     let_sound (with_part (list_part bindings m) no_parts) sound t e = absurd cc
     let_sound (with_part (list_part bindings m) (with_part body (with_part p ps))) sound t e = absurd cc
 
+    quantifier_sound : (q : Quantifier) (ps : Parts) → AreSoundParts d ps → (t : Sorted) → quantified_form d scope q ps ≡ Ok t → HasOwnSort d (variable_sorts scope) t
+    quantifier_sound q (with_part (list_part bindings m) (with_part body no_parts)) sound t e = quantified_sound d theorems scope inside q bindings body sound.1.0 t e
+    quantifier_sound q no_parts sound t e = absurd cc
+    quantifier_sound q (with_part (atom_part a) ps) sound t e = absurd cc
+    quantifier_sound q (with_part (list_part bindings m) no_parts) sound t e = absurd cc
+    quantifier_sound q (with_part (list_part bindings m) (with_part body (with_part p ps))) sound t e = absurd cc
+
     match_sound : (ps : Parts) → AreSoundParts d ps → (t : Sorted) → match_form d scope ps ≡ Ok t → HasOwnSort d (variable_sorts scope) t
     match_sound (with_part p (with_part (list_part cases m) no_parts)) sound t e = cases_of_sound d theorems scope inside p cases sound.0 sound.1.0.0 t e
     match_sound no_parts sound t e = absurd cc
@@ -135,19 +145,27 @@ module _ (d : Declarations) (theorems : Theorems d) where
     reserved_sound : (w : List ℕ) (ps : Parts) → AreSoundParts d ps → (t : Sorted) → reserved d scope w ps ≡ Ok t → HasOwnSort d (variable_sorts scope) t
     reserved_sound w ps sound t e = by_let (bytes_eq w (codes "let")) e
       where
-        by_as : (b : Bool) → (if b then and_then (qualified_symbol d scope ps) (lone_symbol d) else Err (refused out_of_scope)) ≡ Ok t → HasOwnSort d (variable_sorts scope) t
-        by_as true f = whole_sound ps t f
-        by_as false f = absurd cc
+        by_exists : (b : Bool) → (if b then quantified_form d scope Exists ps else Err (refused out_of_scope)) ≡ Ok t → HasOwnSort d (variable_sorts scope) t
+        by_exists true f = quantifier_sound Exists ps sound t f
+        by_exists false f = absurd cc
 
-        by_bang : (b : Bool) → (if b then annotated d scope ps else (if bytes_eq w (codes "as") then and_then (qualified_symbol d scope ps) (lone_symbol d) else Err (refused out_of_scope))) ≡ Ok t → HasOwnSort d (variable_sorts scope) t
+        by_forall : (b : Bool) → (if b then quantified_form d scope Forall ps else (if bytes_eq w (codes "exists") then quantified_form d scope Exists ps else Err (refused out_of_scope))) ≡ Ok t → HasOwnSort d (variable_sorts scope) t
+        by_forall true f = quantifier_sound Forall ps sound t f
+        by_forall false f = by_exists (bytes_eq w (codes "exists")) f
+
+        by_as : (b : Bool) → (if b then and_then (qualified_symbol d scope ps) (lone_symbol d) else (if bytes_eq w (codes "forall") then quantified_form d scope Forall ps else (if bytes_eq w (codes "exists") then quantified_form d scope Exists ps else Err (refused out_of_scope)))) ≡ Ok t → HasOwnSort d (variable_sorts scope) t
+        by_as true f = whole_sound ps t f
+        by_as false f = by_forall (bytes_eq w (codes "forall")) f
+
+        by_bang : (b : Bool) → (if b then annotated d scope ps else (if bytes_eq w (codes "as") then and_then (qualified_symbol d scope ps) (lone_symbol d) else (if bytes_eq w (codes "forall") then quantified_form d scope Forall ps else (if bytes_eq w (codes "exists") then quantified_form d scope Exists ps else Err (refused out_of_scope))))) ≡ Ok t → HasOwnSort d (variable_sorts scope) t
         by_bang true f = annotated_sound ps sound t f
         by_bang false f = by_as (bytes_eq w (codes "as")) f
 
-        by_match : (b : Bool) → (if b then match_form d scope ps else (if bytes_eq w (codes "!") then annotated d scope ps else (if bytes_eq w (codes "as") then and_then (qualified_symbol d scope ps) (lone_symbol d) else Err (refused out_of_scope)))) ≡ Ok t → HasOwnSort d (variable_sorts scope) t
+        by_match : (b : Bool) → (if b then match_form d scope ps else (if bytes_eq w (codes "!") then annotated d scope ps else (if bytes_eq w (codes "as") then and_then (qualified_symbol d scope ps) (lone_symbol d) else (if bytes_eq w (codes "forall") then quantified_form d scope Forall ps else (if bytes_eq w (codes "exists") then quantified_form d scope Exists ps else Err (refused out_of_scope)))))) ≡ Ok t → HasOwnSort d (variable_sorts scope) t
         by_match true f = match_sound ps sound t f
         by_match false f = by_bang (bytes_eq w (codes "!")) f
 
-        by_let : (b : Bool) → (if b then let_form d scope ps else (if bytes_eq w (codes "match") then match_form d scope ps else (if bytes_eq w (codes "!") then annotated d scope ps else (if bytes_eq w (codes "as") then and_then (qualified_symbol d scope ps) (lone_symbol d) else Err (refused out_of_scope))))) ≡ Ok t → HasOwnSort d (variable_sorts scope) t
+        by_let : (b : Bool) → (if b then let_form d scope ps else (if bytes_eq w (codes "match") then match_form d scope ps else (if bytes_eq w (codes "!") then annotated d scope ps else (if bytes_eq w (codes "as") then and_then (qualified_symbol d scope ps) (lone_symbol d) else (if bytes_eq w (codes "forall") then quantified_form d scope Forall ps else (if bytes_eq w (codes "exists") then quantified_form d scope Exists ps else Err (refused out_of_scope))))))) ≡ Ok t → HasOwnSort d (variable_sorts scope) t
         by_let true f = let_sound ps sound t f
         by_let false f = by_match (bytes_eq w (codes "match")) f
 

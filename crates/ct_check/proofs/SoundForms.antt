@@ -160,7 +160,7 @@ module _ (d : Declarations) (theorems : Theorems d) (scope : List Variable) (ins
   terms_sound (with_part (list_part (with_part x no_parts) m) bs) sound ts e = absurd cc
   terms_sound (with_part (list_part (with_part x (with_part b (with_part y ps))) m) bs) sound ts e = absurd cc
 
-  names-count : (bs : Parts) → length (bound_names bs) ≡ count bs
+  pub names-count : (bs : Parts) → length (bound_names bs) ≡ count bs
   names-count no_parts = refl
   names-count (with_part b bs) = ap suc (names-count bs)
 

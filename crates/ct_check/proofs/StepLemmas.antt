@@ -11,7 +11,6 @@ use Rattle.ct_names.specs.Needs.{Grows, Reaches}
 use Rattle.ct_names.specs.Outcome.{Outcome, Elaborated, Halt, Sorted, and_then, step, refused, missing}
 use Rattle.ct_names.specs.Stopped.{stop_of}
 use Rattle.ct_names.proofs.NeedLemmas.{grows_itself, reaches_along, reaches_both}
-use Rattle.ct_check.specs.declared.heads.Head.{Head}
 use Rattle.ct_check.specs.Heads.{LeadsTo}
 
 -- a step that stops stops the whole
@@ -32,7 +31,7 @@ stops_before needs d next other whole part stop.Missing same h = (h.0, h.1, same
 stops_before needs d next other whole part stop.NoMemory same h = tt
 
 -- a head that is not found
-pub stops_head : {W : Type 0} (needs : Needs) (d : Declarations) (whole part : Declarations → Elaborated Sorted) (next : Declarations → Head → Elaborated Sorted) (other : W → Sorted) (e : Stop) → whole d ≡ part d → LeadsTo needs d part next (Err e) → StopsAt needs d other (whole d) (Err e)
+pub stops_head : {X W : Type 0} (needs : Needs) (d : Declarations) (whole part : Declarations → Elaborated Sorted) (next : Declarations → X → Elaborated Sorted) (other : W → Sorted) (e : Stop) → whole d ≡ part d → LeadsTo needs d part next (Err e) → StopsAt needs d other (whole d) (Err e)
 stops_head needs d whole part next other (stop.Refused n) same h = same ∙ h
 stops_head needs d whole part next other stop.Missing same h = (h.0, h.1, same ∙ h.2)
 stops_head needs d whole part next other stop.NoMemory same h = tt

@@ -20,11 +20,11 @@ use Rattle.ct_names.specs.Parts.{Parts}
 use Rattle.ct_names.specs.Sorts.{sort_there}
 use Rattle.ct_names.specs.Symbols.{argument_sorts, symbol_applied, field_sort_id}
 use Rattle.ct_names.specs.Variables.{Variable}
-use Rattle.ct_names.specs.Elaboration.{let_form, match_form, annotated, lone_symbol, of_one_sort, connected, choice_form, instance_of, constructed, own}
+use Rattle.ct_names.specs.Elaboration.{let_form, match_form, annotated, quantified_form, lone_symbol, of_one_sort, connected, choice_form, instance_of, constructed, own}
 use Rattle.ct_check.specs.declared.callees.Callee.{Callee}
 use Rattle.ct_check.specs.declared.callees.Callee.TheVariants.{Symbol, Tester, Connective}
 use Rattle.ct_check.specs.declared.heads.Head.{Head}
-use Rattle.ct_check.specs.declared.heads.Head.TheVariants.{Let, Match, Annotation, Whole, Call, GenericCtor, Part, Equation, Choice}
+use Rattle.ct_check.specs.declared.heads.Head.TheVariants.{Let, Match, Annotation, Quantified, Whole, Call, GenericCtor, Part, Equation, Choice}
 use Rattle.ct_check.specs.declared.parts.Part.{Part as PartOf}
 use Rattle.ct_check.specs.declared.parts.Part.TheVariants.{Field, Test}
 use Rattle.ct_check.specs.Callees.{called, callee_formula, callee_result, tester_formula, IsCallee}
@@ -36,6 +36,7 @@ abbrev pub headed_by : Declarations → List Variable → Head → Parts → Ela
 headed_by d scope Let ps = let_form d scope ps
 headed_by d scope Match ps = match_form d scope ps
 headed_by d scope Annotation ps = annotated d scope ps
+headed_by d scope (Quantified q) ps = quantified_form d scope q ps
 headed_by d scope (Whole s) ps = lone_symbol d s
 headed_by d scope (Call f) ps = called d scope f ps
 headed_by d scope (GenericCtor g i) ps = generic_term d scope g i ps
@@ -53,6 +54,7 @@ abbrev pub HasCount : Declarations → Head → ℕ → Type 0
 HasCount d Let n = Unit {0}
 HasCount d Match n = Unit {0}
 HasCount d Annotation n = Unit {0}
+HasCount d (Quantified q) n = Unit {0}
 HasCount d (Whole s) n = Unit {0}
 HasCount d (Call f) n = TakesMany d f n
 HasCount d (GenericCtor g i) n = length (generic_fields d g i) ≡ n
@@ -70,6 +72,7 @@ expected_at d Choice n = choice
 expected_at d Let n = choice
 expected_at d Match n = choice
 expected_at d Annotation n = choice
+expected_at d (Quantified q) n = choice
 expected_at d (Whole s) n = choice
 
 -- what the arguments that are met say: the sort that they have, that of the last of them, what parameters were matched with
@@ -102,6 +105,7 @@ HasPlaces d (GenericCtor g i) x = length (assignment_in x) ≡ generic_params d 
 HasPlaces d Let x = Unit {0}
 HasPlaces d Match x = Unit {0}
 HasPlaces d Annotation x = Unit {0}
+HasPlaces d (Quantified q) x = Unit {0}
 HasPlaces d (Whole s) x = Unit {0}
 HasPlaces d (Call f) x = Unit {0}
 HasPlaces d (Part p) x = Unit {0}
@@ -126,10 +130,11 @@ finished d Choice r = and_then (common_in r.1) (λ s. Ok (chosen r.0, s))
 finished d Let r = Err (refused wrong_count)
 finished d Match r = Err (refused wrong_count)
 finished d Annotation r = Err (refused wrong_count)
+finished d (Quantified q) r = Err (refused wrong_count)
 finished d (Whole s) r = Err (refused wrong_count)
 
--- what the head is leads to what the whole comes to, also where more sorts are there then
-abbrev pub LeadsTo : Needs → Declarations → (Declarations → Elaborated Sorted) → (Declarations → Head → Elaborated Sorted) → Result Head Stop → Type 0
+-- what the head is, or what stands first, leads to what the whole comes to, also where more sorts are there then
+abbrev pub LeadsTo : {X : Type 0} → Needs → Declarations → (Declarations → Elaborated Sorted) → (Declarations → X → Elaborated Sorted) → Result X Stop → Type 0
 LeadsTo needs d whole next (Ok h) = (later : Declarations) → Grows later d → whole later ≡ next later h
 LeadsTo needs d whole next (Err (stop.Refused n)) = whole d ≡ Err (refused n)
 LeadsTo needs d whole next (Err stop.Missing) = (e : Expression) × CannotHave needs d e × (whole d ≡ Err (missing e))
@@ -140,6 +145,7 @@ abbrev pub IsHeadDeclared : Declarations → Head → Type 0
 IsHeadDeclared d Let = Unit {0}
 IsHeadDeclared d Match = Unit {0}
 IsHeadDeclared d Annotation = Unit {0}
+IsHeadDeclared d (Quantified q) = Unit {0}
 IsHeadDeclared d (Whole s) = IsSymbol d s
 IsHeadDeclared d (Call f) = IsCallee d f
 IsHeadDeclared d (GenericCtor g i) = IsSymbol d (GenCtor g i)
@@ -152,6 +158,7 @@ abbrev pub TakesArguments : Head → Type 0
 TakesArguments Let = ⊥
 TakesArguments Match = ⊥
 TakesArguments Annotation = ⊥
+TakesArguments (Quantified q) = ⊥
 TakesArguments (Whole s) = ⊥
 TakesArguments (Call f) = Unit {0}
 TakesArguments (GenericCtor g i) = Unit {0}

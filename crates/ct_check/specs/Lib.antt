@@ -4,3 +4,4 @@ pub mod Heads
 pub mod Trees
 pub mod Expected
 pub mod Binders
+pub mod Quantifiers

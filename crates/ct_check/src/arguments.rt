@@ -69,9 +69,12 @@ pub(crate) fn expected_at(
         Head::GenericCtor(g, index) => expected_fields(alloc, sig, g, index),
         Head::Part(part) => Ok(expected_by(part)),
         Head::Equation(_) => Ok(Expected::Same(None)),
-        Head::Let | Head::Match | Head::Annotation | Head::Whole(_) | Head::Choice => {
-            Ok(Expected::Choice)
-        }
+        Head::Let
+        | Head::Match
+        | Head::Annotation
+        | Head::Quantified(_)
+        | Head::Whole(_)
+        | Head::Choice => Ok(Expected::Choice),
     }
 }
 
@@ -97,9 +100,9 @@ pub(crate) fn finished(
         Head::Part(part) => part_of(alloc, sig, part, terms),
         Head::Equation(operator) => equation(alloc, operator, terms),
         Head::Choice => choice(alloc, terms),
-        Head::Let | Head::Match | Head::Annotation | Head::Whole(_) => {
-            Err(Stop::Refused(WRONG_COUNT))
-        }
+        Head::Let | Head::Match | Head::Annotation | Head::Quantified(_) | Head::Whole(_) => Err(
+            Stop::Refused(WRONG_COUNT),
+        ),
     }
 }
 

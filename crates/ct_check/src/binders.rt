@@ -1,18 +1,17 @@
 //! What `let` and `match` do before and after their terms.
-ghost use Rattle.std.specs.Prelude.{◌≡◌, ◌++◌, ◌∷◌, [], Some, List, map, IfOk, IfErr, OnOk};
+ghost use Rattle.std.specs.Prelude.{◌≡◌, ℕ, ◌++◌, ◌∷◌, [], Option, Some, List, map, IfOk, IfErr, OnOk};
 ghost use Rattle.ct_sexpr.specs.View.{expressions_of};
 ghost use Rattle.ct_sorts.specs.Declarations.{Declarations};
 ghost use Rattle.ct_formulas.specs.Formula.{Let};
 ghost use Rattle.ct_formulas.specs.TreeFormula.{formula_of, formulas_of_trees};
 ghost use Rattle.ct_names.specs.declared.needs.Needs.{Needs};
 ghost use Rattle.ct_names.specs.Answer.{StopsAt, ContinuesTo};
-ghost use Rattle.ct_check.specs.Binders.{let_of_names};
+ghost use Rattle.ct_check.specs.Binders.{with_names};
 ghost use Rattle.ct_names.specs.Bounds.{held_name};
-ghost use Rattle.ct_names.specs.Elaboration.{parts_of, let_of, exhausted, goes_with};
-ghost use Rattle.ct_names.specs.Parts.{Part};
+ghost use Rattle.ct_names.specs.Elaboration.{parts_of, exhausted, goes_with};
+ghost use Rattle.ct_names.specs.Outcome.{Elaborated, Sorted};
 ghost use Rattle.ct_check.specs.Trees.{sorted_of, checked_of};
 ghost use Rattle.ct_occurrence.specs.CaseFormula.{case_of};
-ghost use Rattle.ct_names.specs.Variables.{Variable};
 
 use crate::callees::is_sort;
 use crate::exhaustive::are_exhaustive;
@@ -37,7 +36,7 @@ pub(crate) fn binding_names<'e>(
     alloc: Global,
     bindings: &'e [Sexpr],
 ) -> Result<Vec<Option<&'e [u8]>>, Stop>
-    ensures value { (needs : Needs) (d : Declarations) (scope : List Variable) (body : Part) → ContinuesTo needs d (let_of d scope (parts_of d (expressions_of bindings.now)) body) (λ names. let_of_names d scope (map held_name names.items) (parts_of d (expressions_of bindings.now)) body) result }
+    ensures value { (needs : Needs) (d : Declarations) (next : List (Option (List ℕ)) → Elaborated Sorted) → ContinuesTo needs d (with_names (parts_of d (expressions_of bindings.now)) next) (λ names. next (map held_name names.items)) result }
 {
     if bindings.is_empty() {
         return Err(Stop::Refused(OUT_OF_SCOPE));

@@ -24,6 +24,7 @@ ghost use Rattle.ct_check.specs.Heads.{headed_by, HasCount, IsHeadDeclared, Lead
 
 use crate::callees::{Callee, takes};
 use crate::parts::Part;
+use ct_formulas::Quantifier;
 use ct_instances::{NamedCtor, ctor_among};
 use ct_names::{
     CoreOperator, Needs, OUT_OF_SCOPE, Stop, UNDETERMINED, UNKNOWN_SYMBOL, Variables, WRONG_COUNT,
@@ -43,6 +44,8 @@ pub(crate) enum Head {
     Match,
     /// `!`.
     Annotation,
+    /// `forall` or `exists`.
+    Quantified(Quantifier),
     /// The list is `(as f S)`, and f has the sort S.
     Whole(Symbol),
     /// What takes arguments of stated sorts.
@@ -141,6 +144,12 @@ fn reserved_head(
     }
     if is_same(word, b"as") {
         return whole_head(alloc, sig, needs, variables, args);
+    }
+    if is_same(word, b"forall") {
+        return Ok(Head::Quantified(Quantifier::Forall));
+    }
+    if is_same(word, b"exists") {
+        return Ok(Head::Quantified(Quantifier::Exists));
     }
     Err(Stop::Refused(OUT_OF_SCOPE))
 }

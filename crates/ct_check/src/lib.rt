@@ -11,6 +11,7 @@ mod generic_ctors;
 mod heads;
 mod leaves;
 mod parts;
+mod quantifiers;
 mod sorting;
 mod terms;
 mod theorems;

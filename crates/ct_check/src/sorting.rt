@@ -61,13 +61,15 @@ fn error_of(stop: Stop, missing: u16) -> CheckError
 /// It is refused with the number of its first error: 12 unknown sort, 16 too many declarations, 19 sort of a
 /// constructor that is not determined, 21 unknown symbol, 22 wrong
 /// number of arguments, 23 wrong sort, 25 pattern of another sort, 26 `match` not exhaustive, 27
-/// variable repeated, 28 form out of scope. Errors come from left to right, but the number of
-/// arguments before the arguments, 27 in a `let` before its terms, and 28 for the form of a case
-/// before the matched term; 26 comes last. Or memory runs out. After an error the list may have grown
+/// variable repeated, 28 form out of scope, as of a variable of a quantifier whose sort is not listable, 31 quantifier over too
+/// many values. Errors come from left to right, but the number of
+/// arguments before the arguments, 27 in a `let` before its terms and in a quantifier before the sorts, and 28 for the form of a
+/// case before the matched term; 26 comes last. Or memory runs out. After an error the list may have grown
 /// by sorts that were needed before it.
 ///
-/// The time is linear in the expression, in the sorts that come into the list, and for each `match` in the constructors of the
-/// sort of its subject. A name is looked for in about constant time, and a binder costs what it binds.
+/// The time is linear in the expression, in the sorts that come into the list, for each `match` in the constructors of the
+/// sort of its subject, and for each quantifier in the sorts that there are, again for each that its variables bring. A name is
+/// looked for in about constant time, and a binder costs what it binds.
 pub fn elaborate(
     alloc: Global,
     scope: &mut Scope,

@@ -7,7 +7,7 @@ ghost use Rattle.ct_sorts.specs.Grown.{Extends};
 ghost use Rattle.ct_names.specs.Answer.{StopsAt};
 ghost use Rattle.ct_names.specs.Bounds.{variable_of};
 ghost use Rattle.ct_names.specs.declared.needs.Needs.TheVariants.{Find};
-ghost use Rattle.ct_names.specs.Elaboration.{elaborated, parts_of, list_meaning, annotated, let_form, bound_terms, match_form, checked_cases};
+ghost use Rattle.ct_names.specs.Elaboration.{elaborated, parts_of, list_meaning, annotated, let_form, bound_terms, match_form, checked_cases, quantified_form};
 ghost use Rattle.ct_names.specs.Needs.{Reaches};
 ghost use Rattle.ct_names.specs.Variables.{ScopeIn};
 ghost use Rattle.ct_check.specs.Expected.{expectation_of, expected_terms, arguments_of, IsExpectation};
@@ -19,7 +19,8 @@ use crate::binders::{Checked, add_case, binding_names, goes_with, let_tree, matc
 use crate::expected::Expected;
 use crate::heads::{Head, head_of};
 use crate::leaves::{lone, lone_symbol};
-use ct_formulas::Tree;
+use crate::quantifiers::{quantified_tree, quantified_variables};
+use ct_formulas::{Quantifier, Tree};
 use ct_names::{
     BoundVariable, Needs, OUT_OF_SCOPE, Stop, Variables, WRONG_SORT, are_attributes, are_cases,
     bounds, matchable, pattern,
@@ -105,6 +106,7 @@ fn headed<'e>(
         Head::Let => let_form(alloc, sig, needs, variables, args),
         Head::Match => match_form(alloc, sig, needs, variables, args),
         Head::Annotation => annotated(alloc, sig, needs, variables, args),
+        Head::Quantified(q) => quantified_form(alloc, sig, needs, variables, q, args),
         Head::Whole(symbol) => lone_symbol(alloc, sig, symbol),
         Head::Call(_)
         | Head::GenericCtor(_, _)
@@ -233,6 +235,35 @@ fn let_form<'e>(
     let inner = bounds(alloc, names.as_slice(), sorts.as_slice())?;
     let (tree, sort) = under(alloc, sig, needs, variables, inner.as_slice(), body)?;
     Ok((let_tree(alloc, trees, tree)?, sort))
+}
+
+// `(forall ((x S) ..) t)` or `(exists ((x S) ..) t)`, by what follows the word.
+#[cycle(terms)]
+fn quantified_form<'e>(
+    alloc: Global,
+    sig: &mut Signature,
+    needs: Needs,
+    variables: &mut Variables<'e>,
+    quantifier: Quantifier,
+    args: &'e [Sexpr],
+) -> Result<(Tree, SortId), Stop>
+    requires variables { ScopeIn sig.old variables.old }
+    ensures value { StopsAt needs sig.new sorted_of (quantified_form sig.new variables.old quantifier (parts_of sig.new
+        (expressions_of args.now))) result }
+    ensures reaches { Reaches (λ d. quantified_form d variables.old quantifier (parts_of d (expressions_of args.now))) sig.old sig.new }
+    ensures kept { needs ≡ Find → sig.new ≡ sig.old }
+    ensures grown { Extends sig.new sig.old }
+    ensures restored { variables.new ≡ variables.old }
+{
+    if args.len() != 2 {
+        return Err(Stop::Refused(OUT_OF_SCOPE));
+    }
+    let list = &args[0];
+    let body = &args[1];
+    let inner = quantified_variables(alloc, sig, needs, list)?;
+    let bound = inner.variables.as_slice();
+    let (tree, sort) = under(alloc, sig, needs, variables, bound, body)?;
+    quantified_tree(alloc, quantifier, inner.sorts, tree, sort)
 }
 
 // A term where these variables are in scope too, the last of them as the innermost.

@@ -10,7 +10,9 @@ use Rattle.ct_terms.specs.declared.error.TermError.{TermError}
 use Rattle.ct_terms.specs.declared.error.TermError.TheVariants.{Full, NoMemory}
 use Rattle.ct_terms.specs.Terms.{Terms}
 use Rattle.ct_terms.specs.CoreTree.{CoreTree, subtrees, term_at}
-use Rattle.ct_formulas.specs.Formula.{Formula, Formulas, no_formulas, with_formula}
+use Rattle.ct_formulas.specs.Choices.{choices_of}
+use Rattle.ct_formulas.specs.declared.tree.Quantifier.{Quantifier}
+use Rattle.ct_formulas.specs.Formula.{Formula, Formulas, Quantified, no_formulas, with_formula}
 use Rattle.ct_formulas.specs.Compiled.{compiled, compiled_all}
 use Rattle.ct_scope.specs.declared.bound.Bound.{Bound}
 use Rattle.ct_formulas.specs.Occurrence.{count_of}
@@ -18,7 +20,9 @@ use Rattle.ct_operators.specs.Effect.{Stands, AllStand, IsSoundTable, Within, Al
 use Rattle.ct_scope.specs.declared.stop.DeferredCall.{DeferredCall}
 use Rattle.ct_occurrence.specs.Marks.{Rows}
 use Rattle.ct_operators.specs.Made.{HasTree, HasTrees, MakesInOrder, Made, leaf, terms, made_by}
-use Rattle.ct_scope.specs.Making.{making, made_each, defined}
+use Rattle.ct_scope.specs.Making.{making, made_each, operator_of, defined}
+use Rattle.ct_scope.specs.Choosing.{chosen, all_chosen}
+use Rattle.ct_scope.proofs.ChosenLemmas.{booleans, quantified_core, quantified_making, quantified_under}
 use Rattle.ct_operators.specs.Following.{leading, between, woven, IsLeading, IsFollowing, MayFollow, FollowGives}
 use Rattle.ct_operators.specs.declared.operator.Operator.{Operator}
 use Rattle.ct_operators.specs.declared.operator.Operator.TheVariants.{Inequality}
@@ -66,48 +70,43 @@ ok_with : (r : Result TermId TermError) (P Q : TermId → Type 0) (A : Type 0) �
 ok_with (Ok u) P Q A h k = (h, k)
 ok_with (Err e) P Q A h k = tt
 
-module _ (d : Declarations) (bodies : List Formula) (n : ℕ) (old : Terms) (env : List Bound) (t : Formula) (ts : Formulas) (plain : is_plain t ≡ true) (o : Operator) (is_operator : operator_for t ≡ o) (under : formulas_under t ≡ ts) where
+-- a formula that is an operator over formulas
+pub record IsOver (d : Declarations) (bodies : List Formula) (n : ℕ) (old : Terms) (env : List Bound) (t : Formula) (ts : Formulas) (o : Operator) : Type 0 where
+  pub ready : (trees : List CoreTree) (sorts : List SortId) (sort : SortId) → IsCompilable d bodies old n env t trees sorts sort → (each : List SortId) × AreUnder d bodies old n env o ts trees sorts each
+  pub whole : (trees : List CoreTree) → compiled d (compiled_calls d bodies n) trees t ≡ combined d o (compiled_all d (compiled_calls d bodies n) trees ts)
+  pub makes : (trees : List CoreTree) → making d (defined d bodies n) trees t ≡ (made_by d o (made_each d (defined d bodies n) trees ts)).making
+
+module _ (d : Declarations) (bodies : List Formula) (n : ℕ) (old : Terms) (env : List Bound) (t : Formula) (ts : Formulas) (o : Operator) (view : IsOver d bodies n old env t ts o) where
   -- the core terms under it, and its own over them
   abbrev parts : List CoreTree → List CoreTree
   parts trees = compiled_all d (compiled_calls d bodies n) trees ts
 
-  operands : (trees : List CoreTree) (sorts : List SortId) (sort : SortId) → IsCompilable d bodies old n env t trees sorts sort → AreOperands d o (parts trees)
-  operands trees sorts sort h = subst (λ (us : Formulas). AreOperands d o (compiled_all d (compiled_calls d bodies n) trees us)) under (subst (λ (x : Operator). AreOperands d x (compiled_all d (compiled_calls d bodies n) trees (formulas_under t))) is_operator (operands_of d bodies old n env trees sorts t sort plain h))
-
   are_under : (trees : List CoreTree) (sorts : List SortId) (sort : SortId) → IsCompilable d bodies old n env t trees sorts sort → (each : List SortId) × AreUnder d bodies old n env o ts trees sorts each
-  are_under trees sorts sort h =
-      let all = children_ready d bodies old n env trees sorts t sort plain h in (
-        all.0,
-        record {
-          ready = subst (λ (us : Formulas). AreCompilable d bodies old n env us trees sorts all.0) under all.1;
-          operands = operands trees sorts sort h;
-        },
-      )
+  are_under = view.ready
 
-  pub plain_children : MayCompile d bodies old n env t → MayCompileAll d bodies old n env o ts
-  plain_children may = let under = are_under may.0 may.1 may.2 may.3 in (may.0, may.1, under.0, under.1)
+  operands : (trees : List CoreTree) (sorts : List SortId) (sort : SortId) → IsCompilable d bodies old n env t trees sorts sort → AreOperands d o (parts trees)
+  operands trees sorts sort h = (view.ready trees sorts sort h).1.operands
+
+  pub over_children : MayCompile d bodies old n env t → MayCompileAll d bodies old n env o ts
+  over_children may = let under = are_under may.0 may.1 may.2 may.3 in (may.0, may.1, under.0, under.1)
 
   whole_is : (trees : List CoreTree) → compiled d (compiled_calls d bodies n) trees t ≡ combined d o (parts trees)
-  whole_is trees = compiled_plain d bodies n trees t plain ∙ ap (λ (x : Operator). combined d x (compiled_all d (compiled_calls d bodies n) trees (formulas_under t))) is_operator ∙ ap (λ (us : Formulas). combined d o (compiled_all d (compiled_calls d bodies n) trees us)) under
+  whole_is = view.whole
 
   made_is : (trees : List CoreTree) → making d (defined d bodies n) trees t ≡ (made_by d o (made_each d (defined d bodies n) trees ts)).making
-  made_is trees =
-      let defs = defined d bodies n in
-      making_plain d defs trees t plain
-      ∙ ap (λ (x : Operator). (made_by d x (made_each d defs trees (formulas_under t))).making) is_operator
-      ∙ ap (λ (us : Formulas). (made_by d o (made_each d defs trees us)).making) under
+  made_is = view.makes
 
   -- where a call under it is put off
-  pub plain_waits : (rows : Rows) (new : Terms) (call : DeferredCall) → ArePutOff d bodies rows n old new env o ts call → IsPutOff d bodies rows n old new env t call
-  plain_waits rows new call all = λ trees sorts sort h.
+  pub over_waits : (rows : Rows) (new : Terms) (call : DeferredCall) → ArePutOff d bodies rows n old new env o ts call → IsPutOff d bodies rows n old new env t call
+  over_waits rows new call all = λ trees sorts sort h.
       let ready = are_under trees sorts sort h in
       let part = (made_by d o (made_each d (defined d bodies n) trees ts)).making in
       waits_under d bodies rows n n old old new (making d (defined d bodies n) trees t) [] part [] (λ allowed. Within allowed (combined d o (parts trees))) (λ allowed. Within allowed (compiled d (compiled_calls d bodies n) trees t)) call (omega arith) refl
       (made_is trees ∙ sym (append-nil part)) (λ allowed w. subst (Within allowed) (whole_is trees) w) (all trees sorts ready.0 ready.1)
 
   -- where a formula under it fails
-  pub plain_failed : (new : Terms) (e : TermError) → CompilesAll d bodies n old new env o ts (Err e) → Compiles d bodies n old new env t (Err e)
-  plain_failed new e all = record {
+  pub over_failed : (new : Terms) (e : TermError) → CompilesAll d bodies n old new env o ts (Err e) → Compiles d bodies n old new env t (Err e)
+  over_failed new e all = record {
     core = λ trees sorts sort h. tt;
     effect = λ trees sorts sort allowed h w.
         let ready = are_under trees sorts sort h in
@@ -124,17 +123,17 @@ module _ (d : Declarations) (bodies : List Formula) (n : ℕ) (old : Terms) (env
     stand : (trees : List CoreTree) (sorts : List SortId) (sort : SortId) → IsCompilable d bodies old n env t trees sorts sort → AllStand mid args (parts trees)
     stand trees sorts sort h = let ready = are_under trees sorts sort h in all.core trees sorts ready.0 ready.1
 
-    pub plain_kept : MayCompile d bodies old n env t → IsSoundTable d mid
-    plain_kept may = (effect_of may.0 may.1 may.2 may.3).kept
+    pub over_kept : MayCompile d bodies old n env t → IsSoundTable d mid
+    over_kept may = (effect_of may.0 may.1 may.2 may.3).kept
 
-    pub plain_below : MayCompile d bodies old n env t → AllByRecursion (λ u. u.0 < length mid) args
-    plain_below may = all_below mid args (parts may.0) (stand may.0 may.1 may.2 may.3)
+    pub over_below : MayCompile d bodies old n env t → AllByRecursion (λ u. u.0 < length mid) args
+    over_below may = all_below mid args (parts may.0) (stand may.0 may.1 may.2 may.3)
 
-    pub plain_operands : MayCompile d bodies old n env t → AreOperands d o (map (term_at mid) args)
-    plain_operands may = subst (AreOperands d o) (sym (all_trees mid args (parts may.0) (stand may.0 may.1 may.2 may.3))) (operands may.0 may.1 may.2 may.3)
+    pub over_operands : MayCompile d bodies old n env t → AreOperands d o (map (term_at mid) args)
+    over_operands may = subst (AreOperands d o) (sym (all_trees mid args (parts may.0) (stand may.0 may.1 may.2 may.3))) (operands may.0 may.1 may.2 may.3)
 
-    pub plain_made : (new : Terms) (r : Result TermId TermError) → IfOk r (λ u. Stands new u (combined d o (map (term_at mid) args))) → ((allowed : List CoreTree) → Within allowed (combined d o (map (term_at mid) args)) → Effect d allowed mid new (IsErrOf r Full)) → (o ≡ Inequality → IfOk r (λ u. MakesInOrder mid (made_by d Inequality (map leaf (map (term_at mid) args))).making new)) → Compiles d bodies n old new env t r
-    plain_made new r core effect compared = record {
+    pub over_made : (new : Terms) (r : Result TermId TermError) → IfOk r (λ u. Stands new u (combined d o (map (term_at mid) args))) → ((allowed : List CoreTree) → Within allowed (combined d o (map (term_at mid) args)) → Effect d allowed mid new (IsErrOf r Full)) → (o ≡ Inequality → IfOk r (λ u. MakesInOrder mid (made_by d Inequality (map leaf (map (term_at mid) args))).making new)) → Compiles d bodies n old new env t r
+    over_made new r core effect compared = record {
       core = λ trees sorts sort h.
           let is = ap (combined d o) (all_trees mid args (parts trees) (stand trees sorts sort h)) ∙ sym (whole_is trees) in
           IfOk-weaker r _ (λ u. Stands new u (compiled d (compiled_calls d bodies n) trees t)) (λ u k. stands_as new u _ _ is k) core;
@@ -165,6 +164,57 @@ module _ (d : Declarations) (bodies : List Formula) (n : ℕ) (old : Terms) (env
             (subst (λ (us : List CoreTree). HasTree new (combined d o us)) all_is there)
             (λ is. subst (λ (us : List CoreTree). MakesInOrder mid (made_by d Inequality (map leaf us)).making new) all_is (pairs_made is))
             (all.order trees sorts ready.0 ready.1))
+
+-- operators
+module _ (d : Declarations) (bodies : List Formula) (n : ℕ) (old : Terms) (env : List Bound) (t : Formula) (ts : Formulas) (plain : is_plain t ≡ true) (o : Operator) (is_operator : operator_for t ≡ o) (under : formulas_under t ≡ ts) where
+  plain_over : IsOver d bodies n old env t ts o
+  plain_over = record {
+    ready = λ trees sorts sort h.
+        let all = children_ready d bodies old n env trees sorts t sort plain h in (
+          all.0,
+          record {
+            ready = subst (λ (us : Formulas). AreCompilable d bodies old n env us trees sorts all.0) under all.1;
+            operands = subst (λ (us : Formulas). AreOperands d o (compiled_all d (compiled_calls d bodies n) trees us)) under (subst (λ (x : Operator). AreOperands d x (compiled_all d (compiled_calls d bodies n) trees (formulas_under t))) is_operator (operands_of d bodies old n env trees sorts t sort plain h));
+          },
+        );
+    whole = λ trees. compiled_plain d bodies n trees t plain ∙ ap (λ (x : Operator). combined d x (compiled_all d (compiled_calls d bodies n) trees (formulas_under t))) is_operator ∙ ap (λ (us : Formulas). combined d o (compiled_all d (compiled_calls d bodies n) trees us)) under;
+    makes = λ trees.
+        let defs = defined d bodies n in
+        making_plain d defs trees t plain
+        ∙ ap (λ (x : Operator). (made_by d x (made_each d defs trees (formulas_under t))).making) is_operator
+        ∙ ap (λ (us : Formulas). (made_by d o (made_each d defs trees us)).making) under;
+  }
+
+  pub plain_children : MayCompile d bodies old n env t → MayCompileAll d bodies old n env o ts
+  plain_children = over_children d bodies n old env t ts o plain_over
+
+  pub plain_waits : (rows : Rows) (new : Terms) (call : DeferredCall) → ArePutOff d bodies rows n old new env o ts call → IsPutOff d bodies rows n old new env t call
+  plain_waits = over_waits d bodies n old env t ts o plain_over
+
+  pub plain_failed : (new : Terms) (e : TermError) → CompilesAll d bodies n old new env o ts (Err e) → Compiles d bodies n old new env t (Err e)
+  plain_failed = over_failed d bodies n old env t ts o plain_over
+
+  module _ (mid : Terms) (args : List TermId) (all : CompilesAll d bodies n old mid env o ts (Ok args)) where
+    pub plain_kept : MayCompile d bodies old n env t → IsSoundTable d mid
+    plain_kept = over_kept d bodies n old env t ts o plain_over mid args all
+
+    pub plain_below : MayCompile d bodies old n env t → AllByRecursion (λ u. u.0 < length mid) args
+    plain_below = over_below d bodies n old env t ts o plain_over mid args all
+
+    pub plain_operands : MayCompile d bodies old n env t → AreOperands d o (map (term_at mid) args)
+    plain_operands = over_operands d bodies n old env t ts o plain_over mid args all
+
+    pub plain_made : (new : Terms) (r : Result TermId TermError) → IfOk r (λ u. Stands new u (combined d o (map (term_at mid) args))) → ((allowed : List CoreTree) → Within allowed (combined d o (map (term_at mid) args)) → Effect d allowed mid new (IsErrOf r Full)) → (o ≡ Inequality → IfOk r (λ u. MakesInOrder mid (made_by d Inequality (map leaf (map (term_at mid) args))).making new)) → Compiles d bodies n old new env t r
+    plain_made = over_made d bodies n old env t ts o plain_over mid args all
+
+-- quantifiers
+module _ (d : Declarations) (bodies : List Formula) (n : ℕ) (old : Terms) (env : List Bound) (q : Quantifier) (bound : List SortId) (t : Formula) where
+  pub quantified_over : IsOver d bodies n old env (Quantified q bound t) (all_chosen d bound t) (operator_of q)
+  quantified_over = record {
+    ready = λ trees sorts sort h. (booleans (map (chosen t) (choices_of d bound)), quantified_under d bodies old n env q bound t trees sorts sort h);
+    whole = λ trees. quantified_core d bodies n trees q bound t;
+    makes = λ trees. quantified_making d bodies n trees q bound t;
+  }
 
 -- ---- the formulas under an operator, as far as they are made
 

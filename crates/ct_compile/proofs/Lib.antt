@@ -1,4 +1,5 @@
 mod CycleLemmas
+mod OverLemmas
 mod EntryLemmas
 mod FullLemmas
 mod LoopLemmas

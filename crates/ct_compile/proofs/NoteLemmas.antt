@@ -6,7 +6,9 @@ use Rattle.ct_sorts.specs.declared.ids.DefId.{DefId}
 use Rattle.ct_sorts.specs.Declarations.{Declarations}
 use Rattle.ct_formulas.specs.declared.tree.Pattern.{Pattern}
 use Rattle.ct_formulas.specs.declared.tree.Pattern.TheVariants.{Ctor, Any}
-use Rattle.ct_formulas.specs.Formula.{Formula, Formulas, Cases, Var, Con, Sel, Test, Apply, Def, Not, And, Or, Xor, Implies, Equal, Distinct, Ite, Let, Match, no_formulas, with_formula, with_case}
+use Rattle.ct_sorts.specs.declared.ids.SortId.{SortId}
+use Rattle.ct_formulas.specs.declared.tree.Quantifier.{Quantifier}
+use Rattle.ct_formulas.specs.Formula.{Formula, Formulas, Cases, Var, Con, Sel, Test, Apply, Def, Not, And, Or, Xor, Implies, Equal, Distinct, Ite, Let, Match, Quantified, no_formulas, with_formula, with_case}
 use Rattle.ct_formulas.specs.Compiled.{surely_fits, are_none}
 use Rattle.ct_formulas.specs.Occurrence.{count_of, occurs, matched_occurs}
 use Rattle.ct_occurrence.specs.declared.notes.Notes.{Notes}
@@ -33,6 +35,7 @@ noted_children d rows uses (Def k ts) m plain h = absurd (true≢false (sym plai
 noted_children d rows uses (Ite c t u) m plain h = absurd (true≢false (sym plain))
 noted_children d rows uses (Let ts u) m plain h = absurd (true≢false (sym plain))
 noted_children d rows uses (Match t cases) m plain h = absurd (true≢false (sym plain))
+noted_children d rows uses (Quantified q sorts t) m plain h = absurd (true≢false (sym plain))
 
 -- ---- the notes on what is under a formula
 
@@ -74,6 +77,15 @@ module _ (d : Declarations) (rows : Rows) (uses : DefId → ℕ → Bool) (ms : 
 
   pub call_notes : (k : DefId) (ts : Formulas) (row : List Bool) (under : List Notes) → row ≡ flags_below (uses k) (count_of ts) → under ≡ under_of m → IsOfFirst (IsNoted d rows uses (Def k ts)) ms → AreNotedWhere d rows uses row ts under
   call_notes k ts row under is same h = subst (AreNotedWhere d rows uses row ts) (sym same) (subst (λ (bs : List Bool). AreNotedWhere d rows uses bs ts (under_of m)) (sym is) (first_noted (IsNoted d rows uses (Def k ts)) ms m h at).1)
+
+  quantified_noted : (q : Quantifier) (sorts : List SortId) (t : Formula) → IsOfFirst (IsNoted d rows uses (Quantified q sorts t)) ms → IsNoted d rows uses (Quantified q sorts t) m
+  quantified_noted q sorts t h = first_noted (IsNoted d rows uses (Quantified q sorts t)) ms m h at
+
+  pub quantified_flags : (q : Quantifier) (sorts : List SortId) (t : Formula) (bound : List Bool) → bound ≡ bound_of m → IsOfFirst (IsNoted d rows uses (Quantified q sorts t)) ms → bound ≡ flags_below (occurs d uses t) (length sorts)
+  quantified_flags q sorts t bound same h = same ∙ (quantified_noted q sorts t h).0
+
+  pub quantified_inner : (q : Quantifier) (sorts : List SortId) (t : Formula) (inner : List Notes) → inner ≡ inner_of m → IsOfFirst (IsNoted d rows uses (Quantified q sorts t)) ms → IsOfFirst (IsNoted d rows uses t) inner
+  quantified_inner q sorts t inner same h = subst (IsOfFirst (IsNoted d rows uses t)) (sym same) (quantified_noted q sorts t h).1
 
   match_noted : (t : Formula) (cases : Cases) → IsOfFirst (IsNoted d rows uses (Match t cases)) ms → IsNoted d rows uses (Match t cases) m
   match_noted t cases h = first_noted (IsNoted d rows uses (Match t cases)) ms m h at

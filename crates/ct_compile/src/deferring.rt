@@ -14,9 +14,9 @@ ghost use Rattle.ct_scope.specs.Making.{makes_below};
 ghost use Rattle.ct_occurrence.specs.Marks.{worked_in};
 ghost use Rattle.ct_occurrence.specs.Noted.{IsOfFirst, IsNoted, HaveNotes};
 ghost use Rattle.ct_scope.specs.Compilable.{compiled_calls, MayCompile, Compiles};
-ghost use Rattle.ct_compile.specs.AtLevel.{IsNotedAt, IsStateAt, MayCompileAt, bodies_at, declared_at, rows_at};
+ghost use Rattle.ct_compile.specs.AtLevel.{AreWorkedAt, IsNotedAt, IsStateAt, MayCompileAt, bodies_at, declared_at, rows_at};
 
-use crate::level::{Level, room_under};
+use crate::level::{Level, no_finite, room_under};
 use crate::terms::compile_tree;
 use ct_formulas::Tree;
 use ct_occurrence::{Definitions, Notes, notes_at};
@@ -49,6 +49,7 @@ pub(crate) fn compile_deferring(
         scope,
         definitions,
         below,
+        finite: no_finite(),
         room: CALL_ROOM,
     };
     // The calls that are put off, each under the one before it.
@@ -111,7 +112,7 @@ fn compile_call_first(
 ) -> Result<TermId, Stop>
     requires state { IsState (declared_at level.now) (bodies_at level.now) call.now.definition.0 (rows_at level.now) table.old known.old }
     requires call { (trees : List CoreTree) × IsCall (declared_at level.now) (bodies_at level.now) (rows_at level.now) table.old call.now trees }
-    requires noted { HaveNotes (declared_at level.now) (bodies_at level.now) (rows_at level.now) }
+    requires noted { AreWorkedAt level.now }
     ensures effect { (trees : List CoreTree) (allowed : List CoreTree)
         → IsCall (declared_at level.now) (bodies_at level.now) (rows_at level.now) table.old call.now trees
         → Within allowed (compiled_calls (declared_at level.now) (bodies_at level.now) (suc call.now.definition.0) call.now.definition trees)
@@ -137,6 +138,7 @@ fn compile_call_first(
         scope: level.scope,
         definitions: level.definitions,
         below: k.0 as usize,
+        finite: level.finite,
         room: room_under(level, k).unwrap_or(0),
     };
     let body = body_at(level.scope, k);

@@ -20,12 +20,13 @@ use ct_terms::{TermError, TermId, TermTable};
 use indexmap::IndexMap;
 use std::alloc::Global;
 
-/// The number of the core term of a formula: bindings, definitions and `match` are expanded, and
+/// The number of the core term of a formula: bindings, definitions, `match` and quantifiers are expanded, and
 /// operators over several formulas are brought to the kinds of core terms.
 ///
 /// The table grows by subterms of the core term alone, from left to right, each after the terms under it. What is
 /// bound comes before the body, and makes no term where its variable does not occur; so do the arguments of a
-/// definition, and what is matched. Calls of a definition with the same arguments are compiled once. A call that lies
+/// definition, and what is matched. A quantifier has, for each choice of values in order, the values of the variables that
+/// occur and then the body. Calls of a definition with the same arguments are compiled once. A call that lies
 /// too deep under others for the stack is compiled first, and what was left begins anew, over the terms that are there.
 /// `Full` comes where the table holds 400,000 terms and does not have one of these. After an error the caller cuts the
 /// table back.

@@ -27,7 +27,11 @@ pub(crate) fn operands(tree: &Tree) -> Option<(Operator, &[Tree])>
         Tree::Sel(s, t) => Some((Operator::Select(*s), slice::from_ref(t))),
         Tree::Test(c, t) => Some((Operator::Inspect(*c), slice::from_ref(t))),
         Tree::Not(t) => Some((Operator::Negation, slice::from_ref(t))),
-        Tree::Var(_) | Tree::Def(_, _) | Tree::Ite(_, _, _) | Tree::Let(_, _) | Tree::Match(_, _) =>
-            None,
+        Tree::Var(_)
+        | Tree::Def(_, _)
+        | Tree::Ite(_, _, _)
+        | Tree::Let(_, _)
+        | Tree::Match(_, _)
+        | Tree::Quantified(_, _, _) => None,
     }
 }

@@ -5,6 +5,7 @@ mod deferring;
 mod entry;
 mod forms;
 mod level;
+mod quantification;
 mod terms;
 
 pub use ct_scope::Scope;

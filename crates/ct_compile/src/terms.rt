@@ -4,7 +4,7 @@ ghost use Rattle.ct_sorts.specs.declared.ids.SortId.{SortId};
 ghost use Rattle.ct_terms.specs.CoreTree.{CoreTree};
 ghost use Rattle.ct_terms.specs.CoreSorts.{HasTreeSort};
 ghost use Rattle.ct_operators.specs.Effect.{Stands, IsSoundTable, IsPrefix, Effect};
-ghost use Rattle.ct_formulas.specs.Formula.{Var, Ite, Def, Let, Match, no_formulas, with_formula, bind as bound_over};
+ghost use Rattle.ct_formulas.specs.Formula.{Var, Ite, Def, Let, Match, Quantified, no_formulas, with_formula, bind as bound_over};
 ghost use Rattle.ct_formulas.specs.TreeFormula.{formula_of, formulas_of_trees};
 ghost use Rattle.ct_scope.specs.Calling.{IsUnknown};
 ghost use Rattle.ct_scope.specs.Deferral.{ended, UnlessFailed, WhenTooDeep};
@@ -15,18 +15,25 @@ ghost use Rattle.ct_occurrence.specs.declared.notes.Notes.{Notes};
 ghost use Rattle.ct_occurrence.specs.Plain.{is_plain, formulas_under};
 ghost use Rattle.ct_operators.specs.Forms.{operator_for};
 ghost use Rattle.ct_scope.specs.Compilable.{IsBound, IsThere};
-ghost use Rattle.ct_compile.specs.AtLevel.{AreNotedAt, AreNotedCasesAt, AreNotedWhereAt, BindsAt, CompilesAllAt, CompilesAt, CompilesCasesAt, DefersAllAt, DefersAt, DefersBoundAt, DefersCasesAt, IsNotedAt, IsStateAt, MayBindAt, MayCasesAt, MayCompileAllAt, MayCompileAt};
+ghost use Rattle.ct_compile.specs.AtLevel.{AreNotedAt, AreNotedCasesAt, AreNotedWhereAt, BindsAt, CompilesAllAt, CompilesAt, CompilesCasesAt, DefersAllAt, DefersAt, DefersBoundAt, DefersCasesAt, IsNotedAt, IsStateAt, MayBindAt, MayCasesAt, MayCompileAllAt, MayCompileAt, IsOverAt, IsChoiceAt, AreChosenAt, chosen_for, all_chosen_for, declared_at, quantified};
+ghost use Rattle.ct_listing.specs.Closed.{ClosedValue};
+ghost use Rattle.ct_formulas.specs.Choices.{choices_of};
+ghost use Rattle.ct_finite.specs.Counts.{AreCounts};
+ghost use Rattle.ct_scope.specs.Making.{operator_of};
+ghost use Rattle.ct_scope.specs.Values.{AreValueTerms};
 
 use crate::forms::operands;
-use crate::level::{Level, room_under};
-use ct_formulas::{Case, Pattern, Tree};
+use crate::level::{Level, known_finite, one_finite, room_under};
+use crate::quantification::{Quantification, choices_over, chosen_bounds, operator_of};
+use ct_finite::Finite;
+use ct_formulas::{Case, Pattern, Quantifier, Tree};
 use ct_occurrence::{Earlier, Notes, body_of, notes_at, pattern_of, row_at, tested};
 use ct_operators::{Guarded, Operator, choices, combine, follow, make};
 use ct_scope::{
-    Bound, DeferredCall, Environment, Known, Stop, body_at, call_with, known_term, make_test,
-    pattern_bounds, remember,
+    Bound, DeferredCall, Environment, Known, Stop, ValueTerms, body_at, call_with, known_term,
+    make_test, no_value_terms, pattern_bounds, remember,
 };
-use ct_sorts::{DefId, Items, Signature};
+use ct_sorts::{DefId, Items, Signature, SortId};
 use ct_terms::{Args, Core, TermError, TermId, TermTable};
 use std::slice;
 
@@ -58,6 +65,16 @@ pub(crate) fn compile_tree(
         Tree::Def(k, ts) => compile_call(level, known, table, env, *k, ts, notes),
         Tree::Let(ts, u) => compile_let(level, known, table, env, ts, u, notes),
         Tree::Match(t, cases) => compile_match(level, known, table, env, t, cases, notes),
+        Tree::Quantified(q, sorts, t) => compile_quantified(
+            level,
+            known,
+            table,
+            env,
+            *q,
+            sorts.as_slice(),
+            t,
+            notes,
+        ),
         Tree::Con(_, _)
         | Tree::Sel(_, _)
         | Tree::Test(_, _)
@@ -262,6 +279,7 @@ fn compile_call(
         scope: level.scope,
         definitions: level.definitions,
         below: k.0 as usize,
+        finite: level.finite,
         room,
     };
     let mut inner = Environment::of(bounds.into_vec());
@@ -419,6 +437,199 @@ fn compile_case(
     result
 }
 
+// The term of a formula with a quantifier. The listable sorts are worked out once for all quantifiers under this one.
+#[cycle(compile)]
+#[inline(never)]
+fn compile_quantified(
+    level: &Level<'_>,
+    known: &mut Known,
+    table: &mut TermTable,
+    env: &mut Environment,
+    quantifier: Quantifier,
+    sorts: &[SortId],
+    body: &Tree,
+    notes: &[Notes],
+) -> Result<TermId, Stop>
+    requires state { IsStateAt level.now table.old known.old }
+    requires ready { MayCompileAt level.now table.old env.old (Quantified quantifier sorts.now (formula_of body.now)) }
+    requires noted { IsNotedAt level.now (Quantified quantifier sorts.now (formula_of body.now)) notes.now }
+    ensures outcome { CompilesAt level.now table.old table.new env.old (Quantified quantifier sorts.now (formula_of body.now)) (ended result) }
+    ensures waits { DefersAt level.now table.old table.new env.old (Quantified quantifier sorts.now (formula_of body.now)) result }
+    ensures state { UnlessFailed result (IsStateAt level.now table.new known.new) }
+    ensures unknown { WhenTooDeep result (λ call. IsUnknown known.new call) }
+    ensures back { env.new ≡ env.old }
+{
+    if let Some(finite) = known_finite(level) {
+        return compile_over(
+            level, finite, known, table, env, quantifier, sorts, body, notes,
+        );
+    }
+    let finite = Finite::new(level.alloc, &level.scope.sig)?;
+    let listed = one_finite(&finite);
+    let inside = Level {
+        alloc: level.alloc,
+        scope: level.scope,
+        definitions: level.definitions,
+        below: level.below,
+        finite: listed,
+        room: level.room,
+    };
+    compile_over(
+        &inside, &finite, known, table, env, quantifier, sorts, body, notes,
+    )
+}
+
+// The same, over the listable sorts.
+#[cycle(compile)]
+fn compile_over(
+    level: &Level<'_>,
+    finite: &Finite,
+    known: &mut Known,
+    table: &mut TermTable,
+    env: &mut Environment,
+    quantifier: Quantifier,
+    sorts: &[SortId],
+    body: &Tree,
+    notes: &[Notes],
+) -> Result<TermId, Stop>
+    requires counts { AreCounts (declared_at level.now) finite.now }
+    requires state { IsStateAt level.now table.old known.old }
+    requires ready { MayCompileAt level.now table.old env.old (Quantified quantifier sorts.now (formula_of body.now)) }
+    requires noted { IsNotedAt level.now (Quantified quantifier sorts.now (formula_of body.now)) notes.now }
+    ensures outcome { CompilesAt level.now table.old table.new env.old (Quantified quantifier sorts.now (formula_of body.now)) (ended result) }
+    ensures waits { DefersAt level.now table.old table.new env.old (Quantified quantifier sorts.now (formula_of body.now)) result }
+    ensures state { UnlessFailed result (IsStateAt level.now table.new known.new) }
+    ensures unknown { WhenTooDeep result (λ call. IsUnknown known.new call) }
+    ensures back { env.new ≡ env.old }
+{
+    let note = first_note(notes);
+    let over = Quantification {
+        finite,
+        quantifier,
+        sorts,
+        flags: note.bound(),
+        body,
+        notes: note.inner(),
+    };
+    let operator = operator_of(quantifier);
+    let args = compile_choices(level, known, table, env, operator, &over)?;
+    Ok(combine(level.alloc, &level.scope.sig, table, operator, args)?)
+}
+
+// The terms of the body for all choices of values, in order.
+#[cycle(compile)]
+fn compile_choices(
+    level: &Level<'_>,
+    known: &mut Known,
+    table: &mut TermTable,
+    env: &mut Environment,
+    operator: Operator,
+    over: &Quantification<'_>,
+) -> Result<Args, Stop>
+    requires operator { operator ≡ operator_of over.now.quantifier }
+    requires over { IsOverAt level.now over.now }
+    requires state { IsStateAt level.now table.old known.old }
+    requires ready { MayCompileAt level.now table.old env.old (quantified over.now) }
+    requires all { MayCompileAllAt level.now table.old env.old operator (all_chosen_for level.now over.now) }
+    requires noted { IsNotedAt level.now (formula_of over.now.body.now) over.now.notes.now }
+    ensures outcome { CompilesAllAt level.now table.old table.new env.old operator (all_chosen_for level.now over.now) (ended result) }
+    ensures waits { DefersAllAt level.now table.old table.new env.old operator (all_chosen_for level.now over.now) result }
+    ensures state { UnlessFailed result (IsStateAt level.now table.new known.new) }
+    ensures unknown { WhenTooDeep result (λ call. IsUnknown known.new call) }
+    ensures back { env.new ≡ env.old }
+{
+    let mut values = no_value_terms(level.alloc);
+    let mut args = Args::new(level.alloc);
+    let mut lead = None;
+    let count = choices_over(level, over);
+    for k in 0..count {
+        let before = args.as_slice();
+        let term = compile_choice_of(level, known, table, env, over, &mut values, before, k)?;
+        let next = follow(
+            &level.scope.sig,
+            table,
+            operator,
+            lead,
+            term,
+            k + 1 == count,
+        )?;
+        args.push(term)?;
+        lead = Some(next);
+    }
+    Ok(args)
+}
+
+// The term of the body for the choice with this number: that of an earlier one which has the same values for the variables
+// that occur, where there is one.
+#[cycle(compile)]
+fn compile_choice_of(
+    level: &Level<'_>,
+    known: &mut Known,
+    table: &mut TermTable,
+    env: &mut Environment,
+    over: &Quantification<'_>,
+    values: &mut ValueTerms,
+    before: &[TermId],
+    k: u64,
+) -> Result<TermId, Stop>
+    requires over { IsOverAt level.now over.now }
+    requires values { AreValueTerms (declared_at level.now) table.old values.old }
+    requires state { IsStateAt level.now table.old known.old }
+    requires there { k < length (choices_of (declared_at level.now) over.now.sorts.now) }
+    requires ready { MayCompileAt level.now table.old env.old (quantified over.now) }
+    requires before { AreChosenAt level.now table.old env.old over.now k before.now }
+    requires noted { IsNotedAt level.now (formula_of over.now.body.now) over.now.notes.now }
+    ensures outcome { (vs : List ClosedValue) → IsChoiceAt level.now over.now k vs
+        → CompilesAt level.now table.old table.new env.old (chosen_for over.now vs) (ended result) }
+    ensures waits { (vs : List ClosedValue) → IsChoiceAt level.now over.now k vs
+        → DefersAt level.now table.old table.new env.old (chosen_for over.now vs) result }
+    ensures values { IfOk result (λ u. AreValueTerms (declared_at level.now) table.new values.new) }
+    ensures state { UnlessFailed result (IsStateAt level.now table.new known.new) }
+    ensures unknown { WhenTooDeep result (λ call. IsUnknown known.new call) }
+    ensures back { env.new ≡ env.old }
+{
+    let first = over.finite.first_like(over.sorts, over.flags, k);
+    if first < k {
+        return Ok(earlier_term(before, first as usize));
+    }
+    compile_choice_anew(level, known, table, env, over, values, k)
+}
+
+// The term of the body for the choice with this number. The values of variables that occur come before it.
+#[cycle(compile)]
+#[inline(never)]
+fn compile_choice_anew(
+    level: &Level<'_>,
+    known: &mut Known,
+    table: &mut TermTable,
+    env: &mut Environment,
+    over: &Quantification<'_>,
+    values: &mut ValueTerms,
+    k: u64,
+) -> Result<TermId, Stop>
+    requires over { IsOverAt level.now over.now }
+    requires values { AreValueTerms (declared_at level.now) table.old values.old }
+    requires state { IsStateAt level.now table.old known.old }
+    requires there { k < length (choices_of (declared_at level.now) over.now.sorts.now) }
+    requires ready { (vs : List ClosedValue) → IsChoiceAt level.now over.now k vs → MayCompileAt level.now table.old env.old (chosen_for over.now vs) }
+    requires noted { IsNotedAt level.now (formula_of over.now.body.now) over.now.notes.now }
+    ensures outcome { (vs : List ClosedValue) → IsChoiceAt level.now over.now k vs
+        → CompilesAt level.now table.old table.new env.old (chosen_for over.now vs) (ended result) }
+    ensures waits { (vs : List ClosedValue) → IsChoiceAt level.now over.now k vs
+        → DefersAt level.now table.old table.new env.old (chosen_for over.now vs) result }
+    ensures values { IfOk result (λ u. AreValueTerms (declared_at level.now) table.new values.new) }
+    ensures state { UnlessFailed result (IsStateAt level.now table.new known.new) }
+    ensures unknown { WhenTooDeep result (λ call. IsUnknown known.new call) }
+    ensures back { env.new ≡ env.old }
+{
+    let bounds = chosen_bounds(level, over, table, values, k)?;
+    let bounds = bounds.as_slice();
+    env.bind(bounds)?;
+    let result = compile_tree(level, known, table, env, over.body, over.notes);
+    env.unbind(bounds.len());
+    result
+}
+
 // The first of the notes.
 fn first_note(notes: &[Notes]) -> &Notes
     requires some { 0 < length notes.now }
@@ -465,6 +676,14 @@ fn later_flags(flags: &[bool]) -> &[bool]
     ensures value { result.now ≡ drop 1 flags.now }
 {
     &flags[1..]
+}
+
+// The term of an earlier choice.
+fn earlier_term(terms: &[TermId], k: usize) -> TermId
+    requires inside { k < length terms.now }
+    ensures value { slice_get terms.now k ≡ Some result }
+{
+    terms[k]
 }
 
 // What stands at an index.

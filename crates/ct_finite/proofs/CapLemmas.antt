@@ -1,5 +1,5 @@
 -- Capped numbers, and the numbers of ways in which constructors can be applied.
-use Rattle.std.proofs.Common.{◌≡◌, ℕ, zero, suc, ◌+◌, ◌*◌, ◌<◌, ◌≤◌, ◌⊎◌, true, false, List, [], ◌∷◌, ◌++◌, length, map, Contains, nat_lt, refl, sym, ◌∙◌, ap, ap₂, subst, inl, inr, arith, length-append, true≢false}
+use Rattle.std.proofs.Common.{◌≡◌, ℕ, zero, suc, ◌+◌, ◌*◌, ◌<◌, ◌≤◌, List, [], ◌∷◌, ◌++◌, length, map, Contains, nat_lt, refl, sym, ◌∙◌, ap, ap₂, subst, inl, inr, arith, length-append, true≢false}
 use Rattle.std.specs.List.{flat_map}
 use Rattle.std.proofs.Math.Nat.{mul-le-mul_left, mul_comm, mul-zero, mul-one, mul_assoc, suc-mul}
 use Rattle.std.proofs.lemmas.Bool.Decides.{Decides-ltb}

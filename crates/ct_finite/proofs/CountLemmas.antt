@@ -1,13 +1,12 @@
 -- Counts of sorts are noted one after the other, until no more can be.
-use Rattle.std.proofs.Common.{◌≡◌, ℕ, zero, suc, ◌+◌, ◌<◌, ◌≤◌, ◌↔◌, ◌⊎◌, Bool, true, false, List, [], ◌∷◌, ◌++◌, length, map, Option, Some, None, option_map, unwrap_or, slice_get, get_or, set, nat_lt, Contains, refl, sym, ◌∙◌, ap, subst, inl, inr, arith, true≢false}
+use Rattle.std.proofs.Common.{◌≡◌, ℕ, zero, suc, ◌+◌, ◌<◌, ◌≤◌, ◌⊎◌, true, List, [], ◌∷◌, length, Option, Some, option_map, unwrap_or, slice_get, get_or, set, nat_lt, Contains, refl, sym, ◌∙◌, ap, subst, inl, inr, arith}
 use Rattle.std.specs.List.{flat_map}
 use Rattle.std.proofs.lemmas.Bool.Decides.{Decides-ltb}
 use Rattle.ct_lemmas.proofs.Lists.{slice_get-there}
 use Rattle.ct_lemmas.proofs.Numbers.{same_or_other}
 use Rattle.ct_sorts.specs.declared.ids.CtorId.{CtorId}
 use Rattle.ct_sorts.specs.declared.ids.SortId.{SortId}
-use Rattle.ct_sorts.specs.declared.ids.Kind.{Kind}
-use Rattle.ct_sorts.specs.declared.ids.Kind.TheVariants.{Bool as BoolKind, Free, Data, Codata}
+use Rattle.ct_sorts.specs.declared.ids.Kind.TheVariants.{Free}
 use Rattle.ct_sorts.specs.Declarations.{Declarations, Sort}
 use Rattle.ct_sorts.specs.Consistent.{IsConsistent, FitsKind}
 use Rattle.ct_terms.specs.Fields.{ctor_ids_of_sort}
@@ -15,7 +14,7 @@ use Rattle.ct_listing.specs.Listable.{field_sorts, IsListable}
 use Rattle.ct_listing.specs.Listing.{built_by, built_of, listed}
 use Rattle.ct_finite.specs.Counts.{most_values, capped, count_at, IsCounted, AreCounts}
 use Rattle.ct_finite.specs.Counting.{total, AreCapped, AreReady, IsUnderWay, IsComplete, missing}
-use Rattle.ct_finite.proofs.CapLemmas.{capped_bound, capped_some, capped_only, total_capped, length-built}
+use Rattle.ct_finite.proofs.CapLemmas.{capped_bound, capped_only, total_capped, length-built}
 
 -- the theorems on listable sorts that counting rests on
 pub record Theorems (d : Declarations) : Type 0 where

@@ -1,5 +1,5 @@
 -- The entries of lists by their numbers.
-use Rattle.std.proofs.Common.{◌≡◌, ℕ, zero, suc, ◌+◌, ◌*◌, ◌-◌, ◌/◌, ◌%◌, ◌<◌, ◌≤◌, List, [], ◌∷◌, ◌++◌, length, map, drop, get_or, Some, slice_get, Contains, refl, sym, ◌∙◌, ap, ap₂, subst, arith, length-append}
+use Rattle.std.proofs.Common.{◌≡◌, ℕ, zero, suc, ◌+◌, ◌*◌, ◌/◌, ◌%◌, ◌<◌, List, [], ◌∷◌, length, map, Some, slice_get, Contains, refl, sym, ◌∙◌, ap, ap₂, subst, arith}
 use Rattle.std.specs.List.{flat_map}
 use Rattle.std.proofs.Math.Nat.{mod-lt, div-lt_iff_lt-mul, suc-mul}
 use Rattle.std.proofs.lemmas.Nat.{div-add-mod'}
@@ -7,12 +7,10 @@ use Rattle.std.proofs.lemmas.Option.{none-some, same_Some}
 use Rattle.std.proofs.lemmas.List.{length-map}
 use Rattle.ct_lemmas.proofs.Contained.{Contains-first, Contains-rest}
 use Rattle.ct_lemmas.proofs.Lists.{slice_get-there, slice_get-append_left, slice_get-append_after, slice_get-map_at}
-use Rattle.ct_sorts.specs.declared.ids.CtorId.{CtorId}
 use Rattle.ct_sorts.specs.declared.ids.SortId.{SortId}
 use Rattle.ct_sorts.specs.Declarations.{Declarations}
-use Rattle.ct_listing.specs.Closed.{ClosedValue, build, closed_of}
-use Rattle.ct_listing.specs.Listable.{field_sorts}
-use Rattle.ct_listing.specs.Listing.{choices, built_by, listed}
+use Rattle.ct_listing.specs.Closed.{ClosedValue}
+use Rattle.ct_listing.specs.Listing.{choices, listed}
 use Rattle.ct_finite.specs.Counting.{ways}
 use Rattle.ct_finite.specs.Entries.{AreEntries, digits}
 use Rattle.ct_finite.proofs.CapLemmas.{length-choices, product_parts}

@@ -1,15 +1,14 @@
 -- The sorts under a sort with few values have few values.
-use Rattle.std.proofs.Common.{◌≡◌, ℕ, zero, suc, ◌+◌, ◌*◌, ◌<◌, ◌≤◌, List, [], ◌∷◌, ◌++◌, length, map, Contains, refl, sym, ◌∙◌, ap, subst, inl, inr, arith}
-use Rattle.std.specs.List.{flat_map}
+use Rattle.std.proofs.Common.{◌≡◌, ℕ, ◌+◌, ◌*◌, ◌<◌, ◌≤◌, List, [], ◌∷◌, length, Contains, ◌∙◌, ap, subst, inl, inr, arith}
 use Rattle.std.proofs.Math.Nat.{mul-le-mul_left, mul-one, mul_comm}
-use Rattle.ct_lemmas.proofs.Contained.{Contains-cons, Contains-none, Contains-first, Contains-rest}
+use Rattle.ct_lemmas.proofs.Contained.{Contains-cons, Contains-none}
 use Rattle.ct_sorts.specs.declared.ids.CtorId.{CtorId}
 use Rattle.ct_sorts.specs.declared.ids.SortId.{SortId}
 use Rattle.ct_sorts.specs.Declarations.{Declarations}
 use Rattle.ct_terms.specs.Fields.{ctor_ids_of_sort}
 use Rattle.ct_listing.specs.Listable.{field_sorts, IsListable}
 use Rattle.ct_listing.specs.Listing.{built_by, built_of, listed}
-use Rattle.ct_finite.specs.Counts.{most_values, capped, count_at, IsCounted, AreCounts}
+use Rattle.ct_finite.specs.Counts.{most_values, count_at, AreCounts}
 use Rattle.ct_finite.specs.Counting.{ways, total}
 use Rattle.ct_finite.proofs.CapLemmas.{capped_small, length-built, length-built_by, product_parts, ways_some}
 

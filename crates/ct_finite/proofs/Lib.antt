@@ -5,5 +5,7 @@ mod StepLemmas
 mod EntryLemmas
 mod FewLemmas
 mod PartLemmas
+mod SingleLemmas
 mod TreeLemmas
 mod ValueLemmas
+mod ChoosingLemmas

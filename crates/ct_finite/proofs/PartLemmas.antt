@@ -1,7 +1,7 @@
 -- How the entry of a number is found.
-use Rattle.std.proofs.Common.{◌≡◌, ℕ, zero, suc, ◌+◌, ◌-◌, ◌*◌, ◌/◌, ◌%◌, ◌<◌, ◌≤◌, List, [], ◌∷◌, ◌++◌, length, map, drop, get_or, Some, slice_get, Contains, refl, sym, ◌∙◌, ap, ap₂, subst, arith, length-append}
+use Rattle.std.proofs.Common.{◌≡◌, ℕ, ◌+◌, ◌-◌, ◌*◌, ◌/◌, ◌%◌, ◌<◌, ◌≤◌, List, [], ◌∷◌, ◌++◌, length, map, drop, get_or, slice_get, Contains, sym, ◌∙◌, ap, subst, arith, length-append}
 use Rattle.std.specs.List.{flat_map}
-use Rattle.std.proofs.Math.Nat.{mul-div_cancel_left, mul_comm}
+use Rattle.std.proofs.Math.Nat.{mul-div_cancel_left}
 use Rattle.std.proofs.lemmas.List.{append_assoc}
 use Rattle.ct_lemmas.proofs.Lists.{slice_get-prefix, slice_get-append_after, slice_get-map_at}
 use Rattle.ct_lemmas.proofs.Prefixes.{drop-next}
@@ -10,9 +10,9 @@ use Rattle.ct_sorts.specs.declared.ids.SelId.{SelId}
 use Rattle.ct_sorts.specs.declared.ids.SortId.{SortId}
 use Rattle.ct_sorts.specs.Declarations.{Declarations}
 use Rattle.ct_terms.specs.Fields.{ctor_ids_of_sort}
-use Rattle.ct_listing.specs.Closed.{ClosedValue, build, closed_of}
+use Rattle.ct_listing.specs.Closed.{build, closed_of}
 use Rattle.ct_listing.specs.Listable.{field_sort, field_sorts, IsListable}
-use Rattle.ct_listing.specs.Listing.{choices, built_by, built_of, listed}
+use Rattle.ct_listing.specs.Listing.{choices, built_by, listed}
 use Rattle.ct_finite.specs.Counts.{most_values, capped, count_at, AreCounts}
 use Rattle.ct_finite.specs.Counting.{ways}
 use Rattle.ct_finite.specs.Entries.{AreEntries, IsBuiltOf, digits}

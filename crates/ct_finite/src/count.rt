@@ -48,8 +48,8 @@ pub(crate) fn count_of_ctor(sig: &Signature, counts: &[u64], c: CtorId) -> u64
     product
 }
 
-// The number, or 4,097 where it is greater.
-fn capped(n: u64) -> u64
+/// The number, or 4,097 where it is greater.
+pub(crate) fn capped(n: u64) -> u64
     ensures value { result ≡ capped n }
     ensures bound { result ≤ most_values + 1 }
 {

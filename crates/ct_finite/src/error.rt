@@ -1,6 +1,8 @@
 //! The error of this crate.
-ghost use Rattle.std.specs.Prelude.{⊤};
+ghost use Rattle.std.specs.Prelude.{◌≡◌, ⊤};
+ghost use Rattle.ct_terms.specs.declared.error.TermError.TheVariants.{NoMemory};
 
+use ct_terms::TermError;
 use std::alloc::{AllocError, AllocFailed};
 
 /// Memory ran out. Nothing else goes wrong in this crate.
@@ -20,5 +22,13 @@ impl<T: Drop> From<AllocFailed<T>> for FiniteError {
 
     fn from(_error: AllocFailed<T>) -> FiniteError {
         FiniteError
+    }
+}
+
+impl From<FiniteError> for TermError {
+    ghost from_gives = { λ _ e. e ≡ NoMemory };
+
+    fn from(_error: FiniteError) -> TermError {
+        TermError::NoMemory
     }
 }

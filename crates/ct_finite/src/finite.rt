@@ -1,13 +1,18 @@
 //! Listable sorts of a signature, with their values.
-ghost use Rattle.std.specs.Prelude.{◌≡◌, ◌<◌, ◌≤◌, ◌↔◌, length, map, IfOk, IsTrue, MatchOption};
+ghost use Rattle.std.specs.Prelude.{◌≡◌, ◌<◌, ◌≤◌, ◌↔◌, List, length, map, All, Contains, Some, slice_get, IfOk, IsTrue, MatchOption};
 ghost use Rattle.ct_sorts.specs.Declarations.{Declarations, IsSort, IsConstructor};
 ghost use Rattle.ct_formulas.specs.TreeFormula.{formula_of};
-ghost use Rattle.ct_listing.specs.Listable.{IsListable};
+ghost use Rattle.ct_listing.specs.Listable.{IsListable, field_sorts};
+ghost use Rattle.ct_sorts.specs.declared.ids.SortId.{SortId};
 ghost use Rattle.ct_listing.specs.Listing.{listed};
 ghost use Rattle.ct_finite.specs.ClosedFormula.{formula_of_value};
 ghost use Rattle.ct_finite.specs.Counts.{AreCounts, count_at, most_values};
 ghost use Rattle.ct_finite.specs.Entries.{IsBuiltOf};
+ghost use Rattle.ct_finite.specs.Choosing.{IsChoice, MayChoose, IsChosen, AreLike, first_like};
+ghost use Rattle.ct_formulas.specs.Choices.{choices_of};
+ghost use Rattle.ct_listing.specs.Closed.{ClosedValue};
 
+use crate::choosing::{choices_for, first_like, numbers_of};
 use crate::count::MOST_VALUES;
 use crate::error::FiniteError;
 use crate::known::known_counts;
@@ -66,6 +71,44 @@ impl Finite {
         Some(count)
     }
 
+    /// How many choices there are for variables of these listable sorts, or `None` exactly where there are more than 4,096. Takes no
+    /// memory.
+    pub fn choice_count(&self, sorts: &[SortId]) -> Option<u64>
+        requires listable { (d : Declarations) × AreCounts d self.now × All (IsListable d) sorts.now }
+        ensures exact { (d : Declarations) → AreCounts d self.now → All (IsListable d) sorts.now
+            → MatchOption result (most_values < length (choices_of d sorts.now)) (λ count. (count ≡ length (choices_of d sorts.now)) × (count ≤ most_values)) }
+    {
+        let count = choices_for(self.counts.as_slice(), sorts);
+        if count > MOST_VALUES {
+            return None;
+        }
+        Some(count)
+    }
+
+    /// The choice with this number, from 0 on, for variables of listable sorts that have at most 4,096 choices: for each variable
+    /// the number of its value in the list of its sort. The first variable changes slowest.
+    pub fn choice(&self, sorts: &[SortId], k: u64) -> Result<Vec<u64>, FiniteError>
+        requires may { MayChoose self.now sorts.now k }
+        ensures choice { (d : Declarations) → IsChoice d self.now sorts.now k → IfOk result (λ numbers. IsChosen d sorts.now k numbers.items) }
+        ensures few { (d : Declarations) → IsChoice d self.now sorts.now k → IfOk result (λ numbers. (s : SortId) → Contains sorts.now s → length (listed d s) ≤ most_values) }
+    {
+        let numbers = numbers_of(self.alloc, self.counts.as_slice(), sorts, k)?;
+        Ok(numbers)
+    }
+
+    /// The number of the first choice that has the same values as this one for the variables whose flags are set. Takes no memory.
+    pub fn first_like(&self, sorts: &[SortId], flags: &[bool], k: u64) -> u64
+        requires may { MayChoose self.now sorts.now k }
+        requires long { length flags.now ≡ length sorts.now }
+        ensures bound { result ≤ k }
+        ensures value { result ≡ first_like (count_at self.now) sorts.now flags.now k }
+        ensures like { (d : Declarations) (vs : List ClosedValue) → IsChoice d self.now sorts.now k
+            → slice_get (choices_of d sorts.now) k ≡ Some vs
+            → (us : List ClosedValue) × (slice_get (choices_of d sorts.now) result ≡ Some us) × AreLike flags.now us vs }
+    {
+        first_like(self.counts.as_slice(), sorts, flags, k)
+    }
+
     /// All values of a listable sort that has at most 4,096, as trees of constructors: constructor by constructor, and for each
     /// the lists of its fields' values in lexicographic order, the first field slowest. A tree is as large as the value
     /// written out, which may be far more than there are values: `part` tells of each value how it is made of others.
@@ -95,6 +138,7 @@ impl Finite {
         requires there { k < length (listed sig.now s) }
         ensures inside { IfOk result (λ part. IsConstructor sig.now part.ctor) }
         ensures part { IfOk result (λ part. IsBuiltOf sig.now s k part.ctor part.numbers.items) }
+        ensures fields { IfOk result (λ part. (f : SortId) → Contains (field_sorts sig.now part.ctor) f → IsListable sig.now f × (length (listed sig.now f) ≤ most_values)) }
     {
         let part = part_at(self.alloc, sig, self.counts.as_slice(), s, k)?;
         Ok(part)

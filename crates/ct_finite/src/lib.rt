@@ -1,6 +1,7 @@
 //! Listable sorts: how many values they have, and all of these values.
 #![tactic(auto)]
 
+mod choosing;
 mod count;
 mod error;
 mod finite;

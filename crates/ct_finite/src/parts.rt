@@ -1,5 +1,6 @@
 //! The entries of the list of a sort by their numbers: the constructor of an entry, and the numbers of what stands under it.
 ghost use Rattle.std.specs.Prelude.{◌≡◌, ◌<◌, ◌≤◌, length, slice_get, Contains, IfOk};
+ghost use Rattle.ct_sorts.specs.declared.ids.SortId.{SortId};
 ghost use Rattle.ct_sorts.specs.Declarations.{IsSort, IsConstructor};
 ghost use Rattle.ct_terms.specs.Fields.{ctor_ids_of_sort};
 ghost use Rattle.ct_listing.specs.Listable.{IsListable, field_sorts};
@@ -39,6 +40,7 @@ pub(crate) fn part_at(
     requires there { k < length (listed sig.now s) }
     ensures inside { IfOk result (λ part. Contains (ctor_ids_of_sort sig.now s) part.ctor × IsConstructor sig.now part.ctor) }
     ensures part { IfOk result (λ part. IsBuiltOf sig.now s k part.ctor part.numbers.items) }
+    ensures fields { IfOk result (λ part. (f : SortId) → Contains (field_sorts sig.now part.ctor) f → IsListable sig.now f × (length (listed sig.now f) ≤ most_values)) }
 {
     listed_values();
     prove!(sig.sorts() > 0);
@@ -49,6 +51,38 @@ pub(crate) fn part_at(
 
 // The constructor of the entry with this number, and the number of the entry among those of the constructor.
 fn ctor_at(sig: &Signature, counts: &[u64], s: SortId, k: u64) -> (CtorId, u64)
+    requires inside { IsSort sig.now s }
+    requires counts { AreCounts sig.now counts.now }
+    requires listable { IsListable sig.now s }
+    requires few { length (listed sig.now s) ≤ most_values }
+    requires there { k < length (listed sig.now s) }
+    ensures inside { Contains (ctor_ids_of_sort sig.now s) result.0 × IsConstructor sig.now result.0 }
+    ensures less { result.1 < length (built_by sig.now (listed sig.now) result.0) }
+    ensures entry { slice_get (listed sig.now s) k ≡ slice_get (built_by sig.now (listed sig.now) result.0) result.1 }
+{
+    if counts[s.0 as usize] == sig.ctors(s).len() as u64 {
+        return (single_at(sig, s, k), 0);
+    }
+    counted_at(sig, counts, s, k)
+}
+
+// The constructor of the entry with this number, where there are as many entries as constructors: each constructor has one.
+fn single_at(sig: &Signature, s: SortId, k: u64) -> CtorId
+    requires inside { IsSort sig.now s }
+    requires listable { IsListable sig.now s }
+    requires single { length (listed sig.now s) ≡ length (ctor_ids_of_sort sig.now s) }
+    requires there { k < length (listed sig.now s) }
+    ensures inside { Contains (ctor_ids_of_sort sig.now s) result × IsConstructor sig.now result }
+    ensures less { 0 < length (built_by sig.now (listed sig.now) result) }
+    ensures entry { slice_get (listed sig.now s) k ≡ slice_get (built_by sig.now (listed sig.now) result) 0 }
+{
+    listed_values();
+    prove!(sig.sorts() > 0);
+    sig.ctors(s)[k as usize]
+}
+
+// The same as `ctor_at`, whatever the numbers of entries of the constructors are.
+fn counted_at(sig: &Signature, counts: &[u64], s: SortId, k: u64) -> (CtorId, u64)
     requires inside { IsSort sig.now s }
     requires counts { AreCounts sig.now counts.now }
     requires listable { IsListable sig.now s }

@@ -13,17 +13,21 @@ use Rattle.ct_sorts.specs.Grown.{Extends}
 use Rattle.ct_formulas.specs.declared.tree.Pattern.TheVariants.{Ctor, Any}
 use Rattle.ct_terms.specs.CoreTree.{CoreTree, con, sel, test, apply, equation, negation, equivalence, choice, trees_of, no_term}
 use Rattle.ct_terms.specs.CoreSorts.{HasTreeSort}
-use Rattle.ct_formulas.specs.Formula.{Formula, Formulas, Cases, Var, Con, Sel, Test, Apply, Def, Not, And, Or, Xor, Implies, Equal, Distinct, Ite, Let, Match, no_formulas, with_formula, no_cases, with_case, bind, MentionsBelow, AllMentionBelow, CasesMentionBelow}
+use Rattle.ct_formulas.specs.Formula.{Formula, Formulas, Cases, Var, Con, Sel, Test, Apply, Def, Not, And, Or, Xor, Implies, Equal, Distinct, Ite, Let, Match, Quantified, no_formulas, with_formula, no_cases, with_case, bind, MentionsBelow, AllMentionBelow, CasesMentionBelow}
 use Rattle.ct_formulas.specs.FormulaSorts.{IsSorted, AllSorted, AreOfSort, AreSortedCases, AreSound}
 use Rattle.ct_formulas.specs.Pairs.{neighbours_from, neighbours, pairs}
 use Rattle.ct_formulas.specs.Calls.{body_call, calls_below, calls}
 use Rattle.ct_terms.specs.Fields.{fields_of, ctor_ids_of_sort}
-use Rattle.ct_formulas.specs.Compiled.{all_of, any_of, exclusive_of, implication_of, equality, inequality, siblings, is_among, surely_fits, are_none, compiled, compiled_all, compiled_cases, core_of, GiveSorted}
+use Rattle.ct_formulas.specs.Compiled.{all_of, any_of, exclusive_of, implication_of, equality, inequality, joined, siblings, is_among, surely_fits, are_none, compiled, compiled_all, compiled_cases, core_of, GiveSorted}
+use Rattle.ct_listing.specs.Closed.{ClosedValue, term_of}
+use Rattle.ct_listing.proofs.ListLemmas.{map_same}
+use Rattle.ct_formulas.specs.Choices.{choices_of}
+use Rattle.ct_formulas.proofs.QuantifierLemmas.{HaveSortedChoices, KeepsLists, choices_kept}
 use Rattle.ct_terms.proofs.CoreSortLemmas.{HasTreeSort-read, HasTreeSort-extends}
 use Rattle.ct_formulas.proofs.CallLemmas.{AllZip-bind, calls_below-suc}
 use Rattle.ct_formulas.proofs.FormulaSortLemmas.{sorted_mentions, fields_of_sorted, compiled_sorted, given_sorted}
 
-module _ (later earlier : Declarations) (extends : Extends later earlier) (own : HaveOwnSelectors earlier) (own_sorts : AreOfTheirSorts earlier) where
+module _ (later earlier : Declarations) (extends : Extends later earlier) (own : HaveOwnSelectors earlier) (own_sorts : AreOfTheirSorts earlier) (lists : HaveSortedChoices earlier) (keeps : KeepsLists earlier later) where
   -- a declared constructor, and the sort of one, are the same in both
   same_ctor : (c : CtorId) (ctor : Constructor) → slice_get earlier.ctors c.0 ≡ Some ctor → slice_get later.ctors c.0 ≡ slice_get earlier.ctors c.0
   same_ctor c ctor declared =
@@ -81,7 +85,7 @@ module _ (later earlier : Declarations) (extends : Extends later earlier) (own :
   module _ (n : ℕ) (call other : DefId → List CoreTree → CoreTree) (alike : AreAlike n call other) (give : GiveSorted earlier n other) where
     -- the core terms in the earlier declarations have their sorts
     of_sort : (t : Formula) (env : List CoreTree) (sorts : List SortId) (s : SortId) → AllZip (HasTreeSort earlier) env sorts → MentionsBelow n t → IsSorted earlier sorts t s → HasTreeSort earlier (compiled earlier other env t) s
-    of_sort t env sorts s fit m h = compiled_sorted earlier own n other give t env sorts s fit m h
+    of_sort t env sorts s fit m h = compiled_sorted earlier own lists n other give t env sorts s fit m h
 
     of_sorts : (ts : Formulas) (env : List CoreTree) (sorts ss : List SortId) → AllZip (HasTreeSort earlier) env sorts → AllMentionBelow n ts → AllSorted earlier sorts ts ss → AllZip (HasTreeSort earlier) (compiled_all earlier other env ts) ss
     of_sorts no_formulas env sorts [] fit m h = tt
@@ -122,6 +126,13 @@ module _ (later earlier : Declarations) (extends : Extends later earlier) (own :
       compiled_reaches (Match t cases) env sorts s fit m h =
           ap (λ (x : CoreTree). compiled_cases later call env x [] cases) (compiled_reaches t env sorts h.0 fit m.0 h.1)
           ∙ cases_reach cases env sorts h.0 (compiled earlier other env t) [] s fit (of_sort t env sorts h.0 fit m.0 h.1) m.1 h.4
+      compiled_reaches (Quantified q bound t) env sorts s fit m h =
+          let new : List ClosedValue → CoreTree = λ vs. compiled later call (bind (map term_of vs) env) t in
+          let old : List ClosedValue → CoreTree = λ vs. compiled earlier other (bind (map term_of vs) env) t in
+          ap (λ (vss : List (List ClosedValue)). joined q (map new vss)) (choices_kept earlier later keeps bound h.0.listable)
+          ∙ ap (joined q) (map_same new old (choices_of earlier bound) (λ vs inside.
+          compiled_reaches t (bind (map term_of vs) env) (bind bound sorts) bool_sort
+          (AllZip-bind (HasTreeSort earlier) (map term_of vs) bound env sorts (lists bound vs h.0.listable inside) fit) m h.1))
 
       all_reach : (ts : Formulas) (env : List CoreTree) (sorts ss : List SortId) → AllZip (HasTreeSort earlier) env sorts → AllMentionBelow n ts → AllSorted earlier sorts ts ss → compiled_all later call env ts ≡ compiled_all earlier other env ts
       all_reach no_formulas env sorts ss fit m h = refl
@@ -171,7 +182,7 @@ module _ (later earlier : Declarations) (extends : Extends later earlier) (own :
         (λ e.
         let at : slice_get earlier.definitions n ≡ Some definition = ap (slice_get earlier.definitions) (sym (same_number k.0 n e)) ∙ declared in
         ap (λ (o : Option Formula). body_call (compiled later) no_term (new_calls n) o ts) (slice_get-append_left bodies more n body.0 body.1)
-        ∙ compiled_reaches n (new_calls n) (old_calls n) (calls_alike n (omega (arith, within))) (given_sorted earlier own bodies sound n) body.0 (bind ts []) (bind definition.args []) definition.result (AllZip-bind (HasTreeSort earlier) ts definition.args [] [] of tt) (sound.earlier n body.0 body.1) (sound.sorted n definition body.0 at body.1)
+        ∙ compiled_reaches n (new_calls n) (old_calls n) (calls_alike n (omega (arith, within))) (given_sorted earlier own lists bodies sound n) body.0 (bind ts []) (bind definition.args []) definition.result (AllZip-bind (HasTreeSort earlier) ts definition.args [] [] of tt) (sound.earlier n body.0 body.1) (sound.sorted n definition body.0 at body.1)
         ∙ ap (λ (o : Option Formula). body_call (compiled earlier) no_term (old_calls n) o ts) (sym body.1))
         (λ e. calls_alike n (omega (arith, within)) k definition ts (below_next k.0 n below e) declared of)
         ∙ sym (calls_below-suc (compiled earlier) no_term bodies n k ts)
@@ -199,5 +210,5 @@ module _ (later earlier : Declarations) (extends : Extends later earlier) (own :
         bounded_calls k ts (length (bodies ++ more)) (longer_within k.0 below)
         ∙ sym (bounded_calls k ts (length bodies) below)
         ∙ calls_alike (length bodies) (omega arith) k definition ts below declared of)
-        (given_sorted earlier own bodies sound (length bodies)) t env sorts s fit
+        (given_sorted earlier own lists bodies sound (length bodies)) t env sorts s fit
         (subst (λ (m : ℕ). MentionsBelow m t) (sym sound.one_each) (sorted_mentions earlier sorts t s h)) h

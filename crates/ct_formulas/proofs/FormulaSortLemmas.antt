@@ -13,16 +13,21 @@ use Rattle.ct_sorts.specs.declared.ids.SortId.{SortId}
 use Rattle.ct_sorts.specs.Declarations.{Declarations, Constructor, Selector, Function, bool_sort}
 use Rattle.ct_sorts.specs.Structure.{HaveOwnSelectors}
 use Rattle.ct_formulas.specs.declared.tree.Pattern.TheVariants.{Ctor, Any}
+use Rattle.ct_formulas.specs.declared.tree.Quantifier.{Quantifier}
+use Rattle.ct_formulas.specs.declared.tree.Quantifier.TheVariants.{Forall, Exists}
+use Rattle.ct_listing.specs.Closed.{ClosedValue, term_of}
+use Rattle.ct_formulas.specs.Choices.{choices_of}
 use Rattle.ct_terms.specs.CoreTree.{CoreTree, sel, test, equation, equivalence, choice, trees_of, no_term}
 use Rattle.ct_terms.specs.CoreSorts.{AreFieldSorts, HasTreeSort, HaveTreeSorts, AreBooleanTrees, tree_sort}
-use Rattle.ct_formulas.specs.Formula.{Formula, Formulas, Cases, Var, Con, Sel, Test, Apply, Def, Not, And, Or, Xor, Implies, Equal, Distinct, Ite, Let, Match, no_formulas, with_formula, no_cases, with_case, bind, MentionsBelow, AllMentionBelow, CasesMentionBelow}
+use Rattle.ct_formulas.specs.Formula.{Formula, Formulas, Cases, Var, Con, Sel, Test, Apply, Def, Not, And, Or, Xor, Implies, Equal, Distinct, Ite, Let, Match, Quantified, no_formulas, with_formula, no_cases, with_case, bind, MentionsBelow, AllMentionBelow, CasesMentionBelow}
 use Rattle.ct_formulas.specs.FormulaSorts.{HasFormula, AreAtLeastTwo, HasSomeCase, IsSorted, AllSorted, AreOfSort, AreSortedCases, AreSound}
 use Rattle.ct_formulas.specs.Pairs.{neighbours_from, neighbours, pairs}
 use Rattle.ct_formulas.specs.Calls.{body_call, calls_below, calls}
 use Rattle.ct_terms.specs.Fields.{fields_of}
-use Rattle.ct_formulas.specs.Compiled.{all_of, any_of, exclusive, exclusive_of, implied_from, implication_of, equality, inequality, surely_fits, are_none, compiled, compiled_all, compiled_cases, core_of, GiveSorted}
+use Rattle.ct_formulas.specs.Compiled.{all_of, any_of, exclusive, exclusive_of, implied_from, implication_of, equality, inequality, joined, surely_fits, are_none, compiled, compiled_all, compiled_cases, core_of, GiveSorted}
 use Rattle.ct_terms.proofs.CoreSortLemmas.{HasTreeSort-read}
 use Rattle.ct_formulas.proofs.CallLemmas.{AllZip-bind, calls_below-suc}
+use Rattle.ct_formulas.proofs.QuantifierLemmas.{all_mapped, HaveSortedChoices}
 
 -- what holds of what stands at each index holds of all
 all_by_indices : {X : Type 0} (P : X → Type 0) (xs : List X) → ((k : ℕ) (x : X) → slice_get xs k ≡ Some x → P x) → AllByRecursion P xs
@@ -49,6 +54,7 @@ module _ (d : Declarations) where
     sorted_mentions env (Ite c t u) sort h = (sorted_mentions env c bool_sort h.0, sorted_mentions env t sort h.1, sorted_mentions env u sort h.2)
     sorted_mentions env (Let ts u) sort h = (all_sorted_mention env ts h.0 h.2, sorted_mentions (bind h.0 env) u sort h.3)
     sorted_mentions env (Match t cases) sort h = (sorted_mentions env t h.0 h.1, cases_mention env h.0 cases sort h.4)
+    sorted_mentions env (Quantified q sorts t) sort h = sorted_mentions (bind sorts env) t bool_sort h.1
 
     all_sorted_mention : (env : List SortId) (ts : Formulas) (sorts : List SortId) → AllSorted d env ts sorts → AllMentionBelow (length d.definitions) ts
     all_sorted_mention env no_formulas sorts h = tt
@@ -92,6 +98,14 @@ module _ (d : Declarations) where
   any_of_sorted [] some h = absurd some
   any_of_sorted (t ∷ []) some h = h.0
   any_of_sorted (t ∷ u ∷ ts) some h = (tt, booleans (t ∷ u ∷ ts) h, refl)
+
+  some_mapped : {X : Type 0} (f : X → CoreTree) (xs : List X) → 0 < length xs → Some_of (map f xs)
+  some_mapped f [] h = absurd (omega (arith, h))
+  some_mapped f (x ∷ xs) h = tt
+
+  joined_sorted : (q : Quantifier) (ts : List CoreTree) → Some_of ts → AllByRecursion (OfSort bool_sort) ts → HasTreeSort d (joined q ts) bool_sort
+  joined_sorted Forall ts some h = all_of_sorted ts some h
+  joined_sorted Exists ts some h = any_of_sorted ts some h
 
   exclusive_sorted : (t : CoreTree) (ts : List CoreTree) → OfSort bool_sort t → AllByRecursion (OfSort bool_sort) ts → HasTreeSort d (fold exclusive t ts) bool_sort
   exclusive_sorted t [] h k = h
@@ -161,7 +175,7 @@ module _ (d : Declarations) where
       subst (λ (o : Option Constructor). AllZip (HasTreeSort d) (map (λ s. sel s t) (unwrap_or (option_map (λ (g : Constructor). g.sels) o) [])) sorts) (sym declared)
       (sels_sorted c ctor t declared h ctor.sels sorts (own_sels own c ctor declared) fields)
 
-  module _ (own : HaveOwnSelectors d) (n : ℕ) (call : DefId → List CoreTree → CoreTree) (give : GiveSorted d n call) where
+  module _ (own : HaveOwnSelectors d) (lists : HaveSortedChoices d) (n : ℕ) (call : DefId → List CoreTree → CoreTree) (give : GiveSorted d n call) where
     mutual
       pub compiled_sorted : (t : Formula) (env : List CoreTree) (sorts : List SortId) (sort : SortId) → AllZip (HasTreeSort d) env sorts → MentionsBelow n t → IsSorted d sorts t sort → HasTreeSort d (compiled d call env t) sort
       compiled_sorted (Var i) env sorts sort fit m h =
@@ -206,6 +220,13 @@ module _ (d : Declarations) where
           (AllZip-bind (HasTreeSort d) (compiled_all d call env ts) h.0 env sorts (all_compiled ts env sorts h.0 fit m.0 h.2) fit) m.1 h.3
       compiled_sorted (Match t cases) env sorts sort fit m h =
           cases_compiled cases env sorts h.0 (compiled d call env t) [] sort fit (compiled_sorted t env sorts h.0 fit m.0 h.1) h.3 m.1 h.4
+      compiled_sorted (Quantified q bound t) env sorts sort fit m h =
+          let core : List ClosedValue → CoreTree = λ vs. compiled d call (bind (map term_of vs) env) t in
+          subst (HasTreeSort d (joined q (map core (choices_of d bound)))) h.2
+          (joined_sorted q (map core (choices_of d bound)) (some_mapped core (choices_of d bound) h.0.some)
+          (all_mapped (OfSort bool_sort) core (choices_of d bound) (λ vs inside.
+          compiled_sorted t (bind (map term_of vs) env) (bind bound sorts) bool_sort
+          (AllZip-bind (HasTreeSort d) (map term_of vs) bound env sorts (lists bound vs h.0.listable inside) fit) m h.1)))
 
       all_compiled : (ts : Formulas) (env : List CoreTree) (sorts ss : List SortId) → AllZip (HasTreeSort d) env sorts → AllMentionBelow n ts → AllSorted d sorts ts ss → AllZip (HasTreeSort d) (compiled_all d call env ts) ss
       all_compiled no_formulas env sorts [] fit m h = tt
@@ -245,7 +266,7 @@ module _ (d : Declarations) where
       case_compiled (with_case p body cases) false c t u sort h k l = (h, k, l tt)
 
   -- so every definition gives what is sorted, and every formula
-  module _ (own : HaveOwnSelectors d) (bodies : List Formula) (sound : AreSound d bodies) where
+  module _ (own : HaveOwnSelectors d) (lists : HaveSortedChoices d) (bodies : List Formula) (sound : AreSound d bodies) where
     body_given : (k : ℕ) (definition : Function) → slice_get d.definitions k ≡ Some definition → (body : Formula) × (slice_get bodies k ≡ Some body)
     body_given k definition declared = slice_get-there bodies k (subst (λ (m : ℕ). k < m) (sym sound.one_each) (slice_get_within d.definitions k definition declared))
 
@@ -258,10 +279,10 @@ module _ (d : Declarations) where
         let at : slice_get d.definitions n ≡ Some definition = ap (slice_get d.definitions) (sym (same_number k.0 n e)) ∙ declared in
         let body = body_given n definition at in
         subst (λ (o : Option Formula). HasTreeSort d (body_call (compiled d) no_term (calls_below (compiled d) no_term bodies n) o ts) definition.result) (sym body.1)
-        (compiled_sorted own n (calls_below (compiled d) no_term bodies n) (given_sorted n) body.0 (bind ts []) (bind definition.args []) definition.result (AllZip-bind (HasTreeSort d) ts definition.args [] [] h tt) (sound.earlier n body.0 body.1) (sound.sorted n definition body.0 at body.1)))
+        (compiled_sorted own lists n (calls_below (compiled d) no_term bodies n) (given_sorted n) body.0 (bind ts []) (bind definition.args []) definition.result (AllZip-bind (HasTreeSort d) ts definition.args [] [] h tt) (sound.earlier n body.0 body.1) (sound.sorted n definition body.0 at body.1)))
         (λ e. given_sorted n k definition ts (below_next k.0 n below e) declared h))
 
     pub core_of_sorted : (env : List CoreTree) (sorts : List SortId) (t : Formula) (sort : SortId) → AllZip (HasTreeSort d) env sorts → IsSorted d sorts t sort → HasTreeSort d (core_of d bodies env t) sort
     core_of_sorted env sorts t sort fit h =
-        compiled_sorted own (length bodies) (calls (compiled d) no_term bodies) (given_sorted (length bodies)) t env sorts sort fit
+        compiled_sorted own lists (length bodies) (calls (compiled d) no_term bodies) (given_sorted (length bodies)) t env sorts sort fit
         (subst (λ (n : ℕ). MentionsBelow n t) (sym sound.one_each) (sorted_mentions d sorts t sort h)) h

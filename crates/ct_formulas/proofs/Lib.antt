@@ -1,4 +1,5 @@
 pub mod CallLemmas
+pub mod QuantifierLemmas
 pub mod FormulaSortLemmas
 pub mod ScopeLemmas
 pub mod OccurrenceLemmas

@@ -8,11 +8,15 @@ use Rattle.ct_sorts.specs.declared.ids.SelId.{SelId}
 use Rattle.ct_sorts.specs.Declarations.{Declarations, Constructor}
 use Rattle.ct_formulas.specs.declared.tree.Pattern.TheVariants.{Ctor, Any}
 use Rattle.ct_terms.specs.CoreTree.{CoreTree, con, sel, test, apply, negation, choice, trees_of, no_term}
-use Rattle.ct_formulas.specs.Formula.{Formula, Formulas, Cases, Var, Con, Sel, Test, Apply, Def, Not, And, Or, Xor, Implies, Equal, Distinct, Ite, Let, Match, no_formulas, with_formula, no_cases, with_case, bind}
+use Rattle.ct_formulas.specs.Formula.{Formula, Formulas, Cases, Var, Con, Sel, Test, Apply, Def, Not, And, Or, Xor, Implies, Equal, Distinct, Ite, Let, Match, Quantified, no_formulas, with_formula, no_cases, with_case, bind}
 use Rattle.ct_formulas.specs.Pairs.{neighbours, pairs}
 use Rattle.ct_formulas.specs.Calls.{body_call, calls_below, calls}
 use Rattle.ct_terms.specs.Fields.{fields_of}
-use Rattle.ct_formulas.specs.Compiled.{all_of, any_of, exclusive_of, implication_of, equality, inequality, surely_fits, are_none, compiled, compiled_all, compiled_cases, core_of}
+use Rattle.ct_listing.specs.Closed.{term_of}
+use Rattle.ct_listing.proofs.ListLemmas.{map_same}
+use Rattle.ct_formulas.specs.Choices.{choices_of}
+use Rattle.ct_formulas.proofs.QuantifierLemmas.{choice_terms_length}
+use Rattle.ct_formulas.specs.Compiled.{all_of, any_of, exclusive_of, implication_of, equality, inequality, joined, surely_fits, are_none, compiled, compiled_all, compiled_cases, core_of}
 use Rattle.ct_formulas.specs.Occurrence.{count_of, field_count, any_below, occurs, occurs_in_some, occurs_in_bound, matched_occurs, occurs_in_cases, body_uses, uses_below, occurs_in, AreSameAt, AreBoundSame, UseSame}
 
 -- what is bound, and what was there
@@ -44,6 +48,11 @@ fields_same p t u (s ∷ sels) same = (
   λ e. ap (sel s) (same (or_left (p (length sels)) (any_below p (length sels)) (subst (λ (m : ℕ). p m ≡ true) (count_fields t sels) e))),
   fields_same p t u sels (λ e. same (or_right (p (length sels)) (any_below p (length sels)) e)),
 )
+
+-- the same terms
+bound_itself : (p : ℕ → Bool) (ts : List CoreTree) → AreBoundSame p ts ts
+bound_itself p [] = tt
+bound_itself p (t ∷ ts) = (λ e. refl, bound_itself p ts)
 
 -- one more at the inner end
 inner_same : (p : ℕ → Bool) (xs ys : List CoreTree) (t u : CoreTree) → (p 0 ≡ true → t ≡ u) → ((i : ℕ) → p (suc i) ≡ true → slice_get xs i ≡ slice_get ys i) → AreSameAt p (t ∷ xs) (u ∷ ys)
@@ -92,6 +101,12 @@ module _ (d : Declarations) (uses : DefId → ℕ → Bool) (made : DefId → Li
         cases_same cases [] xs ys (compiled d made xs t) (compiled d made ys t)
         (λ m. compiled_same t xs ys (λ i e. h i (or_left (matched_occurs d uses [] cases && occurs d uses t i) (occurs_in_cases d uses [] cases i) (both_true (matched_occurs d uses [] cases) (occurs d uses t i) m e))))
         (λ i e. h i (or_right (matched_occurs d uses [] cases && occurs d uses t i) (occurs_in_cases d uses [] cases i) e))
+    compiled_same (Quantified q sorts t) xs ys h =
+        ap (joined q)
+        (map_same (λ vs. compiled d made (bind (map term_of vs) xs) t) (λ vs. compiled d made (bind (map term_of vs) ys) t) (choices_of d sorts) (λ vs inside.
+        compiled_same t (bind (map term_of vs) xs) (bind (map term_of vs) ys)
+        (bind_same (occurs d uses t) (map term_of vs) (map term_of vs) xs ys (bound_itself (occurs d uses t) (map term_of vs))
+        (λ i e. h i (subst (λ (m : ℕ). occurs d uses t (i + m) ≡ true) (choice_terms_length d sorts vs inside) e)))))
 
     all_same : (ts : Formulas) (xs ys : List CoreTree) → AreSameAt (occurs_in_some d uses ts) xs ys → compiled_all d made xs ts ≡ compiled_all d made ys ts
     all_same no_formulas xs ys h = refl

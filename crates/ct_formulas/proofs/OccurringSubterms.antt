@@ -4,7 +4,7 @@ use Rattle.std.specs.List.{fold}
 use Rattle.std.proofs.lemmas.Option.{slice_get_within}
 use Rattle.std.proofs.lemmas.List.Elements.{Contains-append_left, Contains-append_right}
 use Rattle.ct_lemmas.proofs.Booleans.{both_parts, by_test, not_is_false, or_cases}
-use Rattle.ct_lemmas.proofs.Contained.{Contains-rest}
+use Rattle.ct_lemmas.proofs.Contained.{Contains-rest, Contains-none, Contains-cons}
 use Rattle.ct_lemmas.proofs.Lists.{slice_get-there}
 use Rattle.ct_lemmas.proofs.Numbers.{same_number}
 use Rattle.ct_sorts.specs.declared.ids.CtorId.{CtorId}
@@ -13,14 +13,19 @@ use Rattle.ct_sorts.specs.declared.ids.SelId.{SelId}
 use Rattle.ct_sorts.specs.declared.ids.SortId.{SortId}
 use Rattle.ct_sorts.specs.Declarations.{Declarations, Constructor, bool_sort}
 use Rattle.ct_formulas.specs.declared.tree.Pattern.TheVariants.{Ctor, Any}
+use Rattle.ct_formulas.specs.declared.tree.Quantifier.{Quantifier}
+use Rattle.ct_formulas.specs.declared.tree.Quantifier.TheVariants.{Forall, Exists}
+use Rattle.ct_listing.specs.Closed.{ClosedValue, term_of}
+use Rattle.ct_formulas.specs.Choices.{choices_of}
+use Rattle.ct_formulas.proofs.QuantifierLemmas.{first_there, choice_terms_length}
 use Rattle.ct_terms.specs.CoreTree.{CoreTree, con, sel, test, apply, equation, negation, conjunction, disjunction, equivalence, choice, trees_of, subtrees, subtrees_of_all, no_term}
 use Rattle.ct_terms.specs.CoreSorts.{tree_sort}
-use Rattle.ct_formulas.specs.Formula.{Formula, Formulas, Cases, Var, Con, Sel, Test, Apply, Def, Not, And, Or, Xor, Implies, Equal, Distinct, Ite, Let, Match, no_formulas, with_formula, no_cases, with_case, bind}
+use Rattle.ct_formulas.specs.Formula.{Formula, Formulas, Cases, Var, Con, Sel, Test, Apply, Def, Not, And, Or, Xor, Implies, Equal, Distinct, Ite, Let, Match, Quantified, no_formulas, with_formula, no_cases, with_case, bind}
 use Rattle.ct_formulas.specs.FormulaSorts.{AreAtLeastTwo, IsSorted, AllSorted, AreOfSort, AreSortedCases, AreSound}
 use Rattle.ct_formulas.specs.Pairs.{neighbours_from, neighbours, pairs}
 use Rattle.ct_formulas.specs.Calls.{body_call, calls_below, calls}
 use Rattle.ct_terms.specs.Fields.{fields_of}
-use Rattle.ct_formulas.specs.Compiled.{all_of, any_of, exclusive, exclusive_of, implied_from, implication_of, equality, inequality, surely_fits, are_none, compiled, compiled_all, compiled_cases, core_of}
+use Rattle.ct_formulas.specs.Compiled.{all_of, any_of, exclusive, exclusive_of, implied_from, implication_of, equality, inequality, joined, surely_fits, are_none, compiled, compiled_all, compiled_cases, core_of}
 use Rattle.ct_formulas.specs.Occurrence.{count_of, field_count, any_below, occurs, occurs_in_some, occurs_in_bound, matched_occurs, occurs_in_cases, body_uses, uses_below, occurs_in, GiveUsed}
 use Rattle.ct_formulas.proofs.CallLemmas.{calls_below-suc}
 use Rattle.ct_terms.proofs.SubtreeLemmas.{subtrees-itself, subtrees-further}
@@ -92,6 +97,17 @@ module _ (u : CoreTree) where
   under_any (t ∷ []) (inl h) = h
   under_any (t ∷ []) (inr h) = absurd h
   under_any (t ∷ s ∷ ts) h = Contains-rest (disjunction (trees_of (t ∷ s ∷ ts))) (subtrees_of_all (trees_of (t ∷ s ∷ ts))) u (under_args (t ∷ s ∷ ts) h)
+
+  under_mapped : {X : Type 0} (f : X → CoreTree) (xs : List X) (x : X) → Contains xs x → IsUnder u (f x) → IsUnderSome u (map f xs)
+  under_mapped f [] x inside h = absurd (Contains-none x inside)
+  under_mapped f (y ∷ xs) x inside h = elim (Contains-cons y xs x inside) [
+    | inl e ↦ inl (subst (λ (z : _). IsUnder u (f z)) (sym e) h)
+    | inr rest ↦ inr (under_mapped f xs x rest h)
+  ]
+
+  under_joined : (q : Quantifier) (ts : List CoreTree) → IsUnderSome u ts → IsUnder u (joined q ts)
+  under_joined Forall ts h = under_all ts h
+  under_joined Exists ts h = under_any ts h
 
   under_fold : (t : CoreTree) (ts : List CoreTree) → IsUnder u t ⊎ IsUnderSome u ts → IsUnder u (fold exclusive t ts)
   under_fold t [] (inl h) = h
@@ -227,6 +243,12 @@ module _ (d : Declarations) (uses : DefId → ℕ → Bool) (made : DefId → Li
               (occurring_under t env sorts h.0 i u h.1 both.1 at)
           | inr inside ↦ cases_under cases env sorts h.0 (compiled d made env t) [] sort i u h.4 inside at
         ]
+    occurring_under (Quantified q bound t) env sorts sort i u h o at =
+        let first = first_there (choices_of d bound) h.0.some in
+        let core : List ClosedValue → CoreTree = λ vs. compiled d made (bind (map term_of vs) env) t in
+        under_joined u q (map core (choices_of d bound)) (under_mapped u core (choices_of d bound) first.0 first.1
+        (occurring_under t (bind (map term_of first.0) env) (bind bound sorts) bool_sort (i + length bound) u h.1 o
+        (ap (λ (m : ℕ). slice_get (bind (map term_of first.0) env) (i + m)) (sym (choice_terms_length d bound first.0 first.1)) ∙ bind_past (map term_of first.0) env i ∙ at)))
 
     all_under : (ts : Formulas) (env : List CoreTree) (sorts ss : List SortId) (i : ℕ) (u : CoreTree) → AllSorted d sorts ts ss → occurs_in_some d uses ts i ≡ true → slice_get env i ≡ Some u → IsUnderSome u (compiled_all d made env ts)
     all_under no_formulas env sorts ss i u h o at = false_is_not_true o

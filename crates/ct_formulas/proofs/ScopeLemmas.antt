@@ -11,9 +11,10 @@ use Rattle.ct_sorts.specs.Grown.{Extends}
 use Rattle.ct_formulas.specs.declared.tree.Pattern.{Pattern}
 use Rattle.ct_formulas.specs.declared.tree.Pattern.TheVariants.{Ctor, Any}
 use Rattle.ct_terms.specs.CoreSorts.{AreFieldSorts}
-use Rattle.ct_formulas.specs.Formula.{Formula, Formulas, Cases, Var, Con, Sel, Test, Apply, Def, Not, And, Or, Xor, Implies, Equal, Distinct, Ite, Let, Match, no_formulas, with_formula, no_cases, with_case, bind, MentionsBelow, AllMentionBelow, CasesMentionBelow}
+use Rattle.ct_formulas.specs.Formula.{Formula, Formulas, Cases, Var, Con, Sel, Test, Apply, Def, Not, And, Or, Xor, Implies, Equal, Distinct, Ite, Let, Match, Quantified, no_formulas, with_formula, no_cases, with_case, bind, MentionsBelow, AllMentionBelow, CasesMentionBelow}
 use Rattle.ct_formulas.specs.FormulaSorts.{IsMatchable, BindsSorts, IsExhaustive, IsSorted, AllSorted, AreOfSort, AreSortedCases, AreSound, cut_definitions}
 use Rattle.ct_terms.proofs.SortLemmas.{slice_get-longer}
+use Rattle.ct_formulas.proofs.QuantifierLemmas.{KeepsLists, quantifiable_kept, keeps_first}
 use Rattle.ct_formulas.proofs.FormulaSortLemmas.{sorted_mentions}
 
 -- a formula that names definitions below a number names none at or above a greater one
@@ -36,6 +37,7 @@ module _ (m n : ℕ) (up : m ≤ n) where
     mentions_more (Ite c t u) h = (mentions_more c h.0, mentions_more t h.1, mentions_more u h.2)
     mentions_more (Let ts u) h = (all_mention_more ts h.0, mentions_more u h.1)
     mentions_more (Match t cases) h = (mentions_more t h.0, cases_mention_more cases h.1)
+    mentions_more (Quantified q sorts t) h = mentions_more t h
 
     all_mention_more : (ts : Formulas) → AllMentionBelow m ts → AllMentionBelow n ts
     all_mention_more no_formulas h = h
@@ -45,8 +47,8 @@ module _ (m n : ℕ) (up : m ≤ n) where
     cases_mention_more no_cases h = h
     cases_mention_more (with_case p body cases) h = (mentions_more body h.0, cases_mention_more cases h.1)
 
--- what is declared in the first is declared in the second, with definitions below the number alone, and a sort of the first
--- that may be matched has no more constructors in the second
+-- what is declared in the first is declared in the second, with definitions below the number alone; a sort of the first
+-- that may be matched has no more constructors in the second, and listable ones keep their lists
 record Carries (from to : Declarations) (n : ℕ) : Type 0 where
   pub sorts : (s : ℕ) (sort : Sort) → slice_get from.sorts s ≡ Some sort → slice_get to.sorts s ≡ Some sort
   pub ctors : (c : ℕ) (ctor : Constructor) → slice_get from.ctors c ≡ Some ctor → slice_get to.ctors c ≡ Some ctor
@@ -54,6 +56,7 @@ record Carries (from to : Declarations) (n : ℕ) : Type 0 where
   pub functions : (f : ℕ) (function : Function) → slice_get from.functions f ≡ Some function → slice_get to.functions f ≡ Some function
   pub definitions : (k : ℕ) (definition : Function) → k < n → slice_get from.definitions k ≡ Some definition → slice_get to.definitions k ≡ Some definition
   pub no_more : (side : SortId) (c : ℕ) (ctor : Constructor) → IsMatchable from side → slice_get to.ctors c ≡ Some ctor → ctor.sort ≡ side → slice_get from.ctors c ≡ Some ctor
+  pub lists : KeepsLists from to
 
 module _ (from to : Declarations) (n : ℕ) (carries : Carries from to n) where
   fields_carried : (sels : List SelId) (sorts : List SortId) → AreFieldSorts from sels sorts → AreFieldSorts to sels sorts
@@ -95,6 +98,7 @@ module _ (from to : Declarations) (n : ℕ) (carries : Carries from to n) where
       cases_carried cases env h.0 sort m.1 h.4,
       exhaustive_carried h.0 cases h.2 h.5,
     )
+    sorted_carried (Quantified q sorts t) env sort m h = (quantifiable_kept from to carries.lists sorts h.0, sorted_carried t (bind sorts env) bool_sort m h.1, h.2)
 
     all_carried : (ts : Formulas) (env sorts : List SortId) → AllMentionBelow n ts → AllSorted from env ts sorts → AllSorted to env ts sorts
     all_carried no_formulas env [] m h = h
@@ -114,7 +118,7 @@ module _ (from to : Declarations) (n : ℕ) (carries : Carries from to n) where
     )
 
 -- more declarations: a sort that has constructors gets no more of them
-module _ (later earlier : Declarations) (extends : Extends later earlier) (of_sorts : AreOfTheirSorts later) (own : HaveOwnConstructors earlier) where
+module _ (later earlier : Declarations) (extends : Extends later earlier) (of_sorts : AreOfTheirSorts later) (own : HaveOwnConstructors earlier) (lists : KeepsLists earlier later) where
   no_more_constructors : (side : SortId) (c : ℕ) (ctor : Constructor) → IsMatchable earlier side → slice_get later.ctors c ≡ Some ctor → ctor.sort ≡ side → slice_get earlier.ctors c ≡ Some ctor
   no_more_constructors side c ctor matchable declared of =
       let index = of_sorts c ctor declared in
@@ -134,6 +138,7 @@ module _ (later earlier : Declarations) (extends : Extends later earlier) (of_so
     functions = λ f function at. slice_get-longer later.functions earlier.functions f function extends.functions at;
     definitions = λ k definition below at. slice_get-longer later.definitions earlier.definitions k definition extends.definitions at;
     no_more = no_more_constructors;
+    lists = lists;
   }
 
   pub sorted_lasting : (env : List SortId) (t : Formula) (sort : SortId) → IsSorted earlier env t sort → IsSorted later env t sort
@@ -157,6 +162,7 @@ module _ (d : Declarations) (f : Function) where
     functions = λ g function at. at;
     definitions = λ k definition below at. slice_get-append_left d.definitions (f ∷ []) k definition at;
     no_more = λ side c ctor matchable declared of. declared;
+    lists = keeps_first d (d.definitions ++ f ∷ []);
   }
 
   sorted_one_more : (env : List SortId) (t : Formula) (sort : SortId) → IsSorted d env t sort → IsSorted (with_definition d f) env t sort
@@ -198,6 +204,7 @@ module _ (d : Declarations) (n : ℕ) where
     functions = λ g function at. at;
     definitions = λ k definition below at. take-slice_get n d.definitions k definition below at;
     no_more = λ side c ctor matchable declared of. declared;
+    lists = keeps_first d (take n d.definitions);
   }
 
   first_each : {X Y : Type 0} (m : ℕ) (xs : List X) (ys : List Y) → length xs ≡ length ys → length (take m xs) ≡ length (take m ys)

@@ -1,16 +1,19 @@
--- The core term of a formula: bindings, definitions and `match` are expanded, and n-ary operators are brought to the
--- kinds of core terms.
+-- The core term of a formula: bindings, definitions, `match` and quantifiers are expanded, and n-ary operators are brought to
+-- the kinds of core terms.
 use Rattle.std.specs.Prelude.{◌≡◌, ℕ, ◌<◌, Bool, true, false, ◌||◌, ◌==◌, List, [], ◌∷◌, map, Some, option_map, unwrap_or, slice_get, if◌then◌else◌}
 use Rattle.std.specs.List.{AllZip, fold, list_all, list_any}
 use Rattle.ct_sorts.specs.declared.ids.CtorId.{CtorId}
 use Rattle.ct_sorts.specs.declared.ids.DefId.{DefId}
-use Rattle.ct_sorts.specs.declared.ids.SortId.{SortId}
-use Rattle.ct_sorts.specs.Declarations.{Declarations, Sort, Constructor, Function}
+use Rattle.ct_sorts.specs.Declarations.{Declarations, Constructor, Function}
 use Rattle.ct_formulas.specs.declared.tree.Pattern.TheVariants.{Ctor, Any}
+use Rattle.ct_formulas.specs.declared.tree.Quantifier.{Quantifier}
+use Rattle.ct_formulas.specs.declared.tree.Quantifier.TheVariants.{Forall, Exists}
 use Rattle.ct_terms.specs.CoreTree.{CoreTree, con, sel, test, apply, equation, negation, conjunction, disjunction, equivalence, choice, trees_of, no_term}
 use Rattle.ct_terms.specs.CoreSorts.{HasTreeSort, tree_sort}
 use Rattle.ct_terms.specs.Fields.{fields_of, ctor_ids_of_sort}
-use Rattle.ct_formulas.specs.Formula.{Formula, Formulas, Cases, Var, Con, Sel, Test, Apply, Def, Not, And, Or, Xor, Implies, Equal, Distinct, Ite, Let, Match, no_formulas, with_formula, no_cases, with_case, bind}
+use Rattle.ct_listing.specs.Closed.{term_of}
+use Rattle.ct_formulas.specs.Choices.{choices_of}
+use Rattle.ct_formulas.specs.Formula.{Formula, Formulas, Cases, Var, Con, Sel, Test, Apply, Def, Not, And, Or, Xor, Implies, Equal, Distinct, Ite, Let, Match, Quantified, no_formulas, with_formula, no_cases, with_case, bind}
 use Rattle.ct_formulas.specs.Pairs.{neighbours, pairs}
 use Rattle.ct_formulas.specs.Calls.{calls}
 
@@ -61,6 +64,11 @@ is_among cs c = list_any (λ k. k.0 == c.0) cs
 abbrev pub surely_fits : Declarations → List CtorId → CtorId → Bool
 surely_fits d earlier c = list_all (λ k. (k.0 == c.0) || is_among earlier k) (siblings d c)
 
+-- what a quantifier says of its body for several values, where these are the body's core terms: that all of them hold, or some
+abbrev pub joined : Quantifier → List CoreTree → CoreTree
+joined Forall ts = all_of ts
+joined Exists ts = any_of ts
+
 -- there is no case
 abbrev pub are_none : Cases → Bool
 are_none no_cases = true
@@ -85,6 +93,7 @@ abbrev mutual
   compiled d call env (Ite c t u) = choice (compiled d call env c) (compiled d call env t) (compiled d call env u)
   compiled d call env (Let ts u) = compiled d call (bind (compiled_all d call env ts) env) u
   compiled d call env (Match t cases) = compiled_cases d call env (compiled d call env t) [] cases
+  compiled d call env (Quantified q sorts t) = joined q (map (λ vs. compiled d call (bind (map term_of vs) env) t) (choices_of d sorts))
 
   -- those of several formulas, in order
   pub compiled_all : Declarations → (DefId → List CoreTree → CoreTree) → List CoreTree → Formulas → List CoreTree

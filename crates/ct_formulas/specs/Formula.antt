@@ -4,7 +4,9 @@ use Rattle.ct_sorts.specs.declared.ids.CtorId.{CtorId}
 use Rattle.ct_sorts.specs.declared.ids.SelId.{SelId}
 use Rattle.ct_sorts.specs.declared.ids.FunId.{FunId}
 use Rattle.ct_sorts.specs.declared.ids.DefId.{DefId}
+use Rattle.ct_sorts.specs.declared.ids.SortId.{SortId}
 use Rattle.ct_formulas.specs.declared.tree.Pattern.{Pattern}
+use Rattle.ct_formulas.specs.declared.tree.Quantifier.{Quantifier}
 
 mutual
   -- a term of any sort; variable 0 is the one that was bound last
@@ -25,6 +27,7 @@ mutual
     Ite : Formula → Formula → Formula → Formula
     Let : Formulas → Formula → Formula
     Match : Formula → Cases → Formula
+    Quantified : Quantifier → List SortId → Formula → Formula
 
   -- arguments or bindings, in order
   pub data Formulas : Type 0 where
@@ -60,6 +63,7 @@ abbrev mutual
   MentionsBelow n (Ite c t u) = MentionsBelow n c × MentionsBelow n t × MentionsBelow n u
   MentionsBelow n (Let ts u) = AllMentionBelow n ts × MentionsBelow n u
   MentionsBelow n (Match t cases) = MentionsBelow n t × CasesMentionBelow n cases
+  MentionsBelow n (Quantified q sorts t) = MentionsBelow n t
 
   pub AllMentionBelow : ℕ → Formulas → Type 0
   AllMentionBelow n no_formulas = Unit {0}

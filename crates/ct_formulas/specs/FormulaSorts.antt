@@ -7,7 +7,8 @@ use Rattle.ct_sorts.specs.Declarations.{Declarations, Sort, Constructor, Selecto
 use Rattle.ct_formulas.specs.declared.tree.Pattern.{Pattern}
 use Rattle.ct_formulas.specs.declared.tree.Pattern.TheVariants.{Ctor, Any}
 use Rattle.ct_terms.specs.CoreSorts.{AreFieldSorts}
-use Rattle.ct_formulas.specs.Formula.{Formula, Formulas, Cases, Var, Con, Sel, Test, Apply, Def, Not, And, Or, Xor, Implies, Equal, Distinct, Ite, Let, Match, no_formulas, with_formula, no_cases, with_case, bind, MentionsBelow}
+use Rattle.ct_formulas.specs.Choices.{AreQuantifiable}
+use Rattle.ct_formulas.specs.Formula.{Formula, Formulas, Cases, Var, Con, Sel, Test, Apply, Def, Not, And, Or, Xor, Implies, Equal, Distinct, Ite, Let, Match, Quantified, no_formulas, with_formula, no_cases, with_case, bind, MentionsBelow}
 
 -- one or more formulas, and two or more
 abbrev pub HasFormula : Formulas → Type 0
@@ -61,6 +62,7 @@ abbrev mutual
   IsSorted d env (Ite c t u) sort = IsSorted d env c bool_sort × IsSorted d env t sort × IsSorted d env u sort
   IsSorted d env (Let ts u) sort = (sorts : List SortId) × HasFormula ts × AllSorted d env ts sorts × IsSorted d (bind sorts env) u sort
   IsSorted d env (Match t cases) sort = (side : SortId) × IsSorted d env t side × IsMatchable d side × HasSomeCase cases × AreSortedCases d env side cases sort × IsExhaustive d side cases
+  IsSorted d env (Quantified q sorts t) sort = AreQuantifiable d sorts × IsSorted d (bind sorts env) t bool_sort × (bool_sort ≡ sort)
 
   -- the formulas have these sorts, one for one
   pub AllSorted : Declarations → List SortId → Formulas → List SortId → Type 0

@@ -1,3 +1,4 @@
+pub mod Choices
 pub mod Formula
 pub mod TreeFormula
 pub mod FormulaSorts

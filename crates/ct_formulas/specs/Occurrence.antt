@@ -5,7 +5,7 @@ use Rattle.ct_sorts.specs.declared.ids.DefId.{DefId}
 use Rattle.ct_sorts.specs.Declarations.{Declarations, Constructor}
 use Rattle.ct_formulas.specs.declared.tree.Pattern.TheVariants.{Ctor, Any}
 use Rattle.ct_terms.specs.CoreTree.{CoreTree, subtrees}
-use Rattle.ct_formulas.specs.Formula.{Formula, Formulas, Cases, Var, Con, Sel, Test, Apply, Def, Not, And, Or, Xor, Implies, Equal, Distinct, Ite, Let, Match, no_formulas, with_formula, no_cases, with_case, bind}
+use Rattle.ct_formulas.specs.Formula.{Formula, Formulas, Cases, Var, Con, Sel, Test, Apply, Def, Not, And, Or, Xor, Implies, Equal, Distinct, Ite, Let, Match, Quantified, no_formulas, with_formula, no_cases, with_case, bind}
 use Rattle.ct_formulas.specs.Compiled.{surely_fits, are_none}
 
 -- how many formulas there are
@@ -41,6 +41,7 @@ abbrev mutual
   occurs d uses (Ite c t u) i = occurs d uses c i || (occurs d uses t i || occurs d uses u i)
   occurs d uses (Let ts u) i = occurs_in_bound d uses (occurs d uses u) ts i || occurs d uses u (i + count_of ts)
   occurs d uses (Match t cases) i = (matched_occurs d uses [] cases && occurs d uses t i) || occurs_in_cases d uses [] cases i
+  occurs d uses (Quantified q sorts t) i = occurs d uses t (i + length sorts)
 
   -- it occurs in one of these
   pub occurs_in_some : Declarations → (DefId → ℕ → Bool) → Formulas → ℕ → Bool

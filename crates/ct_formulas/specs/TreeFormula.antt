@@ -4,7 +4,7 @@ use Rattle.ct_formulas.specs.declared.tree.Pattern.{Pattern}
 use Rattle.ct_formulas.specs.declared.tree.Tree.{Tree}
 use Rattle.ct_formulas.specs.declared.tree.Tree.TheOpen.{Tree-F, Case-F}
 use Rattle.ct_formulas.specs.declared.tree.Tree.TheFolds.{fold-Tree}
-use Rattle.ct_formulas.specs.Formula.{Formula, Formulas, Cases, Var, Con, Sel, Test, Apply, Def, Not, And, Or, Xor, Implies, Equal, Distinct, Ite, Let, Match, no_formulas, with_formula, no_cases, with_case}
+use Rattle.ct_formulas.specs.Formula.{Formula, Formulas, Cases, Var, Con, Sel, Test, Apply, Def, Not, And, Or, Xor, Implies, Equal, Distinct, Ite, Let, Match, Quantified, no_formulas, with_formula, no_cases, with_case}
 
 -- formulas in a list as arguments
 abbrev pub formulas_of : List Formula → Formulas
@@ -38,6 +38,7 @@ formula_layer (Tree-F.Distinct ts) = Distinct (formulas_of ts.items)
 formula_layer (Tree-F.Ite c t u) = Ite c.value t.value u.value
 formula_layer (Tree-F.Let ts u) = Let (formulas_of ts.items) u.value
 formula_layer (Tree-F.Match t cases) = Match t.value (cases_of cases.items)
+formula_layer (Tree-F.Quantified q sorts t) = Quantified q sorts.items t.value
 
 -- the formula of a tree
 abbrev pub formula_of : Tree → Formula

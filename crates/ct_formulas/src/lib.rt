@@ -5,4 +5,4 @@ mod theorems;
 mod tree;
 
 pub use theorems::{formulas, scopes};
-pub use tree::{Case, Pattern, Tree};
+pub use tree::{Case, Pattern, Quantifier, Tree};

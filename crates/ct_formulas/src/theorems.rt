@@ -16,6 +16,7 @@ ghost use Rattle.ct_terms.specs.Fields.{fields_of};
 ghost use Rattle.ct_formulas.specs.Compiled.{compiled, core_of, GiveSorted};
 ghost use Rattle.ct_formulas.specs.Occurrence.{occurs, uses_below, occurs_in, AreSameAt, UseSame, GiveUsed};
 
+use ct_listing::listed_values;
 use ct_sorts::structure;
 
 /// The theorems on formulas, for whoever speaks of their core terms. The function does nothing.
@@ -105,6 +106,7 @@ pub fn formulas()
         → Contains (subtrees (core_of d bodies env t)) u }
 {
     structure();
+    listed_values();
 }
 
 /// The theorems on scopes, declarations with a body for each definition, that grow and are cut
@@ -144,4 +146,5 @@ pub fn scopes()
         → AreSound (cut_definitions d n) (take n bodies) }
 {
     structure();
+    listed_values();
 }

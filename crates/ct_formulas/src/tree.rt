@@ -1,6 +1,6 @@
 //! Formulas as trees: what an expression is once its names and sorts are settled.
 
-use ct_sorts::{CtorId, DefId, FunId, SelId};
+use ct_sorts::{CtorId, DefId, FunId, SelId, SortId};
 
 /// What a case of a `match` fits (SMT-LIB 2.7, section 3.6.1).
 #[derive(Clone, Copy, Debug, PartialEq, Eq)]
@@ -9,6 +9,15 @@ pub enum Pattern {
     Ctor(CtorId),
     /// Every value. It binds one variable.
     Any,
+}
+
+/// Over which of its variables' values a quantifier says that its body holds (SMT-LIB 2.7, section 3.6.1).
+#[derive(Clone, Copy, Debug, PartialEq, Eq)]
+pub enum Quantifier {
+    /// All of them.
+    Forall,
+    /// Some of them.
+    Exists,
 }
 
 /// A case of a `match`.
@@ -24,12 +33,12 @@ pub struct Case {
 /// A formula or a term, with names resolved (SMT-LIB 2.7, section 3.6).
 ///
 /// Variables have numbers in place of names: 0 is the variable that was bound last, 1 the one
-/// before it, and so on outwards. Parameters of definitions, bindings of `let` and fields of
-/// patterns are bound in order, so that the last of them has the smallest number.
+/// before it, and so on outwards. Parameters of definitions, bindings of `let`, fields of
+/// patterns and variables of quantifiers are bound in order, so that the last of them has the smallest number.
 #[derive(Debug, Drop)]
 #[cycle(trees)]
 pub enum Tree {
-    /// A variable: the parameter of a definition, a binding of `let`, or a variable of a pattern.
+    /// A variable: the parameter of a definition, a binding of `let`, or a variable of a pattern or of a quantifier.
     Var(u64),
     /// A constructor with its arguments.
     Con(CtorId, Vec<Tree>),
@@ -62,4 +71,6 @@ pub enum Tree {
     Let(Vec<Tree>, Box<Tree>),
     /// The body of the first case that fits the value.
     Match(Box<Tree>, Vec<Case>),
+    /// Whether the body holds for all values, or for some values, of variables of these sorts, which are bound in order.
+    Quantified(Quantifier, Vec<SortId>, Box<Tree>),
 }

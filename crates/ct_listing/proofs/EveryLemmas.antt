@@ -16,13 +16,13 @@ use Rattle.ct_values.specs.Inversion.{IsConstructed, IsValueOfField}
 use Rattle.ct_values.specs.ValueSort.{HasValueSort}
 use Rattle.ct_terms.specs.Fields.{ctor_ids_of_sort}
 use Rattle.ct_listing.specs.Closed.{ClosedValue, build, closed_of, value_of, values_under}
-use Rattle.ct_listing.specs.Listable.{field_sort, field_sorts}
+use Rattle.ct_listing.specs.Listable.{field_sort, field_sorts, stage}
 use Rattle.ct_listing.specs.Listing.{choices, built_by, values_within}
 use Rattle.ct_listing.proofs.ChoiceLemmas.{choices_all}
 use Rattle.ct_listing.proofs.DifferentLemmas.{AreByParts}
 use Rattle.ct_listing.proofs.FieldLemmas.{ctors_found, fields_found, field_found, ctor_among}
 use Rattle.ct_listing.proofs.ListLemmas.{Contains-flat_map}
-use Rattle.ct_listing.proofs.StageLemmas.{stage, stage_parts, stage_zero}
+use Rattle.ct_listing.proofs.StageLemmas.{stage_parts, stage_zero}
 
 -- a value of a sort that is not uninterpreted is built by a constructor
 abbrev pub AreConstructed : Declarations → Nodes → Type 0

@@ -10,12 +10,12 @@ use Rattle.ct_sorts.specs.Consistent.{IsConsistent}
 use Rattle.ct_sorts.specs.Structure.{HaveOwnConstructors, HaveOwnSelectors}
 use Rattle.ct_terms.specs.Fields.{ctor_ids_of_sort}
 use Rattle.ct_listing.specs.Closed.{ClosedValue, build, closed_of, IsClosedOf, AreClosedOf}
-use Rattle.ct_listing.specs.Listable.{field_sort, field_sorts}
+use Rattle.ct_listing.specs.Listable.{field_sort, field_sorts, stage}
 use Rattle.ct_listing.specs.Listing.{choices, built_by, values_within}
 use Rattle.ct_listing.proofs.ChoiceLemmas.{choices_only, choices_some}
 use Rattle.ct_listing.proofs.FieldLemmas.{ctors_found, fields_found, field_found, some_ctor}
 use Rattle.ct_listing.proofs.ListLemmas.{Contains-flat_map, Contains-flat_map_cases}
-use Rattle.ct_listing.proofs.StageLemmas.{stage, stage_parts, stage_zero}
+use Rattle.ct_listing.proofs.StageLemmas.{stage_parts, stage_zero}
 
 module _ (d : Declarations) where
   -- entries of the fields' lists are closed values of the fields

@@ -1,10 +1,10 @@
 pub mod ListLemmas
 pub mod ChoiceLemmas
-mod StageLemmas
+pub mod StageLemmas
 mod StableLemmas
 mod FieldLemmas
 pub mod DifferentLemmas
 mod EveryLemmas
-mod ExactLemmas
+pub mod ExactLemmas
 mod ClosedLemmas
-mod LastingLemmas
+pub mod LastingLemmas

@@ -5,11 +5,11 @@ use Rattle.ct_sorts.specs.declared.ids.SortId.{SortId}
 use Rattle.ct_sorts.specs.Declarations.{Declarations, Sort}
 use Rattle.ct_terms.specs.Fields.{ctor_ids_of_sort}
 use Rattle.ct_listing.specs.Closed.{ClosedValue, build, closed_of}
-use Rattle.ct_listing.specs.Listable.{field_sorts, IsListable}
+use Rattle.ct_listing.specs.Listable.{field_sorts, IsListable, stage}
 use Rattle.ct_listing.specs.Listing.{choices, built_by, built_of, values_within, listed}
 use Rattle.ct_listing.proofs.FieldLemmas.{ctors_found}
 use Rattle.ct_listing.proofs.ListLemmas.{map_same, flat_map_same}
-use Rattle.ct_listing.proofs.StageLemmas.{stage, stage_parts, stage_zero, stage_later, listable_stage}
+use Rattle.ct_listing.proofs.StageLemmas.{stage_parts, stage_zero, stage_later, listable_stage}
 
 module _ (d : Declarations) where
   -- what a sort's constructors build depends on the values of its fields' sorts alone

@@ -13,14 +13,7 @@ use Rattle.ct_sorts.specs.declared.ids.Kind.{Kind}
 use Rattle.ct_sorts.specs.declared.ids.Kind.TheVariants.{Bool as BoolKind, Free, Data, Codata}
 use Rattle.ct_sorts.specs.Declarations.{Declarations, Sort}
 use Rattle.ct_values.proofs.SettleLemmas.{In, settles}
-use Rattle.ct_listing.specs.Listable.{field_sorts, IsListableSet, IsListable}
-
--- sorts of this kind have constructors
-abbrev is_made : Kind → Bool
-is_made BoolKind = true
-is_made Free = false
-is_made Data = true
-is_made Codata = true
+use Rattle.ct_listing.specs.Listable.{field_sorts, IsListableSet, IsListable, is_made, fields_in, stage, is_listable}
 
 made : (k : Kind) → (k ≡ Free → ⊥) → is_made k ≡ true
 made BoolKind h = refl
@@ -48,11 +41,6 @@ HasFieldsIn d set s =
     (sort : Sort) × (slice_get d.sorts s ≡ Some sort) × (sort.kind ≡ Free → ⊥)
     × ((c : CtorId) (field : SortId) → Contains sort.ctors c → Contains (field_sorts d c) field → set field.0 ≡ true)
 
--- the test for it
-abbrev fields_in : Declarations → (ℕ → Bool) → Option Sort → Bool
-fields_in d set None = false
-fields_in d set (Some sort) = is_made sort.kind && list_all (λ c. list_all (λ (field : SortId). set field.0) (field_sorts d c)) sort.ctors
-
 module _ (d : Declarations) (set : ℕ → Bool) where
   tested : (s : ℕ) → HasFieldsIn d set s → fields_in d set (slice_get d.sorts s) ≡ true
   tested s (sort, at, kind, each) =
@@ -69,11 +57,6 @@ module _ (d : Declarations) (set : ℕ → Bool) where
         λ c field inside within.
             all_at (λ (field : SortId). set field.0) (field_sorts d c) field (all_at (λ c. list_all (λ (field : SortId). set field.0) (field_sorts d c)) sort.ctors c parts.1 inside) within,
       )
-
--- the sorts that are listable at a stage
-pub stage : Declarations → ℕ → ℕ → Bool
-stage d zero s = false
-stage d (suc n) s = fields_in d (stage d n) (slice_get d.sorts s)
 
 module _ (d : Declarations) where
   pub stage_parts : (n s : ℕ) → stage d (suc n) s ≡ true → HasFieldsIn d (stage d n) s

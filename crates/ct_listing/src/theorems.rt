@@ -1,10 +1,10 @@
 //! What holds of listable sorts and of their values. A theorem is the contract of a function that does nothing.
-ghost use Rattle.std.specs.Prelude.{◌≡◌, ℕ, ◌<◌, ◌↔◌, List, All, Contains, length, map, Some, slice_get};
+ghost use Rattle.std.specs.Prelude.{◌≡◌, true, ℕ, ◌<◌, ◌↔◌, List, All, Contains, length, map, Some, slice_get};
 ghost use Rattle.std.specs.List.{AllZip};
 ghost use Rattle.ct_sorts.specs.declared.ids.CtorId.{CtorId};
 ghost use Rattle.ct_sorts.specs.declared.ids.Kind.TheVariants.{Free};
 ghost use Rattle.ct_sorts.specs.declared.ids.SortId.{SortId};
-ghost use Rattle.ct_sorts.specs.Declarations.{Declarations, Sort};
+ghost use Rattle.ct_sorts.specs.Declarations.{Declarations, Sort, IsSort};
 ghost use Rattle.ct_sorts.specs.Consistent.{IsConsistent};
 ghost use Rattle.ct_sorts.specs.Grown.{Extends};
 ghost use Rattle.ct_values.specs.Graph.{Nodes};
@@ -14,7 +14,7 @@ ghost use Rattle.ct_values.specs.Fitting.{FitsGraph};
 ghost use Rattle.ct_values.specs.ValueSort.{HasValueSort};
 ghost use Rattle.ct_terms.specs.CoreSorts.{HasTreeSort};
 ghost use Rattle.ct_listing.specs.Closed.{ClosedValue, IsClosedOf, value_of, term_of};
-ghost use Rattle.ct_listing.specs.Listable.{IsListable, field_sorts};
+ghost use Rattle.ct_listing.specs.Listable.{IsListable, field_sorts, is_listable};
 ghost use Rattle.ct_listing.specs.Listing.{built_of, choices, listed};
 
 use ct_sorts::structure;
@@ -33,6 +33,8 @@ pub fn listed_values()
         → IsListable d s
         → (sort : Sort) × (slice_get d.sorts s.0 ≡ Some sort) × (sort.kind ≡ Free → ⊥)
         × ((c : CtorId) (field : SortId) → Contains sort.ctors c → Contains (field_sorts d c) field → IsListable d field) }
+    ensures tested { (d : Declarations) (s : SortId)
+        → (is_listable d s ≡ true) ↔ IsListable d s }
 
     // The list of a listable sort is made of the lists of its fields' sorts, and has all closed values of the sort and no
     // others. It is not empty.
@@ -78,12 +80,18 @@ pub fn listed_values()
         → IsClosedOf d v s
         → HasTreeSort d (term_of v) s }
 
-    // A listable sort stays so with more declarations, and keeps its list.
+    // A listable sort stays so with more declarations, and keeps its list. With more declarations no other sort becomes listable.
     ensures lasting { (later earlier : Declarations) (s : SortId)
         → IsConsistent earlier
         → Extends later earlier
         → IsListable earlier s
         → IsListable later s }
+    ensures back { (later earlier : Declarations) (s : SortId)
+        → IsConsistent earlier
+        → Extends later earlier
+        → IsSort earlier s
+        → IsListable later s
+        → IsListable earlier s }
     ensures longer { (later earlier : Declarations) (s : SortId)
         → IsConsistent earlier
         → Extends later earlier

@@ -1,5 +1,5 @@
 -- The core term of a formula means what the formula means.
-use Rattle.std.proofs.Common.{◌≡◌, ℕ, zero, suc, ◌<◌, Bool, true, false, not, ◌||◌, ◌==◌, List, [], ◌∷◌, length, map, Option, Some, option_map, unwrap_or, slice_get, if◌then◌else◌, refl, sym, ap, subst, ◌∙◌, inl, inr, arith, true≢false}
+use Rattle.std.proofs.Common.{Contains, ◌≡◌, ℕ, zero, suc, ◌<◌, Bool, true, false, not, ◌||◌, ◌==◌, List, [], ◌∷◌, length, map, Option, Some, option_map, unwrap_or, slice_get, if◌then◌else◌, refl, sym, ap, subst, ◌∙◌, inl, inr, arith, true≢false}
 use Rattle.std.specs.List.{AllZip, AllByRecursion}
 use Rattle.ct_lemmas.proofs.Booleans.{by_test}
 use Rattle.ct_lemmas.proofs.Lists.{list_all-at}
@@ -11,24 +11,29 @@ use Rattle.ct_sorts.specs.declared.ids.SelId.{SelId}
 use Rattle.ct_sorts.specs.declared.ids.SortId.{SortId}
 use Rattle.ct_sorts.specs.Declarations.{Declarations, Sort, Constructor, Selector, Function, bool_sort}
 use Rattle.ct_values.specs.declared.node.Head.TheVariants as heads
-use Rattle.ct_values.specs.Value.{Value}
+use Rattle.ct_values.specs.Value.{Value, construct, values_of, with_value}
 use Rattle.ct_values.specs.Agreement.{head_of, children_of}
 use Rattle.ct_values.specs.ValueSort.{HasValueSort}
 use Rattle.ct_formulas.specs.declared.tree.Pattern.{Pattern}
 use Rattle.ct_formulas.specs.declared.tree.Pattern.TheVariants.{Ctor, Any}
+use Rattle.ct_formulas.specs.declared.tree.Quantifier.{Quantifier}
+use Rattle.ct_formulas.specs.declared.tree.Quantifier.TheVariants.{Forall, Exists}
+use Rattle.ct_listing.specs.Closed.{ClosedValue, ClosedValues, IsClosedOf, build, no_closed, with_closed, value_of, values_under, term_of, terms_under}
+use Rattle.ct_formulas.specs.Choices.{choices_of}
+use Rattle.ct_formulas.proofs.QuantifierLemmas.{all_mapped}
 use Rattle.ct_terms.specs.CoreTree.{CoreTree, sel, test, choice, trees_of, no_term}
 use Rattle.ct_terms.specs.CoreSorts.{IsFieldSort, AreFieldSorts, HasTreeSort, tree_sort}
-use Rattle.ct_formulas.specs.Formula.{Formula, Formulas, Cases, Var, Con, Sel, Test, Apply, Def, Not, And, Or, Xor, Implies, Equal, Distinct, Ite, Let, Match, no_formulas, with_formula, no_cases, with_case, bind, MentionsBelow, AllMentionBelow, CasesMentionBelow}
+use Rattle.ct_formulas.specs.Formula.{Formula, Formulas, Cases, Var, Con, Sel, Test, Apply, Def, Not, And, Or, Xor, Implies, Equal, Distinct, Ite, Let, Match, Quantified, no_formulas, with_formula, no_cases, with_case, bind, MentionsBelow, AllMentionBelow, CasesMentionBelow}
 use Rattle.ct_formulas.specs.FormulaSorts.{IsSorted, AllSorted, AreOfSort, AreSortedCases, AreSound}
 use Rattle.ct_formulas.specs.Calls.{body_call, calls_below, calls}
 use Rattle.ct_terms.specs.Fields.{fields_of, ctor_ids_of_sort}
-use Rattle.ct_formulas.specs.Compiled.{siblings, is_among, surely_fits, are_none, compiled, compiled_all, compiled_cases, core_of}
+use Rattle.ct_formulas.specs.Compiled.{joined, siblings, is_among, surely_fits, are_none, compiled, compiled_all, compiled_cases, core_of}
 use Rattle.ct_eval.specs.declared.interp.Interp.{Interp}
 use Rattle.ct_values.specs.TruthValue.{truth, is_head, is_built, is_true}
 use Rattle.ct_eval.specs.Evaluation.{select, table_value}
 use Rattle.ct_eval.specs.TreeValue.{tree_value, tree_values}
-use Rattle.ct_meaning.specs.Meaning.{fits, meaning, meanings, case_meaning, eval, Agree, Means}
-use Rattle.ct_meaning.proofs.MeaningFacts.{Facts, AllZip-bind, AllZip-either, agree_equal, agree_truth, built_agrees, true_agrees, given_agrees, select_agrees, choice_agrees}
+use Rattle.ct_meaning.specs.Meaning.{holds, fits, meaning, meanings, case_meaning, eval, Agree, Means}
+use Rattle.ct_meaning.proofs.MeaningFacts.{Facts, AllZip-bind, AllZip-either, zip_mapped, agree_equal, agree_truth, built_agrees, true_agrees, given_agrees, select_agrees, choice_agrees}
 use Rattle.ct_meaning.proofs.MeaningSorted.{other_number, calls-next, head_fits, Covers, GiveValues, bound_sorted, covered_rest, meaning_sorted, body_at, values_given}
 use Rattle.ct_meaning.proofs.CompiledOperators.{truth_is, values_mean, all_of_means, any_of_means, exclusive_of_means, implication_of_means, AreOfOne, equal_means, distinct_means}
 
@@ -91,6 +96,37 @@ module _ (d : Declarations) (i : Interp) (facts : Facts d i) where
       by true e h = same_number k.0 c.0 e
       by false e h = absurd (true≢false (sym h ∙ absent))
 
+  -- closed values of sorts are terms and values of these, and as terms they mean themselves
+  closed_terms : (vs : List ClosedValue) (ss : List SortId) → AllZip (IsClosedOf d) vs ss → AllZip (HasTreeSort d) (map term_of vs) ss
+  closed_terms [] [] h = tt
+  closed_terms [] (s ∷ ss) h = absurd h
+  closed_terms (v ∷ vs) [] h = absurd h
+  closed_terms (v ∷ vs) (s ∷ ss) h = (facts.closed_term v s h.0, closed_terms vs ss h.1)
+
+  closed_values : (vs : List ClosedValue) (ss : List SortId) → AllZip (IsClosedOf d) vs ss → AllZip (HasValueSort d i.graph) (map value_of vs) ss
+  closed_values [] [] h = tt
+  closed_values [] (s ∷ ss) h = absurd h
+  closed_values (v ∷ vs) [] h = absurd h
+  closed_values (v ∷ vs) (s ∷ ss) h = (facts.closed_value v s h.0, closed_values vs ss h.1)
+
+  mutual
+    closed_value_is : (v : ClosedValue) → tree_value d i (term_of v) ≡ value_of v
+    closed_value_is (build c vs) = ap (construct c) (closed_values_are vs)
+
+    closed_values_are : (vs : ClosedValues) → values_of (tree_values d i (terms_under vs)) ≡ values_under vs
+    closed_values_are no_closed = refl
+    closed_values_are (with_closed v vs) =
+        ap (λ (x : Value). with_value x (values_of (tree_values d i (terms_under vs)))) (closed_value_is v) ∙ ap (with_value (value_of v)) (closed_values_are vs)
+
+  closed_mean : (vs : List ClosedValue) → AllZip (Means d i) (map term_of vs) (map value_of vs)
+  closed_mean [] = tt
+  closed_mean (v ∷ vs) = (agree_equal d i facts (tree_value d i (term_of v)) (value_of v) (closed_value_is v), closed_mean vs)
+
+  -- a quantifier over what the terms mean
+  joined_means : (q : Quantifier) (ts : List CoreTree) (vs : List Value) → AllZip (Means d i) ts vs → AllByRecursion (λ v. HasValueSort d i.graph v bool_sort) vs → Means d i (joined q ts) (truth (holds q i.graph vs))
+  joined_means Forall ts vs h of = all_of_means d i facts ts vs h of
+  joined_means Exists ts vs h of = any_of_means d i facts ts vs h of
+
   -- definitions below the number: for terms that mean values, what they give as a term means what they give as a value
   abbrev GiveMeaning : ℕ → (DefId → List CoreTree → CoreTree) → (DefId → List Value → Value) → Type 0
   GiveMeaning n made call = (k : DefId) (definition : Function) (ts : List CoreTree) (vs : List Value) → k.0 < n → slice_get d.definitions k.0 ≡ Some definition → AllZip (HasTreeSort d) ts definition.args → AllZip (HasValueSort d i.graph) vs definition.args → AllZip (Means d i) ts vs → Means d i (made k ts) (call k vs)
@@ -119,6 +155,14 @@ module _ (d : Declarations) (i : Interp) (facts : Facts d i) where
       terms_sorted = AllZip-bind (HasTreeSort d) ts ss trees sorts new.terms_sorted old.terms_sorted;
       values_sorted = AllZip-bind (HasValueSort d i.graph) vs ss env sorts new.values_sorted old.values_sorted;
       mean = AllZip-bind (Means d i) ts vs trees env new.mean old.mean;
+    }
+
+    -- closed values of the sorts, as terms and as values
+    chosen_environment : (ss : List SortId) (vs : List ClosedValue) → AllZip (IsClosedOf d) vs ss → Environment (map term_of vs) (map value_of vs) ss
+    chosen_environment ss vs h = record {
+      terms_sorted = closed_terms vs ss h;
+      values_sorted = closed_values vs ss h;
+      mean = closed_mean vs;
     }
 
     -- the meaning of a formula has its sort
@@ -224,6 +268,14 @@ module _ (d : Declarations) (i : Interp) (facts : Facts d i) where
           cases_mean cases trees env sorts h.0 (compiled d made trees t) (meaning d i call env t) [] c.0 c.1 sort e
           (record { term_sorted = sorted t trees sorts h.0 e.terms_sorted m.0 h.1; value_sorted = of; means = compiled_means t trees env sorts h.0 e m.0 h.1 })
           c.2 c.3 c.4 refl (elim h.5 [ inl any ↦ inl any | inr each ↦ inr (each c.0 c.1 c.3 c.4) ]) m.1 h.4
+      compiled_means (Quantified q bound t) trees env sorts sort e m h =
+          let term : List ClosedValue → CoreTree = λ vs. compiled d made (bind (map term_of vs) trees) t in
+          let value : List ClosedValue → Value = λ vs. meaning d i call (bind (map value_of vs) env) t in
+          let inner : (vs : List ClosedValue) → Contains (choices_of d bound) vs → Environment (bind (map term_of vs) trees) (bind (map value_of vs) env) (bind bound sorts) =
+          λ vs inside. bound_environment (map term_of vs) (map value_of vs) bound trees env sorts (chosen_environment bound vs (facts.chosen bound vs h.0.listable inside)) e in
+          joined_means q (map term (choices_of d bound)) (map value (choices_of d bound))
+          (zip_mapped (Means d i) term value (choices_of d bound) (λ vs inside. compiled_means t (bind (map term_of vs) trees) (bind (map value_of vs) env) (bind bound sorts) bool_sort (inner vs inside) m h.1))
+          (all_mapped (λ v. HasValueSort d i.graph v bool_sort) value (choices_of d bound) (λ vs inside. has_value t (bind (map term_of vs) trees) (bind (map value_of vs) env) (bind bound sorts) bool_sort (inner vs inside) m h.1))
 
       all_mean : (ts : Formulas) (trees : List CoreTree) (env : List Value) (sorts ss : List SortId) → Environment trees env sorts → AllMentionBelow n ts → AllSorted d sorts ts ss → AllZip (Means d i) (compiled_all d made trees ts) (meanings d i call env ts)
       all_mean no_formulas trees env sorts ss e m h = tt

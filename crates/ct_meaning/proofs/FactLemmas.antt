@@ -1,5 +1,5 @@
 -- A well-formed interpretation has what the theorems on meanings rest on.
-use Rattle.std.proofs.Common.{◌≡◌, ◌⊎◌, ℕ, List, [], ◌∷◌, map, Option, Some, option_map, unwrap_or, slice_get, refl, sym, ap, subst, ◌∙◌, inl, inr}
+use Rattle.std.proofs.Common.{◌≡◌, ◌⊎◌, ℕ, List, [], ◌∷◌, map, All, Contains, Option, Some, option_map, unwrap_or, slice_get, refl, sym, ap, subst, ◌∙◌, inl, inr}
 use Rattle.std.specs.List.{AllZip}
 use Rattle.std.proofs.lemmas.Option.{same_Some}
 use Rattle.ct_sorts.specs.declared.ids.CtorId.{CtorId}
@@ -19,7 +19,10 @@ use Rattle.ct_values.specs.Agreement.{point, head_of, children_of, AgreeAlways}
 use Rattle.ct_values.specs.Fitting.{HasNodeSort, IsElement, IsNodeOfField, FitsGraph, node_sort}
 use Rattle.ct_values.specs.TruthValue.{truth, is_true}
 use Rattle.ct_values.specs.ValueSort.{HasValueSort, AreOfFields}
-use Rattle.ct_terms.specs.CoreSorts.{AreFieldSorts}
+use Rattle.ct_terms.specs.CoreSorts.{AreFieldSorts, HasTreeSort}
+use Rattle.ct_listing.specs.Closed.{ClosedValue, IsClosedOf, value_of, term_of}
+use Rattle.ct_listing.specs.Listable.{IsListable}
+use Rattle.ct_formulas.specs.Choices.{choices_of}
 use Rattle.ct_eval.specs.declared.interp.Interp.{Interp}
 use Rattle.ct_eval.specs.Interpretation.{IsProper}
 use Rattle.ct_eval.specs.EvaluationStep.{Theorems}
@@ -116,8 +119,14 @@ module _ (d : Declarations) (g : Nodes) where
       con_is : (k c : CtorId) → heads.Con k ≡ heads.Con c → k ≡ c
       con_is k c e = cc e
 
-pub facts_of : Theorems → SortTheorems → (d : Declarations) (i : Interp) → IsClosed i.graph → IsConsistent d → IsProper d i → HaveOwnSelectors d → AreOfTheirSorts d → ((v : Value) → HasValueSort d i.graph v bool_sort → Agree i v (truth (is_true i.graph v))) → Facts d i
-facts_of theorems sorts d i closed consistent proper own_selectors of_their_sorts boolean = record {
+-- what is known of the values of listable sorts
+pub record IsListed (d : Declarations) (i : Interp) : Type 0 where
+  pub chosen : (sorts : List SortId) (vs : List ClosedValue) → All (IsListable d) sorts → Contains (choices_of d sorts) vs → AllZip (IsClosedOf d) vs sorts
+  pub closed_term : (v : ClosedValue) (s : SortId) → IsClosedOf d v s → HasTreeSort d (term_of v) s
+  pub closed_value : (v : ClosedValue) (s : SortId) → IsClosedOf d v s → HasValueSort d i.graph (value_of v) s
+
+pub facts_of : Theorems → SortTheorems → (d : Declarations) (i : Interp) → IsClosed i.graph → IsConsistent d → IsProper d i → HaveOwnSelectors d → AreOfTheirSorts d → ((v : Value) → HasValueSort d i.graph v bool_sort → Agree i v (truth (is_true i.graph v))) → IsListed d i → Facts d i
+facts_of theorems sorts d i closed consistent proper own_selectors of_their_sorts boolean listed = record {
   itself = λ v. theorems.itself (point i.graph v);
   turned = λ v w. theorems.turned (point i.graph v) (point i.graph w);
   chained = λ u v w. theorems.chained (point i.graph u) (point i.graph v) (point i.graph w);
@@ -132,6 +141,9 @@ facts_of theorems sorts d i closed consistent proper own_selectors of_their_sort
   construct_sorted = λ c ctor sorts vs declared fields h. (ctor, declared, refl, of_fields d i.graph ctor.sels sorts vs fields h);
   matched = matched_value d i.graph proper.graph.fits;
   fields = fields_value d i.graph proper.graph.fits;
+  chosen = listed.chosen;
+  closed_term = listed.closed_term;
+  closed_value = listed.closed_value;
   own_selectors = own_selectors;
   of_their_sorts = of_their_sorts;
 }

@@ -6,3 +6,4 @@ pub mod MeaningReach
 pub mod CompiledOperators
 pub mod CompiledMeaning
 pub mod TreeSortLemmas
+mod QuantifierMeaning

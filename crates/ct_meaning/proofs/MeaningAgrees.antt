@@ -6,14 +6,18 @@ use Rattle.ct_sorts.specs.Declarations.{Declarations}
 use Rattle.ct_values.specs.Value.{Value}
 use Rattle.ct_formulas.specs.declared.tree.Pattern.{Pattern}
 use Rattle.ct_formulas.specs.declared.tree.Pattern.TheVariants.{Ctor, Any}
-use Rattle.ct_formulas.specs.Formula.{Formula, Formulas, Cases, Var, Con, Sel, Test, Apply, Def, Not, And, Or, Xor, Implies, Equal, Distinct, Ite, Let, Match, no_formulas, with_formula, no_cases, with_case, bind}
+use Rattle.ct_formulas.specs.declared.tree.Quantifier.{Quantifier}
+use Rattle.ct_formulas.specs.declared.tree.Quantifier.TheVariants.{Forall, Exists}
+use Rattle.ct_listing.specs.Closed.{ClosedValue, value_of}
+use Rattle.ct_formulas.specs.Choices.{choices_of}
+use Rattle.ct_formulas.specs.Formula.{Formula, Formulas, Cases, Var, Con, Sel, Test, Apply, Def, Not, And, Or, Xor, Implies, Equal, Distinct, Ite, Let, Match, Quantified, no_formulas, with_formula, no_cases, with_case, bind}
 use Rattle.ct_formulas.specs.Pairs.{neighbours_from, pairs}
 use Rattle.ct_formulas.specs.Calls.{body_call, calls_below, calls}
 use Rattle.ct_eval.specs.declared.interp.Interp.{Interp}
 use Rattle.ct_values.specs.TruthValue.{truth, is_true}
 use Rattle.ct_eval.specs.Evaluation.{is_same}
-use Rattle.ct_meaning.specs.Meaning.{xor_all, implies_all, all_true, are_chained, fits, matched_values, meaning, meanings, case_meaning, eval, Agree}
-use Rattle.ct_meaning.proofs.MeaningFacts.{Facts, AllZip-bind, AllZip-either, agree_equal, agree_truth, built_agrees, true_agrees, same_agrees, given_agrees, select_agrees, choice_agrees, truths_agree, all_agree, any_agree}
+use Rattle.ct_meaning.specs.Meaning.{xor_all, implies_all, all_true, are_chained, holds, fits, matched_values, meaning, meanings, case_meaning, eval, Agree}
+use Rattle.ct_meaning.proofs.MeaningFacts.{Facts, AllZip-bind, AllZip-either, zip_mapped, agree_equal, agree_truth, built_agrees, true_agrees, same_agrees, given_agrees, select_agrees, choice_agrees, truths_agree, all_agree, any_agree}
 
 module _ (d : Declarations) (i : Interp) (facts : Facts d i) where
   -- which neighbours and which pairs are the same
@@ -53,6 +57,15 @@ module _ (d : Declarations) (i : Interp) (facts : Facts d i) where
   bound_agree (Ctor c) v w h = facts.children v w h
   bound_agree Any v w h = (h, tt)
 
+  -- so are the values of a quantifier's body
+  holds_agree : (q : Quantifier) (vs ws : List Value) → AllZip (Agree i) vs ws → holds q i.graph vs ≡ holds q i.graph ws
+  holds_agree Forall vs ws h = all_agree d i facts vs ws h
+  holds_agree Exists vs ws h = any_agree d i facts vs ws h
+
+  themselves : (vs : List Value) → AllZip (Agree i) vs vs
+  themselves [] = tt
+  themselves (v ∷ vs) = (facts.itself v, themselves vs)
+
   -- what definitions give for values that are the same is the same
   abbrev GiveSame : (DefId → List Value → Value) → Type 0
   GiveSame call = (k : DefId) (vs ws : List Value) → AllZip (Agree i) vs ws → Agree i (call k vs) (call k ws)
@@ -80,6 +93,13 @@ module _ (d : Declarations) (i : Interp) (facts : Facts d i) where
           meaning_agrees u (bind (meanings d i call env ts) env) (bind (meanings d i call others ts) others)
           (AllZip-bind (Agree i) (meanings d i call env ts) (meanings d i call others ts) env others (meanings_agree ts env others h) h)
       meaning_agrees (Match t cases) env others h = cases_agree cases env others (meaning d i call env t) (meaning d i call others t) h (meaning_agrees t env others h)
+      meaning_agrees (Quantified q sorts t) env others h =
+          let one : List ClosedValue → Value = λ vs. meaning d i call (bind (map value_of vs) env) t in
+          let other : List ClosedValue → Value = λ vs. meaning d i call (bind (map value_of vs) others) t in
+          agree_truth d i facts _ _
+          (holds_agree q (map one (choices_of d sorts)) (map other (choices_of d sorts))
+          (zip_mapped (Agree i) one other (choices_of d sorts) (λ vs inside.
+          meaning_agrees t (bind (map value_of vs) env) (bind (map value_of vs) others) (AllZip-bind (Agree i) (map value_of vs) (map value_of vs) env others (themselves (map value_of vs)) h))))
 
       meanings_agree : (ts : Formulas) (env others : List Value) → AllZip (Agree i) env others → AllZip (Agree i) (meanings d i call env ts) (meanings d i call others ts)
       meanings_agree no_formulas env others h = tt

@@ -1,6 +1,7 @@
 -- What the theorems on meanings rest on: equality of values in a well-formed interpretation, and the sorts of values.
-use Rattle.std.proofs.Common.{◌≡◌, ◌⊎◌, ◌↔◌, ℕ, zero, suc, Bool, true, false, ◌&&◌, ◌||◌, IsTrue, List, [], ◌∷◌, map, Option, Some, None, unwrap_or, slice_get, if◌then◌else◌, refl, ap, subst, ◌∙◌}
+use Rattle.std.proofs.Common.{◌≡◌, ◌⊎◌, ◌↔◌, ℕ, zero, suc, Bool, true, false, ◌&&◌, ◌||◌, IsTrue, List, [], ◌∷◌, map, All, Contains, Option, Some, None, unwrap_or, slice_get, if◌then◌else◌, refl, ap, subst, ◌∙◌}
 use Rattle.std.specs.List.{AllZip, list_all, list_any}
+use Rattle.ct_lemmas.proofs.Contained.{Contains-first, Contains-rest}
 use Rattle.ct_sorts.specs.declared.ids.CtorId.{CtorId}
 use Rattle.ct_sorts.specs.declared.ids.FunId.{FunId}
 use Rattle.ct_sorts.specs.declared.ids.SelId.{SelId}
@@ -13,7 +14,10 @@ use Rattle.ct_values.specs.declared.node.Head.TheVariants as heads
 use Rattle.ct_values.specs.Value.{Value, reference, construct, values_of}
 use Rattle.ct_values.specs.Agreement.{head_of, children_of}
 use Rattle.ct_values.specs.ValueSort.{HasValueSort}
-use Rattle.ct_terms.specs.CoreSorts.{AreFieldSorts}
+use Rattle.ct_terms.specs.CoreSorts.{AreFieldSorts, HasTreeSort}
+use Rattle.ct_listing.specs.Closed.{ClosedValue, IsClosedOf, value_of, term_of}
+use Rattle.ct_listing.specs.Listable.{IsListable}
+use Rattle.ct_formulas.specs.Choices.{choices_of}
 use Rattle.ct_formulas.specs.Formula.{bind}
 use Rattle.ct_eval.specs.declared.interp.Interp.{Interp}
 use Rattle.ct_eval.specs.declared.interp.Row.{Row}
@@ -40,6 +44,9 @@ pub record Facts (d : Declarations) (i : Interp) : Type 0 where
   pub construct_sorted : (c : CtorId) (ctor : Constructor) (sorts : List SortId) (vs : List Value) → slice_get d.ctors c.0 ≡ Some ctor → AreFieldSorts d ctor.sels sorts → AllZip (HasValueSort d i.graph) vs sorts → HasValueSort d i.graph (construct c (values_of vs)) ctor.sort
   pub matched : (v : Value) (s : SortId) (sort : Sort) → HasValueSort d i.graph v s → slice_get d.sorts s.0 ≡ Some sort → (sort.kind ≡ Data) ⊎ (sort.kind ≡ Codata) → (c : CtorId) × (ctor : Constructor) × (head_of i.graph v ≡ Some (heads.Con c)) × (slice_get d.ctors c.0 ≡ Some ctor) × (ctor.sort ≡ s)
   pub fields : (v : Value) (s : SortId) (c : CtorId) (ctor : Constructor) (sorts : List SortId) → HasValueSort d i.graph v s → head_of i.graph v ≡ Some (heads.Con c) → slice_get d.ctors c.0 ≡ Some ctor → AreFieldSorts d ctor.sels sorts → AllZip (HasValueSort d i.graph) (children_of i.graph v) sorts
+  pub chosen : (sorts : List SortId) (vs : List ClosedValue) → All (IsListable d) sorts → Contains (choices_of d sorts) vs → AllZip (IsClosedOf d) vs sorts
+  pub closed_term : (v : ClosedValue) (s : SortId) → IsClosedOf d v s → HasTreeSort d (term_of v) s
+  pub closed_value : (v : ClosedValue) (s : SortId) → IsClosedOf d v s → HasValueSort d i.graph (value_of v) s
   pub own_selectors : HaveOwnSelectors d
   pub of_their_sorts : AreOfTheirSorts d
 
@@ -57,6 +64,11 @@ AllZip-either R [] (z ∷ ys) k x y h other = absurd h
 AllZip-either R (w ∷ xs) [] k x y h other = absurd h
 AllZip-either R (w ∷ xs) (z ∷ ys) zero x y h other = h.0
 AllZip-either R (w ∷ xs) (z ∷ ys) (suc k) x y h other = AllZip-either R xs ys k x y h.1 other
+
+-- the images of one list under two functions go together where each element's do
+pub zip_mapped : {X Y Z : Type 0} (R : Y → Z → Type 0) (f : X → Y) (g : X → Z) (xs : List X) → ((x : X) → Contains xs x → R (f x) (g x)) → AllZip R (map f xs) (map g xs)
+zip_mapped R f g [] each = tt
+zip_mapped R f g (x ∷ xs) each = (each x (Contains-first x xs), zip_mapped R f g xs (λ y at. each y (Contains-rest x xs y at)))
 
 module _ (d : Declarations) (i : Interp) (facts : Facts d i) where
   pub agree_equal : (v w : Value) → v ≡ w → Agree i v w

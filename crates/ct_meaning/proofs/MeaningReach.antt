@@ -11,16 +11,20 @@ use Rattle.ct_sorts.specs.declared.ids.SortId.{SortId}
 use Rattle.ct_sorts.specs.Declarations.{Declarations, Selector, Function, bool_sort}
 use Rattle.ct_sorts.specs.Grown.{Extends}
 use Rattle.ct_values.specs.Value.{Value, construct, values_of}
-use Rattle.ct_formulas.specs.Formula.{Formula, Formulas, Cases, Var, Con, Sel, Test, Apply, Def, Not, And, Or, Xor, Implies, Equal, Distinct, Ite, Let, Match, no_formulas, with_formula, no_cases, with_case, bind, MentionsBelow, AllMentionBelow, CasesMentionBelow}
+use Rattle.ct_formulas.specs.Formula.{Formula, Formulas, Cases, Var, Con, Sel, Test, Apply, Def, Not, And, Or, Xor, Implies, Equal, Distinct, Ite, Let, Match, Quantified, no_formulas, with_formula, no_cases, with_case, bind, MentionsBelow, AllMentionBelow, CasesMentionBelow}
 use Rattle.ct_formulas.specs.FormulaSorts.{IsSorted, AllSorted, AreOfSort, AreSortedCases, AreSound}
 use Rattle.ct_formulas.specs.Calls.{body_call, calls_below, calls}
 use Rattle.ct_eval.specs.declared.interp.Interp.{Interp}
 use Rattle.ct_values.specs.TruthValue.{truth, is_built, is_true}
 use Rattle.ct_eval.specs.Evaluation.{table_value, select}
-use Rattle.ct_meaning.specs.Meaning.{xor_all, implies_all, are_chained, are_distinct, fits, matched_values, meaning, meanings, case_meaning, eval}
+use Rattle.ct_meaning.specs.Meaning.{xor_all, implies_all, are_chained, are_distinct, holds, fits, matched_values, meaning, meanings, case_meaning, eval}
+use Rattle.ct_listing.specs.Closed.{ClosedValue, value_of}
+use Rattle.ct_listing.proofs.ListLemmas.{map_same}
+use Rattle.ct_formulas.specs.Choices.{choices_of}
+use Rattle.ct_formulas.proofs.QuantifierLemmas.{KeepsLists, choices_kept}
 use Rattle.ct_meaning.proofs.MeaningSorted.{calls-next}
 
-module _ (later earlier : Declarations) (i : Interp) (extends : Extends later earlier) where
+module _ (later earlier : Declarations) (i : Interp) (extends : Extends later earlier) (keeps : KeepsLists earlier later) where
   -- a declared selector is the same in both
   same_selector : (s : SelId) (selector : Selector) → slice_get earlier.sels s.0 ≡ Some selector → slice_get later.sels s.0 ≡ slice_get earlier.sels s.0
   same_selector s selector declared =
@@ -58,6 +62,11 @@ module _ (later earlier : Declarations) (i : Interp) (extends : Extends later ea
       meaning_reaches (Match t cases) env sorts sort m h =
           cases_reach cases env sorts h.0 (meaning later i call env t) sort m.1 h.4
           ∙ ap (λ (v : Value). case_meaning earlier i other env v cases) (meaning_reaches t env sorts h.0 m.0 h.1)
+      meaning_reaches (Quantified q bound t) env sorts sort m h =
+          let new : List ClosedValue → Value = λ vs. meaning later i call (bind (map value_of vs) env) t in
+          let old : List ClosedValue → Value = λ vs. meaning earlier i other (bind (map value_of vs) env) t in
+          ap (λ (vss : List (List ClosedValue)). truth (holds q i.graph (map new vss))) (choices_kept earlier later keeps bound h.0.listable)
+          ∙ ap (λ (vs : List Value). truth (holds q i.graph vs)) (map_same new old (choices_of earlier bound) (λ vs inside. meaning_reaches t (bind (map value_of vs) env) (bind bound sorts) bool_sort m h.1))
 
       all_reach : (ts : Formulas) (env : List Value) (sorts ss : List SortId) → AllMentionBelow n ts → AllSorted earlier sorts ts ss → meanings later i call env ts ≡ meanings earlier i other env ts
       all_reach no_formulas env sorts ss m h = refl

@@ -18,7 +18,7 @@ use Rattle.ct_values.specs.Agreement.{head_of}
 use Rattle.ct_values.specs.ValueSort.{HasValueSort}
 use Rattle.ct_formulas.specs.declared.tree.Pattern.{Pattern}
 use Rattle.ct_formulas.specs.declared.tree.Pattern.TheVariants.{Ctor, Any}
-use Rattle.ct_formulas.specs.Formula.{Formula, Formulas, Cases, Var, Con, Sel, Test, Apply, Def, Not, And, Or, Xor, Implies, Equal, Distinct, Ite, Let, Match, no_formulas, with_formula, no_cases, with_case, bind, MentionsBelow, AllMentionBelow, CasesMentionBelow}
+use Rattle.ct_formulas.specs.Formula.{Formula, Formulas, Cases, Var, Con, Sel, Test, Apply, Def, Not, And, Or, Xor, Implies, Equal, Distinct, Ite, Let, Match, Quantified, no_formulas, with_formula, no_cases, with_case, bind, MentionsBelow, AllMentionBelow, CasesMentionBelow}
 use Rattle.ct_formulas.specs.FormulaSorts.{BindsSorts, HasPattern, IsSorted, AllSorted, AreSortedCases, AreSound}
 use Rattle.ct_formulas.specs.Calls.{body_call, calls_below, calls}
 use Rattle.ct_eval.specs.declared.interp.Interp.{Interp}
@@ -108,6 +108,7 @@ module _ (d : Declarations) (i : Interp) (facts : Facts d i) where
           let c = facts.matched v h.0 h.2.0 of h.2.1 h.2.2 in
           cases_sorted cases env sorts h.0 v c.0 sort fit of c.2
           (elim h.5 [ inl any ↦ inl any | inr each ↦ inr (each c.0 c.1 c.3 c.4) ]) m.1 h.4
+      meaning_sorted (Quantified q bound t) env sorts sort fit m h = answer _ sort h.2
 
       all_sorted : (ts : Formulas) (env : List Value) (sorts ss : List SortId) → AllZip (HasValueSort d i.graph) env sorts → AllMentionBelow n ts → AllSorted d sorts ts ss → AllZip (HasValueSort d i.graph) (meanings d i call env ts) ss
       all_sorted no_formulas env sorts [] fit m h = tt

@@ -1,5 +1,5 @@
--- What a formula means in an interpretation, by recursion on it (SMT-LIB 2.7, section 5.3): bindings, `match` and
--- definitions are evaluated, and not expanded.
+-- What a formula means in an interpretation, by recursion on it (SMT-LIB 2.7, section 5.3): bindings, `match`, definitions and
+-- the bodies of quantifiers are evaluated, and not expanded.
 use Rattle.std.specs.Prelude.{◌≡◌, Bool, true, false, not, ◌||◌, List, [], ◌∷◌, All, map, slice_get, unwrap_or, if◌then◌else◌}
 use Rattle.std.specs.List.{fold, list_all, list_any}
 use Rattle.ct_sorts.specs.declared.ids.DefId.{DefId}
@@ -9,8 +9,12 @@ use Rattle.ct_values.specs.Value.{Value, construct, values_of}
 use Rattle.ct_values.specs.Agreement.{point, children_of, AgreeAlways}
 use Rattle.ct_formulas.specs.declared.tree.Pattern.{Pattern}
 use Rattle.ct_formulas.specs.declared.tree.Pattern.TheVariants.{Ctor, Any}
+use Rattle.ct_formulas.specs.declared.tree.Quantifier.{Quantifier}
+use Rattle.ct_formulas.specs.declared.tree.Quantifier.TheVariants.{Forall, Exists}
 use Rattle.ct_terms.specs.CoreTree.{CoreTree}
-use Rattle.ct_formulas.specs.Formula.{Formula, Formulas, Cases, Var, Con, Sel, Test, Apply, Def, Not, And, Or, Xor, Implies, Equal, Distinct, Ite, Let, Match, no_formulas, with_formula, no_cases, with_case, bind}
+use Rattle.ct_listing.specs.Closed.{value_of}
+use Rattle.ct_formulas.specs.Choices.{choices_of}
+use Rattle.ct_formulas.specs.Formula.{Formula, Formulas, Cases, Var, Con, Sel, Test, Apply, Def, Not, And, Or, Xor, Implies, Equal, Distinct, Ite, Let, Match, Quantified, no_formulas, with_formula, no_cases, with_case, bind}
 use Rattle.ct_formulas.specs.Pairs.{neighbours, pairs}
 use Rattle.ct_formulas.specs.Calls.{calls}
 use Rattle.ct_eval.specs.declared.interp.Interp.{Interp}
@@ -58,6 +62,11 @@ abbrev pub matched_values : Nodes → Pattern → Value → List Value
 matched_values g (Ctor c) v = children_of g v
 matched_values g Any v = v ∷ []
 
+-- what a quantifier says of its body, which means these: all of them are true, or some
+abbrev pub holds : Quantifier → Nodes → List Value → Bool
+holds Forall g vs = list_all (is_true g) vs
+holds Exists g vs = list_any (is_true g) vs
+
 abbrev mutual
   -- the meaning of a formula, over what definitions give for values, where each variable stands for a value
   pub meaning : Declarations → Interp → (DefId → List Value → Value) → List Value → Formula → Value
@@ -77,6 +86,7 @@ abbrev mutual
   meaning d i call env (Ite c t u) = if is_true i.graph (meaning d i call env c) then meaning d i call env t else meaning d i call env u
   meaning d i call env (Let ts u) = meaning d i call (bind (meanings d i call env ts) env) u
   meaning d i call env (Match t cases) = case_meaning d i call env (meaning d i call env t) cases
+  meaning d i call env (Quantified q sorts t) = truth (holds q i.graph (map (λ vs. meaning d i call (bind (map value_of vs) env) t) (choices_of d sorts)))
 
   -- the meanings of several formulas, in order
   pub meanings : Declarations → Interp → (DefId → List Value → Value) → List Value → Formulas → List Value

@@ -1,6 +1,6 @@
 //! What holds of the meaning of formulas, and of their core terms. A theorem is the contract of a
 //! function that does nothing.
-ghost use Rattle.std.specs.Prelude.{◌≡◌, ◌↔◌, ◌++◌, List, [], All};
+ghost use Rattle.std.specs.Prelude.{◌≡◌, ◌↔◌, ◌++◌, true, List, [], map, All};
 ghost use Rattle.std.specs.List.{AllZip};
 ghost use Rattle.ct_sorts.specs.declared.ids.SortId.{SortId};
 ghost use Rattle.ct_sorts.specs.Declarations.{Declarations, bool_sort};
@@ -12,7 +12,10 @@ ghost use Rattle.ct_terms.specs.declared.ids.TermId.{TermId};
 ghost use Rattle.ct_terms.specs.Terms.{Terms};
 ghost use Rattle.ct_terms.specs.CoreTree.{CoreTree, term_at};
 ghost use Rattle.ct_terms.specs.CoreSorts.{HasTreeSort};
-ghost use Rattle.ct_formulas.specs.Formula.{Formula};
+ghost use Rattle.ct_listing.specs.Closed.{ClosedValue, IsClosedOf, value_of as closed_value};
+ghost use Rattle.ct_listing.specs.Listable.{IsListable};
+ghost use Rattle.ct_formulas.specs.declared.tree.Quantifier.TheVariants.{Forall, Exists};
+ghost use Rattle.ct_formulas.specs.Formula.{Formula, Quantified, bind};
 ghost use Rattle.ct_formulas.specs.FormulaSorts.{IsSorted, AreSound};
 ghost use Rattle.ct_formulas.specs.Compiled.{core_of};
 ghost use Rattle.ct_eval.specs.declared.interp.Interp.{Interp};
@@ -25,6 +28,7 @@ ghost use Rattle.ct_eval.specs.Truth.{Holds};
 ghost use Rattle.ct_eval.specs.EvaluationStep.{Theorems};
 
 use ct_formulas::formulas;
+use ct_listing::listed_values;
 use ct_sorts::structure;
 use ct_terms::core_trees;
 use ct_values::{
@@ -79,10 +83,28 @@ pub fn meanings()
     // It does not see what is declared and defined later.
     ensures longer { (later earlier : Declarations) (i : Interp) (bodies more : List Formula)
         (env : List Value) (sorts : List SortId) (t : Formula) (sort : SortId)
+        → IsConsistent earlier
         → Extends later earlier
         → AreSound earlier bodies
         → IsSorted earlier sorts t sort
         → eval later i (bodies ++ more) env t ≡ eval earlier i bodies env t }
+
+    // A formula with a quantifier is true exactly where its body is true with all values of its variables' listable sorts,
+    // or with some: with all, or some, closed values, each of which is bound as the value that it is.
+    ensures for_all { (d : Declarations) (i : Interp) (bodies : List Formula) (env : List Value)
+        (sorts : List SortId) (t : Formula)
+        → IsConsistent d
+        → All (IsListable d) sorts
+        → (is_true i.graph (eval d i bodies env (Quantified Forall sorts t)) ≡ true)
+        ↔ ((vs : List ClosedValue) → AllZip (IsClosedOf d) vs sorts
+        → is_true i.graph (eval d i bodies (bind (map closed_value vs) env) t) ≡ true) }
+    ensures for_some { (d : Declarations) (i : Interp) (bodies : List Formula) (env : List Value)
+        (sorts : List SortId) (t : Formula)
+        → IsConsistent d
+        → All (IsListable d) sorts
+        → (is_true i.graph (eval d i bodies env (Quantified Exists sorts t)) ≡ true)
+        ↔ ((vs : List ClosedValue) × AllZip (IsClosedOf d) vs sorts
+        × (is_true i.graph (eval d i bodies (bind (map closed_value vs) env) t) ≡ true)) }
 
     // The core term of a well-sorted formula means the same value as the formula, where each
     // variable stands for a term and for a value that the term means.
@@ -115,6 +137,7 @@ pub fn meanings()
     fitting_graphs();
     well_sorted_values();
     boolean_values();
+    listed_values();
     value_theorems();
 }
 

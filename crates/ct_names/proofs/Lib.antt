@@ -20,4 +20,5 @@ mod NamedLemmas
 pub mod LastingLemmas
 pub mod StayLemmas
 pub mod StayPatterns
+pub mod StayListable
 pub mod StayTerms

@@ -61,6 +61,11 @@ stays_unless Q b c n first second same h = subst (λ (x : Bool). Stays Q (unless
     by true = h
     by false = stays_err Q (refused n) (Err (refused n))
 
+-- the test holds where it held
+pub stays_halted : {X : Type 0} (Q : X → Type 0) (b c : Bool) (n : ℕ) (first second : Elaborated X) → (b ≡ true → c ≡ true) → (b ≡ true → Stays Q first second) → Stays Q (unless_halted b n first) (unless_halted c n second)
+stays_halted Q true c n first second kept h = subst (λ (x : Bool). Stays Q first (unless_halted x n second)) (sym (kept refl)) (h refl)
+stays_halted Q false c n first second kept h = stays_err Q (refused n) (unless_halted c n second)
+
 pub stays_unless_refused : {X : Type 0} (Q : X → Type 0) (b c : Bool) (n : ℕ) (first second : Outcome X) → c ≡ b → Stays Q first second → Stays Q (unless_refused b n first) (unless_refused c n second)
 stays_unless_refused Q b c n first second same h = subst (λ (x : Bool). Stays Q (unless_refused b n first) (unless_refused x n second)) (sym same) (by b)
   where

@@ -1,5 +1,5 @@
 -- Where sorts were added, the formula of an expression and its sort are as they were.
-use Rattle.std.proofs.Common.{◌≡◌, ℕ, Bool, not, ◌&&◌, ◌==◌, is_some, codes, List, [], ◌∷◌, length, Option, Some, None, IfSome, Ok, Err, refl, sym, ap, ap₂, subst}
+use Rattle.std.proofs.Common.{◌≡◌, ℕ, Bool, not, ◌&&◌, ◌==◌, is_some, codes, List, [], ◌∷◌, length, nat_le, Option, Some, None, IfSome, Ok, Err, refl, sym, ap, ap₂, subst}
 use Rattle.std.specs.Str.{bytes_eq}
 use Rattle.ct_generics.specs.Expression.{Expression}
 use Rattle.ct_sexpr.specs.Atom.{Atom, symbol, quoted, keyword, text, numeral, decimal, binary, hexadecimal}
@@ -15,6 +15,10 @@ use Rattle.ct_sorts.specs.declared.ids.Symbol.TheVariants.{Ctor, Sel, Fun, Def, 
 use Rattle.ct_sorts.specs.Consistent.{IsConsistent}
 use Rattle.ct_sorts.specs.Declarations.{Declarations, IsSort, IsSelector, IsConstructor, bool_sort}
 use Rattle.ct_sorts.specs.Lookup.{IsSymbol}
+use Rattle.ct_listing.specs.Closed.{ClosedValue}
+use Rattle.ct_formulas.specs.declared.tree.Quantifier.{Quantifier}
+use Rattle.ct_formulas.specs.declared.tree.Quantifier.TheVariants.{Forall, Exists}
+use Rattle.ct_formulas.specs.Choices.{choices_of, most_choices}
 use Rattle.ct_formulas.specs.Formula as formula
 use Rattle.ct_formulas.specs.Formula.{Formula, Formulas, no_formulas, with_formula, bind}
 use Rattle.ct_instances.specs.declared.among.NamedCtor.{NamedCtor}
@@ -24,7 +28,7 @@ use Rattle.ct_instances.specs.Fields.{generic_fields, generic_params, is_determi
 use Rattle.ct_instances.specs.Matching.{Assignment, unmatched, matched, sorts_for}
 use Rattle.ct_names.specs.declared.operator.CoreOperator.{CoreOperator}
 use Rattle.ct_names.specs.declared.operator.CoreOperator.TheVariants.{Not, And, Or, Xor, Implies, Equal, Distinct, Ite}
-use Rattle.ct_names.specs.Refusals.{undetermined, unknown_symbol, wrong_count, wrong_sort, not_exhaustive, repeated_variable, out_of_scope}
+use Rattle.ct_names.specs.Refusals.{undetermined, unknown_symbol, wrong_count, wrong_sort, not_exhaustive, repeated_variable, too_many_values, out_of_scope}
 use Rattle.ct_names.specs.Outcome.{Elaborated, Sorted, and_then, unless_halted, step, refused, is_sort, of_sort}
 use Rattle.ct_names.specs.Parts.{count, name_of}
 use Rattle.ct_names.specs.Forms.{is_word, are_bindings, bound_names, are_cases, are_attributes}
@@ -32,10 +36,11 @@ use Rattle.ct_names.specs.Patterns.{pattern, matchable, are_exhaustive}
 use Rattle.ct_names.specs.Sorts.{sort_there, sort_of_part}
 use Rattle.ct_names.specs.Symbols.{symbol_of, operator_of, argument_sorts, result_sort, symbol_applied, field_sort_id}
 use Rattle.ct_names.specs.Variables.{Variable, ScopeIn, find, variables, present_names, has_repeated}
-use Rattle.ct_names.specs.Elaboration.{Checked, elaborated, part_of, parts_of, meaning_of_part, list_meaning, arguments, all_of_sort, of_one_sort, choice_form, connective, operated, connected, takes, fitting, matched_arguments, instance_of, constructed, own, generic_ctor, generic_sel, applied_plain, applied_symbol, global, application, bound_terms, without_sorts, sorts_of, let_of, let_form, annotated, no_more, goes_with, with_case_before, checked_cases, matched_cases, match_of, match_form, tested_term, tested_name, is_text_of_name, tester, qualified, qualified_name, qualified_symbol, may_qualify, of_result, reserved, headed, lone_symbol}
+use Rattle.ct_names.specs.Elaboration.{Checked, elaborated, part_of, parts_of, meaning_of_part, list_meaning, arguments, all_of_sort, of_one_sort, choice_form, connective, operated, connected, takes, fitting, matched_arguments, instance_of, constructed, own, generic_ctor, generic_sel, applied_plain, applied_symbol, global, application, bound_terms, without_sorts, sorts_of, let_of, let_form, listable_sorts, quantified_of, quantified_form, annotated, no_more, goes_with, with_case_before, checked_cases, matched_cases, match_of, match_form, tested_term, tested_name, is_text_of_name, tester, qualified, qualified_name, qualified_symbol, may_qualify, of_result, reserved, headed, lone_symbol}
 use Rattle.ct_names.specs.Needs.{Grows}
 use Rattle.ct_names.proofs.LastingLemmas.{AreSorts, symbol_same, origin_same, field_same, field_inside, generic_fields_same, generic_params_same, determined_same, among_same, among_inside, field_among_same, field_among_inside, arguments_same, result_same, has_bool, result_inside, symbol_inside, there_stays}
 use Rattle.ct_names.proofs.StayLemmas.{Stays, Any, stays_ok, stays_err, stays_same, stays_then, stays_step, stays_unless, stays_unless_refused, stays_if, ScopeIn-bind, ScopeIn-variables, name_same, word_same, count_same, bindings_same, bound_names_same, cases_same, attributes_same}
+use Rattle.ct_names.proofs.StayListable.{AreVariableSorts, variable_sorts_there, choices_stay, listable_sorts_stay}
 use Rattle.ct_names.proofs.StayPatterns.{IsIn, IsBound, lone_symbol_stays, lone_stays, sort_part_stays, qualify_stays, of_result_stays, tested_name_stays, pattern_stays, matchable_stays, exhaustive_same}
 
 module _ (later d : Declarations) (grows : Grows later d) (c : IsConsistent d) where
@@ -271,6 +276,26 @@ module _ (later d : Declarations) (grows : Grows later d) (c : IsConsistent d) w
     let_form_stays (more (list bs) (more body (more x es))) lasts = stays_err (IsIn d) (refused out_of_scope) (Err (refused out_of_scope))
     let_form_stays (more (list bs) (more body none)) lasts = let_stays bs body lasts.0.0 lasts.1.0
 
+    quantified_stays : (q : Quantifier) (bs : Sexprs) (body : Sexpr) → Lasts body → Stays (IsIn d) (quantified_of d scope q (parts_of d bs) (part_of d body)) (quantified_of later scope q (parts_of later bs) (part_of later body))
+    quantified_stays q bs body lasts =
+        let names = bound_names_same later d bs in
+        stays_unless (IsIn d) (are_bindings (parts_of d bs) && not (count (parts_of d bs) == 0)) (are_bindings (parts_of later bs) && not (count (parts_of later bs) == 0)) out_of_scope _ _ (ap₂ (λ (b : Bool) (n : ℕ). b && not (n == 0)) (bindings_same later d bs) (count_same later d bs))
+        (stays_unless (IsIn d) (not (has_repeated (present_names (bound_names (parts_of d bs))))) (not (has_repeated (present_names (bound_names (parts_of later bs))))) repeated_variable _ _ (ap (λ (ns : List (Option (List ℕ))). not (has_repeated (present_names ns))) names)
+        (stays_then (AreVariableSorts d) (IsIn d) (listable_sorts d (parts_of d bs)) (listable_sorts later (parts_of later bs)) _ _ (listable_sorts_stay later d grows c bs)
+        (λ sorts all. stays_unless (IsIn d) (nat_le (length (choices_of d sorts)) most_choices) (nat_le (length (choices_of later sorts)) most_choices) too_many_values _ _ (ap (λ (vss : List (List ClosedValue)). nat_le (length vss) most_choices) (choices_stay later d grows c sorts all))
+        (stays_then (Any {X = Formula}) (IsIn d) _ _ _ _
+        (of_sort_stays scope inside bool_sort (meaning_of_part d (bind (variables (bound_names (parts_of d bs)) sorts) scope) (part_of d body)) (meaning_of_part later (bind (variables (bound_names (parts_of later bs)) sorts) scope) (part_of later body))
+        (subst (λ (ns : List (Option (List ℕ))). Stays (IsIn d) (meaning_of_part d (bind (variables (bound_names (parts_of d bs)) sorts) scope) (part_of d body)) (meaning_of_part later (bind (variables ns sorts) scope) (part_of later body))) (sym names)
+        (meaning (bind (variables (bound_names (parts_of d bs)) sorts) scope) (ScopeIn-bind d (variables (bound_names (parts_of d bs)) sorts) scope (ScopeIn-variables d (bound_names (parts_of d bs)) sorts (variable_sorts_there d sorts all)) inside) body lasts)))
+        (λ t _. stays_ok (IsIn d) (formula.Quantified q sorts t, bool_sort) (has_bool later d grows c))))))
+
+    pub quantified_form_stays : (q : Quantifier) (es : Sexprs) → AllLast es → Stays (IsIn d) (quantified_form d scope q (parts_of d es)) (quantified_form later scope q (parts_of later es))
+    quantified_form_stays q none lasts = stays_err (IsIn d) (refused out_of_scope) (Err (refused out_of_scope))
+    quantified_form_stays q (more (leaf a) es) lasts = stays_err (IsIn d) (refused out_of_scope) (Err (refused out_of_scope))
+    quantified_form_stays q (more (list bs) none) lasts = stays_err (IsIn d) (refused out_of_scope) (Err (refused out_of_scope))
+    quantified_form_stays q (more (list bs) (more body (more x es))) lasts = stays_err (IsIn d) (refused out_of_scope) (Err (refused out_of_scope))
+    quantified_form_stays q (more (list bs) (more body none)) lasts = quantified_stays q bs body lasts.1.0
+
     pub annotated_stays : (es : Sexprs) → AllLast es → Stays (IsIn d) (annotated d scope (parts_of d es)) (annotated later scope (parts_of later es))
     annotated_stays none lasts = stays_err (IsIn d) (refused out_of_scope) (Err (refused out_of_scope))
     annotated_stays (more t es) lasts =
@@ -321,7 +346,9 @@ module _ (later d : Declarations) (grows : Grows later d) (c : IsConsistent d) w
         (stays_if (IsIn d) (bytes_eq w (codes "!")) (bytes_eq w (codes "!")) _ _ _ _ refl (annotated_stays es lasts)
         (stays_if (IsIn d) (bytes_eq w (codes "as")) (bytes_eq w (codes "as")) _ _ _ _ refl
         (stays_then (IsSymbol d) (IsIn d) (qualified_symbol d scope (parts_of d es)) (qualified_symbol later scope (parts_of later es)) (lone_symbol d) (lone_symbol later) (qualified_symbol_stays scope inside es) (λ s is. lone_symbol_stays later d grows c s is))
-        (stays_err (IsIn d) (refused out_of_scope) (Err (refused out_of_scope))))))
+        (stays_if (IsIn d) (bytes_eq w (codes "forall")) (bytes_eq w (codes "forall")) _ _ _ _ refl (quantified_form_stays Forall es lasts)
+        (stays_if (IsIn d) (bytes_eq w (codes "exists")) (bytes_eq w (codes "exists")) _ _ _ _ refl (quantified_form_stays Exists es lasts)
+        (stays_err (IsIn d) (refused out_of_scope) (Err (refused out_of_scope))))))))
 
     headed_stays : (a : Atom) (es : Sexprs) → AllLast es → Stays (IsIn d) (headed d scope a (parts_of d es)) (headed later scope a (parts_of later es))
     headed_stays (symbol w) es lasts = stays_if (IsIn d) (is_reserved w) (is_reserved w) _ _ _ _ refl (reserved_stays w es lasts) (application_stays scope inside w es lasts)

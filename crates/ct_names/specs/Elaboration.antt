@@ -1,8 +1,8 @@
 -- Elaboration: the formula that an expression writes and its sort, or the number of its first error (SMT-LIB 2.7, section
 -- 3.6; the details of `match` and of `as` are this project's own profile). Errors come from left to right, but the number of
--- arguments before the arguments, a repeated variable of a `let` before its terms, and the forms of cases before the matched
--- term. Variables are listed from the innermost outwards. Sorts with arguments are needed as they are come to: those that are written,
--- and that of a constructor term after its arguments.
+-- arguments before the arguments, a repeated variable of a `let` before its terms, one of a quantifier before the sorts, and the
+-- forms of cases before the matched term. Variables are listed from the innermost outwards. Sorts with arguments are needed as they
+-- are come to: those that are written, and that of a constructor term after its arguments.
 use Rattle.std.specs.Prelude.{ℕ, Bool, true, false, not, ◌&&◌, ◌==◌, List, [], ◌∷◌, map, length, nat_le, Option, Some, None, is_some, Ok, Err, codes, if◌then◌else◌}
 use Rattle.std.specs.Str.{bytes_eq}
 use Rattle.ct_sorts.specs.declared.ids.SortId.{SortId}
@@ -16,12 +16,16 @@ use Rattle.ct_sexpr.specs.Expression.{Expression as Sexpr, Expressions as Sexprs
 use Rattle.ct_generics.specs.Expression.{Expression, named, with_args}
 use Rattle.ct_sexpr.specs.Written.{is_reserved}
 use Rattle.ct_sexpr.specs.Readable.{name_of_atom}
+use Rattle.ct_listing.specs.Listable.{is_listable}
 use Rattle.ct_formulas.specs.declared.tree.Pattern.{Pattern}
+use Rattle.ct_formulas.specs.declared.tree.Quantifier.{Quantifier}
+use Rattle.ct_formulas.specs.declared.tree.Quantifier.TheVariants.{Forall, Exists}
+use Rattle.ct_formulas.specs.Choices.{choices_of, most_choices}
 use Rattle.ct_formulas.specs.Formula as formula
 use Rattle.ct_formulas.specs.Formula.{Formula, Formulas, Cases, no_formulas, with_formula, no_cases, with_case, bind}
 use Rattle.ct_names.specs.declared.operator.CoreOperator.{CoreOperator}
 use Rattle.ct_names.specs.declared.operator.CoreOperator.TheVariants.{Not, And, Or, Xor, Implies, Equal, Distinct, Ite}
-use Rattle.ct_names.specs.Refusals.{undetermined, unknown_symbol, wrong_count, wrong_sort, not_exhaustive, repeated_variable, out_of_scope}
+use Rattle.ct_names.specs.Refusals.{undetermined, unknown_symbol, wrong_count, wrong_sort, not_exhaustive, repeated_variable, too_many_values, out_of_scope}
 use Rattle.ct_names.specs.Outcome.{Outcome, Elaborated, Sorted, and_then, unless_refused, unless_halted, step, refused, is_sort, of_sort}
 use Rattle.ct_names.specs.Parts.{Part, Parts, atom_part, list_part, no_parts, with_part, count, name_of}
 use Rattle.ct_names.specs.Symbols.{symbol_of, ctor_named, operator_of, argument_sorts, result_sort, symbol_applied, field_sort_id}
@@ -355,6 +359,37 @@ abbrev pub let_form : Declarations → List Variable → Parts → Elaborated So
 let_form d scope (with_part (list_part bindings m) (with_part body no_parts)) = let_of d scope bindings body
 let_form d scope ps = Err (refused out_of_scope)
 
+-- the sort of a variable of a quantifier, which is listable
+abbrev pub listable_sort : Declarations → Part → Elaborated SortId
+listable_sort d (list_part (with_part x (with_part sort no_parts)) m) =
+    and_then (sort_of_part d sort) (λ s.
+    unless_halted (is_listable d s) out_of_scope (Ok s))
+listable_sort d p = Err (refused out_of_scope)
+
+-- the sorts of its variables, in order
+abbrev pub listable_sorts : Declarations → Parts → Elaborated (List SortId)
+listable_sorts d no_parts = Ok []
+listable_sorts d (with_part b bs) =
+    and_then (listable_sort d b) (λ s.
+    and_then (listable_sorts d bs) (λ sorts.
+    Ok (s ∷ sorts)))
+
+-- variables with their sorts and a body: one variable or more, none twice; there are at most 4,096 lists of values for them, and the
+-- body is Boolean
+abbrev pub quantified_of : Declarations → List Variable → Quantifier → Parts → Part → Elaborated Sorted
+quantified_of d scope q bindings body =
+    unless_halted (are_bindings bindings && not (count bindings == 0)) out_of_scope
+    (unless_halted (not (has_repeated (present_names (bound_names bindings)))) repeated_variable
+    (and_then (listable_sorts d bindings) (λ sorts.
+    unless_halted (nat_le (length (choices_of d sorts)) most_choices) too_many_values
+    (and_then (of_sort bool_sort (meaning_of_part d (bind (variables (bound_names bindings) sorts) scope) body)) (λ t.
+    Ok (formula.Quantified q sorts t, bool_sort))))))
+
+-- `(forall ((x S) ..) t)` and `(exists ((x S) ..) t)`
+abbrev pub quantified_form : Declarations → List Variable → Quantifier → Parts → Elaborated Sorted
+quantified_form d scope q (with_part (list_part bindings m) (with_part body no_parts)) = quantified_of d scope q bindings body
+quantified_form d scope q ps = Err (refused out_of_scope)
+
 -- `(! t K v ..)`: the term, whatever its attributes say
 abbrev pub annotated : Declarations → List Variable → Parts → Elaborated Sorted
 annotated d scope no_parts = Err (refused out_of_scope)
@@ -407,7 +442,9 @@ reserved d scope w ps =
     if bytes_eq w (codes "let") then let_form d scope ps else
     (if bytes_eq w (codes "match") then match_form d scope ps else
     (if bytes_eq w (codes "!") then annotated d scope ps else
-    (if bytes_eq w (codes "as") then and_then (qualified_symbol d scope ps) (lone_symbol d) else Err (refused out_of_scope))))
+    (if bytes_eq w (codes "as") then and_then (qualified_symbol d scope ps) (lone_symbol d) else
+    (if bytes_eq w (codes "forall") then quantified_form d scope Forall ps else
+    (if bytes_eq w (codes "exists") then quantified_form d scope Exists ps else Err (refused out_of_scope))))))
 
 -- a list that begins with an atom: a form with a reserved word, or an application
 abbrev pub headed : Declarations → List Variable → Atom → Parts → Elaborated Sorted

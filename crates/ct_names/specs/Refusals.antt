@@ -36,3 +36,7 @@ repeated_variable = 27
 -- form out of scope
 abbrev pub out_of_scope : ℕ
 out_of_scope = 28
+
+-- quantifier over too many values
+abbrev pub too_many_values : ℕ
+too_many_values = 31

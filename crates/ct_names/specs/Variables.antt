@@ -1,4 +1,5 @@
--- Variables in scope (SMT-LIB 2.7, section 3.6): parameters of a definition, bindings of `let`, and variables of patterns.
+-- Variables in scope (SMT-LIB 2.7, section 3.6): parameters of a definition, bindings of `let`, and variables of patterns and of
+-- quantifiers.
 use Rattle.std.specs.Prelude.{ℕ, suc, Bool, false, ◌||◌, List, [], ◌∷◌, map, Option, Some, None, if◌then◌else◌}
 use Rattle.std.specs.List.{list_any}
 use Rattle.std.specs.Str.{bytes_eq}

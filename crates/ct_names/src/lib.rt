@@ -23,8 +23,8 @@ pub use needs::Needs;
 pub use operator::CoreOperator;
 pub use patterns::{bound_names, bounds, matchable, pattern};
 pub use refusals::{
-    FOREIGN_PATTERN, NOT_EXHAUSTIVE, OUT_OF_SCOPE, REPEATED_VARIABLE, UNDETERMINED, UNKNOWN_SORT,
-    UNKNOWN_SYMBOL, WRONG_COUNT, WRONG_SORT,
+    FOREIGN_PATTERN, NOT_EXHAUSTIVE, OUT_OF_SCOPE, REPEATED_VARIABLE, TOO_MANY_VALUES,
+    UNDETERMINED, UNKNOWN_SORT, UNKNOWN_SYMBOL, WRONG_COUNT, WRONG_SORT,
 };
 pub use repeats::has_repeated;
 pub use sorts::{field_sort, named_sort, sort_at, written_sort};

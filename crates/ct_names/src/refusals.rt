@@ -26,3 +26,6 @@ pub const REPEATED_VARIABLE: u16 = 27;
 
 /// Form out of scope.
 pub const OUT_OF_SCOPE: u16 = 28;
+
+/// Quantifier over too many values.
+pub const TOO_MANY_VALUES: u16 = 31;

@@ -1,14 +1,17 @@
 -- The core term of a formula sees no definition but those that it names.
-use Rattle.std.proofs.Common.{◌≡◌, ◌||◌, List, [], ◌∷◌, if◌then◌else◌, refl, ap, ◌∙◌}
+use Rattle.std.proofs.Common.{◌≡◌, ◌||◌, List, [], ◌∷◌, map, if◌then◌else◌, refl, ap, ◌∙◌}
 use Rattle.ct_sorts.specs.declared.ids.CtorId.{CtorId}
 use Rattle.ct_sorts.specs.declared.ids.DefId.{DefId}
 use Rattle.ct_sorts.specs.Declarations.{Declarations}
 use Rattle.ct_formulas.specs.declared.tree.Pattern.TheVariants.{Ctor, Any}
 use Rattle.ct_terms.specs.CoreTree.{CoreTree, con, sel, test, apply, negation, choice, trees_of}
-use Rattle.ct_formulas.specs.Formula.{Formula, Formulas, Cases, Var, Con, Sel, Test, Apply, Def, Not, And, Or, Xor, Implies, Equal, Distinct, Ite, Let, Match, no_formulas, with_formula, no_cases, with_case, bind}
+use Rattle.ct_formulas.specs.Formula.{Formula, Formulas, Cases, Var, Con, Sel, Test, Apply, Def, Not, And, Or, Xor, Implies, Equal, Distinct, Ite, Let, Match, Quantified, no_formulas, with_formula, no_cases, with_case, bind}
+use Rattle.ct_listing.specs.Closed.{term_of}
+use Rattle.ct_listing.proofs.ListLemmas.{map_same}
+use Rattle.ct_formulas.specs.Choices.{choices_of}
 use Rattle.ct_formulas.specs.Pairs.{neighbours, pairs}
 use Rattle.ct_terms.specs.Fields.{fields_of}
-use Rattle.ct_formulas.specs.Compiled.{all_of, any_of, exclusive_of, implication_of, equality, inequality, surely_fits, are_none, compiled, compiled_all, compiled_cases}
+use Rattle.ct_formulas.specs.Compiled.{all_of, any_of, exclusive_of, implication_of, equality, inequality, joined, surely_fits, are_none, compiled, compiled_all, compiled_cases}
 use Rattle.ct_occurrence.specs.Calls.{CallsAre, AllCallsAre, CaseCallsAre}
 use Rattle.ct_occurrence.proofs.CallLemmas.{GiveSame, SeesNamed}
 
@@ -37,6 +40,8 @@ module _ (d : Declarations) (P : DefId → Type 0) where
           one_same u (bind (compiled_all d call env ts) env) h.1 ∙ ap (λ (us : List CoreTree). compiled d other (bind us env) u) (all_same ts env h.0)
       one_same (Match t cases) env h =
           cases_same cases env (compiled d call env t) [] h.1 ∙ ap (λ (x : CoreTree). compiled_cases d other env x [] cases) (one_same t env h.0)
+      one_same (Quantified q sorts t) env h =
+          ap (joined q) (map_same (λ vs. compiled d call (bind (map term_of vs) env) t) (λ vs. compiled d other (bind (map term_of vs) env) t) (choices_of d sorts) (λ vs inside. one_same t (bind (map term_of vs) env) h))
 
       all_same : (ts : Formulas) (env : List CoreTree) → AllCallsAre P ts → compiled_all d call env ts ≡ compiled_all d other env ts
       all_same no_formulas env h = refl

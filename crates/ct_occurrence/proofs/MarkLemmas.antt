@@ -4,7 +4,7 @@ use Rattle.std.proofs.lemmas.List.{length-append}
 use Rattle.ct_lemmas.proofs.Booleans.{or_assoc, or_false}
 use Rattle.ct_sorts.specs.declared.ids.DefId.{DefId}
 use Rattle.ct_sorts.specs.Declarations.{Declarations}
-use Rattle.ct_formulas.specs.Formula.{Formula, Var, Con, Sel, Test, Apply, Def, Not, And, Or, Xor, Implies, Equal, Distinct, Ite, Let, Match}
+use Rattle.ct_formulas.specs.Formula.{Formula, Var, Con, Sel, Test, Apply, Def, Not, And, Or, Xor, Implies, Equal, Distinct, Ite, Let, Match, Quantified}
 use Rattle.ct_formulas.specs.Occurrence.{occurs, occurs_in_some}
 use Rattle.ct_occurrence.specs.Plain.{is_plain, formulas_under}
 use Rattle.ct_occurrence.specs.Marks.{flags_below, mark_each}
@@ -69,3 +69,4 @@ plain_occurs_same d uses (Def k ts) plain i = absurd (true≢false (sym plain))
 plain_occurs_same d uses (Ite c t u) plain i = absurd (true≢false (sym plain))
 plain_occurs_same d uses (Let ts u) plain i = absurd (true≢false (sym plain))
 plain_occurs_same d uses (Match t cases) plain i = absurd (true≢false (sym plain))
+plain_occurs_same d uses (Quantified q sorts t) plain i = absurd (true≢false (sym plain))

@@ -7,7 +7,8 @@ use Rattle.ct_sorts.specs.declared.ids.SortId.{SortId}
 use Rattle.ct_sorts.specs.Declarations.{Declarations, IsConstructor, bool_sort}
 use Rattle.ct_formulas.specs.declared.tree.Pattern.{Pattern}
 use Rattle.ct_formulas.specs.declared.tree.Pattern.TheVariants.{Ctor, Any}
-use Rattle.ct_formulas.specs.Formula.{Formula, Formulas, Cases, Var, Con, Sel, Test, Apply, Def, Not, And, Or, Xor, Implies, Equal, Distinct, Ite, Let, Match, no_formulas, with_formula, with_case, bind}
+use Rattle.ct_formulas.specs.declared.tree.Quantifier.{Quantifier}
+use Rattle.ct_formulas.specs.Formula.{Formula, Formulas, Cases, Var, Con, Sel, Test, Apply, Def, Not, And, Or, Xor, Implies, Equal, Distinct, Ite, Let, Match, Quantified, no_formulas, with_formula, with_case, bind}
 use Rattle.ct_formulas.specs.FormulaSorts.{IsSorted, AllSorted}
 use Rattle.ct_formulas.specs.Compiled.{surely_fits, are_none}
 use Rattle.ct_formulas.specs.Occurrence.{count_of, field_count, any_below, occurs, occurs_in_some, occurs_in_bound, matched_occurs, occurs_in_cases}
@@ -41,6 +42,7 @@ plain_heavier (Def k ts) plain = cc
 plain_heavier (Ite c t u) plain = cc
 plain_heavier (Let ts u) plain = cc
 plain_heavier (Match t cases) plain = cc
+plain_heavier (Quantified q sorts t) plain = cc
 
 pub plain_calls : (P : DefId → Type 0) (t : Formula) → is_plain t ≡ true → CallsAre P t → AllCallsAre P (formulas_under t)
 plain_calls P (Con c ts) plain h = h
@@ -59,6 +61,7 @@ plain_calls P (Def k ts) plain h = cc
 plain_calls P (Ite c t u) plain h = cc
 plain_calls P (Let ts u) plain h = cc
 plain_calls P (Match t cases) plain h = cc
+plain_calls P (Quantified q sorts t) plain h = cc
 
 -- formulas of as many sorts
 pub sorted_count : (d : Declarations) (sorts : List SortId) (ts : Formulas) (each : List SortId) → AllSorted d sorts ts each → count_of ts ≡ length each
@@ -148,6 +151,11 @@ module _ (d : Declarations) (uses : DefId → ℕ → Bool) (n : ℕ) (rows : Ro
   pub marks_let : (ts : Formulas) (u : Formula) (bs : List Bool) → mark_each (occurs_in_bound d uses (occurs d uses u) ts) (mark_each (λ i. occurs d uses u (i + count_of ts)) bs) ≡ mark_each (occurs d uses (Let ts u)) bs
   marks_let ts u bs =
       marked_then (λ i. occurs d uses u (i + count_of ts)) (occurs_in_bound d uses (occurs d uses u) ts) bs ∙ marked_same _ _ bs (λ i. or_swapped (occurs d uses u (i + count_of ts)) (occurs_in_bound d uses (occurs d uses u) ts i))
+
+  -- ---- a quantifier
+
+  pub may_quantified : (q : Quantifier) (sorts : List SortId) (t : Formula) → MayMark d uses n rows (Quantified q sorts t) → MayMark d uses n rows t
+  may_quantified q sorts t h = record { have = h.have; mentions = h.mentions; known = h.known; sorted = (bind sorts h.sorted.0, bool_sort, h.sorted.2.1) }
 
   -- ---- cases
 

@@ -5,10 +5,13 @@ use Rattle.ct_sorts.specs.declared.ids.DefId.{DefId}
 use Rattle.ct_sorts.specs.Declarations.{Declarations}
 use Rattle.ct_values.specs.Value.{Value, construct, values_of}
 use Rattle.ct_values.specs.TruthValue.{truth, is_built, is_true}
-use Rattle.ct_formulas.specs.Formula.{Formula, Formulas, Cases, Var, Con, Sel, Test, Apply, Def, Not, And, Or, Xor, Implies, Equal, Distinct, Ite, Let, Match, no_formulas, with_formula, no_cases, with_case, bind}
+use Rattle.ct_listing.specs.Closed.{value_of}
+use Rattle.ct_listing.proofs.ListLemmas.{map_same}
+use Rattle.ct_formulas.specs.Choices.{choices_of}
+use Rattle.ct_formulas.specs.Formula.{Formula, Formulas, Cases, Var, Con, Sel, Test, Apply, Def, Not, And, Or, Xor, Implies, Equal, Distinct, Ite, Let, Match, Quantified, no_formulas, with_formula, no_cases, with_case, bind}
 use Rattle.ct_eval.specs.declared.interp.Interp.{Interp}
 use Rattle.ct_eval.specs.Evaluation.{table_value, select}
-use Rattle.ct_meaning.specs.Meaning.{xor_all, implies_all, are_chained, are_distinct, fits, matched_values, meaning, meanings, case_meaning}
+use Rattle.ct_meaning.specs.Meaning.{xor_all, implies_all, are_chained, are_distinct, holds, fits, matched_values, meaning, meanings, case_meaning}
 use Rattle.ct_occurrence.specs.Calls.{CallsAre, AllCallsAre, CaseCallsAre}
 use Rattle.ct_occurrence.proofs.CallLemmas.{GiveSame, SeesNamed}
 
@@ -38,6 +41,8 @@ module _ (d : Declarations) (i : Interp) (P : DefId → Type 0) where
           one_same u (bind (meanings d i call env ts) env) h.1 ∙ ap (λ (vs : List Value). meaning d i other (bind vs env) u) (all_same ts env h.0)
       one_same (Match t cases) env h =
           cases_same cases env (meaning d i call env t) h.1 ∙ ap (λ (v : Value). case_meaning d i other env v cases) (one_same t env h.0)
+      one_same (Quantified q sorts t) env h =
+          ap (λ (vs : List Value). truth (holds q i.graph vs)) (map_same (λ vs. meaning d i call (bind (map value_of vs) env) t) (λ vs. meaning d i other (bind (map value_of vs) env) t) (choices_of d sorts) (λ vs inside. one_same t (bind (map value_of vs) env) h))
 
       all_same : (ts : Formulas) (env : List Value) → AllCallsAre P ts → meanings d i call env ts ≡ meanings d i other env ts
       all_same no_formulas env h = refl

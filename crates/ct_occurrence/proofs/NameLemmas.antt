@@ -3,7 +3,7 @@ use Rattle.std.proofs.Common.{◌≡◌, ℕ, ◌<◌, ◌≤◌, Bool, true, Li
 use Rattle.std.proofs.lemmas.List.Elements.{Contains-append_left, Contains-push, Contains-push_cases}
 use Rattle.ct_sorts.specs.declared.ids.DefId.{DefId}
 use Rattle.ct_formulas.specs.declared.tree.Pattern.{Pattern}
-use Rattle.ct_formulas.specs.Formula.{Formula, Formulas, Cases, Var, Con, Sel, Test, Apply, Def, Not, And, Or, Xor, Implies, Equal, Distinct, Ite, Let, Match, no_formulas, with_formula, no_cases, with_case, MentionsBelow, AllMentionBelow, CasesMentionBelow}
+use Rattle.ct_formulas.specs.Formula.{Formula, Formulas, Cases, Var, Con, Sel, Test, Apply, Def, Not, And, Or, Xor, Implies, Equal, Distinct, Ite, Let, Match, Quantified, no_formulas, with_formula, no_cases, with_case, MentionsBelow, AllMentionBelow, CasesMentionBelow}
 use Rattle.ct_occurrence.specs.Calls.{CallsAre, AllCallsAre, CaseCallsAre, AllPass, AddsNamed, AddsAllNamed, AddsCaseNamed}
 use Rattle.ct_occurrence.specs.Plain.{is_plain, formulas_under}
 use Rattle.ct_occurrence.proofs.Size.{size, sizes, case_sizes}
@@ -29,6 +29,7 @@ module _ (P Q : DefId → Type 0) (more : (k : DefId) → P k → Q k) where
     calls_more (Ite c t u) h = (calls_more c h.0, calls_more t h.1, calls_more u h.2)
     calls_more (Let ts u) h = (all_calls_more ts h.0, calls_more u h.1)
     calls_more (Match t cases) h = (calls_more t h.0, case_calls_more cases h.1)
+    calls_more (Quantified q sorts t) h = calls_more t h
 
     pub all_calls_more : (ts : Formulas) → AllCallsAre P ts → AllCallsAre Q ts
     all_calls_more no_formulas h = tt
@@ -56,6 +57,7 @@ mutual
   mentions_calls n (Ite c t u) h = (mentions_calls n c h.0, mentions_calls n t h.1, mentions_calls n u h.2)
   mentions_calls n (Let ts u) h = (all_mentions_calls n ts h.0, mentions_calls n u h.1)
   mentions_calls n (Match t cases) h = (mentions_calls n t h.0, case_mentions_calls n cases h.1)
+  mentions_calls n (Quantified q sorts t) h = mentions_calls n t h
 
   all_mentions_calls : (n : ℕ) (ts : Formulas) → AllMentionBelow n ts → AllCallsAre (λ k. k.0 < n) ts
   all_mentions_calls n no_formulas h = tt
@@ -82,6 +84,7 @@ plain_from P (Def k ts) plain h = cc
 plain_from P (Ite c t u) plain h = cc
 plain_from P (Let ts u) plain h = cc
 plain_from P (Match t cases) plain h = cc
+plain_from P (Quantified q sorts t) plain h = cc
 
 -- ---- one form each
 

@@ -1,11 +1,13 @@
 -- Notes on a formula from the notes on the formulas under it.
-use Rattle.std.proofs.Common.{◌≡◌, ℕ, Bool, true, ◌||◌, List, [], ◌∷◌, ◌++◌, drop, sym, ap, subst, ◌∙◌, true≢false}
+use Rattle.std.proofs.Common.{◌≡◌, ℕ, Bool, true, ◌||◌, List, [], ◌∷◌, ◌++◌, length, drop, sym, ap, subst, ◌∙◌, true≢false}
 use Rattle.std.proofs.lemmas.List.{append_assoc, append-nil}
 use Rattle.ct_sorts.specs.declared.ids.CtorId.{CtorId}
 use Rattle.ct_sorts.specs.declared.ids.DefId.{DefId}
 use Rattle.ct_sorts.specs.Declarations.{Declarations}
 use Rattle.ct_formulas.specs.declared.tree.Pattern.TheVariants.{Ctor}
-use Rattle.ct_formulas.specs.Formula.{Formula, Formulas, Cases, Var, Con, Sel, Test, Apply, Def, Not, And, Or, Xor, Implies, Equal, Distinct, Ite, Let, Match, no_formulas, with_formula, with_case}
+use Rattle.ct_sorts.specs.declared.ids.SortId.{SortId}
+use Rattle.ct_formulas.specs.declared.tree.Quantifier.{Quantifier}
+use Rattle.ct_formulas.specs.Formula.{Formula, Formulas, Cases, Var, Con, Sel, Test, Apply, Def, Not, And, Or, Xor, Implies, Equal, Distinct, Ite, Let, Match, Quantified, no_formulas, with_formula, with_case}
 use Rattle.ct_formulas.specs.Compiled.{surely_fits, are_none}
 use Rattle.ct_formulas.specs.Occurrence.{count_of, occurs, matched_occurs}
 use Rattle.ct_occurrence.specs.declared.notes.Notes.{Notes}
@@ -31,6 +33,7 @@ noted_plain d rows uses (Def k ts) m plain h = absurd (true≢false (sym plain))
 noted_plain d rows uses (Ite c t u) m plain h = absurd (true≢false (sym plain))
 noted_plain d rows uses (Let ts u) m plain h = absurd (true≢false (sym plain))
 noted_plain d rows uses (Match t cases) m plain h = absurd (true≢false (sym plain))
+noted_plain d rows uses (Quantified q sorts t) m plain h = absurd (true≢false (sym plain))
 
 pub noted_operator : (d : Declarations) (rows : Rows) (uses : DefId → ℕ → Bool) (t : Formula) (ts : Formulas) (m : Notes) (ms : List Notes) → is_plain t ≡ true → formulas_under t ≡ ts → under_of m ≡ ms → AreNoted d rows uses ts ms → IsNoted d rows uses t m
 noted_operator d rows uses t ts m ms plain under is h =
@@ -50,6 +53,9 @@ module _ (d : Declarations) (rows : Rows) (uses : DefId → ℕ → Bool) where
     subst (AreNotedWhere d rows uses (flags_below (occurs d uses u) (count_of ts)) ts) (sym under) (subst (λ (bs : List Bool). AreNotedWhere d rows uses bs ts ms) is h),
     subst (IsOfFirst (IsNoted d rows uses u)) (sym inner) k,
   )
+
+  pub noted_quantified : (q : Quantifier) (sorts : List SortId) (t : Formula) (m x : Notes) (bound : List Bool) → bound ≡ flags_below (occurs d uses t) (length sorts) → bound_of m ≡ bound → inner_of m ≡ x ∷ [] → IsNoted d rows uses t x → IsNoted d rows uses (Quantified q sorts t) m
+  noted_quantified q sorts t m x bound is flags inner h = (flags ∙ is, subst (IsOfFirst (IsNoted d rows uses t)) (sym inner) h)
 
   pub noted_match : (t : Formula) (cases : Cases) (m x : Notes) (b : Bool) (ms : List Notes) → b ≡ matched_occurs d uses [] cases → bound_of m ≡ b ∷ [] → under_of m ≡ x ∷ [] → inner_of m ≡ ms → (b ≡ true → IsNoted d rows uses t x) → CasesNoted d rows uses [] cases ms → IsNoted d rows uses (Match t cases) m
   noted_match t cases m x b ms is flags under inner h k = (

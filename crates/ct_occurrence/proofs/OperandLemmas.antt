@@ -2,7 +2,7 @@
 use Rattle.std.proofs.Common.{◌≡◌, ℕ, true, List, [], ◌∷◌, sym, true≢false}
 use Rattle.ct_sorts.specs.declared.ids.SortId.{SortId}
 use Rattle.ct_sorts.specs.Declarations.{Declarations, bool_sort}
-use Rattle.ct_formulas.specs.Formula.{Formula, Formulas, Var, Con, Sel, Test, Apply, Def, Not, And, Or, Xor, Implies, Equal, Distinct, Ite, Let, Match, no_formulas, with_formula, MentionsBelow, AllMentionBelow}
+use Rattle.ct_formulas.specs.Formula.{Formula, Formulas, Var, Con, Sel, Test, Apply, Def, Not, And, Or, Xor, Implies, Equal, Distinct, Ite, Let, Match, Quantified, no_formulas, with_formula, MentionsBelow, AllMentionBelow}
 use Rattle.ct_formulas.specs.FormulaSorts.{IsSorted, AllSorted, AreOfSort}
 use Rattle.ct_occurrence.specs.Plain.{is_plain, formulas_under}
 
@@ -27,6 +27,7 @@ plain_sorted d sorts (Def k ts) sort plain h = absurd (true≢false (sym plain))
 plain_sorted d sorts (Ite c t u) sort plain h = absurd (true≢false (sym plain))
 plain_sorted d sorts (Let ts u) sort plain h = absurd (true≢false (sym plain))
 plain_sorted d sorts (Match t cases) sort plain h = absurd (true≢false (sym plain))
+plain_sorted d sorts (Quantified q bound t) sort plain h = absurd (true≢false (sym plain))
 
 pub plain_mentions : (n : ℕ) (t : Formula) → is_plain t ≡ true → MentionsBelow n t → AllMentionBelow n (formulas_under t)
 plain_mentions n (Con c ts) plain h = h
@@ -45,3 +46,4 @@ plain_mentions n (Def k ts) plain h = absurd (true≢false (sym plain))
 plain_mentions n (Ite c t u) plain h = absurd (true≢false (sym plain))
 plain_mentions n (Let ts u) plain h = absurd (true≢false (sym plain))
 plain_mentions n (Match t cases) plain h = absurd (true≢false (sym plain))
+plain_mentions n (Quantified q sorts t) plain h = absurd (true≢false (sym plain))

@@ -1,7 +1,7 @@
 -- What a formula names, and what it can reach.
 use Rattle.std.proofs.Common.{◌≡◌, Bool, true, List, Some, slice_get}
 use Rattle.ct_sorts.specs.declared.ids.DefId.{DefId}
-use Rattle.ct_formulas.specs.Formula.{Formula, Formulas, Cases, Var, Con, Sel, Test, Apply, Def, Not, And, Or, Xor, Implies, Equal, Distinct, Ite, Let, Match, no_formulas, with_formula, no_cases, with_case}
+use Rattle.ct_formulas.specs.Formula.{Formula, Formulas, Cases, Var, Con, Sel, Test, Apply, Def, Not, And, Or, Xor, Implies, Equal, Distinct, Ite, Let, Match, Quantified, no_formulas, with_formula, no_cases, with_case}
 use Rattle.ct_occurrence.specs.Calls.{CallsAre, AllCallsAre, CaseCallsAre}
 use Rattle.ct_occurrence.specs.Reach.{NamesDefinition, CanReach, by_name, through}
 
@@ -25,6 +25,7 @@ module _ (P Q : DefId → Type 0) (wider : (k : DefId) → P k → Q k) where
     CallsAre-wider (Ite c t u) h = (CallsAre-wider c h.0, CallsAre-wider t h.1, CallsAre-wider u h.2)
     CallsAre-wider (Let ts u) h = (all_wider ts h.0, CallsAre-wider u h.1)
     CallsAre-wider (Match t cases) h = (CallsAre-wider t h.0, cases_wider cases h.1)
+    CallsAre-wider (Quantified q sorts t) h = CallsAre-wider t h
 
     all_wider : (ts : Formulas) → AllCallsAre P ts → AllCallsAre Q ts
     all_wider no_formulas h = tt
@@ -70,6 +71,7 @@ mutual
     CallsAre-wider (NamesDefinition t) (NamesDefinition (Match t cases)) (λ k n p h. n p h.0) t (Names-own t),
     cases_wider (NamedByCases cases) (NamesDefinition (Match t cases)) (λ k n p h. n p h.1) cases (cases_own cases),
   )
+  Names-own (Quantified q sorts t) = Names-own t
 
   all_own : (ts : Formulas) → AllCallsAre (NamedByAll ts) ts
   all_own no_formulas = tt

@@ -1,6 +1,6 @@
 -- How large a formula is: a bound for recursion over it.
 use Rattle.std.specs.Prelude.{ℕ, ◌+◌}
-use Rattle.ct_formulas.specs.Formula.{Formula, Formulas, Cases, Var, Con, Sel, Test, Apply, Def, Not, And, Or, Xor, Implies, Equal, Distinct, Ite, Let, Match, no_formulas, with_formula, no_cases, with_case}
+use Rattle.ct_formulas.specs.Formula.{Formula, Formulas, Cases, Var, Con, Sel, Test, Apply, Def, Not, And, Or, Xor, Implies, Equal, Distinct, Ite, Let, Match, Quantified, no_formulas, with_formula, no_cases, with_case}
 
 abbrev mutual
   -- the size of a formula
@@ -21,6 +21,7 @@ abbrev mutual
   size (Ite c t u) = size c + size t + size u + 2
   size (Let ts u) = sizes ts + size u + 2
   size (Match t cases) = size t + case_sizes cases + 3
+  size (Quantified q sorts t) = size t + 3
 
   -- that of several
   pub sizes : Formulas → ℕ

@@ -10,7 +10,7 @@ use Rattle.ct_sorts.specs.declared.ids.DefId.{DefId}
 use Rattle.ct_sorts.specs.declared.ids.SortId.{SortId}
 use Rattle.ct_sorts.specs.Declarations.{Declarations, Function}
 use Rattle.ct_formulas.specs.declared.tree.Pattern.TheVariants.{Ctor, Any}
-use Rattle.ct_formulas.specs.Formula.{Formula, Formulas, Cases, Var, Con, Sel, Test, Apply, Def, Not, And, Or, Xor, Implies, Equal, Distinct, Ite, Let, Match, no_formulas, with_formula, no_cases, with_case, bind}
+use Rattle.ct_formulas.specs.Formula.{Formula, Formulas, Cases, Var, Con, Sel, Test, Apply, Def, Not, And, Or, Xor, Implies, Equal, Distinct, Ite, Let, Match, Quantified, no_formulas, with_formula, no_cases, with_case, bind}
 use Rattle.ct_formulas.specs.declared.tree.Tree.{Tree}
 use Rattle.ct_formulas.specs.TreeFormula.{formula_of}
 use Rattle.ct_formulas.specs.FormulaSorts.{AreSound}
@@ -71,6 +71,7 @@ module _ (d : Declarations) (uses : DefId → ℕ → Bool) (old new : Rows) (st
       λ e. of_first (IsNoted d old uses t) (IsNoted d new uses t) (noted_stays t) (under_of m) (h.1 e),
       cases_noted_stay [] cases (inner_of m) h.2,
     )
+    noted_stays (Quantified q sorts t) m h = (h.0, of_first (IsNoted d old uses t) (IsNoted d new uses t) (noted_stays t) (inner_of m) h.1)
 
     all_noted_stay : (ts : Formulas) (ms : List Notes) → AreNoted d old uses ts ms → AreNoted d new uses ts ms
     all_noted_stay no_formulas ms h = tt

@@ -1,7 +1,7 @@
 -- Which definitions a formula names.
 use Rattle.std.specs.Prelude.{◌≡◌, ℕ, ◌<◌, Bool, true, List, Contains}
 use Rattle.ct_sorts.specs.declared.ids.DefId.{DefId}
-use Rattle.ct_formulas.specs.Formula.{Formula, Formulas, Cases, Var, Con, Sel, Test, Apply, Def, Not, And, Or, Xor, Implies, Equal, Distinct, Ite, Let, Match, no_formulas, with_formula, no_cases, with_case}
+use Rattle.ct_formulas.specs.Formula.{Formula, Formulas, Cases, Var, Con, Sel, Test, Apply, Def, Not, And, Or, Xor, Implies, Equal, Distinct, Ite, Let, Match, Quantified, no_formulas, with_formula, no_cases, with_case}
 
 abbrev mutual
   -- every definition that the formula names is such
@@ -22,6 +22,7 @@ abbrev mutual
   CallsAre P (Ite c t u) = CallsAre P c × CallsAre P t × CallsAre P u
   CallsAre P (Let ts u) = AllCallsAre P ts × CallsAre P u
   CallsAre P (Match t cases) = CallsAre P t × CaseCallsAre P cases
+  CallsAre P (Quantified q sorts t) = CallsAre P t
 
   -- every definition that one of these names
   pub AllCallsAre : (DefId → Type 0) → Formulas → Type 0

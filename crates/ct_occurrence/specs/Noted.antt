@@ -1,10 +1,10 @@
 -- Notes on a formula: for each binder in it the flags of the variables that it binds.
-use Rattle.std.specs.Prelude.{◌≡◌, ℕ, Bool, true, false, ◌||◌, List, [], ◌∷◌, ◌++◌, drop, Some, slice_get}
+use Rattle.std.specs.Prelude.{◌≡◌, ℕ, Bool, true, false, ◌||◌, List, [], ◌∷◌, ◌++◌, length, drop, Some, slice_get}
 use Rattle.ct_sorts.specs.declared.ids.CtorId.{CtorId}
 use Rattle.ct_sorts.specs.declared.ids.DefId.{DefId}
 use Rattle.ct_sorts.specs.Declarations.{Declarations}
 use Rattle.ct_formulas.specs.declared.tree.Pattern.TheVariants.{Ctor, Any}
-use Rattle.ct_formulas.specs.Formula.{Formula, Formulas, Cases, Var, Con, Sel, Test, Apply, Def, Not, And, Or, Xor, Implies, Equal, Distinct, Ite, Let, Match, no_formulas, with_formula, no_cases, with_case}
+use Rattle.ct_formulas.specs.Formula.{Formula, Formulas, Cases, Var, Con, Sel, Test, Apply, Def, Not, And, Or, Xor, Implies, Equal, Distinct, Ite, Let, Match, Quantified, no_formulas, with_formula, no_cases, with_case}
 use Rattle.ct_formulas.specs.Compiled.{surely_fits, are_none}
 use Rattle.ct_formulas.specs.Occurrence.{count_of, occurs, matched_occurs, uses_below}
 use Rattle.ct_occurrence.specs.declared.notes.Notes.{Notes}
@@ -49,6 +49,7 @@ abbrev mutual
   IsNoted d rows uses (Ite c t u) m = IsOfFirst (IsNoted d rows uses c) (under_of m) × IsOfFirst (IsNoted d rows uses t) (drop 1 (under_of m)) × IsOfFirst (IsNoted d rows uses u) (drop 1 (drop 1 (under_of m)))
   IsNoted d rows uses (Let ts u) m = (bound_of m ≡ flags_below (occurs d uses u) (count_of ts)) × AreNotedWhere d rows uses (flags_below (occurs d uses u) (count_of ts)) ts (under_of m) × IsOfFirst (IsNoted d rows uses u) (inner_of m)
   IsNoted d rows uses (Match t cases) m = (bound_of m ≡ matched_occurs d uses [] cases ∷ []) × (matched_occurs d uses [] cases ≡ true → IsOfFirst (IsNoted d rows uses t) (under_of m)) × CasesNoted d rows uses [] cases (inner_of m)
+  IsNoted d rows uses (Quantified q sorts t) m = (bound_of m ≡ flags_below (occurs d uses t) (length sorts)) × IsOfFirst (IsNoted d rows uses t) (inner_of m)
 
   -- so do the notes on several formulas, one for one
   pub AreNoted : Declarations → Rows → (DefId → ℕ → Bool) → Formulas → List Notes → Type 0

@@ -24,6 +24,7 @@ fn height_of(tree: &Tree) -> usize {
         Tree::Def(_, ts) => highest(ts.as_slice()).saturating_add(1),
         Tree::Let(ts, u) => height_of_let(ts.as_slice(), u).saturating_add(1),
         Tree::Match(t, cases) => height_of_match(t, cases.as_slice()).saturating_add(1),
+        Tree::Quantified(_, _, t) => height_of(t).saturating_add(1),
         Tree::Con(_, _)
         | Tree::Sel(_, _)
         | Tree::Test(_, _)

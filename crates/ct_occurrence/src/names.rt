@@ -25,6 +25,7 @@ pub(crate) fn add_names(tree: &Tree, names: &mut Vec<DefId>) -> Result<(), Alloc
         Tree::Def(k, ts) => add_names_of_call(*k, ts.as_slice(), names),
         Tree::Let(ts, u) => add_names_of_let(ts.as_slice(), u, names),
         Tree::Match(t, cases) => add_names_of_match(t, cases.as_slice(), names),
+        Tree::Quantified(_, _, t) => add_names(t, names),
         Tree::Con(_, _)
         | Tree::Sel(_, _)
         | Tree::Test(_, _)

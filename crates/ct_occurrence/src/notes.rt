@@ -8,12 +8,12 @@ use std::slice;
 /// The flags of the variables that the binders of a formula bind, in a tree beside the formula's.
 #[derive(Debug, Drop)]
 pub struct Notes {
-    // Of a `let` the flags of its variables, in order. Of a `match` one flag: whether the matched term occurs.
+    // Of a `let` and a quantifier the flags of its variables, in order. Of a `match` one flag: whether the matched term occurs.
     bound: Vec<bool>,
     // The notes on the formulas right under the formula, in order. Of a `let` those on what it binds, of a `match` those
     // on the matched formula. Notes on a formula that makes no term say nothing.
     under: Vec<Notes>,
-    // The notes on what is under a binder: on the body of a `let`, on the bodies of the cases that make terms.
+    // The notes on what is under a binder: on the body of a `let` or a quantifier, on the bodies of the cases that make terms.
     inner: Vec<Notes>,
 }
 

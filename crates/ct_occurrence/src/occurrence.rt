@@ -2,7 +2,8 @@
 ghost use Rattle.std.specs.Prelude.{◌≡◌, ℕ, ◌+◌, ◌++◌, Bool, true, false, ◌&&◌, ◌||◌, ◌==◌, [], replicate, IfOk, OnOk};
 ghost use Rattle.ct_sorts.specs.declared.ids.DefId.{DefId};
 ghost use Rattle.ct_formulas.specs.TreeFormula.{formula_of, formulas_of_trees};
-ghost use Rattle.ct_formulas.specs.Formula.{Ite, Let, Match};
+ghost use Rattle.ct_formulas.specs.declared.tree.Quantifier.{Quantifier};
+ghost use Rattle.ct_formulas.specs.Formula.{Ite, Let, Match, Quantified};
 ghost use Rattle.ct_formulas.specs.Occurrence.{count_of, occurs, occurs_in_some, occurs_in_bound, matched_occurs, occurs_in_cases};
 ghost use Rattle.ct_occurrence.specs.CaseFormula.{cases_of_trees};
 ghost use Rattle.ct_occurrence.specs.Noted.{IsOfFirst, IsNoted, AreNoted, AreNotedWhere, CasesNoted, AddsNotes, AddsAllNotes};
@@ -17,7 +18,7 @@ use crate::matching::tested;
 use crate::notes::Notes;
 use crate::plain::operands;
 use ct_formulas::{Case, Tree};
-use ct_sorts::Signature;
+use ct_sorts::{Signature, SortId};
 use std::alloc::{AllocError, Global};
 
 /// What is worked out of a definition with so many parameters: the flags of those that occur in its body, the notes on
@@ -93,6 +94,14 @@ fn mark(
         }
         Tree::Let(ts, u) => mark_let(alloc, sig, definitions, flags, ts.as_slice(), u),
         Tree::Match(t, cases) => mark_match(alloc, sig, definitions, flags, t, cases.as_slice()),
+        Tree::Quantified(_, sorts, t) => mark_quantified(
+            alloc,
+            sig,
+            definitions,
+            flags,
+            sorts.as_slice(),
+            t,
+        ),
         Tree::Con(_, _)
         | Tree::Sel(_, _)
         | Tree::Test(_, _)
@@ -271,6 +280,28 @@ fn mark_let(
     )?;
     let under = mark_bound(alloc, sig, definitions, flags, bound.as_slice(), trees)?;
     Ok(Notes::binder(bound, under, inner))
+}
+
+// The same of a formula with a quantifier.
+#[cycle(mark)]
+fn mark_quantified(
+    alloc: Global,
+    sig: &Signature,
+    definitions: &Definitions,
+    flags: &mut Vec<bool>,
+    sorts: &[SortId],
+    body: &Tree,
+) -> Result<Notes, AllocError>
+    requires may { (q : Quantifier) × (uses : DefId → ℕ → Bool) × (n : ℕ) × MayMark sig.now uses n (worked_in definitions.now) (Quantified q sorts.now (formula_of body.now)) }
+    ensures marks { (q : Quantifier) (uses : DefId → ℕ → Bool) (n : ℕ) → MayMark sig.now uses n (worked_in definitions.now) (Quantified q sorts.now (formula_of body.now))
+        → OnOk result (flags.new.items ≡ mark_each (occurs sig.now uses (Quantified q sorts.now (formula_of body.now))) flags.old.items) }
+    ensures noted { (q : Quantifier) (uses : DefId → ℕ → Bool) (n : ℕ) → MayMark sig.now uses n (worked_in definitions.now) (Quantified q sorts.now (formula_of body.now))
+        → IfOk result (IsNoted sig.now (worked_in definitions.now) uses (Quantified q sorts.now (formula_of body.now))) }
+{
+    let mut inner = Vec::new(alloc);
+    let count = sorts.len();
+    let bound = mark_under(alloc, sig, definitions, flags, count, body, &mut inner)?;
+    Ok(Notes::binder(bound, Vec::new(alloc), inner))
 }
 
 // The same of a `match`.

@@ -22,7 +22,11 @@ pub(crate) fn operands(tree: &Tree) -> Option<&[Tree]>
         | Tree::Equal(ts)
         | Tree::Distinct(ts) => Some(ts.as_slice()),
         Tree::Sel(_, t) | Tree::Test(_, t) | Tree::Not(t) => Some(slice::from_ref(t)),
-        Tree::Var(_) | Tree::Def(_, _) | Tree::Ite(_, _, _) | Tree::Let(_, _) | Tree::Match(_, _) =>
-            None,
+        Tree::Var(_)
+        | Tree::Def(_, _)
+        | Tree::Ite(_, _, _)
+        | Tree::Let(_, _)
+        | Tree::Match(_, _)
+        | Tree::Quantified(_, _, _) => None,
     }
 }

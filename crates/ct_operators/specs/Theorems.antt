@@ -1,5 +1,5 @@
 -- The theorems on terms and formulas that compiling stands on, as one record.
-use Rattle.std.specs.Prelude.{◌≡◌, ℕ, ◌<◌, ◌≤◌, true, Bool, List, ◌∷◌, ◌++◌, length, Contains, Some, slice_get}
+use Rattle.std.specs.Prelude.{◌≡◌, ℕ, ◌<◌, ◌≤◌, true, Bool, List, ◌∷◌, ◌++◌, length, All, Contains, Some, slice_get}
 use Rattle.std.specs.List.{AllZip, flat_map}
 use Rattle.ct_sorts.specs.declared.ids.CtorId.{CtorId}
 use Rattle.ct_sorts.specs.declared.ids.DefId.{DefId}
@@ -13,6 +13,9 @@ use Rattle.ct_terms.specs.CoreTree.{CoreTree, tree_children, subtrees, tree_laye
 use Rattle.ct_terms.specs.CoreSorts.{AreFieldSorts, HasTreeSort, tree_sort}
 use Rattle.ct_formulas.specs.Formula.{Formula, MentionsBelow}
 use Rattle.ct_formulas.specs.FormulaSorts.{IsSorted, AreSound}
+use Rattle.ct_listing.specs.Closed.{ClosedValue, IsClosedOf}
+use Rattle.ct_listing.specs.Listable.{IsListable}
+use Rattle.ct_formulas.specs.Choices.{choices_of}
 use Rattle.ct_formulas.specs.Calls.{calls_below}
 use Rattle.ct_terms.specs.Fields.{fields_of}
 use Rattle.ct_formulas.specs.Compiled.{compiled, GiveSorted}
@@ -36,3 +39,4 @@ pub record Theorems : Type 0 where
   pub occurring_subterm : (d : Declarations) (uses : DefId → ℕ → Bool) (call : DefId → List CoreTree → CoreTree) (env : List CoreTree) (sorts : List SortId) (t : Formula) (sort : SortId) (i : ℕ) (u : CoreTree) → GiveUsed uses call → IsSorted d sorts t sort → occurs d uses t i ≡ true → slice_get env i ≡ Some u → Contains (subtrees (compiled d call env t)) u
   pub mentions : (d : Declarations) (env : List SortId) (t : Formula) (sort : SortId) → IsSorted d env t sort → MentionsBelow (length d.definitions) t
   pub fields : (d : Declarations) (c : CtorId) (ctor : Constructor) (t : CoreTree) (sorts : List SortId) → IsConsistent d → slice_get d.ctors c.0 ≡ Some ctor → HasTreeSort d t ctor.sort → AreFieldSorts d ctor.sels sorts → AllZip (HasTreeSort d) (fields_of d c t) sorts
+  pub chosen : (d : Declarations) (sorts : List SortId) (vs : List ClosedValue) → IsConsistent d → All (IsListable d) sorts → Contains (choices_of d sorts) vs → AllZip (IsClosedOf d) vs sorts

@@ -2,6 +2,7 @@
 ghost use Rattle.ct_operators.specs.Theorems.{Theorems};
 
 use ct_formulas::formulas;
+use ct_listing::listed_values;
 use ct_terms::core_trees;
 
 /// The theorems, as one. The function does nothing.
@@ -10,4 +11,5 @@ pub fn term_theorems()
 {
     core_trees();
     formulas();
+    listed_values();
 }

@@ -6,7 +6,7 @@ use Rattle.ct_sorts.specs.declared.ids.SortId.{SortId}
 use Rattle.ct_sorts.specs.Declarations.{Declarations, bool_sort}
 use Rattle.ct_terms.specs.Terms.{Terms}
 use Rattle.ct_terms.specs.CoreTree.{CoreTree, sel}
-use Rattle.ct_formulas.specs.Formula.{Formula, Formulas, Var, Con, Sel, Test, Apply, Def, Not, And, Or, Xor, Implies, Equal, Distinct, Ite, Let, Match, no_formulas, with_formula, MentionsBelow, AllMentionBelow}
+use Rattle.ct_formulas.specs.Formula.{Formula, Formulas, Var, Con, Sel, Test, Apply, Def, Not, And, Or, Xor, Implies, Equal, Distinct, Ite, Let, Match, Quantified, no_formulas, with_formula, MentionsBelow, AllMentionBelow}
 use Rattle.ct_formulas.specs.FormulaSorts.{IsSorted, AllSorted, AreOfSort}
 use Rattle.ct_formulas.specs.Compiled.{compiled, compiled_all}
 use Rattle.ct_formulas.specs.Occurrence.{occurs, occurs_in_some, uses_below}
@@ -103,6 +103,7 @@ module _ (d : Declarations) (bodies : List Formula) (table : Terms) (n : ℕ) (e
   plain_sorted (Ite c t u) sort plain h = absurd (true≢false (sym plain))
   plain_sorted (Let ts u) sort plain h = absurd (true≢false (sym plain))
   plain_sorted (Match t cases) sort plain h = absurd (true≢false (sym plain))
+  plain_sorted (Quantified q bound t) sort plain h = absurd (true≢false (sym plain))
 
   pub plain_mentions : (t : Formula) → is_plain t ≡ true → MentionsBelow n t → AllMentionBelow n (formulas_under t)
   plain_mentions (Con c ts) plain h = h
@@ -121,6 +122,7 @@ module _ (d : Declarations) (bodies : List Formula) (table : Terms) (n : ℕ) (e
   plain_mentions (Ite c t u) plain h = absurd (true≢false (sym plain))
   plain_mentions (Let ts u) plain h = absurd (true≢false (sym plain))
   plain_mentions (Match t cases) plain h = absurd (true≢false (sym plain))
+  plain_mentions (Quantified q bound t) plain h = absurd (true≢false (sym plain))
 
   or_none : (b : Bool) → (b || false) ≡ true → b ≡ true
   or_none true h = refl
@@ -143,6 +145,7 @@ module _ (d : Declarations) (bodies : List Formula) (table : Terms) (n : ℕ) (e
   plain_occurs (Ite c t u) plain i h = absurd (true≢false (sym plain))
   plain_occurs (Let ts u) plain i h = absurd (true≢false (sym plain))
   plain_occurs (Match t cases) plain i h = absurd (true≢false (sym plain))
+  plain_occurs (Quantified q bound t) plain i h = absurd (true≢false (sym plain))
 
   pub children_ready : (t : Formula) (sort : SortId) → is_plain t ≡ true → IsCompilable d bodies table n env t trees sorts sort → (each : List SortId) × AreCompilable d bodies table n env (formulas_under t) trees sorts each
   children_ready t sort plain h =
@@ -174,3 +177,4 @@ compiled_plain d bodies n trees (Def k ts) plain = absurd (true≢false (sym pla
 compiled_plain d bodies n trees (Ite c t u) plain = absurd (true≢false (sym plain))
 compiled_plain d bodies n trees (Let ts u) plain = absurd (true≢false (sym plain))
 compiled_plain d bodies n trees (Match t cases) plain = absurd (true≢false (sym plain))
+compiled_plain d bodies n trees (Quantified q bound t) plain = absurd (true≢false (sym plain))

@@ -13,3 +13,6 @@ mod KnownLemmas
 pub mod FormLemmas
 pub mod MakingLemmas
 pub mod DeferralLemmas
+pub mod ChosenLemmas
+pub mod ValueLemmas
+pub mod AwaitLemmas

@@ -8,7 +8,11 @@ use Rattle.ct_sorts.specs.declared.ids.SelId.{SelId}
 use Rattle.ct_sorts.specs.Declarations.{Declarations, Constructor}
 use Rattle.ct_formulas.specs.declared.tree.Pattern.TheVariants.{Ctor, Any}
 use Rattle.ct_terms.specs.CoreTree.{CoreTree, sel, test, choice}
-use Rattle.ct_formulas.specs.Formula.{Formula, Formulas, Cases, Var, Con, Sel, Test, Apply, Def, Not, And, Or, Xor, Implies, Equal, Distinct, Ite, Let, Match, no_formulas, with_formula, no_cases, with_case, bind}
+use Rattle.ct_formulas.specs.Formula.{Formula, Formulas, Cases, Var, Con, Sel, Test, Apply, Def, Not, And, Or, Xor, Implies, Equal, Distinct, Ite, Let, Match, Quantified, no_formulas, with_formula, no_cases, with_case, bind}
+use Rattle.ct_listing.specs.Closed.{ClosedValue, term_of}
+use Rattle.ct_listing.proofs.ListLemmas.{map_same}
+use Rattle.ct_formulas.specs.Choices.{choices_of}
+use Rattle.ct_formulas.proofs.QuantifierLemmas.{choice_terms_length}
 use Rattle.ct_terms.specs.Fields.{fields_of}
 use Rattle.ct_formulas.specs.Compiled.{surely_fits, are_none, compiled, compiled_all, compiled_cases}
 use Rattle.ct_formulas.specs.Occurrence.{count_of, field_count, any_below, occurs, occurs_in_some, occurs_in_bound, matched_occurs, occurs_in_cases, body_uses, uses_below, AreSameAt, AreBoundSame}
@@ -20,14 +24,14 @@ use Rattle.ct_scope.specs.Compilable.{compiled_calls}
 use Rattle.ct_occurrence.specs.Marks.{flags_below}
 use Rattle.ct_scope.specs.Binding.{making_where}
 use Rattle.ct_operators.specs.Made.{Made, terms, made_by}
-use Rattle.ct_scope.specs.Making.{Defined, making, made_each, making_bound, making_cases, body_makes, makes_below, defined}
+use Rattle.ct_scope.specs.Making.{Defined, making, made_each, making_bound, making_cases, making_values, operator_of, body_makes, makes_below, defined}
 
 -- what is bound, and what was there
 bound_at : (p : ℕ → Bool) (n : ℕ) (t u : CoreTree) (xs ys : List CoreTree) → (p n ≡ true → t ≡ u) → ((i : ℕ) → p (i + suc n) ≡ true → slice_get xs i ≡ slice_get ys i) → (i : ℕ) → p (i + n) ≡ true → slice_get (t ∷ xs) i ≡ slice_get (u ∷ ys) i
 bound_at p n t u xs ys first rest zero e = ap Some (first (subst (λ (m : ℕ). p m ≡ true) (omega arith) e))
 bound_at p n t u xs ys first rest (suc i) e = rest i (subst (λ (m : ℕ). p m ≡ true) (omega arith) e)
 
-bind_same : (p : ℕ → Bool) (ts us xs ys : List CoreTree) → AreBoundSame p ts us → ((i : ℕ) → p (i + length ts) ≡ true → slice_get xs i ≡ slice_get ys i) → AreSameAt p (bind ts xs) (bind us ys)
+pub bind_same : (p : ℕ → Bool) (ts us xs ys : List CoreTree) → AreBoundSame p ts us → ((i : ℕ) → p (i + length ts) ≡ true → slice_get xs i ≡ slice_get ys i) → AreSameAt p (bind ts xs) (bind us ys)
 bind_same p [] [] xs ys h rest i e = rest i (subst (λ (m : ℕ). p m ≡ true) (omega arith) e)
 bind_same p [] (u ∷ us) xs ys h rest i e = absurd h
 bind_same p (t ∷ ts) [] xs ys h rest i e = absurd h
@@ -52,6 +56,11 @@ fields_same p t u (s ∷ sels) same = (
   fields_same p t u sels (λ e. same (or_right (p (length sels)) (any_below p (length sels)) e)),
 )
 
+-- the same terms
+bound_itself : (p : ℕ → Bool) (ts : List CoreTree) → AreBoundSame p ts ts
+bound_itself p [] = tt
+bound_itself p (t ∷ ts) = (λ e. refl, bound_itself p ts)
+
 -- one more at the inner end
 inner_same : (p : ℕ → Bool) (xs ys : List CoreTree) (t u : CoreTree) → (p 0 ≡ true → t ≡ u) → ((i : ℕ) → p (suc i) ≡ true → slice_get xs i ≡ slice_get ys i) → AreSameAt p (t ∷ xs) (u ∷ ys)
 inner_same p xs ys t u first rest zero e = ap Some (first e)
@@ -61,7 +70,7 @@ not_sure : (sure : Bool) → sure ≡ false → not sure ≡ true
 not_sure sure e = ap not e
 
 -- where a test holds it is the same
-where_same : (b : Bool) (x y : List CoreTree) → (b ≡ true → x ≡ y) → (if b then x else []) ≡ (if b then y else [])
+pub where_same : (b : Bool) (x y : List CoreTree) → (b ≡ true → x ≡ y) → (if b then x else []) ≡ (if b then y else [])
 where_same true x y h = h refl
 where_same false x y h = refl
 
@@ -173,6 +182,15 @@ module _ (d : Declarations) (defs : Defined) (core_same : (t : Formula) (xs ys :
         (where_same (matched_occurs d uses [] cases) (making d defs xs t) (making d defs ys t) (λ m. making_same t xs ys (matched m)))
         (cases_same cases [] xs ys (core xs t) (core ys t) (λ m. core_same t xs ys (matched m))
         (λ i e. h i (or_right (matched_occurs d uses [] cases && occurs d uses t i) (occurs_in_cases d uses [] cases i) e)))
+    making_same (Quantified q sorts t) xs ys h =
+        let before : List ClosedValue → List CoreTree = λ vs. making_values (flags_below (occurs d uses t) (length sorts)) vs in
+        ap (λ (ps : List Made). (made_by d (operator_of q) ps).making)
+        (map_same (λ vs. one (before vs ++ making d defs (bind (map term_of vs) xs) t) (core (bind (map term_of vs) xs) t)) (λ vs. one (before vs ++ making d defs (bind (map term_of vs) ys) t) (core (bind (map term_of vs) ys) t)) (choices_of d sorts) (λ vs inside.
+        let same : AreSameAt (occurs d uses t) (bind (map term_of vs) xs) (bind (map term_of vs) ys) =
+        bind_same (occurs d uses t) (map term_of vs) (map term_of vs) xs ys (bound_itself (occurs d uses t) (map term_of vs)) (λ i e. h i (subst (λ (m : ℕ). occurs d uses t (i + m) ≡ true) (choice_terms_length d sorts vs inside) e)) in
+        one_made (before vs ++ making d defs (bind (map term_of vs) xs) t) (before vs ++ making d defs (bind (map term_of vs) ys) t) (core (bind (map term_of vs) xs) t) (core (bind (map term_of vs) ys) t)
+        (ap (λ (ts : List CoreTree). before vs ++ ts) (making_same t (bind (map term_of vs) xs) (bind (map term_of vs) ys) same))
+        (core_same t (bind (map term_of vs) xs) (bind (map term_of vs) ys) same)))
 
     each_same : (ts : Formulas) (xs ys : List CoreTree) → AreSameAt (occurs_in_some d uses ts) xs ys → made_each d defs xs ts ≡ made_each d defs ys ts
     each_same no_formulas xs ys h = refl
@@ -274,3 +292,4 @@ making_plain d defs env (Def k ts) plain = absurd (true≢false (sym plain))
 making_plain d defs env (Ite c t u) plain = absurd (true≢false (sym plain))
 making_plain d defs env (Let ts u) plain = absurd (true≢false (sym plain))
 making_plain d defs env (Match t cases) plain = absurd (true≢false (sym plain))
+making_plain d defs env (Quantified q bound t) plain = absurd (true≢false (sym plain))

@@ -5,7 +5,7 @@ use Rattle.ct_sorts.specs.Declarations.{Declarations, bool_sort}
 use Rattle.ct_terms.specs.Terms.{Terms}
 use Rattle.ct_terms.specs.CoreTree.{CoreTree}
 use Rattle.ct_terms.specs.CoreSorts.{HasTreeSort}
-use Rattle.ct_formulas.specs.Formula.{Formula, Formulas, Var, Con, Sel, Test, Apply, Def, Not, And, Or, Xor, Implies, Equal, Distinct, Ite, Let, Match, no_formulas, with_formula, AllMentionBelow}
+use Rattle.ct_formulas.specs.Formula.{Formula, Formulas, Var, Con, Sel, Test, Apply, Def, Not, And, Or, Xor, Implies, Equal, Distinct, Ite, Let, Match, Quantified, no_formulas, with_formula, AllMentionBelow}
 use Rattle.ct_formulas.specs.FormulaSorts.{AreOfSort, HasFormula, AreAtLeastTwo}
 use Rattle.ct_formulas.specs.Compiled.{compiled, compiled_all}
 use Rattle.ct_scope.specs.declared.bound.Bound.{Bound}
@@ -55,5 +55,6 @@ module _ (d : Declarations) (bodies : List Formula) (table : Terms) (n : ℕ) (e
   operands_of (Ite c t u) sort plain h = absurd (true≢false (sym plain))
   operands_of (Let ts u) sort plain h = absurd (true≢false (sym plain))
   operands_of (Match t cases) sort plain h = absurd (true≢false (sym plain))
+  operands_of (Quantified q bound t) sort plain h = absurd (true≢false (sym plain))
 
 -- ---- subterms

@@ -1,7 +1,7 @@
 -- How much work a formula is with the definitions that it names: a bound for recursion over both.
 use Rattle.std.specs.Prelude.{ℕ, zero, suc, ◌+◌, ◌==◌, List, Option, Some, None, slice_get, if◌then◌else◌}
 use Rattle.ct_sorts.specs.declared.ids.DefId.{DefId}
-use Rattle.ct_formulas.specs.Formula.{Formula, Formulas, Cases, Var, Con, Sel, Test, Apply, Def, Not, And, Or, Xor, Implies, Equal, Distinct, Ite, Let, Match, no_formulas, with_formula, no_cases, with_case}
+use Rattle.ct_formulas.specs.Formula.{Formula, Formulas, Cases, Var, Con, Sel, Test, Apply, Def, Not, And, Or, Xor, Implies, Equal, Distinct, Ite, Let, Match, Quantified, no_formulas, with_formula, no_cases, with_case}
 
 abbrev mutual
   -- the weight of a formula, where each definition has a weight
@@ -22,6 +22,7 @@ abbrev mutual
   weight w (Ite c t u) = weight w c + weight w t + weight w u + 2
   weight w (Let ts u) = weights w ts + weight w u + 2
   weight w (Match t cases) = weight w t + case_weights w cases + 3
+  weight w (Quantified q sorts t) = weight w t + 6
 
   -- that of several
   pub weights : (DefId → ℕ) → Formulas → ℕ

@@ -4,3 +4,6 @@ pub mod Matching
 pub mod Making
 pub mod Deferral
 pub mod Calling
+pub mod Values
+pub mod Awaiting
+pub mod Choosing

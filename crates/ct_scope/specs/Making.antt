@@ -1,16 +1,22 @@
 -- The order in which compiling a formula makes terms. Bindings, arguments of definitions and matched terms that occur come
--- before the body, in order. Else what stands under a term comes before the term, from left to right.
-use Rattle.std.specs.Prelude.{ℕ, zero, suc, Bool, ◌||◌, ◌==◌, List, [], ◌∷◌, ◌++◌, length, Option, Some, None, slice_get, if◌then◌else◌}
+-- before the body, in order; so do the values of the variables of a quantifier that occur, for each choice of them. Else what stands under a term comes before the term, from left to right.
+use Rattle.std.specs.Prelude.{ℕ, zero, suc, Bool, ◌||◌, ◌==◌, List, [], ◌∷◌, ◌++◌, length, map, Option, Some, None, slice_get, if◌then◌else◌}
 use Rattle.ct_sorts.specs.declared.ids.CtorId.{CtorId}
 use Rattle.ct_sorts.specs.declared.ids.DefId.{DefId}
 use Rattle.ct_sorts.specs.Declarations.{Declarations}
 use Rattle.ct_formulas.specs.declared.tree.Pattern.TheVariants.{Ctor, Any}
-use Rattle.ct_terms.specs.CoreTree.{CoreTree, test, choice, no_term}
-use Rattle.ct_formulas.specs.Formula.{Formula, Formulas, Cases, Var, Con, Sel, Test, Apply, Def, Not, And, Or, Xor, Implies, Equal, Distinct, Ite, Let, Match, no_formulas, with_formula, no_cases, with_case, bind}
+use Rattle.ct_terms.specs.CoreTree.{CoreTree, con, test, choice, no_term}
+use Rattle.ct_formulas.specs.Formula.{Formula, Formulas, Cases, Var, Con, Sel, Test, Apply, Def, Not, And, Or, Xor, Implies, Equal, Distinct, Ite, Let, Match, Quantified, no_formulas, with_formula, no_cases, with_case, bind}
+use Rattle.ct_formulas.specs.declared.tree.Quantifier.{Quantifier}
+use Rattle.ct_formulas.specs.declared.tree.Quantifier.TheVariants.{Forall, Exists}
+use Rattle.ct_listing.specs.Closed.{ClosedValue, ClosedValues, build, no_closed, with_closed, term_of, terms_under}
+use Rattle.ct_formulas.specs.Choices.{choices_of}
+use Rattle.ct_occurrence.specs.Marks.{flags_below}
 use Rattle.ct_formulas.specs.Calls.{calls_below}
 use Rattle.ct_terms.specs.Fields.{fields_of}
 use Rattle.ct_formulas.specs.Compiled.{surely_fits, are_none, compiled, compiled_all, compiled_cases}
 use Rattle.ct_formulas.specs.Occurrence.{count_of, occurs, matched_occurs, uses_below}
+use Rattle.ct_operators.specs.declared.operator.Operator.{Operator}
 use Rattle.ct_operators.specs.declared.operator.Operator.TheVariants.{Construct, Select, Inspect, Call, Negation, Conjunction, Disjunction, Exclusion, Implication, Equality, Inequality}
 use Rattle.ct_operators.specs.Made.{Made, made_by}
 
@@ -19,6 +25,27 @@ pub record Defined : Type 0 where
   pub uses : DefId → ℕ → Bool
   pub gives : DefId → List CoreTree → CoreTree
   pub makes : DefId → List CoreTree → List CoreTree
+
+abbrev mutual
+  -- what is made for a closed value
+  pub making_value : ClosedValue → List CoreTree
+  making_value (build c vs) = making_under vs ++ con c (terms_under vs) ∷ []
+
+  -- what is made for those under a constructor
+  pub making_under : ClosedValues → List CoreTree
+  making_under no_closed = []
+  making_under (with_closed v vs) = making_value v ++ making_under vs
+
+-- what is made for those of these values whose flag is set
+abbrev pub making_values : List Bool → List ClosedValue → List CoreTree
+making_values [] vs = []
+making_values (b ∷ bs) [] = []
+making_values (b ∷ bs) (v ∷ vs) = (if b then making_value v else []) ++ making_values bs vs
+
+-- the operator that joins what a quantifier says of its body for several values
+abbrev pub operator_of : Quantifier → Operator
+operator_of Forall = Conjunction
+operator_of Exists = Disjunction
 
 abbrev mutual
   -- what is made for a formula, where each variable stands for a core term that is there or is a field of one: one line a form
@@ -39,6 +66,7 @@ abbrev mutual
   making d defs env (Ite c t u) = making d defs env c ++ (making d defs env t ++ (making d defs env u ++ compiled d defs.gives env (Ite c t u) ∷ []))
   making d defs env (Let ts u) = making_bound d defs env (occurs d defs.uses u) ts ++ making d defs (bind (compiled_all d defs.gives env ts) env) u
   making d defs env (Match t cases) = (if matched_occurs d defs.uses [] cases then making d defs env t else []) ++ making_cases d defs env (compiled d defs.gives env t) [] cases
+  making d defs env (Quantified q sorts t) = (made_by d (operator_of q) (map (λ vs. record { making = making_values (flags_below (occurs d defs.uses t) (length sorts)) vs ++ making d defs (bind (map term_of vs) env) t; term = compiled d defs.gives (bind (map term_of vs) env) t }) (choices_of d sorts))).making
 
   -- the core terms of several formulas
   pub made_each : Declarations → Defined → List CoreTree → Formulas → List Made

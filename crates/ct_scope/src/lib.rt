@@ -7,8 +7,10 @@ mod bound;
 mod environment;
 mod known;
 mod matching;
+mod open_value;
 mod scope;
 mod stop;
+mod values;
 
 pub use bindings::pattern_bounds;
 pub use bound::Bound;
@@ -17,3 +19,4 @@ pub use known::{Called, Known, call_with, known_term, remember};
 pub use matching::make_test;
 pub use scope::{Scope, body_at};
 pub use stop::{DeferredCall, Stop};
+pub use values::{ListedValue, ValueTerms, no_value_terms, value_bounds};

@@ -4,6 +4,7 @@ ghost use Rattle.ct_terms.specs.declared.error.TermError.TheVariants.{NoMemory};
 ghost use Rattle.ct_scope.specs.declared.stop.Stop.TheVariants.{Failed};
 
 use crate::bound::Bound;
+use ct_finite::FiniteError;
 use ct_sorts::{DefId, Items};
 use ct_terms::TermError;
 use std::alloc::{AllocError, AllocFailed};
@@ -38,6 +39,14 @@ impl From<AllocError> for Stop {
     ghost from_gives = { λ e s. s ≡ Failed NoMemory };
 
     fn from(_error: AllocError) -> Stop {
+        Stop::Failed(TermError::NoMemory)
+    }
+}
+
+impl From<FiniteError> for Stop {
+    ghost from_gives = { λ e s. s ≡ Failed NoMemory };
+
+    fn from(_error: FiniteError) -> Stop {
         Stop::Failed(TermError::NoMemory)
     }
 }

@@ -1,12 +1,15 @@
 -- How a formula is kept as a tree of numbers, by which proofs tell formulas apart.
-use Rattle.std.specs.Prelude.{◌≡◌, ℕ, ◌==◌, if◌then◌else◌, refl}
+use Rattle.std.specs.Prelude.{◌≡◌, ℕ, zero, suc, ◌==◌, List, [], ◌∷◌, if◌then◌else◌, refl}
 use mathlib.Core.Path.{ap, ◌∙◌}
 use base.Stored.{Gv, gnil, gnum, gcons}
 use denote.Struct.Codes.{itself}
 use Rattle.std.specs.Coded.{Coded, code_by}
 use Rattle.ct_formulas.specs.declared.tree.Pattern.{Pattern}
 use Rattle.ct_formulas.specs.declared.tree.Pattern.TheVariants.{Ctor, Any}
-use Rattle.ct_formulas.specs.Formula.{Formula, Formulas, Cases, Var, Con, Sel, Test, Apply, Def, Not, And, Or, Xor, Implies, Equal, Distinct, Ite, Let, Match, no_formulas, with_formula, no_cases, with_case}
+use Rattle.ct_sorts.specs.declared.ids.SortId.{SortId}
+use Rattle.ct_formulas.specs.declared.tree.Quantifier.{Quantifier}
+use Rattle.ct_formulas.specs.declared.tree.Quantifier.TheVariants.{Forall, Exists}
+use Rattle.ct_formulas.specs.Formula.{Formula, Formulas, Cases, Var, Con, Sel, Test, Apply, Def, Not, And, Or, Xor, Implies, Equal, Distinct, Ite, Let, Match, Quantified, no_formulas, with_formula, no_cases, with_case}
 
 -- a form by its number, with a number and up to three parts
 abbrev node : ℕ → ℕ → Gv → Gv → Gv → Gv
@@ -15,6 +18,14 @@ node form n a b c = gcons (gnum form) (gcons (gnum n) (gcons a (gcons b c)))
 abbrev of_pattern : Pattern → Gv
 of_pattern (Ctor c) = gnum c.0
 of_pattern Any = gnil
+
+abbrev of_quantifier : Quantifier → ℕ
+of_quantifier Forall = 0
+of_quantifier Exists = 1
+
+abbrev of_sorts : List SortId → Gv
+of_sorts [] = gnil
+of_sorts (s ∷ sorts) = gcons (gnum s.0) (of_sorts sorts)
 
 abbrev mutual
   of_formula : Formula → Gv
@@ -34,6 +45,7 @@ abbrev mutual
   of_formula (Ite c t u) = node 13 0 (of_formula c) (of_formula t) (of_formula u)
   of_formula (Let ts u) = node 14 0 (of_formulas ts) (of_formula u) gnil
   of_formula (Match t cs) = node 15 0 (of_formula t) (of_cases cs) gnil
+  of_formula (Quantified q sorts t) = node 16 (of_quantifier q) (of_sorts sorts) (of_formula t) gnil
 
   of_formulas : Formulas → Gv
   of_formulas no_formulas = gnil
@@ -48,9 +60,20 @@ to_pattern gnil = Any
 to_pattern (gnum n) = Ctor (record { 0 = n })
 to_pattern (gcons a b) = Any
 
+abbrev to_quantifier : ℕ → Quantifier
+to_quantifier zero = Forall
+to_quantifier (suc n) = Exists
+
+abbrev to_sorts : Gv → List SortId
+to_sorts gnil = []
+to_sorts (gnum n) = []
+to_sorts (gcons gnil b) = []
+to_sorts (gcons (gnum n) b) = record { 0 = n } ∷ to_sorts b
+to_sorts (gcons (gcons a c) b) = []
+
 -- the form of this number, by its number and its parts, each of which is read as what the form has there
-abbrev formed : ℕ → ℕ → Formulas → Formula → Formula → Formula → Cases → Formula
-formed form n ts t u v cs =
+abbrev formed : ℕ → ℕ → Formulas → Formula → Formula → Formula → Cases → List SortId → Formula
+formed form n ts t u v cs sorts =
     if form == 1 then Con (record { 0 = n }) ts else
     if form == 2 then Sel (record { 0 = n }) t else
     if form == 3 then Test (record { 0 = n }) t else
@@ -65,11 +88,12 @@ formed form n ts t u v cs =
     if form == 12 then Distinct ts else
     if form == 13 then Ite t u v else
     if form == 14 then Let ts u else
-    if form == 15 then Match t cs else Var n
+    if form == 15 then Match t cs else
+    if form == 16 then Quantified (to_quantifier n) sorts u else Var n
 
 abbrev mutual
   to_formula : Gv → Formula
-  to_formula (gcons (gnum form) (gcons (gnum n) (gcons a (gcons b c)))) = formed form n (to_formulas a) (to_formula a) (to_formula b) (to_formula c) (to_cases b)
+  to_formula (gcons (gnum form) (gcons (gnum n) (gcons a (gcons b c)))) = formed form n (to_formulas a) (to_formula a) (to_formula b) (to_formula c) (to_cases b) (to_sorts a)
   to_formula g = Var 0
 
   to_formulas : Gv → Formulas
@@ -83,6 +107,14 @@ abbrev mutual
 pattern_back : (p : Pattern) → to_pattern (of_pattern p) ≡ p
 pattern_back (Ctor c) = refl
 pattern_back Any = refl
+
+quantifier_back : (q : Quantifier) → to_quantifier (of_quantifier q) ≡ q
+quantifier_back Forall = refl
+quantifier_back Exists = refl
+
+sorts_back : (sorts : List SortId) → to_sorts (of_sorts sorts) ≡ sorts
+sorts_back [] = refl
+sorts_back (s ∷ sorts) = ap (λ (ss : List SortId). s ∷ ss) (sorts_back sorts)
 
 mutual
   pub formula_back : (t : Formula) → to_formula (of_formula t) ≡ t
@@ -105,6 +137,10 @@ mutual
       ∙ ap (λ (x : Formula). Ite c t x) (formula_back u)
   formula_back (Let ts u) = ap (λ (x : Formulas). Let x (to_formula (of_formula u))) (formulas_back ts) ∙ ap (Let ts) (formula_back u)
   formula_back (Match t cs) = ap (λ (x : Formula). Match x (to_cases (of_cases cs))) (formula_back t) ∙ ap (Match t) (cases_back cs)
+  formula_back (Quantified q sorts t) =
+      ap (λ (x : Quantifier). Quantified x (to_sorts (of_sorts sorts)) (to_formula (of_formula t))) (quantifier_back q)
+      ∙ ap (λ (x : List SortId). Quantified q x (to_formula (of_formula t))) (sorts_back sorts)
+      ∙ ap (Quantified q sorts) (formula_back t)
 
   pub formulas_back : (ts : Formulas) → to_formulas (of_formulas ts) ≡ ts
   formulas_back no_formulas = refl

@@ -14,21 +14,21 @@ returns-then-is_same-clause-value c = λ later grows.
     let scope = c.args.variables.now in
     let w = c.args.word.now in
     let es = expressions_of c.args.args.now in
-    reserved_is later scope (parts_of later es) w true (bytes_eq w (codes "match")) (bytes_eq w (codes "!")) (bytes_eq w (codes "as")) (sym c.if-is_same.ensures.value) refl refl refl
+    reserved_is later scope (parts_of later es) w true (bytes_eq w (codes "match")) (bytes_eq w (codes "!")) (bytes_eq w (codes "as")) (bytes_eq w (codes "forall")) (bytes_eq w (codes "exists")) (sym c.if-is_same.ensures.value) refl refl refl refl refl
 
 pub returns-then-is_same-2-clause-value : goal.returns-then-is_same-2-clause-value
 returns-then-is_same-2-clause-value c = λ later grows.
     let scope = c.args.variables.now in
     let w = c.args.word.now in
     let es = expressions_of c.args.args.now in
-    reserved_is later scope (parts_of later es) w false true (bytes_eq w (codes "!")) (bytes_eq w (codes "as")) (sym c.if-is_same.ensures.value) (sym c.if-is_same-2.ensures.value) refl refl
+    reserved_is later scope (parts_of later es) w false true (bytes_eq w (codes "!")) (bytes_eq w (codes "as")) (bytes_eq w (codes "forall")) (bytes_eq w (codes "exists")) (sym c.if-is_same.ensures.value) (sym c.if-is_same-2.ensures.value) refl refl refl refl
 
 pub returns-then-is_same-3-clause-value : goal.returns-then-is_same-3-clause-value
 returns-then-is_same-3-clause-value c = λ later grows.
     let scope = c.args.variables.now in
     let w = c.args.word.now in
     let es = expressions_of c.args.args.now in
-    reserved_is later scope (parts_of later es) w false false true (bytes_eq w (codes "as")) (sym c.if-is_same.ensures.value) (sym c.if-is_same-2.ensures.value) (sym c.if-is_same-3.ensures.value) refl
+    reserved_is later scope (parts_of later es) w false false true (bytes_eq w (codes "as")) (bytes_eq w (codes "forall")) (bytes_eq w (codes "exists")) (sym c.if-is_same.ensures.value) (sym c.if-is_same-2.ensures.value) (sym c.if-is_same-3.ensures.value) refl refl refl
 
 pub returns-then-is_same-4-clause-value : goal.returns-then-is_same-4-clause-value
 returns-then-is_same-4-clause-value c =
@@ -36,7 +36,7 @@ returns-then-is_same-4-clause-value c =
     let w = c.args.word.now in
     let es = expressions_of c.args.args.now in
     leads_along c.args.needs c.whole_head.new.sig (λ m. reserved m scope w (parts_of m es)) (λ m. and_then (qualified_symbol m scope (parts_of m es)) (lone_symbol m)) (λ m h. headed_by m scope h (parts_of m es)) c.whole_head.result
-    (λ m grows. reserved_is m scope (parts_of m es) w false false false true (sym c.if-is_same.ensures.value) (sym c.if-is_same-2.ensures.value) (sym c.if-is_same-3.ensures.value) (sym c.if-is_same-4.ensures.value))
+    (λ m grows. reserved_is m scope (parts_of m es) w false false false true (bytes_eq w (codes "forall")) (bytes_eq w (codes "exists")) (sym c.if-is_same.ensures.value) (sym c.if-is_same-2.ensures.value) (sym c.if-is_same-3.ensures.value) (sym c.if-is_same-4.ensures.value) refl refl)
     c.whole_head.ensures.value
 
 pub returns-then-is_same-4-clause-reaches : goal.returns-then-is_same-4-clause-reaches
@@ -45,8 +45,22 @@ returns-then-is_same-4-clause-reaches c =
     let w = c.args.word.now in
     let es = expressions_of c.args.args.now in
     reaches_same (λ m. and_then (qualified_symbol m scope (parts_of m es)) (lone_symbol m)) (λ m. reserved m scope w (parts_of m es)) c.args.sig.now c.whole_head.new.sig
-    (λ m grows. reserved_is m scope (parts_of m es) w false false false true (sym c.if-is_same.ensures.value) (sym c.if-is_same-2.ensures.value) (sym c.if-is_same-3.ensures.value) (sym c.if-is_same-4.ensures.value))
+    (λ m grows. reserved_is m scope (parts_of m es) w false false false true (bytes_eq w (codes "forall")) (bytes_eq w (codes "exists")) (sym c.if-is_same.ensures.value) (sym c.if-is_same-2.ensures.value) (sym c.if-is_same-3.ensures.value) (sym c.if-is_same-4.ensures.value) refl refl)
     c.whole_head.ensures.reaches
+
+pub returns-then-is_same-5-clause-value : goal.returns-then-is_same-5-clause-value
+returns-then-is_same-5-clause-value c = λ later grows.
+    let scope = c.args.variables.now in
+    let w = c.args.word.now in
+    let es = expressions_of c.args.args.now in
+    reserved_is later scope (parts_of later es) w false false false false true (bytes_eq w (codes "exists")) (sym c.if-is_same.ensures.value) (sym c.if-is_same-2.ensures.value) (sym c.if-is_same-3.ensures.value) (sym c.if-is_same-4.ensures.value) (sym c.if-is_same-5.ensures.value) refl
+
+pub returns-then-is_same-6-clause-value : goal.returns-then-is_same-6-clause-value
+returns-then-is_same-6-clause-value c = λ later grows.
+    let scope = c.args.variables.now in
+    let w = c.args.word.now in
+    let es = expressions_of c.args.args.now in
+    reserved_is later scope (parts_of later es) w false false false false false true (sym c.if-is_same.ensures.value) (sym c.if-is_same-2.ensures.value) (sym c.if-is_same-3.ensures.value) (sym c.if-is_same-4.ensures.value) (sym c.if-is_same-5.ensures.value) (sym c.if-is_same-6.ensures.value)
 
 pub returns-clause-value : goal.returns-clause-value
 returns-clause-value c =
@@ -54,4 +68,4 @@ returns-clause-value c =
     let scope = c.args.variables.now in
     let w = c.args.word.now in
     let es = expressions_of c.args.args.now in
-    reserved_is d scope (parts_of d es) w false false false false (sym c.if-is_same.ensures.value) (sym c.if-is_same-2.ensures.value) (sym c.if-is_same-3.ensures.value) (sym c.if-is_same-4.ensures.value)
+    reserved_is d scope (parts_of d es) w false false false false false false (sym c.if-is_same.ensures.value) (sym c.if-is_same-2.ensures.value) (sym c.if-is_same-3.ensures.value) (sym c.if-is_same-4.ensures.value) (sym c.if-is_same-5.ensures.value) (sym c.if-is_same-6.ensures.value)

@@ -16,7 +16,7 @@ use Rattle.ct_names.specs.Outcome.{Elaborated, Sorted, and_then, step}
 use Rattle.ct_names.specs.Parts.{Part, with_part, name_of}
 use Rattle.ct_check.specs.Trees.{sorted_of, sorted_list, checked_of}
 use Rattle.ct_names.specs.Variables.{Variable, ScopeIn, variables}
-use Rattle.ct_names.specs.Elaboration.{part_of, parts_of, meaning_of_part, elaborated, list_meaning, let_form, match_form, annotated, lone_symbol, bound_terms, checked_cases, Checked, let_of, exhausted, lone}
+use Rattle.ct_names.specs.Elaboration.{part_of, parts_of, meaning_of_part, elaborated, list_meaning, let_form, match_form, quantified_form, annotated, lone_symbol, bound_terms, checked_cases, Checked, let_of, exhausted, lone}
 use Rattle.ct_names.proofs.AnswerLemmas.{stops_along, stops_memory}
 use Rattle.ct_names.proofs.NeedLemmas.{reaches_grows, reaches_same, reaches_further}
 use Rattle.ct_names.proofs.PartLemmas.{part_of_list}
@@ -25,8 +25,9 @@ use Rattle.ct_check.proofs.GrownLemmas.{scope_grows, extends_further, sort_grows
 use Rattle.ct_check.proofs.CaseSteps.{left_again, case-scope, inner-scope, one_more_each}
 use Rattle.ct_names.proofs.StayLemmas.{ScopeIn-bind}
 use Rattle.ct_check.proofs.StepLemmas.{stops_head, stops_with, refused_with, stops_before}
-use Rattle.ct_check.proofs.OtherForms.{list-empty, annotated-empty, leaf-no_pair, length-no_pair, let-length, let-leaf, match-length, match-leaf, leaf-lone}
-use Rattle.ct_check.proofs.FormSteps.{annotated-other, annotated-term, two_of, pair_at, let-list, match-list, cases-other, cases-subject}
+use Rattle.ct_check.proofs.QuantifierLemmas.{with_list, with_body, body_reached, body_stop, body_met}
+use Rattle.ct_check.proofs.OtherForms.{quantified-length, list-empty, annotated-empty, leaf-no_pair, length-no_pair, let-length, let-leaf, match-length, match-leaf, leaf-lone}
+use Rattle.ct_check.proofs.FormSteps.{quantified-items, annotated-other, annotated-term, two_of, pair_at, let-list, match-list, cases-other, cases-subject}
 use Rattle.ct_check.specs.Expected.{arguments_of}
 use Rattle.ct_check.proofs.ArgumentLemmas.{head_declared}
 use Rattle.ct_check.proofs.BinderSteps.{term_inside, pattern_variables, let_terms, let_stop, let_variables, let_reached, let_is, match_subject, match_stop, match_refused, match_reached, match_cases}
@@ -40,6 +41,7 @@ use Rattle.ct_check.proofs.BindingLemmas.{pair_is}
 use Rattle.ct_check.proofs.CaseLemmas.{checked_after}
 use Rattle.ct_names.specs.Answer.{as_it_is}
 use Rattle.ct_check.specs.Binders.{let_of_names}
+use Rattle.ct_check.specs.Quantifiers.{quantified_with}
 use Rattle.ct_formulas.specs.Formula as formula
 use Rattle.ct_check.proofs.ArgumentSteps as arguments
 use Rattle.ct_check.proofs.BindingLemmas as bindings
@@ -60,6 +62,9 @@ headed-match_form-requires t c = (omega (arith, c.decreases), c.requires.variabl
 
 pub headed-annotated-requires : goal.headed-annotated-requires
 headed-annotated-requires t c = (omega (arith, c.decreases), c.requires.variables)
+
+pub headed-quantified_form-requires : goal.headed-quantified_form-requires
+headed-quantified_form-requires t c = (omega (arith, c.decreases), c.requires.variables)
 
 pub annotated-term-requires : goal.annotated-term-requires
 annotated-term-requires t c = (omega (arith, nests_item c.args.args.now 0 c.expr-item.result (omega arith) c.expr-item.is, c.decreases), c.requires.variables)
@@ -186,6 +191,18 @@ headed-returns-in-Annotation-clause-reaches t c =
     let scope = c.args.variables.now in
     let es = expressions_of c.args.args.now in
     reaches_same (λ n. annotated n scope (parts_of n es)) (λ n. headed_by n scope c.args.head (parts_of n es)) c.args.sig.now c.annotated.new.sig (λ n _. ap (λ (h : Head). headed_by n scope h (parts_of n es)) c.in-Annotation.is) c.annotated.ensures.reaches
+
+pub headed-returns-in-Quantified-clause-value : goal.headed-returns-in-Quantified-clause-value
+headed-returns-in-Quantified-clause-value t c =
+    let d = c.quantified_form.new.sig in
+    let ps = parts_of d (expressions_of c.args.args.now) in
+    stops_along c.args.needs d sorted_of (headed_by d c.args.variables.now c.args.head ps) (quantified_form d c.args.variables.now c.in-Quantified.q ps) c.quantified_form.result (ap (λ (h : Head). headed_by d c.args.variables.now h ps) c.in-Quantified.is) c.quantified_form.ensures.value
+
+pub headed-returns-in-Quantified-clause-reaches : goal.headed-returns-in-Quantified-clause-reaches
+headed-returns-in-Quantified-clause-reaches t c =
+    let scope = c.args.variables.now in
+    let es = expressions_of c.args.args.now in
+    reaches_same (λ n. quantified_form n scope c.in-Quantified.q (parts_of n es)) (λ n. headed_by n scope c.args.head (parts_of n es)) c.args.sig.now c.quantified_form.new.sig (λ n _. ap (λ (h : Head). headed_by n scope h (parts_of n es)) c.in-Quantified.is) c.quantified_form.ensures.reaches
 
 pub headed-lone_symbol-requires : goal.headed-lone_symbol-requires
 headed-lone_symbol-requires t c = record { inside = subst (λ (h : Head). IsHeadDeclared c.args.sig.now h) c.in-Whole.is c.requires.declared }
@@ -764,7 +781,7 @@ let_form-returns-in_err-names-clause-value t c =
     let p = err_from_is_err_and c.from_residual.result c.from_residual.ensures.1 in
     rw (p.1, p.2) (stops_before c.args.needs d (λ (names : Vec (Option (Bor (List ℕ))) Global). let_of_names d scope (map held_name names.items) bs body) sorted_of (let_form d c.args.variables.now (parts_of d (expressions_of c.args.args.now))) (let_of d scope bs body) _
     (let-list d scope c.args.args.now c.index-args-0.result c.index-args-1.result c.in-List.bindings c.as_slice-bindings.result.now (two_of c.args.args.now c.index-args-0.result c.index-args-1.result c.if-args-ne2.false c.index-args-0.is c.index-args-1.is) c.in-List.is c.as_slice-bindings.ensures.value)
-    (c.in_err-names.ensures.value c.args.needs d scope body))
+    (c.in_err-names.ensures.value c.args.needs d (λ names. let_of_names d scope names bs body)))
 
 pub let_form-returns-in_err-names-clause-reaches : goal.let_form-returns-in_err-names-clause-reaches
 let_form-returns-in_err-names-clause-reaches t c = as_they_are c.args.sig.now
@@ -778,10 +795,10 @@ let_form-returns-in_err-trees-clause-value t c =
     let d = c.bound_terms.new.sig in
     let p = err_from_is_err_and c.from_residual-in_err-trees.result c.from_residual-in_err-trees.ensures.1 in
     rw (p.1, p.2) (stops_with c.args.needs d sorted_list sorted_of (bindings.so_far c.args.variables.now c.as_slice-bindings.result.now d) (let_form d c.args.variables.now (parts_of d (expressions_of c.args.args.now))) _
-    (λ h e. let_stop (λ n. let_form n c.args.variables.now (parts_of n (expressions_of c.args.args.now))) c.args.variables.now (map held_name c.in_ok-names.names.items) c.as_slice-bindings.result.now c.index-args-1.result (λ n. let-list n c.args.variables.now c.args.args.now c.index-args-0.result c.index-args-1.result c.in-List.bindings c.as_slice-bindings.result.now (two_of c.args.args.now c.index-args-0.result c.index-args-1.result c.if-args-ne2.false c.index-args-0.is c.index-args-1.is) c.in-List.is c.as_slice-bindings.ensures.value ∙ c.in_ok-names.ensures.value c.args.needs n c.args.variables.now (part_of n (expression_of c.index-args-1.result))) c.args.sig.now c.bound_terms.new.sig c.in_err-trees.ensures.reaches h e) c.in_err-trees.ensures.value)
+    (λ h e. let_stop (λ n. let_form n c.args.variables.now (parts_of n (expressions_of c.args.args.now))) c.args.variables.now (map held_name c.in_ok-names.names.items) c.as_slice-bindings.result.now c.index-args-1.result (λ n. let-list n c.args.variables.now c.args.args.now c.index-args-0.result c.index-args-1.result c.in-List.bindings c.as_slice-bindings.result.now (two_of c.args.args.now c.index-args-0.result c.index-args-1.result c.if-args-ne2.false c.index-args-0.is c.index-args-1.is) c.in-List.is c.as_slice-bindings.ensures.value ∙ c.in_ok-names.ensures.value c.args.needs n (λ names. let_of_names n c.args.variables.now names (parts_of n (expressions_of c.as_slice-bindings.result.now)) (part_of n (expression_of c.index-args-1.result)))) c.args.sig.now c.bound_terms.new.sig c.in_err-trees.ensures.reaches h e) c.in_err-trees.ensures.value)
 
 pub let_form-returns-in_err-trees-clause-reaches : goal.let_form-returns-in_err-trees-clause-reaches
-let_form-returns-in_err-trees-clause-reaches t c = let_terms (λ n. let_form n c.args.variables.now (parts_of n (expressions_of c.args.args.now))) c.args.variables.now (map held_name c.in_ok-names.names.items) c.as_slice-bindings.result.now c.index-args-1.result (λ n. let-list n c.args.variables.now c.args.args.now c.index-args-0.result c.index-args-1.result c.in-List.bindings c.as_slice-bindings.result.now (two_of c.args.args.now c.index-args-0.result c.index-args-1.result c.if-args-ne2.false c.index-args-0.is c.index-args-1.is) c.in-List.is c.as_slice-bindings.ensures.value ∙ c.in_ok-names.ensures.value c.args.needs n c.args.variables.now (part_of n (expression_of c.index-args-1.result))) c.args.sig.now c.bound_terms.new.sig c.in_err-trees.ensures.reaches
+let_form-returns-in_err-trees-clause-reaches t c = let_terms (λ n. let_form n c.args.variables.now (parts_of n (expressions_of c.args.args.now))) c.args.variables.now (map held_name c.in_ok-names.names.items) c.as_slice-bindings.result.now c.index-args-1.result (λ n. let-list n c.args.variables.now c.args.args.now c.index-args-0.result c.index-args-1.result c.in-List.bindings c.as_slice-bindings.result.now (two_of c.args.args.now c.index-args-0.result c.index-args-1.result c.if-args-ne2.false c.index-args-0.is c.index-args-1.is) c.in-List.is c.as_slice-bindings.ensures.value ∙ c.in_ok-names.ensures.value c.args.needs n (λ names. let_of_names n c.args.variables.now names (parts_of n (expressions_of c.as_slice-bindings.result.now)) (part_of n (expression_of c.index-args-1.result)))) c.args.sig.now c.bound_terms.new.sig c.in_err-trees.ensures.reaches
 
 pub let_form-returns-in_err-inner-clause-value : goal.let_form-returns-in_err-inner-clause-value
 let_form-returns-in_err-inner-clause-value t c =
@@ -790,7 +807,7 @@ let_form-returns-in_err-inner-clause-value t c =
     rw (p.1, p.2, c.in_err-inner.ensures.err) tt
 
 pub let_form-returns-in_err-inner-clause-reaches : goal.let_form-returns-in_err-inner-clause-reaches
-let_form-returns-in_err-inner-clause-reaches t c = let_terms (λ n. let_form n c.args.variables.now (parts_of n (expressions_of c.args.args.now))) c.args.variables.now (map held_name c.in_ok-names.names.items) c.as_slice-bindings.result.now c.index-args-1.result (λ n. let-list n c.args.variables.now c.args.args.now c.index-args-0.result c.index-args-1.result c.in-List.bindings c.as_slice-bindings.result.now (two_of c.args.args.now c.index-args-0.result c.index-args-1.result c.if-args-ne2.false c.index-args-0.is c.index-args-1.is) c.in-List.is c.as_slice-bindings.ensures.value ∙ c.in_ok-names.ensures.value c.args.needs n c.args.variables.now (part_of n (expression_of c.index-args-1.result))) c.args.sig.now c.bound_terms.new.sig c.in_ok-trees.ensures.reaches
+let_form-returns-in_err-inner-clause-reaches t c = let_terms (λ n. let_form n c.args.variables.now (parts_of n (expressions_of c.args.args.now))) c.args.variables.now (map held_name c.in_ok-names.names.items) c.as_slice-bindings.result.now c.index-args-1.result (λ n. let-list n c.args.variables.now c.args.args.now c.index-args-0.result c.index-args-1.result c.in-List.bindings c.as_slice-bindings.result.now (two_of c.args.args.now c.index-args-0.result c.index-args-1.result c.if-args-ne2.false c.index-args-0.is c.index-args-1.is) c.in-List.is c.as_slice-bindings.ensures.value ∙ c.in_ok-names.ensures.value c.args.needs n (λ names. let_of_names n c.args.variables.now names (parts_of n (expressions_of c.as_slice-bindings.result.now)) (part_of n (expression_of c.index-args-1.result)))) c.args.sig.now c.bound_terms.new.sig c.in_ok-trees.ensures.reaches
 
 pub let_form-under-requires : goal.let_form-under-requires
 let_form-under-requires t c =
@@ -799,17 +816,17 @@ let_form-under-requires t c =
     let inside = scope_grows d c.args.sig.now c.in_ok-trees.ensures.grown scope c.requires.variables in
     let bound : map variable_of c.as_slice-3.result.now ≡ variables (map held_name c.in_ok-names.names.items) c.in_ok-trees.sorts.items =
     ap (λ (xs : List BoundVariable). map variable_of xs) c.as_slice-3.ensures.value ∙ c.in_ok-inner.ensures.ok ∙ ap (λ (ns : List (Option (Bor (List ℕ)))). variables (map held_name ns) c.as_slice-2.result.now) c.as_slice.ensures.value ∙ ap (λ (ss : List SortId). variables (map held_name c.in_ok-names.names.items) ss) c.as_slice-2.ensures.value in
-    (omega (arith, nests_item c.args.args.now 1 c.index-args-1.result (omega arith) c.index-args-1.is, c.decreases), (subst (ScopeIn d) (sym c.in_ok-trees.ensures.restored) inside, subst (ScopeIn d) (sym bound) (let_variables (λ n. let_form n c.args.variables.now (parts_of n (expressions_of c.args.args.now))) c.args.variables.now (map held_name c.in_ok-names.names.items) c.as_slice-bindings.result.now c.index-args-1.result (λ n. let-list n c.args.variables.now c.args.args.now c.index-args-0.result c.index-args-1.result c.in-List.bindings c.as_slice-bindings.result.now (two_of c.args.args.now c.index-args-0.result c.index-args-1.result c.if-args-ne2.false c.index-args-0.is c.index-args-1.is) c.in-List.is c.as_slice-bindings.ensures.value ∙ c.in_ok-names.ensures.value c.args.needs n c.args.variables.now (part_of n (expression_of c.index-args-1.result))) c.args.sig.now c.bound_terms.new.sig c.in_ok-trees.ensures.reaches c.sorts.ensures.consistent c.sorts-2.ensures.consistent c.requires.variables c.in_ok-trees.trees.items c.in_ok-trees.sorts.items c.in_ok-trees.ensures.one_each c.in_ok-trees.ensures.value inside)))
+    (omega (arith, nests_item c.args.args.now 1 c.index-args-1.result (omega arith) c.index-args-1.is, c.decreases), (subst (ScopeIn d) (sym c.in_ok-trees.ensures.restored) inside, subst (ScopeIn d) (sym bound) (let_variables (λ n. let_form n c.args.variables.now (parts_of n (expressions_of c.args.args.now))) c.args.variables.now (map held_name c.in_ok-names.names.items) c.as_slice-bindings.result.now c.index-args-1.result (λ n. let-list n c.args.variables.now c.args.args.now c.index-args-0.result c.index-args-1.result c.in-List.bindings c.as_slice-bindings.result.now (two_of c.args.args.now c.index-args-0.result c.index-args-1.result c.if-args-ne2.false c.index-args-0.is c.index-args-1.is) c.in-List.is c.as_slice-bindings.ensures.value ∙ c.in_ok-names.ensures.value c.args.needs n (λ names. let_of_names n c.args.variables.now names (parts_of n (expressions_of c.as_slice-bindings.result.now)) (part_of n (expression_of c.index-args-1.result)))) c.args.sig.now c.bound_terms.new.sig c.in_ok-trees.ensures.reaches c.sorts.ensures.consistent c.sorts-2.ensures.consistent c.requires.variables c.in_ok-trees.trees.items c.in_ok-trees.sorts.items c.in_ok-trees.ensures.one_each c.in_ok-trees.ensures.value inside)))
 
 pub let_form-returns-in_err-tree-clause-value : goal.let_form-returns-in_err-tree-clause-value
 let_form-returns-in_err-tree-clause-value t c =
     let d = c.under.new.sig in
     let p = err_from_is_err_and c.from_residual-in_err-tree.result c.from_residual-in_err-tree.ensures.1 in
     rw (p.1, p.2) (stops_with c.args.needs d sorted_of sorted_of (elaborated d (bind (map variable_of c.as_slice-3.result.now) c.bound_terms.new.variables) (expression_of c.index-args-1.result)) (let_form d c.args.variables.now (parts_of d (expressions_of c.args.args.now))) _
-    (λ h e. let_is (λ n. let_form n c.args.variables.now (parts_of n (expressions_of c.args.args.now))) c.args.variables.now (map held_name c.in_ok-names.names.items) c.as_slice-bindings.result.now c.index-args-1.result (λ n. let-list n c.args.variables.now c.args.args.now c.index-args-0.result c.index-args-1.result c.in-List.bindings c.as_slice-bindings.result.now (two_of c.args.args.now c.index-args-0.result c.index-args-1.result c.if-args-ne2.false c.index-args-0.is c.index-args-1.is) c.in-List.is c.as_slice-bindings.ensures.value ∙ c.in_ok-names.ensures.value c.args.needs n c.args.variables.now (part_of n (expression_of c.index-args-1.result))) c.args.sig.now c.bound_terms.new.sig c.in_ok-trees.ensures.reaches c.sorts.ensures.consistent c.sorts-2.ensures.consistent c.requires.variables c.in_ok-trees.trees.items c.in_ok-trees.sorts.items c.in_ok-trees.ensures.one_each c.in_ok-trees.ensures.value (bind (map variable_of c.as_slice-3.result.now) c.bound_terms.new.variables) (inner-scope c.bound_terms.new.variables c.args.variables.now c.in_ok-names.names.items c.as_slice.result.now c.in_ok-trees.sorts.items c.as_slice-2.result.now c.in_ok-inner.inner.items c.as_slice-3.result.now c.in_ok-trees.ensures.restored c.as_slice.ensures.value c.as_slice-2.ensures.value c.in_ok-inner.ensures.ok c.as_slice-3.ensures.value) c.under.new.sig c.in_err-tree.ensures.reaches ∙ ap (λ (o : Elaborated Sorted). and_then o (λ u. Ok (formula.Let (formulas_of_trees c.in_ok-trees.trees.items) u.0, u.1))) e) c.in_err-tree.ensures.value)
+    (λ h e. let_is (λ n. let_form n c.args.variables.now (parts_of n (expressions_of c.args.args.now))) c.args.variables.now (map held_name c.in_ok-names.names.items) c.as_slice-bindings.result.now c.index-args-1.result (λ n. let-list n c.args.variables.now c.args.args.now c.index-args-0.result c.index-args-1.result c.in-List.bindings c.as_slice-bindings.result.now (two_of c.args.args.now c.index-args-0.result c.index-args-1.result c.if-args-ne2.false c.index-args-0.is c.index-args-1.is) c.in-List.is c.as_slice-bindings.ensures.value ∙ c.in_ok-names.ensures.value c.args.needs n (λ names. let_of_names n c.args.variables.now names (parts_of n (expressions_of c.as_slice-bindings.result.now)) (part_of n (expression_of c.index-args-1.result)))) c.args.sig.now c.bound_terms.new.sig c.in_ok-trees.ensures.reaches c.sorts.ensures.consistent c.sorts-2.ensures.consistent c.requires.variables c.in_ok-trees.trees.items c.in_ok-trees.sorts.items c.in_ok-trees.ensures.one_each c.in_ok-trees.ensures.value (bind (map variable_of c.as_slice-3.result.now) c.bound_terms.new.variables) (inner-scope c.bound_terms.new.variables c.args.variables.now c.in_ok-names.names.items c.as_slice.result.now c.in_ok-trees.sorts.items c.as_slice-2.result.now c.in_ok-inner.inner.items c.as_slice-3.result.now c.in_ok-trees.ensures.restored c.as_slice.ensures.value c.as_slice-2.ensures.value c.in_ok-inner.ensures.ok c.as_slice-3.ensures.value) c.under.new.sig c.in_err-tree.ensures.reaches ∙ ap (λ (o : Elaborated Sorted). and_then o (λ u. Ok (formula.Let (formulas_of_trees c.in_ok-trees.trees.items) u.0, u.1))) e) c.in_err-tree.ensures.value)
 
 pub let_form-returns-in_err-tree-clause-reaches : goal.let_form-returns-in_err-tree-clause-reaches
-let_form-returns-in_err-tree-clause-reaches t c = let_reached (λ n. let_form n c.args.variables.now (parts_of n (expressions_of c.args.args.now))) c.args.variables.now (map held_name c.in_ok-names.names.items) c.as_slice-bindings.result.now c.index-args-1.result (λ n. let-list n c.args.variables.now c.args.args.now c.index-args-0.result c.index-args-1.result c.in-List.bindings c.as_slice-bindings.result.now (two_of c.args.args.now c.index-args-0.result c.index-args-1.result c.if-args-ne2.false c.index-args-0.is c.index-args-1.is) c.in-List.is c.as_slice-bindings.ensures.value ∙ c.in_ok-names.ensures.value c.args.needs n c.args.variables.now (part_of n (expression_of c.index-args-1.result))) c.args.sig.now c.bound_terms.new.sig c.in_ok-trees.ensures.reaches c.sorts.ensures.consistent c.sorts-2.ensures.consistent c.requires.variables c.in_ok-trees.trees.items c.in_ok-trees.sorts.items c.in_ok-trees.ensures.one_each c.in_ok-trees.ensures.value (bind (map variable_of c.as_slice-3.result.now) c.bound_terms.new.variables) (inner-scope c.bound_terms.new.variables c.args.variables.now c.in_ok-names.names.items c.as_slice.result.now c.in_ok-trees.sorts.items c.as_slice-2.result.now c.in_ok-inner.inner.items c.as_slice-3.result.now c.in_ok-trees.ensures.restored c.as_slice.ensures.value c.as_slice-2.ensures.value c.in_ok-inner.ensures.ok c.as_slice-3.ensures.value) c.under.new.sig c.in_err-tree.ensures.reaches
+let_form-returns-in_err-tree-clause-reaches t c = let_reached (λ n. let_form n c.args.variables.now (parts_of n (expressions_of c.args.args.now))) c.args.variables.now (map held_name c.in_ok-names.names.items) c.as_slice-bindings.result.now c.index-args-1.result (λ n. let-list n c.args.variables.now c.args.args.now c.index-args-0.result c.index-args-1.result c.in-List.bindings c.as_slice-bindings.result.now (two_of c.args.args.now c.index-args-0.result c.index-args-1.result c.if-args-ne2.false c.index-args-0.is c.index-args-1.is) c.in-List.is c.as_slice-bindings.ensures.value ∙ c.in_ok-names.ensures.value c.args.needs n (λ names. let_of_names n c.args.variables.now names (parts_of n (expressions_of c.as_slice-bindings.result.now)) (part_of n (expression_of c.index-args-1.result)))) c.args.sig.now c.bound_terms.new.sig c.in_ok-trees.ensures.reaches c.sorts.ensures.consistent c.sorts-2.ensures.consistent c.requires.variables c.in_ok-trees.trees.items c.in_ok-trees.sorts.items c.in_ok-trees.ensures.one_each c.in_ok-trees.ensures.value (bind (map variable_of c.as_slice-3.result.now) c.bound_terms.new.variables) (inner-scope c.bound_terms.new.variables c.args.variables.now c.in_ok-names.names.items c.as_slice.result.now c.in_ok-trees.sorts.items c.as_slice-2.result.now c.in_ok-inner.inner.items c.as_slice-3.result.now c.in_ok-trees.ensures.restored c.as_slice.ensures.value c.as_slice-2.ensures.value c.in_ok-inner.ensures.ok c.as_slice-3.ensures.value) c.under.new.sig c.in_err-tree.ensures.reaches
 
 pub let_form-returns-in_err-tree-clause-grown : goal.let_form-returns-in_err-tree-clause-grown
 let_form-returns-in_err-tree-clause-grown t c = extends_further c.under.new.sig c.bound_terms.new.sig c.args.sig.now c.in_err-tree.ensures.grown c.in_ok-trees.ensures.grown
@@ -820,19 +837,19 @@ let_form-returns-in_err-let_tree-clause-value t c =
     rw (p.1, p.2) (stops_memory c.args.needs c.under.new.sig sorted_of (let_form c.under.new.sig c.args.variables.now (parts_of c.under.new.sig (expressions_of c.args.args.now))) _ c.in_err-let_tree.ensures.err)
 
 pub let_form-returns-in_err-let_tree-clause-reaches : goal.let_form-returns-in_err-let_tree-clause-reaches
-let_form-returns-in_err-let_tree-clause-reaches t c = let_reached (λ n. let_form n c.args.variables.now (parts_of n (expressions_of c.args.args.now))) c.args.variables.now (map held_name c.in_ok-names.names.items) c.as_slice-bindings.result.now c.index-args-1.result (λ n. let-list n c.args.variables.now c.args.args.now c.index-args-0.result c.index-args-1.result c.in-List.bindings c.as_slice-bindings.result.now (two_of c.args.args.now c.index-args-0.result c.index-args-1.result c.if-args-ne2.false c.index-args-0.is c.index-args-1.is) c.in-List.is c.as_slice-bindings.ensures.value ∙ c.in_ok-names.ensures.value c.args.needs n c.args.variables.now (part_of n (expression_of c.index-args-1.result))) c.args.sig.now c.bound_terms.new.sig c.in_ok-trees.ensures.reaches c.sorts.ensures.consistent c.sorts-2.ensures.consistent c.requires.variables c.in_ok-trees.trees.items c.in_ok-trees.sorts.items c.in_ok-trees.ensures.one_each c.in_ok-trees.ensures.value (bind (map variable_of c.as_slice-3.result.now) c.bound_terms.new.variables) (inner-scope c.bound_terms.new.variables c.args.variables.now c.in_ok-names.names.items c.as_slice.result.now c.in_ok-trees.sorts.items c.as_slice-2.result.now c.in_ok-inner.inner.items c.as_slice-3.result.now c.in_ok-trees.ensures.restored c.as_slice.ensures.value c.as_slice-2.ensures.value c.in_ok-inner.ensures.ok c.as_slice-3.ensures.value) c.under.new.sig c.in_ok-tree.ensures.reaches
+let_form-returns-in_err-let_tree-clause-reaches t c = let_reached (λ n. let_form n c.args.variables.now (parts_of n (expressions_of c.args.args.now))) c.args.variables.now (map held_name c.in_ok-names.names.items) c.as_slice-bindings.result.now c.index-args-1.result (λ n. let-list n c.args.variables.now c.args.args.now c.index-args-0.result c.index-args-1.result c.in-List.bindings c.as_slice-bindings.result.now (two_of c.args.args.now c.index-args-0.result c.index-args-1.result c.if-args-ne2.false c.index-args-0.is c.index-args-1.is) c.in-List.is c.as_slice-bindings.ensures.value ∙ c.in_ok-names.ensures.value c.args.needs n (λ names. let_of_names n c.args.variables.now names (parts_of n (expressions_of c.as_slice-bindings.result.now)) (part_of n (expression_of c.index-args-1.result)))) c.args.sig.now c.bound_terms.new.sig c.in_ok-trees.ensures.reaches c.sorts.ensures.consistent c.sorts-2.ensures.consistent c.requires.variables c.in_ok-trees.trees.items c.in_ok-trees.sorts.items c.in_ok-trees.ensures.one_each c.in_ok-trees.ensures.value (bind (map variable_of c.as_slice-3.result.now) c.bound_terms.new.variables) (inner-scope c.bound_terms.new.variables c.args.variables.now c.in_ok-names.names.items c.as_slice.result.now c.in_ok-trees.sorts.items c.as_slice-2.result.now c.in_ok-inner.inner.items c.as_slice-3.result.now c.in_ok-trees.ensures.restored c.as_slice.ensures.value c.as_slice-2.ensures.value c.in_ok-inner.ensures.ok c.as_slice-3.ensures.value) c.under.new.sig c.in_ok-tree.ensures.reaches
 
 pub let_form-returns-in_err-let_tree-clause-grown : goal.let_form-returns-in_err-let_tree-clause-grown
 let_form-returns-in_err-let_tree-clause-grown t c = extends_further c.under.new.sig c.bound_terms.new.sig c.args.sig.now c.in_ok-tree.ensures.grown c.in_ok-trees.ensures.grown
 
 pub let_form-returns-clause-value : goal.let_form-returns-clause-value
 let_form-returns-clause-value t c =
-    let_is (λ n. let_form n c.args.variables.now (parts_of n (expressions_of c.args.args.now))) c.args.variables.now (map held_name c.in_ok-names.names.items) c.as_slice-bindings.result.now c.index-args-1.result (λ n. let-list n c.args.variables.now c.args.args.now c.index-args-0.result c.index-args-1.result c.in-List.bindings c.as_slice-bindings.result.now (two_of c.args.args.now c.index-args-0.result c.index-args-1.result c.if-args-ne2.false c.index-args-0.is c.index-args-1.is) c.in-List.is c.as_slice-bindings.ensures.value ∙ c.in_ok-names.ensures.value c.args.needs n c.args.variables.now (part_of n (expression_of c.index-args-1.result))) c.args.sig.now c.bound_terms.new.sig c.in_ok-trees.ensures.reaches c.sorts.ensures.consistent c.sorts-2.ensures.consistent c.requires.variables c.in_ok-trees.trees.items c.in_ok-trees.sorts.items c.in_ok-trees.ensures.one_each c.in_ok-trees.ensures.value (bind (map variable_of c.as_slice-3.result.now) c.bound_terms.new.variables) (inner-scope c.bound_terms.new.variables c.args.variables.now c.in_ok-names.names.items c.as_slice.result.now c.in_ok-trees.sorts.items c.as_slice-2.result.now c.in_ok-inner.inner.items c.as_slice-3.result.now c.in_ok-trees.ensures.restored c.as_slice.ensures.value c.as_slice-2.ensures.value c.in_ok-inner.ensures.ok c.as_slice-3.ensures.value) c.under.new.sig c.in_ok-tree.ensures.reaches
+    let_is (λ n. let_form n c.args.variables.now (parts_of n (expressions_of c.args.args.now))) c.args.variables.now (map held_name c.in_ok-names.names.items) c.as_slice-bindings.result.now c.index-args-1.result (λ n. let-list n c.args.variables.now c.args.args.now c.index-args-0.result c.index-args-1.result c.in-List.bindings c.as_slice-bindings.result.now (two_of c.args.args.now c.index-args-0.result c.index-args-1.result c.if-args-ne2.false c.index-args-0.is c.index-args-1.is) c.in-List.is c.as_slice-bindings.ensures.value ∙ c.in_ok-names.ensures.value c.args.needs n (λ names. let_of_names n c.args.variables.now names (parts_of n (expressions_of c.as_slice-bindings.result.now)) (part_of n (expression_of c.index-args-1.result)))) c.args.sig.now c.bound_terms.new.sig c.in_ok-trees.ensures.reaches c.sorts.ensures.consistent c.sorts-2.ensures.consistent c.requires.variables c.in_ok-trees.trees.items c.in_ok-trees.sorts.items c.in_ok-trees.ensures.one_each c.in_ok-trees.ensures.value (bind (map variable_of c.as_slice-3.result.now) c.bound_terms.new.variables) (inner-scope c.bound_terms.new.variables c.args.variables.now c.in_ok-names.names.items c.as_slice.result.now c.in_ok-trees.sorts.items c.as_slice-2.result.now c.in_ok-inner.inner.items c.as_slice-3.result.now c.in_ok-trees.ensures.restored c.as_slice.ensures.value c.as_slice-2.ensures.value c.in_ok-inner.ensures.ok c.as_slice-3.ensures.value) c.under.new.sig c.in_ok-tree.ensures.reaches
     ∙ ap (λ (o : Elaborated Sorted). and_then o (λ u. Ok (formula.Let (formulas_of_trees c.in_ok-trees.trees.items) u.0, u.1))) c.in_ok-tree.ensures.value
     ∙ ap (λ f. Ok (f, c.in_ok-tree.sort)) (sym c.in_ok-let_tree.ensures.ok)
 
 pub let_form-returns-clause-reaches : goal.let_form-returns-clause-reaches
-let_form-returns-clause-reaches t c = let_reached (λ n. let_form n c.args.variables.now (parts_of n (expressions_of c.args.args.now))) c.args.variables.now (map held_name c.in_ok-names.names.items) c.as_slice-bindings.result.now c.index-args-1.result (λ n. let-list n c.args.variables.now c.args.args.now c.index-args-0.result c.index-args-1.result c.in-List.bindings c.as_slice-bindings.result.now (two_of c.args.args.now c.index-args-0.result c.index-args-1.result c.if-args-ne2.false c.index-args-0.is c.index-args-1.is) c.in-List.is c.as_slice-bindings.ensures.value ∙ c.in_ok-names.ensures.value c.args.needs n c.args.variables.now (part_of n (expression_of c.index-args-1.result))) c.args.sig.now c.bound_terms.new.sig c.in_ok-trees.ensures.reaches c.sorts.ensures.consistent c.sorts-2.ensures.consistent c.requires.variables c.in_ok-trees.trees.items c.in_ok-trees.sorts.items c.in_ok-trees.ensures.one_each c.in_ok-trees.ensures.value (bind (map variable_of c.as_slice-3.result.now) c.bound_terms.new.variables) (inner-scope c.bound_terms.new.variables c.args.variables.now c.in_ok-names.names.items c.as_slice.result.now c.in_ok-trees.sorts.items c.as_slice-2.result.now c.in_ok-inner.inner.items c.as_slice-3.result.now c.in_ok-trees.ensures.restored c.as_slice.ensures.value c.as_slice-2.ensures.value c.in_ok-inner.ensures.ok c.as_slice-3.ensures.value) c.under.new.sig c.in_ok-tree.ensures.reaches
+let_form-returns-clause-reaches t c = let_reached (λ n. let_form n c.args.variables.now (parts_of n (expressions_of c.args.args.now))) c.args.variables.now (map held_name c.in_ok-names.names.items) c.as_slice-bindings.result.now c.index-args-1.result (λ n. let-list n c.args.variables.now c.args.args.now c.index-args-0.result c.index-args-1.result c.in-List.bindings c.as_slice-bindings.result.now (two_of c.args.args.now c.index-args-0.result c.index-args-1.result c.if-args-ne2.false c.index-args-0.is c.index-args-1.is) c.in-List.is c.as_slice-bindings.ensures.value ∙ c.in_ok-names.ensures.value c.args.needs n (λ names. let_of_names n c.args.variables.now names (parts_of n (expressions_of c.as_slice-bindings.result.now)) (part_of n (expression_of c.index-args-1.result)))) c.args.sig.now c.bound_terms.new.sig c.in_ok-trees.ensures.reaches c.sorts.ensures.consistent c.sorts-2.ensures.consistent c.requires.variables c.in_ok-trees.trees.items c.in_ok-trees.sorts.items c.in_ok-trees.ensures.one_each c.in_ok-trees.ensures.value (bind (map variable_of c.as_slice-3.result.now) c.bound_terms.new.variables) (inner-scope c.bound_terms.new.variables c.args.variables.now c.in_ok-names.names.items c.as_slice.result.now c.in_ok-trees.sorts.items c.as_slice-2.result.now c.in_ok-inner.inner.items c.as_slice-3.result.now c.in_ok-trees.ensures.restored c.as_slice.ensures.value c.as_slice-2.ensures.value c.in_ok-inner.ensures.ok c.as_slice-3.ensures.value) c.under.new.sig c.in_ok-tree.ensures.reaches
 
 pub let_form-returns-clause-grown : goal.let_form-returns-clause-grown
 let_form-returns-clause-grown t c = extends_further c.under.new.sig c.bound_terms.new.sig c.args.sig.now c.in_ok-tree.ensures.grown c.in_ok-trees.ensures.grown
@@ -916,3 +933,91 @@ match_form-returns-clause-reaches t c = match_reached (λ n. match_form n c.args
 
 pub match_form-returns-clause-grown : goal.match_form-returns-clause-grown
 match_form-returns-clause-grown t c = extends_further c.checked_cases.new.sig c.term.new.sig c.args.sig.now c.in_ok-checked.ensures.grown c.in_ok-subject.ensures.grown
+
+-- ---- quantified_form
+
+pub quantified_form-returns-then-args-ne2-clause-value : goal.quantified_form-returns-then-args-ne2-clause-value
+quantified_form-returns-then-args-ne2-clause-value t c = quantified-length c.args.sig.now c.args.variables.now c.args.quantifier c.args.args.now c.if-args-ne2.true
+
+pub quantified_form-returns-then-args-ne2-clause-reaches : goal.quantified_form-returns-then-args-ne2-clause-reaches
+quantified_form-returns-then-args-ne2-clause-reaches t c = as_they_are c.args.sig.now
+
+pub quantified_form-returns-in_err-inner-clause-value : goal.quantified_form-returns-in_err-inner-clause-value
+quantified_form-returns-in_err-inner-clause-value t c =
+    let d = c.quantified_variables.new.sig in
+    let scope = c.args.variables.now in
+    let q = c.args.quantifier in
+    let body = expression_of c.index-args-1.result in
+    let p = err_from_is_err_and c.from_residual.result c.from_residual.ensures.1 in
+    rw (p.1, p.2) (stops_head c.args.needs d (λ n. quantified_form n scope q (parts_of n (expressions_of c.args.args.now))) (with_list scope q c.index-args-0.result body) (λ n r. with_body scope q body r n) sorted_of _
+    (quantified-items d scope q c.args.args.now c.index-args-0.result c.index-args-1.result (two_of c.args.args.now c.index-args-0.result c.index-args-1.result c.if-args-ne2.false c.index-args-0.is c.index-args-1.is))
+    (c.in_err-inner.ensures.value scope q body))
+
+pub quantified_form-returns-in_err-inner-clause-reaches : goal.quantified_form-returns-in_err-inner-clause-reaches
+quantified_form-returns-in_err-inner-clause-reaches t c =
+    let scope = c.args.variables.now in
+    let q = c.args.quantifier in
+    reaches_same (with_list scope q c.index-args-0.result (expression_of c.index-args-1.result)) (λ n. quantified_form n scope q (parts_of n (expressions_of c.args.args.now))) c.args.sig.now c.quantified_variables.new.sig
+    (λ n _. quantified-items n scope q c.args.args.now c.index-args-0.result c.index-args-1.result (two_of c.args.args.now c.index-args-0.result c.index-args-1.result c.if-args-ne2.false c.index-args-0.is c.index-args-1.is))
+    (c.in_err-inner.ensures.reaches scope q (expression_of c.index-args-1.result))
+
+pub quantified_form-under-requires : goal.quantified_form-under-requires
+quantified_form-under-requires t c =
+    let d = c.quantified_variables.new.sig in (
+      omega (arith, nests_item c.args.args.now 1 c.index-args-1.result (omega arith) c.index-args-1.is, c.decreases),
+      (
+        scope_grows d c.args.sig.now c.in_ok-inner.ensures.grown c.args.variables.now c.requires.variables,
+        subst (λ (xs : List BoundVariable). ScopeIn d (map variable_of xs)) (sym c.as_slice-bound.ensures.value) c.in_ok-inner.ensures.inside,
+      ),
+    )
+
+pub quantified_form-returns-in_err-tree-clause-value : goal.quantified_form-returns-in_err-tree-clause-value
+quantified_form-returns-in_err-tree-clause-value t c =
+    let d = c.under.new.sig in
+    let scope = c.args.variables.now in
+    let q = c.args.quantifier in
+    let body = expression_of c.index-args-1.result in
+    let p = err_from_is_err_and c.from_residual-in_err-tree.result c.from_residual-in_err-tree.ensures.1 in
+    rw (p.1, p.2) (stops_with c.args.needs d sorted_of sorted_of (elaborated d (bind (map variable_of c.as_slice-bound.result.now) scope) body) (quantified_form d scope q (parts_of d (expressions_of c.args.args.now))) _
+    (body_stop (λ n. quantified_form n scope q (parts_of n (expressions_of c.args.args.now))) scope q c.index-args-0.result body
+    (λ n. quantified-items n scope q c.args.args.now c.index-args-0.result c.index-args-1.result (two_of c.args.args.now c.index-args-0.result c.index-args-1.result c.if-args-ne2.false c.index-args-0.is c.index-args-1.is))
+    c.in_ok-inner.inner c.args.sig.now c.quantified_variables.new.sig (c.in_ok-inner.ensures.value scope q body) (c.in_ok-inner.ensures.reaches scope q body) c.as_slice-bound.result.now c.as_slice-bound.ensures.value d c.in_err-tree.ensures.reaches)
+    c.in_err-tree.ensures.value)
+
+pub quantified_form-returns-in_err-tree-clause-reaches : goal.quantified_form-returns-in_err-tree-clause-reaches
+quantified_form-returns-in_err-tree-clause-reaches t c =
+    let d = c.under.new.sig in
+    let scope = c.args.variables.now in
+    let q = c.args.quantifier in
+    let body = expression_of c.index-args-1.result in
+    body_reached (λ n. quantified_form n scope q (parts_of n (expressions_of c.args.args.now))) scope q c.index-args-0.result body
+    (λ n. quantified-items n scope q c.args.args.now c.index-args-0.result c.index-args-1.result (two_of c.args.args.now c.index-args-0.result c.index-args-1.result c.if-args-ne2.false c.index-args-0.is c.index-args-1.is))
+    c.in_ok-inner.inner c.args.sig.now c.quantified_variables.new.sig (c.in_ok-inner.ensures.value scope q body) (c.in_ok-inner.ensures.reaches scope q body) c.as_slice-bound.result.now c.as_slice-bound.ensures.value d c.in_err-tree.ensures.reaches
+
+pub quantified_form-returns-in_err-tree-clause-grown : goal.quantified_form-returns-in_err-tree-clause-grown
+quantified_form-returns-in_err-tree-clause-grown t c = extends_further c.under.new.sig c.quantified_variables.new.sig c.args.sig.now c.in_err-tree.ensures.grown c.in_ok-inner.ensures.grown
+
+pub quantified_form-returns-clause-value : goal.quantified_form-returns-clause-value
+quantified_form-returns-clause-value t c =
+    let d = c.under.new.sig in
+    let scope = c.args.variables.now in
+    let q = c.args.quantifier in
+    let body = expression_of c.index-args-1.result in
+    stops_along c.args.needs d sorted_of (quantified_form d scope q (parts_of d (expressions_of c.args.args.now))) (quantified_with q c.in_ok-inner.inner.sorts.items (sorted_of (c.in_ok-tree.tree, c.in_ok-tree.sort))) c.quantified_tree.result
+    (body_met (λ n. quantified_form n scope q (parts_of n (expressions_of c.args.args.now))) scope q c.index-args-0.result body
+    (λ n. quantified-items n scope q c.args.args.now c.index-args-0.result c.index-args-1.result (two_of c.args.args.now c.index-args-0.result c.index-args-1.result c.if-args-ne2.false c.index-args-0.is c.index-args-1.is))
+    c.in_ok-inner.inner c.args.sig.now c.quantified_variables.new.sig (c.in_ok-inner.ensures.value scope q body) (c.in_ok-inner.ensures.reaches scope q body) c.as_slice-bound.result.now c.as_slice-bound.ensures.value d c.in_ok-tree.ensures.reaches (sorted_of (c.in_ok-tree.tree, c.in_ok-tree.sort)) c.in_ok-tree.ensures.value)
+    (c.quantified_tree.ensures.value c.args.needs d)
+
+pub quantified_form-returns-clause-reaches : goal.quantified_form-returns-clause-reaches
+quantified_form-returns-clause-reaches t c =
+    let d = c.under.new.sig in
+    let scope = c.args.variables.now in
+    let q = c.args.quantifier in
+    let body = expression_of c.index-args-1.result in
+    body_reached (λ n. quantified_form n scope q (parts_of n (expressions_of c.args.args.now))) scope q c.index-args-0.result body
+    (λ n. quantified-items n scope q c.args.args.now c.index-args-0.result c.index-args-1.result (two_of c.args.args.now c.index-args-0.result c.index-args-1.result c.if-args-ne2.false c.index-args-0.is c.index-args-1.is))
+    c.in_ok-inner.inner c.args.sig.now c.quantified_variables.new.sig (c.in_ok-inner.ensures.value scope q body) (c.in_ok-inner.ensures.reaches scope q body) c.as_slice-bound.result.now c.as_slice-bound.ensures.value d c.in_ok-tree.ensures.reaches
+
+pub quantified_form-returns-clause-grown : goal.quantified_form-returns-clause-grown
+quantified_form-returns-clause-grown t c = extends_further c.under.new.sig c.quantified_variables.new.sig c.args.sig.now c.in_ok-tree.ensures.grown c.in_ok-inner.ensures.grown

@@ -31,6 +31,9 @@ decreases-terms l = 5 * nesting_of_each (expressions_of l.exprs.now) + 1
 abbrev pub decreases-let_form : goal.decreases-let_form
 decreases-let_form l = 5 * nesting_of_each (expressions_of l.args.now) + 2
 
+abbrev pub decreases-quantified_form : goal.decreases-quantified_form
+decreases-quantified_form l = 5 * nesting_of_each (expressions_of l.args.now) + 2
+
 abbrev pub decreases-under : goal.decreases-under
 decreases-under l = 5 * nesting (expression_of l.body.now) + 1
 

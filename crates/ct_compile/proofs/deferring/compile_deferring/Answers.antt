@@ -1,7 +1,9 @@
-use Rattle.std.proofs.Common.{◌≡◌, [], map, not, option_to_list, refl, ap, ◌∙◌}
+use Rattle.std.proofs.Common.{◌≡◌, ℕ, List, [], map, not, option_to_list, refl, sym, ap, subst, ◌∙◌}
+use Rattle.std.specs.List.{AllByRecursion}
 use Rattle.std.proofs.lemmas.Result.{err_from_is_err_and}
 use Rattle.ct_terms.specs.declared.error.TermError.TheVariants.{NoMemory}
 use Rattle.ct_formulas.specs.TreeFormula.{formula_of}
+use Rattle.ct_finite.specs.Counts.{AreCounts}
 use Rattle.ct_occurrence.specs.Marks.{worked_in}
 use Rattle.ct_compile.proofs.AttemptLemmas.{emptied, way_ready, way_out, way_failed, way_next, way_fewer, way_more, way_end}
 use Rattle.ct_compile.proofs.deferring.compile_deferring.Goals.{in-Ok+else-is_none, in-Err-TooDeep+in_ok-push-in-Err-TooDeep}
@@ -89,3 +91,8 @@ returns c =
     let may = c.requires.ready in
     let loop = c.loop in
     record { outcome = way_out d bodies rows n t start may loop.table loop.known loop.calls.items loop.invariant NoMemory refl }
+
+pub attempt-requires-clause-noted : goal.attempt-requires-clause-noted
+attempt-requires-clause-noted c =
+    let none = subst (λ (known : List (List ℕ)). AllByRecursion (λ finite. AreCounts c.args.scope.now.sig finite) known) (sym c.no_finite.ensures.value) tt in
+    ((c.requires.noted.0, none), c.requires.noted.1)

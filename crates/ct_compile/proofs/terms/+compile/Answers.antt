@@ -1,4 +1,4 @@
-use Rattle.std.proofs.Common.{◌≡◌, ◌-◌, ◌<◌, ◌==◌, ℕ, Bool, true, false, List, ◌∷◌, [], ◌++◌, length, take, drop, map, reverse, IfOk, IsErrOf, Result, Some, None, Ok, Err, slice_get, refl, ap, subst, sym, ◌∙◌, arith, true≢false}
+use Rattle.std.proofs.Common.{◌≡◌, ◌+◌, ◌-◌, ◌<◌, ◌==◌, ℕ, Bool, true, false, List, ◌∷◌, [], ◌++◌, length, take, drop, map, reverse, IfOk, IsErrOf, Result, Some, None, Ok, Err, slice_get, refl, ap, subst, sym, ◌∙◌, arith, true≢false}
 use Rattle.std.proofs.lemmas.List.{reverse-append}
 use Rattle.std.proofs.lemmas.Bool.Decides.{Decides-eqb}
 use Rattle.std.proofs.lemmas.Result.{err_from_is_err_and}
@@ -16,7 +16,7 @@ use Rattle.ct_terms.specs.CoreSorts.{HasTreeSort}
 use Rattle.ct_operators.specs.declared.choosing.Guarded.{Guarded}
 use Rattle.ct_operators.specs.Effect.{Stands, Within, Effect}
 use Rattle.ct_operators.specs.Chosen.{chosen_from, IsGuardedIn}
-use Rattle.ct_formulas.specs.Formula.{Cases, Def, Ite, Let, Match, with_case, bind}
+use Rattle.ct_formulas.specs.Formula.{Formulas, Cases, Def, Ite, Let, Match, Quantified, with_case, bind}
 use Rattle.ct_formulas.specs.Compiled.{are_none}
 use Rattle.ct_formulas.specs.Occurrence.{count_of, occurs, uses_below}
 use Rattle.ct_formulas.specs.TreeFormula.{formula_of, formulas_of_trees}
@@ -33,18 +33,31 @@ use Rattle.ct_scope.specs.Compilable.{MayCompile, Compiles, CompilesAll}
 use Rattle.ct_occurrence.specs.Noted.{IsOfFirst, IsNoted, AreNoted, CasesNoted}
 use Rattle.ct_scope.proofs.Weight.{weights_below}
 use Rattle.ct_scope.proofs.BindLemmas.{bind_left}
-use Rattle.ct_compile.proofs.NoteLemmas.{first_inside, call_known, plain_notes, condition_notes, then_notes, else_notes, let_flags, let_under, let_inner, call_notes, match_inside, match_flag, match_under, match_inner, case_notes, later_cases, where_split}
-use Rattle.ct_compile.proofs.CycleLemmas.{compiles_nothing, compiles_grown, plain_children, plain_waits, plain_failed, plain_kept, plain_below, plain_operands, plain_made, Collects, collects_start, collects_next, collects_lighter, collects_waits, collects_failed, collects_follows, collects_broken, collects_out, collects_grown, collects_more, collects_end}
+use Rattle.ct_compile.proofs.NoteLemmas.{first_inside, quantified_flags, quantified_inner, call_known, plain_notes, condition_notes, then_notes, else_notes, let_flags, let_under, let_inner, call_notes, match_inside, match_flag, match_under, match_inner, case_notes, later_cases, where_split}
+use Rattle.ct_compile.proofs.CycleLemmas.{compiles_nothing, compiles_grown, IsOver, quantified_over, over_children, over_waits, over_failed, over_kept, over_below, over_operands, over_made, plain_children, plain_waits, plain_failed, plain_kept, plain_below, plain_operands, plain_made, Collects, collects_start, collects_next, collects_lighter, collects_waits, collects_failed, collects_follows, collects_broken, collects_out, collects_grown, collects_more, collects_end}
 use Rattle.ct_scope.proofs.ChoiceLemmas.{choice_condition, choice_then, choice_else, choice_waits_1, choice_failed_1, choice_waits_2, choice_failed_2, choice_waits_3, choice_failed_3, choice_kept, choice_below, choice_sorted, choice_made}
 use Rattle.ct_scope.proofs.BindingLemmas.{completes_stopped, completes_waits, Completes, completes_start, completes_flag, completes_split, completes_all, completes_out, completes_absent, completes_lighter, completes_next, completes_term, flags_split}
 use Rattle.ct_scope.proofs.DefinitionLemmas.{weights_is}
-use Rattle.ct_scope.proofs.UnderLemmas.{under_may, under_stopped, under_waits, under_later, under_out, under_known, under_body, under_made, under_has, under_lost, let_view}
+use Rattle.ct_scope.proofs.UnderLemmas.{under_may, under_failed, listed_length, under_stopped, under_waits, under_later, under_out, under_known, under_body, under_made, under_has, under_lost, let_view}
 use Rattle.ct_scope.proofs.CallingLemmas.{state_stays, state_within, state_made, state_below, state_back, state_with, row_is, call_under, known_stands, known_made, call_recalled, call_waits}
 use Rattle.ct_scope.proofs.MatchLemmas.{case_declared, case_body, case_ends, test_kept, test_there, test_bound, test_failed, test_grown, first_may, first_failed, case_chosen, ends_waits, first_stopped, first_waits}
 use Rattle.ct_compile.proofs.ChoosesLemmas.{chooses_stopped, chooses_waits, Chooses, chooses_start, chooses_may, chooses_failed, last_kept, last_below, last_inside, last_sorted, chooses_end, chooses_lighter, chooses_more, chooses_none}
 use Rattle.ct_scope.proofs.FormLemmas.{match_may, match_stopped, match_waits, match_later, defers_as, match_some, match_cases, match_made, may_bind_as, binds_as, one_weight, cases_is, none_is, not_full}
 use Rattle.ct_scope.specs.Deferral.{ended, Defers}
 use Rattle.ct_scope.proofs.DeferralLemmas.{ended_by, goes_on_by, too_deep_by, IsPutOff, ArePutOff}
+use Rattle.ct_lemmas.proofs.Contained.{Contains-from_slice_get}
+use Rattle.ct_lemmas.proofs.Lists.{slice_get-there}
+use Rattle.ct_listing.specs.Closed.{ClosedValue}
+use Rattle.ct_formulas.specs.Choices.{choices_of}
+use Rattle.ct_formulas.proofs.QuantifierLemmas.{choice_length}
+use Rattle.ct_finite.specs.Choosing.{IsChoice, AreLike}
+use Rattle.ct_finite.specs.Counts.{AreCounts}
+use Rattle.ct_operators.specs.declared.operator.Operator.{Operator}
+use Rattle.ct_scope.specs.Choosing.{chosen, all_chosen, formulas_of_values, AreChosen}
+use Rattle.ct_scope.proofs.ChosenLemmas.{count_values, may_choose, binds_values, choice_again, chosen_more, chosen_stay, chosen_none}
+use Rattle.ct_scope.specs.Values.{AreValueTerms}
+use Rattle.ct_scope.proofs.ValueLemmas.{values_stay}
+use Rattle.ct_compile.proofs.OverLemmas.{left_from, left_next, left_end, last_test, chosen_long}
 use Rattle.ct_compile.proofs.terms.+compile.Goals as goal
 
 -- where the rest is not empty there is a formula more
@@ -55,6 +68,11 @@ ends_short (x ∷ xs) b is e = omega arith
 ends_last : (xs : List Tree) (b : Bool) → b ≡ (length xs == 0) → b ≡ true → count_of (formulas_of_trees xs) ≡ 0
 ends_last [] b is e = refl
 ends_last (x ∷ xs) b is e = absurd (omega (arith, (Decides-eqb (length (x ∷ xs)) 0).0 (sym is ∙ e)))
+
+-- what is so anyway
+where_ok : {A E : Type 0} (r : Result A E) (P : Type 0) → P → IfOk r (λ u. P)
+where_ok (Ok u) P p = p
+where_ok (Err e) P p = tt
 
 pub compile_all-loop-rest-init : goal.compile_all-loop-rest-init
 compile_all-loop-rest-init t c =
@@ -400,7 +418,7 @@ compile_call-compile_tree-requires t c =
     let inner_is : c.of-inner.result ≡ bind c.in_ok-bounds.bounds [] = c.of-inner.ensures.bound ∙ ap (λ (xs : List Bound). bind xs []) c.into_vec.ensures.value in
     let below = c.requires.ready.3.mentions.0 in
     let known = call_known c.args.level.now.scope.now.sig (worked_in c.args.level.now.definitions.now) (uses_below c.args.level.now.scope.now.sig (map formula_of c.args.level.now.scope.now.bodies) c.args.level.now.below) c.args.k (formulas_of_trees c.args.trees.now) c.args.notes.now c.requires.noted.1 in
-    let noted = c.requires.noted.0 c.args.k (formula_of c.body_at-body.result.now) known.0 c.body_at-body.ensures.value known.1 in
+    let noted = c.requires.noted.0.0 c.args.k (formula_of c.body_at-body.result.now) known.0 c.body_at-body.ensures.value known.1 in
     (omega (arith, c.decreases, weights_is (map formula_of c.args.level.now.scope.now.bodies) c.args.k (formula_of c.body_at-body.result.now) c.body_at-body.ensures.value c.args.level.now.below below), (state_below c.args.level.now.scope.now.sig (map formula_of c.args.level.now.scope.now.bodies) (worked_in c.args.level.now.definitions.now) c.args.k.0 c.args.level.now.below c.compile_bound.new.table c.compile_bound.new.known c.requires.ready.3.setting.sound (omega (arith, below)) c.in_ok-bounds.ensures.state, (subst (λ (xs : List Bound). MayCompile c.args.level.now.scope.now.sig (map formula_of c.args.level.now.scope.now.bodies) c.compile_bound.new.table c.args.k.0 xs (formula_of c.body_at-body.result.now)) (sym inner_is) (under_body c.args.level.now.scope.now.sig (map formula_of c.args.level.now.scope.now.bodies) c.args.level.now.below c.args.k.0 c.args.table.now c.args.env.now [] c.row_at-row.result.now (Def c.args.k (formulas_of_trees c.args.trees.now)) (formulas_of_trees c.args.trees.now) (formula_of c.body_at-body.result.now) (call_under c.args.level.now.scope.now.sig (map formula_of c.args.level.now.scope.now.bodies) c.args.level.now.below (worked_in c.args.level.now.definitions.now) c.args.table.now c.args.env.now c.args.k (formulas_of_trees c.args.trees.now) c.row_at-row.result.now c.row_at-row.ensures.value (formula_of c.body_at-body.result.now) c.body_at-body.ensures.value c.requires.state.have) c.compile_bound.new.table c.in_ok-bounds.bounds c.in_ok-bounds.ensures.outcome c.requires.ready), (c.requires.noted.0, subst (IsOfFirst (IsNoted c.args.level.now.scope.now.sig (worked_in c.args.level.now.definitions.now) (uses_below c.args.level.now.scope.now.sig (map formula_of c.args.level.now.scope.now.bodies) c.args.k.0) (formula_of c.body_at-body.result.now))) (sym (c.notes_at-body_notes.ensures.value known.0 known.1)) noted))))
 
 pub compile_call-returns-in_err-term-clause-outcome : goal.compile_call-returns-in_err-term-clause-outcome
@@ -867,3 +885,278 @@ compile_call-notes_at-body_notes-requires t c = record { known = call_known c.ar
 
 pub compile_call-row_at-row-requires : goal.compile_call-row_at-row-requires
 compile_call-row_at-row-requires t c = record { known = call_known c.args.level.now.scope.now.sig (worked_in c.args.level.now.definitions.now) (uses_below c.args.level.now.scope.now.sig (map formula_of c.args.level.now.scope.now.bodies) c.args.level.now.below) c.args.k (formulas_of_trees c.args.trees.now) c.args.notes.now c.requires.noted.1 }
+
+-- ---- quantifiers
+
+pub compile_quantified-compile_over-requires : goal.compile_quantified-compile_over-requires
+compile_quantified-compile_over-requires t c =
+    (omega (arith, c.decreases), (c.in-Some.ensures.counts, (c.requires.state, (c.requires.ready, c.requires.noted))))
+
+pub compile_quantified-returns-in_err-finite-clause-outcome : goal.compile_quantified-returns-in_err-finite-clause-outcome
+compile_quantified-returns-in_err-finite-clause-outcome t c =
+    let p = err_from_is_err_and c.from_residual.result c.from_residual.ensures.1 in
+    rw (p.1, p.2) (compiles_nothing c.args.level.now.scope.now.sig (map formula_of c.args.level.now.scope.now.bodies) c.args.level.now.below c.args.table.now c.args.env.now (Quantified c.args.quantifier c.args.sorts.now (formula_of c.args.body.now)) NoMemory refl)
+
+pub compile_quantified-compile_over-requires-2 : goal.compile_quantified-compile_over-requires-2
+compile_quantified-compile_over-requires-2 t c =
+    let counts = subst (λ (known : List (List ℕ)). AllByRecursion (λ finite. AreCounts c.args.level.now.scope.now.sig finite) known) (sym c.one_finite-listed.ensures.value) (c.in_ok-finite.ensures.counts, tt) in
+    (omega (arith, c.decreases), (c.in_ok-finite.ensures.counts, (c.requires.state, (c.requires.ready, ((c.requires.noted.0.0, counts), c.requires.noted.1)))))
+
+pub compile_over-first_note-note-requires : goal.compile_over-first_note-note-requires
+compile_over-first_note-note-requires t c =
+    record { some = first_inside (IsNoted c.args.level.now.scope.now.sig (worked_in c.args.level.now.definitions.now) (uses_below c.args.level.now.scope.now.sig (map formula_of c.args.level.now.scope.now.bodies) c.args.level.now.below) (Quantified c.args.quantifier c.args.sorts.now (formula_of c.args.body.now))) c.args.notes.now c.requires.noted.1 }
+
+pub compile_over-compile_choices-requires : goal.compile_over-compile_choices-requires
+compile_over-compile_choices-requires t c =
+    let all = over_children c.args.level.now.scope.now.sig (map formula_of c.args.level.now.scope.now.bodies) c.args.level.now.below c.args.table.now c.args.env.now (Quantified c.args.quantifier c.args.sorts.now (formula_of c.args.body.now)) (all_chosen c.args.level.now.scope.now.sig c.args.sorts.now (formula_of c.args.body.now)) c.operator_of-operator.result (subst (λ (o : Operator). IsOver c.args.level.now.scope.now.sig (map formula_of c.args.level.now.scope.now.bodies) c.args.level.now.below c.args.table.now c.args.env.now (Quantified c.args.quantifier c.args.sorts.now (formula_of c.args.body.now)) (all_chosen c.args.level.now.scope.now.sig c.args.sorts.now (formula_of c.args.body.now)) o) (sym c.operator_of-operator.ensures.value) (quantified_over c.args.level.now.scope.now.sig (map formula_of c.args.level.now.scope.now.bodies) c.args.level.now.below c.args.table.now c.args.env.now c.args.quantifier c.args.sorts.now (formula_of c.args.body.now))) c.requires.ready in
+    let inner = quantified_inner c.args.level.now.scope.now.sig (worked_in c.args.level.now.definitions.now) (uses_below c.args.level.now.scope.now.sig (map formula_of c.args.level.now.scope.now.bodies) c.args.level.now.below) c.args.notes.now c.first_note-note.result.now c.first_note-note.ensures.value c.args.quantifier c.args.sorts.now (formula_of c.args.body.now) c.inner.result.now c.inner.ensures.value c.requires.noted.1 in (
+      omega (arith, c.decreases),
+      (
+        c.operator_of-operator.ensures.value,
+        (
+          record {
+            counts = c.requires.counts;
+            sorts = c.requires.ready.3.sorted.0;
+            flags = quantified_flags c.args.level.now.scope.now.sig (worked_in c.args.level.now.definitions.now) (uses_below c.args.level.now.scope.now.sig (map formula_of c.args.level.now.scope.now.bodies) c.args.level.now.below) c.args.notes.now c.first_note-note.result.now c.first_note-note.ensures.value c.args.quantifier c.args.sorts.now (formula_of c.args.body.now) c.bound.result.now c.bound.ensures.value c.requires.noted.1;
+          },
+          (c.requires.state, (c.requires.ready, (all, (c.requires.noted.0, inner)))),
+        ),
+      ),
+    )
+
+pub compile_over-returns-in_err-args-clause-outcome : goal.compile_over-returns-in_err-args-clause-outcome
+compile_over-returns-in_err-args-clause-outcome t c =
+    let p = err_from_is_err_and c.from_residual.result c.from_residual.ensures.1 in
+    rw (p.1, p.2) (ended_by _ (λ (r : Result (List TermId) TermError). CompilesAll c.args.level.now.scope.now.sig (map formula_of c.args.level.now.scope.now.bodies) c.args.level.now.below c.args.table.now c.compile_choices.new.table c.args.env.now c.operator_of-operator.result (all_chosen c.args.level.now.scope.now.sig c.args.sorts.now (formula_of c.args.body.now)) r) (λ (r : Result TermId TermError). Compiles c.args.level.now.scope.now.sig (map formula_of c.args.level.now.scope.now.bodies) c.args.level.now.below c.args.table.now c.compile_choices.new.table c.args.env.now (Quantified c.args.quantifier c.args.sorts.now (formula_of c.args.body.now)) r) (λ e k. over_failed c.args.level.now.scope.now.sig (map formula_of c.args.level.now.scope.now.bodies) c.args.level.now.below c.args.table.now c.args.env.now (Quantified c.args.quantifier c.args.sorts.now (formula_of c.args.body.now)) (all_chosen c.args.level.now.scope.now.sig c.args.sorts.now (formula_of c.args.body.now)) c.operator_of-operator.result (subst (λ (o : Operator). IsOver c.args.level.now.scope.now.sig (map formula_of c.args.level.now.scope.now.bodies) c.args.level.now.below c.args.table.now c.args.env.now (Quantified c.args.quantifier c.args.sorts.now (formula_of c.args.body.now)) (all_chosen c.args.level.now.scope.now.sig c.args.sorts.now (formula_of c.args.body.now)) o) (sym c.operator_of-operator.ensures.value) (quantified_over c.args.level.now.scope.now.sig (map formula_of c.args.level.now.scope.now.bodies) c.args.level.now.below c.args.table.now c.args.env.now c.args.quantifier c.args.sorts.now (formula_of c.args.body.now))) c.compile_choices.new.table e k) c.in_err-args.ensures.outcome)
+
+pub compile_over-returns-in_err-args-clause-waits : goal.compile_over-returns-in_err-args-clause-waits
+compile_over-returns-in_err-args-clause-waits t c =
+    let p = err_from_is_err_and c.from_residual.result c.from_residual.ensures.1 in
+    rw (p.1, p.2) (too_deep_by (List TermId) TermId _ (λ call. ArePutOff c.args.level.now.scope.now.sig (map formula_of c.args.level.now.scope.now.bodies) (worked_in c.args.level.now.definitions.now) c.args.level.now.below c.args.table.now c.compile_choices.new.table c.args.env.now c.operator_of-operator.result (all_chosen c.args.level.now.scope.now.sig c.args.sorts.now (formula_of c.args.body.now)) call) (λ call. IsPutOff c.args.level.now.scope.now.sig (map formula_of c.args.level.now.scope.now.bodies) (worked_in c.args.level.now.definitions.now) c.args.level.now.below c.args.table.now c.compile_choices.new.table c.args.env.now (Quantified c.args.quantifier c.args.sorts.now (formula_of c.args.body.now)) call) (λ call k. over_waits c.args.level.now.scope.now.sig (map formula_of c.args.level.now.scope.now.bodies) c.args.level.now.below c.args.table.now c.args.env.now (Quantified c.args.quantifier c.args.sorts.now (formula_of c.args.body.now)) (all_chosen c.args.level.now.scope.now.sig c.args.sorts.now (formula_of c.args.body.now)) c.operator_of-operator.result (subst (λ (o : Operator). IsOver c.args.level.now.scope.now.sig (map formula_of c.args.level.now.scope.now.bodies) c.args.level.now.below c.args.table.now c.args.env.now (Quantified c.args.quantifier c.args.sorts.now (formula_of c.args.body.now)) (all_chosen c.args.level.now.scope.now.sig c.args.sorts.now (formula_of c.args.body.now)) o) (sym c.operator_of-operator.ensures.value) (quantified_over c.args.level.now.scope.now.sig (map formula_of c.args.level.now.scope.now.bodies) c.args.level.now.below c.args.table.now c.args.env.now c.args.quantifier c.args.sorts.now (formula_of c.args.body.now))) (worked_in c.args.level.now.definitions.now) c.compile_choices.new.table call k) c.in_err-args.ensures.waits)
+
+pub compile_over-returns-in_err-args-clause-state : goal.compile_over-returns-in_err-args-clause-state
+compile_over-returns-in_err-args-clause-state t c =
+    let p = err_from_is_err_and c.from_residual.result c.from_residual.ensures.1 in
+    rw (p.1, p.2) (goes_on_by (List TermId) TermId _ (IsState c.args.level.now.scope.now.sig (map formula_of c.args.level.now.scope.now.bodies) c.args.level.now.below (worked_in c.args.level.now.definitions.now) c.compile_choices.new.table c.compile_choices.new.known) (IsState c.args.level.now.scope.now.sig (map formula_of c.args.level.now.scope.now.bodies) c.args.level.now.below (worked_in c.args.level.now.definitions.now) c.compile_choices.new.table c.compile_choices.new.known) (λ k. k) c.in_err-args.ensures.state)
+
+pub compile_over-returns-in_err-args-clause-unknown : goal.compile_over-returns-in_err-args-clause-unknown
+compile_over-returns-in_err-args-clause-unknown t c =
+    let p = err_from_is_err_and c.from_residual.result c.from_residual.ensures.1 in
+    rw (p.1, p.2) (too_deep_by (List TermId) TermId _ (λ call. IsUnknown c.compile_choices.new.known call) (λ call. IsUnknown c.compile_choices.new.known call) (λ call h. h) c.in_err-args.ensures.unknown)
+
+pub compile_over-combine-requires-clause-kept : goal.compile_over-combine-requires-clause-kept
+compile_over-combine-requires-clause-kept t c =
+    over_kept c.args.level.now.scope.now.sig (map formula_of c.args.level.now.scope.now.bodies) c.args.level.now.below c.args.table.now c.args.env.now (Quantified c.args.quantifier c.args.sorts.now (formula_of c.args.body.now)) (all_chosen c.args.level.now.scope.now.sig c.args.sorts.now (formula_of c.args.body.now)) c.operator_of-operator.result (subst (λ (o : Operator). IsOver c.args.level.now.scope.now.sig (map formula_of c.args.level.now.scope.now.bodies) c.args.level.now.below c.args.table.now c.args.env.now (Quantified c.args.quantifier c.args.sorts.now (formula_of c.args.body.now)) (all_chosen c.args.level.now.scope.now.sig c.args.sorts.now (formula_of c.args.body.now)) o) (sym c.operator_of-operator.ensures.value) (quantified_over c.args.level.now.scope.now.sig (map formula_of c.args.level.now.scope.now.bodies) c.args.level.now.below c.args.table.now c.args.env.now c.args.quantifier c.args.sorts.now (formula_of c.args.body.now))) c.compile_choices.new.table c.in_ok-args.args c.in_ok-args.ensures.outcome c.requires.ready
+
+pub compile_over-combine-requires-clause-below : goal.compile_over-combine-requires-clause-below
+compile_over-combine-requires-clause-below t c =
+    over_below c.args.level.now.scope.now.sig (map formula_of c.args.level.now.scope.now.bodies) c.args.level.now.below c.args.table.now c.args.env.now (Quantified c.args.quantifier c.args.sorts.now (formula_of c.args.body.now)) (all_chosen c.args.level.now.scope.now.sig c.args.sorts.now (formula_of c.args.body.now)) c.operator_of-operator.result (subst (λ (o : Operator). IsOver c.args.level.now.scope.now.sig (map formula_of c.args.level.now.scope.now.bodies) c.args.level.now.below c.args.table.now c.args.env.now (Quantified c.args.quantifier c.args.sorts.now (formula_of c.args.body.now)) (all_chosen c.args.level.now.scope.now.sig c.args.sorts.now (formula_of c.args.body.now)) o) (sym c.operator_of-operator.ensures.value) (quantified_over c.args.level.now.scope.now.sig (map formula_of c.args.level.now.scope.now.bodies) c.args.level.now.below c.args.table.now c.args.env.now c.args.quantifier c.args.sorts.now (formula_of c.args.body.now))) c.compile_choices.new.table c.in_ok-args.args c.in_ok-args.ensures.outcome c.requires.ready
+
+pub compile_over-combine-requires-clause-operands : goal.compile_over-combine-requires-clause-operands
+compile_over-combine-requires-clause-operands t c =
+    over_operands c.args.level.now.scope.now.sig (map formula_of c.args.level.now.scope.now.bodies) c.args.level.now.below c.args.table.now c.args.env.now (Quantified c.args.quantifier c.args.sorts.now (formula_of c.args.body.now)) (all_chosen c.args.level.now.scope.now.sig c.args.sorts.now (formula_of c.args.body.now)) c.operator_of-operator.result (subst (λ (o : Operator). IsOver c.args.level.now.scope.now.sig (map formula_of c.args.level.now.scope.now.bodies) c.args.level.now.below c.args.table.now c.args.env.now (Quantified c.args.quantifier c.args.sorts.now (formula_of c.args.body.now)) (all_chosen c.args.level.now.scope.now.sig c.args.sorts.now (formula_of c.args.body.now)) o) (sym c.operator_of-operator.ensures.value) (quantified_over c.args.level.now.scope.now.sig (map formula_of c.args.level.now.scope.now.bodies) c.args.level.now.below c.args.table.now c.args.env.now c.args.quantifier c.args.sorts.now (formula_of c.args.body.now))) c.compile_choices.new.table c.in_ok-args.args c.in_ok-args.ensures.outcome c.requires.ready
+
+pub compile_over-returns-in_err-combine-clause-outcome : goal.compile_over-returns-in_err-combine-clause-outcome
+compile_over-returns-in_err-combine-clause-outcome t c =
+    let p = err_from_is_err_and c.from_residual-in_err-combine.result c.from_residual-in_err-combine.ensures.1 in
+    rw (p.1, p.2) (over_made c.args.level.now.scope.now.sig (map formula_of c.args.level.now.scope.now.bodies) c.args.level.now.below c.args.table.now c.args.env.now (Quantified c.args.quantifier c.args.sorts.now (formula_of c.args.body.now)) (all_chosen c.args.level.now.scope.now.sig c.args.sorts.now (formula_of c.args.body.now)) c.operator_of-operator.result (subst (λ (o : Operator). IsOver c.args.level.now.scope.now.sig (map formula_of c.args.level.now.scope.now.bodies) c.args.level.now.below c.args.table.now c.args.env.now (Quantified c.args.quantifier c.args.sorts.now (formula_of c.args.body.now)) (all_chosen c.args.level.now.scope.now.sig c.args.sorts.now (formula_of c.args.body.now)) o) (sym c.operator_of-operator.ensures.value) (quantified_over c.args.level.now.scope.now.sig (map formula_of c.args.level.now.scope.now.bodies) c.args.level.now.below c.args.table.now c.args.env.now c.args.quantifier c.args.sorts.now (formula_of c.args.body.now))) c.compile_choices.new.table c.in_ok-args.args c.in_ok-args.ensures.outcome c.combine.new.table _ c.in_err-combine.ensures.core c.in_err-combine.ensures.effect c.in_err-combine.ensures.order)
+
+pub compile_over-returns-clause-outcome : goal.compile_over-returns-clause-outcome
+compile_over-returns-clause-outcome t c =
+    over_made c.args.level.now.scope.now.sig (map formula_of c.args.level.now.scope.now.bodies) c.args.level.now.below c.args.table.now c.args.env.now (Quantified c.args.quantifier c.args.sorts.now (formula_of c.args.body.now)) (all_chosen c.args.level.now.scope.now.sig c.args.sorts.now (formula_of c.args.body.now)) c.operator_of-operator.result (subst (λ (o : Operator). IsOver c.args.level.now.scope.now.sig (map formula_of c.args.level.now.scope.now.bodies) c.args.level.now.below c.args.table.now c.args.env.now (Quantified c.args.quantifier c.args.sorts.now (formula_of c.args.body.now)) (all_chosen c.args.level.now.scope.now.sig c.args.sorts.now (formula_of c.args.body.now)) o) (sym c.operator_of-operator.ensures.value) (quantified_over c.args.level.now.scope.now.sig (map formula_of c.args.level.now.scope.now.bodies) c.args.level.now.below c.args.table.now c.args.env.now c.args.quantifier c.args.sorts.now (formula_of c.args.body.now))) c.compile_choices.new.table c.in_ok-args.args c.in_ok-args.ensures.outcome c.combine.new.table _ c.in_ok-combine.ensures.core c.in_ok-combine.ensures.effect c.in_ok-combine.ensures.order
+
+pub compile_over-returns-clause-state : goal.compile_over-returns-clause-state
+compile_over-returns-clause-state t c =
+    state_within c.args.level.now.scope.now.sig (map formula_of c.args.level.now.scope.now.bodies) (worked_in c.args.level.now.definitions.now) c.args.level.now.below c.compile_choices.new.table c.combine.new.table c.compile_choices.new.known _ (combined c.args.level.now.scope.now.sig c.operator_of-operator.result (map (term_at c.compile_choices.new.table) c.in_ok-args.args)) c.in_ok-combine.ensures.effect c.in_ok-args.ensures.state
+
+pub compile_choices-loop-k-init : goal.compile_choices-loop-k-init
+compile_choices-loop-k-init t c =
+    record {
+      done = subst (λ (args : List TermId). Collects c.args.level.now.scope.now.sig (map formula_of c.args.level.now.scope.now.bodies) c.args.level.now.below c.args.table.now c.args.table.now c.args.env.now c.args.operator (all_chosen c.args.level.now.scope.now.sig c.args.over.now.sorts.now (formula_of c.args.over.now.body.now)) args None (all_chosen c.args.level.now.scope.now.sig c.args.over.now.sorts.now (formula_of c.args.over.now.body.now))) (sym c.new-args.ensures.empty) (collects_start c.args.level.now.scope.now.sig (map formula_of c.args.level.now.scope.now.bodies) c.args.level.now.below c.args.table.now c.args.env.now c.args.operator (all_chosen c.args.level.now.scope.now.sig c.args.over.now.sorts.now (formula_of c.args.over.now.body.now)) c.requires.all);
+      chosen = subst (λ (args : List TermId). AreChosen c.args.level.now.scope.now.sig (map formula_of c.args.level.now.scope.now.bodies) c.args.table.now c.args.level.now.below c.args.env.now c.args.over.now.quantifier c.args.over.now.sorts.now (formula_of c.args.over.now.body.now) 0 args) (sym c.new-args.ensures.empty) (chosen_none c.args.level.now.scope.now.sig (map formula_of c.args.level.now.scope.now.bodies) c.args.table.now c.args.level.now.below c.args.env.now c.args.over.now.quantifier c.args.over.now.sorts.now (formula_of c.args.over.now.body.now) c.requires.ready);
+      values = c.no_value_terms-values.ensures.right c.args.level.now.scope.now.sig c.args.table.now;
+      state = c.requires.state;
+      same = refl;
+    }
+
+pub compile_choices-compile_choice_of-requires : goal.compile_choices-compile_choice_of-requires
+compile_choices-compile_choice_of-requires t c =
+    let loop = c.loop-k in
+    let within : loop.k < length (choices_of c.args.level.now.scope.now.sig c.args.over.now.sorts.now) = omega (arith, c.loop-k-test.true, c.choices_over-count.ensures.count) in
+    let vs = slice_get-there (choices_of c.args.level.now.scope.now.sig c.args.over.now.sorts.now) loop.k within in
+    let more = left_from (formula_of c.args.over.now.body.now) (choices_of c.args.level.now.scope.now.sig c.args.over.now.sorts.now) (loop.k + 1) in
+    let split = subst (λ (fs : Formulas). Collects c.args.level.now.scope.now.sig (map formula_of c.args.level.now.scope.now.bodies) c.args.level.now.below c.args.table.now loop.table c.args.env.now c.args.operator (all_chosen c.args.level.now.scope.now.sig c.args.over.now.sorts.now (formula_of c.args.over.now.body.now)) loop.args loop.lead fs) (left_next (formula_of c.args.over.now.body.now) (choices_of c.args.level.now.scope.now.sig c.args.over.now.sorts.now) loop.k vs.0 vs.1) loop.invariant.done in
+    let h = loop.invariant.chosen in
+    let before = subst (λ (xs : List TermId). AreChosen c.args.level.now.scope.now.sig (map formula_of c.args.level.now.scope.now.bodies) loop.table c.args.level.now.below c.args.env.now c.args.over.now.quantifier c.args.over.now.sorts.now (formula_of c.args.over.now.body.now) loop.k xs) (sym c.as_slice-before.ensures.value) h in
+    (omega (arith, c.decreases), (c.requires.over, (loop.invariant.values, (loop.invariant.state, (within, (rw loop.invariant.same (h.0, h.1, h.2, h.3), (rw loop.invariant.same before, c.requires.noted)))))))
+
+pub compile_choices-returns-in_err-term-clause-outcome : goal.compile_choices-returns-in_err-term-clause-outcome
+compile_choices-returns-in_err-term-clause-outcome t c =
+    let loop = c.loop-k in
+    let within : loop.k < length (choices_of c.args.level.now.scope.now.sig c.args.over.now.sorts.now) = omega (arith, c.loop-k-test.true, c.choices_over-count.ensures.count) in
+    let vs = slice_get-there (choices_of c.args.level.now.scope.now.sig c.args.over.now.sorts.now) loop.k within in
+    let more = left_from (formula_of c.args.over.now.body.now) (choices_of c.args.level.now.scope.now.sig c.args.over.now.sorts.now) (loop.k + 1) in
+    let split = subst (λ (fs : Formulas). Collects c.args.level.now.scope.now.sig (map formula_of c.args.level.now.scope.now.bodies) c.args.level.now.below c.args.table.now loop.table c.args.env.now c.args.operator (all_chosen c.args.level.now.scope.now.sig c.args.over.now.sorts.now (formula_of c.args.over.now.body.now)) loop.args loop.lead fs) (left_next (formula_of c.args.over.now.body.now) (choices_of c.args.level.now.scope.now.sig c.args.over.now.sorts.now) loop.k vs.0 vs.1) loop.invariant.done in
+    let p = err_from_is_err_and c.from_residual.result c.from_residual.ensures.1 in
+    rw (p.1, p.2) (ended_by _ (λ (r : Result TermId TermError). Compiles c.args.level.now.scope.now.sig (map formula_of c.args.level.now.scope.now.bodies) c.args.level.now.below loop.table c.compile_choice_of.new.table c.args.env.now (chosen (formula_of c.args.over.now.body.now) vs.0) r) (λ (r : Result (List TermId) TermError). CompilesAll c.args.level.now.scope.now.sig (map formula_of c.args.level.now.scope.now.bodies) c.args.level.now.below c.args.table.now c.compile_choice_of.new.table c.args.env.now c.args.operator (all_chosen c.args.level.now.scope.now.sig c.args.over.now.sorts.now (formula_of c.args.over.now.body.now)) r) (λ e k. collects_failed c.args.level.now.scope.now.sig (map formula_of c.args.level.now.scope.now.bodies) c.args.level.now.below c.args.table.now loop.table c.args.env.now c.args.operator (all_chosen c.args.level.now.scope.now.sig c.args.over.now.sorts.now (formula_of c.args.over.now.body.now)) loop.args loop.lead (chosen (formula_of c.args.over.now.body.now) vs.0) more split c.compile_choice_of.new.table e k) (rw loop.invariant.same at (c.in_err-term.ensures.outcome vs.0 vs.1)))
+
+pub compile_choices-returns-in_err-term-clause-waits : goal.compile_choices-returns-in_err-term-clause-waits
+compile_choices-returns-in_err-term-clause-waits t c =
+    let loop = c.loop-k in
+    let within : loop.k < length (choices_of c.args.level.now.scope.now.sig c.args.over.now.sorts.now) = omega (arith, c.loop-k-test.true, c.choices_over-count.ensures.count) in
+    let vs = slice_get-there (choices_of c.args.level.now.scope.now.sig c.args.over.now.sorts.now) loop.k within in
+    let more = left_from (formula_of c.args.over.now.body.now) (choices_of c.args.level.now.scope.now.sig c.args.over.now.sorts.now) (loop.k + 1) in
+    let split = subst (λ (fs : Formulas). Collects c.args.level.now.scope.now.sig (map formula_of c.args.level.now.scope.now.bodies) c.args.level.now.below c.args.table.now loop.table c.args.env.now c.args.operator (all_chosen c.args.level.now.scope.now.sig c.args.over.now.sorts.now (formula_of c.args.over.now.body.now)) loop.args loop.lead fs) (left_next (formula_of c.args.over.now.body.now) (choices_of c.args.level.now.scope.now.sig c.args.over.now.sorts.now) loop.k vs.0 vs.1) loop.invariant.done in
+    let p = err_from_is_err_and c.from_residual.result c.from_residual.ensures.1 in
+    rw (p.1, p.2) (too_deep_by TermId (List TermId) _ (λ call. IsPutOff c.args.level.now.scope.now.sig (map formula_of c.args.level.now.scope.now.bodies) (worked_in c.args.level.now.definitions.now) c.args.level.now.below loop.table c.compile_choice_of.new.table c.args.env.now (chosen (formula_of c.args.over.now.body.now) vs.0) call) (λ call. ArePutOff c.args.level.now.scope.now.sig (map formula_of c.args.level.now.scope.now.bodies) (worked_in c.args.level.now.definitions.now) c.args.level.now.below c.args.table.now c.compile_choice_of.new.table c.args.env.now c.args.operator (all_chosen c.args.level.now.scope.now.sig c.args.over.now.sorts.now (formula_of c.args.over.now.body.now)) call) (λ call k. collects_waits c.args.level.now.scope.now.sig (map formula_of c.args.level.now.scope.now.bodies) c.args.level.now.below c.args.table.now loop.table c.args.env.now c.args.operator (all_chosen c.args.level.now.scope.now.sig c.args.over.now.sorts.now (formula_of c.args.over.now.body.now)) loop.args loop.lead (chosen (formula_of c.args.over.now.body.now) vs.0) more split (worked_in c.args.level.now.definitions.now) c.compile_choice_of.new.table call k) (rw loop.invariant.same at (c.in_err-term.ensures.waits vs.0 vs.1)))
+
+pub compile_choices-returns-in_err-term-clause-state : goal.compile_choices-returns-in_err-term-clause-state
+compile_choices-returns-in_err-term-clause-state t c =
+    let p = err_from_is_err_and c.from_residual.result c.from_residual.ensures.1 in
+    rw (p.1, p.2) (goes_on_by TermId (List TermId) _ (IsState c.args.level.now.scope.now.sig (map formula_of c.args.level.now.scope.now.bodies) c.args.level.now.below (worked_in c.args.level.now.definitions.now) c.compile_choice_of.new.table c.compile_choice_of.new.known) (IsState c.args.level.now.scope.now.sig (map formula_of c.args.level.now.scope.now.bodies) c.args.level.now.below (worked_in c.args.level.now.definitions.now) c.compile_choice_of.new.table c.compile_choice_of.new.known) (λ k. k) c.in_err-term.ensures.state)
+
+pub compile_choices-returns-in_err-term-clause-unknown : goal.compile_choices-returns-in_err-term-clause-unknown
+compile_choices-returns-in_err-term-clause-unknown t c =
+    let p = err_from_is_err_and c.from_residual.result c.from_residual.ensures.1 in
+    rw (p.1, p.2) (too_deep_by TermId (List TermId) _ (λ call. IsUnknown c.compile_choice_of.new.known call) (λ call. IsUnknown c.compile_choice_of.new.known call) (λ call h. h) c.in_err-term.ensures.unknown)
+
+pub compile_choices-follow-requires : goal.compile_choices-follow-requires
+compile_choices-follow-requires t c =
+    let loop = c.loop-k in
+    let within : loop.k < length (choices_of c.args.level.now.scope.now.sig c.args.over.now.sorts.now) = omega (arith, c.loop-k-test.true, c.choices_over-count.ensures.count) in
+    let vs = slice_get-there (choices_of c.args.level.now.scope.now.sig c.args.over.now.sorts.now) loop.k within in
+    let more = left_from (formula_of c.args.over.now.body.now) (choices_of c.args.level.now.scope.now.sig c.args.over.now.sorts.now) (loop.k + 1) in
+    let split = subst (λ (fs : Formulas). Collects c.args.level.now.scope.now.sig (map formula_of c.args.level.now.scope.now.bodies) c.args.level.now.below c.args.table.now loop.table c.args.env.now c.args.operator (all_chosen c.args.level.now.scope.now.sig c.args.over.now.sorts.now (formula_of c.args.over.now.body.now)) loop.args loop.lead fs) (left_next (formula_of c.args.over.now.body.now) (choices_of c.args.level.now.scope.now.sig c.args.over.now.sorts.now) loop.k vs.0 vs.1) loop.invariant.done in
+    record { ready = collects_follows c.args.level.now.scope.now.sig (map formula_of c.args.level.now.scope.now.bodies) c.args.level.now.below c.args.table.now loop.table c.args.env.now c.args.operator (all_chosen c.args.level.now.scope.now.sig c.args.over.now.sorts.now (formula_of c.args.over.now.body.now)) loop.args loop.lead (chosen (formula_of c.args.over.now.body.now) vs.0) more split c.compile_choice_of.new.table c.in_ok-term.term (rw loop.invariant.same at (c.in_ok-term.ensures.outcome vs.0 vs.1)) }
+
+pub compile_choices-returns-in_err-next-clause-outcome : goal.compile_choices-returns-in_err-next-clause-outcome
+compile_choices-returns-in_err-next-clause-outcome t c =
+    let loop = c.loop-k in
+    let within : loop.k < length (choices_of c.args.level.now.scope.now.sig c.args.over.now.sorts.now) = omega (arith, c.loop-k-test.true, c.choices_over-count.ensures.count) in
+    let vs = slice_get-there (choices_of c.args.level.now.scope.now.sig c.args.over.now.sorts.now) loop.k within in
+    let more = left_from (formula_of c.args.over.now.body.now) (choices_of c.args.level.now.scope.now.sig c.args.over.now.sorts.now) (loop.k + 1) in
+    let split = subst (λ (fs : Formulas). Collects c.args.level.now.scope.now.sig (map formula_of c.args.level.now.scope.now.bodies) c.args.level.now.below c.args.table.now loop.table c.args.env.now c.args.operator (all_chosen c.args.level.now.scope.now.sig c.args.over.now.sorts.now (formula_of c.args.over.now.body.now)) loop.args loop.lead fs) (left_next (formula_of c.args.over.now.body.now) (choices_of c.args.level.now.scope.now.sig c.args.over.now.sorts.now) loop.k vs.0 vs.1) loop.invariant.done in
+    let test = last_test (formula_of c.args.over.now.body.now) (choices_of c.args.level.now.scope.now.sig c.args.over.now.sorts.now) loop.k c.choices_over-count.result (loop.k + 1 == c.choices_over-count.result) c.choices_over-count.ensures.count within refl in
+    let p = err_from_is_err_and c.from_residual-in_err-next.result c.from_residual-in_err-next.ensures.1 in
+    rw (p.1, p.2) (collects_broken c.args.level.now.scope.now.sig (map formula_of c.args.level.now.scope.now.bodies) c.args.level.now.below c.args.table.now loop.table c.args.env.now c.args.operator (all_chosen c.args.level.now.scope.now.sig c.args.over.now.sorts.now (formula_of c.args.over.now.body.now)) loop.args loop.lead (chosen (formula_of c.args.over.now.body.now) vs.0) more split c.compile_choice_of.new.table c.in_ok-term.term (rw loop.invariant.same at (c.in_ok-term.ensures.outcome vs.0 vs.1)) (loop.k + 1 == c.choices_over-count.result) test.0 test.1 c.follow.new.table _ c.in_err-next.ensures.outcome _ refl)
+
+pub compile_choices-returns-in_err-push-clause-outcome : goal.compile_choices-returns-in_err-push-clause-outcome
+compile_choices-returns-in_err-push-clause-outcome t c =
+    let loop = c.loop-k in
+    let within : loop.k < length (choices_of c.args.level.now.scope.now.sig c.args.over.now.sorts.now) = omega (arith, c.loop-k-test.true, c.choices_over-count.ensures.count) in
+    let vs = slice_get-there (choices_of c.args.level.now.scope.now.sig c.args.over.now.sorts.now) loop.k within in
+    let more = left_from (formula_of c.args.over.now.body.now) (choices_of c.args.level.now.scope.now.sig c.args.over.now.sorts.now) (loop.k + 1) in
+    let split = subst (λ (fs : Formulas). Collects c.args.level.now.scope.now.sig (map formula_of c.args.level.now.scope.now.bodies) c.args.level.now.below c.args.table.now loop.table c.args.env.now c.args.operator (all_chosen c.args.level.now.scope.now.sig c.args.over.now.sorts.now (formula_of c.args.over.now.body.now)) loop.args loop.lead fs) (left_next (formula_of c.args.over.now.body.now) (choices_of c.args.level.now.scope.now.sig c.args.over.now.sorts.now) loop.k vs.0 vs.1) loop.invariant.done in
+    let test = last_test (formula_of c.args.over.now.body.now) (choices_of c.args.level.now.scope.now.sig c.args.over.now.sorts.now) loop.k c.choices_over-count.result (loop.k + 1 == c.choices_over-count.result) c.choices_over-count.ensures.count within refl in
+    let p = err_from_is_err_and c.from_residual-in_err-push.result c.from_residual-in_err-push.ensures.1 in
+    let next = collects_more c.args.level.now.scope.now.sig (map formula_of c.args.level.now.scope.now.bodies) c.args.level.now.below c.args.table.now loop.table c.args.env.now c.args.operator (all_chosen c.args.level.now.scope.now.sig c.args.over.now.sorts.now (formula_of c.args.over.now.body.now)) loop.args loop.lead (chosen (formula_of c.args.over.now.body.now) vs.0) more split c.compile_choice_of.new.table c.in_ok-term.term (rw loop.invariant.same at (c.in_ok-term.ensures.outcome vs.0 vs.1)) (loop.k + 1 == c.choices_over-count.result) test.0 test.1 c.follow.new.table _ c.in_ok-next.ensures.outcome c.in_ok-next.next refl in
+    rw (p.1, p.2) (collects_out c.args.level.now.scope.now.sig (map formula_of c.args.level.now.scope.now.bodies) c.args.level.now.below c.args.table.now c.follow.new.table c.args.env.now c.args.operator (all_chosen c.args.level.now.scope.now.sig c.args.over.now.sorts.now (formula_of c.args.over.now.body.now)) _ _ more next NoMemory refl)
+
+pub compile_choices-loop-k-preserved : goal.compile_choices-loop-k-preserved
+compile_choices-loop-k-preserved t c =
+    let loop = c.loop-k in
+    let within : loop.k < length (choices_of c.args.level.now.scope.now.sig c.args.over.now.sorts.now) = omega (arith, c.loop-k-test.true, c.choices_over-count.ensures.count) in
+    let vs = slice_get-there (choices_of c.args.level.now.scope.now.sig c.args.over.now.sorts.now) loop.k within in
+    let more = left_from (formula_of c.args.over.now.body.now) (choices_of c.args.level.now.scope.now.sig c.args.over.now.sorts.now) (loop.k + 1) in
+    let split = subst (λ (fs : Formulas). Collects c.args.level.now.scope.now.sig (map formula_of c.args.level.now.scope.now.bodies) c.args.level.now.below c.args.table.now loop.table c.args.env.now c.args.operator (all_chosen c.args.level.now.scope.now.sig c.args.over.now.sorts.now (formula_of c.args.over.now.body.now)) loop.args loop.lead fs) (left_next (formula_of c.args.over.now.body.now) (choices_of c.args.level.now.scope.now.sig c.args.over.now.sorts.now) loop.k vs.0 vs.1) loop.invariant.done in
+    let test = last_test (formula_of c.args.over.now.body.now) (choices_of c.args.level.now.scope.now.sig c.args.over.now.sorts.now) loop.k c.choices_over-count.result (loop.k + 1 == c.choices_over-count.result) c.choices_over-count.ensures.count within refl in
+    let next = collects_more c.args.level.now.scope.now.sig (map formula_of c.args.level.now.scope.now.bodies) c.args.level.now.below c.args.table.now loop.table c.args.env.now c.args.operator (all_chosen c.args.level.now.scope.now.sig c.args.over.now.sorts.now (formula_of c.args.over.now.body.now)) loop.args loop.lead (chosen (formula_of c.args.over.now.body.now) vs.0) more split c.compile_choice_of.new.table c.in_ok-term.term (rw loop.invariant.same at (c.in_ok-term.ensures.outcome vs.0 vs.1)) (loop.k + 1 == c.choices_over-count.result) test.0 test.1 c.follow.new.table _ c.in_ok-next.ensures.outcome c.in_ok-next.next refl in
+    let g = collects_grown c.args.level.now.scope.now.sig (map formula_of c.args.level.now.scope.now.bodies) c.args.level.now.below c.args.table.now loop.table c.args.env.now c.args.operator (all_chosen c.args.level.now.scope.now.sig c.args.over.now.sorts.now (formula_of c.args.over.now.body.now)) loop.args loop.lead (chosen (formula_of c.args.over.now.body.now) vs.0) more split c.compile_choice_of.new.table c.in_ok-term.term (rw loop.invariant.same at (c.in_ok-term.ensures.outcome vs.0 vs.1)) (loop.k + 1 == c.choices_over-count.result) test.0 test.1 c.follow.new.table _ c.in_ok-next.ensures.outcome in
+    let made = chosen_more c.args.level.now.scope.now.sig (map formula_of c.args.level.now.scope.now.bodies) loop.table c.args.level.now.below c.args.env.now c.args.over.now.quantifier c.args.over.now.sorts.now (formula_of c.args.over.now.body.now) loop.k loop.args loop.invariant.chosen c.compile_choice_of.new.table vs.0 c.in_ok-term.term vs.1 (rw loop.invariant.same at (c.in_ok-term.ensures.outcome vs.0 vs.1)) in
+    let kept = chosen_stay c.args.level.now.scope.now.sig (map formula_of c.args.level.now.scope.now.bodies) c.compile_choice_of.new.table c.args.level.now.below c.args.env.now c.args.over.now.quantifier c.args.over.now.sorts.now (formula_of c.args.over.now.body.now) (loop.k + 1) (loop.args ++ c.in_ok-term.term ∷ []) made c.follow.new.table g.0 g.1 in
+    record {
+      done = subst (λ (args : List TermId). Collects c.args.level.now.scope.now.sig (map formula_of c.args.level.now.scope.now.bodies) c.args.level.now.below c.args.table.now c.follow.new.table c.args.env.now c.args.operator (all_chosen c.args.level.now.scope.now.sig c.args.over.now.sorts.now (formula_of c.args.over.now.body.now)) args (Some c.in_ok-next.next) more) (sym c.in_ok-push.ensures.ok) next;
+      chosen = subst (λ (args : List TermId). AreChosen c.args.level.now.scope.now.sig (map formula_of c.args.level.now.scope.now.bodies) c.follow.new.table c.args.level.now.below c.args.env.now c.args.over.now.quantifier c.args.over.now.sorts.now (formula_of c.args.over.now.body.now) (loop.k + 1) args) (sym c.in_ok-push.ensures.ok) kept;
+      values = values_stay c.args.level.now.scope.now.sig c.compile_choice_of.new.table c.follow.new.table c.compile_choice_of.new.values g.0 g.1 c.in_ok-term.ensures.values;
+      state = state_stays c.args.level.now.scope.now.sig (map formula_of c.args.level.now.scope.now.bodies) (worked_in c.args.level.now.definitions.now) c.args.level.now.below c.compile_choice_of.new.table c.follow.new.table c.compile_choice_of.new.known g.0 g.1 c.in_ok-term.ensures.state;
+      same = c.in_ok-term.ensures.back ∙ loop.invariant.same;
+    }
+
+pub compile_choices-returns-clause-outcome : goal.compile_choices-returns-clause-outcome
+compile_choices-returns-clause-outcome t c =
+    let loop = c.loop-k in
+    let all : length (choices_of c.args.level.now.scope.now.sig c.args.over.now.sorts.now) ≡ loop.k = omega (arith, c.loop-k-test.false, c.choices_over-count.ensures.count) in
+    let h = subst (λ (fs : Formulas). Collects c.args.level.now.scope.now.sig (map formula_of c.args.level.now.scope.now.bodies) c.args.level.now.below c.args.table.now loop.table c.args.env.now c.args.operator (all_chosen c.args.level.now.scope.now.sig c.args.over.now.sorts.now (formula_of c.args.over.now.body.now)) loop.args loop.lead fs) (left_end (formula_of c.args.over.now.body.now) (choices_of c.args.level.now.scope.now.sig c.args.over.now.sorts.now) loop.k all) loop.invariant.done in
+    collects_end c.args.level.now.scope.now.sig (map formula_of c.args.level.now.scope.now.bodies) c.args.level.now.below c.args.table.now loop.table c.args.env.now c.args.operator (all_chosen c.args.level.now.scope.now.sig c.args.over.now.sorts.now (formula_of c.args.over.now.body.now)) loop.args loop.lead h
+
+pub compile_choice_of-first_like-first-requires : goal.compile_choice_of-first_like-first-requires
+compile_choice_of-first_like-first-requires t c =
+    let may : IsChoice c.args.level.now.scope.now.sig c.args.over.now.finite.now c.args.over.now.sorts.now c.args.k = record { counts_are = c.requires.over.counts; listable = c.requires.over.sorts.listable; few = c.requires.over.sorts.few; there = c.requires.there } in
+    record { may = (c.args.level.now.scope.now.sig, may); long = ap length c.requires.over.flags ∙ listed_length (occurs c.args.level.now.scope.now.sig (uses_below c.args.level.now.scope.now.sig (map formula_of c.args.level.now.scope.now.bodies) c.args.level.now.below) (formula_of c.args.over.now.body.now)) (length c.args.over.now.sorts.now) }
+
+pub compile_choice_of-earlier_term-requires : goal.compile_choice_of-earlier_term-requires
+compile_choice_of-earlier_term-requires t c =
+    let long = chosen_long c.args.level.now.scope.now.sig (map formula_of c.args.level.now.scope.now.bodies) c.args.table.now c.args.level.now.below c.args.env.now c.args.over.now.quantifier c.args.over.now.sorts.now (formula_of c.args.over.now.body.now) c.args.k c.args.before.now c.requires.before c.requires.there in
+    record { inside = omega (arith, long, c.if-first-k.true) }
+
+pub compile_choice_of-returns-then-first-k-clause-outcome : goal.compile_choice_of-returns-then-first-k-clause-outcome
+compile_choice_of-returns-then-first-k-clause-outcome t c =
+    let may : IsChoice c.args.level.now.scope.now.sig c.args.over.now.finite.now c.args.over.now.sorts.now c.args.k = record { counts_are = c.requires.over.counts; listable = c.requires.over.sorts.listable; few = c.requires.over.sorts.few; there = c.requires.there } in
+    λ vs at.
+    let like = c.first_like-first.ensures.like c.args.level.now.scope.now.sig vs may at in
+    choice_again c.args.level.now.scope.now.sig (map formula_of c.args.level.now.scope.now.bodies) c.args.table.now c.args.level.now.below c.args.env.now c.args.over.now.quantifier c.args.over.now.sorts.now (formula_of c.args.over.now.body.now) c.args.k c.args.before.now c.requires.before c.first_like-first.result like.0 vs _ (omega (arith, c.if-first-k.true)) c.earlier_term.ensures.value like.1 at (subst (λ (bs : List Bool). AreLike bs like.0 vs) c.requires.over.flags like.2)
+
+pub compile_choice_of-compile_choice_anew-requires : goal.compile_choice_of-compile_choice_anew-requires
+compile_choice_of-compile_choice_anew-requires t c =
+    let h = c.requires.before in
+    (omega (arith, c.decreases), (c.requires.over, (c.requires.values, (c.requires.state, (c.requires.there, ((λ vs at. may_choose c.args.level.now.scope.now.sig (map formula_of c.args.level.now.scope.now.bodies) c.args.table.now c.args.level.now.below c.args.env.now c.args.over.now.quantifier c.args.over.now.sorts.now (formula_of c.args.over.now.body.now) c.requires.ready vs (Contains-from_slice_get (choices_of c.args.level.now.scope.now.sig c.args.over.now.sorts.now) c.args.k vs at)), c.requires.noted))))))
+
+pub compile_choice_anew-chosen_bounds-requires-clause-kept : goal.compile_choice_anew-chosen_bounds-requires-clause-kept
+compile_choice_anew-chosen_bounds-requires-clause-kept t c =
+    let vs = slice_get-there (choices_of c.args.level.now.scope.now.sig c.args.over.now.sorts.now) c.args.k c.requires.there in
+    (c.requires.ready vs.0 vs.1).3.setting.kept
+
+pub compile_choice_anew-returns-in_err-bounds-clause-outcome : goal.compile_choice_anew-returns-in_err-bounds-clause-outcome
+compile_choice_anew-returns-in_err-bounds-clause-outcome t c =
+    let view = λ (vs : List ClosedValue) (at : slice_get (choices_of c.args.level.now.scope.now.sig c.args.over.now.sorts.now) c.args.k ≡ Some vs). let_view c.args.level.now.scope.now.sig (map formula_of c.args.level.now.scope.now.bodies) c.args.level.now.below c.args.table.now c.args.env.now c.args.over.now.flags.now (formulas_of_values vs) (formula_of c.args.over.now.body.now) (c.requires.over.flags ∙ ap (flags_below (occurs c.args.level.now.scope.now.sig (uses_below c.args.level.now.scope.now.sig (map formula_of c.args.level.now.scope.now.bodies) c.args.level.now.below) (formula_of c.args.over.now.body.now))) (sym (count_values vs ∙ choice_length c.args.level.now.scope.now.sig c.args.over.now.sorts.now vs (Contains-from_slice_get (choices_of c.args.level.now.scope.now.sig c.args.over.now.sorts.now) c.args.k vs at)))) in
+    let p = err_from_is_err_and c.from_residual.result c.from_residual.ensures.1 in
+    rw (p.1, p.2) (λ vs at. under_failed c.args.level.now.scope.now.sig (map formula_of c.args.level.now.scope.now.bodies) c.args.level.now.below c.args.level.now.below c.args.table.now c.args.env.now c.args.env.now c.args.over.now.flags.now (chosen (formula_of c.args.over.now.body.now) vs) (formulas_of_values vs) (formula_of c.args.over.now.body.now) (view vs at) c.chosen_bounds.new.table _ (binds_values c.args.level.now.scope.now.sig (map formula_of c.args.level.now.scope.now.bodies) c.args.level.now.below c.args.table.now c.chosen_bounds.new.table c.args.env.now c.args.over.now.flags.now vs _ (c.in_err-bounds.ensures.outcome vs at)))
+
+pub compile_choice_anew-returns-in_err-bind-clause-outcome : goal.compile_choice_anew-returns-in_err-bind-clause-outcome
+compile_choice_anew-returns-in_err-bind-clause-outcome t c =
+    let view = λ (vs : List ClosedValue) (at : slice_get (choices_of c.args.level.now.scope.now.sig c.args.over.now.sorts.now) c.args.k ≡ Some vs). let_view c.args.level.now.scope.now.sig (map formula_of c.args.level.now.scope.now.bodies) c.args.level.now.below c.args.table.now c.args.env.now c.args.over.now.flags.now (formulas_of_values vs) (formula_of c.args.over.now.body.now) (c.requires.over.flags ∙ ap (flags_below (occurs c.args.level.now.scope.now.sig (uses_below c.args.level.now.scope.now.sig (map formula_of c.args.level.now.scope.now.bodies) c.args.level.now.below) (formula_of c.args.over.now.body.now))) (sym (count_values vs ∙ choice_length c.args.level.now.scope.now.sig c.args.over.now.sorts.now vs (Contains-from_slice_get (choices_of c.args.level.now.scope.now.sig c.args.over.now.sorts.now) c.args.k vs at)))) in
+    let p = err_from_is_err_and c.from_residual-in_err-bind.result c.from_residual-in_err-bind.ensures.1 in
+    rw (p.1, p.2) (λ vs at. under_out c.args.level.now.scope.now.sig (map formula_of c.args.level.now.scope.now.bodies) c.args.level.now.below c.args.level.now.below c.args.table.now c.args.env.now c.args.env.now c.args.over.now.flags.now (chosen (formula_of c.args.over.now.body.now) vs) (formulas_of_values vs) (formula_of c.args.over.now.body.now) (view vs at) c.chosen_bounds.new.table c.in_ok-bounds.bounds (binds_values c.args.level.now.scope.now.sig (map formula_of c.args.level.now.scope.now.bodies) c.args.level.now.below c.args.table.now c.chosen_bounds.new.table c.args.env.now c.args.over.now.flags.now vs _ (c.in_ok-bounds.ensures.outcome vs at)) NoMemory refl)
+
+pub compile_choice_anew-compile_tree-result-requires : goal.compile_choice_anew-compile_tree-result-requires
+compile_choice_anew-compile_tree-result-requires t c =
+    let view = λ (vs : List ClosedValue) (at : slice_get (choices_of c.args.level.now.scope.now.sig c.args.over.now.sorts.now) c.args.k ≡ Some vs). let_view c.args.level.now.scope.now.sig (map formula_of c.args.level.now.scope.now.bodies) c.args.level.now.below c.args.table.now c.args.env.now c.args.over.now.flags.now (formulas_of_values vs) (formula_of c.args.over.now.body.now) (c.requires.over.flags ∙ ap (flags_below (occurs c.args.level.now.scope.now.sig (uses_below c.args.level.now.scope.now.sig (map formula_of c.args.level.now.scope.now.bodies) c.args.level.now.below) (formula_of c.args.over.now.body.now))) (sym (count_values vs ∙ choice_length c.args.level.now.scope.now.sig c.args.over.now.sorts.now vs (Contains-from_slice_get (choices_of c.args.level.now.scope.now.sig c.args.over.now.sorts.now) c.args.k vs at)))) in
+    let inner_is : c.bind.new.self ≡ bind c.in_ok-bounds.bounds c.args.env.now = c.in_ok-bind.ensures.bound ∙ ap (λ (xs : List Bound). bind xs c.args.env.now) c.as_slice-bounds.ensures.value in
+    let found = slice_get-there (choices_of c.args.level.now.scope.now.sig c.args.over.now.sorts.now) c.args.k c.requires.there in
+    let vs = found.0 in
+    let at = found.1 in
+    let all = (binds_values c.args.level.now.scope.now.sig (map formula_of c.args.level.now.scope.now.bodies) c.args.level.now.below c.args.table.now c.chosen_bounds.new.table c.args.env.now c.args.over.now.flags.now vs _ (c.in_ok-bounds.ensures.outcome vs at)) in
+    let g = (c.in_ok-bounds.ensures.outcome vs at).grown in
+    (omega (arith, c.decreases), (state_stays c.args.level.now.scope.now.sig (map formula_of c.args.level.now.scope.now.bodies) (worked_in c.args.level.now.definitions.now) c.args.level.now.below c.args.table.now c.chosen_bounds.new.table c.args.known.now g.0 g.1 c.requires.state, (subst (λ (xs : List Bound). MayCompile c.args.level.now.scope.now.sig (map formula_of c.args.level.now.scope.now.bodies) c.chosen_bounds.new.table c.args.level.now.below xs (formula_of c.args.over.now.body.now)) (sym inner_is) (under_body c.args.level.now.scope.now.sig (map formula_of c.args.level.now.scope.now.bodies) c.args.level.now.below c.args.level.now.below c.args.table.now c.args.env.now c.args.env.now c.args.over.now.flags.now (chosen (formula_of c.args.over.now.body.now) vs) (formulas_of_values vs) (formula_of c.args.over.now.body.now) (view vs at) c.chosen_bounds.new.table c.in_ok-bounds.bounds all (c.requires.ready vs at)), c.requires.noted)))
+
+pub compile_choice_anew-returns-clause-outcome : goal.compile_choice_anew-returns-clause-outcome
+compile_choice_anew-returns-clause-outcome t c =
+    let view = λ (vs : List ClosedValue) (at : slice_get (choices_of c.args.level.now.scope.now.sig c.args.over.now.sorts.now) c.args.k ≡ Some vs). let_view c.args.level.now.scope.now.sig (map formula_of c.args.level.now.scope.now.bodies) c.args.level.now.below c.args.table.now c.args.env.now c.args.over.now.flags.now (formulas_of_values vs) (formula_of c.args.over.now.body.now) (c.requires.over.flags ∙ ap (flags_below (occurs c.args.level.now.scope.now.sig (uses_below c.args.level.now.scope.now.sig (map formula_of c.args.level.now.scope.now.bodies) c.args.level.now.below) (formula_of c.args.over.now.body.now))) (sym (count_values vs ∙ choice_length c.args.level.now.scope.now.sig c.args.over.now.sorts.now vs (Contains-from_slice_get (choices_of c.args.level.now.scope.now.sig c.args.over.now.sorts.now) c.args.k vs at)))) in
+    let inner_is : c.bind.new.self ≡ bind c.in_ok-bounds.bounds c.args.env.now = c.in_ok-bind.ensures.bound ∙ ap (λ (xs : List Bound). bind xs c.args.env.now) c.as_slice-bounds.ensures.value in
+    λ vs at.
+    under_made c.args.level.now.scope.now.sig (map formula_of c.args.level.now.scope.now.bodies) c.args.level.now.below c.args.level.now.below c.args.table.now c.args.env.now c.args.env.now c.args.over.now.flags.now (chosen (formula_of c.args.over.now.body.now) vs) (formulas_of_values vs) (formula_of c.args.over.now.body.now) (view vs at) c.chosen_bounds.new.table c.in_ok-bounds.bounds (binds_values c.args.level.now.scope.now.sig (map formula_of c.args.level.now.scope.now.bodies) c.args.level.now.below c.args.table.now c.chosen_bounds.new.table c.args.env.now c.args.over.now.flags.now vs _ (c.in_ok-bounds.ensures.outcome vs at)) c.compile_tree-result.new.table (ended c.compile_tree-result.result) (subst (λ (xs : List Bound). Compiles c.args.level.now.scope.now.sig (map formula_of c.args.level.now.scope.now.bodies) c.args.level.now.below c.chosen_bounds.new.table c.compile_tree-result.new.table xs (formula_of c.args.over.now.body.now) (ended c.compile_tree-result.result)) inner_is c.compile_tree-result.ensures.outcome)
+
+pub compile_choice_anew-returns-clause-waits : goal.compile_choice_anew-returns-clause-waits
+compile_choice_anew-returns-clause-waits t c =
+    let view = λ (vs : List ClosedValue) (at : slice_get (choices_of c.args.level.now.scope.now.sig c.args.over.now.sorts.now) c.args.k ≡ Some vs). let_view c.args.level.now.scope.now.sig (map formula_of c.args.level.now.scope.now.bodies) c.args.level.now.below c.args.table.now c.args.env.now c.args.over.now.flags.now (formulas_of_values vs) (formula_of c.args.over.now.body.now) (c.requires.over.flags ∙ ap (flags_below (occurs c.args.level.now.scope.now.sig (uses_below c.args.level.now.scope.now.sig (map formula_of c.args.level.now.scope.now.bodies) c.args.level.now.below) (formula_of c.args.over.now.body.now))) (sym (count_values vs ∙ choice_length c.args.level.now.scope.now.sig c.args.over.now.sorts.now vs (Contains-from_slice_get (choices_of c.args.level.now.scope.now.sig c.args.over.now.sorts.now) c.args.k vs at)))) in
+    let inner_is : c.bind.new.self ≡ bind c.in_ok-bounds.bounds c.args.env.now = c.in_ok-bind.ensures.bound ∙ ap (λ (xs : List Bound). bind xs c.args.env.now) c.as_slice-bounds.ensures.value in
+    λ vs at.
+    under_later c.args.level.now.scope.now.sig (map formula_of c.args.level.now.scope.now.bodies) c.args.level.now.below c.args.level.now.below c.args.table.now c.args.env.now c.args.env.now c.args.over.now.flags.now (chosen (formula_of c.args.over.now.body.now) vs) (formulas_of_values vs) (formula_of c.args.over.now.body.now) (view vs at) c.chosen_bounds.new.table c.in_ok-bounds.bounds (binds_values c.args.level.now.scope.now.sig (map formula_of c.args.level.now.scope.now.bodies) c.args.level.now.below c.args.table.now c.chosen_bounds.new.table c.args.env.now c.args.over.now.flags.now vs _ (c.in_ok-bounds.ensures.outcome vs at)) (worked_in c.args.level.now.definitions.now) (omega arith) c.compile_tree-result.new.table c.compile_tree-result.result (subst (λ (xs : List Bound). Defers c.args.level.now.scope.now.sig (map formula_of c.args.level.now.scope.now.bodies) (worked_in c.args.level.now.definitions.now) c.args.level.now.below c.chosen_bounds.new.table c.compile_tree-result.new.table xs (formula_of c.args.over.now.body.now) c.compile_tree-result.result) inner_is c.compile_tree-result.ensures.waits)
+
+pub compile_choice_anew-returns-clause-values : goal.compile_choice_anew-returns-clause-values
+compile_choice_anew-returns-clause-values t c =
+    let view = λ (vs : List ClosedValue) (at : slice_get (choices_of c.args.level.now.scope.now.sig c.args.over.now.sorts.now) c.args.k ≡ Some vs). let_view c.args.level.now.scope.now.sig (map formula_of c.args.level.now.scope.now.bodies) c.args.level.now.below c.args.table.now c.args.env.now c.args.over.now.flags.now (formulas_of_values vs) (formula_of c.args.over.now.body.now) (c.requires.over.flags ∙ ap (flags_below (occurs c.args.level.now.scope.now.sig (uses_below c.args.level.now.scope.now.sig (map formula_of c.args.level.now.scope.now.bodies) c.args.level.now.below) (formula_of c.args.over.now.body.now))) (sym (count_values vs ∙ choice_length c.args.level.now.scope.now.sig c.args.over.now.sorts.now vs (Contains-from_slice_get (choices_of c.args.level.now.scope.now.sig c.args.over.now.sorts.now) c.args.k vs at)))) in
+    let inner_is : c.bind.new.self ≡ bind c.in_ok-bounds.bounds c.args.env.now = c.in_ok-bind.ensures.bound ∙ ap (λ (xs : List Bound). bind xs c.args.env.now) c.as_slice-bounds.ensures.value in
+    let found = slice_get-there (choices_of c.args.level.now.scope.now.sig c.args.over.now.sorts.now) c.args.k c.requires.there in
+    let vs = found.0 in
+    let at = found.1 in
+    let all = (binds_values c.args.level.now.scope.now.sig (map formula_of c.args.level.now.scope.now.bodies) c.args.level.now.below c.args.table.now c.chosen_bounds.new.table c.args.env.now c.args.over.now.flags.now vs _ (c.in_ok-bounds.ensures.outcome vs at)) in
+    let may = subst (λ (xs : List Bound). MayCompile c.args.level.now.scope.now.sig (map formula_of c.args.level.now.scope.now.bodies) c.chosen_bounds.new.table c.args.level.now.below xs (formula_of c.args.over.now.body.now)) (sym inner_is) (under_body c.args.level.now.scope.now.sig (map formula_of c.args.level.now.scope.now.bodies) c.args.level.now.below c.args.level.now.below c.args.table.now c.args.env.now c.args.env.now c.args.over.now.flags.now (chosen (formula_of c.args.over.now.body.now) vs) (formulas_of_values vs) (formula_of c.args.over.now.body.now) (view vs at) c.chosen_bounds.new.table c.in_ok-bounds.bounds all (c.requires.ready vs at)) in
+    let g = compiles_grown c.args.level.now.scope.now.sig (map formula_of c.args.level.now.scope.now.bodies) c.args.level.now.below c.chosen_bounds.new.table c.compile_tree-result.new.table c.bind.new.self (formula_of c.args.over.now.body.now) (ended c.compile_tree-result.result) may c.compile_tree-result.ensures.outcome in
+    where_ok c.compile_tree-result.result (AreValueTerms c.args.level.now.scope.now.sig c.compile_tree-result.new.table c.chosen_bounds.new.terms) (values_stay c.args.level.now.scope.now.sig c.chosen_bounds.new.table c.compile_tree-result.new.table c.chosen_bounds.new.terms g.0 g.1 c.in_ok-bounds.ensures.right)
+
+pub compile_choice_anew-returns-clause-back : goal.compile_choice_anew-returns-clause-back
+compile_choice_anew-returns-clause-back t c =
+    let inner_is : c.bind.new.self ≡ bind c.in_ok-bounds.bounds c.args.env.now = c.in_ok-bind.ensures.bound ∙ ap (λ (xs : List Bound). bind xs c.args.env.now) c.as_slice-bounds.ensures.value in
+    let long : length c.as_slice-bounds.result.now ≡ length c.in_ok-bounds.bounds = ap (λ (xs : List Bound). length xs) c.as_slice-bounds.ensures.value in
+    c.unbind.ensures.rest ∙ ap (drop (length c.as_slice-bounds.result.now)) (c.compile_tree-result.ensures.back ∙ inner_is) ∙ ap (λ (k : ℕ). drop k (bind c.in_ok-bounds.bounds c.args.env.now)) long ∙ bind_left c.in_ok-bounds.bounds c.args.env.now

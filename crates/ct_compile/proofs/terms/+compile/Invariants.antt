@@ -1,4 +1,4 @@
-use Rattle.std.proofs.Common.{◌+◌, map, length, reverse}
+use Rattle.std.proofs.Common.{◌≡◌, ◌+◌, map, length, reverse}
 use Rattle.ct_formulas.specs.TreeFormula.{formula_of, formulas_of_trees}
 use Rattle.ct_formulas.specs.Occurrence.{uses_below}
 use Rattle.ct_occurrence.specs.Noted.{AreNoted, AreNotedWhere, CasesNoted}
@@ -9,6 +9,10 @@ use Rattle.ct_scope.proofs.Weight.{weight, weights, case_weights, weights_below}
 use Rattle.ct_scope.proofs.BindingLemmas.{Completes}
 use Rattle.ct_compile.proofs.CycleLemmas.{Collects}
 use Rattle.ct_compile.proofs.ChoosesLemmas.{Chooses}
+use Rattle.ct_formulas.specs.Choices.{choices_of}
+use Rattle.ct_scope.specs.Choosing.{all_chosen, AreChosen}
+use Rattle.ct_scope.specs.Values.{AreValueTerms}
+use Rattle.ct_compile.proofs.OverLemmas.{left_from}
 use Rattle.ct_compile.proofs.LoopLemmas.{Keeps}
 use Rattle.ct_compile.proofs.terms.+compile.Given as goal
 
@@ -59,3 +63,27 @@ invariant-compile_cases-loop-rest l = Keeps (Chooses l.level.scope.now.sig (map 
 
 abbrev pub decreases-compile_cases-loop-rest : goal.decreases-compile_cases-loop-rest
 decreases-compile_cases-loop-rest l = length l.rest
+
+abbrev pub decreases-compile_quantified : goal.decreases-compile_quantified
+decreases-compile_quantified l = weight (weights_below (map formula_of l.level.now.scope.now.bodies) l.level.now.below) (formula_of l.body.now) + 5
+
+abbrev pub decreases-compile_over : goal.decreases-compile_over
+decreases-compile_over l = weight (weights_below (map formula_of l.level.now.scope.now.bodies) l.level.now.below) (formula_of l.body.now) + 4
+
+abbrev pub decreases-compile_choices : goal.decreases-compile_choices
+decreases-compile_choices l = weight (weights_below (map formula_of l.level.now.scope.now.bodies) l.level.now.below) (formula_of l.over.now.body.now) + 3
+
+abbrev pub decreases-compile_choice_of : goal.decreases-compile_choice_of
+decreases-compile_choice_of l = weight (weights_below (map formula_of l.level.now.scope.now.bodies) l.level.now.below) (formula_of l.over.now.body.now) + 2
+
+abbrev pub decreases-compile_choice_anew : goal.decreases-compile_choice_anew
+decreases-compile_choice_anew l = weight (weights_below (map formula_of l.level.now.scope.now.bodies) l.level.now.below) (formula_of l.over.now.body.now) + 1
+
+abbrev pub invariant-compile_choices-loop-k : goal.invariant-compile_choices-loop-k
+invariant-compile_choices-loop-k l = record {
+  done : Collects l.level.scope.now.sig (map formula_of l.level.scope.now.bodies) l.level.below l.initial.table l.table l.initial.env l.operator (all_chosen l.level.scope.now.sig l.over.sorts.now (formula_of l.over.body.now)) l.args l.lead (left_from (formula_of l.over.body.now) (choices_of l.level.scope.now.sig l.over.sorts.now) l.k);
+  chosen : AreChosen l.level.scope.now.sig (map formula_of l.level.scope.now.bodies) l.table l.level.below l.initial.env l.over.quantifier l.over.sorts.now (formula_of l.over.body.now) l.k l.args;
+  values : AreValueTerms l.level.scope.now.sig l.table l.values;
+  state : IsState l.level.scope.now.sig (map formula_of l.level.scope.now.bodies) l.level.below (worked_in l.level.definitions.now) l.table l.known;
+  same : l.env ≡ l.initial.env;
+}

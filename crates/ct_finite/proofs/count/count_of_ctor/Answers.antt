@@ -1,4 +1,3 @@
-use Rattle.std.proofs.Common.{arith}
 use Rattle.ct_finite.proofs.StepLemmas.{field_read, product_step, first_sel}
 use Rattle.std.proofs.Common.{get_or}
 use Rattle.ct_finite.proofs.count.count_of_ctor.Goals as goal

@@ -1,9 +1,9 @@
-use Rattle.std.proofs.Common.{List, ◌+◌, get_or, length, sym, subst, arith, Contains, ◌<◌}
+use Rattle.std.proofs.Common.{List, ◌+◌, get_or, sym, subst, arith, Contains, ◌<◌}
 use Rattle.std.proofs.lemmas.List.{take_all}
 use Rattle.std.proofs.lemmas.List.Elements.{Contains-get_or}
 use Rattle.ct_sorts.specs.declared.ids.CtorId.{CtorId}
 use Rattle.ct_listing.specs.Listable.{field_sorts}
-use Rattle.ct_finite.specs.Counts.{capped, count_at}
+use Rattle.ct_finite.specs.Counts.{count_at}
 use Rattle.ct_finite.specs.Counting.{ways, AreReady}
 use Rattle.ct_finite.proofs.CapLemmas.{capped_some, ways_some}
 use Rattle.ct_finite.proofs.StepLemmas.{ctors_read, sum_step, ready_step, first_ctor}

@@ -1,4 +1,4 @@
-use Rattle.std.proofs.Common.{◌≡◌, ◌+◌, ◌<◌, ◌≤◌, length, take}
+use Rattle.std.proofs.Common.{◌≡◌, ◌+◌, ◌<◌, ◌≤◌, take}
 use Rattle.ct_finite.specs.Counts.{most_values, capped, count_at}
 use Rattle.ct_finite.specs.Counting.{total, AreReady}
 use Rattle.ct_finite.proofs.count.count_of_sort.Given as goal

@@ -1,6 +1,5 @@
-use Rattle.std.proofs.Common.{◌≡◌, ◌<◌, ℕ, List, length, get_or, Some, slice_get, sym, ap, subst, arith}
+use Rattle.std.proofs.Common.{◌≡◌, ◌<◌, ℕ, List, length, get_or, sym, subst, arith}
 use Rattle.std.proofs.lemmas.Grind.{get_or_default_zero}
-use Rattle.ct_lemmas.proofs.Lists.{slice_get-there}
 use Rattle.ct_terms.specs.Fields.{ctor_ids_of_sort}
 use Rattle.ct_finite.specs.Counts.{capped, count_at}
 use Rattle.ct_finite.specs.Counting.{total, AreCapped, AreReady}

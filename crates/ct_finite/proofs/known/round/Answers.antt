@@ -1,6 +1,6 @@
-use Rattle.std.proofs.Common.{subst, arith, sym, ap}
+use Rattle.std.proofs.Common.{arith}
 use Rattle.std.proofs.lemmas.Bool.{OnFalse_at}
-use Rattle.ct_finite.proofs.RoundLemmas.{IsRound, on_false, round_step, all_done}
+use Rattle.ct_finite.proofs.RoundLemmas.{on_false, round_step, all_done}
 use Rattle.ct_finite.proofs.known.round.Goals as goal
 
 pub loop-s-preserved : goal.loop-s-preserved

@@ -1,12 +1,7 @@
-use Rattle.std.proofs.Common.{◌≡◌, ◌<◌, ◌≤◌, length, arith}
-use Rattle.ct_terms.specs.Fields.{ctor_ids_of_sort}
-use Rattle.ct_listing.specs.Listable.{field_sorts}
-use Rattle.ct_listing.specs.Listing.{built_by, listed}
-use Rattle.ct_finite.specs.Counts.{count_at}
-use Rattle.ct_finite.specs.Counting.{ways}
+use Rattle.std.proofs.Common.{arith}
 use Rattle.ct_finite.proofs.CountLemmas.{Theorems, counts_capped}
 use Rattle.ct_finite.proofs.FewLemmas.{few_built}
-use Rattle.ct_finite.proofs.PartLemmas.{ways_count, part_found}
+use Rattle.ct_finite.proofs.PartLemmas.{field_listable, field_few, ways_count, part_found}
 use Rattle.ct_finite.proofs.parts.part_at.Goals as goal
 
 pub digits_of-requires-clause-capped : goal.digits_of-requires-clause-capped
@@ -55,3 +50,20 @@ returns-clause-part c =
     } in
     let e = c.ctor_at-left.ensures in
     part_found d t c.args.counts.now c.requires.counts c.args.s c.requires.listable c.requires.few c.args.k c.ctor_at-left.result.0 c.ctor_at-left.result.1 c.in_ok-numbers.numbers.items e.inside.0 e.less e.entry c.in_ok-numbers.ensures.value
+
+pub returns-clause-fields : goal.returns-clause-fields
+returns-clause-fields c =
+    let d = c.args.sig.now in
+    let t : Theorems d =
+    record {
+      consistent = c.sorts.ensures.consistent;
+      built = c.listed_values.ensures.built d;
+      parts = c.listed_values.ensures.parts d;
+      unfolds = c.listed_values.ensures.unfolds d;
+      some = λ s. c.listed_values.ensures.some d s c.sorts.ensures.consistent;
+    } in
+    let among = c.ctor_at-left.ensures.inside.0 in
+    λ f within. (
+      field_listable d t c.args.s c.requires.listable c.ctor_at-left.result.0 f among within,
+      field_few d t c.args.s c.requires.listable c.requires.few c.ctor_at-left.result.0 f among within,
+    )

@@ -1,14 +1,11 @@
-use Rattle.std.proofs.Common.{ℕ, ◌≡◌, ◌+◌, ◌<◌, ◌≤◌, List, take, length, get_or, map, Some, slice_get, Contains, sym, ◌∙◌, ap, subst, arith}
+use Rattle.std.proofs.Common.{ℕ, ◌≡◌, ◌+◌, ◌<◌, List, take, length, get_or, map, Some, sym, ◌∙◌, ap, subst, arith}
 use Rattle.std.proofs.lemmas.Grind.{get_or_default_zero}
 use Rattle.ct_sorts.specs.declared.ids.SortId.{SortId}
 use Rattle.ct_formulas.specs.declared.tree.Tree.{Tree}
 use Rattle.ct_formulas.specs.Formula.{Formula}
 use Rattle.ct_formulas.specs.TreeFormula.{formula_of}
-use Rattle.ct_listing.specs.Listable.{field_sort, IsListable}
-use Rattle.ct_listing.specs.Listing.{listed}
-use Rattle.ct_finite.specs.Counts.{most_values}
 use Rattle.ct_finite.specs.ClosedFormula.{formula_of_value}
-use Rattle.ct_finite.specs.Entries.{under_at, weight_at}
+use Rattle.ct_finite.specs.Entries.{under_at}
 use Rattle.ct_finite.proofs.CountLemmas.{Theorems}
 use Rattle.ct_finite.proofs.PartLemmas.{field_listable, field_few}
 use Rattle.ct_finite.proofs.StepLemmas.{field_read, fields_read, first_sel}

@@ -2,6 +2,7 @@ use Rattle.ct_formulas.proofs.FormulaSortLemmas.{sorted_mentions, fields_of_sort
 use Rattle.ct_formulas.proofs.OccurrenceLemmas.{compiled_same, definitions_same, core_of_same}
 use Rattle.ct_formulas.proofs.OccurringSubterms.{occurring_under, calls_give_used, core_of_under}
 use Rattle.ct_formulas.proofs.CompiledReach.{core_of_reaches}
+use Rattle.ct_formulas.proofs.QuantifierLemmas.{sorted_choices}
 use Rattle.ct_formulas.proofs.theorems.formulas.Goals as goal
 
 pub returns-clause-mentions : goal.returns-clause-mentions
@@ -9,14 +10,14 @@ returns-clause-mentions c = sorted_mentions
 
 pub returns-clause-sorted : goal.returns-clause-sorted
 returns-clause-sorted c = λ d bodies env sorts t sort consistent sound fit h.
-    core_of_sorted d (c.structure.ensures.own_selectors d consistent) bodies sound env sorts t sort fit h
+    core_of_sorted d (c.structure.ensures.own_selectors d consistent) (sorted_choices d (λ v s. c.listed_values.ensures.term d v s) (λ ss vs. c.listed_values.ensures.choices d ss vs consistent)) bodies sound env sorts t sort fit h
 
 pub returns-clause-compiled : goal.returns-clause-compiled
 returns-clause-compiled c = λ d n call env sorts t sort consistent give fit m h.
-    compiled_sorted d (c.structure.ensures.own_selectors d consistent) n call give t env sorts sort fit m h
+    compiled_sorted d (c.structure.ensures.own_selectors d consistent) (sorted_choices d (λ v s. c.listed_values.ensures.term d v s) (λ ss vs. c.listed_values.ensures.choices d ss vs consistent)) n call give t env sorts sort fit m h
 
 pub returns-clause-calls : goal.returns-clause-calls
-returns-clause-calls c = λ d bodies n consistent sound. given_sorted d (c.structure.ensures.own_selectors d consistent) bodies sound n
+returns-clause-calls c = λ d bodies n consistent sound. given_sorted d (c.structure.ensures.own_selectors d consistent) (sorted_choices d (λ v s. c.listed_values.ensures.term d v s) (λ ss vs. c.listed_values.ensures.choices d ss vs consistent)) bodies sound n
 
 pub returns-clause-fields : goal.returns-clause-fields
 returns-clause-fields c = λ d k ctor t sorts consistent declared h fields.
@@ -33,7 +34,9 @@ returns-clause-same c = λ d bodies t env others h. core_of_same d bodies t env 
 
 pub returns-clause-longer : goal.returns-clause-longer
 returns-clause-longer c = λ later earlier bodies more env sorts t sort consistent extends sound fit h.
-    core_of_reaches later earlier extends (c.structure.ensures.own_selectors earlier consistent) (c.structure.ensures.of_their_sorts earlier consistent) bodies more sound t env sorts sort fit h
+    core_of_reaches later earlier extends (c.structure.ensures.own_selectors earlier consistent) (c.structure.ensures.of_their_sorts earlier consistent)
+    (sorted_choices earlier (λ v s. c.listed_values.ensures.term earlier v s) (λ ss vs. c.listed_values.ensures.choices earlier ss vs consistent))
+    (record { listable = λ r. c.listed_values.ensures.lasting later earlier r consistent extends; listed = λ r. c.listed_values.ensures.longer later earlier r consistent extends }) bodies more sound t env sorts sort fit h
 
 pub returns-clause-occurs : goal.returns-clause-occurs
 returns-clause-occurs c = λ d bodies env sorts t sort i u sound h o at. core_of_under d bodies sound t env sorts sort i u h o at

@@ -15,9 +15,9 @@ use Rattle.ct_listing.proofs.DifferentLemmas.{AreByParts, one_value, values_diff
 use Rattle.ct_listing.proofs.EveryLemmas.{AreConstructed, every}
 use Rattle.ct_listing.proofs.ClosedLemmas.{value_sorted, term_sorted}
 use Rattle.ct_listing.proofs.ExactLemmas.{entries_closed, some_value, not_empty}
-use Rattle.ct_listing.proofs.LastingLemmas.{listable_still, listed_still}
+use Rattle.ct_listing.proofs.LastingLemmas.{listable_back, listable_still, listed_still}
 use Rattle.ct_listing.proofs.StableLemmas.{listed_unfolds}
-use Rattle.ct_listing.proofs.StageLemmas.{listable_stage, listable_parts}
+use Rattle.ct_listing.proofs.StageLemmas.{stage_listable, listable_stage, listable_parts}
 use Rattle.ct_listing.proofs.theorems.listed_values.Goals as goal
 
 pub returns-clause-built : goal.returns-clause-built
@@ -25,6 +25,9 @@ returns-clause-built c = λ d s sort at kind each set closed. closed s.0 sort at
 
 pub returns-clause-parts : goal.returns-clause-parts
 returns-clause-parts c = listable_parts
+
+pub returns-clause-tested : goal.returns-clause-tested
+returns-clause-tested c = λ d s. (stage_listable d (length d.sorts) s, listable_stage d s)
 
 pub returns-clause-unfolds : goal.returns-clause-unfolds
 returns-clause-unfolds c = listed_unfolds
@@ -86,3 +89,7 @@ returns-clause-lasting c = λ later earlier s consistent extends listable.
 pub returns-clause-longer : goal.returns-clause-longer
 returns-clause-longer c = λ later earlier s consistent extends listable.
     listed_still later earlier extends (c.structure.ensures.own_constructors earlier consistent) (c.structure.ensures.own_selectors earlier consistent) s listable
+
+pub returns-clause-back : goal.returns-clause-back
+returns-clause-back c = λ later earlier s consistent extends there listable.
+    listable_back later earlier extends (c.structure.ensures.own_constructors earlier consistent) (c.structure.ensures.own_selectors earlier consistent) consistent.fields s there listable

@@ -22,6 +22,7 @@ use Rattle.ct_meaning.proofs.CompiledMeaning.{core_of_means}
 use Rattle.ct_meaning.proofs.MeaningFacts.{Facts, true_agrees}
 use Rattle.ct_meaning.proofs.TreeSortLemmas.{tree_value-sorted, tree_value-lasting}
 use Rattle.ct_eval.proofs.TreeValueLemmas.{value_of-tree}
+use Rattle.ct_meaning.proofs.QuantifierMeaning.{for_all, for_some}
 use Rattle.ct_meaning.proofs.theorems.meanings.Goals as goal
 
 -- the theorems on values with sorts that the calls give
@@ -37,6 +38,11 @@ facts : goal.After-value_theorems → (d : Declarations) (i : Interp) → IsCons
 facts c d i consistent proper =
     facts_of c.value_theorems.ensures.theorems (sorts c) d i (c.fitting_graphs.ensures.closed d i.graph proper.graph.fits) consistent proper (c.structure.ensures.own_selectors d consistent) (c.structure.ensures.of_their_sorts d consistent)
     (λ v h. c.boolean_values.ensures.same i.graph i.graph v (is_true i.graph v) (c.boolean_values.ensures.truth d i.graph v consistent proper.graph.fits h))
+    (record {
+      chosen = λ ss vs listable inside. (c.listed_values.ensures.choices d ss vs consistent listable).0 inside;
+      closed_term = λ v s h. c.listed_values.ensures.term d v s h;
+      closed_value = λ v s h. c.listed_values.ensures.value d i.graph v s h;
+    })
 
 pub returns-clause-tree : goal.returns-clause-tree
 returns-clause-tree c = λ d i terms t. value_of-tree d i terms t
@@ -51,9 +57,10 @@ returns-clause-same c = λ d i bodies env others t consistent proper h.
     eval_agrees d i (facts c d i consistent proper) bodies t env others h
 
 pub returns-clause-longer : goal.returns-clause-longer
-returns-clause-longer c = λ later earlier i bodies more env sorts t sort extends sound h.
+returns-clause-longer c = λ later earlier i bodies more env sorts t sort consistent extends sound h.
     let mentions = subst (λ n. MentionsBelow n t) (sym sound.one_each) (c.formulas.ensures.mentions earlier sorts t sort h) in
-    eval_reaches later earlier i extends bodies more sound t env sorts sort mentions h
+    eval_reaches later earlier i extends
+    (record { listable = λ r. c.listed_values.ensures.lasting later earlier r consistent extends; listed = λ r. c.listed_values.ensures.longer later earlier r consistent extends }) bodies more sound t env sorts sort mentions h
 
 pub returns-clause-compiled : goal.returns-clause-compiled
 returns-clause-compiled c = λ d i bodies terms env sorts t sort consistent proper sound of_terms of_env mean h.
@@ -82,3 +89,11 @@ returns-clause-assertions c = λ d i bodies terms ids asserts consistent proper 
     ∙ true_agrees d i (facts c d i consistent proper) (tree_value d i (core_of d bodies [] t)) (eval d i bodies [] t)
     (returns-clause-compiled c d i bodies [] [] [] t bool_sort consistent proper sound tt tt tt of))
     ids asserts terms_of sorted
+
+pub returns-clause-for_all : goal.returns-clause-for_all
+returns-clause-for_all c = λ d i bodies env ss t consistent listable.
+    for_all d i bodies env ss t (λ vs. c.listed_values.ensures.choices d ss vs consistent listable)
+
+pub returns-clause-for_some : goal.returns-clause-for_some
+returns-clause-for_some c = λ d i bodies env ss t consistent listable.
+    for_some d i bodies env ss t (λ vs. c.listed_values.ensures.choices d ss vs consistent listable)

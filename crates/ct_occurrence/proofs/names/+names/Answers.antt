@@ -6,9 +6,9 @@ use Rattle.ct_formulas.specs.declared.tree.Case.{Case}
 use Rattle.ct_formulas.specs.declared.tree.Pattern.{Pattern}
 use Rattle.ct_formulas.specs.declared.tree.Tree.TheOpen.{Tree-F}
 use Rattle.ct_formulas.specs.declared.tree.Tree.TheFolds.{fold-roll-Tree}
-use Rattle.ct_formulas.specs.declared.tree.Tree.TheVariants.{rolls-Def, rolls-Let, rolls-Match}
+use Rattle.ct_formulas.specs.declared.tree.Tree.TheVariants.{rolls-Def, rolls-Let, rolls-Quantified, rolls-Match}
 use Rattle.ct_formulas.specs.TreeFormula.{formula_of, formulas_of_trees, formula_layer, case_layer}
-use Rattle.ct_formulas.specs.Formula.{Formula, Cases, Def, Let, Match, with_case}
+use Rattle.ct_formulas.specs.Formula.{Formula, Cases, Def, Let, Match, Quantified, with_case}
 use Rattle.ct_occurrence.specs.Calls.{AddsNamed}
 use Rattle.ct_occurrence.specs.CaseFormula.{case_of, cases_of_trees}
 use Rattle.ct_occurrence.proofs.CaseLemmas.{cases_is}
@@ -39,6 +39,13 @@ pub add_names-returns-in-Match : goal.add_names-returns-in-Match
 add_names-returns-in-Match t c =
     let is : formula_of c.args.tree.now ≡ Match (formula_of c.deref-in-Match.result.now) (cases_of_trees c.as_slice-in-Match.result.now) = (ap formula_of (c.in-Match.is ∙ sym (rolls-Match c.in-Match.t c.in-Match.cases)) ∙ fold-roll-Tree Formula (Pattern × Formula) formula_layer case_layer (Tree-F.Match c.in-Match.t c.in-Match.cases)) ∙ ap₂ (λ (v : Tree) (cs : List Case). Match (formula_of v) (cases_of_trees cs)) (sym c.deref-in-Match.ensures) (sym c.as_slice-in-Match.ensures.value) in
     record { named = subst (λ (f : Formula). OnOk c.add_names_of_match.result (AddsNamed f c.args.names.now.items c.add_names_of_match.new.names.items)) (sym is) c.add_names_of_match.ensures.named }
+
+pub add_names-returns-in-Quantified : goal.add_names-returns-in-Quantified
+add_names-returns-in-Quantified t c =
+    let q = c.in-Quantified.field-0 in
+    let sorts = c.in-Quantified.field-1.items in
+    let is : formula_of c.args.tree.now ≡ Quantified q sorts (formula_of c.deref-in-Quantified.result.now) = (ap formula_of (c.in-Quantified.is ∙ sym (rolls-Quantified q c.in-Quantified.field-1 c.in-Quantified.t)) ∙ fold-roll-Tree Formula (Pattern × Formula) formula_layer case_layer (Tree-F.Quantified q c.in-Quantified.field-1 c.in-Quantified.t)) ∙ ap (λ (v : Tree). Quantified q sorts (formula_of v)) (sym c.deref-in-Quantified.ensures) in
+    record { named = subst (λ (f : Formula). OnOk c.add_names.result (AddsNamed f c.args.names.now.items c.add_names.new.names.items)) (sym is) c.add_names.ensures.named }
 
 -- ---- several formulas
 

@@ -1,4 +1,5 @@
 use Rattle.std.proofs.Common.{◌≡◌, ℕ, ◌+◌, ◌-◌, ◌&&◌, Bool, true, false, List, [], ◌∷◌, ◌++◌, length, take, drop, reverse, get_or, None, Some, IfOk, sym, ap, ap₂, subst, ◌∙◌, arith}
+use Rattle.ct_sorts.specs.declared.ids.SortId.{SortId}
 use Rattle.std.proofs.lemmas.List.{reverse-append}
 use Rattle.std.proofs.lemmas.Result.{IfOk-weaker}
 use Rattle.ct_lemmas.proofs.Prefixes.{nothing_left, rest-item, rest-step}
@@ -8,9 +9,9 @@ use Rattle.ct_formulas.specs.declared.tree.Case.{Case}
 use Rattle.ct_formulas.specs.declared.tree.Pattern.{Pattern}
 use Rattle.ct_formulas.specs.declared.tree.Tree.TheOpen.{Tree-F}
 use Rattle.ct_formulas.specs.declared.tree.Tree.TheFolds.{fold-roll-Tree}
-use Rattle.ct_formulas.specs.declared.tree.Tree.TheVariants.{rolls-Def, rolls-Let, rolls-Match}
+use Rattle.ct_formulas.specs.declared.tree.Tree.TheVariants.{rolls-Def, rolls-Let, rolls-Quantified, rolls-Match}
 use Rattle.ct_formulas.specs.TreeFormula.{formula_of, formulas_of_trees, formula_layer, case_layer}
-use Rattle.ct_formulas.specs.Formula.{Formula, Cases, Def, Let, Match, with_formula, with_case}
+use Rattle.ct_formulas.specs.Formula.{Formula, Cases, Def, Let, Match, Quantified, with_formula, with_case}
 use Rattle.ct_formulas.specs.Compiled.{are_none}
 use Rattle.ct_formulas.specs.Occurrence.{count_of, occurs, occurs_in_bound, matched_occurs, occurs_in_cases}
 use Rattle.ct_occurrence.specs.declared.notes.Notes.{Notes}
@@ -19,8 +20,8 @@ use Rattle.ct_occurrence.proofs.Size.{size, sizes}
 use Rattle.ct_occurrence.specs.Marks.{worked_in, flags_below, mark_each, pattern_variable_count, MayMark}
 use Rattle.ct_occurrence.specs.Noted.{under_of, IsNoted}
 use Rattle.ct_occurrence.proofs.MarkLemmas.{marked_none}
-use Rattle.ct_occurrence.proofs.MayLemmas.{may_plain, marks_plain, may_condition, may_then, may_else, marks_choice, may_args, row_there, may_body, may_bound, marks_let, may_matched, may_cases, marks_match, MarksRest, rest_first, rest_lighter, rest_more, rest_end, MarksBound, bound_first, bound_lighter, bound_more, bound_end, bound_short, under_long, under_take, under_drop, ok_then, counted, heavier_plain}
-use Rattle.ct_occurrence.proofs.NoteLemmas.{noted_operator, noted_call, noted_choice, noted_let, noted_match, NotesRest, notes_more, notes_end, NotesBound, notes_bound_more, notes_bound_end}
+use Rattle.ct_occurrence.proofs.MayLemmas.{may_plain, marks_plain, may_condition, may_then, may_else, marks_choice, may_args, row_there, may_body, may_bound, marks_let, may_quantified, may_matched, may_cases, marks_match, MarksRest, rest_first, rest_lighter, rest_more, rest_end, MarksBound, bound_first, bound_lighter, bound_more, bound_end, bound_short, under_long, under_take, under_drop, ok_then, counted, heavier_plain}
+use Rattle.ct_occurrence.proofs.NoteLemmas.{noted_operator, noted_call, noted_choice, noted_let, noted_quantified, noted_match, NotesRest, notes_more, notes_end, NotesBound, notes_bound_more, notes_bound_end}
 use Rattle.ct_occurrence.specs.Matching.{tested_by}
 use Rattle.ct_occurrence.proofs.CaseLemmas.{cases_is, none_is}
 use Rattle.ct_occurrence.proofs.MarkedCases.{MarksCases, cases_first, cases_declared, cases_lighter, ends_matched, ends_marks, ends_noted, cases_next, none_matched, none_marks, none_noted}
@@ -92,6 +93,14 @@ mark-returns-in-Let-clause-noted t c = λ uses n m.
     let u = c.deref-in-Let.result.now in
     let is : formula_of c.args.tree.now ≡ Let (formulas_of_trees trees) (formula_of u) = (ap formula_of (c.in-Let.is ∙ sym (rolls-Let c.in-Let.ts c.in-Let.u)) ∙ fold-roll-Tree Formula (Pattern × Formula) formula_layer case_layer (Tree-F.Let c.in-Let.ts c.in-Let.u)) ∙ ap₂ (λ (us : List Tree) (v : Tree). Let (formulas_of_trees us) (formula_of v)) (sym c.as_slice-in-Let.ensures.value) (sym c.deref-in-Let.ensures) in
     subst (λ (f : Formula). IfOk c.mark_let.result (IsNoted c.args.sig.now (worked_in c.args.definitions.now) uses f)) (sym is) (c.mark_let.ensures.noted uses n (subst (MayMark c.args.sig.now uses n (worked_in c.args.definitions.now)) is m))
+
+pub mark-returns-in-Quantified-clause-noted : goal.mark-returns-in-Quantified-clause-noted
+mark-returns-in-Quantified-clause-noted t c = λ uses n m.
+    let sorts = c.as_slice-in-Quantified.result.now in
+    let u = c.deref-in-Quantified.result.now in
+    let q = c.in-Quantified.field-0 in
+    let is : formula_of c.args.tree.now ≡ Quantified q sorts (formula_of u) = (ap formula_of (c.in-Quantified.is ∙ sym (rolls-Quantified q c.in-Quantified.sorts c.in-Quantified.t)) ∙ fold-roll-Tree Formula (Pattern × Formula) formula_layer case_layer (Tree-F.Quantified q c.in-Quantified.sorts c.in-Quantified.t)) ∙ ap₂ (λ (ss : List SortId) (v : Tree). Quantified q ss (formula_of v)) (sym c.as_slice-in-Quantified.ensures.value) (sym c.deref-in-Quantified.ensures) in
+    subst (λ (f : Formula). IfOk c.mark_quantified.result (IsNoted c.args.sig.now (worked_in c.args.definitions.now) uses f)) (sym is) (c.mark_quantified.ensures.noted q uses n (subst (MayMark c.args.sig.now uses n (worked_in c.args.definitions.now)) is m))
 
 pub mark-returns-in-Match-clause-marks : goal.mark-returns-in-Match-clause-marks
 mark-returns-in-Match-clause-marks t c = λ uses n m.
@@ -325,6 +334,29 @@ mark_let-returns-clause-noted t c = λ uses n h.
     let noted = c.in_ok-bound.ensures.noted uses n body in
     let inner = c.binder.ensures.inner ∙ (noted.1 ∙ ap (λ (ms : List Notes). ms ++ noted.0 ∷ []) c.new-inner.ensures.items) in
     noted_let d rows uses ts u c.binder.result noted.0 c.as_slice.result.now c.in_ok-under.under.items row (c.binder.ensures.bound ∙ sym c.as_slice.ensures.value) c.binder.ensures.under inner (c.in_ok-under.ensures.noted (occurs d uses u) uses n (may_bound d uses n rows ts u h) row) noted.2
+
+-- ---- mark_quantified
+
+pub mark_quantified-mark_under-requires : goal.mark_quantified-mark_under-requires
+mark_quantified-mark_under-requires t c =
+    let may = c.requires.may in
+    (omega (arith, c.decreases), (may.1, may.2, may_quantified c.args.sig.now may.1 may.2 (worked_in c.args.definitions.now) may.0 c.args.sorts.now (formula_of c.args.body.now) may.3))
+
+pub mark_quantified-returns-clause-marks : goal.mark_quantified-returns-clause-marks
+mark_quantified-returns-clause-marks t c = λ q uses n h.
+    let d = c.args.sig.now in
+    let body = formula_of c.args.body.now in
+    c.in_ok-bound.ensures.marks uses n (may_quantified d uses n (worked_in c.args.definitions.now) q c.args.sorts.now body h)
+
+pub mark_quantified-returns-clause-noted : goal.mark_quantified-returns-clause-noted
+mark_quantified-returns-clause-noted t c = λ q uses n h.
+    let d = c.args.sig.now in
+    let rows = (worked_in c.args.definitions.now) in
+    let body = formula_of c.args.body.now in
+    let may = may_quantified d uses n rows q c.args.sorts.now body h in
+    let noted = c.in_ok-bound.ensures.noted uses n may in
+    let inner = c.binder.ensures.inner ∙ (noted.1 ∙ ap (λ (ms : List Notes). ms ++ noted.0 ∷ []) c.new-inner.ensures.items) in
+    noted_quantified d rows uses q c.args.sorts.now body c.binder.result noted.0 c.in_ok-bound.bound.items (c.in_ok-bound.ensures.flags uses n may) c.binder.ensures.bound inner noted.2
 
 -- ---- mark_match
 

@@ -56,5 +56,8 @@ decreases-mark_bound-loop-rest l = length l.rest
 abbrev pub decreases-mark_choice : goal.decreases-mark_choice
 decreases-mark_choice l = 2 * size (formula_of l.condition.now) + 2 * size (formula_of l.first.now) + 2 * size (formula_of l.second.now) + 1
 
+abbrev pub decreases-mark_quantified : goal.decreases-mark_quantified
+decreases-mark_quantified l = 2 * size (formula_of l.body.now) + 2
+
 abbrev pub decreases-mark_let : goal.decreases-mark_let
 decreases-mark_let l = 2 * sizes (formulas_of_trees l.trees.now) + 2 * size (formula_of l.body.now) + 2

@@ -20,5 +20,6 @@ returns c = record {
     occurring_subterm = c.formulas.ensures.occurring_subterm;
     mentions = c.formulas.ensures.mentions;
     fields = c.formulas.ensures.fields;
+    chosen = λ d sorts vs consistent listable inside. (c.listed_values.ensures.choices d sorts vs consistent listable).0 inside;
   };
 }

@@ -1,12 +1,10 @@
-use Rattle.std.proofs.Common.{◌≡◌, List, get_or, length, Contains, sym, ◌∙◌, subst, arith}
+use Rattle.std.proofs.Common.{List, get_or, Contains, sym, ◌∙◌, subst, arith}
 use Rattle.std.proofs.lemmas.List.Elements.{Contains-get_or}
 use Rattle.ct_sorts.specs.declared.ids.CtorId.{CtorId}
-use Rattle.ct_terms.specs.Fields.{ctor_ids_of_sort}
-use Rattle.ct_listing.specs.Listing.{built_by, listed}
 use Rattle.ct_finite.proofs.CountLemmas.{Theorems, counts_capped}
 use Rattle.ct_finite.proofs.PartLemmas.{built_count, entry_here, entry_later}
 use Rattle.ct_finite.proofs.StepLemmas.{ctors_read, first_ctor}
-use Rattle.ct_finite.proofs.parts.ctor_at.Goals as goal
+use Rattle.ct_finite.proofs.parts.counted_at.Goals as goal
 
 pub count_of_ctor-count-requires-clause-capped : goal.count_of_ctor-count-requires-clause-capped
 count_of_ctor-count-requires-clause-capped c = counts_capped c.args.sig.now c.args.counts.now c.requires.counts.counted

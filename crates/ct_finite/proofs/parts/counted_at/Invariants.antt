@@ -1,7 +1,7 @@
 use Rattle.std.proofs.Common.{◌≡◌, ◌<◌, length, drop, slice_get}
 use Rattle.std.specs.List.{flat_map}
 use Rattle.ct_listing.specs.Listing.{built_by, listed}
-use Rattle.ct_finite.proofs.parts.ctor_at.Given as goal
+use Rattle.ct_finite.proofs.parts.counted_at.Given as goal
 
 abbrev pub invariant-loop-c : goal.invariant-loop-c
 invariant-loop-c l =
