@@ -1,4 +1,5 @@
 pub mod Args
+pub mod Core
 pub mod Children
 pub mod Terms
 pub mod CoreTree

@@ -2,7 +2,7 @@
 
 ghost use Rattle.std.specs.Prelude.{◌≡◌, [], ◌∷◌, ◌++◌, OnOk, OnErr, IfOk};
 ghost use Rattle.std.specs.Cmp.{partial_equiv_from_equiv};
-ghost use Rattle.ct_terms.specs.Args.{same_ids, same_ids_equiv, digest, hashed_ids, hashed_ids_alike};
+ghost use Rattle.ct_terms.specs.Args.{same_ids, same_ids_equiv, mix, digest_from, hashed_ids, hashed_ids_alike};
 
 use crate::ids::TermId;
 use smallvec::SmallVec;
@@ -38,7 +38,7 @@ impl Args {
         }
     }
 
-    /// One more argument at the end. An error changes nothing.
+    /// Appends an argument. An error changes nothing.
     pub fn push(&mut self, term: TermId) -> Result<(), AllocError>
         ensures ok { OnOk result (self.new ≡ self.old ++ term ∷ []) }
         ensures err { OnErr result (self.new ≡ self.old) }
@@ -84,19 +84,29 @@ impl Hash for Args {
     ghost respects_eq = { hashed_ids_alike };
 
     fn hash<H: Hasher>(&self, state: &mut H) {
-        state.write_u64(digest(self.as_slice()));
+        state.write_u64(digest_from(1, self.as_slice()));
     }
 }
 
-// The terms as one number, which is the same for equal ones.
-fn digest(terms: &[TermId]) -> u64
-    ensures value { result ≡ digest terms.now }
+// The digest after each of these terms was mixed in, in their order.
+pub(crate) fn digest_from(digest: u64, terms: &[TermId]) -> u64
+    ensures value { result ≡ digest_from digest terms.now }
 {
-    let mut sum: u64 = 1;
+    let mut sum = digest;
     let mut rest = terms;
     while let [t, others @ ..] = rest {
-        sum = sum.wrapping_mul(MULTIPLIER).wrapping_add(t.0 as u64 + 1);
+        sum = mix(sum, t.0);
         rest = others;
     }
     sum
+}
+
+// The digest after one more number was mixed in. No two numbers take one digest to the same result, and the digest is not a
+// polynomial, for which lists with one digest are easily found.
+#[tactic(auto, unfolding(crate::specs::Args::mix))]
+pub(crate) fn mix(digest: u64, number: u32) -> u64
+    ensures value { result ≡ mix digest number }
+{
+    let added = digest.wrapping_add(number as u64 + 1);
+    (added ^ (added >> 32)).wrapping_mul(MULTIPLIER)
 }

@@ -1,4 +1,16 @@
-//! Terms with one number each: children before parents, equal terms with one number.
+//! Hash-consed terms: each has one number, and children come before their parents.
+//!
+//! Design choices:
+//!
+//! **Testers over Bool.** `true` and `false` are constructors, so a tester or a constructor term over them is well sorted.
+//! Equality of Boolean terms is `iff`, never `=`.
+//!
+//! **Hashes of arguments.** Each argument is added to the digest, the upper half of the sum is combined with the lower half by
+//! exclusive or, and the result is multiplied by an odd number. So no two numbers take one digest to the same result, and the
+//! digest is not a polynomial, for which lists with one digest are easily found.
+//!
+//! **Sets of literals.** In unit propagation a set is a list to whose end each unit is appended. It makes no difference if a
+//! literal occurs in a clause several times. A hint that is not the number of a clause is not accepted.
 #![tactic(auto)]
 
 mod args;

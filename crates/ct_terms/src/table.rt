@@ -69,7 +69,7 @@ impl TermTable {
         ensures err { IfErr result (λ e. e ≡ TermError.NoMemory) }
     {
         let literals = Vec::from_slice(self.alloc, &self.literals)?;
-        let mut copied = IndexMap::new(self.alloc);
+        let mut copied = IndexMap::with_capacity(self.alloc, self.terms.len())?;
         for index in 0..self.terms.len() {
             let term = TermId(index as u32);
             copied.insert(self.core(term).copy()?, self.sort(term))?;
@@ -81,7 +81,7 @@ impl TermTable {
         })
     }
 
-    /// Keeps the first terms, so many as `len` says, at least `true` and `false`. Takes no memory.
+    /// Keeps the first `len` terms, at least `true` and `false`. Takes no memory.
     pub fn cut_to(&mut self, len: u32)
         requires truths { 2 ≤ len }
         requires within { len ≤ length self.old }
@@ -94,8 +94,8 @@ impl TermTable {
         self.literals.truncate(len as usize);
     }
 
-    /// The number of the term: of the equal one that is there, or of a new one at the end. `Full` comes
-    /// exactly where the table holds 400,000 terms and this one is not among them. An error changes nothing.
+    /// The number of the term: that of an equal one in the table, or of a new one at the end. `Full` comes exactly
+    /// where the table holds 400,000 terms and this one is not among them. An error changes nothing.
     pub fn make(&mut self, sig: &Signature, core: Core) -> Result<TermId, TermError>
         requires well_sorted { IsWellSorted sig.now self.old core }
         ensures made { IfOk result (λ t. Makes sig.now self.old self.new core t.0) }
@@ -175,7 +175,7 @@ impl TermTable {
         self.literals[t.0 as usize]
     }
 
-    /// The number of the term, where it is in the table.
+    /// The number of the term, if it is in the table.
     pub fn find(&self, core: &Core) -> Option<TermId>
         ensures found { IfSome result (λ t. Has self.now core.now t.0) }
         ensures absent { IfNone result (IsAbsent self.now core.now) }

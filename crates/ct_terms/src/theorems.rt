@@ -1,4 +1,4 @@
-//! What follows from the definitions alone.
+//! Theorems about the definitions alone.
 ghost use Rattle.std.specs.Prelude.{◌≡◌, ◌<◌, ℕ, Bool, List, ◌++◌, length, Contains};
 ghost use Rattle.ct_sorts.specs.declared.ids.SortId.{SortId};
 ghost use Rattle.ct_sorts.specs.Declarations.{Declarations, Function, with_function};
@@ -11,7 +11,7 @@ ghost use Rattle.ct_sorts.specs.Grown.{Extends};
 ghost use Rattle.ct_terms.specs.Clause.{Clause, HoldsUnder};
 ghost use Rattle.ct_terms.specs.Propagation.{Rup, IsNumbered, IsUnit};
 
-/// The theorems on sorts, for whoever proves something about terms. The function does nothing.
+/// Theorems on sorts of terms. The function does nothing.
 ///
 /// A term has one sort at most. It keeps its sort when the table grows, and with more declarations;
 /// so a table stays well sorted, as with one function more. Its literal stays when the table grows,
@@ -27,8 +27,7 @@ pub fn one_lasting_sort()
     ensures declared { (d : Declarations) (f : Function) (table : Terms) → AreSorted d table → AreSorted (with_function d f) table }
 {}
 
-/// The theorems on unit propagation, for whoever proves something about clauses. The function does
-/// nothing.
+/// Theorems on unit propagation, for proofs about clauses. The function does nothing.
 ///
 /// A clause that follows by hints is true wherever the clauses are that the hints name. It follows
 /// by the same hints from more clauses. A clause has at most one literal that is the only one not

@@ -1,4 +1,4 @@
-//! What holds of terms as trees.
+//! Theorems about terms as trees.
 ghost use Rattle.std.specs.Prelude.{◌≡◌, ◌<◌, ◌≤◌, ◌∷◌, ◌++◌, Contains, length, map, Some, slice_get};
 ghost use Rattle.std.specs.List.{flat_map};
 ghost use Rattle.ct_sorts.specs.declared.ids.SortId.{SortId};
@@ -11,8 +11,7 @@ ghost use Rattle.ct_terms.specs.Terms.{Terms, IsOfSort, Has, AreSorted as AreSor
 ghost use Rattle.ct_terms.specs.CoreTree.{CoreTree, tree_head, tree_children, subtrees, tree_layer, term_at};
 ghost use Rattle.ct_terms.specs.CoreSorts.{HasTreeSort, tree_sort};
 
-/// The theorems on terms as trees, for whoever speaks of terms without their table. The function
-/// does nothing.
+/// Theorems on terms as trees, for statements about terms without their table. The function does nothing.
 pub fn core_trees()
     // What stands at a number is one layer over the trees of the terms right under it.
     ensures unfolds { (table : Terms) (t : TermId) (core : Core) (sort : SortId)
