@@ -1,5 +1,5 @@
 -- A merge that was added: classes stay sound, and the rules covered.
-use Rattle.std.proofs.Common.{◌≡◌, Bool, true, false, MatchBool, true≢false, List, [], ◌∷◌, ◌++◌, Option, Some, None, refl, sym, subst}
+use Rattle.std.proofs.Common.{◌≡◌, ℕ, Bool, true, false, MatchBool, true≢false, List, [], ◌∷◌, ◌++◌, Option, Some, None, refl, sym, subst}
 use Rattle.std.specs.List.{Contains}
 use Rattle.ct_sorts.specs.Declarations.{Declarations}
 use Rattle.ct_terms.specs.declared.ids.TermId.{TermId}
@@ -26,7 +26,7 @@ use Rattle.ct_congr.proofs.MergeLemmas.{IsSound-more}
 use Rattle.ct_congr.proofs.CoveredLemmas.{IsCovered-wider}
 use Rattle.ct_congr.proofs.JoinedLemmas.{AreWaiting-larger}
 use Rattle.ct_congr.proofs.StepLemmas.{IsCovered-spread}
-use Rattle.ct_congr.proofs.MetLemmas.{IsKeyed-more, IsMet-later}
+use Rattle.ct_congr.proofs.MetLemmas.{IsKeyed-more}
 use Rattle.ct_congr.proofs.AddingLemmas.{IsJoined-grouping, cons_united, moves_added}
 
 -- sound with one justified merge more
@@ -46,24 +46,17 @@ module _ (d : Declarations) (terms : Terms) (old new : Grouping) (m : Merge) (be
       subst (λ (g : Grouping). IsCovered d terms g.reps g.cons keys (AreJoined new.reps after)) (sym same) wide
 
   -- two classes were put together
-  pub IsAdding-some : (winner loser : TermId) → IsJoin old new winner loser → IsGrouped terms old.reps old.cons → AreSorted d terms → (keys more : Keys) → ((key : Core) (t : TermId) → IsKeyed keys key t → IsKeyed more key t) → (answer : Closed) → IsSpreading d terms old new winner loser more (AreJoined new.reps after) answer → IsAdding d terms old new keys more (AreJoined old.reps (m ∷ before)) (AreJoined new.reps after) answer
+  pub IsAdding-some : (winner loser : TermId) → IsJoin old new winner loser → IsGrouped terms old.reps old.cons → AreSorted d terms → (keys more : Keys) → ((key : ℕ) (t : TermId) → IsKeyed keys key t → IsKeyed more key t) → (answer : Closed) → IsSpreading d terms old new winner loser more (AreJoined new.reps after) answer → IsAdding d terms old new keys more (AreJoined old.reps (m ∷ before)) (AreJoined new.reps after) answer
   IsAdding-some winner loser put grouped sorted keys more grows Quiet spread = λ covered.
       IsCovered-spread d terms old new winner loser put grouped sorted keys more (AreJoined old.reps (m ∷ before)) after grows moves covered spread
   IsAdding-some winner loser put grouped sorted keys more grows (Clash a b) clash = clash
 
   -- by what the union was
-  pub IsAdding-united : IsGrouped terms old.reps old.cons → AreSorted d terms → (keys more : Keys) → (added : Keys) × (more ≡ keys ++ added) → (united : Option Union) (answer : Closed) → IsUnited old new m.left m.right united → IsFollowed d terms old new more (AreJoined new.reps after) united answer → IsAdding d terms old new keys more (AreJoined old.reps (m ∷ before)) (AreJoined new.reps after) answer
-  IsAdding-united grouped sorted keys more added None answer h quiet = subst (IsAdding d terms old new keys more (AreJoined old.reps (m ∷ before)) (AreJoined new.reps after)) (sym quiet) (λ covered. wider (IsAdding-none keys h.0 covered))
-    where
-      wider : IsCovered d terms new.reps new.cons keys (AreJoined new.reps after) → IsCovered d terms new.reps new.cons more (AreJoined new.reps after)
-      wider c = record {
-        one = c.one;
-        injection = c.injection;
-        each = c.each;
-        congruence = λ t core has. IsMet-later terms new.reps keys more (AreJoined new.reps after) (AreJoined new.reps after) (IsKeyed-more keys more added) (λ x y h. h) t core (c.congruence t core has);
-        singleton = c.singleton;
-      }
-  IsAdding-united grouped sorted keys more added (Some union) answer h spread = IsAdding-some union.winner union.loser h.join grouped sorted keys more (IsKeyed-more keys more added) answer spread
+  pub IsAdding-united : IsGrouped terms old.reps old.cons → AreSorted d terms → (keys more : Keys) → (added : Keys) × (more ≡ keys ++ added) → (united : Option Union) → (united ≡ None → more ≡ keys) → (answer : Closed) → IsUnited old new m.left m.right united → IsFollowed d terms old new more (AreJoined new.reps after) united answer → IsAdding d terms old new keys more (AreJoined old.reps (m ∷ before)) (AreJoined new.reps after) answer
+  IsAdding-united grouped sorted keys more added None same answer h quiet =
+      subst (IsAdding d terms old new keys more (AreJoined old.reps (m ∷ before)) (AreJoined new.reps after)) (sym quiet)
+      (λ covered. subst (λ (ks : Keys). IsCovered d terms new.reps new.cons ks (AreJoined new.reps after)) (sym (same refl)) (IsAdding-none keys h.0 covered))
+  IsAdding-united grouped sorted keys more added (Some union) same answer h spread = IsAdding-some union.winner union.loser h.join grouped sorted keys more (IsKeyed-more keys more added) answer spread
 
 -- the last union, by what uniting answered
 pub IsLast-united : (old new : Grouping) (a b : TermId) (united : Option Union) → IsUnited old new a b united → IsLast old new united

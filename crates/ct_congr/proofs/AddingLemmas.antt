@@ -101,7 +101,7 @@ IsExtended-trans old now new merges between later p q = record {
   long = length-append q.groupings p.groupings ∙ omega (arith, p.long, q.long, length-append p.more q.more);
 }
 
-pub IsFurther-same : (terms : Terms) (parts : Groupings) (merges : List Merge) (keys : Keys) → AreGroupingsOf terms parts → AreKeys terms parts.now.reps keys → IsFurther terms parts parts merges merges keys keys
+pub IsFurther-same : (terms : Terms) (parts : Groupings) (merges : List Merge) (keys : Keys) → AreGroupingsOf terms parts → AreKeys parts.now.reps keys → IsFurther terms parts parts merges merges keys keys
 IsFurther-same terms parts merges keys of keyed = record {
   extended = IsExtended-same parts merges;
   later = IsLater-same parts.now.reps merges;
@@ -120,7 +120,7 @@ IsFurther-trans terms old now new merges between later keys some more p q = reco
 }
 
 -- one merge more, and what it set off
-pub IsFurther-one : (terms : Terms) (old new : Groupings) (merges later : List Merge) (m : Merge) (keys more : Keys) → new.past ≡ old.now ∷ old.past → later ≡ merges ++ m ∷ [] → IsJoined old.now.reps new.now.reps m.left m.right → (added : Keys) × (more ≡ keys ++ added) → AreGroupingsOf terms new → AreKeys terms new.now.reps more → IsFurther terms old new merges later keys more
+pub IsFurther-one : (terms : Terms) (old new : Groupings) (merges later : List Merge) (m : Merge) (keys more : Keys) → new.past ≡ old.now ∷ old.past → later ≡ merges ++ m ∷ [] → IsJoined old.now.reps new.now.reps m.left m.right → (added : Keys) × (more ≡ keys ++ added) → AreGroupingsOf terms new → AreKeys new.now.reps more → IsFurther terms old new merges later keys more
 IsFurther-one terms old new merges later m keys more past is joined added of keyed = record {
   extended = IsExtended-one old new merges later m past is;
   later = IsLater-more old.now.reps old.now.reps new.now.reps merges merges later m (IsLater-same old.now.reps merges) joined is;

@@ -138,7 +138,7 @@ module _ (d : Declarations) (terms : Terms) (single : List Bool) (hyps : List Li
 
     pub IsKept-back : (waiting : List Merge) (fast : Bool) → waiting ≡ [] → (AreGroupingsOf terms parts → AreGroupingsOf terms parts_left) → AreGroupingsOf terms parts → IsKept d terms parts_left keys_left waiting fast
     IsKept-back waiting fast none of groupings = IsKept-fast d terms parts_left keys_left waiting fast (of groupings)
-        (rw back.keys_are (subst (λ (g : Grouping). AreKeys terms g.reps (take level.keys keys)) now-is level_mark.keyed))
+        (rw back.keys_are (subst (λ (g : Grouping). AreKeys g.reps (take level.keys keys)) now-is level_mark.keyed))
         (λ is. no_waiting d terms parts_left.now.reps waiting none)
         (λ is. rw (none, back.keys_are) (subst (λ (g : Grouping). IsCovered d terms g.reps g.cons (take level.keys keys) (AreJoined g.reps [])) now-is level_mark.covered))
 

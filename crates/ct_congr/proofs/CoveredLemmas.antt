@@ -15,12 +15,11 @@ use Rattle.ct_congr.specs.Partition.{InOneClass}
 use Rattle.ct_congr.specs.Rules.{AreRulesClosed}
 use Rattle.ct_congr.specs.State.{IsConstructorTerm, IsClashOf}
 use Rattle.ct_congr.specs.Sound.{IsConOf, AreCons}
-use Rattle.ct_congr.specs.Covered.{HasCon, IsCoveredAt, Keys, IsMatched, IsMet, IsCovered, AreDifferentKeys}
-use Rattle.ct_lemmas.proofs.Contained.{slice_get-from_Contains}
+use Rattle.ct_congr.specs.Covered.{HasCon, IsCoveredAt, Keys, IsMatched, IsMet, IsCovered}
 use Rattle.ct_lemmas.proofs.Lists.{slice_get-one_length}
 use Rattle.ct_congr.proofs.ClassLemmas.{InOneClass-refl, InOneClass-sym, InOneClass-trans}
 use Rattle.ct_congr.proofs.TermLemmas.{Has-constructor, Has-inside, one_arity}
-use Rattle.ct_congr.proofs.NormalLemmas.{normal_from_congruent}
+use Rattle.ct_congr.proofs.MetLemmas.{IsMet-wider, joined_alike}
 use Rattle.ct_congr.proofs.OneSortLemmas.{slice_get-of_take}
 
 -- what is covered stays so where more is joined
@@ -34,16 +33,6 @@ module _ (d : Declarations) (terms : Terms) (known cons joined wider : Equations
     expansion = λ x y rule is. each x y (at.expansion x y rule is);
     equation_out = λ x y rule is. each x y (at.equation_out x y rule is);
   }
-
-pub IsMet-wider : (terms : Terms) (reps : List TermId) (keys : Keys) (joined wider : Equations) → ((x y : TermId) → joined x y → wider x y) → (t : TermId) (core : Core) → IsMet terms reps keys joined t core → IsMet terms reps keys wider t core
-IsMet-wider terms reps keys joined wider each t core (inl lone) = inl lone
-IsMet-wider terms reps keys joined wider each t core (inr met) = inr (record {
-  key = met.key;
-  first = met.first;
-  normal = met.normal;
-  keyed = met.keyed;
-  equal = each t met.first met.equal;
-})
 
 pub IsCovered-wider : (d : Declarations) (terms : Terms) (reps : List TermId) (cons : List (Option TermId)) (keys : Keys) (joined wider : Equations) → ((x y : TermId) → joined x y → wider x y) → IsCovered d terms reps cons keys joined → IsCovered d terms reps cons keys wider
 IsCovered-wider d terms reps cons keys joined wider each covered = record {
@@ -108,7 +97,7 @@ module _ (d : Declarations) (terms : Terms) (reps : List TermId) (cons : List (O
         let is : s.con ≡ truth = λ i. record { 0 = same i } in
         HasCon-class u truth truth equal (subst (HasCon reps cons truth) is s.has)
 
-module _ (d : Declarations) (terms : Terms) (reps : List TermId) (cons : List (Option TermId)) (keys : Keys) (sorted : AreSorted d terms) (single : AreSingle terms) (begins : BeginsWithTruths terms) (long : length reps ≡ length terms) (cons_long : length cons ≡ length reps) (own : (x r : TermId) → slice_get reps x.0 ≡ Some r → slice_get reps r.0 ≡ Some r) (stored : AreCons terms reps cons) (different : AreDifferentKeys keys) (covered : IsCovered d terms reps cons keys (InOneClass reps)) where
+module _ (d : Declarations) (terms : Terms) (reps : List TermId) (cons : List (Option TermId)) (keys : Keys) (sorted : AreSorted d terms) (single : AreSingle terms) (begins : BeginsWithTruths terms) (long : length reps ≡ length terms) (cons_long : length cons ≡ length reps) (own : (x r : TermId) → slice_get reps x.0 ≡ Some r → slice_get reps r.0 ≡ Some r) (stored : AreCons terms reps cons) (covered : IsCovered d terms reps cons keys (InOneClass reps)) where
   -- the constructor term that is stored for a class with one of the constructor
   stored_at : (t : TermId) (c : CtorId) (xs : List TermId) → Has terms (Con c xs) t.0 → IsStored terms reps cons t c
   stored_at t c xs stands = IsStored-of d terms reps cons sorted cons_long own stored covered.one t c xs stands (omega (arith, Has-inside terms (Con c xs) t.0 stands, long))
@@ -217,14 +206,7 @@ module _ (d : Declarations) (terms : Terms) (reps : List TermId) (cons : List (O
 
   -- two terms that were met
   matched : (x y : TermId) (rule : IsCongruence terms (InOneClass reps) x y) → IsMatched terms reps keys (InOneClass reps) x rule.left → IsMatched terms reps keys (InOneClass reps) y rule.right → InOneClass reps x y
-  matched x y rule p q =
-      let one : p.key ≡ q.key = normal_from_congruent reps rule.left rule.right p.key q.key p.normal q.normal rule.head rule.arguments in
-      let left = slice_get-from_Contains keys (p.key, p.first) p.keyed in
-      let right = slice_get-from_Contains keys (q.key, q.first) q.keyed in
-      let there : slice_get keys left.0 ≡ Some (q.key, p.first) = subst (λ (key : Core). slice_get keys left.0 ≡ Some (key, p.first)) one left.1 in
-      let place : left.0 ≡ right.0 = different left.0 right.0 q.key p.first q.first there right.1 in
-      let first : p.first ≡ q.first = ap (λ e. e.1) (same_Some (q.key, p.first) (q.key, q.first) (sym there ∙ ap (slice_get keys) place ∙ right.1)) in
-      InOneClass-trans reps x p.first y p.equal (subst (λ (t : TermId). InOneClass reps t y) (sym first) (InOneClass-sym reps y q.first q.equal))
+  matched x y rule = joined_alike terms reps keys (InOneClass reps) (InOneClass-sym reps) (InOneClass-trans reps) x y rule.left rule.right (record { head = rule.head; arguments = rule.arguments })
 
   -- as many arguments on both sides
   same_many : (xs ys : List TermId) → AllZip (InOneClass reps) xs ys → length xs ≡ length ys

@@ -21,7 +21,7 @@ use Rattle.ct_congr.specs.Kept.{IsKept}
 use Rattle.ct_congr.proofs.MetLemmas.{AreKeys-larger}
 
 -- where it is not said that the rules are covered
-pub IsKept-slow : (d : Declarations) (terms : Terms) (parts : Groupings) (keys : Keys) (waiting : List Merge) (fast : Bool) → fast ≡ false → AreGroupingsOf terms parts → AreKeys terms parts.now.reps keys → IsKept d terms parts keys waiting fast
+pub IsKept-slow : (d : Declarations) (terms : Terms) (parts : Groupings) (keys : Keys) (waiting : List Merge) (fast : Bool) → fast ≡ false → AreGroupingsOf terms parts → AreKeys parts.now.reps keys → IsKept d terms parts keys waiting fast
 IsKept-slow d terms parts keys waiting fast slow of keyed = record {
   groupings = of;
   keyed = keyed;
@@ -30,17 +30,17 @@ IsKept-slow d terms parts keys waiting fast slow of keyed = record {
 }
 
 -- and where it is, since it is so
-pub IsKept-fast : (d : Declarations) (terms : Terms) (parts : Groupings) (keys : Keys) (waiting : List Merge) (fast : Bool) → AreGroupingsOf terms parts → AreKeys terms parts.now.reps keys → (fast ≡ true → AreWaiting d terms parts.now.reps waiting) → (fast ≡ true → IsCovered d terms parts.now.reps parts.now.cons keys (AreJoined parts.now.reps waiting)) → IsKept d terms parts keys waiting fast
+pub IsKept-fast : (d : Declarations) (terms : Terms) (parts : Groupings) (keys : Keys) (waiting : List Merge) (fast : Bool) → AreGroupingsOf terms parts → AreKeys parts.now.reps keys → (fast ≡ true → AreWaiting d terms parts.now.reps waiting) → (fast ≡ true → IsCovered d terms parts.now.reps parts.now.cons keys (AreJoined parts.now.reps waiting)) → IsKept d terms parts keys waiting fast
 IsKept-fast d terms parts keys waiting fast of keyed waits covered = record { groupings = of; keyed = keyed; waits = waits; covered = covered }
 
 -- rounds over all terms leave the signatures as they are
-pub IsFurther-slow : (terms : Terms) (old new : Groupings) (merges later : List Merge) (keys : Keys) → IsExtended old new merges later → IsLater old.now.reps new.now.reps merges later → (AreGroupingsOf terms old → AreGroupingsOf terms new) → AreGroupingsOf terms old → AreKeys terms old.now.reps keys → IsFurther terms old new merges later keys keys
+pub IsFurther-slow : (terms : Terms) (old new : Groupings) (merges later : List Merge) (keys : Keys) → IsExtended old new merges later → IsLater old.now.reps new.now.reps merges later → (AreGroupingsOf terms old → AreGroupingsOf terms new) → AreGroupingsOf terms old → AreKeys old.now.reps keys → IsFurther terms old new merges later keys keys
 IsFurther-slow terms old new merges later keys extended further keeps of keyed = record {
   extended = extended;
   later = further;
   more = ([], sym (append-nil keys));
   groupings = keeps of;
-  keyed = AreKeys-larger terms old.now.reps new.now.reps keys further.keeps keyed;
+  keyed = AreKeys-larger old.now.reps new.now.reps keys further.keeps keyed;
 }
 
 -- nothing waits

@@ -34,3 +34,5 @@ pub mod QuietLemmas
 pub mod BackLemmas
 pub mod FirstMarkLemmas
 pub mod StartLemmas
+pub mod AlikeLemmas
+pub mod MeetingLemmas

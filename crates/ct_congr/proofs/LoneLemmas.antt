@@ -8,7 +8,7 @@ use Rattle.ct_terms.specs.Children.{core_head, core_children}
 use Rattle.ct_terms.specs.Terms.{Terms, Has}
 use Rattle.ct_equivalence.specs.Over.{IsLone, AreLone}
 use Rattle.ct_congr.specs.Normal.{IsRepresented, IsNormal}
-use Rattle.ct_congr.specs.Covered.{Keys, AreDifferentKeys}
+use Rattle.ct_equivalence.specs.Signatures.{Signatures, AreDifferent}
 use Rattle.ct_congr.specs.Lone.{IsBlank, IsListed}
 use Rattle.ct_lemmas.proofs.Lists.{slice_get-replicate}
 use Rattle.ct_lemmas.proofs.Contained.{slice_get-from_Contains}
@@ -30,7 +30,7 @@ pub IsBlank-replicate : (n : ℕ) (t : TermId) → IsBlank (replicate n t)
 IsBlank-replicate n t j k x y p q = slice_get-replicate n j t x p ∙ sym (slice_get-replicate n k t y q)
 
 -- the marks that are left are right
-pub AreLone-listed : (terms : Terms) (blank : List TermId) (keys : Keys) (lone : List Bool) → IsBlank blank → AreDifferentKeys keys → ((t : TermId) (core : Core) → Has terms core t.0 → IsListed blank keys lone t core) → AreLone terms lone
+pub AreLone-listed : (terms : Terms) (blank : List TermId) (keys : Signatures) (lone : List Bool) → IsBlank blank → AreDifferent keys → ((t : TermId) (core : Core) → Has terms core t.0 → IsListed blank keys lone t core) → AreLone terms lone
 AreLone-listed terms blank keys lone is different listed t marked u core other stands there head long =
     let p = listed t core stands in
     let q = listed u other there in

@@ -138,7 +138,7 @@ module _ (hyps : List Lit) (given : List Equation) (merges : List Merge) (level 
     marks_of-push levels = map-append (marked_at hyps given merges parts) levels (level ∷ []) ∙ ap (λ (last : Marked). map (marked_at hyps given merges parts) levels ++ last ∷ []) marked-now
 
     module _ (d : Declarations) (terms : Terms) (single : List Bool) (keys : Keys) (all_keys : level.keys ≡ length keys) where
-      IsMarked-now : AreHeld d terms single hyps given parts.now.reps parts.now.cons merges → AreKeys terms parts.now.reps keys → IsCovered d terms parts.now.reps parts.now.cons keys (AreJoined parts.now.reps []) → AreQuiet d terms parts.now.reps → IsMarked d terms single hyps given merges keys (history parts) level
+      IsMarked-now : AreHeld d terms single hyps given parts.now.reps parts.now.cons merges → AreKeys parts.now.reps keys → IsCovered d terms parts.now.reps parts.now.cons keys (AreJoined parts.now.reps []) → AreQuiet d terms parts.now.reps → IsMarked d terms single hyps given merges keys (history parts) level
       IsMarked-now held keyed covered quiet =
           let whole_keys : take level.keys keys ≡ keys = ap (λ n. take n keys) all_keys ∙ take-whole keys in
           record {
@@ -155,7 +155,7 @@ module _ (hyps : List Lit) (given : List Equation) (merges : List Merge) (level 
           }
 
       -- the levels with the one of what stands now
-      pub AreMarked-push : (levels : List Level) → AreHeld d terms single hyps given parts.now.reps parts.now.cons merges → AreKeys terms parts.now.reps keys → IsCovered d terms parts.now.reps parts.now.cons keys (AreJoined parts.now.reps []) → AreQuiet d terms parts.now.reps → AreMarked d terms single hyps given merges keys parts levels → AreMarked d terms single hyps given merges keys parts (levels ++ level ∷ [])
+      pub AreMarked-push : (levels : List Level) → AreHeld d terms single hyps given parts.now.reps parts.now.cons merges → AreKeys parts.now.reps keys → IsCovered d terms parts.now.reps parts.now.cons keys (AreJoined parts.now.reps []) → AreQuiet d terms parts.now.reps → AreMarked d terms single hyps given merges keys parts levels → AreMarked d terms single hyps given merges keys parts (levels ++ level ∷ [])
       AreMarked-push levels held keyed covered quiet marked = record {
         long = long;
         rising = λ j k earlier later at_earlier at_later le. elim (slice_get-push_cases levels level earlier j at_earlier) [

@@ -23,7 +23,8 @@ use Rattle.ct_congr.proofs.MergeLemmas.{IsReason-wider, IsReason-follows}
 use Rattle.ct_congr.proofs.CompleteLemmas.{Theorems, Follows-closed}
 use Rattle.ct_congr.proofs.HeldLemmas.{IsClosed-of}
 use Rattle.ct_congr.proofs.JoinedLemmas.{AreJoined-class, AreJoined-moves}
-use Rattle.ct_congr.proofs.CoveredLemmas.{IsMet-wider, IsCovered-wider}
+use Rattle.ct_congr.proofs.CoveredLemmas.{IsCovered-wider}
+use Rattle.ct_congr.proofs.MetLemmas.{IsMet-wider}
 use Rattle.ct_congr.proofs.KeptLemmas.{IsKept-fast, no_waiting}
 
 -- ---- quiet states

@@ -20,7 +20,8 @@ use Rattle.ct_congr.specs.declared.merge.Closed.{Closed}
 use Rattle.ct_congr.specs.declared.merge.Closed.TheVariants.{Quiet, Clash}
 use Rattle.ct_congr.specs.Step.{ArePaired, IsPairing, IsSpread, IsDone, IsMovedDone, IsSpreading}
 use Rattle.ct_congr.proofs.TermLemmas.{Has-inside}
-use Rattle.ct_congr.proofs.CoveredLemmas.{IsCoveredAt-wider, IsMet-wider}
+use Rattle.ct_congr.proofs.CoveredLemmas.{IsCoveredAt-wider}
+use Rattle.ct_congr.proofs.MetLemmas.{IsMet-wider}
 
 pub IsMovedDone-wider : (d : Declarations) (terms : Terms) (was now : Grouping) (loser : TermId) (keys : Keys) (joined wider : Equations) → ((x y : TermId) → joined x y → wider x y) → IsMovedDone d terms was now loser keys joined → IsMovedDone d terms was now loser keys wider
 IsMovedDone-wider d terms was now loser keys joined wider each done = record {

@@ -1,30 +1,36 @@
 -- The rules stay covered where a union of two classes is followed by what it asks for.
-use Rattle.std.proofs.Common.{◌≡◌, suc, ◌<◌, ◌⊎◌, true, false, List, [], ◌∷◌, length, Option, slice_get, get_or, Some, None, refl, sym, ap, subst, ◌∙◌, inl, inr, arith}
-use Rattle.std.specs.List.{AllZip, Contains}
-use Rattle.std.proofs.lemmas.Option.{same_Some, slice_get_within, slice_get-get_or}
+use Rattle.std.proofs.Common.{◌≡◌, ℕ, suc, ◌<◌, ◌⊎◌, true, false, List, [], ◌∷◌, length, Option, slice_get, get_or, Some, None, refl, sym, ap, ap₂, subst, ◌∙◌, inl, inr, arith}
+use Rattle.std.specs.List.{AllZip, AllByRecursion, Contains}
+use Rattle.std.specs.Int.Bits.{bit_xor}
+use Rattle.std.proofs.lemmas.Option.{same_Some, slice_get_within, slice_get-get_or, get_or_from_slice_get}
 use Rattle.ct_lemmas.proofs.Contained.{Contains-first}
 use Rattle.ct_sorts.specs.declared.ids.CtorId.{CtorId}
 use Rattle.ct_sorts.specs.Declarations.{Declarations}
 use Rattle.ct_terms.specs.declared.ids.TermId.{TermId}
 use Rattle.ct_terms.specs.declared.term.Core.{Core}
 use Rattle.ct_terms.specs.declared.term.Core.TheVariants.{Con, Sel, Test, Eq, Not}
-use Rattle.ct_terms.specs.Children.{core_children}
+use Rattle.ct_terms.specs.Children.{core_head, core_children}
 use Rattle.ct_terms.specs.Terms.{Terms, Has, AreSorted}
 use Rattle.ct_rules.specs.Rules.{Equations, IsInjection, IsSelection, IsTesting, IsExpansion, IsEquationIn, IsEquationOut, IsNegation, truth_term}
 use Rattle.ct_equivalence.specs.Grouping.{Grouping}
+use Rattle.ct_equivalence.specs.Digests.{share, rep_of, shares, head_number, digest}
+use Rattle.ct_equivalence.specs.Over.{IsLone}
 use Rattle.ct_equivalence.specs.Union.{IsJoin}
 use Rattle.ct_congr.specs.declared.merge.Merge.{Merge}
 use Rattle.ct_congr.specs.Partition.{InOneClass}
-use Rattle.ct_congr.specs.Normal.{IsRepresented}
 use Rattle.ct_congr.specs.State.{IsConstructorTerm}
 use Rattle.ct_congr.specs.Joined.{AreJoined}
-use Rattle.ct_congr.specs.Covered.{HasCon, IsGrouped, Keys, IsKeyed, IsMet, IsCovered}
+use Rattle.ct_congr.specs.Covered.{HasCon, IsGrouped, Keys, IsKeyed, IsAlike, IsRowOf, IsMatched, IsMet, IsCovered}
 use Rattle.ct_congr.specs.Step.{IsFresh, IsSpread}
 use Rattle.ct_lemmas.proofs.Contained.{Contains-from_slice_get, slice_get-from_Contains}
 use Rattle.ct_lemmas.proofs.Lists.{slice_get-one_length}
 use Rattle.ct_congr.proofs.PartitionLemmas.{term_cases}
-use Rattle.ct_congr.proofs.TermLemmas.{one_arity}
-use Rattle.ct_congr.proofs.JoinedLemmas.{AreJoined-trans, AreJoined-sym}
+use Rattle.ct_congr.proofs.ClassLemmas.{InOneClass-refl}
+use Rattle.ct_congr.proofs.TermLemmas.{Has-inside, one_arity}
+use Rattle.ct_congr.proofs.JoinedLemmas.{AreJoined-class, AreJoined-trans, AreJoined-sym}
+use Rattle.ct_congr.proofs.MetLemmas.{within_left, within_right, IsAlike-sym, IsRowOf-alike}
+use Rattle.ct_lemmas.proofs.Each.{AllByRecursion-weaker}
+use Rattle.ct_lemmas.proofs.Pairs.{AllZip-weaker, AllZip-one_length}
 
 pub Contains-tail : {X : Type 0} (x y : X) (xs : List X) → Contains xs y → Contains (x ∷ xs) y
 Contains-tail x y xs h = Contains-from_slice_get (x ∷ xs) (suc (slice_get-from_Contains xs y h).0) y (slice_get-from_Contains xs y h).1
@@ -88,24 +94,73 @@ module _ (d : Declarations) (terms : Terms) (old new : Grouping) (winner loser :
         ]
       ]
 
+  -- the term has the representative that it had
+  IsStill : TermId → Type 0
+  IsStill x = (r : TermId) × (slice_get old.reps x.0 ≡ Some r) × (slice_get new.reps x.0 ≡ Some r)
+
   -- some term of the list moved, or all have the representatives that they had
-  moved_cases : (xs ks : List TermId) → AllZip (IsRepresented old.reps) xs ks → ((t : TermId) × Contains xs t × (slice_get old.reps t.0 ≡ Some loser)) ⊎ AllZip (IsRepresented new.reps) xs ks
-  moved_cases [] [] all = inr tt
-  moved_cases [] (k ∷ ks) all = absurd all
-  moved_cases (x ∷ xs) [] all = absurd all
-  moved_cases (x ∷ xs) (k ∷ ks) all = elim (put.relabelled.each x k all.0) [
-    | inl p ↦ inl (x, Contains-first x xs, all.0 ∙ ap Some p.0)
-    | inr p ↦ elim (moved_cases xs ks all.1) [
-      | inl t ↦ inl (t.0, Contains-tail x t.0 xs t.1, t.2)
-      | inr rest ↦ inr (p.1, rest)
+  moved_cases : (xs : List TermId) → AllByRecursion (λ x. x.0 < length old.reps) xs → ((t : TermId) × Contains xs t × (slice_get old.reps t.0 ≡ Some loser)) ⊎ AllByRecursion IsStill xs
+  unfolding IsStill
+  moved_cases [] within = inr tt
+  moved_cases (x ∷ xs) within =
+      let r = get_or old.reps x.0 x in
+      let at : slice_get old.reps x.0 ≡ Some r = slice_get-get_or old.reps x.0 x within.0 in
+      elim (put.relabelled.each x r at) [
+        | inl p ↦ inl (x, Contains-first x xs, at ∙ ap Some p.0)
+        | inr p ↦ elim (moved_cases xs within.1) [
+          | inl t ↦ inl (t.0, Contains-tail x t.0 xs t.1, t.2)
+          | inr rest ↦ inr ((r, at, p.1), rest)
+        ]
+      ]
+
+  -- one class stays one
+  class_stays : (x y : TermId) → InOneClass old.reps x y → InOneClass new.reps x y
+  class_stays x y h = elim (put.relabelled.each x h.0 h.1) [
+    | inl a ↦ elim (put.relabelled.each y h.0 h.2) [
+      | inl b ↦ (winner, a.1, b.1)
+      | inr b ↦ absurd (b.0 a.0)
+    ]
+    | inr a ↦ elim (put.relabelled.each y h.0 h.2) [
+      | inl b ↦ absurd (a.0 b.0)
+      | inr b ↦ (h.0, a.1, b.1)
     ]
   ]
+
+  alike_after : (a b : Core) → IsAlike old.reps a b → IsAlike new.reps a b
+  alike_after a b alike = record { head = alike.head; arguments = AllZip-weaker (InOneClass old.reps) (InOneClass new.reps) class_stays (core_children a) (core_children b) alike.arguments }
+
+  -- terms of one class that have the representatives that they had were of one class
+  pairs_before : (xs ys : List TermId) → AllByRecursion IsStill xs → AllByRecursion IsStill ys → AllZip (InOneClass new.reps) xs ys → AllZip (InOneClass old.reps) xs ys
+  unfolding IsStill
+  pairs_before [] [] p q all = tt
+  pairs_before [] (y ∷ ys) p q all = absurd all
+  pairs_before (x ∷ xs) [] p q all = absurd all
+  pairs_before (x ∷ xs) (y ∷ ys) p q all =
+      let h = all.0 in
+      let same : p.0.0 ≡ q.0.0 = same_Some p.0.0 q.0.0 (sym p.0.2 ∙ h.1 ∙ sym h.2 ∙ q.0.2) in (
+        (q.0.0, p.0.1 ∙ ap Some same, q.0.1),
+        pairs_before xs ys p.1 q.1 all.1,
+      )
+
+  alike_before : (a b : Core) → AllByRecursion IsStill (core_children a) → AllByRecursion IsStill (core_children b) → IsAlike new.reps a b → IsAlike old.reps a b
+  alike_before a b p q alike = record { head = alike.head; arguments = pairs_before (core_children a) (core_children b) p q alike.arguments }
+
+  -- and a term over such terms has the digest that it had
+  still_shares : (place : ℕ) (xs : List TermId) → AllByRecursion IsStill xs → shares new.reps place xs ≡ shares old.reps place xs
+  unfolding IsStill
+  still_shares place [] p = refl
+  still_shares place (x ∷ xs) p =
+      let same : rep_of new.reps x ≡ rep_of old.reps x = get_or_from_slice_get new.reps x.0 p.0.0 x p.0.2 ∙ sym (get_or_from_slice_get old.reps x.0 p.0.0 x p.0.1) in
+      ap₂ (λ (r : TermId) (n : ℕ). bit_xor (share place r) n) same (still_shares (suc place) xs p.1)
+
+  still_digest : (core : Core) → AllByRecursion IsStill (core_children core) → digest new.reps core ≡ digest old.reps core
+  still_digest core p = ap (bit_xor (head_number (core_head core))) (still_shares 0 (core_children core) p)
 
   -- a constructor term of a class that has none
   no_con : (t r : TermId) → slice_get old.reps t.0 ≡ Some r → slice_get old.cons r.0 ≡ Some None → IsConstructorTerm terms t → ⊥
   no_con t r at none built = was.stored r None (was.own t r at) none t at built
 
-  module _ (sorted : AreSorted d terms) (keys more : Keys) (known : Equations) (after : List Merge) (grows : (key : Core) (t : TermId) → IsKeyed keys key t → IsKeyed more key t) (moves : (x y : TermId) → known x y → AreJoined new.reps after x y) (covered : IsCovered d terms old.reps old.cons keys known) (spread : IsSpread d terms old new winner loser more (AreJoined new.reps after)) where
+  module _ (sorted : AreSorted d terms) (keys more : Keys) (known : Equations) (after : List Merge) (grows : (key : ℕ) (t : TermId) → IsKeyed keys key t → IsKeyed more key t) (moves : (x y : TermId) → known x y → AreJoined new.reps after x y) (covered : IsCovered d terms old.reps old.cons keys known) (spread : IsSpread d terms old new winner loser more (AreJoined new.reps after)) where
     Joined : Equations
     Joined = AreJoined new.reps after
 
@@ -259,18 +314,57 @@ module _ (d : Declarations) (terms : Terms) (old new : Grouping) (winner loser :
       | inr fresh ↦ (spread.truths rule.term fresh).equation_out x y rule refl
     ]
 
+    -- a term with the representatives that it had was met, and is
+    module _ (t : TermId) (core : Core) (has : Has terms core t.0) (still : AllByRecursion IsStill (core_children core)) (before : IsMatched terms old.reps keys known t core) where
+      row_now : IsRowOf terms new.reps more core before.first
+      row_now = record {
+        other = before.row.other;
+        has = before.row.has;
+        keyed = subst (λ n. IsKeyed more n before.first) (sym (still_digest core still)) (grows (digest old.reps core) before.first before.row.keyed);
+        alike = alike_after core before.row.other before.row.alike;
+      }
+
+      with_first : Joined t before.first
+      unfolding Joined
+      with_first = moves t before.first (before.each before.first before.row)
+
+      -- a term that is like none but itself
+      with_itself : (u : TermId) (row : IsRowOf terms new.reps more core u) → IsLone terms u → Joined t u
+      unfolding Joined
+      with_itself u row lone =
+          let same : u ≡ t = lone t row.other core row.has has (sym row.alike.head) (sym (AllZip-one_length (InOneClass new.reps) (core_children core) (core_children row.other) row.alike.arguments)) in
+          let inside : t.0 < length new.reps = omega (arith, Has-inside terms core t.0 has, was.long, put.relabelled.long) in
+          subst (Joined t) (sym same) (AreJoined-class new.reps after t t (InOneClass-refl new.reps t inside))
+
+      -- each term that is like it and stands at its digest is joined with it
+      with_each : (u : TermId) → IsRowOf terms new.reps more core u → Joined t u
+      unfolding Joined
+      with_each u row =
+          let other = row.other in
+          let within = within_right new.reps (core_children core) (core_children other) row.alike.arguments in
+          elim (moved_cases (core_children other) (AllByRecursion-weaker (λ (x : TermId). x.0 < length new.reps) (λ (x : TermId). x.0 < length old.reps) (λ x below. omega (arith, below, put.relabelled.long)) (core_children other) within)) [
+            | inl moved ↦ elim (spread.met u moved.0 other row.has moved.1 moved.2) [
+              | inl lone ↦ with_itself u row lone
+              | inr theirs ↦
+                  let there = theirs.each before.first (IsRowOf-alike new.reps terms more core other before.first (IsAlike-sym new.reps core other row.alike) row_now) in
+                  AreJoined-trans new.reps after t before.first u with_first (AreJoined-sym new.reps after u before.first there)
+            ]
+            | inr theirs_still ↦ elim (covered.congruence u other row.has) [
+              | inl lone ↦ with_itself u row lone
+              | inr theirs ↦
+                  let alike = alike_before core other still theirs_still row.alike in
+                  let there = moves u before.first (theirs.each before.first (IsRowOf-alike old.reps terms keys core other before.first (IsAlike-sym old.reps core other alike) before.row)) in
+                  AreJoined-trans new.reps after t before.first u with_first (AreJoined-sym new.reps after u before.first there)
+            ]
+          ]
+
     met : (t : TermId) (core : Core) → Has terms core t.0 → IsMet terms new.reps more (AreJoined new.reps after) t core
+    unfolding Joined
     met t core has = elim (covered.congruence t core has) [
       | inl lone ↦ inl lone
-      | inr before ↦ elim (moved_cases (core_children core) (core_children before.key) before.normal.arguments) [
+      | inr before ↦ elim (moved_cases (core_children core) (within_left old.reps (core_children core) (core_children before.row.other) before.row.alike.arguments)) [
         | inl moved ↦ spread.met t moved.0 core has moved.1 moved.2
-        | inr same ↦ inr (record {
-          key = before.key;
-          first = before.first;
-          normal = record { head = before.normal.head; arguments = same };
-          keyed = grows before.key before.first before.keyed;
-          equal = moves t before.first before.equal;
-        })
+        | inr still ↦ inr (record { first = before.first; row = row_now t core has still before; each = with_each t core has still before })
       ]
     ]
 

@@ -10,8 +10,9 @@ use Rattle.ct_terms.specs.Children.{core_head, core_children}
 use Rattle.ct_terms.specs.Terms.{Terms, Has}
 use Rattle.ct_rules.specs.Rules.{Equations, IsInjection, IsSelection, IsTesting, IsExpansion, IsEquationIn, IsEquationOut, IsNegation, IsSingleton}
 use Rattle.ct_equivalence.specs.Over.{IsLone}
+use Rattle.ct_equivalence.specs.Digests.{digest}
+use Rattle.ct_equivalence.specs.Chains.{SignatureRows}
 use Rattle.ct_congr.specs.Partition.{InOneClass}
-use Rattle.ct_congr.specs.Normal.{IsNormal}
 use Rattle.ct_congr.specs.Sound.{AreCons}
 
 -- the second is the constructor term that is stored for the class of the first
@@ -38,32 +39,35 @@ pub record IsCoveredAt (d : Declarations) (terms : Terms) (known cons joined : E
   pub expansion : (x y : TermId) (rule : IsExpansion d terms cons x y) → rule.test ≡ t → joined x y
   pub equation_out : (x y : TermId) (rule : IsEquationOut terms cons x y) → rule.term ≡ t → joined x y
 
--- the terms over representatives that were met, each with the first term that had it
+-- terms that were met, each with the digest that it had over the representatives of that time
 abbrev pub Keys : Type 0
-Keys = List (Core × TermId)
+Keys = SignatureRows
 
--- the term stands beside the key
-abbrev pub IsKeyed : Keys → Core → TermId → Type 0
+-- the term stands beside the digest
+abbrev pub IsKeyed : Keys → ℕ → TermId → Type 0
 IsKeyed keys key t = Contains keys (key, t)
 
--- with representatives put in for its arguments when it was met, the term was the key: its arguments are of one class with
--- those of the key
-pub record IsKeyOf (terms : Terms) (reps : List TermId) (key : Core) (t : TermId) : Type 0 where
-  pub core : Core
-  pub has : Has terms core t.0
-  pub head : core_head core ≡ core_head key
-  pub arguments : AllZip (InOneClass reps) (core_children core) (core_children key)
+-- terms that were met are terms of the classes
+abbrev pub AreKeys : List TermId → Keys → Type 0
+AreKeys reps keys = (key : ℕ) (t : TermId) → IsKeyed keys key t → InOneClass reps t t
 
-abbrev pub AreKeys : Terms → List TermId → Keys → Type 0
-AreKeys terms reps keys = (key : Core) (t : TermId) → IsKeyed keys key t → IsKeyOf terms reps key t
+-- the two have one head and arguments of the same classes, one for one
+pub record IsAlike (reps : List TermId) (core other : Core) : Type 0 where
+  pub head : core_head core ≡ core_head other
+  pub arguments : AllZip (InOneClass reps) (core_children core) (core_children other)
 
--- the term over representatives was met, and its first term is joined with this one
+-- the term is like this one, and was met when it had the digest that this one has now
+pub record IsRowOf (terms : Terms) (reps : List TermId) (keys : Keys) (core : Core) (u : TermId) : Type 0 where
+  pub other : Core
+  pub has : Has terms other u.0
+  pub keyed : IsKeyed keys (digest reps core) u
+  pub alike : IsAlike reps core other
+
+-- a term like this one was met at its digest, and each such one is joined with it
 pub record IsMatched (terms : Terms) (reps : List TermId) (keys : Keys) (joined : Equations) (t : TermId) (core : Core) : Type 0 where
-  pub key : Core
   pub first : TermId
-  pub normal : IsNormal reps core key
-  pub keyed : IsKeyed keys key first
-  pub equal : joined t first
+  pub row : IsRowOf terms reps keys core first
+  pub each : (u : TermId) → IsRowOf terms reps keys core u → joined t u
 
 -- congruence asks for nothing more at the term: it is congruent to itself alone, or it was met
 abbrev pub IsMet : Terms → List TermId → Keys → Equations → TermId → Core → Type 0
@@ -76,7 +80,3 @@ pub record IsCovered (d : Declarations) (terms : Terms) (reps : List TermId) (co
   pub each : (t : TermId) → IsCoveredAt d terms (InOneClass reps) (HasCon reps cons) joined t
   pub congruence : (t : TermId) (core : Core) → Has terms core t.0 → IsMet terms reps keys joined t core
   pub singleton : (x y : TermId) → IsSingleton d terms x y → joined x y
-
--- no two entries have one key
-abbrev pub AreDifferentKeys : Keys → Type 0
-AreDifferentKeys keys = (i j : ℕ) (key : Core) (t u : TermId) → slice_get keys i ≡ Some (key, t) → slice_get keys j ≡ Some (key, u) → i ≡ j

@@ -21,4 +21,4 @@ pub record IsFurther (terms : Terms) (old new : Groupings) (merges after : List 
   pub later : IsLater old.now.reps new.now.reps merges after
   pub more : (added : Keys) × (more_keys ≡ keys ++ added)
   pub groupings : AreGroupingsOf terms new
-  pub keyed : AreKeys terms new.now.reps more_keys
+  pub keyed : AreKeys new.now.reps more_keys

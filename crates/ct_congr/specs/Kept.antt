@@ -12,6 +12,6 @@ use Rattle.ct_congr.specs.Covered.{Keys, AreKeys, IsCovered}
 -- wait follow by rules and cover the rules
 pub record IsKept (d : Declarations) (terms : Terms) (parts : Groupings) (keys : Keys) (waiting : List Merge) (fast : Bool) : Type 0 where
   pub groupings : AreGroupingsOf terms parts
-  pub keyed : AreKeys terms parts.now.reps keys
+  pub keyed : AreKeys parts.now.reps keys
   pub waits : fast ≡ true → AreWaiting d terms parts.now.reps waiting
   pub covered : fast ≡ true → IsCovered d terms parts.now.reps parts.now.cons keys (AreJoined parts.now.reps waiting)

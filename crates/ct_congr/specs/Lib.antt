@@ -17,3 +17,5 @@ pub mod Step
 pub mod History
 pub mod Kept
 pub mod Marks
+pub mod Meeting
+pub mod Heads

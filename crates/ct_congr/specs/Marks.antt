@@ -58,7 +58,7 @@ pub record IsMarked (d : Declarations) (terms : Terms) (single : List Bool) (hyp
   pub grouping : Grouping
   pub stands : slice_get groupings level.merges ≡ Some grouping
   pub held : AreHeld d terms single (take level.hypotheses hyps) (take level.given given) grouping.reps grouping.cons (take level.merges merges)
-  pub keyed : AreKeys terms grouping.reps (take level.keys keys)
+  pub keyed : AreKeys grouping.reps (take level.keys keys)
   pub covered : IsCovered d terms grouping.reps grouping.cons (take level.keys keys) (AreJoined grouping.reps [])
   pub quiet : AreQuiet d terms grouping.reps
 

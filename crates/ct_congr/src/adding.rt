@@ -1,4 +1,4 @@
-//! Adding merges to classes one by one, with what each sets off.
+//! Adds merges to classes one by one, with the merges that each triggers.
 ghost use Rattle.std.specs.Prelude.{◌≡◌, ◌<◌, ◌++◌, ◌∷◌, [], List, length, IfOk, OnOk};
 ghost use Rattle.ct_terms.specs.declared.ids.Lit.{Lit};
 ghost use Rattle.ct_terms.specs.Terms.{AreSorted};
@@ -18,7 +18,7 @@ use crate::error::CongrError;
 use crate::merge::{Closed, Merge};
 use crate::spreading::follow;
 use crate::store::{Store, join};
-use ct_equivalence::SignatureTable;
+use ct_equivalence::DigestTable;
 use ct_sorts::Signature;
 use ct_terms::{TermId, TermTable};
 use std::alloc::Global;
@@ -29,8 +29,8 @@ use std::collections::VecDeque;
 pub(crate) struct Progress {
     /// The classes, and how they came to be.
     pub(crate) store: Store,
-    /// The terms over representatives that were met, each with the first term that had it.
-    pub(crate) keys: SignatureTable,
+    /// The terms that were met, each with the digest that it had over the representatives of that time.
+    pub(crate) keys: DigestTable,
     /// The merges that the rules ask for, first in, first out.
     pub(crate) waiting: VecDeque<Merge>,
     /// Whether the merges that wait cover the rules. They do so until two constructors meet or memory runs out.
@@ -52,7 +52,7 @@ pub(crate) fn add_merge(
     requires groupings { AreGroupingsOf table.now progress.old.store.parts }
     requires left { merge.left.0 < length table.now }
     requires right { merge.right.0 < length table.now }
-    requires keys { AreKeys table.now progress.old.store.parts.now.reps progress.old.keys }
+    requires keys { AreKeys progress.old.store.parts.now.reps progress.old.keys }
     ensures flag { progress.new.covered ≡ progress.old.covered }
     ensures further { IsFurther table.now progress.old.store.parts progress.new.store.parts progress.old.store.merges.items progress.new.store.merges.items progress.old.keys progress.new.keys }
     ensures sound { (hyps : List Lit) (given : List Equation)

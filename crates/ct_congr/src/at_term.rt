@@ -1,4 +1,4 @@
-//! What the rules that begin at one term ask for, with the constructor terms that are stored for classes.
+//! The merges that the rules of one term ask for, using the constructor terms that are stored for classes.
 ghost use Rattle.std.specs.Prelude.{◌≡◌, ◌<◌, ◌↔◌, length, OnOk, Some};
 ghost use Rattle.ct_sorts.specs.Declarations.{Declarations, IsConstructor, IsSelector};
 ghost use Rattle.ct_terms.specs.declared.ids.TermId.{TermId};

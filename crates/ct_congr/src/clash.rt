@@ -1,4 +1,5 @@
-//! The clash that was met last, so that none is looked for anew. It is a hint: it is tested before it is told.
+//! Remembers the clash that was found last, so that no other one has to be looked for. It is a hint: it is tested before it is
+//! returned.
 ghost use Rattle.std.specs.Prelude.{◌≡◌, length, IfSome};
 ghost use Rattle.ct_congr.specs.State.{IsClashOf};
 

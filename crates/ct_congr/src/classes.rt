@@ -153,8 +153,8 @@ impl Classes {
         Ok(answer)
     }
 
-    /// The same, but stops where two terms of different constructors meet: then some rule may apply. After
-    /// an error the classes are to be dropped.
+    /// The same, but stops when two terms of different constructors meet; some rule may still apply then. After an
+    /// error the classes are to be dropped.
     pub fn close_or_clash(&mut self) -> Result<Closed, CongrError>
         ensures continues { OnOk result (Continues self.new self.old) }
         ensures given { OnOk result (self.new.given ≡ self.old.given) }
@@ -171,8 +171,8 @@ impl Classes {
         Ok(answer)
     }
 
-    /// Marks the classes as they are, so that they can go back to this: no rule applies to them, and no two constructors are
-    /// of one class. An error changes nothing.
+    /// Sets a mark to which the classes can go back: no rule applies to them, and no class has two constructors. An
+    /// error changes nothing.
     pub fn mark(&mut self) -> Result<ClassMark, CongrError>
         requires quiet { IsQuiet self.old }
         ensures mark { IfOk result (λ mark. mark.merges ≡ length self.old.merges) }
@@ -180,7 +180,6 @@ impl Classes {
         ensures unchanged { OnErr result (self.new ≡ self.old) }
     {
         let mark = set_mark(
-            self.alloc,
             &self.table,
             &mut self.progress,
             self.hyps.as_slice(),
@@ -190,7 +189,7 @@ impl Classes {
         Ok(mark)
     }
 
-    /// The marks that are kept, in the order in which they were set. What stood at each is the first part of what stands now.
+    /// The marks that are set, in order. What stood at each is the first part of what stands now.
     pub fn marks(&self) -> &[ClassMark]
         ensures value { AllZip (λ (mark : ClassMark) (at : Marked). mark.merges ≡ length at.merges) result.now self.now.marks }
         ensures quiet { (k : ℕ) (at : Marked) → slice_get self.now.marks k ≡ Some at → IsQuiet (state_at self.now at (take k self.now.marks)) }
@@ -246,7 +245,7 @@ impl Classes {
         self.progress.store.parts.class(t)
     }
 
-    /// A constructor term of the term's class; none exactly where there is none.
+    /// A constructor term of the term's class; none exactly if there is none.
     pub fn con_of(&self, t: TermId) -> Option<TermId>
         requires inside { t.0 < length self.now.terms }
         ensures found { IfSome result (λ c. IsConstructorTerm self.now.terms c × AreEqual self.now t c) }

@@ -1,4 +1,4 @@
-//! Closing classes, and the answer: whether a class has two terms of different constructors.
+//! Closes classes, and answers whether a class has two terms of different constructors.
 ghost use Rattle.std.specs.Prelude.{◌≡◌, ◌⊎◌, List, length, IfOk, OnOk, IfSome, IfNone, Some, None, slice_get};
 ghost use Rattle.ct_terms.specs.declared.ids.TermId.{TermId};
 ghost use Rattle.ct_terms.specs.declared.ids.Lit.{Lit};
@@ -82,7 +82,6 @@ pub(crate) fn settle_or_clash(
     progress.covered = false;
     let answer = run(alloc, sig, table, progress)?;
     prove!(progress.store.parts.unions() >= 0);
-    prove!(progress.keys.len() >= 0);
     progress.covered = is_quiet(answer);
     note(&mut progress.clash, answer);
     Ok(answer)

@@ -1,5 +1,5 @@
-//! Merges from outside: what the hypotheses state, and equations that are given.
-ghost use Rattle.std.specs.Prelude.{◌≡◌, ◌<◌, ◌++◌, ◌∷◌, ◌↔◌, [], List, Bool, true, length, Some, IfOk, OnOk, OnErr, Contains};
+//! Merges from outside: what the hypotheses state, and given equations.
+ghost use Rattle.std.specs.Prelude.{◌≡◌, ◌<◌, ◌++◌, ◌∷◌, ◌↔◌, [], List, Bool, true, length, Some, None, IfOk, OnOk, OnErr, Contains};
 ghost use Rattle.std.specs.Bool.{OnTrue};
 ghost use Rattle.ct_terms.specs.declared.ids.TermId.{TermId};
 ghost use Rattle.ct_terms.specs.declared.ids.Lit.{Lit};
@@ -33,7 +33,7 @@ use crate::running::is_quiet;
 use crate::spreading::follow;
 use crate::starting::start;
 use crate::store::join;
-use ct_equivalence::{Equivalence, SignatureTable, Union};
+use ct_equivalence::{DigestTable, Equivalence, Union};
 use ct_rules::{Equation, derivations};
 use ct_sorts::Signature;
 use ct_terms::{Lit, TermId, TermTable};
@@ -255,7 +255,7 @@ fn pursue(
     parts: &Equivalence,
     fast: bool,
     united: Option<Union>,
-    keys: &mut SignatureTable,
+    keys: &mut DigestTable,
     waiting: &mut VecDeque<Merge>,
     clash: &mut Option<(TermId, TermId)>,
 ) -> bool
@@ -263,10 +263,11 @@ fn pursue(
     requires groupings { AreGroupingsOf table.now parts.now }
     requires past { 0 < length parts.now.past }
     requires last { (was : Grouping) (earlier : List Grouping) → parts.now.past ≡ was ∷ earlier → IsLast was parts.now.now united }
-    requires keys { AreKeys table.now parts.now.now.reps keys.old }
+    requires keys { AreKeys parts.now.now.reps keys.old }
     ensures more { (more : Keys) × (keys.new ≡ keys.old ++ more) }
-    ensures keys { AreKeys table.now parts.now.now.reps keys.new }
+    ensures keys { AreKeys parts.now.now.reps keys.new }
     ensures fast { OnTrue result (fast ≡ true) }
+    ensures same { OnTrue result (united ≡ None → keys.new ≡ keys.old) }
     ensures waits { OnTrue result (WaitsOn sig.now table.now parts.now.now.reps waiting.old.items waiting.new.items) }
     ensures followed { OnTrue result ((was : Grouping) (earlier : List Grouping)
         → parts.now.past ≡ was ∷ earlier

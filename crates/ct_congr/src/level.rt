@@ -1,4 +1,4 @@
-//! How much of classes stood when each mark was set.
+//! How many merges, hypotheses and equations there were at each mark.
 ghost use Rattle.std.specs.Prelude.{◌≡◌, [], ◌∷◌, ◌++◌, map, take, IfOk, OnOk, OnErr};
 ghost use Rattle.ct_congr.specs.Marks.{mark_of};
 
@@ -16,7 +16,7 @@ pub(crate) struct Level {
     pub(crate) hypotheses: usize,
     /// The number of given equations.
     pub(crate) given: usize,
-    /// The number of signatures.
+    /// The number of rows.
     pub(crate) keys: usize,
 }
 

@@ -1,4 +1,4 @@
-//! Terms that are congruent to themselves alone: no other term has their head and as many arguments.
+//! Terms that are congruent only to themselves: no other term has their head and number of arguments.
 ghost use Rattle.std.specs.Prelude.{◌≡◌, ◌<◌, true, false, ℕ, length, IfOk, OnOk, Some, slice_get};
 ghost use Rattle.std.specs.Bool.{OnTrue};
 ghost use Rattle.ct_terms.specs.declared.ids.TermId.{TermId};

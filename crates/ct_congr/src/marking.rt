@@ -1,10 +1,11 @@
-//! Marks of classes: setting one where no rule applies, and going back to one.
+//! Marks of classes: sets one when no rule applies, and goes back to one.
 ghost use Rattle.std.specs.Prelude.{◌≡◌, ◌<◌, ◌≤◌, ◌++◌, ◌∷◌, ◌+◌, true, [], ℕ, Bool, List, length, IfOk, OnOk, OnErr, Some, slice_get};
 ghost use Rattle.ct_sorts.specs.Declarations.{Declarations};
 ghost use Rattle.ct_terms.specs.declared.ids.TermId.{TermId};
 ghost use Rattle.ct_terms.specs.declared.term.Core.{Core};
 ghost use Rattle.ct_terms.specs.Terms.{Terms, Has};
 ghost use Rattle.ct_equivalence.specs.Over.{AreLone, AreGroupingsOf};
+ghost use Rattle.ct_equivalence.specs.Digests.{AreDigests};
 ghost use Rattle.ct_congr.specs.declared.level.Level.{Level};
 ghost use Rattle.ct_congr.specs.Joined.{AreJoined, WaitsOn};
 ghost use Rattle.ct_congr.specs.Covered.{Keys, AreKeys, IsMet};
@@ -17,16 +18,14 @@ use crate::error::CongrError;
 use crate::level::{Level, Levels};
 use crate::meeting::meet;
 use crate::merge::{ClassMark, Merge};
-use ct_equivalence::{Equivalence, SignatureTable};
+use ct_equivalence::{DigestTable, Equivalence};
 use ct_rules::Equation;
 use ct_terms::{Lit, TermId, TermTable};
-use std::alloc::Global;
 use std::collections::VecDeque;
 
 /// Marks classes to which no rule applies, so that they can go back to this. Nothing waits then, and the
 /// rules are covered. An error changes neither classes nor marks.
 pub(crate) fn set_mark(
-    alloc: Global,
     table: &TermTable,
     progress: &mut Progress,
     hyps: &[Lit],
@@ -34,7 +33,7 @@ pub(crate) fn set_mark(
     levels: &mut Levels,
 ) -> Result<ClassMark, CongrError>
     requires groupings { AreGroupingsOf table.now progress.old.store.parts }
-    requires keys { AreKeys table.now progress.old.store.parts.now.reps progress.old.keys }
+    requires keys { AreKeys progress.old.store.parts.now.reps progress.old.keys }
     ensures store { progress.new.store ≡ progress.old.store }
     ensures kept { (d : Declarations)
         → AreQuiet d table.now progress.old.store.parts.now.reps
@@ -53,7 +52,7 @@ pub(crate) fn set_mark(
         ++ (record { hypotheses = hyps.now; given = given.now; merges = progress.old.store.merges.items; reps = progress.old.store.parts.now.reps; cons = progress.old.store.parts.now.cons }) ∷ []) }
     ensures unchanged { OnErr result (levels.new ≡ levels.old) }
 {
-    cover(alloc, table, progress)?;
+    cover(table, progress)?;
     let mark = levels.push(Level {
         merges: progress.store.merges.len(),
         hypotheses: hyps.len(),
@@ -64,9 +63,9 @@ pub(crate) fn set_mark(
 }
 
 // Lets go what waits, where no rule applies. Where the rules may not be covered, it meets all terms.
-fn cover(alloc: Global, table: &TermTable, progress: &mut Progress) -> Result<(), CongrError>
+fn cover(table: &TermTable, progress: &mut Progress) -> Result<(), CongrError>
     requires groupings { AreGroupingsOf table.now progress.old.store.parts }
-    requires keys { AreKeys table.now progress.old.store.parts.now.reps progress.old.keys }
+    requires keys { AreKeys progress.old.store.parts.now.reps progress.old.keys }
     ensures store { progress.new.store ≡ progress.old.store }
     ensures more { (more : Keys) × (progress.new.keys ≡ progress.old.keys ++ more) }
     ensures kept { (d : Declarations)
@@ -82,11 +81,12 @@ fn cover(alloc: Global, table: &TermTable, progress: &mut Progress) -> Result<()
     }
     let reps = progress.store.parts.reps();
     let lone = progress.store.parts.lone();
+    let digests = progress.store.parts.digests();
     meet_all(
-        alloc,
         table,
         reps,
         lone,
+        digests,
         &mut progress.keys,
         &mut progress.waiting,
     )?;
@@ -97,24 +97,25 @@ fn cover(alloc: Global, table: &TermTable, progress: &mut Progress) -> Result<()
 
 // Meets all terms.
 fn meet_all(
-    alloc: Global,
     table: &TermTable,
     reps: &[TermId],
     lone: &[bool],
-    keys: &mut SignatureTable,
+    digests: &[u64],
+    keys: &mut DigestTable,
     waiting: &mut VecDeque<Merge>,
 ) -> Result<(), CongrError>
     requires long { length reps.now ≡ length table.now }
     requires own { (x r : TermId) → slice_get reps.now x.0 ≡ Some r → slice_get reps.now r.0 ≡ Some r }
     requires lone { AreLone table.now lone.now }
-    requires keys { AreKeys table.now reps.now keys.old }
+    requires digests { AreDigests table.now reps.now digests.now }
+    requires keys { AreKeys reps.now keys.old }
     ensures more { (more : Keys) × (keys.new ≡ keys.old ++ more) }
-    ensures keys { AreKeys table.now reps.now keys.new }
+    ensures keys { AreKeys reps.now keys.new }
     ensures waits { OnOk result ((d : Declarations) → WaitsOn d table.now reps.now waiting.old.items waiting.new.items) }
     ensures met { OnOk result ((t : TermId) (core : Core) → Has table.now core t.0 → IsMet table.now reps.now keys.new (AreJoined reps.now waiting.new.items) t core) }
 {
     for t in 0..table.len() {
-        meet(alloc, table, reps, lone, TermId(t), keys, waiting)?;
+        meet(table, reps, lone, digests, TermId(t), keys, waiting)?;
     }
     Ok(())
 }

@@ -1,4 +1,4 @@
-//! Two constructor terms that meet in one class: a clash, or the merges of their arguments.
+//! Two constructor terms in one class: a clash, or the merges of their arguments.
 ghost use Rattle.std.specs.Prelude.{◌≡◌, ◌<◌, ℕ, length, IfOk, OnOk, MatchBool, Some, slice_get};
 ghost use Rattle.ct_sorts.specs.Declarations.{Constructor, IsConstructor};
 ghost use Rattle.ct_terms.specs.declared.ids.TermId.{TermId};

@@ -1,4 +1,4 @@
-//! Adding the merges that wait until none is left or two constructors meet.
+//! Adds pending merges until none is left or two constructors meet.
 ghost use Rattle.std.specs.Prelude.{◌≡◌, ◌<◌, ◌⊎◌, ◌∷◌, [], List, length, IfOk, IfSome, IfNone, MatchBool, Contains};
 ghost use Rattle.ct_terms.specs.declared.ids.Lit.{Lit};
 ghost use Rattle.ct_terms.specs.Terms.{AreSorted};
@@ -35,7 +35,7 @@ pub(crate) fn run(
     requires sorted { AreSorted sig.now table.now }
     requires groupings { AreGroupingsOf table.now progress.old.store.parts }
     requires long { length progress.old.store.parts.now.reps ≡ length table.now }
-    requires keys { AreKeys table.now progress.old.store.parts.now.reps progress.old.keys }
+    requires keys { AreKeys progress.old.store.parts.now.reps progress.old.keys }
     requires waits { AreWaiting sig.now table.now progress.old.store.parts.now.reps progress.old.waiting.items }
     ensures flag { progress.new.covered ≡ progress.old.covered }
     ensures further { IsFurther table.now progress.old.store.parts progress.new.store.parts progress.old.store.merges.items progress.new.store.merges.items progress.old.keys progress.new.keys }

@@ -1,5 +1,5 @@
-//! What a union of two classes sets off.
-ghost use Rattle.std.specs.Prelude.{◌≡◌, ◌<◌, ◌++◌, ◌∷◌, true, List, length, IfOk, OnOk, MatchBool, Some, slice_get, Contains};
+//! What a union of two classes triggers.
+ghost use Rattle.std.specs.Prelude.{◌≡◌, ◌<◌, ◌++◌, ◌∷◌, true, List, length, IfOk, OnOk, MatchBool, Some, None, slice_get, Contains};
 ghost use Rattle.ct_terms.specs.declared.ids.TermId.{TermId};
 ghost use Rattle.ct_terms.specs.declared.term.Core.{Core};
 ghost use Rattle.ct_terms.specs.Children.{core_children};
@@ -7,6 +7,7 @@ ghost use Rattle.ct_terms.specs.Terms.{Has, AreSorted};
 ghost use Rattle.ct_rules.specs.Rules.{truth_term};
 ghost use Rattle.ct_equivalence.specs.Grouping.{Grouping};
 ghost use Rattle.ct_equivalence.specs.Over.{AreLone, AreGroupingsOf};
+ghost use Rattle.ct_equivalence.specs.Digests.{AreDigests};
 ghost use Rattle.ct_equivalence.specs.Union.{IsJoin, IsTaken};
 ghost use Rattle.ct_congr.specs.Partition.{InOneClass};
 ghost use Rattle.ct_congr.specs.Joined.{AreJoined, WaitsOn};
@@ -19,7 +20,7 @@ use crate::meeting::meet;
 use crate::merge::{Closed, Merge};
 use crate::pairing::pair;
 use crate::waiting::{TRUE, is_term};
-use ct_equivalence::{Equivalence, SignatureTable, Union};
+use ct_equivalence::{DigestTable, Equivalence, Union};
 use ct_sorts::Signature;
 use ct_terms::{TermId, TermTable};
 use std::alloc::Global;
@@ -33,16 +34,17 @@ pub(crate) fn follow(
     table: &TermTable,
     parts: &Equivalence,
     united: Option<Union>,
-    keys: &mut SignatureTable,
+    keys: &mut DigestTable,
     waiting: &mut VecDeque<Merge>,
 ) -> Result<Closed, CongrError>
     requires sorted { AreSorted sig.now table.now }
     requires groupings { AreGroupingsOf table.now parts.now }
     requires past { 0 < length parts.now.past }
     requires last { (was : Grouping) (earlier : List Grouping) → parts.now.past ≡ was ∷ earlier → IsLast was parts.now.now united }
-    requires keys { AreKeys table.now parts.now.now.reps keys.old }
+    requires keys { AreKeys parts.now.now.reps keys.old }
     ensures more { (more : Keys) × (keys.new ≡ keys.old ++ more) }
-    ensures keys { AreKeys table.now parts.now.now.reps keys.new }
+    ensures keys { AreKeys parts.now.now.reps keys.new }
+    ensures same { OnOk result (united ≡ None → keys.new ≡ keys.old) }
     ensures waits { OnOk result (WaitsOn sig.now table.now parts.now.now.reps waiting.old.items waiting.new.items) }
     ensures followed { IfOk result (λ answer. (was : Grouping) (earlier : List Grouping)
         → parts.now.past ≡ was ∷ earlier
@@ -64,16 +66,16 @@ fn spread(
     table: &TermTable,
     parts: &Equivalence,
     union: Union,
-    keys: &mut SignatureTable,
+    keys: &mut DigestTable,
     waiting: &mut VecDeque<Merge>,
 ) -> Result<Closed, CongrError>
     requires sorted { AreSorted sig.now table.now }
     requires groupings { AreGroupingsOf table.now parts.now }
     requires past { 0 < length parts.now.past }
     requires join { (was : Grouping) (earlier : List Grouping) → parts.now.past ≡ was ∷ earlier → IsJoin was parts.now.now union.winner union.loser }
-    requires keys { AreKeys table.now parts.now.now.reps keys.old }
+    requires keys { AreKeys parts.now.now.reps keys.old }
     ensures more { (more : Keys) × (keys.new ≡ keys.old ++ more) }
-    ensures keys { AreKeys table.now parts.now.now.reps keys.new }
+    ensures keys { AreKeys parts.now.now.reps keys.new }
     ensures waits { OnOk result (WaitsOn sig.now table.now parts.now.now.reps waiting.old.items waiting.new.items) }
     ensures spread { IfOk result (λ answer. (was : Grouping) (earlier : List Grouping)
         → parts.now.past ≡ was ∷ earlier
@@ -91,7 +93,7 @@ fn move_uses(
     table: &TermTable,
     parts: &Equivalence,
     loser: TermId,
-    keys: &mut SignatureTable,
+    keys: &mut DigestTable,
     waiting: &mut VecDeque<Merge>,
 ) -> Result<(), CongrError>
     requires sorted { AreSorted sig.now table.now }
@@ -99,9 +101,9 @@ fn move_uses(
     requires past { 0 < length parts.now.past }
     requires taken { (was : Grouping) (earlier : List Grouping) → parts.now.past ≡ was ∷ earlier → IsTaken was parts.now.now loser }
     requires inside { loser.0 < length table.now }
-    requires keys { AreKeys table.now parts.now.now.reps keys.old }
+    requires keys { AreKeys parts.now.now.reps keys.old }
     ensures more { (more : Keys) × (keys.new ≡ keys.old ++ more) }
-    ensures keys { AreKeys table.now parts.now.now.reps keys.new }
+    ensures keys { AreKeys parts.now.now.reps keys.new }
     ensures waits { OnOk result (WaitsOn sig.now table.now parts.now.now.reps waiting.old.items waiting.new.items) }
     ensures done { OnOk result ((was : Grouping) (earlier : List Grouping)
         → parts.now.past ≡ was ∷ earlier
@@ -110,8 +112,11 @@ fn move_uses(
     let reps = parts.reps();
     let cons = parts.cons();
     let lone = parts.lone();
+    let digests = parts.digests();
     let uses = parts.taken_uses(loser);
-    move_terms(alloc, sig, table, reps, cons, lone, uses, keys, waiting)?;
+    move_terms(
+        alloc, sig, table, reps, cons, lone, digests, uses, keys, waiting,
+    )?;
     Ok(())
 }
 
@@ -297,24 +302,26 @@ fn move_terms(
     reps: &[TermId],
     cons: &[Option<TermId>],
     lone: &[bool],
+    digests: &[u64],
     terms: &[TermId],
-    keys: &mut SignatureTable,
+    keys: &mut DigestTable,
     waiting: &mut VecDeque<Merge>,
 ) -> Result<(), CongrError>
     requires sorted { AreSorted sig.now table.now }
     requires grouped { IsGrouped table.now reps.now cons.now }
     requires lone { AreLone table.now lone.now }
+    requires digests { AreDigests table.now reps.now digests.now }
     requires inside { (t : TermId) → Contains terms.now t → t.0 < length table.now }
-    requires keys { AreKeys table.now reps.now keys.old }
+    requires keys { AreKeys reps.now keys.old }
     ensures more { (more : Keys) × (keys.new ≡ keys.old ++ more) }
-    ensures keys { AreKeys table.now reps.now keys.new }
+    ensures keys { AreKeys reps.now keys.new }
     ensures waits { OnOk result (WaitsOn sig.now table.now reps.now waiting.old.items waiting.new.items) }
     ensures covered { OnOk result ((t : TermId) → Contains terms.now t → IsCoveredAt sig.now table.now (InOneClass reps.now) (HasCon reps.now cons.now) (AreJoined reps.now waiting.new.items) t) }
     ensures met { OnOk result ((t : TermId) (core : Core) → Contains terms.now t → Has table.now core t.0 → IsMet table.now reps.now keys.new (AreJoined reps.now waiting.new.items) t core) }
 {
     for t in terms {
         at_term(alloc, sig, table, reps, cons, *t, waiting)?;
-        meet(alloc, table, reps, lone, *t, keys, waiting)?;
+        meet(table, reps, lone, digests, *t, keys, waiting)?;
     }
     Ok(())
 }

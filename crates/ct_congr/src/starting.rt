@@ -7,6 +7,7 @@ ghost use Rattle.ct_terms.specs.declared.term.Core.{Core};
 ghost use Rattle.ct_terms.specs.Terms.{Has, AreSorted};
 ghost use Rattle.ct_rules.specs.declared.equation.Equation.{Equation};
 ghost use Rattle.ct_equivalence.specs.Over.{AreLone, AreGroupingsOf};
+ghost use Rattle.ct_equivalence.specs.Digests.{AreDigests};
 ghost use Rattle.ct_congr.specs.Partition.{InOneClass};
 ghost use Rattle.ct_congr.specs.Rules.{IsSingular, AreSingleSorts};
 ghost use Rattle.ct_congr.specs.Sound.{IsSound};
@@ -22,7 +23,7 @@ use crate::merge::{Merge, Reason};
 use crate::singles::first_of_sort;
 use crate::store::Store;
 use crate::waiting::let_wait;
-use ct_equivalence::{Equivalence, SignatureTable};
+use ct_equivalence::{DigestTable, Equivalence};
 use ct_sorts::Signature;
 use ct_terms::{TermId, TermTable};
 use std::alloc::Global;
@@ -40,7 +41,7 @@ pub(crate) fn start(
     ensures groupings { IfOk result (λ progress. AreGroupingsOf table.now progress.store.parts) }
     ensures past { IfOk result (λ progress. progress.store.parts.past ≡ []) }
     ensures merges { IfOk result (λ progress. progress.store.merges.items ≡ []) }
-    ensures keys { IfOk result (λ progress. AreKeys table.now progress.store.parts.now.reps progress.keys) }
+    ensures keys { IfOk result (λ progress. AreKeys progress.store.parts.now.reps progress.keys) }
     ensures waits { IfOk result (λ progress. AreWaiting sig.now table.now progress.store.parts.now.reps progress.waiting.items) }
     ensures sound { IfOk result (λ progress. (hyps : List Lit) (given : List Equation) → IsSound sig.now table.now hyps given progress.store.parts.now.reps progress.store.parts.now.cons progress.store.merges.items) }
     ensures fast { IfOk result (λ progress. progress.covered ≡ true) }
@@ -49,7 +50,7 @@ pub(crate) fn start(
     prove!(table.len() >= 2);
     let lone = lone_terms(alloc, table)?;
     let parts = Equivalence::new(alloc, table, lone)?;
-    let mut keys = SignatureTable::new(alloc);
+    let mut keys = DigestTable::new(alloc, table.len())?;
     let mut waiting = VecDeque::new(alloc);
     begin_terms(
         alloc,
@@ -58,6 +59,7 @@ pub(crate) fn start(
         parts.reps(),
         parts.cons(),
         parts.lone(),
+        parts.digests(),
         &mut keys,
         &mut waiting,
     )?;
@@ -83,14 +85,16 @@ fn begin_terms(
     reps: &[TermId],
     cons: &[Option<TermId>],
     lone: &[bool],
-    keys: &mut SignatureTable,
+    digests: &[u64],
+    keys: &mut DigestTable,
     waiting: &mut VecDeque<Merge>,
 ) -> Result<(), CongrError>
     requires sorted { AreSorted sig.now table.now }
     requires grouped { IsGrouped table.now reps.now cons.now }
     requires lone { AreLone table.now lone.now }
-    requires keys { AreKeys table.now reps.now keys.old }
-    ensures keys { OnOk result (AreKeys table.now reps.now keys.new) }
+    requires digests { AreDigests table.now reps.now digests.now }
+    requires keys { AreKeys reps.now keys.old }
+    ensures keys { OnOk result (AreKeys reps.now keys.new) }
     ensures waits { OnOk result (WaitsOn sig.now table.now reps.now waiting.old.items waiting.new.items) }
     ensures covered { OnOk result ((t : TermId) → t.0 < length table.now → IsCoveredAt sig.now table.now (InOneClass reps.now) (HasCon reps.now cons.now) (AreJoined reps.now waiting.new.items) t) }
     ensures met { OnOk result ((t : TermId) (core : Core) → Has table.now core t.0 → IsMet table.now reps.now keys.new (AreJoined reps.now waiting.new.items) t core) }
@@ -98,7 +102,7 @@ fn begin_terms(
     for t in 0..table.len() {
         let t = TermId(t);
         at_term(alloc, sig, table, reps, cons, t, waiting)?;
-        meet(alloc, table, reps, lone, t, keys, waiting)?;
+        meet(table, reps, lone, digests, t, keys, waiting)?;
     }
     Ok(())
 }

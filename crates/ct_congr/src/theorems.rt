@@ -1,4 +1,4 @@
-//! What holds of congruence classes. A theorem is the contract of a function that does nothing.
+//! Theorems about congruence classes. Each is the contract of a function that does nothing.
 ghost use Rattle.std.specs.Prelude.{◌≡◌, ◌<◌, ◌++◌, ◌↔◌, Bool, true, List, length, Contains};
 ghost use Rattle.ct_terms.specs.declared.ids.TermId.{TermId};
 ghost use Rattle.ct_rules.specs.Rules.{Follows};
@@ -25,9 +25,8 @@ pub fn quiet_classes()
     ensures one { (state : State) → IsQuiet state → (a b : TermId) → IsClash state a b → ⊥ }
 {}
 
-/// Closed classes are those of any other closed classes of the same terms under the same hypotheses and given
-/// equations: those that were made at once, and those that were marked, merged and taken back. It does
-/// nothing: a proof that needs this calls it.
+/// Theorem: closed classes of the same terms under the same hypotheses and given equations are the same, whether they
+/// were made at once, or marked, merged and undone. It does nothing: a proof that needs this calls it.
 pub fn closed_classes()
     ensures same { (one other : State)
         → IsClosed one

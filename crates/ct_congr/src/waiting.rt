@@ -1,4 +1,4 @@
-//! Merges that wait until they are added to the classes.
+//! Merges that are pending until they are added to the classes.
 ghost use Rattle.std.specs.Prelude.{◌≡◌, ◌<◌, ◌↔◌, [], Bool, true, length, MatchBool, OnOk, Some, slice_get, Contains};
 ghost use Rattle.ct_sorts.specs.Declarations.{Declarations};
 ghost use Rattle.ct_terms.specs.declared.ids.TermId.{TermId};

@@ -1,22 +1,20 @@
 -- Groupings of which two classes are joined: that they are groupings of the same terms, and that the step undoes it.
-use Rattle.std.proofs.Common.{◌≡◌, ℕ, ◌<◌, ◌⊎◌, Bool, List, [], ◌++◌, length, set, take, slice_get, get_or, Option, Some, None, if◌then◌else◌, refl, sym, ap, ◌∙◌, subst, inl, inr, arith}
+use Rattle.std.proofs.Common.{◌≡◌, ◌<◌, ◌⊎◌, Bool, List, [], ◌++◌, length, set, take, slice_get, get_or, Option, Some, None, if◌then◌else◌, sym, ap, ◌∙◌, subst, inl, inr, arith}
 use Rattle.std.specs.List.{Contains}
 use Rattle.std.proofs.lemmas.List.{get_or-set_other}
 use Rattle.std.proofs.lemmas.List.Elements.{Contains-append_left, Contains-append_right, Contains-append_cases}
-use Rattle.std.proofs.lemmas.Option.{none-some, same_Some, slice_get-get_or, slice_get_within}
+use Rattle.std.proofs.lemmas.Option.{same_Some, slice_get-get_or, slice_get_within}
 use Rattle.ct_lemmas.proofs.Lists.{slice_get-set_other}
 use Rattle.ct_terms.specs.declared.ids.TermId.{TermId}
-use Rattle.ct_terms.specs.declared.term.Core.{Core}
-use Rattle.ct_terms.specs.Children.{core_children}
-use Rattle.ct_terms.specs.Terms.{Terms, Has}
+use Rattle.ct_terms.specs.Terms.{Terms}
 use Rattle.ct_equivalence.specs.declared.step.Step.{Step}
 use Rattle.ct_equivalence.specs.Partition.{IsClass, IsRelabelled}
 use Rattle.ct_equivalence.specs.Grouping.{Grouping, IsGrouping}
-use Rattle.ct_equivalence.specs.Over.{IsConstructorTerm, IsConOf, AreCons, IsAbove, AreUsesOf, AreUses, IsGroupingOf}
+use Rattle.ct_equivalence.specs.Over.{IsConOf, AreCons, AreUsesOf, AreUses, IsGroupingOf}
 use Rattle.ct_equivalence.specs.Union.{AreConsJoined, AreRowsJoined, IsJoin, IsTaken}
 use Rattle.ct_equivalence.specs.Undoing.{relabelled, row_of, cut_row, before_join}
 use Rattle.ct_equivalence.proofs.ListLemmas.{term_cases, other_number}
-use Rattle.ct_equivalence.proofs.RowLemmas.{row_of-at, row_of-is, AreRowsJoined-set, cut_row-back}
+use Rattle.ct_equivalence.proofs.RowLemmas.{row_of-at, AreRowsJoined-set, cut_row-back}
 use Rattle.ct_equivalence.proofs.RelabelLemmas.{length-relabelled, relabelled_from, IsRelabelled-class, relabelled-back}
 use Rattle.ct_equivalence.proofs.ClassLemmas.{of_loser, of_winner, own_kept, IsClass-winner, IsClass-other}
 

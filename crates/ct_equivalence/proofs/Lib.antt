@@ -7,3 +7,6 @@ pub mod NoteLemmas
 pub mod ParentLemmas
 pub mod BeginningLemmas
 pub mod SignatureLemmas
+mod DigestLemmas
+mod PlaceLemmas
+mod ChainLemmas

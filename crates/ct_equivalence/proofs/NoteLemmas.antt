@@ -6,6 +6,7 @@ use Rattle.std.proofs.lemmas.List.{reverse-append}
 use Rattle.ct_terms.specs.declared.ids.TermId.{TermId}
 use Rattle.ct_equivalence.specs.declared.step.Step.{Step}
 use Rattle.ct_terms.specs.Terms.{Terms}
+use Rattle.ct_equivalence.specs.Digests.{AreDigests}
 use Rattle.ct_equivalence.specs.Grouping.{Grouping, Groupings, IsGrouping}
 use Rattle.ct_equivalence.specs.Over.{IsGroupingOf, AreGroupingsOf}
 use Rattle.ct_equivalence.specs.Union.{IsJoin, IsTaken}
@@ -69,18 +70,20 @@ pub AreNoted-last : (g : Grouping) (log rest : List (Option Step)) (last : Optio
 AreNoted-last g log rest last is noted = subst (AreNoted g) (ap reverse is ∙ reverse-push rest last) noted
 
 -- the classes are of a table where the last ones are and those before were
-pub AreGroupingsOf-push : (terms : Terms) (old new : Groupings) → new.past ≡ old.now ∷ old.past → new.lone ≡ old.lone → IsGroupingOf terms new.now → AreGroupingsOf terms old → AreGroupingsOf terms new
-AreGroupingsOf-push terms old new past lone last earlier = record {
+pub AreGroupingsOf-push : (terms : Terms) (old new : Groupings) → new.past ≡ old.now ∷ old.past → new.lone ≡ old.lone → new.places ≡ old.places → IsGroupingOf terms new.now → AreDigests terms new.now.reps new.digests → AreGroupingsOf terms old → AreGroupingsOf terms new
+AreGroupingsOf-push terms old new past lone places last digests earlier = record {
   now = last;
   past = subst (AllByRecursion (IsGroupingOf terms)) (sym past) (earlier.now, earlier.past);
   lone = rw lone earlier.lone;
+  digests = digests;
+  places = rw places earlier.places;
 }
 
 -- and where the last ones are taken away
-pub AreGroupingsOf-pop : (terms : Terms) (old new : Groupings) → (new.now ∷ new.past) ≡ old.past → new.lone ≡ old.lone → AreGroupingsOf terms old → AreGroupingsOf terms new
-AreGroupingsOf-pop terms old new past lone all =
+pub AreGroupingsOf-pop : (terms : Terms) (old new : Groupings) → (new.now ∷ new.past) ≡ old.past → new.lone ≡ old.lone → new.places ≡ old.places → AreDigests terms new.now.reps new.digests → AreGroupingsOf terms old → AreGroupingsOf terms new
+AreGroupingsOf-pop terms old new past lone places digests all =
     let each = subst (AllByRecursion (IsGroupingOf terms)) (sym past) all.past in
-    record { now = each.0; past = each.1; lone = rw lone all.lone }
+    record { now = each.0; past = each.1; lone = rw lone all.lone; digests = digests; places = rw places all.places }
 
 -- what was noted of one join
 pub IsNoted-joined : (old new : Grouping) (winner loser : TermId) (step : Step) → IsJoin old new winner loser → step.winner ≡ winner → step.loser ≡ loser → before_join new step ≡ old → IsNoted new (Some step)

@@ -1,7 +1,8 @@
 -- What contracts see of an equivalence: the classes as they are, and as they were before each union that stands.
-use Rattle.std.specs.Prelude.{◌≡◌, ◌∷◌, Bool, List, length, Option, Some, slice_get}
+use Rattle.std.specs.Prelude.{◌≡◌, ℕ, ◌∷◌, Bool, List, length, Option, Some, slice_get}
 use Rattle.std.specs.List.{AllByRecursion}
 use Rattle.ct_terms.specs.declared.ids.TermId.{TermId}
+use Rattle.ct_equivalence.specs.declared.places.Place.{Place}
 use Rattle.ct_equivalence.specs.Partition.{IsClass}
 
 -- for each term the representative of its class; and for each representative a constructor term of its class, or that there
@@ -13,11 +14,14 @@ pub record Grouping : Type 0 where
   pub members : List (List TermId)
   pub uses : List (List TermId)
 
--- the classes now, and before each union that stands, the last union first; and which terms are marked as lone
+-- the classes now, and before each union that stands, the last union first; which terms are marked as lone; and the digests of
+-- wide terms now, with the places at which each term stands in wide terms
 pub record Groupings : Type 0 where
   pub now : Grouping
   pub past : List Grouping
   pub lone : List Bool
+  pub digests : List ℕ
+  pub places : List (List Place)
 
 -- each representative is its own, and has the members of its class
 pub record IsGrouping (g : Grouping) : Type 0 where

@@ -5,3 +5,6 @@ pub mod Over
 pub mod Undoing
 pub mod Parents
 pub mod Signatures
+pub mod Digests
+pub mod Places
+pub mod Chains

@@ -7,6 +7,7 @@ use Rattle.ct_terms.specs.declared.term.Core.{Core}
 use Rattle.ct_terms.specs.declared.term.Core.TheVariants.{Con}
 use Rattle.ct_terms.specs.Children.{core_head, core_children}
 use Rattle.ct_terms.specs.Terms.{Terms, Has}
+use Rattle.ct_equivalence.specs.Digests.{AreDigests, ArePlaces}
 use Rattle.ct_equivalence.specs.Grouping.{Grouping, Groupings}
 
 -- the term is a constructor term
@@ -49,8 +50,10 @@ IsLone terms t = (u : TermId) (core other : Core) → Has terms core t.0 → Has
 abbrev pub AreLone : Terms → List Bool → Type 0
 AreLone terms lone = (t : TermId) → slice_get lone t.0 ≡ Some true → IsLone terms t
 
--- the classes now and those before each union are of the terms of the table, and so are the marks
+-- the classes now and those before each union are of the terms of the table, and so are the marks, the digests and the places
 pub record AreGroupingsOf (terms : Terms) (gs : Groupings) : Type 0 where
   pub now : IsGroupingOf terms gs.now
   pub past : AllByRecursion (IsGroupingOf terms) gs.past
   pub lone : AreLone terms gs.lone
+  pub digests : AreDigests terms gs.now.reps gs.digests
+  pub places : ArePlaces terms gs.places

@@ -1,4 +1,4 @@
-//! An equivalence of the terms of a table that grows by unions and goes back union by union.
+//! A union-find over the terms of a table that is undone union by union.
 ghost use Rattle.std.specs.Prelude.{◌≡◌, ◌<◌, [], ◌∷◌, List, length, IfOk, OnOk, OnErr, Some, slice_get};
 ghost use Rattle.ct_terms.specs.declared.ids.TermId.{TermId};
 ghost use Rattle.ct_terms.specs.Terms.{Terms};
@@ -7,8 +7,10 @@ ghost use Rattle.ct_equivalence.specs.Grouping.{Grouping, AreGroupings};
 ghost use Rattle.ct_equivalence.specs.Over.{IsConOf, AreUsesOf, IsGroupingOf, AreLone, AreGroupingsOf};
 ghost use Rattle.ct_equivalence.specs.Union.{IsUnited, IsTaken};
 
+use crate::digests::wide_digests;
 use crate::error::EquivalenceError;
 use crate::grouped::Grouped;
+use crate::places::{Places, list_places};
 use crate::step::Step;
 use crate::union::Union;
 use ct_terms::{TermId, TermTable};
@@ -24,6 +26,10 @@ pub struct Equivalence {
     log: Vec<Option<Step>>,
     // Whether each term is marked as lone.
     lone: Vec<bool>,
+    // The digest of each wide term over the representatives.
+    digests: Vec<u64>,
+    // The places at which each term stands in wide terms.
+    places: Places,
 }
 
 impl Model for Equivalence {
@@ -33,7 +39,7 @@ impl Model for Equivalence {
 
     ghost Value = { Groupings };
 
-    ghost view = { λ e. record { now = e.grouped; past = befores e.grouped (reverse e.log.items); lone = e.lone.items } };
+    ghost view = { λ e. record { now = e.grouped; past = befores e.grouped (reverse e.log.items); lone = e.lone.items; digests = e.digests.items; places = e.places } };
 
     ghost invariant = { λ e. AreNoted e.grouped (reverse e.log.items) };
 }
@@ -53,7 +59,15 @@ impl Equivalence {
     {
         let grouped = Grouped::new(alloc, table)?;
         let log = Vec::new(alloc);
-        Ok(Equivalence { grouped, log, lone })
+        let digests = wide_digests(alloc, table, grouped.reps())?;
+        let places = list_places(alloc, table)?;
+        Ok(Equivalence {
+            grouped,
+            log,
+            lone,
+            digests,
+            places,
+        })
     }
 
     /// Whether each term is marked as lone.
@@ -61,6 +75,13 @@ impl Equivalence {
         ensures value { result.now ≡ self.now.lone }
     {
         self.lone.as_slice()
+    }
+
+    /// The digest of each wide term over the representatives.
+    pub fn digests(&self) -> &[u64]
+        ensures value { result.now ≡ self.now.digests }
+    {
+        self.digests.as_slice()
     }
 
     /// The representative of each term.
@@ -78,7 +99,7 @@ impl Equivalence {
         self.grouped.cons()
     }
 
-    /// The number of unions that stand, those of one class too.
+    /// The number of unions that are not undone, those within one class included.
     pub fn unions(&self) -> usize
         ensures value { result ≡ length self.now.past }
         ensures whole { AreGroupings self.now }
@@ -104,7 +125,7 @@ impl Equivalence {
         self.grouped.members(self.grouped.rep(t))
     }
 
-    /// A constructor term of the term's class; none exactly where there is none.
+    /// A constructor term of the term's class; none exactly if there is none.
     pub fn con_of(&self, t: TermId) -> Option<TermId>
         requires inside { t.0 < length self.now.now.reps }
         ensures value { (r : TermId) → slice_get self.now.now.reps t.0 ≡ Some r → slice_get self.now.now.cons r.0 ≡ Some result }
@@ -142,7 +163,9 @@ impl Equivalence {
             return Ok(None);
         }
         let (winner, loser) = self.grouped.by_weight(first, second);
-        let step = self.grouped.join(winner, loser)?;
+        let step = self
+            .grouped
+            .join(winner, loser, &mut self.digests, &self.places)?;
         self.log.push(Some(step)).unwrap();
         Ok(Some(Union { winner, loser }))
     }
@@ -174,7 +197,7 @@ impl Equivalence {
         self.grouped.con(loser)
     }
 
-    /// Goes back to before the last union that stands. Takes no memory.
+    /// Undoes the last union. Takes no memory.
     pub fn back(&mut self)
         requires some { 0 < length self.old.past }
         ensures before { (self.new.now ∷ self.new.past) ≡ self.old.past }
@@ -183,6 +206,7 @@ impl Equivalence {
         let Some(last) = self.log.pop() else {
             return;
         };
-        self.grouped.take_back(last);
+        self.grouped
+            .take_back(last, &mut self.digests, &self.places);
     }
 }

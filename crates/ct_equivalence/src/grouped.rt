@@ -1,4 +1,4 @@
-//! Classes of terms as they are at one time: a representative for each term, and what is stored for each representative.
+//! Classes of terms at one point in time: a representative for each term, and what is stored for each representative.
 //!
 //! Two classes are joined by giving the members of one the representative of the other. Its rows of members and of uses stay
 //! as they were beside those of the joined class, so that the union can be undone without memory.
@@ -9,11 +9,14 @@ ghost use Rattle.ct_equivalence.specs.Grouping.{IsGrouping};
 ghost use Rattle.ct_equivalence.specs.Over.{IsGroupingOf};
 ghost use Rattle.ct_equivalence.specs.Union.{IsJoin};
 ghost use Rattle.ct_equivalence.specs.Undoing.{before, before_join, IsNoted};
+ghost use Rattle.ct_equivalence.specs.Digests.{AreDigests, ArePlaces};
+ghost use Rattle.ct_terms.specs.Terms.{Terms};
 
 use crate::alone::{own_constructors, own_representatives, own_rows};
 use crate::error::EquivalenceError;
 use crate::joining::{gain, join_rows, lose, relabel};
 use crate::parents::parents;
+use crate::places::Places;
 use crate::rows::Rows;
 use crate::step::Step;
 use ct_terms::{TermId, TermTable};
@@ -133,7 +136,13 @@ impl Grouped {
 
     /// Puts the class of the second representative to that of the first. The answer is what undoes it.
     /// An error changes nothing.
-    pub(crate) fn join(&mut self, winner: TermId, loser: TermId) -> Result<Step, EquivalenceError>
+    pub(crate) fn join(
+        &mut self,
+        winner: TermId,
+        loser: TermId,
+        digests: &mut Vec<u64>,
+        places: &Places,
+    ) -> Result<Step, EquivalenceError>
         requires winner { slice_get self.old.reps winner.0 ≡ Some winner }
         requires loser { slice_get self.old.reps loser.0 ≡ Some loser }
         requires apart { winner ≡ loser → ⊥ }
@@ -141,9 +150,19 @@ impl Grouped {
         ensures sides { IfOk result (λ step. (step.winner ≡ winner) × (step.loser ≡ loser)) }
         ensures undone { IfOk result (λ step. before_join self.new step ≡ self.old) }
         ensures unchanged { OnErr result (self.new ≡ self.old) }
+        ensures digests { (table : Terms) → ArePlaces table places.now
+            → AreDigests table self.old.reps digests.old.items
+            → AreDigests table self.new.reps digests.new.items }
+        ensures same { OnErr result (digests.new.items ≡ digests.old.items) }
     {
         let (members, uses) = join_rows(&mut self.members, &mut self.uses, winner, loser)?;
-        relabel(&mut self.reps, self.members.row(loser), winner);
+        relabel(
+            &mut self.reps,
+            digests,
+            places,
+            self.members.row(loser),
+            winner,
+        );
         let gained = gain(&mut self.cons, winner, loser);
         Ok(Step {
             winner,
@@ -155,23 +174,35 @@ impl Grouped {
     }
 
     /// Takes the two classes of the last union apart again, where it joined two. Takes no memory.
-    pub(crate) fn take_back(&mut self, last: Option<Step>)
+    pub(crate) fn take_back(&mut self, last: Option<Step>, digests: &mut Vec<u64>, places: &Places)
         requires noted { IsNoted self.old last }
         requires whole { IsGrouping (before self.old last) }
         ensures before { self.new ≡ before self.old last }
+        ensures digests { (table : Terms) → ArePlaces table places.now
+            → AreDigests table self.old.reps digests.old.items
+            → AreDigests table self.new.reps digests.new.items }
     {
         if let Some(step) = last {
-            self.undo(step);
+            self.undo(step, digests, places);
         }
     }
 
     // Takes the two classes apart again.
-    fn undo(&mut self, step: Step)
+    fn undo(&mut self, step: Step, digests: &mut Vec<u64>, places: &Places)
         requires joined { IsJoin (before_join self.old step) self.old step.winner step.loser }
         requires whole { IsGrouping (before_join self.old step) }
         ensures before { self.new ≡ before_join self.old step }
+        ensures digests { (table : Terms) → ArePlaces table places.now
+            → AreDigests table self.old.reps digests.old.items
+            → AreDigests table self.new.reps digests.new.items }
     {
-        relabel(&mut self.reps, self.members.row(step.loser), step.loser);
+        relabel(
+            &mut self.reps,
+            digests,
+            places,
+            self.members.row(step.loser),
+            step.loser,
+        );
         self.members.cut(step.winner, step.members);
         self.uses.cut(step.winner, step.uses);
         lose(&mut self.cons, step.winner, step.gained);

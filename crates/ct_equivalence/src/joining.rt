@@ -3,8 +3,12 @@ ghost use Rattle.std.specs.Prelude.{◌≡◌, ◌<◌, ◌++◌, length, set, N
 ghost use Rattle.ct_terms.specs.declared.ids.TermId.{TermId};
 ghost use Rattle.ct_equivalence.specs.Union.{AreConsJoined};
 ghost use Rattle.ct_equivalence.specs.Undoing.{relabelled, row_of};
+ghost use Rattle.ct_equivalence.specs.Digests.{AreDigests, ArePlaces};
+ghost use Rattle.ct_terms.specs.Terms.{Terms};
 
+use crate::digests::exchange;
 use crate::error::EquivalenceError;
+use crate::places::Places;
 use crate::rows::Rows;
 use ct_terms::TermId;
 
@@ -35,14 +39,35 @@ pub(crate) fn join_rows(
     Ok(lengths)
 }
 
-/// Gives all these terms this representative.
-pub(crate) fn relabel(reps: &mut Vec<TermId>, terms: &[TermId], rep: TermId)
+/// Gives all these terms this representative, and exchanges its shares in the digests.
+pub(crate) fn relabel(
+    reps: &mut Vec<TermId>,
+    digests: &mut Vec<u64>,
+    places: &Places,
+    terms: &[TermId],
+    rep: TermId,
+)
     requires inside { (t : TermId) → Contains terms.now t → t.0 < length reps.old.items }
     ensures value { reps.new.items ≡ relabelled reps.old.items terms.now rep }
+    ensures digests { (table : Terms) → ArePlaces table places.now
+        → AreDigests table reps.old.items digests.old.items
+        → AreDigests table reps.new.items digests.new.items }
 {
     for t in terms {
-        reps[t.0 as usize] = rep;
+        give(reps, digests, places, *t, rep);
     }
+}
+
+// The same for one term.
+fn give(reps: &mut Vec<TermId>, digests: &mut Vec<u64>, places: &Places, t: TermId, rep: TermId)
+    requires inside { t.0 < length reps.old.items }
+    ensures value { reps.new.items ≡ set reps.old.items t.0 rep }
+    ensures digests { (table : Terms) → ArePlaces table places.now
+        → AreDigests table reps.old.items digests.old.items
+        → AreDigests table reps.new.items digests.new.items }
+{
+    exchange(digests, places.row(t), reps[t.0 as usize], rep);
+    reps[t.0 as usize] = rep;
 }
 
 /// Where the first has no constructor term, it gets that of the second. The answer is whether it got one.

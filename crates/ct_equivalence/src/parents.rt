@@ -1,4 +1,4 @@
-//! The terms right above each term.
+//! The terms directly above each term.
 ghost use Rattle.std.specs.Prelude.{◌≡◌, ◌<◌, [], ◌∷◌, ◌-◌, true, length, IfOk, OnOk, All, Some, slice_get};
 ghost use Rattle.std.specs.List.{AllByRecursion};
 ghost use Rattle.ct_terms.specs.Children.{core_children, HasArgumentsBelow};

@@ -1,4 +1,4 @@
-//! A table of terms by their signatures, into which is only put at the end and which is cut back.
+//! A table of terms by their signatures that grows at its end and is cut back.
 ghost use Rattle.std.specs.Prelude.{◌≡◌, ◌≤◌, ◌↔◌, [], ◌∷◌, ◌++◌, length, take, Some, OnOk, OnErr};
 ghost use Rattle.ct_terms.specs.declared.ids.TermId.{TermId};
 ghost use Rattle.ct_equivalence.specs.Signatures.{IsUnder, IsFree, AreDifferent};
@@ -44,14 +44,14 @@ impl SignatureTable {
         self.entries.len()
     }
 
-    /// The term under the signature; none exactly where there is none.
+    /// The term under the signature; none exactly if there is none.
     pub fn find(&self, key: &Core) -> Option<TermId>
         ensures value { (t : TermId) → (result ≡ Some t) ↔ IsUnder self.now key.now t }
     {
         self.entries.get(key).copied()
     }
 
-    /// Puts the term under a signature under which there is none. An error changes nothing.
+    /// Stores the term under a signature that has none yet. An error changes nothing.
     pub fn push(&mut self, key: Core, term: TermId) -> Result<(), EquivalenceError>
         requires free { IsFree self.old key }
         ensures pushed { OnOk result (self.new ≡ self.old ++ (key, term) ∷ []) }
@@ -61,7 +61,7 @@ impl SignatureTable {
         Ok(())
     }
 
-    /// Keeps the first terms, so many as `len` says. Takes no memory.
+    /// Keeps the first `len` terms. Takes no memory.
     pub fn cut(&mut self, len: usize)
         ensures first { self.new ≡ take len self.old }
     {

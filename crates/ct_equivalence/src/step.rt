@@ -1,4 +1,4 @@
-//! What is noted of a union, so that it can be undone.
+//! What is stored of a union so that it can be undone.
 
 use ct_terms::TermId;
 

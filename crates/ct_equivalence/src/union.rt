@@ -1,4 +1,4 @@
-//! What a union tells.
+//! What a union returns.
 
 use ct_terms::TermId;
 

@@ -18,8 +18,8 @@ joined c = IsJoined-grouping c.args.progress.now.store.parts.now c.join.new.stor
 of : (c : In_ok-united) → AreGroupingsOf c.args.table.now c.join.new.store.parts
 of c = c.in_ok-united.ensures.of c.args.table.now c.requires.groupings
 
-keyed : (c : In_ok-united) → AreKeys c.args.table.now c.join.new.store.parts.now.reps c.args.progress.now.keys
-keyed c = AreKeys-larger c.args.table.now c.args.progress.now.store.parts.now.reps c.join.new.store.parts.now.reps c.args.progress.now.keys (joined c).keeps c.requires.keys
+keyed : (c : In_ok-united) → AreKeys c.join.new.store.parts.now.reps c.args.progress.now.keys
+keyed c = AreKeys-larger c.args.progress.now.store.parts.now.reps c.join.new.store.parts.now.reps c.args.progress.now.keys (joined c).keeps c.requires.keys
 
 pub join-requires-clause-left : goal.join-requires-clause-left
 join-requires-clause-left c = omega (arith, c.requires.left, c.requires.groupings.now.long)
@@ -102,4 +102,4 @@ returns-clause-covered c =
     let p = c.args.progress.now in
     let new = c.join.new.store.parts in
     let followed = c.in_ok-answer.ensures.followed p.store.parts.now p.store.parts.past c.in_ok-united.ensures.past in
-    IsAdding-united c.args.sig.now c.args.table.now p.store.parts.now new.now c.args.merge p.waiting.items c.follow.new.waiting.items (joined at) c.in_ok-answer.ensures.waits.still (grouped at) c.requires.sorted p.keys c.follow.new.keys c.in_ok-answer.ensures.more c.in_ok-united.united c.in_ok-answer.answer c.in_ok-united.ensures.united followed
+    IsAdding-united c.args.sig.now c.args.table.now p.store.parts.now new.now c.args.merge p.waiting.items c.follow.new.waiting.items (joined at) c.in_ok-answer.ensures.waits.still (grouped at) c.requires.sorted p.keys c.follow.new.keys c.in_ok-answer.ensures.more c.in_ok-united.united c.in_ok-answer.ensures.same c.in_ok-answer.answer c.in_ok-united.ensures.united followed

@@ -31,7 +31,7 @@ returns-clause-closed c = λ is.
     let further = c.in_ok-answer-2.ensures.further in
     let grouped = IsGrouped-now terms new.store.parts c.unions.ensures.whole further.groupings in
     let covered = (subst (IsAdding d terms p.store.parts.now g p.keys new.keys (AreJoined p.store.parts.now.reps p.waiting.items) (AreJoined g.reps [])) is c.in_ok-answer-2.ensures.covered) (c.requires.kept.covered c.if-not-fast.false) in
-    c.covering.ensures.closed d terms g.reps g.cons new.keys c.requires.sorted c.len.ensures.single c.len.ensures.begins grouped c.len-2.ensures.different covered
+    c.covering.ensures.closed d terms g.reps g.cons new.keys c.requires.sorted c.len.ensures.single c.len.ensures.begins grouped covered
 
 pub returns-clause-verdict : goal.returns-clause-verdict
 returns-clause-verdict c =
@@ -45,7 +45,7 @@ returns-clause-verdict c =
     verdict_of d terms p.store.parts.now g p.keys new.keys (AreJoined p.store.parts.now.reps p.waiting.items) (AreJoined g.reps []) c.in_ok-answer-2.answer
     (λ is a b clash.
     let covered = (subst (IsAdding d terms p.store.parts.now g p.keys new.keys (AreJoined p.store.parts.now.reps p.waiting.items) (AreJoined g.reps [])) is c.in_ok-answer-2.ensures.covered) (c.requires.kept.covered c.if-not-fast.false) in
-    c.covering.ensures.one d terms g.reps g.cons new.keys c.requires.sorted c.len.ensures.single c.len.ensures.begins grouped c.len-2.ensures.different covered a b clash)
+    c.covering.ensures.one d terms g.reps g.cons new.keys c.requires.sorted c.len.ensures.single c.len.ensures.begins grouped covered a b clash)
     c.in_ok-answer-2.ensures.covered
 
 pub returns-in_err-answer-2-clause-kept : goal.returns-in_err-answer-2-clause-kept

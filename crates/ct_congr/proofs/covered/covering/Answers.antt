@@ -7,8 +7,8 @@ use Rattle.ct_congr.proofs.covered.covering.Goals as goal
 
 pub returns : goal.returns
 returns c = record {
-  closed = λ d terms reps cons keys sorted single begins g different covered.
-      AreRulesClosed-covered d terms reps cons keys sorted single begins g.long g.cons_long g.own g.stored different (IsCovered-wider d terms reps cons keys (AreJoined reps []) (InOneClass reps) (AreJoined-none reps) covered);
-  one = λ d terms reps cons keys sorted single begins g different covered.
-      no_clash d terms reps cons keys sorted single begins g.long g.cons_long g.own g.stored different (IsCovered-wider d terms reps cons keys (AreJoined reps []) (InOneClass reps) (AreJoined-none reps) covered);
+  closed = λ d terms reps cons keys sorted single begins g covered.
+      AreRulesClosed-covered d terms reps cons keys sorted single begins g.long g.cons_long g.own g.stored (IsCovered-wider d terms reps cons keys (AreJoined reps []) (InOneClass reps) (AreJoined-none reps) covered);
+  one = λ d terms reps cons keys sorted single begins g covered.
+      no_clash d terms reps cons keys sorted single begins g.long g.cons_long g.own g.stored (IsCovered-wider d terms reps cons keys (AreJoined reps []) (InOneClass reps) (AreJoined-none reps) covered);
 }

@@ -25,8 +25,8 @@ joined c = IsJoined-grouping c.args.progress.now.store.parts.now c.join.new.stor
 of : (c : In_ok-united) → AreGroupingsOf c.args.table.now c.join.new.store.parts
 of c = c.in_ok-united.ensures.of c.args.table.now c.requires.kept.groupings
 
-keyed : (c : In_ok-united) → AreKeys c.args.table.now c.join.new.store.parts.now.reps c.args.progress.now.keys
-keyed c = AreKeys-larger c.args.table.now c.args.progress.now.store.parts.now.reps c.join.new.store.parts.now.reps c.args.progress.now.keys (joined c).keeps c.requires.kept.keyed
+keyed : (c : In_ok-united) → AreKeys c.join.new.store.parts.now.reps c.args.progress.now.keys
+keyed c = AreKeys-larger c.args.progress.now.store.parts.now.reps c.join.new.store.parts.now.reps c.args.progress.now.keys (joined c).keeps c.requires.kept.keyed
 
 -- the classes before it
 grouped : (c : In_ok-united) → IsGrouped c.args.table.now c.args.progress.now.store.parts.now.reps c.args.progress.now.store.parts.now.cons
@@ -103,4 +103,4 @@ returns-clause-kept c =
     let followed = OnTrue_at e c.pursue-progress.ensures.followed old p.store.parts.past c.in_ok-united.ensures.past in
     let wide = AreJoined-more old.reps before (m ∷ before) (λ n has. Contains-rest m before n has) in
     let covered : IsCovered d terms old.reps old.cons p.keys (AreJoined old.reps (m ∷ before)) = IsCovered-wider d terms old.reps old.cons p.keys (AreJoined old.reps before) (AreJoined old.reps (m ∷ before)) wide (c.requires.kept.covered (OnTrue_at e c.pursue-progress.ensures.fast)) in
-    IsAdding-united d terms old new.now m before after (joined at) on.still (grouped at) c.requires.sorted p.keys c.pursue-progress.new.keys c.pursue-progress.ensures.more c.in_ok-united.united Quiet c.in_ok-united.ensures.united followed covered)
+    IsAdding-united d terms old new.now m before after (joined at) on.still (grouped at) c.requires.sorted p.keys c.pursue-progress.new.keys c.pursue-progress.ensures.more c.in_ok-united.united (OnTrue_at e c.pursue-progress.ensures.same) Quiet c.in_ok-united.ensures.united followed covered)

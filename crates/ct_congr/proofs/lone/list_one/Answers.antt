@@ -5,7 +5,7 @@ use Rattle.std.proofs.lemmas.Option.{none-some}
 use Rattle.ct_terms.specs.declared.ids.TermId.{TermId}
 use Rattle.ct_terms.specs.declared.term.Core.{Core}
 use Rattle.ct_congr.specs.Normal.{IsNormal}
-use Rattle.ct_congr.specs.Covered.{Keys}
+use Rattle.ct_equivalence.specs.Signatures.{Signatures}
 use Rattle.ct_congr.proofs.TermLemmas.{Has-same}
 use Rattle.ct_congr.proofs.lone.list_one.Goals as goal
 
@@ -31,7 +31,7 @@ returns-in-Some-clause-listed c = λ core has.
 
 pub returns-in_ok-push-in-None-clause-below : goal.returns-in_ok-push-in-None-clause-below
 returns-in_ok-push-in-None-clause-below c = λ key t has.
-    let split = subst (λ (list : Keys). Contains list (key, t)) c.in_ok-push-in-None.ensures.pushed has in
+    let split = subst (λ (list : Signatures). Contains list (key, t)) c.in_ok-push-in-None.ensures.pushed has in
     elim (Contains-push_cases c.args.keys.now (c.in_ok-key.key, c.args.t) (key, t) split) [
       | inl before ↦ c.requires.below key t before
       | inr last ↦ subst (λ (e : Core × TermId). e.1.0 < length c.args.table.now) last c.requires.inside
@@ -47,6 +47,6 @@ returns-in_ok-push-in-None-clause-listed c = λ core has.
       key = key;
       first = t;
       normal = subst (λ (q : Core). IsNormal blank q key) same c.in_ok-key.ensures.normal;
-      keyed = subst (λ (list : Keys). Contains list (key, t)) (sym c.in_ok-push-in-None.ensures.pushed) (Contains-push c.args.keys.now (key, t));
+      keyed = subst (λ (list : Signatures). Contains list (key, t)) (sym c.in_ok-push-in-None.ensures.pushed) (Contains-push c.args.keys.now (key, t));
       sides = inl refl;
     }

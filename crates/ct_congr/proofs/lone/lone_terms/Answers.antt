@@ -3,7 +3,7 @@ use Rattle.std.specs.List.{Contains}
 use Rattle.std.proofs.lemmas.List.{length-replicate}
 use Rattle.ct_terms.specs.declared.ids.TermId.{TermId}
 use Rattle.ct_congr.specs.Lone.{IsBlank}
-use Rattle.ct_congr.specs.Covered.{Keys}
+use Rattle.ct_equivalence.specs.Signatures.{Signatures}
 use Rattle.ct_congr.proofs.LoneLemmas.{IsBlank-replicate, AreLone-listed}
 use Rattle.ct_congr.proofs.lone.lone_terms.Goals as goal
 
@@ -22,7 +22,7 @@ list_all-requires-clause-marks c =
 
 pub list_all-requires-clause-below : goal.list_all-requires-clause-below
 list_all-requires-clause-below c = λ key t has.
-    absurd (omega (arith, (subst (λ (list : Keys). Contains list (key, t)) c.new-keys.ensures.empty has).1))
+    absurd (omega (arith, (subst (λ (list : Signatures). Contains list (key, t)) c.new-keys.ensures.empty has).1))
 
 pub returns : goal.returns
 returns c =

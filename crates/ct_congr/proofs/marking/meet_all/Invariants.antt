@@ -10,7 +10,7 @@ use Rattle.ct_congr.proofs.marking.meet_all.Given as goal
 abbrev pub invariant-loop-t : goal.invariant-loop-t
 invariant-loop-t l = record {
   more : (more : Keys) × (l.keys ≡ l.initial.keys ++ more);
-  keys : AreKeys l.table l.reps l.keys;
+  keys : AreKeys l.reps l.keys;
   waits : (d : Declarations) → WaitsOn d l.table l.reps l.initial.waiting.items l.waiting.items;
   met : (t : TermId) (core : Core) → t.0 < l.t → Has l.table core t.0 → IsMet l.table l.reps l.keys (AreJoined l.reps l.waiting.items) t core;
 }

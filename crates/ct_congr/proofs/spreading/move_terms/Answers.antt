@@ -9,7 +9,7 @@ use Rattle.ct_congr.specs.Joined.{AreJoined}
 use Rattle.ct_congr.specs.Covered.{HasCon, IsCoveredAt, IsMet}
 use Rattle.ct_congr.proofs.CoveredLemmas.{IsCoveredAt-wider}
 use Rattle.ct_congr.proofs.JoinedLemmas.{AreJoined-on, WaitsOn-same, WaitsOn-trans}
-use Rattle.ct_congr.proofs.MetLemmas.{IsKeyed-more, IsMet-later, more_trans}
+use Rattle.ct_congr.proofs.MetLemmas.{IsMet-wider, more_trans}
 use Rattle.ct_congr.proofs.spreading.move_terms.Goals as goal
 
 abbrev zeroth : TermId
@@ -59,7 +59,7 @@ loop-t-preserved c =
       met = λ u core has stands.
           let split = subst (λ (list : List TermId). Contains list u) (take_more c.args.terms.now c.loop-t.t-index zeroth c.loop-t-test.true) has in
           elim (Contains-push_cases (take c.loop-t.t-index c.args.terms.now) t u split) [
-            | inl old ↦ IsMet-later terms reps c.loop-t.keys c.meet.new.keys (AreJoined reps first) (AreJoined reps third) (IsKeyed-more c.loop-t.keys c.meet.new.keys c.in_ok-meet.ensures.more) (AreJoined-on d terms reps first third both) u core (c.loop-t.invariant.met u core old stands)
+            | inl old ↦ c.in_ok-meet.ensures.stays u core stands (IsMet-wider terms reps c.loop-t.keys (AreJoined reps first) (AreJoined reps second) (AreJoined-on d terms reps first second on) u core (c.loop-t.invariant.met u core old stands))
             | inr last ↦ subst (λ (q : TermId). IsMet terms reps c.meet.new.keys (AreJoined reps third) q core) last (c.in_ok-meet.ensures.met core (subst (λ (q : TermId). Has terms core q.0) (sym last) stands))
           ];
     }

@@ -11,7 +11,7 @@ use Rattle.ct_congr.proofs.spreading.move_terms.Given as goal
 abbrev pub invariant-loop-t : goal.invariant-loop-t
 invariant-loop-t l = record {
   more : (more : Keys) × (l.keys ≡ l.initial.keys ++ more);
-  keys : AreKeys l.table l.reps l.keys;
+  keys : AreKeys l.reps l.keys;
   waits : WaitsOn l.sig l.table l.reps l.initial.waiting.items l.waiting.items;
   covered : (t : TermId) → Contains (take l.t-index l.terms) t → IsCoveredAt l.sig l.table (InOneClass l.reps) (HasCon l.reps l.cons) (AreJoined l.reps l.waiting.items) t;
   met : (t : TermId) (core : Core) → Contains (take l.t-index l.terms) t → Has l.table core t.0 → IsMet l.table l.reps l.keys (AreJoined l.reps l.waiting.items) t core;

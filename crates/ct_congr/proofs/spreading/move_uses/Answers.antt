@@ -24,10 +24,10 @@ pub move_terms-requires-clause-keys : goal.move_terms-requires-clause-keys
 move_terms-requires-clause-keys c = rw c.reps-reps.ensures.value c.requires.keys
 
 pub returns-in_err-move_terms-clause-keys : goal.returns-in_err-move_terms-clause-keys
-returns-in_err-move_terms-clause-keys c = subst (λ (reps : List TermId). AreKeys c.args.table.now reps c.move_terms.new.keys) c.reps-reps.ensures.value c.in_err-move_terms.ensures.keys
+returns-in_err-move_terms-clause-keys c = subst (λ (reps : List TermId). AreKeys reps c.move_terms.new.keys) c.reps-reps.ensures.value c.in_err-move_terms.ensures.keys
 
 pub returns-clause-keys : goal.returns-clause-keys
-returns-clause-keys c = subst (λ (reps : List TermId). AreKeys c.args.table.now reps c.move_terms.new.keys) c.reps-reps.ensures.value c.in_ok-move_terms.ensures.keys
+returns-clause-keys c = subst (λ (reps : List TermId). AreKeys reps c.move_terms.new.keys) c.reps-reps.ensures.value c.in_ok-move_terms.ensures.keys
 
 pub returns-clause-waits : goal.returns-clause-waits
 returns-clause-waits c = subst (λ (reps : List TermId). WaitsOn c.args.sig.now c.args.table.now reps c.args.waiting.now.items c.move_terms.new.waiting.items) c.reps-reps.ensures.value c.in_ok-move_terms.ensures.waits
@@ -42,3 +42,6 @@ returns-clause-done c = λ was earlier is.
 
 pub move_terms-requires-clause-lone : goal.move_terms-requires-clause-lone
 move_terms-requires-clause-lone c = rw c.lone-lone.ensures.value c.requires.groupings.lone
+
+pub move_terms-requires-clause-digests : goal.move_terms-requires-clause-digests
+move_terms-requires-clause-digests c = rw (c.reps-reps.ensures.value, c.digests-digests.ensures.value) c.requires.groupings.digests

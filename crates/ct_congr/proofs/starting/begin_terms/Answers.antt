@@ -8,7 +8,7 @@ use Rattle.ct_lemmas.proofs.Numbers.{same_or_other}
 use Rattle.ct_congr.proofs.TermLemmas.{Has-inside}
 use Rattle.ct_congr.proofs.CoveredLemmas.{IsCoveredAt-wider}
 use Rattle.ct_congr.proofs.JoinedLemmas.{AreJoined-on, WaitsOn-same, WaitsOn-trans}
-use Rattle.ct_congr.proofs.MetLemmas.{IsKeyed-more, IsMet-later}
+use Rattle.ct_congr.proofs.MetLemmas.{IsMet-wider}
 use Rattle.ct_congr.proofs.starting.begin_terms.Goals as goal
 
 pub loop-t-init : goal.loop-t-init
@@ -46,7 +46,7 @@ loop-t-preserved c =
         | inl e ↦
             let is : t ≡ u = λ i. record { 0 = sym e i } in
             subst (λ (q : TermId). IsMet terms reps c.meet.new.keys (AreJoined reps third) q core) is (c.in_ok-meet.ensures.met core (subst (λ (q : TermId). Has terms core q.0) (sym is) stands))
-        | inr other ↦ IsMet-later terms reps c.loop-t.keys c.meet.new.keys (AreJoined reps first) (AreJoined reps third) (IsKeyed-more c.loop-t.keys c.meet.new.keys c.in_ok-meet.ensures.more) (AreJoined-on d terms reps first third both) u core (c.loop-t.invariant.met u core (omega (arith, other, below)) stands)
+        | inr other ↦ c.in_ok-meet.ensures.stays u core stands (IsMet-wider terms reps c.loop-t.keys (AreJoined reps first) (AreJoined reps second) (AreJoined-on d terms reps first second on) u core (c.loop-t.invariant.met u core (omega (arith, other, below)) stands))
       ];
     }
 

@@ -9,7 +9,7 @@ use Rattle.ct_congr.proofs.starting.begin_terms.Given as goal
 
 abbrev pub invariant-loop-t : goal.invariant-loop-t
 invariant-loop-t l = record {
-  keys : AreKeys l.table l.reps l.keys;
+  keys : AreKeys l.reps l.keys;
   waits : WaitsOn l.sig l.table l.reps l.initial.waiting.items l.waiting.items;
   covered : (t : TermId) → t.0 < l.t → IsCoveredAt l.sig l.table (InOneClass l.reps) (HasCon l.reps l.cons) (AreJoined l.reps l.waiting.items) t;
   met : (t : TermId) (core : Core) → t.0 < l.t → Has l.table core t.0 → IsMet l.table l.reps l.keys (AreJoined l.reps l.waiting.items) t core;

@@ -6,7 +6,8 @@ use Rattle.ct_congr.specs.Partition.{InOneClass}
 use Rattle.ct_congr.specs.Rules.{IsSingular}
 use Rattle.ct_congr.specs.Joined.{AreJoined, AreWaiting, WaitsOn}
 use Rattle.ct_congr.specs.Covered.{HasCon, IsCoveredAt, Keys, AreKeys, IsMet}
-use Rattle.ct_congr.proofs.CoveredLemmas.{IsCoveredAt-wider, IsMet-wider}
+use Rattle.ct_congr.proofs.CoveredLemmas.{IsCoveredAt-wider}
+use Rattle.ct_congr.proofs.MetLemmas.{IsMet-wider}
 use Rattle.ct_congr.proofs.JoinedLemmas.{AreJoined-class, AreJoined-more}
 use Rattle.ct_congr.proofs.SpreadLemmas.{carry}
 use Rattle.ct_congr.proofs.AddingLemmas.{IsGrouped-now}
@@ -18,7 +19,7 @@ begin_terms-requires-clause-grouped c = rw (c.reps.ensures.value, c.cons.ensures
 
 pub begin_terms-requires-clause-keys : goal.begin_terms-requires-clause-keys
 begin_terms-requires-clause-keys c = λ key t has.
-    absurd (omega (arith, (subst (λ (list : Keys). Contains list (key, t)) c.new-keys.ensures.empty has).1))
+    absurd (omega (arith, (subst (λ (list : Keys). Contains list (key, t)) c.in_ok-keys.ensures.empty has).1))
 
 pub begin_singles-requires : goal.begin_singles-requires
 begin_singles-requires c = record { long = rw c.reps-2.ensures.value c.in_ok-parts.ensures.of.now.long }
@@ -43,10 +44,10 @@ returns c =
     record {
       groupings = c.in_ok-parts.ensures.of;
       past = c.in_ok-parts.ensures.past;
-      merges = c.new-2.ensures.items;
-      keys = subst (λ (q : List TermId). AreKeys terms q keys) c.reps.ensures.value c.in_ok-begin_terms.ensures.keys;
+      merges = c.new-3.ensures.items;
+      keys = subst (λ (q : List TermId). AreKeys q keys) c.reps.ensures.value c.in_ok-begin_terms.ensures.keys;
       waits = on_second.follows waits;
-      sound = λ hyps given. IsSound-begun d terms g.reps g.cons grouped c.in_ok-parts.ensures.alone hyps given c.new-2.result.items c.new-2.ensures.items;
+      sound = λ hyps given. IsSound-begun d terms g.reps g.cons grouped c.in_ok-parts.ensures.alone hyps given c.new-3.result.items c.new-3.ensures.items;
       fast = refl;
       covered = IsCovered-alone d terms g.reps g.cons grouped c.in_ok-parts.ensures.alone keys (AreJoined g.reps second) c.len.ensures.ordered (AreJoined-class g.reps second)
           (λ t below. carry (λ reps cons. IsCoveredAt d terms (InOneClass reps) (HasCon reps cons) (AreJoined reps second) t) g.reps read g.cons known c.reps.ensures.value c.cons.ensures.value
@@ -57,3 +58,6 @@ returns c =
 
 pub begin_terms-requires-clause-lone : goal.begin_terms-requires-clause-lone
 begin_terms-requires-clause-lone c = rw c.lone.ensures.value c.in_ok-parts.ensures.of.lone
+
+pub begin_terms-requires-clause-digests : goal.begin_terms-requires-clause-digests
+begin_terms-requires-clause-digests c = rw (c.reps.ensures.value, c.digests.ensures.value) c.in_ok-parts.ensures.of.digests

@@ -1,4 +1,3 @@
-use Rattle.std.proofs.Common.{◌≡◌, arith}
 use Rattle.ct_equivalence.proofs.BeginningLemmas.{AreOwnRows-none, AreOwnRows-push}
 use Rattle.ct_equivalence.proofs.alone.own_rows.Goals as goal
 

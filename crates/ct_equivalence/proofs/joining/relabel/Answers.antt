@@ -9,19 +9,25 @@ use Rattle.ct_equivalence.proofs.joining.relabel.Goals as goal
 abbrev zeroth : TermId
 zeroth = record { 0 = 0 }
 
-pub index_mut-requires : goal.index_mut-requires
-index_mut-requires c =
+pub give-requires : goal.give-requires
+give-requires c =
     let t = get_or c.args.terms.now c.loop-t.t-index zeroth in
-    omega (arith, ap length c.loop-t.invariant, length-relabelled c.args.reps.now.items (take c.loop-t.t-index c.args.terms.now) c.args.rep, c.requires.inside t (Contains-get_or c.args.terms.now c.loop-t.t-index zeroth c.loop-t-test.true))
+    record { inside = omega (arith, ap length c.loop-t.invariant.reps, length-relabelled c.args.reps.now.items (take c.loop-t.t-index c.args.terms.now) c.args.rep, c.requires.inside t (Contains-get_or c.args.terms.now c.loop-t.t-index zeroth c.loop-t-test.true)) }
 
 pub loop-t-preserved : goal.loop-t-preserved
 loop-t-preserved c =
     let t = get_or c.args.terms.now c.loop-t.t-index zeroth in
     let done = take c.loop-t.t-index c.args.terms.now in
     rw (take_more c.args.terms.now c.loop-t.t-index zeroth c.loop-t-test.true)
-    (ap (λ (rs : List TermId). set rs t.0 c.args.rep) c.loop-t.invariant ∙ sym (relabelled-push c.args.reps.now.items done t c.args.rep))
+    (record {
+      reps = c.give.ensures.value ∙ ap (λ (rs : List TermId). set rs t.0 c.args.rep) c.loop-t.invariant.reps ∙ sym (relabelled-push c.args.reps.now.items done t c.args.rep);
+      digests = λ table places are. c.give.ensures.digests table places (c.loop-t.invariant.digests table places are);
+    })
 
 pub returns : goal.returns
 returns c =
     let all = take_all c.loop-t.t-index c.args.terms.now c.loop-t-test.false in
-    record { value = subst (λ (xs : List TermId). c.loop-t.reps.items ≡ relabelled c.args.reps.now.items xs c.args.rep) all c.loop-t.invariant }
+    record {
+      value = subst (λ (xs : List TermId). c.loop-t.reps.items ≡ relabelled c.args.reps.now.items xs c.args.rep) all c.loop-t.invariant.reps;
+      digests = c.loop-t.invariant.digests;
+    }

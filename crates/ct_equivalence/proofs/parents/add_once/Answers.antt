@@ -1,4 +1,4 @@
-use Rattle.std.proofs.Common.{◌≡◌, ◌-◌, refl, inl, inr, length, slice_get, Some, ap, ◌∙◌, sym, subst, List}
+use Rattle.std.proofs.Common.{◌≡◌, ◌-◌, refl, inl, inr, length, slice_get, Some, subst, List}
 use Rattle.ct_lemmas.proofs.Contained.{Contains-from_slice_get}
 use Rattle.ct_terms.specs.declared.ids.TermId.{TermId}
 use Rattle.ct_equivalence.specs.Undoing.{row_of}

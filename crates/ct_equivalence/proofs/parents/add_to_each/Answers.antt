@@ -1,5 +1,4 @@
 use Rattle.std.proofs.Common.{◌<◌, List, length, get_or, take, subst, arith}
-use Rattle.std.specs.List.{All}
 use Rattle.std.proofs.lemmas.List.{take_more, take_all}
 use Rattle.std.proofs.lemmas.List.Elements.{All-from_recursion, All-get_or}
 use Rattle.ct_terms.specs.declared.ids.TermId.{TermId}

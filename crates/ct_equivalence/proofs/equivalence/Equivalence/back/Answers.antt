@@ -1,9 +1,7 @@
-use Rattle.std.proofs.Common.{◌≡◌, ◌∷◌, [], ◌++◌, List, Option, reverse, length, refl, ap, sym, ◌∙◌, subst, arith}
-use Rattle.std.proofs.lemmas.List.{length-reverse}
-use Rattle.ct_equivalence.specs.declared.step.Step.{Step}
+use Rattle.std.proofs.Common.{reverse, refl, sym, subst}
 use Rattle.ct_equivalence.specs.Grouping.{Grouping, Groupings}
 use Rattle.ct_equivalence.specs.Undoing.{before, befores, AreNoted}
-use Rattle.ct_equivalence.proofs.NoteLemmas.{IsGrouping-noted, length-befores, befores-pop, AreNoted-last, AreGroupingsOf-pop}
+use Rattle.ct_equivalence.proofs.NoteLemmas.{IsGrouping-noted, befores-pop, AreNoted-last, AreGroupingsOf-pop}
 use Rattle.ct_equivalence.proofs.equivalence.Equivalence.back.Goals as goal
 
 pub take_back-requires : goal.take_back-requires
@@ -24,6 +22,6 @@ returns c =
     let now = c.take_back.new.self in
     let rest = c.pop.new.self.items in
     let past = befores-pop e.grouped now e.log.items rest c.in-Some.last c.in-Some.ensures.items c.take_back.ensures.before in
-    let old : Groupings = record { now = e.grouped; past = befores e.grouped (reverse e.log.items); lone = e.lone.items } in
-    let new : Groupings = record { now = now; past = befores now (reverse rest); lone = e.lone.items } in
-    rw (← c.self.view_is) (record { before = past; of = λ terms all. AreGroupingsOf-pop terms old new past refl all })
+    let old : Groupings = record { now = e.grouped; past = befores e.grouped (reverse e.log.items); lone = e.lone.items; digests = e.digests.items; places = e.places } in
+    let new : Groupings = record { now = now; past = befores now (reverse rest); lone = e.lone.items; digests = c.take_back.new.digests.items; places = e.places } in
+    rw (← c.self.view_is) (record { before = past; of = λ terms all. AreGroupingsOf-pop terms old new past refl refl (c.take_back.ensures.digests terms all.places all.digests) all })

@@ -1,4 +1,4 @@
-use Rattle.std.proofs.Common.{◌≡◌, List, Option, length, reverse, slice_get, Some, ap, sym, ◌∙◌, subst, arith}
+use Rattle.std.proofs.Common.{◌≡◌, length, reverse, slice_get, Some, ap, sym, ◌∙◌, subst, arith}
 use Rattle.std.proofs.lemmas.Option.{same_Some, slice_get_within}
 use Rattle.ct_terms.specs.declared.ids.TermId.{TermId}
 use Rattle.ct_equivalence.specs.Grouping.{Groupings}

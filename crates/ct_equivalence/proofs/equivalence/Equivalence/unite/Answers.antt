@@ -1,13 +1,12 @@
-use Rattle.std.proofs.Common.{◌≡◌, [], ◌∷◌, ◌++◌, List, Option, Some, None, reverse, length, slice_get, refl, ap, ap₂, sym, ◌∙◌, arith}
+use Rattle.std.proofs.Common.{◌≡◌, ℕ, [], ◌∷◌, ◌++◌, List, Option, Some, None, reverse, length, refl, ap, ap₂, sym, ◌∙◌, arith}
 use Rattle.std.proofs.lemmas.Option.{slice_get_within}
 use Rattle.std.proofs.lemmas.Result.{IfOk-from_err}
-use Rattle.ct_terms.specs.declared.ids.TermId.{TermId}
 use Rattle.ct_terms.specs.Terms.{Terms}
 use Rattle.ct_equivalence.specs.declared.step.Step.{Step}
 use Rattle.ct_equivalence.specs.Grouping.{Grouping, Groupings}
 use Rattle.ct_equivalence.specs.Over.{AreGroupingsOf}
 use Rattle.ct_equivalence.specs.Union.{IsUnited}
-use Rattle.ct_equivalence.specs.Undoing.{befores, AreNoted}
+use Rattle.ct_equivalence.specs.Undoing.{befores}
 use Rattle.ct_equivalence.proofs.ListLemmas.{on_err}
 use Rattle.ct_equivalence.proofs.JoinLemmas.{IsGrouping-joined, IsGroupingOf-joined}
 use Rattle.ct_equivalence.proofs.NoteLemmas.{IsGrouping-noted, AreNoted-push, befores-push, AreGroupingsOf-push, IsNoted-joined, side_owners, sides_apart, same_term}
@@ -66,11 +65,11 @@ pub returns-in_err-reserve : goal.returns-in_err-reserve
 returns-in_err-reserve c =
     let g = c.self.inside.grouped in
     let r = c.from_residual.result in
-    let view : List (Option Step) → Groupings = λ log. record { now = g; past = befores g (reverse log); lone = c.self.inside.lone.items } in
+    let view : List (Option Step) → Groupings = λ log. record { now = g; past = befores g (reverse log); lone = c.self.inside.lone.items; digests = c.self.inside.digests.items; places = c.self.inside.places } in
     record {
       united = IfOk-from_err r (IsUnited c.args.self.now.now g c.args.left c.args.right) c.from_residual.ensures.0;
       past = IfOk-from_err r (λ _. befores g (reverse c.reserve.new.self.items) ≡ c.args.self.now.now ∷ c.args.self.now.past) c.from_residual.ensures.0;
-      of = IfOk-from_err r (λ _. (terms : Terms) → AreGroupingsOf terms c.args.self.now → AreGroupingsOf terms (record { now = g; past = befores g (reverse c.reserve.new.self.items); lone = c.self.inside.lone.items })) c.from_residual.ensures.0;
+      of = IfOk-from_err r (λ _. (terms : Terms) → AreGroupingsOf terms c.args.self.now → AreGroupingsOf terms (record { now = g; past = befores g (reverse c.reserve.new.self.items); lone = c.self.inside.lone.items; digests = c.self.inside.digests.items; places = c.self.inside.places })) c.from_residual.ensures.0;
       unchanged = on_err r (ap view c.reserve.ensures.items ∙ c.self.view_is);
     }
 
@@ -80,14 +79,14 @@ returns-then-eq c =
     let log = c.self.inside.log.items in
     let past : befores g (reverse c.push.new.self.items) ≡ g ∷ befores g (reverse log) =
     ap (λ (notes : List (Option Step)). befores g (reverse notes)) (noted_same c) ∙ befores-push g g log None refl in
-    let old : Groupings = record { now = g; past = befores g (reverse log); lone = c.self.inside.lone.items } in
-    let new : Groupings = record { now = g; past = befores g (reverse c.push.new.self.items); lone = c.self.inside.lone.items } in
+    let old : Groupings = record { now = g; past = befores g (reverse log); lone = c.self.inside.lone.items; digests = c.self.inside.digests.items; places = c.self.inside.places } in
+    let new : Groupings = record { now = g; past = befores g (reverse c.push.new.self.items); lone = c.self.inside.lone.items; digests = c.self.inside.digests.items; places = c.self.inside.places } in
     let one = same_term c.rep-first.result c.rep-second.result (sym c.eq.ensures ∙ c.if-eq.true) in
     rw (← c.self.view_is)
     (record {
       united = (refl, (c.rep-first.result, c.rep-first.ensures.value, c.rep-second.ensures.value ∙ ap Some (sym one)));
       past = past;
-      of = λ terms all. AreGroupingsOf-push terms old new past refl all.now all;
+      of = λ terms all. AreGroupingsOf-push terms old new past refl refl all.now all.digests all;
       unchanged = tt;
     })
 
@@ -98,12 +97,14 @@ returns-in_err-step c =
     let notes = c.reserve.new.self.items in
     let r = c.from_residual-in_err-step.result in
     let is_error = c.from_residual-in_err-step.ensures.0 in
-    let view : Grouping → List (Option Step) → Groupings = λ h log. record { now = h; past = befores h (reverse log); lone = c.self.inside.lone.items } in
+    let old = c.self.inside.digests.items in
+    let digests = c.join.new.digests.items in
+    let view : Grouping → List (Option Step) → List ℕ → Groupings = λ h log ds. record { now = h; past = befores h (reverse log); lone = c.self.inside.lone.items; digests = ds; places = c.self.inside.places } in
     record {
       united = IfOk-from_err r (IsUnited c.args.self.now.now now c.args.left c.args.right) is_error;
       past = IfOk-from_err r (λ _. befores now (reverse notes) ≡ c.args.self.now.now ∷ c.args.self.now.past) is_error;
-      of = IfOk-from_err r (λ _. (terms : Terms) → AreGroupingsOf terms c.args.self.now → AreGroupingsOf terms (record { now = now; past = befores now (reverse notes); lone = c.self.inside.lone.items })) is_error;
-      unchanged = on_err r (ap₂ view c.in_err-step.ensures.unchanged c.reserve.ensures.items ∙ c.self.view_is);
+      of = IfOk-from_err r (λ _. (terms : Terms) → AreGroupingsOf terms c.args.self.now → AreGroupingsOf terms (record { now = now; past = befores now (reverse notes); lone = c.self.inside.lone.items; digests = digests; places = c.self.inside.places })) is_error;
+      unchanged = on_err r (ap (view now notes) c.in_err-step.ensures.same ∙ ap₂ (λ (h : Grouping) (log : List (Option Step)). view h log old) c.in_err-step.ensures.unchanged c.reserve.ensures.items ∙ c.self.view_is);
     }
 
 pub returns : goal.returns
@@ -116,8 +117,8 @@ returns c =
     let whole = IsGrouping-noted g (reverse log) c.self.invariant in
     let past : befores now (reverse c.push-2.new.self.items) ≡ g ∷ befores g (reverse log) =
     ap (λ (notes : List (Option Step)). befores now (reverse notes)) (noted_join c) ∙ befores-push g now log (Some step) c.in_ok-step.ensures.undone in
-    let old : Groupings = record { now = g; past = befores g (reverse log); lone = c.self.inside.lone.items } in
-    let new : Groupings = record { now = now; past = befores now (reverse c.push-2.new.self.items); lone = c.self.inside.lone.items } in
+    let old : Groupings = record { now = g; past = befores g (reverse log); lone = c.self.inside.lone.items; digests = c.self.inside.digests.items; places = c.self.inside.places } in
+    let new : Groupings = record { now = now; past = befores now (reverse c.push-2.new.self.items); lone = c.self.inside.lone.items; digests = c.join.new.digests.items; places = c.self.inside.places } in
     rw (← c.self.view_is)
     (record {
       united = record {
@@ -129,6 +130,6 @@ returns c =
         join = join;
       };
       past = past;
-      of = λ terms all. AreGroupingsOf-push terms old new past refl (IsGroupingOf-joined g now c.by_weight.result.0 c.by_weight.result.1 join terms whole all.now) all;
+      of = λ terms all. AreGroupingsOf-push terms old new past refl refl (IsGroupingOf-joined g now c.by_weight.result.0 c.by_weight.result.1 join terms whole all.now) (c.in_ok-step.ensures.digests terms all.places all.digests) all;
       unchanged = tt;
     })

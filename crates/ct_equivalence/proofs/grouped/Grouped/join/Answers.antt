@@ -78,4 +78,6 @@ returns c =
       sides = (refl, refl);
       undone = ap₂ (λ (m u : ℕ). before_join new (record { winner = c.args.winner; loser = c.args.loser; members = m; uses = u; gained = c.gain-gained.result })) c.in_ok-members.ensures.lengths.0 c.in_ok-members.ensures.lengths.1 ∙ made;
       unchanged = tt;
+      digests = c.relabel.ensures.digests;
+      same = tt;
     })

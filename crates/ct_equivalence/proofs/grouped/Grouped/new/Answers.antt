@@ -1,4 +1,4 @@
-use Rattle.std.proofs.Common.{◌≡◌, ◌∙◌, ◌<◌, length, subst, sym, arith}
+use Rattle.std.proofs.Common.{◌∙◌, length, subst}
 use Rattle.ct_equivalence.specs.Partition.{AreAlone}
 use Rattle.ct_equivalence.proofs.BeginningLemmas.{AreOwnRows, IsGrouping-alone, IsGroupingOf-alone}
 use Rattle.ct_equivalence.proofs.grouped.Grouped.new.Goals as goal

@@ -3,6 +3,7 @@ use Rattle.std.specs.List.{Contains}
 use Rattle.ct_terms.specs.declared.ids.TermId.{TermId}
 use Rattle.ct_equivalence.specs.declared.step.Step.{Step}
 use Rattle.ct_equivalence.specs.Grouping.{Grouping, IsGrouping}
+use Rattle.ct_equivalence.specs.Digests.{AreDigests}
 use Rattle.ct_equivalence.specs.Union.{IsJoin}
 use Rattle.ct_equivalence.specs.Undoing.{relabelled, before_join}
 use Rattle.ct_equivalence.proofs.JoinLemmas.{IsUndoable, IsUndoable-joined, before_join-is}
@@ -64,4 +65,7 @@ returns c =
     let g : Grouping = record { reps = i.reps.items; cons = i.cons.items; members = i.members; uses = i.uses } in
     let new : Grouping = record { reps = c.relabel.new.reps.items; cons = c.lose.new.cons.items; members = c.cut.new.self; uses = c.cut-2.new.self } in
     let reps = c.relabel.ensures.value ∙ ap (λ (row : List TermId). relabelled g.reps row c.args.step.loser) c.row.ensures.value in
-    record { before = before_join-is g new c.args.step reps c.lose.ensures.value c.cut.ensures.first c.cut-2.ensures.first ∙ ap (λ (s : Grouping). before_join s c.args.step) c.self.view_is }
+    record {
+      before = before_join-is g new c.args.step reps c.lose.ensures.value c.cut.ensures.first c.cut-2.ensures.first ∙ ap (λ (s : Grouping). before_join s c.args.step) c.self.view_is;
+      digests = λ table places are. c.relabel.ensures.digests table places (subst (λ (s : Grouping). AreDigests table s.reps c.args.digests.now.items) (sym c.self.view_is) are);
+    }

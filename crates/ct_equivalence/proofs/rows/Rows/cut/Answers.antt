@@ -1,4 +1,4 @@
-use Rattle.std.proofs.Common.{◌≡◌, ◌<◌, ◌∙◌, List, length, take, map, ap, sym, arith}
+use Rattle.std.proofs.Common.{◌<◌, ◌∙◌, length, take, map, ap, sym, arith}
 use Rattle.std.proofs.lemmas.List.{length-map}
 use Rattle.ct_equivalence.specs.Undoing.{row_of}
 use Rattle.ct_equivalence.proofs.RowLemmas.{row_of-read, map-written}

@@ -1,4 +1,4 @@
-use Rattle.std.proofs.Common.{◌≡◌, ◌<◌, ◌∙◌, List, [], ◌∷◌, ◌++◌, length, set, map, ap, sym, subst, arith}
+use Rattle.std.proofs.Common.{◌<◌, ◌∙◌, List, [], ◌∷◌, ◌++◌, length, map, ap, sym, arith}
 use Rattle.std.proofs.lemmas.List.{length-map, set-get_or}
 use Rattle.ct_terms.specs.declared.ids.TermId.{TermId}
 use Rattle.ct_equivalence.specs.Undoing.{row_of}
