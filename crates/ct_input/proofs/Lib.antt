@@ -1,3 +1,5 @@
 pub mod FaultLemmas
 pub mod SlotLemmas
 pub mod PieceLemmas
+pub mod SourceLemmas
+pub mod PartLemmas

@@ -16,7 +16,7 @@ use Rattle.ct_sexpr.proofs.WhitespaceLemmas.{drop_while-append}
 
 -- ---- what is passed over is no longer there
 
-no_longer : (l : List ℕ) → length (after_whitespace l) ≤ length l
+pub no_longer : (l : List ℕ) → length (after_whitespace l) ≤ length l
 no_longer l = let h = whitespace_prefix l in omega (arith, length-append h.0 (after_whitespace l), ap (λ (xs : List ℕ). length xs) h.1)
 
 comment_no_longer : (l : List ℕ) → length (after_comment l) ≤ length l
@@ -188,12 +188,12 @@ tokens_shorter (t ∷ ts) bytes rest more a =
       tokens_shorter ts left rest more (subst (λ (xs : List ℕ). AreTokens (ts ++ closing ∷ []) xs (rest ++ more)) is a.2),
     )
 
-split : (ts us : List Token) (bytes rest : List ℕ) → AreTokens (ts ++ us) bytes rest → (mid : List ℕ) × AreTokens ts bytes mid × AreTokens us mid rest
+pub split : (ts us : List Token) (bytes rest : List ℕ) → AreTokens (ts ++ us) bytes rest → (mid : List ℕ) × AreTokens ts bytes mid × AreTokens us mid rest
 split [] us bytes rest a = (bytes, refl, a)
 split (t ∷ ts) us bytes rest a = let later = split ts us a.0 rest a.2 in (later.0, (a.0, a.1, later.1), later.2)
 
 -- a command that ends before the last bytes is there without these
-command_shorter : (bytes : List ℕ) (e : Expression) (rest more : List ℕ) → BeginsCommand (bytes ++ more) e (rest ++ more) → BeginsCommand bytes e rest
+pub command_shorter : (bytes : List ℕ) (e : Expression) (rest more : List ℕ) → BeginsCommand (bytes ++ more) e (rest ++ more) → BeginsCommand bytes e rest
 command_shorter bytes e rest more c =
     let whole = AreTokens-append c.before (closing ∷ []) (bytes ++ more) c.remaining (rest ++ more) c.part.spelled c.closed in
     let parts = split c.before (closing ∷ []) bytes rest (tokens_shorter c.before bytes rest more whole) in

@@ -1,4 +1,4 @@
-//! A reader is fed what one read of a slot gives, up to a fixed number of bytes in all.
+//! Feeds a reader what one read of a slot returns, up to a fixed number of bytes in all.
 
 ghost use Rattle.std.specs.Prelude.{◌≡◌, ◌≢◌, ℕ, List, ◌<◌, ◌≤◌, false, length, IfErr, IfOk, IfSome, OnErr, OnOk};
 ghost use Rattle.ct_io.specs.Bytes.{ReadsBytes, remaining};
@@ -50,8 +50,8 @@ pub fn open_slot<D: Desk>(desk: &mut D, slot: Slot, name: &str) -> Result<(), In
     }
 }
 
-/// Reads the slot once, and feeds the reader what came, or tells it that the input has ended. So many
-/// bytes were fed before. Of the bytes beyond 67,108,864 one at most is read, and none is fed.
+/// Reads the slot once, and feeds the reader what was read, or tells it that the input has ended. So many bytes were
+/// fed before. Of the bytes beyond 67,108,864 one at most is read, and none is fed.
 ///
 /// `Fault` changes nothing; `NoMemory` leaves the reader as it was.
 pub fn feed_once<D: Desk>(

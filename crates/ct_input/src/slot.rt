@@ -1,4 +1,4 @@
-//! A slot is read whole into a reader, where it holds no more than a fixed number of bytes.
+//! Reads a whole slot into a reader, if it has no more than a fixed number of bytes.
 
 ghost use Rattle.std.specs.Prelude.{◌≡◌, ◌≢◌, ℕ, List, ◌<◌, ◌≤◌, is_some, length, Some, IfOk, OnOk};
 ghost use Rattle.ct_io.specs.Fault.{HasCause};

@@ -10,11 +10,34 @@ abbrev pub command_names : List (List ℕ)
 command_names =
     codes "set-logic" ∷ (codes "set-option" ∷ (codes "get-option" ∷ (codes "set-info" ∷ (codes "get-info" ∷ (codes "declare-sort" ∷ (codes "define-sort" ∷ (codes "declare-datatype" ∷ (codes "declare-codatatype" ∷ (codes "declare-datatypes" ∷ (codes "declare-codatatypes" ∷ (codes "declare-const" ∷ (codes "declare-fun" ∷ (codes "define-fun" ∷ (codes "define-const" ∷ (codes "assert" ∷ (codes "check-sat" ∷ (codes "push" ∷ (codes "pop" ∷ (codes "reset-assertions" ∷ (codes "reset" ∷ (codes "get-model" ∷ (codes "get-value" ∷ (codes "get-proof" ∷ (codes "echo" ∷ (codes "exit" ∷ (codes "define-fun-rec" ∷ (codes "define-funs-rec" ∷ (codes "declare-sort-parameter" ∷ (codes "get-assertions" ∷ (codes "get-assignment" ∷ (codes "check-sat-assuming" ∷ (codes "get-unsat-core" ∷ (codes "get-unsat-assumptions" ∷ [])))))))))))))))))))))))))))))))))
 
--- the options with their colons (SMT-LIB 2.7, section 4.1.7, and the choice of small unsatisfiable cores as cvc5 has it); the
+-- the options that the solver has, with their colons (SMT-LIB 2.7, section 4.1.7, and the choice of small unsatisfiable cores as cvc5 has it); the
 -- names of infos are no options
 abbrev pub option_names : List (List ℕ)
 option_names =
     codes ":print-success" ∷ (codes ":global-declarations" ∷ (codes ":reproducible-resource-limit" ∷ (codes ":produce-models" ∷ (codes ":produce-proofs" ∷ (codes ":produce-assertions" ∷ (codes ":produce-assignments" ∷ (codes ":produce-unsat-cores" ∷ (codes ":produce-unsat-assumptions" ∷ (codes ":verbosity" ∷ (codes ":minimal-unsat-cores" ∷ []))))))))))
+
+-- options that clients set whatever the solver: the channels and the seed (SMT-LIB 2.7, section 4.1.7), and what follows an error, which
+-- the standard has among the infos alone (section 4.1.8)
+abbrev pub client_option_names : List (List ℕ)
+client_option_names =
+    codes ":diagnostic-output-channel" ∷ (codes ":regular-output-channel" ∷ (codes ":random-seed" ∷ (codes ":error-behavior" ∷ [])))
+
+-- the words that are values of options and infos (SMT-LIB 2.7, sections 4.1.7 and 4.1.8; `resourceout` as cvc5 has it), strings
+-- without their quotation marks: what follows an error, the channels, and why a check was answered `unknown`
+abbrev pub value_names : List (List ℕ)
+value_names =
+    codes "continued-execution" ∷ (codes "immediate-exit" ∷ (codes "stderr" ∷ (codes "stdout" ∷ (codes "incomplete" ∷ (codes "resourceout" ∷ [])))))
+
+-- the logics whose names have no parts: whatever the solver can do
+abbrev pub unrestricted_logic_names : List (List ℕ)
+unrestricted_logic_names =
+    codes "ALL" ∷ (codes "ALL_SUPPORTED" ∷ [])
+
+-- the parts of which the names of other logics of SMT-LIB are made, after `QF_` where formulas have no quantifiers: arrays, functions, bit
+-- vectors, floating point, datatypes, strings, and kinds of arithmetic
+abbrev pub logic_part_names : List (List ℕ)
+logic_part_names =
+    codes "A" ∷ (codes "AX" ∷ (codes "UF" ∷ (codes "BV" ∷ (codes "FP" ∷ (codes "DT" ∷ (codes "S" ∷ (codes "IDL" ∷ (codes "RDL" ∷ (codes "LIA" ∷ (codes "LRA" ∷ (codes "LIRA" ∷ (codes "NIA" ∷ (codes "NRA" ∷ (codes "NIRA" ∷ []))))))))))))))
 
 -- the words of the rules of a line: the kinds of lines, and after `gate` the names of the gates
 abbrev pub rule_names : List (List ℕ)
@@ -27,10 +50,11 @@ step_names =
     codes "hyp" ∷ (codes "refl" ∷ (codes "sym" ∷ (codes "trans" ∷ (codes "cong" ∷ (codes "inject" ∷ (codes "sel" ∷ (codes "test" ∷ (codes "expand" ∷ (codes "equal-in" ∷ (codes "equal-out" ∷ (codes "neg" ∷ (codes "single" ∷ (codes "unique" ∷ (codes "pair" ∷ (codes "clash" ∷ (codes "cycle" ∷ []))))))))))))))))
 
 -- the words of a derivation's items that no rule and no step has: the head, the term lines with their kinds of terms,
--- where `sel` is the word of the step and `not` also negates a literal, the lines, and the end
+-- where `sel` is the word of the step and `not` also negates a literal, the lines, the end, and what the head of a derivation
+-- from assumptions has before their check's number
 abbrev pub item_names : List (List ℕ)
 item_names =
-    codes "cosmt-derivation" ∷ (codes "t" ∷ (codes "con" ∷ (codes "app" ∷ (codes "is" ∷ (codes "=" ∷ (codes "not" ∷ (codes "and" ∷ (codes "or" ∷ (codes "iff" ∷ (codes "ite" ∷ (codes "s" ∷ (codes "end" ∷ []))))))))))))
+    codes "cosmt-derivation" ∷ (codes "t" ∷ (codes "con" ∷ (codes "app" ∷ (codes "is" ∷ (codes "=" ∷ (codes "not" ∷ (codes "and" ∷ (codes "or" ∷ (codes "iff" ∷ (codes "ite" ∷ (codes "s" ∷ (codes "end" ∷ (codes "assuming" ∷ [])))))))))))))
 
 -- the words of a derivation
 abbrev pub derivation_names : List (List ℕ)

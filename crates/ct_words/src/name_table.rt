@@ -1,4 +1,4 @@
-//! Tables of names that are known beforehand.
+//! Tables of names that are known in advance.
 ghost use Rattle.std.specs.Prelude.{◌≡◌, ℕ, ◌<◌, ◌↔◌, length, Some, slice_get, IfSome, IfNone};
 ghost use Rattle.ct_words.specs.NameList.{AreDistinct, IsListed, names_in, text_of_names};
 

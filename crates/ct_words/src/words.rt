@@ -1,6 +1,6 @@
-//! The four tables of the program.
+//! The tables of the program.
 ghost use Rattle.std.specs.Prelude.{◌≡◌};
-ghost use Rattle.ct_words.specs.Words.{command_names, option_names, derivation_names, error_names};
+ghost use Rattle.ct_words.specs.Words.{command_names, option_names, client_option_names, value_names, unrestricted_logic_names, logic_part_names, derivation_names, error_names};
 
 use crate::name_table::NameTable;
 
@@ -10,8 +10,20 @@ pub const COMMANDS: usize = 34;
 /// The number of different options.
 pub const OPTIONS: usize = 11;
 
+/// The number of different options that clients set whatever the solver.
+pub const CLIENT_OPTIONS: usize = 4;
+
+/// The number of different words that are values of options and infos.
+pub const VALUE_WORDS: usize = 6;
+
+/// The number of different logics whose names have no parts.
+pub const UNRESTRICTED_LOGICS: usize = 2;
+
+/// The number of different parts of the names of logics.
+pub const LOGIC_PARTS: usize = 15;
+
 /// The number of different words of derivations.
-pub const DERIVATION_WORDS: usize = 51;
+pub const DERIVATION_WORDS: usize = 52;
 
 /// The number of different texts of errors.
 pub const ERROR_TEXTS: usize = 43;
@@ -65,7 +77,7 @@ pub fn commands() -> NameTable<COMMANDS>
     ))
 }
 
-/// The names of the options, each with its colon.
+/// The names of the options that the solver has, each with its colon.
 pub fn options() -> NameTable<OPTIONS>
     ensures names { result ≡ option_names }
 {
@@ -84,7 +96,52 @@ pub fn options() -> NameTable<OPTIONS>
     ))
 }
 
-/// The words of derivations: those of rules, of equality steps and of items, each where it comes first.
+/// The names of options that clients set whatever the solver, each with its colon: the channels and the seed (SMT-LIB 2.7,
+/// section 4.1.7), and what follows an error.
+pub fn client_options() -> NameTable<CLIENT_OPTIONS>
+    ensures names { result ≡ client_option_names }
+{
+    NameTable::new(names!(
+        ":diagnostic-output-channel",
+        ":regular-output-channel",
+        ":random-seed",
+        ":error-behavior"
+    ))
+}
+
+/// The words that are values of options and infos (SMT-LIB 2.7, sections 4.1.7 and 4.1.8), strings without their quotation
+/// marks: what follows an error, the channels, and why a check was answered `unknown`.
+pub fn value_words() -> NameTable<VALUE_WORDS>
+    ensures names { result ≡ value_names }
+{
+    NameTable::new(names!(
+        "continued-execution",
+        "immediate-exit",
+        "stderr",
+        "stdout",
+        "incomplete",
+        "resourceout"
+    ))
+}
+
+/// The logics whose names have no parts: whatever the solver can do.
+pub fn unrestricted_logics() -> NameTable<UNRESTRICTED_LOGICS>
+    ensures names { result ≡ unrestricted_logic_names }
+{
+    NameTable::new(names!("ALL", "ALL_SUPPORTED"))
+}
+
+/// The parts of which the names of other logics of SMT-LIB are made, after `QF_` where formulas have no quantifiers.
+pub fn logic_parts() -> NameTable<LOGIC_PARTS>
+    ensures names { result ≡ logic_part_names }
+{
+    NameTable::new(names!(
+        "A", "AX", "UF", "BV", "FP", "DT", "S", "IDL", "RDL", "LIA", "LRA", "LIRA", "NIA", "NRA",
+        "NIRA"
+    ))
+}
+
+/// The words of derivations: those of rules, equality steps and items, each at its first occurrence.
 pub fn derivation_words() -> NameTable<DERIVATION_WORDS>
     ensures names { result ≡ derivation_names }
 {
@@ -139,7 +196,8 @@ pub fn derivation_words() -> NameTable<DERIVATION_WORDS>
         "iff",
         "ite",
         "s",
-        "end"
+        "end",
+        "assuming"
     ))
 }
 

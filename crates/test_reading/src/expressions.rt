@@ -7,7 +7,7 @@
 //! simple symbols, and how many items those have that are lists.
 ghost use Rattle.std.specs.Prelude.{◌≡◌};
 
-use crate::steps::show_count;
+use crate::steps::{show_both, show_count};
 use ct_cases::{CaseError, bytes_of, show_bytes};
 use ct_sexpr::{
     Bytes, Next, ReadError, Reader, Sexpr, error_positions, one_reading, one_text, sexpr_text,
@@ -153,17 +153,6 @@ fn read_both(alloc: Global, text: &[u8], out: &mut String) -> Result<(), CaseErr
     let mut bytewise = String::new(alloc);
     read_bytewise(alloc, text, &mut bytewise)?;
     show_both(&whole, &bytewise, out)
-}
-
-/// Shows both answers, once where they are the same.
-fn show_both(whole: &String, bytewise: &String, out: &mut String) -> Result<(), CaseError> {
-    out.push(' ')?;
-    out.push_str(whole.as_str())?;
-    if whole.as_str() != bytewise.as_str() {
-        out.push_str(", but in pieces of one byte ")?;
-        out.push_str(bytewise.as_str())?;
-    }
-    Ok(())
 }
 
 /// Shows what is read of a text that may go on.

@@ -1,5 +1,5 @@
-//! Tests of the crates that read: desks and sinks, tables of words, expressions, declarations, and
-//! sorts with arguments. Each line of standard input is a case `(NAME KIND PART ..)`, and its answer is
+//! Tests of the crates that read: desks and sinks, tables of words, expressions and where they stand, declarations,
+//! and sorts with arguments. Each line of standard input is a case `(NAME KIND PART ..)`, and its answer is
 //! one line. A line that is no case is answered `BAD`.
 #![tactic(auto)]
 
@@ -11,6 +11,7 @@ mod dump;
 mod expressions;
 mod files;
 mod generics;
+mod positions;
 mod sinks;
 mod steps;
 mod words;
@@ -62,6 +63,9 @@ fn answer_kind(
         return Ok(());
     }
     if expressions::answer(rt.alloc(), kind, parts, out)? {
+        return Ok(());
+    }
+    if positions::answer(rt.alloc(), kind, parts, out)? {
         return Ok(());
     }
     answer_declarations(rt, kind, parts, out)

@@ -27,3 +27,14 @@ pub fn show_fault(is_fault: bool, out: &mut String) -> Result<(), CaseError> {
     out.push_str(if is_fault { " fault" } else { " out-of-memory" })?;
     Ok(())
 }
+
+/// Shows what a text gives that is fed whole and in pieces of one byte: once where it is the same.
+pub fn show_both(whole: &String, bytewise: &String, out: &mut String) -> Result<(), CaseError> {
+    out.push(' ')?;
+    out.push_str(whole.as_str())?;
+    if whole.as_str() != bytewise.as_str() {
+        out.push_str(", but in pieces of one byte ")?;
+        out.push_str(bytewise.as_str())?;
+    }
+    Ok(())
+}

@@ -4,7 +4,10 @@ use crate::steps::{show_count, show_index};
 use ct_cases::{CaseError, bytes_of, show_bytes, size_of, word_of};
 use ct_io::Status;
 use ct_sexpr::Sexpr;
-use ct_words::{NameTable, commands, derivation_words, error_text, error_texts, options};
+use ct_words::{
+    NameTable, client_options, commands, derivation_words, error_text, error_texts, logic_parts,
+    options, unrestricted_logics, value_words,
+};
 use std::alloc::Global;
 
 /// The statuses in their order.
@@ -51,6 +54,10 @@ fn answer_find(
     match word_of(table)? {
         "commands" => find_all(alloc, &commands(), names, out),
         "options" => find_all(alloc, &options(), names, out),
+        "client-options" => find_all(alloc, &client_options(), names, out),
+        "values" => find_all(alloc, &value_words(), names, out),
+        "unrestricted-logics" => find_all(alloc, &unrestricted_logics(), names, out),
+        "logic-parts" => find_all(alloc, &logic_parts(), names, out),
         "derivation-words" => find_all(alloc, &derivation_words(), names, out),
         "error-texts" => find_all(alloc, &error_texts(), names, out),
         "shared-bucket" => find_all(alloc, &shared_bucket(), names, out),
@@ -63,6 +70,10 @@ fn answer_names(alloc: Global, table: &Sexpr, out: &mut String) -> Result<(), Ca
     match word_of(table)? {
         "commands" => show_names(alloc, &commands(), out),
         "options" => show_names(alloc, &options(), out),
+        "client-options" => show_names(alloc, &client_options(), out),
+        "values" => show_names(alloc, &value_words(), out),
+        "unrestricted-logics" => show_names(alloc, &unrestricted_logics(), out),
+        "logic-parts" => show_names(alloc, &logic_parts(), out),
         "derivation-words" => show_names(alloc, &derivation_words(), out),
         "error-texts" => show_names(alloc, &error_texts(), out),
         "shared-bucket" => show_names(alloc, &shared_bucket(), out),

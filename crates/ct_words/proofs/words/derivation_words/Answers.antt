@@ -6,7 +6,7 @@ use Rattle.ct_words.proofs.words.derivation_words.Goals as goal
 
 pub new-requires : goal.new-requires
 new-requires c =
-    let table = is_table_text c.as_bytes.result.now _ derivation_names 51 c.as_bytes.ensures.value refl refl refl refl in
+    let table = is_table_text c.as_bytes.result.now _ derivation_names 52 c.as_bytes.ensures.value refl refl refl refl in
     (omega arith, (table.0, (table.1, table.2)))
 
 pub returns : goal.returns
